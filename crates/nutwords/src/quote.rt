@@ -1,0 +1,49 @@
+//! The one written spelling of a word.
+ghost use Rattle.std.specs.Prelude.{◌≡◌, ◌+◌, ◌*◌, ◌≤◌, ◌<◌, ◌==◌, ◌||◌, [], ◌∷◌, ◌++◌, length, List, ℕ, IsTrue};
+ghost use Rattle.std.specs.List.{list_all};
+ghost use Rattle.nutwords.specs.Bytes.{is_lawful};
+ghost use Rattle.nutwords.specs.Grammar.{Reads, ReadsToBoundary};
+ghost use Rattle.arrayvec.specs.ArrayVec.{array_vec_len};
+ghost use Rattle.nutwords.specs.Spelling.{quoted, with_backslashes};
+
+use arrayvec::ArrayVec;
+
+/// A line without its LF.
+pub type Line = ArrayVec<u8, 1024>;
+
+/// The length of the written spelling of the word.
+pub fn quoted_len(word: &[u8]) -> usize
+    requires { length word.now ≤ 1024 }
+    ensures { result ≡ length (quoted word.now) }
+{
+    let mut len = 2;
+    for b in word {
+        len += if needs_backslash(*b) { 2 } else { 1 };
+    }
+    len
+}
+
+/// Appends the written spelling of the word to the line. The caller has seen that it fits, by `quoted_len`.
+pub fn quote_into(word: &[u8], line: &mut Line)
+    requires short { length word.now ≤ 1024 }
+    requires fits { array_vec_len line.old + length (quoted word.now) ≤ 1024 }
+    ensures appends { line.new.items ≡ line.old.items ++ quoted word.now }
+    // Behind nothing, or behind a line and one blank, the word is read again, where its bytes are lawful.
+    ensures reads { (words : List (List ℕ)) → IsTrue (list_all is_lawful word.now)
+        → ReadsToBoundary line.old.items words → Reads line.new.items (words ++ word.now ∷ []) }
+{
+    line.push(b'"');
+    for b in word {
+        if needs_backslash(*b) {
+            line.push(b'\\');
+        }
+        line.push(*b);
+    }
+    line.push(b'"');
+}
+
+fn needs_backslash(b: u8) -> bool
+    ensures { result ≡ (b == 34) || (b == 92) }
+{
+    b == b'"' || b == b'\\'
+}
