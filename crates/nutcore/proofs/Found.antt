@@ -1,0 +1,33 @@
+-- Finding sessions after a change.
+use Rattle.std.proofs.Common.{◌≡◌, ◌≢◌, ℕ, List, [], ◌∷◌, ◌++◌, Some, None, refl, arith}
+use Rattle.std.proofs.lemmas.Bool.Decides.{nat_tests}
+use Rattle.nutcore.specs.Session.{SessionState, find, put, without}
+
+-- what is found has the id
+pub find_id : (c : ℕ) (xs : List SessionState) (x : SessionState) → find c xs ≡ Some x → x.id ≡ c
+find_id c [] x e = cc
+find_id c (y ∷ xs) x e = grind (arith, nat_tests, find_id c xs x)
+
+pub find_put : (y : SessionState) (xs : List SessionState) (x : SessionState) → find y.id xs ≡ Some x → find y.id (put y xs) ≡ Some y
+find_put y [] x e = cc
+find_put y (z ∷ xs) x e = grind (arith, nat_tests, find_put y xs x)
+
+pub find_put_other : (c : ℕ) (y : SessionState) (xs : List SessionState) → c ≢ y.id → find c (put y xs) ≡ find c xs
+find_put_other c y [] differ = refl
+find_put_other c y (z ∷ xs) differ = grind (arith, nat_tests, find_put_other c y xs differ)
+
+pub find_without : (c : ℕ) (xs : List SessionState) → find c (without c xs) ≡ None
+find_without c [] = refl
+find_without c (z ∷ xs) = grind (arith, nat_tests, find_without c xs)
+
+pub find_without_other : (c d : ℕ) (xs : List SessionState) → c ≢ d → find c (without d xs) ≡ find c xs
+find_without_other c d [] differ = refl
+find_without_other c d (z ∷ xs) differ = grind (arith, nat_tests, find_without_other c d xs differ)
+
+pub find_last : (y : SessionState) (xs : List SessionState) → find y.id xs ≡ None → find y.id (xs ++ y ∷ []) ≡ Some y
+find_last y [] e = grind (arith, nat_tests)
+find_last y (z ∷ xs) e = grind (arith, nat_tests, find_last y xs)
+
+pub find_last_other : (c : ℕ) (y : SessionState) (xs : List SessionState) → c ≢ y.id → find c (xs ++ y ∷ []) ≡ find c xs
+find_last_other c y [] differ = grind (arith, nat_tests)
+find_last_other c y (z ∷ xs) differ = grind (arith, nat_tests, find_last_other c y xs differ)

@@ -1,0 +1,64 @@
+-- The pump executes the least number of lines after which it stops.
+use Rattle.std.proofs.Common.{◌≡◌, ℕ, zero, suc, ◌<◌, ◌≤◌, Bool, true, false, List, [], ◌∷◌, Option, Some, None, refl, sym, ◌∙◌, ap, subst, cond, arith, length}
+use Rattle.std.specs.Prelude.{is_none}
+use Rattle.nutcore.specs.Lines.{first_line}
+use Rattle.nutcore.specs.Session.{SessionState}
+use Rattle.nutcore.specs.Server.{ServerState, session}
+use Rattle.nutcore.specs.Pump.{next_line, next_line_of, next_line_for, after_line, after_lines, pump_stops, held_of, pumped, after_notice}
+use Rattle.nutcore.specs.Headline.{IsLeast}
+use Rattle.nutcore.proofs.Loops.{stopped_lines, line_shortens, all_lines_are}
+
+-- the pump goes on where there is a next line
+goes_on : (o : Option (List ℕ)) → is_none o ≡ false → (line : List ℕ) × (o ≡ Some line)
+goes_on None h = let k : true ≡ false = h in cc k
+goes_on (Some line) h = (line, refl)
+
+shortens : (s : ServerState) (c : ℕ) → pump_stops s c ≡ false → length (held_of (session c (after_line s c))) < length (held_of (session c s))
+shortens s c h = let n = goes_on (next_line_for s c) h in line_shortens s c n.0 n.1
+
+none_by : (b : Bool) (bytes : List ℕ) → bytes ≡ [] → is_none (cond b None (first_line bytes)) ≡ true
+none_by true bytes e = refl
+none_by false bytes e = ap (λ z. is_none (first_line z)) e
+
+empty : (bytes : List ℕ) → length bytes ≤ 0 → bytes ≡ []
+empty [] le = refl
+empty (b ∷ bytes) le = absurd (omega arith)
+
+empty_stops : (o : Option SessionState) → length (held_of o) ≤ 0 → is_none (next_line_of o) ≡ true
+empty_stops None le = refl
+empty_stops (Some x) le = none_by _ x.held (empty x.held le)
+
+-- after as many lines as bytes are held, the pump has stopped
+pub stops_at_last : (n : ℕ) (s : ServerState) (c : ℕ) → length (held_of (session c s)) ≤ n → pump_stops (after_lines n s c) c ≡ true
+unfolding after_lines
+stops_at_last zero s c le = empty_stops (session c s) le
+stops_at_last (suc n) s c le = last_by (pump_stops s c) refl (λ lower. stops_at_last n (after_line s c) c lower)
+  where
+    last_by : (b : Bool) → pump_stops s c ≡ b → (length (held_of (session c (after_line s c))) ≤ n → pump_stops (after_lines n (after_line s c) c) c ≡ true) → pump_stops (after_lines (suc n) s c) c ≡ true
+    last_by true stop rest = subst (λ (z : ServerState). pump_stops z c ≡ true) (sym (stopped_lines (suc n) s c stop)) stop
+    last_by false going rest = rest (let less = shortens s c going in omega (arith, less, le))
+
+pub record Least (s : ServerState) (c k n : ℕ) : Type 0 where
+  pub within : k ≤ n
+  pub there : pump_stops (after_lines k s c) c ≡ true
+  pub before : (j : ℕ) → j < k → pump_stops (after_lines j s c) c ≡ false
+
+pub least : (n : ℕ) (s : ServerState) (c : ℕ) → pump_stops (after_lines n s c) c ≡ true → (k : ℕ) × Least s c k n
+unfolding after_lines
+least zero s c stop = (0, record { within = omega arith; there = stop; before = λ j (lt : j < 0). absurd (omega arith) })
+least (suc n) s c stop = least_by (pump_stops s c) refl (least n (after_line s c) c stop)
+  where
+    before_by : (k : ℕ) → pump_stops s c ≡ false → ((j : ℕ) → j < k → pump_stops (after_lines j (after_line s c) c) c ≡ false) → (j : ℕ) → j < suc k → pump_stops (after_lines j s c) c ≡ false
+    before_by k going rest zero lt = going
+    before_by k going rest (suc j) lt = rest j (omega arith)
+
+    least_by : (b : Bool) → pump_stops s c ≡ b → (k : ℕ) × Least (after_line s c) c k n → (k : ℕ) × Least s c k (suc n)
+    least_by true now rest = (0, record { within = omega arith; there = now; before = λ j (lt : j < 0). absurd (omega arith) })
+    least_by false going (k, rest) = (suc k, record { within = let w = rest.within in omega (arith, w); there = rest.there; before = before_by k going rest.before })
+
+pub pump_least : (s : ServerState) (c : ℕ) → (k : ℕ) × IsLeast s c k
+unfolding pumped
+pump_least s c =
+    let n = length (held_of (session c s)) in
+    let l = least n s c (stops_at_last n s c (omega arith)) in
+    (l.0, record { there = l.1.there; before = l.1.before; pumped_is = ap (λ (z : ServerState). after_notice z c) (all_lines_are l.0 s c l.1.within l.1.there) })

@@ -1,0 +1,9 @@
+mod FirstLine
+mod Found
+mod Progress
+mod Pumping
+mod Stepping
+mod Loops
+mod Least
+mod Timely
+mod Refusals

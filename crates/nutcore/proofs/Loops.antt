@@ -1,0 +1,64 @@
+-- The pump, line by line.
+use Rattle.std.proofs.Common.{◌≡◌, ℕ, zero, suc, ◌+◌, ◌-◌, ◌<◌, ◌≤◌, Bool, true, false, List, Option, Some, None, refl, sym, ◌∙◌, ap, subst, arith, length, zero-add}
+use Rattle.std.specs.Prelude.{is_none}
+use Rattle.nutcore.specs.Lines.{first_line, behind}
+use Rattle.nutcore.specs.Session.{SessionState, find, put}
+use Rattle.nutcore.specs.Server.{ServerState, session, with_session}
+use Rattle.nutcore.specs.Reply.{reply}
+use Rattle.nutcore.specs.Pump.{next_line_for, answered, after_line, after_line_of, after_lines, pump_stops, held_of, after_all_lines}
+use Rattle.nutcore.proofs.FirstLine.{behind_shorter}
+use Rattle.nutcore.proofs.Found.{find_id, find_put}
+use Rattle.nutcore.proofs.Pumping.{is_next, after_line_is}
+
+-- the lines done, and one more
+pub after_lines-suc : (k : ℕ) (s : ServerState) (c : ℕ) → after_lines (k + 1) s c ≡ after_line (after_lines k s c) c
+unfolding after_lines
+after_lines-suc zero s c = refl
+after_lines-suc (suc k) s c = let e : suc k + 1 ≡ suc (k + 1) = omega arith in ap (λ n. after_lines n s c) e ∙ after_lines-suc k (after_line s c) c
+
+-- where the pump stops, nothing happens
+pub stopped_none : (s : ServerState) (c : ℕ) → next_line_for s c ≡ None → after_line s c ≡ s
+unfolding after_line after_line_of
+stopped_none s c h = ap (after_line_of s c) h
+
+none_of : (o : Option (List ℕ)) → is_none o ≡ true → o ≡ None
+none_of None h = refl
+none_of (Some line) h = cc
+
+pub stops_none : (s : ServerState) (c : ℕ) → pump_stops s c ≡ true → next_line_for s c ≡ None
+stops_none s c stop = none_of (next_line_for s c) stop
+
+pub stopped_line : (s : ServerState) (c : ℕ) → pump_stops s c ≡ true → after_line s c ≡ s
+stopped_line s c stop = stopped_none s c (stops_none s c stop)
+
+pub stopped_lines : (k : ℕ) (s : ServerState) (c : ℕ) → pump_stops s c ≡ true → after_lines k s c ≡ s
+unfolding after_lines
+stopped_lines zero s c stop = refl
+stopped_lines (suc k) s c stop = ap (λ (z : ServerState). after_lines k z c) (stopped_line s c stop) ∙ stopped_lines k s c stop
+
+pub after_lines-add : (j k : ℕ) (s : ServerState) (c : ℕ) → after_lines (j + k) s c ≡ after_lines k (after_lines j s c) c
+unfolding after_lines
+after_lines-add zero k s c = ap (λ n. after_lines n s c) (zero-add k)
+after_lines-add (suc j) k s c = let e : suc j + k ≡ suc (j + k) = omega arith in ap (λ n. after_lines n s c) e ∙ after_lines-add j k (after_line s c) c
+
+-- where the pump stops, all lines were executed
+pub all_lines_are : (k : ℕ) (s : ServerState) (c : ℕ) → k ≤ length (held_of (session c s)) → pump_stops (after_lines k s c) c ≡ true → after_all_lines s c ≡ after_lines k s c
+unfolding after_all_lines
+all_lines_are k s c le stop =
+    let n = length (held_of (session c s)) in
+    let e : n ≡ k + (n - k) = omega arith in
+    ap (λ m. after_lines m s c) e ∙ after_lines-add k (n - k) s c ∙ stopped_lines (n - k) (after_lines k s c) c stop
+
+-- the session after a line
+pub found_after_line : (s : ServerState) (c : ℕ) (line : List ℕ) (x : SessionState) → session c s ≡ Some x → next_line_for s c ≡ Some line → session c (after_line s c) ≡ Some (answered line (reply s c line).text x)
+found_after_line s c line x found h =
+    let y : SessionState = answered line (reply s c line).text x in
+    let id : y.id ≡ c = find_id c s.sessions x found in
+    ap (session c) (after_line_is s c line x found h) ∙ (ap (λ d. find d (put y s.sessions)) (sym id) ∙ find_put y s.sessions x (ap (λ d. find d s.sessions) id ∙ found))
+
+-- each line takes bytes from what is held
+pub line_shortens : (s : ServerState) (c : ℕ) (line : List ℕ) → next_line_for s c ≡ Some line → length (held_of (session c (after_line s c))) < length (held_of (session c s))
+line_shortens s c line h =
+    let n = is_next s c line h in
+    let less : length (behind line n.asking.held) < length n.asking.held = let e = behind_shorter n.asking.held line n.first in omega (arith, e) in
+    rw (found_after_line s c line n.asking n.found h, n.found) less

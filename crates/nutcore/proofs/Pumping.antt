@@ -1,0 +1,192 @@
+-- What the pump does to each client's presence.
+use Rattle.std.proofs.Common.{◌≡◌, ◌≢◌, ℕ, zero, suc, ◌<◌, Bool, true, false, List, [], ◌∷◌, ◌++◌, Option, Some, None, Result, Ok, Err, refl, sym, ◌∙◌, ap, subst, cond, ltb, length, append-nil}
+use Rattle.std.specs.Prelude.{is_some, is_none}
+use Rattle.std.proofs.lemmas.Bool.{or_left}
+use Rattle.std.proofs.lemmas.Grind.{flat_map-append}
+use Rattle.nutcore.specs.declared.answer.command.Command.{Command}
+use Rattle.nutcore.specs.declared.answer.command.ErrorWord.{ErrorWord}
+use Rattle.nutcore.specs.Lines.{first_line, behind, with_lf}
+use Rattle.nutcore.specs.Session.{SessionState, find, put, ended}
+use Rattle.nutcore.specs.Server.{ServerState, session, with_session}
+use Rattle.nutcore.specs.Command.{read_command}
+use Rattle.nutcore.specs.Reply.{Reply, reply, reply_to, too_long_notice}
+use Rattle.nutcore.specs.Pump.{next_line, next_line_of, next_line_for, answered, after_reply, after_reply_of, after_line, after_line_of, after_lines, held_of, after_notice, after_notice_of, is_overlong_of, is_overlong, notified, after_all_lines, pumped}
+use Rattle.nutcore.specs.History.{Answer, to_line, too_long, answer_to_next, answers_to_lines, notice, pump_answers, texts_of, lines_of, text_of, line_of}
+use Rattle.nutcore.proofs.FirstLine.{first_line_splits}
+use Rattle.nutcore.proofs.Progress.{Presence, presence, Progress, joins, stays, moves}
+use Rattle.nutcore.proofs.Found.{find_id, find_put, find_put_other}
+
+-- along equal presences
+pub progress_at : (p p' q q' : Presence) (a t k l : List ℕ) → p ≡ p' → q ≡ q' → Progress p' a t k l q' → Progress p a t k l q
+progress_at p p' q q' a t k l e f g = subst (λ (z : Presence). Progress z a t k l q) (sym e) (subst (λ (z : Presence). Progress p' a t k l z) (sym f) g)
+
+-- with equal texts
+pub progress_with : (p q : Presence) (a a' t t' k k' l l' : List ℕ) → a ≡ a' → t ≡ t' → k ≡ k' → l ≡ l' → Progress p a' t' k' l' q → Progress p a t k l q
+progress_with p q a a' t t' k k' l l' ea et ek el g =
+    subst (λ z. Progress p z t k l q) (sym ea) (subst (λ z. Progress p a' z k l q) (sym et) (subst (λ z. Progress p a' t' z l q) (sym ek) (subst (λ z. Progress p a' t' k' z q) (sym el) g)))
+
+-- no line changes the server beside its session
+reply_server_by : (s : ServerState) (r : Result (Option Command) ErrorWord) → (reply_to s r).server ≡ s
+reply_server_by s (Err word) = refl
+reply_server_by s (Ok None) = refl
+reply_server_by s (Ok (Some command)) = refl
+
+pub reply_server : (s : ServerState) (c : ℕ) (line : List ℕ) → (reply s c line).server ≡ s
+reply_server s c line = reply_server_by s (read_command line)
+
+-- the presence of a client whose session was put
+pub presence_put : (c : ℕ) (s : ServerState) (x y : SessionState) → y.id ≡ c → session c s ≡ Some x → presence c (with_session s y) ≡ record { session = Some y; used = ltb c s.next_id }
+presence_put c s x y e h =
+    let found : find y.id (put y s.sessions) ≡ Some y = find_put y s.sessions x (ap (λ d. find d s.sessions) e ∙ h) in
+    ap (λ (o : Option SessionState). let p : Presence = record { session = o; used = ltb c s.next_id } in p) (ap (λ d. find d (put y s.sessions)) (sym e) ∙ found)
+
+pub presence_put_other : (c : ℕ) (s : ServerState) (y : SessionState) → c ≢ y.id → presence c (with_session s y) ≡ presence c s
+presence_put_other c s y differ = ap (λ (o : Option SessionState). let p : Presence = record { session = o; used = ltb c s.next_id } in p) (find_put_other c y s.sessions differ)
+
+-- a next line is the first one that an open session holds, which isn't ending
+pub record IsNext (s : ServerState) (c : ℕ) (line : List ℕ) : Type 0 where
+  pub asking : SessionState
+  pub found : session c s ≡ Some asking
+  pub going : asking.ending ≡ false
+  pub first : first_line asking.held ≡ Some line
+
+next_by : (s : ServerState) (c : ℕ) (line : List ℕ) (x : SessionState) (b : Bool) → session c s ≡ Some x → (x.ending ≡ true → b ≡ true) → cond b None (first_line x.held) ≡ Some line → IsNext s c line
+next_by s c line x true found over h = cc
+next_by s c line x false found over h = record { asking = x; found = found; going = not_ending x.ending refl; first = h }
+  where
+    not_ending : (e : Bool) → x.ending ≡ e → x.ending ≡ false
+    not_ending true e = let k : false ≡ true = over e in cc k
+    not_ending false e = e
+
+next_of : (s : ServerState) (c : ℕ) (line : List ℕ) (o : Option SessionState) → session c s ≡ o → next_line_of o ≡ Some line → IsNext s c line
+next_of s c line None found h = cc
+next_of s c line (Some x) found h = next_by s c line x _ found (λ e. or_left x.ending _ e) h
+
+pub is_next : (s : ServerState) (c : ℕ) (line : List ℕ) → next_line_for s c ≡ Some line → IsNext s c line
+is_next s c line h = next_of s c line (session c s) refl h
+
+-- what the next line leaves: its answer is joined, and it is taken
+pub after_line_is : (s : ServerState) (c : ℕ) (line : List ℕ) (x : SessionState) → session c s ≡ Some x → next_line_for s c ≡ Some line → after_line s c ≡ with_session s (answered line (reply s c line).text x)
+unfolding after_line after_line_of after_reply after_reply_of
+after_line_is s c line x found h =
+    let r = reply s c line in
+    let same : r.server ≡ s = reply_server s c line in
+    ap (after_line_of s c) h
+    ∙ ap (after_reply_of r line) (ap (session c) same ∙ found)
+    ∙ ap (λ (z : ServerState). with_session z (answered line r.text x)) same
+
+line_moves : (x : SessionState) (u : Bool) (line text : List ℕ) → x.ending ≡ false → first_line x.held ≡ Some line →
+    Progress (record { session = Some x; used = u }) text [] [] (with_lf line) (record { session = Some (answered line text x); used = u })
+line_moves x u line text going first =
+    let split = append-nil x.held ∙ first_line_splits x.held line first in
+    moves x (answered line text x) u text [] [] (with_lf line)
+    refl
+    (λ e. split)
+    (λ e. (behind line x.held, sym split))
+    (λ e. let never : true ≡ false = sym e ∙ going in cc never)
+
+line_goes_by : (c : ℕ) (s : ServerState) (o : Option (List ℕ)) → next_line_for s c ≡ o →
+    Progress (presence c s) (texts_of (answer_to_next s c o)) [] [] (lines_of (answer_to_next s c o)) (presence c (after_line s c))
+unfolding after_line after_line_of
+line_goes_by c s None h =
+    progress_at (presence c s) (presence c s) (presence c (after_line s c)) (presence c s) [] [] [] [] refl (ap (λ (o : Option (List ℕ)). presence c (after_line_of s c o)) h) (stays (presence c s))
+line_goes_by c s (Some line) h =
+    let n = is_next s c line h in
+    let x : SessionState = n.asking in
+    let text : List ℕ = (reply s c line).text in
+    let y : SessionState = answered line text x in
+    let before : Presence = record { session = Some x; used = ltb c s.next_id } in
+    let next : Presence = record { session = Some y; used = ltb c s.next_id } in
+    progress_at (presence c s) before (presence c (after_line s c)) next (text ++ []) [] [] (with_lf line ++ [])
+    (ap (λ (o : Option SessionState). let p : Presence = record { session = o; used = ltb c s.next_id } in p) n.found)
+    (ap (presence c) (after_line_is s c line x n.found h) ∙ presence_put c s x y (find_id c s.sessions x n.found) n.found)
+    (progress_with before next (text ++ []) text [] [] [] [] (with_lf line ++ []) (with_lf line) (append-nil _) refl refl (append-nil _)
+    (line_moves x (ltb c s.next_id) line text n.going n.first))
+
+-- one line
+line_goes : (c : ℕ) (s : ServerState) → Progress (presence c s) (texts_of (answer_to_next s c (next_line_for s c))) [] [] (lines_of (answer_to_next s c (next_line_for s c))) (presence c (after_line s c))
+line_goes c s = line_goes_by c s (next_line_for s c) refl
+
+line_other_by : (c d : ℕ) (s : ServerState) (o : Option (List ℕ)) → next_line_for s d ≡ o → c ≢ d → presence c (after_line s d) ≡ presence c s
+unfolding after_line after_line_of
+line_other_by c d s None h differ = ap (λ (o : Option (List ℕ)). presence c (after_line_of s d o)) h
+line_other_by c d s (Some line) h differ =
+    let n = is_next s d line h in
+    let y : SessionState = answered line (reply s d line).text n.asking in
+    ap (presence c) (after_line_is s d line n.asking n.found h) ∙ presence_put_other c s y (λ (k : c ≡ y.id). differ (k ∙ find_id d s.sessions n.asking n.found))
+
+line_other : (c d : ℕ) (s : ServerState) → c ≢ d → presence c (after_line s d) ≡ presence c s
+line_other c d s differ = line_other_by c d s (next_line_for s d) refl differ
+
+-- any number of lines
+pub lines_go : (k c : ℕ) (s : ServerState) → Progress (presence c s) (texts_of (answers_to_lines k s c)) [] [] (lines_of (answers_to_lines k s c)) (presence c (after_lines k s c))
+unfolding after_lines answers_to_lines
+lines_go zero c s = stays (presence c s)
+lines_go (suc k) c s =
+    let one = answer_to_next s c (next_line_for s c) in
+    let rest = answers_to_lines k (after_line s c) c in
+    let p = presence c s in
+    let q = presence c (after_lines k (after_line s c) c) in
+    progress_with p q (texts_of (one ++ rest)) (texts_of one ++ texts_of rest) [] [] [] [] (lines_of (one ++ rest)) (lines_of one ++ lines_of rest)
+    (flat_map-append text_of one rest) refl refl (flat_map-append line_of one rest)
+    (joins p (presence c (after_line s c)) q (texts_of one) [] [] (lines_of one) (texts_of rest) [] [] (lines_of rest) (line_goes c s) (lines_go k c (after_line s c)))
+
+pub lines_other : (k c d : ℕ) (s : ServerState) → c ≢ d → presence c (after_lines k s d) ≡ presence c s
+unfolding after_lines
+lines_other zero c d s differ = refl
+lines_other (suc k) c d s differ = lines_other k c d (after_line s d) differ ∙ line_other c d s differ
+
+-- the notice to a session whose line is too long
+notice_by : (c : ℕ) (s : ServerState) (x : SessionState) (b : Bool) → is_overlong_of (Some x) ≡ b → session c s ≡ Some x →
+    Progress (presence c s) (texts_of (cond b (too_long ∷ []) [])) [] [] (lines_of (cond b (too_long ∷ []) [])) (presence c (cond b (with_session s (notified x)) s))
+notice_by c s x false over e = stays (presence c s)
+notice_by c s x true over e =
+    let y : SessionState = notified x in
+    let before : Presence = record { session = Some x; used = ltb c s.next_id } in
+    let next : Presence = record { session = Some y; used = ltb c s.next_id } in
+    progress_at (presence c s) before (presence c (with_session s y)) next too_long_notice [] [] []
+    (ap (λ (o : Option SessionState). let p : Presence = record { session = o; used = ltb c s.next_id } in p) e)
+    (presence_put c s x y (find_id c s.sessions x e) e)
+    (moves x y (ltb c s.next_id) too_long_notice [] [] [] refl
+    (λ (h : true ≡ false). cc h)
+    (λ h. (x.held, sym (append-nil x.held)))
+    (λ h. (refl, refl, refl)))
+
+notice_of : (c : ℕ) (s : ServerState) (o : Option SessionState) → session c s ≡ o →
+    Progress (presence c s) (texts_of (cond (is_overlong_of o) (too_long ∷ []) [])) [] [] (lines_of (cond (is_overlong_of o) (too_long ∷ []) [])) (presence c (after_notice_of s o))
+unfolding after_notice_of
+notice_of c s None e = stays (presence c s)
+notice_of c s (Some x) e = notice_by c s x (is_overlong_of (Some x)) refl e
+
+notice_goes : (c : ℕ) (s : ServerState) → Progress (presence c s) (texts_of (notice s c)) [] [] (lines_of (notice s c)) (presence c (after_notice s c))
+unfolding after_notice
+notice_goes c s = notice_of c s (session c s) refl
+
+notice_other_by : (c d : ℕ) (s : ServerState) (x : SessionState) (b : Bool) → session d s ≡ Some x → c ≢ d → presence c (cond b (with_session s (notified x)) s) ≡ presence c s
+notice_other_by c d s x false e differ = refl
+notice_other_by c d s x true e differ = presence_put_other c s (notified x) (λ (h : c ≡ x.id). differ (h ∙ find_id d s.sessions x e))
+
+notice_other_of : (c d : ℕ) (s : ServerState) (o : Option SessionState) → session d s ≡ o → c ≢ d → presence c (after_notice_of s o) ≡ presence c s
+unfolding after_notice_of
+notice_other_of c d s None e differ = refl
+notice_other_of c d s (Some x) e differ = notice_other_by c d s x (is_overlong_of (Some x)) e differ
+
+-- the whole pump
+pub pump_goes : (c : ℕ) (s : ServerState) → Progress (presence c s) (texts_of (pump_answers s c)) [] [] (lines_of (pump_answers s c)) (presence c (pumped s c))
+unfolding pump_answers pumped after_all_lines
+pump_goes c s =
+    let k = length (held_of (session c s)) in
+    let m = after_lines k s c in
+    let lines = answers_to_lines k s c in
+    let last = notice m c in
+    let p = presence c s in
+    let q = presence c (after_notice m c) in
+    progress_with p q (texts_of (lines ++ last)) (texts_of lines ++ texts_of last) [] [] [] [] (lines_of (lines ++ last)) (lines_of lines ++ lines_of last)
+    (flat_map-append text_of lines last) refl refl (flat_map-append line_of lines last)
+    (joins p (presence c m) q (texts_of lines) [] [] (lines_of lines) (texts_of last) [] [] (lines_of last) (lines_go k c s) (notice_goes c m))
+
+pub pump_other : (c d : ℕ) (s : ServerState) → c ≢ d → presence c (pumped s d) ≡ presence c s
+unfolding pumped after_all_lines after_notice
+pump_other c d s differ =
+    let m = after_lines (length (held_of (session d s))) s d in
+    notice_other_of c d m (session d m) refl differ ∙ lines_other (length (held_of (session d s))) c d s differ

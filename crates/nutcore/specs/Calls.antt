@@ -1,0 +1,27 @@
+-- What the calls of a server answer, as outcomes.
+use Rattle.std.specs.Prelude.{◌≡◌, ℕ, Bool, false, Result, Ok, Err, Option, Some, None, ◌-◌, ◌&&◌, ◌==◌, if◌then◌else◌, length}
+use Rattle.nutcore.specs.declared.TheConstants.{HELD_LIMIT}
+use Rattle.nutcore.specs.declared.event.Outcome.{Outcome}
+use Rattle.nutcore.specs.declared.event.Outcome.TheVariants.{Done, Fed, Opened, Refused}
+use Rattle.nutcore.specs.declared.event.Fault.{Fault}
+use Rattle.nutcore.specs.Session.{SessionState}
+
+abbrev pub fed : Result ℕ Fault → Outcome
+fed (Ok n) = Fed n
+fed (Err fault) = Refused fault
+
+abbrev pub done : Result (Unit {0}) Fault → Outcome
+done (Ok u) = Done
+done (Err fault) = Refused fault
+
+abbrev pub opened_as : Result ℕ Fault → Outcome
+opened_as (Ok c) = Opened c
+opened_as (Err fault) = Refused fault
+
+-- The session is ending, and nothing is owed.
+abbrev pub is_finished : SessionState → Bool
+is_finished x = x.ending && (length x.owed == 0)
+
+-- How many bytes the session takes in now. An ending one takes and drops any.
+abbrev pub room_of : SessionState → ℕ
+room_of x = if x.ending then HELD_LIMIT else HELD_LIMIT - length x.held

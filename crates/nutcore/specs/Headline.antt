@@ -1,0 +1,86 @@
+-- The laws of every run.
+use Rattle.std.specs.Prelude.{◌≡◌, ◌⊎◌, ℕ, ◌<◌, Bool, true, false, List, [], ◌∷◌, ◌++◌, All, Option, Some, None, Result, Ok, is_some, codes, nat_eq}
+use Rattle.std.specs.List.{starts_with}
+use Rattle.nutwords.specs.Frame.{frame}
+use Rattle.nutcore.specs.declared.event.Event.{Event}
+use Rattle.nutcore.specs.declared.event.Outcome.{Outcome}
+use Rattle.nutcore.specs.declared.event.Outcome.TheVariants.{Refused}
+use Rattle.nutcore.specs.declared.event.Fault.TheVariants.{Memory}
+use Rattle.nutcore.specs.declared.answer.command.Command.TheVariants.{ListVar}
+use Rattle.nutcore.specs.Session.{SessionState}
+use Rattle.nutcore.specs.Ups.{UpsState, readiness, usable}
+use Rattle.nutcore.specs.Server.{ServerState, session, with_session}
+use Rattle.nutcore.specs.Command.{read_command}
+use Rattle.nutcore.specs.Reply.{reply, ups_named, variable_items}
+use Rattle.nutcore.specs.Pump.{next_line_for, pump_stops, after_line, after_lines, after_notice, pumped, answered}
+use Rattle.nutcore.specs.Step.{Step, after, outcome_of}
+use Rattle.nutcore.specs.Run.{Run}
+use Rattle.nutcore.specs.History.{Answer, to_line, too_long, text_of, answers_in_run, answers, executed, taken, asked, owed, held, is_closed, is_over}
+
+-- The bytes begin the text: they are a front part of it, none and all of it included.
+abbrev pub IsBeginning : List ℕ → List ℕ → Type 0
+IsBeginning bytes text = (rest : List ℕ) × (bytes ++ rest ≡ text)
+
+-- Every open session has an id that was handed out. Of a server it always holds.
+abbrev pub IsLawful : ServerState → Type 0
+IsLawful s = (c : ℕ) → is_some (session c s) ≡ true → c < s.next_id
+
+-- What was owed before, followed by the answers of the run, is what the client took, followed by what it is owed after. A client that was closed took a beginning of that.
+pub record SentAndOwed (c : ℕ) (old : ServerState) (events : List Event) (outcomes : List Outcome) (new : ServerState) : Type 0 where
+  pub while_open : is_closed c new ≡ false → owed c old ++ answers c old events outcomes ≡ taken c old events outcomes ++ owed c new
+  pub once_closed : is_closed c new ≡ true → IsBeginning (taken c old events outcomes) (owed c old ++ answers c old events outcomes)
+
+-- What was held before, followed by what was asked in the run, is the executed lines, followed by what is held after. Of a client that is closed or ending, the executed lines are a beginning of that.
+pub record TakenUp (c : ℕ) (old : ServerState) (events : List Event) (outcomes : List Outcome) (new : ServerState) : Type 0 where
+  pub while_going : is_over c new ≡ false → held c old ++ asked c old events outcomes ≡ executed c old events outcomes ++ held c new
+  pub once_over : is_over c new ≡ true → IsBeginning (executed c old events outcomes) (held c old ++ asked c old events outcomes)
+
+-- In every run, of every client.
+abbrev pub WhatWasSentAndIsOwedIsTheAnswers : Type 0
+WhatWasSentAndIsOwedIsTheAnswers =
+    (old new : ServerState) (events : List Event) (outcomes : List Outcome) → IsLawful old → Run old events outcomes new → (c : ℕ) → SentAndOwed c old events outcomes new
+
+abbrev pub WhatWasAskedIsExecutedOrHeld : Type 0
+WhatWasAskedIsExecutedOrHeld =
+    (old new : ServerState) (events : List Event) (outcomes : List Outcome) → IsLawful old → Run old events outcomes new → (c : ℕ) → TakenUp c old events outcomes new
+
+-- The answer is the reply to the line that was the client's next one at that moment, or the notice.
+pub data IsTimely (c : ℕ) : Answer → Type 0 where
+  reply_at_its_moment : (s : ServerState) (line : List ℕ) → next_line_for s c ≡ Some line → IsTimely c (to_line s c line)
+  notice_of_length : IsTimely c too_long
+
+-- Each answer of a run is the reply to its line on the server of the line's own moment, at which the line was the next to be executed.
+abbrev pub EachAnswerIsTimely : Type 0
+EachAnswerIsTimely = (old : ServerState) (events : List Event) (outcomes : List Outcome) (c : ℕ) → All (IsTimely c) (answers_in_run c old events outcomes)
+
+-- The answer to a LIST VAR of a UPS that is usable is the frame of exactly the variables that it holds then.
+abbrev pub AListingIsWhatIsHeld : Type 0
+AListingIsWhatIsHeld =
+    (s : ServerState) (c : ℕ) (line ups : List ℕ) (x : UpsState) → read_command line ≡ Ok (Some (ListVar (Some ups))) → ups_named ups s ≡ Some x → readiness s.moment s.max_age x ≡ usable
+    → (reply s c line).text ≡ frame (codes "VAR") (ups ∷ []) (variable_items ups x)
+
+-- A whole line that is refused, by an answer that begins with ERR, changes nothing but its own session's held and owed bytes.
+abbrev pub ARefusedLineChangesNothing : Type 0
+ARefusedLineChangesNothing =
+    (s : ServerState) (c : ℕ) (line : List ℕ) (x : SessionState) → session c s ≡ Some x → next_line_for s c ≡ Some line → starts_with nat_eq (reply s c line).text (codes "ERR") ≡ true
+    → after_line s c ≡ with_session s (answered line (reply s c line).text x)
+
+-- The pump executes the least number of lines after which it stops.
+pub record IsLeast (s : ServerState) (c k : ℕ) : Type 0 where
+  pub there : pump_stops (after_lines k s c) c ≡ true
+  pub before : (j : ℕ) → j < k → pump_stops (after_lines j s c) c ≡ false
+  pub pumped_is : pumped s c ≡ after_notice (after_lines k s c) c
+
+abbrev pub ThePumpExecutesTheLeast : Type 0
+ThePumpExecutesTheLeast = (s : ServerState) (c : ℕ) → (k : ℕ) × IsLeast s c k
+
+abbrev pub IsWantOfMemory : Outcome → Type 0
+IsWantOfMemory outcome = (k : ℕ) × (outcome ≡ Refused (Memory k))
+
+-- An event is a function of the server: given the outcome there is one next server, and but for want of memory there is one outcome.
+pub record IsAFunction (s : ServerState) (event : Event) : Type 0 where
+  pub one_next : (outcome : Outcome) (new other : ServerState) → Step s event outcome new → Step s event outcome other → new ≡ other
+  pub one_outcome : (outcome : Outcome) (new : ServerState) → Step s event outcome new → (outcome ≡ outcome_of s event) ⊎ IsWantOfMemory outcome
+
+abbrev pub EachEventIsAFunction : Type 0
+EachEventIsAFunction = (s : ServerState) (event : Event) → IsAFunction s event

@@ -1,0 +1,16 @@
+pub mod Numbers
+pub mod Lines
+pub mod Tree
+pub mod DriverLine
+pub mod DriverStep
+pub mod Ups
+pub mod Session
+pub mod Server
+pub mod Command
+pub mod Reply
+pub mod Pump
+pub mod Step
+pub mod Run
+pub mod History
+pub mod Headline
+pub mod Calls

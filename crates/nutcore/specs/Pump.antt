@@ -1,0 +1,111 @@
+-- Which held lines of a session are executed, and what that leaves.
+use Rattle.std.specs.Prelude.{ℕ, zero, suc, Bool, true, false, List, [], ◌++◌, Option, Some, None, is_none, nat_lt, nat_le, not, ◌||◌, ◌&&◌, if◌then◌else◌, length, Result, Ok, Err}
+use Rattle.nutcore.specs.declared.TheConstants.{HELD_LIMIT, OWED_LIMIT}
+use Rattle.nutcore.specs.declared.answer.command.Command.{Command}
+use Rattle.nutcore.specs.declared.answer.command.Command.TheVariants.{ListVar}
+use Rattle.nutcore.specs.declared.answer.command.ErrorWord.{ErrorWord}
+use Rattle.nutcore.specs.Lines.{first_line, behind}
+use Rattle.nutcore.specs.Session.{SessionState, ended}
+use Rattle.nutcore.specs.Server.{ServerState, session, with_session}
+use Rattle.nutcore.specs.Ups.{UpsState, Readiness, not_connected, stale, usable, readiness}
+use Rattle.nutcore.specs.Command.{read_command}
+use Rattle.nutcore.specs.Reply.{Reply, reply, too_long_notice, ups_named}
+
+-- The session's next line, if it may be executed: the session isn't ending, and at most 2,048 bytes are owed.
+abbrev pub next_line : SessionState → Option (List ℕ)
+next_line x = if x.ending || nat_lt OWED_LIMIT (length x.owed) then None else first_line x.held
+
+abbrev pub next_line_of : Option SessionState → Option (List ℕ)
+next_line_of None = None
+next_line_of (Some x) = next_line x
+
+abbrev pub next_line_for : ServerState → ℕ → Option (List ℕ)
+next_line_for s c = next_line_of (session c s)
+
+-- The pump stops here: the session has no line that may be executed.
+abbrev pub pump_stops : ServerState → ℕ → Bool
+pump_stops s c = is_none (next_line_for s c)
+
+-- The session once the line and its LF are taken from its held input, and the answer is joined to what it owes.
+abbrev pub answered : List ℕ → List ℕ → SessionState → SessionState
+answered line text x = record x { held = behind line x.held; owed = x.owed ++ text }
+
+unfoldable pub after_reply_of : Reply → List ℕ → Option SessionState → ServerState
+after_reply_of r line None = r.server
+after_reply_of r line (Some x) = with_session r.server (answered line r.text x)
+
+-- The server once the line of the client c is answered.
+unfoldable pub after_reply : Reply → ℕ → List ℕ → ServerState
+after_reply r c line = after_reply_of r line (session c r.server)
+
+unfoldable pub after_line_of : ServerState → ℕ → Option (List ℕ) → ServerState
+after_line_of s c None = s
+after_line_of s c (Some line) = after_reply (reply s c line) c line
+
+-- The server after the session's next line, if it may be executed.
+unfoldable pub after_line : ServerState → ℕ → ServerState
+after_line s c = after_line_of s c (next_line_for s c)
+
+-- The server after the session's next k lines, as far as they may be executed.
+unfoldable pub after_lines : ℕ → ServerState → ℕ → ServerState
+after_lines zero s c = s
+after_lines (suc k) s c = after_lines k (after_line s c) c
+
+abbrev pub held_of : Option SessionState → List ℕ
+held_of None = []
+held_of (Some x) = x.held
+
+abbrev pub owed_of : Option SessionState → List ℕ
+owed_of None = []
+owed_of (Some x) = x.owed
+
+-- The server when the pump stops: there are no more lines than held bytes, and that the count of lines is the least at which the pump stops is a theorem.
+unfoldable pub after_all_lines : ServerState → ℕ → ServerState
+after_all_lines s c = after_lines (length (held_of (session c s))) s c
+
+abbrev pub is_overlong_of : Option SessionState → Bool
+is_overlong_of None = false
+is_overlong_of (Some x) = not x.ending && (nat_le (length x.owed) OWED_LIMIT && (is_none (first_line x.held) && nat_le HELD_LIMIT (length x.held)))
+
+-- The session may go on, but holds 1,024 bytes without an LF.
+abbrev pub is_overlong : ServerState → ℕ → Bool
+is_overlong s c = is_overlong_of (session c s)
+
+-- The session is told that its line is too long, and begins to end.
+abbrev pub notified : SessionState → SessionState
+notified x = ended (record x { owed = x.owed ++ too_long_notice })
+
+unfoldable pub after_notice_of : ServerState → Option SessionState → ServerState
+after_notice_of s None = s
+after_notice_of s (Some x) = if is_overlong_of (Some x) then with_session s (notified x) else s
+
+unfoldable pub after_notice : ServerState → ℕ → ServerState
+after_notice s c = after_notice_of s (session c s)
+
+-- The pump: all lines that may be executed, and the notice where it is due.
+unfoldable pub pumped : ServerState → ℕ → ServerState
+pumped s c = after_notice (after_all_lines s c) c
+
+-- The reply is a listing of variables: the one answer for which memory may be refused.
+abbrev pub is_listing_ready : Readiness → Bool
+is_listing_ready not_connected = false
+is_listing_ready stale = false
+is_listing_ready usable = true
+
+abbrev pub is_listing_found : ServerState → Option UpsState → Bool
+is_listing_found s None = false
+is_listing_found s (Some x) = is_listing_ready (readiness s.moment s.max_age x)
+
+abbrev pub is_listing_read : ServerState → Result (Option Command) ErrorWord → Bool
+is_listing_read s (Err word) = false
+is_listing_read s (Ok None) = false
+is_listing_read s (Ok (Some (ListVar None))) = false
+is_listing_read s (Ok (Some (ListVar (Some ups)))) = is_listing_found s (ups_named ups s)
+
+abbrev pub is_listing_line : ServerState → Option (List ℕ) → Bool
+is_listing_line s None = false
+is_listing_line s (Some line) = is_listing_read s (read_command line)
+
+-- The session's next line may be executed, and is answered by a listing.
+abbrev pub wants_memory : ServerState → ℕ → Bool
+wants_memory s c = is_listing_line s (next_line_for s c)

@@ -1,0 +1,45 @@
+-- The server as its callers see it.
+use Rattle.std.specs.Prelude.{ℕ, zero, suc, List, [], ◌∷◌, Option, Some, None, slice_get, position, replicate, length, ◌==◌}
+use Rattle.std.specs.Str.{bytes_eq}
+use Rattle.nutcore.specs.declared.event.UpsId.{UpsId}
+use Rattle.nutcore.specs.Session.{SessionState, find, put}
+use Rattle.nutcore.specs.Ups.{UpsState, new_ups}
+
+-- moment, max_age: in seconds. names: the UPSs' names, in byte order. upses: a state a name. sessions: in the order of opening. next_id: the id of the next session.
+pub record ServerState : Type 0 where
+  pub moment : ℕ
+  pub max_age : ℕ
+  pub names : List (List ℕ)
+  pub upses : List UpsState
+  pub sessions : List SessionState
+  pub next_id : ℕ
+
+-- A new server: no driver is connected, no session is open, and ids begin at 1.
+abbrev pub new_server : List (List ℕ) → ℕ → ServerState
+new_server names max_age = record { moment = 0; max_age = max_age; names = names; upses = replicate (length names) new_ups; sessions = []; next_id = 1 }
+
+-- The session of this id.
+abbrev pub session : ℕ → ServerState → Option SessionState
+session c s = find c s.sessions
+
+-- The server with this session in place of that of its id.
+abbrev pub with_session : ServerState → SessionState → ServerState
+with_session s y = record s { sessions = put y s.sessions }
+
+-- The place of the UPS of this name.
+abbrev pub place_of : List (List ℕ) → List ℕ → Option ℕ
+place_of names name = position (λ n. bytes_eq n name) names
+
+-- The UPS at a place.
+abbrev pub ups_at : ℕ → ServerState → Option UpsState
+ups_at place s = slice_get s.upses place
+
+-- The list in which f changes what stands at the place, if anything does.
+abbrev pub changed_at : (UpsState → UpsState) → ℕ → List UpsState → List UpsState
+changed_at f place [] = []
+changed_at f zero (x ∷ xs) = f x ∷ xs
+changed_at f (suc place) (x ∷ xs) = x ∷ changed_at f place xs
+
+-- The server in which f changes this UPS.
+abbrev pub with_ups_changed : (UpsState → UpsState) → UpsId → ServerState → ServerState
+with_ups_changed f u s = record s { upses = changed_at f u.place s.upses }

@@ -1,0 +1,162 @@
+-- What each event does, and what may be answered to it.
+use Rattle.std.specs.Prelude.{◌≡◌, ℕ, ◌+◌, ◌-◌, ◌^◌, Bool, true, false, List, [], ◌∷◌, ◌++◌, Option, Some, None, nat_lt, nat_le, ◌&&◌, if◌then◌else◌, length, take, drop, min, ◌⊎◌, IsTrue}
+use Rattle.nutcore.specs.declared.TheConstants.{HELD_LIMIT, OFFER_LIMIT, SESSION_LIMIT}
+use Rattle.nutcore.specs.declared.event.UpsId.{UpsId}
+use Rattle.nutcore.specs.declared.event.Event.{Event}
+use Rattle.nutcore.specs.declared.event.Event.TheVariants.{DriverUp, DriverBytes, DriverDown, Open, Feed, Took, Close}
+use Rattle.nutcore.specs.declared.event.Outcome.{Outcome}
+use Rattle.nutcore.specs.declared.event.Outcome.TheVariants.{Done, Fed, Opened, Refused}
+use Rattle.nutcore.specs.declared.event.Fault.TheVariants.{NoSuchUps, NoSuchClient, TooManyClients, TookTooMuch, NotConnected, AlreadyConnected, LineTooLong, Memory}
+use Rattle.nutcore.specs.Session.{SessionState, new_session, without}
+use Rattle.nutcore.specs.Ups.{UpsState, after_connecting, after_loss, with_bytes, after_driver_lines, after_all_driver_lines, is_driver_overlong, wants_driver_memory}
+use Rattle.nutcore.specs.Server.{ServerState, session, with_session, ups_at, with_ups_changed}
+use Rattle.nutcore.specs.Pump.{pumped, after_all_lines, after_lines, is_overlong, wants_memory, owed_of}
+
+-- Clients: bytes come.
+
+-- The bytes of a piece that join held input: as many as there is room for, and none where the session is ending.
+abbrev pub joining : Option SessionState → List ℕ → List ℕ
+joining None piece = []
+joining (Some x) piece = if x.ending then [] else take (HELD_LIMIT - length x.held) piece
+
+unfoldable pub with_input_of : ServerState → Option SessionState → List ℕ → ServerState
+with_input_of s None piece = s
+with_input_of s (Some x) piece = with_session s (record x { held = x.held ++ joining (Some x) piece })
+
+-- The server once the piece has come.
+unfoldable pub with_input : ServerState → ℕ → List ℕ → ServerState
+with_input s c piece = with_input_of s (session c s) piece
+
+-- Clients: bytes are taken.
+
+-- What is offered: the first 4,096 bytes of what is owed, or all.
+abbrev pub offered : Option SessionState → List ℕ
+offered x = take OFFER_LIMIT (owed_of x)
+
+abbrev pub may_take : Option SessionState → ℕ → Bool
+may_take None n = false
+may_take (Some x) n = nat_le n (length (offered (Some x)))
+
+unfoldable pub without_output_of : ServerState → Option SessionState → ℕ → ServerState
+without_output_of s None n = s
+without_output_of s (Some x) n = with_session s (record x { owed = drop n x.owed })
+
+-- The server once the client has taken n bytes.
+unfoldable pub without_output : ServerState → ℕ → ℕ → ServerState
+without_output s c n = without_output_of s (session c s) n
+
+-- Clients come: at most 64 at once, and an id is never used again.
+abbrev pub may_open : ServerState → Bool
+may_open s = nat_lt (length s.sessions) SESSION_LIMIT && nat_lt s.next_id (2 ^ 64 - 1)
+
+unfoldable pub opened : ServerState → List ℕ → Option ℕ → ServerState
+opened s address None = if may_open s then record s { sessions = s.sessions ++ new_session s.next_id address ∷ []; next_id = s.next_id + 1 } else s
+opened s address (Some k) = s
+
+-- Drivers. An event of a driver changes its UPS alone, and nothing where it is refused.
+abbrev pub connected : ℕ → UpsState → UpsState
+connected moment x = if x.connected then x else after_connecting moment x
+
+abbrev pub disconnected : UpsState → UpsState
+disconnected x = if x.connected then after_loss x else x
+
+-- All whole lines are executed, and the driver is lost where 1,024 bytes stand without an LF.
+abbrev pub after_driver_pump : ℕ → UpsState → UpsState
+after_driver_pump moment x = let y = after_all_driver_lines moment x in if is_driver_overlong y then after_loss y else y
+
+-- Where memory was refused after k lines the driver is lost.
+unfoldable pub after_driver_bytes : ℕ → List ℕ → Option ℕ → UpsState → UpsState
+after_driver_bytes moment piece None x = if x.connected then after_driver_pump moment (with_bytes piece x) else x
+after_driver_bytes moment piece (Some k) x = if x.connected then after_loss (after_driver_lines k moment (with_bytes piece x)) else x
+
+-- Want of memory.
+
+-- After how many lines of the event memory was refused, if it was.
+abbrev pub refused_after : Outcome → Option ℕ
+refused_after (Refused (Memory k)) = Some k
+refused_after _ = None
+
+-- The pump, as far as memory lets it.
+unfoldable pub pumped_until : ServerState → ℕ → Option ℕ → ServerState
+pumped_until s c None = pumped s c
+pumped_until s c (Some k) = after_lines k s c
+
+-- What an event leaves, where memory was there or was refused after k lines.
+unfoldable pub after_by : ServerState → Event → Option ℕ → ServerState
+after_by s (DriverUp u) m = with_ups_changed (connected s.moment) u s
+after_by s (DriverBytes u piece) m = with_ups_changed (after_driver_bytes s.moment piece m) u s
+after_by s (DriverDown u) m = with_ups_changed disconnected u s
+after_by s (Open address) m = opened s address m
+after_by s (Feed c piece) m = pumped_until (with_input s c piece) c m
+after_by s (Took c n) m = if may_take (session c s) n then pumped_until (without_output s c n) c m else s
+after_by s (Close c) m = record s { sessions = without c s.sessions }
+
+-- What an event leaves, by its outcome.
+abbrev pub after : ServerState → Event → Outcome → ServerState
+after s e outcome = after_by s e (refused_after outcome)
+
+-- The outcome where memory is there.
+
+abbrev pub connected_by : Option UpsState → Outcome
+connected_by None = Refused NoSuchUps
+connected_by (Some x) = if x.connected then Refused AlreadyConnected else Done
+
+abbrev pub driver_pump_outcome : ℕ → UpsState → Outcome
+driver_pump_outcome moment x = if is_driver_overlong (after_all_driver_lines moment x) then Refused LineTooLong else Done
+
+abbrev pub driver_bytes_by : ℕ → List ℕ → Option UpsState → Outcome
+driver_bytes_by moment piece None = Refused NoSuchUps
+driver_bytes_by moment piece (Some x) = if x.connected then driver_pump_outcome moment (with_bytes piece x) else Refused NotConnected
+
+abbrev pub disconnected_by : Option UpsState → Outcome
+disconnected_by None = Refused NoSuchUps
+disconnected_by (Some x) = if x.connected then Done else Refused NotConnected
+
+-- How many bytes of a piece are taken in. An ending session takes and drops all.
+abbrev pub taken_in : SessionState → List ℕ → ℕ
+taken_in x piece = if x.ending then length piece else min (length piece) (HELD_LIMIT - length x.held)
+
+abbrev pub fed_by : Option SessionState → List ℕ → Bool → Outcome
+fed_by None piece overlong = Refused NoSuchClient
+fed_by (Some x) piece overlong = if overlong then Refused LineTooLong else Fed (taken_in x piece)
+
+abbrev pub took_by : Option SessionState → ℕ → Bool → Outcome
+took_by None n overlong = Refused NoSuchClient
+took_by (Some x) n overlong = if may_take (Some x) n then (if overlong then Refused LineTooLong else Done) else Refused TookTooMuch
+
+abbrev pub closed_by : Option SessionState → Outcome
+closed_by None = Refused NoSuchClient
+closed_by (Some x) = Done
+
+unfoldable pub outcome_of : ServerState → Event → Outcome
+outcome_of s (DriverUp u) = connected_by (ups_at u.place s)
+outcome_of s (DriverBytes u piece) = driver_bytes_by s.moment piece (ups_at u.place s)
+outcome_of s (DriverDown u) = disconnected_by (ups_at u.place s)
+outcome_of s (Open address) = if may_open s then Opened s.next_id else Refused TooManyClients
+outcome_of s (Feed c piece) = fed_by (session c s) piece (is_overlong (after_all_lines (with_input s c piece) c) c)
+outcome_of s (Took c n) = took_by (session c s) n (is_overlong (after_all_lines (without_output s c n) c) c)
+outcome_of s (Close c) = closed_by (session c s)
+
+-- The k whole lines of the driver are done, and the next one would change the tree.
+abbrev pub driver_may_lack_memory : ℕ → List ℕ → ℕ → Option UpsState → Bool
+driver_may_lack_memory moment piece k None = false
+driver_may_lack_memory moment piece k (Some x) = x.connected && wants_driver_memory (after_driver_lines k moment (with_bytes piece x))
+
+-- Memory may be refused after k lines of the event. The next line of a client stays held, to be tried again.
+unfoldable pub MayLackMemory : ServerState → Event → ℕ → Type 0
+MayLackMemory s (DriverUp u) k = ⊥
+MayLackMemory s (DriverBytes u piece) k = IsTrue (driver_may_lack_memory s.moment piece k (ups_at u.place s))
+MayLackMemory s (DriverDown u) k = ⊥
+MayLackMemory s (Open address) k = (k ≡ 0) × IsTrue (may_open s)
+MayLackMemory s (Feed c piece) k = IsTrue (wants_memory (after_lines k (with_input s c piece) c) c)
+MayLackMemory s (Took c n) k = IsTrue (may_take (session c s) n) × IsTrue (wants_memory (after_lines k (without_output s c n) c) c)
+MayLackMemory s (Close c) k = ⊥
+
+-- Beside the one outcome there is only want of memory.
+abbrev pub MayAnswer : ServerState → Event → Outcome → Type 0
+MayAnswer s e outcome = (outcome ≡ outcome_of s e) ⊎ ((k : ℕ) × (outcome ≡ Refused (Memory k)) × MayLackMemory s e k)
+
+-- One event: what was answered may be, and the new server is what that leaves.
+pub record Step (old : ServerState) (event : Event) (outcome : Outcome) (new : ServerState) : Type 0 where
+  pub allowed : MayAnswer old event outcome
+  pub leaves : new ≡ after old event outcome

@@ -1,0 +1,3 @@
+//! The clients' side: commands, and what is answered to them.
+
+pub(crate) mod command;

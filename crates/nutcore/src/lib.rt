@@ -1,0 +1,67 @@
+//! The core of upsd: the state of each UPS, the sessions of clients, and what each event does to them.
+#![tactic(auto)]
+
+ghost use Rattle.nutcore.specs.Headline.{WhatWasSentAndIsOwedIsTheAnswers, WhatWasAskedIsExecutedOrHeld, EachAnswerIsTimely, AListingIsWhatIsHeld, ARefusedLineChangesNothing, ThePumpExecutesTheLeast, EachEventIsAFunction};
+
+mod answer;
+mod bytes;
+mod driver;
+mod event;
+
+pub use bytes::Bytes;
+pub use event::{ClientId, Event, Fault, Outcome, UpsId};
+
+/// The most bytes of input that a session holds, and that may stand without an LF.
+pub const HELD_LIMIT: usize = 1024;
+
+/// The number of a driver's bytes without an LF at which it is lost: its lines have at most 1,023 bytes.
+pub const LINE_LIMIT: usize = 1024;
+
+/// A session's next line is executed only while at most so many bytes are owed to it.
+pub const OWED_LIMIT: usize = 2048;
+
+/// The most bytes that one offer has.
+pub const OFFER_LIMIT: usize = 4096;
+
+/// The most sessions that are open at once.
+pub const SESSION_LIMIT: usize = 64;
+
+/// The most variables that a UPS has.
+pub const VARIABLE_LIMIT: usize = 4096;
+
+/// Over every run, what each client was sent, followed by what it is still owed, is exactly the
+/// answers to its executed lines, in order.
+pub fn what_was_sent_and_is_owed_is_the_answers()
+    ensures { WhatWasSentAndIsOwedIsTheAnswers }
+{}
+
+/// Over every run, what each client asked is executed in order, or still held.
+pub fn what_was_asked_is_executed_or_held()
+    ensures { WhatWasAskedIsExecutedOrHeld }
+{}
+
+/// Each answer of a run is the reply to its line on the server of that line's own moment.
+pub fn each_answer_is_timely()
+    ensures { EachAnswerIsTimely }
+{}
+
+/// A listing is the frame of exactly the variables that the UPS holds when its line is executed.
+pub fn a_listing_is_what_is_held()
+    ensures { AListingIsWhatIsHeld }
+{}
+
+/// A whole line that is refused changes nothing but its own session's held and owed bytes.
+pub fn a_refused_line_changes_nothing()
+    ensures { ARefusedLineChangesNothing }
+{}
+
+/// The pump executes the least number of lines after which it stops.
+pub fn the_pump_executes_the_least()
+    ensures { ThePumpExecutesTheLeast }
+{}
+
+/// Given a server, an event and its outcome there is one next server, and but for want of memory
+/// there is one outcome.
+pub fn each_event_is_a_function()
+    ensures { EachEventIsAFunction }
+{}
