@@ -1,6 +1,8 @@
 -- The first line of some bytes.
-use Rattle.std.proofs.Common.{◌≡◌, ℕ, zero, suc, ◌+◌, ◌<◌, ◌≤◌, Bool, true, false, eqb, cond, List, [], ◌∷◌, ◌++◌, length, take, drop, Option, Some, None, refl, sym, ap, subst, ◌∙◌, arith, append_assoc, length-append, length-drop}
+use Rattle.std.proofs.Common.{◌≡◌, ℕ, zero, suc, ◌+◌, ◌<◌, ◌≤◌, Bool, true, false, eqb, cond, get_or, List, [], ◌∷◌, ◌++◌, length, take, drop, Option, Some, None, refl, sym, ap, subst, ◌∙◌, arith, append_assoc, length-append, length-drop}
 use Rattle.std.specs.Option.{option_map}
+use Rattle.std.specs.Prelude.{MatchOption}
+use Rattle.bstr.specs.Find.{IsFirstByte, is_byte}
 use Rattle.std.proofs.lemmas.Bool.{eqb-true}
 use Rattle.nutwords.specs.SplitLine.{split_line}
 use Rattle.nutcore.specs.Lines.{first_line, behind, with_lf}
@@ -66,3 +68,33 @@ pub behind_shorter : (bytes line : List ℕ) → first_line bytes ≡ Some line 
 behind_shorter bytes line h =
     let e = ap length (split_is bytes line (behind line bytes) (line_found bytes line h)) in
     omega (arith, e, length-append line (10 ∷ behind line bytes))
+
+-- a byte that isn't LF stands before the first line's end
+other : (b : ℕ) (bytes : List ℕ) → eqb b 10 ≡ false → split_line (b ∷ bytes) ≡ with_byte b (split_line bytes)
+other b bytes h = rw h
+
+-- there is no LF, and no line
+pub no_line : (bytes : List ℕ) → ((j : ℕ) → j < length bytes → eqb (get_or bytes j 0) 10 ≡ true → ⊥) → split_line bytes ≡ None
+no_line [] never = refl
+no_line (b ∷ bytes) never = by_byte (no_line bytes (λ j lt e. never (suc j) (omega arith) e)) (eqb b 10) refl
+  where
+    by_byte : split_line bytes ≡ None → (v : Bool) → eqb b 10 ≡ v → split_line (b ∷ bytes) ≡ None
+    by_byte rest true e = absurd (never 0 (omega arith) e)
+    by_byte rest false e = other b bytes e ∙ ap (with_byte b) rest
+
+-- the first LF stands at k
+pub line_at : (bytes : List ℕ) (k : ℕ) → k < length bytes → ((j : ℕ) → j < k → eqb (get_or bytes j 0) 10 ≡ true → ⊥) → eqb (get_or bytes k 0) 10 ≡ true → split_line bytes ≡ Some (take k bytes, drop (suc k) bytes)
+line_at [] k lt never at = absurd (omega arith)
+line_at (b ∷ bytes) zero lt never at = rw at refl
+line_at (b ∷ bytes) (suc k) lt never at = by_byte (line_at bytes k (omega arith) (λ j below e. never (suc j) (omega arith) e) at) (eqb b 10) refl
+  where
+    by_byte : split_line bytes ≡ Some (take k bytes, drop (suc k) bytes) → (v : Bool) → eqb b 10 ≡ v → split_line (b ∷ bytes) ≡ Some (b ∷ take k bytes, drop (suc k) bytes)
+    by_byte rest true e = absurd (never 0 (omega arith) e)
+    by_byte rest false e = other b bytes e ∙ ap (with_byte b) rest
+
+-- what the search for an LF says
+pub found_end : (r : Option ℕ) (bytes : List ℕ) → IsFirstByte (is_byte 10) bytes r → MatchOption r (first_line bytes ≡ None) (λ end. (end < length bytes) × (first_line bytes ≡ Some (take end bytes)))
+found_end None bytes h = ap (λ o. option_map (λ s. s.0) o) (no_line bytes (λ j lt e. h j (omega arith) lt e))
+found_end (Some end) bytes h =
+    let within : end < length bytes = omega (arith, h.0.high) in
+    (within, ap (λ o. option_map (λ s. s.0) o) (line_at bytes end within (λ j lt e. h.0.before j (omega arith) lt e) h.1))

@@ -14,3 +14,4 @@ pub mod Run
 pub mod History
 pub mod Headline
 pub mod Calls
+pub mod Serving

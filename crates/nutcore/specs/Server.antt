@@ -1,5 +1,5 @@
 -- The server as its callers see it.
-use Rattle.std.specs.Prelude.{ℕ, zero, suc, List, [], ◌∷◌, Option, Some, None, slice_get, position, replicate, length, ◌==◌}
+use Rattle.std.specs.Prelude.{ℕ, zero, suc, List, [], ◌∷◌, Option, Some, None, slice_get, position, replicate, length, nat_le, ◌&&◌, if◌then◌else◌}
 use Rattle.std.specs.Str.{bytes_eq}
 use Rattle.nutcore.specs.declared.event.UpsId.{UpsId}
 use Rattle.nutcore.specs.Session.{SessionState, find, put}
@@ -29,6 +29,13 @@ with_session s y = record s { sessions = put y s.sessions }
 -- The place of the UPS of this name.
 abbrev pub place_of : List (List ℕ) → List ℕ → Option ℕ
 place_of names name = position (λ n. bytes_eq n name) names
+
+abbrev pub id_at : ℕ → UpsId
+id_at place = record { place = place }
+
+-- The greatest age of what a driver told is from 3 to 86,400 seconds (`MAXAGE` of upsd.conf(5)).
+abbrev pub read_max_age : ℕ → Option ℕ
+read_max_age seconds = if nat_le 3 seconds && nat_le seconds 86400 then Some seconds else None
 
 -- The UPS at a place.
 abbrev pub ups_at : ℕ → ServerState → Option UpsState

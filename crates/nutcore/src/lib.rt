@@ -7,9 +7,13 @@ mod answer;
 mod bytes;
 mod driver;
 mod event;
+mod files;
+mod lines;
+mod session;
 
 pub use bytes::Bytes;
 pub use event::{ClientId, Event, Fault, Outcome, UpsId};
+pub use files::{Descriptions, MaxAge, UpsList, Users};
 
 /// The most bytes of input that a session holds, and that may stand without an LF.
 pub const HELD_LIMIT: usize = 1024;

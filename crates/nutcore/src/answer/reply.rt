@@ -1,0 +1,9 @@
+//! What answers a line.
+
+/// What answers a line: a text of at most one line, or the listing of a UPS's variables.
+pub(crate) enum Reply {
+    /// The whole text.
+    Text(&'static [u8]),
+    /// The variables of the UPS at this place.
+    Variables(usize),
+}

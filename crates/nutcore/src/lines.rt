@@ -1,0 +1,23 @@
+//! Lines in a run of bytes.
+ghost use Rattle.std.specs.Prelude.{◌≡◌, ◌≤◌, ◌<◌, drop, take, vec_len, vec_capacity, length, MatchOption, None, Some};
+ghost use Rattle.nutcore.specs.Lines.{first_line};
+
+use bstr::ByteSlice;
+
+/// Where the first whole line ends.
+pub(crate) fn line_end(bytes: &[u8]) -> Option<usize>
+    ensures { MatchOption result (first_line bytes.now ≡ None) (λ end. (end < length bytes.now) × (first_line bytes.now ≡ Some (take end bytes.now))) }
+{
+    bytes.find_byte(b'\n')
+}
+
+/// Drops the first n bytes. The room stays.
+pub(crate) fn drop_front(bytes: &mut Vec<u8>, n: usize)
+    requires { n ≤ vec_len bytes.old }
+    ensures items { bytes.new.items ≡ drop n bytes.old.items }
+    ensures room { vec_capacity bytes.new ≡ vec_capacity bytes.old }
+{
+    let rest = bytes.len() - n;
+    bytes.copy_within(n.., 0);
+    bytes.truncate(rest);
+}
