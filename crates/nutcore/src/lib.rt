@@ -7,6 +7,7 @@ mod answer;
 mod bytes;
 mod driver;
 mod event;
+mod spelling;
 
 pub use bytes::Bytes;
 pub use event::{ClientId, Event, Fault, Outcome, UpsId};
