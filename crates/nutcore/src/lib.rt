@@ -10,6 +10,7 @@ mod event;
 mod files;
 mod lines;
 mod session;
+mod spelling;
 
 pub use bytes::Bytes;
 pub use event::{ClientId, Event, Fault, Outcome, UpsId};
