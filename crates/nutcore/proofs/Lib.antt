@@ -7,3 +7,4 @@ mod Loops
 mod Least
 mod Timely
 mod Refusals
+mod TreeSize
