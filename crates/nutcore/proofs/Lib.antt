@@ -8,3 +8,4 @@ mod Least
 mod Timely
 mod Refusals
 mod TreeSize
+mod DriverLoops

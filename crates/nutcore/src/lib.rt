@@ -8,6 +8,7 @@ mod bytes;
 mod driver;
 mod event;
 mod spelling;
+mod ups;
 
 pub use bytes::Bytes;
 pub use event::{ClientId, Event, Fault, Outcome, UpsId};
