@@ -7,3 +7,5 @@ mod Loops
 mod Least
 mod Timely
 mod Refusals
+mod TreeSize
+mod DriverLoops

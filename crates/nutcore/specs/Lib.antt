@@ -4,6 +4,7 @@ pub mod Tree
 pub mod DriverLine
 pub mod DriverStep
 pub mod Ups
+pub mod Leaf
 pub mod Session
 pub mod Server
 pub mod Command

@@ -11,6 +11,7 @@ mod files;
 mod lines;
 mod session;
 mod spelling;
+mod ups;
 
 pub use bytes::Bytes;
 pub use event::{ClientId, Event, Fault, Outcome, UpsId};
