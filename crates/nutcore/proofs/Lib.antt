@@ -9,3 +9,10 @@ mod Timely
 mod Refusals
 mod TreeSize
 mod DriverLoops
+mod Places
+mod Serving
+mod EventSteps
+mod Runs
+mod Named
+mod DriverSteps
+mod Listings

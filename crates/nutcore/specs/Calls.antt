@@ -4,6 +4,7 @@ use Rattle.nutcore.specs.declared.TheConstants.{HELD_LIMIT}
 use Rattle.nutcore.specs.declared.event.Outcome.{Outcome}
 use Rattle.nutcore.specs.declared.event.Outcome.TheVariants.{Done, Fed, Opened, Refused}
 use Rattle.nutcore.specs.declared.event.Fault.{Fault}
+use Rattle.nutcore.specs.declared.event.Fault.TheVariants.{NoSuchClient}
 use Rattle.nutcore.specs.Session.{SessionState}
 
 abbrev pub fed : Result ℕ Fault → Outcome
@@ -25,3 +26,8 @@ is_finished x = x.ending && (length x.owed == 0)
 -- How many bytes the session takes in now. An ending one takes and drops any.
 abbrev pub room_of : SessionState → ℕ
 room_of x = if x.ending then HELD_LIMIT else HELD_LIMIT - length x.held
+
+-- The call reads this off the client's session, and is refused exactly where the client isn't open.
+abbrev pub Reads : {A : Type 0} → (SessionState → A) → Option SessionState → Result A Fault → Type 0
+Reads read None answer = answer ≡ Err NoSuchClient
+Reads read (Some x) answer = answer ≡ Ok (read x)

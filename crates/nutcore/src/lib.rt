@@ -9,6 +9,7 @@ mod driver;
 mod event;
 mod files;
 mod lines;
+mod server;
 mod session;
 mod spelling;
 mod ups;
@@ -16,6 +17,7 @@ mod ups;
 pub use bytes::Bytes;
 pub use event::{ClientId, Event, Fault, Outcome, UpsId};
 pub use files::{Descriptions, MaxAge, UpsList, Users};
+pub use server::Server;
 
 /// The most bytes of input that a session holds, and that may stand without an LF.
 pub const HELD_LIMIT: usize = 1024;

@@ -4,11 +4,14 @@ ghost use Rattle.nutcore.specs.Session.{new_session, ended};
 ghost use Rattle.nutcore.specs.Lines.{first_line, behind};
 ghost use Rattle.nutcore.specs.Pump.{next_line, answered, is_overlong_of, notified};
 ghost use Rattle.nutcore.specs.Step.{joining, taken_in};
+ghost use Rattle.nutcore.specs.Reply.{variable_listing};
 ghost use Rattle.nutcore.specs.Calls.{is_finished, room_of};
 
+use crate::answer::listing::write_variables;
 use crate::lines::{drop_front, line_end};
+use crate::ups::Ups;
 use crate::{HELD_LIMIT, OFFER_LIMIT, OWED_LIMIT};
-use nutwords::Address;
+use nutwords::{Address, UpsName};
 use std::alloc::{AllocError, Global};
 use std::marker::Model;
 
@@ -111,6 +114,19 @@ impl Session {
     {
         self.owed.extend_from_slice(text).unwrap();
         self.take_line();
+    }
+
+    /// Takes the next line, and joins the listing of a UPS's variables to what is owed. Without
+    /// memory nothing changes.
+    pub(crate) fn answer_listing(&mut self, name: &UpsName, ups: &Ups) -> Result<(), AllocError>
+        requires { is_some (next_line self.old) ≡ true }
+        ensures ok { OnOk result ((line : List ℕ) → next_line self.old ≡ Some line → self.new ≡ answered line (variable_listing name.now ups.now) self.old) }
+        ensures err { OnErr result (self.new ≡ self.old) }
+        ensures id { self.new.id ≡ self.old.id }
+    {
+        write_variables(&mut self.owed, name, ups)?;
+        self.take_line();
+        Ok(())
     }
 
     /// Takes the first line.

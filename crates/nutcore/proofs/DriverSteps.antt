@@ -1,0 +1,177 @@
+-- Each event of a driver, over plain states.
+use Rattle.std.proofs.Common.{◌≡◌, ℕ, zero, suc, ◌<◌, Bool, true, false, List, [], ◌∷◌, Option, Some, None, Result, Ok, Err, refl, sym, ◌∙◌, ap, subst, arith, length, set, get_or, inl, inr}
+use Rattle.std.specs.Prelude.{IsTrue, slice_get, slice_set, ◌&&◌}
+use Rattle.std.specs.Option.{option_map}
+use Rattle.std.proofs.lemmas.Bool.{cond-true, cond-false, and_from}
+use Rattle.std.proofs.lemmas.Option.{slice_get-get_or}
+use Rattle.nutcore.specs.declared.event.UpsId.{UpsId}
+use Rattle.nutcore.specs.declared.event.Event.{Event}
+use Rattle.nutcore.specs.declared.event.Event.TheVariants.{DriverUp, DriverBytes, DriverDown}
+use Rattle.nutcore.specs.declared.event.Outcome.TheVariants.{Done, Refused}
+use Rattle.nutcore.specs.declared.event.Fault.{Fault}
+use Rattle.nutcore.specs.declared.event.Fault.TheVariants.{NoSuchUps, NoSuchClient, TooManyClients, TookTooMuch, NotConnected, AlreadyConnected, LineTooLong, Memory}
+use Rattle.nutcore.specs.Ups.{UpsState, after_connecting, after_loss, with_bytes, after_driver_lines, after_all_driver_lines, is_driver_overlong, wants_driver_memory}
+use Rattle.nutcore.specs.Leaf.{IsFed}
+use Rattle.nutcore.specs.Server.{ServerState, ups_at, changed_at, with_ups_changed}
+use Rattle.nutcore.specs.Step.{Step, connected, disconnected, after_driver_bytes, after_driver_pump, connected_by, disconnected_by, driver_bytes_by, driver_pump_outcome, driver_may_lack_memory, outcome_of, after_by, MayLackMemory}
+use Rattle.nutcore.specs.Calls.{done}
+use Rattle.nutcore.specs.Serving.{is_connected, DriverFeedGives}
+
+-- changes at a place that agree there are one
+pub changed_agree : (f g : UpsState → UpsState) (i : ℕ) (xs : List UpsState) (x : UpsState) → slice_get xs i ≡ Some x → f x ≡ g x → changed_at f i xs ≡ changed_at g i xs
+changed_agree f g i [] x there e = refl
+changed_agree f g zero (y ∷ xs) x there e =
+    let same : y ≡ x = cc there in
+    ap (λ (z : UpsState). z ∷ xs) (ap f same ∙ e ∙ ap g (sym same))
+changed_agree f g (suc i) (y ∷ xs) x there e = ap (λ (zs : List UpsState). y ∷ zs) (changed_agree f g i xs x there e)
+
+pub changed_same : (f : UpsState → UpsState) (i : ℕ) (xs : List UpsState) (x : UpsState) → slice_get xs i ≡ Some x → f x ≡ x → changed_at f i xs ≡ xs
+changed_same f i [] x there e = refl
+changed_same f zero (y ∷ xs) x there e =
+    let same : y ≡ x = cc there in
+    ap (λ (z : UpsState). z ∷ xs) (ap f same ∙ e ∙ sym same)
+changed_same f (suc i) (y ∷ xs) x there e = ap (λ (zs : List UpsState). y ∷ zs) (changed_same f i xs x there e)
+
+pub changed_none : (f : UpsState → UpsState) (i : ℕ) (xs : List UpsState) → slice_get xs i ≡ None → changed_at f i xs ≡ xs
+changed_none f i [] e = refl
+changed_none f zero (y ∷ xs) e = cc
+changed_none f (suc i) (y ∷ xs) e = ap (λ (zs : List UpsState). y ∷ zs) (changed_none f i xs e)
+
+-- a UPS in place of the one that stands there
+pub set_changed : (f : UpsState → UpsState) (i : ℕ) (xs : List UpsState) (x y : UpsState) → slice_get xs i ≡ Some x → y ≡ f x → set xs i y ≡ changed_at f i xs
+set_changed f i [] x y there e = cc
+set_changed f zero (z ∷ xs) x y there e =
+    let same : z ≡ x = cc there in
+    ap (λ (w : UpsState). w ∷ xs) (e ∙ ap f (sym same))
+set_changed f (suc i) (z ∷ xs) x y there e = ap (λ (zs : List UpsState). z ∷ zs) (set_changed f i xs x y there e)
+
+-- the same of the server
+pub server_same : (s : ServerState) (u : UpsId) (f : UpsState → UpsState) (x : UpsState) → ups_at u.place s ≡ Some x → f x ≡ x → s ≡ with_ups_changed f u s
+server_same s u f x there e = ap (λ (xs : List UpsState). let z : ServerState = record s { upses = xs } in z) (sym (changed_same f u.place s.upses x there e))
+
+pub server_none : (s : ServerState) (u : UpsId) (f : UpsState → UpsState) → ups_at u.place s ≡ None → s ≡ with_ups_changed f u s
+server_none s u f none = ap (λ (xs : List UpsState). let z : ServerState = record s { upses = xs } in z) (sym (changed_none f u.place s.upses none))
+
+pub server_agree : (s : ServerState) (u : UpsId) (f g : UpsState → UpsState) (x : UpsState) → ups_at u.place s ≡ Some x → f x ≡ g x → with_ups_changed f u s ≡ with_ups_changed g u s
+server_agree s u f g x there e = ap (λ (xs : List UpsState). let z : ServerState = record s { upses = xs } in z) (changed_agree f g u.place s.upses x there e)
+
+pub server_set : (s : ServerState) (u : UpsId) (f : UpsState → UpsState) (x y : UpsState) → ups_at u.place s ≡ Some x → y ≡ f x → (let code : ServerState = record s { upses = set s.upses u.place y } in code ≡ with_ups_changed f u s)
+server_set s u f x y there e = ap (λ (xs : List UpsState). let z : ServerState = record s { upses = xs } in z) (set_changed f u.place s.upses x y there e)
+
+-- the UPS that stands at a place
+pub there_is : (xs : List UpsState) (i : ℕ) (x : UpsState) → i < length xs → x ≡ get_or xs i x → slice_get xs i ≡ Some x
+there_is xs i x lt at = slice_get-get_or xs i x lt ∙ ap Some (sym at)
+
+-- what its connection says of it
+pub record IsThere (s : ServerState) (u : UpsId) (b : Bool) : Type 0 where
+  pub ups : UpsState
+  pub there : ups_at u.place s ≡ Some ups
+  pub is : ups.connected ≡ b
+
+there_by : (s : ServerState) (u : UpsId) (b : Bool) (o : Option UpsState) → ups_at u.place s ≡ o → option_map is_connected o ≡ Some b → IsThere s u b
+there_by s u b None e h = cc
+there_by s u b (Some x) e h = let is : x.connected ≡ b = cc h in record { ups = x; there = e; is = is }
+
+pub is_there : (s : ServerState) (u : UpsId) (b : Bool) → option_map is_connected (ups_at u.place s) ≡ Some b → IsThere s u b
+is_there s u b h = there_by s u b (ups_at u.place s) refl h
+
+none_by : (o : Option UpsState) → option_map is_connected o ≡ None → o ≡ None
+none_by None h = refl
+none_by (Some x) h = cc
+
+pub not_there : (s : ServerState) (u : UpsId) → option_map is_connected (ups_at u.place s) ≡ None → ups_at u.place s ≡ None
+not_there s u h = none_by (ups_at u.place s) h
+
+within_by : (xs : List UpsState) (i : ℕ) (x : UpsState) → slice_get xs i ≡ Some x → i < length xs
+within_by [] i x e = cc
+within_by (y ∷ xs) zero x e = omega arith
+within_by (y ∷ xs) (suc i) x e = let lt = within_by xs i x e in omega (arith, lt)
+
+pub there_within : (s : ServerState) (u : UpsId) (b : Bool) → IsThere s u b → u.place < length s.upses
+there_within s u b h = within_by s.upses u.place h.ups h.there
+
+-- a driver connects
+pub up_absent : (s : ServerState) (u : UpsId) → ups_at u.place s ≡ None → Step s (DriverUp u) (Refused NoSuchUps) s
+unfolding outcome_of after_by
+up_absent s u none = record {
+  allowed = inl (sym (ap connected_by none));
+  leaves = server_none s u (connected s.moment) none;
+}
+
+pub up_again : (s : ServerState) (u : UpsId) → IsThere s u true → Step s (DriverUp u) (Refused AlreadyConnected) s
+unfolding outcome_of after_by
+up_again s u h = record {
+  allowed = inl (sym (ap connected_by h.there ∙ cond-true _ _ _ h.is));
+  leaves = server_same s u (connected s.moment) h.ups h.there (cond-true _ _ _ h.is);
+}
+
+pub up_done : (s t : ServerState) (u : UpsId) → IsThere s u false → t ≡ with_ups_changed (after_connecting s.moment) u s → Step s (DriverUp u) Done t
+unfolding outcome_of after_by
+up_done s t u h e = record {
+  allowed = inl (sym (ap connected_by h.there ∙ cond-false _ _ _ h.is));
+  leaves = e ∙ server_agree s u (after_connecting s.moment) (connected s.moment) h.ups h.there (sym (cond-false _ _ _ h.is));
+}
+
+-- a driver is lost
+pub down_absent : (s : ServerState) (u : UpsId) → ups_at u.place s ≡ None → Step s (DriverDown u) (Refused NoSuchUps) s
+unfolding outcome_of after_by
+down_absent s u none = record {
+  allowed = inl (sym (ap disconnected_by none));
+  leaves = server_none s u disconnected none;
+}
+
+pub down_again : (s : ServerState) (u : UpsId) → IsThere s u false → Step s (DriverDown u) (Refused NotConnected) s
+unfolding outcome_of after_by
+down_again s u h = record {
+  allowed = inl (sym (ap disconnected_by h.there ∙ cond-false _ _ _ h.is));
+  leaves = server_same s u disconnected h.ups h.there (cond-false _ _ _ h.is);
+}
+
+pub down_done : (s t : ServerState) (u : UpsId) → IsThere s u true → t ≡ with_ups_changed after_loss u s → Step s (DriverDown u) Done t
+unfolding outcome_of after_by
+down_done s t u h e = record {
+  allowed = inl (sym (ap disconnected_by h.there ∙ cond-true _ _ _ h.is));
+  leaves = e ∙ server_agree s u after_loss disconnected h.ups h.there (sym (cond-true _ _ _ h.is));
+}
+
+-- bytes of a driver
+pub bytes_absent : (s : ServerState) (u : UpsId) (piece : List ℕ) → ups_at u.place s ≡ None → Step s (DriverBytes u piece) (Refused NoSuchUps) s
+unfolding outcome_of after_by
+bytes_absent s u piece none = record {
+  allowed = inl (sym (ap (driver_bytes_by s.moment piece) none));
+  leaves = server_none s u (after_driver_bytes s.moment piece None) none;
+}
+
+pub bytes_unconnected : (s : ServerState) (u : UpsId) (piece : List ℕ) → IsThere s u false → Step s (DriverBytes u piece) (Refused NotConnected) s
+unfolding outcome_of after_by after_driver_bytes
+bytes_unconnected s u piece h = record {
+  allowed = inl (sym (ap (driver_bytes_by s.moment piece) h.there ∙ cond-false _ _ _ h.is));
+  leaves = server_same s u (after_driver_bytes s.moment piece None) h.ups h.there (cond-false _ _ _ h.is);
+}
+
+connected_as : (s : ServerState) (u : UpsId) (x : UpsState) → IsThere s u true → ups_at u.place s ≡ Some x → x.connected ≡ true
+connected_as s u x h there = let same : Some h.ups ≡ Some x = sym h.there ∙ there in let e : h.ups ≡ x = cc same in ap (λ (z : UpsState). z.connected) (sym e) ∙ h.is
+
+fed_by : (s t : ServerState) (u : UpsId) (piece : List ℕ) (x y : UpsState) (r : Result (Unit {0}) Fault) → ups_at u.place s ≡ Some x → x.connected ≡ true → IsFed s.moment (with_bytes piece x) r y → t ≡ with_ups_changed (λ z. y) u s → Step s (DriverBytes u piece) (done r) t
+unfolding outcome_of after_by after_driver_bytes MayLackMemory
+fed_by s t u piece x y (Ok v) there is (short, e) leaves = record {
+  allowed = inl (sym (ap (driver_bytes_by s.moment piece) there ∙ cond-true _ _ _ is ∙ cond-false _ _ _ short));
+  leaves = leaves ∙ server_agree s u (λ z. y) (after_driver_bytes s.moment piece None) x there (e ∙ sym (cond-true _ _ _ is ∙ cond-false _ _ _ short));
+}
+fed_by s t u piece x y (Err LineTooLong) there is (long, e) leaves = record {
+  allowed = inl (sym (ap (driver_bytes_by s.moment piece) there ∙ cond-true _ _ _ is ∙ cond-true _ _ _ long));
+  leaves = leaves ∙ server_agree s u (λ z. y) (after_driver_bytes s.moment piece None) x there (e ∙ sym (cond-true _ _ _ is ∙ cond-true _ _ _ long));
+}
+fed_by s t u piece x y (Err (Memory k)) there is (wants, e) leaves = record {
+  allowed = inr (k, refl, (let may : driver_may_lack_memory s.moment piece k (ups_at u.place s) ≡ true = ap (driver_may_lack_memory s.moment piece k) there ∙ and_from _ _ is wants in may));
+  leaves = leaves ∙ server_agree s u (λ z. y) (after_driver_bytes s.moment piece (Some k)) x there (e ∙ sym (cond-true _ _ _ is));
+}
+fed_by s t u piece x y (Err NoSuchUps) there is never leaves = absurd never
+fed_by s t u piece x y (Err NoSuchClient) there is never leaves = absurd never
+fed_by s t u piece x y (Err TooManyClients) there is never leaves = absurd never
+fed_by s t u piece x y (Err TookTooMuch) there is never leaves = absurd never
+fed_by s t u piece x y (Err NotConnected) there is never leaves = absurd never
+fed_by s t u piece x y (Err AlreadyConnected) there is never leaves = absurd never
+
+pub bytes_fed : (s t : ServerState) (u : UpsId) (piece : List ℕ) (r : Result (Unit {0}) Fault) → IsThere s u true → DriverFeedGives u piece s r t → Step s (DriverBytes u piece) (done r) t
+bytes_fed s t u piece r h g = fed_by s t u piece g.before g.after r g.there (connected_as s u g.before h g.there) g.fed g.leaves

@@ -1,0 +1,152 @@
+-- Each event of a client, over plain states.
+use Rattle.std.proofs.Common.{◌≡◌, ℕ, ◌+◌, Bool, true, false, List, [], ◌∷◌, ◌++◌, Option, Some, None, Result, Ok, Err, refl, sym, ◌∙◌, ap, subst, length, set, drop, inl, inr}
+use Rattle.std.specs.Prelude.{IsTrue, is_none}
+use Rattle.std.proofs.lemmas.Bool.{cond-true, cond-false}
+use Rattle.nutcore.specs.declared.event.Event.{Event}
+use Rattle.nutcore.specs.declared.event.Event.TheVariants.{Open, Feed, Took, Close}
+use Rattle.nutcore.specs.declared.event.Outcome.{Outcome}
+use Rattle.nutcore.specs.declared.event.Outcome.TheVariants.{Done, Fed, Opened, Refused}
+use Rattle.nutcore.specs.declared.event.Fault.{Fault}
+use Rattle.nutcore.specs.declared.event.Fault.TheVariants.{NoSuchUps, NoSuchClient, TooManyClients, TookTooMuch, NotConnected, AlreadyConnected, LineTooLong, Memory}
+use Rattle.nutcore.specs.Session.{SessionState, without, new_session}
+use Rattle.nutcore.specs.Server.{ServerState, session, with_session}
+use Rattle.nutcore.specs.Pump.{next_line_of, pump_stops, held_of, after_all_lines, after_lines, pumped, after_notice, is_overlong, is_overlong_of, wants_memory}
+use Rattle.nutcore.specs.Step.{joining, with_input, with_input_of, without_output, without_output_of, may_take, may_open, pumped_until, opened, after_by, fed_by, took_by, closed_by, outcome_of, MayLackMemory, Step}
+use Rattle.nutcore.specs.Calls.{done}
+use Rattle.nutcore.specs.Serving.{IsAt, PumpGives}
+use Rattle.nutcore.proofs.Found.{find_id}
+use Rattle.nutcore.proofs.Places.{without_none}
+use Rattle.nutcore.proofs.Loops.{stopped_lines}
+use Rattle.nutcore.proofs.Serving.{set_is, no_notice}
+
+pub with_input_is : (s : ServerState) (c i : ℕ) (piece : List ℕ) (x y : SessionState) → IsAt c i s.sessions → session c s ≡ Some x → y ≡ record x { held = x.held ++ joining (Some x) piece } → (let code : ServerState = record s { sessions = set s.sessions i y } in code ≡ with_input s c piece)
+unfolding with_input with_input_of
+with_input_is s c i piece x y h e ey =
+    set_is s c i y h (ap (λ (z : SessionState). z.id) ey ∙ find_id c s.sessions x e) ∙ ap (with_session s) ey ∙ sym (ap (λ (o : Option SessionState). with_input_of s o piece) e)
+
+pub without_output_is : (s : ServerState) (c i n : ℕ) (x y : SessionState) → IsAt c i s.sessions → session c s ≡ Some x → y ≡ record x { owed = drop n x.owed } → (let code : ServerState = record s { sessions = set s.sessions i y } in code ≡ without_output s c n)
+unfolding without_output without_output_of
+without_output_is s c i n x y h e ey =
+    set_is s c i y h (ap (λ (z : SessionState). z.id) ey ∙ find_id c s.sessions x e) ∙ ap (with_session s) ey ∙ sym (ap (λ (o : Option SessionState). without_output_of s o n) e)
+
+-- where the client isn't open, the pump does nothing
+pump_absent : (s : ServerState) (c : ℕ) → session c s ≡ None → s ≡ pumped s c
+unfolding pumped after_all_lines
+pump_absent s c e =
+    let none : is_overlong s c ≡ false = ap is_overlong_of e in
+    let stop : pump_stops s c ≡ true = ap (λ (o : Option SessionState). is_none (next_line_of o)) e in
+    let lines = stopped_lines (length (held_of (session c s))) s c stop in
+    sym (ap (λ (z : ServerState). after_notice z c) lines ∙ no_notice s c none)
+
+input_absent : (s : ServerState) (c : ℕ) (piece : List ℕ) → session c s ≡ None → with_input s c piece ≡ s
+unfolding with_input with_input_of
+input_absent s c piece e = ap (λ (o : Option SessionState). with_input_of s o piece) e
+
+-- a piece for no client
+pub feed_absent : (s : ServerState) (c : ℕ) (piece : List ℕ) → session c s ≡ None → Step s (Feed c piece) (Refused NoSuchClient) s
+unfolding outcome_of after_by pumped_until
+feed_absent s c piece e = record {
+  allowed = inl (sym (ap (λ (o : Option SessionState). fed_by o piece (is_overlong (after_all_lines (with_input s c piece) c) c)) e));
+  leaves = pump_absent s c e ∙ ap (λ (z : ServerState). pumped z c) (sym (input_absent s c piece e));
+}
+
+pub feed_ok : (s j t : ServerState) (c : ℕ) (piece : List ℕ) (x : SessionState) (n : ℕ) → session c s ≡ Some x → j ≡ with_input s c piece → Fed n ≡ fed_by (session c s) piece false → PumpGives j c (Ok tt) t → Step s (Feed c piece) (Fed n) t
+unfolding outcome_of after_by pumped_until
+feed_ok s j t c piece x n e ej count (over, et) = record {
+  allowed = inl (count ∙ ap (λ (b : Bool). fed_by (session c s) piece b) (sym (ap (λ (z : ServerState). is_overlong (after_all_lines z c) c) (sym ej) ∙ over)));
+  leaves = et ∙ ap (λ (z : ServerState). pumped z c) ej;
+}
+
+pub feed_err : (s j t : ServerState) (c : ℕ) (piece : List ℕ) (x : SessionState) (fault : Fault) → session c s ≡ Some x → j ≡ with_input s c piece → PumpGives j c (Err fault) t → Step s (Feed c piece) (Refused fault) t
+unfolding outcome_of after_by pumped_until MayLackMemory
+feed_err s j t c piece x LineTooLong e ej (over, et) = record {
+  allowed = inl (sym (ap (λ (o : Option SessionState). fed_by o piece (is_overlong (after_all_lines (with_input s c piece) c) c)) e ∙ cond-true _ _ _ (ap (λ (z : ServerState). is_overlong (after_all_lines z c) c) (sym ej) ∙ over)));
+  leaves = et ∙ ap (λ (z : ServerState). pumped z c) ej;
+}
+feed_err s j t c piece x (Memory k) e ej (wants, et) = record {
+  allowed = inr (k, refl, subst (λ (z : ServerState). IsTrue (wants_memory (after_lines k z c) c)) ej wants);
+  leaves = et ∙ ap (λ (z : ServerState). after_lines k z c) ej;
+}
+feed_err s j t c piece x NoSuchUps e ej never = absurd never
+feed_err s j t c piece x NoSuchClient e ej never = absurd never
+feed_err s j t c piece x TooManyClients e ej never = absurd never
+feed_err s j t c piece x TookTooMuch e ej never = absurd never
+feed_err s j t c piece x NotConnected e ej never = absurd never
+feed_err s j t c piece x AlreadyConnected e ej never = absurd never
+
+-- bytes taken
+pub took_absent : (s : ServerState) (c n : ℕ) → session c s ≡ None → Step s (Took c n) (Refused NoSuchClient) s
+unfolding outcome_of after_by
+took_absent s c n e = record {
+  allowed = inl (sym (ap (λ (o : Option SessionState). took_by o n (is_overlong (after_all_lines (without_output s c n) c) c)) e));
+  leaves = sym (cond-false _ _ _ (ap (λ (o : Option SessionState). may_take o n) e));
+}
+
+pub took_much : (s : ServerState) (c n : ℕ) (x : SessionState) → session c s ≡ Some x → may_take (session c s) n ≡ false → Step s (Took c n) (Refused TookTooMuch) s
+unfolding outcome_of after_by
+took_much s c n x e may = record {
+  allowed = inl (sym (ap (λ (o : Option SessionState). took_by o n (is_overlong (after_all_lines (without_output s c n) c) c)) e ∙ cond-false _ _ _ (ap (λ (o : Option SessionState). may_take o n) (sym e) ∙ may)));
+  leaves = sym (cond-false _ _ _ may);
+}
+
+pub took_gives : (s j t : ServerState) (c n : ℕ) (x : SessionState) (r : Result (Unit {0}) Fault) → session c s ≡ Some x → may_take (session c s) n ≡ true → j ≡ without_output s c n → PumpGives j c r t → Step s (Took c n) (done r) t
+unfolding outcome_of after_by pumped_until MayLackMemory
+took_gives s j t c n x (Ok u) e may ej (over, et) = record {
+  allowed = inl (sym (ap (λ (o : Option SessionState). took_by o n (is_overlong (after_all_lines (without_output s c n) c) c)) e ∙ cond-true _ _ _ (ap (λ (o : Option SessionState). may_take o n) (sym e) ∙ may) ∙ cond-false _ _ _ (ap (λ (z : ServerState). is_overlong (after_all_lines z c) c) (sym ej) ∙ over)));
+  leaves = et ∙ ap (λ (z : ServerState). pumped z c) ej ∙ sym (cond-true _ _ _ may);
+}
+took_gives s j t c n x (Err LineTooLong) e may ej (over, et) = record {
+  allowed = inl (sym (ap (λ (o : Option SessionState). took_by o n (is_overlong (after_all_lines (without_output s c n) c) c)) e ∙ cond-true _ _ _ (ap (λ (o : Option SessionState). may_take o n) (sym e) ∙ may) ∙ cond-true _ _ _ (ap (λ (z : ServerState). is_overlong (after_all_lines z c) c) (sym ej) ∙ over)));
+  leaves = et ∙ ap (λ (z : ServerState). pumped z c) ej ∙ sym (cond-true _ _ _ may);
+}
+took_gives s j t c n x (Err (Memory k)) e may ej (wants, et) = record {
+  allowed = inr (k, refl, (may, subst (λ (z : ServerState). IsTrue (wants_memory (after_lines k z c) c)) ej wants));
+  leaves = et ∙ ap (λ (z : ServerState). after_lines k z c) ej ∙ sym (cond-true _ _ _ may);
+}
+took_gives s j t c n x (Err NoSuchUps) e may ej never = absurd never
+took_gives s j t c n x (Err NoSuchClient) e may ej never = absurd never
+took_gives s j t c n x (Err TooManyClients) e may ej never = absurd never
+took_gives s j t c n x (Err TookTooMuch) e may ej never = absurd never
+took_gives s j t c n x (Err NotConnected) e may ej never = absurd never
+took_gives s j t c n x (Err AlreadyConnected) e may ej never = absurd never
+
+-- closing
+pub close_absent : (s : ServerState) (c : ℕ) → session c s ≡ None → Step s (Close c) (Refused NoSuchClient) s
+unfolding outcome_of after_by
+close_absent s c e = record {
+  allowed = inl (sym (ap closed_by e));
+  leaves = ap (λ (xs : List SessionState). let z : ServerState = record s { sessions = xs } in z) (sym (without_none c s.sessions e));
+}
+
+pub close_present : (s : ServerState) (c : ℕ) (x : SessionState) (xs : List SessionState) → session c s ≡ Some x → xs ≡ without c s.sessions → (let t : ServerState = record s { sessions = xs } in Step s (Close c) Done t)
+unfolding outcome_of after_by
+close_present s c x xs e exs = record {
+  allowed = inl (sym (ap closed_by e));
+  leaves = ap (λ (ys : List SessionState). let z : ServerState = record s { sessions = ys } in z) exs;
+}
+
+-- opening
+pub open_full : (s : ServerState) (address : List ℕ) → may_open s ≡ false → Step s (Open address) (Refused TooManyClients) s
+unfolding outcome_of after_by opened
+open_full s address never = record {
+  allowed = inl (sym (cond-false _ _ _ never));
+  leaves = sym (cond-false _ _ _ never);
+}
+
+pub open_refused : (s : ServerState) (address : List ℕ) → may_open s ≡ true → Step s (Open address) (Refused (Memory 0)) s
+unfolding outcome_of after_by opened MayLackMemory
+open_refused s address may = record {
+  allowed = inr (0, refl, (refl, may));
+  leaves = refl;
+}
+
+pub open_done : (s : ServerState) (address : List ℕ) (xs : List SessionState) → may_open s ≡ true → xs ≡ s.sessions ++ new_session s.next_id address ∷ [] → (let t : ServerState = record s { sessions = xs; next_id = s.next_id + 1 } in Step s (Open address) (Opened s.next_id) t)
+unfolding outcome_of after_by opened
+open_done s address xs may e = record {
+  allowed = inl (sym (cond-true _ _ _ may));
+  leaves = ap (λ (ys : List SessionState). let z : ServerState = record s { sessions = ys; next_id = s.next_id + 1 } in z) e ∙ sym (cond-true _ _ _ may);
+}
+
+-- a step from a state seen otherwise
+pub step_from : (s s' t t' : ServerState) (e : Event) (o : Outcome) → s ≡ s' → t ≡ t' → Step s e o t → Step s' e o t'
+step_from s s' t t' e o es et h = subst (λ (z : ServerState). Step z e o t') es (subst (λ (z : ServerState). Step s e o z) et h)

@@ -1,0 +1,26 @@
+-- Runs, one event after another.
+use Rattle.std.proofs.Common.{◌≡◌, ℕ, ◌<◌, List, [], ◌∷◌, ◌++◌, refl, subst, Option, Some, None, true}
+use Rattle.std.specs.Prelude.{is_some}
+use Rattle.nutcore.specs.declared.event.Event.{Event}
+use Rattle.nutcore.specs.declared.event.Outcome.{Outcome}
+use Rattle.nutcore.specs.Session.{SessionState, AreApart}
+use Rattle.nutcore.specs.Server.{ServerState, session}
+use Rattle.nutcore.specs.Headline.{IsLawful}
+use Rattle.nutcore.specs.Step.{Step}
+use Rattle.nutcore.specs.Run.{Run}
+use Rattle.nutcore.proofs.Places.{apart_lawful}
+
+-- a run goes on by one event
+pub run_push : (s m t : ServerState) (es : List Event) (os : List Outcome) (e : Event) (o : Outcome) → Run s es os m → Step m e o t → Run s (es ++ e ∷ []) (os ++ o ∷ []) t
+run_push s m t [] [] e o r step = (t, subst (λ (z : ServerState). Step z e o t) r step, refl)
+run_push s m t [] (p ∷ os) e o r step = absurd r
+run_push s m t (d ∷ es) [] e o r step = absurd r
+run_push s m t (d ∷ es) (p ∷ os) e o (mid, first, r) step = (mid, first, run_push mid m t es os e o r step)
+
+-- sessions that stand apart are lawful
+lawful_by : (s : ServerState) (c : ℕ) (o : Option SessionState) → session c s ≡ o → AreApart s.next_id s.sessions → is_some o ≡ true → c < s.next_id
+lawful_by s c None e apart some = cc some
+lawful_by s c (Some x) e apart some = apart_lawful s.next_id c s.sessions apart x e
+
+pub lawful : (s : ServerState) → AreApart s.next_id s.sessions → IsLawful s
+lawful s apart = λ c some. lawful_by s c (session c s) refl apart some

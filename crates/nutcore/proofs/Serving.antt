@@ -1,0 +1,149 @@
+-- What the server's methods do, over plain states.
+use Rattle.std.proofs.Common.{◌≡◌, ℕ, ◌+◌, ◌<◌, ◌≤◌, Bool, true, false, List, [], ◌∷◌, ◌++◌, Option, Some, None, Result, Ok, Err, refl, sym, ◌∙◌, ap, subst, cond, arith, length, get_or, set, take, drop, length-take}
+use Rattle.std.specs.Prelude.{IsTrue, OnOk, OnErr, is_err, is_ok, is_some, is_none}
+use Rattle.std.proofs.lemmas.Bool.{le-leb, lt-leb, leb-true, cond-true, cond-false}
+use Rattle.std.proofs.lemmas.Bool.Decides.{nat_tests}
+use Rattle.nutcore.specs.declared.TheConstants.{OFFER_LIMIT}
+use Rattle.nutcore.specs.Lines.{first_line}
+use Rattle.nutcore.specs.Session.{SessionState, find, put, without, AreApart, new_session}
+use Rattle.nutcore.specs.Server.{ServerState, session, with_session}
+use Rattle.nutcore.specs.Command.{read_command}
+use Rattle.nutcore.specs.Reply.{reply}
+use Rattle.nutcore.specs.Pump.{next_line, next_line_of, next_line_for, answered, after_line, after_lines, pump_stops, held_of, after_all_lines, pumped, after_notice, after_notice_of, is_overlong, is_overlong_of, notified, wants_memory, is_listing_line, is_listing_read}
+use Rattle.nutcore.specs.Step.{offered, may_take}
+use Rattle.nutcore.specs.Serving.{place, IsAt}
+use Rattle.nutcore.proofs.Found.{find_id, find_put}
+use Rattle.nutcore.proofs.Pumping.{after_line_is, is_next}
+use Rattle.nutcore.proofs.Places.{at_put, apart_put, found_at, find_at, put_is, without_at}
+use Rattle.nutcore.proofs.Loops.{after_lines-suc, all_lines_are}
+
+pub on_ok_weaker : {T E : Type 0} (r : Result T E) (P Q : Type 0) → (P → Q) → OnOk r P → OnOk r Q
+on_ok_weaker (Ok v) P Q f p = f p
+on_ok_weaker (Err e) P Q f p = tt
+
+pub on_err_weaker : {T E : Type 0} (r : Result T E) (P Q : Type 0) → (P → Q) → OnErr r P → OnErr r Q
+on_err_weaker (Ok v) P Q f p = tt
+on_err_weaker (Err e) P Q f p = f p
+
+pub ok_when : {T E : Type 0} (r : Result T E) (P : Type 0) → is_err r ≡ false → OnOk r P → P
+ok_when (Ok v) P e p = p
+ok_when (Err x) P e p = let k : true ≡ false = e in cc k
+
+pub err_when : {T E : Type 0} (r : Result T E) (P : Type 0) → is_err r ≡ true → OnErr r P → P
+err_when (Ok v) P e p = let k : false ≡ true = e in cc k
+err_when (Err x) P e p = p
+
+-- the session that stands at the place, where a view of the server is known
+pub found_in : (c i : ℕ) (s t : ServerState) (x : SessionState) → s ≡ t → IsAt c i t.sessions → x ≡ get_or s.sessions i x → session c t ≡ Some x
+found_in c i s t x e h at = found_at c i t.sessions x h (at ∙ ap (λ (z : ServerState). get_or z.sessions i x) e)
+
+pub at_found : (c i : ℕ) (xs : List SessionState) → IsAt c i xs → find c xs ≡ Some (get_or xs (place c xs) (new_session 0 []))
+at_found c i xs h = let lt : place c xs < length xs = omega (arith, h.first, h.within) in find_at c xs (new_session 0 []) lt
+
+pub apart_set : (n c i : ℕ) (xs : List SessionState) (y : SessionState) → IsAt c i xs → y.id ≡ c → AreApart n xs → AreApart n (set xs i y)
+apart_set n c i xs y h e apart = subst (λ (z : List SessionState). AreApart n z) (sym (put_is c i xs y h e)) (apart_put n y xs apart)
+
+-- a session in place of the one that stands there
+pub set_is : (s : ServerState) (c i : ℕ) (y : SessionState) → IsAt c i s.sessions → y.id ≡ c → (let code : ServerState = record s { sessions = set s.sessions i y } in code ≡ with_session s y)
+set_is s c i y h e = ap (λ (xs : List SessionState). let z : ServerState = record s { sessions = xs } in z) (put_is c i s.sessions y h e)
+
+pub session_put : (s : ServerState) (c : ℕ) (x y : SessionState) → session c s ≡ Some x → y.id ≡ c → session c (with_session s y) ≡ Some y
+session_put s c x y e id = ap (λ d. find d (put y s.sessions)) (sym id) ∙ find_put y s.sessions x (ap (λ d. find d s.sessions) id ∙ e)
+
+pub session_set : (s : ServerState) (c i : ℕ) (x y : SessionState) → IsAt c i s.sessions → session c s ≡ Some x → y.id ≡ c → session c (let code : ServerState = record s { sessions = set s.sessions i y } in code) ≡ Some y
+session_set s c i x y h e id = ap (session c) (set_is s c i y h id) ∙ session_put s c x y e id
+
+-- the next line of the client is that of its session
+pub next_of_found : (s : ServerState) (c : ℕ) (x : SessionState) (line : List ℕ) → session c s ≡ Some x → next_line_for s c ≡ Some line → next_line x ≡ Some line
+next_of_found s c x line found h = ap next_line_of (sym found) ∙ h
+
+pub goes : (s : ServerState) (c : ℕ) (x : SessionState) (line : List ℕ) → session c s ≡ Some x → next_line_for s c ≡ Some line → is_some (next_line x) ≡ true
+goes s c x line found h = ap is_some (next_of_found s c x line found h)
+
+-- what the code leaves is the server after the line
+pub line_is : (s : ServerState) (c i : ℕ) (line : List ℕ) (x y : SessionState) → IsAt c i s.sessions → session c s ≡ Some x → next_line_for s c ≡ Some line →
+    y ≡ answered line (reply s c line).text x →
+    let code : ServerState = record s { sessions = set s.sessions i y } in code ≡ after_line s c
+line_is s c i line x y h e next ey =
+    let id : y.id ≡ c = ap (λ (z : SessionState). z.id) ey ∙ find_id c s.sessions x e in
+    set_is s c i y h id ∙ ap (with_session s) ey ∙ sym (after_line_is s c line x e next)
+
+pub at_line : (s : ServerState) (c i : ℕ) (line : List ℕ) → IsAt c i s.sessions → next_line_for s c ≡ Some line → IsAt c i (after_line s c).sessions
+at_line s c i line h next =
+    let n = is_next s c line next in
+    subst (λ (z : ServerState). IsAt c i z.sessions) (sym (after_line_is s c line n.asking n.found next)) (at_put c i (answered line (reply s c line).text n.asking) s.sessions h)
+
+put_found : (x : SessionState) (xs : List SessionState) → find x.id xs ≡ Some x → put x xs ≡ xs
+put_found x [] e = refl
+put_found x (z ∷ xs) e = grind (arith, nat_tests, put_found x xs)
+
+-- the notice, as the code writes it
+notice_there : (s : ServerState) (c : ℕ) (x : SessionState) → session c s ≡ Some x → is_overlong_of (Some x) ≡ true → after_notice s c ≡ with_session s (notified x)
+unfolding after_notice after_notice_of
+notice_there s c x e over = ap (after_notice_of s) e ∙ cond-true _ _ _ over
+
+pub no_notice : (s : ServerState) (c : ℕ) → is_overlong s c ≡ false → after_notice s c ≡ s
+unfolding after_notice after_notice_of
+no_notice s c over = not_of (session c s) refl
+  where
+    not_of : (o : Option SessionState) → session c s ≡ o → after_notice_of s o ≡ s
+    not_of None e = refl
+    not_of (Some x) e = cond-false _ _ _ (ap is_overlong_of (sym e) ∙ over)
+
+pub notice_is : (s : ServerState) (c i : ℕ) (x y : SessionState) (b : Bool) → IsAt c i s.sessions → session c s ≡ Some x → b ≡ is_overlong_of (Some x) → (b ≡ true → y ≡ notified x) → (b ≡ false → y ≡ x) →
+    let code : ServerState = record s { sessions = set s.sessions i y } in code ≡ after_notice s c
+notice_is s c i x y true h e over ends same =
+    let id : y.id ≡ c = ap (λ (z : SessionState). z.id) (ends refl) ∙ find_id c s.sessions x e in
+    set_is s c i y h id ∙ ap (with_session s) (ends refl) ∙ sym (notice_there s c x e (sym over))
+notice_is s c i x y false h e over ends same =
+    let id : y.id ≡ c = ap (λ (z : SessionState). z.id) (same refl) ∙ find_id c s.sessions x e in
+    set_is s c i y h id ∙ ap (with_session s) (same refl)
+    ∙ ap (λ (xs : List SessionState). let z : ServerState = record s { sessions = xs } in z) (put_found x s.sessions (ap (λ d. find d s.sessions) (find_id c s.sessions x e) ∙ e))
+    ∙ sym (no_notice s c (ap is_overlong_of e ∙ sym over))
+
+-- the loop begins
+pub begins : (s : ServerState) (c : ℕ) → s ≡ after_lines 0 s c
+unfolding after_lines
+begins s c = refl
+
+-- the loop goes on
+pub goes_on : (s t u : ServerState) (c k : ℕ) → t ≡ after_lines k s c → u ≡ after_line t c → u ≡ after_lines (k + 1) s c
+goes_on s t u c k e f = f ∙ ap (λ (z : ServerState). after_line z c) e ∙ sym (after_lines-suc k s c)
+
+-- the loop ends: all lines are done
+done_is : (s t : ServerState) (c k : ℕ) → t ≡ after_lines k s c → k ≤ length (held_of (session c s)) → next_line_for t c ≡ None → after_all_lines s c ≡ t
+done_is s t c k e le none =
+    all_lines_are k s c le (subst (λ (z : ServerState). pump_stops z c ≡ true) e (ap is_none none)) ∙ sym e
+
+pub pump_ends : (s t u : ServerState) (c k : ℕ) → t ≡ after_lines k s c → k ≤ length (held_of (session c s)) → next_line_for t c ≡ None → u ≡ after_notice t c → (after_all_lines s c ≡ t) × (u ≡ pumped s c)
+unfolding pumped
+pump_ends s t u c k e le none f = let all = done_is s t c k e le none in (all, f ∙ ap (λ (z : ServerState). after_notice z c) (sym all))
+
+-- memory was refused for a listing
+pub wants_is : (s : ServerState) (c : ℕ) (line : List ℕ) → next_line_for s c ≡ Some line → is_listing_read s (read_command line) ≡ true → IsTrue (wants_memory s c)
+wants_is s c line next listing = let e : wants_memory s c ≡ true = ap (is_listing_line s) next ∙ listing in e
+
+pub refused : (s t u : ServerState) (c k : ℕ) → t ≡ after_lines k s c → IsTrue (wants_memory t c) → u ≡ t → IsTrue (wants_memory (after_lines k s c) c) × (u ≡ after_lines k s c)
+refused s t u c k e wants same = (subst (λ (z : ServerState). IsTrue (wants_memory z c)) e wants, same ∙ e)
+
+-- how many bytes may be taken
+pub may_take_true : (o : Option SessionState) (x : SessionState) (n k : ℕ) → o ≡ Some x → k ≡ length (offered o) → n ≤ k → may_take o n ≡ true
+may_take_true o x n k e ek le =
+    let few : k ≡ length (offered (Some x)) = ek ∙ ap (λ (z : Option SessionState). length (offered z)) e in
+    ap (λ (z : Option SessionState). may_take z n) e ∙ le-leb _ _ (let l : n ≤ length (offered (Some x)) = omega (arith, few) in l)
+
+pub may_take_false : (o : Option SessionState) (x : SessionState) (n k : ℕ) → o ≡ Some x → k ≡ length (offered o) → k < n → may_take o n ≡ false
+may_take_false o x n k e ek lt =
+    let few : k ≡ length (offered (Some x)) = ek ∙ ap (λ (z : Option SessionState). length (offered z)) e in
+    ap (λ (z : Option SessionState). may_take z n) e ∙ lt-leb _ _ (let l : length (offered (Some x)) < n = omega (arith, few) in l)
+
+pub within_owed : (o : Option SessionState) (x : SessionState) (n : ℕ) → o ≡ Some x → may_take o n ≡ true → n ≤ length x.owed
+within_owed o x n e may =
+    let le : n ≤ length (offered (Some x)) = leb-true _ _ (ap (λ (z : Option SessionState). may_take z n) (sym e) ∙ may) in
+    omega (arith, le, length-take OFFER_LIMIT x.owed)
+
+-- what is left of the sessions where one is removed at its place
+pub left_out : (n c i : ℕ) (xs : List SessionState) → AreApart n xs → IsAt c i xs → without c xs ≡ take i xs ++ drop (i + 1) xs
+left_out n c i xs apart h =
+    let lt : place c xs < length xs = omega (arith, h.first, h.within) in
+    without_at n c xs apart lt ∙ ap (λ j. take j xs ++ drop (j + 1) xs) h.first

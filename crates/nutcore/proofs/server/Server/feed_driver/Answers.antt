@@ -1,0 +1,21 @@
+use Rattle.std.proofs.Common.{◌≡◌, ◌<◌, ◌∙◌, Some, refl, sym, ap, subst, length, List, ℕ, Result, true, set}
+use Rattle.std.specs.Option.{option_map}
+use Rattle.nutcore.specs.declared.event.Fault.{Fault}
+use Rattle.nutcore.specs.Leaf.{IsFed}
+use Rattle.nutcore.specs.Ups.{UpsState, with_bytes}
+use Rattle.nutcore.specs.Server.{ServerState, ups_at, with_ups_changed}
+use Rattle.nutcore.specs.Serving.{is_connected, DriverFeedGives}
+use Rattle.nutcore.specs.contracts.server.Server.{the_view}
+use Rattle.nutcore.proofs.DriverSteps.{IsThere, is_there, there_within, there_is, server_set}
+use Rattle.nutcore.proofs.server.Server.feed_driver.Goals as goal
+
+pub returns : goal.returns
+returns c =
+    let v : ServerState = the_view c.self.inside in
+    let x : UpsState = c.index_mut-ups.result.now in
+    let is : IsThere v c.args.u true = is_there v c.args.u true (subst (λ (z : ServerState). option_map is_connected (ups_at c.args.u.place z) ≡ Some true) (sym c.self.view_is) c.requires) in
+    let there : ups_at c.args.u.place v ≡ Some x = there_is v.upses c.args.u.place x (there_within v c.args.u true is) c.index_mut-ups.ensures.value in
+    let y : UpsState = c.feed.new.self in
+    let leaves = server_set v c.args.u (λ z. y) x y there refl in
+    subst (λ (z : ServerState). let code : ServerState = record v { upses = set v.upses c.args.u.place y } in DriverFeedGives c.args.u c.args.piece.now z c.feed.result code) c.self.view_is
+    (record { before = x; after = y; there = there; fed = c.feed.ensures.fed; leaves = leaves })

@@ -1,0 +1,48 @@
+use Rattle.std.proofs.Common.{◌≡◌, ◌≤◌, ◌∙◌, Option, Some, false, sym, ap, subst, length}
+use Rattle.nutcore.specs.Session.{SessionState}
+use Rattle.nutcore.specs.Server.{ServerState, session}
+use Rattle.nutcore.specs.Serving.{IsAt}
+use Rattle.nutcore.specs.contracts.server.Server.{the_view}
+use Rattle.nutcore.proofs.Found.{find_id}
+use Rattle.nutcore.specs.declared.event.Outcome.TheVariants.{Fed}
+use Rattle.nutcore.specs.Pump.{held_of}
+use Rattle.nutcore.specs.Step.{with_input, fed_by}
+use Rattle.nutcore.proofs.Serving.{found_in, apart_set}
+use Rattle.nutcore.proofs.EventSteps.{with_input_is}
+use Rattle.nutcore.proofs.Serving.{session_set}
+use Rattle.nutcore.proofs.server.Server.join.Goals as goal
+
+pub invariant_of-self : goal.invariant_of-self
+invariant_of-self c =
+    let v : ServerState = the_view c.self.inside in
+    let at : IsAt c.args.c c.args.place v.sessions = subst (λ (z : ServerState). IsAt c.args.c c.args.place z.sessions) (sym c.self.view_is) c.requires in
+    let found : session c.args.c c.args.self.now ≡ Some c.index_mut-session.result.now = found_in c.args.c c.args.place v c.args.self.now c.index_mut-session.result.now c.self.view_is c.requires c.index_mut-session.ensures.value in
+    record {
+      apart = apart_set c.self.inside.next_id c.args.c c.args.place c.self.inside.sessions.items c.join.new.self at (c.join.ensures.id ∙ find_id c.args.c c.args.self.now.sessions c.index_mut-session.result.now found) c.self.invariant.apart;
+      room = c.self.invariant.room;
+      few = c.self.invariant.few;
+      named = c.self.invariant.named;
+    }
+
+pub returns-clause-joined : goal.returns-clause-joined
+returns-clause-joined c =
+    let v : ServerState = the_view c.self.inside in
+    let x : SessionState = c.index_mut-session.result.now in
+    let at : IsAt c.args.c c.args.place v.sessions = subst (λ (z : ServerState). IsAt c.args.c c.args.place z.sessions) (sym c.self.view_is) c.requires in
+    let found : session c.args.c v ≡ Some x = ap (session c.args.c) c.self.view_is ∙ found_in c.args.c c.args.place v c.args.self.now x c.self.view_is c.requires c.index_mut-session.ensures.value in
+    with_input_is v c.args.c c.args.place c.args.piece.now x c.join.new.self at found c.join.ensures.joins ∙ ap (λ (z : ServerState). with_input z c.args.c c.args.piece.now) c.self.view_is
+
+pub returns-clause-count : goal.returns-clause-count
+returns-clause-count c =
+    let x : SessionState = c.index_mut-session.result.now in
+    let found : session c.args.c c.args.self.now ≡ Some x = found_in c.args.c c.args.place (the_view c.self.inside) c.args.self.now x c.self.view_is c.requires c.index_mut-session.ensures.value in
+    ap Fed c.join.ensures.count ∙ sym (ap (λ (o : Option SessionState). fed_by o c.args.piece.now false) found)
+
+pub returns-clause-short : goal.returns-clause-short
+returns-clause-short c =
+    let v : ServerState = the_view c.self.inside in
+    let x : SessionState = c.index_mut-session.result.now in
+    let at : IsAt c.args.c c.args.place v.sessions = subst (λ (z : ServerState). IsAt c.args.c c.args.place z.sessions) (sym c.self.view_is) c.requires in
+    let found : session c.args.c v ≡ Some x = ap (session c.args.c) c.self.view_is ∙ found_in c.args.c c.args.place v c.args.self.now x c.self.view_is c.requires c.index_mut-session.ensures.value in
+    let now = session_set v c.args.c c.args.place x c.join.new.self at found (c.join.ensures.id ∙ find_id c.args.c v.sessions x found) in
+    subst (λ (o : Option SessionState). length (held_of o) ≤ 1024) (sym now) c.join.ensures.short

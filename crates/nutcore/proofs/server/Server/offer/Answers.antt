@@ -1,0 +1,19 @@
+use Rattle.std.specs.Prelude.{is_some}
+use Rattle.std.proofs.Common.{◌≡◌, ◌∙◌, Option, Some, refl, sym, ap, take}
+use Rattle.nutcore.specs.Session.{SessionState}
+use Rattle.nutcore.specs.Server.{ServerState, session}
+use Rattle.nutcore.specs.Pump.{owed_of}
+use Rattle.nutcore.specs.contracts.server.Server.{the_view}
+use Rattle.nutcore.proofs.Places.{found_at}
+use Rattle.nutcore.proofs.server.Server.offer.Goals as goal
+
+pub returns : goal.returns
+returns c =
+    let v : ServerState = the_view c.self.inside in
+    let found : session c.args.c v ≡ Some c.index-session.result.now = found_at c.args.c c.in-Some.place v.sessions c.index-session.result.now c.in-Some.ensures c.index-session.ensures in (
+      (refl, λ x. tt, c.self.view_is),
+      record {
+        bytes = (ap (λ (s : ServerState). is_some (session c.args.c s)) (sym c.self.view_is) ∙ ap is_some found, c.offer.ensures ∙ sym (ap (λ (o : Option SessionState). take 4096 (owed_of o)) found) ∙ ap (λ (s : ServerState). take 4096 (owed_of (session c.args.c s))) c.self.view_is);
+        same = tt;
+      },
+    )

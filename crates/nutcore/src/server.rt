@@ -1,0 +1,541 @@
+//! The server: its UPSs, its sessions, and what each event does.
+ghost use Rattle.std.specs.Prelude.{◌≡◌, ◌≤◌, ◌<◌, ℕ, List, length, take, slice_get, IfOk, OnOk, OnErr, MatchOption, MatchResult, IsTrue, is_some, Some, None, true, false};
+ghost use Rattle.std.specs.Option.{option_map};
+ghost use Rattle.std.specs.Io.BufRead.{Rests};
+ghost use Rattle.std.specs.Borrow.{sem};
+ghost use Rattle.nutcore.specs.Server.{session, ups_at, place_of, id_at, new_server, with_ups_changed};
+ghost use Rattle.nutcore.specs.Pump.{next_line_for, after_line, held_of, is_overlong, after_notice, wants_memory};
+ghost use Rattle.nutcore.specs.Step.{Step, with_input, without_output, offered, may_take, fed_by};
+ghost use Rattle.nutcore.specs.Run.{Run};
+ghost use Rattle.nutcore.specs.History.{owed};
+ghost use Rattle.nutcore.specs.Headline.{SentAndOwed, TakenUp};
+ghost use Rattle.nutcore.specs.Ups.{after_connecting, after_loss};
+ghost use Rattle.nutcore.specs.Calls.{fed, done, opened_as, is_finished, room_of, Reads};
+ghost use Rattle.nutcore.specs.Serving.{IsAt, PumpGives, RepliesBy, ListsBy, NextIs, IsListingOf, DriverFeedGives, is_connected};
+ghost use Rattle.nutcore.specs.Reply.{reply};
+ghost use Rattle.nutcore.specs.declared.event.Outcome.TheVariants.{Fed};
+ghost use Rattle.nutcore.specs.contracts.server.Server.{the_row};
+
+use crate::SESSION_LIMIT;
+use crate::answer::command::{Command, ErrorWord};
+use crate::answer::reply::Reply;
+use crate::event::{ClientId, Event, Fault, Outcome, UpsId};
+use crate::files::{Descriptions, MaxAge, UpsList, Users};
+use crate::session::Session;
+use crate::ups::Ups;
+use nutwords::{Address, UpsName};
+use std::alloc::{AllocError, Global};
+use std::marker::Model;
+
+/// A server over a list of UPSs.
+#[derive(Drop)]
+pub struct Server {
+    alloc: Global,
+    moment: u64,
+    max_age: MaxAge,
+    list: UpsList,
+    users: Users,
+    descriptions: Descriptions,
+    upses: Vec<Ups>,
+    sessions: Vec<Session>,
+    next_id: u64,
+}
+
+impl Model for Server {
+    ghost use Rattle.std.specs.Prelude.{◌≡◌, ◌≤◌, vec_capacity, vec_len, length};
+    ghost use Rattle.nutcore.specs.Session.{AreApart};
+    ghost use Rattle.nutcore.specs.Server.{ServerState};
+
+    ghost Value = { ServerState };
+
+    ghost view = { λ s. record { moment = s.moment; max_age = s.max_age; names = s.list; upses = s.upses.items; sessions = s.sessions.items; next_id = s.next_id } };
+
+    ghost invariant = { λ s. record {
+      apart : AreApart s.next_id s.sessions.items;
+      room : 64 ≤ vec_capacity s.sessions;
+      few : vec_len s.sessions ≤ 64;
+      named : length s.list ≡ length s.upses.items;
+    } };
+}
+
+impl Server {
+    /// A server over these UPSs: no driver is connected, no session is open, and the moment is 0.
+    /// It makes the places of the UPSs and of 64 sessions.
+    pub fn new(
+        alloc: Global,
+        list: UpsList,
+        users: Users,
+        descriptions: Descriptions,
+        max_age: MaxAge,
+    ) -> Result<Self, AllocError>
+        ensures { IfOk result (λ s. s ≡ new_server list max_age) }
+    {
+        let mut upses = Vec::with_capacity(alloc, list.len())?;
+        for _ in 0..list.len() {
+            upses.push(Ups::new(alloc)).unwrap();
+        }
+        let sessions = Vec::with_capacity(alloc, SESSION_LIMIT)?;
+        Ok(Server {
+            alloc,
+            moment: 0,
+            max_age,
+            list,
+            users,
+            descriptions,
+            upses,
+            sessions,
+            next_id: 1,
+        })
+    }
+
+    /// The list handed in.
+    pub fn ups(&self) -> &UpsList
+        ensures { result.now ≡ self.now.names }
+    {
+        &self.list
+    }
+
+    /// The UPS of this name.
+    pub fn find(&self, name: &[u8]) -> Option<UpsId>
+        ensures { result ≡ option_map id_at (place_of self.now.names name.now) }
+    {
+        self.list.find(name)
+    }
+
+    /// Where the session of this id stands.
+    fn place_of(&self, c: ClientId) -> Option<usize>
+        ensures { MatchOption result (session c self.now ≡ None) (λ i. IsAt c i self.now.sessions) }
+    {
+        for (i, session) in self.sessions.iter().enumerate() {
+            if session.id() == c {
+                return Some(i);
+            }
+        }
+        None
+    }
+
+    /// What answers a line, as the server is now.
+    fn reply(&self, line: &[u8]) -> Reply
+        requires { length line.now ≤ 1023 }
+        ensures { RepliesBy self.now line.now result }
+    {
+        match Command::read(line) {
+            Err(word) => Reply::Text(word.line()),
+            Ok(None) => Reply::Text(b""),
+            Ok(Some(Command::ListVar(ups))) => self.list_variables(ups),
+        }
+    }
+
+    /// What answers the session's next line, if it may be executed.
+    fn next_reply(&self, c: ClientId, place: usize) -> Option<Reply>
+        requires { IsAt c place self.now.sessions }
+        ensures next { MatchOption result (next_line_for self.now c ≡ None) (λ answer. NextIs self.now c (λ line. RepliesBy self.now line answer)) }
+        ensures held { length (held_of (session c self.now)) ≤ 1024 }
+    {
+        let session = &self.sessions[place];
+        match session.next_line() {
+            None => None,
+            Some(line) => Some(self.reply(line)),
+        }
+    }
+
+    /// `LIST VAR` of the UPS of this name.
+    fn list_variables(&self, name: Option<UpsName>) -> Reply
+        ensures { ListsBy self.now name result }
+    {
+        let Some(name) = name else {
+            return Reply::Text(ErrorWord::UnknownUps.line());
+        };
+        let Some(u) = self.list.find(name.as_bytes()) else {
+            return Reply::Text(ErrorWord::UnknownUps.line());
+        };
+        let ups = &self.upses[u.place as usize];
+        match ups.readiness(self.moment, self.max_age.seconds()) {
+            Err(word) => Reply::Text(word.line()),
+            Ok(()) => Reply::Variables(u),
+        }
+    }
+
+    /// Executes the next line, whose answer is this text. Takes no memory.
+    fn answer_text(&mut self, c: ClientId, place: usize, text: &[u8])
+        requires at { IsAt c place self.old.sessions }
+        requires next { NextIs self.old c (λ line. (reply self.old c line).text ≡ text.now) }
+        requires short { length text.now ≤ 2048 }
+        ensures { self.new ≡ after_line self.old c }
+    {
+        let session = &mut self.sessions[place];
+        session.answer(text);
+    }
+
+    /// Executes the next line, whose answer is the listing of a UPS's variables. Without memory
+    /// nothing changes.
+    fn answer_listing(&mut self, c: ClientId, place: usize, u: UpsId) -> Result<(), AllocError>
+        requires at { IsAt c place self.old.sessions }
+        requires next { NextIs self.old c (λ line. IsListingOf self.old u.place (reply self.old c line).text) }
+        ensures ok { OnOk result (self.new ≡ after_line self.old c) }
+        ensures err { OnErr result (self.new ≡ self.old) }
+    {
+        let session = &mut self.sessions[place];
+        let Some(name) = self.list.name(u) else {
+            unreachable!()
+        };
+        session.answer_listing(name, &self.upses[u.place as usize])
+    }
+
+    /// Executes the next line. Without memory nothing changes.
+    fn execute(&mut self, c: ClientId, place: usize, answer: Reply) -> Result<(), AllocError>
+        requires at { IsAt c place self.old.sessions }
+        requires next { NextIs self.old c (λ line. RepliesBy self.old line answer) }
+        ensures ok { OnOk result (self.new ≡ after_line self.old c) }
+        ensures err { OnErr result (self.new ≡ self.old) }
+        ensures memory { OnErr result (IsTrue (wants_memory self.old c)) }
+    {
+        match answer {
+            Reply::Text(text) => {
+                self.answer_text(c, place, text);
+                Ok(())
+            }
+            Reply::Variables(u) => self.answer_listing(c, place, u),
+        }
+    }
+
+    /// A session that holds too long a line is told so, and begins to end.
+    fn end_if_overlong(&mut self, c: ClientId, place: usize) -> bool
+        requires { IsAt c place self.old.sessions }
+        ensures overlong { result ≡ is_overlong self.old c }
+        ensures notified { self.new ≡ after_notice self.old c }
+    {
+        let session = &mut self.sessions[place];
+        session.end_if_overlong()
+    }
+
+    /// Executes the session's lines, as long as they may be executed.
+    fn pump(&mut self, c: ClientId, place: usize) -> Result<(), Fault>
+        requires at { IsAt c place self.old.sessions }
+        requires short { length (held_of (session c self.old)) ≤ 1024 }
+        ensures { PumpGives self.old c result self.new }
+    {
+        let mut done = 0;
+        while let Some(answer) = self.next_reply(c, place) {
+            if self.execute(c, place, answer).is_err() {
+                return Err(Fault::Memory(done));
+            }
+            done += 1;
+        }
+        if self.end_if_overlong(c, place) {
+            return Err(Fault::LineTooLong);
+        }
+        Ok(())
+    }
+
+    /// Joins a piece to what the session holds.
+    fn join(&mut self, c: ClientId, place: usize, piece: &[u8]) -> usize
+        requires { IsAt c place self.old.sessions }
+        ensures joined { self.new ≡ with_input self.old c piece.now }
+        ensures count { Fed result ≡ fed_by (session c self.old) piece.now false }
+        ensures at { IsAt c place self.new.sessions }
+        ensures short { length (held_of (session c self.new)) ≤ 1024 }
+    {
+        let session = &mut self.sessions[place];
+        session.join(piece)
+    }
+
+    /// Takes n bytes from what the session owes.
+    fn give(&mut self, c: ClientId, place: usize, n: usize)
+        requires at { IsAt c place self.old.sessions }
+        requires few { may_take (session c self.old) n ≡ true }
+        ensures given { self.new ≡ without_output self.old c n }
+        ensures at { IsAt c place self.new.sessions }
+        ensures short { length (held_of (session c self.new)) ≤ 1024 }
+    {
+        let session = &mut self.sessions[place];
+        session.take(n);
+    }
+
+    /// How many bytes are offered.
+    fn offered_at(&self, c: ClientId, place: usize) -> usize
+        requires { IsAt c place self.now.sessions }
+        ensures { result ≡ length (offered (session c self.now)) }
+    {
+        let session = &self.sessions[place];
+        session.offer().len()
+    }
+
+    /// Whether a driver is connected to the UPS, if there is such a UPS.
+    fn connection(&self, u: UpsId) -> Option<bool>
+        ensures { result ≡ option_map is_connected (ups_at u.place self.now) }
+    {
+        match self.upses.get(u.place as usize) {
+            Some(ups) => Some(ups.is_connected()),
+            None => None,
+        }
+    }
+
+    /// Connects a driver to the UPS.
+    fn connect(&mut self, u: UpsId)
+        requires { u.place < length self.old.upses }
+        ensures { self.new ≡ with_ups_changed (after_connecting self.old.moment) u self.old }
+    {
+        let ups = &mut self.upses[u.place as usize];
+        ups.connect(self.moment);
+    }
+
+    /// Takes the driver from the UPS, and what it told.
+    fn disconnect(&mut self, u: UpsId)
+        requires { u.place < length self.old.upses }
+        ensures { self.new ≡ with_ups_changed after_loss u self.old }
+    {
+        let ups = &mut self.upses[u.place as usize];
+        ups.disconnect();
+    }
+
+    /// Hands the bytes of its driver to the UPS.
+    fn feed_driver(&mut self, u: UpsId, piece: &[u8]) -> Result<(), Fault>
+        requires { option_map is_connected (ups_at u.place self.old) ≡ Some true }
+        ensures { DriverFeedGives u piece.now self.old result self.new }
+    {
+        let ups = &mut self.upses[u.place as usize];
+        ups.feed(self.moment, piece)
+    }
+
+    /// A driver connects. It is owed `DUMPALL`, and what an earlier one told is gone. Takes no
+    /// memory.
+    ///
+    /// # Errors
+    ///
+    /// `NoSuchUps` and `AlreadyConnected`, which change nothing.
+    pub fn driver_up(&mut self, u: UpsId) -> Result<(), Fault>
+        ensures { Step self.old (Event.DriverUp u) (done result) self.new }
+    {
+        match self.connection(u) {
+            None => Err(Fault::NoSuchUps),
+            Some(true) => Err(Fault::AlreadyConnected),
+            Some(false) => {
+                self.connect(u);
+                Ok(())
+            }
+        }
+    }
+
+    /// Bytes come from a driver. Each whole line is done, a refused one counted; where 1,024 bytes
+    /// stand without an LF, or memory is refused, the driver is lost and the rest is dropped.
+    ///
+    /// # Errors
+    ///
+    /// `NoSuchUps` and `NotConnected`, which change nothing; `LineTooLong`, after the lines
+    /// before; `Memory`, with how many lines of the call were done.
+    pub fn driver_bytes(&mut self, u: UpsId, piece: &[u8]) -> Result<(), Fault>
+        ensures { Step self.old (Event.DriverBytes u piece.now) (done result) self.new }
+    {
+        match self.connection(u) {
+            None => Err(Fault::NoSuchUps),
+            Some(false) => Err(Fault::NotConnected),
+            Some(true) => self.feed_driver(u, piece),
+        }
+    }
+
+    /// A driver is lost, and what it told with it. Takes no memory.
+    ///
+    /// # Errors
+    ///
+    /// `NoSuchUps` and `NotConnected`, which change nothing.
+    pub fn driver_down(&mut self, u: UpsId) -> Result<(), Fault>
+        ensures { Step self.old (Event.DriverDown u) (done result) self.new }
+    {
+        match self.connection(u) {
+            None => Err(Fault::NoSuchUps),
+            Some(false) => Err(Fault::NotConnected),
+            Some(true) => {
+                self.disconnect(u);
+                Ok(())
+            }
+        }
+    }
+
+    /// A client connects. It makes room for what the session may hold, and for any answer of one
+    /// line. Its id was never used before.
+    ///
+    /// # Errors
+    ///
+    /// `TooManyClients`, and `Memory(0)`; both change nothing.
+    pub fn open(&mut self, address: Address) -> Result<ClientId, Fault>
+        ensures { Step self.old (Event.Open address) (opened_as result) self.new }
+    {
+        if self.sessions.len() >= SESSION_LIMIT || self.next_id == u64::MAX {
+            return Err(Fault::TooManyClients);
+        }
+        let id = self.next_id;
+        let Ok(session) = Session::new(self.alloc, id, address) else {
+            return Err(Fault::Memory(0));
+        };
+        self.sessions.push(session).unwrap();
+        self.next_id += 1;
+        Ok(id)
+    }
+
+    /// How many bytes of input the session takes in now: 1,024 less what it holds, and 1,024 where
+    /// it is ending.
+    ///
+    /// # Errors
+    ///
+    /// `NoSuchClient`.
+    pub fn room(&self, c: ClientId) -> Result<usize, Fault>
+        ensures { Reads room_of (session c self.now) result }
+    {
+        let Some(place) = self.place_of(c) else {
+            return Err(Fault::NoSuchClient);
+        };
+        let session = &self.sessions[place];
+        Ok(session.room())
+    }
+
+    /// A client sent a piece. The answer is how many of its bytes were taken in: as many as there
+    /// is room for, and all where the session is ending. Then its lines are executed, as long as
+    /// they may be.
+    ///
+    /// # Errors
+    ///
+    /// `NoSuchClient` changes nothing. After `LineTooLong` the session is told `ERR TOO-LONG`, and
+    /// is ending. After `Memory(k)` k lines were executed, and the next one, a listing, stays held:
+    /// it is tried again at the next call.
+    pub fn feed(&mut self, c: ClientId, piece: &[u8]) -> Result<usize, Fault>
+        ensures { Step self.old (Event.Feed c piece.now) (fed result) self.new }
+    {
+        let Some(place) = self.place_of(c) else {
+            return Err(Fault::NoSuchClient);
+        };
+        let count = self.join(c, place, piece);
+        match self.pump(c, place) {
+            Ok(()) => Ok(count),
+            Err(fault) => Err(fault),
+        }
+    }
+
+    /// What is offered to the client: the first 4,096 bytes of what it is owed, or all. It changes
+    /// nothing.
+    ///
+    /// # Errors
+    ///
+    /// `NoSuchClient`.
+    pub fn offer(&mut self, c: ClientId) -> Result<&[u8], Fault>
+        ensures bytes { MatchResult result (λ bytes. (is_some (session c self.old) ≡ true) × (bytes.now ≡ take 4096 (owed c self.old))) (λ fault. (fault ≡ Fault.NoSuchClient) × (session c self.old ≡ None)) }
+        ensures* same { sem 𝓛 (Rests the_row self.entry (λ new. new ≡ self.old)) }
+    {
+        let Some(place) = self.place_of(c) else {
+            return Err(Fault::NoSuchClient);
+        };
+        let session = &self.sessions[place];
+        Ok(session.offer())
+    }
+
+    /// The client took n bytes of what it is offered. Then its lines are executed, as long as they
+    /// may be.
+    ///
+    /// # Errors
+    ///
+    /// `NoSuchClient` and `TookTooMuch` change nothing. After `LineTooLong` and `Memory` the bytes
+    /// are taken; else they leave what they leave at `feed`.
+    pub fn took(&mut self, c: ClientId, n: usize) -> Result<(), Fault>
+        ensures { Step self.old (Event.Took c n) (done result) self.new }
+    {
+        let Some(place) = self.place_of(c) else {
+            return Err(Fault::NoSuchClient);
+        };
+        if n > self.offered_at(c, place) {
+            return Err(Fault::TookTooMuch);
+        }
+        self.give(c, place, n);
+        self.pump(c, place)
+    }
+
+    /// Whether the session is ending and owes nothing.
+    ///
+    /// # Errors
+    ///
+    /// `NoSuchClient`.
+    pub fn finished(&self, c: ClientId) -> Result<bool, Fault>
+        ensures { Reads is_finished (session c self.now) result }
+    {
+        let Some(place) = self.place_of(c) else {
+            return Err(Fault::NoSuchClient);
+        };
+        let session = &self.sessions[place];
+        Ok(session.is_finished())
+    }
+
+    /// The client's connection is gone: its session ends at once, and what it is owed is dropped.
+    ///
+    /// # Errors
+    ///
+    /// `NoSuchClient`, which changes nothing.
+    pub fn close(&mut self, c: ClientId) -> Result<(), Fault>
+        ensures { Step self.old (Event.Close c) (done result) self.new }
+    {
+        let Some(place) = self.place_of(c) else {
+            return Err(Fault::NoSuchClient);
+        };
+        let _session = self.sessions.remove(place);
+        Ok(())
+    }
+
+    /// One event.
+    fn step(&mut self, event: &Event) -> Outcome
+        ensures { Step self.old event.now result self.new }
+    {
+        match event {
+            Event::DriverUp(u) => outcome_of(self.driver_up(*u)),
+            Event::DriverBytes(u, bytes) => outcome_of(self.driver_bytes(*u, bytes.as_slice())),
+            Event::DriverDown(u) => outcome_of(self.driver_down(*u)),
+            Event::Open(address) => self.open_at(address),
+            Event::Feed(c, bytes) => match self.feed(*c, bytes.as_slice()) {
+                Ok(n) => Outcome::Fed(n),
+                Err(fault) => Outcome::Refused(fault),
+            },
+            Event::Took(c, n) => outcome_of(self.took(*c, *n)),
+            Event::Close(c) => outcome_of(self.close(*c)),
+        }
+    }
+
+    /// Opens a session for the client at an address.
+    fn open_at(&mut self, address: &Address) -> Outcome
+        ensures { Step self.old (Event.Open address.now) result self.new }
+    {
+        let Ok(address) = address.clone() else {
+            return Outcome::Refused(Fault::Memory(0));
+        };
+        match self.open(address) {
+            Ok(c) => Outcome::Opened(c),
+            Err(fault) => Outcome::Refused(fault),
+        }
+    }
+
+    /// Any events, in order, with the outcome of each. What each client was sent, followed by what
+    /// it is still owed, is exactly the answers to its executed lines, in order; and what it asked
+    /// is executed in order, or held.
+    ///
+    /// # Errors
+    ///
+    /// Without memory for all outcomes nothing is done.
+    pub fn run(&mut self, events: &[Event]) -> Result<Vec<Outcome>, AllocError>
+        ensures run { IfOk result (λ outcomes. Run self.old events.now outcomes.items self.new) }
+        ensures sent_and_owed { IfOk result (λ outcomes. (c : ℕ) → SentAndOwed c self.old events.now outcomes.items self.new) }
+        ensures taken_up { IfOk result (λ outcomes. (c : ℕ) → TakenUp c self.old events.now outcomes.items self.new) }
+        ensures err { OnErr result (self.new ≡ self.old) }
+    {
+        let mut outcomes = Vec::with_capacity(self.alloc, events.len())?;
+        for event in events {
+            let outcome = self.step(event);
+            outcomes.push(outcome).unwrap();
+        }
+        Ok(outcomes)
+    }
+}
+
+fn outcome_of(answer: Result<(), Fault>) -> Outcome
+    ensures { result ≡ done answer }
+{
+    match answer {
+        Ok(()) => Outcome::Done,
+        Err(fault) => Outcome::Refused(fault),
+    }
+}
