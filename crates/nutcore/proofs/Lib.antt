@@ -9,3 +9,4 @@ mod Timely
 mod Refusals
 mod TreeSize
 mod DriverLoops
+mod Listings
