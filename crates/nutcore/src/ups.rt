@@ -251,3 +251,93 @@ fn behind(piece: &[u8], used: usize) -> &[u8]
 {
     &piece[used..]
 }
+
+#[cfg(test)]
+mod tests {
+    use super::*;
+    use std::test::Fail;
+
+    /// Feeds the UPS where its driver is connected.
+    fn fed(ups: &mut Ups, moment: u64, piece: &[u8]) -> Result<(), Fault> {
+        if !ups.is_connected() {
+            return Err(Fault::NotConnected);
+        }
+        ups.feed(moment, piece)
+    }
+
+    /// A piece of the driver, what is answered to it, how many variables there are then, and
+    /// what clients are told two seconds later, where 15 is the greatest age.
+    #[test]
+    fn is_usable_once_all_was_told(rt: HostRuntime) -> Result<(), Fail> {
+        let mut ups = Ups::new(rt.alloc());
+        assert_eq!(rt; ups.readiness(0, 15), Err(ErrorWord::DriverNotConnected));
+        ups.connect(5);
+        for (piece, answer, len, told) in [
+            (
+                b"SETINFO a ".as_slice(),
+                Ok(()),
+                0,
+                Err(ErrorWord::DataStale),
+            ),
+            (
+                b"x\nSETINFO b y".as_slice(),
+                Ok(()),
+                1,
+                Err(ErrorWord::DataStale),
+            ),
+            (
+                b"\nDATAOK\n".as_slice(),
+                Ok(()),
+                2,
+                Err(ErrorWord::DataStale),
+            ),
+            (
+                b"DUMPDONE now\n".as_slice(),
+                Ok(()),
+                2,
+                Err(ErrorWord::DataStale),
+            ),
+            (b"DUMPDONE\nNONE\n\n".as_slice(), Ok(()), 2, Ok(())),
+            (
+                b"DATASTALE\n".as_slice(),
+                Ok(()),
+                2,
+                Err(ErrorWord::DataStale),
+            ),
+            (b"DATAOK\n".as_slice(), Ok(()), 2, Ok(())),
+            ([b'x'; 1023].as_slice(), Ok(()), 2, Ok(())),
+            (
+                b"x\nSETINFO c z\n".as_slice(),
+                Err(Fault::LineTooLong),
+                0,
+                Err(ErrorWord::DriverNotConnected),
+            ),
+            (
+                b"DATAOK\n".as_slice(),
+                Err(Fault::NotConnected),
+                0,
+                Err(ErrorWord::DriverNotConnected),
+            ),
+        ] {
+            assert_eq!(rt; fed(&mut ups, 7, piece), answer);
+            assert_eq!(rt; ups.tree().len(), len);
+            assert_eq!(rt; ups.readiness(9, 15), told);
+        }
+        Ok(())
+    }
+
+    #[test]
+    fn is_stale_beyond_the_greatest_age(rt: HostRuntime) -> Result<(), Fail> {
+        let mut ups = Ups::new(rt.alloc());
+        ups.connect(5);
+        ups.feed(7, b"DATAOK\nDUMPDONE\n")?;
+        for (moment, told) in [(7, Ok(())), (22, Ok(())), (23, Err(ErrorWord::DataStale))] {
+            assert_eq!(rt; ups.readiness(moment, 15), told);
+        }
+        ups.disconnect();
+        assert_eq!(rt; ups.readiness(7, 15), Err(ErrorWord::DriverNotConnected));
+        ups.connect(7);
+        assert_eq!(rt; ups.readiness(7, 15), Err(ErrorWord::DataStale));
+        Ok(())
+    }
+}

@@ -87,3 +87,93 @@ impl ErrorWord {
         }
     }
 }
+
+#[cfg(test)]
+mod tests {
+    use super::*;
+    use std::alloc::{AllocError, Global};
+    use std::test::Fail;
+
+    /// The UPS that the command names, or the line that answers it.
+    fn told(alloc: Global, line: &[u8]) -> Result<String, AllocError> {
+        let mut text = String::new(alloc);
+        if line.len() > 1023 {
+            return Ok(text);
+        }
+        match Command::read(line) {
+            Ok(None) => text.push_str("none")?,
+            Ok(Some(Command::ListVar(ups))) => match ups {
+                None => text.push_str("no UPS")?,
+                Some(ups) => {
+                    for b in ups.as_bytes() {
+                        text.push(char::from(*b))?;
+                    }
+                }
+            },
+            Err(word) => {
+                for b in word.line() {
+                    text.push(char::from(*b))?;
+                }
+            }
+        }
+        Ok(text)
+    }
+
+    #[test]
+    fn reads_commands(rt: HostRuntime) -> Result<(), Fail> {
+        for (line, want) in [
+            (b"".as_slice(), "none"),
+            (b"\t ".as_slice(), "none"),
+            (b"LIST VAR su".as_slice(), "su"),
+            (b"list var su".as_slice(), "su"),
+            (b" List \"Var\" \"su\" ".as_slice(), "su"),
+            (b"LIST VAR SU".as_slice(), "SU"),
+            (b"LIST VAR \"s u\"".as_slice(), "no UPS"),
+            (b"LIST VAR \"\"".as_slice(), "no UPS"),
+            (
+                b"LIST VAR a23456789.123456789.123456789.12".as_slice(),
+                "a23456789.123456789.123456789.12",
+            ),
+            (
+                b"LIST VAR a23456789.123456789.123456789.123".as_slice(),
+                "no UPS",
+            ),
+            (b"LIST".as_slice(), "ERR INVALID-ARGUMENT\n"),
+            (b"LIST VAR".as_slice(), "ERR INVALID-ARGUMENT\n"),
+            (b"LIST VAR su su".as_slice(), "ERR INVALID-ARGUMENT\n"),
+            (b"LIST VARS su".as_slice(), "ERR INVALID-ARGUMENT\n"),
+            (b"LIST VAR \"su".as_slice(), "ERR INVALID-ARGUMENT\n"),
+            (b"NONE \"su".as_slice(), "ERR INVALID-ARGUMENT\n"),
+            (b"NONE".as_slice(), "ERR UNKNOWN-COMMAND\n"),
+            (b"LISTS VAR su".as_slice(), "ERR UNKNOWN-COMMAND\n"),
+            (b"VAR su".as_slice(), "ERR UNKNOWN-COMMAND\n"),
+        ] {
+            let got = told(rt.alloc(), line)?;
+            assert_eq!(rt; got.as_str(), want);
+        }
+        Ok(())
+    }
+
+    #[test]
+    fn tells_errors(rt: HostRuntime) {
+        for (word, want) in [
+            (ErrorWord::UnknownUps, b"ERR UNKNOWN-UPS\n".as_slice()),
+            (
+                ErrorWord::InvalidArgument,
+                b"ERR INVALID-ARGUMENT\n".as_slice(),
+            ),
+            (ErrorWord::TooLong, b"ERR TOO-LONG\n".as_slice()),
+            (
+                ErrorWord::DriverNotConnected,
+                b"ERR DRIVER-NOT-CONNECTED\n".as_slice(),
+            ),
+            (ErrorWord::DataStale, b"ERR DATA-STALE\n".as_slice()),
+            (
+                ErrorWord::UnknownCommand,
+                b"ERR UNKNOWN-COMMAND\n".as_slice(),
+            ),
+        ] {
+            assert_eq!(rt; word.line(), want);
+        }
+    }
+}

@@ -93,3 +93,69 @@ fn shown(fsd: bool, name: &Name, variable: &Variable) -> ArrayVec<u8, SHOWN_LIMI
         .unwrap();
     shown
 }
+
+#[cfg(test)]
+mod tests {
+    use super::*;
+    use nutwords::Value;
+    use std::test::Fail;
+
+    #[test]
+    fn lists_variables_in_the_order_of_their_names(rt: HostRuntime) -> Result<(), Fail> {
+        let name = UpsName::read(b"su")?;
+        let mut ups = Ups::new(rt.alloc());
+        for (piece, want) in [
+            (
+                b"".as_slice(),
+                b"BEGIN LIST VAR su\nEND LIST VAR su\n".as_slice(),
+            ),
+            (
+                b"SETINFO ups.status OL\nSETINFO ups.id \"a \\\"b\\\" \\\\\"\nSETINFO ups \"\"\n".as_slice(),
+                b"BEGIN LIST VAR su\nVAR su ups \"\"\nVAR su ups.id \"a \\\"b\\\" \\\\\"\nVAR su ups.status \"OL\"\nEND LIST VAR su\n".as_slice(),
+            ),
+        ] {
+            ups.connect(0);
+            ups.feed(0, piece)?;
+            let mut owed = Vec::new(rt.alloc());
+            owed.extend_from_slice(b"OK\n")?;
+            write_variables(&mut owed, &name, &ups)?;
+            assert_eq!(rt; &owed[..3], b"OK\n".as_slice());
+            assert_eq!(rt; &owed[3..], want);
+        }
+        Ok(())
+    }
+
+    #[test]
+    fn shows_a_forced_shutdown_before_the_status_alone(rt: HostRuntime) -> Result<(), Fail> {
+        let ups = UpsName::read(b"su")?;
+        for (fsd, name, want) in [
+            (
+                false,
+                b"ups.status".as_slice(),
+                b"VAR su ups.status \"OL\"\n".as_slice(),
+            ),
+            (
+                true,
+                b"ups.status".as_slice(),
+                b"VAR su ups.status \"FSD OL\"\n".as_slice(),
+            ),
+            (
+                true,
+                b"ups.id".as_slice(),
+                b"VAR su ups.id \"OL\"\n".as_slice(),
+            ),
+            (
+                true,
+                b"UPS.STATUS".as_slice(),
+                b"VAR su UPS.STATUS \"OL\"\n".as_slice(),
+            ),
+        ] {
+            let variable = Variable {
+                value: Value::read(b"OL")?,
+            };
+            let line = variable_line(&ups, fsd, &Name::read(name)?, &variable);
+            assert_eq!(rt; line.as_slice(), want);
+        }
+        Ok(())
+    }
+}

@@ -109,3 +109,104 @@ impl DriverLine {
         }
     }
 }
+
+#[cfg(test)]
+mod tests {
+    use super::*;
+    use arrayvec::ArrayVec;
+    use std::alloc::{AllocError, Global};
+    use std::test::Fail;
+
+    /// What the line says, or why it is refused.
+    fn told(alloc: Global, line: &[u8]) -> Result<String, AllocError> {
+        let mut text = String::new(alloc);
+        if line.len() > 1023 {
+            return Ok(text);
+        }
+        match DriverLine::read(line) {
+            Ok(DriverLine::Blank) => text.push_str("blank")?,
+            Ok(DriverLine::SetInfo(name, value)) => {
+                for b in name.as_bytes() {
+                    text.push(char::from(*b))?;
+                }
+                text.push('=')?;
+                for b in value.as_bytes() {
+                    text.push(char::from(*b))?;
+                }
+            }
+            Ok(DriverLine::DumpDone) => text.push_str("dump done")?,
+            Ok(DriverLine::DataOk) => text.push_str("data ok")?,
+            Ok(DriverLine::DataStale) => text.push_str("data stale")?,
+            Err(fault) => text = format!(in alloc; "{fault}")?,
+        }
+        Ok(text)
+    }
+
+    #[test]
+    fn reads_driver_lines(rt: HostRuntime) -> Result<(), Fail> {
+        for (line, want) in [
+            (b"".as_slice(), "blank"),
+            (b" \t ".as_slice(), "blank"),
+            (b"SETINFO ups.status OL".as_slice(), "ups.status=OL"),
+            (
+                b"setinfo ups.status \"OL CHRG\"".as_slice(),
+                "ups.status=OL CHRG",
+            ),
+            (b" SetInfo ups.id \"a\\\"b\" ".as_slice(), "ups.id=a\"b"),
+            (b"SETINFO ups.id \"\"".as_slice(), "ups.id="),
+            (b"DUMPDONE".as_slice(), "dump done"),
+            (b"dumpdone".as_slice(), "dump done"),
+            (b"DATAOK".as_slice(), "data ok"),
+            (b"DataStale".as_slice(), "data stale"),
+            (b"SETINFO".as_slice(), "malformed line"),
+            (b"SETINFO ups.id".as_slice(), "malformed line"),
+            (b"SETINFO ups.id a b".as_slice(), "malformed line"),
+            (b"SETINFO ups/id a".as_slice(), "malformed line"),
+            (b"SETINFO \"\" a".as_slice(), "malformed line"),
+            (b"DUMPDONE now".as_slice(), "malformed line"),
+            (b"DATAOK 1".as_slice(), "malformed line"),
+            (b"DATASTALE 1".as_slice(), "malformed line"),
+            (b"SETINFO ups.id \"a".as_slice(), "malformed line"),
+            (b"NONE \"a".as_slice(), "malformed line"),
+            (b"NONE".as_slice(), "unknown word"),
+            (b"SETINFOS ups.id a".as_slice(), "unknown word"),
+            (b"DATA OK".as_slice(), "unknown word"),
+            (b"\"\"".as_slice(), "unknown word"),
+        ] {
+            let got = told(rt.alloc(), line)?;
+            assert_eq!(rt; got.as_str(), want);
+        }
+        Ok(())
+    }
+
+    #[test]
+    fn reads_values_of_at_most_256_bytes(rt: HostRuntime) -> Result<(), Fail> {
+        for (front, value, want) in [
+            (b"SETINFO a ".as_slice(), [b'x'; 256].as_slice(), true),
+            (b"SETINFO a ".as_slice(), [b'x'; 257].as_slice(), false),
+        ] {
+            let mut line = ArrayVec::<u8, 512>::new();
+            line.try_extend_from_slice(front)?;
+            line.try_extend_from_slice(value)?;
+            assert_eq!(rt; DriverLine::read(line.as_slice()).is_ok(), want);
+        }
+        Ok(())
+    }
+
+    /// Of two refusals that fit, that of the name comes before that of the value.
+    #[test]
+    fn refuses_a_name_before_its_value(rt: HostRuntime) -> Result<(), Fail> {
+        for (front, want) in [
+            (b"SETINFO a ".as_slice(), DriverFault::TooLong),
+            (b"SETINFO a/b ".as_slice(), DriverFault::Malformed),
+            (b"SETINFO a b ".as_slice(), DriverFault::Malformed),
+            (b"SET a ".as_slice(), DriverFault::Unknown),
+        ] {
+            let mut line = ArrayVec::<u8, 512>::new();
+            line.try_extend_from_slice(front)?;
+            line.try_extend_from_slice(&[b'x'; 257])?;
+            assert_eq!(rt; DriverLine::read(line.as_slice()).err(), Some(want));
+        }
+        Ok(())
+    }
+}

@@ -121,3 +121,68 @@ impl Tree {
         }
     }
 }
+
+#[cfg(test)]
+mod tests {
+    use super::*;
+    use std::alloc::AllocError;
+    use std::test::Fail;
+
+    /// Applies a line, and answers what it did, or why it is refused.
+    fn applied(tree: &mut Tree, alloc: Global, line: &str) -> Result<String, AllocError> {
+        let line = line.as_bytes();
+        if line.len() > 1023 {
+            return Ok(String::new(alloc));
+        }
+        match DriverLine::read(line) {
+            Ok(line) => match tree.apply(line) {
+                Ok(effect) => format!(in alloc; "{effect:?}"),
+                Err(fault) => format!(in alloc; "{fault}"),
+            },
+            Err(fault) => format!(in alloc; "{fault}"),
+        }
+    }
+
+    #[test]
+    fn keeps_the_last_value_of_a_name(rt: HostRuntime) -> Result<(), Fail> {
+        let mut tree = Tree::new(rt.alloc());
+        for (line, want, len) in [
+            ("", "Nothing", 0),
+            ("SETINFO ups.status OL", "Changed", 1),
+            ("SETINFO ups.id a", "Changed", 2),
+            ("SETINFO UPS.id b", "Changed", 3),
+            ("SETINFO ups.status OB", "Changed", 3),
+            ("DUMPDONE", "DumpDone", 3),
+            ("DATAOK", "DataOk", 3),
+            ("DATASTALE", "DataStale", 3),
+        ] {
+            let got = applied(&mut tree, rt.alloc(), line)?;
+            assert_eq!(rt; got.as_str(), want);
+            assert_eq!(rt; tree.len(), len);
+        }
+        let status = tree.variables().get(&Name::read(b"ups.status")?);
+        assert_eq!(rt; status.map(|v| v.value.as_bytes()), Some(b"OB".as_slice()));
+        tree.clear();
+        assert_eq!(rt; tree.len(), 0);
+        Ok(())
+    }
+
+    #[test]
+    fn holds_4096_variables(rt: HostRuntime) -> Result<(), Fail> {
+        let mut tree = Tree::new(rt.alloc());
+        for i in 0..4096 {
+            let line = format!(in rt.alloc(); "SETINFO v{i} a")?;
+            let got = applied(&mut tree, rt.alloc(), line.as_str())?;
+            assert_eq!(rt; got.as_str(), "Changed");
+        }
+        for (line, want) in [
+            ("SETINFO v4096 a", "too many variables"),
+            ("SETINFO v4095 b", "Changed"),
+        ] {
+            let got = applied(&mut tree, rt.alloc(), line)?;
+            assert_eq!(rt; got.as_str(), want);
+            assert_eq!(rt; tree.len(), 4096);
+        }
+        Ok(())
+    }
+}
