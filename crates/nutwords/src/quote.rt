@@ -6,14 +6,15 @@ ghost use Rattle.nutwords.specs.Grammar.{Reads, ReadsToBoundary};
 ghost use Rattle.arrayvec.specs.ArrayVec.{array_vec_len};
 ghost use Rattle.nutwords.specs.Spelling.{quoted, with_backslashes};
 
+use crate::LINE_ROOM;
 use arrayvec::ArrayVec;
 
 /// A line without its LF.
-pub type Line = ArrayVec<u8, 1024>;
+pub type Line = ArrayVec<u8, LINE_ROOM>;
 
 /// The length of the written spelling of the word.
 pub fn quoted_len(word: &[u8]) -> usize
-    requires { length word.now ≤ 1024 }
+    requires { length word.now ≤ LINE_ROOM }
     ensures { result ≡ length (quoted word.now) }
 {
     let mut len = 2;
@@ -25,8 +26,8 @@ pub fn quoted_len(word: &[u8]) -> usize
 
 /// Appends the written spelling of the word to the line. The caller has seen that it fits, by `quoted_len`.
 pub fn quote_into(word: &[u8], line: &mut Line)
-    requires short { length word.now ≤ 1024 }
-    requires fits { array_vec_len line.old + length (quoted word.now) ≤ 1024 }
+    requires short { length word.now ≤ LINE_ROOM }
+    requires fits { array_vec_len line.old + length (quoted word.now) ≤ LINE_ROOM }
     ensures appends { line.new.items ≡ line.old.items ++ quoted word.now }
     // Behind nothing, or behind a line and one blank, the word is read again, where its bytes are lawful.
     ensures reads { (words : List (List ℕ)) → IsTrue (list_all is_lawful word.now)
