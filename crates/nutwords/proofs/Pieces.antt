@@ -219,3 +219,16 @@ pub IsCutInto-some : (text : List ℕ) → (lines : List (List ℕ)) × (tail : 
 IsCutInto-some text =
     let o = CutsPieces-ends (suc (weight (text ∷ []))) [] (text ∷ []) (omega arith) refl (omega arith) in
     (o.0, o.1, subst (λ t. IsCutInto t o.0 o.1) (append-nil text) (CutsPieces-cut [] (text ∷ []) o.0 o.1 refl (omega arith) o.2))
+
+-- Whole lines with more behind them.
+pub IsCutInto-append : (text more : List ℕ) (lines others : List (List ℕ)) (whole tail : Tail) → IsCutInto text lines whole → whole ≡ Unfinished [] → IsCutInto more others tail → IsCutInto (text ++ more) (lines ++ others) tail
+IsCutInto-append text more _ others whole tail (line {rest = rest} {first = first} {lines = lines} s k r) e m =
+    line (split_line-more text more first rest s) k (IsCutInto-append rest more lines others whole tail r e m)
+IsCutInto-append text more _ others _ tail (unfinished s k) e m = subst (λ t. IsCutInto (t ++ more) others tail) (sym (nothing text e)) m
+  where
+    nothing : (a : List ℕ) → Unfinished a ≡ Unfinished [] → a ≡ []
+    nothing a h = cc
+IsCutInto-append text more _ others _ tail (overlong s k) e m = absurd (other e)
+  where
+    other : Overlong ≡ Unfinished [] → ⊥
+    other h = cc

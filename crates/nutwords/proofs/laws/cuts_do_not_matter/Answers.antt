@@ -1,6 +1,6 @@
-use Rattle.std.proofs.Common.{refl}
+use Rattle.std.proofs.Common.{[], refl}
 use Rattle.nutwords.specs.Lines.{Unfinished}
-use Rattle.nutwords.proofs.Pieces.{pieces_give_the_lines, IsCutInto-some, IsCutInto-one, IsCutInto-whole}
+use Rattle.nutwords.proofs.Pieces.{pieces_give_the_lines, IsCutInto-some, IsCutInto-one, IsCutInto-whole, IsCutInto-append}
 use Rattle.nutwords.proofs.laws.cuts_do_not_matter.Goals as goal
 
 pub returns-clause-pieces : goal.returns-clause-pieces
@@ -14,3 +14,6 @@ returns-clause-one c = λ text lines others tail end first second. IsCutInto-one
 
 pub returns-clause-all : goal.returns-clause-all
 returns-clause-all c = λ text rest lines cut. IsCutInto-whole text rest lines (Unfinished rest) cut refl
+
+pub returns-clause-joined : goal.returns-clause-joined
+returns-clause-joined c = λ text more lines others tail cut behind. IsCutInto-append text more lines others (Unfinished []) tail cut refl behind
