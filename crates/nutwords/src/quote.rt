@@ -1,4 +1,4 @@
-//! The one written spelling of a word.
+//! The one written spelling of a word: in double quotes, with a backslash before each quote and backslash.
 ghost use Rattle.std.specs.Prelude.{◌≡◌, ◌+◌, ◌*◌, ◌≤◌, ◌<◌, ◌==◌, ◌||◌, [], ◌∷◌, ◌++◌, length, List, ℕ, IsTrue};
 ghost use Rattle.std.specs.List.{list_all};
 ghost use Rattle.nutwords.specs.Bytes.{is_lawful};
@@ -9,10 +9,10 @@ ghost use Rattle.nutwords.specs.Spelling.{quoted, with_backslashes};
 use crate::LINE_ROOM;
 use arrayvec::ArrayVec;
 
-/// A line without its LF.
+/// A line, or what has come of one so far: there is room for 1,023 bytes and an LF.
 pub type Line = ArrayVec<u8, LINE_ROOM>;
 
-/// The length of the written spelling of the word.
+/// The length of the written spelling of the word, in bytes. The word is at most 1,024 bytes.
 pub fn quoted_len(word: &[u8]) -> usize
     requires { length word.now ≤ LINE_ROOM }
     ensures { result ≡ length (quoted word.now) }
@@ -24,7 +24,8 @@ pub fn quoted_len(word: &[u8]) -> usize
     len
 }
 
-/// Appends the written spelling of the word to the line. The caller has seen that it fits, by `quoted_len`.
+/// Appends the written spelling of the word to the line (RFC 9271, section 4). The word is at most 1,024 bytes, and the
+/// caller has seen that the line has room for it, by `quoted_len`.
 pub fn quote_into(word: &[u8], line: &mut Line)
     requires short { length word.now ≤ LINE_ROOM }
     requires fits { array_vec_len line.old + length (quoted word.now) ≤ LINE_ROOM }
