@@ -214,6 +214,11 @@ pieces_give_the_lines pieces lines tail = (λ r. CutsPieces-cut [] pieces lines 
         let one = IsCutInto-one (concat pieces) lines o.0 tail o.1 c (CutsPieces-cut [] pieces o.0 o.1 refl (omega arith) o.2) in
         subst (λ t. CutsPieces [] pieces lines t) one.1 (subst (λ ls. CutsPieces [] pieces ls o.1) one.0 o.2)
 
+-- Pieces of the same text give the same.
+pub cuts_do_not_matter : (pieces others lines : List (List ℕ)) (tail : Tail) → concat others ≡ concat pieces → CutsPieces [] pieces lines tail → CutsPieces [] others lines tail
+cuts_do_not_matter pieces others lines tail same gives =
+    (pieces_give_the_lines others lines tail).1 (subst (λ t. IsCutInto t lines tail) (sym same) ((pieces_give_the_lines pieces lines tail).0 gives))
+
 -- Each text is cut.
 pub IsCutInto-some : (text : List ℕ) → (lines : List (List ℕ)) × (tail : Tail) × IsCutInto text lines tail
 IsCutInto-some text =

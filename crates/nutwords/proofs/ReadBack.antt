@@ -8,7 +8,7 @@ use Rattle.nutwords.specs.Spelling.{with_backslashes}
 use Rattle.nutwords.specs.SplitLine.{split_line}
 use Rattle.nutwords.specs.Frame.{line_of, frame}
 use Rattle.nutwords.specs.Lines.{Tail, Unfinished, IsCutInto, line, unfinished}
-use Rattle.nutwords.specs.Listing.{IsWritten, as_it_is, in_quotes, IsItem, ReadsAsLines, listing_words}
+use Rattle.nutwords.specs.Listing.{IsWritten, as_it_is, in_quotes, IsWrittenLine, ReadsAsLines, listing_words}
 use Rattle.nutwords.specs.declared.limits.TheConstants.{LINE_ROOM}
 use Rattle.nutwords.proofs.FaultLemmas.{words_of-reads}
 use Rattle.nutwords.proofs.Quoting.{Units-with_backslashes}
@@ -32,13 +32,13 @@ written_spell [] (w ∷ words) h = absurd h
 written_spell (t ∷ texts) [] h = absurd h
 
 -- a written line reads as its words
-IsItem-reads : (texts words : List (List ℕ)) → IsItem texts words → Reads (join_with_byte 32 texts) words
-IsItem-reads texts words i = Reads-joined texts words (written_spell texts words i.written)
+IsWrittenLine-reads : (texts words : List (List ℕ)) → IsWrittenLine texts words → Reads (join_with_byte 32 texts) words
+IsWrittenLine-reads texts words i = Reads-joined texts words (written_spell texts words i.written)
 
 -- and is one line
-IsItem-cut : (texts words : List (List ℕ)) → IsItem texts words → IsCutInto (line_of texts) (join_with_byte 32 texts ∷ []) (Unfinished [])
-IsItem-cut texts words i =
-    let none = split_line-lawful (join_with_byte 32 texts) (Reads-lawful (join_with_byte 32 texts) words (IsItem-reads texts words i)) in
+IsWrittenLine-cut : (texts words : List (List ℕ)) → IsWrittenLine texts words → IsCutInto (line_of texts) (join_with_byte 32 texts ∷ []) (Unfinished [])
+IsWrittenLine-cut texts words i =
+    let none = split_line-lawful (join_with_byte 32 texts) (Reads-lawful (join_with_byte 32 texts) words (IsWrittenLine-reads texts words i)) in
     let l = length-append (join_with_byte 32 texts) (10 ∷ []) in
     let f = i.fits in
     line (ap split_line (sym (append-nil (line_of texts))) ∙ split_line-line texts [] none) (omega (arith, l, f)) (unfinished refl (omega arith))
@@ -54,29 +54,29 @@ ReadsAsLines-append text more rows others t m =
     joined [] ms (r ∷ rs) os h k = absurd h
     joined (l ∷ ls) ms [] os h k = absurd h
 
-IsItem-line : (texts words : List (List ℕ)) → IsItem texts words → ReadsAsLines (line_of texts) (words ∷ [])
-IsItem-line texts words i = (join_with_byte 32 texts ∷ [], IsItem-cut texts words i, (IsItem-reads texts words i, tt))
+IsWrittenLine-line : (texts words : List (List ℕ)) → IsWrittenLine texts words → ReadsAsLines (line_of texts) (words ∷ [])
+IsWrittenLine-line texts words i = (join_with_byte 32 texts ∷ [], IsWrittenLine-cut texts words i, (IsWrittenLine-reads texts words i, tt))
 
-IsItem-lines : (items rows : List (List (List ℕ))) → AllZip IsItem items rows → ReadsAsLines (flat_map line_of items) rows
-IsItem-lines [] [] h = ([], unfinished refl (omega arith), tt)
-IsItem-lines (t ∷ items) (w ∷ rows) h = ReadsAsLines-append (line_of t) (flat_map line_of items) (w ∷ []) rows (IsItem-line t w h.0) (IsItem-lines items rows h.1)
-IsItem-lines [] (w ∷ rows) h = absurd h
-IsItem-lines (t ∷ items) [] h = absurd h
+IsWrittenLine-lines : (items rows : List (List (List ℕ))) → AllZip IsWrittenLine items rows → ReadsAsLines (flat_map line_of items) rows
+IsWrittenLine-lines [] [] h = ([], unfinished refl (omega arith), tt)
+IsWrittenLine-lines (t ∷ items) (w ∷ rows) h = ReadsAsLines-append (line_of t) (flat_map line_of items) (w ∷ []) rows (IsWrittenLine-line t w h.0) (IsWrittenLine-lines items rows h.1)
+IsWrittenLine-lines [] (w ∷ rows) h = absurd h
+IsWrittenLine-lines (t ∷ items) [] h = absurd h
 
 -- A listing reads as its words.
-pub listing_is_read_back : (kind : List ℕ) (names asked : List (List ℕ)) (items rows : List (List (List ℕ))) → AllZip IsWritten (kind ∷ names) asked → length (line_of (codes "BEGIN" ∷ codes "LIST" ∷ kind ∷ names)) ≤ LINE_ROOM → AllZip IsItem items rows → ReadsAsLines (frame kind names items) (listing_words asked rows)
+pub listing_is_read_back : (kind : List ℕ) (names asked : List (List ℕ)) (items rows : List (List (List ℕ))) → AllZip IsWritten (kind ∷ names) asked → length (line_of (codes "BEGIN" ∷ codes "LIST" ∷ kind ∷ names)) ≤ LINE_ROOM → AllZip IsWrittenLine items rows → ReadsAsLines (frame kind names items) (listing_words asked rows)
 listing_is_read_back kind names asked items rows h fits i =
     ReadsAsLines-append (line_of (codes "BEGIN" ∷ asked_text)) (flat_map line_of items ++ line_of (codes "END" ∷ asked_text)) ((codes "BEGIN" ∷ codes "LIST" ∷ asked) ∷ []) (rows ++ (codes "END" ∷ codes "LIST" ∷ asked) ∷ [])
-    (IsItem-line (codes "BEGIN" ∷ asked_text) (codes "BEGIN" ∷ codes "LIST" ∷ asked) begin)
-    (ReadsAsLines-append (flat_map line_of items) (line_of (codes "END" ∷ asked_text)) rows ((codes "END" ∷ codes "LIST" ∷ asked) ∷ []) (IsItem-lines items rows i) (IsItem-line (codes "END" ∷ asked_text) (codes "END" ∷ codes "LIST" ∷ asked) end))
+    (IsWrittenLine-line (codes "BEGIN" ∷ asked_text) (codes "BEGIN" ∷ codes "LIST" ∷ asked) begin)
+    (ReadsAsLines-append (flat_map line_of items) (line_of (codes "END" ∷ asked_text)) rows ((codes "END" ∷ codes "LIST" ∷ asked) ∷ []) (IsWrittenLine-lines items rows i) (IsWrittenLine-line (codes "END" ∷ asked_text) (codes "END" ∷ codes "LIST" ∷ asked) end))
   where
     asked_text : List (List ℕ)
     asked_text = codes "LIST" ∷ kind ∷ names
 
-    begin : IsItem (codes "BEGIN" ∷ asked_text) (codes "BEGIN" ∷ codes "LIST" ∷ asked)
+    begin : IsWrittenLine (codes "BEGIN" ∷ asked_text) (codes "BEGIN" ∷ codes "LIST" ∷ asked)
     begin = record { written = (as_it_is (omega arith) refl, (as_it_is (omega arith) refl, h)); fits = fits }
 
-    end : IsItem (codes "END" ∷ asked_text) (codes "END" ∷ codes "LIST" ∷ asked)
+    end : IsWrittenLine (codes "END" ∷ asked_text) (codes "END" ∷ codes "LIST" ∷ asked)
     end = record { written = (as_it_is (omega arith) refl, (as_it_is (omega arith) refl, h)); fits = omega (arith, fits) }
 
 -- A text of whole lines has one reading.

@@ -29,10 +29,15 @@ pub data CutsPieces : List ℕ → List (List ℕ) → List (List ℕ) → Tail 
 abbrev pub PiecesGiveTheLines : Type 0
 PiecesGiveTheLines = (pieces lines : List (List ℕ)) (tail : Tail) → CutsPieces [] pieces lines tail ↔ IsCutInto (concat pieces) lines tail
 
--- Each text is cut in one way.
+-- So two lists of pieces with the same text give the same.
+abbrev pub CutsDoNotMatter : Type 0
+CutsDoNotMatter = (pieces others lines : List (List ℕ)) (tail : Tail) → concat others ≡ concat pieces → CutsPieces [] pieces lines tail → CutsPieces [] others lines tail
+
+-- Each text has lines and a tail.
 abbrev pub EachTextIsCut : Type 0
 EachTextIsCut = (text : List ℕ) → (lines : List (List ℕ)) × (tail : Tail) × IsCutInto text lines tail
 
+-- And it has no others.
 abbrev pub OneCutting : Type 0
 OneCutting = (text : List ℕ) (lines others : List (List ℕ)) (tail end : Tail) → IsCutInto text lines tail → IsCutInto text others end → (others ≡ lines) × (end ≡ tail)
 

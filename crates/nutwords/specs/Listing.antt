@@ -13,8 +13,8 @@ pub data IsWritten : List ℕ → List ℕ → Type 0 where
   as_it_is : {word : List ℕ} → 0 < length word → IsTrue (list_all is_bare word) → IsWritten word word
   in_quotes : {word : List ℕ} → IsTrue (list_all is_lawful word) → IsWritten (quoted word) word
 
--- The texts are these words, and their line is no longer than a line may be.
-pub record IsItem (texts words : List (List ℕ)) : Type 0 where
+-- The texts write these words, and with a space between them and LF they are a line of at most 1,023 bytes and its LF.
+pub record IsWrittenLine (texts words : List (List ℕ)) : Type 0 where
   pub written : AllZip IsWritten texts words
   pub fits : length (line_of texts) ≤ LINE_ROOM
 
@@ -28,7 +28,7 @@ listing_words asked rows = (codes "BEGIN" ∷ codes "LIST" ∷ asked) ∷ (rows 
 
 -- The text of a listing reads as BEGIN and what was asked for, the items' words in their order, END and what was asked for (RFC 9271, section 4.2: LIST).
 abbrev pub ListingIsReadBack : Type 0
-ListingIsReadBack = (kind : List ℕ) (names asked : List (List ℕ)) (items rows : List (List (List ℕ))) → AllZip IsWritten (kind ∷ names) asked → length (line_of (codes "BEGIN" ∷ codes "LIST" ∷ kind ∷ names)) ≤ LINE_ROOM → AllZip IsItem items rows → ReadsAsLines (frame kind names items) (listing_words asked rows)
+ListingIsReadBack = (kind : List ℕ) (names asked : List (List ℕ)) (items rows : List (List (List ℕ))) → AllZip IsWritten (kind ∷ names) asked → length (line_of (codes "BEGIN" ∷ codes "LIST" ∷ kind ∷ names)) ≤ LINE_ROOM → AllZip IsWrittenLine items rows → ReadsAsLines (frame kind names items) (listing_words asked rows)
 
 -- A text of whole lines reads as one list of words a line.
 abbrev pub OneReading : Type 0

@@ -4,7 +4,7 @@ ghost use Rattle.std.specs.Ordering.{nat_cmp};
 ghost use Rattle.std.specs.Cmp.{IsTotalOrder};
 ghost use Rattle.std.specs.Cmp.Lexicographic.{slice_cmp};
 ghost use Rattle.nutwords.specs.Meaning.{WordsOrFault, NotBoth, OneListOfWords, OneFault};
-ghost use Rattle.nutwords.specs.Lines.{PiecesGiveTheLines, EachTextIsCut, OneCutting, NoByteIsLost, LinesAreJoined};
+ghost use Rattle.nutwords.specs.Lines.{PiecesGiveTheLines, CutsDoNotMatter, EachTextIsCut, OneCutting, NoByteIsLost, LinesAreJoined};
 ghost use Rattle.nutwords.specs.Listing.{ListingIsReadBack, OneReading};
 ghost use Rattle.nutwords.specs.NameOrder.{BeginningsComeFirst, EqualsAreSame};
 
@@ -23,6 +23,7 @@ pub fn line_has_one_meaning()
 /// text, up to 1,024 bytes without an LF.
 pub fn cuts_do_not_matter()
     ensures pieces { PiecesGiveTheLines }
+    ensures cuts { CutsDoNotMatter }
     // What these lines are is determined, and they are all of the text.
     ensures some { EachTextIsCut }
     ensures one { OneCutting }
