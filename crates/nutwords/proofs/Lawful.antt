@@ -1,10 +1,9 @@
 -- A line that reads has lawful bytes alone.
-use Rattle.std.proofs.Common.{◌≡◌, ℕ, Bool, true, List, [], ◌∷◌, ◌++◌, refl, sym, ap, ◌∙◌}
-use Rattle.std.specs.Prelude.{◌&&◌}
+use Rattle.std.proofs.Common.{◌≡◌, ℕ, Bool, true, List, [], ◌∷◌, ◌++◌, refl, ap, ◌∙◌}
 use Rattle.std.specs.List.{list_all}
-use Rattle.std.proofs.lemmas.Bool.{and_from, and_parts, eqb-true}
+use Rattle.std.proofs.lemmas.Bool.{and_from}
 use Rattle.std.proofs.lemmas.List.Folds.{list_all-append}
-use Rattle.nutwords.specs.Bytes.{is_lawful, is_blank, is_quotable, is_bare}
+use Rattle.nutwords.specs.Bytes.{is_lawful, is_quotable, is_bare}
 use Rattle.nutwords.specs.Grammar.{Units, none, itself, escaped, Spells, bare, quoted, Reads, end, blank, word}
 use Rattle.nutwords.proofs.Classes.{quotable_blank, lawful_quotable, quotable_bare}
 

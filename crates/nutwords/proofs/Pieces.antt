@@ -1,12 +1,10 @@
 -- Cutting a text that comes in pieces.
-use Rattle.std.proofs.Common.{◌≡◌, ℕ, zero, suc, ◌+◌, ◌-◌, ◌<◌, ◌≤◌, ◌↔◌, ◌⊎◌, inl, inr, true, false, eqb, List, [], ◌∷◌, ◌++◌, length, take, drop, Option, Some, None, refl, sym, ap, subst, ◌∙◌, arith, append_assoc, append-nil, length-append}
+use Rattle.std.proofs.Common.{◌≡◌, ℕ, zero, suc, ◌+◌, ◌<◌, ◌≤◌, ◌↔◌, inl, inr, true, false, eqb, List, [], ◌∷◌, ◌++◌, length, take, drop, Option, Some, None, refl, sym, ap, subst, ◌∙◌, arith, append_assoc, append-nil, length-append}
 use Rattle.std.specs.List.{concat, flat_map}
 use Rattle.std.proofs.Math.Seq.{drop-append-add}
 use Rattle.std.proofs.lemmas.Bool.{eqb-true, cases_lt}
 use Rattle.std.proofs.lemmas.List.{take-append-le}
-use Rattle.arrayvec.specs.ArrayVec.{ArrayVec}
 use Rattle.nutwords.specs.SplitLine.{split_line}
-use Rattle.nutwords.specs.Cut.{Cuts}
 use Rattle.nutwords.specs.Lines.{Tail, Unfinished, Overlong, IsCutInto, line, unfinished, overlong, CutsPieces, a_line, no_line_yet, too_long, all_used}
 use Rattle.nutwords.specs.declared.limits.TheConstants.{LINE_ROOM}
 use Rattle.nutwords.proofs.Lines.{split_line-other, split_line-append, none-of_map, with_byte, with_front}

@@ -1,13 +1,12 @@
 -- A listing's text is read back.
-use Rattle.std.proofs.Common.{◌≡◌, ℕ, suc, ◌<◌, ◌≤◌, List, [], ◌∷◌, ◌++◌, length, Some, None, Ok, refl, sym, subst, ap, ◌∙◌, arith, append-nil, length-append}
+use Rattle.std.proofs.Common.{◌≡◌, ℕ, ◌≤◌, List, [], ◌∷◌, ◌++◌, length, refl, sym, subst, ap, ◌∙◌, arith, append-nil, length-append}
 use Rattle.std.specs.Prelude.{codes}
 use Rattle.std.specs.List.{AllZip, flat_map, join_with_byte}
 use Rattle.nutwords.specs.Grammar.{Spells, bare, quoted, Reads}
-use Rattle.nutwords.specs.Spelling as spelling
 use Rattle.nutwords.specs.Spelling.{with_backslashes}
 use Rattle.nutwords.specs.SplitLine.{split_line}
 use Rattle.nutwords.specs.Frame.{line_of, frame}
-use Rattle.nutwords.specs.Lines.{Tail, Unfinished, IsCutInto, line, unfinished}
+use Rattle.nutwords.specs.Lines.{Unfinished, IsCutInto, line, unfinished}
 use Rattle.nutwords.specs.Listing.{IsWritten, as_it_is, in_quotes, IsWrittenLine, ReadsAsLines, listing_words}
 use Rattle.nutwords.specs.declared.limits.TheConstants.{LINE_ROOM}
 use Rattle.nutwords.proofs.FaultLemmas.{words_of-reads}
