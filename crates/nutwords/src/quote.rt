@@ -1,10 +1,10 @@
 //! The one written spelling of a word: in double quotes, with a backslash before each quote and backslash.
-ghost use Rattle.std.specs.Prelude.{◌≡◌, ◌+◌, ◌*◌, ◌≤◌, ◌<◌, ◌==◌, ◌||◌, [], ◌∷◌, ◌++◌, length, List, ℕ, IsTrue};
+ghost use Rattle.std.specs.Prelude.{◌≡◌, ◌+◌, ◌≤◌, ◌==◌, ◌||◌, [], ◌∷◌, ◌++◌, length, List, ℕ, IsTrue};
 ghost use Rattle.std.specs.List.{list_all};
 ghost use Rattle.nutwords.specs.Bytes.{is_lawful};
 ghost use Rattle.nutwords.specs.Grammar.{Reads, ReadsToBoundary};
 ghost use Rattle.arrayvec.specs.ArrayVec.{array_vec_len};
-ghost use Rattle.nutwords.specs.Spelling.{quoted, with_backslashes};
+ghost use Rattle.nutwords.specs.Spelling.{quoted};
 
 use crate::LINE_ROOM;
 use arrayvec::ArrayVec;
