@@ -127,12 +127,12 @@ IsCutInto-one text _ _ _ _ (overlong s k) (unfinished s' k') = absurd (omega (ar
 IsCutInto-one text _ _ _ _ (overlong s k) (overlong s' k') = (refl, refl)
 
 -- The lines, each with its LF, and the unfinished line are all of the text.
-pub IsCutInto-whole : (text rest : List ℕ) (lines : List (List ℕ)) (tail : Tail) → IsCutInto text lines tail → tail ≡ Unfinished rest → text ≡ flat_map (λ line. line ++ 10 ∷ []) lines ++ rest
+pub IsCutInto-whole : (text rest : List ℕ) (lines : List (List ℕ)) (tail : Tail) → IsCutInto text lines tail → tail ≡ Unfinished rest → text ≡ flat_map (λ whole. whole ++ 10 ∷ []) lines ++ rest
 IsCutInto-whole text rest _ tail (line {rest = behind} {first = first} {lines = lines} s k r) e =
     split_line-whole text first behind s
     ∙ ap (λ t. first ++ 10 ∷ t) (IsCutInto-whole behind rest lines tail r e)
-    ∙ sym (append_assoc first (10 ∷ []) (flat_map (λ line. line ++ 10 ∷ []) lines ++ rest))
-    ∙ sym (append_assoc (first ++ 10 ∷ []) (flat_map (λ line. line ++ 10 ∷ []) lines) rest)
+    ∙ sym (append_assoc first (10 ∷ []) (flat_map (λ whole. whole ++ 10 ∷ []) lines ++ rest))
+    ∙ sym (append_assoc (first ++ 10 ∷ []) (flat_map (λ whole. whole ++ 10 ∷ []) lines) rest)
 IsCutInto-whole text rest _ _ (unfinished s k) e = unfinished_is text rest e
   where
     unfinished_is : (a b : List ℕ) → Unfinished a ≡ Unfinished b → a ≡ b

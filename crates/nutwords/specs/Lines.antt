@@ -43,7 +43,7 @@ OneCutting = (text : List ℕ) (lines others : List (List ℕ)) (tail end : Tail
 
 -- The lines, each with its LF, and the unfinished line are all of the text.
 abbrev pub NoByteIsLost : Type 0
-NoByteIsLost = (text rest : List ℕ) (lines : List (List ℕ)) → IsCutInto text lines (Unfinished rest) → text ≡ flat_map (λ line. line ++ 10 ∷ []) lines ++ rest
+NoByteIsLost = (text rest : List ℕ) (lines : List (List ℕ)) → IsCutInto text lines (Unfinished rest) → text ≡ flat_map (λ whole. whole ++ 10 ∷ []) lines ++ rest
 
 -- The lines of whole lines with more behind them are these lines and those of what is behind.
 abbrev pub LinesAreJoined : Type 0

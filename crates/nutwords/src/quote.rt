@@ -44,6 +44,7 @@ pub fn quote_into(word: &[u8], line: &mut Line)
     line.push(b'"');
 }
 
+/// Whether the byte is written behind a backslash.
 fn needs_backslash(b: u8) -> bool
     ensures { result ≡ (b == 34) || (b == 92) }
 {
