@@ -20,7 +20,7 @@ plain_quotable b l h = go (is_lawful b) (eqb b 34) (eqb b 92) l h
     go false y z l h = cc
 
 -- each byte of the word is a unit of its spelling
-Units-with_backslashes : (word : List ℕ) → list_all is_lawful word ≡ true → Units is_quotable (with_backslashes word) word
+pub Units-with_backslashes : (word : List ℕ) → list_all is_lawful word ≡ true → Units is_quotable (with_backslashes word) word
 Units-with_backslashes [] h = none
 Units-with_backslashes (b ∷ word) h =
     let p = and_parts (is_lawful b) (list_all is_lawful word) h in

@@ -1,19 +1,20 @@
-//! The one written spelling of a word.
-ghost use Rattle.std.specs.Prelude.{◌≡◌, ◌+◌, ◌*◌, ◌≤◌, ◌<◌, ◌==◌, ◌||◌, [], ◌∷◌, ◌++◌, length, List, ℕ, IsTrue};
+//! The one written spelling of a word: in double quotes, with a backslash before each quote and backslash.
+ghost use Rattle.std.specs.Prelude.{◌≡◌, ◌+◌, ◌≤◌, ◌==◌, ◌||◌, [], ◌∷◌, ◌++◌, length, List, ℕ, IsTrue};
 ghost use Rattle.std.specs.List.{list_all};
 ghost use Rattle.nutwords.specs.Bytes.{is_lawful};
 ghost use Rattle.nutwords.specs.Grammar.{Reads, ReadsToBoundary};
 ghost use Rattle.arrayvec.specs.ArrayVec.{array_vec_len};
-ghost use Rattle.nutwords.specs.Spelling.{quoted, with_backslashes};
+ghost use Rattle.nutwords.specs.Spelling.{quoted};
 
+use crate::LINE_ROOM;
 use arrayvec::ArrayVec;
 
-/// A line without its LF.
-pub type Line = ArrayVec<u8, 1024>;
+/// A line, or what has come of one so far: there is room for 1,023 bytes and an LF.
+pub type Line = ArrayVec<u8, LINE_ROOM>;
 
-/// The length of the written spelling of the word.
+/// The length of the written spelling of the word, in bytes. The word is at most 1,024 bytes.
 pub fn quoted_len(word: &[u8]) -> usize
-    requires { length word.now ≤ 1024 }
+    requires { length word.now ≤ LINE_ROOM }
     ensures { result ≡ length (quoted word.now) }
 {
     let mut len = 2;
@@ -23,10 +24,11 @@ pub fn quoted_len(word: &[u8]) -> usize
     len
 }
 
-/// Appends the written spelling of the word to the line. The caller has seen that it fits, by `quoted_len`.
+/// Appends the written spelling of the word to the line (RFC 9271, section 4). The word is at most 1,024 bytes, and the
+/// caller has seen that the line has room for it, by `quoted_len`.
 pub fn quote_into(word: &[u8], line: &mut Line)
-    requires short { length word.now ≤ 1024 }
-    requires fits { array_vec_len line.old + length (quoted word.now) ≤ 1024 }
+    requires short { length word.now ≤ LINE_ROOM }
+    requires fits { array_vec_len line.old + length (quoted word.now) ≤ LINE_ROOM }
     ensures appends { line.new.items ≡ line.old.items ++ quoted word.now }
     // Behind nothing, or behind a line and one blank, the word is read again, where its bytes are lawful.
     ensures reads { (words : List (List ℕ)) → IsTrue (list_all is_lawful word.now)
@@ -42,6 +44,7 @@ pub fn quote_into(word: &[u8], line: &mut Line)
     line.push(b'"');
 }
 
+/// Whether the byte is written behind a backslash.
 fn needs_backslash(b: u8) -> bool
     ensures { result ≡ (b == 34) || (b == 92) }
 {
