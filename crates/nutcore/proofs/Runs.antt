@@ -5,10 +5,11 @@ use Rattle.nutcore.specs.declared.event.Event.{Event}
 use Rattle.nutcore.specs.declared.event.Outcome.{Outcome}
 use Rattle.nutcore.specs.Session.{SessionState, AreApart}
 use Rattle.nutcore.specs.Server.{ServerState, session}
-use Rattle.nutcore.specs.Headline.{IsLawful}
+use Rattle.nutcore.specs.Headline.{IsLawful, Serves}
 use Rattle.nutcore.specs.Step.{Step}
 use Rattle.nutcore.specs.Run.{Run}
 use Rattle.nutcore.proofs.Places.{apart_lawful}
+use Rattle.nutcore.proofs.Stepping.{run_sent, run_taken_up}
 
 -- a run goes on by one event
 pub run_push : (s m t : ServerState) (es : List Event) (os : List Outcome) (e : Event) (o : Outcome) → Run s es os m → Step m e o t → Run s (es ++ e ∷ []) (os ++ o ∷ []) t
@@ -24,3 +25,11 @@ lawful_by s c (Some x) e apart some = apart_lawful s.next_id c s.sessions apart 
 
 pub lawful : (s : ServerState) → AreApart s.next_id s.sessions → IsLawful s
 lawful s apart = λ c some. lawful_by s c (session c s) refl apart some
+
+-- one event, as a run of its own
+pub served : (s t : ServerState) (e : Event) (o : Outcome) → IsLawful s → Step s e o t → Serves s e o t
+served s t e o lawful step = record {
+  step = step;
+  sent_and_owed = λ c. run_sent s t (e ∷ []) (o ∷ []) lawful (t, step, refl) c;
+  taken_up = λ c. run_taken_up s t (e ∷ []) (o ∷ []) lawful (t, step, refl) c;
+}

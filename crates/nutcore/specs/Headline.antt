@@ -35,6 +35,12 @@ pub record TakenUp (c : ℕ) (old : ServerState) (events : List Event) (outcomes
   pub while_going : is_over c new ≡ false → held c old ++ asked c old events outcomes ≡ executed c old events outcomes ++ held c new
   pub once_over : is_over c new ≡ true → IsBeginning (executed c old events outcomes) (held c old ++ asked c old events outcomes)
 
+-- One event: what it leaves by its outcome, and the same of it alone as of a run.
+pub record Serves (old : ServerState) (event : Event) (outcome : Outcome) (new : ServerState) : Type 0 where
+  pub step : Step old event outcome new
+  pub sent_and_owed : (c : ℕ) → SentAndOwed c old (event ∷ []) (outcome ∷ []) new
+  pub taken_up : (c : ℕ) → TakenUp c old (event ∷ []) (outcome ∷ []) new
+
 -- In every run, of every client.
 abbrev pub WhatWasSentAndIsOwedIsTheAnswers : Type 0
 WhatWasSentAndIsOwedIsTheAnswers =

@@ -1,5 +1,5 @@
 //! The server: its UPSs, its sessions, and what each event does.
-ghost use Rattle.std.specs.Prelude.{◌≡◌, ◌≤◌, ◌<◌, ℕ, List, length, take, slice_get, IfOk, OnOk, OnErr, MatchOption, MatchResult, IsTrue, is_some, Some, None, true, false};
+ghost use Rattle.std.specs.Prelude.{◌≡◌, ◌≢◌, ◌≤◌, ◌<◌, ℕ, List, length, take, slice_get, IfOk, OnOk, OnErr, MatchOption, MatchResult, IsTrue, is_some, Some, None, true, false};
 ghost use Rattle.std.specs.Option.{option_map};
 ghost use Rattle.std.specs.Io.BufRead.{Rests};
 ghost use Rattle.std.specs.Borrow.{sem};
@@ -8,7 +8,7 @@ ghost use Rattle.nutcore.specs.Pump.{next_line_for, after_line, held_of, is_over
 ghost use Rattle.nutcore.specs.Step.{Step, with_input, without_output, offered, may_take, fed_by};
 ghost use Rattle.nutcore.specs.Run.{Run};
 ghost use Rattle.nutcore.specs.History.{owed};
-ghost use Rattle.nutcore.specs.Headline.{SentAndOwed, TakenUp};
+ghost use Rattle.nutcore.specs.Headline.{IsLawful, SentAndOwed, TakenUp, Serves};
 ghost use Rattle.nutcore.specs.Ups.{after_connecting, after_loss};
 ghost use Rattle.nutcore.specs.Calls.{fed, done, opened_as, is_finished, room_of, Reads};
 ghost use Rattle.nutcore.specs.Serving.{IsAt, PumpGives, RepliesBy, ListsBy, NextIs, IsListingOf, DriverFeedGives, is_connected};
@@ -104,7 +104,8 @@ impl Server {
 
     /// Where the session of this id stands.
     fn place_of(&self, c: ClientId) -> Option<usize>
-        ensures { MatchOption result (session c self.now ≡ None) (λ i. IsAt c i self.now.sessions) }
+        ensures place { MatchOption result (session c self.now ≡ None) (λ i. IsAt c i self.now.sessions) }
+        ensures lawful { IsLawful self.now }
     {
         for (i, session) in self.sessions.iter().enumerate() {
             if session.id() == c {
@@ -263,7 +264,8 @@ impl Server {
 
     /// Whether a driver is connected to the UPS, if there is such a UPS.
     fn connection(&self, u: UpsId) -> Option<bool>
-        ensures { result ≡ option_map is_connected (ups_at u.place self.now) }
+        ensures connected { result ≡ option_map is_connected (ups_at u.place self.now) }
+        ensures lawful { IsLawful self.now }
     {
         match self.upses.get(u.place as usize) {
             Some(ups) => Some(ups.is_connected()),
@@ -305,7 +307,8 @@ impl Server {
     ///
     /// `NoSuchUps` and `AlreadyConnected`, which change nothing.
     pub fn driver_up(&mut self, u: UpsId) -> Result<(), Fault>
-        ensures { Step self.old (Event.DriverUp u) (done result) self.new }
+        ensures served { Serves self.old (Event.DriverUp u) (done result) self.new }
+        ensures no_memory { (k : ℕ) → result ≢ Err (Fault.Memory k) }
     {
         match self.connection(u) {
             None => Err(Fault::NoSuchUps),
@@ -325,7 +328,7 @@ impl Server {
     /// `NoSuchUps` and `NotConnected`, which change nothing; `LineTooLong`, after the lines
     /// before; `Memory`, with how many lines of the call were done.
     pub fn driver_bytes(&mut self, u: UpsId, piece: &[u8]) -> Result<(), Fault>
-        ensures { Step self.old (Event.DriverBytes u piece.now) (done result) self.new }
+        ensures { Serves self.old (Event.DriverBytes u piece.now) (done result) self.new }
     {
         match self.connection(u) {
             None => Err(Fault::NoSuchUps),
@@ -340,7 +343,8 @@ impl Server {
     ///
     /// `NoSuchUps` and `NotConnected`, which change nothing.
     pub fn driver_down(&mut self, u: UpsId) -> Result<(), Fault>
-        ensures { Step self.old (Event.DriverDown u) (done result) self.new }
+        ensures served { Serves self.old (Event.DriverDown u) (done result) self.new }
+        ensures no_memory { (k : ℕ) → result ≢ Err (Fault.Memory k) }
     {
         match self.connection(u) {
             None => Err(Fault::NoSuchUps),
@@ -359,7 +363,7 @@ impl Server {
     ///
     /// `TooManyClients`, and `Memory(0)`; both change nothing.
     pub fn open(&mut self, address: Address) -> Result<ClientId, Fault>
-        ensures { Step self.old (Event.Open address) (opened_as result) self.new }
+        ensures { Serves self.old (Event.Open address) (opened_as result) self.new }
     {
         if self.sessions.len() >= SESSION_LIMIT || self.next_id == u64::MAX {
             return Err(Fault::TooManyClients);
@@ -399,7 +403,7 @@ impl Server {
     /// is ending. After `Memory(k)` k lines were executed, and the next one, a listing, stays held:
     /// it is tried again at the next call.
     pub fn feed(&mut self, c: ClientId, piece: &[u8]) -> Result<usize, Fault>
-        ensures { Step self.old (Event.Feed c piece.now) (fed result) self.new }
+        ensures { Serves self.old (Event.Feed c piece.now) (fed result) self.new }
     {
         let Some(place) = self.place_of(c) else {
             return Err(Fault::NoSuchClient);
@@ -436,7 +440,7 @@ impl Server {
     /// `NoSuchClient` and `TookTooMuch` change nothing. After `LineTooLong` and `Memory` the bytes
     /// are taken; else they leave what they leave at `feed`.
     pub fn took(&mut self, c: ClientId, n: usize) -> Result<(), Fault>
-        ensures { Step self.old (Event.Took c n) (done result) self.new }
+        ensures { Serves self.old (Event.Took c n) (done result) self.new }
     {
         let Some(place) = self.place_of(c) else {
             return Err(Fault::NoSuchClient);
@@ -469,7 +473,8 @@ impl Server {
     ///
     /// `NoSuchClient`, which changes nothing.
     pub fn close(&mut self, c: ClientId) -> Result<(), Fault>
-        ensures { Step self.old (Event.Close c) (done result) self.new }
+        ensures served { Serves self.old (Event.Close c) (done result) self.new }
+        ensures no_memory { (k : ℕ) → result ≢ Err (Fault.Memory k) }
     {
         let Some(place) = self.place_of(c) else {
             return Err(Fault::NoSuchClient);

@@ -1,15 +1,19 @@
 use Rattle.std.proofs.Common.{◌≡◌, ◌∙◌, sym, ap, Some, Bool, true, false}
 use Rattle.nutcore.proofs.DriverSteps.{is_there, not_there, there_within, up_absent, up_again, up_done}
+use Rattle.nutcore.proofs.Runs.{served}
 use Rattle.nutcore.proofs.server.Server.driver_up.Goals as goal
 
-pub returns-in-None : goal.returns-in-None
-returns-in-None c = up_absent c.args.self.now c.args.u (not_there c.args.self.now c.args.u (sym c.in-None.ensures))
+pub returns-in-None-clause-served : goal.returns-in-None-clause-served
+returns-in-None-clause-served c =
+    served _ _ _ _ c.connection.ensures.lawful (up_absent c.args.self.now c.args.u (not_there c.args.self.now c.args.u (sym c.in-None.ensures.connected)))
 
-pub returns-in-Some-true : goal.returns-in-Some-true
-returns-in-Some-true c = up_again c.args.self.now c.args.u (is_there c.args.self.now c.args.u true (sym c.in-Some-true.ensures ∙ ap (λ (b : Bool). Some b) c.in-Some-true.field-0-test))
+pub returns-in-Some-true-clause-served : goal.returns-in-Some-true-clause-served
+returns-in-Some-true-clause-served c =
+    served _ _ _ _ c.connection.ensures.lawful (up_again c.args.self.now c.args.u (is_there c.args.self.now c.args.u true (sym c.in-Some-true.ensures.connected ∙ ap (λ (b : Bool). Some b) c.in-Some-true.field-0-test)))
 
 pub connect-requires : goal.connect-requires
-connect-requires c = there_within c.args.self.now c.args.u false (is_there c.args.self.now c.args.u false (sym c.in-Some-false.ensures ∙ ap (λ (b : Bool). Some b) c.in-Some-false.field-0-test))
+connect-requires c = there_within c.args.self.now c.args.u false (is_there c.args.self.now c.args.u false (sym c.in-Some-false.ensures.connected ∙ ap (λ (b : Bool). Some b) c.in-Some-false.field-0-test))
 
-pub returns-in-Some-false : goal.returns-in-Some-false
-returns-in-Some-false c = up_done c.args.self.now c.connect.new.self c.args.u (is_there c.args.self.now c.args.u false (sym c.in-Some-false.ensures ∙ ap (λ (b : Bool). Some b) c.in-Some-false.field-0-test)) c.connect.ensures
+pub returns-in-Some-false-clause-served : goal.returns-in-Some-false-clause-served
+returns-in-Some-false-clause-served c =
+    served _ _ _ _ c.connection.ensures.lawful (up_done c.args.self.now c.connect.new.self c.args.u (is_there c.args.self.now c.args.u false (sym c.in-Some-false.ensures.connected ∙ ap (λ (b : Bool). Some b) c.in-Some-false.field-0-test)) c.connect.ensures)

@@ -10,7 +10,7 @@ use Rattle.nutcore.proofs.server.Server.offer.Goals as goal
 pub returns : goal.returns
 returns c =
     let v : ServerState = the_view c.self.inside in
-    let found : session c.args.c v ≡ Some c.index-session.result.now = found_at c.args.c c.in-Some.place v.sessions c.index-session.result.now c.in-Some.ensures c.index-session.ensures in (
+    let found : session c.args.c v ≡ Some c.index-session.result.now = found_at c.args.c c.in-Some.place v.sessions c.index-session.result.now c.in-Some.ensures.place c.index-session.ensures in (
       (refl, λ x. tt, c.self.view_is),
       record {
         bytes = (ap (λ (s : ServerState). is_some (session c.args.c s)) (sym c.self.view_is) ∙ ap is_some found, c.offer.ensures ∙ sym (ap (λ (o : Option SessionState). take 4096 (owed_of o)) found) ∙ ap (λ (s : ServerState). take 4096 (owed_of (session c.args.c s))) c.self.view_is);

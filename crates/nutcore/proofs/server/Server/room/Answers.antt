@@ -8,5 +8,5 @@ use Rattle.nutcore.proofs.server.Server.room.Goals as goal
 
 pub returns : goal.returns
 returns c =
-    let found : session c.args.c c.args.self.now ≡ Some c.index-session.result.now = found_in c.args.c c.in-Some.place (the_view c.self.inside) c.args.self.now c.index-session.result.now c.self.view_is c.in-Some.ensures c.index-session.ensures in
+    let found : session c.args.c c.args.self.now ≡ Some c.index-session.result.now = found_in c.args.c c.in-Some.place (the_view c.self.inside) c.args.self.now c.index-session.result.now c.self.view_is c.in-Some.ensures.place c.index-session.ensures in
     subst (λ (o : Option SessionState). Reads room_of o (Ok c.room.result)) (sym found) (ap Ok c.room.ensures)

@@ -1,0 +1,15 @@
+use Rattle.std.proofs.Common.{◌≡◌, ◌∙◌, Option, Some, None, sym, ap, subst, List}
+use Rattle.std.specs.Prelude.{slice_get}
+use Rattle.std.specs.Option.{option_map}
+use Rattle.nutcore.specs.Session.{AreApart}
+use Rattle.nutcore.specs.Ups.{UpsState}
+use Rattle.nutcore.specs.Server.{ServerState}
+use Rattle.nutcore.specs.Serving.{is_connected}
+use Rattle.nutcore.proofs.Runs.{lawful}
+use Rattle.nutcore.proofs.server.Server.connection.Goals as goal
+
+pub returns-in-Some-clause-lawful : goal.returns-in-Some-clause-lawful
+returns-in-Some-clause-lawful c = lawful c.args.self.now (subst (λ (z : ServerState). AreApart z.next_id z.sessions) c.self.view_is c.self.invariant.apart)
+
+pub returns-in-None-clause-lawful : goal.returns-in-None-clause-lawful
+returns-in-None-clause-lawful c = lawful c.args.self.now (subst (λ (z : ServerState). AreApart z.next_id z.sessions) c.self.view_is c.self.invariant.apart)
