@@ -1,9 +1,9 @@
 -- The driver's lines, one by one.
-use Rattle.std.proofs.Common.{◌≡◌, ℕ, zero, suc, ◌+◌, ◌-◌, ◌<◌, ◌≤◌, Bool, true, false, eqb, cond, List, [], ◌∷◌, ◌++◌, Option, Some, None, Result, Ok, Err, refl, sym, ◌∙◌, ap, subst, arith, length, take, drop, zero-add, length-append, length-take, length-drop}
+use Rattle.std.proofs.Common.{◌≡◌, ℕ, zero, suc, ◌+◌, ◌-◌, ◌<◌, ◌≤◌, Bool, true, false, eqb, cond, List, [], ◌∷◌, ◌++◌, Option, Some, None, Result, Ok, Err, refl, sym, ◌∙◌, ap, arith, length, take, drop, zero-add, length-append, length-take, length-drop}
 use Rattle.std.proofs.lemmas.Bool.{le-leb, lt-leb}
 use Rattle.std.proofs.lemmas.List.{take_all}
 use Rattle.std.specs.Option.{option_map}
-use Rattle.std.specs.Prelude.{OnOk, OnErr, is_err}
+use Rattle.std.specs.Prelude.{OnOk, is_err}
 use Rattle.nutwords.specs.SplitLine.{split_line}
 use Rattle.nutwords.proofs.Lines.{with_front, split_line-append}
 use Rattle.nutwords.specs.Cut.{Cuts}
@@ -18,7 +18,7 @@ use Rattle.nutcore.specs.Lines.{first_line, behind}
 use Rattle.nutcore.specs.Tree.{Tree}
 use Rattle.nutcore.specs.DriverLine.{read_driver_line}
 use Rattle.nutcore.specs.DriverStep.{driver_step}
-use Rattle.nutcore.specs.Ups.{UpsState, after_effect, after_step, after_reading, after_text, next_driver_line, after_driver_line, after_driver_line_of, after_driver_lines, after_all_driver_lines, is_driver_overlong, with_bytes, after_loss}
+use Rattle.nutcore.specs.Ups.{UpsState, after_effect, after_step, after_reading, after_text, next_driver_line, after_driver_line, after_driver_line_of, after_driver_lines, after_all_driver_lines, with_bytes}
 use Rattle.nutcore.specs.Leaf.{CutsLine}
 use Rattle.nutcore.proofs.FirstLine.{with_byte, split_is, behind_is, behind_shorter}
 
@@ -152,11 +152,7 @@ goes_on k moment used start x y z rest line done next cut text =
     ∙ ap (after_driver_line moment) done
     ∙ sym (driver_lines-suc k moment start)
 
--- what holds of a call that went well, and of one that didn't
+-- what holds of a call that went well
 pub ok_when : {T E : Type 0} (r : Result T E) (P : Type 0) → is_err r ≡ false → OnOk r P → P
 ok_when (Ok v) P h p = p
 ok_when (Err e) P h p = cc
-
-pub err_when : {T E : Type 0} (r : Result T E) (P : Type 0) → is_err r ≡ true → OnErr r P → P
-err_when (Ok v) P h p = cc
-err_when (Err e) P h p = p

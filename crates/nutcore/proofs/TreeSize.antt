@@ -1,5 +1,5 @@
 -- How many variables a tree has after one was set.
-use Rattle.std.proofs.Common.{◌≡◌, ◌≤◌, ◌+◌, ℕ, Bool, true, false, cond, List, length, Option, Some, None, Result, Ok, Err, refl, sym, ◌∙◌, ap, arith, nat_le}
+use Rattle.std.proofs.Common.{◌≡◌, ◌≤◌, ◌+◌, ℕ, false, cond, List, length, Option, Some, None, Result, Ok, Err, ap, arith, nat_le}
 use Rattle.std.proofs.lemmas.Grind.{common_steps}
 use Rattle.std.specs.Prelude.{is_some, is_none, ◌&&◌, IfOk, OnErr}
 use Rattle.std.proofs.lemmas.Bool.Decides.{nat_tests}

@@ -15,7 +15,10 @@ use nutwords::{Cut, LineCut};
 use std::alloc::{AllocError, Global};
 use std::marker::Model;
 
-/// A UPS. Moments are in seconds. What it is still to send to its driver has at most 2,048 bytes.
+/// The most bytes that a driver is still to be sent.
+const DRIVER_OWED_LIMIT: usize = 2048;
+
+/// A UPS. Moments are in seconds.
 #[derive(Drop)]
 pub(crate) struct Ups {
     connected: bool,
@@ -25,7 +28,7 @@ pub(crate) struct Ups {
     pinged: u64,
     fsd: bool,
     tree: Tree,
-    owed: ArrayVec<u8, 2048>,
+    owed: ArrayVec<u8, DRIVER_OWED_LIMIT>,
     cut: LineCut,
     faulty: u64,
 }
@@ -101,15 +104,11 @@ impl Ups {
     pub(crate) fn connect(&mut self, moment: u64)
         ensures { self.new ≡ after_connecting moment self.old }
     {
+        self.disconnect();
         self.connected = true;
-        self.dumped = false;
-        self.ok = false;
         self.heard = moment;
         self.pinged = moment;
-        self.tree.clear();
-        self.owed.clear();
         self.owed.try_extend_from_slice(b"DUMPALL\n").unwrap();
-        self.cut = LineCut::new();
     }
 
     /// Its driver is lost, and what it told with it. Takes no memory.

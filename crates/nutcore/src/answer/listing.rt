@@ -12,6 +12,9 @@ use std::alloc::{AllocError, Global};
 /// The most bytes of a value as clients see it: a whole value behind `FSD `.
 const SHOWN_LIMIT: usize = 260;
 
+/// The most bytes of a variable's line before its value: `VAR`, two names, a blank behind each.
+const FRONT_LIMIT: usize = 102;
+
 /// Joins the listing of the UPS's variables to what is owed. Room for all of it is made before
 /// its first byte is written, so that without memory nothing changes.
 pub(crate) fn write_variables(
@@ -68,7 +71,7 @@ fn variable_line(ups: &UpsName, fsd: bool, name: &Name, variable: &Variable) -> 
 /// The line of a variable as far as its value.
 fn variable_front(ups: &UpsName, name: &Name) -> Line
     ensures items { result.items ≡ codes "VAR " ++ (ups.now ++ 32 ∷ (name.now ++ 32 ∷ [])) }
-    ensures short { length result.items ≤ 102 }
+    ensures short { length result.items ≤ FRONT_LIMIT }
 {
     let mut front = ArrayVec::new();
     front.try_extend_from_slice(b"VAR ").unwrap();

@@ -1,4 +1,4 @@
-use Rattle.std.proofs.Common.{◌≡◌, ◌++◌, [], ◌∙◌}
+use Rattle.std.proofs.Common.{◌∙◌}
 use Rattle.nutcore.proofs.Listings.{listing_is}
 use Rattle.nutcore.proofs.answer.listing.variable_listing.Goals as goal
 

@@ -1,5 +1,5 @@
-use Rattle.std.proofs.Common.{◌≡◌, ◌<◌, ◌≤◌, ◌+◌, ◌++◌, ◌∙◌, ℕ, Some, None, sym, ap, subst, length, drop, arith, length-append, length-drop}
-use Rattle.nutcore.specs.Ups.{UpsState, with_bytes, after_text, after_driver_lines, next_driver_line, after_loss, after_all_driver_lines, is_driver_overlong}
+use Rattle.std.proofs.Common.{◌≡◌, ◌≤◌, ◌∙◌, sym, ap, length, arith, length-append, length-drop}
+use Rattle.nutcore.specs.Ups.{UpsState, with_bytes, after_text, after_loss, is_driver_overlong}
 use Rattle.nutcore.proofs.DriverLoops.{begins, goes_on, next_short, all_driver_lines_are, ok_when}
 use Rattle.nutcore.proofs.ups.Ups.read_lines.Goals as goal
 

@@ -1,4 +1,4 @@
-use Rattle.std.proofs.Common.{◌≡◌, ◌∙◌, sym, ap, subst, false}
+use Rattle.std.proofs.Common.{◌≡◌, ◌∙◌, sym, ap, false}
 use Rattle.nutcore.specs.Tree.{Tree, is_full}
 use Rattle.nutcore.proofs.TreeSize.{still_few}
 use Rattle.nutcore.proofs.driver.tree.Tree.set.Goals as goal
