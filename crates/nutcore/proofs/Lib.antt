@@ -16,3 +16,4 @@ mod Runs
 mod Named
 mod DriverSteps
 mod Listings
+mod Examples

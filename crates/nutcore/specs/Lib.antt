@@ -16,3 +16,4 @@ pub mod History
 pub mod Headline
 pub mod Calls
 pub mod Serving
+pub mod Examples

@@ -3,6 +3,8 @@
 
 ghost use Rattle.nutcore.specs.Headline.{WhatWasSentAndIsOwedIsTheAnswers, WhatWasAskedIsExecutedOrHeld, EachAnswerIsTimely, AListingIsWhatIsHeld, ARefusedLineChangesNothing, ThePumpExecutesTheLeast, EachEventIsAFunction};
 
+ghost use Rattle.nutcore.specs.Examples.{TwoVariables, EmptyListing, TakenInFour, LongestLine, ThreeLines};
+
 mod answer;
 mod bytes;
 mod driver;
@@ -73,3 +75,13 @@ pub fn the_pump_executes_the_least()
 pub fn each_event_is_a_function()
     ensures { EachEventIsAFunction }
 {}
+
+/// Sessions worked out by hand are what the definitions give.
+pub fn sessions_worked_by_hand()
+    ensures two_variables { TwoVariables }
+    ensures empty_listing { EmptyListing }
+    ensures taken_in_four { TakenInFour }
+    ensures longest_line { LongestLine }
+    ensures three_lines { ThreeLines }
+{
+}
