@@ -2,7 +2,6 @@
 #![tactic(auto)]
 
 ghost use Rattle.nutcore.specs.Headline.{WhatWasSentAndIsOwedIsTheAnswers, WhatWasAskedIsExecutedOrHeld, EachAnswerIsTimely, AListingIsWhatIsHeld, ARefusedLineChangesNothing, ThePumpExecutesTheLeast, EachEventIsAFunction};
-
 ghost use Rattle.nutcore.specs.Examples.{TwoVariables, EmptyListing, TakenInFour, LongestLine, ThreeLines};
 
 mod answer;
@@ -14,6 +13,8 @@ mod lines;
 mod server;
 mod session;
 mod spelling;
+#[cfg(test)]
+mod tests;
 mod ups;
 
 pub use bytes::Bytes;
@@ -83,5 +84,4 @@ pub fn sessions_worked_by_hand()
     ensures taken_in_four { TakenInFour }
     ensures longest_line { LongestLine }
     ensures three_lines { ThreeLines }
-{
-}
+{}

@@ -1,5 +1,5 @@
 //! The server: its UPSs, its sessions, and what each event does.
-ghost use Rattle.std.specs.Prelude.{◌≡◌, ◌≢◌, ◌≤◌, ◌<◌, ℕ, List, length, take, slice_get, IfOk, OnOk, OnErr, MatchOption, MatchResult, IsTrue, is_some, Some, None, true, false};
+ghost use Rattle.std.specs.Prelude.{◌≡◌, ◌≢◌, ◌≤◌, ◌<◌, ℕ, List, length, take, slice_get, IfOk, OnOk, OnErr, MatchOption, MatchResult, IsTrue, vec_len, is_some, Some, None, true, false};
 ghost use Rattle.std.specs.Option.{option_map};
 ghost use Rattle.std.specs.Io.BufRead.{Rests};
 ghost use Rattle.std.specs.Borrow.{sem};
@@ -525,6 +525,7 @@ impl Server {
         ensures run { IfOk result (λ outcomes. Run self.old events.now outcomes.items self.new) }
         ensures sent_and_owed { IfOk result (λ outcomes. (c : ℕ) → SentAndOwed c self.old events.now outcomes.items self.new) }
         ensures taken_up { IfOk result (λ outcomes. (c : ℕ) → TakenUp c self.old events.now outcomes.items self.new) }
+        ensures outcomes { IfOk result (λ outcomes. vec_len outcomes ≡ length events.now) }
         ensures err { OnErr result (self.new ≡ self.old) }
     {
         let mut outcomes = Vec::with_capacity(self.alloc, events.len())?;

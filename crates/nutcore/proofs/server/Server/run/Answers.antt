@@ -19,6 +19,7 @@ loop-event-preserved c =
       run = subst (λ (es : List Event). Run c.args.self.now es c.push.new.self.items c.step-outcome.new.self) (sym events)
           (subst (λ (os : List Outcome). Run c.args.self.now (take i c.args.events.now ++ c.event-item.result ∷ []) os c.step-outcome.new.self) (sym outcomes)
           (run_push c.args.self.now c.loop-event.self c.step-outcome.new.self (take i c.args.events.now) c.loop-event.outcomes.items c.event-item.result c.step-outcome.result c.loop-event.invariant.run c.step-outcome.ensures));
+      answered = omega (arith, c.loop-event.invariant.answered, c.loop-event.invariant.room, c.push.ensures.upper_bound, c.push.ensures.lower_bound, ap length outcomes);
       room = omega (arith, c.loop-event.invariant.room, c.push.ensures.upper_bound, c.push.ensures.capacity);
     }
 

@@ -6,5 +6,6 @@ use Rattle.nutcore.proofs.server.Server.run.Given as goal
 abbrev pub invariant-loop-event : goal.invariant-loop-event
 invariant-loop-event l = record {
   run : Run l.fn.self (take l.event-index l.events) l.outcomes.items l.self;
+  answered : vec_len l.outcomes ≡ l.event-index;
   room : vec_len l.outcomes + (length l.events - l.event-index) ≤ vec_capacity l.outcomes;
 }
