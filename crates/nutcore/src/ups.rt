@@ -1,6 +1,5 @@
 //! A UPS as the server keeps it: its driver's connection, and what the driver told.
-ghost use Rattle.std.specs.Prelude.{◌≡◌, ◌≤◌, ◌<◌, length, drop, true, false, IfOk, IfErr, OnOk, OnErr, Ok};
-ghost use Rattle.nutwords.specs.Cut.{Cuts};
+ghost use Rattle.std.specs.Prelude.{◌≡◌, ◌≤◌, length, drop, true, IfOk, IfErr, OnOk, OnErr, Ok};
 ghost use Rattle.nutcore.specs.DriverLine.{read_driver_line};
 ghost use Rattle.nutcore.specs.DriverStep.{driver_step};
 ghost use Rattle.nutcore.specs.Ups.{new_ups, after_connecting, after_loss, after_effect, after_reading, after_text, with_faulty_line, with_bytes, readiness, changes_tree_by, changes_tree_read};
