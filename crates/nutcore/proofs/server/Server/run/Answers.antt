@@ -1,4 +1,4 @@
-use Rattle.std.proofs.Common.{◌≡◌, ◌+◌, ◌<◌, ◌∙◌, ◌++◌, ◌∷◌, [], List, sym, ap, subst, length, take, arith}
+use Rattle.std.proofs.Common.{◌≡◌, ◌+◌, ◌<◌, ◌∙◌, ◌++◌, ◌∷◌, [], List, sym, ap, subst, length, take, arith, vec_len}
 use Rattle.std.proofs.lemmas.List.{take_more, take_all}
 use Rattle.nutcore.specs.declared.event.Event.{Event}
 use Rattle.nutcore.specs.declared.event.Outcome.{Outcome}
@@ -19,7 +19,7 @@ loop-event-preserved c =
       run = subst (λ (es : List Event). Run c.args.self.now es c.push.new.self.items c.step-outcome.new.self) (sym events)
           (subst (λ (os : List Outcome). Run c.args.self.now (take i c.args.events.now ++ c.event-item.result ∷ []) os c.step-outcome.new.self) (sym outcomes)
           (run_push c.args.self.now c.loop-event.self c.step-outcome.new.self (take i c.args.events.now) c.loop-event.outcomes.items c.event-item.result c.step-outcome.result c.loop-event.invariant.run c.step-outcome.ensures));
-      answered = omega (arith, c.loop-event.invariant.answered, c.loop-event.invariant.room, c.push.ensures.upper_bound, c.push.ensures.lower_bound, ap length outcomes);
+      answered = let added : vec_len c.push.new.self ≡ vec_len c.loop-event.outcomes + 1 = rw c.unwrap.ensures at c.push.ensures.len in omega (arith, c.loop-event.invariant.answered, added);
       room = omega (arith, c.loop-event.invariant.room, c.push.ensures.upper_bound, c.push.ensures.capacity);
     }
 
