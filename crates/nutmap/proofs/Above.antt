@@ -1,34 +1,47 @@
--- The first entry above a key, around a place.
-use Rattle.std.proofs.Common.{◌≡◌, Bool, true, false, cond, List, [], ◌∷◌, ◌++◌, Some, None, Option, refl, ◌∙◌}
+-- The first entry above a key, double_rotation a place.
+use Rattle.std.proofs.Common.{◌≡◌, Bool, true, false, cond, List, [], ◌∷◌, ◌++◌, Some, None, Option, refl, ap, ◌∙◌}
 use Rattle.std.specs.declared.cmp.Ordering.{Ordering}
 use Rattle.std.specs.declared.cmp.Ordering.TheVariants.{Less, Equal, Greater}
 use Rattle.std.specs.Ordering.{is_lt}
 use Rattle.std.specs.Cmp.{IsTotalOrder}
 use Rattle.std.specs.List.Sorted.{IsStrictlySortedBy}
+use Rattle.std.specs.List.{filter}
 use Rattle.std.specs.Map.{keys_of}
-use Rattle.nutmap.specs.Entries.{first_above}
+use Rattle.nutmap.specs.Entries.{first_entry}
 use Rattle.nutmap.proofs.Ordered.{AllKeys, all_keys_map, IsPast, past_left, past_left_equal}
 
 module _ {K V : Type 0} (c : K → Ordering) where
-  some_cases : (b : Bool) (e x : K × V) (o p : Option (K × V)) → (o ≡ Some x → p ≡ Some x) → cond b (Some e) o ≡ Some x → cond b (Some e) p ≡ Some x
-  some_cases true e x o p h s = s
-  some_cases false e x o p h s = h s
+  -- the entries above what c compares, and the first of them
+  abbrev pub above : List (K × V) → List (K × V)
+  above es = filter (λ e. is_lt (c e.0)) es
 
-  pub above_some : (l m : List (K × V)) (x : K × V) → first_above c l ≡ Some x → first_above c (l ++ m) ≡ Some x
+  abbrev pub first_above : List (K × V) → Option (K × V)
+  first_above es = first_entry (above es)
+
+  some_cases : (b : Bool) (e x : K × V) (f g : List (K × V)) → (first_entry f ≡ Some x → first_entry g ≡ Some x) → first_entry (cond b (e ∷ f) f) ≡ Some x → first_entry (cond b (e ∷ g) g) ≡ Some x
+  some_cases true e x f g h s = s
+  some_cases false e x f g h s = h s
+
+  pub above_some : (l m : List (K × V)) (x : K × V) → first_above l ≡ Some x → first_above (l ++ m) ≡ Some x
   above_some [] m x s = absurd (cc)
-  above_some (e ∷ l) m x s = some_cases (is_lt (c e.0)) e x (first_above c l) (first_above c (l ++ m)) (above_some l m x) s
+  above_some (e ∷ l) m x s = some_cases (is_lt (c e.0)) e x (above l) (above (l ++ m)) (above_some l m x) s
 
-  none_cases : (b : Bool) (e : K × V) (o p q : Option (K × V)) → (o ≡ None → p ≡ q) → cond b (Some e) o ≡ None → cond b (Some e) p ≡ q
-  none_cases true e o p q h s = absurd (cc)
-  none_cases false e o p q h s = h s
+  none_cases : (b : Bool) (e : K × V) (f g h : List (K × V)) → (first_entry f ≡ None → first_entry g ≡ first_entry h) → first_entry (cond b (e ∷ f) f) ≡ None → first_entry (cond b (e ∷ g) g) ≡ first_entry h
+  none_cases true e f g h t s = absurd (cc)
+  none_cases false e f g h t s = t s
 
-  pub above_none : (l m : List (K × V)) → first_above c l ≡ None → first_above c (l ++ m) ≡ first_above c m
+  pub above_none : (l m : List (K × V)) → first_above l ≡ None → first_above (l ++ m) ≡ first_above m
   above_none [] m s = refl
-  above_none (e ∷ l) m s = none_cases (is_lt (c e.0)) e (first_above c l) (first_above c (l ++ m)) (first_above c m) (above_none l m) s
+  above_none (e ∷ l) m s = none_cases (is_lt (c e.0)) e (above l) (above (l ++ m)) (above m) (above_none l m) s
 
-  pub above_past : (l m : List (K × V)) → AllKeys (λ k. is_lt (c k) ≡ false) l → first_above c (l ++ m) ≡ first_above c m
+  pub above_past : (l m : List (K × V)) → AllKeys (λ k. is_lt (c k) ≡ false) l → first_above (l ++ m) ≡ first_above m
   above_past [] m a = refl
   above_past (e ∷ l) m a = rw a.0 (above_past l m a.1)
+
+  -- all of them where each key is above
+  pub above_all : (es : List (K × V)) → AllKeys (λ k. c k ≡ Less) es → above es ≡ es
+  above_all [] a = refl
+  above_all (e ∷ es) a = rw a.0 (ap (λ (l : List (K × V)). e ∷ l) (above_all es a.1))
 
 module _ {K V : Type 0} {R : K → K → Ordering} (o : IsTotalOrder R) (q : K) (l : List (K × V)) (k : K) (w : V) (r : List (K × V)) (s : IsStrictlySortedBy R (keys_of (l ++ (k, w) ∷ r))) where
   not_lt : (l : List (K × V)) → IsPast R q l → AllKeys (λ k. is_lt (R q k) ≡ false) l

@@ -44,9 +44,12 @@ module _ {K V : Type 0} {R : K → K → Ordering} (o : IsTotalOrder R) where
       apart Equal Greater p r = refl
       apart Equal Equal p r = absurd (cc (p, r, h, o.congr q e.0 k p, less_from_greater o k e.0 h))
 
-  value_at-insert : (es : List (K × V)) (k : K) (v : V) (q : K) → value_at R (insert_entry R es k v) q ≡ cond (is_eq (R q k)) (Some v) (value_at R es q)
+  pub value_at-insert : (es : List (K × V)) (k : K) (v : V) (q : K) → value_at R (insert_entry R es k v) q ≡ cond (is_eq (R q k)) (Some v) (value_at R es q)
   value_at-insert [] k v q = refl
   value_at-insert (e ∷ es) k v q = insert_cases (R k e.0) k q v e es (insert_entry R es k v) refl (value_at-insert es k v q)
+
+  pub value_at-remove : (es : List (K × V)) → HasRisingKeys R es → (k q : K) → value_at R (remove_entry (is_at (R k)) es) q ≡ cond (is_eq (R k q)) None (value_at R es q)
+  value_at-remove es s k q = lookup-remove_entry (eq_by_cmp_equiv o) (is_at (R k)) (λ x y h. ap is_eq (o.congr k x y (equal_when (R k x) h))) q es (IsDistinct-from_sorted R (keys_of es) s.rising)
 
   -- the finite map after an insertion, and after a removal
   pub from_entries-insert : IsAntisymmetric R → (es : List (K × V)) (k : K) (v : V) → map.from_entries {R = R} (insert_entry R es k v) ≡ map.insert (map.from_entries es) k v
@@ -57,7 +60,7 @@ module _ {K V : Type 0} {R : K → K → Ordering} (o : IsTotalOrder R) where
   pub from_entries-remove : IsAntisymmetric R → (es : List (K × V)) → HasRisingKeys R es → (k : K) → map.from_entries {R = R} (remove_entry (is_at (R k)) es) ≡ map.remove (map.from_entries es) k
   from_entries-remove a es s k = map.same_map o a _ _ (λ q.
       get_value (remove_entry (is_at (R k)) es) q
-      ∙ lookup-remove_entry (eq_by_cmp_equiv o) (is_at (R k)) (λ x y h. ap is_eq (o.congr k x y (equal_when (R k x) h))) q es (IsDistinct-from_sorted R (keys_of es) s.rising)
+      ∙ value_at-remove es s k q
       ∙ ap (λ (x : Option V). cond (is_eq (R k q)) None x) (sym (get_value es q))
       ∙ ap (λ b. cond b None (map.get (map.from_entries {R = R} es) q)) ((eq_by_cmp_equiv o).symm k q)
       ∙ sym (map.get-remove o (map.from_entries es) k q))

@@ -1,4 +1,4 @@
--- Entries in the order R around a place: what look-ups and edits do on either side of it.
+-- Entries in the order R double_rotation a place: what look-ups and edits do on either side of it.
 use Rattle.std.proofs.Common.{◌≡◌, Bool, true, false, cond, List, [], ◌∷◌, ◌++◌, Some, None, refl, ap, ◌∙◌}
 use Rattle.std.specs.declared.cmp.Ordering.{Ordering}
 use Rattle.std.specs.declared.cmp.Ordering.TheVariants.{Less, Equal, Greater}
@@ -8,7 +8,7 @@ use Rattle.std.specs.List.{AllByRecursion}
 use Rattle.std.specs.List.Sorted.{IsStrictlySortedBy}
 use Rattle.std.specs.Map.{keys_of, lookup, remove_entry}
 use Rattle.std.specs.BTreeMap.{insert_entry, is_at}
-use Rattle.nutmap.specs.Tree.{IsRising}
+use Rattle.nutmap.specs.Entries.{HasRisingKeys}
 
 -- what holds of each key
 abbrev pub AllKeys : {K V : Type 0} → (K → Type 0) → List (K × V) → Type 0
@@ -201,11 +201,11 @@ module _ {K V : Type 0} {R : K → K → Ordering} (o : IsTotalOrder R) where
   rising-insert_entry q v (e ∷ es) s = rising_insert_cases q v e es (R q e.0) refl s (rising-insert_entry q v es (rising_tail R e es s))
 
   -- ---- the same as records
-  pub keys_stay_rising : (q : K) (v : V) (es : List (K × V)) → IsRising R es → IsRising R (insert_entry R es q v)
+  pub keys_stay_rising : (q : K) (v : V) (es : List (K × V)) → HasRisingKeys R es → HasRisingKeys R (insert_entry R es q v)
   keys_stay_rising q v es s = record { rising = rising-insert_entry q v es s.rising }
 
-  pub rest_stays_rising : (test : K → Bool) (es : List (K × V)) → IsRising R es → IsRising R (remove_entry test es)
+  pub rest_stays_rising : (test : K → Bool) (es : List (K × V)) → HasRisingKeys R es → HasRisingKeys R (remove_entry test es)
   rest_stays_rising test es s = record { rising = rising-remove_entry R test es s.rising }
 
-pub one_rises : {K V : Type 0} (R : K → K → Ordering) (e : K × V) → IsRising R (e ∷ [])
+pub one_rises : {K V : Type 0} (R : K → K → Ordering) (e : K × V) → HasRisingKeys R (e ∷ [])
 one_rises R e = record { rising = rising_one R e }

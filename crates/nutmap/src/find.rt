@@ -1,7 +1,7 @@
 //! Looking for an entry in a tree.
-ghost use Rattle.std.specs.Prelude.{◌≡◌};
+ghost use Rattle.std.specs.Prelude.{◌≡◌, None, Some};
 ghost use Rattle.std.specs.Option.{option_copied, option_map};
-ghost use Rattle.nutmap.specs.Entries.{value_at, first_entry, first_above};
+ghost use Rattle.nutmap.specs.Entries.{value_at, entry_after};
 ghost use Rattle.nutmap.specs.Tree.{entries_of};
 
 use crate::tree::Node;
@@ -28,7 +28,7 @@ pub(crate) fn value<'a, K: Ord + Drop, V: Drop>(
 
 /// The entry with the least key.
 pub(crate) fn first<K: Ord + Drop, V: Drop>(link: &Option<Rc<Node<K, V>>>) -> Option<(&K, &V)>
-    ensures { option_map (λ e. (e.0.now, e.1.now)) result ≡ first_entry (entries_of link.now) }
+    ensures { option_map (λ e. (e.0.now, e.1.now)) result ≡ entry_after K.cmp (entries_of link.now) None }
 {
     let Some(node) = link else {
         return None;
@@ -45,7 +45,7 @@ pub(crate) fn above<'a, K: Ord + Drop, V: Drop>(
     link: &'a Option<Rc<Node<K, V>>>,
     key: &K,
 ) -> Option<(&'a K, &'a V)>
-    ensures { option_map (λ e. (e.0.now, e.1.now)) result ≡ first_above (K.cmp key.now) (entries_of link.now) }
+    ensures { option_map (λ e. (e.0.now, e.1.now)) result ≡ entry_after K.cmp (entries_of link.now) (Some key.now) }
 {
     let Some(node) = link else {
         return None;

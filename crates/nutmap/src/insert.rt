@@ -1,9 +1,10 @@
 //! Adding an entry to a tree, which makes a new path to it.
-ghost use Rattle.std.specs.Prelude.{◌≡◌, ◌+◌, ◌*◌, ◌-◌, ◌^◌, ◌<◌, ◌≤◌, min, IfOk, OnOk};
+ghost use Rattle.std.specs.Prelude.{◌≡◌, ◌+◌, ◌*◌, ◌<◌, ◌≤◌, IfOk, OnOk};
 ghost use Rattle.std.specs.Option.{option_map};
 ghost use Rattle.std.specs.BTreeMap.{insert_entry};
 ghost use Rattle.nutmap.specs.Entries.{value_at};
-ghost use Rattle.nutmap.specs.Tree.{entries_of, height_of};
+ghost use Rattle.nutmap.specs.Meter.{counted_up};
+ghost use Rattle.nutmap.specs.Tree.{entries_of, height_of, greatest_height};
 
 use crate::meter::Meter;
 use crate::tree::{Node, balance, make_node, shared};
@@ -17,6 +18,7 @@ pub(crate) struct Inserted<K: Ord + Drop, V: Drop> {
     pub(crate) before: Option<Rc<V>>,
 }
 
+/// The tree with the value at the key: the new nodes are those from the root to the key, and their rotations.
 pub(crate) fn insert<K: Ord + Drop, V: Drop>(
     alloc: Global,
     link: &Option<Rc<Node<K, V>>>,
@@ -24,14 +26,14 @@ pub(crate) fn insert<K: Ord + Drop, V: Drop>(
     value: Rc<V>,
     meter: &mut Meter,
 ) -> Result<Inserted<K, V>, AllocError>
-    requires height_fits { height_of link.now < 240 }
+    requires height_fits { height_of link.now < greatest_height }
     ensures entries { IfOk result (λ r. r.root.value.0 ≡ insert_entry K.cmp (entries_of link.now) key.value value.value) }
     ensures before { IfOk result (λ r. option_map (λ held. held.value) r.before ≡ value_at K.cmp (entries_of link.now) key.value) }
     ensures not_lower { IfOk result (λ r. height_of link.now ≤ r.root.value.1) }
     ensures not_higher { IfOk result (λ r. r.root.value.1 ≤ height_of link.now + 1) }
     ensures kept { meter.old ≤ meter.new }
     ensures most { meter.new ≤ meter.old + 3 * height_of link.now + 1 }
-    ensures counted { OnOk result (min (meter.old + 1) (2 ^ 64 - 1) ≤ meter.new) }
+    ensures counted { OnOk result (counted_up meter.old ≤ meter.new) }
 {
     let Some(node) = link else {
         let root = make_node(alloc, None, key, value, None, meter)?;

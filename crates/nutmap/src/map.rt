@@ -1,10 +1,11 @@
 //! The map.
-ghost use Rattle.std.specs.Prelude.{◌≡◌, ℕ, ◌+◌, ◌*◌, ◌-◌, ◌^◌, ◌<◌, ◌≤◌, min, List, [], length, IsNone, IfOk, OnOk, OnErr};
+ghost use Rattle.std.specs.Prelude.{◌≡◌, ◌+◌, ◌≤◌, [], length, IsNone, IfOk, OnOk, OnErr};
 ghost use Rattle.std.specs.Option.{option_copied, option_map};
 ghost use Rattle.std.specs.Map.{remove_entry};
 ghost use Rattle.std.specs.BTreeMap.{insert_entry, is_at};
-ghost use Rattle.nutmap.specs.Digits.{digits};
+ghost use Rattle.nutmap.specs.Digits.{most_nodes};
 ghost use Rattle.nutmap.specs.Entries.{value_at, entry_after, HasRisingKeys};
+ghost use Rattle.nutmap.specs.Meter.{counted_up};
 
 use crate::find;
 use crate::insert::{self, Inserted};
@@ -15,7 +16,13 @@ use std::alloc::{AllocError, Global};
 use std::marker::Model;
 use std::rc::Rc;
 
-/// A map in the order of its keys, whose versions share their entries. It is seen as the list of its entries.
+/// A map in the order of its keys, of which a version can be kept at no cost.
+///
+/// A version is a map of its own: it keeps its entries whatever is done to the map that it was shared from, and
+/// the other way round. Versions share the nodes of a balanced binary tree and, by `Rc`, the keys and values.
+/// No node is changed once it is made, so a change makes new nodes from the root to the place of the key.
+///
+/// Contracts see a map as the list of its entries, whose keys rise.
 #[derive(Drop)]
 pub struct Map<K: Ord + Drop, V: Drop> {
     alloc: Global,
@@ -35,7 +42,7 @@ impl<K: Ord + Drop, V: Drop> Model for Map<K, V> {
 }
 
 impl<K: Ord + Drop, V: Drop> Map<K, V> {
-    /// An empty map.
+    /// The empty map, which takes no memory.
     pub fn new(alloc: Global) -> Self
         ensures { result ≡ [] }
     {
@@ -46,7 +53,7 @@ impl<K: Ord + Drop, V: Drop> Map<K, V> {
         }
     }
 
-    /// How many entries there are.
+    /// How many entries the map has.
     pub fn len(&self) -> usize
         ensures len { result ≡ length self.now }
         ensures rising { HasRisingKeys K.cmp self.now }
@@ -55,14 +62,16 @@ impl<K: Ord + Drop, V: Drop> Map<K, V> {
         self.len
     }
 
-    /// The value at a key.
+    /// The value at a key, or `None` where the map does not have the key.
     pub fn get(&self, key: &K) -> Option<&V>
         ensures { option_copied result ≡ value_at K.cmp self.now key.now }
     {
         find::value(&self.root, key)
     }
 
-    /// The entry with the least key, or with the least key above the given one.
+    /// The entry with the least key above `above`, or with the least key of all where that is `None`.
+    ///
+    /// A walk that goes from each key to the next meets every entry once, and takes no memory.
     pub fn after(&self, above: Option<&K>) -> Option<(&K, &V)>
         ensures { option_map (λ e. (e.0.now, e.1.now)) result ≡ entry_after K.cmp self.now (option_map (λ k. k.now) above.entry) }
     {
@@ -72,7 +81,9 @@ impl<K: Ord + Drop, V: Drop> Map<K, V> {
         }
     }
 
-    /// An equal version, which later changes of this one do not reach. It takes no memory.
+    /// A version with the same entries, which no later change of this map reaches.
+    ///
+    /// It asks for no memory. The `Result` is that of `Rc::clone`, which fails where `usize::MAX` versions share a root.
     pub fn share(&self) -> Result<Self, AllocError>
         ensures { IfOk result (λ version. version ≡ self.now) }
     {
@@ -83,7 +94,14 @@ impl<K: Ord + Drop, V: Drop> Map<K, V> {
         })
     }
 
-    /// Sets the value of a key, and answers the one before.
+    /// Sets the value of a key, and answers the earlier value. An equal key that is there stays.
+    ///
+    /// The nodes that it makes are counted by `meter`, at least one and at most `most_nodes` of the entries before.
+    ///
+    /// # Errors
+    ///
+    /// `AllocError` where memory is refused, or the map has `usize::MAX` entries. The map is then as it was, and
+    /// the meter keeps what was made.
     pub fn insert(
         &mut self,
         key: K,
@@ -95,8 +113,8 @@ impl<K: Ord + Drop, V: Drop> Map<K, V> {
         ensures err { OnErr result (self.new ≡ self.old) }
         ensures rising { HasRisingKeys K.cmp self.old }
         ensures kept { meter.old ≤ meter.new }
-        ensures most { meter.new ≤ meter.old + (8 * digits (length self.old + 1) + 8) }
-        ensures counted { OnOk result (IsNone (value_at K.cmp self.old key) → min (meter.old + 1) (2 ^ 64 - 1) ≤ meter.new) }
+        ensures most { meter.new ≤ meter.old + most_nodes (length self.old) }
+        ensures counted { OnOk result (IsNone (value_at K.cmp self.old key) → counted_up meter.old ≤ meter.new) }
     {
         let _ = height(&self.root);
         if self.len == usize::MAX {
@@ -115,14 +133,21 @@ impl<K: Ord + Drop, V: Drop> Map<K, V> {
         }
     }
 
-    /// Takes a key out, and answers its value.
+    /// Takes out the entry of a key, and answers its value, or answers `None` where the map does not have the key.
+    ///
+    /// The nodes that it makes are counted by `meter`, at most `most_nodes` of the entries before.
+    ///
+    /// # Errors
+    ///
+    /// `AllocError` where memory is refused. The map is then as it was, and the meter keeps what was made.
     pub fn remove(&mut self, key: &K, meter: &mut Meter) -> Result<Option<Rc<V>>, AllocError>
         ensures before { IfOk result (λ before. option_map (λ held. held.value) before ≡ value_at K.cmp self.old key.now) }
         ensures ok { OnOk result (self.new ≡ remove_entry (is_at (K.cmp key.now)) self.old) }
+        ensures absent { IsNone (value_at K.cmp self.old key.now) → self.new ≡ self.old }
         ensures err { OnErr result (self.new ≡ self.old) }
         ensures rising { HasRisingKeys K.cmp self.old }
         ensures kept { meter.old ≤ meter.new }
-        ensures most { meter.new ≤ meter.old + (8 * digits (length self.old + 1) + 8) }
+        ensures most { meter.new ≤ meter.old + most_nodes (length self.old) }
     {
         let _ = height(&self.root);
         let removed = remove::remove(self.alloc, &self.root, key, meter)?;

@@ -3,8 +3,8 @@ ghost use Rattle.std.specs.Prelude.{◌≡◌, ◌+◌, ◌*◌, ◌<◌, ◌≤
 ghost use Rattle.std.specs.Option.{option_map};
 ghost use Rattle.std.specs.Map.{remove_entry};
 ghost use Rattle.std.specs.BTreeMap.{is_at};
-ghost use Rattle.nutmap.specs.Entries.{value_at};
-ghost use Rattle.nutmap.specs.Tree.{entries_of, height_of, IsRising, AreClose};
+ghost use Rattle.nutmap.specs.Entries.{value_at, HasRisingKeys};
+ghost use Rattle.nutmap.specs.Tree.{entries_of, height_of, IsBalanced, greatest_height};
 
 use crate::meter::Meter;
 use crate::tree::{Node, balance, shared};
@@ -25,12 +25,13 @@ pub(crate) struct Removed<K: Ord + Drop, V: Drop> {
     pub(crate) value: Rc<V>,
 }
 
+// The entry with the least key, and the others.
 fn take_first<K: Ord + Drop, V: Drop>(
     alloc: Global,
     node: &Node<K, V>,
     meter: &mut Meter,
 ) -> Result<Taken<K, V>, AllocError>
-    requires height_fits { node.now.1 < 240 }
+    requires height_fits { node.now.1 < greatest_height }
     ensures entries { IfOk result (λ r. node.now.0 ≡ (r.key.value, r.value.value) ∷ entries_of r.rest) }
     ensures not_higher { IfOk result (λ r. height_of r.rest ≤ node.now.1) }
     ensures not_lower { IfOk result (λ r. node.now.1 ≤ height_of r.rest + 1) }
@@ -62,9 +63,9 @@ fn join<K: Ord + Drop, V: Drop>(
     right: &Option<Rc<Node<K, V>>>,
     meter: &mut Meter,
 ) -> Result<Option<Rc<Node<K, V>>>, AllocError>
-    requires rising { IsRising K.cmp (entries_of left.now ++ entries_of right.now) }
-    requires close { AreClose (height_of left.now) (height_of right.now) }
-    requires height_fits { max (height_of left.now) (height_of right.now) < 239 }
+    requires rising { HasRisingKeys K.cmp (entries_of left.now ++ entries_of right.now) }
+    requires balanced { IsBalanced (height_of left.now) (height_of right.now) }
+    requires height_fits { max (height_of left.now) (height_of right.now) < greatest_height }
     ensures entries { IfOk result (λ joined. entries_of joined ≡ entries_of left.now ++ entries_of right.now) }
     ensures not_lower { IfOk result (λ joined. max (height_of left.now) (height_of right.now) ≤ height_of joined) }
     ensures not_higher { IfOk result (λ joined. height_of joined ≤ max (height_of left.now) (height_of right.now) + 1) }
@@ -80,13 +81,14 @@ fn join<K: Ord + Drop, V: Drop>(
     Ok(Some(root))
 }
 
+/// The tree without the key, or `None` where it has none: no node is made then.
 pub(crate) fn remove<K: Ord + Drop, V: Drop>(
     alloc: Global,
     link: &Option<Rc<Node<K, V>>>,
     key: &K,
     meter: &mut Meter,
 ) -> Result<Option<Removed<K, V>>, AllocError>
-    requires height_fits { height_of link.now < 240 }
+    requires height_fits { height_of link.now < greatest_height }
     ensures value { IfOk result (λ removed. option_map (λ r. r.value.value) removed ≡ value_at K.cmp (entries_of link.now) key.now) }
     ensures entries { IfOk result (λ removed. IfSome removed (λ r. entries_of r.rest ≡ remove_entry (is_at (K.cmp key.now)) (entries_of link.now))) }
     ensures not_higher { IfOk result (λ removed. IfSome removed (λ r. height_of r.rest ≤ height_of link.now)) }

@@ -1,6 +1,8 @@
 //! A node of the tree. It is never changed once it is made, so versions share it.
-ghost use Rattle.std.specs.Prelude.{◌≡◌, ℕ, ◌+◌, ◌*◌, ◌-◌, ◌^◌, ◌<◌, ◌≤◌, max, min, List, [], ◌∷◌, ◌++◌, length, is_ok, if◌then◌else◌, IfOk, OnOk};
-ghost use Rattle.nutmap.specs.Tree.{entries_of, height_of, IsRising, AreClose, IsTree, IsHeightOver};
+ghost use Rattle.std.specs.Prelude.{◌≡◌, ℕ, ◌+◌, ◌<◌, ◌≤◌, max, ◌∷◌, ◌++◌, IfOk, OnOk};
+ghost use Rattle.nutmap.specs.Entries.{HasRisingKeys};
+ghost use Rattle.nutmap.specs.Meter.{counted_up};
+ghost use Rattle.nutmap.specs.Tree.{entries_of, height_of, IsBalanced, IsTree, IsRebalancedHeight, greatest_height};
 
 use crate::meter::Meter;
 use std::alloc::{AllocError, Global};
@@ -69,14 +71,14 @@ pub(crate) fn make_node<K: Ord + Drop, V: Drop>(
     right: Option<Rc<Node<K, V>>>,
     meter: &mut Meter,
 ) -> Result<Rc<Node<K, V>>, AllocError>
-    requires rising { IsRising K.cmp (entries_of left ++ (key.value, value.value) ∷ entries_of right) }
-    requires close { AreClose (height_of left) (height_of right) }
-    requires height_fits { max (height_of left) (height_of right) < 255 }
+    requires rising { HasRisingKeys K.cmp (entries_of left ++ (key.value, value.value) ∷ entries_of right) }
+    requires balanced { IsBalanced (height_of left) (height_of right) }
+    requires height_fits { max (height_of left) (height_of right) < greatest_height }
     ensures entries { IfOk result (λ n. n.value.0 ≡ entries_of left ++ (key.value, value.value) ∷ entries_of right) }
     ensures height { IfOk result (λ n. n.value.1 ≡ max (height_of left) (height_of right) + 1) }
     ensures kept { meter.old ≤ meter.new }
     ensures most { meter.new ≤ meter.old + 1 }
-    ensures counted { OnOk result (min (meter.old + 1) (2 ^ 64 - 1) ≤ meter.new) }
+    ensures counted { OnOk result (counted_up meter.old ≤ meter.new) }
 {
     let height = height(&left).max(height(&right)) + 1;
     let made = Rc::new(
@@ -93,8 +95,8 @@ pub(crate) fn make_node<K: Ord + Drop, V: Drop>(
     Ok(made)
 }
 
-// The node of the middle tree, over its sides and the two trees around it.
-fn around<K: Ord + Drop, V: Drop>(
+// The double rotation: the middle node rises over the two that were above it, and its sides go to them.
+fn double_rotation<K: Ord + Drop, V: Drop>(
     alloc: Global,
     left: Option<Rc<Node<K, V>>>,
     left_key: Rc<K>,
@@ -105,15 +107,15 @@ fn around<K: Ord + Drop, V: Drop>(
     right: Option<Rc<Node<K, V>>>,
     meter: &mut Meter,
 ) -> Result<Rc<Node<K, V>>, AllocError>
-    requires rising { IsRising K.cmp (entries_of left ++ (left_key.value, left_value.value) ∷ (middle.now.0 ++ (right_key.value, right_value.value) ∷ entries_of right)) }
+    requires rising { HasRisingKeys K.cmp (entries_of left ++ (left_key.value, left_value.value) ∷ (middle.now.0 ++ (right_key.value, right_value.value) ∷ entries_of right)) }
     requires left_lower { middle.now.1 ≡ height_of left + 1 }
     requires right_lower { middle.now.1 ≡ height_of right + 1 }
-    requires height_fits { middle.now.1 < 250 }
+    requires height_fits { middle.now.1 < greatest_height }
     ensures entries { IfOk result (λ n. n.value.0 ≡ entries_of left ++ (left_key.value, left_value.value) ∷ (middle.now.0 ++ (right_key.value, right_value.value) ∷ entries_of right)) }
     ensures height { IfOk result (λ n. n.value.1 ≡ middle.now.1 + 1) }
     ensures kept { meter.old ≤ meter.new }
     ensures most { meter.new ≤ meter.old + 3 }
-    ensures counted { OnOk result (min (meter.old + 1) (2 ^ 64 - 1) ≤ meter.new) }
+    ensures counted { OnOk result (counted_up meter.old ≤ meter.new) }
 {
     let lower = make_node(
         alloc,
@@ -137,8 +139,8 @@ fn around<K: Ord + Drop, V: Drop>(
     Ok(root)
 }
 
-// The node over two sides, of which the left is two levels higher.
-fn lean_left<K: Ord + Drop, V: Drop>(
+// The node over two sides, of which the left is two levels higher: its left side rises.
+fn rotate_right<K: Ord + Drop, V: Drop>(
     alloc: Global,
     left: &Node<K, V>,
     key: Rc<K>,
@@ -146,15 +148,15 @@ fn lean_left<K: Ord + Drop, V: Drop>(
     right: Option<Rc<Node<K, V>>>,
     meter: &mut Meter,
 ) -> Result<Rc<Node<K, V>>, AllocError>
-    requires rising { IsRising K.cmp (left.now.0 ++ (key.value, value.value) ∷ entries_of right) }
+    requires rising { HasRisingKeys K.cmp (left.now.0 ++ (key.value, value.value) ∷ entries_of right) }
     requires two_higher { left.now.1 ≡ height_of right + 2 }
-    requires height_fits { left.now.1 < 250 }
+    requires height_fits { left.now.1 < greatest_height }
     ensures entries { IfOk result (λ n. n.value.0 ≡ left.now.0 ++ (key.value, value.value) ∷ entries_of right) }
     ensures not_lower { IfOk result (λ n. left.now.1 ≤ n.value.1) }
     ensures not_higher { IfOk result (λ n. n.value.1 ≤ left.now.1 + 1) }
     ensures kept { meter.old ≤ meter.new }
     ensures most { meter.new ≤ meter.old + 3 }
-    ensures counted { OnOk result (min (meter.old + 1) (2 ^ 64 - 1) ≤ meter.new) }
+    ensures counted { OnOk result (counted_up meter.old ≤ meter.new) }
 {
     let outer = shared(&left.left)?;
     let left_key = left.key.clone()?;
@@ -163,7 +165,7 @@ fn lean_left<K: Ord + Drop, V: Drop>(
         let Some(inner) = &left.right else {
             unreachable!()
         };
-        let root = around(
+        let root = double_rotation(
             alloc, outer, left_key, left_value, inner, key, value, right, meter,
         )?;
         return Ok(root);
@@ -173,8 +175,8 @@ fn lean_left<K: Ord + Drop, V: Drop>(
     Ok(root)
 }
 
-// The node over two sides, of which the right is two levels higher.
-fn lean_right<K: Ord + Drop, V: Drop>(
+// The node over two sides, of which the right is two levels higher: its right side rises.
+fn rotate_left<K: Ord + Drop, V: Drop>(
     alloc: Global,
     left: Option<Rc<Node<K, V>>>,
     key: Rc<K>,
@@ -182,15 +184,15 @@ fn lean_right<K: Ord + Drop, V: Drop>(
     right: &Node<K, V>,
     meter: &mut Meter,
 ) -> Result<Rc<Node<K, V>>, AllocError>
-    requires rising { IsRising K.cmp (entries_of left ++ (key.value, value.value) ∷ right.now.0) }
+    requires rising { HasRisingKeys K.cmp (entries_of left ++ (key.value, value.value) ∷ right.now.0) }
     requires two_higher { right.now.1 ≡ height_of left + 2 }
-    requires height_fits { right.now.1 < 250 }
+    requires height_fits { right.now.1 < greatest_height }
     ensures entries { IfOk result (λ n. n.value.0 ≡ entries_of left ++ (key.value, value.value) ∷ right.now.0) }
     ensures not_lower { IfOk result (λ n. right.now.1 ≤ n.value.1) }
     ensures not_higher { IfOk result (λ n. n.value.1 ≤ right.now.1 + 1) }
     ensures kept { meter.old ≤ meter.new }
     ensures most { meter.new ≤ meter.old + 3 }
-    ensures counted { OnOk result (min (meter.old + 1) (2 ^ 64 - 1) ≤ meter.new) }
+    ensures counted { OnOk result (counted_up meter.old ≤ meter.new) }
 {
     let outer = shared(&right.right)?;
     let right_key = right.key.clone()?;
@@ -199,7 +201,7 @@ fn lean_right<K: Ord + Drop, V: Drop>(
         let Some(inner) = &right.left else {
             unreachable!()
         };
-        let root = around(
+        let root = double_rotation(
             alloc,
             left,
             key,
@@ -217,7 +219,7 @@ fn lean_right<K: Ord + Drop, V: Drop>(
     Ok(root)
 }
 
-// The node over two sides, of which neither is more than two levels higher.
+// The node over two sides, of which neither is more than two levels higher, by a rotation where they need one.
 pub(crate) fn balance<K: Ord + Drop, V: Drop>(
     alloc: Global,
     left: Option<Rc<Node<K, V>>>,
@@ -226,25 +228,25 @@ pub(crate) fn balance<K: Ord + Drop, V: Drop>(
     right: Option<Rc<Node<K, V>>>,
     meter: &mut Meter,
 ) -> Result<Rc<Node<K, V>>, AllocError>
-    requires rising { IsRising K.cmp (entries_of left ++ (key.value, value.value) ∷ entries_of right) }
+    requires rising { HasRisingKeys K.cmp (entries_of left ++ (key.value, value.value) ∷ entries_of right) }
     requires left_near { height_of left ≤ height_of right + 2 }
     requires right_near { height_of right ≤ height_of left + 2 }
-    requires height_fits { max (height_of left) (height_of right) < 250 }
+    requires height_fits { max (height_of left) (height_of right) < greatest_height }
     ensures entries { IfOk result (λ n. n.value.0 ≡ entries_of left ++ (key.value, value.value) ∷ entries_of right) }
-    ensures height { IfOk result (λ n. IsHeightOver (height_of left) (height_of right) n.value.1) }
+    ensures height { IfOk result (λ n. IsRebalancedHeight (height_of left) (height_of right) n.value.1) }
     ensures kept { meter.old ≤ meter.new }
     ensures most { meter.new ≤ meter.old + 3 }
-    ensures counted { OnOk result (min (meter.old + 1) (2 ^ 64 - 1) ≤ meter.new) }
+    ensures counted { OnOk result (counted_up meter.old ≤ meter.new) }
 {
     let (left_height, right_height) = (height(&left), height(&right));
     if left_height > right_height + 1 {
         let Some(left) = &left else { unreachable!() };
-        let root = lean_left(alloc, left, key, value, right, meter)?;
+        let root = rotate_right(alloc, left, key, value, right, meter)?;
         return Ok(root);
     }
     if right_height > left_height + 1 {
         let Some(right) = &right else { unreachable!() };
-        let root = lean_right(alloc, left, key, value, right, meter)?;
+        let root = rotate_left(alloc, left, key, value, right, meter)?;
         return Ok(root);
     }
     let root = make_node(alloc, left, key, value, right, meter)?;

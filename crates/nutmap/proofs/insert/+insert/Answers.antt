@@ -1,5 +1,5 @@
 use Rattle.std.proofs.Common.{◌≡◌, ◌+◌, ◌<◌, max, sym, ◌∙◌, rules, arith}
-use Rattle.nutmap.specs.Tree.{height_of}
+use Rattle.nutmap.specs.Tree.{height_of, greatest_height}
 use Rattle.nutmap.proofs.Ordered.{lookup_left, lookup_middle, lookup_right, insert_left, insert_middle, insert_right, one_rises, keys_stay_rising}
 use Rattle.nutmap.proofs.insert.+insert.Goals as goal
 
@@ -10,14 +10,14 @@ pub insert-requires : goal.insert-requires
 insert-requires g t c κs within =
     let high : height_of c.args.link.now ≡ max (height_of c.node.inside.left) (height_of c.node.inside.right) + 1 = rw (c.in-Some.is, ← c.deref-node.ensures, ← c.node.view_is) c.node.invariant.height in
     let lower : height_of c.node.inside.left < height_of c.args.link.now = omega (arith, high) in
-    let small : height_of c.node.inside.left < 240 = omega (arith, high, c.requires.height_fits) in
+    let small : height_of c.node.inside.left < greatest_height = omega (arith, high, c.requires.height_fits) in
     search rules
 
 pub insert-requires-in-Greater : goal.insert-requires-in-Greater
 insert-requires-in-Greater g t c κs within =
     let high : height_of c.args.link.now ≡ max (height_of c.node.inside.left) (height_of c.node.inside.right) + 1 = rw (c.in-Some.is, ← c.deref-node.ensures, ← c.node.view_is) c.node.invariant.height in
     let lower : height_of c.node.inside.right < height_of c.args.link.now = omega (arith, high) in
-    let small : height_of c.node.inside.right < 240 = omega (arith, high, c.requires.height_fits) in
+    let small : height_of c.node.inside.right < greatest_height = omega (arith, high, c.requires.height_fits) in
     search rules
 
 pub balance-requires-clause-rising : goal.balance-requires-clause-rising
@@ -27,10 +27,10 @@ balance-requires-clause-rising g t c =
     rw (c.in_ok-left-in-Less.ensures.entries, c.in_ok-clone-in-Less.ensures.cases, c.in_ok-clone-in-Less-2.ensures.cases, c.in_ok-right-in-Less.ensures.entries, ← cut) (keys_stay_rising g.met.K.Ord.total _ _ _ (record { rising = c.node.invariant.tree.rising }))
 
 pub balance-requires-clause-left_near : goal.balance-requires-clause-left_near
-balance-requires-clause-left_near g t c = omega (arith, c.in_ok-left-in-Less.ensures.not_higher, c.in_ok-right-in-Less.ensures.height, c.node.invariant.close.left)
+balance-requires-clause-left_near g t c = omega (arith, c.in_ok-left-in-Less.ensures.not_higher, c.in_ok-right-in-Less.ensures.height, c.node.invariant.balanced.left)
 
 pub balance-requires-clause-right_near : goal.balance-requires-clause-right_near
-balance-requires-clause-right_near g t c = omega (arith, c.in_ok-left-in-Less.ensures.not_lower, c.in_ok-right-in-Less.ensures.height, c.node.invariant.close.right)
+balance-requires-clause-right_near g t c = omega (arith, c.in_ok-left-in-Less.ensures.not_lower, c.in_ok-right-in-Less.ensures.height, c.node.invariant.balanced.right)
 
 pub balance-requires-clause-height_fits : goal.balance-requires-clause-height_fits
 balance-requires-clause-height_fits g t c =
@@ -42,9 +42,9 @@ make_node-requires-in-Equal-clause-rising g t c =
     let cut = insert_middle g.met.K.Ord.total c.args.key.value _ _ _ _ c.node.invariant.tree.rising c.args.value.value (sym (rw (c.deref.ensures, c.deref-2.ensures) at c.cmp.ensures) ∙ c.in-Equal.is) in
     rw (c.in_ok-left-in-Equal.ensures.entries, c.in_ok-right-in-Equal.ensures.entries, c.in_ok-clone-in-Equal.ensures.cases, ← cut) (keys_stay_rising g.met.K.Ord.total _ _ _ (record { rising = c.node.invariant.tree.rising }))
 
-pub make_node-requires-in-Equal-clause-close : goal.make_node-requires-in-Equal-clause-close
-make_node-requires-in-Equal-clause-close g t c =
-    rw (c.in_ok-left-in-Equal.ensures.height, c.in_ok-right-in-Equal.ensures.height) c.node.invariant.close
+pub make_node-requires-in-Equal-clause-balanced : goal.make_node-requires-in-Equal-clause-balanced
+make_node-requires-in-Equal-clause-balanced g t c =
+    rw (c.in_ok-left-in-Equal.ensures.height, c.in_ok-right-in-Equal.ensures.height) c.node.invariant.balanced
 
 pub make_node-requires-in-Equal-clause-height_fits : goal.make_node-requires-in-Equal-clause-height_fits
 make_node-requires-in-Equal-clause-height_fits g t c =
@@ -57,10 +57,10 @@ balance-requires-in-Greater-clause-rising g t c =
     rw (c.in_ok-right-in-Greater.ensures.entries, c.in_ok-clone-in-Greater.ensures.cases, c.in_ok-clone-in-Greater-2.ensures.cases, c.in_ok-left-in-Greater.ensures.entries, ← cut) (keys_stay_rising g.met.K.Ord.total _ _ _ (record { rising = c.node.invariant.tree.rising }))
 
 pub balance-requires-in-Greater-clause-left_near : goal.balance-requires-in-Greater-clause-left_near
-balance-requires-in-Greater-clause-left_near g t c = omega (arith, c.in_ok-right-in-Greater.ensures.not_lower, c.in_ok-left-in-Greater.ensures.height, c.node.invariant.close.left)
+balance-requires-in-Greater-clause-left_near g t c = omega (arith, c.in_ok-right-in-Greater.ensures.not_lower, c.in_ok-left-in-Greater.ensures.height, c.node.invariant.balanced.left)
 
 pub balance-requires-in-Greater-clause-right_near : goal.balance-requires-in-Greater-clause-right_near
-balance-requires-in-Greater-clause-right_near g t c = omega (arith, c.in_ok-right-in-Greater.ensures.not_higher, c.in_ok-left-in-Greater.ensures.height, c.node.invariant.close.right)
+balance-requires-in-Greater-clause-right_near g t c = omega (arith, c.in_ok-right-in-Greater.ensures.not_higher, c.in_ok-left-in-Greater.ensures.height, c.node.invariant.balanced.right)
 
 pub balance-requires-in-Greater-clause-height_fits : goal.balance-requires-in-Greater-clause-height_fits
 balance-requires-in-Greater-clause-height_fits g t c =

@@ -1,5 +1,5 @@
 use Rattle.std.proofs.Common.{◌≡◌, ◌+◌, ◌<◌, max, sym, ◌∙◌, rules, arith}
-use Rattle.nutmap.specs.Tree.{height_of}
+use Rattle.nutmap.specs.Tree.{height_of, greatest_height}
 use Rattle.nutmap.proofs.Ordered.{lookup_left, lookup_middle, lookup_right, remove_left, remove_middle, remove_right, rest_stays_rising}
 use Rattle.nutmap.proofs.remove.+remove.Goals as goal
 
@@ -7,7 +7,7 @@ pub remove-requires : goal.remove-requires
 remove-requires g t c κs within =
     let high : height_of c.args.link.now ≡ max (height_of c.node.inside.left) (height_of c.node.inside.right) + 1 = rw (c.in-Some.is, ← c.deref-node.ensures, ← c.node.view_is) c.node.invariant.height in
     let lower : height_of c.node.inside.left < height_of c.args.link.now = omega (arith, high) in
-    let small : height_of c.node.inside.left < 240 = omega (arith, high, c.requires.height_fits) in
+    let small : height_of c.node.inside.left < greatest_height = omega (arith, high, c.requires.height_fits) in
     search rules
 
 pub returns-in_default-2-clause-value : goal.returns-in_default-2-clause-value
@@ -24,12 +24,12 @@ balance-requires-clause-rising g t c =
 pub balance-requires-clause-left_near : goal.balance-requires-clause-left_near
 balance-requires-clause-left_near g t c =
     let lower = rw c.in-Some-2.is at c.in_ok-rest-in-Less.ensures.not_lower in let higher = rw c.in-Some-2.is at c.in_ok-rest-in-Less.ensures.not_higher in
-    omega (arith, lower, higher, c.in_ok-right-in-Less.ensures.height, c.node.invariant.close.left, c.node.invariant.close.right)
+    omega (arith, lower, higher, c.in_ok-right-in-Less.ensures.height, c.node.invariant.balanced.left, c.node.invariant.balanced.right)
 
 pub balance-requires-clause-right_near : goal.balance-requires-clause-right_near
 balance-requires-clause-right_near g t c =
     let lower = rw c.in-Some-2.is at c.in_ok-rest-in-Less.ensures.not_lower in let higher = rw c.in-Some-2.is at c.in_ok-rest-in-Less.ensures.not_higher in
-    omega (arith, lower, higher, c.in_ok-right-in-Less.ensures.height, c.node.invariant.close.left, c.node.invariant.close.right)
+    omega (arith, lower, higher, c.in_ok-right-in-Less.ensures.height, c.node.invariant.balanced.left, c.node.invariant.balanced.right)
 
 pub balance-requires-clause-height_fits : goal.balance-requires-clause-height_fits
 balance-requires-clause-height_fits g t c =
@@ -42,9 +42,9 @@ join-requires-clause-rising g t c =
     let cut = remove_middle g.met.K.Ord.total c.args.key.now _ _ _ _ c.node.invariant.tree.rising (sym (rw c.deref.ensures at c.cmp.ensures) ∙ c.in-Equal.is) in
     rw (← cut) (rest_stays_rising g.met.K.Ord.total _ _ (record { rising = c.node.invariant.tree.rising }))
 
-pub join-requires-clause-close : goal.join-requires-clause-close
-join-requires-clause-close g t c =
-    c.node.invariant.close
+pub join-requires-clause-balanced : goal.join-requires-clause-balanced
+join-requires-clause-balanced g t c =
+    c.node.invariant.balanced
 
 pub join-requires-clause-height_fits : goal.join-requires-clause-height_fits
 join-requires-clause-height_fits g t c =
@@ -55,7 +55,7 @@ pub remove-requires-in-Greater : goal.remove-requires-in-Greater
 remove-requires-in-Greater g t c κs within =
     let high : height_of c.args.link.now ≡ max (height_of c.node.inside.left) (height_of c.node.inside.right) + 1 = rw (c.in-Some.is, ← c.deref-node.ensures, ← c.node.view_is) c.node.invariant.height in
     let lower : height_of c.node.inside.right < height_of c.args.link.now = omega (arith, high) in
-    let small : height_of c.node.inside.right < 240 = omega (arith, high, c.requires.height_fits) in
+    let small : height_of c.node.inside.right < greatest_height = omega (arith, high, c.requires.height_fits) in
     search rules
 
 pub returns-in_default-3-clause-value : goal.returns-in_default-3-clause-value
@@ -72,12 +72,12 @@ balance-requires-in-Greater-clause-rising g t c =
 pub balance-requires-in-Greater-clause-left_near : goal.balance-requires-in-Greater-clause-left_near
 balance-requires-in-Greater-clause-left_near g t c =
     let lower = rw c.in-Some-3.is at c.in_ok-rest-in-Greater.ensures.not_lower in let higher = rw c.in-Some-3.is at c.in_ok-rest-in-Greater.ensures.not_higher in
-    omega (arith, lower, higher, c.in_ok-left-in-Greater.ensures.height, c.node.invariant.close.left, c.node.invariant.close.right)
+    omega (arith, lower, higher, c.in_ok-left-in-Greater.ensures.height, c.node.invariant.balanced.left, c.node.invariant.balanced.right)
 
 pub balance-requires-in-Greater-clause-right_near : goal.balance-requires-in-Greater-clause-right_near
 balance-requires-in-Greater-clause-right_near g t c =
     let lower = rw c.in-Some-3.is at c.in_ok-rest-in-Greater.ensures.not_lower in let higher = rw c.in-Some-3.is at c.in_ok-rest-in-Greater.ensures.not_higher in
-    omega (arith, lower, higher, c.in_ok-left-in-Greater.ensures.height, c.node.invariant.close.left, c.node.invariant.close.right)
+    omega (arith, lower, higher, c.in_ok-left-in-Greater.ensures.height, c.node.invariant.balanced.left, c.node.invariant.balanced.right)
 
 pub balance-requires-in-Greater-clause-height_fits : goal.balance-requires-in-Greater-clause-height_fits
 balance-requires-in-Greater-clause-height_fits g t c =
