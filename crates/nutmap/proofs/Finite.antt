@@ -1,7 +1,9 @@
 -- A list of entries as a finite map.
 use Rattle.std.proofs.Common.{◌≡◌, Bool, true, false, cond, List, [], ◌∷◌, Some, None, Option, refl, sym, ap, ◌∙◌}
 use Rattle.std.specs.FinMap as map
-use Rattle.std.specs.FinMap.{IsAntisymmetric, find}
+use Rattle.std.specs.FinMap.{IsAntisymmetric, find, is_sorted}
+use Rattle.std.specs.FinMap.Entries.{below_all}
+use Rattle.std.specs.Prelude.{T, ◌&&◌}
 use Rattle.std.specs.declared.cmp.Ordering.{Ordering}
 use Rattle.std.specs.declared.cmp.Ordering.TheVariants.{Less, Equal, Greater}
 use Rattle.std.specs.Ordering.{match_ordering, is_eq}
@@ -12,7 +14,7 @@ use Rattle.std.proofs.lemmas.Cmp.{alike_right, eq_by_cmp_equiv}
 use Rattle.std.proofs.lemmas.Map.{lookup-remove_entry}
 use Rattle.std.proofs.lemmas.Map.Keys.{IsDistinct-from_sorted}
 use Rattle.nutmap.specs.Entries.{value_at, HasRisingKeys}
-use Rattle.nutmap.proofs.Ordered.{less_from_greater}
+use Rattle.nutmap.proofs.Ordered.{AllKeys, Rises, rising_all, rising_tail, less_from_greater}
 
 equal_when : (c : Ordering) → is_eq c ≡ true → c ≡ Equal
 equal_when Less h = absurd (cc)
@@ -64,3 +66,24 @@ module _ {K V : Type 0} {R : K → K → Ordering} (o : IsTotalOrder R) where
       ∙ ap (λ (x : Option V). cond (is_eq (R k q)) None x) (sym (get_value es q))
       ∙ ap (λ b. cond b None (map.get (map.from_entries {R = R} es) q)) ((eq_by_cmp_equiv o).symm k q)
       ∙ sym (map.get-remove o (map.from_entries es) k q))
+
+both : (a b : Bool) → T a → T b → T (a && b)
+both true b p q = q
+both false b p q = p
+
+module _ {K V : Type 0} (R : K → K → Ordering) where
+  below_all-from_less : (k : K) (es : List (K × V)) → AllKeys (λ q. R k q ≡ Less) es → T (below_all R k es)
+  below_all-from_less k [] a = tt
+  below_all-from_less k (e ∷ es) a = rw a.0 (below_all-from_less k es a.1)
+
+  is_sorted-from_rising : (es : List (K × V)) → Rises R es → T (is_sorted R es)
+  is_sorted-from_rising [] s = tt
+  is_sorted-from_rising (e ∷ es) s = both (below_all R e.0 es) (is_sorted R es) (below_all-from_less e.0 es (rising_all R [] e es s).1) (is_sorted-from_rising es (rising_tail R e es s))
+
+module _ {K V : Type 0} {R : K → K → Ordering} (o : IsTotalOrder R) where
+  -- the finite map of the entries has them in their order
+  pub entries-from_entries : IsAntisymmetric R → (es : List (K × V)) → HasRisingKeys R es → map.entries (map.from_entries {R = R} es) ≡ es
+  entries-from_entries a es s =
+      let sorted = is_sorted-from_rising R es s.rising in
+      let same = map.same_map o a (map.from_entries es) (map.from_sorted es) (λ q. map.get-from_entries o es q ∙ sym (map.get-from_sorted R es q sorted)) in
+      ap map.entries same ∙ map.entries-from_sorted R es sorted

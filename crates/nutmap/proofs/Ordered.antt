@@ -1,5 +1,5 @@
 -- Entries in the order R double_rotation a place: what look-ups and edits do on either side of it.
-use Rattle.std.proofs.Common.{◌≡◌, Bool, true, false, cond, List, [], ◌∷◌, ◌++◌, Some, None, refl, ap, ◌∙◌}
+use Rattle.std.proofs.Common.{◌≡◌, Bool, true, false, cond, List, [], ◌∷◌, ◌++◌, Some, None, refl, ap, subst, ◌∙◌}
 use Rattle.std.specs.declared.cmp.Ordering.{Ordering}
 use Rattle.std.specs.declared.cmp.Ordering.TheVariants.{Less, Equal, Greater}
 use Rattle.std.specs.Ordering.{match_ordering}
@@ -109,6 +109,14 @@ module _ {K V : Type 0} (R : K → K → Ordering) where
   pub rising_tail : (e : K × V) (m : List (K × V)) → Rises (e ∷ m) → Rises m
   unfolding IsStrictlySortedBy
   rising_tail e m s = s.1
+
+  keys_of-other_value : (l : List (K × V)) (k : K) (w v : V) (r : List (K × V)) → keys_of (l ++ (k, w) ∷ r) ≡ keys_of (l ++ (k, v) ∷ r)
+  keys_of-other_value [] k w v r = refl
+  keys_of-other_value (e ∷ l) k w v r = ap (λ (ks : List K). e.0 ∷ ks) (keys_of-other_value l k w v r)
+
+  -- the keys rise whatever the value of one
+  pub other_value_rises : (l : List (K × V)) (k : K) (w v : V) (r : List (K × V)) → Rises (l ++ (k, w) ∷ r) → Rises (l ++ (k, v) ∷ r)
+  other_value_rises l k w v r s = subst (λ (ks : List K). IsStrictlySortedBy R ks) (keys_of-other_value l k w v r) s
 
   pub rising_one : (e : K × V) → Rises (e ∷ [])
   unfolding IsStrictlySortedBy

@@ -19,9 +19,9 @@ pub(crate) fn value<'a, K: Ord + Drop, V: Drop>(
         return None;
     };
     let node: &'a Node<K, V> = node;
-    match key.cmp(&*node.key) {
+    match key.cmp(&*node.entry.key) {
         Ordering::Less => value(&node.left, key),
-        Ordering::Equal => Some(&*node.value),
+        Ordering::Equal => Some(&*node.entry.value),
         Ordering::Greater => value(&node.right, key),
     }
 }
@@ -36,7 +36,7 @@ pub(crate) fn first<K: Ord + Drop, V: Drop>(link: &Option<Rc<Node<K, V>>>) -> Op
     let node: &Node<K, V> = node;
     match first(&node.left) {
         Some(entry) => Some(entry),
-        None => Some((&*node.key, &*node.value)),
+        None => Some((&*node.entry.key, &*node.entry.value)),
     }
 }
 
@@ -51,10 +51,10 @@ pub(crate) fn above<'a, K: Ord + Drop, V: Drop>(
         return None;
     };
     let node: &'a Node<K, V> = node;
-    match key.cmp(&*node.key) {
+    match key.cmp(&*node.entry.key) {
         Ordering::Less => match above(&node.left, key) {
             Some(entry) => Some(entry),
-            None => Some((&*node.key, &*node.value)),
+            None => Some((&*node.entry.key, &*node.entry.value)),
         },
         Ordering::Equal => above(&node.right, key),
         Ordering::Greater => above(&node.right, key),

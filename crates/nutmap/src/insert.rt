@@ -7,7 +7,7 @@ ghost use Rattle.nutmap.specs.Meter.{counted_up};
 ghost use Rattle.nutmap.specs.Tree.{entries_of, height_of, greatest_height};
 
 use crate::meter::Meter;
-use crate::tree::{Node, balance, make_node, shared};
+use crate::tree::{Entry, Node, balance, make_node, shared};
 use std::alloc::{AllocError, Global};
 use std::cmp::Ordering;
 use std::rc::Rc;
@@ -31,33 +31,27 @@ pub(crate) fn insert<K: Ord + Drop, V: Drop>(
     ensures before { IfOk result (λ r. option_map (λ held. held.value) r.before ≡ value_at K.cmp (entries_of link.now) key.value) }
     ensures not_lower { IfOk result (λ r. height_of link.now ≤ r.root.value.1) }
     ensures not_higher { IfOk result (λ r. r.root.value.1 ≤ height_of link.now + 1) }
-    ensures kept { meter.old ≤ meter.new }
+    ensures not_less { meter.old ≤ meter.new }
     ensures most { meter.new ≤ meter.old + 3 * height_of link.now + 1 }
     ensures counted { OnOk result (counted_up meter.old ≤ meter.new) }
 {
     let Some(node) = link else {
-        let root = make_node(alloc, None, key, value, None, meter)?;
+        let root = make_node(alloc, None, Entry { key, value }, None, meter)?;
         return Ok(Inserted { root, before: None });
     };
     let node: &Node<K, V> = node;
-    match (*key).cmp(&*node.key) {
+    match (*key).cmp(&*node.entry.key) {
         Ordering::Less => {
             let Inserted { root: left, before } = insert(alloc, &node.left, key, value, meter)?;
             let right = shared(&node.right)?;
-            let root = balance(
-                alloc,
-                Some(left),
-                node.key.clone()?,
-                node.value.clone()?,
-                right,
-                meter,
-            )?;
+            let root = balance(alloc, Some(left), &node.entry, right, meter)?;
             Ok(Inserted { root, before })
         }
         Ordering::Equal => {
             let (left, right) = (shared(&node.left)?, shared(&node.right)?);
-            let before = node.value.clone()?;
-            let root = make_node(alloc, left, node.key.clone()?, value, right, meter)?;
+            let before = node.entry.value.clone()?;
+            let key = node.entry.key.clone()?;
+            let root = make_node(alloc, left, Entry { key, value }, right, meter)?;
             Ok(Inserted {
                 root,
                 before: Some(before),
@@ -69,14 +63,7 @@ pub(crate) fn insert<K: Ord + Drop, V: Drop>(
                 before,
             } = insert(alloc, &node.right, key, value, meter)?;
             let left = shared(&node.left)?;
-            let root = balance(
-                alloc,
-                left,
-                node.key.clone()?,
-                node.value.clone()?,
-                Some(right),
-                meter,
-            )?;
+            let root = balance(alloc, left, &node.entry, Some(right), meter)?;
             Ok(Inserted { root, before })
         }
     }

@@ -1,4 +1,4 @@
-//! What the contracts of a map say of it as a finite map. These functions do nothing: each is its contract.
+//! What the contracts of a map say of it as a finite map. A function with an empty body does nothing: it is its contract.
 ghost use Rattle.std.specs.Prelude.{◌≡◌, ℕ, List, [], ◌∷◌, Option, Some, None, MatchOption, IfOk, OnOk};
 ghost use Rattle.std.specs.Map.{remove_entry};
 ghost use Rattle.std.specs.BTreeMap.{insert_entry, is_at};

@@ -58,8 +58,10 @@ impl<K: Ord + Drop, V: Drop> Map<K, V> {
         ensures len { result ≡ length self.now }
         ensures rising { HasRisingKeys K.cmp self.now }
     {
-        let _ = height(&self.root);
-        self.len
+        let Map { root, len, .. } = self;
+        // What the root says of the entries: their keys rise.
+        let _ = height(root);
+        *len
     }
 
     /// The value at a key, or `None` where the map does not have the key.
@@ -112,10 +114,11 @@ impl<K: Ord + Drop, V: Drop> Map<K, V> {
         ensures ok { OnOk result (self.new ≡ insert_entry K.cmp self.old key value) }
         ensures err { OnErr result (self.new ≡ self.old) }
         ensures rising { HasRisingKeys K.cmp self.old }
-        ensures kept { meter.old ≤ meter.new }
+        ensures not_less { meter.old ≤ meter.new }
         ensures most { meter.new ≤ meter.old + most_nodes (length self.old) }
         ensures counted { OnOk result (IsNone (value_at K.cmp self.old key) → counted_up meter.old ≤ meter.new) }
     {
+        // What the root says of the entries: their keys rise, and they are enough for its height.
         let _ = height(&self.root);
         if self.len == usize::MAX {
             return Err(AllocError);
@@ -146,9 +149,10 @@ impl<K: Ord + Drop, V: Drop> Map<K, V> {
         ensures absent { IsNone (value_at K.cmp self.old key.now) → self.new ≡ self.old }
         ensures err { OnErr result (self.new ≡ self.old) }
         ensures rising { HasRisingKeys K.cmp self.old }
-        ensures kept { meter.old ≤ meter.new }
+        ensures not_less { meter.old ≤ meter.new }
         ensures most { meter.new ≤ meter.old + most_nodes (length self.old) }
     {
+        // What the root says of the entries: their keys rise, and they are enough for its height.
         let _ = height(&self.root);
         let removed = remove::remove(self.alloc, &self.root, key, meter)?;
         let Some(Removed { rest, value }) = removed else {

@@ -7,15 +7,14 @@ ghost use Rattle.nutmap.specs.Entries.{value_at, HasRisingKeys};
 ghost use Rattle.nutmap.specs.Tree.{entries_of, height_of, IsBalanced, greatest_height};
 
 use crate::meter::Meter;
-use crate::tree::{Node, balance, shared};
+use crate::tree::{Entry, Node, balance, shared};
 use std::alloc::{AllocError, Global};
 use std::cmp::Ordering;
 use std::rc::Rc;
 
 // The first entry of a tree, and the tree of the others.
 struct Taken<K: Ord + Drop, V: Drop> {
-    key: Rc<K>,
-    value: Rc<V>,
+    entry: Entry<K, V>,
     rest: Option<Rc<Node<K, V>>>,
 }
 
@@ -32,26 +31,23 @@ fn take_first<K: Ord + Drop, V: Drop>(
     meter: &mut Meter,
 ) -> Result<Taken<K, V>, AllocError>
     requires height_fits { node.now.1 < greatest_height }
-    ensures entries { IfOk result (λ r. node.now.0 ≡ (r.key.value, r.value.value) ∷ entries_of r.rest) }
+    ensures entries { IfOk result (λ r. node.now.0 ≡ (r.entry.key.value, r.entry.value.value) ∷ entries_of r.rest) }
     ensures not_higher { IfOk result (λ r. height_of r.rest ≤ node.now.1) }
     ensures not_lower { IfOk result (λ r. node.now.1 ≤ height_of r.rest + 1) }
-    ensures kept { meter.old ≤ meter.new }
+    ensures not_less { meter.old ≤ meter.new }
     ensures most { meter.new ≤ meter.old + 3 * node.now.1 }
 {
     let right = shared(&node.right)?;
-    let (node_key, node_value) = (node.key.clone()?, node.value.clone()?);
     let Some(left) = &node.left else {
         return Ok(Taken {
-            key: node_key,
-            value: node_value,
+            entry: node.entry.share()?,
             rest: right,
         });
     };
-    let Taken { key, value, rest } = take_first(alloc, left, meter)?;
-    let root = balance(alloc, rest, node_key, node_value, right, meter)?;
+    let Taken { entry, rest } = take_first(alloc, left, meter)?;
+    let root = balance(alloc, rest, &node.entry, right, meter)?;
     Ok(Taken {
-        key,
-        value,
+        entry,
         rest: Some(root),
     })
 }
@@ -69,15 +65,15 @@ fn join<K: Ord + Drop, V: Drop>(
     ensures entries { IfOk result (λ joined. entries_of joined ≡ entries_of left.now ++ entries_of right.now) }
     ensures not_lower { IfOk result (λ joined. max (height_of left.now) (height_of right.now) ≤ height_of joined) }
     ensures not_higher { IfOk result (λ joined. height_of joined ≤ max (height_of left.now) (height_of right.now) + 1) }
-    ensures kept { meter.old ≤ meter.new }
+    ensures not_less { meter.old ≤ meter.new }
     ensures most { meter.new ≤ meter.old + 3 * height_of right.now + 3 }
 {
     let Some(node) = right else {
         let alone = shared(left)?;
         return Ok(alone);
     };
-    let Taken { key, value, rest } = take_first(alloc, node, meter)?;
-    let root = balance(alloc, shared(left)?, key, value, rest, meter)?;
+    let Taken { entry, rest } = take_first(alloc, node, meter)?;
+    let root = balance(alloc, shared(left)?, &entry, rest, meter)?;
     Ok(Some(root))
 }
 
@@ -93,34 +89,27 @@ pub(crate) fn remove<K: Ord + Drop, V: Drop>(
     ensures entries { IfOk result (λ removed. IfSome removed (λ r. entries_of r.rest ≡ remove_entry (is_at (K.cmp key.now)) (entries_of link.now))) }
     ensures not_higher { IfOk result (λ removed. IfSome removed (λ r. height_of r.rest ≤ height_of link.now)) }
     ensures not_lower { IfOk result (λ removed. IfSome removed (λ r. height_of link.now ≤ height_of r.rest + 1)) }
-    ensures kept { meter.old ≤ meter.new }
+    ensures not_less { meter.old ≤ meter.new }
     ensures most { meter.new ≤ meter.old + 3 * height_of link.now }
 {
     let Some(node) = link else {
         return Ok(None);
     };
     let node: &Node<K, V> = node;
-    match key.cmp(&*node.key) {
+    match key.cmp(&*node.entry.key) {
         Ordering::Less => {
             let Some(Removed { rest, value }) = remove(alloc, &node.left, key, meter)? else {
                 return Ok(None);
             };
             let right = shared(&node.right)?;
-            let root = balance(
-                alloc,
-                rest,
-                node.key.clone()?,
-                node.value.clone()?,
-                right,
-                meter,
-            )?;
+            let root = balance(alloc, rest, &node.entry, right, meter)?;
             Ok(Some(Removed {
                 rest: Some(root),
                 value,
             }))
         }
         Ordering::Equal => {
-            let value = node.value.clone()?;
+            let value = node.entry.value.clone()?;
             let rest = join(alloc, &node.left, &node.right, meter)?;
             Ok(Some(Removed { rest, value }))
         }
@@ -129,14 +118,7 @@ pub(crate) fn remove<K: Ord + Drop, V: Drop>(
                 return Ok(None);
             };
             let left = shared(&node.left)?;
-            let root = balance(
-                alloc,
-                left,
-                node.key.clone()?,
-                node.value.clone()?,
-                rest,
-                meter,
-            )?;
+            let root = balance(alloc, left, &node.entry, rest, meter)?;
             Ok(Some(Removed {
                 rest: Some(root),
                 value,

@@ -9,11 +9,29 @@ use std::alloc::{AllocError, Global};
 use std::marker::Model;
 use std::rc::Rc;
 
+/// A key and its value, which versions share.
+#[derive(Drop)]
+pub(crate) struct Entry<K: Ord + Drop, V: Drop> {
+    pub(crate) key: Rc<K>,
+    pub(crate) value: Rc<V>,
+}
+
+impl<K: Ord + Drop, V: Drop> Entry<K, V> {
+    /// The same entry, shared.
+    pub(crate) fn share(&self) -> Result<Entry<K, V>, AllocError>
+        ensures key { IfOk result (λ copy. copy.key.value ≡ self.now.key.value) }
+        ensures value { IfOk result (λ copy. copy.value.value ≡ self.now.value.value) }
+    {
+        let (key, value) = (self.key.clone()?, self.value.clone()?);
+        Ok(Entry { key, value })
+    }
+}
+
+/// A node of the tree: the entries of lesser keys on its left, and those of greater keys on its right.
 #[derive(Drop)]
 pub(crate) struct Node<K: Ord + Drop, V: Drop> {
     pub(crate) left: Option<Rc<Node<K, V>>>,
-    pub(crate) key: Rc<K>,
-    pub(crate) value: Rc<V>,
+    pub(crate) entry: Entry<K, V>,
     pub(crate) right: Option<Rc<Node<K, V>>>,
     pub(crate) height: u8,
 }
@@ -26,9 +44,9 @@ impl<K: Ord + Drop, V: Drop> Model for Node<K, V> {
 
     ghost Value = { List (K × V) × ℕ };
 
-    ghost view = { λ a. (entries_of a.left ++ (a.key.value, a.value.value) ∷ entries_of a.right, a.height) };
+    ghost view = { λ a. (entries_of a.left ++ (a.entry.key.value, a.entry.value.value) ∷ entries_of a.right, a.height) };
 
-    ghost invariant = { λ a. IsNode K.cmp (entries_of a.left ++ (a.key.value, a.value.value) ∷ entries_of a.right) (height_of a.left) (height_of a.right) a.height };
+    ghost invariant = { λ a. IsNode K.cmp (entries_of a.left ++ (a.entry.key.value, a.entry.value.value) ∷ entries_of a.right) (height_of a.left) (height_of a.right) a.height };
 
     ghost size = { λ d. length d.0 };
 
@@ -66,17 +84,16 @@ pub(crate) fn shared<K: Ord + Drop, V: Drop>(
 pub(crate) fn make_node<K: Ord + Drop, V: Drop>(
     alloc: Global,
     left: Option<Rc<Node<K, V>>>,
-    key: Rc<K>,
-    value: Rc<V>,
+    entry: Entry<K, V>,
     right: Option<Rc<Node<K, V>>>,
     meter: &mut Meter,
 ) -> Result<Rc<Node<K, V>>, AllocError>
-    requires rising { HasRisingKeys K.cmp (entries_of left ++ (key.value, value.value) ∷ entries_of right) }
+    requires rising { HasRisingKeys K.cmp (entries_of left ++ (entry.key.value, entry.value.value) ∷ entries_of right) }
     requires balanced { IsBalanced (height_of left) (height_of right) }
     requires height_fits { max (height_of left) (height_of right) < greatest_height }
-    ensures entries { IfOk result (λ n. n.value.0 ≡ entries_of left ++ (key.value, value.value) ∷ entries_of right) }
+    ensures entries { IfOk result (λ n. n.value.0 ≡ entries_of left ++ (entry.key.value, entry.value.value) ∷ entries_of right) }
     ensures height { IfOk result (λ n. n.value.1 ≡ max (height_of left) (height_of right) + 1) }
-    ensures kept { meter.old ≤ meter.new }
+    ensures not_less { meter.old ≤ meter.new }
     ensures most { meter.new ≤ meter.old + 1 }
     ensures counted { OnOk result (counted_up meter.old ≤ meter.new) }
 {
@@ -85,8 +102,7 @@ pub(crate) fn make_node<K: Ord + Drop, V: Drop>(
         alloc,
         Node {
             left,
-            key,
-            value,
+            entry,
             right,
             height,
         },
@@ -99,43 +115,26 @@ pub(crate) fn make_node<K: Ord + Drop, V: Drop>(
 fn double_rotation<K: Ord + Drop, V: Drop>(
     alloc: Global,
     left: Option<Rc<Node<K, V>>>,
-    left_key: Rc<K>,
-    left_value: Rc<V>,
+    left_entry: Entry<K, V>,
     middle: &Node<K, V>,
-    right_key: Rc<K>,
-    right_value: Rc<V>,
+    right_entry: Entry<K, V>,
     right: Option<Rc<Node<K, V>>>,
     meter: &mut Meter,
 ) -> Result<Rc<Node<K, V>>, AllocError>
-    requires rising { HasRisingKeys K.cmp (entries_of left ++ (left_key.value, left_value.value) ∷ (middle.now.0 ++ (right_key.value, right_value.value) ∷ entries_of right)) }
+    requires rising { HasRisingKeys K.cmp (entries_of left ++ (left_entry.key.value, left_entry.value.value) ∷ (middle.now.0 ++ (right_entry.key.value, right_entry.value.value) ∷ entries_of right)) }
     requires left_lower { middle.now.1 ≡ height_of left + 1 }
     requires right_lower { middle.now.1 ≡ height_of right + 1 }
     requires height_fits { middle.now.1 < greatest_height }
-    ensures entries { IfOk result (λ n. n.value.0 ≡ entries_of left ++ (left_key.value, left_value.value) ∷ (middle.now.0 ++ (right_key.value, right_value.value) ∷ entries_of right)) }
+    ensures entries { IfOk result (λ n. n.value.0 ≡ entries_of left ++ (left_entry.key.value, left_entry.value.value) ∷ (middle.now.0 ++ (right_entry.key.value, right_entry.value.value) ∷ entries_of right)) }
     ensures height { IfOk result (λ n. n.value.1 ≡ middle.now.1 + 1) }
-    ensures kept { meter.old ≤ meter.new }
+    ensures not_less { meter.old ≤ meter.new }
     ensures most { meter.new ≤ meter.old + 3 }
     ensures counted { OnOk result (counted_up meter.old ≤ meter.new) }
 {
-    let lower = make_node(
-        alloc,
-        left,
-        left_key,
-        left_value,
-        shared(&middle.left)?,
-        meter,
-    )?;
-    let upper = make_node(
-        alloc,
-        shared(&middle.right)?,
-        right_key,
-        right_value,
-        right,
-        meter,
-    )?;
-    let key = middle.key.clone()?;
-    let value = middle.value.clone()?;
-    let root = make_node(alloc, Some(lower), key, value, Some(upper), meter)?;
+    let lower = make_node(alloc, left, left_entry, shared(&middle.left)?, meter)?;
+    let upper = make_node(alloc, shared(&middle.right)?, right_entry, right, meter)?;
+    let entry = middle.entry.share()?;
+    let root = make_node(alloc, Some(lower), entry, Some(upper), meter)?;
     Ok(root)
 }
 
@@ -143,35 +142,31 @@ fn double_rotation<K: Ord + Drop, V: Drop>(
 fn rotate_right<K: Ord + Drop, V: Drop>(
     alloc: Global,
     left: &Node<K, V>,
-    key: Rc<K>,
-    value: Rc<V>,
+    entry: Entry<K, V>,
     right: Option<Rc<Node<K, V>>>,
     meter: &mut Meter,
 ) -> Result<Rc<Node<K, V>>, AllocError>
-    requires rising { HasRisingKeys K.cmp (left.now.0 ++ (key.value, value.value) ∷ entries_of right) }
+    requires rising { HasRisingKeys K.cmp (left.now.0 ++ (entry.key.value, entry.value.value) ∷ entries_of right) }
     requires two_higher { left.now.1 ≡ height_of right + 2 }
     requires height_fits { left.now.1 < greatest_height }
-    ensures entries { IfOk result (λ n. n.value.0 ≡ left.now.0 ++ (key.value, value.value) ∷ entries_of right) }
+    ensures entries { IfOk result (λ n. n.value.0 ≡ left.now.0 ++ (entry.key.value, entry.value.value) ∷ entries_of right) }
     ensures not_lower { IfOk result (λ n. left.now.1 ≤ n.value.1) }
     ensures not_higher { IfOk result (λ n. n.value.1 ≤ left.now.1 + 1) }
-    ensures kept { meter.old ≤ meter.new }
+    ensures not_less { meter.old ≤ meter.new }
     ensures most { meter.new ≤ meter.old + 3 }
     ensures counted { OnOk result (counted_up meter.old ≤ meter.new) }
 {
     let outer = shared(&left.left)?;
-    let left_key = left.key.clone()?;
-    let left_value = left.value.clone()?;
+    let left_entry = left.entry.share()?;
     if height(&left.left) < height(&left.right) {
         let Some(inner) = &left.right else {
             unreachable!()
         };
-        let root = double_rotation(
-            alloc, outer, left_key, left_value, inner, key, value, right, meter,
-        )?;
+        let root = double_rotation(alloc, outer, left_entry, inner, entry, right, meter)?;
         return Ok(root);
     }
-    let lower = make_node(alloc, shared(&left.right)?, key, value, right, meter)?;
-    let root = make_node(alloc, outer, left_key, left_value, Some(lower), meter)?;
+    let lower = make_node(alloc, shared(&left.right)?, entry, right, meter)?;
+    let root = make_node(alloc, outer, left_entry, Some(lower), meter)?;
     Ok(root)
 }
 
@@ -179,43 +174,31 @@ fn rotate_right<K: Ord + Drop, V: Drop>(
 fn rotate_left<K: Ord + Drop, V: Drop>(
     alloc: Global,
     left: Option<Rc<Node<K, V>>>,
-    key: Rc<K>,
-    value: Rc<V>,
+    entry: Entry<K, V>,
     right: &Node<K, V>,
     meter: &mut Meter,
 ) -> Result<Rc<Node<K, V>>, AllocError>
-    requires rising { HasRisingKeys K.cmp (entries_of left ++ (key.value, value.value) ∷ right.now.0) }
+    requires rising { HasRisingKeys K.cmp (entries_of left ++ (entry.key.value, entry.value.value) ∷ right.now.0) }
     requires two_higher { right.now.1 ≡ height_of left + 2 }
     requires height_fits { right.now.1 < greatest_height }
-    ensures entries { IfOk result (λ n. n.value.0 ≡ entries_of left ++ (key.value, value.value) ∷ right.now.0) }
+    ensures entries { IfOk result (λ n. n.value.0 ≡ entries_of left ++ (entry.key.value, entry.value.value) ∷ right.now.0) }
     ensures not_lower { IfOk result (λ n. right.now.1 ≤ n.value.1) }
     ensures not_higher { IfOk result (λ n. n.value.1 ≤ right.now.1 + 1) }
-    ensures kept { meter.old ≤ meter.new }
+    ensures not_less { meter.old ≤ meter.new }
     ensures most { meter.new ≤ meter.old + 3 }
     ensures counted { OnOk result (counted_up meter.old ≤ meter.new) }
 {
     let outer = shared(&right.right)?;
-    let right_key = right.key.clone()?;
-    let right_value = right.value.clone()?;
+    let right_entry = right.entry.share()?;
     if height(&right.right) < height(&right.left) {
         let Some(inner) = &right.left else {
             unreachable!()
         };
-        let root = double_rotation(
-            alloc,
-            left,
-            key,
-            value,
-            inner,
-            right_key,
-            right_value,
-            outer,
-            meter,
-        )?;
+        let root = double_rotation(alloc, left, entry, inner, right_entry, outer, meter)?;
         return Ok(root);
     }
-    let lower = make_node(alloc, left, key, value, shared(&right.left)?, meter)?;
-    let root = make_node(alloc, Some(lower), right_key, right_value, outer, meter)?;
+    let lower = make_node(alloc, left, entry, shared(&right.left)?, meter)?;
+    let root = make_node(alloc, Some(lower), right_entry, outer, meter)?;
     Ok(root)
 }
 
@@ -223,32 +206,32 @@ fn rotate_left<K: Ord + Drop, V: Drop>(
 pub(crate) fn balance<K: Ord + Drop, V: Drop>(
     alloc: Global,
     left: Option<Rc<Node<K, V>>>,
-    key: Rc<K>,
-    value: Rc<V>,
+    entry: &Entry<K, V>,
     right: Option<Rc<Node<K, V>>>,
     meter: &mut Meter,
 ) -> Result<Rc<Node<K, V>>, AllocError>
-    requires rising { HasRisingKeys K.cmp (entries_of left ++ (key.value, value.value) ∷ entries_of right) }
+    requires rising { HasRisingKeys K.cmp (entries_of left ++ (entry.now.key.value, entry.now.value.value) ∷ entries_of right) }
     requires left_near { height_of left ≤ height_of right + 2 }
     requires right_near { height_of right ≤ height_of left + 2 }
     requires height_fits { max (height_of left) (height_of right) < greatest_height }
-    ensures entries { IfOk result (λ n. n.value.0 ≡ entries_of left ++ (key.value, value.value) ∷ entries_of right) }
+    ensures entries { IfOk result (λ n. n.value.0 ≡ entries_of left ++ (entry.now.key.value, entry.now.value.value) ∷ entries_of right) }
     ensures height { IfOk result (λ n. IsRebalancedHeight (height_of left) (height_of right) n.value.1) }
-    ensures kept { meter.old ≤ meter.new }
+    ensures not_less { meter.old ≤ meter.new }
     ensures most { meter.new ≤ meter.old + 3 }
     ensures counted { OnOk result (counted_up meter.old ≤ meter.new) }
 {
+    let entry = entry.share()?;
     let (left_height, right_height) = (height(&left), height(&right));
     if left_height > right_height + 1 {
         let Some(left) = &left else { unreachable!() };
-        let root = rotate_right(alloc, left, key, value, right, meter)?;
+        let root = rotate_right(alloc, left, entry, right, meter)?;
         return Ok(root);
     }
     if right_height > left_height + 1 {
         let Some(right) = &right else { unreachable!() };
-        let root = rotate_left(alloc, left, key, value, right, meter)?;
+        let root = rotate_left(alloc, left, entry, right, meter)?;
         return Ok(root);
     }
-    let root = make_node(alloc, left, key, value, right, meter)?;
+    let root = make_node(alloc, left, entry, right, meter)?;
     Ok(root)
 }

@@ -19,7 +19,7 @@ pub balance-requires-clause-rising : goal.balance-requires-clause-rising
 balance-requires-clause-rising g t c =
     let cut = remove_left g.met.K.Ord.total c.args.key.now _ _ _ _ c.node.invariant.tree.rising (sym (rw c.deref.ensures at c.cmp.ensures) ∙ c.in-Less.is) in
     let rest = rw c.in-Some-2.is at c.in_ok-rest-in-Less.ensures.entries in
-    rw (rest, c.in_ok-clone-in-Less.ensures.cases, c.in_ok-clone-in-Less-2.ensures.cases, c.in_ok-right-in-Less.ensures.entries, ← cut) (rest_stays_rising g.met.K.Ord.total _ _ (record { rising = c.node.invariant.tree.rising }))
+    rw (rest, c.in_ok-right-in-Less.ensures.entries, ← cut) (rest_stays_rising g.met.K.Ord.total _ _ (record { rising = c.node.invariant.tree.rising }))
 
 pub balance-requires-clause-left_near : goal.balance-requires-clause-left_near
 balance-requires-clause-left_near g t c =
@@ -67,7 +67,7 @@ pub balance-requires-in-Greater-clause-rising : goal.balance-requires-in-Greater
 balance-requires-in-Greater-clause-rising g t c =
     let cut = remove_right g.met.K.Ord.total c.args.key.now _ _ _ _ c.node.invariant.tree.rising (sym (rw c.deref.ensures at c.cmp.ensures) ∙ c.in-Greater.is) in
     let rest = rw c.in-Some-3.is at c.in_ok-rest-in-Greater.ensures.entries in
-    rw (rest, c.in_ok-clone-in-Greater.ensures.cases, c.in_ok-clone-in-Greater-2.ensures.cases, c.in_ok-left-in-Greater.ensures.entries, ← cut) (rest_stays_rising g.met.K.Ord.total _ _ (record { rising = c.node.invariant.tree.rising }))
+    rw (rest, c.in_ok-left-in-Greater.ensures.entries, ← cut) (rest_stays_rising g.met.K.Ord.total _ _ (record { rising = c.node.invariant.tree.rising }))
 
 pub balance-requires-in-Greater-clause-left_near : goal.balance-requires-in-Greater-clause-left_near
 balance-requires-in-Greater-clause-left_near g t c =
@@ -94,7 +94,7 @@ pub returns-in_ok-root-in-Less-clause-entries : goal.returns-in_ok-root-in-Less-
 returns-in_ok-root-in-Less-clause-entries g t c =
     let cut = remove_left g.met.K.Ord.total c.args.key.now _ _ _ _ c.node.invariant.tree.rising (sym (rw c.deref.ensures at c.cmp.ensures) ∙ c.in-Less.is) in
     let rest = rw c.in-Some-2.is at c.in_ok-rest-in-Less.ensures.entries in
-    rw (c.in-Some.is, ← c.deref-node.ensures, ← c.node.view_is, c.in_ok-root-in-Less.ensures.entries, rest, c.in_ok-clone-in-Less.ensures.cases, c.in_ok-clone-in-Less-2.ensures.cases, c.in_ok-right-in-Less.ensures.entries) (sym cut)
+    rw (c.in-Some.is, ← c.deref-node.ensures, ← c.node.view_is, c.in_ok-root-in-Less.ensures.entries, rest, c.in_ok-right-in-Less.ensures.entries) (sym cut)
 
 pub returns-in_ok-rest-in-Equal-clause-value : goal.returns-in_ok-rest-in-Equal-clause-value
 returns-in_ok-rest-in-Equal-clause-value g t c =
@@ -114,4 +114,4 @@ pub returns-in_ok-root-in-Greater-clause-entries : goal.returns-in_ok-root-in-Gr
 returns-in_ok-root-in-Greater-clause-entries g t c =
     let cut = remove_right g.met.K.Ord.total c.args.key.now _ _ _ _ c.node.invariant.tree.rising (sym (rw c.deref.ensures at c.cmp.ensures) ∙ c.in-Greater.is) in
     let rest = rw c.in-Some-3.is at c.in_ok-rest-in-Greater.ensures.entries in
-    rw (c.in-Some.is, ← c.deref-node.ensures, ← c.node.view_is, c.in_ok-root-in-Greater.ensures.entries, rest, c.in_ok-clone-in-Greater.ensures.cases, c.in_ok-clone-in-Greater-2.ensures.cases, c.in_ok-left-in-Greater.ensures.entries) (sym cut)
+    rw (c.in-Some.is, ← c.deref-node.ensures, ← c.node.view_is, c.in_ok-root-in-Greater.ensures.entries, rest, c.in_ok-left-in-Greater.ensures.entries) (sym cut)
