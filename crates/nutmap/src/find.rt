@@ -4,15 +4,11 @@ ghost use Rattle.std.specs.Option.{option_copied, option_map};
 ghost use Rattle.nutmap.specs.Entries.{value_at, entry_after};
 ghost use Rattle.nutmap.specs.Tree.{entries_of};
 
-use crate::tree::Node;
+use crate::tree::{Link, Node};
 use std::cmp::Ordering;
-use std::rc::Rc;
 
 /// The value at a key.
-pub(crate) fn value<'a, K: Ord + Drop, V: Drop>(
-    link: &'a Option<Rc<Node<K, V>>>,
-    key: &K,
-) -> Option<&'a V>
+pub(crate) fn value<'a, K: Ord + Drop, V: Drop>(link: &'a Link<K, V>, key: &K) -> Option<&'a V>
     ensures { option_copied result ≡ value_at K.cmp (entries_of link.now) key.now }
 {
     let Some(node) = link else {
@@ -27,7 +23,7 @@ pub(crate) fn value<'a, K: Ord + Drop, V: Drop>(
 }
 
 /// The entry with the least key.
-pub(crate) fn first<K: Ord + Drop, V: Drop>(link: &Option<Rc<Node<K, V>>>) -> Option<(&K, &V)>
+pub(crate) fn first<K: Ord + Drop, V: Drop>(link: &Link<K, V>) -> Option<(&K, &V)>
     ensures { option_map (λ e. (e.0.now, e.1.now)) result ≡ entry_after K.cmp (entries_of link.now) None }
 {
     let Some(node) = link else {
@@ -42,7 +38,7 @@ pub(crate) fn first<K: Ord + Drop, V: Drop>(link: &Option<Rc<Node<K, V>>>) -> Op
 
 /// The entry with the least key above the given one.
 pub(crate) fn above<'a, K: Ord + Drop, V: Drop>(
-    link: &'a Option<Rc<Node<K, V>>>,
+    link: &'a Link<K, V>,
     key: &K,
 ) -> Option<(&'a K, &'a V)>
     ensures { option_map (λ e. (e.0.now, e.1.now)) result ≡ entry_after K.cmp (entries_of link.now) (Some key.now) }

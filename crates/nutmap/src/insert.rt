@@ -7,7 +7,7 @@ ghost use Rattle.nutmap.specs.Meter.{counted_up};
 ghost use Rattle.nutmap.specs.Tree.{entries_of, height_of, greatest_height};
 
 use crate::meter::Meter;
-use crate::tree::{Entry, Node, balance, make_node, shared};
+use crate::tree::{Entry, Link, Node, balance, make_node, shared};
 use std::alloc::{AllocError, Global};
 use std::cmp::Ordering;
 use std::rc::Rc;
@@ -21,7 +21,7 @@ pub(crate) struct Inserted<K: Ord + Drop, V: Drop> {
 /// The tree with the value at the key: the new nodes are those from the root to the key, and their rotations.
 pub(crate) fn insert<K: Ord + Drop, V: Drop>(
     alloc: Global,
-    link: &Option<Rc<Node<K, V>>>,
+    link: &Link<K, V>,
     key: Rc<K>,
     value: Rc<V>,
     meter: &mut Meter,

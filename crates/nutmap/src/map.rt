@@ -11,7 +11,7 @@ use crate::find;
 use crate::insert::{self, Inserted};
 use crate::meter::Meter;
 use crate::remove::{self, Removed};
-use crate::tree::{Node, height, shared};
+use crate::tree::{Link, height, shared};
 use std::alloc::{AllocError, Global};
 use std::marker::Model;
 use std::rc::Rc;
@@ -26,7 +26,7 @@ use std::rc::Rc;
 #[derive(Drop)]
 pub struct Map<K: Ord + Drop, V: Drop> {
     alloc: Global,
-    root: Option<Rc<Node<K, V>>>,
+    root: Link<K, V>,
     len: usize,
 }
 
@@ -75,8 +75,11 @@ impl<K: Ord + Drop, V: Drop> Map<K, V> {
     ///
     /// A walk that goes from each key to the next meets every entry once, and takes no memory.
     pub fn after(&self, above: Option<&K>) -> Option<(&K, &V)>
-        ensures { option_map (λ e. (e.0.now, e.1.now)) result ≡ entry_after K.cmp self.now (option_map (λ k. k.now) above.entry) }
+        ensures entry { option_map (λ e. (e.0.now, e.1.now)) result ≡ entry_after K.cmp self.now (option_map (λ k. k.now) above.entry) }
+        ensures rising { HasRisingKeys K.cmp self.now }
     {
+        // What the root says of the entries: their keys rise.
+        let _ = height(&self.root);
         match above {
             None => find::first(&self.root),
             Some(key) => find::above(&self.root, key),
@@ -98,7 +101,8 @@ impl<K: Ord + Drop, V: Drop> Map<K, V> {
 
     /// Sets the value of a key, and answers the earlier value. An equal key that is there stays.
     ///
-    /// The nodes that it makes are counted by `meter`, at least one and at most `most_nodes` of the entries before.
+    /// The nodes that it makes are counted by `meter`: at least one for a new key, and at most 8 d + 8, where d is
+    /// how many binary digits write one more than the entries before.
     ///
     /// # Errors
     ///
@@ -138,7 +142,8 @@ impl<K: Ord + Drop, V: Drop> Map<K, V> {
 
     /// Takes out the entry of a key, and answers its value, or answers `None` where the map does not have the key.
     ///
-    /// The nodes that it makes are counted by `meter`, at most `most_nodes` of the entries before.
+    /// The nodes that it makes are counted by `meter`: none where the key is absent, and at most 8 d + 8, where d is
+    /// how many binary digits write one more than the entries before.
     ///
     /// # Errors
     ///
@@ -150,6 +155,7 @@ impl<K: Ord + Drop, V: Drop> Map<K, V> {
         ensures err { OnErr result (self.new ≡ self.old) }
         ensures rising { HasRisingKeys K.cmp self.old }
         ensures not_less { meter.old ≤ meter.new }
+        ensures unmade { OnOk result (IsNone (value_at K.cmp self.old key.now) → meter.new ≡ meter.old) }
         ensures most { meter.new ≤ meter.old + most_nodes (length self.old) }
     {
         // What the root says of the entries: their keys rise, and they are enough for its height.

@@ -1,5 +1,5 @@
 //! Taking an entry out of a tree, which makes a new path to its place.
-ghost use Rattle.std.specs.Prelude.{◌≡◌, ◌+◌, ◌*◌, ◌<◌, ◌≤◌, max, ◌∷◌, ◌++◌, IfOk, IfSome};
+ghost use Rattle.std.specs.Prelude.{◌≡◌, ◌+◌, ◌*◌, ◌<◌, ◌≤◌, max, ◌∷◌, ◌++◌, IsNone, IfOk, IfSome};
 ghost use Rattle.std.specs.Option.{option_map};
 ghost use Rattle.std.specs.Map.{remove_entry};
 ghost use Rattle.std.specs.BTreeMap.{is_at};
@@ -7,24 +7,24 @@ ghost use Rattle.nutmap.specs.Entries.{value_at, HasRisingKeys};
 ghost use Rattle.nutmap.specs.Tree.{entries_of, height_of, IsBalanced, greatest_height};
 
 use crate::meter::Meter;
-use crate::tree::{Entry, Node, balance, shared};
+use crate::tree::{Entry, Link, Node, balance, shared};
 use std::alloc::{AllocError, Global};
 use std::cmp::Ordering;
 use std::rc::Rc;
 
-// The first entry of a tree, and the tree of the others.
+/// The first entry of a tree, and the tree of the others.
 struct Taken<K: Ord + Drop, V: Drop> {
     entry: Entry<K, V>,
-    rest: Option<Rc<Node<K, V>>>,
+    rest: Link<K, V>,
 }
 
 /// The tree without the entry, and the value that it had.
 pub(crate) struct Removed<K: Ord + Drop, V: Drop> {
-    pub(crate) rest: Option<Rc<Node<K, V>>>,
+    pub(crate) rest: Link<K, V>,
     pub(crate) value: Rc<V>,
 }
 
-// The entry with the least key, and the others.
+/// The entry with the least key, and the others.
 fn take_first<K: Ord + Drop, V: Drop>(
     alloc: Global,
     node: &Node<K, V>,
@@ -52,13 +52,13 @@ fn take_first<K: Ord + Drop, V: Drop>(
     })
 }
 
-// The tree of two trees' entries.
+/// The tree of two trees' entries.
 fn join<K: Ord + Drop, V: Drop>(
     alloc: Global,
-    left: &Option<Rc<Node<K, V>>>,
-    right: &Option<Rc<Node<K, V>>>,
+    left: &Link<K, V>,
+    right: &Link<K, V>,
     meter: &mut Meter,
-) -> Result<Option<Rc<Node<K, V>>>, AllocError>
+) -> Result<Link<K, V>, AllocError>
     requires rising { HasRisingKeys K.cmp (entries_of left.now ++ entries_of right.now) }
     requires balanced { IsBalanced (height_of left.now) (height_of right.now) }
     requires height_fits { max (height_of left.now) (height_of right.now) < greatest_height }
@@ -80,7 +80,7 @@ fn join<K: Ord + Drop, V: Drop>(
 /// The tree without the key, or `None` where it has none: no node is made then.
 pub(crate) fn remove<K: Ord + Drop, V: Drop>(
     alloc: Global,
-    link: &Option<Rc<Node<K, V>>>,
+    link: &Link<K, V>,
     key: &K,
     meter: &mut Meter,
 ) -> Result<Option<Removed<K, V>>, AllocError>
@@ -91,6 +91,7 @@ pub(crate) fn remove<K: Ord + Drop, V: Drop>(
     ensures not_lower { IfOk result (λ removed. IfSome removed (λ r. height_of link.now ≤ height_of r.rest + 1)) }
     ensures not_less { meter.old ≤ meter.new }
     ensures most { meter.new ≤ meter.old + 3 * height_of link.now }
+    ensures absent { IfOk result (λ removed. IsNone removed → meter.new ≡ meter.old) }
 {
     let Some(node) = link else {
         return Ok(None);

@@ -9,6 +9,9 @@ use std::alloc::{AllocError, Global};
 use std::marker::Model;
 use std::rc::Rc;
 
+/// A tree, or none: a node that it shares with others.
+pub(crate) type Link<K, V> = Option<Rc<Node<K, V>>>;
+
 /// A key and its value, which versions share.
 #[derive(Drop)]
 pub(crate) struct Entry<K: Ord + Drop, V: Drop> {
@@ -30,9 +33,9 @@ impl<K: Ord + Drop, V: Drop> Entry<K, V> {
 /// A node of the tree: the entries of lesser keys on its left, and those of greater keys on its right.
 #[derive(Drop)]
 pub(crate) struct Node<K: Ord + Drop, V: Drop> {
-    pub(crate) left: Option<Rc<Node<K, V>>>,
+    pub(crate) left: Link<K, V>,
     pub(crate) entry: Entry<K, V>,
-    pub(crate) right: Option<Rc<Node<K, V>>>,
+    pub(crate) right: Link<K, V>,
     pub(crate) height: u8,
 }
 
@@ -53,8 +56,8 @@ impl<K: Ord + Drop, V: Drop> Model for Node<K, V> {
     ghost size_decreases = { λ a h. Prim.grind (arith, length-append) };
 }
 
-// The height of a tree, which is 0 for none.
-pub(crate) fn height<K: Ord + Drop, V: Drop>(link: &Option<Rc<Node<K, V>>>) -> u8
+/// The height of a tree, which is 0 for none.
+pub(crate) fn height<K: Ord + Drop, V: Drop>(link: &Link<K, V>) -> u8
     ensures height { result ≡ height_of link.now }
     ensures tree { IsTree K.cmp (entries_of link.now) (height_of link.now) }
 {
@@ -67,10 +70,8 @@ pub(crate) fn height<K: Ord + Drop, V: Drop>(link: &Option<Rc<Node<K, V>>>) -> u
     }
 }
 
-// The same tree, shared.
-pub(crate) fn shared<K: Ord + Drop, V: Drop>(
-    link: &Option<Rc<Node<K, V>>>,
-) -> Result<Option<Rc<Node<K, V>>>, AllocError>
+/// The same tree, shared.
+pub(crate) fn shared<K: Ord + Drop, V: Drop>(link: &Link<K, V>) -> Result<Link<K, V>, AllocError>
     ensures entries { IfOk result (λ copy. entries_of copy ≡ entries_of link.now) }
     ensures height { IfOk result (λ copy. height_of copy ≡ height_of link.now) }
 {
@@ -80,12 +81,12 @@ pub(crate) fn shared<K: Ord + Drop, V: Drop>(
     }
 }
 
-// The one constructor of nodes, which counts them.
+/// The one constructor of nodes, which counts them.
 pub(crate) fn make_node<K: Ord + Drop, V: Drop>(
     alloc: Global,
-    left: Option<Rc<Node<K, V>>>,
+    left: Link<K, V>,
     entry: Entry<K, V>,
-    right: Option<Rc<Node<K, V>>>,
+    right: Link<K, V>,
     meter: &mut Meter,
 ) -> Result<Rc<Node<K, V>>, AllocError>
     requires rising { HasRisingKeys K.cmp (entries_of left ++ (entry.key.value, entry.value.value) ∷ entries_of right) }
@@ -111,14 +112,14 @@ pub(crate) fn make_node<K: Ord + Drop, V: Drop>(
     Ok(made)
 }
 
-// The double rotation: the middle node rises over the two that were above it, and its sides go to them.
+/// The double rotation: the middle node rises over the two that were above it, and its sides go to them.
 fn double_rotation<K: Ord + Drop, V: Drop>(
     alloc: Global,
-    left: Option<Rc<Node<K, V>>>,
+    left: Link<K, V>,
     left_entry: Entry<K, V>,
     middle: &Node<K, V>,
     right_entry: Entry<K, V>,
-    right: Option<Rc<Node<K, V>>>,
+    right: Link<K, V>,
     meter: &mut Meter,
 ) -> Result<Rc<Node<K, V>>, AllocError>
     requires rising { HasRisingKeys K.cmp (entries_of left ++ (left_entry.key.value, left_entry.value.value) ∷ (middle.now.0 ++ (right_entry.key.value, right_entry.value.value) ∷ entries_of right)) }
@@ -131,19 +132,19 @@ fn double_rotation<K: Ord + Drop, V: Drop>(
     ensures most { meter.new ≤ meter.old + 3 }
     ensures counted { OnOk result (counted_up meter.old ≤ meter.new) }
 {
-    let lower = make_node(alloc, left, left_entry, shared(&middle.left)?, meter)?;
-    let upper = make_node(alloc, shared(&middle.right)?, right_entry, right, meter)?;
+    let left_side = make_node(alloc, left, left_entry, shared(&middle.left)?, meter)?;
+    let right_side = make_node(alloc, shared(&middle.right)?, right_entry, right, meter)?;
     let entry = middle.entry.share()?;
-    let root = make_node(alloc, Some(lower), entry, Some(upper), meter)?;
+    let root = make_node(alloc, Some(left_side), entry, Some(right_side), meter)?;
     Ok(root)
 }
 
-// The node over two sides, of which the left is two levels higher: its left side rises.
+/// The node over two sides, of which the left is two levels higher: its left side rises.
 fn rotate_right<K: Ord + Drop, V: Drop>(
     alloc: Global,
     left: &Node<K, V>,
     entry: Entry<K, V>,
-    right: Option<Rc<Node<K, V>>>,
+    right: Link<K, V>,
     meter: &mut Meter,
 ) -> Result<Rc<Node<K, V>>, AllocError>
     requires rising { HasRisingKeys K.cmp (left.now.0 ++ (entry.key.value, entry.value.value) ∷ entries_of right) }
@@ -170,10 +171,10 @@ fn rotate_right<K: Ord + Drop, V: Drop>(
     Ok(root)
 }
 
-// The node over two sides, of which the right is two levels higher: its right side rises.
+/// The node over two sides, of which the right is two levels higher: its right side rises.
 fn rotate_left<K: Ord + Drop, V: Drop>(
     alloc: Global,
-    left: Option<Rc<Node<K, V>>>,
+    left: Link<K, V>,
     entry: Entry<K, V>,
     right: &Node<K, V>,
     meter: &mut Meter,
@@ -202,12 +203,12 @@ fn rotate_left<K: Ord + Drop, V: Drop>(
     Ok(root)
 }
 
-// The node over two sides, of which neither is more than two levels higher, by a rotation where they need one.
+/// The node over two sides, of which neither is more than two levels higher, by a rotation where they need one.
 pub(crate) fn balance<K: Ord + Drop, V: Drop>(
     alloc: Global,
-    left: Option<Rc<Node<K, V>>>,
+    left: Link<K, V>,
     entry: &Entry<K, V>,
-    right: Option<Rc<Node<K, V>>>,
+    right: Link<K, V>,
     meter: &mut Meter,
 ) -> Result<Rc<Node<K, V>>, AllocError>
     requires rising { HasRisingKeys K.cmp (entries_of left ++ (entry.now.key.value, entry.now.value.value) ∷ entries_of right) }
