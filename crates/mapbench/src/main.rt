@@ -1,4 +1,4 @@
-//! Compares a map with std's `BTreeMap`: the answers, and with the word `time` the time of the calls.
+//! Compares a map with std's `BTreeMap`: the answers, and with the word `time` the processor time of the calls.
 #![tactic(auto)]
 
 mod calls;
@@ -6,8 +6,7 @@ mod calls;
 use nutmap::{Map, Meter};
 use std::alloc::Global;
 use std::collections::BTreeMap;
-use std::rt::Clock;
-use std::time::Instant;
+use std::time::{CpuClock, Duration};
 use std::{env, io};
 
 /// The sizes that are compared, in entries.
@@ -27,7 +26,12 @@ fn main(rt: HostRuntime) -> io::Result<()> {
     Ok(())
 }
 
-fn compare(rt: &(impl Print + Clock), alloc: Global, entries: u32, timed: bool) -> io::Result<()> {
+fn compare(
+    rt: &(impl Print + CpuClock),
+    alloc: Global,
+    entries: u32,
+    timed: bool,
+) -> io::Result<()> {
     let mut map = Map::new(alloc);
     let mut tree = BTreeMap::new(alloc);
     let mut meter = Meter::new();
@@ -37,15 +41,15 @@ fn compare(rt: &(impl Print + Clock), alloc: Global, entries: u32, timed: bool) 
     }
     let calls = if timed { CALLS } else { entries };
 
-    let start = Instant::now(rt)?;
+    let start = rt.thread_cpu_time()?;
     let sum = calls::map_gets(&map, entries, calls);
-    let middle = Instant::now(rt)?;
+    let middle = rt.thread_cpu_time()?;
     let expected = calls::tree_gets(&tree, entries, calls);
     print_line(rt, entries, "get", timed, start, middle, sum == expected)?;
 
-    let start = Instant::now(rt)?;
+    let start = rt.thread_cpu_time()?;
     let sum = calls::map_nexts(&map, entries, calls);
-    let middle = Instant::now(rt)?;
+    let middle = rt.thread_cpu_time()?;
     let expected = calls::tree_nexts(&tree, entries, calls);
     print_line(rt, entries, "after", timed, start, middle, sum == expected)?;
 
@@ -54,45 +58,46 @@ fn compare(rt: &(impl Print + Clock), alloc: Global, entries: u32, timed: bool) 
 }
 
 fn compare_changes(
-    rt: &(impl Print + Clock),
+    rt: &(impl Print + CpuClock),
     alloc: Global,
     entries: u32,
     calls: u32,
     timed: bool,
 ) -> io::Result<()> {
-    let start = Instant::now(rt)?;
+    let start = rt.thread_cpu_time()?;
     let len = calls::map_inserts(alloc, entries, calls)?;
-    let middle = Instant::now(rt)?;
+    let middle = rt.thread_cpu_time()?;
     let expected = calls::tree_inserts(alloc, entries, calls)?;
     print_line(rt, entries, "insert", timed, start, middle, len == expected)
 }
 
 /// A `BTreeMap` has no versions to compare with.
 fn print_shares(
-    rt: &(impl Print + Clock),
+    rt: &(impl Print + CpuClock),
     map: &Map<u32, u32>,
     entries: u32,
     calls: u32,
     timed: bool,
 ) -> io::Result<()> {
-    let start = Instant::now(rt)?;
+    let start = rt.thread_cpu_time()?;
     let len = calls::shares(map, calls)?;
     if !timed {
         return println!(rt; "{entries:>7}  share   a version has {len}");
     }
-    let time = per_call(start.elapsed(rt)?.as_micros());
+    let end = rt.thread_cpu_time()?;
+    let time = per_call(end.saturating_sub(start).as_micros());
     println!(rt; "{entries:>7}  share   {time:>6.1}")
 }
 
 /// Prints whether the answers agree, or how long a call took: the map's ran from `start` to `middle`, and the
 /// `BTreeMap`'s from there to now.
 fn print_line(
-    rt: &(impl Print + Clock),
+    rt: &(impl Print + CpuClock),
     entries: u32,
     call: &str,
     timed: bool,
-    start: Instant,
-    middle: Instant,
+    start: Duration,
+    middle: Duration,
     agree: bool,
 ) -> io::Result<()> {
     if !agree {
@@ -101,8 +106,9 @@ fn print_line(
     if !timed {
         return println!(rt; "{entries:>7}  {call:<6}  the answers agree");
     }
-    let tree = per_call(middle.elapsed(rt)?.as_micros());
-    let map = per_call(start.elapsed(rt)?.as_micros()) - tree;
+    let end = rt.thread_cpu_time()?;
+    let map = per_call(middle.saturating_sub(start).as_micros());
+    let tree = per_call(end.saturating_sub(middle).as_micros());
     let ratio = map / tree;
     println!(rt; "{entries:>7}  {call:<6}  {map:>6.1}  {tree:>11.1}  {ratio:>5.2}")
 }
