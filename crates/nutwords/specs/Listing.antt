@@ -26,7 +26,7 @@ ReadsAsLines text rows = (lines : List (List ℕ)) × IsCutInto text lines (Unfi
 abbrev pub listing_words : List (List ℕ) → List (List (List ℕ)) → List (List (List ℕ))
 listing_words asked rows = (codes "BEGIN" ∷ codes "LIST" ∷ asked) ∷ (rows ++ (codes "END" ∷ codes "LIST" ∷ asked) ∷ [])
 
--- The text of a listing reads as BEGIN and what was asked for, the items' words in their order, END and what was asked for (RFC 9271, section 4.2: LIST).
+-- The text of a listing reads as BEGIN and what was asked for, the items' words in their order, END and what was asked for (RFC 9271: LIST).
 abbrev pub ListingIsReadBack : Type 0
 ListingIsReadBack = (kind : List ℕ) (names asked : List (List ℕ)) (items rows : List (List (List ℕ))) → AllZip IsWritten (kind ∷ names) asked → length (line_of (codes "BEGIN" ∷ codes "LIST" ∷ kind ∷ names)) ≤ LINE_ROOM → AllZip IsWrittenLine items rows → ReadsAsLines (frame kind names items) (listing_words asked rows)
 

@@ -24,7 +24,7 @@ pub fn quoted_len(word: &[u8]) -> usize
     len
 }
 
-/// Appends the written spelling of the word to the line (RFC 9271, section 4). The word is at most 1,024 bytes, and the
+/// Appends the written spelling of the word to the line (RFC 9271). The word is at most 1,024 bytes, and the
 /// caller has seen that the line has room for it, by `quoted_len`.
 pub fn quote_into(word: &[u8], line: &mut Line)
     requires short { length word.now ≤ LINE_ROOM }
