@@ -1,19 +1,18 @@
 -- Each event of a driver, over plain states.
-use Rattle.std.proofs.Common.{◌≡◌, ℕ, zero, suc, ◌<◌, Bool, true, false, List, [], ◌∷◌, Option, Some, None, Result, Ok, Err, refl, sym, ◌∙◌, ap, subst, arith, length, set, get_or, inl, inr}
-use Rattle.std.specs.Prelude.{IsTrue, slice_get, slice_set, ◌&&◌}
+use Rattle.std.proofs.Common.{◌≡◌, ℕ, zero, suc, ◌<◌, Bool, true, false, List, [], ◌∷◌, Option, Some, None, Result, Ok, Err, refl, sym, ◌∙◌, ap, arith, length, set, get_or, inl, inr}
+use Rattle.std.specs.Prelude.{slice_get}
 use Rattle.std.specs.Option.{option_map}
 use Rattle.std.proofs.lemmas.Bool.{cond-true, cond-false, and_from}
 use Rattle.std.proofs.lemmas.Option.{slice_get-get_or}
 use Rattle.nutcore.specs.declared.event.UpsId.{UpsId}
-use Rattle.nutcore.specs.declared.event.Event.{Event}
 use Rattle.nutcore.specs.declared.event.Event.TheVariants.{DriverUp, DriverBytes, DriverDown}
 use Rattle.nutcore.specs.declared.event.Outcome.TheVariants.{Done, Refused}
 use Rattle.nutcore.specs.declared.event.Fault.{Fault}
 use Rattle.nutcore.specs.declared.event.Fault.TheVariants.{NoSuchUps, NoSuchClient, TooManyClients, TookTooMuch, NotConnected, AlreadyConnected, LineTooLong, Memory}
-use Rattle.nutcore.specs.Ups.{UpsState, after_connecting, after_loss, with_bytes, after_driver_lines, after_all_driver_lines, is_driver_overlong, wants_driver_memory}
+use Rattle.nutcore.specs.Ups.{UpsState, after_connecting, after_loss, with_bytes}
 use Rattle.nutcore.specs.Leaf.{IsFed}
 use Rattle.nutcore.specs.Server.{ServerState, ups_at, changed_at, with_ups_changed}
-use Rattle.nutcore.specs.Step.{Step, connected, disconnected, after_driver_bytes, after_driver_pump, connected_by, disconnected_by, driver_bytes_by, driver_pump_outcome, driver_may_lack_memory, outcome_of, after_by, MayLackMemory}
+use Rattle.nutcore.specs.Step.{Step, connected, disconnected, after_driver_bytes, connected_by, disconnected_by, driver_bytes_by, driver_may_lack_memory, outcome_of, after_by, MayLackMemory}
 use Rattle.nutcore.specs.Calls.{done}
 use Rattle.nutcore.specs.Serving.{is_connected, DriverFeedGives}
 

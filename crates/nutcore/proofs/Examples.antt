@@ -1,5 +1,5 @@
 -- Sessions computed from the definitions.
-use Rattle.std.proofs.Common.{◌≡◌, refl}
+use Rattle.std.proofs.Common.{refl}
 use Rattle.nutcore.specs.Ups.{after_driver_line_of, after_driver_line, after_driver_lines, after_all_driver_lines}
 use Rattle.nutcore.specs.Pump.{after_reply_of, after_reply, after_line_of, after_line, after_lines, after_all_lines, after_notice_of, after_notice, pumped}
 use Rattle.nutcore.specs.Step.{with_input_of, with_input, without_output_of, without_output, opened, after_driver_bytes, pumped_until, after_by, outcome_of}

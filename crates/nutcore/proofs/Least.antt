@@ -1,10 +1,10 @@
 -- The pump executes the least number of lines after which it stops.
-use Rattle.std.proofs.Common.{◌≡◌, ℕ, zero, suc, ◌<◌, ◌≤◌, Bool, true, false, List, [], ◌∷◌, Option, Some, None, refl, sym, ◌∙◌, ap, subst, cond, arith, length}
+use Rattle.std.proofs.Common.{◌≡◌, ℕ, zero, suc, ◌<◌, ◌≤◌, Bool, true, false, List, [], ◌∷◌, Option, Some, None, refl, sym, ap, subst, cond, arith, length}
 use Rattle.std.specs.Prelude.{is_none}
 use Rattle.nutcore.specs.Lines.{first_line}
 use Rattle.nutcore.specs.Session.{SessionState}
 use Rattle.nutcore.specs.Server.{ServerState, session}
-use Rattle.nutcore.specs.Pump.{next_line, next_line_of, next_line_for, after_line, after_lines, pump_stops, held_of, pumped, after_notice}
+use Rattle.nutcore.specs.Pump.{next_line_of, next_line_for, after_line, after_lines, pump_stops, held_of, pumped, after_notice}
 use Rattle.nutcore.specs.Headline.{IsLeast}
 use Rattle.nutcore.proofs.Loops.{stopped_lines, line_shortens, all_lines_are}
 

@@ -1,9 +1,9 @@
 -- The pump, line by line.
-use Rattle.std.proofs.Common.{◌≡◌, ℕ, zero, suc, ◌+◌, ◌-◌, ◌<◌, ◌≤◌, Bool, true, false, List, Option, Some, None, refl, sym, ◌∙◌, ap, subst, arith, length, zero-add}
+use Rattle.std.proofs.Common.{◌≡◌, ℕ, zero, suc, ◌+◌, ◌-◌, ◌<◌, ◌≤◌, true, List, Option, Some, None, refl, sym, ◌∙◌, ap, arith, length, zero-add}
 use Rattle.std.specs.Prelude.{is_none}
-use Rattle.nutcore.specs.Lines.{first_line, behind}
+use Rattle.nutcore.specs.Lines.{behind}
 use Rattle.nutcore.specs.Session.{SessionState, find, put}
-use Rattle.nutcore.specs.Server.{ServerState, session, with_session}
+use Rattle.nutcore.specs.Server.{ServerState, session}
 use Rattle.nutcore.specs.Reply.{reply}
 use Rattle.nutcore.specs.Pump.{next_line_for, answered, after_line, after_line_of, after_lines, pump_stops, held_of, after_all_lines}
 use Rattle.nutcore.proofs.FirstLine.{behind_shorter}

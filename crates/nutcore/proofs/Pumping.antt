@@ -1,17 +1,16 @@
 -- What the pump does to each client's presence.
-use Rattle.std.proofs.Common.{◌≡◌, ◌≢◌, ℕ, zero, suc, ◌<◌, Bool, true, false, List, [], ◌∷◌, ◌++◌, Option, Some, None, Result, Ok, Err, refl, sym, ◌∙◌, ap, subst, cond, ltb, length, append-nil}
-use Rattle.std.specs.Prelude.{is_some, is_none}
+use Rattle.std.proofs.Common.{◌≡◌, ◌≢◌, ℕ, zero, suc, Bool, true, false, List, [], ◌∷◌, ◌++◌, Option, Some, None, Result, Ok, Err, refl, sym, ◌∙◌, ap, subst, cond, ltb, length, append-nil}
 use Rattle.std.proofs.lemmas.Bool.{or_left}
 use Rattle.std.proofs.lemmas.Grind.{flat_map-append}
 use Rattle.nutcore.specs.declared.answer.command.Command.{Command}
 use Rattle.nutcore.specs.declared.answer.command.ErrorWord.{ErrorWord}
 use Rattle.nutcore.specs.Lines.{first_line, behind, with_lf}
-use Rattle.nutcore.specs.Session.{SessionState, find, put, ended}
+use Rattle.nutcore.specs.Session.{SessionState, find, put}
 use Rattle.nutcore.specs.Server.{ServerState, session, with_session}
 use Rattle.nutcore.specs.Command.{read_command}
-use Rattle.nutcore.specs.Reply.{Reply, reply, reply_to, too_long_notice}
-use Rattle.nutcore.specs.Pump.{next_line, next_line_of, next_line_for, answered, after_reply, after_reply_of, after_line, after_line_of, after_lines, held_of, after_notice, after_notice_of, is_overlong_of, is_overlong, notified, after_all_lines, pumped}
-use Rattle.nutcore.specs.History.{Answer, to_line, too_long, answer_to_next, answers_to_lines, notice, pump_answers, texts_of, lines_of, text_of, line_of}
+use Rattle.nutcore.specs.Reply.{reply, reply_to, too_long_notice}
+use Rattle.nutcore.specs.Pump.{next_line_of, next_line_for, answered, after_reply, after_reply_of, after_line, after_line_of, after_lines, held_of, after_notice, after_notice_of, is_overlong_of, notified, after_all_lines, pumped}
+use Rattle.nutcore.specs.History.{too_long, answer_to_next, answers_to_lines, notice, pump_answers, texts_of, lines_of, text_of, line_of}
 use Rattle.nutcore.proofs.FirstLine.{first_line_splits}
 use Rattle.nutcore.proofs.Progress.{Presence, presence, Progress, joins, stays, moves}
 use Rattle.nutcore.proofs.Found.{find_id, find_put, find_put_other}

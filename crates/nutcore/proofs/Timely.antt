@@ -1,16 +1,15 @@
 -- Each answer of a run is given at its moment, and to an event there is one answer but for want of memory.
-use Rattle.std.proofs.Common.{◌≡◌, ℕ, zero, suc, ◌<◌, Bool, true, false, List, [], ◌∷◌, ◌++◌, Option, Some, None, refl, sym, ◌∙◌, ap, cond, eqb, subst, arith, inl, inr, length, get_or}
-use Rattle.std.specs.Prelude.{◌⊎◌, All}
+use Rattle.std.proofs.Common.{◌≡◌, ℕ, zero, suc, ◌<◌, Bool, true, false, List, [], ◌∷◌, ◌++◌, Option, Some, None, refl, sym, ◌∙◌, cond, eqb, subst, arith, inl, inr, length, get_or}
+use Rattle.std.specs.Prelude.{All}
 use Rattle.std.proofs.lemmas.Bool.{eqb-true}
 use Rattle.nutcore.specs.declared.event.Event.{Event}
 use Rattle.nutcore.specs.declared.event.Event.TheVariants.{DriverUp, DriverBytes, DriverDown, Open, Feed, Took, Close}
 use Rattle.nutcore.specs.declared.event.Outcome.{Outcome}
-use Rattle.nutcore.specs.Session.{SessionState}
 use Rattle.nutcore.specs.Server.{ServerState, session}
-use Rattle.nutcore.specs.Pump.{next_line_for, after_line, is_overlong, after_all_lines, held_of}
-use Rattle.nutcore.specs.Step.{Step, after, refused_after, may_take, with_input, without_output, outcome_of}
-use Rattle.nutcore.specs.History.{Answer, to_line, too_long, answer_to_next, answers_to_lines, notice, pump_answers, answers_until, answers_by, answers_in_event, answers_in_run}
-use Rattle.nutcore.specs.Headline.{IsTimely, reply_at_its_moment, notice_of_length, IsAFunction, IsWantOfMemory}
+use Rattle.nutcore.specs.Pump.{next_line_for, after_line, is_overlong, after_all_lines}
+use Rattle.nutcore.specs.Step.{after, refused_after, may_take, with_input, without_output}
+use Rattle.nutcore.specs.History.{Answer, too_long, answer_to_next, answers_to_lines, pump_answers, answers_until, answers_by, answers_in_run}
+use Rattle.nutcore.specs.Headline.{IsTimely, reply_at_its_moment, notice_of_length, IsAFunction}
 
 pub data AllTimely (c : ℕ) : List Answer → Type 0 where
   none_given : AllTimely c []

@@ -1,4 +1,4 @@
--- Reading a line of a client (RFC 9271, section 4): the first refusal that fits, from the line's words to its command and the command's words.
+-- Reading a line of a client (RFC 9271): the first refusal that fits, from the line's words to its command and the command's words.
 use Rattle.std.specs.Prelude.{ℕ, List, [], ◌∷◌, Option, Some, None, Result, Ok, Err, codes, if◌then◌else◌}
 use Rattle.std.specs.Result.{result_ok}
 use Rattle.nutwords.specs.Scan.{read_line}

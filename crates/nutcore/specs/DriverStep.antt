@@ -4,7 +4,6 @@ use Rattle.nutcore.specs.declared.driver.line.DriverLine.{DriverLine}
 use Rattle.nutcore.specs.declared.driver.line.DriverLine.TheVariants.{Blank, SetInfo, DumpDone, DataOk, DataStale}
 use Rattle.nutcore.specs.declared.driver.line.DriverFault.{DriverFault}
 use Rattle.nutcore.specs.declared.driver.line.DriverFault.TheVariants.{Full}
-use Rattle.nutcore.specs.declared.driver.tree.Variable.{Variable}
 use Rattle.nutcore.specs.declared.driver.tree.Effect.{Effect}
 use Rattle.nutcore.specs.declared.driver.tree.Effect.TheVariants.{Nothing, Changed, DumpDone as DumpIsDone, DataOk as DataAreOk, DataStale as DataAreStale}
 use Rattle.nutcore.specs.Tree.{Tree, with_variable, is_full}

@@ -1,5 +1,5 @@
 -- Sessions worked out by hand, to be computed from the definitions.
-use Rattle.std.specs.Prelude.{◌≡◌, ℕ, List, [], ◌∷◌, ◌++◌, Option, None, true, codes, replicate}
+use Rattle.std.specs.Prelude.{◌≡◌, ℕ, List, [], ◌∷◌, ◌++◌, None, true, codes, replicate}
 use Rattle.nutcore.specs.declared.event.Event.{Event}
 use Rattle.nutcore.specs.declared.event.Event.TheVariants.{DriverUp, DriverBytes, Open, Feed, Took}
 use Rattle.nutcore.specs.declared.event.Outcome.TheVariants.{Fed, Refused}

@@ -1,5 +1,5 @@
 -- The laws of every run.
-use Rattle.std.specs.Prelude.{◌≡◌, ◌⊎◌, ℕ, ◌<◌, Bool, true, false, List, [], ◌∷◌, ◌++◌, All, Option, Some, None, Result, Ok, is_some, codes, nat_eq}
+use Rattle.std.specs.Prelude.{◌≡◌, ◌⊎◌, ℕ, ◌<◌, true, false, List, [], ◌∷◌, ◌++◌, All, Some, Ok, is_some, codes, nat_eq}
 use Rattle.std.specs.List.{starts_with}
 use Rattle.nutwords.specs.Frame.{frame}
 use Rattle.nutcore.specs.declared.event.Event.{Event}
@@ -13,9 +13,9 @@ use Rattle.nutcore.specs.Server.{ServerState, session, with_session}
 use Rattle.nutcore.specs.Command.{read_command}
 use Rattle.nutcore.specs.Reply.{reply, ups_named, variable_items}
 use Rattle.nutcore.specs.Pump.{next_line_for, pump_stops, after_line, after_lines, after_notice, pumped, answered}
-use Rattle.nutcore.specs.Step.{Step, after, outcome_of}
+use Rattle.nutcore.specs.Step.{Step, outcome_of}
 use Rattle.nutcore.specs.Run.{Run}
-use Rattle.nutcore.specs.History.{Answer, to_line, too_long, text_of, answers_in_run, answers, executed, taken, asked, owed, held, is_closed, is_over}
+use Rattle.nutcore.specs.History.{Answer, to_line, too_long, answers_in_run, answers, executed, taken, asked, owed, held, is_closed, is_over}
 
 -- The bytes begin the text: they are a front part of it, none and all of it included.
 abbrev pub IsBeginning : List ℕ → List ℕ → Type 0

@@ -1,4 +1,4 @@
--- Lines in a run of bytes (RFC 9271, section 4: a line is ended by LF).
+-- Lines in a run of bytes (RFC 9271: a line is ended by LF).
 use Rattle.std.specs.Prelude.{ℕ, List, [], ◌∷◌, ◌++◌, ◌+◌, Option, length, drop}
 use Rattle.std.specs.Option.{option_map}
 use Rattle.nutwords.specs.SplitLine.{split_line}

@@ -16,7 +16,7 @@ number_of_fault AlreadyConnected = 6
 number_of_fault LineTooLong = 7
 number_of_fault (Memory k) = 8
 
--- The word that stands behind ERR (RFC 9271, section 5).
+-- The word that stands behind ERR (RFC 9271: error responses).
 abbrev pub spelling_of : ErrorWord → List ℕ
 spelling_of UnknownUps = codes "UNKNOWN-UPS"
 spelling_of InvalidArgument = codes "INVALID-ARGUMENT"

@@ -1,4 +1,4 @@
--- What is answered to a line (RFC 9271, section 4), on the server as it is when the line is executed.
+-- What is answered to a line (RFC 9271), on the server as it is when the line is executed.
 use Rattle.std.specs.Prelude.{ℕ, Bool, List, [], ◌∷◌, ◌++◌, ◌&&◌, Option, Some, None, Result, Ok, Err, codes, map, if◌then◌else◌}
 use Rattle.std.specs.Option.{option_and_then}
 use Rattle.std.specs.Str.{bytes_eq}
@@ -10,12 +10,11 @@ use Rattle.nutcore.specs.declared.answer.command.Command.TheVariants.{ListVar}
 use Rattle.nutcore.specs.declared.answer.command.ErrorWord.{ErrorWord}
 use Rattle.nutcore.specs.declared.answer.command.ErrorWord.TheVariants.{UnknownUps, DriverNotConnected, DataStale, TooLong}
 use Rattle.nutcore.specs.Numbers.{spelling_of}
-use Rattle.nutcore.specs.Tree.{Tree}
 use Rattle.nutcore.specs.Ups.{UpsState, Readiness, not_connected, stale, usable, readiness}
 use Rattle.nutcore.specs.Server.{ServerState, place_of, ups_at}
 use Rattle.nutcore.specs.Command.{read_command}
 
--- The line of an error (RFC 9271, section 5).
+-- The line of an error (RFC 9271: error responses).
 abbrev pub error_line : ErrorWord → List ℕ
 error_line word = line_of (codes "ERR" ∷ spelling_of word ∷ [])
 

@@ -1,6 +1,5 @@
 -- The sessions of clients.
-use Rattle.std.specs.Prelude.{◌≡◌, ◌<◌, ℕ, Bool, true, false, List, [], ◌∷◌, Option, Some, None, ◌==◌, if◌then◌else◌, length}
-use Rattle.std.specs.List.{position_or_len}
+use Rattle.std.specs.Prelude.{◌≡◌, ◌<◌, ℕ, Bool, true, false, List, [], ◌∷◌, Option, Some, None, ◌==◌, if◌then◌else◌}
 
 -- held: what came of its input and isn't executed yet. owed: what it is still to be sent. ending: it takes no more input, and ends when nothing is owed.
 pub record SessionState : Type 0 where

@@ -1,5 +1,5 @@
 -- A UPS as the server keeps it: its driver's connection, and what the driver told.
-use Rattle.std.specs.Prelude.{ℕ, zero, suc, ◌+◌, ◌-◌, ◌^◌, Bool, true, false, not, ◌||◌, List, [], ◌∷◌, ◌++◌, Option, Some, None, is_none, Result, Ok, Err, codes, length, take, min, nat_lt, nat_le, if◌then◌else◌}
+use Rattle.std.specs.Prelude.{ℕ, zero, suc, ◌+◌, ◌-◌, ◌^◌, Bool, true, false, not, ◌||◌, List, [], ◌∷◌, ◌++◌, Option, Some, None, Result, Ok, Err, codes, length, take, min, nat_lt, nat_le, if◌then◌else◌}
 use Rattle.nutcore.specs.Lines.{first_line, behind}
 use Rattle.nutcore.specs.declared.TheConstants.{LINE_LIMIT}
 use Rattle.nutcore.specs.declared.driver.line.DriverLine.{DriverLine}

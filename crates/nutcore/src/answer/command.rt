@@ -1,4 +1,4 @@
-//! The commands of clients (RFC 9271, section 4).
+//! The commands of clients (RFC 9271).
 ghost use Rattle.std.specs.Prelude.{◌≡◌, ◌≤◌, length};
 
 use crate::spelling::is_word;
@@ -11,7 +11,7 @@ pub enum Command {
     ListVar(Option<UpsName>),
 }
 
-/// Why a command is refused, by the word behind `ERR` (RFC 9271, section 5).
+/// Why a command is refused, by the word behind `ERR` (RFC 9271: error responses).
 #[derive(Clone, Copy, Debug, PartialEq, Eq)]
 pub enum ErrorWord {
     /// The server has no such UPS.

@@ -1,4 +1,4 @@
-//! Listings (RFC 9271, section 4.2: LIST).
+//! Listings (RFC 9271: LIST).
 ghost use Rattle.std.specs.Prelude.{◌≡◌, ◌≤◌, [], ◌∷◌, ◌++◌, codes, length, vec_capacity, IfOk, OnOk, OnErr};
 ghost use Rattle.nutwords.specs.Frame.{line_of};
 ghost use Rattle.nutcore.specs.Reply.{shown, variable_item, variable_listing};

@@ -1,10 +1,6 @@
-use Rattle.std.proofs.Common.{◌≡◌, ◌∙◌, Option, Some, None, sym, ap, subst, List}
-use Rattle.std.specs.Prelude.{slice_get}
-use Rattle.std.specs.Option.{option_map}
+use Rattle.std.proofs.Common.{subst}
 use Rattle.nutcore.specs.Session.{AreApart}
-use Rattle.nutcore.specs.Ups.{UpsState}
 use Rattle.nutcore.specs.Server.{ServerState}
-use Rattle.nutcore.specs.Serving.{is_connected}
 use Rattle.nutcore.proofs.Runs.{lawful}
 use Rattle.nutcore.proofs.server.Server.connection.Goals as goal
 

@@ -1,4 +1,4 @@
-use Rattle.std.proofs.Common.{◌≡◌, ◌∙◌, sym, ap, Some, Bool, true, false}
+use Rattle.std.proofs.Common.{◌∙◌, sym, ap, Some, Bool, true, false}
 use Rattle.nutcore.proofs.DriverSteps.{is_there, not_there, bytes_absent, bytes_unconnected, bytes_fed}
 use Rattle.nutcore.proofs.Runs.{served}
 use Rattle.nutcore.proofs.server.Server.driver_bytes.Goals as goal

@@ -1,4 +1,4 @@
-use Rattle.std.proofs.Common.{◌≡◌, ◌∙◌, sym, ap, Some, Bool, true, false}
+use Rattle.std.proofs.Common.{◌∙◌, sym, ap, Some, Bool, true, false}
 use Rattle.nutcore.proofs.DriverSteps.{is_there, not_there, there_within, down_absent, down_again, down_done}
 use Rattle.nutcore.proofs.Runs.{served}
 use Rattle.nutcore.proofs.server.Server.driver_down.Goals as goal

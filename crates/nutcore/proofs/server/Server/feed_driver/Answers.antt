@@ -1,9 +1,7 @@
-use Rattle.std.proofs.Common.{◌≡◌, ◌<◌, ◌∙◌, Some, refl, sym, ap, subst, length, List, ℕ, Result, true, set}
+use Rattle.std.proofs.Common.{◌≡◌, Some, refl, sym, subst, true, set}
 use Rattle.std.specs.Option.{option_map}
-use Rattle.nutcore.specs.declared.event.Fault.{Fault}
-use Rattle.nutcore.specs.Leaf.{IsFed}
-use Rattle.nutcore.specs.Ups.{UpsState, with_bytes}
-use Rattle.nutcore.specs.Server.{ServerState, ups_at, with_ups_changed}
+use Rattle.nutcore.specs.Ups.{UpsState}
+use Rattle.nutcore.specs.Server.{ServerState, ups_at}
 use Rattle.nutcore.specs.Serving.{is_connected, DriverFeedGives}
 use Rattle.nutcore.specs.contracts.server.Server.{the_view}
 use Rattle.nutcore.proofs.DriverSteps.{IsThere, is_there, there_within, there_is, server_set}

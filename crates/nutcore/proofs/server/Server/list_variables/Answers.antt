@@ -1,4 +1,4 @@
-use Rattle.std.proofs.Common.{◌≡◌, ◌∙◌, ◌≤◌, Option, Some, None, Ok, Err, Bool, true, false, refl, sym, ap, length, List, ℕ, subst}
+use Rattle.std.proofs.Common.{◌≡◌, ◌∙◌, Option, Some, Ok, Err, Bool, true, false, sym, ap, List, ℕ, subst}
 use Rattle.std.specs.Option.{option_map}
 use Rattle.nutcore.specs.declared.event.UpsId.{UpsId}
 use Rattle.nutcore.specs.declared.answer.command.Command.TheVariants.{ListVar}

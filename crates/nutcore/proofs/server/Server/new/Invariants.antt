@@ -1,4 +1,4 @@
-use Rattle.std.proofs.Common.{◌≡◌, ◌+◌, ◌-◌, ◌≤◌, length, vec_len, vec_capacity}
+use Rattle.std.proofs.Common.{◌≡◌, ◌+◌, ◌-◌, ◌≤◌, vec_len, vec_capacity}
 use Rattle.std.specs.Prelude.{replicate}
 use Rattle.nutcore.specs.Ups.{new_ups}
 use Rattle.nutcore.proofs.server.Server.new.Given as goal

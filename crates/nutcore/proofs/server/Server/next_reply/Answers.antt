@@ -1,4 +1,4 @@
-use Rattle.std.proofs.Common.{◌≡◌, ◌∙◌, Some, sym, ap}
+use Rattle.std.proofs.Common.{◌≡◌, ◌∙◌, Some, ap}
 use Rattle.nutcore.specs.Server.{session}
 use Rattle.nutcore.specs.Pump.{next_line_of}
 use Rattle.nutcore.specs.contracts.server.Server.{the_view}

@@ -1,4 +1,4 @@
-use Rattle.std.proofs.Common.{◌≡◌, ◌∙◌, Option, Some, Result, Ok, sym, ap, subst, ℕ, Bool}
+use Rattle.std.proofs.Common.{◌≡◌, Option, Some, Ok, sym, ap, subst}
 use Rattle.nutcore.specs.Session.{SessionState}
 use Rattle.nutcore.specs.Server.{session}
 use Rattle.nutcore.specs.contracts.server.Server.{the_view}
