@@ -1,0 +1,4 @@
+mod Numerals
+mod Reading
+mod Taking
+mod Doing

@@ -1,0 +1,54 @@
+-- Numbers from their digits.
+use Rattle.std.proofs.Common.{◌≡◌, ℕ, ◌+◌, ◌-◌, ◌*◌, ◌<◌, ◌≤◌, ◌^◌, ◌∙◌, List, [], ◌∷◌, ◌++◌, Option, Some, None, Bool, true, false, refl, sym, ap, arith, length, drop, get_or, nat_lt}
+use Rattle.std.proofs.lemmas.Grind.{common_steps}
+use Rattle.std.proofs.lemmas.Bool.Decides.{nat_tests}
+use Rattle.std.specs.List.{list_all}
+use Rattle.std.proofs.lemmas.List.{drop_more}
+use Rattle.std.proofs.lemmas.List.Folds.{list_all_at}
+use Rattle.std.specs.Char.{digit_value}
+use Rattle.std.specs.Str.Parse.{digits_value, digits_value_after}
+use Rattle.upsd.specs.Script.{is_digit, below_limit}
+
+-- more digits make no smaller number
+pub digits_value_after-least : (n : ℕ) (ds : List ℕ) → n ≤ digits_value_after 10 n ds
+digits_value_after-least n [] = omega arith
+digits_value_after-least n (d ∷ ds) =
+    let h : n * 10 + digit_value d ≤ digits_value_after 10 (n * 10 + digit_value d) ds = digits_value_after-least (n * 10 + digit_value d) ds in
+    omega (arith, h)
+
+pub digit_value-digit : (d : ℕ) → is_digit d ≡ true → digit_value d ≡ d - 48
+digit_value-digit d h = grind (arith, nat_tests, common_steps, h)
+
+pub below_limit-met : (n v : ℕ) → v ≡ n → v < 2 ^ 64 → Some v ≡ below_limit n
+below_limit-met n v e h = grind (arith, nat_tests, common_steps, e, h)
+
+pub below_limit-missed : (m n : ℕ) → m ≤ n → None ≡ below_limit m → None ≡ below_limit n
+below_limit-missed m n h e = grind (arith, nat_tests, common_steps, e, h)
+
+pub digit_at : (ds : List ℕ) (i : ℕ) → list_all is_digit ds ≡ true → i < length ds → is_digit (get_or ds i 0) ≡ true
+digit_at ds i h k = grind (arith, common_steps, list_all_at, h, k)
+
+-- the number up to a digit is no greater than the whole
+pub past_digit : (v : ℕ) (ds : List ℕ) (i : ℕ) → list_all is_digit ds ≡ true → i < length ds → digits_value_after 10 v (drop i ds) ≡ digits_value 10 ds → v * 10 + (get_or ds i 0 - 48) ≤ digits_value 10 ds
+past_digit v ds i all within e =
+    let d : ℕ = get_or ds i 0 in
+    let split : drop i ds ≡ d ∷ drop (i + 1) ds = drop_more ds i 0 within in
+    let least : v * 10 + digit_value d ≤ digits_value_after 10 (v * 10 + digit_value d) (drop (i + 1) ds) = digits_value_after-least (v * 10 + digit_value d) (drop (i + 1) ds) in
+    let same : digits_value_after 10 v (drop i ds) ≡ digits_value_after 10 (v * 10 + digit_value d) (drop (i + 1) ds) = ap (λ xs. digits_value_after 10 v xs) split in
+    let digit : digit_value d ≡ d - 48 = digit_value-digit d (digit_at ds i all within) in
+    omega (arith, least, same, e, digit)
+
+pub below_limit-fits : (n v : ℕ) → Some v ≡ below_limit n → v < 2 ^ 64
+below_limit-fits n v e = grind (arith, nat_tests, common_steps, e)
+
+pub below_limit-value : (n v : ℕ) → Some v ≡ below_limit n → v ≡ n
+below_limit-value n v e = grind (arith, nat_tests, common_steps, e)
+
+-- one digit more
+pub with_next : (v next : ℕ) (ds : List ℕ) (i : ℕ) → list_all is_digit ds ≡ true → i < length ds → Some next ≡ below_limit (v * 10 + (get_or ds i 0 - 48)) → digits_value_after 10 v (drop i ds) ≡ digits_value 10 ds → digits_value_after 10 next (drop (i + 1) ds) ≡ digits_value 10 ds
+with_next v next ds i all within n e =
+    let d : ℕ = get_or ds i 0 in
+    let split : drop i ds ≡ d ∷ drop (i + 1) ds = drop_more ds i 0 within in
+    let digit : digit_value d ≡ d - 48 = digit_value-digit d (digit_at ds i all within) in
+    let is : next ≡ v * 10 + digit_value d = rw digit (below_limit-value _ _ n) in
+    ap (λ m. digits_value_after 10 m (drop (i + 1) ds)) is ∙ sym (ap (λ xs. digits_value_after 10 v xs) split) ∙ e

@@ -1,0 +1,24 @@
+-- The lines of a script, one after another.
+use Rattle.std.proofs.Common.{◌≡◌, ℕ, ◌+◌, ◌<◌, ◌∙◌, List, [], ◌∷◌, ◌++◌, Some, None, Option, Bool, true, false, refl, sym, ap, arith, map, drop, length, get_or, rules}
+use Rattle.std.proofs.lemmas.Grind.{common_steps}
+use Rattle.std.proofs.lemmas.List.{drop_more}
+use Rattle.upsd.specs.declared.script.ScriptLine.{ScriptLine}
+use Rattle.upsd.specs.declared.script.Saying.{Saying}
+use Rattle.upsd.specs.declared.script.Saying.TheVariants.{Bad}
+use Rattle.upsd.specs.Script.{says, numbered, actions_from, is_bad, bad_line_from}
+
+-- a line and those behind it, of what each item stands for
+pub drop_map : {A B : Type 0} (f : A → B) (xs : List A) (i : ℕ) (d : A) → i < length xs → drop i (map f xs) ≡ f (get_or xs i d) ∷ drop (i + 1) (map f xs)
+drop_map f xs i d h = grind (arith, common_steps, drop_more (map f xs) i (f d))
+
+-- what is read so far, when one more line is
+pub read_more : (n : ℕ) (line : List ℕ) (xs rest : List (List ℕ)) (told : Saying) (before after all : List ScriptLine) → xs ≡ line ∷ rest → told ≡ says line → after ≡ before ++ numbered n told → before ++ actions_from n xs ≡ all → after ++ actions_from (n + 1) rest ≡ all
+read_more n line xs rest told before after all e t a h =
+    grind (arith, common_steps, e, t, a, h)
+
+-- the first bad line is behind one that isn't bad
+pub bad_more : (n : ℕ) (line : List ℕ) (xs rest : List (List ℕ)) (told : Saying) (first : Option ℕ) → xs ≡ line ∷ rest → told ≡ says line → is_bad told ≡ false → bad_line_from n xs ≡ first → bad_line_from (n + 1) rest ≡ first
+bad_more n line xs rest told first e t b h = grind (arith, common_steps, e, t, b, h)
+
+pub bad_here : (n : ℕ) (line : List ℕ) (xs rest : List (List ℕ)) (told : Saying) (first : Option ℕ) → xs ≡ line ∷ rest → told ≡ says line → is_bad told ≡ true → bad_line_from n xs ≡ first → first ≡ Some n
+bad_here n line xs rest told first e t b h = grind (arith, common_steps, e, t, b, h)

@@ -1,0 +1,141 @@
+-- The replay script: what each of its lines says.
+use Rattle.std.specs.Prelude.{ℕ, ◌+◌, ◌^◌, Bool, true, false, not, List, [], ◌∷◌, ◌++◌, Option, Some, None, Result, Ok, Err, ◌==◌, ◌&&◌, ◌||◌, nat_lt, nat_le, if◌then◌else◌, length, take, drop, slice_index, position, codes}
+use Rattle.std.specs.List.{find, list_all, slice_split}
+use Rattle.std.specs.Option.{option_map}
+use Rattle.std.specs.Result.{result_ok}
+use Rattle.std.specs.Str.{bytes_eq}
+use Rattle.std.specs.Str.Parse.{digits_value}
+use Rattle.nutwords.specs.Reading.{read_ups_name, read_address}
+use Rattle.nutcore.specs.Lines.{with_lf}
+use Rattle.upsd.specs.declared.script.Action.{Action}
+use Rattle.upsd.specs.declared.script.Action.TheVariants.{DriverUp, DriverBytes, DriverDown, Open, Feed, Took, TookAll, Close}
+use Rattle.upsd.specs.declared.script.Verb.{Verb}
+use Rattle.upsd.specs.declared.script.Verb.TheVariants.{Up, Down, Driver, DriverPart, OpenFrom, Client, Part, TookBy, CloseOf}
+use Rattle.upsd.specs.declared.script.Saying.{Saying}
+use Rattle.upsd.specs.declared.script.Saying.TheVariants.{Nothing, Does, Bad}
+use Rattle.upsd.specs.declared.script.ScriptLine.{ScriptLine}
+
+-- The lines: what stands between LFs. What follows the last LF is a line too, and where it is empty it says nothing.
+abbrev pub lines_of : List ℕ → List (List ℕ)
+lines_of script = slice_split (λ b. b == 10) script
+
+-- A line that is empty or blank, or whose first byte that isn't a blank is `#`, says nothing. Blanks are space and TAB.
+abbrev pub is_blank : ℕ → Bool
+is_blank b = (b == 32) || (b == 9)
+
+abbrev pub is_silent_by : Option ℕ → Bool
+is_silent_by None = true
+is_silent_by (Some b) = b == 35
+
+abbrev pub is_silent : List ℕ → Bool
+is_silent line = is_silent_by (find (λ b. not (is_blank b)) line)
+
+-- The bytes before the first space, and those behind it.
+abbrev pub split_at_space : List ℕ → Option (List ℕ × List ℕ)
+split_at_space line = option_map (λ i. (take i line, drop (i + 1) line)) (position (λ b. b == 32) line)
+
+-- The words that a line may begin with.
+abbrev pub verb_of : List ℕ → Option Verb
+verb_of word =
+    if bytes_eq word (codes "up") then Some Up
+    else if bytes_eq word (codes "down") then Some Down
+    else if bytes_eq word (codes "driver") then Some Driver
+    else if bytes_eq word (codes "driver-part") then Some DriverPart
+    else if bytes_eq word (codes "open") then Some OpenFrom
+    else if bytes_eq word (codes "client") then Some Client
+    else if bytes_eq word (codes "part") then Some Part
+    else if bytes_eq word (codes "took") then Some TookBy
+    else if bytes_eq word (codes "close") then Some CloseOf
+    else None
+
+-- A number is `0`, or digits that don't begin with 0, below 2^64.
+abbrev pub is_digit : ℕ → Bool
+is_digit b = nat_le 48 b && nat_le b 57
+
+abbrev pub is_numeral : List ℕ → Bool
+is_numeral text = not (length text == 0) && list_all is_digit text && (not (slice_index text 0 == 48) || (length text == 1))
+
+abbrev pub below_limit : ℕ → Option ℕ
+below_limit n = if nat_lt n (2 ^ 64) then Some n else None
+
+abbrev pub number : List ℕ → Option ℕ
+number text = if is_numeral text then below_limit (digits_value 10 text) else None
+
+abbrev pub ups_name : List ℕ → Option (List ℕ)
+ups_name text = result_ok (read_ups_name text)
+
+abbrev pub address : List ℕ → Option (List ℕ)
+address text = result_ok (read_address text)
+
+-- The first argument, and the REST: all further bytes behind one space.
+abbrev pub with_rest : {A : Type 0} → (List ℕ → Option A) → Option (List ℕ × List ℕ) → Option (A × List ℕ)
+with_rest read None = None
+with_rest read (Some parts) = option_map (λ first. (first, parts.1)) (read parts.0)
+
+abbrev pub ups_and_rest : List ℕ → Option (List ℕ × List ℕ)
+ups_and_rest text = with_rest ups_name (split_at_space text)
+
+abbrev pub client_and_rest : List ℕ → Option (ℕ × List ℕ)
+client_and_rest text = with_rest number (split_at_space text)
+
+-- So many bytes, or `all`.
+abbrev pub taking : ℕ → List ℕ → Option Action
+taking c count = if bytes_eq count (codes "all") then Some (TookAll c) else option_map (λ n. Took c n) (number count)
+
+abbrev pub taking_by : Option (ℕ × List ℕ) → Option Action
+taking_by None = None
+taking_by (Some parts) = taking parts.0 parts.1
+
+-- What the verb says of the bytes behind its space.
+abbrev pub said_by : Verb → List ℕ → Option Action
+said_by Up text = option_map (λ u. DriverUp u) (ups_name text)
+said_by Down text = option_map (λ u. DriverDown u) (ups_name text)
+said_by Driver text = option_map (λ p. DriverBytes p.0 (with_lf p.1)) (ups_and_rest text)
+said_by DriverPart text = option_map (λ p. DriverBytes p.0 p.1) (ups_and_rest text)
+said_by OpenFrom text = option_map (λ a. Open a) (address text)
+said_by Client text = option_map (λ p. Feed p.0 (with_lf p.1)) (client_and_rest text)
+said_by Part text = option_map (λ p. Feed p.0 p.1) (client_and_rest text)
+said_by TookBy text = taking_by (client_and_rest text)
+said_by CloseOf text = option_map (λ c. Close c) (number text)
+
+abbrev pub said_with : Option Verb → List ℕ → Option Action
+said_with None text = None
+said_with (Some verb) text = said_by verb text
+
+abbrev pub said : Option (List ℕ × List ℕ) → Option Action
+said None = None
+said (Some parts) = said_with (verb_of parts.0) parts.1
+
+abbrev pub saying : Option Action → Saying
+saying None = Bad
+saying (Some action) = Does action
+
+-- What a line says: nothing, an action, or it is bad.
+unfoldable pub says : List ℕ → Saying
+says line = if is_silent line then Nothing else saying (said (split_at_space line))
+
+-- The actions of lines that are numbered from here on, each with its line's number.
+abbrev pub numbered : ℕ → Saying → List ScriptLine
+numbered n (Does action) = record { number = n; action = action } ∷ []
+numbered n Nothing = []
+numbered n Bad = []
+
+abbrev pub actions_from : ℕ → List (List ℕ) → List ScriptLine
+actions_from n [] = []
+actions_from n (line ∷ lines) = numbered n (says line) ++ actions_from (n + 1) lines
+
+abbrev pub is_bad : Saying → Bool
+is_bad Bad = true
+is_bad Nothing = false
+is_bad (Does action) = false
+
+abbrev pub bad_line_from : ℕ → List (List ℕ) → Option ℕ
+bad_line_from n [] = None
+bad_line_from n (line ∷ lines) = if is_bad (says line) then Some n else bad_line_from (n + 1) lines
+
+-- What a script says, and the number of its first bad line. Lines are numbered from 1.
+unfoldable pub actions_of : List ℕ → List ScriptLine
+actions_of script = actions_from 1 (lines_of script)
+
+unfoldable pub first_bad_line : List ℕ → Option ℕ
+first_bad_line script = bad_line_from 1 (lines_of script)

@@ -1,0 +1,148 @@
+-- What replaying a script does to the server, and what is told of it.
+use Rattle.std.specs.Prelude.{◌≡◌, ◌≢◌, ℕ, ◌+◌, ◌-◌, Bool, true, false, List, [], ◌∷◌, ◌++◌, Option, Some, None, ◌==◌, nat_lt, if◌then◌else◌, length, take, slice_get, codes, MatchOption}
+use Rattle.std.specs.List.{flat_map}
+use Rattle.std.specs.Option.{option_map}
+use Rattle.std.specs.Fmt.{decimal}
+use Rattle.nutcore.specs.declared.event.Event.{Event}
+use Rattle.nutcore.specs.declared.event.UpsId.{UpsId}
+use Rattle.nutcore.specs.declared.event.Event.TheVariants.{DriverUp, DriverBytes, DriverDown, Open, Feed, Took, Close}
+use Rattle.nutcore.specs.declared.event.Outcome.{Outcome}
+use Rattle.nutcore.specs.declared.event.Outcome.TheVariants.{Done, Fed, Opened, Refused}
+use Rattle.nutcore.specs.declared.event.Fault.{Fault}
+use Rattle.nutcore.specs.declared.event.Fault.TheVariants.{NoSuchUps}
+use Rattle.nutcore.specs.Numbers.{number_of_fault}
+use Rattle.nutcore.specs.Server.{ServerState, session, new_server, place_of, id_at}
+use Rattle.nutcore.specs.Step.{Step, offered}
+use Rattle.nutcore.specs.History.{taken_in_event}
+use Rattle.upsd.specs.declared.script.Action.{Action}
+use Rattle.upsd.specs.declared.script.Action.TheVariants as asked
+use Rattle.upsd.specs.declared.script.ScriptLine.{ScriptLine}
+use Rattle.upsd.specs.declared.transcript.Taken.{Taken}
+use Rattle.upsd.specs.declared.transcript.Transcript.{Transcript}
+use Rattle.upsd.specs.Script.{actions_of}
+
+-- server: after the events so far. text: what was told of them. clients: the ids, in the order of opening. taken: what clients took, in order.
+pub record Told : Type 0 where
+  pub server : ServerState
+  pub text : List ℕ
+  pub clients : List ℕ
+  pub taken : List Taken
+
+abbrev pub told : Transcript → Told
+told t = record { server = t.server; text = t.text.items; clients = t.clients.items; taken = t.taken.items }
+
+-- Before the first event.
+abbrev pub before : List (List ℕ) → ℕ → Told
+before names max_age = record { server = new_server names max_age; text = []; clients = []; taken = [] }
+
+-- What is told of one event.
+
+abbrev pub refusal : ℕ → Fault → List ℕ
+refusal line fault = codes "line " ++ decimal line ++ codes ": refused " ++ decimal (number_of_fault fault) ++ 10 ∷ []
+
+abbrev pub count_taken : ℕ → ℕ → List ℕ
+count_taken line n = codes "line " ++ decimal line ++ codes ": " ++ decimal n
+
+abbrev pub count_held : ℕ → List ℕ
+count_held all = codes " of " ++ decimal all ++ (codes " bytes held" ++ 10 ∷ [])
+
+abbrev pub held_back : ℕ → ℕ → ℕ → List ℕ
+held_back line n all = count_taken line n ++ count_held all
+
+-- Of a feed, only that it took fewer bytes than it had.
+abbrev pub fed_remark : ℕ → Event → ℕ → List ℕ
+fed_remark line (Feed c piece) n = if nat_lt n (length piece) then held_back line n (length piece) else []
+fed_remark line _ n = []
+
+abbrev pub remark : ℕ → Event → Outcome → List ℕ
+remark line event (Refused fault) = refusal line fault
+remark line event (Fed n) = fed_remark line event n
+remark line event Done = []
+remark line event (Opened c) = []
+
+abbrev pub opened_by : Outcome → List ℕ
+opened_by (Opened c) = c ∷ []
+opened_by _ = []
+
+-- What a client takes by the event, and its id. It is what the server counts as taken.
+abbrev pub taken_by : ServerState → Event → List Taken
+taken_by s (Took c n) = record { client = c; bytes = taken_in_event c s (Took c n) } ∷ []
+taken_by s _ = []
+
+-- One event of a line happens to the server, and is told.
+pub record Happens (line : ℕ) (event : Event) (old new : Told) : Type 0 where
+  pub outcome : Outcome
+  pub steps : Step old.server event outcome new.server
+  pub text : new.text ≡ old.text ++ remark line event outcome
+  pub clients : new.clients ≡ old.clients ++ opened_by outcome
+  pub taken : new.taken ≡ old.taken ++ taken_by old.server event
+
+-- How many bytes the client is offered.
+abbrev pub count_offered : ℕ → Told → ℕ
+count_offered c t = length (offered (session c t.server))
+
+-- A client takes what it is offered, again and again, while something is offered.
+pub data TakesAgain (line c : ℕ) : Told → Told → Type 0 where
+  all_taken : (t : Told) → count_offered c t ≡ 0 → TakesAgain line c t t
+  again : (old mid new : Told) → count_offered c old ≢ 0 → Happens line (Took c (count_offered c old)) old mid → TakesAgain line c mid new → TakesAgain line c old new
+
+-- A client takes what it is offered: once, and again while something is offered.
+abbrev pub TakesAll : ℕ → ℕ → Told → Told → Type 0
+TakesAll line c old new = (mid : Told) × Happens line (Took c (count_offered c old)) old mid × TakesAgain line c mid new
+
+-- The event of the UPS of this name happens. Where the list has no such UPS it is refused.
+abbrev pub HappensTo : Option UpsId → ℕ → (UpsId → Event) → Told → Told → Type 0
+HappensTo None line event old new = new ≡ record old { text = old.text ++ refusal line NoSuchUps }
+HappensTo (Some u) line event old new = Happens line (event u) old new
+
+abbrev pub ups_named : List ℕ → Told → Option UpsId
+ups_named name t = option_map id_at (place_of t.server.names name)
+
+-- What a line asks for is done.
+unfoldable pub IsDone : ℕ → Action → Told → Told → Type 0
+IsDone line (asked.DriverUp name) old new = HappensTo (ups_named name old) line (λ u. DriverUp u) old new
+IsDone line (asked.DriverBytes name piece) old new = HappensTo (ups_named name old) line (λ u. DriverBytes u piece) old new
+IsDone line (asked.DriverDown name) old new = HappensTo (ups_named name old) line (λ u. DriverDown u) old new
+IsDone line (asked.Open address) old new = Happens line (Open address) old new
+IsDone line (asked.Feed c piece) old new = Happens line (Feed c piece) old new
+IsDone line (asked.Took c n) old new = Happens line (Took c n) old new
+IsDone line (asked.TookAll c) old new = TakesAll line c old new
+IsDone line (asked.Close c) old new = Happens line (Close c) old new
+
+-- The lines are done, one after another.
+abbrev pub AreDone : List ScriptLine → Told → Told → Type 0
+AreDone [] old new = new ≡ old
+AreDone (line ∷ lines) old new = (mid : Told) × IsDone line.number line.action old mid × AreDone lines mid new
+
+-- The whole text.
+
+-- The bytes that the client took, in order.
+abbrev pub sent_to : ℕ → List Taken → List ℕ
+sent_to c [] = []
+sent_to c (t ∷ ts) = (if t.client == c then t.bytes else []) ++ sent_to c ts
+
+-- An LF, unless there is nothing to end or it ends with one.
+abbrev pub ending_of : Option ℕ → List ℕ
+ending_of None = []
+ending_of (Some b) = if b == 10 then [] else 10 ∷ []
+
+-- What was sent to a peer: how many bytes, and these.
+abbrev pub sent_part : List ℕ → List ℕ → List ℕ
+sent_part peer sent = peer ++ codes " sent " ++ decimal (length sent) ++ (codes " bytes" ++ 10 ∷ []) ++ sent ++ ending_of (slice_get sent (length sent - 1))
+
+abbrev pub client_part : List Taken → ℕ → List ℕ
+client_part taken c = sent_part (codes "client " ++ decimal c) (sent_to c taken)
+
+-- Nothing is sent to a driver yet.
+abbrev pub driver_part : List ℕ → List ℕ
+driver_part name = sent_part (codes "driver " ++ name) []
+
+-- What was told of the events, then each client in the order of opening, then each UPS in byte order. An id of a UPS is below 256.
+unfoldable pub whole_text : Told → List ℕ
+whole_text t = t.text ++ flat_map (client_part t.taken) t.clients ++ flat_map driver_part (take 256 t.server.names)
+
+-- The output of a script over these UPSs: what the actions of its lines, in order, do to a new server.
+pub record IsOutput (names : List (List ℕ)) (max_age : ℕ) (script output : List ℕ) : Type 0 where
+  pub end : Told
+  pub done : AreDone (actions_of script) (before names max_age) end
+  pub text : output ≡ whole_text end

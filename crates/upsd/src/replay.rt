@@ -1,0 +1,97 @@
+//! Replaying a script over a server.
+ghost use Rattle.std.specs.Prelude.{◌≡◌, ◌⊎◌, ℕ, List, OnOk, IfOk, IfErr, Some, None};
+ghost use Rattle.std.specs.Io.KnownBytes.{Appends};
+ghost use Rattle.upsd.specs.Script.{first_bad_line};
+ghost use Rattle.upsd.specs.Transcript.{IsOutput};
+
+use crate::script::read_script;
+use crate::transcript::Transcript;
+use nutcore::{Descriptions, MaxAge, UpsList, Users};
+use std::alloc::{AllocError, AllocFailed, Global};
+use std::io::Write;
+use thiserror::Error;
+
+/// After how many seconds without a line of its driver a UPS of a replayed script is stale.
+pub const REPLAY_MAX_AGE: u32 = 15;
+
+/// Why a script isn't replayed.
+#[derive(Clone, Copy, Debug, PartialEq, Eq, Error)]
+pub enum ReplayFault {
+    /// The line of this number is none of a script's lines.
+    #[error("bad event in line {0}")]
+    BadEvent(usize),
+    /// Memory was refused.
+    #[error("no memory")]
+    Memory,
+    /// The output failed.
+    #[error("write failed")]
+    Write,
+}
+
+impl<T: Drop> From<AllocFailed<T>> for ReplayFault {
+    ghost use Rattle.std.specs.Prelude.{◌≡◌};
+    ghost use Rattle.upsd.specs.declared.replay.ReplayFault.TheVariants.{Memory};
+
+    ghost from_gives = { λ _ fault. fault ≡ Memory };
+
+    fn from(_error: AllocFailed<T>) -> ReplayFault {
+        ReplayFault::Memory
+    }
+}
+
+impl From<AllocError> for ReplayFault {
+    ghost use Rattle.std.specs.Prelude.{◌≡◌};
+    ghost use Rattle.upsd.specs.declared.replay.ReplayFault.TheVariants.{Memory};
+
+    ghost from_gives = { λ _ fault. fault ≡ Memory };
+
+    fn from(_error: AllocError) -> ReplayFault {
+        ReplayFault::Memory
+    }
+}
+
+/// Replays a script over a new server, and writes what it tells. The whole script is read before
+/// its first event.
+///
+/// # Errors
+///
+/// `BadEvent` with the number of the first line that is none of a script's lines, and `Memory`:
+/// nothing is written then. `Write`, where the output failed in this call: a beginning may be
+/// written.
+pub fn replay<W: Write>(
+    alloc: Global,
+    list: UpsList,
+    users: Users,
+    descriptions: Descriptions,
+    script: &[u8],
+    out: &mut W,
+) -> Result<(), ReplayFault>
+    ensures told { OnOk result ((output : List ℕ) × IsOutput list REPLAY_MAX_AGE script.now output × Appends (W.contents out.old) (W.contents out.new) output) }
+    ensures good { OnOk result (first_bad_line script.now ≡ None) }
+    ensures bad { IfErr result (λ fault. (n : ℕ) → fault ≡ ReplayFault.BadEvent n → first_bad_line script.now ≡ Some n) }
+    ensures unwritten { IfErr result (λ fault. (fault ≡ ReplayFault.Write) ⊎ (out.new ≡ out.old)) }
+{
+    let text = transcript(alloc, list, users, descriptions, script)?;
+    match out.write_all(&text) {
+        Ok(()) => Ok(()),
+        Err(_) => Err(ReplayFault::Write),
+    }
+}
+
+/// What a script tells.
+fn transcript(
+    alloc: Global,
+    list: UpsList,
+    users: Users,
+    descriptions: Descriptions,
+    script: &[u8],
+) -> Result<Vec<u8>, ReplayFault>
+    ensures ok { IfOk result (λ text. (first_bad_line script.now ≡ None) × IsOutput list REPLAY_MAX_AGE script.now text.items) }
+    ensures err { IfErr result (λ fault. (fault ≡ ReplayFault.Memory) ⊎ ((n : ℕ) × (fault ≡ ReplayFault.BadEvent n) × (first_bad_line script.now ≡ Some n))) }
+{
+    let lines = read_script(alloc, script)?;
+    let max_age = MaxAge::read(REPLAY_MAX_AGE).unwrap();
+    let mut transcript = Transcript::new(alloc, list, users, descriptions, max_age)?;
+    transcript.run(lines)?;
+    Ok(transcript.finish()?)
+}

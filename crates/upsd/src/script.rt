@@ -1,0 +1,337 @@
+//! The replay script: what each of its lines says.
+ghost use Rattle.std.specs.Prelude.{◌≡◌, ◌<◌, ◌⊎◌, ◌+◌, ◌-◌, ◌*◌, ◌==◌, ℕ, not, true, length, map, position, IfOk, IfErr, IfSome, MatchOption, MatchResult, None, Some};
+ghost use Rattle.std.specs.List.{find, list_all};
+ghost use Rattle.std.specs.Str.Parse.{digits_value};
+ghost use Rattle.nutcore.specs.Lines.{with_lf};
+ghost use Rattle.upsd.specs.Script.{lines_of, is_blank, is_silent, split_at_space, verb_of, is_digit, is_numeral, below_limit, number, ups_name, address, ups_and_rest, client_and_rest, taking, said_by, said, says, actions_of, first_bad_line};
+
+use crate::replay::ReplayFault;
+use nutcore::{Bytes, ClientId};
+use nutwords::{Address, UpsName};
+use std::alloc::{AllocError, Global};
+
+/// What a line of the script asks for.
+#[derive(Debug, Drop)]
+pub enum Action {
+    /// A driver connects to the UPS of this name.
+    DriverUp(UpsName),
+    /// Bytes come from the driver of the UPS of this name.
+    DriverBytes(UpsName, Bytes),
+    /// The driver of the UPS of this name is lost.
+    DriverDown(UpsName),
+    /// A client connects from an address.
+    Open(Address),
+    /// Bytes come from a client.
+    Feed(ClientId, Bytes),
+    /// A client takes so many of the bytes that it is offered.
+    Took(ClientId, usize),
+    /// A client takes what it is offered, as long as something is.
+    TookAll(ClientId),
+    /// A client's connection is gone.
+    Close(ClientId),
+}
+
+/// An action, with the number of its line, from 1.
+#[derive(Debug, Drop)]
+pub struct ScriptLine {
+    pub number: usize,
+    pub action: Action,
+}
+
+/// What one line says.
+#[derive(Debug, Drop)]
+enum Saying {
+    /// It is blank or a comment.
+    Nothing,
+    /// It asks for an action.
+    Does(Action),
+    /// It is none of a script's lines.
+    Bad,
+}
+
+/// The word that a line begins with.
+#[derive(Clone, Copy, Debug)]
+enum Verb {
+    /// `up U`
+    Up,
+    /// `down U`
+    Down,
+    /// `driver U REST`
+    Driver,
+    /// `driver-part U REST`
+    DriverPart,
+    /// `open ADDRESS`
+    OpenFrom,
+    /// `client N REST`
+    Client,
+    /// `part N REST`
+    Part,
+    /// `took N COUNT`
+    TookBy,
+    /// `close N`
+    CloseOf,
+}
+
+impl Verb {
+    /// The verb of this spelling. Case matters.
+    fn of(word: &[u8]) -> Option<Verb>
+        ensures { result ≡ verb_of word.now }
+    {
+        if word == b"up".as_slice() {
+            Some(Verb::Up)
+        } else if word == b"down".as_slice() {
+            Some(Verb::Down)
+        } else if word == b"driver".as_slice() {
+            Some(Verb::Driver)
+        } else if word == b"driver-part".as_slice() {
+            Some(Verb::DriverPart)
+        } else if word == b"open".as_slice() {
+            Some(Verb::OpenFrom)
+        } else if word == b"client".as_slice() {
+            Some(Verb::Client)
+        } else if word == b"part".as_slice() {
+            Some(Verb::Part)
+        } else if word == b"took".as_slice() {
+            Some(Verb::TookBy)
+        } else if word == b"close".as_slice() {
+            Some(Verb::CloseOf)
+        } else {
+            None
+        }
+    }
+}
+
+/// The actions of a script, in the order of its lines.
+///
+/// # Errors
+///
+/// `BadEvent` with the number of the first line that says nothing that a script may say, and
+/// `Memory`.
+pub fn read_script(alloc: Global, script: &[u8]) -> Result<Vec<ScriptLine>, ReplayFault>
+    ensures ok { IfOk result (λ lines. (first_bad_line script.now ≡ None) × (lines.items ≡ actions_of script.now)) }
+    ensures err { IfErr result (λ fault. (fault ≡ ReplayFault.Memory) ⊎ ((n : ℕ) × (fault ≡ ReplayFault.BadEvent n) × (first_bad_line script.now ≡ Some n))) }
+{
+    let texts = lines_of(alloc, script)?;
+    let mut lines = Vec::new(alloc);
+    for (i, line) in texts.iter().enumerate() {
+        match read_line(alloc, line)? {
+            Saying::Nothing => {}
+            Saying::Does(action) => lines.push(ScriptLine {
+                number: i + 1,
+                action,
+            })?,
+            Saying::Bad => return Err(ReplayFault::BadEvent(i + 1)),
+        }
+    }
+    Ok(lines)
+}
+
+/// The lines: what stands between LFs.
+fn lines_of(alloc: Global, script: &[u8]) -> Result<Vec<&[u8]>, AllocError>
+    ensures { IfOk result (λ lines. map (λ line. line.now) lines.items ≡ lines_of script.now) }
+{
+    script.split(|b| *b == b'\n').collect(alloc)
+}
+
+/// What a line says.
+#[tactic(auto, unfolding(crate::specs::Script::says))]
+fn read_line(alloc: Global, line: &[u8]) -> Result<Saying, AllocError>
+    ensures { IfOk result (λ told. told ≡ says line.now) }
+{
+    if is_silent(line) {
+        return Ok(Saying::Nothing);
+    }
+    match read_action(alloc, line)? {
+        Some(action) => Ok(Saying::Does(action)),
+        None => Ok(Saying::Bad),
+    }
+}
+
+/// Whether a line is blank or a comment.
+fn is_silent(line: &[u8]) -> bool
+    ensures { result ≡ is_silent line.now }
+{
+    match first_mark(line) {
+        None => true,
+        Some(b) => b == b'#',
+    }
+}
+
+/// The first byte that isn't a blank.
+fn first_mark(line: &[u8]) -> Option<u8>
+    ensures { result ≡ find (λ b. not (is_blank b)) line.now }
+{
+    line.iter().copied().find(|b| !is_blank(*b))
+}
+
+fn is_blank(b: u8) -> bool
+    ensures { result ≡ is_blank b }
+{
+    b == b' ' || b == b'\t'
+}
+
+/// What a line asks for, if it is one of a script's.
+fn read_action(alloc: Global, line: &[u8]) -> Result<Option<Action>, AllocError>
+    ensures { IfOk result (λ action. action ≡ said (split_at_space line.now)) }
+{
+    let Some((word, text)) = split_at_space(line) else {
+        return Ok(None);
+    };
+    match Verb::of(word) {
+        Some(verb) => action_of(alloc, verb, text),
+        None => Ok(None),
+    }
+}
+
+/// What a verb asks for, with the bytes behind its space.
+fn action_of(alloc: Global, verb: Verb, text: &[u8]) -> Result<Option<Action>, AllocError>
+    ensures { IfOk result (λ action. action ≡ said_by verb text.now) }
+{
+    Ok(match verb {
+        Verb::Up => ups_name(text).map(|ups| Action::DriverUp(ups)),
+        Verb::Down => ups_name(text).map(|ups| Action::DriverDown(ups)),
+        Verb::OpenFrom => Address::read(text).ok().map(|from| Action::Open(from)),
+        Verb::CloseOf => read_number(text).map(|c| Action::Close(c)),
+        Verb::TookBy => match client_and_rest(text) {
+            Some((c, count)) => taking(c, count),
+            None => None,
+        },
+        Verb::Driver => match ups_and_rest(text) {
+            Some((ups, rest)) => Some(Action::DriverBytes(ups, whole_line(alloc, rest)?)),
+            None => None,
+        },
+        Verb::DriverPart => match ups_and_rest(text) {
+            Some((ups, rest)) => Some(Action::DriverBytes(ups, piece(alloc, rest)?)),
+            None => None,
+        },
+        Verb::Client => match client_and_rest(text) {
+            Some((c, rest)) => Some(Action::Feed(c, whole_line(alloc, rest)?)),
+            None => None,
+        },
+        Verb::Part => match client_and_rest(text) {
+            Some((c, rest)) => Some(Action::Feed(c, piece(alloc, rest)?)),
+            None => None,
+        },
+    })
+}
+
+/// What is taken: so many bytes, or `all`.
+fn taking(c: ClientId, count: &[u8]) -> Option<Action>
+    ensures { result ≡ taking c count.now }
+{
+    if count == b"all".as_slice() {
+        return Some(Action::TookAll(c));
+    }
+    match read_number(count) {
+        Some(n) => Some(Action::Took(c, n as usize)),
+        None => None,
+    }
+}
+
+/// The name of a UPS and the bytes behind the space that follows it.
+fn ups_and_rest(text: &[u8]) -> Option<(UpsName, &[u8])>
+    ensures { MatchOption result (ups_and_rest text.now ≡ None) (λ p. ups_and_rest text.now ≡ Some (p.0, p.1.now)) }
+{
+    let (first, rest) = split_at_space(text)?;
+    let ups = ups_name(first)?;
+    Some((ups, rest))
+}
+
+/// A client's id and the bytes behind the space that follows it.
+fn client_and_rest(text: &[u8]) -> Option<(ClientId, &[u8])>
+    ensures { MatchOption result (client_and_rest text.now ≡ None) (λ p. client_and_rest text.now ≡ Some (p.0, p.1.now)) }
+{
+    let (first, rest) = split_at_space(text)?;
+    let c = read_number(first)?;
+    Some((c, rest))
+}
+
+fn ups_name(text: &[u8]) -> Option<UpsName>
+    ensures { result ≡ ups_name text.now }
+{
+    UpsName::read(text).ok()
+}
+
+/// The bytes before the first space and those behind it.
+fn split_at_space(line: &[u8]) -> Option<(&[u8], &[u8])>
+    ensures { MatchOption result (split_at_space line.now ≡ None) (λ p. split_at_space line.now ≡ Some (p.0.now, p.1.now)) }
+{
+    let i = space_in(line)?;
+    Some((&line[..i], &line[i + 1..]))
+}
+
+/// Where the first space stands.
+fn space_in(line: &[u8]) -> Option<usize>
+    ensures place { result ≡ position (λ b. b == 32) line.now }
+    ensures within { IfSome result (λ i. i < length line.now) }
+{
+    line.iter().position(|b| *b == b' ')
+}
+
+/// A copy of the bytes, with an LF.
+fn whole_line(alloc: Global, rest: &[u8]) -> Result<Bytes, AllocError>
+    ensures { IfOk result (λ bytes. bytes ≡ with_lf rest.now) }
+{
+    let mut bytes = Vec::new(alloc);
+    bytes.extend_from_slice(rest)?;
+    bytes.push(b'\n')?;
+    Ok(Bytes::new(bytes))
+}
+
+/// A copy of the bytes.
+fn piece(alloc: Global, rest: &[u8]) -> Result<Bytes, AllocError>
+    ensures { IfOk result (λ bytes. bytes ≡ rest.now) }
+{
+    let mut bytes = Vec::new(alloc);
+    bytes.extend_from_slice(rest)?;
+    Ok(Bytes::new(bytes))
+}
+
+/// A number: `0`, or digits that don't begin with 0, below 2^64.
+fn read_number(text: &[u8]) -> Option<u64>
+    ensures { result ≡ number text.now }
+{
+    if !is_numeral(text) {
+        return None;
+    }
+    decimal_value(text)
+}
+
+/// Whether these are digits, of which the first isn't 0 or is the only one.
+fn is_numeral(text: &[u8]) -> bool
+    ensures { result ≡ is_numeral text.now }
+{
+    !text.is_empty() && are_digits(text) && (text[0] != b'0' || text.len() == 1)
+}
+
+fn are_digits(text: &[u8]) -> bool
+    ensures { result ≡ list_all is_digit text.now }
+{
+    text.iter().all(|b| is_digit(*b))
+}
+
+fn is_digit(b: u8) -> bool
+    ensures { result ≡ is_digit b }
+{
+    b'0' <= b && b <= b'9'
+}
+
+/// The number that the digits write, below 2^64.
+fn decimal_value(digits: &[u8]) -> Option<u64>
+    requires { list_all is_digit digits.now ≡ true }
+    ensures { result ≡ below_limit (digits_value 10 digits.now) }
+{
+    let mut value = 0;
+    for d in digits {
+        value = with_digit(value, *d)?;
+    }
+    Some(value)
+}
+
+/// The number with one more digit behind its last one.
+fn with_digit(value: u64, d: u8) -> Option<u64>
+    requires { is_digit d ≡ true }
+    ensures { result ≡ below_limit (value * 10 + (d - 48)) }
+{
+    value.checked_mul(10)?.checked_add(u64::from(d - b'0'))
+}

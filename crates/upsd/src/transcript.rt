@@ -1,0 +1,323 @@
+//! The server of a replayed script, and what is told of its events.
+ghost use Rattle.std.specs.Prelude.{◌≡◌, ◌++◌, ◌-◌, ◌<◌, ◌^◌, ℕ, List, [], ◌∷◌, length, slice_get, take, codes, nat_lt, if◌then◌else◌, IfOk, OnOk};
+ghost use Rattle.std.specs.List.{flat_map};
+ghost use Rattle.std.specs.Fmt.{decimal};
+ghost use Rattle.nutcore.specs.Step.{Step, offered};
+ghost use Rattle.nutcore.specs.Numbers.{number_of_fault};
+ghost use Rattle.nutcore.specs.Server.{session};
+ghost use Rattle.nutcore.specs.History.{taken_in_event};
+ghost use Rattle.upsd.specs.Transcript.{told, before, refusal, held_back, count_taken, count_held, remark, opened_by, taken_by, Happens, HappensTo, TakesAll, IsDone, AreDone, count_offered, sent_to, ending_of, sent_part, client_part, driver_part, whole_text};
+
+use crate::script::{Action, ScriptLine};
+use nutcore::{
+    Bytes, ClientId, Descriptions, Event, Fault, MaxAge, Outcome, Server, UpsId, UpsList, Users,
+};
+use std::alloc::{AllocError, Global};
+use std::slice;
+
+/// How many UPSs an id can name.
+const UPS_IDS: usize = 256;
+
+/// What a client took by one event.
+#[derive(Debug, Drop)]
+pub struct Taken {
+    client: ClientId,
+    bytes: Bytes,
+}
+
+/// The server, and what is told of the events so far.
+#[derive(Drop)]
+pub struct Transcript {
+    alloc: Global,
+    server: Server,
+    text: Vec<u8>,
+    clients: Vec<ClientId>,
+    taken: Vec<Taken>,
+}
+
+impl Transcript {
+    /// A new server over these UPSs, of which nothing is told yet.
+    pub fn new(
+        alloc: Global,
+        list: UpsList,
+        users: Users,
+        descriptions: Descriptions,
+        max_age: MaxAge,
+    ) -> Result<Transcript, AllocError>
+        ensures { IfOk result (λ t. told t ≡ before list max_age) }
+    {
+        Ok(Transcript {
+            alloc,
+            server: Server::new(alloc, list, users, descriptions, max_age)?,
+            text: Vec::new(alloc),
+            clients: Vec::new(alloc),
+            taken: Vec::new(alloc),
+        })
+    }
+
+    /// Does what the lines ask for, one after another.
+    pub fn run(&mut self, lines: Vec<ScriptLine>) -> Result<(), AllocError>
+        ensures { OnOk result (AreDone lines.items (told self.old) (told self.new)) }
+    {
+        for line in lines {
+            self.act(line.number, line.action)?;
+        }
+        Ok(())
+    }
+
+    /// Does what one line asks for.
+    #[tactic(auto, unfolding(crate::specs::Transcript::IsDone))]
+    fn act(&mut self, line: usize, action: Action) -> Result<(), AllocError>
+        ensures { OnOk result (IsDone line action (told self.old) (told self.new)) }
+    {
+        match action {
+            Action::DriverUp(ups) => match self.server.find(ups.as_bytes()) {
+                Some(u) => self.event(line, &Event::DriverUp(u)),
+                None => self.refuse(line, Fault::NoSuchUps),
+            },
+            Action::DriverBytes(ups, piece) => match self.server.find(ups.as_bytes()) {
+                Some(u) => self.event(line, &Event::DriverBytes(u, piece)),
+                None => self.refuse(line, Fault::NoSuchUps),
+            },
+            Action::DriverDown(ups) => match self.server.find(ups.as_bytes()) {
+                Some(u) => self.event(line, &Event::DriverDown(u)),
+                None => self.refuse(line, Fault::NoSuchUps),
+            },
+            Action::Open(address) => self.event(line, &Event::Open(address)),
+            Action::Feed(c, piece) => self.event(line, &Event::Feed(c, piece)),
+            Action::Took(c, n) => self.event(line, &Event::Took(c, n)),
+            Action::TookAll(c) => self.take_all(line, c),
+            Action::Close(c) => self.event(line, &Event::Close(c)),
+        }
+    }
+
+    /// One event of a line.
+    fn event(&mut self, line: usize, event: &Event) -> Result<(), AllocError>
+        ensures { OnOk result (Happens line event.now (told self.old) (told self.new)) }
+    {
+        self.note_taken(event)?;
+        let outcome = self.step(event)?;
+        self.note(line, event, outcome)
+    }
+
+    /// What a client takes by the event is kept.
+    fn note_taken(&mut self, event: &Event) -> Result<(), AllocError>
+        ensures { OnOk result (told self.new ≡ record (told self.old) { taken = (told self.old).taken ++ taken_by self.old.server event.now }) }
+    {
+        if let Event::Took(c, n) = event {
+            let bytes = bytes_taken(self.alloc, &mut self.server, *c, *n)?;
+            self.taken.push(Taken {
+                client: *c,
+                bytes: Bytes::new(bytes),
+            })?;
+        }
+        Ok(())
+    }
+
+    /// The event happens to the server.
+    fn step(&mut self, event: &Event) -> Result<Outcome, AllocError>
+        ensures steps { IfOk result (λ outcome. Step self.old.server event.now outcome self.new.server) }
+        ensures same { OnOk result (told self.new ≡ record (told self.old) { server = self.new.server }) }
+    {
+        let outcomes = self.server.run(slice::from_ref(event))?;
+        Ok(outcomes[0])
+    }
+
+    /// What is told of the event, and the client that it opened.
+    fn note(&mut self, line: usize, event: &Event, outcome: Outcome) -> Result<(), AllocError>
+        ensures { OnOk result (told self.new ≡ record (told self.old) { text = (told self.old).text ++ remark line event.now outcome; clients = (told self.old).clients ++ opened_by outcome }) }
+    {
+        match outcome {
+            Outcome::Done => Ok(()),
+            Outcome::Opened(c) => Ok(self.clients.push(c)?),
+            Outcome::Refused(fault) => self.refuse(line, fault),
+            Outcome::Fed(n) => match event {
+                Event::Feed(_, piece) => self.note_fed(line, n, piece.as_slice().len()),
+                _ => Ok(()),
+            },
+        }
+    }
+    /// Tells that a feed took so many of its bytes, where it had more.
+    fn note_fed(&mut self, line: usize, n: usize, all: usize) -> Result<(), AllocError>
+        ensures { OnOk result (told self.new ≡ record (told self.old) { text = (told self.old).text ++ (if nat_lt n all then held_back line n all else []) }) }
+    {
+        if n < all {
+            self.hold_back(line, n, all)?;
+        }
+        Ok(())
+    }
+
+    /// Tells that only n bytes of a feed were taken.
+    fn hold_back(&mut self, line: usize, n: usize, all: usize) -> Result<(), AllocError>
+        ensures { OnOk result (told self.new ≡ record (told self.old) { text = (told self.old).text ++ held_back line n all }) }
+    {
+        self.count_taken(line, n)?;
+        self.count_held(all)
+    }
+
+    fn count_taken(&mut self, line: usize, n: usize) -> Result<(), AllocError>
+        ensures { OnOk result (told self.new ≡ record (told self.old) { text = (told self.old).text ++ count_taken line n }) }
+    {
+        let text = format!(in self.alloc; "line {line}: {n}")?;
+        self.text.extend_from_slice(text.as_bytes())
+    }
+
+    fn count_held(&mut self, all: usize) -> Result<(), AllocError>
+        ensures { OnOk result (told self.new ≡ record (told self.old) { text = (told self.old).text ++ count_held all }) }
+    {
+        let text = format!(in self.alloc; " of {all} bytes held\n")?;
+        self.text.extend_from_slice(text.as_bytes())
+    }
+
+    /// Tells that the line's event is refused.
+    fn refuse(&mut self, line: usize, fault: Fault) -> Result<(), AllocError>
+        ensures { OnOk result (told self.new ≡ record (told self.old) { text = (told self.old).text ++ refusal line fault }) }
+    {
+        let number = fault.number();
+        let text = format!(in self.alloc; "line {line}: refused {number}\n")?;
+        self.text.extend_from_slice(text.as_bytes())
+    }
+
+    /// A client takes what it is offered, once, and again while something is offered.
+    fn take_all(&mut self, line: usize, c: ClientId) -> Result<(), AllocError>
+        ensures { OnOk result (TakesAll line c (told self.old) (told self.new)) }
+    {
+        let n = count_offered(&mut self.server, c);
+        let mut left = self.take(line, c, n)?;
+        while left > 0 {
+            left = self.take(line, c, left)?;
+        }
+        Ok(())
+    }
+
+    /// A client takes n bytes. The answer is how many it is offered then.
+    fn take(&mut self, line: usize, c: ClientId, n: usize) -> Result<usize, AllocError>
+        ensures happens { OnOk result (Happens line (Event.Took c n) (told self.old) (told self.new)) }
+        ensures left { IfOk result (λ left. left ≡ count_offered c (told self.new)) }
+    {
+        self.event(line, &Event::Took(c, n))?;
+        Ok(count_offered(&mut self.server, c))
+    }
+
+    /// The whole text.
+    #[tactic(auto, unfolding(crate::specs::Transcript::whole_text))]
+    pub fn finish(self) -> Result<Vec<u8>, AllocError>
+        ensures { IfOk result (λ text. text.items ≡ whole_text (told self)) }
+    {
+        let Transcript {
+            alloc,
+            server,
+            mut text,
+            clients,
+            taken,
+        } = self;
+        write_clients(alloc, &clients, &taken, &mut text)?;
+        write_drivers(alloc, server.ups(), &mut text)?;
+        Ok(text)
+    }
+}
+
+/// How many bytes the client is offered: none where it isn't open.
+fn count_offered(server: &mut Server, c: ClientId) -> usize
+    ensures count { result ≡ length (offered (session c server.old)) }
+    ensures same { server.new ≡ server.old }
+{
+    match server.offer(c) {
+        Ok(bytes) => bytes.len(),
+        Err(_) => 0,
+    }
+}
+
+/// The bytes that the client takes, if it may take so many.
+fn bytes_taken(
+    alloc: Global,
+    server: &mut Server,
+    c: ClientId,
+    n: usize,
+) -> Result<Vec<u8>, AllocError>
+    ensures bytes { IfOk result (λ bytes. bytes.items ≡ taken_in_event c server.old (Event.Took c n)) }
+    ensures same { server.new ≡ server.old }
+{
+    let mut taken = Vec::new(alloc);
+    if let Ok(bytes) = server.offer(c) {
+        if n <= bytes.len() {
+            taken.extend_from_slice(&bytes[..n])?;
+        }
+    }
+    Ok(taken)
+}
+
+/// What was sent to each client, in the order of opening.
+fn write_clients(
+    alloc: Global,
+    clients: &[ClientId],
+    taken: &[Taken],
+    text: &mut Vec<u8>,
+) -> Result<(), AllocError>
+    ensures { OnOk result (text.new.items ≡ text.old.items ++ flat_map (client_part taken.now) clients.now) }
+{
+    for c in clients {
+        let sent = sent_to(alloc, *c, taken)?;
+        let peer = format!(in alloc; "client {c}")?;
+        write_part(alloc, peer.as_bytes(), &sent, text)?;
+    }
+    Ok(())
+}
+
+/// The bytes that the client took, in order.
+fn sent_to(alloc: Global, c: ClientId, taken: &[Taken]) -> Result<Vec<u8>, AllocError>
+    ensures { IfOk result (λ sent. sent.items ≡ sent_to c taken.now) }
+{
+    let mut sent = Vec::new(alloc);
+    for t in taken {
+        if t.client == c {
+            sent.extend_from_slice(t.bytes.as_slice())?;
+        }
+    }
+    Ok(sent)
+}
+
+/// What was sent to each driver: nothing yet.
+fn write_drivers(alloc: Global, list: &UpsList, text: &mut Vec<u8>) -> Result<(), AllocError>
+    ensures { OnOk result (text.new.items ≡ text.old.items ++ flat_map driver_part (take 256 list.now)) }
+{
+    for place in 0..list.len().min(UPS_IDS) {
+        let Some(name) = list.name(UpsId { place: place as u8 }) else {
+            unreachable!()
+        };
+        write_driver(alloc, name.as_bytes(), text)?;
+    }
+    Ok(())
+}
+
+/// What was sent to the driver of the UPS of this name.
+fn write_driver(alloc: Global, name: &[u8], text: &mut Vec<u8>) -> Result<(), AllocError>
+    ensures { OnOk result (text.new.items ≡ text.old.items ++ driver_part name.now) }
+{
+    let mut peer = Vec::new(alloc);
+    peer.extend_from_slice(b"driver ")?;
+    peer.extend_from_slice(name)?;
+    write_part(alloc, &peer, &[], text)
+}
+
+/// What was sent to one peer: how many bytes, these, and an LF more unless they end with one.
+fn write_part(alloc: Global, peer: &[u8], sent: &[u8], text: &mut Vec<u8>) -> Result<(), AllocError>
+    ensures { OnOk result (text.new.items ≡ text.old.items ++ sent_part peer.now sent.now) }
+{
+    let count = sent.len();
+    let counted = format!(in alloc; " sent {count} bytes\n")?;
+    text.extend_from_slice(peer)?;
+    text.extend_from_slice(counted.as_bytes())?;
+    text.extend_from_slice(sent)?;
+    text.extend_from_slice(ending_of(sent))
+}
+
+/// An LF, unless there is nothing to end or it ends with one.
+fn ending_of(sent: &[u8]) -> &'static [u8]
+    ensures { result.now ≡ ending_of (slice_get sent.now (length sent.now - 1)) }
+{
+    match sent.last() {
+        Some(b) if *b != b'\n' => b"\n",
+        _ => b"",
+    }
+}
