@@ -1,0 +1,4 @@
+mod Cutting
+mod Progress
+mod UsersLemmas
+mod ClosingBracket

@@ -1,0 +1,21 @@
+//! The three configuration files of upsd: the users and their rights, the UPSs, and the descriptions.
+#![tactic(auto)]
+
+mod config_line;
+mod fault;
+mod file;
+mod rights;
+mod users;
+
+pub use fault::{Cause, ConfFault};
+pub use rights::Right;
+pub use users::Users;
+
+/// The most bytes that a line of a file has before its LF, where the line says something.
+pub const LINE_LIMIT: usize = 1023;
+
+/// The most bytes of a user's name.
+pub const USER_NAME_LIMIT: usize = 64;
+
+/// The most bytes of a password.
+pub const PASSWORD_LIMIT: usize = 256;
