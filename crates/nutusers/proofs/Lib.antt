@@ -1,4 +1,6 @@
 mod Cutting
 mod Progress
+mod SectionLemmas
 mod UsersLemmas
+mod UpsLemmas
 mod ClosingBracket

@@ -1,5 +1,5 @@
 -- A file as the list of its lines, and which of them is refused.
-use Rattle.std.specs.Prelude.{◌≡◌, ℕ, ◌+◌, ◌==◌, List, [], ◌∷◌, ◌++◌, length, reverse, Option, None, Some, if◌then◌else◌}
+use Rattle.std.specs.Prelude.{◌≡◌, ℕ, ◌+◌, Bool, ◌==◌, List, [], ◌∷◌, ◌++◌, length, reverse, Option, None, Some, if◌then◌else◌}
 use Rattle.nutusers.specs.declared.fault.Cause.{Cause}
 use Rattle.nutusers.specs.declared.fault.Cause.TheVariants.{Malformed, OutsideSection, BadName, Duplicate, UnknownKey, BadValue, Memory}
 use Rattle.nutusers.specs.declared.fault.ConfFault.{ConfFault}
@@ -37,6 +37,10 @@ AreAccepted format (line ∷ earlier) = (format earlier line ≡ None) × AreAcc
 abbrev pub verdict_of : Cause → Option Cause
 verdict_of Memory = None
 verdict_of cause = Some cause
+
+-- The value that a key takes is lawful, or why not.
+abbrev pub bad_value_unless : Bool → Option Cause
+bad_value_unless lawful = if lawful then None else Some BadValue
 
 -- The file is refused at the first line that the format refuses, and for its cause; or memory was refused while a line was read, and it and all before it are accepted.
 pub record IsRefused (format : Format) (lines : List (List ℕ)) (fault : ConfFault) : Type 0 where

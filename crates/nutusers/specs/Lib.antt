@@ -1,7 +1,11 @@
+pub mod Texts
 pub mod File
 pub mod ConfigLine
 pub mod ReadConfigLine
-pub mod Rights
 pub mod Sections
+pub mod SectionsStep
+pub mod Rights
 pub mod UsersFile
 pub mod UsersStep
+pub mod UpsFile
+pub mod UpsStep

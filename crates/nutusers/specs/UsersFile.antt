@@ -1,15 +1,16 @@
 -- The file of users (upsd.users(5)).
-use Rattle.std.specs.Prelude.{ℕ, ◌-◌, Bool, false, ◌&&◌, not, List, [], ◌∷◌, length, map, reverse, find, codes, nat_le, slice_get, is_some, is_none, Option, None, Some, if◌then◌else◌}
+use Rattle.std.specs.Prelude.{ℕ, Bool, false, ◌&&◌, not, List, map, reverse, find, codes, is_some, Option, None, Some, if◌then◌else◌}
 use Rattle.std.specs.List.{list_any, filter_map}
-use Rattle.std.specs.Option.{option_or, option_map_or}
+use Rattle.std.specs.Option.{option_map_or}
 use Rattle.std.specs.Str.{bytes_eq}
 use Rattle.nutusers.specs.ConfigLine.{ConfigLine, silent, malformed, section, setting, upsmon, read_config_line}
-use Rattle.nutusers.specs.File.{Format}
+use Rattle.nutusers.specs.File.{Format, bad_value_unless}
 use Rattle.nutusers.specs.Rights.{gives, grant_of, role_grant, action_grant, command_grant}
-use Rattle.nutusers.specs.Sections.{sections}
+use Rattle.nutusers.specs.Sections.{sections, value_in, last_of, in_section}
+use Rattle.nutusers.specs.Texts.{is_text_within}
 use Rattle.nutusers.specs.declared.TheConstants.{USER_NAME_LIMIT, PASSWORD_LIMIT}
 use Rattle.nutusers.specs.declared.fault.Cause.{Cause}
-use Rattle.nutusers.specs.declared.fault.Cause.TheVariants.{Malformed, OutsideSection, BadName, Duplicate, UnknownKey, BadValue}
+use Rattle.nutusers.specs.declared.fault.Cause.TheVariants.{Malformed, BadName, Duplicate, UnknownKey}
 use Rattle.nutusers.specs.declared.rights.Right.{Right}
 use Rattle.nutusers.specs.declared.rights.Grant.{Grant}
 
@@ -19,26 +20,9 @@ pub record User : Type 0 where
   pub password : Option (List ℕ)
   pub grants : List Grant
 
--- A text of 1 to so many bytes. (What stands in a word is lawful already.)
-abbrev pub is_text_within : ℕ → List ℕ → Bool
-is_text_within most text = nat_le 1 (length text) && nat_le (length text) most
-
--- `password = value`.
-abbrev pub password_of : ConfigLine → Option (List ℕ)
-password_of silent = None
-password_of malformed = None
-password_of (section name) = None
-password_of (setting key value) = if bytes_eq key (codes "password") then Some value else None
-password_of (upsmon role) = None
-
--- The password that the lines set.
-abbrev pub password_in : List ConfigLine → Option (List ℕ)
-password_in [] = None
-password_in (line ∷ earlier) = option_or (password_of line) (password_in earlier)
-
 -- The user of a section.
 abbrev pub user_of : List ℕ × List ConfigLine → User
-user_of (name, lines) = record { name = name; password = password_in lines; grants = reverse (filter_map grant_of lines) }
+user_of (name, lines) = record { name = name; password = value_in (codes "password") lines; grants = reverse (filter_map grant_of lines) }
 
 -- The users that some lines mean, in the order of their sections. The lines are listed from the last to the first.
 abbrev pub users_of : List (List ℕ) → List User
@@ -47,13 +31,6 @@ users_of lines = reverse (map user_of (sections (map read_config_line lines)))
 -- The user of this name.
 abbrev pub user_named : List ℕ → List User → Option User
 user_named name users = find (λ user. bytes_eq user.name name) users
-
--- The user of the last section.
-abbrev pub last_user : List User → Option User
-last_user users = slice_get users (length users - 1)
-
-abbrev pub bad_value_unless : Bool → Option Cause
-bad_value_unless lawful = if lawful then None else Some BadValue
 
 -- Why a section line is refused behind lines that mean these users.
 abbrev pub section_fault : List User → List ℕ → Option Cause
@@ -70,17 +47,13 @@ setting_fault key value user =
     else if bytes_eq key (codes "instcmds") then bad_value_unless (is_some (command_grant value))
     else Some UnknownKey
 
-abbrev pub in_section : (User → Option Cause) → Option User → Option Cause
-in_section fault None = Some OutsideSection
-in_section fault (Some user) = fault user
-
 -- Why a line is refused behind lines that mean these users.
 abbrev pub user_line_fault : List User → ConfigLine → Option Cause
 user_line_fault users silent = None
 user_line_fault users malformed = Some Malformed
 user_line_fault users (section name) = section_fault users name
-user_line_fault users (setting key value) = in_section (setting_fault key value) (last_user users)
-user_line_fault users (upsmon role) = in_section (λ user. bad_value_unless (is_some (role_grant role))) (last_user users)
+user_line_fault users (setting key value) = in_section (setting_fault key value) (last_of users)
+user_line_fault users (upsmon role) = in_section (λ user. bad_value_unless (is_some (role_grant role))) (last_of users)
 
 abbrev pub users_format : Format
 users_format earlier line = user_line_fault (users_of earlier) (read_config_line line)

@@ -5,10 +5,13 @@ mod config_line;
 mod fault;
 mod file;
 mod rights;
+mod text;
+mod ups_list;
 mod users;
 
 pub use fault::{Cause, ConfFault};
 pub use rights::Right;
+pub use ups_list::{UpsId, UpsList};
 pub use users::Users;
 
 /// The most bytes that a line of a file has before its LF, where the line says something.
@@ -19,3 +22,9 @@ pub const USER_NAME_LIMIT: usize = 64;
 
 /// The most bytes of a password.
 pub const PASSWORD_LIMIT: usize = 256;
+
+/// The most UPSs of a list.
+pub const UPS_LIMIT: usize = 32;
+
+/// The most bytes of the path of a driver's socket.
+pub const SOCKET_LIMIT: usize = 100;

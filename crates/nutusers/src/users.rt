@@ -4,16 +4,20 @@ ghost use Rattle.std.specs.List.{list_any};
 ghost use Rattle.std.specs.Option.{option_map, option_copied};
 ghost use Rattle.std.specs.Str.{bytes_eq};
 ghost use Rattle.nutusers.specs.ConfigLine.{setting, upsmon, read_config_line};
-ghost use Rattle.nutusers.specs.File.{lines_of, Means, IsRefused};
-ghost use Rattle.nutusers.specs.UsersFile.{is_text_within, users_of, users_format, may, user_named, user_line_fault, in_section, last_user, setting_fault, bad_value_unless, section_fault, has_password};
+ghost use Rattle.nutusers.specs.File.{lines_of, Means, IsRefused, bad_value_unless};
+ghost use Rattle.nutusers.specs.Sections.{last_of, in_section};
+ghost use Rattle.nutusers.specs.SectionsStep.{verdict};
+ghost use Rattle.nutusers.specs.Texts.{is_text_within};
+ghost use Rattle.nutusers.specs.UsersFile.{users_of, users_format, may, user_named, user_line_fault, setting_fault, section_fault, has_password};
 ghost use Rattle.nutusers.specs.Rights.{gives};
 ghost use Rattle.nutusers.specs.declared.TheConstants.{PASSWORD_LIMIT};
 ghost use Rattle.nutusers.specs.declared.fault.Cause.TheVariants.{Duplicate};
-ghost use Rattle.nutusers.specs.UsersStep.{verdict, new_user, with_line, with_grant, users_with};
+ghost use Rattle.nutusers.specs.UsersStep.{new_user, with_user_line, with_grant, users_with};
 
 use crate::config_line::ConfigLine;
 use crate::file::Lines;
 use crate::rights::Grant;
+use crate::text::text_within;
 use crate::{Cause, ConfFault, PASSWORD_LIMIT, Right, USER_NAME_LIMIT};
 use arrayvec::ArrayVec;
 use std::alloc::Global;
@@ -77,7 +81,7 @@ impl User {
     /// Takes `key = value` of the user's section.
     fn set(&mut self, key: &[u8], value: &[u8]) -> Result<(), Cause>
         ensures fault { setting_fault key.now value.now self.old ≡ verdict result }
-        ensures ok { OnOk result (self.new ≡ with_line (setting key.now value.now) self.old) }
+        ensures ok { OnOk result (self.new ≡ with_user_line (setting key.now value.now) self.old) }
     {
         if key == b"password".as_slice() {
             self.set_password(value)
@@ -117,18 +121,6 @@ impl User {
             Err(_) => Err(Cause::Memory),
         }
     }
-}
-
-/// A copy of the text, where it has 1 to so many bytes.
-fn text_within<const MOST: usize>(text: &[u8]) -> Option<ArrayVec<u8, MOST>>
-    ensures { option_map (λ t. t.items) result ≡ (if is_text_within MOST text.now then Some text.now else None) }
-{
-    if text.is_empty() || text.len() > MOST {
-        return None;
-    }
-    let mut held = ArrayVec::new();
-    held.try_extend_from_slice(text).unwrap();
-    Some(held)
 }
 
 /// The users of a file, which contracts see in the order of their sections.
@@ -232,7 +224,7 @@ impl Users {
 
     /// Takes `key = value` in the last section.
     fn set(&mut self, key: &[u8], value: &[u8]) -> Result<(), Cause>
-        ensures fault { in_section (setting_fault key.now value.now) (last_user self.old) ≡ verdict result }
+        ensures fault { in_section (setting_fault key.now value.now) (last_of self.old) ≡ verdict result }
         ensures ok { OnOk result (self.new ≡ users_with self.old (setting key.now value.now)) }
     {
         match self.users.last_mut() {
