@@ -4,3 +4,4 @@ mod SectionLemmas
 mod UsersLemmas
 mod UpsLemmas
 mod ClosingBracket
+mod DescriptionLemmas

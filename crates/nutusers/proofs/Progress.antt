@@ -1,9 +1,8 @@
 -- How far a file has been read.
-use Rattle.std.proofs.Common.{◌≡◌, ℕ, ◌+◌, ◌≤◌, List, [], ◌∷◌, ◌++◌, length, reverse, Option, None, refl, sym, ap, ◌∙◌, append_assoc, append-nil, arith, length-append, add-one}
+use Rattle.std.proofs.Common.{◌≡◌, ℕ, ◌+◌, ◌≤◌, List, [], ◌∷◌, ◌++◌, length, reverse, None, refl, sym, ap, ◌∙◌, append_assoc, append-nil, arith, length-append}
 use Rattle.std.proofs.lemmas.List.{reverse-append, reverse-reverse, length-reverse}
 use Rattle.nutusers.specs.File.{Format, AreAccepted, IsRefused, Means, verdict_of}
 use Rattle.nutusers.specs.declared.fault.Cause.{Cause}
-use Rattle.nutusers.specs.declared.fault.ConfFault.{ConfFault}
 
 -- the first lines are read, all of them are accepted, and the value is what they mean; the others are left
 pub record HasRead (format : Format) {A : Type 0} (meaning : List (List ℕ) → A) (lines left : List (List ℕ)) (number : ℕ) (value : A) : Type 0 where

@@ -4,7 +4,7 @@ use Rattle.std.specs.List.{filter_map, cons_option}
 use Rattle.nutusers.specs.ConfigLine.{ConfigLine, read_config_line}
 use Rattle.nutusers.specs.Rights.{grant_of}
 use Rattle.nutusers.specs.Sections.{value_in}
-use Rattle.nutusers.specs.UsersFile.{User, user_of, users_of}
+use Rattle.nutusers.specs.UsersFile.{user_of, users_of}
 use Rattle.nutusers.specs.UsersStep.{new_user, with_user_line, with_grant, users_with}
 use Rattle.nutusers.specs.declared.rights.Grant.{Grant}
 use Rattle.nutusers.proofs.Progress.{reverse-cons}

@@ -1,4 +1,6 @@
 pub mod Texts
+pub mod Names
+pub mod Line
 pub mod File
 pub mod ConfigLine
 pub mod ReadConfigLine
@@ -9,3 +11,5 @@ pub mod UsersFile
 pub mod UsersStep
 pub mod UpsFile
 pub mod UpsStep
+pub mod DescriptionFile
+pub mod DescriptionStep

@@ -1,18 +1,16 @@
 -- The list of UPSs (ups.conf(5), of which upsd reads the names, the descriptions and the sockets).
-use Rattle.std.specs.Prelude.{ℕ, Bool, ◌&&◌, not, List, map, reverse, find, length, codes, nat_le, is_some, is_ok, IsPermutation, Option, None, Some, if◌then◌else◌}
-use Rattle.std.specs.Cmp.Lexicographic.{slice_cmp}
+use Rattle.std.specs.Prelude.{ℕ, Bool, ◌&&◌, not, List, map, reverse, find, length, codes, nat_le, is_some, IsPermutation, Option, None, Some, if◌then◌else◌}
 use Rattle.std.specs.List.Sorted.{IsSortedByKey}
-use Rattle.std.specs.Ordering.{nat_cmp}
 use Rattle.std.specs.Str.{bytes_eq, is_utf8}
-use Rattle.std.specs.declared.cmp.Ordering.{Ordering}
 use Rattle.nutwords.specs.Reading.{is_ups_name, is_value}
 use Rattle.nutusers.specs.ConfigLine.{ConfigLine, silent, malformed, section, setting, upsmon, read_config_line}
 use Rattle.nutusers.specs.File.{Format, AreAccepted, bad_value_unless}
+use Rattle.nutusers.specs.Names.{byte_order}
 use Rattle.nutusers.specs.Sections.{sections, value_in, last_of, in_section}
 use Rattle.nutusers.specs.Texts.{is_text_within}
 use Rattle.nutusers.specs.declared.TheConstants.{UPS_LIMIT, SOCKET_LIMIT}
 use Rattle.nutusers.specs.declared.fault.Cause.{Cause}
-use Rattle.nutusers.specs.declared.fault.Cause.TheVariants.{Malformed, BadName, Duplicate, UnknownKey, BadValue}
+use Rattle.nutusers.specs.declared.fault.Cause.TheVariants.{Malformed, BadName, Duplicate, UnknownKey}
 
 -- A UPS: its name, its description if the file has one, and the path of its driver's socket if the file has one.
 pub record Ups : Type 0 where
@@ -27,10 +25,6 @@ ups_of (name, lines) = record { name = name; desc = value_in (codes "desc") line
 -- The UPSs that some lines mean, in the order of their sections. The lines are listed from the last to the first.
 abbrev pub upses_of : List (List ℕ) → List Ups
 upses_of lines = reverse (map ups_of (sections (map read_config_line lines)))
-
--- The order of names: byte by byte, a beginning before what it begins.
-abbrev pub byte_order : List ℕ → List ℕ → Ordering
-byte_order = slice_cmp nat_cmp
 
 -- The names are in their order.
 abbrev pub AreByName : List Ups → Type 0

@@ -1,5 +1,5 @@
 -- What one more line makes of the UPSs read so far, computed.
-use Rattle.std.specs.Prelude.{ℕ, List, codes, Option, None}
+use Rattle.std.specs.Prelude.{ℕ, List, codes, None}
 use Rattle.std.specs.Option.{option_or}
 use Rattle.nutusers.specs.ConfigLine.{ConfigLine}
 use Rattle.nutusers.specs.Sections.{value_of}

@@ -1,14 +1,13 @@
 //! A line of a file with sections.
 ghost use Rattle.std.specs.Prelude.{◌≡◌, ◌≤◌, [], ◌∷◌, length, IfSome};
 ghost use Rattle.std.specs.Option.{option_map, option_copied};
-ghost use Rattle.nutwords.specs.Bytes.{is_blank};
 ghost use Rattle.nutwords.specs.Word.{bytes_of};
-ghost use Rattle.nutusers.specs.ConfigLine.{is_silent, name_in_brackets, section_or_malformed, config_line_of, read_config_line};
+ghost use Rattle.nutusers.specs.ConfigLine.{name_in_brackets, section_or_malformed, config_line_of, read_config_line};
 ghost use Rattle.nutusers.specs.ReadConfigLine.{line_given};
 
-use crate::LINE_LIMIT;
+use crate::file::{is_silent, words_in};
 use arrayvec::ArrayVec;
-use nutwords::{Word, Words, words};
+use nutwords::{Word, Words};
 
 /// A line of a file with sections, by its words.
 #[derive(Drop)]
@@ -33,12 +32,9 @@ impl ConfigLine<'_> {
         if is_silent(line) {
             return ConfigLine::Silent;
         }
-        if line.len() > LINE_LIMIT {
-            return ConfigLine::Malformed;
-        }
-        match words(line) {
-            Ok(words) => line_of(words),
-            Err(_) => ConfigLine::Malformed,
+        match words_in(line) {
+            Some(words) => line_of(words),
+            None => ConfigLine::Malformed,
         }
     }
 }
@@ -121,22 +117,4 @@ fn name_in_brackets(word: &[u8]) -> Option<&[u8]>
     } else {
         None
     }
-}
-
-/// Whether the line says nothing.
-pub(crate) fn is_silent(line: &[u8]) -> bool
-    ensures { result ≡ is_silent line.now }
-{
-    for b in line {
-        if !is_blank(*b) {
-            return *b == b'#';
-        }
-    }
-    true
-}
-
-fn is_blank(b: u8) -> bool
-    ensures { result ≡ is_blank b }
-{
-    b == b' ' || b == b'\t'
 }

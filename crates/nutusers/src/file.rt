@@ -1,8 +1,12 @@
-//! The lines of a file.
+//! The lines of a file, of any of the three.
 ghost use Rattle.std.specs.Prelude.{◌≡◌, ◌<◌, ◌^◌, [], ◌∷◌, length, MatchOption};
+ghost use Rattle.nutwords.specs.Bytes.{is_blank};
 ghost use Rattle.nutusers.specs.File.{lines_of};
+ghost use Rattle.nutusers.specs.Line.{is_silent, words_in};
 
+use crate::LINE_LIMIT;
 use bstr::ByteSlice;
+use nutwords::{Words, words};
 use std::marker::Model;
 
 /// The lines of a file that are left, each without its LF. The last one may have none.
@@ -59,5 +63,36 @@ fn first_line(bytes: &[u8]) -> Option<(&[u8], &[u8])>
     match bytes.find_byte(b'\n') {
         Some(at) => Some((&bytes[..at], &bytes[at + 1..])),
         None => Some((bytes, &bytes[bytes.len()..])),
+    }
+}
+
+/// Whether the line says nothing.
+pub(crate) fn is_silent(line: &[u8]) -> bool
+    ensures { result ≡ is_silent line.now }
+{
+    for b in line {
+        if !is_blank(*b) {
+            return *b == b'#';
+        }
+    }
+    true
+}
+
+fn is_blank(b: u8) -> bool
+    ensures { result ≡ is_blank b }
+{
+    b == b' ' || b == b'\t'
+}
+
+/// The words of a line that says something, unless it is too long or isn't a line of words.
+pub(crate) fn words_in(line: &[u8]) -> Option<Words<'_>>
+    ensures { result ≡ words_in line.now }
+{
+    if line.len() > LINE_LIMIT {
+        return None;
+    }
+    match words(line) {
+        Ok(words) => Some(words),
+        Err(_) => None,
     }
 }

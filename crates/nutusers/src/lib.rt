@@ -2,13 +2,18 @@
 #![tactic(auto)]
 
 mod config_line;
+mod descriptions;
 mod fault;
 mod file;
 mod rights;
+mod table_line;
+#[cfg(test)]
+mod tests;
 mod text;
 mod ups_list;
 mod users;
 
+pub use descriptions::Descriptions;
 pub use fault::{Cause, ConfFault};
 pub use rights::Right;
 pub use ups_list::{UpsId, UpsList};

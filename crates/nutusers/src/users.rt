@@ -179,10 +179,10 @@ impl Users {
     pub fn may(&self, name: &[u8], password: &[u8], right: Right<'_>) -> bool
         ensures { result ≡ may self.now name.now password.now right.entry }
     {
-        match self.named(name) {
-            Some(user) => user.has_password(password) && user.is_granted(right),
-            None => false,
-        }
+        let Some(user) = self.named(name) else {
+            return false;
+        };
+        user.has_password(password) && user.is_granted(right)
     }
 
     fn named(&self, name: &[u8]) -> Option<&User>

@@ -1,8 +1,7 @@
-use Rattle.std.proofs.Common.{◌≡◌, ◌+◌, ◌-◌, [], ◌∷◌, ◌<◌, length, take, drop, arith, add-one, sym, ap, ◌∙◌, refl, length-drop}
+use Rattle.std.proofs.Common.{◌≡◌, ◌+◌, ◌-◌, [], ◌<◌, length, drop, arith, add-one, sym, ◌∙◌, length-drop}
 use Rattle.std.proofs.lemmas.Bool.{eqb-false}
 use Rattle.std.proofs.lemmas.List.{drop_all}
 use Rattle.nutwords.proofs.Lines.{take-all}
-use Rattle.nutusers.specs.File.{lines_of}
 use Rattle.nutusers.proofs.Cutting.{lines_of-one, lines_of-at}
 use Rattle.nutusers.proofs.file.first_line.Goals as goal
 
@@ -12,7 +11,7 @@ returns-in-Some c =
     let at = c.in-Some.at in
     let found = c.in-Some.ensures in
     rw (take-all (length bytes - (at + 1)) (drop (at + 1) bytes) (omega (arith, length-drop (at + 1) bytes)), add-one)
-      (lines_of-at bytes at found.0.high (λ j below e. found.0.before j (omega arith) below e) found.1)
+    (lines_of-at bytes at found.0.high (λ j below e. found.0.before j (omega arith) below e) found.1)
 
 pub returns-in-None : goal.returns-in-None
 returns-in-None c =

@@ -1,5 +1,5 @@
-use Rattle.std.proofs.Common.{rules, ◌≡◌, ◌<◌, ◌≤◌, ℕ, List, length, true, false, Some, None, arith, refl, ap, sym, ◌∙◌}
-use Rattle.std.specs.Str.{is_utf8, IsUtf8}
+use Rattle.std.proofs.Common.{rules, ◌≡◌, ◌≤◌, ℕ, List, length, true, false, Some, arith, refl, ap, sym, ◌∙◌}
+use Rattle.std.specs.Str.{is_utf8}
 use Rattle.std.proofs.lemmas.Bool.{eqb-false}
 use Rattle.std.proofs.lemmas.Str.{is_utf8-from_IsUtf8, IsUtf8-from_is_utf8}
 use Rattle.nutusers.specs.UpsFile.{is_socket}

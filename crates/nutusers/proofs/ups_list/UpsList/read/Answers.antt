@@ -1,7 +1,8 @@
-use Rattle.std.proofs.Common.{rules, ◌≡◌, arith, is_lt}
+use Rattle.std.proofs.Common.{rules, is_lt}
 use Rattle.std.proofs.lemmas.Cmp.{nat_list_cmp_total}
 use Rattle.std.proofs.lemmas.List.Sorted.{ranks_by, answers_always}
-use Rattle.nutusers.specs.UpsFile.{Ups, byte_order, AreByName}
+use Rattle.nutusers.specs.Names.{byte_order}
+use Rattle.nutusers.specs.UpsFile.{Ups}
 use Rattle.nutusers.proofs.ups_list.UpsList.read.Goals as goal
 
 pub invariant_of-result : goal.invariant_of-result

@@ -1,7 +1,7 @@
-use Rattle.std.proofs.Common.{◌≡◌, ◌+◌, ◌∷◌, [], List, ℕ, None, refl, sym, ap, subst, ◌∙◌, arith}
-use Rattle.nutusers.specs.File.{lines_of, verdict_of}
+use Rattle.std.proofs.Common.{◌∷◌, [], sym, ap, ◌∙◌, arith}
+use Rattle.nutusers.specs.File.{lines_of}
 use Rattle.nutusers.specs.ConfigLine.{read_config_line}
-use Rattle.nutusers.specs.UsersFile.{users_format, users_of, user_line_fault}
+use Rattle.nutusers.specs.UsersFile.{users_format, users_of}
 use Rattle.nutusers.specs.UsersStep.{users_with}
 use Rattle.nutusers.proofs.Progress.{HasRead, nothing_read, one_read, all_read, next_refused, room}
 use Rattle.nutusers.proofs.UsersLemmas.{users_of-line}

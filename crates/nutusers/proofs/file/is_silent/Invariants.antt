@@ -1,6 +1,6 @@
 use Rattle.std.proofs.Common.{◌≡◌, drop}
-use Rattle.nutusers.specs.ConfigLine.{first_mark}
-use Rattle.nutusers.proofs.config_line.is_silent.Given as goal
+use Rattle.nutusers.specs.Line.{first_mark}
+use Rattle.nutusers.proofs.file.is_silent.Given as goal
 
 -- only blanks so far
 abbrev pub invariant-loop-b : goal.invariant-loop-b
