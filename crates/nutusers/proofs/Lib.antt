@@ -5,3 +5,4 @@ mod UsersLemmas
 mod UpsLemmas
 mod ClosingBracket
 mod DescriptionLemmas
+mod NamesApart

@@ -1,6 +1,6 @@
 -- The list of UPSs (ups.conf(5), of which upsd reads the names, the descriptions and the sockets).
 use Rattle.std.specs.Prelude.{ℕ, Bool, ◌&&◌, not, List, map, reverse, find, length, codes, nat_le, is_some, IsPermutation, Option, None, Some, if◌then◌else◌}
-use Rattle.std.specs.List.Sorted.{IsSortedByKey}
+use Rattle.std.specs.List.Sorted.{IsStrictlySortedBy}
 use Rattle.std.specs.Str.{bytes_eq, is_utf8}
 use Rattle.nutwords.specs.Reading.{is_ups_name, is_value}
 use Rattle.nutusers.specs.ConfigLine.{ConfigLine, silent, malformed, section, setting, upsmon, read_config_line}
@@ -26,9 +26,9 @@ ups_of (name, lines) = record { name = name; desc = value_in (codes "desc") line
 abbrev pub upses_of : List (List ℕ) → List Ups
 upses_of lines = reverse (map ups_of (sections (map read_config_line lines)))
 
--- The names are in their order.
+-- The names rise, so no name comes twice.
 abbrev pub AreByName : List Ups → Type 0
-AreByName upses = IsSortedByKey (λ ups. ups.name) byte_order upses
+AreByName upses = IsStrictlySortedBy (λ a b. byte_order a.name b.name) upses
 
 -- The UPS of this name.
 abbrev pub ups_named : List ℕ → List Ups → Option Ups
