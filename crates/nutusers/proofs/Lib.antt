@@ -1,8 +1,8 @@
 mod Cutting
 mod Progress
 mod SectionLemmas
+mod NamesApart
 mod UsersLemmas
 mod UpsLemmas
 mod ClosingBracket
 mod DescriptionLemmas
-mod NamesApart

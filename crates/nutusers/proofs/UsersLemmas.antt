@@ -4,7 +4,11 @@ use Rattle.std.specs.List.{filter_map, cons_option}
 use Rattle.nutusers.specs.ConfigLine.{ConfigLine, read_config_line}
 use Rattle.nutusers.specs.Rights.{grant_of}
 use Rattle.nutusers.specs.Sections.{value_in}
-use Rattle.nutusers.specs.UsersFile.{user_of, users_of}
+use Rattle.nutusers.specs.File.{AreAccepted}
+use Rattle.nutusers.specs.Texts.{is_text_within}
+use Rattle.nutusers.specs.UsersFile.{User, user_of, users_of, user_line_fault, users_format, HaveOneNameEach}
+use Rattle.nutusers.specs.declared.TheConstants.{USER_NAME_LIMIT}
+use Rattle.nutusers.proofs.NamesApart.{HasNames, not_there, names_apart, accepted_apart}
 use Rattle.nutusers.specs.UsersStep.{new_user, with_user_line, with_grant, users_with}
 use Rattle.nutusers.specs.declared.rights.Grant.{Grant}
 use Rattle.nutusers.proofs.Progress.{reverse-cons}
@@ -24,3 +28,10 @@ user_by_lines = record { begins = λ name. refl; goes_on = user_of-line }
 -- the users of the lines read, and of one more
 pub users_of-line : (line : List ℕ) (lines : List (List ℕ)) → users_of (line ∷ lines) ≡ users_with (users_of lines) (read_config_line line)
 users_of-line line lines = sections-line user_by_lines (read_config_line line) (map read_config_line lines)
+
+users_names : HasNames (λ (user : User). user.name) user_of user_line_fault
+users_names = record { named = λ name lines. refl; is_new = λ all name fine. not_there (is_text_within USER_NAME_LIMIT name) _ _ fine }
+
+-- no two users of accepted lines have one name
+pub users_apart : (lines : List (List ℕ)) → AreAccepted users_format lines → HaveOneNameEach (users_of lines)
+users_apart lines fine = names_apart (λ (user : User). user.name) (users_of lines) (accepted_apart users_names lines fine)

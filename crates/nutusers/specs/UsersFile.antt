@@ -1,6 +1,6 @@
 -- The file of users (upsd.users(5)).
 use Rattle.std.specs.Prelude.{ℕ, Bool, false, ◌&&◌, not, List, map, reverse, find, codes, is_some, Option, None, Some, if◌then◌else◌}
-use Rattle.std.specs.List.{list_any, filter_map}
+use Rattle.std.specs.List.{list_any, filter_map, IsDistinct}
 use Rattle.std.specs.Option.{option_map_or}
 use Rattle.std.specs.Str.{bytes_eq}
 use Rattle.nutusers.specs.ConfigLine.{ConfigLine, silent, malformed, section, setting, upsmon, read_config_line}
@@ -27,6 +27,10 @@ user_of (name, lines) = record { name = name; password = value_in (codes "passwo
 -- The users that some lines mean, in the order of their sections. The lines are listed from the last to the first.
 abbrev pub users_of : List (List ℕ) → List User
 users_of lines = reverse (map user_of (sections (map read_config_line lines)))
+
+-- No two users have one name, so that they are a finite map by name.
+abbrev pub HaveOneNameEach : List User → Type 0
+HaveOneNameEach users = IsDistinct (λ a b. bytes_eq a.name b.name) users
 
 -- The user of this name.
 abbrev pub user_named : List ℕ → List User → Option User

@@ -8,7 +8,7 @@ ghost use Rattle.nutusers.specs.File.{lines_of, Means, IsRefused, bad_value_unle
 ghost use Rattle.nutusers.specs.Sections.{last_of, in_section};
 ghost use Rattle.nutusers.specs.SectionsStep.{verdict};
 ghost use Rattle.nutusers.specs.Texts.{is_text_within};
-ghost use Rattle.nutusers.specs.UsersFile.{users_of, users_format, may, user_named, user_line_fault, setting_fault, section_fault, has_password};
+ghost use Rattle.nutusers.specs.UsersFile.{HaveOneNameEach, users_of, users_format, may, user_named, user_line_fault, setting_fault, section_fault, has_password};
 ghost use Rattle.nutusers.specs.Rights.{gives};
 ghost use Rattle.nutusers.specs.declared.TheConstants.{PASSWORD_LIMIT};
 ghost use Rattle.nutusers.specs.declared.fault.Cause.TheVariants.{Duplicate};
@@ -158,6 +158,7 @@ impl Users {
     /// The first line that is refused, and its cause; or `Memory`, with the line being read.
     pub fn read(alloc: Global, bytes: &[u8]) -> Result<Users, ConfFault>
         ensures ok { IfOk result (λ users. Means users_format users_of (lines_of bytes.now) users) }
+        ensures names { IfOk result (λ users. HaveOneNameEach users) }
         ensures err { IfErr result (λ fault. IsRefused users_format (lines_of bytes.now) fault) }
     {
         let mut users = Users::none(alloc);

@@ -1,10 +1,10 @@
-use Rattle.std.proofs.Common.{◌∷◌, [], sym, ap, ◌∙◌, arith}
+use Rattle.std.proofs.Common.{reverse, ◌∷◌, [], sym, ap, ◌∙◌, arith}
 use Rattle.nutusers.specs.File.{lines_of}
 use Rattle.nutusers.specs.ConfigLine.{read_config_line}
 use Rattle.nutusers.specs.UsersFile.{users_format, users_of}
 use Rattle.nutusers.specs.UsersStep.{users_with}
 use Rattle.nutusers.proofs.Progress.{HasRead, nothing_read, one_read, all_read, next_refused, room}
-use Rattle.nutusers.proofs.UsersLemmas.{users_of-line}
+use Rattle.nutusers.proofs.UsersLemmas.{users_of-line, users_apart}
 use Rattle.nutusers.proofs.users.Users.read.Goals as goal
 
 pub loop-line-init : goal.loop-line-init
@@ -33,3 +33,9 @@ pub returns-clause-ok : goal.returns-clause-ok
 returns-clause-ok c =
     let read : HasRead users_format users_of (lines_of c.args.bytes.now) [] c.loop-line.number c.loop-line.users = rw c.in-None.ensures.steps.0 at c.loop-line.invariant.read in
     all_read _ _ read
+
+pub returns-clause-names : goal.returns-clause-names
+returns-clause-names c =
+    let read : HasRead users_format users_of (lines_of c.args.bytes.now) [] c.loop-line.number c.loop-line.users = rw c.in-None.ensures.steps.0 at c.loop-line.invariant.read in
+    let means = all_read _ _ read in
+    rw means.value_is (users_apart (reverse (lines_of c.args.bytes.now)) means.accepted)
