@@ -1,5 +1,5 @@
 -- The list of UPSs (ups.conf(5), of which upsd reads the names, the descriptions and the sockets).
-use Rattle.std.specs.Prelude.{ℕ, Bool, ◌&&◌, not, List, map, reverse, find, length, codes, nat_le, is_some, IsPermutation, Option, None, Some, if◌then◌else◌}
+use Rattle.std.specs.Prelude.{ℕ, ◌≤◌, Bool, ◌&&◌, not, List, map, reverse, find, length, codes, nat_le, is_some, IsPermutation, Option, None, Some, if◌then◌else◌}
 use Rattle.std.specs.List.Sorted.{IsStrictlySortedBy}
 use Rattle.std.specs.Str.{bytes_eq, is_utf8}
 use Rattle.nutwords.specs.Reading.{is_ups_name, is_value}
@@ -29,6 +29,11 @@ upses_of lines = reverse (map ups_of (sections (map read_config_line lines)))
 -- The names rise, so no name comes twice.
 abbrev pub AreByName : List Ups → Type 0
 AreByName upses = IsStrictlySortedBy (λ a b. byte_order a.name b.name) upses
+
+-- What holds of every list of UPSs.
+pub record IsList (list : List Ups) : Type 0 where
+  pub by_name : AreByName list
+  pub few : length list ≤ UPS_LIMIT
 
 -- The UPS of this name.
 abbrev pub ups_named : List ℕ → List Ups → Option Ups

@@ -1,5 +1,5 @@
 //! The list of UPSs.
-ghost use Rattle.std.specs.Prelude.{◌≡◌, ◌++◌, ◌∷◌, [], IfOk, IfErr, OnOk, is_some, length, slice_get, None, Some, if◌then◌else◌};
+ghost use Rattle.std.specs.Prelude.{◌≡◌, ◌≤◌, ◌++◌, ◌∷◌, [], IfOk, IfErr, OnOk, is_some, length, slice_get, None, Some, if◌then◌else◌};
 ghost use Rattle.std.specs.Option.{option_map, option_copied, option_and_then};
 ghost use Rattle.std.specs.Str.{bytes_eq};
 ghost use Rattle.nutwords.specs.Reading.{is_value};
@@ -9,6 +9,7 @@ ghost use Rattle.nutusers.specs.Sections.{last_of, in_section};
 ghost use Rattle.nutusers.specs.SectionsStep.{verdict};
 ghost use Rattle.nutusers.specs.UpsFile.{IsUpsList, AreByName, is_socket, ups_named, ups_section_fault, ups_setting_fault, ups_line_fault, ups_format, upses_of};
 ghost use Rattle.nutusers.specs.UpsStep.{new_ups, with_ups_line, upses_with};
+ghost use Rattle.nutusers.specs.declared.TheConstants.{UPS_LIMIT};
 ghost use Rattle.nutusers.specs.declared.fault.Cause.TheVariants.{Duplicate};
 
 use crate::config_line::ConfigLine;
@@ -124,12 +125,15 @@ struct Sections {
 }
 
 impl Model for Sections {
-    ghost use Rattle.std.specs.Prelude.{List};
+    ghost use Rattle.std.specs.Prelude.{List, ◌≤◌, length};
     ghost use Rattle.nutusers.specs.UpsFile.{Ups as Meaning};
+    ghost use Rattle.nutusers.specs.declared.TheConstants.{UPS_LIMIT};
 
     ghost Value = { List Meaning };
 
     ghost view = { λ s. s.upses.items };
+
+    ghost invariant = { λ s. length s.upses.items ≤ UPS_LIMIT };
 }
 
 impl Sections {
@@ -192,13 +196,13 @@ pub struct UpsList {
 
 impl Model for UpsList {
     ghost use Rattle.std.specs.Prelude.{List};
-    ghost use Rattle.nutusers.specs.UpsFile.{Ups as Meaning, AreByName};
+    ghost use Rattle.nutusers.specs.UpsFile.{Ups as Meaning, IsList};
 
     ghost Value = { List Meaning };
 
     ghost view = { λ l. l.upses.items };
 
-    ghost invariant = { λ l. AreByName l.upses.items };
+    ghost invariant = { λ l. IsList l.upses.items };
 }
 
 impl UpsList {
@@ -234,6 +238,7 @@ impl UpsList {
     pub fn len(&self) -> usize
         ensures value { result ≡ length self.now }
         ensures by_name { AreByName self.now }
+        ensures few { length self.now ≤ UPS_LIMIT }
     {
         self.upses.len()
     }

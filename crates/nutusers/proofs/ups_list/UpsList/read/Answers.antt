@@ -1,7 +1,7 @@
 use Rattle.std.proofs.Common.{rules, ◌≡◌, reverse, is_lt}
 use Rattle.std.specs.List.Sorted.{IsSorted, IsPermutation}
 use Rattle.std.proofs.lemmas.Cmp.{nat_list_cmp_total}
-use Rattle.std.proofs.lemmas.List.Sorted.{ranks_by, answers_always}
+use Rattle.std.proofs.lemmas.List.Sorted.{ranks_by, answers_always, length_permutation}
 use Rattle.nutusers.specs.File.{lines_of}
 use Rattle.nutusers.specs.Names.{byte_order}
 use Rattle.nutusers.specs.UpsFile.{Ups, IsUpsList, upses_of}
@@ -19,7 +19,7 @@ is_list c =
     record { accepted = means.accepted; same = same; by_name = rising_names (λ (ups : Ups). ups.name) (upses_of (reverse (lines_of c.args.bytes.now))) c.sort_unstable_by.new.self.items (upses_apart (reverse (lines_of c.args.bytes.now)) means.accepted) same sorted }
 
 pub invariant_of-result : goal.invariant_of-result
-invariant_of-result c = (is_list c).by_name
+invariant_of-result c = record { by_name = (is_list c).by_name; few = rw (length_permutation _ _ c.sort_unstable_by.ensures.permutation) c.upses.invariant }
 
 pub returns-clause-ok : goal.returns-clause-ok
 returns-clause-ok c = is_list c
