@@ -4,9 +4,9 @@ use Rattle.std.specs.List.{IsDistinct}
 use Rattle.nutusers.specs.ConfigLine.{read_config_line}
 use Rattle.nutwords.specs.Reading.{is_ups_name}
 use Rattle.nutusers.specs.File.{AreAccepted}
-use Rattle.nutusers.specs.UpsFile.{Ups, ups_of, upses_of, ups_line_fault, ups_format}
+use Rattle.nutusers.specs.UpsFile.{Ups, new_ups, ups_of, upses_of, ups_line_fault, ups_format}
 use Rattle.nutusers.proofs.NamesApart.{HasNames, not_there, same_name, accepted_apart}
-use Rattle.nutusers.specs.UpsStep.{new_ups, with_ups_line, upses_with}
+use Rattle.nutusers.specs.UpsStep.{with_ups_line, upses_with}
 use Rattle.nutusers.proofs.SectionLemmas.{MeansByLines, sections-line}
 
 ups_by_lines : MeansByLines ups_of new_ups with_ups_line

@@ -48,6 +48,10 @@ pub record Descriptions : Type 0 where
   pub vars : Texts
   pub cmds : Texts
 
+-- Those of no lines.
+abbrev pub no_descriptions : Descriptions
+no_descriptions = record { vars = []; cmds = [] }
+
 -- The descriptions that some lines mean. The lines are listed from the last to the first.
 abbrev pub descriptions_of : List (List ℕ) → Descriptions
 descriptions_of lines = record { vars = texts_of (codes "VARDESC") (map read_table_line lines); cmds = texts_of (codes "CMDDESC") (map read_table_line lines) }

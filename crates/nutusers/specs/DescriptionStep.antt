@@ -1,5 +1,5 @@
 -- What one more line makes of the descriptions read so far, computed. That they are those of all lines is what `Descriptions::read` ensures.
-use Rattle.std.specs.Prelude.{ℕ, List, [], codes, if◌then◌else◌}
+use Rattle.std.specs.Prelude.{ℕ, List, codes, if◌then◌else◌}
 use Rattle.std.specs.BTreeMap.{insert_entry}
 use Rattle.std.specs.Str.{bytes_eq}
 use Rattle.nutwords.specs.Word.{bytes_of}
@@ -13,9 +13,6 @@ abbrev pub table_line_given : Given → TableLine
 table_line_given Silent = silent
 table_line_given Malformed = malformed
 table_line_given (Entry kind name text) = entry (bytes_of kind) (bytes_of name) (bytes_of text)
-
-abbrev pub no_descriptions : Descriptions
-no_descriptions = record { vars = []; cmds = [] }
 
 -- a text more, if the line is of this kind
 abbrev pub texts_with : List ℕ → Texts → List ℕ → List ℕ → List ℕ → Texts

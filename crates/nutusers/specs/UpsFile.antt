@@ -18,6 +18,10 @@ pub record Ups : Type 0 where
   pub desc : Option (List ℕ)
   pub socket : Option (List ℕ)
 
+-- A UPS of which only the name is told.
+abbrev pub new_ups : List ℕ → Ups
+new_ups name = record { name = name; desc = None; socket = None }
+
 -- The UPS of a section.
 abbrev pub ups_of : List ℕ × List ConfigLine → Ups
 ups_of (name, lines) = record { name = name; desc = value_in (codes "desc") lines; socket = value_in (codes "socket") lines }

@@ -1,13 +1,10 @@
 -- What one more line makes of the UPSs read so far, computed.
-use Rattle.std.specs.Prelude.{ℕ, List, codes, None}
+use Rattle.std.specs.Prelude.{List, codes}
 use Rattle.std.specs.Option.{option_or}
 use Rattle.nutusers.specs.ConfigLine.{ConfigLine}
 use Rattle.nutusers.specs.Sections.{value_of}
 use Rattle.nutusers.specs.SectionsStep.{sections_with}
-use Rattle.nutusers.specs.UpsFile.{Ups}
-
-abbrev pub new_ups : List ℕ → Ups
-new_ups name = record { name = name; desc = None; socket = None }
+use Rattle.nutusers.specs.UpsFile.{Ups, new_ups}
 
 -- the UPS with a line more
 abbrev pub with_ups_line : ConfigLine → Ups → Ups

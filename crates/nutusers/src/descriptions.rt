@@ -2,8 +2,8 @@
 ghost use Rattle.std.specs.Prelude.{◌≡◌, IfOk, IfErr, OnOk};
 ghost use Rattle.std.specs.BTreeMap.{insert_entry};
 ghost use Rattle.std.specs.Option.{option_copied};
-ghost use Rattle.nutusers.specs.DescriptionFile.{entry, text_at, text_fault, table_line_fault, read_table_line, descriptions_of, descriptions_format};
-ghost use Rattle.nutusers.specs.DescriptionStep.{no_descriptions, descriptions_with};
+ghost use Rattle.nutusers.specs.DescriptionFile.{entry, text_at, text_fault, table_line_fault, read_table_line, no_descriptions, descriptions_of, descriptions_format};
+ghost use Rattle.nutusers.specs.DescriptionStep.{descriptions_with};
 ghost use Rattle.nutusers.specs.File.{lines_of, Means, IsRefused};
 ghost use Rattle.nutusers.specs.Names.{byte_order};
 ghost use Rattle.nutusers.specs.SectionsStep.{verdict};
@@ -42,7 +42,8 @@ impl Descriptions {
         }
     }
 
-    /// Reads the file of descriptions (cmdvartab), which has lines `VARDESC name text` and `CMDDESC name text`.
+    /// Reads the file of descriptions (cmdvartab), which has lines `VARDESC name text` and `CMDDESC name text`. A name
+    /// has 1 to 64 bytes, a text at most 256, and a line that says something at most 1,023.
     ///
     /// # Errors
     ///

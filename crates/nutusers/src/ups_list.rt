@@ -7,8 +7,8 @@ ghost use Rattle.nutusers.specs.ConfigLine.{setting, read_config_line};
 ghost use Rattle.nutusers.specs.File.{lines_of, Means, IsRefused, bad_value_unless};
 ghost use Rattle.nutusers.specs.Sections.{last_of, in_section};
 ghost use Rattle.nutusers.specs.SectionsStep.{verdict};
-ghost use Rattle.nutusers.specs.UpsFile.{IsUpsList, AreByName, is_socket, ups_named, ups_section_fault, ups_setting_fault, ups_line_fault, ups_format, upses_of};
-ghost use Rattle.nutusers.specs.UpsStep.{new_ups, with_ups_line, upses_with};
+ghost use Rattle.nutusers.specs.UpsFile.{new_ups, IsUpsList, AreByName, is_socket, ups_named, ups_section_fault, ups_setting_fault, ups_line_fault, ups_format, upses_of};
+ghost use Rattle.nutusers.specs.UpsStep.{with_ups_line, upses_with};
 ghost use Rattle.nutusers.specs.declared.TheConstants.{UPS_LIMIT};
 ghost use Rattle.nutusers.specs.declared.fault.Cause.TheVariants.{Duplicate};
 
@@ -220,7 +220,8 @@ impl UpsList {
     }
 
     /// Reads the list of UPSs (ups.conf(5)). Each UPS's section is begun by `[name]`, and may have a line
-    /// `desc = ..` and a line `socket = ..`.
+    /// `desc = ..` and a line `socket = ..`. There are at most 32 UPSs; a name has 1 to 32 bytes, a description at
+    /// most 256, the path of a socket 1 to 100 bytes of UTF-8, and a line that says something at most 1,023.
     ///
     /// # Errors
     ///

@@ -151,7 +151,8 @@ impl Users {
     }
 
     /// Reads the file of users (upsd.users(5)). Each user's section is begun by `[name]`, and has lines
-    /// `password = ..`, `actions = ..`, `instcmds = ..` and `upsmon primary` or `upsmon secondary`.
+    /// `password = ..`, `actions = ..`, `instcmds = ..` and `upsmon primary` or `upsmon secondary`. A name has 1 to
+    /// 64 bytes, a password 1 to 256, and a line that says something at most 1,023.
     ///
     /// # Errors
     ///
