@@ -6,3 +6,4 @@ mod UsersLemmas
 mod UpsLemmas
 mod ClosingBracket
 mod DescriptionLemmas
+mod FirstLines

@@ -13,3 +13,4 @@ pub mod UpsFile
 pub mod UpsStep
 pub mod DescriptionFile
 pub mod DescriptionStep
+pub mod FirstRefusal

@@ -5,6 +5,7 @@ mod config_line;
 mod descriptions;
 mod fault;
 mod file;
+pub mod laws;
 mod rights;
 mod table_line;
 #[cfg(test)]
