@@ -1,0 +1,37 @@
+-- The users that the lines mean, a line at a time.
+use Rattle.std.proofs.Common.{◌≡◌, ℕ, List, ◌∷◌, map, reverse, Option, None, Some, codes, refl, ap}
+use Rattle.std.specs.List.{filter_map, cons_option}
+use Rattle.nutusers.specs.ConfigLine.{ConfigLine, read_config_line}
+use Rattle.nutusers.specs.Rights.{grant_of}
+use Rattle.nutusers.specs.Sections.{value_in}
+use Rattle.nutusers.specs.File.{AreAccepted}
+use Rattle.nutusers.specs.Texts.{is_text_within}
+use Rattle.nutusers.specs.UsersFile.{User, user_of, users_of, user_line_fault, users_format, HaveOneNameEach}
+use Rattle.nutusers.specs.declared.TheConstants.{USER_NAME_LIMIT}
+use Rattle.nutusers.proofs.NamesApart.{HasNames, not_there, names_apart, accepted_apart}
+use Rattle.nutusers.specs.UsersStep.{new_user, with_user_line, with_grant, users_with}
+use Rattle.nutusers.specs.declared.rights.Grant.{Grant}
+use Rattle.nutusers.proofs.Progress.{reverse-cons}
+use Rattle.nutusers.proofs.SectionLemmas.{MeansByLines, sections-line}
+
+-- a user with a line more
+user_of-line : (name : List ℕ) (line : ConfigLine) (lines : List ConfigLine) → user_of (name, line ∷ lines) ≡ with_user_line line (user_of (name, lines))
+user_of-line name line lines = ap (λ (grants : List Grant). record { name = name; password = value_in (codes "password") (line ∷ lines); grants = grants }) (grants_of (grant_of line) (filter_map grant_of lines))
+  where
+    grants_of : (o : Option Grant) (grants : List Grant) → reverse (cons_option o grants) ≡ with_grant o (reverse grants)
+    grants_of None grants = refl
+    grants_of (Some grant) grants = reverse-cons grant grants
+
+user_by_lines : MeansByLines user_of new_user with_user_line
+user_by_lines = record { begins = λ name. refl; goes_on = user_of-line }
+
+-- the users of the lines read, and of one more
+pub users_of-line : (line : List ℕ) (lines : List (List ℕ)) → users_of (line ∷ lines) ≡ users_with (users_of lines) (read_config_line line)
+users_of-line line lines = sections-line user_by_lines (read_config_line line) (map read_config_line lines)
+
+users_names : HasNames (λ (user : User). user.name) user_of user_line_fault
+users_names = record { named = λ name lines. refl; is_new = λ all name fine. not_there (is_text_within USER_NAME_LIMIT name) _ _ fine }
+
+-- no two users of accepted lines have one name
+pub users_apart : (lines : List (List ℕ)) → AreAccepted users_format lines → HaveOneNameEach (users_of lines)
+users_apart lines fine = names_apart (λ (user : User). user.name) (users_of lines) (accepted_apart users_names lines fine)

@@ -1,0 +1,12 @@
+use Rattle.nutusers.specs.File.{lines_of}
+use Rattle.nutusers.specs.DescriptionFile.{descriptions_format, descriptions_of}
+use Rattle.nutusers.proofs.Progress.{HasRead}
+use Rattle.nutusers.proofs.descriptions.Descriptions.read.Given as goal
+
+-- the lines read are accepted, and the descriptions are those that they mean
+abbrev pub invariant-loop-line : goal.invariant-loop-line
+invariant-loop-line l = record {
+  read : HasRead descriptions_format descriptions_of (lines_of l.bytes) l.line-iterator l.number l.descriptions;
+  can : (goal.iterator-loop-line).can_next l.line-iterator;
+  finite : (goal.iterator-loop-line).is_finite l.line-iterator;
+}

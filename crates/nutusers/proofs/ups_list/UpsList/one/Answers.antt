@@ -1,0 +1,9 @@
+use Rattle.std.proofs.Common.{◌≡◌, ◌∷◌, [], ◌++◌, ap, ◌∙◌, arith}
+use Rattle.nutusers.specs.UpsFile.{Ups}
+use Rattle.nutusers.proofs.NamesApart.{rising_one}
+use Rattle.nutusers.proofs.ups_list.UpsList.one.Goals as goal
+
+pub invariant_of-result : goal.invariant_of-result
+invariant_of-result c =
+    let one : c.push.new.self.items ≡ c.new.result ∷ [] = c.in_ok-push.ensures.items ∙ ap (λ items. items ++ c.new.result ∷ []) c.new-upses.ensures.items in
+    rw one (record { by_name = rising_one (λ (ups : Ups). ups.name) c.new.result; few = omega arith })

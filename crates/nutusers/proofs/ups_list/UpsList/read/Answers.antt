@@ -1,0 +1,25 @@
+use Rattle.std.proofs.Common.{rules, reverse, is_lt}
+use Rattle.std.specs.List.Sorted.{IsSorted, IsPermutation}
+use Rattle.std.proofs.lemmas.Cmp.{nat_list_cmp_total}
+use Rattle.std.proofs.lemmas.List.Sorted.{ranks_by, answers_always, length_permutation}
+use Rattle.nutusers.specs.File.{lines_of}
+use Rattle.nutusers.specs.Names.{byte_order}
+use Rattle.nutusers.specs.UpsFile.{Ups, IsUpsList, upses_of}
+use Rattle.nutusers.proofs.NamesApart.{rising_names}
+use Rattle.nutusers.proofs.UpsLemmas.{upses_apart}
+use Rattle.nutusers.proofs.ups_list.UpsList.read.Goals as goal
+
+-- what the sorted list is to the file
+is_list : (c : goal.After-sort_unstable_by) → IsUpsList (lines_of c.args.bytes.now) c.sort_unstable_by.new.self.items
+is_list c =
+    let means = c.in_ok-upses.ensures.ok in
+    let same : IsPermutation (upses_of (reverse (lines_of c.args.bytes.now))) c.sort_unstable_by.new.self.items = rw (← means.value_is, ← c.upses.view_is) c.sort_unstable_by.ensures.permutation in
+    let sorted : IsSorted (λ (a b : Ups). byte_order a.name b.name) c.sort_unstable_by.new.self.items =
+    c.sort_unstable_by.ensures.sorted (λ a b. is_lt (byte_order a.name b.name)) (ranks_by nat_list_cmp_total (λ (ups : Ups). ups.name)) (answers_always _ _ _ (λ f a r g h. search rules)) in
+    record { accepted = means.accepted; same = same; by_name = rising_names (λ (ups : Ups). ups.name) (upses_of (reverse (lines_of c.args.bytes.now))) c.sort_unstable_by.new.self.items (upses_apart (reverse (lines_of c.args.bytes.now)) means.accepted) same sorted }
+
+pub invariant_of-result : goal.invariant_of-result
+invariant_of-result c = record { by_name = (is_list c).by_name; few = rw (length_permutation _ _ c.sort_unstable_by.ensures.permutation) c.upses.invariant }
+
+pub returns-clause-ok : goal.returns-clause-ok
+returns-clause-ok c = is_list c

@@ -1,0 +1,40 @@
+-- A line of a file with sections, as upsd.users(5) and ups.conf(5) have them.
+use Rattle.std.specs.Prelude.{ℕ, ◌==◌, List, [], ◌∷◌, codes, Option, None, Some, if◌then◌else◌}
+use Rattle.std.specs.Option.{option_map, option_map_or}
+use Rattle.std.specs.Str.{bytes_eq}
+use Rattle.nutusers.specs.Line.{is_silent, words_in}
+
+-- silent: it says nothing. section: `[name]`. setting: `key = value`. upsmon: `upsmon role`.
+pub data ConfigLine : Type 0 where
+  silent : ConfigLine
+  malformed : ConfigLine
+  section : (name : List ℕ) → ConfigLine
+  setting : (key : List ℕ) → (value : List ℕ) → ConfigLine
+  upsmon : (role : List ℕ) → ConfigLine
+
+-- The bytes before a closing bracket at the end.
+abbrev pub before_bracket : List ℕ → Option (List ℕ)
+before_bracket [] = None
+before_bracket (b ∷ []) = if b == 93 then Some [] else None
+before_bracket (b ∷ c ∷ rest) = option_map (λ name. b ∷ name) (before_bracket (c ∷ rest))
+
+-- The name in brackets, `[name]`. It may be empty.
+abbrev pub name_in_brackets : List ℕ → Option (List ℕ)
+name_in_brackets [] = None
+name_in_brackets (b ∷ rest) = if b == 91 then before_bracket rest else None
+
+abbrev pub section_or_malformed : Option (List ℕ) → ConfigLine
+section_or_malformed None = malformed
+section_or_malformed (Some name) = section name
+
+-- The line that these words are: one word a section, three a setting, two the role of a user's upsmon.
+abbrev pub config_line_of : List (List ℕ) → ConfigLine
+config_line_of [] = malformed
+config_line_of (word ∷ []) = section_or_malformed (name_in_brackets word)
+config_line_of (first ∷ role ∷ []) = if bytes_eq first (codes "upsmon") then upsmon role else malformed
+config_line_of (key ∷ equals ∷ value ∷ []) = if bytes_eq equals (codes "=") then setting key value else malformed
+config_line_of (first ∷ second ∷ third ∷ fourth ∷ words) = malformed
+
+-- A line of such a file, without its LF.
+abbrev pub read_config_line : List ℕ → ConfigLine
+read_config_line line = if is_silent line then silent else option_map_or config_line_of (words_in line) malformed

@@ -1,0 +1,27 @@
+-- The refusal of a file, computed from its first line on.
+use Rattle.std.specs.Prelude.{◌≡◌, ◌≢◌, ℕ, ◌+◌, List, [], ◌∷◌, length, reverse, Option, None, Some}
+use Rattle.nutusers.specs.File.{Format, AreAccepted, IsRefused}
+use Rattle.nutusers.specs.declared.fault.Cause.{Cause}
+use Rattle.nutusers.specs.declared.fault.Cause.TheVariants.{Memory}
+use Rattle.nutusers.specs.declared.fault.ConfFault.{ConfFault}
+
+-- the line of this number is refused, or else what follows it decides
+abbrev pub refusal_or : ℕ → Option Cause → Option ConfFault → Option ConfFault
+refusal_or number None rest = rest
+refusal_or number (Some cause) rest = Some (record { line = number; cause = cause })
+
+abbrev pub refusal_behind : Format → List (List ℕ) → List (List ℕ) → Option ConfFault
+refusal_behind format earlier [] = None
+refusal_behind format earlier (line ∷ later) = refusal_or (length earlier + 1) (format earlier line) (refusal_behind format (line ∷ earlier) later)
+
+-- The first line that is refused, and its cause.
+abbrev pub first_refusal : Format → List (List ℕ) → Option ConfFault
+first_refusal format lines = refusal_behind format [] lines
+
+-- A file of which each line is accepted has no refusal, and one that is refused, but for want of memory, has this one.
+pub record HasOneRefusal (format : Format) (lines : List (List ℕ)) : Type 0 where
+  pub accepted : AreAccepted format (reverse lines) → first_refusal format lines ≡ None
+  pub refused : (fault : ConfFault) → IsRefused format lines fault → fault.cause ≢ Memory → first_refusal format lines ≡ Some fault
+
+abbrev pub EachFileHasOneRefusal : Type 0
+EachFileHasOneRefusal = (format : Format) (lines : List (List ℕ)) → HasOneRefusal format lines

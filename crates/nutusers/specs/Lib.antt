@@ -1,0 +1,16 @@
+pub mod Texts
+pub mod Names
+pub mod Line
+pub mod File
+pub mod ConfigLine
+pub mod ReadConfigLine
+pub mod Sections
+pub mod SectionsStep
+pub mod Rights
+pub mod UsersFile
+pub mod UsersStep
+pub mod UpsFile
+pub mod UpsStep
+pub mod DescriptionFile
+pub mod DescriptionStep
+pub mod FirstRefusal
