@@ -1,7 +1,7 @@
 -- The lines of a script, done one after another.
-use Rattle.std.proofs.Common.{◌≡◌, List, [], ◌∷◌, ◌++◌, refl, sym, subst, arith, ℕ}
+use Rattle.std.proofs.Common.{◌≡◌, List, [], ◌∷◌, ◌++◌, refl, subst, arith, ℕ}
 use Rattle.std.specs.List.{flat_map}
-use Rattle.std.proofs.lemmas.Grind.{common_steps, flat_map-append}
+use Rattle.std.proofs.lemmas.Grind.{common_steps}
 use Rattle.upsd.specs.declared.script.ScriptLine.{ScriptLine}
 use Rattle.upsd.specs.Transcript.{Told, IsDone, AreDone}
 

@@ -1,10 +1,9 @@
 -- The lines of a script, one after another.
-use Rattle.std.proofs.Common.{◌≡◌, ℕ, ◌+◌, ◌<◌, ◌∙◌, List, [], ◌∷◌, ◌++◌, Some, None, Option, Bool, true, false, refl, sym, ap, arith, map, drop, length, get_or, rules}
+use Rattle.std.proofs.Common.{◌≡◌, ℕ, ◌+◌, ◌<◌, List, ◌∷◌, ◌++◌, Some, Option, true, false, arith, map, drop, length, get_or}
 use Rattle.std.proofs.lemmas.Grind.{common_steps}
 use Rattle.std.proofs.lemmas.List.{drop_more}
 use Rattle.upsd.specs.declared.script.ScriptLine.{ScriptLine}
 use Rattle.upsd.specs.declared.script.Saying.{Saying}
-use Rattle.upsd.specs.declared.script.Saying.TheVariants.{Bad}
 use Rattle.upsd.specs.Script.{says, numbered, actions_from, is_bad, bad_line_from}
 
 -- a line and those behind it, of what each item stands for

@@ -1,5 +1,5 @@
 -- A client that takes what it is offered, again and again.
-use Rattle.std.proofs.Common.{refl, ◌≡◌, ◌≢◌, ℕ, ◌+◌, ◌<◌, ◌∙◌, List, [], ◌∷◌, ◌++◌, sym, ap, subst, length, length-append, arith}
+use Rattle.std.proofs.Common.{refl, ◌≡◌, ◌≢◌, ℕ, ◌+◌, ◌<◌, ◌∙◌, List, [], sym, ap, subst, length, length-append, arith}
 use Rattle.std.proofs.Common.{Option, Some, None, Bool, true, false, take, if◌then◌else◌, ◌≤◌}
 use Rattle.std.proofs.lemmas.Grind.{common_steps}
 use Rattle.std.proofs.lemmas.Bool.Decides.{nat_tests}

@@ -1,5 +1,5 @@
 -- What replaying a script does to the server, and what is told of it.
-use Rattle.std.specs.Prelude.{◌≡◌, ◌≢◌, ℕ, ◌+◌, ◌-◌, Bool, true, false, List, [], ◌∷◌, ◌++◌, Option, Some, None, ◌==◌, nat_lt, if◌then◌else◌, length, take, slice_get, codes, MatchOption}
+use Rattle.std.specs.Prelude.{◌≡◌, ◌≢◌, ℕ, ◌-◌, List, [], ◌∷◌, ◌++◌, Option, Some, None, ◌==◌, nat_lt, if◌then◌else◌, length, take, slice_get, codes}
 use Rattle.std.specs.List.{flat_map}
 use Rattle.std.specs.Option.{option_map}
 use Rattle.std.specs.Fmt.{decimal}
@@ -14,6 +14,7 @@ use Rattle.nutcore.specs.Numbers.{number_of_fault}
 use Rattle.nutcore.specs.Server.{ServerState, session, new_server, place_of, id_at}
 use Rattle.nutcore.specs.Step.{Step, offered}
 use Rattle.nutcore.specs.History.{taken_in_event}
+use Rattle.upsd.specs.declared.transcript.TheConstants.{UPS_IDS}
 use Rattle.upsd.specs.declared.script.Action.{Action}
 use Rattle.upsd.specs.declared.script.Action.TheVariants as asked
 use Rattle.upsd.specs.declared.script.ScriptLine.{ScriptLine}
@@ -137,9 +138,9 @@ client_part taken c = sent_part (codes "client " ++ decimal c) (sent_to c taken)
 abbrev pub driver_part : List ℕ → List ℕ
 driver_part name = sent_part (codes "driver " ++ name) []
 
--- What was told of the events, then each client in the order of opening, then each UPS in byte order. An id of a UPS is below 256.
+-- What was told of the events, then each client in the order of opening, then each UPS in byte order. UPS_IDS is how many UPSs an id can name, and a list has fewer.
 unfoldable pub whole_text : Told → List ℕ
-whole_text t = t.text ++ flat_map (client_part t.taken) t.clients ++ flat_map driver_part (take 256 t.server.names)
+whole_text t = t.text ++ flat_map (client_part t.taken) t.clients ++ flat_map driver_part (take UPS_IDS t.server.names)
 
 -- The output of a script over these UPSs: what the actions of its lines, in order, do to a new server.
 pub record IsOutput (names : List (List ℕ)) (max_age : ℕ) (script output : List ℕ) : Type 0 where

@@ -69,6 +69,7 @@ pub fn replay<W: Write>(
     ensures told { OnOk result ((output : List ℕ) × IsOutput list REPLAY_MAX_AGE script.now output × Appends (W.contents out.old) (W.contents out.new) output) }
     ensures good { OnOk result (first_bad_line script.now ≡ None) }
     ensures bad { IfErr result (λ fault. (n : ℕ) → fault ≡ ReplayFault.BadEvent n → first_bad_line script.now ≡ Some n) }
+    ensures failed { IfErr result (λ fault. fault ≡ ReplayFault.Write → first_bad_line script.now ≡ None) }
     ensures unwritten { IfErr result (λ fault. (fault ≡ ReplayFault.Write) ⊎ (out.new ≡ out.old)) }
 {
     let text = transcript(alloc, list, users, descriptions, script)?;

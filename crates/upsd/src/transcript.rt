@@ -279,7 +279,7 @@ fn sent_to(alloc: Global, c: ClientId, taken: &[Taken]) -> Result<Vec<u8>, Alloc
 
 /// What was sent to each driver: nothing yet.
 fn write_drivers(alloc: Global, list: &UpsList, text: &mut Vec<u8>) -> Result<(), AllocError>
-    ensures { OnOk result (text.new.items ≡ text.old.items ++ flat_map driver_part (take 256 list.now)) }
+    ensures { OnOk result (text.new.items ≡ text.old.items ++ flat_map driver_part (take UPS_IDS list.now)) }
 {
     for place in 0..list.len().min(UPS_IDS) {
         let Some(name) = list.name(UpsId { place: place as u8 }) else {

@@ -1,10 +1,6 @@
-use Rattle.std.proofs.Common.{rules, ◌≡◌, ℕ, ◌+◌, ◌-◌, ◌*◌, ◌<◌, ◌≤◌, ◌^◌, ◌∙◌, ◌∷◌, [], None, Some, sym, ap, arith, get_or, drop, length}
+use Rattle.std.proofs.Common.{◌≡◌, ◌∙◌, [], arith, drop}
 use Rattle.std.proofs.lemmas.Grind.{common_steps}
-use Rattle.std.specs.Str.Parse.{digits_value, digits_value_after}
-use Rattle.std.specs.Char.{digit_value}
-use Rattle.std.proofs.lemmas.List.{drop_more}
-use Rattle.upsd.specs.Script.{below_limit}
-use Rattle.upsd.proofs.Numerals.{digits_value_after-least, digit_value-digit, below_limit-met, below_limit-missed, past_digit, below_limit-fits, with_next}
+use Rattle.upsd.proofs.Numerals.{below_limit-met, below_limit-missed, past_digit, below_limit-fits, with_next}
 use Rattle.upsd.proofs.script.decimal_value.Goals as goal
 
 pub returns-in_err-value : goal.returns-in_err-value

@@ -1,5 +1,5 @@
-use Rattle.std.proofs.Common.{rules, ◌≡◌, ◌+◌, ◌∙◌, ℕ, List, refl, sym, ap, arith, inr, map}
-use Rattle.upsd.specs.Script.{lines_of, says, numbered, actions_from, actions_of, bad_line_from, first_bad_line}
+use Rattle.std.proofs.Common.{rules, ◌≡◌, ◌+◌, refl, inr, map}
+use Rattle.upsd.specs.Script.{lines_of, actions_of, first_bad_line}
 use Rattle.upsd.proofs.Reading.{drop_map, read_more, bad_more, bad_here}
 use Rattle.upsd.proofs.script.read_script.Goals as goal
 use Rattle.upsd.proofs.script.read_script.Goals.{in-Nothing, in-Does+in_ok-push-in-Does}

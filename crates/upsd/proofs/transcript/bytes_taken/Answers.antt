@@ -1,5 +1,4 @@
-use Rattle.std.proofs.Common.{rules, sym, arith, ap, ◌∙◌, ◌≡◌, ◌++◌, take, Vec, ℕ}
-use Rattle.std.proofs.lemmas.Grind.{common_steps}
+use Rattle.std.proofs.Common.{sym, ◌∙◌, ◌≡◌, take}
 use Rattle.upsd.proofs.Taking.{taken_none, taken_some, taken_too_few}
 use Rattle.upsd.proofs.transcript.bytes_taken.Goals as goal
 use Rattle.upsd.proofs.transcript.bytes_taken.Goals.{in-Ok+then-n-bytes+in_ok-extend_from_slice, in-Ok+else-n-bytes, in_default}

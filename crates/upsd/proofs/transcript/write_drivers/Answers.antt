@@ -1,9 +1,8 @@
-use Rattle.std.proofs.Common.{◌≡◌, ◌++◌, ◌∷◌, [], ◌+◌, ◌<◌, ◌∙◌, List, ℕ, min, rules, sym, ap, arith, take, length, get_or}
+use Rattle.std.proofs.Common.{◌≡◌, ◌++◌, ◌∷◌, [], ◌+◌, ◌<◌, ◌∙◌, List, ℕ, min, sym, ap, arith, take, length, get_or}
 use Rattle.std.specs.List.{flat_map}
 use Rattle.std.proofs.lemmas.List.{take_more, take_min}
 use Rattle.std.proofs.lemmas.Option.{get_or_from_slice_get}
 use Rattle.upsd.proofs.Doing.{more_parts}
-use Rattle.std.proofs.lemmas.Grind.{common_steps, flat_map-append}
 use Rattle.upsd.specs.Transcript.{driver_part}
 use Rattle.upsd.proofs.transcript.write_drivers.Goals as goal
 

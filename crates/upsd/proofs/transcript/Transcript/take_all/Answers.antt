@@ -1,6 +1,6 @@
-use Rattle.std.proofs.Common.{rules, ◌≡◌, ◌+◌, ◌<◌, ◌^◌, arith, ap, sym, length}
-use Rattle.upsd.specs.Transcript.{Told, told, TakesAgain, count_offered}
-use Rattle.upsd.specs.Transcript.TakesAgain.{all_taken, again}
+use Rattle.std.proofs.Common.{arith}
+use Rattle.upsd.specs.Transcript.{told}
+use Rattle.upsd.specs.Transcript.TakesAgain.{all_taken}
 use Rattle.upsd.proofs.Taking.{taken_longer, takes_again, first_time}
 use Rattle.upsd.proofs.transcript.Transcript.take_all.Goals as goal
 
