@@ -28,6 +28,22 @@ pub enum ReplayFault {
     Write,
 }
 
+impl ReplayFault {
+    ghost use Rattle.std.specs.Prelude.{◌≡◌};
+    ghost use Rattle.upsd.specs.ReplayFault.{number_of_replay_fault};
+
+    /// The fault's number, from 1.
+    pub fn number(self) -> u8
+        ensures { result ≡ number_of_replay_fault self }
+    {
+        match self {
+            ReplayFault::BadEvent(_) => 1,
+            ReplayFault::Memory => 2,
+            ReplayFault::Write => 3,
+        }
+    }
+}
+
 impl<T: Drop> From<AllocFailed<T>> for ReplayFault {
     ghost use Rattle.std.specs.Prelude.{◌≡◌};
     ghost use Rattle.upsd.specs.declared.replay.ReplayFault.TheVariants.{Memory};

@@ -319,11 +319,12 @@ fn tells_that_the_output_failed(rt: HostRuntime) -> Result<(), Fail> {
 
 #[test]
 fn shows_faults(rt: HostRuntime) -> Result<(), Fail> {
-    for (fault, want) in [
-        (ReplayFault::BadEvent(7), "bad event in line 7"),
-        (ReplayFault::Memory, "no memory"),
-        (ReplayFault::Write, "write failed"),
+    for (fault, number, want) in [
+        (ReplayFault::BadEvent(7), 1u8, "bad event in line 7"),
+        (ReplayFault::Memory, 2, "no memory"),
+        (ReplayFault::Write, 3, "write failed"),
     ] {
+        assert_eq!(rt; fault.number(), number);
         let shown = format!(in rt.alloc(); "{fault}")?;
         assert_eq!(rt; shown.as_str(), want);
     }

@@ -137,6 +137,7 @@ impl Transcript {
             },
         }
     }
+
     /// Tells that a feed took so many of its bytes, where it had more.
     fn note_fed(&mut self, line: usize, n: usize, all: usize) -> Result<(), AllocError>
         ensures { OnOk result (told self.new ≡ record (told self.old) { text = (told self.old).text ++ (if nat_lt n all then held_back line n all else []) }) }
