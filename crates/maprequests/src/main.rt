@@ -1,0 +1,36 @@
+//! The requests for memory of an insert into a map of which a version is shared.
+//!
+//! It says what the insert did, or where memory was refused, so that a run with each request refused in turn tells
+//! how many the insert makes. `tests/map_requests.sh` does that.
+#![tactic(auto)]
+
+use nutmap::{Map, Meter};
+use std::io;
+
+/// The entries before the insert, whose keys rise from 0.
+const ENTRIES: u32 = 4095;
+
+fn main(rt: HostRuntime) -> io::Result<()> {
+    let mut meter = Meter::new();
+    let mut map = Map::new(rt.alloc());
+    for key in 0..ENTRIES {
+        if map.insert(key, key, &mut meter).is_err() {
+            return println!(rt; "refused before the insert");
+        }
+    }
+    let Ok(version) = map.share() else {
+        return println!(rt; "refused at the version");
+    };
+    let before = meter.made();
+    let inserted = map.insert(ENTRIES, ENTRIES, &mut meter).is_ok();
+    let made = meter.made().saturating_sub(before);
+    let (entries, shared) = (map.len(), version.len());
+    let outcome = if inserted {
+        "inserted"
+    } else {
+        "refused in the insert"
+    };
+    println!(rt;
+        "{outcome}: {before} nodes before, {made} made, {entries} entries, {shared} in the version"
+    )
+}

@@ -1,0 +1,165 @@
+//! The map.
+ghost use Rattle.std.specs.Prelude.{◌≡◌, ◌+◌, ◌≤◌, [], length, IsNone, IfOk, OnOk, OnErr};
+ghost use Rattle.std.specs.Option.{option_copied, option_map};
+ghost use Rattle.std.specs.Map.{remove_entry};
+ghost use Rattle.std.specs.BTreeMap.{insert_entry, is_at};
+ghost use Rattle.nutmap.specs.Digits.{most_nodes};
+ghost use Rattle.nutmap.specs.Entries.{value_at, entry_after, HasRisingKeys};
+ghost use Rattle.nutmap.specs.Meter.{counted_up};
+
+use crate::find;
+use crate::insert::{self, Inserted};
+use crate::meter::Meter;
+use crate::remove::{self, Removed};
+use crate::tree::{Node, height, shared};
+use std::alloc::{AllocError, Global};
+use std::marker::Model;
+use std::rc::Rc;
+
+/// A map in the order of its keys, of which a version can be kept at no cost.
+///
+/// A version is a map of its own: it keeps its entries whatever is done to the map that it was shared from, and
+/// the other way round. Versions share the nodes of a balanced binary tree and, by `Rc`, the keys and values.
+/// No node is changed once it is made, so a change makes new nodes from the root to the place of the key.
+///
+/// Contracts see a map as the list of its entries, whose keys rise.
+#[derive(Drop)]
+pub struct Map<K: Ord + Drop, V: Drop> {
+    alloc: Global,
+    root: Option<Rc<Node<K, V>>>,
+    len: usize,
+}
+
+impl<K: Ord + Drop, V: Drop> Model for Map<K, V> {
+    ghost use Rattle.std.specs.Prelude.{◌≡◌, List, length};
+    ghost use Rattle.nutmap.specs.Tree.{entries_of};
+
+    ghost Value = { List (K × V) };
+
+    ghost view = { λ m. entries_of m.root };
+
+    ghost invariant = { λ m. m.len ≡ length (entries_of m.root) };
+}
+
+impl<K: Ord + Drop, V: Drop> Map<K, V> {
+    /// The empty map, which takes no memory.
+    pub fn new(alloc: Global) -> Self
+        ensures { result ≡ [] }
+    {
+        Map {
+            alloc,
+            root: None,
+            len: 0,
+        }
+    }
+
+    /// How many entries the map has.
+    pub fn len(&self) -> usize
+        ensures len { result ≡ length self.now }
+        ensures rising { HasRisingKeys K.cmp self.now }
+    {
+        let Map { root, len, .. } = self;
+        // What the root says of the entries: their keys rise.
+        let _ = height(root);
+        *len
+    }
+
+    /// The value at a key, or `None` where the map does not have the key.
+    pub fn get(&self, key: &K) -> Option<&V>
+        ensures { option_copied result ≡ value_at K.cmp self.now key.now }
+    {
+        find::value(&self.root, key)
+    }
+
+    /// The entry with the least key above `above`, or with the least key of all where that is `None`.
+    ///
+    /// A walk that goes from each key to the next meets every entry once, and takes no memory.
+    pub fn after(&self, above: Option<&K>) -> Option<(&K, &V)>
+        ensures { option_map (λ e. (e.0.now, e.1.now)) result ≡ entry_after K.cmp self.now (option_map (λ k. k.now) above.entry) }
+    {
+        match above {
+            None => find::first(&self.root),
+            Some(key) => find::above(&self.root, key),
+        }
+    }
+
+    /// A version with the same entries, which no later change of this map reaches.
+    ///
+    /// It asks for no memory. The `Result` is that of `Rc::clone`, which fails where `usize::MAX` versions share a root.
+    pub fn share(&self) -> Result<Self, AllocError>
+        ensures { IfOk result (λ version. version ≡ self.now) }
+    {
+        Ok(Map {
+            alloc: self.alloc,
+            root: shared(&self.root)?,
+            len: self.len,
+        })
+    }
+
+    /// Sets the value of a key, and answers the earlier value. An equal key that is there stays.
+    ///
+    /// The nodes that it makes are counted by `meter`, at least one and at most `most_nodes` of the entries before.
+    ///
+    /// # Errors
+    ///
+    /// `AllocError` where memory is refused, or the map has `usize::MAX` entries. The map is then as it was, and
+    /// the meter keeps what was made.
+    pub fn insert(
+        &mut self,
+        key: K,
+        value: V,
+        meter: &mut Meter,
+    ) -> Result<Option<Rc<V>>, AllocError>
+        ensures before { IfOk result (λ before. option_map (λ held. held.value) before ≡ value_at K.cmp self.old key) }
+        ensures ok { OnOk result (self.new ≡ insert_entry K.cmp self.old key value) }
+        ensures err { OnErr result (self.new ≡ self.old) }
+        ensures rising { HasRisingKeys K.cmp self.old }
+        ensures not_less { meter.old ≤ meter.new }
+        ensures most { meter.new ≤ meter.old + most_nodes (length self.old) }
+        ensures counted { OnOk result (IsNone (value_at K.cmp self.old key) → counted_up meter.old ≤ meter.new) }
+    {
+        // What the root says of the entries: their keys rise, and they are enough for its height.
+        let _ = height(&self.root);
+        if self.len == usize::MAX {
+            return Err(AllocError);
+        }
+        let alloc = self.alloc;
+        let (key, value) = (Rc::new(alloc, key)?, Rc::new(alloc, value)?);
+        let Inserted { root, before } = insert::insert(alloc, &self.root, key, value, meter)?;
+        self.root = Some(root);
+        match before {
+            None => {
+                self.len += 1;
+                Ok(None)
+            }
+            Some(before) => Ok(Some(before)),
+        }
+    }
+
+    /// Takes out the entry of a key, and answers its value, or answers `None` where the map does not have the key.
+    ///
+    /// The nodes that it makes are counted by `meter`, at most `most_nodes` of the entries before.
+    ///
+    /// # Errors
+    ///
+    /// `AllocError` where memory is refused. The map is then as it was, and the meter keeps what was made.
+    pub fn remove(&mut self, key: &K, meter: &mut Meter) -> Result<Option<Rc<V>>, AllocError>
+        ensures before { IfOk result (λ before. option_map (λ held. held.value) before ≡ value_at K.cmp self.old key.now) }
+        ensures ok { OnOk result (self.new ≡ remove_entry (is_at (K.cmp key.now)) self.old) }
+        ensures absent { IsNone (value_at K.cmp self.old key.now) → self.new ≡ self.old }
+        ensures err { OnErr result (self.new ≡ self.old) }
+        ensures rising { HasRisingKeys K.cmp self.old }
+        ensures not_less { meter.old ≤ meter.new }
+        ensures most { meter.new ≤ meter.old + most_nodes (length self.old) }
+    {
+        // What the root says of the entries: their keys rise, and they are enough for its height.
+        let _ = height(&self.root);
+        let removed = remove::remove(self.alloc, &self.root, key, meter)?;
+        let Some(Removed { rest, value }) = removed else {
+            return Ok(None);
+        };
+        self.root = rest;
+        self.len -= 1;
+        Ok(Some(value))
+    }
+}
