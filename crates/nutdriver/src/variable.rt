@@ -1,0 +1,187 @@
+//! A variable of a UPS.
+ghost use Rattle.std.specs.Prelude.{◌≡◌, ◌≤◌, length, IfOk};
+ghost use Rattle.nutdriver.specs.Variable.{VariableState, new_variable, with_value, with_aux, with_flags, add_enum, delete_enum, add_range, delete_range, has_value, has_range};
+ghost use Rattle.nutdriver.specs.Answers.{AnswersChange};
+
+use crate::{DriverFault, ENUM_LIMIT, Flags, RANGE_LIMIT, Range};
+use nutwords::Value;
+use std::alloc::{AllocError, Global};
+use std::marker::Model;
+
+/// A variable of a UPS: its value, and what values it may have (RFC 9271, sections 4.2.3 to 4.2.5).
+///
+/// A variable isn't changed once a tree has it, so the versions of a tree share it. Contracts see the record of what it has.
+#[derive(Drop)]
+pub struct Variable {
+    value: Value,
+    flags: Flags,
+    aux: u32,
+    enum_values: Vec<Value>,
+    ranges: Vec<Range>,
+}
+
+impl Model for Variable {
+    ghost use Rattle.std.specs.Prelude.{◌≤◌, length};
+    ghost use Rattle.nutdriver.specs.Variable.{VariableState};
+    ghost use Rattle.nutdriver.specs.declared.limits.TheConstants.{ENUM_LIMIT, RANGE_LIMIT};
+
+    ghost Value = { VariableState };
+
+    ghost view = { λ v. record { value = v.value; flags = v.flags; aux = v.aux; enum_values = v.enum_values.items; ranges = v.ranges.items } };
+
+    ghost invariant = { λ v. (length v.enum_values.items ≤ ENUM_LIMIT) × (length v.ranges.items ≤ RANGE_LIMIT) };
+}
+
+impl Variable {
+    /// A variable without flags, enum values and ranges, whose aux is 0. Takes no memory.
+    pub(crate) fn new(alloc: Global, value: Value) -> Variable
+        ensures { result ≡ new_variable value }
+    {
+        Variable {
+            value,
+            flags: Flags::none(),
+            aux: 0,
+            enum_values: Vec::new(alloc),
+            ranges: Vec::new(alloc),
+        }
+    }
+
+    /// Its value.
+    pub fn value(&self) -> &Value
+        ensures { result.now ≡ self.now.value }
+    {
+        &self.value
+    }
+
+    /// Its flags.
+    pub fn flags(&self) -> Flags
+        ensures { result ≡ self.now.flags }
+    {
+        self.flags
+    }
+
+    /// Its aux, from 0 to 1,000,000,000: of a text, the most bytes, where it isn't 0.
+    pub fn aux(&self) -> u32
+        ensures { result ≡ self.now.aux }
+    {
+        self.aux
+    }
+
+    /// The values that it may have, in the order in which the driver added them. Where there are none, any will do.
+    pub fn enum_values(&self) -> &[Value]
+        ensures value { result.now ≡ self.now.enum_values }
+        ensures few { length result.now ≤ ENUM_LIMIT }
+    {
+        self.enum_values.as_slice()
+    }
+
+    /// The ranges of numbers that it may have, in the order in which the driver added them. Where there are none, any
+    /// will do.
+    pub fn ranges(&self) -> &[Range]
+        ensures value { result.now ≡ self.now.ranges }
+        ensures few { length result.now ≤ RANGE_LIMIT }
+    {
+        self.ranges.as_slice()
+    }
+
+    /// An equal variable, which shares nothing with this one.
+    fn copied(&self) -> Result<Variable, AllocError>
+        ensures { IfOk result (λ copy. copy ≡ self.now) }
+    {
+        Ok(Variable {
+            value: self.value.clone()?,
+            flags: self.flags,
+            aux: self.aux,
+            enum_values: self.enum_values.clone()?,
+            ranges: self.ranges.clone()?,
+        })
+    }
+
+    /// The variable with another value.
+    pub(crate) fn with_value(&self, value: &Value) -> Result<Variable, AllocError>
+        ensures { IfOk result (λ changed. changed ≡ with_value value.now self.now) }
+    {
+        let mut changed = self.copied()?;
+        changed.value = value.clone()?;
+        Ok(changed)
+    }
+
+    /// The variable with another aux.
+    pub(crate) fn with_aux(&self, aux: u32) -> Result<Variable, AllocError>
+        ensures { IfOk result (λ changed. changed ≡ with_aux aux self.now) }
+    {
+        let mut changed = self.copied()?;
+        changed.aux = aux;
+        Ok(changed)
+    }
+
+    /// The variable with exactly these flags.
+    pub(crate) fn with_flags(&self, flags: Flags) -> Result<Variable, AllocError>
+        ensures { IfOk result (λ changed. changed ≡ with_flags flags self.now) }
+    {
+        let mut changed = self.copied()?;
+        changed.flags = flags;
+        Ok(changed)
+    }
+
+    /// The variable with one more enum value, or `None` where it has it.
+    pub(crate) fn add_enum(&self, value: &Value) -> Result<Option<Variable>, DriverFault>
+        ensures { AnswersChange (add_enum value.now self.now) result }
+    {
+        if self.enum_values.contains(value) {
+            return Ok(None);
+        }
+        if self.enum_values.len() >= ENUM_LIMIT {
+            return Err(DriverFault::Full);
+        }
+        let changed = self.with_one_value(value)?;
+        Ok(Some(changed))
+    }
+
+    /// The variable without an enum value.
+    pub(crate) fn delete_enum(&self, value: &Value) -> Result<Option<Variable>, DriverFault>
+        ensures { AnswersChange (delete_enum value.now self.now) result }
+    {
+        if !self.enum_values.contains(value) {
+            return Err(DriverFault::NoSuchItem);
+        }
+        let Ok(mut changed) = self.copied() else {
+            return Err(DriverFault::Memory);
+        };
+        changed.enum_values.retain(|other| other != value);
+        Ok(Some(changed))
+    }
+
+    /// The variable with one more range, or `None` where it has it.
+    pub(crate) fn add_range(&self, range: Range) -> Result<Option<Variable>, DriverFault>
+        ensures { AnswersChange (add_range range self.now) result }
+    {
+        if self.ranges.contains(&range) {
+            return Ok(None);
+        }
+        if self.ranges.len() >= RANGE_LIMIT {
+            return Err(DriverFault::Full);
+        }
+        let Ok(mut changed) = self.copied() else {
+            return Err(DriverFault::Memory);
+        };
+        match changed.ranges.push(range) {
+            Ok(()) => Ok(Some(changed)),
+            Err(_) => Err(DriverFault::Memory),
+        }
+    }
+
+    /// The variable without a range.
+    pub(crate) fn delete_range(&self, range: Range) -> Result<Option<Variable>, DriverFault>
+        ensures { AnswersChange (delete_range range self.now) result }
+    {
+        if !self.ranges.contains(&range) {
+            return Err(DriverFault::NoSuchItem);
+        }
+        let Ok(mut changed) = self.copied() else {
+            return Err(DriverFault::Memory);
+        };
+        changed.ranges.retain(|other| *other != range);
+        Ok(Some(changed))
+    }
+}
