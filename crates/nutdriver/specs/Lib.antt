@@ -4,3 +4,7 @@ pub mod Number
 pub mod Flags
 pub mod Arguments
 pub mod DriverLine
+pub mod Variable
+pub mod Tree
+pub mod DriverStep
+pub mod Answers

@@ -3,10 +3,14 @@ ghost use Rattle.std.specs.Prelude.{◌≡◌, ◌≤◌, length, IfOk};
 ghost use Rattle.nutdriver.specs.Variable.{VariableState, new_variable, with_value, with_aux, with_flags, add_enum, delete_enum, add_range, delete_range, has_value, has_range};
 ghost use Rattle.nutdriver.specs.Answers.{AnswersChange};
 
+use crate::lists::{copied, has_range, has_value, take_range_out, take_value_out};
 use crate::{DriverFault, ENUM_LIMIT, Flags, RANGE_LIMIT, Range};
 use nutwords::Value;
 use std::alloc::{AllocError, Global};
 use std::marker::Model;
+
+/// What becomes of a variable: `None` where it stays as it is.
+pub(crate) type Change = Result<Option<Variable>, DriverFault>;
 
 /// A variable of a UPS: its value, and what values it may have (RFC 9271, sections 4.2.3 to 4.2.5).
 ///
@@ -33,17 +37,20 @@ impl Model for Variable {
 }
 
 impl Variable {
-    /// A variable without flags, enum values and ranges, whose aux is 0. Takes no memory.
-    pub(crate) fn new(alloc: Global, value: Value) -> Variable
-        ensures { result ≡ new_variable value }
+    /// A variable without flags, enum values and ranges, whose aux is 0.
+    pub(crate) fn new(alloc: Global, value: &Value) -> Change
+        ensures { AnswersChange (Ok (Some (new_variable value.now))) result }
     {
-        Variable {
+        let Ok(value) = copied(value) else {
+            return Err(DriverFault::Memory);
+        };
+        Ok(Some(Variable {
             value,
             flags: Flags::none(),
             aux: 0,
             enum_values: Vec::new(alloc),
             ranges: Vec::new(alloc),
-        }
+        }))
     }
 
     /// Its value.
@@ -89,7 +96,7 @@ impl Variable {
         ensures { IfOk result (λ copy. copy ≡ self.now) }
     {
         Ok(Variable {
-            value: self.value.clone()?,
+            value: copied(&self.value)?,
             flags: self.flags,
             aux: self.aux,
             enum_values: self.enum_values.clone()?,
@@ -98,90 +105,104 @@ impl Variable {
     }
 
     /// The variable with another value.
-    pub(crate) fn with_value(&self, value: &Value) -> Result<Variable, AllocError>
-        ensures { IfOk result (λ changed. changed ≡ with_value value.now self.now) }
+    pub(crate) fn with_value(&self, value: &Value) -> Change
+        ensures { AnswersChange (Ok (Some (with_value value.now self.now))) result }
     {
-        let mut changed = self.copied()?;
-        changed.value = value.clone()?;
-        Ok(changed)
+        let Ok(value) = copied(value) else {
+            return Err(DriverFault::Memory);
+        };
+        let Ok(copy) = self.copied() else {
+            return Err(DriverFault::Memory);
+        };
+        Ok(Some(Variable { value, ..copy }))
     }
 
     /// The variable with another aux.
-    pub(crate) fn with_aux(&self, aux: u32) -> Result<Variable, AllocError>
-        ensures { IfOk result (λ changed. changed ≡ with_aux aux self.now) }
+    pub(crate) fn with_aux(&self, aux: u32) -> Change
+        ensures { AnswersChange (Ok (Some (with_aux aux self.now))) result }
     {
-        let mut changed = self.copied()?;
-        changed.aux = aux;
-        Ok(changed)
+        let Ok(copy) = self.copied() else {
+            return Err(DriverFault::Memory);
+        };
+        Ok(Some(Variable { aux, ..copy }))
     }
 
     /// The variable with exactly these flags.
-    pub(crate) fn with_flags(&self, flags: Flags) -> Result<Variable, AllocError>
-        ensures { IfOk result (λ changed. changed ≡ with_flags flags self.now) }
+    pub(crate) fn with_flags(&self, flags: Flags) -> Change
+        ensures { AnswersChange (Ok (Some (with_flags flags self.now))) result }
     {
-        let mut changed = self.copied()?;
-        changed.flags = flags;
-        Ok(changed)
+        let Ok(copy) = self.copied() else {
+            return Err(DriverFault::Memory);
+        };
+        Ok(Some(Variable { flags, ..copy }))
     }
 
-    /// The variable with one more enum value, or `None` where it has it.
-    pub(crate) fn add_enum(&self, value: &Value) -> Result<Option<Variable>, DriverFault>
+    /// The variable with one more enum value, unless it has it.
+    pub(crate) fn add_enum(&self, value: &Value) -> Change
         ensures { AnswersChange (add_enum value.now self.now) result }
     {
-        if self.enum_values.contains(value) {
+        if has_value(&self.enum_values, value) {
             return Ok(None);
         }
         if self.enum_values.len() >= ENUM_LIMIT {
             return Err(DriverFault::Full);
         }
-        let changed = self.with_one_value(value)?;
-        Ok(Some(changed))
+        let Ok(value) = copied(value) else {
+            return Err(DriverFault::Memory);
+        };
+        let Ok(mut copy) = self.copied() else {
+            return Err(DriverFault::Memory);
+        };
+        let Ok(()) = copy.enum_values.push(value) else {
+            return Err(DriverFault::Memory);
+        };
+        Ok(Some(copy))
     }
 
     /// The variable without an enum value.
-    pub(crate) fn delete_enum(&self, value: &Value) -> Result<Option<Variable>, DriverFault>
+    pub(crate) fn delete_enum(&self, value: &Value) -> Change
         ensures { AnswersChange (delete_enum value.now self.now) result }
     {
-        if !self.enum_values.contains(value) {
+        if !has_value(&self.enum_values, value) {
             return Err(DriverFault::NoSuchItem);
         }
-        let Ok(mut changed) = self.copied() else {
+        let Ok(mut copy) = self.copied() else {
             return Err(DriverFault::Memory);
         };
-        changed.enum_values.retain(|other| other != value);
-        Ok(Some(changed))
+        take_value_out(&mut copy.enum_values, value);
+        Ok(Some(copy))
     }
 
-    /// The variable with one more range, or `None` where it has it.
-    pub(crate) fn add_range(&self, range: Range) -> Result<Option<Variable>, DriverFault>
+    /// The variable with one more range, unless it has it.
+    pub(crate) fn add_range(&self, range: Range) -> Change
         ensures { AnswersChange (add_range range self.now) result }
     {
-        if self.ranges.contains(&range) {
+        if has_range(&self.ranges, range) {
             return Ok(None);
         }
         if self.ranges.len() >= RANGE_LIMIT {
             return Err(DriverFault::Full);
         }
-        let Ok(mut changed) = self.copied() else {
+        let Ok(mut copy) = self.copied() else {
             return Err(DriverFault::Memory);
         };
-        match changed.ranges.push(range) {
-            Ok(()) => Ok(Some(changed)),
-            Err(_) => Err(DriverFault::Memory),
-        }
+        let Ok(()) = copy.ranges.push(range) else {
+            return Err(DriverFault::Memory);
+        };
+        Ok(Some(copy))
     }
 
     /// The variable without a range.
-    pub(crate) fn delete_range(&self, range: Range) -> Result<Option<Variable>, DriverFault>
+    pub(crate) fn delete_range(&self, range: Range) -> Change
         ensures { AnswersChange (delete_range range self.now) result }
     {
-        if !self.ranges.contains(&range) {
+        if !has_range(&self.ranges, range) {
             return Err(DriverFault::NoSuchItem);
         }
-        let Ok(mut changed) = self.copied() else {
+        let Ok(mut copy) = self.copied() else {
             return Err(DriverFault::Memory);
         };
-        changed.ranges.retain(|other| *other != range);
-        Ok(Some(changed))
+        take_range_out(&mut copy.ranges, range);
+        Ok(Some(copy))
     }
 }
