@@ -128,7 +128,12 @@ impl Tree {
     }
 
     /// Gives the name this variable.
-    fn put(&mut self, name: &Name, variable: Variable, meter: &mut Meter) -> Result<Effect, DriverFault>
+    fn put(
+        &mut self,
+        name: &Name,
+        variable: Variable,
+        meter: &mut Meter,
+    ) -> Result<Effect, DriverFault>
         requires { IsNone (variable_at self.old name.now) → length self.old.variables < VARIABLE_LIMIT }
         ensures step { AnswersStep (Ok (with_variable self.old name.now variable, Effect.Changed)) self.old result self.new }
         ensures not_less { meter.old ≤ meter.new }
@@ -144,7 +149,12 @@ impl Tree {
     }
 
     /// Puts what became of a variable in its place.
-    fn put_back(&mut self, name: &Name, change: Change, meter: &mut Meter) -> Result<Effect, DriverFault>
+    fn put_back(
+        &mut self,
+        name: &Name,
+        change: Change,
+        meter: &mut Meter,
+    ) -> Result<Effect, DriverFault>
         requires { IsNone (variable_at self.old name.now) → length self.old.variables < VARIABLE_LIMIT }
         ensures ok { IfOk change (λ changed. AnswersStep (put_back self.old name.now change) self.old result self.new) }
         ensures err { IfErr change (λ fault. (result ≡ Err fault) × (self.new ≡ self.old)) }
@@ -159,7 +169,12 @@ impl Tree {
     }
 
     /// Sets the value of a variable, new or not.
-    fn set_info(&mut self, name: &Name, value: &Value, meter: &mut Meter) -> Result<Effect, DriverFault>
+    fn set_info(
+        &mut self,
+        name: &Name,
+        value: &Value,
+        meter: &mut Meter,
+    ) -> Result<Effect, DriverFault>
         ensures step { AnswersStep (driver_step self.old (SetInfo name.now value.now)) self.old result self.new }
         ensures not_less { meter.old ≤ meter.new }
         ensures most { meter.new ≤ meter.old + most_nodes (length self.old.variables) }
@@ -191,7 +206,12 @@ impl Tree {
     }
 
     /// Adds an enum value of a variable as the last.
-    fn add_enum(&mut self, name: &Name, value: &Value, meter: &mut Meter) -> Result<Effect, DriverFault>
+    fn add_enum(
+        &mut self,
+        name: &Name,
+        value: &Value,
+        meter: &mut Meter,
+    ) -> Result<Effect, DriverFault>
         ensures step { AnswersStep (driver_step self.old (AddEnum name.now value.now)) self.old result self.new }
         ensures not_less { meter.old ≤ meter.new }
         ensures most { meter.new ≤ meter.old + most_nodes (length self.old.variables) }
@@ -204,7 +224,12 @@ impl Tree {
     }
 
     /// Takes an enum value of a variable out.
-    fn delete_enum(&mut self, name: &Name, value: &Value, meter: &mut Meter) -> Result<Effect, DriverFault>
+    fn delete_enum(
+        &mut self,
+        name: &Name,
+        value: &Value,
+        meter: &mut Meter,
+    ) -> Result<Effect, DriverFault>
         ensures step { AnswersStep (driver_step self.old (DelEnum name.now value.now)) self.old result self.new }
         ensures not_less { meter.old ≤ meter.new }
         ensures most { meter.new ≤ meter.old + most_nodes (length self.old.variables) }
@@ -217,7 +242,12 @@ impl Tree {
     }
 
     /// Adds a range of a variable as the last.
-    fn add_range(&mut self, name: &Name, range: Range, meter: &mut Meter) -> Result<Effect, DriverFault>
+    fn add_range(
+        &mut self,
+        name: &Name,
+        range: Range,
+        meter: &mut Meter,
+    ) -> Result<Effect, DriverFault>
         ensures step { AnswersStep (driver_step self.old (AddRange name.now range)) self.old result self.new }
         ensures not_less { meter.old ≤ meter.new }
         ensures most { meter.new ≤ meter.old + most_nodes (length self.old.variables) }
@@ -230,7 +260,12 @@ impl Tree {
     }
 
     /// Takes a range of a variable out.
-    fn delete_range(&mut self, name: &Name, range: Range, meter: &mut Meter) -> Result<Effect, DriverFault>
+    fn delete_range(
+        &mut self,
+        name: &Name,
+        range: Range,
+        meter: &mut Meter,
+    ) -> Result<Effect, DriverFault>
         ensures step { AnswersStep (driver_step self.old (DelRange name.now range)) self.old result self.new }
         ensures not_less { meter.old ≤ meter.new }
         ensures most { meter.new ≤ meter.old + most_nodes (length self.old.variables) }
@@ -256,7 +291,12 @@ impl Tree {
     }
 
     /// Gives a variable exactly these flags.
-    fn set_flags(&mut self, name: &Name, flags: Flags, meter: &mut Meter) -> Result<Effect, DriverFault>
+    fn set_flags(
+        &mut self,
+        name: &Name,
+        flags: Flags,
+        meter: &mut Meter,
+    ) -> Result<Effect, DriverFault>
         ensures step { AnswersStep (driver_step self.old (SetFlags name.now flags)) self.old result self.new }
         ensures not_less { meter.old ≤ meter.new }
         ensures most { meter.new ≤ meter.old + most_nodes (length self.old.variables) }

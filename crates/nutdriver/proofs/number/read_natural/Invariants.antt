@@ -6,5 +6,5 @@ use Rattle.nutdriver.proofs.number.read_natural.Given as goal
 abbrev pub invariant-loop-digit : goal.invariant-loop-digit
 invariant-loop-digit l = record {
   value : l.value ≡ digits_value 10 (take l.digit-index l.digits);
-  small : l.value ≤ NUMBER_LIMIT
+  small : l.value ≤ NUMBER_LIMIT;
 }
