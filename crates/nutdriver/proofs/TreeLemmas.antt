@@ -1,16 +1,14 @@
 -- What changes of a tree's maps say of its names, and how many entries they leave.
-use Rattle.std.proofs.Common.{◌≡◌, ℕ, suc, ◌+◌, ◌<◌, ◌≤◌, Bool, true, false, cond, List, [], ◌∷◌, length, refl, sym, ap, ◌∙◌, arith, nat_le}
-use Rattle.std.specs.Prelude.{Option, Some, None, Result, Ok, Err, is_some, IsNone, ◌||◌}
+use Rattle.std.proofs.Common.{◌≡◌, ℕ, ◌<◌, ◌≤◌, Bool, true, false, cond, List, [], ◌∷◌, length, refl, ap, arith}
+use Rattle.std.specs.Prelude.{Option, Some, None, is_some, IsNone, ◌||◌}
 use Rattle.std.specs.List.{list_any}
 use Rattle.std.specs.Map.{keys_of, lookup, remove_entry}
 use Rattle.std.specs.Set.{remove_key}
-use Rattle.std.specs.BTreeMap.{insert_entry, is_at}
+use Rattle.std.specs.BTreeMap.{insert_entry}
 use Rattle.std.specs.BTreeSet.{insert_key}
 use Rattle.std.specs.declared.cmp.Ordering.{Ordering}
 use Rattle.std.specs.declared.cmp.Ordering.TheVariants.{Less, Equal, Greater}
 use Rattle.std.specs.Ordering.{match_ordering}
-use Rattle.std.proofs.lemmas.Grind.{common_steps}
-use Rattle.std.proofs.lemmas.Map.Entries.{length-keys_of}
 use Rattle.nutmap.specs.Entries.{HasRisingKeys, value_at}
 use Rattle.nutmap.proofs.Lengths.{length-insert_new, length-insert_old, length-remove_entry, remove_entry-none}
 use Rattle.std.specs.Cmp.{IsTotalOrder}

@@ -1,5 +1,5 @@
 -- What the parts of a tree answer: what the definitions say, or want of memory where there would be a change.
-use Rattle.std.specs.Prelude.{◌≡◌, Bool, true, false, Option, Some, None, Result, Ok, Err}
+use Rattle.std.specs.Prelude.{◌≡◌, Bool, true, false, Option, Some, Result, Ok, Err}
 use Rattle.nutdriver.specs.declared.fault.DriverFault.{DriverFault}
 use Rattle.nutdriver.specs.declared.fault.DriverFault.TheVariants.{Memory}
 use Rattle.nutdriver.specs.declared.effect.Effect.{Effect}

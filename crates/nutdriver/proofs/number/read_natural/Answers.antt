@@ -1,4 +1,4 @@
-use Rattle.std.proofs.Common.{◌≡◌, ◌<◌, ◌*◌, ◌+◌, take, rules, arith, sym, ◌∙◌, ap}
+use Rattle.std.proofs.Common.{◌<◌, ◌+◌, take, arith, sym, ◌∙◌}
 use Rattle.std.specs.Str.Parse.{digits_value}
 use Rattle.nutdriver.specs.declared.limits.TheConstants.{NUMBER_LIMIT}
 use Rattle.nutdriver.proofs.DigitLemmas.{digits_value-next, too_great}

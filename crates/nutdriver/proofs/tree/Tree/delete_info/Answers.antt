@@ -1,4 +1,3 @@
-use Rattle.std.proofs.Common.{sym, ap, ◌∙◌}
 use Rattle.std.specs.BTreeMap.{is_at}
 use Rattle.nutdriver.specs.declared.limits.TheConstants.{VARIABLE_LIMIT}
 use Rattle.nutdriver.specs.Tree.{byte_order}

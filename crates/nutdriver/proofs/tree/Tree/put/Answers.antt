@@ -1,8 +1,8 @@
-use Rattle.std.proofs.Common.{◌≡◌, ◌≤◌, ◌<◌, length, sym, ap, ◌∙◌, subst, refl}
+use Rattle.std.proofs.Common.{◌<◌, length, sym, subst, refl}
 use Rattle.std.specs.Prelude.{IsNone}
 use Rattle.std.proofs.lemmas.Cmp.{nat_list_cmp_total}
 use Rattle.nutdriver.specs.declared.limits.TheConstants.{VARIABLE_LIMIT}
-use Rattle.nutdriver.specs.Tree.{TreeState, variable_at, with_variable}
+use Rattle.nutdriver.specs.Tree.{TreeState, variable_at}
 use Rattle.nutdriver.proofs.TreeLemmas.{few_inserted}
 use Rattle.nutdriver.proofs.tree.Tree.put.Goals as goal
 

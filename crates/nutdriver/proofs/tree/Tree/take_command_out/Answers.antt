@@ -1,4 +1,4 @@
-use Rattle.std.proofs.Common.{length, sym, ap, ◌∙◌, refl}
+use Rattle.std.proofs.Common.{refl}
 use Rattle.std.specs.BTreeMap.{is_at}
 use Rattle.nutdriver.specs.declared.limits.TheConstants.{COMMAND_LIMIT}
 use Rattle.nutdriver.specs.Tree.{byte_order}
