@@ -1,0 +1,72 @@
+-- What changes of a tree's maps say of its names, and how many entries they leave.
+use Rattle.std.proofs.Common.{◌≡◌, ℕ, ◌<◌, ◌≤◌, Bool, true, false, cond, List, [], ◌∷◌, length, refl, ap, arith}
+use Rattle.std.specs.Prelude.{Option, Some, None, is_some, IsNone, ◌||◌}
+use Rattle.std.specs.List.{list_any}
+use Rattle.std.specs.Map.{keys_of, lookup, remove_entry}
+use Rattle.std.specs.Set.{remove_key}
+use Rattle.std.specs.BTreeMap.{insert_entry}
+use Rattle.std.specs.BTreeSet.{insert_key}
+use Rattle.std.specs.declared.cmp.Ordering.{Ordering}
+use Rattle.std.specs.declared.cmp.Ordering.TheVariants.{Less, Equal, Greater}
+use Rattle.std.specs.Ordering.{match_ordering}
+use Rattle.nutmap.specs.Entries.{HasRisingKeys, value_at}
+use Rattle.nutmap.proofs.Lengths.{length-insert_new, length-insert_old, length-remove_entry, remove_entry-none}
+use Rattle.std.specs.Cmp.{IsTotalOrder}
+use Rattle.std.specs.Borrow.{Bor}
+use Rattle.std.specs.Option.{option_copied}
+
+module _ {K V : Type 0} (test : K → Bool) where
+  any_cases : (b : Bool) (e : K × V) (o : Option V) (rest : Bool) → is_some o ≡ rest → is_some (cond b (Some e.1) o) ≡ (b || rest)
+  any_cases true e o rest h = refl
+  any_cases false e o rest h = h
+
+  -- a key has a value exactly where it is among the keys
+  pub is_some-lookup : (es : List (K × V)) → is_some (lookup test es) ≡ list_any test (keys_of es)
+  is_some-lookup [] = refl
+  is_some-lookup (e ∷ es) = any_cases (test e.0) e (lookup test es) (list_any test (keys_of es)) (is_some-lookup es)
+
+  -- the keys without the first entry that passes
+  pub keys_of-remove_entry : (es : List (K × V)) → keys_of (remove_entry test es) ≡ remove_key test (keys_of es)
+  keys_of-remove_entry [] = refl
+  keys_of-remove_entry (e ∷ es) = removed (test e.0) e es (remove_entry test es) (keys_of-remove_entry es)
+    where
+      removed : (b : Bool) (e : K × V) (es rest : List (K × V)) → keys_of rest ≡ remove_key test (keys_of es) → keys_of (cond b es (e ∷ rest)) ≡ cond b (keys_of es) (e.0 ∷ remove_key test (keys_of es))
+      removed true e es rest h = refl
+      removed false e es rest h = ap (λ ks. e.0 ∷ ks) h
+
+module _ {K V : Type 0} (R : K → K → Ordering) (k : K) (v : V) where
+  inserted : (c : Ordering) (e : K × V) (es rest : List (K × V)) → keys_of rest ≡ insert_key R (keys_of es) k → keys_of (match_ordering c ((k, v) ∷ e ∷ es) ((e.0, v) ∷ es) (e ∷ rest)) ≡ match_ordering c (k ∷ e.0 ∷ keys_of es) (e.0 ∷ keys_of es) (e.0 ∷ insert_key R (keys_of es) k)
+  inserted Less e es rest h = refl
+  inserted Equal e es rest h = refl
+  inserted Greater e es rest h = ap (λ ks. e.0 ∷ ks) h
+
+  -- the keys with one more entry
+  pub keys_of-insert_entry : (es : List (K × V)) → keys_of (insert_entry R es k v) ≡ insert_key R (keys_of es) k
+  keys_of-insert_entry [] = refl
+  keys_of-insert_entry (e ∷ es) = inserted (R k e.0) e es (insert_entry R es k v) (keys_of-insert_entry es)
+
+module _ {K V : Type 0} {R : K → K → Ordering} (o : IsTotalOrder R) (k : K) (v : V) (limit : ℕ) where
+  few_by : (es : List (K × V)) (held : Option V) → value_at R es k ≡ held → HasRisingKeys R es → length es ≤ limit → (IsNone held → length es < limit) → length (insert_entry R es k v) ≤ limit
+  few_by es None is rising few room = omega (arith, length-insert_new R k v es is, room refl)
+  few_by es (Some w) is rising few room = omega (arith, length-insert_old o k v es w rising.rising is)
+
+  -- an entry more is no entry too many, where there is room for a new key
+  pub few_inserted : (es : List (K × V)) → HasRisingKeys R es → length es ≤ limit → (IsNone (value_at R es k) → length es < limit) → length (insert_entry R es k v) ≤ limit
+  few_inserted es rising few room = few_by es (value_at R es k) refl rising few room
+
+module _ {K V : Type 0} (test : K → Bool) (limit : ℕ) where
+  few_left : (es : List (K × V)) (held : Option V) → lookup test es ≡ held → length es ≤ limit → length (remove_entry test es) ≤ limit
+  few_left es None is few = rw (remove_entry-none test es is) few
+  few_left es (Some w) is few = omega (arith, length-remove_entry test es w is)
+
+  -- an entry less is no entry too many
+  pub few_removed : (es : List (K × V)) → length es ≤ limit → length (remove_entry test es) ≤ limit
+  few_removed es few = few_left es (lookup test es) refl few
+
+pub is_some-copied : {V : Type 0} (held : Option (Bor V)) → is_some (option_copied held) ≡ is_some held
+is_some-copied None = refl
+is_some-copied (Some v) = refl
+
+-- a variable that is found is there
+pub is_there : {V : Type 0} {P : Type 0} (held : Option (Bor V)) (at : Option V) (v : Bor V) → option_copied held ≡ at → held ≡ Some v → IsNone at → P
+is_there held at v same is none = absurd (cc)

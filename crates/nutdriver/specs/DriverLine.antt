@@ -1,0 +1,48 @@
+-- Reading a line of a driver (NUT's driver socket protocol, in the profile of docs/DRIVER.md): the first refusal that fits, from the line's words to its flags.
+use Rattle.std.specs.Prelude.{ℕ, List, [], ◌∷◌, Result, Ok, Err, codes, if◌then◌else◌}
+use Rattle.nutwords.specs.Scan.{read_line}
+use Rattle.nutwords.specs.declared.faults.BadLine.{BadLine}
+use Rattle.nutdriver.specs.declared.line.DriverLine.{DriverLine}
+use Rattle.nutdriver.specs.declared.line.DriverLine.TheVariants.{Blank, SetInfo, DelInfo, AddEnum, DelEnum, AddRange, DelRange, SetAux, SetFlags, AddCmd, DelCmd, DumpDone, DataOk, DataStale, Pong}
+use Rattle.nutdriver.specs.declared.fault.DriverFault.{DriverFault}
+use Rattle.nutdriver.specs.declared.fault.DriverFault.TheVariants.{Malformed, Unknown}
+use Rattle.nutdriver.specs.Spelling.{is_word}
+use Rattle.nutdriver.specs.Arguments.{name_alone, name_and_value, name_and_range, name_and_aux, name_and_flags}
+
+-- The line of these arguments, or their refusal.
+abbrev pub line_of : {X : Type 0} → (X → DriverLine) → Result X DriverFault → Result DriverLine DriverFault
+line_of line (Err fault) = Err fault
+line_of line (Ok arguments) = Ok (line arguments)
+
+-- A word that stands alone on its line.
+abbrev pub alone : DriverLine → List (List ℕ) → Result DriverLine DriverFault
+alone line [] = Ok line
+alone line (word ∷ words) = Err Malformed
+
+-- The line that these words are: one case a first word.
+abbrev pub driver_line_of : List (List ℕ) → Result DriverLine DriverFault
+driver_line_of [] = Ok Blank
+driver_line_of (first ∷ words) =
+    if is_word first (codes "SETINFO") then line_of (λ a. SetInfo a.0 a.1) (name_and_value words)
+    else if is_word first (codes "DELINFO") then line_of (λ name. DelInfo name) (name_alone words)
+    else if is_word first (codes "ADDENUM") then line_of (λ a. AddEnum a.0 a.1) (name_and_value words)
+    else if is_word first (codes "DELENUM") then line_of (λ a. DelEnum a.0 a.1) (name_and_value words)
+    else if is_word first (codes "ADDRANGE") then line_of (λ a. AddRange a.0 a.1) (name_and_range words)
+    else if is_word first (codes "DELRANGE") then line_of (λ a. DelRange a.0 a.1) (name_and_range words)
+    else if is_word first (codes "SETAUX") then line_of (λ a. SetAux a.0 a.1) (name_and_aux words)
+    else if is_word first (codes "SETFLAGS") then line_of (λ a. SetFlags a.0 a.1) (name_and_flags words)
+    else if is_word first (codes "ADDCMD") then line_of (λ name. AddCmd name) (name_alone words)
+    else if is_word first (codes "DELCMD") then line_of (λ name. DelCmd name) (name_alone words)
+    else if is_word first (codes "DUMPDONE") then alone DumpDone words
+    else if is_word first (codes "DATAOK") then alone DataOk words
+    else if is_word first (codes "DATASTALE") then alone DataStale words
+    else if is_word first (codes "PONG") then alone Pong words
+    else Err Unknown
+
+abbrev pub driver_line_from : Result (List (List ℕ)) BadLine → Result DriverLine DriverFault
+driver_line_from (Err bad) = Err Malformed
+driver_line_from (Ok words) = driver_line_of words
+
+-- The line of a driver, or why it is refused.
+abbrev pub read_driver_line : List ℕ → Result DriverLine DriverFault
+read_driver_line line = driver_line_from (read_line line)

@@ -1,0 +1,10 @@
+pub mod Fault
+pub mod Spelling
+pub mod Number
+pub mod Flags
+pub mod Arguments
+pub mod DriverLine
+pub mod Variable
+pub mod Tree
+pub mod DriverStep
+pub mod Answers

@@ -1,0 +1,125 @@
+//! The lines of a driver (NUT's driver socket protocol).
+ghost use Rattle.std.specs.Prelude.{◌≡◌, ◌≤◌, length};
+ghost use Rattle.nutwords.specs.declared.limits.TheConstants.{LINE_LIMIT};
+
+mod arguments;
+
+use crate::spelling::is_word;
+use crate::{DriverFault, Flags, Range};
+use arguments::{name_alone, name_and_aux, name_and_flags, name_and_range, name_and_value};
+use nutwords::{Name, Value, Words, words};
+
+/// A line of a driver.
+#[derive(Clone, Debug, PartialEq, Eq, Drop)]
+pub enum DriverLine {
+    /// A line without words.
+    Blank,
+    /// `SETINFO`: the variable has this value.
+    SetInfo(Name, Value),
+    /// `DELINFO`: the UPS no longer has the variable.
+    DelInfo(Name),
+    /// `ADDENUM`: the variable may have this value.
+    AddEnum(Name, Value),
+    /// `DELENUM`: it may no longer have this value.
+    DelEnum(Name, Value),
+    /// `ADDRANGE`: the variable may have the numbers of this range.
+    AddRange(Name, Range),
+    /// `DELRANGE`: it no longer has this range.
+    DelRange(Name, Range),
+    /// `SETAUX`: the variable's aux, from 0 to 1,000,000,000: for a text, the most bytes that it may have.
+    SetAux(Name, u32),
+    /// `SETFLAGS`: the variable has exactly these flags.
+    SetFlags(Name, Flags),
+    /// `ADDCMD`: the UPS has this command.
+    AddCmd(Name),
+    /// `DELCMD`: the UPS no longer has this command.
+    DelCmd(Name),
+    /// `DUMPDONE`: all that the driver knows was told.
+    DumpDone,
+    /// `DATAOK`: the data are right.
+    DataOk,
+    /// `DATASTALE`: the data are out of date.
+    DataStale,
+    /// `PONG`: the answer to a PING.
+    Pong,
+}
+
+impl DriverLine {
+    ghost use Rattle.nutdriver.specs.DriverLine.{read_driver_line, driver_line_of, alone};
+
+    /// Reads a line without its LF, of at most 1,023 bytes. Takes no memory.
+    ///
+    /// The first word and flags are read in capitals or not. Refused, in this order: a line that doesn't read as words
+    /// (1); an unknown first word (2); another number of words or an unlawful name (1); a value above 256 bytes (7); a
+    /// bad number, or a range whose ends are the wrong way round (5); an unknown flag (6).
+    pub fn read(line: &[u8]) -> Result<DriverLine, DriverFault>
+        requires { length line.now ≤ LINE_LIMIT }
+        ensures { result ≡ read_driver_line line.now }
+    {
+        match words(line) {
+            Ok(words) => DriverLine::of(words),
+            Err(_) => Err(DriverFault::Malformed),
+        }
+    }
+
+    /// The line that the words are.
+    fn of(mut words: Words<'_>) -> Result<DriverLine, DriverFault>
+        ensures { result ≡ driver_line_of words.entry }
+    {
+        let Some(first) = words.next() else {
+            return Ok(DriverLine::Blank);
+        };
+        let first = first.as_bytes();
+        if is_word(first, b"SETINFO") {
+            let (name, value) = name_and_value(words)?;
+            Ok(DriverLine::SetInfo(name, value))
+        } else if is_word(first, b"DELINFO") {
+            let name = name_alone(words)?;
+            Ok(DriverLine::DelInfo(name))
+        } else if is_word(first, b"ADDENUM") {
+            let (name, value) = name_and_value(words)?;
+            Ok(DriverLine::AddEnum(name, value))
+        } else if is_word(first, b"DELENUM") {
+            let (name, value) = name_and_value(words)?;
+            Ok(DriverLine::DelEnum(name, value))
+        } else if is_word(first, b"ADDRANGE") {
+            let (name, range) = name_and_range(words)?;
+            Ok(DriverLine::AddRange(name, range))
+        } else if is_word(first, b"DELRANGE") {
+            let (name, range) = name_and_range(words)?;
+            Ok(DriverLine::DelRange(name, range))
+        } else if is_word(first, b"SETAUX") {
+            let (name, aux) = name_and_aux(words)?;
+            Ok(DriverLine::SetAux(name, aux))
+        } else if is_word(first, b"SETFLAGS") {
+            let (name, flags) = name_and_flags(words)?;
+            Ok(DriverLine::SetFlags(name, flags))
+        } else if is_word(first, b"ADDCMD") {
+            let name = name_alone(words)?;
+            Ok(DriverLine::AddCmd(name))
+        } else if is_word(first, b"DELCMD") {
+            let name = name_alone(words)?;
+            Ok(DriverLine::DelCmd(name))
+        } else if is_word(first, b"DUMPDONE") {
+            DriverLine::DumpDone.alone(words)
+        } else if is_word(first, b"DATAOK") {
+            DriverLine::DataOk.alone(words)
+        } else if is_word(first, b"DATASTALE") {
+            DriverLine::DataStale.alone(words)
+        } else if is_word(first, b"PONG") {
+            DriverLine::Pong.alone(words)
+        } else {
+            Err(DriverFault::Unknown)
+        }
+    }
+
+    /// The line, where no further word stands on it.
+    fn alone(self, mut words: Words<'_>) -> Result<DriverLine, DriverFault>
+        ensures { result ≡ alone self words.entry }
+    {
+        match words.next() {
+            None => Ok(self),
+            Some(_) => Err(DriverFault::Malformed),
+        }
+    }
+}

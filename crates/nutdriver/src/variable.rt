@@ -1,0 +1,208 @@
+//! A variable of a UPS.
+ghost use Rattle.std.specs.Prelude.{◌≡◌, ◌≤◌, length, IfOk};
+ghost use Rattle.nutdriver.specs.Variable.{VariableState, new_variable, with_value, with_aux, with_flags, add_enum, delete_enum, add_range, delete_range, has_value, has_range};
+ghost use Rattle.nutdriver.specs.Answers.{AnswersChange};
+
+use crate::lists::{copied, has_range, has_value, take_range_out, take_value_out};
+use crate::{DriverFault, ENUM_LIMIT, Flags, RANGE_LIMIT, Range};
+use nutwords::Value;
+use std::alloc::{AllocError, Global};
+use std::marker::Model;
+
+/// What becomes of a variable: `None` where it stays as it is.
+pub(crate) type Change = Result<Option<Variable>, DriverFault>;
+
+/// A variable of a UPS: its value, and what values it may have (RFC 9271, sections 4.2.3 to 4.2.5).
+///
+/// A variable isn't changed once a tree has it, so the versions of a tree share it. Contracts see the record of what it has.
+#[derive(Drop)]
+pub struct Variable {
+    value: Value,
+    flags: Flags,
+    aux: u32,
+    enum_values: Vec<Value>,
+    ranges: Vec<Range>,
+}
+
+impl Model for Variable {
+    ghost use Rattle.std.specs.Prelude.{◌≤◌, length};
+    ghost use Rattle.nutdriver.specs.Variable.{VariableState};
+    ghost use Rattle.nutdriver.specs.declared.limits.TheConstants.{ENUM_LIMIT, RANGE_LIMIT};
+
+    ghost Value = { VariableState };
+
+    ghost view = { λ v. record { value = v.value; flags = v.flags; aux = v.aux; enum_values = v.enum_values.items; ranges = v.ranges.items } };
+
+    ghost invariant = { λ v. (length v.enum_values.items ≤ ENUM_LIMIT) × (length v.ranges.items ≤ RANGE_LIMIT) };
+}
+
+impl Variable {
+    /// A variable without flags, enum values and ranges, whose aux is 0.
+    pub(crate) fn new(alloc: Global, value: &Value) -> Change
+        ensures { AnswersChange (Ok (Some (new_variable value.now))) result }
+    {
+        let Ok(value) = copied(value) else {
+            return Err(DriverFault::Memory);
+        };
+        Ok(Some(Variable {
+            value,
+            flags: Flags::none(),
+            aux: 0,
+            enum_values: Vec::new(alloc),
+            ranges: Vec::new(alloc),
+        }))
+    }
+
+    /// Its value.
+    pub fn value(&self) -> &Value
+        ensures { result.now ≡ self.now.value }
+    {
+        &self.value
+    }
+
+    /// Its flags.
+    pub fn flags(&self) -> Flags
+        ensures { result ≡ self.now.flags }
+    {
+        self.flags
+    }
+
+    /// Its aux, from 0 to 1,000,000,000: of a text, the most bytes, where it isn't 0.
+    pub fn aux(&self) -> u32
+        ensures { result ≡ self.now.aux }
+    {
+        self.aux
+    }
+
+    /// The values that it may have, in the order in which the driver added them. Where there are none, any will do.
+    pub fn enum_values(&self) -> &[Value]
+        ensures value { result.now ≡ self.now.enum_values }
+        ensures few { length result.now ≤ ENUM_LIMIT }
+    {
+        self.enum_values.as_slice()
+    }
+
+    /// The ranges of numbers that it may have, in the order in which the driver added them. Where there are none, any
+    /// will do.
+    pub fn ranges(&self) -> &[Range]
+        ensures value { result.now ≡ self.now.ranges }
+        ensures few { length result.now ≤ RANGE_LIMIT }
+    {
+        self.ranges.as_slice()
+    }
+
+    /// An equal variable, which shares nothing with this one.
+    fn copied(&self) -> Result<Variable, AllocError>
+        ensures { IfOk result (λ copy. copy ≡ self.now) }
+    {
+        Ok(Variable {
+            value: copied(&self.value)?,
+            flags: self.flags,
+            aux: self.aux,
+            enum_values: self.enum_values.clone()?,
+            ranges: self.ranges.clone()?,
+        })
+    }
+
+    /// The variable with another value.
+    pub(crate) fn with_value(&self, value: &Value) -> Change
+        ensures { AnswersChange (Ok (Some (with_value value.now self.now))) result }
+    {
+        let Ok(value) = copied(value) else {
+            return Err(DriverFault::Memory);
+        };
+        let Ok(copy) = self.copied() else {
+            return Err(DriverFault::Memory);
+        };
+        Ok(Some(Variable { value, ..copy }))
+    }
+
+    /// The variable with another aux.
+    pub(crate) fn with_aux(&self, aux: u32) -> Change
+        ensures { AnswersChange (Ok (Some (with_aux aux self.now))) result }
+    {
+        let Ok(copy) = self.copied() else {
+            return Err(DriverFault::Memory);
+        };
+        Ok(Some(Variable { aux, ..copy }))
+    }
+
+    /// The variable with exactly these flags.
+    pub(crate) fn with_flags(&self, flags: Flags) -> Change
+        ensures { AnswersChange (Ok (Some (with_flags flags self.now))) result }
+    {
+        let Ok(copy) = self.copied() else {
+            return Err(DriverFault::Memory);
+        };
+        Ok(Some(Variable { flags, ..copy }))
+    }
+
+    /// The variable with one more enum value, unless it has it.
+    pub(crate) fn add_enum(&self, value: &Value) -> Change
+        ensures { AnswersChange (add_enum value.now self.now) result }
+    {
+        if has_value(&self.enum_values, value) {
+            return Ok(None);
+        }
+        if self.enum_values.len() >= ENUM_LIMIT {
+            return Err(DriverFault::Full);
+        }
+        let Ok(value) = copied(value) else {
+            return Err(DriverFault::Memory);
+        };
+        let Ok(mut copy) = self.copied() else {
+            return Err(DriverFault::Memory);
+        };
+        let Ok(()) = copy.enum_values.push(value) else {
+            return Err(DriverFault::Memory);
+        };
+        Ok(Some(copy))
+    }
+
+    /// The variable without an enum value.
+    pub(crate) fn delete_enum(&self, value: &Value) -> Change
+        ensures { AnswersChange (delete_enum value.now self.now) result }
+    {
+        if !has_value(&self.enum_values, value) {
+            return Err(DriverFault::NoSuchItem);
+        }
+        let Ok(mut copy) = self.copied() else {
+            return Err(DriverFault::Memory);
+        };
+        take_value_out(&mut copy.enum_values, value);
+        Ok(Some(copy))
+    }
+
+    /// The variable with one more range, unless it has it.
+    pub(crate) fn add_range(&self, range: Range) -> Change
+        ensures { AnswersChange (add_range range self.now) result }
+    {
+        if has_range(&self.ranges, range) {
+            return Ok(None);
+        }
+        if self.ranges.len() >= RANGE_LIMIT {
+            return Err(DriverFault::Full);
+        }
+        let Ok(mut copy) = self.copied() else {
+            return Err(DriverFault::Memory);
+        };
+        let Ok(()) = copy.ranges.push(range) else {
+            return Err(DriverFault::Memory);
+        };
+        Ok(Some(copy))
+    }
+
+    /// The variable without a range.
+    pub(crate) fn delete_range(&self, range: Range) -> Change
+        ensures { AnswersChange (delete_range range self.now) result }
+    {
+        if !has_range(&self.ranges, range) {
+            return Err(DriverFault::NoSuchItem);
+        }
+        let Ok(mut copy) = self.copied() else {
+            return Err(DriverFault::Memory);
+        };
+        take_range_out(&mut copy.ranges, range);
+        Ok(Some(copy))
+    }
+}
