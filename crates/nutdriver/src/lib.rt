@@ -10,6 +10,8 @@ mod lists;
 mod number;
 mod range;
 mod spelling;
+#[cfg(test)]
+mod tests;
 mod tree;
 mod variable;
 
