@@ -6,7 +6,7 @@ use crate::spelling::is_word;
 /// The flags of a variable, any of which may be set.
 #[derive(Clone, Copy, Debug, PartialEq, Eq)]
 pub struct Flags {
-    /// `RW`: clients may set the variable (RFC 9271, section 4.2.4).
+    /// `RW`: clients may set the variable (RFC 9271: LIST RW).
     pub rw: bool,
     /// `STRING`: its value is a text, of at most `aux` bytes where that isn't 0.
     pub string: bool,

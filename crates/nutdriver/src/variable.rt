@@ -12,7 +12,7 @@ use std::marker::Model;
 /// What becomes of a variable: `None` where it stays as it is.
 pub(crate) type Change = Result<Option<Variable>, DriverFault>;
 
-/// A variable of a UPS: its value, and what values it may have (RFC 9271, sections 4.2.3 to 4.2.5).
+/// A variable of a UPS: its value, and what values it may have (RFC 9271: GET TYPE, LIST ENUM, LIST RANGE).
 ///
 /// A variable isn't changed once a tree has it, so the versions of a tree share it. Contracts see the record of what it has.
 #[derive(Drop)]
