@@ -1,5 +1,5 @@
 -- The list of UPSs (ups.conf(5), of which upsd reads the names, the descriptions and the sockets).
-use Rattle.std.specs.Prelude.{ℕ, ◌≤◌, Bool, ◌&&◌, not, List, map, reverse, find, length, codes, nat_le, is_some, IsPermutation, Option, None, Some, if◌then◌else◌}
+use Rattle.std.specs.Prelude.{ℕ, ◌≤◌, Bool, ◌&&◌, not, List, map, reverse, find, position, length, codes, nat_le, is_some, IsPermutation, Option, None, Some, if◌then◌else◌}
 use Rattle.std.specs.List.Sorted.{IsStrictlySortedBy}
 use Rattle.std.specs.Str.{bytes_eq, is_utf8}
 use Rattle.nutwords.specs.Reading.{is_ups_name, is_value}
@@ -10,6 +10,7 @@ use Rattle.nutusers.specs.Sections.{sections, value_in, last_of, in_section}
 use Rattle.nutusers.specs.Texts.{is_text_within}
 use Rattle.nutusers.specs.declared.TheConstants.{UPS_LIMIT, SOCKET_LIMIT}
 use Rattle.nutusers.specs.declared.fault.Cause.{Cause}
+use Rattle.nutusers.specs.declared.ups_list.UpsId.{UpsId}
 use Rattle.nutusers.specs.declared.fault.Cause.TheVariants.{Malformed, BadName, Duplicate, UnknownKey}
 
 -- A UPS: its name, its description if the file has one, and the path of its driver's socket if the file has one.
@@ -42,6 +43,13 @@ pub record IsList (list : List Ups) : Type 0 where
 -- The UPS of this name.
 abbrev pub ups_named : List ℕ → List Ups → Option Ups
 ups_named name upses = find (λ ups. bytes_eq ups.name name) upses
+
+-- The place of the UPS of this name, by which the server knows it.
+abbrev pub place_of : List ℕ → List Ups → Option ℕ
+place_of name upses = position (λ ups. bytes_eq ups.name name) upses
+
+abbrev pub id_at : ℕ → UpsId
+id_at place = record { place = place }
 
 -- The path of a socket: 1 to 100 bytes of UTF-8.
 abbrev pub is_socket : List ℕ → Bool

@@ -1,5 +1,5 @@
 //! The list of UPSs.
-ghost use Rattle.std.specs.Prelude.{◌≡◌, ◌≤◌, ◌++◌, ◌∷◌, [], IfOk, IfErr, OnOk, is_some, length, slice_get, None, Some, if◌then◌else◌};
+ghost use Rattle.std.specs.Prelude.{◌≡◌, ◌≤◌, ◌<◌, ◌++◌, ◌∷◌, [], IfOk, IfErr, IfSome, OnOk, is_some, length, slice_get, None, Some, if◌then◌else◌};
 ghost use Rattle.std.specs.Option.{option_map, option_copied, option_and_then};
 ghost use Rattle.std.specs.Str.{bytes_eq};
 ghost use Rattle.nutwords.specs.Reading.{is_value};
@@ -7,7 +7,7 @@ ghost use Rattle.nutusers.specs.ConfigLine.{setting, read_config_line};
 ghost use Rattle.nutusers.specs.File.{lines_of, Means, IsRefused, bad_value_unless};
 ghost use Rattle.nutusers.specs.Sections.{last_of, in_section};
 ghost use Rattle.nutusers.specs.SectionsStep.{verdict};
-ghost use Rattle.nutusers.specs.UpsFile.{new_ups, IsUpsList, AreByName, is_socket, ups_named, ups_section_fault, ups_setting_fault, ups_line_fault, ups_format, upses_of};
+ghost use Rattle.nutusers.specs.UpsFile.{new_ups, place_of, id_at, IsUpsList, AreByName, is_socket, ups_named, ups_section_fault, ups_setting_fault, ups_line_fault, ups_format, upses_of};
 ghost use Rattle.nutusers.specs.UpsStep.{with_ups_line, upses_with};
 ghost use Rattle.nutusers.specs.declared.TheConstants.{UPS_LIMIT};
 ghost use Rattle.nutusers.specs.declared.fault.Cause.TheVariants.{Duplicate};
@@ -244,6 +244,16 @@ impl UpsList {
         self.upses.len()
     }
 
+    /// The UPS of this name, byte for byte. Takes no memory.
+    pub fn find(&self, name: &[u8]) -> Option<UpsId>
+        ensures { result ≡ option_map id_at (place_of name.now self.now) }
+    {
+        match place_of(&self.upses, name) {
+            Some(place) => Some(UpsId { place: place as u8 }),
+            None => None,
+        }
+    }
+
     /// The name of a UPS, or `None` where the list has no such place. Takes no memory.
     pub fn name(&self, u: UpsId) -> Option<&UpsName>
         ensures { option_copied result ≡ option_map (λ ups. ups.name) (slice_get self.now u.place) }
@@ -289,6 +299,14 @@ impl UpsList {
             upses: self.upses.clone()?,
         })
     }
+}
+
+/// The place of the UPS of this name.
+fn place_of(upses: &[Ups], name: &[u8]) -> Option<usize>
+    ensures place { result ≡ place_of name.now upses.now }
+    ensures within { IfSome result (λ place. place < length upses.now) }
+{
+    upses.iter().position(|ups| ups.is_named(name))
 }
 
 /// The UPSs of a file, in the order of their sections.
