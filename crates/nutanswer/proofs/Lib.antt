@@ -1,0 +1,6 @@
+mod Rows
+mod ErrorLemmas
+mod Quoted
+mod Upses
+mod Lawful
+mod Joined

@@ -1,0 +1,89 @@
+-- Reading a line of a client (RFC 9271): the first refusal that fits, from the line's words to its command and the command's words.
+use Rattle.std.specs.Prelude.{ℕ, List, [], ◌∷◌, Option, Some, None, Result, Ok, Err, codes, if◌then◌else◌}
+use Rattle.std.specs.Result.{result_ok}
+use Rattle.nutwords.specs.Scan.{read_line}
+use Rattle.nutwords.specs.Reading.{read_name, read_ups_name}
+use Rattle.nutwords.specs.declared.faults.BadLine.{BadLine}
+use Rattle.nutdriver.specs.Spelling.{is_word}
+use Rattle.nutanswer.specs.declared.command.Command.{Command}
+use Rattle.nutanswer.specs.declared.command.Command.TheVariants.{GetVar, GetType, GetDesc, GetCmdDesc, GetUpsDesc, ListUps, ListVar, ListRw, ListCmd, ListEnum, ListRange, Help, Ver, NetVer, ProtVer, StartTls}
+use Rattle.nutanswer.specs.declared.err_word.ErrWord.{ErrWord}
+use Rattle.nutanswer.specs.declared.err_word.ErrWord.TheVariants.{InvalidArgument, UnknownCommand}
+
+-- A command of these arguments, or their refusal.
+abbrev pub command_with : {X : Type 0} → (X → Command) → Result X ErrWord → Result Command ErrWord
+command_with command (Err word) = Err word
+command_with command (Ok arguments) = Ok (command arguments)
+
+-- No further word.
+abbrev pub alone : Command → List (List ℕ) → Result Command ErrWord
+alone command [] = Ok command
+alone command _ = Err InvalidArgument
+
+-- `ups`: a word that is no lawful name names nothing, here and below.
+abbrev pub ups_alone : List (List ℕ) → Result (Option (List ℕ)) ErrWord
+ups_alone (ups ∷ []) = Ok (result_ok (read_ups_name ups))
+ups_alone _ = Err InvalidArgument
+
+-- `ups name`, the name of a variable or of a command
+abbrev pub ups_and_name : List (List ℕ) → Result (Option (List ℕ) × Option (List ℕ)) ErrWord
+ups_and_name (ups ∷ name ∷ []) = Ok (result_ok (read_ups_name ups), result_ok (read_name name))
+ups_and_name _ = Err InvalidArgument
+
+-- GET: one case a second word.
+abbrev pub get_of : List ℕ → List (List ℕ) → Result Command ErrWord
+get_of kind words =
+    if is_word kind (codes "VAR") then command_with (λ a. GetVar a.0 a.1) (ups_and_name words)
+    else if is_word kind (codes "TYPE") then command_with (λ a. GetType a.0 a.1) (ups_and_name words)
+    else if is_word kind (codes "DESC") then command_with (λ a. GetDesc a.0 a.1) (ups_and_name words)
+    else if is_word kind (codes "CMDDESC") then command_with (λ a. GetCmdDesc a.0 a.1) (ups_and_name words)
+    else if is_word kind (codes "UPSDESC") then command_with (λ ups. GetUpsDesc ups) (ups_alone words)
+    else Err InvalidArgument
+
+abbrev pub read_get : List (List ℕ) → Result Command ErrWord
+read_get [] = Err InvalidArgument
+read_get (kind ∷ words) = get_of kind words
+
+-- LIST: one case a second word.
+abbrev pub list_of : List ℕ → List (List ℕ) → Result Command ErrWord
+list_of kind words =
+    if is_word kind (codes "UPS") then alone ListUps words
+    else if is_word kind (codes "VAR") then command_with (λ ups. ListVar ups) (ups_alone words)
+    else if is_word kind (codes "RW") then command_with (λ ups. ListRw ups) (ups_alone words)
+    else if is_word kind (codes "CMD") then command_with (λ ups. ListCmd ups) (ups_alone words)
+    else if is_word kind (codes "ENUM") then command_with (λ a. ListEnum a.0 a.1) (ups_and_name words)
+    else if is_word kind (codes "RANGE") then command_with (λ a. ListRange a.0 a.1) (ups_and_name words)
+    else Err InvalidArgument
+
+abbrev pub read_list : List (List ℕ) → Result Command ErrWord
+read_list [] = Err InvalidArgument
+read_list (kind ∷ words) = list_of kind words
+
+-- The command with this first word and these words behind it: one case a first word.
+abbrev pub command_named : List ℕ → List (List ℕ) → Result Command ErrWord
+command_named first words =
+    if is_word first (codes "GET") then read_get words
+    else if is_word first (codes "LIST") then read_list words
+    else if is_word first (codes "HELP") then alone Help words
+    else if is_word first (codes "VER") then alone Ver words
+    else if is_word first (codes "NETVER") then alone NetVer words
+    else if is_word first (codes "PROTVER") then alone ProtVer words
+    else if is_word first (codes "STARTTLS") then alone StartTls words
+    else Err UnknownCommand
+
+abbrev pub some_command : Result Command ErrWord → Result (Option Command) ErrWord
+some_command (Err word) = Err word
+some_command (Ok command) = Ok (Some command)
+
+-- The command that these words are, and none without words.
+abbrev pub command_of : List (List ℕ) → Result (Option Command) ErrWord
+command_of [] = Ok None
+command_of (first ∷ words) = some_command (command_named first words)
+
+abbrev pub command_from : Result (List (List ℕ)) BadLine → Result (Option Command) ErrWord
+command_from (Err bad) = Err InvalidArgument
+command_from (Ok words) = command_of words
+
+-- The command of a line, or the word of the error that answers it.
+abbrev pub read_command : List ℕ → Result (Option Command) ErrWord
+read_command line = command_from (read_line line)

@@ -1,0 +1,171 @@
+//! The commands of clients (RFC 9271).
+ghost use Rattle.std.specs.Prelude.{◌≡◌, ◌≤◌, length};
+ghost use Rattle.nutwords.specs.declared.limits.TheConstants.{LINE_LIMIT};
+
+mod arguments;
+#[cfg(test)]
+mod tests;
+
+use crate::ErrWord;
+use arguments::{alone, ups_alone, ups_and_name};
+use nutwords::{Name, UpsName, Words, words};
+
+/// A command of a client. A word that is no lawful name names nothing.
+#[derive(Clone, Debug, PartialEq, Eq, Drop)]
+pub enum Command {
+    /// `GET VAR`: the value of a variable.
+    GetVar(Option<UpsName>, Option<Name>),
+    /// `GET TYPE`: what kind of variable it is.
+    GetType(Option<UpsName>, Option<Name>),
+    /// `GET DESC`: the description of a variable.
+    GetDesc(Option<UpsName>, Option<Name>),
+    /// `GET CMDDESC`: the description of a UPS's command.
+    GetCmdDesc(Option<UpsName>, Option<Name>),
+    /// `GET UPSDESC`: the description of a UPS.
+    GetUpsDesc(Option<UpsName>),
+    /// `LIST UPS`: the UPSs of the server.
+    ListUps,
+    /// `LIST VAR`: the variables of a UPS.
+    ListVar(Option<UpsName>),
+    /// `LIST RW`: its variables that may be set.
+    ListRw(Option<UpsName>),
+    /// `LIST CMD`: its commands.
+    ListCmd(Option<UpsName>),
+    /// `LIST ENUM`: the values that a variable may have.
+    ListEnum(Option<UpsName>, Option<Name>),
+    /// `LIST RANGE`: the ranges of numbers that a variable may have.
+    ListRange(Option<UpsName>, Option<Name>),
+    /// `HELP`: the commands that there are.
+    Help,
+    /// `VER`: the version of the server.
+    Ver,
+    /// `NETVER`: the version of the protocol.
+    NetVer,
+    /// `PROTVER`: the version of the protocol.
+    ProtVer,
+    /// `STARTTLS`: encryption.
+    StartTls,
+}
+
+impl Command {
+    ghost use Rattle.nutanswer.specs.Command.{read_command, command_of, command_named, read_get, get_of, read_list, list_of};
+
+    /// Reads a line without its LF, of at most 1,023 bytes. A line without words is no command.
+    ///
+    /// The first word, and the second one of GET and LIST, are read in capitals or not; names byte for byte. Refused, in
+    /// this order: a line that doesn't read as words (INVALID-ARGUMENT); a first word that is no command
+    /// (UNKNOWN-COMMAND); a second word of GET or LIST that isn't known, or another number of words (INVALID-ARGUMENT).
+    pub fn read(line: &[u8]) -> Result<Option<Command>, ErrWord>
+        requires { length line.now ≤ LINE_LIMIT }
+        ensures { result ≡ read_command line.now }
+    {
+        match words(line) {
+            Ok(words) => Command::of(words),
+            Err(_) => Err(ErrWord::InvalidArgument),
+        }
+    }
+
+    /// The command that the words are.
+    fn of(mut words: Words<'_>) -> Result<Option<Command>, ErrWord>
+        ensures { result ≡ command_of words.entry }
+    {
+        let Some(first) = words.next() else {
+            return Ok(None);
+        };
+        let command = Command::named(first.as_bytes(), words)?;
+        Ok(Some(command))
+    }
+
+    /// The command that is called so, with these words behind its first.
+    fn named(first: &[u8], words: Words<'_>) -> Result<Command, ErrWord>
+        ensures { result ≡ command_named first.now words.entry }
+    {
+        if first.eq_ignore_ascii_case(b"GET") {
+            Command::get(words)
+        } else if first.eq_ignore_ascii_case(b"LIST") {
+            Command::list(words)
+        } else if first.eq_ignore_ascii_case(b"HELP") {
+            alone(Command::Help, words)
+        } else if first.eq_ignore_ascii_case(b"VER") {
+            alone(Command::Ver, words)
+        } else if first.eq_ignore_ascii_case(b"NETVER") {
+            alone(Command::NetVer, words)
+        } else if first.eq_ignore_ascii_case(b"PROTVER") {
+            alone(Command::ProtVer, words)
+        } else if first.eq_ignore_ascii_case(b"STARTTLS") {
+            alone(Command::StartTls, words)
+        } else {
+            Err(ErrWord::UnknownCommand)
+        }
+    }
+
+    /// What a GET asks for.
+    fn get(mut words: Words<'_>) -> Result<Command, ErrWord>
+        ensures { result ≡ read_get words.entry }
+    {
+        match words.next() {
+            Some(kind) => Command::get_of(kind.as_bytes(), words),
+            None => Err(ErrWord::InvalidArgument),
+        }
+    }
+
+    /// What a GET with this second word asks for.
+    fn get_of(kind: &[u8], words: Words<'_>) -> Result<Command, ErrWord>
+        ensures { result ≡ get_of kind.now words.entry }
+    {
+        if kind.eq_ignore_ascii_case(b"VAR") {
+            let (ups, name) = ups_and_name(words)?;
+            Ok(Command::GetVar(ups, name))
+        } else if kind.eq_ignore_ascii_case(b"TYPE") {
+            let (ups, name) = ups_and_name(words)?;
+            Ok(Command::GetType(ups, name))
+        } else if kind.eq_ignore_ascii_case(b"DESC") {
+            let (ups, name) = ups_and_name(words)?;
+            Ok(Command::GetDesc(ups, name))
+        } else if kind.eq_ignore_ascii_case(b"CMDDESC") {
+            let (ups, name) = ups_and_name(words)?;
+            Ok(Command::GetCmdDesc(ups, name))
+        } else if kind.eq_ignore_ascii_case(b"UPSDESC") {
+            let ups = ups_alone(words)?;
+            Ok(Command::GetUpsDesc(ups))
+        } else {
+            Err(ErrWord::InvalidArgument)
+        }
+    }
+
+    /// What a LIST asks for.
+    fn list(mut words: Words<'_>) -> Result<Command, ErrWord>
+        ensures { result ≡ read_list words.entry }
+    {
+        match words.next() {
+            Some(kind) => Command::list_of(kind.as_bytes(), words),
+            None => Err(ErrWord::InvalidArgument),
+        }
+    }
+
+    /// What a LIST with this second word asks for.
+    fn list_of(kind: &[u8], words: Words<'_>) -> Result<Command, ErrWord>
+        ensures { result ≡ list_of kind.now words.entry }
+    {
+        if kind.eq_ignore_ascii_case(b"UPS") {
+            alone(Command::ListUps, words)
+        } else if kind.eq_ignore_ascii_case(b"VAR") {
+            let ups = ups_alone(words)?;
+            Ok(Command::ListVar(ups))
+        } else if kind.eq_ignore_ascii_case(b"RW") {
+            let ups = ups_alone(words)?;
+            Ok(Command::ListRw(ups))
+        } else if kind.eq_ignore_ascii_case(b"CMD") {
+            let ups = ups_alone(words)?;
+            Ok(Command::ListCmd(ups))
+        } else if kind.eq_ignore_ascii_case(b"ENUM") {
+            let (ups, name) = ups_and_name(words)?;
+            Ok(Command::ListEnum(ups, name))
+        } else if kind.eq_ignore_ascii_case(b"RANGE") {
+            let (ups, name) = ups_and_name(words)?;
+            Ok(Command::ListRange(ups, name))
+        } else {
+            Err(ErrWord::InvalidArgument)
+        }
+    }
+}

@@ -1,0 +1,41 @@
+//! What stands behind the words that say which command it is.
+ghost use Rattle.std.specs.Prelude.{◌≡◌};
+ghost use Rattle.nutanswer.specs.Command.{alone, ups_alone, ups_and_name};
+
+use super::Command;
+use crate::ErrWord;
+use nutwords::{Name, UpsName, Words};
+
+/// The command, where no further word stands behind it.
+pub(crate) fn alone(command: Command, mut words: Words<'_>) -> Result<Command, ErrWord>
+    ensures { result ≡ alone command words.entry }
+{
+    match words.next() {
+        None => Ok(command),
+        Some(_) => Err(ErrWord::InvalidArgument),
+    }
+}
+
+/// The UPS that one word and no other names, if it names one.
+pub(crate) fn ups_alone(mut words: Words<'_>) -> Result<Option<UpsName>, ErrWord>
+    ensures { result ≡ ups_alone words.entry }
+{
+    match (words.next(), words.next()) {
+        (Some(ups), None) => Ok(UpsName::read(ups.as_bytes()).ok()),
+        _ => Err(ErrWord::InvalidArgument),
+    }
+}
+
+/// The UPS and the variable or command that two words name, if they name one.
+pub(crate) fn ups_and_name(mut words: Words<'_>) -> Result<(Option<UpsName>, Option<Name>), ErrWord>
+    ensures { result ≡ ups_and_name words.entry }
+{
+    match (words.next(), words.next(), words.next()) {
+        (Some(ups), Some(name), None) => {
+            let ups = UpsName::read(ups.as_bytes()).ok();
+            let name = Name::read(name.as_bytes()).ok();
+            Ok((ups, name))
+        }
+        _ => Err(ErrWord::InvalidArgument),
+    }
+}

@@ -1,0 +1,139 @@
+//! The words of refusals (RFC 9271: error responses).
+ghost use Rattle.std.specs.Prelude.{◌≡◌, ◌≤◌, length};
+ghost use Rattle.nutwords.specs.declared.limits.TheConstants.{LINE_ROOM};
+
+/// Why a line is refused, by the word behind `ERR` (RFC 9271: error responses).
+#[derive(Clone, Copy, Debug, PartialEq, Eq)]
+pub enum ErrWord {
+    /// `ACCESS-DENIED`: the user may not do it.
+    AccessDenied,
+    /// `UNKNOWN-UPS`: the server has no such UPS.
+    UnknownUps,
+    /// `VAR-NOT-SUPPORTED`: the UPS has no such variable.
+    VarNotSupported,
+    /// `CMD-NOT-SUPPORTED`: the UPS has no such command.
+    CmdNotSupported,
+    /// `INVALID-ARGUMENT`: the line reads as no words, or the command has other words than it may have.
+    InvalidArgument,
+    /// `INSTCMD-FAILED`: the driver can't be told the command.
+    InstcmdFailed,
+    /// `SET-FAILED`: the driver can't be told the value.
+    SetFailed,
+    /// `READONLY`: the variable may not be set.
+    Readonly,
+    /// `TOO-LONG`: the line or the value has more bytes than it may have.
+    TooLong,
+    /// `FEATURE-NOT-CONFIGURED`: the server doesn't do this.
+    FeatureNotConfigured,
+    /// `DRIVER-NOT-CONNECTED`: the UPS's driver isn't connected.
+    DriverNotConnected,
+    /// `DATA-STALE`: the UPS's driver isn't known to tell the truth.
+    DataStale,
+    /// `ALREADY-LOGGED-IN`: the session is logged in to a UPS.
+    AlreadyLoggedIn,
+    /// `ALREADY-SET-PASSWORD`: the session has a password.
+    AlreadySetPassword,
+    /// `ALREADY-SET-USERNAME`: the session has a user name.
+    AlreadySetUsername,
+    /// `USERNAME-REQUIRED`: the session has no user name.
+    UsernameRequired,
+    /// `PASSWORD-REQUIRED`: the session has no password.
+    PasswordRequired,
+    /// `UNKNOWN-COMMAND`: the first word is no command.
+    UnknownCommand,
+    /// `INVALID-VALUE`: the variable may not have this value.
+    InvalidValue,
+}
+
+impl ErrWord {
+    ghost use Rattle.nutanswer.specs.ErrWord.{error_line};
+
+    /// The line that tells the refusal, with its LF: at most 1,024 bytes.
+    pub fn line(self) -> &'static [u8]
+        ensures line { result.now ≡ error_line self }
+        ensures short { length result.now ≤ LINE_ROOM }
+    {
+        match self {
+            ErrWord::AccessDenied => b"ERR ACCESS-DENIED\n",
+            ErrWord::UnknownUps => b"ERR UNKNOWN-UPS\n",
+            ErrWord::VarNotSupported => b"ERR VAR-NOT-SUPPORTED\n",
+            ErrWord::CmdNotSupported => b"ERR CMD-NOT-SUPPORTED\n",
+            ErrWord::InvalidArgument => b"ERR INVALID-ARGUMENT\n",
+            ErrWord::InstcmdFailed => b"ERR INSTCMD-FAILED\n",
+            ErrWord::SetFailed => b"ERR SET-FAILED\n",
+            ErrWord::Readonly => b"ERR READONLY\n",
+            ErrWord::TooLong => b"ERR TOO-LONG\n",
+            ErrWord::FeatureNotConfigured => b"ERR FEATURE-NOT-CONFIGURED\n",
+            ErrWord::DriverNotConnected => b"ERR DRIVER-NOT-CONNECTED\n",
+            ErrWord::DataStale => b"ERR DATA-STALE\n",
+            ErrWord::AlreadyLoggedIn => b"ERR ALREADY-LOGGED-IN\n",
+            ErrWord::AlreadySetPassword => b"ERR ALREADY-SET-PASSWORD\n",
+            ErrWord::AlreadySetUsername => b"ERR ALREADY-SET-USERNAME\n",
+            ErrWord::UsernameRequired => b"ERR USERNAME-REQUIRED\n",
+            ErrWord::PasswordRequired => b"ERR PASSWORD-REQUIRED\n",
+            ErrWord::UnknownCommand => b"ERR UNKNOWN-COMMAND\n",
+            ErrWord::InvalidValue => b"ERR INVALID-VALUE\n",
+        }
+    }
+}
+
+#[cfg(test)]
+mod tests {
+    use super::*;
+    use std::test::Fail;
+
+    /// The words that refuse what is asked for or to be done.
+    fn words() -> [ErrWord; 10] {
+        [
+            ErrWord::UnknownUps,
+            ErrWord::VarNotSupported,
+            ErrWord::CmdNotSupported,
+            ErrWord::InvalidArgument,
+            ErrWord::InstcmdFailed,
+            ErrWord::SetFailed,
+            ErrWord::Readonly,
+            ErrWord::TooLong,
+            ErrWord::UnknownCommand,
+            ErrWord::InvalidValue,
+        ]
+    }
+
+    /// The words that tell of the server, the driver or the session.
+    fn words_of_state() -> [ErrWord; 9] {
+        [
+            ErrWord::AccessDenied,
+            ErrWord::FeatureNotConfigured,
+            ErrWord::DriverNotConnected,
+            ErrWord::DataStale,
+            ErrWord::AlreadyLoggedIn,
+            ErrWord::AlreadySetPassword,
+            ErrWord::AlreadySetUsername,
+            ErrWord::UsernameRequired,
+            ErrWord::PasswordRequired,
+        ]
+    }
+
+    #[test]
+    fn spells_refusals(rt: HostRuntime) -> Result<(), Fail> {
+        let mut text = Vec::new(rt.alloc());
+        for word in words() {
+            text.extend_from_slice(word.line())?;
+        }
+        let want =
+            b"ERR UNKNOWN-UPS\nERR VAR-NOT-SUPPORTED\nERR CMD-NOT-SUPPORTED\nERR INVALID-ARGUMENT\nERR INSTCMD-FAILED\nERR SET-FAILED\nERR READONLY\nERR TOO-LONG\nERR UNKNOWN-COMMAND\nERR INVALID-VALUE\n";
+        assert!(rt; text.as_slice() == want.as_slice());
+        Ok(())
+    }
+
+    #[test]
+    fn spells_what_stands_in_the_way(rt: HostRuntime) -> Result<(), Fail> {
+        let mut text = Vec::new(rt.alloc());
+        for word in words_of_state() {
+            text.extend_from_slice(word.line())?;
+        }
+        let want =
+            b"ERR ACCESS-DENIED\nERR FEATURE-NOT-CONFIGURED\nERR DRIVER-NOT-CONNECTED\nERR DATA-STALE\nERR ALREADY-LOGGED-IN\nERR ALREADY-SET-PASSWORD\nERR ALREADY-SET-USERNAME\nERR USERNAME-REQUIRED\nERR PASSWORD-REQUIRED\n";
+        assert!(rt; text.as_slice() == want.as_slice());
+        Ok(())
+    }
+}

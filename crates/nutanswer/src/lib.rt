@@ -1,0 +1,19 @@
+//! What is answered to a client (RFC 9271): its commands, the checks, the answers.
+#![tactic(auto)]
+
+mod answers;
+mod checks;
+mod command;
+mod err_word;
+mod known;
+mod lines;
+mod listing;
+mod reply;
+mod view;
+
+pub use answers::answer;
+pub use command::Command;
+pub use err_word::ErrWord;
+pub use listing::Listing;
+pub use reply::{Change, Reply};
+pub use view::{UpsView, View};
