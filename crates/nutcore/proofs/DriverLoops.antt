@@ -10,14 +10,14 @@ use Rattle.nutwords.specs.Cut.{Cuts}
 use Rattle.nutwords.specs.declared.cut.Cut.{Cut}
 use Rattle.nutwords.specs.declared.cut.Cut.TheVariants.{Line, More, TooLong}
 use Rattle.nutcore.specs.declared.TheConstants.{LINE_LIMIT}
-use Rattle.nutcore.specs.declared.driver.line.DriverLine.{DriverLine}
-use Rattle.nutcore.specs.declared.driver.line.DriverFault.{DriverFault}
-use Rattle.nutcore.specs.declared.driver.tree.Effect.{Effect}
-use Rattle.nutcore.specs.declared.driver.tree.Effect.TheVariants.{Nothing, Changed, DumpDone, DataOk, DataStale}
+use Rattle.nutdriver.specs.declared.line.DriverLine.{DriverLine}
+use Rattle.nutdriver.specs.declared.fault.DriverFault.{DriverFault}
+use Rattle.nutdriver.specs.declared.effect.Effect.{Effect}
+use Rattle.nutdriver.specs.declared.effect.Effect.TheVariants.{Nothing, Changed, DumpDone, DataOk, DataStale, Pong}
 use Rattle.nutcore.specs.Lines.{first_line, behind}
-use Rattle.nutcore.specs.Tree.{Tree}
-use Rattle.nutcore.specs.DriverLine.{read_driver_line}
-use Rattle.nutcore.specs.DriverStep.{driver_step}
+use Rattle.nutdriver.specs.Tree.{TreeState}
+use Rattle.nutdriver.specs.DriverLine.{read_driver_line}
+use Rattle.nutdriver.specs.DriverStep.{driver_step}
 use Rattle.nutcore.specs.Ups.{UpsState, after_effect, after_step, after_reading, after_text, next_driver_line, after_driver_line, after_driver_line_of, after_driver_lines, after_all_driver_lines, with_bytes}
 use Rattle.nutcore.specs.Leaf.{CutsLine}
 use Rattle.nutcore.proofs.FirstLine.{with_byte, split_is, behind_is, behind_shorter}
@@ -91,8 +91,9 @@ effect_later p x Changed = refl
 effect_later p x DumpDone = refl
 effect_later p x DataOk = refl
 effect_later p x DataStale = refl
+effect_later p x Pong = refl
 
-step_later : (p : List ℕ) (x : UpsState) (r : Result (Tree × Effect) DriverFault) → with_bytes p (after_step x r) ≡ after_step (with_bytes p x) r
+step_later : (p : List ℕ) (x : UpsState) (r : Result (TreeState × Effect) DriverFault) → with_bytes p (after_step x r) ≡ after_step (with_bytes p x) r
 step_later p x (Ok (tree, effect)) = effect_later p (record x { tree = tree }) effect
 step_later p x (Err fault) = refl
 

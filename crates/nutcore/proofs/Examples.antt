@@ -4,7 +4,7 @@ use Rattle.nutcore.specs.Ups.{after_driver_line_of, after_driver_line, after_dri
 use Rattle.nutcore.specs.Pump.{after_reply_of, after_reply, after_line_of, after_line, after_lines, after_all_lines, after_notice_of, after_notice, pumped}
 use Rattle.nutcore.specs.Step.{with_input_of, with_input, without_output_of, without_output, opened, after_driver_bytes, pumped_until, after_by, outcome_of}
 use Rattle.nutcore.specs.History.{taken_in_event}
-use Rattle.nutcore.specs.Examples.{TwoVariables, EmptyListing, TakenInFour, LongestLine, ThreeLines}
+use Rattle.nutcore.specs.Examples.{TwoVariables, EmptyListing, TakenInFour, LongestLine, ThreeLines, EscapedValue, FaultyLines, CasesAndFaults, NotConnected, Described, PipelinedGet}
 
 pub two_variables : TwoVariables
 unfolding after_driver_line_of after_driver_line after_driver_lines after_all_driver_lines after_reply_of after_reply after_line_of after_line after_lines after_all_lines after_notice_of after_notice pumped with_input_of with_input without_output_of without_output opened after_driver_bytes pumped_until after_by outcome_of taken_in_event
@@ -25,3 +25,27 @@ three_lines = record { answers = refl; nothing_held = refl }
 pub longest_line : LongestLine
 unfolding after_driver_line_of after_driver_line after_driver_lines after_all_driver_lines after_reply_of after_reply after_line_of after_line after_lines after_all_lines after_notice_of after_notice pumped with_input_of with_input without_output_of without_output opened after_driver_bytes pumped_until after_by outcome_of taken_in_event
 longest_line = record { line = refl; fed = refl; refused = refl; told = refl; nothing_held = refl; ends = refl }
+
+pub escaped_value : EscapedValue
+unfolding after_driver_line_of after_driver_line after_driver_lines after_all_driver_lines after_reply_of after_reply after_line_of after_line after_lines after_all_lines after_notice_of after_notice pumped with_input_of with_input without_output_of without_output opened after_driver_bytes pumped_until after_by outcome_of taken_in_event
+escaped_value = refl
+
+pub faulty_lines : FaultyLines
+unfolding after_driver_line_of after_driver_line after_driver_lines after_all_driver_lines after_reply_of after_reply after_line_of after_line after_lines after_all_lines after_notice_of after_notice pumped with_input_of with_input without_output_of without_output opened after_driver_bytes pumped_until after_by outcome_of taken_in_event
+faulty_lines = record { counted = refl; type_words = refl; enum_values = refl; one_enum_value = refl; one_command = refl; one_to_set = refl }
+
+pub cases_and_faults : CasesAndFaults
+unfolding after_driver_line_of after_driver_line after_driver_lines after_all_driver_lines after_reply_of after_reply after_line_of after_line after_lines after_all_lines after_notice_of after_notice pumped with_input_of with_input without_output_of without_output opened after_driver_bytes pumped_until after_by outcome_of taken_in_event
+cases_and_faults = record { small = refl; another_ups = refl; quote_inside = refl; too_few = refl; blank_lines = refl; no_answer = refl }
+
+pub not_connected : NotConnected
+unfolding after_driver_line_of after_driver_line after_driver_lines after_all_driver_lines after_reply_of after_reply after_line_of after_line after_lines after_all_lines after_notice_of after_notice pumped with_input_of with_input without_output_of without_output opened after_driver_bytes pumped_until after_by outcome_of taken_in_event
+not_connected = record { upses = refl; ups = refl; variable = refl; encryption = refl; version = refl }
+
+pub described : Described
+unfolding after_driver_line_of after_driver_line after_driver_lines after_all_driver_lines after_reply_of after_reply after_line_of after_line after_lines after_all_lines after_notice_of after_notice pumped with_input_of with_input without_output_of without_output opened after_driver_bytes pumped_until after_by outcome_of taken_in_event
+described = record { upses = refl; variable = refl }
+
+pub pipelined_get : PipelinedGet
+unfolding after_driver_line_of after_driver_line after_driver_lines after_all_driver_lines after_reply_of after_reply after_line_of after_line after_lines after_all_lines after_notice_of after_notice pumped with_input_of with_input without_output_of without_output opened after_driver_bytes pumped_until after_by outcome_of taken_in_event
+pipelined_get = record { listed = refl; held_back = refl; told_behind = refl }

@@ -7,13 +7,10 @@ mod Loops
 mod Least
 mod Timely
 mod Refusals
-mod TreeSize
 mod DriverLoops
 mod Places
 mod Serving
 mod EventSteps
 mod Runs
-mod Named
 mod DriverSteps
-mod Listings
 mod Examples

@@ -2,12 +2,12 @@
 use Rattle.std.proofs.Common.{◌≡◌, ◌≢◌, ℕ, zero, suc, Bool, true, false, List, [], ◌∷◌, ◌++◌, Option, Some, None, Result, Ok, Err, refl, sym, ◌∙◌, ap, subst, cond, ltb, length, append-nil}
 use Rattle.std.proofs.lemmas.Bool.{or_left}
 use Rattle.std.proofs.lemmas.Grind.{flat_map-append}
-use Rattle.nutcore.specs.declared.answer.command.Command.{Command}
-use Rattle.nutcore.specs.declared.answer.command.ErrorWord.{ErrorWord}
+use Rattle.nutanswer.specs.declared.command.Command.{Command}
+use Rattle.nutanswer.specs.declared.err_word.ErrWord.{ErrWord}
 use Rattle.nutcore.specs.Lines.{first_line, behind, with_lf}
 use Rattle.nutcore.specs.Session.{SessionState, find, put}
 use Rattle.nutcore.specs.Server.{ServerState, session, with_session}
-use Rattle.nutcore.specs.Command.{read_command}
+use Rattle.nutanswer.specs.Command.{read_command}
 use Rattle.nutcore.specs.Reply.{reply, reply_to, too_long_notice}
 use Rattle.nutcore.specs.Pump.{next_line_of, next_line_for, answered, after_reply, after_reply_of, after_line, after_line_of, after_lines, held_of, after_notice, after_notice_of, is_overlong_of, notified, after_all_lines, pumped}
 use Rattle.nutcore.specs.History.{too_long, answer_to_next, answers_to_lines, notice, pump_answers, texts_of, lines_of, text_of, line_of}
@@ -25,7 +25,7 @@ progress_with p q a a' t t' k k' l l' ea et ek el g =
     subst (λ z. Progress p z t k l q) (sym ea) (subst (λ z. Progress p a' z k l q) (sym et) (subst (λ z. Progress p a' t' z l q) (sym ek) (subst (λ z. Progress p a' t' k' z q) (sym el) g)))
 
 -- no line changes the server beside its session
-reply_server_by : (s : ServerState) (r : Result (Option Command) ErrorWord) → (reply_to s r).server ≡ s
+reply_server_by : (s : ServerState) (r : Result (Option Command) ErrWord) → (reply_to s r).server ≡ s
 reply_server_by s (Err word) = refl
 reply_server_by s (Ok None) = refl
 reply_server_by s (Ok (Some command)) = refl

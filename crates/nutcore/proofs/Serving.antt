@@ -6,7 +6,7 @@ use Rattle.std.proofs.lemmas.Bool.Decides.{nat_tests}
 use Rattle.nutcore.specs.declared.TheConstants.{OFFER_LIMIT}
 use Rattle.nutcore.specs.Session.{SessionState, find, put, without, AreApart, new_session}
 use Rattle.nutcore.specs.Server.{ServerState, session, with_session}
-use Rattle.nutcore.specs.Command.{read_command}
+use Rattle.nutanswer.specs.Command.{read_command}
 use Rattle.nutcore.specs.Reply.{reply}
 use Rattle.nutcore.specs.Pump.{next_line, next_line_of, next_line_for, answered, after_line, after_lines, pump_stops, held_of, after_all_lines, pumped, after_notice, after_notice_of, is_overlong, is_overlong_of, notified, wants_memory, is_listing_line, is_listing_read}
 use Rattle.nutcore.specs.Step.{offered, may_take}

@@ -4,8 +4,9 @@ use Rattle.nutcore.specs.declared.TheConstants.{HELD_LIMIT}
 use Rattle.nutcore.specs.declared.event.Outcome.{Outcome}
 use Rattle.nutcore.specs.declared.event.Outcome.TheVariants.{Done, Fed, Opened, Refused}
 use Rattle.nutcore.specs.declared.event.Fault.{Fault}
-use Rattle.nutcore.specs.declared.event.Fault.TheVariants.{NoSuchClient}
+use Rattle.nutcore.specs.declared.event.Fault.TheVariants.{NoSuchUps, NoSuchClient}
 use Rattle.nutcore.specs.Session.{SessionState}
+use Rattle.nutcore.specs.Ups.{UpsState}
 
 abbrev pub fed : Result ℕ Fault → Outcome
 fed (Ok n) = Fed n
@@ -31,3 +32,8 @@ room_of x = if x.ending then HELD_LIMIT else HELD_LIMIT - length x.held
 abbrev pub Reads : {A : Type 0} → (SessionState → A) → Option SessionState → Result A Fault → Type 0
 Reads read None answer = answer ≡ Err NoSuchClient
 Reads read (Some x) answer = answer ≡ Ok (read x)
+
+-- The call reads this off the UPS, and is refused exactly where the list has no such UPS.
+abbrev pub ReadsUps : {A : Type 0} → (UpsState → A) → Option UpsState → Result A Fault → Type 0
+ReadsUps read None answer = answer ≡ Err NoSuchUps
+ReadsUps read (Some x) answer = answer ≡ Ok (read x)

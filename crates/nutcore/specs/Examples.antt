@@ -1,10 +1,15 @@
 -- Sessions worked out by hand, to be computed from the definitions.
-use Rattle.std.specs.Prelude.{◌≡◌, ℕ, List, [], ◌∷◌, ◌++◌, None, true, codes, replicate}
+use Rattle.std.specs.Prelude.{◌≡◌, ℕ, List, [], ◌∷◌, ◌++◌, Some, None, true, codes, replicate, length, drop}
 use Rattle.nutcore.specs.declared.event.Event.{Event}
 use Rattle.nutcore.specs.declared.event.Event.TheVariants.{DriverUp, DriverBytes, Open, Feed, Took}
 use Rattle.nutcore.specs.declared.event.Outcome.TheVariants.{Fed, Refused}
 use Rattle.nutcore.specs.declared.event.Fault.TheVariants.{TookTooMuch, LineTooLong}
-use Rattle.nutcore.specs.Server.{ServerState, new_server, id_at}
+use Rattle.std.specs.Option.{option_map}
+use Rattle.std.specs.List.{flat_map}
+use Rattle.nutcore.specs.Server.{ServerState, new_server, ups_at}
+use Rattle.nutcore.specs.Reply.{reply}
+use Rattle.nutusers.specs.UpsFile.{Ups, new_ups, id_at}
+use Rattle.nutusers.specs.DescriptionFile.{Descriptions, no_descriptions}
 use Rattle.nutcore.specs.Step.{after_by, outcome_of}
 use Rattle.nutcore.specs.History.{owed, held, taken_in_event, is_over}
 
@@ -16,7 +21,7 @@ after_events s (e ∷ es) = after_events (after_by s e None) es
 -- A server over `su`, whose driver sent these lines, and to which client 1 came.
 abbrev pub with_driver_lines : List ℕ → ServerState
 with_driver_lines lines =
-    after_events (new_server (codes "su" ∷ []) 15) (DriverUp (id_at 0) ∷ DriverBytes (id_at 0) lines ∷ Open (codes "127.0.0.1") ∷ [])
+    after_events (new_server (new_ups (codes "su") ∷ []) [] no_descriptions 15) (DriverUp (id_at 0) ∷ DriverBytes (id_at 0) lines ∷ Open (codes "127.0.0.1") ∷ [])
 
 abbrev pub with_two_variables : ServerState
 with_two_variables = with_driver_lines (codes "SETINFO ups.status \"OL\"\nSETINFO battery.charge \"100\"\nDUMPDONE\nDATAOK\n")
@@ -60,5 +65,72 @@ pub record LongestLine : Type 0 where
 
 -- Of three lines in one piece the second is blank: it is executed, and nothing is answered to it.
 pub record ThreeLines : Type 0 where
-  pub answers : owed 1 (after_events with_two_variables (ask (codes "LIST VAR su\n \nVER") ∷ [])) ≡ two_variables ++ codes "ERR UNKNOWN-COMMAND\n"
+  pub answers : owed 1 (after_events with_two_variables (ask (codes "LIST VAR su\n \nVER") ∷ [])) ≡ two_variables ++ codes "Network UPS Tools upsd, profile 1\n"
   pub nothing_held : held 1 (after_events with_two_variables (ask (codes "LIST VAR su\n \nVER") ∷ [])) ≡ []
+
+-- What client 1 is answered to a line.
+abbrev pub told : ServerState → List ℕ → List ℕ
+told s line = (reply s 1 line).text
+
+-- A value with a quote and a backslash is told with a backslash before each.
+abbrev pub EscapedValue : Type 0
+EscapedValue = told (with_driver_lines (codes "SETINFO ups.id \"a\\\"b\\\\c\"\nDUMPDONE\nDATAOK\n")) (codes "GET VAR su ups.id") ≡ codes "VAR su ups.id \"a\\\"b\\\\c\"\n"
+
+abbrev pub with_faulty_lines : ServerState
+with_faulty_lines = with_driver_lines (codes "SETINFO ups.mode \"auto\"\nADDENUM nope \"x\"\nADDENUM ups.mode \"auto\"\nADDENUM ups.mode \"eco\"\nADDENUM ups.mode \"auto\"\nSETFLAGS ups.mode RW BLUE\nHELLO\nSETFLAGS ups.mode RW\nDUMPDONE\nDATAOK\n")
+
+abbrev pub with_items_taken_back : ServerState
+with_items_taken_back = after_events with_faulty_lines (DriverBytes (id_at 0) (codes "DELENUM ups.mode \"auto\"\nADDRANGE ups.mode 0 9\nADDRANGE ups.mode 20 30\nDELRANGE ups.mode 0 9\nADDCMD a\nADDCMD b\nDELCMD a\n") ∷ [])
+
+-- Faulty lines of a driver are counted, and change nothing; the others hold.
+pub record FaultyLines : Type 0 where
+  pub counted : option_map (λ x. x.faulty) (ups_at 0 with_faulty_lines) ≡ Some 3
+  pub type_words : told with_faulty_lines (codes "GET TYPE su ups.mode") ≡ codes "TYPE su ups.mode RW ENUM\n"
+  pub enum_values : told with_faulty_lines (codes "LIST ENUM su ups.mode") ≡ codes "BEGIN LIST ENUM su ups.mode\nENUM su ups.mode \"auto\"\nENUM su ups.mode \"eco\"\nEND LIST ENUM su ups.mode\n"
+  pub one_enum_value : told with_items_taken_back (codes "LIST ENUM su ups.mode") ≡ codes "BEGIN LIST ENUM su ups.mode\nENUM su ups.mode \"eco\"\nEND LIST ENUM su ups.mode\n"
+  pub one_command : told with_items_taken_back (codes "LIST CMD su") ≡ codes "BEGIN LIST CMD su\nCMD su b\nEND LIST CMD su\n"
+  pub one_to_set : told with_items_taken_back (codes "LIST RW su") ≡ codes "BEGIN LIST RW su\nRW su ups.mode \"auto\"\nEND LIST RW su\n"
+
+-- Commands are read in capitals or not, names byte for byte.
+pub record CasesAndFaults : Type 0 where
+  pub small : told with_two_variables (codes "get var su \"ups.status\"") ≡ codes "VAR su ups.status \"OL\"\n"
+  pub another_ups : told with_two_variables (codes "GET VAR SU ups.status") ≡ codes "ERR UNKNOWN-UPS\n"
+  pub quote_inside : told with_two_variables (codes "GET VAR su ups.st\"atus") ≡ codes "ERR INVALID-ARGUMENT\n"
+  pub too_few : told with_two_variables (codes "GET") ≡ codes "ERR INVALID-ARGUMENT\n"
+  pub blank_lines : outcome_of with_two_variables (Feed 1 (replicate 60 10)) ≡ Fed 60
+  pub no_answer : owed 1 (after_events with_two_variables (Feed 1 (replicate 60 10) ∷ [])) ≡ []
+
+-- A server over `su` alone, to which no driver came.
+abbrev pub not_connected : ServerState
+not_connected = new_server (new_ups (codes "su") ∷ []) [] no_descriptions 15
+
+pub record NotConnected : Type 0 where
+  pub upses : told not_connected (codes "LIST UPS") ≡ codes "BEGIN LIST UPS\nUPS su \"Unavailable\"\nEND LIST UPS\n"
+  pub ups : told not_connected (codes "GET UPSDESC su") ≡ codes "UPSDESC su \"Unavailable\"\n"
+  pub variable : told not_connected (codes "GET DESC su ups.status") ≡ codes "DESC su ups.status \"Description unavailable\"\n"
+  pub encryption : told not_connected (codes "STARTTLS") ≡ codes "ERR FEATURE-NOT-CONFIGURED\n"
+  pub version : told not_connected (codes "NETVER") ≡ codes "1.3\n"
+
+-- A server whose files describe the UPS and a variable.
+abbrev pub described : ServerState
+described =
+    let su : Ups = record { name = codes "su"; desc = Some (codes "Rack 1"); socket = None } in
+    let descriptions : Descriptions = record { vars = (codes "ups.status", codes "UPS status") ∷ []; cmds = [] } in
+    new_server (su ∷ []) [] descriptions 15
+
+pub record Described : Type 0 where
+  pub upses : told described (codes "LIST UPS") ≡ codes "BEGIN LIST UPS\nUPS su \"Rack 1\"\nEND LIST UPS\n"
+  pub variable : told described (codes "GET DESC su ups.status") ≡ codes "DESC su ups.status \"UPS status\"\n"
+
+-- A server whose variable has so many bytes that after its listing more than 2,048 are owed, and whose client asks for it and then for another.
+abbrev pub pipelined : ServerState
+pipelined =
+    after_events (with_driver_lines (codes "SETINFO ups.status OL\nDUMPDONE\nDATAOK\n"))
+    (flat_map (λ name. DriverBytes (id_at 0) (codes "SETINFO " ++ name ++ 32 ∷ (replicate 256 120 ++ 10 ∷ [])) ∷ []) (codes "a" ∷ codes "b" ∷ codes "c" ∷ codes "d" ∷ codes "e" ∷ codes "f" ∷ codes "g" ∷ codes "h" ∷ [])
+    ++ Feed 1 (codes "LIST VAR su\nGET VAR su ups.status\n") ∷ DriverBytes (id_at 0) (codes "SETINFO ups.status OB\n") ∷ [])
+
+-- The line behind a listing is answered behind it, on the server as it is once the line is executed.
+pub record PipelinedGet : Type 0 where
+  pub listed : length (owed 1 pipelined) ≡ 2201
+  pub held_back : held 1 pipelined ≡ codes "GET VAR su ups.status\n"
+  pub told_behind : drop 2048 (owed 1 (after_events pipelined (Took 1 153 ∷ []))) ≡ codes "VAR su ups.status \"OB\"\n"

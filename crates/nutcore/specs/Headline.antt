@@ -1,17 +1,21 @@
 -- The laws of every run.
-use Rattle.std.specs.Prelude.{◌≡◌, ◌⊎◌, ℕ, ◌<◌, true, false, List, [], ◌∷◌, ◌++◌, All, Some, Ok, is_some, codes, nat_eq}
+use Rattle.std.specs.Prelude.{◌≡◌, ◌⊎◌, ℕ, ◌<◌, true, false, List, [], ◌∷◌, ◌++◌, All, Some, Ok, is_some, codes, map, nat_eq}
 use Rattle.std.specs.List.{starts_with}
 use Rattle.nutwords.specs.Frame.{frame}
 use Rattle.nutcore.specs.declared.event.Event.{Event}
 use Rattle.nutcore.specs.declared.event.Outcome.{Outcome}
 use Rattle.nutcore.specs.declared.event.Outcome.TheVariants.{Refused}
 use Rattle.nutcore.specs.declared.event.Fault.TheVariants.{Memory}
-use Rattle.nutcore.specs.declared.answer.command.Command.TheVariants.{ListVar}
+use Rattle.nutanswer.specs.declared.command.Command.{Command}
+use Rattle.nutanswer.specs.declared.command.Command.TheVariants.{ListVar}
+use Rattle.nutanswer.specs.Command.{read_command}
+use Rattle.nutanswer.specs.View.{readiness, usable}
+use Rattle.nutanswer.specs.Items.{ListingState, variable_item}
+use Rattle.nutanswer.specs.Checks.{KnownUps, ups_named}
+use Rattle.nutanswer.specs.Answer.{answer_to, listing}
 use Rattle.nutcore.specs.Session.{SessionState}
-use Rattle.nutcore.specs.Ups.{UpsState, readiness, usable}
 use Rattle.nutcore.specs.Server.{ServerState, session, with_session}
-use Rattle.nutcore.specs.Command.{read_command}
-use Rattle.nutcore.specs.Reply.{reply, ups_named, variable_items}
+use Rattle.nutcore.specs.Reply.{seen, reply}
 use Rattle.nutcore.specs.Pump.{next_line_for, pump_stops, after_line, after_lines, after_notice, pumped, answered}
 use Rattle.nutcore.specs.Step.{Step, outcome_of}
 use Rattle.nutcore.specs.Run.{Run}
@@ -59,11 +63,12 @@ pub data IsTimely (c : ℕ) : Answer → Type 0 where
 abbrev pub EachAnswerIsTimely : Type 0
 EachAnswerIsTimely = (old : ServerState) (events : List Event) (outcomes : List Outcome) (c : ℕ) → All (IsTimely c) (answers_in_run c old events outcomes)
 
--- The answer to a LIST VAR of a UPS that is usable is the frame of exactly the variables that it holds then.
-abbrev pub AListingIsWhatIsHeld : Type 0
-AListingIsWhatIsHeld =
-    (s : ServerState) (c : ℕ) (line ups : List ℕ) (x : UpsState) → read_command line ≡ Ok (Some (ListVar (Some ups))) → ups_named ups s ≡ Some x → readiness s.moment s.max_age x ≡ usable
-    → (reply s c line).text ≡ frame (codes "VAR") (ups ∷ []) (variable_items ups x)
+-- The text that answers a listing's line is BEGIN, exactly the items that the server has then, and END. Of LIST VAR, of a UPS that is usable, they are the variables that it holds.
+pub record AListingIsWhatIsHeld : Type 0 where
+  pub framed : (s : ServerState) (c : ℕ) (line : List ℕ) (command : Command) (l : ListingState) → read_command line ≡ Ok (Some command) → answer_to (seen s) command ≡ Ok (listing l)
+      → (reply s c line).text ≡ frame l.kind l.names l.items
+  pub variables : (s : ServerState) (c : ℕ) (line ups : List ℕ) (known : KnownUps) → read_command line ≡ Ok (Some (ListVar (Some ups))) → ups_named (seen s) (Some ups) ≡ Some known → readiness s.moment s.max_age known.state ≡ usable
+      → (reply s c line).text ≡ frame (codes "VAR") (known.name ∷ []) (map (variable_item (codes "VAR") known.name known.state.fsd) known.state.tree.variables)
 
 -- A whole line that is refused, by an answer that begins with ERR, changes nothing but its own session's held and owed bytes.
 abbrev pub ARefusedLineChangesNothing : Type 0

@@ -2,28 +2,10 @@
 use Rattle.std.specs.Prelude.{◌≡◌, ℕ, true, false, List, ◌++◌, Some, None, Result, Ok, Err, length, drop, ◌<◌, ◌≤◌}
 use Rattle.nutwords.specs.declared.cut.Cut.{Cut}
 use Rattle.nutwords.specs.declared.cut.Cut.TheVariants.{Line, More, TooLong}
-use Rattle.nutcore.specs.declared.answer.command.ErrorWord.{ErrorWord}
-use Rattle.nutcore.specs.declared.answer.command.ErrorWord.TheVariants.{DriverNotConnected, DataStale}
-use Rattle.nutcore.specs.declared.driver.line.DriverLine.{DriverLine}
-use Rattle.nutcore.specs.declared.driver.line.DriverFault.{DriverFault}
-use Rattle.nutcore.specs.declared.driver.line.DriverFault.TheVariants.{Memory as MemoryRefused}
 use Rattle.nutcore.specs.declared.event.Fault.{Fault}
 use Rattle.nutcore.specs.declared.event.Fault.TheVariants.{LineTooLong, Memory}
 use Rattle.nutcore.specs.Lines.{behind}
-use Rattle.nutcore.specs.Tree.{Tree}
-use Rattle.nutcore.specs.DriverStep.{driver_step}
-use Rattle.nutcore.specs.Ups.{UpsState, Readiness, not_connected, stale, usable, changes_tree_by, next_driver_line, with_bytes, is_driver_overlong, after_loss, after_driver_lines, after_all_driver_lines, wants_driver_memory}
-
--- When a line of a driver is refused so: memory where the line would change the tree, and else what the line's step says.
-abbrev pub IsTreeFault : Tree → DriverLine → DriverFault → Type 0
-IsTreeFault tree line MemoryRefused = changes_tree_by (driver_step tree line) ≡ true
-IsTreeFault tree line fault = driver_step tree line ≡ Err fault
-
--- Clients are told what the driver told, or the word of this error.
-abbrev pub told_by : Readiness → Result (Unit {0}) ErrorWord
-told_by not_connected = Err DriverNotConnected
-told_by stale = Err DataStale
-told_by usable = Ok tt
+use Rattle.nutcore.specs.Ups.{UpsState, next_driver_line, with_bytes, is_driver_overlong, after_loss, after_driver_lines, after_all_driver_lines, wants_driver_memory}
 
 -- What a driver's piece gives, and what its UPS keeps of it: the next line, and the bytes behind it; all of it, where they aren't too many; or nothing, where they are.
 abbrev pub CutsLine : List ℕ → UpsState → Cut → UpsState → Type 0

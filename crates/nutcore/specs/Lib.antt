@@ -1,13 +1,9 @@
 pub mod Numbers
 pub mod Lines
-pub mod Tree
-pub mod DriverLine
-pub mod DriverStep
 pub mod Ups
 pub mod Leaf
 pub mod Session
 pub mod Server
-pub mod Command
 pub mod Reply
 pub mod Pump
 pub mod Step

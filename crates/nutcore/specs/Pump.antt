@@ -1,15 +1,14 @@
 -- Which held lines of a session are executed, and what that leaves.
-use Rattle.std.specs.Prelude.{ℕ, zero, suc, Bool, true, false, List, [], ◌++◌, Option, Some, None, is_none, nat_lt, nat_le, not, ◌||◌, ◌&&◌, if◌then◌else◌, length, Result, Ok, Err}
+use Rattle.std.specs.Prelude.{ℕ, zero, suc, Bool, false, List, [], ◌++◌, Option, Some, None, is_none, nat_lt, nat_le, not, ◌||◌, ◌&&◌, if◌then◌else◌, length, Result, Ok, Err}
 use Rattle.nutcore.specs.declared.TheConstants.{HELD_LIMIT, OWED_LIMIT}
-use Rattle.nutcore.specs.declared.answer.command.Command.{Command}
-use Rattle.nutcore.specs.declared.answer.command.Command.TheVariants.{ListVar}
-use Rattle.nutcore.specs.declared.answer.command.ErrorWord.{ErrorWord}
+use Rattle.nutanswer.specs.declared.command.Command.{Command}
+use Rattle.nutanswer.specs.declared.err_word.ErrWord.{ErrWord}
+use Rattle.nutanswer.specs.Command.{read_command}
+use Rattle.nutanswer.specs.Answer.{answer_to, is_listing}
 use Rattle.nutcore.specs.Lines.{first_line, behind}
 use Rattle.nutcore.specs.Session.{SessionState, ended}
 use Rattle.nutcore.specs.Server.{ServerState, session, with_session}
-use Rattle.nutcore.specs.Ups.{UpsState, Readiness, not_connected, stale, usable, readiness}
-use Rattle.nutcore.specs.Command.{read_command}
-use Rattle.nutcore.specs.Reply.{Reply, reply, too_long_notice, ups_named}
+use Rattle.nutcore.specs.Reply.{Reply, seen, reply, too_long_notice}
 
 -- The session's next line, if it may be executed: the session isn't ending, and at most 2,048 bytes are owed.
 abbrev pub next_line : SessionState → Option (List ℕ)
@@ -86,21 +85,11 @@ after_notice s c = after_notice_of s (session c s)
 unfoldable pub pumped : ServerState → ℕ → ServerState
 pumped s c = after_notice (after_all_lines s c) c
 
--- The reply is a listing of variables: the one answer for which memory may be refused.
-abbrev pub is_listing_ready : Readiness → Bool
-is_listing_ready not_connected = false
-is_listing_ready stale = false
-is_listing_ready usable = true
-
-abbrev pub is_listing_found : ServerState → Option UpsState → Bool
-is_listing_found s None = false
-is_listing_found s (Some x) = is_listing_ready (readiness s.moment s.max_age x)
-
-abbrev pub is_listing_read : ServerState → Result (Option Command) ErrorWord → Bool
+-- The reply is a listing, which shares a version of what it lists: the one answer for which memory may be refused.
+abbrev pub is_listing_read : ServerState → Result (Option Command) ErrWord → Bool
 is_listing_read s (Err word) = false
 is_listing_read s (Ok None) = false
-is_listing_read s (Ok (Some (ListVar None))) = false
-is_listing_read s (Ok (Some (ListVar (Some ups)))) = is_listing_found s (ups_named ups s)
+is_listing_read s (Ok (Some command)) = is_listing (answer_to (seen s) command)
 
 abbrev pub is_listing_line : ServerState → Option (List ℕ) → Bool
 is_listing_line s None = false

@@ -1,22 +1,26 @@
 -- The server as its callers see it.
-use Rattle.std.specs.Prelude.{ℕ, zero, suc, List, [], ◌∷◌, Option, Some, None, slice_get, position, replicate, length, nat_le, ◌&&◌, if◌then◌else◌}
-use Rattle.std.specs.Str.{bytes_eq}
-use Rattle.nutcore.specs.declared.event.UpsId.{UpsId}
+use Rattle.std.specs.Prelude.{ℕ, zero, suc, List, [], ◌∷◌, Option, Some, None, slice_get, replicate, length, nat_le, ◌&&◌, if◌then◌else◌}
+use Rattle.nutusers.specs.UpsFile.{Ups}
+use Rattle.nutusers.specs.UsersFile.{User}
+use Rattle.nutusers.specs.DescriptionFile.{Descriptions}
+use Rattle.nutusers.specs.declared.ups_list.UpsId.{UpsId}
 use Rattle.nutcore.specs.Session.{SessionState, find, put}
 use Rattle.nutcore.specs.Ups.{UpsState, new_ups}
 
--- moment, max_age: in seconds. names: the UPSs' names, in byte order. upses: a state a name. sessions: in the order of opening. next_id: the id of the next session.
+-- moment, max_age: in seconds. list, users, descriptions: what the files say; the UPSs in the byte order of their names. upses: a state for each UPS of the list. sessions: in the order of opening. next_id: the id of the next session.
 pub record ServerState : Type 0 where
   pub moment : ℕ
   pub max_age : ℕ
-  pub names : List (List ℕ)
+  pub list : List Ups
+  pub users : List User
+  pub descriptions : Descriptions
   pub upses : List UpsState
   pub sessions : List SessionState
   pub next_id : ℕ
 
 -- A new server: no driver is connected, no session is open, and ids begin at 1.
-abbrev pub new_server : List (List ℕ) → ℕ → ServerState
-new_server names max_age = record { moment = 0; max_age = max_age; names = names; upses = replicate (length names) new_ups; sessions = []; next_id = 1 }
+abbrev pub new_server : List Ups → List User → Descriptions → ℕ → ServerState
+new_server list users descriptions max_age = record { moment = 0; max_age = max_age; list = list; users = users; descriptions = descriptions; upses = replicate (length list) new_ups; sessions = []; next_id = 1 }
 
 -- The session of this id.
 abbrev pub session : ℕ → ServerState → Option SessionState
@@ -25,13 +29,6 @@ session c s = find c s.sessions
 -- The server with this session in place of that of its id.
 abbrev pub with_session : ServerState → SessionState → ServerState
 with_session s y = record s { sessions = put y s.sessions }
-
--- The place of the UPS of this name.
-abbrev pub place_of : List (List ℕ) → List ℕ → Option ℕ
-place_of names name = position (λ n. bytes_eq n name) names
-
-abbrev pub id_at : ℕ → UpsId
-id_at place = record { place = place }
 
 -- The greatest age of what a driver told is from 3 to 86,400 seconds (`MAXAGE` of upsd.conf(5)).
 abbrev pub read_max_age : ℕ → Option ℕ

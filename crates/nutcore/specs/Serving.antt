@@ -1,18 +1,19 @@
 -- What the private parts of a server promise one another.
-use Rattle.std.specs.Prelude.{◌≡◌, ◌<◌, ◌≤◌, ◌==◌, ℕ, Bool, true, false, List, Option, Some, Result, Ok, Err, IsTrue, length, slice_get}
+use Rattle.std.specs.Prelude.{◌≡◌, ◌<◌, ◌≤◌, ◌==◌, ℕ, Bool, true, false, List, Some, Result, Ok, Err, IsTrue, length}
 use Rattle.std.specs.List.{position_or_len}
 use Rattle.nutcore.specs.declared.event.Fault.{Fault}
 use Rattle.nutcore.specs.declared.event.Fault.TheVariants.{NoSuchUps, NoSuchClient, TooManyClients, TookTooMuch, NotConnected, AlreadyConnected, LineTooLong, Memory}
-use Rattle.nutcore.specs.declared.answer.reply.Reply.{Reply}
-use Rattle.nutcore.specs.declared.answer.reply.Reply.TheVariants.{Text, Variables}
-use Rattle.nutcore.specs.declared.answer.command.Command.TheVariants.{ListVar}
+use Rattle.std.specs.declared.alloc.AllocError.{AllocError}
+use Rattle.nutanswer.specs.declared.reply.Reply.{Reply as Answer}
+use Rattle.nutanswer.specs.declared.reply.Reply.TheVariants.{One, Many}
+use Rattle.nutanswer.specs.Command.{read_command}
+use Rattle.nutanswer.specs.Items.{text_of}
 use Rattle.nutcore.specs.Session.{SessionState}
 use Rattle.nutcore.specs.Ups.{UpsState, with_bytes}
 use Rattle.nutcore.specs.Leaf.{IsFed}
-use Rattle.nutcore.specs.declared.event.UpsId.{UpsId}
+use Rattle.nutusers.specs.declared.ups_list.UpsId.{UpsId}
 use Rattle.nutcore.specs.Server.{ServerState, ups_at, with_ups_changed}
-use Rattle.nutcore.specs.Command.{read_command}
-use Rattle.nutcore.specs.Reply.{reply_to, answer_to_command, variable_listing}
+use Rattle.nutcore.specs.Reply.{reply_to}
 use Rattle.nutcore.specs.Pump.{pumped, after_all_lines, after_lines, is_overlong, wants_memory, is_listing_read, next_line_for}
 
 -- where the session of this id stands
@@ -35,27 +36,24 @@ PumpGives old c (Err TookTooMuch) new = ⊥
 PumpGives old c (Err NotConnected) new = ⊥
 PumpGives old c (Err AlreadyConnected) new = ⊥
 
--- the listing of the variables of the UPS at a place
-pub record IsListingOf (s : ServerState) (place : ℕ) (text : List ℕ) : Type 0 where
-  pub ups : List ℕ
-  pub state : UpsState
-  pub named : slice_get s.names place ≡ Some ups
-  pub there : ups_at place s ≡ Some state
-  pub text_is : text ≡ variable_listing ups state
+-- the reply gives the line's text: one line at most, which takes no memory, or the listing
+abbrev pub RepliesBy : ServerState → List ℕ → Answer → Type 0
+RepliesBy s line (One text change) = (is_listing_read s (read_command line) ≡ false) × ((reply_to s (read_command line)).text ≡ text.items) × (length text.items ≤ 2048)
+RepliesBy s line (Many listing) = (is_listing_read s (read_command line) ≡ true) × ((reply_to s (read_command line)).text ≡ text_of listing)
 
--- the reply's text is this one, which takes no memory, or the listing of this UPS
-abbrev pub RepliesBy : ServerState → List ℕ → Reply → Type 0
-RepliesBy s line (Text text) = (is_listing_read s (read_command line) ≡ false) × ((reply_to s (read_command line)).text ≡ text.now) × (length text.now ≤ 2048)
-RepliesBy s line (Variables u) = (is_listing_read s (read_command line) ≡ true) × IsListingOf s u.place (reply_to s (read_command line)).text
+-- it is this text
+abbrev pub IsText : List ℕ → Answer → Type 0
+IsText text (One line change) = line.items ≡ text
+IsText text (Many listing) = ⊥
+
+-- or memory was refused for a listing
+abbrev pub RepliesOrLacks : ServerState → List ℕ → Result Answer AllocError → Type 0
+RepliesOrLacks s line (Ok answer) = RepliesBy s line answer
+RepliesOrLacks s line (Err e) = is_listing_read s (read_command line) ≡ true
 
 -- the client's next line may be executed, and this holds of it
 abbrev pub NextIs : ServerState → ℕ → (List ℕ → Type 0) → Type 0
 NextIs s c P = (line : List ℕ) × (next_line_for s c ≡ Some line) × P line
-
--- the same for LIST VAR of the UPS of this name
-abbrev pub ListsBy : ServerState → Option (List ℕ) → Reply → Type 0
-ListsBy s name (Text text) = (is_listing_read s (Ok (Some (ListVar name))) ≡ false) × (answer_to_command s (ListVar name) ≡ text.now) × (length text.now ≤ 2048)
-ListsBy s name (Variables u) = (is_listing_read s (Ok (Some (ListVar name))) ≡ true) × IsListingOf s u.place (answer_to_command s (ListVar name))
 
 abbrev pub is_connected : UpsState → Bool
 is_connected x = x.connected

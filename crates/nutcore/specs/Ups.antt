@@ -1,14 +1,14 @@
 -- A UPS as the server keeps it: its driver's connection, and what the driver told.
-use Rattle.std.specs.Prelude.{ℕ, zero, suc, ◌+◌, ◌-◌, ◌^◌, Bool, true, false, not, ◌||◌, List, [], ◌∷◌, ◌++◌, Option, Some, None, Result, Ok, Err, codes, length, take, min, nat_lt, nat_le, if◌then◌else◌}
+use Rattle.std.specs.Prelude.{ℕ, zero, suc, ◌+◌, ◌-◌, ◌^◌, Bool, true, false, List, [], ◌∷◌, ◌++◌, Option, Some, None, Result, Ok, Err, codes, length, take, min, nat_le}
 use Rattle.nutcore.specs.Lines.{first_line, behind}
 use Rattle.nutcore.specs.declared.TheConstants.{LINE_LIMIT}
-use Rattle.nutcore.specs.declared.driver.line.DriverLine.{DriverLine}
-use Rattle.nutcore.specs.declared.driver.line.DriverFault.{DriverFault}
-use Rattle.nutcore.specs.declared.driver.tree.Effect.{Effect}
-use Rattle.nutcore.specs.declared.driver.tree.Effect.TheVariants.{Nothing, Changed, DumpDone, DataOk, DataStale}
-use Rattle.nutcore.specs.Tree.{Tree}
-use Rattle.nutcore.specs.DriverLine.{read_driver_line}
-use Rattle.nutcore.specs.DriverStep.{driver_step}
+use Rattle.nutdriver.specs.declared.line.DriverLine.{DriverLine}
+use Rattle.nutdriver.specs.declared.fault.DriverFault.{DriverFault}
+use Rattle.nutdriver.specs.declared.effect.Effect.{Effect}
+use Rattle.nutdriver.specs.declared.effect.Effect.TheVariants.{Nothing, Changed, DumpDone, DataOk, DataStale, Pong}
+use Rattle.nutdriver.specs.Tree.{TreeState, empty_tree}
+use Rattle.nutdriver.specs.DriverLine.{read_driver_line}
+use Rattle.nutdriver.specs.DriverStep.{driver_step, changes_tree}
 
 -- connected: a driver is there. dumped: it has told all variables. ok: it says that its data are right. heard, pinged: the moments of its last line and of the last PING to it, in seconds. fsd: a forced shutdown is set. owed: what the driver is still to be sent. unfinished: what came of its next line. faulty: how many of its lines were refused.
 pub record UpsState : Type 0 where
@@ -18,35 +18,22 @@ pub record UpsState : Type 0 where
   pub heard : ℕ
   pub pinged : ℕ
   pub fsd : Bool
-  pub tree : Tree
+  pub tree : TreeState
   pub owed : List ℕ
   pub unfinished : List ℕ
   pub faulty : ℕ
 
 -- A UPS of a new server.
 abbrev pub new_ups : UpsState
-new_ups = record { connected = false; dumped = false; ok = false; heard = 0; pinged = 0; fsd = false; tree = []; owed = []; unfinished = []; faulty = 0 }
+new_ups = record { connected = false; dumped = false; ok = false; heard = 0; pinged = 0; fsd = false; tree = empty_tree; owed = []; unfinished = []; faulty = 0 }
 
 -- Its driver is connected, and is asked for all that it knows.
 abbrev pub after_connecting : ℕ → UpsState → UpsState
-after_connecting moment x = record x { connected = true; dumped = false; ok = false; heard = moment; pinged = moment; tree = []; owed = codes "DUMPALL" ++ 10 ∷ []; unfinished = [] }
+after_connecting moment x = record x { connected = true; dumped = false; ok = false; heard = moment; pinged = moment; tree = empty_tree; owed = codes "DUMPALL" ++ 10 ∷ []; unfinished = [] }
 
 -- Its driver is lost. What it told goes with it; a forced shutdown and the count of refused lines stay.
 abbrev pub after_loss : UpsState → UpsState
-after_loss x = record x { connected = false; dumped = false; ok = false; heard = 0; pinged = 0; tree = []; owed = []; unfinished = [] }
-
--- Whether clients are told what the driver told.
-pub data Readiness : Type 0 where
-  not_connected : Readiness
-  stale : Readiness
-  usable : Readiness
-
--- A connected UPS is stale until all its variables were told and the driver says that its data are right, and where nothing was heard for more than the greatest age, in seconds (`MAXAGE` of upsd.conf).
-abbrev pub readiness : ℕ → ℕ → UpsState → Readiness
-readiness moment max_age x =
-    if not x.connected then not_connected
-    else if not x.dumped || (not x.ok || nat_lt max_age (moment - x.heard)) then stale
-    else usable
+after_loss x = record x { connected = false; dumped = false; ok = false; heard = 0; pinged = 0; tree = empty_tree; owed = []; unfinished = [] }
 
 -- What a line of the driver does beside the tree.
 abbrev pub after_effect : Effect → UpsState → UpsState
@@ -55,12 +42,13 @@ after_effect Changed x = x
 after_effect DumpDone x = record x { dumped = true }
 after_effect DataOk x = record x { ok = true }
 after_effect DataStale x = record x { ok = false }
+after_effect Pong x = x
 
 -- The count of refused lines stops at its greatest number.
 abbrev pub with_faulty_line : UpsState → UpsState
 with_faulty_line x = record x { faulty = min (x.faulty + 1) (2 ^ 64 - 1) }
 
-abbrev pub after_step : UpsState → Result (Tree × Effect) DriverFault → UpsState
+abbrev pub after_step : UpsState → Result (TreeState × Effect) DriverFault → UpsState
 after_step x (Ok (tree, effect)) = after_effect effect (record x { tree = tree })
 after_step x (Err fault) = with_faulty_line x
 
@@ -102,21 +90,13 @@ abbrev pub with_bytes : List ℕ → UpsState → UpsState
 with_bytes piece x = record x { unfinished = x.unfinished ++ piece }
 
 -- The next line would change the tree, for which memory may be refused.
-abbrev pub changes_tree_by : Result (Tree × Effect) DriverFault → Bool
-changes_tree_by (Ok (tree, Changed)) = true
-changes_tree_by (Ok (tree, Nothing)) = false
-changes_tree_by (Ok (tree, DumpDone)) = false
-changes_tree_by (Ok (tree, DataOk)) = false
-changes_tree_by (Ok (tree, DataStale)) = false
-changes_tree_by (Err fault) = false
+abbrev pub wants_memory_read : TreeState → Result DriverLine DriverFault → Bool
+wants_memory_read tree (Ok line) = changes_tree tree line
+wants_memory_read tree (Err fault) = false
 
-abbrev pub changes_tree_read : Tree → Result DriverLine DriverFault → Bool
-changes_tree_read tree (Ok line) = changes_tree_by (driver_step tree line)
-changes_tree_read tree (Err fault) = false
-
-abbrev pub changes_tree : Tree → Option (List ℕ) → Bool
-changes_tree tree None = false
-changes_tree tree (Some line) = changes_tree_read tree (read_driver_line line)
+abbrev pub wants_memory_for : TreeState → Option (List ℕ) → Bool
+wants_memory_for tree None = false
+wants_memory_for tree (Some line) = wants_memory_read tree (read_driver_line line)
 
 abbrev pub wants_driver_memory : UpsState → Bool
-wants_driver_memory x = changes_tree x.tree (next_driver_line x)
+wants_driver_memory x = wants_memory_for x.tree (next_driver_line x)

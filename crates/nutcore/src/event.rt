@@ -2,14 +2,9 @@
 ghost use Rattle.std.specs.Prelude.{◌≡◌};
 
 use crate::bytes::Bytes;
+use nutusers::UpsId;
 use nutwords::Address;
 use thiserror::Error;
-
-/// A UPS, by its place in the server's list: the names in byte order, from 0.
-#[derive(Clone, Copy, Debug, PartialEq, Eq)]
-pub struct UpsId {
-    pub place: u8,
-}
 
 /// A client's session. Ids count from 1 and are never used again.
 pub type ClientId = u64;

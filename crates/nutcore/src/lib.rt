@@ -2,24 +2,22 @@
 #![tactic(auto)]
 
 ghost use Rattle.nutcore.specs.Headline.{WhatWasSentAndIsOwedIsTheAnswers, WhatWasAskedIsExecutedOrHeld, EachAnswerIsTimely, AListingIsWhatIsHeld, ARefusedLineChangesNothing, ThePumpExecutesTheLeast, EachEventIsAFunction};
-ghost use Rattle.nutcore.specs.Examples.{TwoVariables, EmptyListing, TakenInFour, LongestLine, ThreeLines};
+ghost use Rattle.nutcore.specs.Examples.{TwoVariables, EmptyListing, TakenInFour, LongestLine, ThreeLines, EscapedValue, FaultyLines, CasesAndFaults, NotConnected, Described, PipelinedGet};
 
-mod answer;
 mod bytes;
-mod driver;
 mod event;
-mod files;
 mod lines;
+mod max_age;
 mod server;
 mod session;
-mod spelling;
 #[cfg(test)]
 mod tests;
 mod ups;
 
 pub use bytes::Bytes;
-pub use event::{ClientId, Event, Fault, Outcome, UpsId};
-pub use files::{Descriptions, MaxAge, UpsList, Users};
+pub use event::{ClientId, Event, Fault, Outcome};
+pub use max_age::MaxAge;
+pub use nutusers::{Descriptions, UpsId, UpsList, Users};
 pub use server::Server;
 
 /// The most bytes of input that a session holds, and that may stand without an LF.
@@ -36,9 +34,6 @@ pub const OFFER_LIMIT: usize = 4096;
 
 /// The most sessions that are open at once.
 pub const SESSION_LIMIT: usize = 64;
-
-/// The most variables that a UPS has.
-pub const VARIABLE_LIMIT: usize = 4096;
 
 /// Over every run, what each client was sent, followed by what it is still owed, is exactly the
 /// answers to its executed lines, in order.
@@ -84,4 +79,10 @@ pub fn sessions_worked_by_hand()
     ensures taken_in_four { TakenInFour }
     ensures longest_line { LongestLine }
     ensures three_lines { ThreeLines }
+    ensures escaped_value { EscapedValue }
+    ensures faulty_lines { FaultyLines }
+    ensures cases_and_faults { CasesAndFaults }
+    ensures not_connected { NotConnected }
+    ensures described { Described }
+    ensures pipelined_get { PipelinedGet }
 {}

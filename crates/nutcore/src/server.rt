@@ -3,27 +3,29 @@ ghost use Rattle.std.specs.Prelude.{◌≡◌, ◌≢◌, ◌≤◌, ◌<◌, �
 ghost use Rattle.std.specs.Option.{option_map};
 ghost use Rattle.std.specs.Io.BufRead.{Rests};
 ghost use Rattle.std.specs.Borrow.{sem};
-ghost use Rattle.nutcore.specs.Server.{session, ups_at, place_of, id_at, new_server, with_ups_changed};
+ghost use Rattle.nutcore.specs.Server.{session, ups_at, new_server, with_ups_changed};
+ghost use Rattle.nutusers.specs.UpsFile.{place_of, id_at};
 ghost use Rattle.nutcore.specs.Pump.{next_line_for, after_line, held_of, is_overlong, after_notice, wants_memory};
 ghost use Rattle.nutcore.specs.Step.{Step, with_input, without_output, offered, may_take, fed_by};
 ghost use Rattle.nutcore.specs.Run.{Run};
 ghost use Rattle.nutcore.specs.History.{owed};
 ghost use Rattle.nutcore.specs.Headline.{IsLawful, SentAndOwed, TakenUp, Serves};
 ghost use Rattle.nutcore.specs.Ups.{after_connecting, after_loss};
-ghost use Rattle.nutcore.specs.Calls.{fed, done, opened_as, is_finished, room_of, Reads};
-ghost use Rattle.nutcore.specs.Serving.{IsAt, PumpGives, RepliesBy, ListsBy, NextIs, IsListingOf, DriverFeedGives, is_connected};
+ghost use Rattle.nutcore.specs.Calls.{fed, done, opened_as, is_finished, room_of, Reads, ReadsUps};
+ghost use Rattle.nutcore.specs.Serving.{IsAt, PumpGives, RepliesOrLacks, IsText, NextIs, DriverFeedGives, is_connected};
 ghost use Rattle.nutcore.specs.Reply.{reply};
+ghost use Rattle.nutanswer.specs.Items.{text_of};
 ghost use Rattle.nutcore.specs.declared.event.Outcome.TheVariants.{Fed};
 ghost use Rattle.nutcore.specs.contracts.server.Server.{the_row};
 
 use crate::SESSION_LIMIT;
-use crate::answer::command::{Command, ErrorWord};
-use crate::answer::reply::Reply;
-use crate::event::{ClientId, Event, Fault, Outcome, UpsId};
-use crate::files::{Descriptions, MaxAge, UpsList, Users};
+use crate::event::{ClientId, Event, Fault, Outcome};
+use crate::max_age::MaxAge;
 use crate::session::Session;
 use crate::ups::Ups;
-use nutwords::{Address, UpsName};
+use nutanswer::{Change, Command, Listing, Reply, UpsView, View, answer};
+use nutusers::{Descriptions, UpsId, UpsList, Users};
+use nutwords::{Address, Line};
 use std::alloc::{AllocError, Global};
 use std::marker::Model;
 
@@ -48,7 +50,7 @@ impl Model for Server {
 
     ghost Value = { ServerState };
 
-    ghost view = { λ s. record { moment = s.moment; max_age = s.max_age; names = s.list; upses = s.upses.items; sessions = s.sessions.items; next_id = s.next_id } };
+    ghost view = { λ s. record { moment = s.moment; max_age = s.max_age; list = s.list; users = s.users; descriptions = s.descriptions; upses = s.upses.items; sessions = s.sessions.items; next_id = s.next_id } };
 
     ghost invariant = { λ s. record {
       apart : AreApart s.next_id s.sessions.items;
@@ -56,6 +58,35 @@ impl Model for Server {
       few : vec_len s.sessions ≤ 64;
       named : length s.list ≡ length s.upses.items;
     } };
+}
+
+impl View for Server {
+    ghost use Rattle.nutcore.specs.Reply.{seen};
+
+    ghost seen = { seen };
+
+    fn moment(&self) -> u64 {
+        self.moment
+    }
+
+    fn max_age(&self) -> u32 {
+        self.max_age.seconds()
+    }
+
+    fn list(&self) -> &UpsList {
+        &self.list
+    }
+
+    fn descriptions(&self) -> &Descriptions {
+        &self.descriptions
+    }
+
+    fn ups(&self, u: UpsId) -> Option<UpsView<'_>> {
+        match self.upses.get(u.place as usize) {
+            Some(ups) => Some(ups.view()),
+            None => None,
+        }
+    }
 }
 
 impl Server {
@@ -68,7 +99,7 @@ impl Server {
         descriptions: Descriptions,
         max_age: MaxAge,
     ) -> Result<Self, AllocError>
-        ensures { IfOk result (λ s. s ≡ new_server list max_age) }
+        ensures { IfOk result (λ s. s ≡ new_server list users descriptions max_age) }
     {
         let mut upses = Vec::with_capacity(alloc, list.len())?;
         for _ in 0..list.len() {
@@ -90,14 +121,14 @@ impl Server {
 
     /// The list handed in.
     pub fn ups(&self) -> &UpsList
-        ensures { result.now ≡ self.now.names }
+        ensures { result.now ≡ self.now.list }
     {
         &self.list
     }
 
     /// The UPS of this name.
     pub fn find(&self, name: &[u8]) -> Option<UpsId>
-        ensures { result ≡ option_map id_at (place_of self.now.names name.now) }
+        ensures { result ≡ option_map id_at (place_of name.now self.now.list) }
     {
         self.list.find(name)
     }
@@ -115,45 +146,28 @@ impl Server {
         None
     }
 
-    /// What answers a line, as the server is now.
-    fn reply(&self, line: &[u8]) -> Reply
+    /// What answers a line, as the server is now. Memory is asked for by a listing alone.
+    fn reply(&self, line: &[u8]) -> Result<Reply, AllocError>
         requires { length line.now ≤ 1023 }
-        ensures { RepliesBy self.now line.now result }
+        ensures { RepliesOrLacks self.now line.now result }
     {
         match Command::read(line) {
-            Err(word) => Reply::Text(word.line()),
-            Ok(None) => Reply::Text(b""),
-            Ok(Some(Command::ListVar(ups))) => self.list_variables(ups),
+            Err(word) => Ok(one_line(word.line())),
+            Ok(None) => Ok(one_line(b"")),
+            Ok(Some(command)) => answer(self, &command),
         }
     }
 
     /// What answers the session's next line, if it may be executed.
-    fn next_reply(&self, c: ClientId, place: usize) -> Option<Reply>
+    fn next_reply(&self, c: ClientId, place: usize) -> Option<Result<Reply, AllocError>>
         requires { IsAt c place self.now.sessions }
-        ensures next { MatchOption result (next_line_for self.now c ≡ None) (λ answer. NextIs self.now c (λ line. RepliesBy self.now line answer)) }
+        ensures next { MatchOption result (next_line_for self.now c ≡ None) (λ answer. NextIs self.now c (λ line. RepliesOrLacks self.now line answer)) }
         ensures held { length (held_of (session c self.now)) ≤ 1024 }
     {
         let session = &self.sessions[place];
         match session.next_line() {
             None => None,
             Some(line) => Some(self.reply(line)),
-        }
-    }
-
-    /// `LIST VAR` of the UPS of this name.
-    fn list_variables(&self, name: Option<UpsName>) -> Reply
-        ensures { ListsBy self.now name result }
-    {
-        let Some(name) = name else {
-            return Reply::Text(ErrorWord::UnknownUps.line());
-        };
-        let Some(u) = self.list.find(name.as_bytes()) else {
-            return Reply::Text(ErrorWord::UnknownUps.line());
-        };
-        let ups = &self.upses[u.place as usize];
-        match ups.readiness(self.moment, self.max_age.seconds()) {
-            Err(word) => Reply::Text(word.line()),
-            Ok(()) => Reply::Variables(u),
         }
     }
 
@@ -168,35 +182,41 @@ impl Server {
         session.answer(text);
     }
 
-    /// Executes the next line, whose answer is the listing of a UPS's variables. Without memory
-    /// nothing changes.
-    fn answer_listing(&mut self, c: ClientId, place: usize, u: UpsId) -> Result<(), AllocError>
+    /// Executes the next line, whose answer is this listing. Without memory nothing changes.
+    fn answer_listing(
+        &mut self,
+        c: ClientId,
+        place: usize,
+        listing: &Listing,
+    ) -> Result<(), AllocError>
         requires at { IsAt c place self.old.sessions }
-        requires next { NextIs self.old c (λ line. IsListingOf self.old u.place (reply self.old c line).text) }
+        requires next { NextIs self.old c (λ line. (reply self.old c line).text ≡ text_of listing.now) }
         ensures ok { OnOk result (self.new ≡ after_line self.old c) }
         ensures err { OnErr result (self.new ≡ self.old) }
     {
         let session = &mut self.sessions[place];
-        let Some(name) = self.list.name(u) else {
-            unreachable!()
-        };
-        session.answer_listing(name, &self.upses[u.place as usize])
+        session.answer_listing(listing)
     }
 
     /// Executes the next line. Without memory nothing changes.
-    fn execute(&mut self, c: ClientId, place: usize, answer: Reply) -> Result<(), AllocError>
+    fn execute(
+        &mut self,
+        c: ClientId,
+        place: usize,
+        reply: Result<Reply, AllocError>,
+    ) -> Result<(), AllocError>
         requires at { IsAt c place self.old.sessions }
-        requires next { NextIs self.old c (λ line. RepliesBy self.old line answer) }
+        requires next { NextIs self.old c (λ line. RepliesOrLacks self.old line reply) }
         ensures ok { OnOk result (self.new ≡ after_line self.old c) }
         ensures err { OnErr result (self.new ≡ self.old) }
         ensures memory { OnErr result (IsTrue (wants_memory self.old c)) }
     {
-        match answer {
-            Reply::Text(text) => {
-                self.answer_text(c, place, text);
+        match reply? {
+            Reply::One(text, Change::Nothing) => {
+                self.answer_text(c, place, text.as_slice());
                 Ok(())
             }
-            Reply::Variables(u) => self.answer_listing(c, place, u),
+            Reply::Many(listing) => self.answer_listing(c, place, &listing),
         }
     }
 
@@ -217,8 +237,8 @@ impl Server {
         ensures { PumpGives self.old c result self.new }
     {
         let mut done = 0;
-        while let Some(answer) = self.next_reply(c, place) {
-            if self.execute(c, place, answer).is_err() {
+        while let Some(reply) = self.next_reply(c, place) {
+            if self.execute(c, place, reply).is_err() {
                 return Err(Fault::Memory(done));
             }
             done += 1;
@@ -353,6 +373,21 @@ impl Server {
                 self.disconnect(u);
                 Ok(())
             }
+        }
+    }
+
+    /// How many lines of the UPS's drivers were refused. The count stops at its greatest number,
+    /// and outlives a driver's loss.
+    ///
+    /// # Errors
+    ///
+    /// `NoSuchUps`.
+    pub fn driver_faults(&self, u: UpsId) -> Result<u64, Fault>
+        ensures { ReadsUps (λ x. x.faulty) (ups_at u.place self.now) result }
+    {
+        match self.upses.get(u.place as usize) {
+            Some(ups) => Ok(ups.faulty()),
+            None => Err(Fault::NoSuchUps),
         }
     }
 
@@ -544,4 +579,14 @@ fn outcome_of(answer: Result<(), Fault>) -> Outcome
         Ok(()) => Outcome::Done,
         Err(fault) => Outcome::Refused(fault),
     }
+}
+
+/// A reply of at most one line, which changes nothing.
+fn one_line(text: &[u8]) -> Reply
+    requires { length text.now ≤ 1024 }
+    ensures { IsText text.now result }
+{
+    let mut line = Line::new();
+    line.try_extend_from_slice(text).unwrap();
+    Reply::One(line, Change::Nothing)
 }

@@ -4,14 +4,13 @@ ghost use Rattle.nutcore.specs.Session.{new_session, ended};
 ghost use Rattle.nutcore.specs.Lines.{first_line, behind};
 ghost use Rattle.nutcore.specs.Pump.{next_line, answered, is_overlong_of, notified};
 ghost use Rattle.nutcore.specs.Step.{joining, taken_in};
-ghost use Rattle.nutcore.specs.Reply.{variable_listing};
+ghost use Rattle.nutanswer.specs.Items.{text_of};
 ghost use Rattle.nutcore.specs.Calls.{is_finished, room_of};
 
-use crate::answer::listing::write_variables;
 use crate::lines::{drop_front, line_end};
-use crate::ups::Ups;
 use crate::{HELD_LIMIT, OFFER_LIMIT, OWED_LIMIT};
-use nutwords::{Address, UpsName};
+use nutanswer::Listing;
+use nutwords::Address;
 use std::alloc::{AllocError, Global};
 use std::marker::Model;
 
@@ -116,17 +115,26 @@ impl Session {
         self.take_line();
     }
 
-    /// Takes the next line, and joins the listing of a UPS's variables to what is owed. Without
-    /// memory nothing changes.
-    pub(crate) fn answer_listing(&mut self, name: &UpsName, ups: &Ups) -> Result<(), AllocError>
+    /// Takes the next line, and joins the listing that answers it to what is owed. Without memory
+    /// nothing changes.
+    pub(crate) fn answer_listing(&mut self, listing: &Listing) -> Result<(), AllocError>
         requires { is_some (next_line self.old) ≡ true }
-        ensures ok { OnOk result ((line : List ℕ) → next_line self.old ≡ Some line → self.new ≡ answered line (variable_listing name.now ups.now) self.old) }
+        ensures ok { OnOk result ((line : List ℕ) → next_line self.old ≡ Some line → self.new ≡ answered line (text_of listing.now) self.old) }
         ensures err { OnErr result (self.new ≡ self.old) }
         ensures id { self.new.id ≡ self.old.id }
     {
-        write_variables(&mut self.owed, name, ups)?;
+        self.owe(listing)?;
         self.take_line();
         Ok(())
+    }
+
+    /// Joins a listing to what is owed. Without memory nothing changes.
+    pub(crate) fn owe(&mut self, listing: &Listing) -> Result<(), AllocError>
+        ensures ok { OnOk result (self.new ≡ record self.old { owed = self.old.owed ++ text_of listing.now }) }
+        ensures err { OnErr result (self.new ≡ self.old) }
+        ensures id { self.new.id ≡ self.old.id }
+    {
+        listing.write(&mut self.owed)
     }
 
     /// Takes the first line.

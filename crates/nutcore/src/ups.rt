@@ -1,15 +1,17 @@
 //! A UPS as the server keeps it: its driver's connection, and what the driver told.
-ghost use Rattle.std.specs.Prelude.{◌≡◌, ◌≤◌, length, drop, true, IfOk, IfErr, OnOk, OnErr, Ok};
-ghost use Rattle.nutcore.specs.DriverLine.{read_driver_line};
-ghost use Rattle.nutcore.specs.DriverStep.{driver_step};
-ghost use Rattle.nutcore.specs.Ups.{new_ups, after_connecting, after_loss, after_effect, after_reading, after_text, with_faulty_line, with_bytes, readiness, changes_tree_by, changes_tree_read};
-ghost use Rattle.nutcore.specs.Leaf.{IsTreeFault, CutsLine, IsStopped, IsFed, told_by};
+ghost use Rattle.std.specs.Prelude.{◌≡◌, ◌≢◌, ◌≤◌, length, drop, true, IfOk, IfErr, IsTrue, OnOk, OnErr, Ok, Err};
+ghost use Rattle.nutdriver.specs.DriverLine.{read_driver_line};
+ghost use Rattle.nutdriver.specs.DriverStep.{driver_step, changes_tree};
+ghost use Rattle.nutcore.specs.Ups.{new_ups, after_connecting, after_loss, after_effect, after_reading, after_text, with_faulty_line, with_bytes, wants_memory_read};
+ghost use Rattle.nutanswer.specs.View.{ups_seen};
+ghost use Rattle.nutcore.specs.Reply.{seen_ups};
+ghost use Rattle.nutcore.specs.Leaf.{CutsLine, IsStopped, IsFed};
 
-use crate::answer::command::ErrorWord;
-use crate::driver::line::{DriverFault, DriverLine};
-use crate::driver::tree::{Effect, Tree};
 use crate::event::Fault;
 use arrayvec::ArrayVec;
+use nutanswer::UpsView;
+use nutdriver::{DriverFault, DriverLine, Effect, Tree};
+use nutmap::Meter;
 use nutwords::{Cut, LineCut};
 use std::alloc::{AllocError, Global};
 use std::marker::Model;
@@ -20,6 +22,7 @@ const DRIVER_OWED_LIMIT: usize = 2048;
 /// A UPS. Moments are in seconds.
 #[derive(Drop)]
 pub(crate) struct Ups {
+    alloc: Global,
     connected: bool,
     dumped: bool,
     ok: bool,
@@ -50,6 +53,7 @@ impl Ups {
         ensures { result ≡ new_ups }
     {
         Ups {
+            alloc,
             connected: false,
             dumped: false,
             ok: false,
@@ -70,33 +74,25 @@ impl Ups {
         self.connected
     }
 
-    /// Whether a forced shutdown is set.
-    pub(crate) fn is_fsd(&self) -> bool
-        ensures { result ≡ self.now.fsd }
+    /// How many lines of its drivers were refused.
+    pub(crate) fn faulty(&self) -> u64
+        ensures { result ≡ self.now.faulty }
     {
-        self.fsd
+        self.faulty
     }
 
-    /// What its driver told.
-    pub(crate) fn tree(&self) -> &Tree
-        ensures { result.now ≡ self.now.tree }
+    /// What answers may look at.
+    pub(crate) fn view(&self) -> UpsView<'_>
+        ensures { ups_seen result ≡ seen_ups self.now }
     {
-        &self.tree
-    }
-
-    /// Whether clients are told what the driver told, and else which error they are told. The
-    /// greatest age is in seconds.
-    pub(crate) fn readiness(&self, moment: u64, max_age: u32) -> Result<(), ErrorWord>
-        ensures { result ≡ told_by (readiness moment max_age self.now) }
-    {
-        if !self.connected {
-            return Err(ErrorWord::DriverNotConnected);
+        UpsView {
+            connected: self.connected,
+            dumped: self.dumped,
+            ok: self.ok,
+            heard: self.heard,
+            fsd: self.fsd,
+            tree: &self.tree,
         }
-        let age = moment.saturating_sub(self.heard);
-        if !self.dumped || !self.ok || age > u64::from(max_age) {
-            return Err(ErrorWord::DataStale);
-        }
-        Ok(())
     }
 
     /// Its driver is connected, and is asked for all that it knows. Takes no memory.
@@ -119,7 +115,7 @@ impl Ups {
         self.ok = false;
         self.heard = 0;
         self.pinged = 0;
-        self.tree.clear();
+        self.tree = Tree::new(self.alloc);
         self.owed.clear();
         self.cut = LineCut::new();
     }
@@ -173,12 +169,12 @@ impl Ups {
     fn execute(&mut self, moment: u64, line: &[u8]) -> Result<(), AllocError>
         requires { length line.now ≤ 1023 }
         ensures ok { OnOk result (self.new ≡ after_text moment self.old line.now) }
-        ensures memory { OnErr result (changes_tree_read self.old.tree (read_driver_line line.now) ≡ true) }
+        ensures memory { OnErr result (wants_memory_read self.old.tree (read_driver_line line.now) ≡ true) }
         ensures err { OnErr result (after_loss self.new ≡ after_loss self.old) }
     {
         self.hear(moment);
         match DriverLine::read(line) {
-            Ok(line) => self.apply(line),
+            Ok(line) => self.apply(&line),
             Err(_) => {
                 self.count_faulty_line();
                 Ok(())
@@ -187,9 +183,9 @@ impl Ups {
     }
 
     /// Does what a line says that was read. Without memory nothing changes.
-    fn apply(&mut self, line: DriverLine) -> Result<(), AllocError>
-        ensures ok { OnOk result (self.new ≡ after_reading self.old (Ok line)) }
-        ensures memory { OnErr result (changes_tree_by (driver_step self.old.tree line) ≡ true) }
+    fn apply(&mut self, line: &DriverLine) -> Result<(), AllocError>
+        ensures ok { OnOk result (self.new ≡ after_reading self.old (Ok line.now)) }
+        ensures memory { OnErr result (changes_tree self.old.tree line.now ≡ true) }
         ensures err { OnErr result (self.new ≡ self.old) }
     {
         match self.change_tree(line) {
@@ -206,13 +202,14 @@ impl Ups {
     }
 
     /// What the line does to the tree.
-    fn change_tree(&mut self, line: DriverLine) -> Result<Effect, DriverFault>
-        ensures ok { IfOk result (λ effect. driver_step self.old.tree line ≡ Ok (self.new.tree, effect)) }
+    fn change_tree(&mut self, line: &DriverLine) -> Result<Effect, DriverFault>
+        ensures ok { IfOk result (λ effect. driver_step self.old.tree line.now ≡ Ok (self.new.tree, effect)) }
         ensures rest { self.new ≡ record self.old { tree = self.new.tree } }
         ensures err { OnErr result (self.new ≡ self.old) }
-        ensures refused { IfErr result (λ fault. IsTreeFault self.old.tree line fault) }
+        ensures refused { IfErr result (λ fault. fault ≢ DriverFault.Memory → driver_step self.old.tree line.now ≡ Err fault) }
+        ensures memory { IfErr result (λ fault. fault ≡ DriverFault.Memory → IsTrue (changes_tree self.old.tree line.now)) }
     {
-        self.tree.apply(line)
+        self.tree.apply(line, &mut Meter::new())
     }
 
     /// What a line did beside the tree.
@@ -220,7 +217,7 @@ impl Ups {
         ensures { self.new ≡ after_effect effect self.old }
     {
         match effect {
-            Effect::Nothing | Effect::Changed => {}
+            Effect::Nothing | Effect::Changed | Effect::Pong => {}
             Effect::DumpDone => self.dumped = true,
             Effect::DataOk => self.ok = true,
             Effect::DataStale => self.ok = false,
@@ -248,94 +245,4 @@ fn behind(piece: &[u8], used: usize) -> &[u8]
     ensures { result.now ≡ drop used piece.now }
 {
     &piece[used..]
-}
-
-#[cfg(test)]
-mod tests {
-    use super::*;
-    use std::test::Fail;
-
-    /// Feeds the UPS where its driver is connected.
-    fn fed(ups: &mut Ups, moment: u64, piece: &[u8]) -> Result<(), Fault> {
-        if !ups.is_connected() {
-            return Err(Fault::NotConnected);
-        }
-        ups.feed(moment, piece)
-    }
-
-    /// A piece of the driver, what is answered to it, how many variables there are then, and
-    /// what clients are told two seconds later, where 15 is the greatest age.
-    #[test]
-    fn is_usable_once_all_was_told(rt: HostRuntime) -> Result<(), Fail> {
-        let mut ups = Ups::new(rt.alloc());
-        assert_eq!(rt; ups.readiness(0, 15), Err(ErrorWord::DriverNotConnected));
-        ups.connect(5);
-        for (piece, answer, len, told) in [
-            (
-                b"SETINFO a ".as_slice(),
-                Ok(()),
-                0,
-                Err(ErrorWord::DataStale),
-            ),
-            (
-                b"x\nSETINFO b y".as_slice(),
-                Ok(()),
-                1,
-                Err(ErrorWord::DataStale),
-            ),
-            (
-                b"\nDATAOK\n".as_slice(),
-                Ok(()),
-                2,
-                Err(ErrorWord::DataStale),
-            ),
-            (
-                b"DUMPDONE now\n".as_slice(),
-                Ok(()),
-                2,
-                Err(ErrorWord::DataStale),
-            ),
-            (b"DUMPDONE\nNONE\n\n".as_slice(), Ok(()), 2, Ok(())),
-            (
-                b"DATASTALE\n".as_slice(),
-                Ok(()),
-                2,
-                Err(ErrorWord::DataStale),
-            ),
-            (b"DATAOK\n".as_slice(), Ok(()), 2, Ok(())),
-            ([b'x'; 1023].as_slice(), Ok(()), 2, Ok(())),
-            (
-                b"x\nSETINFO c z\n".as_slice(),
-                Err(Fault::LineTooLong),
-                0,
-                Err(ErrorWord::DriverNotConnected),
-            ),
-            (
-                b"DATAOK\n".as_slice(),
-                Err(Fault::NotConnected),
-                0,
-                Err(ErrorWord::DriverNotConnected),
-            ),
-        ] {
-            assert_eq!(rt; fed(&mut ups, 7, piece), answer);
-            assert_eq!(rt; ups.tree().len(), len);
-            assert_eq!(rt; ups.readiness(9, 15), told);
-        }
-        Ok(())
-    }
-
-    #[test]
-    fn is_stale_beyond_the_greatest_age(rt: HostRuntime) -> Result<(), Fail> {
-        let mut ups = Ups::new(rt.alloc());
-        ups.connect(5);
-        ups.feed(7, b"DATAOK\nDUMPDONE\n")?;
-        for (moment, told) in [(7, Ok(())), (22, Ok(())), (23, Err(ErrorWord::DataStale))] {
-            assert_eq!(rt; ups.readiness(moment, 15), told);
-        }
-        ups.disconnect();
-        assert_eq!(rt; ups.readiness(7, 15), Err(ErrorWord::DriverNotConnected));
-        ups.connect(7);
-        assert_eq!(rt; ups.readiness(7, 15), Err(ErrorWord::DataStale));
-        Ok(())
-    }
 }

@@ -2,3 +2,4 @@ mod Numerals
 mod Reading
 mod Taking
 mod Doing
+mod OneRun

@@ -38,11 +38,11 @@ taken_of c n s o e = grind (arith, nat_tests, common_steps, e)
 pub taken_none : (c n : ℕ) (s : ServerState) → session c s ≡ None → taken_in_event c s (Took c n) ≡ []
 taken_none c n s e = taken_of c n s None e
 
-when_true : (b : Bool) (xs : List ℕ) → b ≡ true → (if b then xs else []) ≡ xs
+pub when_true : (b : Bool) (xs : List ℕ) → b ≡ true → (if b then xs else []) ≡ xs
 when_true true xs e = refl
 when_true false xs e = cc e
 
-when_false : (b : Bool) (xs : List ℕ) → b ≡ false → (if b then xs else []) ≡ []
+pub when_false : (b : Bool) (xs : List ℕ) → b ≡ false → (if b then xs else []) ≡ []
 when_false true xs e = cc e
 when_false false xs e = refl
 

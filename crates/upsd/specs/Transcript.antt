@@ -1,20 +1,22 @@
 -- What replaying a script does to the server, and what is told of it.
-use Rattle.std.specs.Prelude.{◌≡◌, ◌≢◌, ℕ, ◌-◌, List, [], ◌∷◌, ◌++◌, Option, Some, None, ◌==◌, nat_lt, if◌then◌else◌, length, take, slice_get, codes}
+use Rattle.std.specs.Prelude.{◌≡◌, ◌≢◌, ℕ, ◌-◌, List, [], ◌∷◌, ◌++◌, Option, Some, None, ◌==◌, nat_lt, if◌then◌else◌, length, slice_get, codes}
 use Rattle.std.specs.List.{flat_map}
 use Rattle.std.specs.Option.{option_map}
 use Rattle.std.specs.Fmt.{decimal}
+use Rattle.nutusers.specs.declared.ups_list.UpsId.{UpsId}
+use Rattle.nutusers.specs.UpsFile.{Ups, place_of, id_at}
+use Rattle.nutusers.specs.UsersFile.{User}
+use Rattle.nutusers.specs.DescriptionFile.{Descriptions}
 use Rattle.nutcore.specs.declared.event.Event.{Event}
-use Rattle.nutcore.specs.declared.event.UpsId.{UpsId}
 use Rattle.nutcore.specs.declared.event.Event.TheVariants.{DriverUp, DriverBytes, DriverDown, Open, Feed, Took, Close}
 use Rattle.nutcore.specs.declared.event.Outcome.{Outcome}
 use Rattle.nutcore.specs.declared.event.Outcome.TheVariants.{Done, Fed, Opened, Refused}
 use Rattle.nutcore.specs.declared.event.Fault.{Fault}
 use Rattle.nutcore.specs.declared.event.Fault.TheVariants.{NoSuchUps}
 use Rattle.nutcore.specs.Numbers.{number_of_fault}
-use Rattle.nutcore.specs.Server.{ServerState, session, new_server, place_of, id_at}
+use Rattle.nutcore.specs.Server.{ServerState, session, new_server}
 use Rattle.nutcore.specs.Step.{Step, offered}
 use Rattle.nutcore.specs.History.{taken_in_event}
-use Rattle.upsd.specs.declared.transcript.TheConstants.{UPS_IDS}
 use Rattle.upsd.specs.declared.script.Action.{Action}
 use Rattle.upsd.specs.declared.script.Action.TheVariants as asked
 use Rattle.upsd.specs.declared.script.ScriptLine.{ScriptLine}
@@ -33,8 +35,8 @@ abbrev pub told : Transcript → Told
 told t = record { server = t.server; text = t.text.items; clients = t.clients.items; taken = t.taken.items }
 
 -- Before the first event.
-abbrev pub before : List (List ℕ) → ℕ → Told
-before names max_age = record { server = new_server names max_age; text = []; clients = []; taken = [] }
+abbrev pub before : List Ups → List User → Descriptions → ℕ → Told
+before list users descriptions max_age = record { server = new_server list users descriptions max_age; text = []; clients = []; taken = [] }
 
 -- What is told of one event.
 
@@ -97,7 +99,7 @@ HappensTo None line event old new = new ≡ record old { text = old.text ++ refu
 HappensTo (Some u) line event old new = Happens line (event u) old new
 
 abbrev pub ups_named : List ℕ → Told → Option UpsId
-ups_named name t = option_map id_at (place_of t.server.names name)
+ups_named name t = option_map id_at (place_of name t.server.list)
 
 -- What a line asks for is done.
 unfoldable pub IsDone : ℕ → Action → Told → Told → Type 0
@@ -135,15 +137,18 @@ abbrev pub client_part : List Taken → ℕ → List ℕ
 client_part taken c = sent_part (codes "client " ++ decimal c) (sent_to c taken)
 
 -- Nothing is sent to a driver yet.
-abbrev pub driver_part : List ℕ → List ℕ
-driver_part name = sent_part (codes "driver " ++ name) []
+abbrev pub named_part : List ℕ → List ℕ
+named_part name = sent_part (codes "driver " ++ name) []
 
--- What was told of the events, then each client in the order of opening, then each UPS in byte order. UPS_IDS is how many UPSs an id can name, and a list has fewer.
+abbrev pub driver_part : Ups → List ℕ
+driver_part ups = named_part ups.name
+
+-- What was told of the events, then each client in the order of opening, then each UPS of the list, which is in byte order.
 unfoldable pub whole_text : Told → List ℕ
-whole_text t = t.text ++ flat_map (client_part t.taken) t.clients ++ flat_map driver_part (take UPS_IDS t.server.names)
+whole_text t = t.text ++ flat_map (client_part t.taken) t.clients ++ flat_map driver_part t.server.list
 
--- The output of a script over these UPSs: what the actions of its lines, in order, do to a new server.
-pub record IsOutput (names : List (List ℕ)) (max_age : ℕ) (script output : List ℕ) : Type 0 where
+-- The output of a script over these UPSs, users and descriptions: what the actions of its lines, in order, do to a new server.
+pub record IsOutput (list : List Ups) (users : List User) (descriptions : Descriptions) (max_age : ℕ) (script output : List ℕ) : Type 0 where
   pub end : Told
-  pub done : AreDone (actions_of script) (before names max_age) end
+  pub done : AreDone (actions_of script) (before list users descriptions max_age) end
   pub text : output ≡ whole_text end

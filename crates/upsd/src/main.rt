@@ -1,20 +1,24 @@
 //! upsd: a UPS server that shares what the drivers of UPSs tell with clients over the network (RFC 9271).
 #![tactic(auto)]
 
+ghost use Rattle.std.specs.Prelude.{◌≡◌, ◌≢◌};
+ghost use Rattle.std.specs.Process.{exit_status};
+ghost use Rattle.clap.specs.Words.{kind_of};
+
+mod files;
+mod laws;
 mod replay;
 mod script;
 #[cfg(test)]
 mod tests;
 mod transcript;
 
-use crate::replay::ReplayFault;
+use crate::files::{Ending, replay_files};
 use clap::error::ErrorKind;
 use clap::{Arg, ArgMatches, Command, Error};
-use nutcore::{Descriptions, UpsList, Users};
-use nutwords::UpsName;
-use std::alloc::{AllocError, Global};
+use std::alloc::Global;
 use std::process::ExitCode;
-use std::{env, fs, io};
+use std::{env, io};
 
 /// The status of a fault at run time.
 const FAULT: u8 = 1;
@@ -26,11 +30,11 @@ fn main(rt: HostRuntime) -> ExitCode {
     let words: Vec<String> = match env::args(&rt) {
         Ok(args) => match args.collect(rt.alloc()) {
             Ok(words) => words,
-            Err(_) => return no_memory(&rt),
+            Err(_) => return tell(&rt, Ending::Memory),
         },
         Err(error) => {
             if error.kind() == io::ErrorKind::OutOfMemory {
-                return no_memory(&rt);
+                return tell(&rt, Ending::Memory);
             }
             let _ = eprintln!(rt; "upsd: bad argument");
             return ExitCode::from(WORD_FAULT);
@@ -44,11 +48,21 @@ fn main(rt: HostRuntime) -> ExitCode {
 
 /// What the words say.
 fn matches_of(alloc: Global, words: &[String]) -> Result<ArgMatches<'_>, Error> {
+    let ups = Arg::new(alloc, "ups")
+        .long("ups")
+        .value_name("F")
+        .help("The file of the UPSs [without it: su alone]");
+    let vars = Arg::new(alloc, "vars")
+        .long("vars")
+        .value_name("F")
+        .help("The file of the descriptions [without it: none]");
     let script = Arg::new(alloc, "SCRIPT")
         .required(true)
         .help("The script's file");
     let replay = Command::new(alloc, "replay")
         .about("Replays a script of events, and prints what was sent")
+        .arg(ups)?
+        .arg(vars)?
         .arg(script)?;
     let upsd = Command::new(alloc, "upsd")
         .about("A UPS server (RFC 9271)")
@@ -58,63 +72,35 @@ fn matches_of(alloc: Global, words: &[String]) -> Result<ArgMatches<'_>, Error> 
 }
 
 /// Prints what the parser of the words says: the help, or a fault of the words.
-fn end(rt: &HostRuntime, error: &Error) -> ExitCode {
+fn end(rt: &HostRuntime, error: &Error) -> ExitCode
+    ensures memory { kind_of error.now ≡ ErrorKind.OutOfMemory → exit_status result ≡ FAULT }
+    ensures help { kind_of error.now ≡ ErrorKind.DisplayHelp → exit_status result ≡ 0 }
+    ensures words { kind_of error.now ≢ ErrorKind.OutOfMemory → kind_of error.now ≢ ErrorKind.DisplayHelp → kind_of error.now ≢ ErrorKind.DisplayVersion → exit_status result ≡ WORD_FAULT }
+{
     if error.kind() == ErrorKind::OutOfMemory {
-        return no_memory(rt);
+        return tell(rt, Ending::Memory);
     }
     let _ = error.print(rt);
     ExitCode::from(if error.use_stderr() { WORD_FAULT } else { 0 })
 }
 
 fn run(rt: &HostRuntime, matches: &ArgMatches<'_>) -> ExitCode {
-    match matches.subcommand() {
-        Some((_, found)) => match found.get_str("SCRIPT") {
-            Some(path) => replay_file(rt, path),
-            None => ExitCode::from(WORD_FAULT),
-        },
-        None => ExitCode::from(WORD_FAULT),
-    }
-}
-
-/// `upsd replay SCRIPT`.
-fn replay_file(rt: &HostRuntime, path: &str) -> ExitCode {
-    let script = match fs::read(rt, path) {
-        Ok(script) => script,
-        Err(error) => {
-            if error.kind() == io::ErrorKind::OutOfMemory {
-                return no_memory(rt);
-            }
-            let _ = eprintln!(rt; "upsd: {path}: cannot read");
-            return ExitCode::from(FAULT);
-        }
+    let Some((_, found)) = matches.subcommand() else {
+        return ExitCode::from(WORD_FAULT);
     };
-    let Ok(list) = su_alone(rt.alloc()) else {
-        return no_memory(rt);
+    let Some(script) = found.get_str("SCRIPT") else {
+        return ExitCode::from(WORD_FAULT);
     };
-    let users = Users::none(rt.alloc());
-    let descriptions = Descriptions::none(rt.alloc());
-    let mut out = io::writer(rt);
-    match replay::replay(rt.alloc(), list, users, descriptions, &script, &mut out) {
+    match replay_files(rt, found.get_str("ups"), found.get_str("vars"), script) {
         Ok(()) => ExitCode::SUCCESS,
-        Err(ReplayFault::BadEvent(line)) => {
-            let _ = eprintln!(rt; "upsd: {path}:{line}: bad event");
-            ExitCode::from(FAULT)
-        }
-        Err(ReplayFault::Memory) => no_memory(rt),
-        Err(ReplayFault::Write) => {
-            let _ = eprintln!(rt; "upsd: write failed");
-            ExitCode::from(FAULT)
-        }
+        Err(ending) => tell(rt, ending),
     }
 }
 
-/// The list of the UPS `su` alone.
-fn su_alone(alloc: Global) -> Result<UpsList, AllocError> {
-    let name = UpsName::read(b"su").unwrap();
-    UpsList::one(alloc, name)
-}
-
-fn no_memory(rt: &HostRuntime) -> ExitCode {
-    let _ = eprintln!(rt; "upsd: no memory");
+/// Tells why the program ends at run time.
+fn tell(rt: &HostRuntime, ending: Ending<'_>) -> ExitCode
+    ensures { exit_status result ≡ FAULT }
+{
+    let _ = eprintln!(rt; "upsd: {ending}");
     ExitCode::from(FAULT)
 }

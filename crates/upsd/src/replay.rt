@@ -82,7 +82,7 @@ pub fn replay<W: Write>(
     script: &[u8],
     out: &mut W,
 ) -> Result<(), ReplayFault>
-    ensures told { OnOk result ((output : List ℕ) × IsOutput list REPLAY_MAX_AGE script.now output × Appends (W.contents out.old) (W.contents out.new) output) }
+    ensures told { OnOk result ((output : List ℕ) × IsOutput list users descriptions REPLAY_MAX_AGE script.now output × Appends (W.contents out.old) (W.contents out.new) output) }
     ensures good { OnOk result (first_bad_line script.now ≡ None) }
     ensures bad { IfErr result (λ fault. (n : ℕ) → fault ≡ ReplayFault.BadEvent n → first_bad_line script.now ≡ Some n) }
     ensures failed { IfErr result (λ fault. fault ≡ ReplayFault.Write → first_bad_line script.now ≡ None) }
@@ -103,7 +103,7 @@ fn transcript(
     descriptions: Descriptions,
     script: &[u8],
 ) -> Result<Vec<u8>, ReplayFault>
-    ensures ok { IfOk result (λ text. (first_bad_line script.now ≡ None) × IsOutput list REPLAY_MAX_AGE script.now text.items) }
+    ensures ok { IfOk result (λ text. (first_bad_line script.now ≡ None) × IsOutput list users descriptions REPLAY_MAX_AGE script.now text.items) }
     ensures err { IfErr result (λ fault. (fault ≡ ReplayFault.Memory) ⊎ ((n : ℕ) × (fault ≡ ReplayFault.BadEvent n) × (first_bad_line script.now ≡ Some n))) }
 {
     let lines = read_script(alloc, script)?;

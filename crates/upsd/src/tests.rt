@@ -1,7 +1,7 @@
 //! Scripts, and what they tell.
+use crate::files::{Ending, su_alone};
 use crate::replay::{ReplayFault, replay};
-use crate::su_alone;
-use nutcore::{Descriptions, Users};
+use nutcore::{Descriptions, UpsList, Users};
 use std::alloc::{AllocError, Global};
 use std::io;
 use std::io::Write;
@@ -18,9 +18,52 @@ const ASK: &[u8] = b"open 192.0.2.1\nclient 1 LIST VAR su\n";
 const LISTED: &[u8] =
     b"client 1 sent 85 bytes\nBEGIN LIST VAR su\nVAR su battery.charge \"100\"\nVAR su ups.status \"OL\"\nEND LIST VAR su\ndriver su sent 0 bytes\n";
 
+/// Every line of the drivers' protocol, once at least. What is told of variables is as before.
+const EVERY_LINE: &[u8] = b"driver su SETINFO ups.mode \"auto\"
+driver su ADDENUM ups.mode \"auto\"
+driver su ADDENUM ups.mode \"eco\"
+driver su DELENUM ups.mode \"auto\"
+driver su ADDRANGE ups.mode 0 600
+driver su DELRANGE ups.mode 0 600
+driver su SETAUX ups.mode 8
+driver su SETFLAGS ups.mode RW STRING
+driver su ADDCMD load.off
+driver su DELCMD load.off
+driver su DELINFO ups.mode
+driver su DATASTALE
+driver su PONG
+driver su DUMPDONE
+driver su DATAOK
+";
+
+/// Lines of a driver that are refused.
+const REFUSED_LINES: &[u8] = b"driver su HELLO
+driver su SETINFO ups.status
+driver su DELINFO nope
+driver su ADDENUM nope x
+driver su DELENUM ups.status x
+driver su ADDRANGE ups.status 2 1
+driver su DELRANGE ups.status 1 2
+driver su SETAUX ups.status 01
+driver su SETFLAGS ups.status BLUE
+driver su ADDCMD load/off
+driver su DELCMD load.off
+driver su DATASTALE now
+driver su DUMPDONE \"
+";
+
 /// What replaying answers, and what it wrote.
 fn told(alloc: Global, script: &[u8]) -> Result<(Result<(), ReplayFault>, Vec<u8>), AllocError> {
     let list = su_alone(alloc)?;
+    told_over(alloc, list, script)
+}
+
+/// The same over these UPSs.
+fn told_over(
+    alloc: Global,
+    list: UpsList,
+    script: &[u8],
+) -> Result<(Result<(), ReplayFault>, Vec<u8>), AllocError> {
     let users = Users::none(alloc);
     let descriptions = Descriptions::none(alloc);
     let mut out = Vec::new(alloc);
@@ -123,6 +166,103 @@ fn tells_of_refused_events(rt: HostRuntime) -> Result<(), Fail> {
         out.as_slice(),
         b"line 1: refused 5\nline 2: refused 1\nline 4: refused 6\nline 5: refused 1\nline 6: refused 2\nline 8: refused 4\nline 9: refused 2\nline 10: refused 2\nline 11: refused 2\nline 13: refused 2\nline 14: refused 1\nline 15: refused 1\nline 16: refused 2\nline 17: refused 2\nline 19: refused 5\nclient 1 sent 0 bytes\ndriver su sent 0 bytes\n".as_slice()
     );
+    Ok(())
+}
+
+#[test]
+fn tells_of_each_ups_in_byte_order(rt: HostRuntime) -> Result<(), Fail> {
+    for (file, want) in [
+        (
+            b"[su]\n[bay]\n".as_slice(),
+            b"driver bay sent 0 bytes\ndriver su sent 0 bytes\n".as_slice(),
+        ),
+        (
+            b"[bay]\n[su]\n".as_slice(),
+            b"driver bay sent 0 bytes\ndriver su sent 0 bytes\n".as_slice(),
+        ),
+        (
+            b"[bay]\n[Su]\n".as_slice(),
+            b"driver Su sent 0 bytes\ndriver bay sent 0 bytes\n".as_slice(),
+        ),
+        (
+            b"[su-]\n[su]".as_slice(),
+            b"driver su sent 0 bytes\ndriver su- sent 0 bytes\n".as_slice(),
+        ),
+        (b"[bay]".as_slice(), b"driver bay sent 0 bytes\n".as_slice()),
+        (b"# none".as_slice(), b"".as_slice()),
+    ] {
+        let list = UpsList::read(rt.alloc(), file)?;
+        let (answer, out) = told_over(rt.alloc(), list, b"")?;
+        assert_eq!(rt; answer, Ok(()));
+        assert_eq!(rt; out.as_slice(), want);
+    }
+    Ok(())
+}
+
+#[test]
+fn keeps_two_upses_apart(rt: HostRuntime) -> Result<(), Fail> {
+    let list = UpsList::read(rt.alloc(), b"[su]\n[bay]\n")?;
+    let script = joined(
+        rt.alloc(),
+        &[
+            READY,
+            b"up bay\nup su\nup nope\ndriver bay SETINFO ups.status \"OB\"\ndriver bay DUMPDONE\ndriver bay DATAOK\ndown su\n",
+            b"open a\nclient 1 LIST VAR bay\nclient 1 LIST VAR su\nclient 1 LIST VAR nope\ntook 1 all\n",
+        ],
+    )?;
+    let (answer, out) = told_over(rt.alloc(), list, &script)?;
+    assert_eq!(rt; answer, Ok(()));
+    assert_eq!(rt;
+        out.as_slice(),
+        b"line 7: refused 6\nline 8: refused 1\nclient 1 sent 101 bytes\nBEGIN LIST VAR bay\nVAR bay ups.status \"OB\"\nEND LIST VAR bay\nERR DRIVER-NOT-CONNECTED\nERR UNKNOWN-UPS\ndriver bay sent 0 bytes\ndriver su sent 0 bytes\n".as_slice()
+    );
+    Ok(())
+}
+
+#[test]
+fn refuses_an_unknown_ups(rt: HostRuntime) -> Result<(), Fail> {
+    let list = UpsList::read(rt.alloc(), b"[ups-2]\n[ups-1]\n")?;
+    let script = b"up su\nup UPS-1\ndriver ups x\ndriver-part ups-11 x\ndown su\n";
+    let (answer, out) = told_over(rt.alloc(), list, script)?;
+    assert_eq!(rt; answer, Ok(()));
+    assert_eq!(rt;
+        out.as_slice(),
+        b"line 1: refused 1\nline 2: refused 1\nline 3: refused 1\nline 4: refused 1\nline 5: refused 1\ndriver ups-1 sent 0 bytes\ndriver ups-2 sent 0 bytes\n".as_slice()
+    );
+    Ok(())
+}
+
+#[test]
+fn does_each_line_of_a_driver(rt: HostRuntime) -> Result<(), Fail> {
+    for (lines, want) in [
+        (EVERY_LINE, LISTED),
+        (REFUSED_LINES, LISTED),
+        (
+            b"driver su DATASTALE\ndriver su dataok\n".as_slice(),
+            LISTED,
+        ),
+        (
+            b"driver su SETINFO ups.mode \"a \\\"b\"\n".as_slice(),
+            b"client 1 sent 109 bytes\nBEGIN LIST VAR su\nVAR su battery.charge \"100\"\nVAR su ups.mode \"a \\\"b\"\nVAR su ups.status \"OL\"\nEND LIST VAR su\ndriver su sent 0 bytes\n".as_slice(),
+        ),
+        (
+            b"driver su DELINFO battery.charge\ndriver su SETINFO ups.status OB\n".as_slice(),
+            b"client 1 sent 57 bytes\nBEGIN LIST VAR su\nVAR su ups.status \"OB\"\nEND LIST VAR su\ndriver su sent 0 bytes\n".as_slice(),
+        ),
+        (
+            b"driver su DATASTALE\n".as_slice(),
+            b"client 1 sent 15 bytes\nERR DATA-STALE\ndriver su sent 0 bytes\n".as_slice(),
+        ),
+        (
+            b"down su\nup su\ndriver su DATAOK\n".as_slice(),
+            b"client 1 sent 15 bytes\nERR DATA-STALE\ndriver su sent 0 bytes\n".as_slice(),
+        ),
+    ] {
+        let script = joined(rt.alloc(), &[READY, lines, ASK, b"took 1 all\n"])?;
+        let (answer, out) = told(rt.alloc(), &script)?;
+        assert_eq!(rt; answer, Ok(()));
+        assert_eq!(rt; out.as_slice(), want);
+    }
     Ok(())
 }
 
@@ -326,6 +466,32 @@ fn shows_faults(rt: HostRuntime) -> Result<(), Fail> {
     ] {
         assert_eq!(rt; fault.number(), number);
         let shown = format!(in rt.alloc(); "{fault}")?;
+        assert_eq!(rt; shown.as_str(), want);
+    }
+    Ok(())
+}
+
+#[test]
+fn shows_endings(rt: HostRuntime) -> Result<(), Fail> {
+    let path = "./ups.conf";
+    for (ending, want) in [
+        (Ending::Memory, "no memory"),
+        (Ending::Unread { path }, "./ups.conf: cannot read"),
+        (
+            Ending::Refused {
+                path,
+                line: 12,
+                cause: 5,
+            },
+            "./ups.conf:12: cause 5",
+        ),
+        (
+            Ending::BadEvent { path, line: 3 },
+            "./ups.conf:3: bad event",
+        ),
+        (Ending::Write, "write failed"),
+    ] {
+        let shown = format!(in rt.alloc(); "{ending}")?;
         assert_eq!(rt; shown.as_str(), want);
     }
     Ok(())

@@ -1,12 +1,12 @@
 //! The server of a replayed script, and what is told of its events.
-ghost use Rattle.std.specs.Prelude.{◌≡◌, ◌++◌, ◌-◌, ◌<◌, ◌^◌, ℕ, List, [], ◌∷◌, length, slice_get, take, codes, nat_lt, if◌then◌else◌, IfOk, OnOk};
+ghost use Rattle.std.specs.Prelude.{◌≡◌, ◌++◌, ◌-◌, ◌<◌, ◌^◌, ℕ, List, [], ◌∷◌, length, slice_get, codes, nat_lt, if◌then◌else◌, IfOk, OnOk};
 ghost use Rattle.std.specs.List.{flat_map};
 ghost use Rattle.std.specs.Fmt.{decimal};
 ghost use Rattle.nutcore.specs.Step.{Step, offered};
 ghost use Rattle.nutcore.specs.Numbers.{number_of_fault};
 ghost use Rattle.nutcore.specs.Server.{session};
 ghost use Rattle.nutcore.specs.History.{taken_in_event};
-ghost use Rattle.upsd.specs.Transcript.{told, before, refusal, held_back, count_taken, count_held, remark, opened_by, taken_by, Happens, HappensTo, TakesAll, IsDone, AreDone, count_offered, sent_to, ending_of, sent_part, client_part, driver_part, whole_text};
+ghost use Rattle.upsd.specs.Transcript.{told, before, refusal, held_back, count_taken, count_held, remark, opened_by, taken_by, Happens, HappensTo, TakesAll, IsDone, AreDone, count_offered, sent_to, ending_of, sent_part, client_part, named_part, driver_part, whole_text};
 
 use crate::script::{Action, ScriptLine};
 use nutcore::{
@@ -14,9 +14,6 @@ use nutcore::{
 };
 use std::alloc::{AllocError, Global};
 use std::slice;
-
-/// How many UPSs an id can name.
-const UPS_IDS: usize = 256;
 
 /// What a client took by one event.
 #[derive(Debug, Drop)]
@@ -44,7 +41,7 @@ impl Transcript {
         descriptions: Descriptions,
         max_age: MaxAge,
     ) -> Result<Transcript, AllocError>
-        ensures { IfOk result (λ t. told t ≡ before list max_age) }
+        ensures { IfOk result (λ t. told t ≡ before list users descriptions max_age) }
     {
         Ok(Transcript {
             alloc,
@@ -280,9 +277,9 @@ fn sent_to(alloc: Global, c: ClientId, taken: &[Taken]) -> Result<Vec<u8>, Alloc
 
 /// What was sent to each driver: nothing yet.
 fn write_drivers(alloc: Global, list: &UpsList, text: &mut Vec<u8>) -> Result<(), AllocError>
-    ensures { OnOk result (text.new.items ≡ text.old.items ++ flat_map driver_part (take UPS_IDS list.now)) }
+    ensures { OnOk result (text.new.items ≡ text.old.items ++ flat_map driver_part list.now) }
 {
-    for place in 0..list.len().min(UPS_IDS) {
+    for place in 0..list.len() {
         let Some(name) = list.name(UpsId { place: place as u8 }) else {
             unreachable!()
         };
@@ -293,7 +290,7 @@ fn write_drivers(alloc: Global, list: &UpsList, text: &mut Vec<u8>) -> Result<()
 
 /// What was sent to the driver of the UPS of this name.
 fn write_driver(alloc: Global, name: &[u8], text: &mut Vec<u8>) -> Result<(), AllocError>
-    ensures { OnOk result (text.new.items ≡ text.old.items ++ driver_part name.now) }
+    ensures { OnOk result (text.new.items ≡ text.old.items ++ named_part name.now) }
 {
     let mut peer = Vec::new(alloc);
     peer.extend_from_slice(b"driver ")?;

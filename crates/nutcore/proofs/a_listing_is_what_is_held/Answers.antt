@@ -2,4 +2,4 @@ use Rattle.nutcore.proofs.Refusals.{listing_is_held}
 use Rattle.nutcore.proofs.a_listing_is_what_is_held.Goals as goal
 
 pub returns : goal.returns
-returns c = λ s client line ups x read named ready. listing_is_held s client line ups x read named ready
+returns c = listing_is_held

@@ -1,4 +1,4 @@
-use Rattle.nutcore.proofs.Examples.{two_variables, empty_listing, taken_in_four, longest_line, three_lines}
+use Rattle.nutcore.proofs.Examples.{two_variables, empty_listing, taken_in_four, longest_line, three_lines, escaped_value, faulty_lines, cases_and_faults, not_connected, described, pipelined_get}
 use Rattle.nutcore.proofs.sessions_worked_by_hand.Goals as goal
 
 pub returns-clause-two_variables : goal.returns-clause-two_variables
@@ -15,3 +15,21 @@ returns-clause-longest_line c = longest_line
 
 pub returns-clause-three_lines : goal.returns-clause-three_lines
 returns-clause-three_lines c = three_lines
+
+pub returns-clause-escaped_value : goal.returns-clause-escaped_value
+returns-clause-escaped_value c = escaped_value
+
+pub returns-clause-faulty_lines : goal.returns-clause-faulty_lines
+returns-clause-faulty_lines c = faulty_lines
+
+pub returns-clause-cases_and_faults : goal.returns-clause-cases_and_faults
+returns-clause-cases_and_faults c = cases_and_faults
+
+pub returns-clause-not_connected : goal.returns-clause-not_connected
+returns-clause-not_connected c = not_connected
+
+pub returns-clause-described : goal.returns-clause-described
+returns-clause-described c = described
+
+pub returns-clause-pipelined_get : goal.returns-clause-pipelined_get
+returns-clause-pipelined_get c = pipelined_get

@@ -3,12 +3,11 @@ use Rattle.nutcore.specs.Session.{SessionState}
 use Rattle.nutcore.specs.Server.{ServerState, session}
 use Rattle.nutcore.specs.Reply.{reply}
 use Rattle.nutcore.specs.Pump.{answered, after_line, next_line_for}
-use Rattle.std.specs.Option.{option_copied}
-use Rattle.nutcore.specs.Serving.{IsAt, IsListingOf}
+use Rattle.nutcore.specs.Serving.{IsAt}
 use Rattle.nutcore.specs.contracts.server.Server.{the_view}
 use Rattle.nutcore.proofs.Found.{find_id}
 use Rattle.nutcore.proofs.Serving.{found_in, goes, next_of_found, apart_set, line_is, on_ok_weaker}
-use Rattle.nutcore.proofs.Named.{listing_written}
+use Rattle.nutanswer.specs.Items.{text_of}
 use Rattle.nutcore.proofs.server.Server.answer_listing.Goals as goal
 
 pub answer_listing-requires : goal.answer_listing-requires
@@ -39,8 +38,7 @@ returns-clause-ok c =
     let at : IsAt c.args.c c.args.place v.sessions = subst (λ (z : ServerState). IsAt c.args.c c.args.place z.sessions) (sym c.self.view_is) c.requires.at in
     let found : session c.args.c v ≡ Some x = ap (session c.args.c) c.self.view_is ∙ found_in c.args.c c.args.place v c.args.self.now x c.self.view_is c.requires.at c.index_mut-session.ensures.value in
     let next : next_line_for v c.args.c ≡ Some line = ap (λ (z : ServerState). next_line_for z c.args.c) c.self.view_is ∙ c.requires.next.1 in
-    let listing : IsListingOf v c.args.u.place (reply v c.args.c line).text = subst (λ (z : ServerState). IsListingOf z c.args.u.place (reply z c.args.c line).text) (sym c.self.view_is) c.requires.next.2 in
-    let text = listing_written v c.args.u (reply v c.args.c line).text c.in-Some.name.now c.index.result.now listing (sym c.name.ensures ∙ ap option_copied c.in-Some.is) c.index.ensures in
+    let text : (reply v c.args.c line).text ≡ text_of c.args.listing.now = ap (λ (z : ServerState). (reply z c.args.c line).text) c.self.view_is ∙ c.requires.next.2 in
     on_ok_weaker c.answer_listing.result _ _
     (λ written. line_is v c.args.c c.args.place line x c.answer_listing.new.self at found next
     (written line (next_of_found v c.args.c x line found next) ∙ ap (λ (t : List ℕ). answered line t x) (sym text))

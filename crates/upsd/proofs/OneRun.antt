@@ -1,0 +1,146 @@
+-- The events of a script are one run of the server.
+use Rattle.std.proofs.Common.{◌≡◌, ℕ, Bool, true, false, List, [], ◌∷◌, ◌++◌, ◌∙◌, Option, Some, None, refl, sym, ap, subst, eqb, arith, take, append-nil, append_assoc, if◌then◌else◌}
+use Rattle.std.specs.List.{flat_map}
+use Rattle.std.proofs.lemmas.Grind.{common_steps}
+use Rattle.std.proofs.lemmas.Bool.{eqb-true}
+use Rattle.nutusers.specs.declared.ups_list.UpsId.{UpsId}
+use Rattle.nutcore.specs.declared.event.Event.{Event}
+use Rattle.nutcore.specs.declared.event.Event.TheVariants.{DriverUp, DriverBytes, DriverDown, Open, Feed, Took, Close}
+use Rattle.nutusers.specs.UpsFile.{Ups}
+use Rattle.nutusers.specs.UsersFile.{User}
+use Rattle.nutusers.specs.DescriptionFile.{Descriptions}
+use Rattle.nutcore.specs.Server.{ServerState, session, new_server}
+use Rattle.nutcore.specs.Headline.{IsLawful, WhatWasSentAndIsOwedIsTheAnswers}
+use Rattle.nutcore.specs.Pump.{owed_of}
+use Rattle.nutcore.specs.Step.{after, may_take}
+use Rattle.nutcore.specs.Run.{Run}
+use Rattle.nutcore.specs.History.{taken, taken_in_event, owed}
+use Rattle.upsd.specs.declared.script.Action.{Action}
+use Rattle.upsd.specs.declared.script.Action.TheVariants as asked
+use Rattle.upsd.specs.declared.script.ScriptLine.{ScriptLine}
+use Rattle.upsd.specs.declared.transcript.Taken.{Taken}
+use Rattle.upsd.specs.Script.{actions_of}
+use Rattle.upsd.specs.Transcript.{Told, before, Happens, HappensTo, TakesAgain, all_taken, again, IsDone, AreDone, IsOutput, ups_named, count_offered, sent_to, taken_by, opened_by}
+use Rattle.upsd.proofs.Taking.{when_true, when_false}
+use Rattle.upsd.specs.OneRun.{Happening, events_of, outcomes_of, once, once_to, takings, of_line, of_lines, TellsRun}
+
+-- runs, one after another
+run_joined : (s m t : ServerState) (hs is : List Happening) → Run s (events_of hs) (outcomes_of hs) m → Run m (events_of is) (outcomes_of is) t → Run s (events_of (hs ++ is)) (outcomes_of (hs ++ is)) t
+run_joined s m t [] is same r = subst (λ (z : ServerState). Run z (events_of is) (outcomes_of is) t) same r
+run_joined s m t (h ∷ hs) is (mid, first, rest) r = (mid, first, run_joined mid m t hs is rest r)
+
+taken_joined : (c : ℕ) (s m : ServerState) (hs is : List Happening) → Run s (events_of hs) (outcomes_of hs) m → taken c s (events_of (hs ++ is)) (outcomes_of (hs ++ is)) ≡ taken c s (events_of hs) (outcomes_of hs) ++ taken c m (events_of is) (outcomes_of is)
+taken_joined c s m [] is same = ap (λ (z : ServerState). taken c z (events_of is) (outcomes_of is)) (sym same)
+taken_joined c s m (h ∷ hs) is (mid, first, rest) =
+    let here : List ℕ = taken_in_event c s h.event in
+    let left : taken c mid (events_of (hs ++ is)) (outcomes_of (hs ++ is)) ≡ taken c mid (events_of hs) (outcomes_of hs) ++ taken c m (events_of is) (outcomes_of is) = taken_joined c mid m hs is rest in
+    let moved : taken c (after s h.event h.outcome) (events_of (hs ++ is)) (outcomes_of (hs ++ is)) ≡ taken c (after s h.event h.outcome) (events_of hs) (outcomes_of hs) ++ taken c m (events_of is) (outcomes_of is) =
+    subst (λ (z : ServerState). taken c z (events_of (hs ++ is)) (outcomes_of (hs ++ is)) ≡ taken c z (events_of hs) (outcomes_of hs) ++ taken c m (events_of is) (outcomes_of is)) first.leaves left in
+    ap (λ (xs : List ℕ). here ++ xs) moved ∙ sym (append_assoc here (taken c (after s h.event h.outcome) (events_of hs) (outcomes_of hs)) (taken c m (events_of is) (outcomes_of is)))
+
+-- what a client took by one event
+sent_joined : (c : ℕ) (ts us : List Taken) → sent_to c (ts ++ us) ≡ sent_to c ts ++ sent_to c us
+sent_joined c [] us = refl
+sent_joined c (t ∷ ts) us = grind (arith, common_steps, sent_joined c ts us)
+
+none_either_way : (may same : Bool) (xs : List ℕ) → same ≡ false → (if may then (if same then xs else []) else []) ≡ []
+none_either_way true same xs e = when_false same xs e
+none_either_way false same xs e = refl
+
+took_if : (c d n : ℕ) (s : ServerState) (b : Bool) → eqb d c ≡ b → (if eqb d c then taken_in_event d s (Took d n) else []) ≡ taken_in_event c s (Took d n)
+unfolding taken_in_event
+took_if c d n s true e = when_true (eqb d c) (taken_in_event d s (Took d n)) e ∙ ap (λ (z : ℕ). taken_in_event z s (Took d n)) (eqb-true d c e)
+took_if c d n s false e = when_false (eqb d c) (taken_in_event d s (Took d n)) e ∙ sym (none_either_way (may_take (session d s) n) (eqb d c) (take n (owed_of (session d s))) e)
+
+sent_by : (c : ℕ) (s : ServerState) (e : Event) → sent_to c (taken_by s e) ≡ taken_in_event c s e
+unfolding taken_in_event
+sent_by c s (DriverUp u) = refl
+sent_by c s (DriverBytes u piece) = refl
+sent_by c s (DriverDown u) = refl
+sent_by c s (Open address) = refl
+sent_by c s (Feed d piece) = refl
+sent_by c s (Took d n) = append-nil (if eqb d c then taken_in_event d s (Took d n) else []) ∙ took_if c d n s (eqb d c) refl
+sent_by c s (Close d) = refl
+
+opened_joined : (hs is : List Happening) → flat_map opened_by (outcomes_of (hs ++ is)) ≡ flat_map opened_by (outcomes_of hs) ++ flat_map opened_by (outcomes_of is)
+opened_joined [] is = refl
+opened_joined (h ∷ hs) is = ap (λ (xs : List ℕ). opened_by h.outcome ++ xs) (opened_joined hs is) ∙ sym (append_assoc (opened_by h.outcome) (flat_map opened_by (outcomes_of hs)) (flat_map opened_by (outcomes_of is)))
+
+-- What is told of two moments is the run between them.
+pub record IsRun (hs : List Happening) (old new : Told) : Type 0 where
+  pub run : Run old.server (events_of hs) (outcomes_of hs) new.server
+  pub clients : new.clients ≡ old.clients ++ flat_map opened_by (outcomes_of hs)
+  pub sent : (c : ℕ) → sent_to c new.taken ≡ sent_to c old.taken ++ taken c old.server (events_of hs) (outcomes_of hs)
+
+nothing : (old new : Told) → new.server ≡ old.server → new.clients ≡ old.clients → new.taken ≡ old.taken → IsRun [] old new
+nothing old new s k t = record {
+  run = s;
+  clients = k ∙ sym (append-nil old.clients);
+  sent = λ c. ap (sent_to c) t ∙ sym (append-nil (sent_to c old.taken));
+}
+
+joined : (hs is : List Happening) (old mid new : Told) → IsRun hs old mid → IsRun is mid new → IsRun (hs ++ is) old new
+joined hs is old mid new a b = record {
+  run = run_joined old.server mid.server new.server hs is a.run b.run;
+  clients =
+      b.clients ∙ ap (λ (xs : List ℕ). xs ++ flat_map opened_by (outcomes_of is)) a.clients
+      ∙ append_assoc old.clients (flat_map opened_by (outcomes_of hs)) (flat_map opened_by (outcomes_of is))
+      ∙ ap (λ (xs : List ℕ). old.clients ++ xs) (sym (opened_joined hs is));
+  sent = λ c.
+      b.sent c ∙ ap (λ (xs : List ℕ). xs ++ taken c mid.server (events_of is) (outcomes_of is)) (a.sent c)
+      ∙ append_assoc (sent_to c old.taken) (taken c old.server (events_of hs) (outcomes_of hs)) (taken c mid.server (events_of is) (outcomes_of is))
+      ∙ ap (λ (xs : List ℕ). sent_to c old.taken ++ xs) (sym (taken_joined c old.server mid.server hs is a.run));
+}
+
+once_runs : (line : ℕ) (event : Event) (old new : Told) (h : Happens line event old new) → IsRun (once line event old new h) old new
+once_runs line event old new h = record {
+  run = (new.server, h.steps, refl);
+  clients = h.clients ∙ ap (λ (xs : List ℕ). old.clients ++ xs) (sym (append-nil (opened_by h.outcome)));
+  sent = λ c.
+      ap (sent_to c) h.taken ∙ sent_joined c old.taken (taken_by old.server event)
+      ∙ ap (λ (xs : List ℕ). sent_to c old.taken ++ xs) (sent_by c old.server event ∙ sym (append-nil (taken_in_event c old.server event)));
+}
+
+once_to_runs : (o : Option UpsId) (line : ℕ) (event : UpsId → Event) (old new : Told) (h : HappensTo o line event old new) → IsRun (once_to o line event old new h) old new
+once_to_runs None line event old new h = nothing old new (ap (λ (t : Told). t.server) h) (ap (λ (t : Told). t.clients) h) (ap (λ (t : Told). t.taken) h)
+once_to_runs (Some u) line event old new h = once_runs line (event u) old new h
+
+takings_run : (line c : ℕ) (old new : Told) (h : TakesAgain line c old new) → IsRun (takings line c old new h) old new
+takings_run line c old new (all_taken t none) = nothing t t refl refl refl
+takings_run line c old new (again first mid last some h rest) =
+    joined (once line (Took c (count_offered c first)) first mid h) (takings line c mid last rest) first mid last (once_runs line (Took c (count_offered c first)) first mid h) (takings_run line c mid last rest)
+
+line_runs : (line : ℕ) (action : Action) (old new : Told) (h : IsDone line action old new) → IsRun (of_line line action old new h) old new
+unfolding IsDone
+line_runs line (asked.DriverUp name) old new h = once_to_runs (ups_named name old) line (λ u. DriverUp u) old new h
+line_runs line (asked.DriverBytes name piece) old new h = once_to_runs (ups_named name old) line (λ u. DriverBytes u piece) old new h
+line_runs line (asked.DriverDown name) old new h = once_to_runs (ups_named name old) line (λ u. DriverDown u) old new h
+line_runs line (asked.Open address) old new h = once_runs line (Open address) old new h
+line_runs line (asked.Feed c piece) old new h = once_runs line (Feed c piece) old new h
+line_runs line (asked.Took c n) old new h = once_runs line (Took c n) old new h
+line_runs line (asked.TookAll c) old new h =
+    joined (once line (Took c (count_offered c old)) old h.0 h.1) (takings line c h.0 new h.2) old h.0 new (once_runs line (Took c (count_offered c old)) old h.0 h.1) (takings_run line c h.0 new h.2)
+line_runs line (asked.Close c) old new h = once_runs line (Close c) old new h
+
+pub lines_run : (lines : List ScriptLine) (old new : Told) (h : AreDone lines old new) → IsRun (of_lines lines old new h) old new
+lines_run [] old new h = nothing old new (ap (λ (t : Told). t.server) h) (ap (λ (t : Told). t.clients) h) (ap (λ (t : Told). t.taken) h)
+lines_run (line ∷ lines) old new h =
+    joined (of_line line.number line.action old h.0 h.1) (of_lines lines h.0 new h.2) old h.0 new (line_runs line.number line.action old h.0 h.1) (lines_run lines h.0 new h.2)
+
+-- a new server has no sessions
+new_lawful : (list : List Ups) (users : List User) (descriptions : Descriptions) (max_age : ℕ) → IsLawful (new_server list users descriptions max_age)
+new_lawful list users descriptions max_age = λ c some. cc some
+
+pub output_tells : WhatWasSentAndIsOwedIsTheAnswers → (list : List Ups) (users : List User) (descriptions : Descriptions) (max_age : ℕ) (script output : List ℕ) (told : IsOutput list users descriptions max_age script output) → TellsRun (new_server list users descriptions max_age) (of_lines (actions_of script) (before list users descriptions max_age) told.end told.done) told.end
+output_tells law list users descriptions max_age script output told =
+    let start : ServerState = new_server list users descriptions max_age in
+    let hs : List Happening = of_lines (actions_of script) (before list users descriptions max_age) told.end told.done in
+    let whole : IsRun hs (before list users descriptions max_age) told.end = lines_run (actions_of script) (before list users descriptions max_age) told.end told.done in
+    record {
+      run = whole.run;
+      clients = whole.clients;
+      sent = whole.sent;
+      answered = λ c going.
+          ap (λ (xs : List ℕ). xs ++ owed c told.end.server) (whole.sent c)
+          ∙ sym ((law start told.end.server (events_of hs) (outcomes_of hs) (new_lawful list users descriptions max_age) whole.run c).while_open going);
+    }

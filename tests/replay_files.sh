@@ -1,0 +1,121 @@
+#!/usr/bin/env bash
+# The files that `upsd replay` takes: which are read in which order, what is told of them, and the program's status.
+#
+# One build runs all cases. `rt try --cases` writes a case's output behind a line `== NAME`, and what it wrote to
+# standard error before a line `case=NAME run=ended status=N ..`.
+set -euo pipefail
+cd "$(dirname "${BASH_SOURCE[0]}")/../crates/upsd"
+
+folder=$(mktemp -d)
+trap 'rm -r "$folder"' EXIT
+mkdir "$folder"/{files,cases,want,got}
+declare -a names=() data=()
+
+# A file of this name, with these lines.
+file() {
+    printf '%s\n' "${@:2}" >"$folder/files/$1"
+    data+=(--data "$1=$folder/files/$1")
+}
+
+# The program, given the words behind the first four arguments, ends with this status, output and standard error. The
+# last is a pattern.
+ends() {
+    local name=$1 word
+    names+=("$name")
+    printf %s "$2" >"$folder/want/$name.status"
+    printf %s "$3" >"$folder/want/$name.out"
+    printf %s "$4" >"$folder/want/$name.err"
+    : >"$folder/cases/$name"
+    : >"$folder/cases/$name.args"
+    for word in "${@:5}"; do
+        printf '%s\n' "$word" >>"$folder/cases/$name.args"
+    done
+}
+
+replays() { ends "$1" 0 "$2" "" replay "${@:3}"; }
+faults() { ends "$1" 1 "" "$2" replay "${@:3}"; }
+refuses_words() { ends "$1" 2 "" "error: *" "${@:2}"; }
+
+# Splits what the cases wrote into a file each.
+split_output() {
+    awk -v got="$folder/got" '/^== / { name = $2; next } { print > (got "/" name ".out") }' "$folder/out"
+    awk -v got="$folder/got" '
+        /^case=/ {
+            name = substr($1, 6); status = $3; sub(/^status=/, "", status)
+            printf "%s", status > (got "/" name ".status"); printf "%s", text > (got "/" name ".err")
+            text = ""; next
+        }
+        { text = text $0 "\n" }' "$folder/err"
+}
+
+failed=0
+compare() {
+    local want got
+    want=$(<"$folder/want/$1.$2") got=$(cat "$folder/got/$1.$2" 2>/dev/null) || true
+    # shellcheck disable=SC2053 # what is wanted is a pattern
+    if [[ $got != $want ]]; then
+        printf 'replay_files: FAILED: %s: %s\nwanted: %s\ngot: %s\n' "$1" "$2" "$want" "$got"
+        failed=1
+    fi
+}
+
+file two.conf '# two' '' '[su]' 'desc = "Server room"' '[bay-1]' 'socket = /run/nut/bay'
+file nothing.conf '# no UPS'
+file key.conf '[su]' '' '# the next key is none of ours' 'driver = usbhid-ups'
+file name.conf '[s/u]'
+file early.conf 'desc = x'
+file thirty-three.conf $(seq -f '[u%g]' 33)
+file texts '# texts' 'VARDESC ups.status "UPS status"' 'CMDDESC load.off "Turn off the load"'
+file twice 'VARDESC ups.status a' 'VARDESC ups.status b'
+file malformed 'VARDESC ups.status'
+file script 'up su' 'up bay-1' 'up nope' 'driver bay-1 DUMPDONE' 'driver bay-1 DATAOK' \
+    'open 192.0.2.1' 'client 1 LIST VAR bay-1' 'took 1 all'
+file bad 'up su' 'up'
+
+of_two=$'line 3: refused 1\nclient 1 sent 40 bytes\nBEGIN LIST VAR bay-1\nEND LIST VAR bay-1\ndriver bay-1 sent 0 bytes\ndriver su sent 0 bytes'
+of_su=$'line 2: refused 1\nline 3: refused 1\nline 4: refused 1\nline 5: refused 1\nclient 1 sent 16 bytes\nERR UNKNOWN-UPS\ndriver su sent 0 bytes'
+of_none=$'line 1: refused 1\nline 2: refused 1\nline 3: refused 1\nline 4: refused 1\nline 5: refused 1\nclient 1 sent 16 bytes\nERR UNKNOWN-UPS'
+
+replays both_options "$of_two" --ups two.conf --vars texts script
+replays options_in_the_other_order "$of_two" --vars texts --ups two.conf script
+replays options_behind_the_script "$of_two" script --vars=texts --ups=two.conf
+replays list_alone "$of_two" --ups two.conf script
+replays descriptions_alone "$of_su" --vars texts script
+replays script_alone "$of_su" script
+replays list_without_upses "$of_none" --ups nothing.conf script
+
+faults bad_list_before_absent_descriptions 'upsd: key.conf:4: cause 5' --ups key.conf --vars absent script
+faults bad_list_behind_absent_descriptions 'upsd: key.conf:4: cause 5' --vars absent --ups key.conf script
+faults absent_list_before_bad_descriptions 'upsd: absent: cannot read' --vars twice --ups absent absent-too
+faults bad_descriptions_before_bad_script 'upsd: twice:2: cause 4' bad --vars twice --ups two.conf
+faults absent_descriptions_before_bad_script 'upsd: ./absent: cannot read' --vars ./absent bad
+faults absent_script 'upsd: absent: cannot read' --ups two.conf --vars texts absent
+faults folder_in_place_of_a_list 'upsd: .: cannot read' --ups . script
+faults bad_line_of_a_script 'upsd: ./bad:2: bad event' --ups two.conf ./bad
+faults malformed_line 'upsd: malformed:1: cause 1' --vars malformed script
+faults key_outside_of_a_section 'upsd: early.conf:1: cause 2' --ups early.conf script
+faults bad_name 'upsd: name.conf:1: cause 3' --ups name.conf script
+faults list_of_thirty_three 'upsd: thirty-three.conf:33: cause 6' --ups thirty-three.conf script
+
+refuses_words no_words
+refuses_words no_script replay --ups two.conf
+refuses_words unknown_option replay --users texts script
+refuses_words option_without_a_file replay script --ups
+refuses_words one_option_twice replay --ups two.conf --ups two.conf script
+refuses_words two_scripts replay script script
+refuses_words unknown_command play script
+
+# One step: the interpreter's run isn't needed.
+if ! rt try --steps 1 --cases "$folder/cases" "${data[@]}" >"$folder/out" 2>"$folder/err"; then
+    cat "$folder/err"
+    echo "replay_files: FAILED: the program wasn't run"
+    exit 1
+fi
+split_output
+for name in "${names[@]}"; do
+    for what in status out err; do
+        compare "$name" "$what"
+    done
+done
+((failed == 0)) || exit 1
+echo "replay_files: ok: ${#names[@]} cases"
