@@ -72,11 +72,22 @@ file script 'up su' 'up bay-1' 'up nope' 'driver bay-1 DUMPDONE' 'driver bay-1 D
     'open 192.0.2.1' 'client 1 LIST VAR bay-1' 'took 1 all'
 file bad 'up su' 'up'
 
+file monitors '[mon]' 'password = pass' 'upsmon secondary'
+file nobody '[mon]' 'upsmon tertiary'
+file login 'open 192.0.2.1' 'client 1 USERNAME mon' 'client 1 PASSWORD pass' 'client 1 LOGIN su' \
+    'client 1 GET NUMLOGINS su' 'tick 7' 'took 1 all'
+
 of_two=$'line 3: refused 1\nclient 1 sent 40 bytes\nBEGIN LIST VAR bay-1\nEND LIST VAR bay-1\ndriver bay-1 sent 0 bytes\ndriver su sent 0 bytes'
 of_su=$'line 2: refused 1\nline 3: refused 1\nline 4: refused 1\nline 5: refused 1\nclient 1 sent 16 bytes\nERR UNKNOWN-UPS\ndriver su sent 0 bytes'
 of_none=$'line 1: refused 1\nline 2: refused 1\nline 3: refused 1\nline 4: refused 1\nline 5: refused 1\nclient 1 sent 16 bytes\nERR UNKNOWN-UPS'
 
 replays both_options "$of_two" --ups two.conf --vars texts script
+of_login=$'client 1 sent 24 bytes\nOK\nOK\nOK\nNUMLOGINS su 1\ndriver su sent 0 bytes'
+of_stranger=$'client 1 sent 39 bytes\nOK\nOK\nERR ACCESS-DENIED\nNUMLOGINS su 0\ndriver su sent 0 bytes'
+
+replays a_user_logs_in "$of_login" --users monitors login
+replays nobody_logs_in_without_users "$of_stranger" login
+faults bad_user $'upsd: nobody:2: cause 6\n' --users nobody login
 replays options_in_the_other_order "$of_two" --vars texts --ups two.conf script
 replays options_behind_the_script "$of_two" script --vars=texts --ups=two.conf
 replays list_alone "$of_two" --ups two.conf script
@@ -99,7 +110,7 @@ faults list_of_thirty_three 'upsd: thirty-three.conf:33: cause 6' --ups thirty-t
 
 refuses_words no_words
 refuses_words no_script replay --ups two.conf
-refuses_words unknown_option replay --users texts script
+refuses_words unknown_option replay --maxage 15 script
 refuses_words option_without_a_file replay script --ups
 refuses_words one_option_twice replay --ups two.conf --ups two.conf script
 refuses_words two_scripts replay script script

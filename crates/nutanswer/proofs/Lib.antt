@@ -1,6 +1,3 @@
 mod Rows
+pub mod Changes
 mod ErrorLemmas
-mod Quoted
-mod Upses
-mod Lawful
-mod Joined

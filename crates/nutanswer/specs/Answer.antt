@@ -1,69 +1,143 @@
--- What is answered to a command (RFC 9271): one row a command, its checks from left to right and then the answer.
-use Rattle.std.specs.Prelude.{◌≡◌, ℕ, Bool, true, false, List, [], ◌∷◌, codes, Result, Ok, Err}
+-- What is answered to a command (RFC 9271): one row a command, its checks from left to right, here from above, and then the answer and what it changes.
+use Rattle.std.specs.Prelude.{◌≡◌, ℕ, Bool, true, false, List, [], ◌∷◌, codes, Option, Some, Result, Ok, Err}
+use Rattle.std.specs.Fmt.{decimal}
 use Rattle.nutwords.specs.Frame.{line_of}
 use Rattle.nutwords.specs.Spelling.{quoted}
-use Rattle.nutdriver.specs.Tree.{variable_at}
-use Rattle.nutusers.specs.DescriptionFile.{text_at}
+use Rattle.nutusers.specs.Descriptions.{text_at}
+use Rattle.nutusers.specs.declared.rights.Right.TheVariants as rights
 use Rattle.nutanswer.specs.declared.command.Command.{Command}
-use Rattle.nutanswer.specs.declared.command.Command.TheVariants.{GetVar, GetType, GetDesc, GetCmdDesc, GetUpsDesc, ListUps, ListVar, ListRw, ListCmd, ListEnum, ListRange, Help, Ver, NetVer, ProtVer, StartTls}
+use Rattle.nutanswer.specs.declared.command.Command.TheVariants.{Username, Password, Login, Logout, Primary, Fsd, GetVar, GetType, GetDesc, GetCmdDesc, GetUpsDesc, GetNumLogins, ListUps, ListVar, ListRw, ListCmd, ListEnum, ListRange, Help, Ver, NetVer, ProtVer, StartTls}
 use Rattle.nutanswer.specs.declared.err_word.ErrWord.{ErrWord}
 use Rattle.nutanswer.specs.declared.err_word.ErrWord.TheVariants.{FeatureNotConfigured}
 use Rattle.nutanswer.specs.declared.reply.Change.{Change}
-use Rattle.nutanswer.specs.declared.reply.Change.TheVariants.{Nothing}
+use Rattle.nutanswer.specs.declared.reply.Change.TheVariants as changes
 use Rattle.nutanswer.specs.declared.reply.Reply.{Reply}
 use Rattle.nutanswer.specs.declared.reply.Reply.TheVariants.{One, Many}
 use Rattle.nutanswer.specs.ErrWord.{error_line}
-use Rattle.nutanswer.specs.Lines.{IsWholeLine}
-use Rattle.nutanswer.specs.View.{Seen}
-use Rattle.nutanswer.specs.Shown.{shown, description_of}
-use Rattle.nutanswer.specs.Types.{type_words}
-use Rattle.nutanswer.specs.Items.{ListingState, text_of, ups_listing, variable_listing, rw_listing, command_listing, enum_listing, range_listing}
-use Rattle.nutanswer.specs.Checks.{unknown_ups, live, var_not_supported, var_not_lawful, cmd_not_lawful}
+use Rattle.nutlisting.specs.Lines.{IsWholeLine}
+use Rattle.nutanswer.specs.View.{Seen, AskerSeen, login_count}
+use Rattle.nutlisting.specs.Shown.{shown, description_of}
+use Rattle.nutlisting.specs.Types.{type_words}
+use Rattle.nutlisting.specs.Items.{ListingState, text_of, ups_listing, variable_listing, rw_listing, command_listing, enum_listing, range_listing}
+use Rattle.nutanswer.specs.Checks.{◌>>=◌, ◌>>◌, user, unknown_ups, live, var_not_supported, var_not_lawful, cmd_not_lawful, already_set_username, already_set_password, already_logged_in, invalid_argument}
 
--- The words of a line, as they are spelled, or a listing.
+-- The words of a line, as they are spelled, and what the command changes; or a listing.
 pub data Answer : Type 0 where
-  one_line : (words : List (List ℕ)) → Answer
+  one_line : (words : List (List ℕ)) → (change : Change) → Answer
   listing : (l : ListingState) → Answer
+
+-- A line of a command that changes nothing.
+abbrev pub told : List (List ℕ) → Result Answer ErrWord
+told words = Ok (one_line words changes.Nothing)
+
+-- The bare OK.
+abbrev pub ok : List (List ℕ)
+ok = codes "OK" ∷ []
 
 abbrev pub help_text : List ℕ
 help_text = codes "Commands: HELP VER NETVER PROTVER GET LIST SET INSTCMD LOGIN LOGOUT PRIMARY FSD USERNAME PASSWORD STARTTLS"
 
 -- The table.
-abbrev pub answer_to : Seen → Command → Result Answer ErrWord
-answer_to s (GetVar ups name) = unknown_ups s ups (λ u. live s u (var_not_supported u name (λ v x. Ok (one_line (codes "VAR" ∷ u.name ∷ v ∷ quoted (shown u.state.fsd v x) ∷ [])))))
-answer_to s (GetType ups name) = unknown_ups s ups (λ u. live s u (var_not_supported u name (λ v x. Ok (one_line (codes "TYPE" ∷ u.name ∷ v ∷ type_words x)))))
-answer_to s (GetDesc ups name) = unknown_ups s ups (λ u. var_not_lawful name (λ v. Ok (one_line (codes "DESC" ∷ u.name ∷ v ∷ quoted (description_of (text_at s.descriptions.vars v)) ∷ []))))
-answer_to s (GetCmdDesc ups name) = unknown_ups s ups (λ u. cmd_not_lawful name (λ c. Ok (one_line (codes "CMDDESC" ∷ u.name ∷ c ∷ quoted (description_of (text_at s.descriptions.cmds c)) ∷ []))))
-answer_to s (GetUpsDesc ups) = unknown_ups s ups (λ u. Ok (one_line (codes "UPSDESC" ∷ u.name ∷ quoted u.description ∷ [])))
-answer_to s ListUps = Ok (listing (ups_listing s.list))
-answer_to s (ListVar ups) = unknown_ups s ups (λ u. live s u (Ok (listing (variable_listing u.name u.state.fsd u.state.tree.variables))))
-answer_to s (ListRw ups) = unknown_ups s ups (λ u. live s u (Ok (listing (rw_listing u.name u.state.fsd u.state.tree.variables))))
-answer_to s (ListCmd ups) = unknown_ups s ups (λ u. live s u (Ok (listing (command_listing u.name u.state.tree.commands))))
-answer_to s (ListEnum ups name) = unknown_ups s ups (λ u. live s u (var_not_supported u name (λ v x. Ok (listing (enum_listing u.name v (variable_at u.state.tree v))))))
-answer_to s (ListRange ups name) = unknown_ups s ups (λ u. live s u (var_not_supported u name (λ v x. Ok (listing (range_listing u.name v (variable_at u.state.tree v))))))
-answer_to s Help = Ok (one_line (help_text ∷ []))
-answer_to s Ver = Ok (one_line (codes "Network UPS Tools upsd, profile 1" ∷ []))
-answer_to s NetVer = Ok (one_line (codes "1.3" ∷ []))
-answer_to s ProtVer = Ok (one_line (codes "1.3" ∷ []))
-answer_to s StartTls = Err FeatureNotConfigured
+abbrev pub answer_to : Seen → AskerSeen → Command → Result Answer ErrWord
+answer_to s asker (Username word) = do
+  already_set_username asker
+  name ← invalid_argument word
+  Ok (one_line ok (changes.Username name))
+answer_to s asker (Password word) = do
+  already_set_password asker
+  password ← invalid_argument word
+  Ok (one_line ok (changes.Password password))
+answer_to s asker (Login ups) = do
+  user s asker rights.Login
+  u ← unknown_ups s ups
+  already_logged_in asker
+  Ok (one_line ok (changes.Login u.id))
+answer_to s asker Logout = Ok (one_line (codes "OK" ∷ codes "Goodbye" ∷ []) changes.Ending)
+answer_to s asker (Primary ups) = do
+  user s asker rights.Primary
+  _ ← unknown_ups s ups
+  told ok
+answer_to s asker (Fsd ups) = do
+  user s asker rights.Fsd
+  u ← unknown_ups s ups
+  Ok (one_line (codes "OK" ∷ codes "FSD-SET" ∷ []) (changes.Fsd u.id))
+answer_to s asker (GetVar ups name) = do
+  u ← unknown_ups s ups
+  live s u
+  (v, x) ← var_not_supported u name
+  told (codes "VAR" ∷ u.name ∷ v ∷ quoted (shown u.state.fsd v x) ∷ [])
+answer_to s asker (GetType ups name) = do
+  u ← unknown_ups s ups
+  live s u
+  (v, x) ← var_not_supported u name
+  told (codes "TYPE" ∷ u.name ∷ v ∷ type_words x)
+answer_to s asker (GetDesc ups name) = do
+  u ← unknown_ups s ups
+  v ← var_not_lawful name
+  told (codes "DESC" ∷ u.name ∷ v ∷ quoted (description_of (text_at s.descriptions.vars v)) ∷ [])
+answer_to s asker (GetCmdDesc ups name) = do
+  u ← unknown_ups s ups
+  c ← cmd_not_lawful name
+  told (codes "CMDDESC" ∷ u.name ∷ c ∷ quoted (description_of (text_at s.descriptions.cmds c)) ∷ [])
+answer_to s asker (GetUpsDesc ups) = do
+  u ← unknown_ups s ups
+  told (codes "UPSDESC" ∷ u.name ∷ quoted u.description ∷ [])
+answer_to s asker (GetNumLogins ups) = do
+  u ← unknown_ups s ups
+  told (codes "NUMLOGINS" ∷ u.name ∷ decimal (login_count u.id s.clients) ∷ [])
+answer_to s asker ListUps = Ok (listing (ups_listing s.list))
+answer_to s asker (ListVar ups) = do
+  u ← unknown_ups s ups
+  live s u
+  Ok (listing (variable_listing u.name u.state.fsd u.state.report.tree.variables))
+answer_to s asker (ListRw ups) = do
+  u ← unknown_ups s ups
+  live s u
+  Ok (listing (rw_listing u.name u.state.fsd u.state.report.tree.variables))
+answer_to s asker (ListCmd ups) = do
+  u ← unknown_ups s ups
+  live s u
+  Ok (listing (command_listing u.name u.state.report.tree.commands))
+answer_to s asker (ListEnum ups name) = do
+  u ← unknown_ups s ups
+  live s u
+  (v, x) ← var_not_supported u name
+  Ok (listing (enum_listing u.name v (Some x)))
+answer_to s asker (ListRange ups name) = do
+  u ← unknown_ups s ups
+  live s u
+  (v, x) ← var_not_supported u name
+  Ok (listing (range_listing u.name v (Some x)))
+answer_to s asker Help = told (help_text ∷ [])
+answer_to s asker Ver = told (codes "Network UPS Tools upsd, profile 1" ∷ [])
+answer_to s asker NetVer = told (codes "1.3" ∷ [])
+answer_to s asker ProtVer = told (codes "1.3" ∷ [])
+answer_to s asker StartTls = Err FeatureNotConfigured
 
 -- The whole text of an answer.
 abbrev pub text_of_answer : Result Answer ErrWord → List ℕ
 text_of_answer (Err word) = error_line word
-text_of_answer (Ok (one_line words)) = line_of words
+text_of_answer (Ok (one_line words change)) = line_of words
 text_of_answer (Ok (listing l)) = text_of l
 
-abbrev pub is_listing : Result Answer ErrWord → Bool
-is_listing (Err word) = false
-is_listing (Ok (one_line words)) = false
-is_listing (Ok (listing l)) = true
+-- What a command that is answered so changes: nothing where it is refused, and nothing where it lists.
+abbrev pub change_of_answer : Result Answer ErrWord → Change
+change_of_answer (Err word) = changes.Nothing
+change_of_answer (Ok (one_line words change)) = change
+change_of_answer (Ok (listing l)) = changes.Nothing
 
--- A line that answers a command, which changes nothing.
+-- The answer shares a version of what it lists, which takes memory.
+abbrev pub shares_version : Result Answer ErrWord → Bool
+shares_version (Err word) = false
+shares_version (Ok (one_line words change)) = false
+shares_version (Ok (listing l)) = true
+
+-- A line that answers a command, and what the command changes.
 pub record IsOneLine (answer : Result Answer ErrWord) (line : List ℕ) (change : Change) : Type 0 where
   pub text : line ≡ text_of_answer answer
-  pub one : is_listing answer ≡ false
+  pub changes : change ≡ change_of_answer answer
+  pub one : shares_version answer ≡ false
   pub whole_line : IsWholeLine line
-  pub unchanged : change ≡ Nothing
 
 -- The reply gives this answer.
 abbrev pub IsReply : Result Answer ErrWord → Reply → Type 0

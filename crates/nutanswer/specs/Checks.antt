@@ -1,69 +1,116 @@
--- The checks of a command, each named for the word of the error that is answered where it fails. What is written behind a check comes after it.
-use Rattle.std.specs.Prelude.{ℕ, List, Option, Some, None, Result, Ok, Err, slice_get}
+-- The checks of a command, each named for the word of the error that is answered where it fails. A row of the table is a `do` block of them: what stands below a check that fails isn't looked at.
+use Rattle.std.specs.Prelude.{ℕ, Bool, ◌&&◌, is_none, List, Option, Some, None, Result, Ok, Err, slice_get, if◌then◌else◌}
 use Rattle.std.specs.Option.{ok_or, option_map, option_and_then}
 use Rattle.nutdriver.specs.Tree.{TreeState, variable_at}
 use Rattle.nutdriver.specs.Variable.{VariableState}
-use Rattle.nutusers.specs.UpsFile.{place_of}
+use Rattle.nutusers.specs.UpsList.{Ups, place_of, id_at}
+use Rattle.nutusers.specs.Users.{may}
+use Rattle.nutusers.specs.declared.rights.Right.{Right}
+use Rattle.nutusers.specs.declared.ups_list.UpsId.{UpsId}
 use Rattle.nutanswer.specs.declared.err_word.ErrWord.{ErrWord}
-use Rattle.nutanswer.specs.declared.err_word.ErrWord.TheVariants.{UnknownUps, DriverNotConnected, DataStale, VarNotSupported, CmdNotSupported}
-use Rattle.nutanswer.specs.Shown.{ups_description}
-use Rattle.nutanswer.specs.View.{Seen, UpsSeen, Readiness, not_connected, stale, usable, readiness}
+use Rattle.nutanswer.specs.declared.err_word.ErrWord.TheVariants.{AccessDenied, UnknownUps, DriverNotConnected, DataStale, VarNotSupported, CmdNotSupported, InvalidArgument, AlreadyLoggedIn, AlreadySetPassword, AlreadySetUsername, UsernameRequired, PasswordRequired}
+use Rattle.nutlisting.specs.Shown.{ups_description}
+use Rattle.nutanswer.specs.View.{Seen, AskerSeen, UpsSeen, Readiness, not_connected, stale, usable, readiness}
 
--- A UPS that is there: its name, its description as clients are told it, and what is known of it.
+-- What a check finds is handed on, where it doesn't fail.
+infixl 10 ◌>>=◌
+abbrev pub ◌>>=◌ : {A B : Type 0} → Result A ErrWord → (A → Result B ErrWord) → Result B ErrWord
+(Err word) >>= next = Err word
+(Ok a) >>= next = next a
+
+-- The same of a check that finds nothing.
+infixl 10 ◌>>◌
+abbrev pub ◌>>◌ : {B : Type 0} → Result (Unit {0}) ErrWord → Result B ErrWord → Result B ErrWord
+(Err word) >> next = Err word
+(Ok none) >> next = next
+
+-- The word, unless it holds.
+abbrev pub unless : Bool → ErrWord → Result (Unit {0}) ErrWord
+unless holds word = if holds then Ok tt else Err word
+
+-- A UPS that is there: its name, its description as clients are told it, the name that the server has for it, and what is known of it.
 pub record KnownUps : Type 0 where
   pub name : List ℕ
   pub description : List ℕ
+  pub id : UpsId
   pub state : UpsSeen
+
+abbrev pub known : List ℕ → ℕ → Ups → UpsSeen → KnownUps
+known name place listed x = record { name = name; description = ups_description listed; id = id_at place; state = x }
 
 -- The UPS at this place of the list, where there is one.
 abbrev pub ups_at : Seen → List ℕ → ℕ → Option KnownUps
-ups_at s name place =
-    option_and_then (λ listed. option_map (λ x. record { name = name; description = ups_description listed; state = x }) (slice_get s.upses place)) (slice_get s.list place)
+ups_at s name place = option_and_then (λ listed. option_map (known name place listed) (slice_get s.upses place)) (slice_get s.list place)
 
 -- The UPS of this name. Where the word is no lawful name, or the list has no such UPS, there is none.
 abbrev pub ups_named : Seen → Option (List ℕ) → Option KnownUps
 ups_named s None = None
 ups_named s (Some name) = option_and_then (ups_at s name) (place_of name s.list)
 
--- Whether clients are told what its driver told.
+abbrev pub unknown_ups : Seen → Option (List ℕ) → Result KnownUps ErrWord
+unknown_ups s name = ok_or (ups_named s name) UnknownUps
+
+abbrev pub driver_not_connected : Readiness → Result (Unit {0}) ErrWord
+driver_not_connected not_connected = Err DriverNotConnected
+driver_not_connected stale = Ok tt
+driver_not_connected usable = Ok tt
+
+abbrev pub data_stale : Readiness → Result (Unit {0}) ErrWord
+data_stale not_connected = Ok tt
+data_stale stale = Err DataStale
+data_stale usable = Ok tt
+
+-- Whether clients are told what its driver has reported.
 abbrev pub ready : Seen → KnownUps → Readiness
-ready s u = readiness s.moment s.max_age u.state
+ready s u = readiness s.moment s.max_age u.state.report
+
+-- Clients are told what the driver has reported.
+abbrev pub live : Seen → KnownUps → Result (Unit {0}) ErrWord
+live s u = do
+  driver_not_connected (ready s u)
+  data_stale (ready s u)
 
 -- The variable of this name, with its name.
 abbrev pub variable_named : TreeState → Option (List ℕ) → Option (List ℕ × VariableState)
 variable_named tree None = None
 variable_named tree (Some name) = option_map (λ v. (name, v)) (variable_at tree name)
 
--- What comes after a check, where it doesn't fail.
-abbrev pub then_next : {A B : Type 0} → Result A ErrWord → (A → Result B ErrWord) → Result B ErrWord
-then_next (Err word) next = Err word
-then_next (Ok a) next = next a
+abbrev pub var_not_supported : KnownUps → Option (List ℕ) → Result (List ℕ × VariableState) ErrWord
+var_not_supported u name = ok_or (variable_named u.state.report.tree name) VarNotSupported
 
-module _ {A : Type 0} where
-  abbrev pub unknown_ups : Seen → Option (List ℕ) → (KnownUps → Result A ErrWord) → Result A ErrWord
-  unknown_ups s name next = then_next (ok_or (ups_named s name) UnknownUps) next
+-- The word is no lawful name, as of GET DESC, which doesn't look for it in what the driver has reported.
+abbrev pub var_not_lawful : Option (List ℕ) → Result (List ℕ) ErrWord
+var_not_lawful name = ok_or name VarNotSupported
 
-  abbrev pub driver_not_connected : Readiness → Result A ErrWord → Result A ErrWord
-  driver_not_connected not_connected next = Err DriverNotConnected
-  driver_not_connected stale next = next
-  driver_not_connected usable next = next
+-- The same, of GET CMDDESC.
+abbrev pub cmd_not_lawful : Option (List ℕ) → Result (List ℕ) ErrWord
+cmd_not_lawful name = ok_or name CmdNotSupported
 
-  abbrev pub data_stale : Readiness → Result A ErrWord → Result A ErrWord
-  data_stale not_connected next = next
-  data_stale stale next = Err DataStale
-  data_stale usable next = next
+abbrev pub username_required : AskerSeen → Result (List ℕ) ErrWord
+username_required asker = ok_or asker.username UsernameRequired
 
-  -- Clients are told what the driver told.
-  abbrev pub live : Seen → KnownUps → Result A ErrWord → Result A ErrWord
-  live s u next = driver_not_connected (ready s u) (data_stale (ready s u) next)
+abbrev pub password_required : AskerSeen → Result (List ℕ) ErrWord
+password_required asker = ok_or asker.password PasswordRequired
 
-  abbrev pub var_not_supported : KnownUps → Option (List ℕ) → (List ℕ → VariableState → Result A ErrWord) → Result A ErrWord
-  var_not_supported u name next = then_next (ok_or (variable_named u.state.tree name) VarNotSupported) (λ v. next v.0 v.1)
+abbrev pub access_denied : Seen → List ℕ → List ℕ → Right → Result (Unit {0}) ErrWord
+access_denied s name password right = unless (may s.users name password right) AccessDenied
 
-  -- The word is no lawful name, as of GET DESC, which doesn't look for it in what the driver told.
-  abbrev pub var_not_lawful : Option (List ℕ) → (List ℕ → Result A ErrWord) → Result A ErrWord
-  var_not_lawful name next = then_next (ok_or name VarNotSupported) next
+-- The session has given the name and the password of a user to whom the right is granted.
+abbrev pub user : Seen → AskerSeen → Right → Result (Unit {0}) ErrWord
+user s asker right = do
+  name ← username_required asker
+  password ← password_required asker
+  access_denied s name password right
 
-  -- The same, of GET CMDDESC.
-  abbrev pub cmd_not_lawful : Option (List ℕ) → (List ℕ → Result A ErrWord) → Result A ErrWord
-  cmd_not_lawful name next = then_next (ok_or name CmdNotSupported) next
+abbrev pub already_set_username : AskerSeen → Result (Unit {0}) ErrWord
+already_set_username asker = unless (is_none asker.username) AlreadySetUsername
+
+abbrev pub already_set_password : AskerSeen → Result (Unit {0}) ErrWord
+already_set_password asker = unless (is_none asker.password) AlreadySetPassword
+
+abbrev pub already_logged_in : AskerSeen → Result (Unit {0}) ErrWord
+already_logged_in asker = unless (is_none asker.login) AlreadyLoggedIn
+
+-- The word isn't as long as a user name or a password may be.
+abbrev pub invalid_argument : Option (List ℕ) → Result (List ℕ) ErrWord
+invalid_argument word = ok_or word InvalidArgument

@@ -4,9 +4,10 @@ use Rattle.std.specs.Result.{result_ok}
 use Rattle.nutwords.specs.Scan.{read_line}
 use Rattle.nutwords.specs.Reading.{read_name, read_ups_name}
 use Rattle.nutwords.specs.declared.faults.BadLine.{BadLine}
+use Rattle.nutusers.specs.Credentials.{read_user_name, read_password}
 use Rattle.nutdriver.specs.Spelling.{is_word}
 use Rattle.nutanswer.specs.declared.command.Command.{Command}
-use Rattle.nutanswer.specs.declared.command.Command.TheVariants.{GetVar, GetType, GetDesc, GetCmdDesc, GetUpsDesc, ListUps, ListVar, ListRw, ListCmd, ListEnum, ListRange, Help, Ver, NetVer, ProtVer, StartTls}
+use Rattle.nutanswer.specs.declared.command.Command.TheVariants.{Username, Password, Login, Logout, Primary, Fsd, GetVar, GetType, GetDesc, GetCmdDesc, GetUpsDesc, GetNumLogins, ListUps, ListVar, ListRw, ListCmd, ListEnum, ListRange, Help, Ver, NetVer, ProtVer, StartTls}
 use Rattle.nutanswer.specs.declared.err_word.ErrWord.{ErrWord}
 use Rattle.nutanswer.specs.declared.err_word.ErrWord.TheVariants.{InvalidArgument, UnknownCommand}
 
@@ -19,6 +20,16 @@ command_with command (Ok arguments) = Ok (command arguments)
 abbrev pub alone : Command → List (List ℕ) → Result Command ErrWord
 alone command [] = Ok command
 alone command _ = Err InvalidArgument
+
+-- `name`: a word that isn't as long as a user name may be is none.
+abbrev pub user_name_alone : List (List ℕ) → Result (Option (List ℕ)) ErrWord
+user_name_alone (name ∷ []) = Ok (read_user_name name)
+user_name_alone _ = Err InvalidArgument
+
+-- `password`, likewise
+abbrev pub password_alone : List (List ℕ) → Result (Option (List ℕ)) ErrWord
+password_alone (password ∷ []) = Ok (read_password password)
+password_alone _ = Err InvalidArgument
 
 -- `ups`: a word that is no lawful name names nothing, here and below.
 abbrev pub ups_alone : List (List ℕ) → Result (Option (List ℕ)) ErrWord
@@ -38,6 +49,7 @@ get_of kind words =
     else if is_word kind (codes "DESC") then command_with (λ a. GetDesc a.0 a.1) (ups_and_name words)
     else if is_word kind (codes "CMDDESC") then command_with (λ a. GetCmdDesc a.0 a.1) (ups_and_name words)
     else if is_word kind (codes "UPSDESC") then command_with (λ ups. GetUpsDesc ups) (ups_alone words)
+    else if is_word kind (codes "NUMLOGINS") then command_with (λ ups. GetNumLogins ups) (ups_alone words)
     else Err InvalidArgument
 
 abbrev pub read_get : List (List ℕ) → Result Command ErrWord
@@ -59,11 +71,17 @@ abbrev pub read_list : List (List ℕ) → Result Command ErrWord
 read_list [] = Err InvalidArgument
 read_list (kind ∷ words) = list_of kind words
 
--- The command with this first word and these words behind it: one case a first word.
+-- The command with this first word and these words after it: one case a first word.
 abbrev pub command_named : List ℕ → List (List ℕ) → Result Command ErrWord
 command_named first words =
     if is_word first (codes "GET") then read_get words
     else if is_word first (codes "LIST") then read_list words
+    else if is_word first (codes "USERNAME") then command_with (λ name. Username name) (user_name_alone words)
+    else if is_word first (codes "PASSWORD") then command_with (λ password. Password password) (password_alone words)
+    else if is_word first (codes "LOGIN") then command_with (λ ups. Login ups) (ups_alone words)
+    else if is_word first (codes "LOGOUT") then alone Logout words
+    else if is_word first (codes "PRIMARY") then command_with (λ ups. Primary ups) (ups_alone words)
+    else if is_word first (codes "FSD") then command_with (λ ups. Fsd ups) (ups_alone words)
     else if is_word first (codes "HELP") then alone Help words
     else if is_word first (codes "VER") then alone Ver words
     else if is_word first (codes "NETVER") then alone NetVer words

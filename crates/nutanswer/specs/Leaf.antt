@@ -1,21 +1,23 @@
--- What the parts of the code answer, where the table needs no name for it.
-use Rattle.std.specs.Prelude.{◌≡◌, ℕ, List, [], ◌∷◌, ◌++◌, Result, Ok, Err}
+-- What the private parts of the code promise one another. A reader of the public contracts needs none of it.
+use Rattle.std.specs.Prelude.{◌≡◌, ℕ, List, [], ◌∷◌, ◌++◌, Option, None, Result, Ok, Err}
 use Rattle.std.specs.Option.{option_copied}
 use Rattle.arrayvec.specs.ArrayVec.{ArrayVec}
 use Rattle.nutdriver.specs.Variable.{VariableState}
-use Rattle.nutusers.specs.UpsFile.{new_ups}
+use Rattle.nutusers.specs.UpsList.{new_ups}
 use Rattle.nutanswer.specs.declared.err_word.ErrWord.{ErrWord}
 use Rattle.nutanswer.specs.declared.known.Known.{Known}
 use Rattle.nutanswer.specs.declared.known.KnownVariable.{KnownVariable}
+use Rattle.nutanswer.specs.declared.command.Command.{Command}
 use Rattle.nutanswer.specs.declared.reply.Change.TheVariants.{Nothing}
-use Rattle.nutanswer.specs.Shown.{ups_description}
-use Rattle.nutanswer.specs.View.{ups_seen}
-use Rattle.nutanswer.specs.Checks.{KnownUps, then_next}
-use Rattle.nutanswer.specs.Answer.{Answer, IsOneLine}
+use Rattle.nutanswer.specs.declared.reply.Reply.{Reply}
+use Rattle.nutlisting.specs.Shown.{ups_description}
+use Rattle.nutanswer.specs.View.{Seen, AskerSeen, ups_seen}
+use Rattle.nutanswer.specs.Checks.{◌>>=◌, ◌>>◌, KnownUps, unknown_ups, live, var_not_supported}
+use Rattle.nutanswer.specs.Answer.{Answer, answer_to, IsOneLine, IsReply}
 
 -- The UPS that was found.
 abbrev pub known_ups : Known → KnownUps
-known_ups k = record { name = k.name.now; description = ups_description (record (new_ups k.name.now) { desc = option_copied k.desc }); state = ups_seen k.state }
+known_ups k = record { name = k.name.now; description = ups_description (record (new_ups k.name.now) { desc = option_copied k.desc }); id = k.id; state = ups_seen k.state }
 
 -- The UPS and the variable that were found.
 abbrev pub known_variable : KnownVariable → KnownUps × List ℕ × VariableState
@@ -23,14 +25,37 @@ known_variable k = (known_ups k.ups, k.name.now, k.variable.now)
 
 -- What was found, or the word of the check that failed.
 abbrev pub found : {A B : Type 0} → (A → B) → Result A ErrWord → Result B ErrWord
-found f result = then_next result (λ a. Ok (f a))
+found f result = result >>= (λ a. Ok (f a))
 
--- The line of an answer, or the word of its error.
-abbrev pub Gives : Result Answer ErrWord → Result (ArrayVec ℕ) ErrWord → Type 0
-Gives answer (Ok line) = IsOneLine answer line.items Nothing
+-- The live UPS of this name.
+abbrev pub live_ups : Seen → Option (List ℕ) → Result KnownUps ErrWord
+live_ups s ups = do
+  u ← unknown_ups s ups
+  live s u
+  Ok u
+
+-- The variable of this name, of a live UPS.
+abbrev pub live_variable : Seen → Option (List ℕ) → Option (List ℕ) → Result (KnownUps × List ℕ × VariableState) ErrWord
+live_variable s ups name = do
+  u ← unknown_ups s ups
+  live s u
+  (v, x) ← var_not_supported u name
+  Ok (u, v, x)
+
+-- The reply gives this answer, or the word of its error.
+abbrev pub Gives : Result Answer ErrWord → Result Reply ErrWord → Type 0
+Gives answer (Ok reply) = IsReply answer reply
 Gives answer (Err word) = answer ≡ Err word
 
--- Words behind others, with a blank before each.
-abbrev pub spaced : List (List ℕ) → List ℕ
-spaced [] = []
-spaced (word ∷ words) = 32 ∷ (word ++ spaced words)
+-- A session that has given nothing.
+abbrev pub nobody : AskerSeen
+nobody = record { username = None; password = None; login = None }
+
+-- The answer to a command that is the same whoever asks.
+abbrev pub row : Seen → Command → Result Answer ErrWord
+row s command = answer_to s nobody command
+
+-- The line gives this answer, which changes nothing.
+abbrev pub IsLineOf : Result Answer ErrWord → Result (ArrayVec ℕ) ErrWord → Type 0
+IsLineOf answer (Ok line) = IsOneLine answer line.items Nothing
+IsLineOf answer (Err word) = answer ≡ Err word

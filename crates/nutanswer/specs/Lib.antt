@@ -1,11 +1,7 @@
 pub mod ErrWord
 pub mod Command
 pub mod View
-pub mod Shown
-pub mod Items
 pub mod Checks
-pub mod Types
 pub mod Answer
-pub mod Lines
-pub mod Content
+pub mod Laws
 pub mod Leaf

@@ -7,12 +7,25 @@ mod arguments;
 mod tests;
 
 use crate::ErrWord;
-use arguments::{alone, ups_alone, ups_and_name};
+use arguments::{alone, password_alone, ups_alone, ups_and_name, user_name_alone};
+use nutusers::{Password, UserName};
 use nutwords::{Name, UpsName, Words, words};
 
 /// A command of a client. A word that is no lawful name names nothing.
 #[derive(Clone, Debug, PartialEq, Eq, Drop)]
 pub enum Command {
+    /// `USERNAME`: the name of the user who asks; `None` where it isn't as long as one may be.
+    Username(Option<UserName>),
+    /// `PASSWORD`: the user's password; `None` where it isn't as long as one may be.
+    Password(Option<Password>),
+    /// `LOGIN`: this machine is fed by the UPS.
+    Login(Option<UpsName>),
+    /// `LOGOUT`: the session ends.
+    Logout,
+    /// `PRIMARY`: this machine is the primary of the UPS.
+    Primary(Option<UpsName>),
+    /// `FSD`: the forced shutdown of the UPS is set.
+    Fsd(Option<UpsName>),
     /// `GET VAR`: the value of a variable.
     GetVar(Option<UpsName>, Option<Name>),
     /// `GET TYPE`: what kind of variable it is.
@@ -23,6 +36,8 @@ pub enum Command {
     GetCmdDesc(Option<UpsName>, Option<Name>),
     /// `GET UPSDESC`: the description of a UPS.
     GetUpsDesc(Option<UpsName>),
+    /// `GET NUMLOGINS`: how many sessions are logged in to a UPS.
+    GetNumLogins(Option<UpsName>),
     /// `LIST UPS`: the UPSs of the server.
     ListUps,
     /// `LIST VAR`: the variables of a UPS.
@@ -76,7 +91,7 @@ impl Command {
         Ok(Some(command))
     }
 
-    /// The command that is called so, with these words behind its first.
+    /// The command that is called so, with these words after its first.
     fn named(first: &[u8], words: Words<'_>) -> Result<Command, ErrWord>
         ensures { result ≡ command_named first.now words.entry }
     {
@@ -84,6 +99,18 @@ impl Command {
             Command::get(words)
         } else if first.eq_ignore_ascii_case(b"LIST") {
             Command::list(words)
+        } else if first.eq_ignore_ascii_case(b"USERNAME") {
+            Ok(Command::Username(user_name_alone(words)?))
+        } else if first.eq_ignore_ascii_case(b"PASSWORD") {
+            Ok(Command::Password(password_alone(words)?))
+        } else if first.eq_ignore_ascii_case(b"LOGIN") {
+            Ok(Command::Login(ups_alone(words)?))
+        } else if first.eq_ignore_ascii_case(b"LOGOUT") {
+            alone(Command::Logout, words)
+        } else if first.eq_ignore_ascii_case(b"PRIMARY") {
+            Ok(Command::Primary(ups_alone(words)?))
+        } else if first.eq_ignore_ascii_case(b"FSD") {
+            Ok(Command::Fsd(ups_alone(words)?))
         } else if first.eq_ignore_ascii_case(b"HELP") {
             alone(Command::Help, words)
         } else if first.eq_ignore_ascii_case(b"VER") {
@@ -128,6 +155,9 @@ impl Command {
         } else if kind.eq_ignore_ascii_case(b"UPSDESC") {
             let ups = ups_alone(words)?;
             Ok(Command::GetUpsDesc(ups))
+        } else if kind.eq_ignore_ascii_case(b"NUMLOGINS") {
+            let ups = ups_alone(words)?;
+            Ok(Command::GetNumLogins(ups))
         } else {
             Err(ErrWord::InvalidArgument)
         }

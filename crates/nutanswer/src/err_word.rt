@@ -82,58 +82,66 @@ mod tests {
     use super::*;
     use std::test::Fail;
 
-    /// The words that refuse what is asked for or to be done.
-    fn words() -> [ErrWord; 10] {
+    /// Each word, with its line.
+    fn lines() -> [(ErrWord, &'static [u8]); 19] {
         [
-            ErrWord::UnknownUps,
-            ErrWord::VarNotSupported,
-            ErrWord::CmdNotSupported,
-            ErrWord::InvalidArgument,
-            ErrWord::InstcmdFailed,
-            ErrWord::SetFailed,
-            ErrWord::Readonly,
-            ErrWord::TooLong,
-            ErrWord::UnknownCommand,
-            ErrWord::InvalidValue,
-        ]
-    }
-
-    /// The words that tell of the server, the driver or the session.
-    fn words_of_state() -> [ErrWord; 9] {
-        [
-            ErrWord::AccessDenied,
-            ErrWord::FeatureNotConfigured,
-            ErrWord::DriverNotConnected,
-            ErrWord::DataStale,
-            ErrWord::AlreadyLoggedIn,
-            ErrWord::AlreadySetPassword,
-            ErrWord::AlreadySetUsername,
-            ErrWord::UsernameRequired,
-            ErrWord::PasswordRequired,
+            (ErrWord::AccessDenied, b"ERR ACCESS-DENIED\n".as_slice()),
+            (ErrWord::UnknownUps, b"ERR UNKNOWN-UPS\n".as_slice()),
+            (
+                ErrWord::VarNotSupported,
+                b"ERR VAR-NOT-SUPPORTED\n".as_slice(),
+            ),
+            (
+                ErrWord::CmdNotSupported,
+                b"ERR CMD-NOT-SUPPORTED\n".as_slice(),
+            ),
+            (
+                ErrWord::InvalidArgument,
+                b"ERR INVALID-ARGUMENT\n".as_slice(),
+            ),
+            (ErrWord::InstcmdFailed, b"ERR INSTCMD-FAILED\n".as_slice()),
+            (ErrWord::SetFailed, b"ERR SET-FAILED\n".as_slice()),
+            (ErrWord::Readonly, b"ERR READONLY\n".as_slice()),
+            (ErrWord::TooLong, b"ERR TOO-LONG\n".as_slice()),
+            (
+                ErrWord::FeatureNotConfigured,
+                b"ERR FEATURE-NOT-CONFIGURED\n".as_slice(),
+            ),
+            (
+                ErrWord::DriverNotConnected,
+                b"ERR DRIVER-NOT-CONNECTED\n".as_slice(),
+            ),
+            (ErrWord::DataStale, b"ERR DATA-STALE\n".as_slice()),
+            (
+                ErrWord::AlreadyLoggedIn,
+                b"ERR ALREADY-LOGGED-IN\n".as_slice(),
+            ),
+            (
+                ErrWord::AlreadySetPassword,
+                b"ERR ALREADY-SET-PASSWORD\n".as_slice(),
+            ),
+            (
+                ErrWord::AlreadySetUsername,
+                b"ERR ALREADY-SET-USERNAME\n".as_slice(),
+            ),
+            (
+                ErrWord::UsernameRequired,
+                b"ERR USERNAME-REQUIRED\n".as_slice(),
+            ),
+            (
+                ErrWord::PasswordRequired,
+                b"ERR PASSWORD-REQUIRED\n".as_slice(),
+            ),
+            (ErrWord::UnknownCommand, b"ERR UNKNOWN-COMMAND\n".as_slice()),
+            (ErrWord::InvalidValue, b"ERR INVALID-VALUE\n".as_slice()),
         ]
     }
 
     #[test]
-    fn spells_refusals(rt: HostRuntime) -> Result<(), Fail> {
-        let mut text = Vec::new(rt.alloc());
-        for word in words() {
-            text.extend_from_slice(word.line())?;
+    fn spells_each_word(rt: HostRuntime) -> Result<(), Fail> {
+        for (word, line) in lines() {
+            assert_eq!(rt; word.line(), line);
         }
-        let want =
-            b"ERR UNKNOWN-UPS\nERR VAR-NOT-SUPPORTED\nERR CMD-NOT-SUPPORTED\nERR INVALID-ARGUMENT\nERR INSTCMD-FAILED\nERR SET-FAILED\nERR READONLY\nERR TOO-LONG\nERR UNKNOWN-COMMAND\nERR INVALID-VALUE\n";
-        assert!(rt; text.as_slice() == want.as_slice());
-        Ok(())
-    }
-
-    #[test]
-    fn spells_what_stands_in_the_way(rt: HostRuntime) -> Result<(), Fail> {
-        let mut text = Vec::new(rt.alloc());
-        for word in words_of_state() {
-            text.extend_from_slice(word.line())?;
-        }
-        let want =
-            b"ERR ACCESS-DENIED\nERR FEATURE-NOT-CONFIGURED\nERR DRIVER-NOT-CONNECTED\nERR DATA-STALE\nERR ALREADY-LOGGED-IN\nERR ALREADY-SET-PASSWORD\nERR ALREADY-SET-USERNAME\nERR USERNAME-REQUIRED\nERR PASSWORD-REQUIRED\n";
-        assert!(rt; text.as_slice() == want.as_slice());
         Ok(())
     }
 }

@@ -1,6 +1,7 @@
 //! What the checks of a command find.
 use crate::UpsView;
 use nutdriver::Variable;
+use nutusers::UpsId;
 use nutwords::{Name, UpsName, Value};
 
 /// A UPS that is there, by the name that the command has.
@@ -8,6 +9,7 @@ use nutwords::{Name, UpsName, Value};
 pub(crate) struct Known<'a> {
     pub(crate) name: &'a UpsName,
     pub(crate) desc: Option<&'a Value>,
+    pub(crate) id: UpsId,
     pub(crate) state: UpsView<'a>,
 }
 

@@ -6,14 +6,14 @@ mod checks;
 mod command;
 mod err_word;
 mod known;
+pub mod laws;
 mod lines;
-mod listing;
 mod reply;
 mod view;
 
 pub use answers::answer;
 pub use command::Command;
 pub use err_word::ErrWord;
-pub use listing::Listing;
+pub use nutlisting::Listing;
 pub use reply::{Change, Reply};
-pub use view::{UpsView, View};
+pub use view::{Asker, UpsView, View};

@@ -1,12 +1,23 @@
 //! The answer to a command.
 use crate::Listing;
+use nutusers::{Password, UpsId, UserName};
 use nutwords::Line;
 
-/// What a command changes beside its own session's input and output.
-#[derive(Clone, Copy, Debug, PartialEq, Eq)]
+/// What a command changes.
+#[derive(Debug, PartialEq, Eq, Drop)]
 pub enum Change {
     /// Nothing.
     Nothing,
+    /// The session has given this user name (RFC 9271: USERNAME).
+    Username(UserName),
+    /// The session has given this password (RFC 9271: PASSWORD).
+    Password(Password),
+    /// The session is logged in to this UPS (RFC 9271: LOGIN).
+    Login(UpsId),
+    /// The session begins to end (RFC 9271: LOGOUT).
+    Ending,
+    /// The forced shutdown of this UPS is set (RFC 9271: FSD).
+    Fsd(UpsId),
 }
 
 /// The answer to a command.

@@ -1,30 +1,33 @@
 //! What an answer may look at of a server.
 ghost use Rattle.std.specs.Prelude.{◌≡◌, slice_get};
 
-use nutdriver::Tree;
-use nutusers::{Descriptions, UpsId, UpsList};
+use nutdriver::Report;
+use nutusers::{Descriptions, Password, UpsId, UpsList, UserName, Users};
+
+/// The session that asks, as answers see it.
+#[derive(Clone, Copy)]
+pub struct Asker<'a> {
+    /// The user name that it has given.
+    pub username: Option<&'a UserName>,
+    /// The password that it has given.
+    pub password: Option<&'a Password>,
+    /// The UPS that it is logged in to.
+    pub login: Option<UpsId>,
+}
 
 /// A UPS as answers see it.
 #[derive(Clone, Copy)]
 pub struct UpsView<'a> {
-    /// Whether its driver is connected.
-    pub connected: bool,
-    /// Whether the driver has told all that it knows.
-    pub dumped: bool,
-    /// Whether the driver says that its data are right.
-    pub ok: bool,
-    /// The moment of the driver's last line, in seconds.
-    pub heard: u64,
+    /// What its driver has reported.
+    pub report: &'a Report,
     /// Whether a forced shutdown is set.
     pub fsd: bool,
-    /// What the driver told.
-    pub tree: &'a Tree,
 }
 
 /// What an answer may look at of a server.
 pub trait View {
     ghost use Rattle.std.specs.Option.{option_map};
-    ghost use Rattle.nutanswer.specs.View.{Seen, ups_seen};
+    ghost use Rattle.nutanswer.specs.View.{Seen, ups_seen, login_count};
 
     /// What is seen.
     ghost seen: { Self → Seen };
@@ -41,6 +44,10 @@ pub trait View {
     fn list(&self) -> &UpsList
         ensures { result.now ≡ (seen self.now).list };
 
+    /// The users.
+    fn users(&self) -> &Users
+        ensures { result.now ≡ (seen self.now).users };
+
     /// The descriptions of variables and commands.
     fn descriptions(&self) -> &Descriptions
         ensures { result.now ≡ (seen self.now).descriptions };
@@ -48,4 +55,8 @@ pub trait View {
     /// What is known of the UPS at this place of the list, or `None` where there is none.
     fn ups(&self, u: UpsId) -> Option<UpsView<'_>>
         ensures { option_map ups_seen result ≡ slice_get (seen self.now).upses u.place };
+
+    /// How many of the open sessions are logged in to the UPS.
+    fn login_count(&self, u: UpsId) -> usize
+        ensures { result ≡ login_count u (seen self.now).clients };
 }

@@ -9,16 +9,13 @@ use Rattle.nutwords.proofs.Lines.{with_front, split_line-append}
 use Rattle.nutwords.specs.Cut.{Cuts}
 use Rattle.nutwords.specs.declared.cut.Cut.{Cut}
 use Rattle.nutwords.specs.declared.cut.Cut.TheVariants.{Line, More, TooLong}
-use Rattle.nutcore.specs.declared.TheConstants.{LINE_LIMIT}
-use Rattle.nutdriver.specs.declared.line.DriverLine.{DriverLine}
-use Rattle.nutdriver.specs.declared.fault.DriverFault.{DriverFault}
-use Rattle.nutdriver.specs.declared.effect.Effect.{Effect}
-use Rattle.nutdriver.specs.declared.effect.Effect.TheVariants.{Nothing, Changed, DumpDone, DataOk, DataStale, Pong}
+use Rattle.nutwords.specs.declared.limits.TheConstants.{LINE_ROOM, LINE_LIMIT}
+use Rattle.nutdriver.specs.declared.report.Report.{Report}
+use Rattle.nutdriver.specs.declared.report.LineOutcome.{LineOutcome}
+use Rattle.nutdriver.specs.declared.report.LineOutcome.TheVariants.{Accepted, Refused}
+use Rattle.nutdriver.specs.Report.{after_line}
 use Rattle.nutcore.specs.Lines.{first_line, behind}
-use Rattle.nutdriver.specs.Tree.{TreeState}
-use Rattle.nutdriver.specs.DriverLine.{read_driver_line}
-use Rattle.nutdriver.specs.DriverStep.{driver_step}
-use Rattle.nutcore.specs.Ups.{UpsState, after_effect, after_step, after_reading, after_text, next_driver_line, after_driver_line, after_driver_line_of, after_driver_lines, after_all_driver_lines, with_bytes}
+use Rattle.nutcore.specs.Ups.{UpsState, after_outcome, after_text, next_driver_line, after_driver_line, after_driver_line_of, after_driver_lines, after_all_driver_lines, with_bytes}
 use Rattle.nutcore.specs.Leaf.{CutsLine}
 use Rattle.nutcore.proofs.FirstLine.{with_byte, split_is, behind_is, behind_shorter}
 
@@ -71,38 +68,26 @@ pub cuts_line : (piece : List ℕ) (old : UpsState) (cut : Cut) (after : List �
 cuts_line piece old (Line line used) after none h =
     let bytes : List ℕ = old.unfinished ++ piece in
     let e : after ++ drop used piece ≡ behind line.items bytes = ap (λ z. z ++ drop used piece) h.3 ∙ sym (behind_split bytes line.items (drop used piece) h.0) in
-    (first_line-take LINE_LIMIT bytes line.items (drop used piece) h.0 h.2, some_used old.unfinished piece line.items used none h.0, h.1, ap (λ bs. let z : UpsState = record old { unfinished = bs } in z) e)
+    (first_line-take LINE_ROOM bytes line.items (drop used piece) h.0 h.2, some_used old.unfinished piece line.items used none h.0, h.1, ap (λ bs. let z : UpsState = record old { unfinished = bs } in z) e)
 cuts_line piece old More after none h =
     let bytes : List ℕ = old.unfinished ++ piece in
-    let few : length bytes ≤ LINE_LIMIT = omega (arith, h.1) in
-    (ap first_line (take_all LINE_LIMIT bytes few) ∙ ap (option_map (λ s. s.0)) h.0, lt-leb LINE_LIMIT (length bytes) h.1, ap (λ bs. let z : UpsState = record old { unfinished = bs } in z) h.2)
+    let few : length bytes ≤ LINE_ROOM = omega (arith, h.1) in
+    (ap first_line (take_all LINE_ROOM bytes few) ∙ ap (option_map (λ s. s.0)) h.0, lt-leb LINE_ROOM (length bytes) h.1, ap (λ bs. let z : UpsState = record old { unfinished = bs } in z) h.2)
 cuts_line piece old TooLong after none h =
     let bytes : List ℕ = old.unfinished ++ piece in
-    (ap (option_map (λ s. s.0)) h.0, le-leb LINE_LIMIT (length bytes) h.1, refl)
+    (ap (option_map (λ s. s.0)) h.0, le-leb LINE_ROOM (length bytes) h.1, refl)
 
 -- a next line has at most 1,023 bytes
-pub next_short : (x : UpsState) (line : List ℕ) → next_driver_line x ≡ Some line → length line ≤ 1023
-next_short x line h = omega (arith, behind_shorter (take LINE_LIMIT x.unfinished) line h, length-take LINE_LIMIT x.unfinished)
+pub next_short : (x : UpsState) (line : List ℕ) → next_driver_line x ≡ Some line → length line ≤ LINE_LIMIT
+next_short x line h = omega (arith, behind_shorter (take LINE_ROOM x.unfinished) line h, length-take LINE_ROOM x.unfinished)
 
 -- bytes that come later change nothing of what a line does
-effect_later : (p : List ℕ) (x : UpsState) (e : Effect) → with_bytes p (after_effect e x) ≡ after_effect e (with_bytes p x)
-effect_later p x Nothing = refl
-effect_later p x Changed = refl
-effect_later p x DumpDone = refl
-effect_later p x DataOk = refl
-effect_later p x DataStale = refl
-effect_later p x Pong = refl
-
-step_later : (p : List ℕ) (x : UpsState) (r : Result (TreeState × Effect) DriverFault) → with_bytes p (after_step x r) ≡ after_step (with_bytes p x) r
-step_later p x (Ok (tree, effect)) = effect_later p (record x { tree = tree }) effect
-step_later p x (Err fault) = refl
-
-reading_later : (p : List ℕ) (x : UpsState) (r : Result DriverLine DriverFault) → with_bytes p (after_reading x r) ≡ after_reading (with_bytes p x) r
-reading_later p x (Ok line) = step_later p x (driver_step x.tree line)
-reading_later p x (Err fault) = refl
+outcome_later : (p : List ℕ) (x : UpsState) (r : Report × LineOutcome) → with_bytes p (after_outcome x r) ≡ after_outcome (with_bytes p x) r
+outcome_later p x (report, Accepted) = refl
+outcome_later p x (report, Refused fault) = refl
 
 pub text_later : (p : List ℕ) (moment : ℕ) (x : UpsState) (line : List ℕ) → with_bytes p (after_text moment x line) ≡ after_text moment (with_bytes p x) line
-text_later p moment x line = reading_later p (record x { heard = moment }) (read_driver_line line)
+text_later p moment x line = outcome_later p x (after_line moment x.report line)
 
 -- the next line, where there is one
 pub driver_line_is : (moment : ℕ) (x : UpsState) (line : List ℕ) → next_driver_line x ≡ Some line → after_driver_line moment x ≡ after_text moment (record x { unfinished = behind line x.unfinished }) line

@@ -1,20 +1,20 @@
 -- Each event of a driver, over plain states.
-use Rattle.std.proofs.Common.{◌≡◌, ℕ, zero, suc, ◌<◌, Bool, true, false, List, [], ◌∷◌, Option, Some, None, Result, Ok, Err, refl, sym, ◌∙◌, ap, arith, length, set, get_or, inl, inr}
+use Rattle.std.proofs.Common.{◌≡◌, ℕ, zero, suc, ◌<◌, Bool, true, false, not, ◌&&◌, leb, List, [], ◌∷◌, Option, Some, None, Result, Ok, Err, refl, sym, ◌∙◌, ap, arith, length, max, map, take, drop, ◌++◌, set, get_or, inl, inr}
 use Rattle.std.specs.Prelude.{slice_get}
 use Rattle.std.specs.Option.{option_map}
-use Rattle.std.proofs.lemmas.Bool.{cond-true, cond-false, and_from}
+use Rattle.std.proofs.lemmas.Bool.{cond-true, cond-false, and_from, le-leb, lt-leb}
 use Rattle.std.proofs.lemmas.Option.{slice_get-get_or}
 use Rattle.nutusers.specs.declared.ups_list.UpsId.{UpsId}
-use Rattle.nutcore.specs.declared.event.Event.TheVariants.{DriverUp, DriverBytes, DriverDown}
+use Rattle.nutcore.specs.declared.event.Event.TheVariants.{DriverUp, DriverBytes, DriverTook, DriverDown, Tick}
 use Rattle.nutcore.specs.declared.event.Outcome.TheVariants.{Done, Refused}
 use Rattle.nutcore.specs.declared.event.Fault.{Fault}
 use Rattle.nutcore.specs.declared.event.Fault.TheVariants.{NoSuchUps, NoSuchClient, TooManyClients, TookTooMuch, NotConnected, AlreadyConnected, LineTooLong, Memory}
-use Rattle.nutcore.specs.Ups.{UpsState, after_connecting, after_loss, with_bytes}
-use Rattle.nutcore.specs.Leaf.{IsFed}
+use Rattle.nutcore.specs.Ups.{UpsState, after_connecting, after_loss, after_tick, with_bytes}
+use Rattle.nutcore.specs.Leaf.{IsFed, IsTaken}
 use Rattle.nutcore.specs.Server.{ServerState, ups_at, changed_at, with_ups_changed}
-use Rattle.nutcore.specs.Step.{Step, connected, disconnected, after_driver_bytes, connected_by, disconnected_by, driver_bytes_by, driver_may_lack_memory, outcome_of, after_by, MayLackMemory}
+use Rattle.nutcore.specs.Step.{Step, connected, disconnected, after_driver_bytes, after_driver_took, ticked, connected_by, disconnected_by, driver_took_by, driver_bytes_by, driver_may_lack_memory, outcome_of, after_by, MayLackMemory}
 use Rattle.nutcore.specs.Calls.{done}
-use Rattle.nutcore.specs.Serving.{is_connected, DriverFeedGives}
+use Rattle.nutcore.specs.Serving.{is_connected, DriverFeedGives, DriverTakes}
 
 -- changes at a place that agree there are one
 pub changed_agree : (f g : UpsState → UpsState) (i : ℕ) (xs : List UpsState) (x : UpsState) → slice_get xs i ≡ Some x → f x ≡ g x → changed_at f i xs ≡ changed_at g i xs
@@ -65,11 +65,11 @@ there_is xs i x lt at = slice_get-get_or xs i x lt ∙ ap Some (sym at)
 pub record IsThere (s : ServerState) (u : UpsId) (b : Bool) : Type 0 where
   pub ups : UpsState
   pub there : ups_at u.place s ≡ Some ups
-  pub is : ups.connected ≡ b
+  pub is : ups.report.connected ≡ b
 
 there_by : (s : ServerState) (u : UpsId) (b : Bool) (o : Option UpsState) → ups_at u.place s ≡ o → option_map is_connected o ≡ Some b → IsThere s u b
 there_by s u b None e h = cc
-there_by s u b (Some x) e h = let is : x.connected ≡ b = cc h in record { ups = x; there = e; is = is }
+there_by s u b (Some x) e h = let is : x.report.connected ≡ b = cc h in record { ups = x; there = e; is = is }
 
 pub is_there : (s : ServerState) (u : UpsId) (b : Bool) → option_map is_connected (ups_at u.place s) ≡ Some b → IsThere s u b
 is_there s u b h = there_by s u b (ups_at u.place s) refl h
@@ -148,10 +148,10 @@ bytes_unconnected s u piece h = record {
   leaves = server_same s u (after_driver_bytes s.moment piece None) h.ups h.there (cond-false _ _ _ h.is);
 }
 
-connected_as : (s : ServerState) (u : UpsId) (x : UpsState) → IsThere s u true → ups_at u.place s ≡ Some x → x.connected ≡ true
-connected_as s u x h there = let same : Some h.ups ≡ Some x = sym h.there ∙ there in let e : h.ups ≡ x = cc same in ap (λ (z : UpsState). z.connected) (sym e) ∙ h.is
+connected_as : (s : ServerState) (u : UpsId) (x : UpsState) → IsThere s u true → ups_at u.place s ≡ Some x → x.report.connected ≡ true
+connected_as s u x h there = let same : Some h.ups ≡ Some x = sym h.there ∙ there in let e : h.ups ≡ x = cc same in ap (λ (z : UpsState). z.report.connected) (sym e) ∙ h.is
 
-fed_by : (s t : ServerState) (u : UpsId) (piece : List ℕ) (x y : UpsState) (r : Result (Unit {0}) Fault) → ups_at u.place s ≡ Some x → x.connected ≡ true → IsFed s.moment (with_bytes piece x) r y → t ≡ with_ups_changed (λ z. y) u s → Step s (DriverBytes u piece) (done r) t
+fed_by : (s t : ServerState) (u : UpsId) (piece : List ℕ) (x y : UpsState) (r : Result (Unit {0}) Fault) → ups_at u.place s ≡ Some x → x.report.connected ≡ true → IsFed s.moment (with_bytes piece x) r y → t ≡ with_ups_changed (λ z. y) u s → Step s (DriverBytes u piece) (done r) t
 unfolding outcome_of after_by after_driver_bytes MayLackMemory
 fed_by s t u piece x y (Ok v) there is (short, e) leaves = record {
   allowed = inl (sym (ap (driver_bytes_by s.moment piece) there ∙ cond-true _ _ _ is ∙ cond-false _ _ _ short));
@@ -174,3 +174,51 @@ fed_by s t u piece x y (Err AlreadyConnected) there is never leaves = absurd nev
 
 pub bytes_fed : (s t : ServerState) (u : UpsId) (piece : List ℕ) (r : Result (Unit {0}) Fault) → IsThere s u true → DriverFeedGives u piece s r t → Step s (DriverBytes u piece) (done r) t
 bytes_fed s t u piece r h g = fed_by s t u piece g.before g.after r g.there (connected_as s u g.before h g.there) g.fed g.leaves
+
+-- a driver took of what it is owed
+pub took_absent : (s : ServerState) (u : UpsId) (n : ℕ) → ups_at u.place s ≡ None → Step s (DriverTook u n) (Refused NoSuchUps) s
+unfolding outcome_of after_by
+took_absent s u n none = record {
+  allowed = inl (sym (ap (driver_took_by n) none));
+  leaves = server_none s u (after_driver_took n) none;
+}
+
+pub took_unconnected : (s : ServerState) (u : UpsId) (n : ℕ) → IsThere s u false → Step s (DriverTook u n) (Refused NotConnected) s
+unfolding outcome_of after_by
+took_unconnected s u n h = record {
+  allowed = inl (sym (ap (driver_took_by n) h.there ∙ cond-true _ _ _ (ap not h.is)));
+  leaves = server_same s u (after_driver_took n) h.ups h.there (cond-false _ _ _ (ap (λ b. b && leb n (length h.ups.owed)) h.is));
+}
+
+taken_by : (s t : ServerState) (u : UpsId) (n : ℕ) (x y : UpsState) (r : Result (Unit {0}) Fault) → ups_at u.place s ≡ Some x → x.report.connected ≡ true → IsTaken n x r y → t ≡ with_ups_changed (λ z. y) u s → Step s (DriverTook u n) (done r) t
+unfolding outcome_of after_by
+taken_by s t u n x y (Ok v) there is (few, e) leaves =
+    let within : leb n (length x.owed) ≡ true = le-leb n (length x.owed) few in record {
+      allowed = inl (sym (ap (driver_took_by n) there ∙ cond-false _ _ _ (ap not is) ∙ cond-true _ _ _ within));
+      leaves = leaves ∙ server_agree s u (λ z. y) (after_driver_took n) x there (e ∙ sym (cond-true _ _ _ (and_from _ _ is within)));
+    }
+taken_by s t u n x y (Err fault) there is (much, more, e) leaves =
+    let beyond : leb n (length x.owed) ≡ false = lt-leb n (length x.owed) more in record {
+      allowed = inl (ap (λ (f : Fault). Refused f) much ∙ sym (ap (driver_took_by n) there ∙ cond-false _ _ _ (ap not is) ∙ cond-false _ _ _ beyond));
+      leaves = leaves ∙ server_agree s u (λ z. y) (after_driver_took n) x there (e ∙ sym (cond-false _ _ _ (ap (λ b. b && leb n (length x.owed)) is ∙ beyond)));
+    }
+
+pub took_taken : (s t : ServerState) (u : UpsId) (n : ℕ) (r : Result (Unit {0}) Fault) → IsThere s u true → DriverTakes u n s r t → Step s (DriverTook u n) (done r) t
+took_taken s t u n r h g = taken_by s t u n g.before g.after r g.there (connected_as s u g.before h g.there) g.taken g.leaves
+
+-- the clock
+pub tick_done : (s t : ServerState) (seconds : ℕ) → t ≡ ticked seconds s → Step s (Tick seconds) Done t
+unfolding outcome_of after_by
+tick_done s t seconds e = record { allowed = inl refl; leaves = e }
+
+-- one more of a list's elements is changed, those before it being so already
+pub changed_so_far : (f : UpsState → UpsState) (p : ℕ) (xs : List UpsState) (x : UpsState) → p < length xs → x ≡ get_or (map f (take p xs) ++ drop p xs) p x → set (map f (take p xs) ++ drop p xs) p (f x) ≡ map f (take (suc p) xs) ++ drop (suc p) xs
+changed_so_far f p [] x lt e = absurd (omega arith)
+changed_so_far f zero (y ∷ xs) x lt e = ap (λ (z : UpsState). f z ∷ xs) e
+changed_so_far f (suc p) (y ∷ xs) x lt e = ap (λ (zs : List UpsState). f y ∷ zs) (changed_so_far f p xs x (omega (arith, lt)) e)
+
+pub ticked_is : (s : ServerState) (seconds moment : ℕ) (xs : List UpsState) → moment ≡ max seconds s.moment → xs ≡ map (after_tick s.max_age moment) s.upses → (let code : ServerState = record s { moment = moment; upses = xs } in code ≡ ticked seconds s)
+unfolding ticked
+ticked_is s seconds moment xs em exs =
+    ap (λ (ys : List UpsState). let z : ServerState = record s { moment = moment; upses = ys } in z) exs
+    ∙ ap (λ (m : ℕ). let z : ServerState = record s { moment = m; upses = map (after_tick s.max_age m) s.upses } in z) em

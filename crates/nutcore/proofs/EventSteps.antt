@@ -11,7 +11,7 @@ use Rattle.nutcore.specs.declared.event.Fault.TheVariants.{NoSuchUps, NoSuchClie
 use Rattle.nutcore.specs.Session.{SessionState, without, new_session}
 use Rattle.nutcore.specs.Server.{ServerState, session, with_session}
 use Rattle.nutcore.specs.Pump.{next_line_of, pump_stops, held_of, after_all_lines, after_lines, pumped, after_notice, is_overlong, is_overlong_of, wants_memory}
-use Rattle.nutcore.specs.Step.{joining, with_input, with_input_of, without_output, without_output_of, may_take, may_open, pumped_until, opened, after_by, fed_by, took_by, closed_by, outcome_of, MayLackMemory, Step}
+use Rattle.nutcore.specs.Step.{accepted_bytes, with_input, with_input_of, without_output, without_output_of, may_take, may_open, pumped_until, opened, after_by, fed_by, took_by, closed_by, outcome_of, MayLackMemory, Step}
 use Rattle.nutcore.specs.Calls.{done}
 use Rattle.nutcore.specs.Serving.{IsAt, PumpGives}
 use Rattle.nutcore.proofs.Found.{find_id}
@@ -19,7 +19,7 @@ use Rattle.nutcore.proofs.Places.{without_none}
 use Rattle.nutcore.proofs.Loops.{stopped_lines}
 use Rattle.nutcore.proofs.Serving.{set_is, no_notice}
 
-pub with_input_is : (s : ServerState) (c i : ℕ) (piece : List ℕ) (x y : SessionState) → IsAt c i s.sessions → session c s ≡ Some x → y ≡ record x { held = x.held ++ joining (Some x) piece } → (let code : ServerState = record s { sessions = set s.sessions i y } in code ≡ with_input s c piece)
+pub with_input_is : (s : ServerState) (c i : ℕ) (piece : List ℕ) (x y : SessionState) → IsAt c i s.sessions → session c s ≡ Some x → y ≡ record x { held = x.held ++ accepted_bytes (Some x) piece } → (let code : ServerState = record s { sessions = set s.sessions i y } in code ≡ with_input s c piece)
 unfolding with_input with_input_of
 with_input_is s c i piece x y h e ey =
     set_is s c i y h (ap (λ (z : SessionState). z.id) ey ∙ find_id c s.sessions x e) ∙ ap (with_session s) ey ∙ sym (ap (λ (o : Option SessionState). with_input_of s o piece) e)

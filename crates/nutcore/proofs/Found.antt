@@ -31,3 +31,13 @@ find_last y (z ∷ xs) e = grind (arith, nat_tests, find_last y xs)
 pub find_last_other : (c : ℕ) (y : SessionState) (xs : List SessionState) → c ≢ y.id → find c (xs ++ y ∷ []) ≡ find c xs
 find_last_other c y [] differ = grind (arith, nat_tests)
 find_last_other c y (z ∷ xs) differ = grind (arith, nat_tests, find_last_other c y xs differ)
+
+-- a session put twice
+pub put_put : (y z : SessionState) (xs : List SessionState) → z.id ≡ y.id → put z (put y xs) ≡ put z xs
+put_put y z [] e = refl
+put_put y z (x ∷ xs) e = grind (arith, nat_tests, put_put y z xs e)
+
+-- the session that stands there is put
+pub put_found : (x : SessionState) (xs : List SessionState) → find x.id xs ≡ Some x → put x xs ≡ xs
+put_found x [] e = refl
+put_found x (z ∷ xs) e = grind (arith, nat_tests, put_found x xs)

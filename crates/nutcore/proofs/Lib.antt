@@ -5,6 +5,7 @@ mod Pumping
 mod Stepping
 mod Loops
 mod Least
+mod Executions
 mod Timely
 mod Refusals
 mod DriverLoops
@@ -14,3 +15,8 @@ mod EventSteps
 mod Runs
 mod DriverSteps
 mod Examples
+mod TableRows
+mod Marks
+mod ShutdownMarks
+mod LoginMarks
+mod LoginCount

@@ -4,11 +4,13 @@ use Rattle.std.specs.Prelude.{is_none}
 use Rattle.nutcore.specs.Lines.{behind}
 use Rattle.nutcore.specs.Session.{SessionState, find, put}
 use Rattle.nutcore.specs.Server.{ServerState, session}
-use Rattle.nutcore.specs.Reply.{reply}
+use Rattle.nutanswer.specs.declared.reply.Change.{Change}
+use Rattle.nutanswer.specs.declared.reply.Change.TheVariants.{Nothing, Username, Password, Login, Ending, Fsd}
+use Rattle.nutcore.specs.Reply.{reply, changed_session}
 use Rattle.nutcore.specs.Pump.{next_line_for, answered, after_line, after_line_of, after_lines, pump_stops, held_of, after_all_lines}
 use Rattle.nutcore.proofs.FirstLine.{behind_shorter}
-use Rattle.nutcore.proofs.Found.{find_id, find_put}
-use Rattle.nutcore.proofs.Pumping.{is_next, after_line_is}
+use Rattle.nutcore.proofs.Found.{find_put}
+use Rattle.nutcore.proofs.Pumping.{is_next, after_line_is, change_at, session_after, session_after_id}
 
 -- the lines done, and one more
 pub after_lines-suc : (k : ℕ) (s : ServerState) (c : ℕ) → after_lines (k + 1) s c ≡ after_line (after_lines k s c) c
@@ -50,15 +52,25 @@ all_lines_are k s c le stop =
     ap (λ m. after_lines m s c) e ∙ after_lines-add k (n - k) s c ∙ stopped_lines (n - k) (after_lines k s c) c stop
 
 -- the session after a line
-pub found_after_line : (s : ServerState) (c : ℕ) (line : List ℕ) (x : SessionState) → session c s ≡ Some x → next_line_for s c ≡ Some line → session c (after_line s c) ≡ Some (answered line (reply s c line).text x)
+pub found_after_line : (s : ServerState) (c : ℕ) (line : List ℕ) (x : SessionState) → session c s ≡ Some x → next_line_for s c ≡ Some line → session c (after_line s c) ≡ Some (session_after s c line x)
 found_after_line s c line x found h =
-    let y : SessionState = answered line (reply s c line).text x in
-    let id : y.id ≡ c = find_id c s.sessions x found in
+    let y : SessionState = session_after s c line x in
+    let id : y.id ≡ c = session_after_id s c line x found in
     ap (session c) (after_line_is s c line x found h) ∙ (ap (λ d. find d (put y s.sessions)) (sym id) ∙ find_put y s.sessions x (ap (λ d. find d s.sessions) id ∙ found))
+
+-- a change leaves no more held than there was
+changed_shorter : (change : Change) (x : SessionState) → length (changed_session change x).held ≤ length x.held
+changed_shorter Nothing x = omega arith
+changed_shorter (Username name) x = omega arith
+changed_shorter (Password password) x = omega arith
+changed_shorter (Login u) x = omega arith
+changed_shorter Ending x = omega arith
+changed_shorter (Fsd u) x = omega arith
 
 -- each line takes bytes from what is held
 pub line_shortens : (s : ServerState) (c : ℕ) (line : List ℕ) → next_line_for s c ≡ Some line → length (held_of (session c (after_line s c))) < length (held_of (session c s))
 line_shortens s c line h =
     let n = is_next s c line h in
-    let less : length (behind line n.asking.held) < length n.asking.held = let e = behind_shorter n.asking.held line n.first in omega (arith, e) in
+    let y : SessionState = answered line (reply s c line).text n.asking in
+    let less : length (session_after s c line n.asking).held < length n.asking.held = let e = behind_shorter n.asking.held line n.first in omega (arith, e, changed_shorter (change_at s c line) y) in
     rw (found_after_line s c line n.asking n.found h, n.found) less

@@ -1,19 +1,22 @@
 -- What the pump does to each client's presence.
-use Rattle.std.proofs.Common.{◌≡◌, ◌≢◌, ℕ, zero, suc, Bool, true, false, List, [], ◌∷◌, ◌++◌, Option, Some, None, Result, Ok, Err, refl, sym, ◌∙◌, ap, subst, cond, ltb, length, append-nil}
+use Rattle.std.proofs.Common.{◌≡◌, ◌≢◌, ℕ, zero, suc, ◌+◌, Bool, true, false, List, [], ◌∷◌, ◌++◌, Option, Some, None, Result, Ok, Err, refl, sym, ◌∙◌, ap, subst, cond, ltb, length, append-nil}
+use Rattle.std.proofs.Math.Seq.{drop-nil}
 use Rattle.std.proofs.lemmas.Bool.{or_left}
 use Rattle.std.proofs.lemmas.Grind.{flat_map-append}
 use Rattle.nutanswer.specs.declared.command.Command.{Command}
 use Rattle.nutanswer.specs.declared.err_word.ErrWord.{ErrWord}
+use Rattle.nutanswer.specs.declared.reply.Change.{Change}
+use Rattle.nutanswer.specs.declared.reply.Change.TheVariants.{Nothing, Username, Password, Login, Ending, Fsd}
 use Rattle.nutcore.specs.Lines.{first_line, behind, with_lf}
 use Rattle.nutcore.specs.Session.{SessionState, find, put}
-use Rattle.nutcore.specs.Server.{ServerState, session, with_session}
+use Rattle.nutcore.specs.Server.{ServerState, session, with_session, with_session_changed, with_session_changed_of}
 use Rattle.nutanswer.specs.Command.{read_command}
-use Rattle.nutcore.specs.Reply.{reply, reply_to, too_long_notice}
+use Rattle.nutcore.specs.Reply.{Reply, reply, change_by, changed, changed_session, changed_upses, too_long_notice}
 use Rattle.nutcore.specs.Pump.{next_line_of, next_line_for, answered, after_reply, after_reply_of, after_line, after_line_of, after_lines, held_of, after_notice, after_notice_of, is_overlong_of, notified, after_all_lines, pumped}
-use Rattle.nutcore.specs.History.{too_long, answer_to_next, answers_to_lines, notice, pump_answers, texts_of, lines_of, text_of, line_of}
+use Rattle.nutcore.specs.History.{of_notice, next_execution, lines_executed, notice, pump_executions, texts_of, lines_of, text_of, line_of}
 use Rattle.nutcore.proofs.FirstLine.{first_line_splits}
 use Rattle.nutcore.proofs.Progress.{Presence, presence, Progress, joins, stays, moves}
-use Rattle.nutcore.proofs.Found.{find_id, find_put, find_put_other}
+use Rattle.nutcore.proofs.Found.{find_id, find_put, find_put_other, put_put}
 
 -- along equal presences
 pub progress_at : (p p' q q' : Presence) (a t k l : List ℕ) → p ≡ p' → q ≡ q' → Progress p' a t k l q' → Progress p a t k l q
@@ -24,14 +27,49 @@ pub progress_with : (p q : Presence) (a a' t t' k k' l l' : List ℕ) → a ≡ 
 progress_with p q a a' t t' k k' l l' ea et ek el g =
     subst (λ z. Progress p z t k l q) (sym ea) (subst (λ z. Progress p a' z k l q) (sym et) (subst (λ z. Progress p a' t' z l q) (sym ek) (subst (λ z. Progress p a' t' k' z q) (sym el) g)))
 
--- no line changes the server beside its session
-reply_server_by : (s : ServerState) (r : Result (Option Command) ErrWord) → (reply_to s r).server ≡ s
-reply_server_by s (Err word) = refl
-reply_server_by s (Ok None) = refl
-reply_server_by s (Ok (Some command)) = refl
+-- a change keeps a session's id and what it owes, and drops what it holds only where it begins to end
+pub changed_id : (change : Change) (x : SessionState) → (changed_session change x).id ≡ x.id
+changed_id Nothing x = refl
+changed_id (Username name) x = refl
+changed_id (Password password) x = refl
+changed_id (Login u) x = refl
+changed_id Ending x = refl
+changed_id (Fsd u) x = refl
 
-pub reply_server : (s : ServerState) (c : ℕ) (line : List ℕ) → (reply s c line).server ≡ s
-reply_server s c line = reply_server_by s (read_command line)
+changed_owed : (change : Change) (x : SessionState) → (changed_session change x).owed ≡ x.owed
+changed_owed Nothing x = refl
+changed_owed (Username name) x = refl
+changed_owed (Password password) x = refl
+changed_owed (Login u) x = refl
+changed_owed Ending x = refl
+changed_owed (Fsd u) x = refl
+
+changed_held : (change : Change) (x : SessionState) → (changed_session change x).ending ≡ false → (changed_session change x).held ≡ x.held
+changed_held Nothing x going = refl
+changed_held (Username name) x going = refl
+changed_held (Password password) x going = refl
+changed_held (Login u) x going = refl
+changed_held Ending x going = cc
+changed_held (Fsd u) x going = refl
+
+-- an answer joined after the change is one joined before
+changed_answered : (change : Change) (line text : List ℕ) (x : SessionState) → answered line text (changed_session change x) ≡ changed_session change (answered line text x)
+changed_answered Nothing line text x = refl
+changed_answered (Username name) line text x = refl
+changed_answered (Password password) line text x = refl
+changed_answered (Login u) line text x = refl
+changed_answered Ending line text x = ap (λ (held : List ℕ). let y : SessionState = record x { held = held; owed = x.owed ++ text; login = None; ending = true } in y) (drop-nil (length line + 1))
+changed_answered (Fsd u) line text x = refl
+
+-- the server in which this session and the UPSs are changed
+abbrev pub line_done : ServerState → Change → SessionState → ServerState
+line_done s change y = record s { sessions = put y s.sessions; upses = changed_upses change s.upses }
+
+pub changed_is : (change : Change) (c : ℕ) (s : ServerState) (x : SessionState) → session c s ≡ Some x → changed change c s ≡ line_done s change (changed_session change x)
+unfolding with_session_changed with_session_changed_of
+changed_is change c s x found =
+    let t : ServerState = record s { upses = changed_upses change s.upses } in
+    ap (λ (o : Option SessionState). with_session_changed_of (changed_session change) o t) found
 
 -- the presence of a client whose session was put
 pub presence_put : (c : ℕ) (s : ServerState) (x y : SessionState) → y.id ≡ c → session c s ≡ Some x → presence c (with_session s y) ≡ record { session = Some y; used = ltb c s.next_id }
@@ -64,28 +102,47 @@ next_of s c line (Some x) found h = next_by s c line x _ found (λ e. or_left x.
 pub is_next : (s : ServerState) (c : ℕ) (line : List ℕ) → next_line_for s c ≡ Some line → IsNext s c line
 is_next s c line h = next_of s c line (session c s) refl h
 
--- what the next line leaves: its answer is joined, and it is taken
-pub after_line_is : (s : ServerState) (c : ℕ) (line : List ℕ) (x : SessionState) → session c s ≡ Some x → next_line_for s c ≡ Some line → after_line s c ≡ with_session s (answered line (reply s c line).text x)
+-- what the client's next line changes
+abbrev pub change_at : ServerState → ℕ → List ℕ → Change
+change_at s c line = change_by s c (read_command line)
+
+-- its session after the line
+abbrev pub session_after : ServerState → ℕ → List ℕ → SessionState → SessionState
+session_after s c line x = changed_session (change_at s c line) (answered line (reply s c line).text x)
+
+pub session_after_id : (s : ServerState) (c : ℕ) (line : List ℕ) (x : SessionState) → session c s ≡ Some x → (session_after s c line x).id ≡ c
+session_after_id s c line x found = changed_id (change_at s c line) (answered line (reply s c line).text x) ∙ find_id c s.sessions x found
+
+-- what the next line leaves: its answer is joined, it is taken, and what it changes is changed
+pub after_line_is : (s : ServerState) (c : ℕ) (line : List ℕ) (x : SessionState) → session c s ≡ Some x → next_line_for s c ≡ Some line → after_line s c ≡ line_done s (change_at s c line) (session_after s c line x)
 unfolding after_line after_line_of after_reply after_reply_of
 after_line_is s c line x found h =
-    let r = reply s c line in
-    let same : r.server ≡ s = reply_server s c line in
+    let change : Change = change_at s c line in
+    let text : List ℕ = (reply s c line).text in
+    let y : SessionState = changed_session change x in
+    let t : ServerState = line_done s change y in
+    let id : y.id ≡ c = changed_id change x ∙ find_id c s.sessions x found in
+    let there : session c t ≡ Some y = ap (λ d. find d (put y s.sessions)) (sym id) ∙ find_put y s.sessions x (ap (λ d. find d s.sessions) id ∙ found) in
+    let is : changed change c s ≡ t = changed_is change c s x found in
     ap (after_line_of s c) h
-    ∙ ap (after_reply_of r line) (ap (session c) same ∙ found)
-    ∙ ap (λ (z : ServerState). with_session z (answered line r.text x)) same
+    ∙ ap (λ (z : ServerState). let r : Reply = record { text = text; server = z } in after_reply_of r line (session c z)) is
+    ∙ ap (λ (o : Option SessionState). let r : Reply = record { text = text; server = t } in after_reply_of r line o) there
+    ∙ ap (λ (xs : List SessionState). let z : ServerState = record t { sessions = xs } in z) (put_put y (answered line text y) s.sessions refl)
+    ∙ ap (λ (z : SessionState). line_done s change z) (changed_answered change line text x)
 
-line_moves : (x : SessionState) (u : Bool) (line text : List ℕ) → x.ending ≡ false → first_line x.held ≡ Some line →
-    Progress (record { session = Some x; used = u }) text [] [] (with_lf line) (record { session = Some (answered line text x); used = u })
-line_moves x u line text going first =
+line_moves : (x : SessionState) (u : Bool) (line text : List ℕ) (change : Change) → x.ending ≡ false → first_line x.held ≡ Some line →
+    Progress (record { session = Some x; used = u }) text [] [] (with_lf line) (record { session = Some (changed_session change (answered line text x)); used = u })
+line_moves x u line text change going first =
+    let y : SessionState = answered line text x in
     let split = append-nil x.held ∙ first_line_splits x.held line first in
-    moves x (answered line text x) u text [] [] (with_lf line)
-    refl
-    (λ e. split)
+    moves x (changed_session change y) u text [] [] (with_lf line)
+    (sym (changed_owed change y))
+    (λ e. split ∙ ap (λ held. with_lf line ++ held) (sym (changed_held change y e)))
     (λ e. (behind line x.held, sym split))
     (λ e. let never : true ≡ false = sym e ∙ going in cc never)
 
 line_goes_by : (c : ℕ) (s : ServerState) (o : Option (List ℕ)) → next_line_for s c ≡ o →
-    Progress (presence c s) (texts_of (answer_to_next s c o)) [] [] (lines_of (answer_to_next s c o)) (presence c (after_line s c))
+    Progress (presence c s) (texts_of (next_execution s c o)) [] [] (lines_of (next_execution s c o)) (presence c (after_line s c))
 unfolding after_line after_line_of
 line_goes_by c s None h =
     progress_at (presence c s) (presence c s) (presence c (after_line s c)) (presence c s) [] [] [] [] refl (ap (λ (o : Option (List ℕ)). presence c (after_line_of s c o)) h) (stays (presence c s))
@@ -93,17 +150,17 @@ line_goes_by c s (Some line) h =
     let n = is_next s c line h in
     let x : SessionState = n.asking in
     let text : List ℕ = (reply s c line).text in
-    let y : SessionState = answered line text x in
+    let y : SessionState = session_after s c line x in
     let before : Presence = record { session = Some x; used = ltb c s.next_id } in
     let next : Presence = record { session = Some y; used = ltb c s.next_id } in
     progress_at (presence c s) before (presence c (after_line s c)) next (text ++ []) [] [] (with_lf line ++ [])
     (ap (λ (o : Option SessionState). let p : Presence = record { session = o; used = ltb c s.next_id } in p) n.found)
-    (ap (presence c) (after_line_is s c line x n.found h) ∙ presence_put c s x y (find_id c s.sessions x n.found) n.found)
+    (ap (presence c) (after_line_is s c line x n.found h) ∙ presence_put c s x y (session_after_id s c line x n.found) n.found)
     (progress_with before next (text ++ []) text [] [] [] [] (with_lf line ++ []) (with_lf line) (append-nil _) refl refl (append-nil _)
-    (line_moves x (ltb c s.next_id) line text n.going n.first))
+    (line_moves x (ltb c s.next_id) line text (change_at s c line) n.going n.first))
 
 -- one line
-line_goes : (c : ℕ) (s : ServerState) → Progress (presence c s) (texts_of (answer_to_next s c (next_line_for s c))) [] [] (lines_of (answer_to_next s c (next_line_for s c))) (presence c (after_line s c))
+line_goes : (c : ℕ) (s : ServerState) → Progress (presence c s) (texts_of (next_execution s c (next_line_for s c))) [] [] (lines_of (next_execution s c (next_line_for s c))) (presence c (after_line s c))
 line_goes c s = line_goes_by c s (next_line_for s c) refl
 
 line_other_by : (c d : ℕ) (s : ServerState) (o : Option (List ℕ)) → next_line_for s d ≡ o → c ≢ d → presence c (after_line s d) ≡ presence c s
@@ -111,19 +168,19 @@ unfolding after_line after_line_of
 line_other_by c d s None h differ = ap (λ (o : Option (List ℕ)). presence c (after_line_of s d o)) h
 line_other_by c d s (Some line) h differ =
     let n = is_next s d line h in
-    let y : SessionState = answered line (reply s d line).text n.asking in
-    ap (presence c) (after_line_is s d line n.asking n.found h) ∙ presence_put_other c s y (λ (k : c ≡ y.id). differ (k ∙ find_id d s.sessions n.asking n.found))
+    let y : SessionState = session_after s d line n.asking in
+    ap (presence c) (after_line_is s d line n.asking n.found h) ∙ presence_put_other c s y (λ (k : c ≡ y.id). differ (k ∙ session_after_id s d line n.asking n.found))
 
 line_other : (c d : ℕ) (s : ServerState) → c ≢ d → presence c (after_line s d) ≡ presence c s
 line_other c d s differ = line_other_by c d s (next_line_for s d) refl differ
 
 -- any number of lines
-pub lines_go : (k c : ℕ) (s : ServerState) → Progress (presence c s) (texts_of (answers_to_lines k s c)) [] [] (lines_of (answers_to_lines k s c)) (presence c (after_lines k s c))
-unfolding after_lines answers_to_lines
+pub lines_go : (k c : ℕ) (s : ServerState) → Progress (presence c s) (texts_of (lines_executed k s c)) [] [] (lines_of (lines_executed k s c)) (presence c (after_lines k s c))
+unfolding after_lines lines_executed
 lines_go zero c s = stays (presence c s)
 lines_go (suc k) c s =
-    let one = answer_to_next s c (next_line_for s c) in
-    let rest = answers_to_lines k (after_line s c) c in
+    let one = next_execution s c (next_line_for s c) in
+    let rest = lines_executed k (after_line s c) c in
     let p = presence c s in
     let q = presence c (after_lines k (after_line s c) c) in
     progress_with p q (texts_of (one ++ rest)) (texts_of one ++ texts_of rest) [] [] [] [] (lines_of (one ++ rest)) (lines_of one ++ lines_of rest)
@@ -137,7 +194,7 @@ lines_other (suc k) c d s differ = lines_other k c d (after_line s d) differ ∙
 
 -- the notice to a session whose line is too long
 notice_by : (c : ℕ) (s : ServerState) (x : SessionState) (b : Bool) → is_overlong_of (Some x) ≡ b → session c s ≡ Some x →
-    Progress (presence c s) (texts_of (cond b (too_long ∷ []) [])) [] [] (lines_of (cond b (too_long ∷ []) [])) (presence c (cond b (with_session s (notified x)) s))
+    Progress (presence c s) (texts_of (cond b (of_notice c ∷ []) [])) [] [] (lines_of (cond b (of_notice c ∷ []) [])) (presence c (cond b (with_session s (notified x)) s))
 notice_by c s x false over e = stays (presence c s)
 notice_by c s x true over e =
     let y : SessionState = notified x in
@@ -152,7 +209,7 @@ notice_by c s x true over e =
     (λ h. (refl, refl, refl)))
 
 notice_of : (c : ℕ) (s : ServerState) (o : Option SessionState) → session c s ≡ o →
-    Progress (presence c s) (texts_of (cond (is_overlong_of o) (too_long ∷ []) [])) [] [] (lines_of (cond (is_overlong_of o) (too_long ∷ []) [])) (presence c (after_notice_of s o))
+    Progress (presence c s) (texts_of (cond (is_overlong_of o) (of_notice c ∷ []) [])) [] [] (lines_of (cond (is_overlong_of o) (of_notice c ∷ []) [])) (presence c (after_notice_of s o))
 unfolding after_notice_of
 notice_of c s None e = stays (presence c s)
 notice_of c s (Some x) e = notice_by c s x (is_overlong_of (Some x)) refl e
@@ -171,12 +228,12 @@ notice_other_of c d s None e differ = refl
 notice_other_of c d s (Some x) e differ = notice_other_by c d s x (is_overlong_of (Some x)) e differ
 
 -- the whole pump
-pub pump_goes : (c : ℕ) (s : ServerState) → Progress (presence c s) (texts_of (pump_answers s c)) [] [] (lines_of (pump_answers s c)) (presence c (pumped s c))
-unfolding pump_answers pumped after_all_lines
+pub pump_goes : (c : ℕ) (s : ServerState) → Progress (presence c s) (texts_of (pump_executions s c)) [] [] (lines_of (pump_executions s c)) (presence c (pumped s c))
+unfolding pump_executions pumped after_all_lines
 pump_goes c s =
     let k = length (held_of (session c s)) in
     let m = after_lines k s c in
-    let lines = answers_to_lines k s c in
+    let lines = lines_executed k s c in
     let last = notice m c in
     let p = presence c s in
     let q = presence c (after_notice m c) in

@@ -1,34 +1,76 @@
 -- A listing is the frame of what is held.
-use Rattle.std.proofs.Common.{◌≡◌, ℕ, List, Option, Some, Result, Ok, ◌∙◌, ap}
-use Rattle.nutwords.specs.Frame.{frame}
+use Rattle.std.proofs.Common.{◌≡◌, ℕ, Bool, true, false, List, [], ◌∷◌, Option, Some, None, Result, Ok, Err, refl, sym, ◌∙◌, ap}
+use Rattle.std.specs.Prelude.{codes, nat_eq}
+use Rattle.std.specs.List.{starts_with}
+use Rattle.std.specs.Str.{bytes_eq}
+use Rattle.std.proofs.lemmas.Slice.Eq.{bytes_eq-Decides}
+use Rattle.nutwords.specs.Frame.{frame, line_of}
 use Rattle.nutanswer.specs.declared.command.Command.{Command}
 use Rattle.nutanswer.specs.declared.command.Command.TheVariants.{ListVar}
 use Rattle.nutanswer.specs.declared.err_word.ErrWord.{ErrWord}
 use Rattle.nutanswer.specs.declared.err_word.ErrWord.TheVariants.{UnknownUps}
 use Rattle.nutanswer.specs.Command.{read_command}
 use Rattle.nutanswer.specs.View.{Readiness, readiness, usable}
-use Rattle.nutanswer.specs.Items.{ListingState, variable_listing}
-use Rattle.nutanswer.specs.Checks.{KnownUps, ups_named, then_next, live, driver_not_connected, data_stale}
-use Rattle.nutanswer.specs.Answer.{Answer, answer_to, listing, text_of_answer}
+use Rattle.nutlisting.specs.Items.{ListingState, variable_listing}
+use Rattle.nutanswer.specs.Checks.{◌>>=◌, ◌>>◌, KnownUps, ups_named, live, driver_not_connected, data_stale}
+use Rattle.nutanswer.specs.Answer.{Answer, one_line, answer_to, listing, text_of_answer, change_of_answer}
 use Rattle.std.specs.Option.{ok_or}
 use Rattle.nutcore.specs.Server.{ServerState}
-use Rattle.nutcore.specs.Reply.{seen, reply, reply_to}
+use Rattle.nutcore.specs.Reply.{seen, asker, reply, text_to}
+use Rattle.nutcore.specs.Session.{SessionState}
+use Rattle.nutcore.specs.Server.{session, with_session}
+use Rattle.nutcore.specs.Reply.{change_by, changed_session}
+use Rattle.nutcore.specs.Pump.{next_line_for, after_line}
+use Rattle.nutcore.specs.Pump.{answered as answered_line}
+use Rattle.nutcore.proofs.Pumping.{after_line_is, line_done}
+use Rattle.nutanswer.specs.declared.reply.Change.{Change}
+use Rattle.nutanswer.specs.declared.reply.Change.TheVariants.{Nothing}
+use Rattle.nutanswer.specs.Laws.{is_ok_line}
+use Rattle.nutanswer.proofs.Changes.{only_ok}
 use Rattle.nutcore.specs.Headline.{AListingIsWhatIsHeld}
 
-framed : (s : ServerState) (c : ℕ) (line : List ℕ) (command : Command) (l : ListingState) → read_command line ≡ Ok (Some command) → answer_to (seen s) command ≡ Ok (listing l) → (reply s c line).text ≡ frame l.kind l.names l.items
-framed s c line command l read answer = ap (λ r. (reply_to s r).text) read ∙ ap text_of_answer answer
+framed : (s : ServerState) (c : ℕ) (line : List ℕ) (command : Command) (l : ListingState) → read_command line ≡ Ok (Some command) → answer_to (seen s) (asker c s) command ≡ Ok (listing l) → (reply s c line).text ≡ frame l.kind l.names l.items
+framed s c line command l read answer = ap (text_to s c) read ∙ ap text_of_answer answer
 
 -- the listing of the variables of a UPS that is known
 abbrev variables_of : KnownUps → ListingState
-variables_of known = variable_listing known.name known.state.fsd known.state.tree.variables
+variables_of known = variable_listing known.name known.state.fsd known.state.report.tree.variables
 
-answered : (s : ServerState) (ups : List ℕ) (known : KnownUps) → ups_named (seen s) (Some ups) ≡ Some known → readiness s.moment s.max_age known.state ≡ usable → answer_to (seen s) (ListVar (Some ups)) ≡ Ok (listing (variables_of known))
-answered s ups known named ready =
-    ap (λ (o : Option KnownUps). then_next (ok_or o UnknownUps) (λ u. live (seen s) u (let r : Result Answer ErrWord = Ok (listing (variables_of u)) in r))) named
-    ∙ ap (λ (r : Readiness). let a : Result Answer ErrWord = Ok (listing (variables_of known)) in driver_not_connected r (data_stale r a)) ready
+answered : (s : ServerState) (c : ℕ) (ups : List ℕ) (known : KnownUps) → ups_named (seen s) (Some ups) ≡ Some known → readiness s.moment s.max_age known.state.report ≡ usable → answer_to (seen s) (asker c s) (ListVar (Some ups)) ≡ Ok (listing (variables_of known))
+answered s c ups known named ready =
+    ap (λ (o : Option KnownUps). ok_or o UnknownUps >>= (λ u. live (seen s) u >> (let r : Result Answer ErrWord = Ok (listing (variables_of u)) in r))) named
+    ∙ ap (λ (r : Readiness). let a : Result Answer ErrWord = Ok (listing (variables_of known)) in (driver_not_connected r >> data_stale r) >> a) ready
 
 pub listing_is_held : AListingIsWhatIsHeld
 listing_is_held = record {
   framed = framed;
-  variables = λ s c line ups known read named ready. framed s c line (ListVar (Some ups)) (variables_of known) read (answered s ups known named ready);
+  variables = λ s c line ups known read named ready. framed s c line (ListVar (Some ups)) (variables_of known) read (answered s c ups known named ready);
 }
+
+-- a line of OK doesn't begin with ERR
+ok_line : (words : List (List ℕ)) → starts_with nat_eq (line_of (codes "OK" ∷ words)) (codes "ERR") ≡ true → ⊥
+ok_line [] e = cc e
+ok_line (word ∷ words) e = cc e
+
+ok_text : (answer : Result Answer ErrWord) → is_ok_line answer ≡ true → starts_with nat_eq (text_of_answer answer) (codes "ERR") ≡ true → ⊥
+ok_text (Err word) ok e = cc ok
+ok_text (Ok (one_line [] change)) ok e = cc ok
+ok_text (Ok (one_line (first ∷ words) change)) ok e =
+    let same : first ≡ codes "OK" = (bytes_eq-Decides first (codes "OK")).0 ok in
+    ok_line words (ap (λ (w : List ℕ). starts_with nat_eq (line_of (w ∷ words)) (codes "ERR")) (sym same) ∙ e)
+ok_text (Ok (listing l)) ok e = cc ok
+
+-- so what begins with ERR changes nothing
+pub refused_change : (s : ServerState) (c : ℕ) (r : Result (Option Command) ErrWord) → starts_with nat_eq (text_to s c r) (codes "ERR") ≡ true → change_by s c r ≡ Nothing
+refused_change s c (Err word) e = refl
+refused_change s c (Ok None) e = refl
+refused_change s c (Ok (Some command)) e = by_ok (is_ok_line (answer_to (seen s) (asker c s) command)) refl
+  where
+    by_ok : (b : Bool) → is_ok_line (answer_to (seen s) (asker c s) command) ≡ b → change_of_answer (answer_to (seen s) (asker c s) command) ≡ Nothing
+    by_ok true ok = absurd (ok_text (answer_to (seen s) (asker c s) command) ok e)
+    by_ok false not_ok = only_ok (seen s) (asker c s) command not_ok
+
+pub refused_line : (s : ServerState) (c : ℕ) (line : List ℕ) (x : SessionState) → session c s ≡ Some x → next_line_for s c ≡ Some line → starts_with nat_eq (reply s c line).text (codes "ERR") ≡ true → after_line s c ≡ with_session s (answered_line line (reply s c line).text x)
+refused_line s c line x found next refused =
+    after_line_is s c line x found next
+    ∙ ap (λ (change : Change). line_done s change (changed_session change (answered_line line (reply s c line).text x))) (refused_change s c (read_command line) refused)

@@ -6,13 +6,14 @@ use Rattle.std.proofs.lemmas.Bool.Decides.{nat_tests}
 use Rattle.nutcore.specs.declared.TheConstants.{OFFER_LIMIT}
 use Rattle.nutcore.specs.Session.{SessionState, find, put, without, AreApart, new_session}
 use Rattle.nutcore.specs.Server.{ServerState, session, with_session}
+use Rattle.nutanswer.specs.declared.reply.Change.{Change}
 use Rattle.nutanswer.specs.Command.{read_command}
-use Rattle.nutcore.specs.Reply.{reply}
-use Rattle.nutcore.specs.Pump.{next_line, next_line_of, next_line_for, answered, after_line, after_lines, pump_stops, held_of, after_all_lines, pumped, after_notice, after_notice_of, is_overlong, is_overlong_of, notified, wants_memory, is_listing_line, is_listing_read}
+use Rattle.nutcore.specs.Reply.{reply, text_to, change_by, changed_session, changed_upses}
+use Rattle.nutcore.specs.Pump.{next_line, next_line_of, next_line_for, answered, after_line, after_lines, pump_stops, held_of, after_all_lines, pumped, after_notice, after_notice_of, is_overlong, is_overlong_of, notified, wants_memory, shares_version_line, shares_version_read}
 use Rattle.nutcore.specs.Step.{offered, may_take}
-use Rattle.nutcore.specs.Serving.{place, IsAt}
-use Rattle.nutcore.proofs.Found.{find_id, find_put}
-use Rattle.nutcore.proofs.Pumping.{after_line_is, is_next}
+use Rattle.nutcore.specs.Serving.{place, IsAt, IsAnswered}
+use Rattle.nutcore.proofs.Found.{find_id, find_put, put_found}
+use Rattle.nutcore.proofs.Pumping.{after_line_is, is_next, change_at, session_after}
 use Rattle.nutcore.proofs.Places.{at_put, apart_put, found_at, find_at, put_is, without_at}
 use Rattle.nutcore.proofs.Loops.{after_lines-suc, all_lines_are}
 
@@ -56,25 +57,41 @@ session_set s c i x y h e id = ap (session c) (set_is s c i y h id) ∙ session_
 pub next_of_found : (s : ServerState) (c : ℕ) (x : SessionState) (line : List ℕ) → session c s ≡ Some x → next_line_for s c ≡ Some line → next_line x ≡ Some line
 next_of_found s c x line found h = ap next_line_of (sym found) ∙ h
 
-pub goes : (s : ServerState) (c : ℕ) (x : SessionState) (line : List ℕ) → session c s ≡ Some x → next_line_for s c ≡ Some line → is_some (next_line x) ≡ true
-goes s c x line found h = ap is_some (next_of_found s c x line found h)
+pub goes : (s : ServerState) (c : ℕ) (x : SessionState) → session c s ≡ Some x → is_some (next_line_for s c) ≡ true → is_some (next_line x) ≡ true
+goes s c x found h = ap (λ (o : Option SessionState). is_some (next_line_of o)) (sym found) ∙ h
 
--- what the code leaves is the server after the line
-pub line_is : (s : ServerState) (c i : ℕ) (line : List ℕ) (x y : SessionState) → IsAt c i s.sessions → session c s ≡ Some x → next_line_for s c ≡ Some line →
-    y ≡ answered line (reply s c line).text x →
-    let code : ServerState = record s { sessions = set s.sessions i y } in code ≡ after_line s c
-line_is s c i line x y h e next ey =
-    let id : y.id ≡ c = ap (λ (z : SessionState). z.id) ey ∙ find_id c s.sessions x e in
-    set_is s c i y h id ∙ ap (with_session s) ey ∙ sym (after_line_is s c line x e next)
+-- what the code leaves is what the session's next line leaves of the sessions
+pub answered_is : (s : ServerState) (c i : ℕ) (text : List ℕ) (change : Change) (x y : SessionState) → IsAt c i s.sessions → session c s ≡ Some x → y.id ≡ x.id →
+    ((line : List ℕ) → next_line x ≡ Some line → y ≡ changed_session change (answered line text x)) →
+    let code : ServerState = record s { sessions = set s.sessions i y } in IsAnswered s c text change code
+answered_is s c i text change x y h e id gives = λ line z next found.
+    let same : x ≡ z = some_is x z (sym e ∙ found) in
+    set_is s c i y h (id ∙ find_id c s.sessions x e)
+    ∙ ap (with_session s) (gives line (next_of_found s c x line e next) ∙ ap (λ (w : SessionState). changed_session change (answered line text w)) same)
+  where
+    some_is : (x z : SessionState) → Some x ≡ Some z → x ≡ z
+    some_is x z k = cc k
+
+-- with what it leaves of the UPSs, it is the server after the line
+done_by : (s u : ServerState) (c : ℕ) (line : List ℕ) → next_line_for s c ≡ Some line →
+    (let t : ServerState = record s { upses = changed_upses (change_at s c line) s.upses } in IsAnswered t c (reply s c line).text (change_at s c line) u) → u ≡ after_line s c
+done_by s u c line h answers =
+    let n = is_next s c line h in
+    answers line n.asking h n.found ∙ sym (after_line_is s c line n.asking n.found h)
+
+pub line_is : (s t u : ServerState) (c : ℕ) (line text : List ℕ) (change : Change) → next_line_for s c ≡ Some line → text_to s c (read_command line) ≡ text → change_by s c (read_command line) ≡ change →
+    (let code : ServerState = record s { upses = changed_upses change s.upses } in t ≡ code) → IsAnswered t c text change u → u ≡ after_line s c
+line_is s t u c line text change h et ec es answers =
+    let at : Change → ServerState = λ (z : Change). record s { upses = changed_upses z s.upses } in
+    done_by s u c line h
+    (subst (λ (z : Change). IsAnswered (at z) c (text_to s c (read_command line)) z u) (sym ec)
+    (subst (λ (z : List ℕ). IsAnswered (at change) c z change u) (sym et)
+    (subst (λ (z : ServerState). IsAnswered z c text change u) es answers)))
 
 pub at_line : (s : ServerState) (c i : ℕ) (line : List ℕ) → IsAt c i s.sessions → next_line_for s c ≡ Some line → IsAt c i (after_line s c).sessions
 at_line s c i line h next =
     let n = is_next s c line next in
-    subst (λ (z : ServerState). IsAt c i z.sessions) (sym (after_line_is s c line n.asking n.found next)) (at_put c i (answered line (reply s c line).text n.asking) s.sessions h)
-
-put_found : (x : SessionState) (xs : List SessionState) → find x.id xs ≡ Some x → put x xs ≡ xs
-put_found x [] e = refl
-put_found x (z ∷ xs) e = grind (arith, nat_tests, put_found x xs)
+    subst (λ (z : ServerState). IsAt c i z.sessions) (sym (after_line_is s c line n.asking n.found next)) (at_put c i (session_after s c line n.asking) s.sessions h)
 
 -- the notice, as the code writes it
 notice_there : (s : ServerState) (c : ℕ) (x : SessionState) → session c s ≡ Some x → is_overlong_of (Some x) ≡ true → after_notice s c ≡ with_session s (notified x)
@@ -119,8 +136,8 @@ unfolding pumped
 pump_ends s t u c k e le none f = let all = done_is s t c k e le none in (all, f ∙ ap (λ (z : ServerState). after_notice z c) (sym all))
 
 -- memory was refused for a listing
-pub wants_is : (s : ServerState) (c : ℕ) (line : List ℕ) → next_line_for s c ≡ Some line → is_listing_read s (read_command line) ≡ true → IsTrue (wants_memory s c)
-wants_is s c line next listing = let e : wants_memory s c ≡ true = ap (is_listing_line s) next ∙ listing in e
+pub wants_is : (s : ServerState) (c : ℕ) (line : List ℕ) → next_line_for s c ≡ Some line → shares_version_read s c (read_command line) ≡ true → IsTrue (wants_memory s c)
+wants_is s c line next listing = let e : wants_memory s c ≡ true = ap (shares_version_line s c) next ∙ listing in e
 
 pub refused : (s t u : ServerState) (c k : ℕ) → t ≡ after_lines k s c → IsTrue (wants_memory t c) → u ≡ t → IsTrue (wants_memory (after_lines k s c) c) × (u ≡ after_lines k s c)
 refused s t u c k e wants same = (subst (λ (z : ServerState). IsTrue (wants_memory z c)) e wants, same ∙ e)

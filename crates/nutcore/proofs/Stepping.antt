@@ -4,18 +4,21 @@ use Rattle.std.specs.Prelude.{is_some}
 use Rattle.std.proofs.lemmas.Bool.{cond-true, eqb-true, eqb-false, ltb-true, lt-ltb}
 use Rattle.std.proofs.lemmas.Bool.Decides.{nat_tests}
 use Rattle.std.proofs.lemmas.List.{take-append-drop}
+use Rattle.std.specs.List.{flat_map}
 use Rattle.std.proofs.lemmas.Grind.{flat_map-append}
+use Rattle.std.proofs.lemmas.List.Elements.{filter-append}
 use Rattle.nutcore.specs.declared.event.Event.{Event}
-use Rattle.nutcore.specs.declared.event.Event.TheVariants.{DriverUp, DriverBytes, DriverDown, Open, Feed, Took, Close}
+use Rattle.nutcore.specs.declared.event.Event.TheVariants.{DriverUp, DriverBytes, DriverTook, DriverDown, Tick, Open, Feed, Took, Close}
 use Rattle.nutcore.specs.declared.event.Outcome.{Outcome}
 use Rattle.nutcore.specs.Session.{SessionState, find, without, new_session}
 use Rattle.nutcore.specs.Server.{ServerState, session, with_session}
 use Rattle.nutcore.specs.Pump.{owed_of}
-use Rattle.nutcore.specs.Step.{joining, with_input, with_input_of, without_output, without_output_of, may_take, may_open, pumped_until, opened, after_by, after, refused_after}
+use Rattle.nutcore.specs.Step.{accepted_bytes, with_input, with_input_of, without_output, without_output_of, may_take, may_open, pumped_until, opened, ticked, after_by, after, refused_after}
 use Rattle.nutcore.specs.Run.{Run}
-use Rattle.nutcore.specs.History.{answers_until, answers_by, answers_in_event, taken_in_event, asked_in_event, answers_in_run, answers, taken, asked, executed, texts_of, lines_of, text_of, line_of}
+use Rattle.nutcore.specs.History.{Execution, client_of, executions_until, executions_in_event, executions, of_client, taken_in_event, asked_in_event, answers, taken, asked, executed, texts_of, lines_of, text_of, line_of}
 use Rattle.nutcore.specs.Headline.{IsLawful, SentAndOwed, TakenUp}
 use Rattle.nutcore.proofs.Progress.{Presence, presence, Progress, IsKept, joins, stays, moves, closes, opens}
+use Rattle.nutcore.proofs.Executions.{given_by, given_is}
 use Rattle.nutcore.proofs.Found.{find_id, find_without, find_without_other, find_last, find_last_other}
 use Rattle.nutcore.proofs.Pumping.{progress_at, progress_with, presence_put, presence_put_other, lines_go, lines_other, pump_goes, pump_other}
 
@@ -26,8 +29,8 @@ standing_is : (c : ℕ) (s : ServerState) (o : Option SessionState) → session 
 standing_is c s o e = ap (at_client s c) e
 
 -- the pump, as far as memory lets it
-until_goes : (c : ℕ) (s : ServerState) (m : Option ℕ) → Progress (presence c s) (texts_of (answers_until s c m)) [] [] (lines_of (answers_until s c m)) (presence c (pumped_until s c m))
-unfolding answers_until pumped_until
+until_goes : (c : ℕ) (s : ServerState) (m : Option ℕ) → Progress (presence c s) (texts_of (executions_until s c m)) [] [] (lines_of (executions_until s c m)) (presence c (pumped_until s c m))
+unfolding executions_until pumped_until
 until_goes c s None = pump_goes c s
 until_goes c s (Some k) = lines_go k c s
 
@@ -37,11 +40,11 @@ until_other c d s None differ = pump_other c d s differ
 until_other c d s (Some k) differ = lines_other k c d s differ
 
 -- bytes join
-input_goes_of : (c : ℕ) (s : ServerState) (piece : List ℕ) (o : Option SessionState) → session c s ≡ o → Progress (presence c s) [] [] (joining o piece) [] (presence c (with_input_of s o piece))
+input_goes_of : (c : ℕ) (s : ServerState) (piece : List ℕ) (o : Option SessionState) → session c s ≡ o → Progress (presence c s) [] [] (accepted_bytes o piece) [] (presence c (with_input_of s o piece))
 unfolding with_input_of
 input_goes_of c s piece None e = stays (presence c s)
 input_goes_of c s piece (Some x) e =
-    let more : List ℕ = joining (Some x) piece in
+    let more : List ℕ = accepted_bytes (Some x) piece in
     let y : SessionState = record x { held = x.held ++ more } in
     progress_at (presence c s) (at_client s c (Some x)) (presence c (with_session s y)) (at_client s c (Some y)) [] [] more []
     (standing_is c s (Some x) e)
@@ -51,25 +54,25 @@ input_goes_of c s piece (Some x) e =
 input_other_of : (c d : ℕ) (s : ServerState) (piece : List ℕ) (o : Option SessionState) → session d s ≡ o → c ≢ d → presence c (with_input_of s o piece) ≡ presence c s
 unfolding with_input_of
 input_other_of c d s piece None e differ = refl
-input_other_of c d s piece (Some x) e differ = presence_put_other c s (record x { held = x.held ++ joining (Some x) piece }) (λ (h : c ≡ x.id). differ (h ∙ find_id d s.sessions x e))
+input_other_of c d s piece (Some x) e differ = presence_put_other c s (record x { held = x.held ++ accepted_bytes (Some x) piece }) (λ (h : c ≡ x.id). differ (h ∙ find_id d s.sessions x e))
 
 feed_same : (c : ℕ) (s : ServerState) (piece : List ℕ) (m : Option ℕ) →
-    Progress (presence c s) (texts_of (answers_until (with_input s c piece) c m)) [] (joining (session c s) piece) (lines_of (answers_until (with_input s c piece) c m)) (presence c (pumped_until (with_input s c piece) c m))
+    Progress (presence c s) (texts_of (executions_until (with_input s c piece) c m)) [] (accepted_bytes (session c s) piece) (lines_of (executions_until (with_input s c piece) c m)) (presence c (pumped_until (with_input s c piece) c m))
 unfolding with_input
 feed_same c s piece m =
     let j = with_input s c piece in
-    let ds = answers_until j c m in
-    let k = joining (session c s) piece in
+    let ds = executions_until j c m in
+    let k = accepted_bytes (session c s) piece in
     let q = presence c (pumped_until j c m) in
     progress_with (presence c s) q (texts_of ds) (texts_of ds) [] [] k (k ++ []) (lines_of ds) (lines_of ds) refl refl (sym (append-nil k)) refl
     (joins (presence c s) (presence c j) q [] [] k [] (texts_of ds) [] [] (lines_of ds) (input_goes_of c s piece (session c s) refl) (until_goes c j m))
 
 feed_by : (c d : ℕ) (s : ServerState) (piece : List ℕ) (m : Option ℕ) (b : Bool) → eqb d c ≡ b →
-    Progress (presence c s) (texts_of (cond b (answers_until (with_input s d piece) d m) [])) [] (cond b (joining (session d s) piece) []) (lines_of (cond b (answers_until (with_input s d piece) d m) [])) (presence c (pumped_until (with_input s d piece) d m))
+    Progress (presence c s) (texts_of (cond b (executions_until (with_input s d piece) d m) [])) [] (cond b (accepted_bytes (session d s) piece) []) (lines_of (cond b (executions_until (with_input s d piece) d m) [])) (presence c (pumped_until (with_input s d piece) d m))
 unfolding with_input
 feed_by c d s piece m true same =
-    let ds = answers_until (with_input s d piece) d m in
-    subst (λ (z : ℕ). Progress (presence z s) (texts_of ds) [] (joining (session d s) piece) (lines_of ds) (presence z (pumped_until (with_input s d piece) d m))) (eqb-true d c same) (feed_same d s piece m)
+    let ds = executions_until (with_input s d piece) d m in
+    subst (λ (z : ℕ). Progress (presence z s) (texts_of ds) [] (accepted_bytes (session d s) piece) (lines_of ds) (presence z (pumped_until (with_input s d piece) d m))) (eqb-true d c same) (feed_same d s piece m)
 feed_by c d s piece m false other =
     let differ : c ≢ d = λ (h : c ≡ d). eqb-false d c other (sym h) in
     progress_at (presence c s) (presence c s) (presence c (pumped_until (with_input s d piece) d m)) (presence c s) [] [] [] [] refl
@@ -93,21 +96,21 @@ output_other_of c d s n None e differ = refl
 output_other_of c d s n (Some x) e differ = presence_put_other c s (record x { owed = drop n x.owed }) (λ (h : c ≡ x.id). differ (h ∙ find_id d s.sessions x e))
 
 took_same : (c : ℕ) (s : ServerState) (n : ℕ) (m : Option ℕ) → may_take (session c s) n ≡ true →
-    Progress (presence c s) (texts_of (answers_until (without_output s c n) c m)) (take n (owed_of (session c s))) [] (lines_of (answers_until (without_output s c n) c m)) (presence c (pumped_until (without_output s c n) c m))
+    Progress (presence c s) (texts_of (executions_until (without_output s c n) c m)) (take n (owed_of (session c s))) [] (lines_of (executions_until (without_output s c n) c m)) (presence c (pumped_until (without_output s c n) c m))
 unfolding without_output
 took_same c s n m may =
     let j = without_output s c n in
-    let ds = answers_until j c m in
+    let ds = executions_until j c m in
     let t = take n (owed_of (session c s)) in
     let q = presence c (pumped_until j c m) in
     progress_with (presence c s) q (texts_of ds) (texts_of ds) t (t ++ []) [] [] (lines_of ds) (lines_of ds) refl (sym (append-nil t)) refl refl
     (joins (presence c s) (presence c j) q [] t [] [] (texts_of ds) [] [] (lines_of ds) (output_goes_of c s n (session c s) refl may) (until_goes c j m))
 
 took_by : (c d : ℕ) (s : ServerState) (n : ℕ) (m : Option ℕ) (b : Bool) → eqb d c ≡ b → may_take (session d s) n ≡ true →
-    Progress (presence c s) (texts_of (cond b (answers_until (without_output s d n) d m) [])) (cond b (take n (owed_of (session d s))) []) [] (lines_of (cond b (answers_until (without_output s d n) d m) [])) (presence c (pumped_until (without_output s d n) d m))
+    Progress (presence c s) (texts_of (cond b (executions_until (without_output s d n) d m) [])) (cond b (take n (owed_of (session d s))) []) [] (lines_of (cond b (executions_until (without_output s d n) d m) [])) (presence c (pumped_until (without_output s d n) d m))
 unfolding without_output
 took_by c d s n m true same may =
-    let ds = answers_until (without_output s d n) d m in
+    let ds = executions_until (without_output s d n) d m in
     subst (λ (z : ℕ). Progress (presence z s) (texts_of ds) (take n (owed_of (session d s))) [] (lines_of ds) (presence z (pumped_until (without_output s d n) d m))) (eqb-true d c same) (took_same d s n m may)
 took_by c d s n m false other may =
     let differ : c ≢ d = λ (h : c ≡ d). eqb-false d c other (sym h) in
@@ -116,7 +119,7 @@ took_by c d s n m false other may =
     (stays (presence c s))
 
 took_may : (c d : ℕ) (s : ServerState) (n : ℕ) (m : Option ℕ) (b : Bool) → may_take (session d s) n ≡ b →
-    let ds = cond b (cond (eqb d c) (answers_until (without_output s d n) d m) []) [] in
+    let ds = cond b (cond (eqb d c) (executions_until (without_output s d n) d m) []) [] in
     Progress (presence c s) (texts_of ds) (cond b (cond (eqb d c) (take n (owed_of (session d s))) []) []) [] (lines_of ds) (presence c (cond b (pumped_until (without_output s d n) d m) s))
 took_may c d s n m true may = took_by c d s n m (eqb d c) refl may
 took_may c d s n m false may = stays (presence c s)
@@ -197,16 +200,28 @@ close_by c d s false other kept =
     progress_at (presence c s) (presence c s) (presence c after) (presence c s) [] [] [] [] refl (ap (at_client s c) (find_without_other c d s.sessions differ)) (stays (presence c s))
 
 -- one event
-event_goes : (c : ℕ) (s : ServerState) (e : Event) (m : Option ℕ) → IsKept (presence c s) →
-    Progress (presence c s) (texts_of (answers_by c s e m)) (taken_in_event c s e) (asked_in_event c s e) (lines_of (answers_by c s e m)) (presence c (after_by s e m))
-unfolding answers_by taken_in_event asked_in_event after_by
-event_goes c s (DriverUp u) m kept = stays (presence c s)
-event_goes c s (DriverBytes u piece) m kept = stays (presence c s)
-event_goes c s (DriverDown u) m kept = stays (presence c s)
-event_goes c s (Open address) m kept = open_goes c s address m kept
-event_goes c s (Feed d piece) m kept = feed_by c d s piece m (eqb d c) refl
-event_goes c s (Took d n) m kept = took_may c d s n m (may_take (session d s) n) refl
-event_goes c s (Close d) m kept = close_by c d s (eqb d c) refl kept
+given_goes : (c : ℕ) (s : ServerState) (e : Event) (m : Option ℕ) → IsKept (presence c s) →
+    Progress (presence c s) (texts_of (given_by c s e m)) (taken_in_event c s e) (asked_in_event c s e) (lines_of (given_by c s e m)) (presence c (after_by s e m))
+unfolding given_by taken_in_event asked_in_event after_by ticked
+given_goes c s (DriverUp u) m kept = stays (presence c s)
+given_goes c s (DriverBytes u piece) m kept = stays (presence c s)
+given_goes c s (DriverTook u n) m kept = stays (presence c s)
+given_goes c s (DriverDown u) m kept = stays (presence c s)
+given_goes c s (Tick seconds) m kept = stays (presence c s)
+given_goes c s (Open address) m kept = open_goes c s address m kept
+given_goes c s (Feed d piece) m kept = feed_by c d s piece m (eqb d c) refl
+given_goes c s (Took d n) m kept = took_may c d s n m (may_take (session d s) n) refl
+given_goes c s (Close d) m kept = close_by c d s (eqb d c) refl kept
+
+event_goes : (c : ℕ) (s : ServerState) (e : Event) (o : Outcome) → IsKept (presence c s) →
+    let ds : List Execution = of_client c (executions_in_event s e o) in
+    Progress (presence c s) (texts_of ds) (taken_in_event c s e) (asked_in_event c s e) (lines_of ds) (presence c (after s e o))
+event_goes c s e o kept =
+    subst (λ (ds : List Execution). Progress (presence c s) (texts_of ds) (taken_in_event c s e) (asked_in_event c s e) (lines_of ds) (presence c (after s e o))) (sym (given_is c s e (refused_after o))) (given_goes c s e (refused_after o) kept)
+
+-- what is one client's of two lists
+two_lists : (f : Execution → List ℕ) (c : ℕ) (xs ys : List Execution) → flat_map f (of_client c (xs ++ ys)) ≡ flat_map f (of_client c xs) ++ flat_map f (of_client c ys)
+two_lists f c xs ys = ap (flat_map f) (filter-append (λ x. eqb (client_of x) c) xs ys) ∙ flat_map-append f (of_client c xs) (of_client c ys)
 
 -- a run
 run_goes : (c : ℕ) (s t : ServerState) (es : List Event) (os : List Outcome) → Run s es os t → IsKept (presence c s) →
@@ -216,13 +231,15 @@ run_goes c s t [] (o ∷ os) r kept = absurd r
 run_goes c s t (e ∷ es) [] r kept = absurd r
 run_goes c s t (e ∷ es) (o ∷ os) (mid, step, r) kept =
     let next : ServerState = after s e o in
-    let first = event_goes c s e (refused_after o) kept in
+    let first = event_goes c s e o kept in
     let rest = run_goes c next t es os (subst (λ (z : ServerState). Run z es os t) step.leaves r) (first.keeps kept) in
-    let ds = answers_in_event c s e o in
-    let more = answers_in_run c next es os in
-    progress_with (presence c s) (presence c t) (texts_of (ds ++ more)) (texts_of ds ++ texts_of more) (taken_in_event c s e ++ taken c next es os) (taken_in_event c s e ++ taken c next es os) (asked_in_event c s e ++ asked c next es os) (asked_in_event c s e ++ asked c next es os) (lines_of (ds ++ more)) (lines_of ds ++ lines_of more)
-    (flat_map-append text_of ds more) refl refl (flat_map-append line_of ds more)
-    (joins (presence c s) (presence c next) (presence c t) (texts_of ds) (taken_in_event c s e) (asked_in_event c s e) (lines_of ds) (texts_of more) (taken c next es os) (asked c next es os) (lines_of more) first rest)
+    let ds = executions_in_event s e o in
+    let more = executions next es os in
+    let mine = of_client c ds in
+    let mine_more = of_client c more in
+    progress_with (presence c s) (presence c t) (texts_of (of_client c (ds ++ more))) (texts_of mine ++ texts_of mine_more) (taken_in_event c s e ++ taken c next es os) (taken_in_event c s e ++ taken c next es os) (asked_in_event c s e ++ asked c next es os) (asked_in_event c s e ++ asked c next es os) (lines_of (of_client c (ds ++ more))) (lines_of mine ++ lines_of mine_more)
+    (two_lists text_of c ds more) refl refl (two_lists line_of c ds more)
+    (joins (presence c s) (presence c next) (presence c t) (texts_of mine) (taken_in_event c s e) (asked_in_event c s e) (lines_of mine) (texts_of mine_more) (taken c next es os) (asked c next es os) (lines_of mine_more) first rest)
 
 -- the laws of every run
 pub run_sent : (s t : ServerState) (es : List Event) (os : List Outcome) → IsLawful s → Run s es os t → (c : ℕ) → SentAndOwed c s es os t

@@ -1,5 +1,5 @@
 -- What the calls of a server answer, as outcomes.
-use Rattle.std.specs.Prelude.{◌≡◌, ℕ, Bool, Result, Ok, Err, Option, Some, None, ◌-◌, ◌&&◌, ◌==◌, if◌then◌else◌, length}
+use Rattle.std.specs.Prelude.{◌≡◌, ℕ, Bool, List, Result, Ok, Err, Option, Some, None, ◌-◌, ◌&&◌, ◌==◌, if◌then◌else◌, length}
 use Rattle.nutcore.specs.declared.TheConstants.{HELD_LIMIT}
 use Rattle.nutcore.specs.declared.event.Outcome.{Outcome}
 use Rattle.nutcore.specs.declared.event.Outcome.TheVariants.{Done, Fed, Opened, Refused}
@@ -37,3 +37,7 @@ Reads read (Some x) answer = answer ≡ Ok (read x)
 abbrev pub ReadsUps : {A : Type 0} → (UpsState → A) → Option UpsState → Result A Fault → Type 0
 ReadsUps read None answer = answer ≡ Err NoSuchUps
 ReadsUps read (Some x) answer = answer ≡ Ok (read x)
+
+-- What the UPS's driver is owed.
+abbrev pub owed_to : UpsState → List ℕ
+owed_to x = x.owed

@@ -8,8 +8,8 @@ use Rattle.std.specs.Option.{option_map}
 use Rattle.std.specs.List.{flat_map}
 use Rattle.nutcore.specs.Server.{ServerState, new_server, ups_at}
 use Rattle.nutcore.specs.Reply.{reply}
-use Rattle.nutusers.specs.UpsFile.{Ups, new_ups, id_at}
-use Rattle.nutusers.specs.DescriptionFile.{Descriptions, no_descriptions}
+use Rattle.nutusers.specs.UpsList.{Ups, new_ups, id_at}
+use Rattle.nutusers.specs.Descriptions.{Descriptions, no_descriptions}
 use Rattle.nutcore.specs.Step.{after_by, outcome_of}
 use Rattle.nutcore.specs.History.{owed, held, taken_in_event, is_over}
 

@@ -10,16 +10,16 @@ use Rattle.nutanswer.specs.declared.command.Command.{Command}
 use Rattle.nutanswer.specs.declared.command.Command.TheVariants.{ListVar}
 use Rattle.nutanswer.specs.Command.{read_command}
 use Rattle.nutanswer.specs.View.{readiness, usable}
-use Rattle.nutanswer.specs.Items.{ListingState, variable_item}
+use Rattle.nutlisting.specs.Items.{ListingState, variable_item}
 use Rattle.nutanswer.specs.Checks.{KnownUps, ups_named}
 use Rattle.nutanswer.specs.Answer.{answer_to, listing}
 use Rattle.nutcore.specs.Session.{SessionState}
 use Rattle.nutcore.specs.Server.{ServerState, session, with_session}
-use Rattle.nutcore.specs.Reply.{seen, reply}
+use Rattle.nutcore.specs.Reply.{seen, asker, reply}
 use Rattle.nutcore.specs.Pump.{next_line_for, pump_stops, after_line, after_lines, after_notice, pumped, answered}
 use Rattle.nutcore.specs.Step.{Step, outcome_of}
 use Rattle.nutcore.specs.Run.{Run}
-use Rattle.nutcore.specs.History.{Answer, to_line, too_long, answers_in_run, answers, executed, taken, asked, owed, held, is_closed, is_over}
+use Rattle.nutcore.specs.History.{Execution, of_line, of_notice, executions, answers, executed, taken, asked, owed, held, is_closed, is_over}
 
 -- The bytes begin the text: they are a front part of it, none and all of it included.
 abbrev pub IsBeginning : List ℕ → List ℕ → Type 0
@@ -54,21 +54,21 @@ abbrev pub WhatWasAskedIsExecutedOrHeld : Type 0
 WhatWasAskedIsExecutedOrHeld =
     (old new : ServerState) (events : List Event) (outcomes : List Outcome) → IsLawful old → Run old events outcomes new → (c : ℕ) → TakenUp c old events outcomes new
 
--- The answer is the reply to the line that was the client's next one at that moment, or the notice.
-pub data IsTimely (c : ℕ) : Answer → Type 0 where
-  reply_at_its_moment : (s : ServerState) (line : List ℕ) → next_line_for s c ≡ Some line → IsTimely c (to_line s c line)
-  notice_of_length : IsTimely c too_long
+-- The line was its client's next one on the server as it was.
+abbrev pub IsTimely : Execution → Type 0
+IsTimely (of_line s c line) = next_line_for s c ≡ Some line
+IsTimely (of_notice c) = Unit {0}
 
 -- Each answer of a run is the reply to its line on the server of the line's own moment, at which the line was the next to be executed.
 abbrev pub EachAnswerIsTimely : Type 0
-EachAnswerIsTimely = (old : ServerState) (events : List Event) (outcomes : List Outcome) (c : ℕ) → All (IsTimely c) (answers_in_run c old events outcomes)
+EachAnswerIsTimely = (old : ServerState) (events : List Event) (outcomes : List Outcome) → All IsTimely (executions old events outcomes)
 
 -- The text that answers a listing's line is BEGIN, exactly the items that the server has then, and END. Of LIST VAR, of a UPS that is usable, they are the variables that it holds.
 pub record AListingIsWhatIsHeld : Type 0 where
-  pub framed : (s : ServerState) (c : ℕ) (line : List ℕ) (command : Command) (l : ListingState) → read_command line ≡ Ok (Some command) → answer_to (seen s) command ≡ Ok (listing l)
+  pub framed : (s : ServerState) (c : ℕ) (line : List ℕ) (command : Command) (l : ListingState) → read_command line ≡ Ok (Some command) → answer_to (seen s) (asker c s) command ≡ Ok (listing l)
       → (reply s c line).text ≡ frame l.kind l.names l.items
-  pub variables : (s : ServerState) (c : ℕ) (line ups : List ℕ) (known : KnownUps) → read_command line ≡ Ok (Some (ListVar (Some ups))) → ups_named (seen s) (Some ups) ≡ Some known → readiness s.moment s.max_age known.state ≡ usable
-      → (reply s c line).text ≡ frame (codes "VAR") (known.name ∷ []) (map (variable_item (codes "VAR") known.name known.state.fsd) known.state.tree.variables)
+  pub variables : (s : ServerState) (c : ℕ) (line ups : List ℕ) (known : KnownUps) → read_command line ≡ Ok (Some (ListVar (Some ups))) → ups_named (seen s) (Some ups) ≡ Some known → readiness s.moment s.max_age known.state.report ≡ usable
+      → (reply s c line).text ≡ frame (codes "VAR") (known.name ∷ []) (map (variable_item (codes "VAR") known.name known.state.fsd) known.state.report.tree.variables)
 
 -- A whole line that is refused, by an answer that begins with ERR, changes nothing but its own session's held and owed bytes.
 abbrev pub ARefusedLineChangesNothing : Type 0
@@ -85,13 +85,13 @@ pub record IsLeast (s : ServerState) (c k : ℕ) : Type 0 where
 abbrev pub ThePumpExecutesTheLeast : Type 0
 ThePumpExecutesTheLeast = (s : ServerState) (c : ℕ) → (k : ℕ) × IsLeast s c k
 
-abbrev pub IsWantOfMemory : Outcome → Type 0
-IsWantOfMemory outcome = (k : ℕ) × (outcome ≡ Refused (Memory k))
+abbrev pub IsOutOfMemory : Outcome → Type 0
+IsOutOfMemory outcome = (k : ℕ) × (outcome ≡ Refused (Memory k))
 
--- An event is a function of the server: given the outcome there is one next server, and but for want of memory there is one outcome.
+-- An event is a function of the server: given the outcome there is one next server, and but for being out of memory there is one outcome.
 pub record IsAFunction (s : ServerState) (event : Event) : Type 0 where
   pub one_next : (outcome : Outcome) (new other : ServerState) → Step s event outcome new → Step s event outcome other → new ≡ other
-  pub one_outcome : (outcome : Outcome) (new : ServerState) → Step s event outcome new → (outcome ≡ outcome_of s event) ⊎ IsWantOfMemory outcome
+  pub one_outcome : (outcome : Outcome) (new : ServerState) → Step s event outcome new → (outcome ≡ outcome_of s event) ⊎ IsOutOfMemory outcome
 
 abbrev pub EachEventIsAFunction : Type 0
 EachEventIsAFunction = (s : ServerState) (event : Event) → IsAFunction s event

@@ -1,70 +1,89 @@
--- What a run did to one client, told from the lists of events and outcomes. The server stores none of it.
+-- What a run did, told from the lists of events and outcomes. The server stores none of it.
 use Rattle.std.specs.Prelude.{ℕ, zero, suc, Bool, false, List, [], ◌∷◌, ◌++◌, Option, Some, None, ◌==◌, nat_lt, if◌then◌else◌, length, take}
-use Rattle.std.specs.List.{flat_map}
+use Rattle.std.specs.List.{filter, flat_map}
 use Rattle.nutcore.specs.declared.event.Event.{Event}
-use Rattle.nutcore.specs.declared.event.Event.TheVariants.{DriverUp, DriverBytes, DriverDown, Open, Feed, Took, Close}
+use Rattle.nutcore.specs.declared.event.Event.TheVariants.{DriverUp, DriverBytes, DriverTook, DriverDown, Tick, Open, Feed, Took, Close}
 use Rattle.nutcore.specs.declared.event.Outcome.{Outcome}
 use Rattle.nutcore.specs.Lines.{with_lf}
 use Rattle.nutcore.specs.Session.{SessionState}
 use Rattle.nutcore.specs.Server.{ServerState, session}
 use Rattle.nutcore.specs.Reply.{reply, too_long_notice}
 use Rattle.nutcore.specs.Pump.{next_line_for, after_line, after_all_lines, is_overlong, held_of, owed_of}
-use Rattle.nutcore.specs.Step.{joining, with_input, without_output, may_take, after, refused_after}
+use Rattle.nutcore.specs.Step.{accepted_bytes, with_input, without_output, may_take, after, refused_after}
 
--- What a client was answered: to a line, executed on the server as it was at that moment, or the notice that its line is too long.
-pub data Answer : Type 0 where
-  to_line : (server : ServerState) → (client : ℕ) → (line : List ℕ) → Answer
-  too_long : Answer
+-- What an event executed: a line of a client, on the server as it was at that moment, or the notice to a client that its line is too long.
+pub data Execution : Type 0 where
+  of_line : (server : ServerState) → (client : ℕ) → (line : List ℕ) → Execution
+  of_notice : (client : ℕ) → Execution
+
+-- Whose it is.
+abbrev pub client_of : Execution → ℕ
+client_of (of_line s c line) = c
+client_of (of_notice c) = c
 
 -- The text that was joined to what the client is owed.
-abbrev pub text_of : Answer → List ℕ
-text_of (to_line s c line) = (reply s c line).text
-text_of too_long = too_long_notice
+abbrev pub text_of : Execution → List ℕ
+text_of (of_line s c line) = (reply s c line).text
+text_of (of_notice c) = too_long_notice
 
 -- The executed line, with its LF.
-abbrev pub line_of : Answer → List ℕ
-line_of (to_line s c line) = with_lf line
-line_of too_long = []
+abbrev pub line_of : Execution → List ℕ
+line_of (of_line s c line) = with_lf line
+line_of (of_notice c) = []
 
-abbrev pub answer_to_next : ServerState → ℕ → Option (List ℕ) → List Answer
-answer_to_next s c None = []
-answer_to_next s c (Some line) = to_line s c line ∷ []
+abbrev pub next_execution : ServerState → ℕ → Option (List ℕ) → List Execution
+next_execution s c None = []
+next_execution s c (Some line) = of_line s c line ∷ []
 
--- The answers to the next k lines, as far as they may be executed.
-unfoldable pub answers_to_lines : ℕ → ServerState → ℕ → List Answer
-answers_to_lines zero s c = []
-answers_to_lines (suc k) s c = answer_to_next s c (next_line_for s c) ++ answers_to_lines k (after_line s c) c
+-- The next k lines, as far as they may be executed.
+unfoldable pub lines_executed : ℕ → ServerState → ℕ → List Execution
+lines_executed zero s c = []
+lines_executed (suc k) s c = next_execution s c (next_line_for s c) ++ lines_executed k (after_line s c) c
 
-abbrev pub notice : ServerState → ℕ → List Answer
-notice s c = if is_overlong s c then too_long ∷ [] else []
+abbrev pub notice : ServerState → ℕ → List Execution
+notice s c = if is_overlong s c then of_notice c ∷ [] else []
 
--- The answers of the pump.
-unfoldable pub pump_answers : ServerState → ℕ → List Answer
-pump_answers s c = answers_to_lines (length (held_of (session c s))) s c ++ notice (after_all_lines s c) c
+-- What the pump executes.
+unfoldable pub pump_executions : ServerState → ℕ → List Execution
+pump_executions s c = lines_executed (length (held_of (session c s))) s c ++ notice (after_all_lines s c) c
 
 -- The same, as far as memory let it.
-unfoldable pub answers_until : ServerState → ℕ → Option ℕ → List Answer
-answers_until s c None = pump_answers s c
-answers_until s c (Some k) = answers_to_lines k s c
+unfoldable pub executions_until : ServerState → ℕ → Option ℕ → List Execution
+executions_until s c None = pump_executions s c
+executions_until s c (Some k) = lines_executed k s c
 
--- The client's answers in one event.
-unfoldable pub answers_by : ℕ → ServerState → Event → Option ℕ → List Answer
-answers_by c s (DriverUp u) m = []
-answers_by c s (DriverBytes u piece) m = []
-answers_by c s (DriverDown u) m = []
-answers_by c s (Open address) m = []
-answers_by c s (Feed d piece) m = if d == c then answers_until (with_input s d piece) d m else []
-answers_by c s (Took d n) m = if may_take (session d s) n then (if d == c then answers_until (without_output s d n) d m else []) else []
-answers_by c s (Close d) m = []
+-- What an event executed.
+unfoldable pub executions_by : ServerState → Event → Option ℕ → List Execution
+executions_by s (DriverUp u) m = []
+executions_by s (DriverBytes u piece) m = []
+executions_by s (DriverTook u n) m = []
+executions_by s (DriverDown u) m = []
+executions_by s (Tick seconds) m = []
+executions_by s (Open address) m = []
+executions_by s (Feed c piece) m = executions_until (with_input s c piece) c m
+executions_by s (Took c n) m = if may_take (session c s) n then executions_until (without_output s c n) c m else []
+executions_by s (Close c) m = []
 
-abbrev pub answers_in_event : ℕ → ServerState → Event → Outcome → List Answer
-answers_in_event c s e outcome = answers_by c s e (refused_after outcome)
+abbrev pub executions_in_event : ServerState → Event → Outcome → List Execution
+executions_in_event s e outcome = executions_by s e (refused_after outcome)
+
+-- What a run executed, in order. All histories are read off this list.
+abbrev pub executions : ServerState → List Event → List Outcome → List Execution
+executions s [] os = []
+executions s (e ∷ es) [] = []
+executions s (e ∷ es) (o ∷ os) = executions_in_event s e o ++ executions (after s e o) es os
+
+-- Those of one client.
+abbrev pub of_client : ℕ → List Execution → List Execution
+of_client c all = filter (λ x. client_of x == c) all
 
 -- What the client took in one event.
 unfoldable pub taken_in_event : ℕ → ServerState → Event → List ℕ
 taken_in_event c s (DriverUp u) = []
 taken_in_event c s (DriverBytes u piece) = []
+taken_in_event c s (DriverTook u n) = []
 taken_in_event c s (DriverDown u) = []
+taken_in_event c s (Tick seconds) = []
 taken_in_event c s (Open address) = []
 taken_in_event c s (Feed d piece) = []
 taken_in_event c s (Took d n) = if may_take (session d s) n then (if d == c then take n (owed_of (session d s)) else []) else []
@@ -74,31 +93,27 @@ taken_in_event c s (Close d) = []
 unfoldable pub asked_in_event : ℕ → ServerState → Event → List ℕ
 asked_in_event c s (DriverUp u) = []
 asked_in_event c s (DriverBytes u piece) = []
+asked_in_event c s (DriverTook u n) = []
 asked_in_event c s (DriverDown u) = []
+asked_in_event c s (Tick seconds) = []
 asked_in_event c s (Open address) = []
-asked_in_event c s (Feed d piece) = if d == c then joining (session d s) piece else []
+asked_in_event c s (Feed d piece) = if d == c then accepted_bytes (session d s) piece else []
 asked_in_event c s (Took d n) = []
 asked_in_event c s (Close d) = []
 
--- The client's answers in a run, in order.
-abbrev pub answers_in_run : ℕ → ServerState → List Event → List Outcome → List Answer
-answers_in_run c s [] os = []
-answers_in_run c s (e ∷ es) [] = []
-answers_in_run c s (e ∷ es) (o ∷ os) = answers_in_event c s e o ++ answers_in_run c (after s e o) es os
+abbrev pub texts_of : List Execution → List ℕ
+texts_of all = flat_map text_of all
 
-abbrev pub texts_of : List Answer → List ℕ
-texts_of given = flat_map text_of given
-
-abbrev pub lines_of : List Answer → List ℕ
-lines_of given = flat_map line_of given
+abbrev pub lines_of : List Execution → List ℕ
+lines_of all = flat_map line_of all
 
 -- The texts that the run joined to what the client is owed.
 abbrev pub answers : ℕ → ServerState → List Event → List Outcome → List ℕ
-answers c s es os = texts_of (answers_in_run c s es os)
+answers c s es os = texts_of (of_client c (executions s es os))
 
 -- The lines that the run executed for the client, each with its LF.
 abbrev pub executed : ℕ → ServerState → List Event → List Outcome → List ℕ
-executed c s es os = lines_of (answers_in_run c s es os)
+executed c s es os = lines_of (of_client c (executions s es os))
 
 -- The bytes that the client took in the run.
 abbrev pub taken : ℕ → ServerState → List Event → List Outcome → List ℕ

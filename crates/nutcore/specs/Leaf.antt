@@ -3,7 +3,7 @@ use Rattle.std.specs.Prelude.{◌≡◌, ℕ, true, false, List, ◌++◌, Some,
 use Rattle.nutwords.specs.declared.cut.Cut.{Cut}
 use Rattle.nutwords.specs.declared.cut.Cut.TheVariants.{Line, More, TooLong}
 use Rattle.nutcore.specs.declared.event.Fault.{Fault}
-use Rattle.nutcore.specs.declared.event.Fault.TheVariants.{LineTooLong, Memory}
+use Rattle.nutcore.specs.declared.event.Fault.TheVariants.{TookTooMuch, LineTooLong, Memory}
 use Rattle.nutcore.specs.Lines.{behind}
 use Rattle.nutcore.specs.Ups.{UpsState, next_driver_line, with_bytes, is_driver_overlong, after_loss, after_driver_lines, after_all_driver_lines, wants_driver_memory}
 
@@ -27,3 +27,8 @@ IsFed moment start (Ok u) new = (is_driver_overlong (after_all_driver_lines mome
 IsFed moment start (Err LineTooLong) new = (is_driver_overlong (after_all_driver_lines moment start) ≡ true) × (new ≡ after_loss (after_all_driver_lines moment start))
 IsFed moment start (Err (Memory k)) new = (wants_driver_memory (after_driver_lines k moment start) ≡ true) × (new ≡ after_loss (after_driver_lines k moment start))
 IsFed moment start (Err fault) new = ⊥
+
+-- What a driver's taking of n bytes leaves of its UPS: it took no more than it is owed, or nothing changed.
+abbrev pub IsTaken : ℕ → UpsState → Result (Unit {0}) Fault → UpsState → Type 0
+IsTaken n old (Ok u) new = (n ≤ length old.owed) × (new ≡ record old { owed = drop n old.owed })
+IsTaken n old (Err fault) new = (fault ≡ TookTooMuch) × (length old.owed < n) × (new ≡ old)

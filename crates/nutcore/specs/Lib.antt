@@ -10,6 +10,7 @@ pub mod Step
 pub mod Run
 pub mod History
 pub mod Headline
+pub mod ByRight
 pub mod Calls
 pub mod Serving
 pub mod Examples

@@ -4,11 +4,11 @@ use Rattle.nutcore.specs.declared.TheConstants.{HELD_LIMIT, OWED_LIMIT}
 use Rattle.nutanswer.specs.declared.command.Command.{Command}
 use Rattle.nutanswer.specs.declared.err_word.ErrWord.{ErrWord}
 use Rattle.nutanswer.specs.Command.{read_command}
-use Rattle.nutanswer.specs.Answer.{answer_to, is_listing}
+use Rattle.nutanswer.specs.Answer.{answer_to, shares_version}
 use Rattle.nutcore.specs.Lines.{first_line, behind}
-use Rattle.nutcore.specs.Session.{SessionState, ended}
+use Rattle.nutcore.specs.Session.{SessionState, begin_ending}
 use Rattle.nutcore.specs.Server.{ServerState, session, with_session}
-use Rattle.nutcore.specs.Reply.{Reply, seen, reply, too_long_notice}
+use Rattle.nutcore.specs.Reply.{Reply, seen, asker, reply, too_long_notice}
 
 -- The session's next line, if it may be executed: the session isn't ending, and at most 2,048 bytes are owed.
 abbrev pub next_line : SessionState → Option (List ℕ)
@@ -72,7 +72,7 @@ is_overlong s c = is_overlong_of (session c s)
 
 -- The session is told that its line is too long, and begins to end.
 abbrev pub notified : SessionState → SessionState
-notified x = ended (record x { owed = x.owed ++ too_long_notice })
+notified x = begin_ending (record x { owed = x.owed ++ too_long_notice })
 
 unfoldable pub after_notice_of : ServerState → Option SessionState → ServerState
 after_notice_of s None = s
@@ -85,16 +85,16 @@ after_notice s c = after_notice_of s (session c s)
 unfoldable pub pumped : ServerState → ℕ → ServerState
 pumped s c = after_notice (after_all_lines s c) c
 
--- The reply is a listing, which shares a version of what it lists: the one answer for which memory may be refused.
-abbrev pub is_listing_read : ServerState → Result (Option Command) ErrWord → Bool
-is_listing_read s (Err word) = false
-is_listing_read s (Ok None) = false
-is_listing_read s (Ok (Some command)) = is_listing (answer_to (seen s) command)
+-- The line's answer shares a version of what it lists: the one answer for which memory may be refused.
+abbrev pub shares_version_read : ServerState → ℕ → Result (Option Command) ErrWord → Bool
+shares_version_read s c (Err word) = false
+shares_version_read s c (Ok None) = false
+shares_version_read s c (Ok (Some command)) = shares_version (answer_to (seen s) (asker c s) command)
 
-abbrev pub is_listing_line : ServerState → Option (List ℕ) → Bool
-is_listing_line s None = false
-is_listing_line s (Some line) = is_listing_read s (read_command line)
+abbrev pub shares_version_line : ServerState → ℕ → Option (List ℕ) → Bool
+shares_version_line s c None = false
+shares_version_line s c (Some line) = shares_version_read s c (read_command line)
 
--- The session's next line may be executed, and is answered by a listing.
+-- The session's next line may be executed, and its answer shares a version.
 abbrev pub wants_memory : ServerState → ℕ → Bool
-wants_memory s c = is_listing_line s (next_line_for s c)
+wants_memory s c = shares_version_line s c (next_line_for s c)

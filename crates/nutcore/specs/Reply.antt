@@ -5,33 +5,79 @@ use Rattle.nutanswer.specs.declared.err_word.ErrWord.{ErrWord}
 use Rattle.nutanswer.specs.declared.err_word.ErrWord.TheVariants.{TooLong}
 use Rattle.nutanswer.specs.ErrWord.{error_line}
 use Rattle.nutanswer.specs.Command.{read_command}
-use Rattle.nutanswer.specs.View.{Seen, UpsSeen}
-use Rattle.nutanswer.specs.Answer.{answer_to, text_of_answer}
-use Rattle.nutcore.specs.Ups.{UpsState}
-use Rattle.nutcore.specs.Server.{ServerState}
+use Rattle.nutanswer.specs.declared.reply.Change.{Change}
+use Rattle.nutanswer.specs.declared.reply.Change.TheVariants.{Nothing, Username, Password, Login, Ending, Fsd}
+use Rattle.nutanswer.specs.View.{Seen, UpsSeen, ClientSeen, AskerSeen}
+use Rattle.nutanswer.specs.Answer.{Answer, answer_to, text_of_answer, change_of_answer}
+use Rattle.nutcore.specs.Session.{SessionState, begin_ending}
+use Rattle.nutcore.specs.Ups.{UpsState, with_fsd}
+use Rattle.nutcore.specs.Server.{ServerState, session, changed_at, with_session_changed}
 
 -- A UPS as answers see it.
 abbrev pub seen_ups : UpsState → UpsSeen
-seen_ups x = record { connected = x.connected; dumped = x.dumped; ok = x.ok; heard = x.heard; fsd = x.fsd; tree = x.tree }
+seen_ups x = record { report = x.report; fsd = x.fsd }
+
+-- A session as answers see it.
+abbrev pub seen_client : SessionState → ClientSeen
+seen_client x = record { address = x.address; login = x.login }
 
 -- What an answer may look at.
 abbrev pub seen : ServerState → Seen
-seen s = record { moment = s.moment; max_age = s.max_age; list = s.list; upses = map seen_ups s.upses; descriptions = s.descriptions }
+seen s = record { moment = s.moment; max_age = s.max_age; list = s.list; upses = map seen_ups s.upses; descriptions = s.descriptions; users = s.users; clients = map seen_client s.sessions }
 
--- The whole text of an answer, and the server that the line leaves beside its own session's held input and owed text. No command of this server changes anything yet.
+-- The session that asks, as answers see it.
+abbrev pub asker_of : Option SessionState → AskerSeen
+asker_of None = record { username = None; password = None; login = None }
+asker_of (Some x) = record { username = x.username; password = x.password; login = x.login }
+
+abbrev pub asker : ℕ → ServerState → AskerSeen
+asker c s = asker_of (session c s)
+
+-- What a change does to the session that asks,
+abbrev pub changed_session : Change → SessionState → SessionState
+changed_session Nothing x = x
+changed_session (Username name) x = record x { username = Some name }
+changed_session (Password password) x = record x { password = Some password }
+changed_session (Login u) x = record x { login = Some u }
+changed_session Ending x = begin_ending x
+changed_session (Fsd u) x = x
+
+-- to the UPSs,
+abbrev pub changed_upses : Change → List UpsState → List UpsState
+changed_upses Nothing upses = upses
+changed_upses (Username name) upses = upses
+changed_upses (Password password) upses = upses
+changed_upses (Login u) upses = upses
+changed_upses Ending upses = upses
+changed_upses (Fsd u) upses = changed_at with_fsd u.place upses
+
+-- and so to the server.
+abbrev pub changed : Change → ℕ → ServerState → ServerState
+changed change c s = with_session_changed (changed_session change) c (record s { upses = changed_upses change s.upses })
+
+-- The text that answers what was read: none where a line has no words.
+abbrev pub text_to : ServerState → ℕ → Result (Option Command) ErrWord → List ℕ
+text_to s c (Err word) = error_line word
+text_to s c (Ok None) = []
+text_to s c (Ok (Some command)) = text_of_answer (answer_to (seen s) (asker c s) command)
+
+-- What changes by it: nothing where a line doesn't read as a command, has no words, or is refused.
+abbrev pub change_by : ServerState → ℕ → Result (Option Command) ErrWord → Change
+change_by s c (Err word) = Nothing
+change_by s c (Ok None) = Nothing
+change_by s c (Ok (Some command)) = change_of_answer (answer_to (seen s) (asker c s) command)
+
+-- The whole text of an answer, and the server that the line leaves beside its own session's held input and owed text.
 pub record Reply : Type 0 where
   pub text : List ℕ
   pub server : ServerState
 
--- By what was read: nothing is answered to a line without words, and a line that is refused changes nothing.
-abbrev pub reply_to : ServerState → Result (Option Command) ErrWord → Reply
-reply_to s (Err word) = record { text = error_line word; server = s }
-reply_to s (Ok None) = record { text = []; server = s }
-reply_to s (Ok (Some command)) = record { text = text_of_answer (answer_to (seen s) command); server = s }
+abbrev pub reply_to : ServerState → ℕ → Result (Option Command) ErrWord → Reply
+reply_to s c r = record { text = text_to s c r; server = changed (change_by s c r) c s }
 
 -- The reply to a line of the client c.
 abbrev pub reply : ServerState → ℕ → List ℕ → Reply
-reply s c line = reply_to s (read_command line)
+reply s c line = reply_to s c (read_command line)
 
 -- The notice to a client of which 1,024 bytes came without an LF.
 abbrev pub too_long_notice : List ℕ

@@ -1,9 +1,10 @@
 -- The server as its callers see it.
 use Rattle.std.specs.Prelude.{ℕ, zero, suc, List, [], ◌∷◌, Option, Some, None, slice_get, replicate, length, nat_le, ◌&&◌, if◌then◌else◌}
-use Rattle.nutusers.specs.UpsFile.{Ups}
-use Rattle.nutusers.specs.UsersFile.{User}
-use Rattle.nutusers.specs.DescriptionFile.{Descriptions}
+use Rattle.nutusers.specs.UpsList.{Ups}
+use Rattle.nutusers.specs.Users.{User}
+use Rattle.nutusers.specs.Descriptions.{Descriptions}
 use Rattle.nutusers.specs.declared.ups_list.UpsId.{UpsId}
+use Rattle.nutcore.specs.declared.max_age.TheConstants.{MAX_AGE_LEAST, MAX_AGE_MOST}
 use Rattle.nutcore.specs.Session.{SessionState, find, put}
 use Rattle.nutcore.specs.Ups.{UpsState, new_ups}
 
@@ -30,9 +31,17 @@ session c s = find c s.sessions
 abbrev pub with_session : ServerState → SessionState → ServerState
 with_session s y = record s { sessions = put y s.sessions }
 
+unfoldable pub with_session_changed_of : (SessionState → SessionState) → Option SessionState → ServerState → ServerState
+with_session_changed_of f None s = s
+with_session_changed_of f (Some x) s = with_session s (f x)
+
+-- The server in which f, which keeps its id, changes the session of this id, if there is one.
+unfoldable pub with_session_changed : (SessionState → SessionState) → ℕ → ServerState → ServerState
+with_session_changed f c s = with_session_changed_of f (session c s) s
+
 -- The greatest age of what a driver told is from 3 to 86,400 seconds (`MAXAGE` of upsd.conf(5)).
 abbrev pub read_max_age : ℕ → Option ℕ
-read_max_age seconds = if nat_le 3 seconds && nat_le seconds 86400 then Some seconds else None
+read_max_age seconds = if nat_le MAX_AGE_LEAST seconds && nat_le seconds MAX_AGE_MOST then Some seconds else None
 
 -- The UPS at a place.
 abbrev pub ups_at : ℕ → ServerState → Option UpsState

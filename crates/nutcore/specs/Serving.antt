@@ -6,15 +6,18 @@ use Rattle.nutcore.specs.declared.event.Fault.TheVariants.{NoSuchUps, NoSuchClie
 use Rattle.std.specs.declared.alloc.AllocError.{AllocError}
 use Rattle.nutanswer.specs.declared.reply.Reply.{Reply as Answer}
 use Rattle.nutanswer.specs.declared.reply.Reply.TheVariants.{One, Many}
+use Rattle.nutanswer.specs.declared.reply.Change.{Change}
+use Rattle.nutanswer.specs.declared.reply.Change.TheVariants.{Nothing}
+use Rattle.nutcore.specs.declared.TheConstants.{OWED_LIMIT}
 use Rattle.nutanswer.specs.Command.{read_command}
-use Rattle.nutanswer.specs.Items.{text_of}
+use Rattle.nutlisting.specs.Items.{text_of}
 use Rattle.nutcore.specs.Session.{SessionState}
 use Rattle.nutcore.specs.Ups.{UpsState, with_bytes}
-use Rattle.nutcore.specs.Leaf.{IsFed}
+use Rattle.nutcore.specs.Leaf.{IsFed, IsTaken}
 use Rattle.nutusers.specs.declared.ups_list.UpsId.{UpsId}
-use Rattle.nutcore.specs.Server.{ServerState, ups_at, with_ups_changed}
-use Rattle.nutcore.specs.Reply.{reply_to}
-use Rattle.nutcore.specs.Pump.{pumped, after_all_lines, after_lines, is_overlong, wants_memory, is_listing_read, next_line_for}
+use Rattle.nutcore.specs.Server.{ServerState, session, with_session, ups_at, with_ups_changed}
+use Rattle.nutcore.specs.Reply.{text_to, change_by, changed_session}
+use Rattle.nutcore.specs.Pump.{pumped, after_all_lines, after_lines, is_overlong, wants_memory, shares_version_read, next_line_for, answered}
 
 -- where the session of this id stands
 abbrev pub place : ℕ → List SessionState → ℕ
@@ -36,27 +39,31 @@ PumpGives old c (Err TookTooMuch) new = ⊥
 PumpGives old c (Err NotConnected) new = ⊥
 PumpGives old c (Err AlreadyConnected) new = ⊥
 
--- the reply gives the line's text: one line at most, which takes no memory, or the listing
-abbrev pub RepliesBy : ServerState → List ℕ → Answer → Type 0
-RepliesBy s line (One text change) = (is_listing_read s (read_command line) ≡ false) × ((reply_to s (read_command line)).text ≡ text.items) × (length text.items ≤ 2048)
-RepliesBy s line (Many listing) = (is_listing_read s (read_command line) ≡ true) × ((reply_to s (read_command line)).text ≡ text_of listing)
+-- the answer is that to the line: one line at most, which takes no memory, with what it changes, or the listing
+abbrev pub Replies : ServerState → ℕ → List ℕ → Answer → Type 0
+Replies s c line (One text change) = (shares_version_read s c (read_command line) ≡ false) × (text_to s c (read_command line) ≡ text.items) × (change_by s c (read_command line) ≡ change) × (length text.items ≤ OWED_LIMIT)
+Replies s c line (Many listing) = (shares_version_read s c (read_command line) ≡ true) × (text_to s c (read_command line) ≡ text_of listing) × (change_by s c (read_command line) ≡ Nothing)
 
--- it is this text
+-- it is this text, and changes nothing
 abbrev pub IsText : List ℕ → Answer → Type 0
-IsText text (One line change) = line.items ≡ text
+IsText text (One line change) = (line.items ≡ text) × (change ≡ Nothing)
 IsText text (Many listing) = ⊥
 
 -- or memory was refused for a listing
-abbrev pub RepliesOrLacks : ServerState → List ℕ → Result Answer AllocError → Type 0
-RepliesOrLacks s line (Ok answer) = RepliesBy s line answer
-RepliesOrLacks s line (Err e) = is_listing_read s (read_command line) ≡ true
+abbrev pub RepliesOrLacks : ServerState → ℕ → List ℕ → Result Answer AllocError → Type 0
+RepliesOrLacks s c line (Ok answer) = Replies s c line answer
+RepliesOrLacks s c line (Err e) = shares_version_read s c (read_command line) ≡ true
+
+-- the next line of the client's session is answered by this text, and its session is changed
+abbrev pub IsAnswered : ServerState → ℕ → List ℕ → Change → ServerState → Type 0
+IsAnswered old c text change new = (line : List ℕ) (x : SessionState) → next_line_for old c ≡ Some line → session c old ≡ Some x → new ≡ with_session old (changed_session change (answered line text x))
 
 -- the client's next line may be executed, and this holds of it
 abbrev pub NextIs : ServerState → ℕ → (List ℕ → Type 0) → Type 0
 NextIs s c P = (line : List ℕ) × (next_line_for s c ≡ Some line) × P line
 
 abbrev pub is_connected : UpsState → Bool
-is_connected x = x.connected
+is_connected x = x.report.connected
 
 -- what the bytes of a driver leave of its UPS, and of nothing else
 pub record DriverFeedGives (u : UpsId) (piece : List ℕ) (old : ServerState) (result : Result (Unit {0}) Fault) (new : ServerState) : Type 0 where
@@ -64,4 +71,12 @@ pub record DriverFeedGives (u : UpsId) (piece : List ℕ) (old : ServerState) (r
   pub after : UpsState
   pub there : ups_at u.place old ≡ Some before
   pub fed : IsFed old.moment (with_bytes piece before) result after
+  pub leaves : new ≡ with_ups_changed (λ x. after) u old
+
+-- what a driver's taking leaves of its UPS, and of nothing else
+pub record DriverTakes (u : UpsId) (n : ℕ) (old : ServerState) (result : Result (Unit {0}) Fault) (new : ServerState) : Type 0 where
+  pub before : UpsState
+  pub after : UpsState
+  pub there : ups_at u.place old ≡ Some before
+  pub taken : IsTaken n before result after
   pub leaves : new ≡ with_ups_changed (λ x. after) u old

@@ -1,21 +1,25 @@
 -- The sessions of clients.
 use Rattle.std.specs.Prelude.{◌≡◌, ◌<◌, ℕ, Bool, true, false, List, [], ◌∷◌, Option, Some, None, ◌==◌, if◌then◌else◌}
+use Rattle.nutusers.specs.declared.ups_list.UpsId.{UpsId}
 
--- held: what came of its input and isn't executed yet. owed: what it is still to be sent. ending: it takes no more input, and ends when nothing is owed.
+-- held: what came of its input and isn't executed yet. owed: what it is still to be sent. username, password: what it gave. login: the UPS that it is logged in to. ending: it takes no more input, and ends when nothing is owed.
 pub record SessionState : Type 0 where
   pub id : ℕ
   pub address : List ℕ
   pub held : List ℕ
   pub owed : List ℕ
+  pub username : Option (List ℕ)
+  pub password : Option (List ℕ)
+  pub login : Option UpsId
   pub ending : Bool
 
--- A new session holds nothing and owes nothing.
+-- A new session holds nothing, owes nothing and gave no name.
 abbrev pub new_session : ℕ → List ℕ → SessionState
-new_session c address = record { id = c; address = address; held = []; owed = []; ending = false }
+new_session c address = record { id = c; address = address; held = []; owed = []; username = None; password = None; login = None; ending = false }
 
--- A session that begins to end loses its held input.
-abbrev pub ended : SessionState → SessionState
-ended x = record x { held = []; ending = true }
+-- A session that begins to end drops its held input and gives up its login.
+abbrev pub begin_ending : SessionState → SessionState
+begin_ending x = record x { held = []; login = None; ending = true }
 
 -- Sessions are a finite map by id, in the order of opening: the session of this id,
 abbrev pub find : ℕ → List SessionState → Option SessionState

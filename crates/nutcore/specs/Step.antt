@@ -1,26 +1,26 @@
 -- What each event does, and what may be answered to it.
-use Rattle.std.specs.Prelude.{◌≡◌, ℕ, ◌+◌, ◌-◌, ◌^◌, Bool, false, List, [], ◌∷◌, ◌++◌, Option, Some, None, nat_lt, nat_le, ◌&&◌, if◌then◌else◌, length, take, drop, min, ◌⊎◌, IsTrue}
+use Rattle.std.specs.Prelude.{◌≡◌, ℕ, ◌+◌, ◌-◌, ◌^◌, Bool, false, List, [], ◌∷◌, ◌++◌, Option, Some, None, nat_lt, nat_le, ◌&&◌, if◌then◌else◌, length, take, drop, min, max, map, not, ◌⊎◌, IsTrue}
 use Rattle.nutcore.specs.declared.TheConstants.{HELD_LIMIT, OFFER_LIMIT, SESSION_LIMIT}
 use Rattle.nutcore.specs.declared.event.Event.{Event}
-use Rattle.nutcore.specs.declared.event.Event.TheVariants.{DriverUp, DriverBytes, DriverDown, Open, Feed, Took, Close}
+use Rattle.nutcore.specs.declared.event.Event.TheVariants.{DriverUp, DriverBytes, DriverTook, DriverDown, Tick, Open, Feed, Took, Close}
 use Rattle.nutcore.specs.declared.event.Outcome.{Outcome}
 use Rattle.nutcore.specs.declared.event.Outcome.TheVariants.{Done, Fed, Opened, Refused}
 use Rattle.nutcore.specs.declared.event.Fault.TheVariants.{NoSuchUps, NoSuchClient, TooManyClients, TookTooMuch, NotConnected, AlreadyConnected, LineTooLong, Memory}
 use Rattle.nutcore.specs.Session.{SessionState, new_session, without}
-use Rattle.nutcore.specs.Ups.{UpsState, after_connecting, after_loss, with_bytes, after_driver_lines, after_all_driver_lines, is_driver_overlong, wants_driver_memory}
+use Rattle.nutcore.specs.Ups.{UpsState, after_connecting, after_loss, after_tick, with_bytes, after_driver_lines, after_all_driver_lines, is_driver_overlong, wants_driver_memory}
 use Rattle.nutcore.specs.Server.{ServerState, session, with_session, ups_at, with_ups_changed}
 use Rattle.nutcore.specs.Pump.{pumped, after_all_lines, after_lines, is_overlong, wants_memory, owed_of}
 
 -- Clients: bytes come.
 
 -- The bytes of a piece that join held input: as many as there is room for, and none where the session is ending.
-abbrev pub joining : Option SessionState → List ℕ → List ℕ
-joining None piece = []
-joining (Some x) piece = if x.ending then [] else take (HELD_LIMIT - length x.held) piece
+abbrev pub accepted_bytes : Option SessionState → List ℕ → List ℕ
+accepted_bytes None piece = []
+accepted_bytes (Some x) piece = if x.ending then [] else take (HELD_LIMIT - length x.held) piece
 
 unfoldable pub with_input_of : ServerState → Option SessionState → List ℕ → ServerState
 with_input_of s None piece = s
-with_input_of s (Some x) piece = with_session s (record x { held = x.held ++ joining (Some x) piece })
+with_input_of s (Some x) piece = with_session s (record x { held = x.held ++ accepted_bytes (Some x) piece })
 
 -- The server once the piece has come.
 unfoldable pub with_input : ServerState → ℕ → List ℕ → ServerState
@@ -54,10 +54,10 @@ opened s address (Some k) = s
 
 -- Drivers. An event of a driver changes its UPS alone, and nothing where it is refused.
 abbrev pub connected : ℕ → UpsState → UpsState
-connected moment x = if x.connected then x else after_connecting moment x
+connected moment x = if x.report.connected then x else after_connecting moment x
 
 abbrev pub disconnected : UpsState → UpsState
-disconnected x = if x.connected then after_loss x else x
+disconnected x = if x.report.connected then after_loss x else x
 
 -- All whole lines are executed, and the driver is lost where 1,024 bytes stand without an LF.
 abbrev pub after_driver_pump : ℕ → UpsState → UpsState
@@ -65,10 +65,21 @@ after_driver_pump moment x = let y = after_all_driver_lines moment x in if is_dr
 
 -- Where memory was refused after k lines the driver is lost.
 unfoldable pub after_driver_bytes : ℕ → List ℕ → Option ℕ → UpsState → UpsState
-after_driver_bytes moment piece None x = if x.connected then after_driver_pump moment (with_bytes piece x) else x
-after_driver_bytes moment piece (Some k) x = if x.connected then after_loss (after_driver_lines k moment (with_bytes piece x)) else x
+after_driver_bytes moment piece None x = if x.report.connected then after_driver_pump moment (with_bytes piece x) else x
+after_driver_bytes moment piece (Some k) x = if x.report.connected then after_loss (after_driver_lines k moment (with_bytes piece x)) else x
 
--- Want of memory.
+-- The driver took n bytes of what it is owed.
+abbrev pub driver_may_take : ℕ → UpsState → Bool
+driver_may_take n x = x.report.connected && nat_le n (length x.owed)
+
+abbrev pub after_driver_took : ℕ → UpsState → UpsState
+after_driver_took n x = if driver_may_take n x then record x { owed = drop n x.owed } else x
+
+-- Time. The moment never goes back, and each UPS whose PING is due gets one.
+unfoldable pub ticked : ℕ → ServerState → ServerState
+ticked seconds s = let moment = max seconds s.moment in record s { moment = moment; upses = map (after_tick s.max_age moment) s.upses }
+
+-- Out of memory.
 
 -- After how many lines of the event memory was refused, if it was.
 abbrev pub refused_after : Outcome → Option ℕ
@@ -84,7 +95,9 @@ pumped_until s c (Some k) = after_lines k s c
 unfoldable pub after_by : ServerState → Event → Option ℕ → ServerState
 after_by s (DriverUp u) m = with_ups_changed (connected s.moment) u s
 after_by s (DriverBytes u piece) m = with_ups_changed (after_driver_bytes s.moment piece m) u s
+after_by s (DriverTook u n) m = with_ups_changed (after_driver_took n) u s
 after_by s (DriverDown u) m = with_ups_changed disconnected u s
+after_by s (Tick seconds) m = ticked seconds s
 after_by s (Open address) m = opened s address m
 after_by s (Feed c piece) m = pumped_until (with_input s c piece) c m
 after_by s (Took c n) m = if may_take (session c s) n then pumped_until (without_output s c n) c m else s
@@ -98,26 +111,30 @@ after s e outcome = after_by s e (refused_after outcome)
 
 abbrev pub connected_by : Option UpsState → Outcome
 connected_by None = Refused NoSuchUps
-connected_by (Some x) = if x.connected then Refused AlreadyConnected else Done
+connected_by (Some x) = if x.report.connected then Refused AlreadyConnected else Done
 
 abbrev pub driver_pump_outcome : ℕ → UpsState → Outcome
 driver_pump_outcome moment x = if is_driver_overlong (after_all_driver_lines moment x) then Refused LineTooLong else Done
 
 abbrev pub driver_bytes_by : ℕ → List ℕ → Option UpsState → Outcome
 driver_bytes_by moment piece None = Refused NoSuchUps
-driver_bytes_by moment piece (Some x) = if x.connected then driver_pump_outcome moment (with_bytes piece x) else Refused NotConnected
+driver_bytes_by moment piece (Some x) = if x.report.connected then driver_pump_outcome moment (with_bytes piece x) else Refused NotConnected
+
+abbrev pub driver_took_by : ℕ → Option UpsState → Outcome
+driver_took_by n None = Refused NoSuchUps
+driver_took_by n (Some x) = if not x.report.connected then Refused NotConnected else if nat_le n (length x.owed) then Done else Refused TookTooMuch
 
 abbrev pub disconnected_by : Option UpsState → Outcome
 disconnected_by None = Refused NoSuchUps
-disconnected_by (Some x) = if x.connected then Done else Refused NotConnected
+disconnected_by (Some x) = if x.report.connected then Done else Refused NotConnected
 
 -- How many bytes of a piece are taken in. An ending session takes and drops all.
-abbrev pub taken_in : SessionState → List ℕ → ℕ
-taken_in x piece = if x.ending then length piece else min (length piece) (HELD_LIMIT - length x.held)
+abbrev pub accepted : SessionState → List ℕ → ℕ
+accepted x piece = if x.ending then length piece else min (length piece) (HELD_LIMIT - length x.held)
 
 abbrev pub fed_by : Option SessionState → List ℕ → Bool → Outcome
 fed_by None piece overlong = Refused NoSuchClient
-fed_by (Some x) piece overlong = if overlong then Refused LineTooLong else Fed (taken_in x piece)
+fed_by (Some x) piece overlong = if overlong then Refused LineTooLong else Fed (accepted x piece)
 
 abbrev pub took_by : Option SessionState → ℕ → Bool → Outcome
 took_by None n overlong = Refused NoSuchClient
@@ -130,7 +147,9 @@ closed_by (Some x) = Done
 unfoldable pub outcome_of : ServerState → Event → Outcome
 outcome_of s (DriverUp u) = connected_by (ups_at u.place s)
 outcome_of s (DriverBytes u piece) = driver_bytes_by s.moment piece (ups_at u.place s)
+outcome_of s (DriverTook u n) = driver_took_by n (ups_at u.place s)
 outcome_of s (DriverDown u) = disconnected_by (ups_at u.place s)
+outcome_of s (Tick seconds) = Done
 outcome_of s (Open address) = if may_open s then Opened s.next_id else Refused TooManyClients
 outcome_of s (Feed c piece) = fed_by (session c s) piece (is_overlong (after_all_lines (with_input s c piece) c) c)
 outcome_of s (Took c n) = took_by (session c s) n (is_overlong (after_all_lines (without_output s c n) c) c)
@@ -139,19 +158,21 @@ outcome_of s (Close c) = closed_by (session c s)
 -- The k whole lines of the driver are done, and the next one would change the tree.
 abbrev pub driver_may_lack_memory : ℕ → List ℕ → ℕ → Option UpsState → Bool
 driver_may_lack_memory moment piece k None = false
-driver_may_lack_memory moment piece k (Some x) = x.connected && wants_driver_memory (after_driver_lines k moment (with_bytes piece x))
+driver_may_lack_memory moment piece k (Some x) = x.report.connected && wants_driver_memory (after_driver_lines k moment (with_bytes piece x))
 
 -- Memory may be refused after k lines of the event. The next line of a client stays held, to be tried again.
 unfoldable pub MayLackMemory : ServerState → Event → ℕ → Type 0
 MayLackMemory s (DriverUp u) k = ⊥
 MayLackMemory s (DriverBytes u piece) k = IsTrue (driver_may_lack_memory s.moment piece k (ups_at u.place s))
+MayLackMemory s (DriverTook u n) k = ⊥
 MayLackMemory s (DriverDown u) k = ⊥
+MayLackMemory s (Tick seconds) k = ⊥
 MayLackMemory s (Open address) k = (k ≡ 0) × IsTrue (may_open s)
 MayLackMemory s (Feed c piece) k = IsTrue (wants_memory (after_lines k (with_input s c piece) c) c)
 MayLackMemory s (Took c n) k = IsTrue (may_take (session c s) n) × IsTrue (wants_memory (after_lines k (without_output s c n) c) c)
 MayLackMemory s (Close c) k = ⊥
 
--- Beside the one outcome there is only want of memory.
+-- Beside the one outcome there is only being out of memory.
 abbrev pub MayAnswer : ServerState → Event → Outcome → Type 0
 MayAnswer s e outcome = (outcome ≡ outcome_of s e) ⊎ ((k : ℕ) × (outcome ≡ Refused (Memory k)) × MayLackMemory s e k)
 

@@ -1,68 +1,66 @@
--- A UPS as the server keeps it: its driver's connection, and what the driver told.
-use Rattle.std.specs.Prelude.{ℕ, zero, suc, ◌+◌, ◌-◌, ◌^◌, Bool, true, false, List, [], ◌∷◌, ◌++◌, Option, Some, None, Result, Ok, Err, codes, length, take, min, nat_le}
+-- A UPS as the server keeps it: its driver's connection, and what the driver reported.
+use Rattle.std.specs.Prelude.{ℕ, zero, suc, ◌+◌, ◌-◌, ◌^◌, Bool, true, false, List, [], ◌∷◌, ◌++◌, Option, Some, None, Result, Ok, Err, codes, length, take, min, nat_le, ◌&&◌, ◌/◌, if◌then◌else◌}
 use Rattle.nutcore.specs.Lines.{first_line, behind}
-use Rattle.nutcore.specs.declared.TheConstants.{LINE_LIMIT}
-use Rattle.nutdriver.specs.declared.line.DriverLine.{DriverLine}
-use Rattle.nutdriver.specs.declared.fault.DriverFault.{DriverFault}
-use Rattle.nutdriver.specs.declared.effect.Effect.{Effect}
-use Rattle.nutdriver.specs.declared.effect.Effect.TheVariants.{Nothing, Changed, DumpDone, DataOk, DataStale, Pong}
-use Rattle.nutdriver.specs.Tree.{TreeState, empty_tree}
-use Rattle.nutdriver.specs.DriverLine.{read_driver_line}
-use Rattle.nutdriver.specs.DriverStep.{driver_step, changes_tree}
+use Rattle.nutwords.specs.declared.limits.TheConstants.{LINE_ROOM}
+use Rattle.nutcore.specs.declared.TheConstants.{DRIVER_OWED_LIMIT}
+use Rattle.nutdriver.specs.declared.report.Report.{Report}
+use Rattle.nutdriver.specs.declared.report.LineOutcome.{LineOutcome}
+use Rattle.nutdriver.specs.declared.report.LineOutcome.TheVariants.{Accepted, Refused}
+use Rattle.nutdriver.specs.Report.{lost_report, connected_report, after_line, line_changes}
 
--- connected: a driver is there. dumped: it has told all variables. ok: it says that its data are right. heard, pinged: the moments of its last line and of the last PING to it, in seconds. fsd: a forced shutdown is set. owed: what the driver is still to be sent. unfinished: what came of its next line. faulty: how many of its lines were refused.
+-- report: what its driver has reported. pinged: the moment of the last PING to it, in seconds. fsd: a forced shutdown is set. owed: what the driver is still to be sent. unfinished: what came of its next line. faulty: how many of its lines were refused.
 pub record UpsState : Type 0 where
-  pub connected : Bool
-  pub dumped : Bool
-  pub ok : Bool
-  pub heard : ℕ
+  pub report : Report
   pub pinged : ℕ
   pub fsd : Bool
-  pub tree : TreeState
   pub owed : List ℕ
   pub unfinished : List ℕ
   pub faulty : ℕ
 
 -- A UPS of a new server.
 abbrev pub new_ups : UpsState
-new_ups = record { connected = false; dumped = false; ok = false; heard = 0; pinged = 0; fsd = false; tree = empty_tree; owed = []; unfinished = []; faulty = 0 }
+new_ups = record { report = lost_report; pinged = 0; fsd = false; owed = []; unfinished = []; faulty = 0 }
 
 -- Its driver is connected, and is asked for all that it knows.
 abbrev pub after_connecting : ℕ → UpsState → UpsState
-after_connecting moment x = record x { connected = true; dumped = false; ok = false; heard = moment; pinged = moment; tree = empty_tree; owed = codes "DUMPALL" ++ 10 ∷ []; unfinished = [] }
+after_connecting moment x = record x { report = connected_report moment; pinged = moment; owed = codes "DUMPALL" ++ 10 ∷ []; unfinished = [] }
 
--- Its driver is lost. What it told goes with it; a forced shutdown and the count of refused lines stay.
+-- Its driver is lost, and what it reported with it. A forced shutdown and the count of refused lines stay.
 abbrev pub after_loss : UpsState → UpsState
-after_loss x = record x { connected = false; dumped = false; ok = false; heard = 0; pinged = 0; tree = empty_tree; owed = []; unfinished = [] }
+after_loss x = record x { report = lost_report; pinged = 0; owed = []; unfinished = [] }
 
--- What a line of the driver does beside the tree.
-abbrev pub after_effect : Effect → UpsState → UpsState
-after_effect Nothing x = x
-after_effect Changed x = x
-after_effect DumpDone x = record x { dumped = true }
-after_effect DataOk x = record x { ok = true }
-after_effect DataStale x = record x { ok = false }
-after_effect Pong x = x
+-- A forced shutdown is set. It stays set until the server ends.
+abbrev pub with_fsd : UpsState → UpsState
+with_fsd x = record x { fsd = true }
+
+-- The line by which a driver is asked whether it is there.
+abbrev pub ping_line : List ℕ
+ping_line = codes "PING" ++ 10 ∷ []
+
+-- A PING is due where a driver that is connected told nothing, and wasn't pinged, for a third of the greatest age, and the line fits in what it may be owed.
+abbrev pub ping_is_due : ℕ → ℕ → UpsState → Bool
+ping_is_due max_age moment x =
+    x.report.connected && (nat_le (max_age / 3) (moment - x.report.heard) && (nat_le (max_age / 3) (moment - x.pinged) && nat_le (length x.owed + length ping_line) DRIVER_OWED_LIMIT))
+
+-- The moment is this one now.
+abbrev pub after_tick : ℕ → ℕ → UpsState → UpsState
+after_tick max_age moment x = if ping_is_due max_age moment x then record x { pinged = moment; owed = x.owed ++ ping_line } else x
 
 -- The count of refused lines stops at its greatest number.
 abbrev pub with_faulty_line : UpsState → UpsState
 with_faulty_line x = record x { faulty = min (x.faulty + 1) (2 ^ 64 - 1) }
 
-abbrev pub after_step : UpsState → Result (TreeState × Effect) DriverFault → UpsState
-after_step x (Ok (tree, effect)) = after_effect effect (record x { tree = tree })
-after_step x (Err fault) = with_faulty_line x
+abbrev pub after_outcome : UpsState → Report × LineOutcome → UpsState
+after_outcome x (report, Accepted) = record x { report = report }
+after_outcome x (report, Refused fault) = with_faulty_line (record x { report = report })
 
-abbrev pub after_reading : UpsState → Result DriverLine DriverFault → UpsState
-after_reading x (Ok line) = after_step x (driver_step x.tree line)
-after_reading x (Err fault) = with_faulty_line x
-
--- A whole line, good or faulty, is heard at this moment. A refused one changes nothing more, and is counted.
+-- A whole line does what it says of the report, and is counted where it is refused.
 abbrev pub after_text : ℕ → UpsState → List ℕ → UpsState
-after_text moment x line = after_reading (record x { heard = moment }) (read_driver_line line)
+after_text moment x line = after_outcome x (after_line moment x.report line)
 
 -- The next whole line of the driver, of at most 1,023 bytes.
 abbrev pub next_driver_line : UpsState → Option (List ℕ)
-next_driver_line x = first_line (take LINE_LIMIT x.unfinished)
+next_driver_line x = first_line (take LINE_ROOM x.unfinished)
 
 unfoldable pub after_driver_line_of : ℕ → UpsState → Option (List ℕ) → UpsState
 after_driver_line_of moment x None = x
@@ -83,20 +81,16 @@ after_all_driver_lines moment x = after_driver_lines (length x.unfinished) momen
 
 -- 1,024 bytes stand without an LF.
 abbrev pub is_driver_overlong : UpsState → Bool
-is_driver_overlong x = nat_le LINE_LIMIT (length x.unfinished)
+is_driver_overlong x = nat_le LINE_ROOM (length x.unfinished)
 
 -- More bytes have come.
 abbrev pub with_bytes : List ℕ → UpsState → UpsState
 with_bytes piece x = record x { unfinished = x.unfinished ++ piece }
 
+abbrev pub wants_memory_for : Report → Option (List ℕ) → Bool
+wants_memory_for report None = false
+wants_memory_for report (Some line) = line_changes report.tree line
+
 -- The next line would change the tree, for which memory may be refused.
-abbrev pub wants_memory_read : TreeState → Result DriverLine DriverFault → Bool
-wants_memory_read tree (Ok line) = changes_tree tree line
-wants_memory_read tree (Err fault) = false
-
-abbrev pub wants_memory_for : TreeState → Option (List ℕ) → Bool
-wants_memory_for tree None = false
-wants_memory_for tree (Some line) = wants_memory_read tree (read_driver_line line)
-
 abbrev pub wants_driver_memory : UpsState → Bool
-wants_driver_memory x = wants_memory_for x.tree (next_driver_line x)
+wants_driver_memory x = wants_memory_for x.report (next_driver_line x)

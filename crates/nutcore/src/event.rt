@@ -16,8 +16,12 @@ pub enum Event {
     DriverUp(UpsId),
     /// Bytes come from a driver.
     DriverBytes(UpsId, Bytes),
+    /// A driver took so many of the bytes that it is offered.
+    DriverTook(UpsId, usize),
     /// A driver is lost.
     DriverDown(UpsId),
+    /// The clock is at so many seconds.
+    Tick(u64),
     /// A client connects from an address.
     Open(Address),
     /// Bytes come from a client.

@@ -2,6 +2,7 @@
 #![tactic(auto)]
 
 ghost use Rattle.nutcore.specs.Headline.{WhatWasSentAndIsOwedIsTheAnswers, WhatWasAskedIsExecutedOrHeld, EachAnswerIsTimely, AListingIsWhatIsHeld, ARefusedLineChangesNothing, ThePumpExecutesTheLeast, EachEventIsAFunction};
+ghost use Rattle.nutcore.specs.ByRight.{AForcedShutdownIsSetByRight, ALoginIsByRight};
 ghost use Rattle.nutcore.specs.Examples.{TwoVariables, EmptyListing, TakenInFour, LongestLine, ThreeLines, EscapedValue, FaultyLines, CasesAndFaults, NotConnected, Described, PipelinedGet};
 
 mod bytes;
@@ -16,21 +17,21 @@ mod ups;
 
 pub use bytes::Bytes;
 pub use event::{ClientId, Event, Fault, Outcome};
-pub use max_age::MaxAge;
+pub use max_age::{MAX_AGE_DEFAULT, MAX_AGE_LEAST, MAX_AGE_MOST, MaxAge};
 pub use nutusers::{Descriptions, UpsId, UpsList, Users};
 pub use server::Server;
 
 /// The most bytes of input that a session holds, and that may stand without an LF.
 pub const HELD_LIMIT: usize = 1024;
 
-/// The number of a driver's bytes without an LF at which it is lost: its lines have at most 1,023 bytes.
-pub const LINE_LIMIT: usize = 1024;
-
 /// A session's next line is executed only while at most so many bytes are owed to it.
 pub const OWED_LIMIT: usize = 2048;
 
 /// The most bytes that one offer has.
 pub const OFFER_LIMIT: usize = 4096;
+
+/// The most bytes that a driver is still to be sent.
+pub const DRIVER_OWED_LIMIT: usize = 2048;
 
 /// The most sessions that are open at once.
 pub const SESSION_LIMIT: usize = 64;
@@ -59,6 +60,18 @@ pub fn a_listing_is_what_is_held()
 /// A whole line that is refused changes nothing but its own session's held and owed bytes.
 pub fn a_refused_line_changes_nothing()
     ensures { ARefusedLineChangesNothing }
+{}
+
+/// A forced shutdown is set only by right: where it is set after a run and wasn't before, one of the
+/// lines that the run executed was `FSD` of that UPS, answered `OK FSD-SET`, of a session that had
+/// given the name and the password of a user who has the right.
+pub fn a_forced_shutdown_is_set_by_right()
+    ensures { AForcedShutdownIsSetByRight }
+{}
+
+/// The same of a login: it comes of the client's own `LOGIN`, answered `OK`, with the right.
+pub fn a_login_is_by_right()
+    ensures { ALoginIsByRight }
 {}
 
 /// The pump executes the least number of lines after which it stops.

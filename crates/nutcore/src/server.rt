@@ -1,20 +1,24 @@
 //! The server: its UPSs, its sessions, and what each event does.
-ghost use Rattle.std.specs.Prelude.{◌≡◌, ◌≢◌, ◌≤◌, ◌<◌, ℕ, List, length, take, slice_get, IfOk, OnOk, OnErr, MatchOption, MatchResult, IsTrue, vec_len, is_some, Some, None, true, false};
+ghost use Rattle.std.specs.Prelude.{◌≡◌, ◌≢◌, ◌≤◌, ◌<◌, ℕ, List, length, take, map, slice_get, IfOk, OnOk, OnErr, MatchOption, MatchResult, IsTrue, vec_len, is_some, Some, None, true, false};
 ghost use Rattle.std.specs.Option.{option_map};
 ghost use Rattle.std.specs.Io.BufRead.{Rests};
 ghost use Rattle.std.specs.Borrow.{sem};
-ghost use Rattle.nutcore.specs.Server.{session, ups_at, new_server, with_ups_changed};
-ghost use Rattle.nutusers.specs.UpsFile.{place_of, id_at};
+ghost use Rattle.nutcore.specs.Server.{session, ups_at, new_server, changed_at, with_ups_changed};
+ghost use Rattle.nutusers.specs.UpsList.{place_of, id_at};
 ghost use Rattle.nutcore.specs.Pump.{next_line_for, after_line, held_of, is_overlong, after_notice, wants_memory};
 ghost use Rattle.nutcore.specs.Step.{Step, with_input, without_output, offered, may_take, fed_by};
 ghost use Rattle.nutcore.specs.Run.{Run};
 ghost use Rattle.nutcore.specs.History.{owed};
 ghost use Rattle.nutcore.specs.Headline.{IsLawful, SentAndOwed, TakenUp, Serves};
-ghost use Rattle.nutcore.specs.Ups.{after_connecting, after_loss};
-ghost use Rattle.nutcore.specs.Calls.{fed, done, opened_as, is_finished, room_of, Reads, ReadsUps};
-ghost use Rattle.nutcore.specs.Serving.{IsAt, PumpGives, RepliesOrLacks, IsText, NextIs, DriverFeedGives, is_connected};
-ghost use Rattle.nutcore.specs.Reply.{reply};
-ghost use Rattle.nutanswer.specs.Items.{text_of};
+ghost use Rattle.nutcore.specs.Ups.{after_connecting, after_loss, after_tick, with_fsd};
+ghost use Rattle.nutcore.specs.Calls.{fed, done, opened_as, is_finished, room_of, owed_to, Reads, ReadsUps};
+ghost use Rattle.nutcore.specs.Serving.{IsAt, PumpGives, RepliesOrLacks, IsText, NextIs, IsAnswered, DriverFeedGives, DriverTakes, is_connected};
+ghost use Rattle.nutcore.specs.Reply.{asker, changed_upses, seen_client};
+ghost use Rattle.nutanswer.specs.View.{asker_seen, login_count};
+ghost use Rattle.nutanswer.specs.declared.reply.Change.TheVariants.{Nothing};
+ghost use Rattle.nutcore.specs.declared.TheConstants.{HELD_LIMIT, OFFER_LIMIT, OWED_LIMIT};
+ghost use Rattle.nutwords.specs.declared.limits.TheConstants.{LINE_LIMIT, LINE_ROOM};
+ghost use Rattle.nutlisting.specs.Items.{text_of};
 ghost use Rattle.nutcore.specs.declared.event.Outcome.TheVariants.{Fed};
 ghost use Rattle.nutcore.specs.contracts.server.Server.{the_row};
 
@@ -23,7 +27,7 @@ use crate::event::{ClientId, Event, Fault, Outcome};
 use crate::max_age::MaxAge;
 use crate::session::Session;
 use crate::ups::Ups;
-use nutanswer::{Change, Command, Listing, Reply, UpsView, View, answer};
+use nutanswer::{Asker, Change, Command, Listing, Reply, UpsView, View, answer};
 use nutusers::{Descriptions, UpsId, UpsList, Users};
 use nutwords::{Address, Line};
 use std::alloc::{AllocError, Global};
@@ -45,6 +49,7 @@ pub struct Server {
 
 impl Model for Server {
     ghost use Rattle.std.specs.Prelude.{◌≡◌, ◌≤◌, vec_capacity, vec_len, length};
+    ghost use Rattle.nutcore.specs.declared.TheConstants.{SESSION_LIMIT};
     ghost use Rattle.nutcore.specs.Session.{AreApart};
     ghost use Rattle.nutcore.specs.Server.{ServerState};
 
@@ -54,8 +59,8 @@ impl Model for Server {
 
     ghost invariant = { λ s. record {
       apart : AreApart s.next_id s.sessions.items;
-      room : 64 ≤ vec_capacity s.sessions;
-      few : vec_len s.sessions ≤ 64;
+      room : SESSION_LIMIT ≤ vec_capacity s.sessions;
+      few : vec_len s.sessions ≤ SESSION_LIMIT;
       named : length s.list ≡ length s.upses.items;
     } };
 }
@@ -79,6 +84,14 @@ impl View for Server {
 
     fn descriptions(&self) -> &Descriptions {
         &self.descriptions
+    }
+
+    fn users(&self) -> &Users {
+        &self.users
+    }
+
+    fn login_count(&self, u: UpsId) -> usize {
+        login_count(&self.sessions, u)
     }
 
     fn ups(&self, u: UpsId) -> Option<UpsView<'_>> {
@@ -146,40 +159,52 @@ impl Server {
         None
     }
 
-    /// What answers a line, as the server is now. Memory is asked for by a listing alone.
-    fn reply(&self, line: &[u8]) -> Result<Reply, AllocError>
-        requires { length line.now ≤ 1023 }
-        ensures { RepliesOrLacks self.now line.now result }
+    /// What answers a line of the client, as the server is now. Memory is asked for by a listing
+    /// alone.
+    fn reply(&self, c: ClientId, who: Asker<'_>, line: &[u8]) -> Result<Reply, AllocError>
+        requires asks { asker_seen who ≡ asker c self.now }
+        requires short { length line.now ≤ LINE_LIMIT }
+        ensures { RepliesOrLacks self.now c line.now result }
     {
         match Command::read(line) {
             Err(word) => Ok(one_line(word.line())),
             Ok(None) => Ok(one_line(b"")),
-            Ok(Some(command)) => answer(self, &command),
+            Ok(Some(command)) => answer(self, who, &command),
         }
     }
 
     /// What answers the session's next line, if it may be executed.
     fn next_reply(&self, c: ClientId, place: usize) -> Option<Result<Reply, AllocError>>
         requires { IsAt c place self.now.sessions }
-        ensures next { MatchOption result (next_line_for self.now c ≡ None) (λ answer. NextIs self.now c (λ line. RepliesOrLacks self.now line answer)) }
-        ensures held { length (held_of (session c self.now)) ≤ 1024 }
+        ensures next { MatchOption result (next_line_for self.now c ≡ None) (λ answer. NextIs self.now c (λ line. RepliesOrLacks self.now c line answer)) }
+        ensures held { length (held_of (session c self.now)) ≤ HELD_LIMIT }
     {
         let session = &self.sessions[place];
         match session.next_line() {
             None => None,
-            Some(line) => Some(self.reply(line)),
+            Some(line) => Some(self.reply(c, session.asker(), line)),
         }
     }
 
-    /// Executes the next line, whose answer is this text. Takes no memory.
-    fn answer_text(&mut self, c: ClientId, place: usize, text: &[u8])
+    /// Takes the next line, joins the text that answers it, and does what it changes of the
+    /// session. Takes no memory.
+    fn answer_text(&mut self, c: ClientId, place: usize, text: &[u8], change: Change)
         requires at { IsAt c place self.old.sessions }
-        requires next { NextIs self.old c (λ line. (reply self.old c line).text ≡ text.now) }
-        requires short { length text.now ≤ 2048 }
-        ensures { self.new ≡ after_line self.old c }
+        requires next { is_some (next_line_for self.old c) ≡ true }
+        requires short { length text.now ≤ OWED_LIMIT }
+        ensures { IsAnswered self.old c text.now change self.new }
     {
         let session = &mut self.sessions[place];
-        session.answer(text);
+        session.answer(text, change);
+    }
+
+    /// Does what an answer changes of the UPSs.
+    fn change_upses(&mut self, change: &Change)
+        ensures { self.new ≡ record self.old { upses = changed_upses change.now self.old.upses } }
+    {
+        if let Change::Fsd(u) = change {
+            set_fsd(&mut self.upses, *u);
+        }
     }
 
     /// Executes the next line, whose answer is this listing. Without memory nothing changes.
@@ -190,8 +215,8 @@ impl Server {
         listing: &Listing,
     ) -> Result<(), AllocError>
         requires at { IsAt c place self.old.sessions }
-        requires next { NextIs self.old c (λ line. (reply self.old c line).text ≡ text_of listing.now) }
-        ensures ok { OnOk result (self.new ≡ after_line self.old c) }
+        requires next { is_some (next_line_for self.old c) ≡ true }
+        ensures ok { OnOk result (IsAnswered self.old c (text_of listing.now) Nothing self.new) }
         ensures err { OnErr result (self.new ≡ self.old) }
     {
         let session = &mut self.sessions[place];
@@ -206,14 +231,15 @@ impl Server {
         reply: Result<Reply, AllocError>,
     ) -> Result<(), AllocError>
         requires at { IsAt c place self.old.sessions }
-        requires next { NextIs self.old c (λ line. RepliesOrLacks self.old line reply) }
+        requires next { NextIs self.old c (λ line. RepliesOrLacks self.old c line reply) }
         ensures ok { OnOk result (self.new ≡ after_line self.old c) }
         ensures err { OnErr result (self.new ≡ self.old) }
         ensures memory { OnErr result (IsTrue (wants_memory self.old c)) }
     {
         match reply? {
-            Reply::One(text, Change::Nothing) => {
-                self.answer_text(c, place, text.as_slice());
+            Reply::One(text, change) => {
+                self.change_upses(&change);
+                self.answer_text(c, place, text.as_slice(), change);
                 Ok(())
             }
             Reply::Many(listing) => self.answer_listing(c, place, &listing),
@@ -233,7 +259,7 @@ impl Server {
     /// Executes the session's lines, as long as they may be executed.
     fn pump(&mut self, c: ClientId, place: usize) -> Result<(), Fault>
         requires at { IsAt c place self.old.sessions }
-        requires short { length (held_of (session c self.old)) ≤ 1024 }
+        requires short { length (held_of (session c self.old)) ≤ HELD_LIMIT }
         ensures { PumpGives self.old c result self.new }
     {
         let mut done = 0;
@@ -255,7 +281,7 @@ impl Server {
         ensures joined { self.new ≡ with_input self.old c piece.now }
         ensures count { Fed result ≡ fed_by (session c self.old) piece.now false }
         ensures at { IsAt c place self.new.sessions }
-        ensures short { length (held_of (session c self.new)) ≤ 1024 }
+        ensures short { length (held_of (session c self.new)) ≤ HELD_LIMIT }
     {
         let session = &mut self.sessions[place];
         session.join(piece)
@@ -267,7 +293,7 @@ impl Server {
         requires few { may_take (session c self.old) n ≡ true }
         ensures given { self.new ≡ without_output self.old c n }
         ensures at { IsAt c place self.new.sessions }
-        ensures short { length (held_of (session c self.new)) ≤ 1024 }
+        ensures short { length (held_of (session c self.new)) ≤ HELD_LIMIT }
     {
         let session = &mut self.sessions[place];
         session.take(n);
@@ -309,6 +335,15 @@ impl Server {
     {
         let ups = &mut self.upses[u.place as usize];
         ups.disconnect();
+    }
+
+    /// Takes n bytes of what the driver is owed.
+    fn take_from_driver(&mut self, u: UpsId, n: usize) -> Result<(), Fault>
+        requires { option_map is_connected (ups_at u.place self.old) ≡ Some true }
+        ensures { DriverTakes u n self.old result self.new }
+    {
+        let ups = &mut self.upses[u.place as usize];
+        ups.take(n)
     }
 
     /// Hands the bytes of its driver to the UPS.
@@ -357,6 +392,53 @@ impl Server {
         }
     }
 
+    /// What is offered to the driver: all that it is owed, at most 2,048 bytes, and nothing where it isn't connected. It
+    /// changes nothing.
+    ///
+    /// # Errors
+    ///
+    /// `NoSuchUps`.
+    pub fn driver_offer(&mut self, u: UpsId) -> Result<&[u8], Fault>
+        ensures bytes { MatchResult result (λ bytes. option_map owed_to (ups_at u.place self.old) ≡ Some bytes.now) (λ fault. (fault ≡ Fault.NoSuchUps) × (ups_at u.place self.old ≡ None)) }
+        ensures* same { sem 𝓛 (Rests the_row self.entry (λ new. new ≡ self.old)) }
+    {
+        if u.place as usize >= self.upses.len() {
+            return Err(Fault::NoSuchUps);
+        }
+        let ups = &self.upses[u.place as usize];
+        Ok(ups.offer())
+    }
+
+    /// How many bytes are offered to the driver.
+    ///
+    /// # Errors
+    ///
+    /// `NoSuchUps`.
+    pub fn driver_offered(&self, u: UpsId) -> Result<usize, Fault>
+        ensures { ReadsUps (λ x. length x.owed) (ups_at u.place self.now) result }
+    {
+        match self.upses.get(u.place as usize) {
+            Some(ups) => Ok(ups.offer().len()),
+            None => Err(Fault::NoSuchUps),
+        }
+    }
+
+    /// The driver took n bytes of what it is offered. Takes no memory.
+    ///
+    /// # Errors
+    ///
+    /// `NoSuchUps`, `NotConnected` and `TookTooMuch`, which change nothing.
+    pub fn driver_took(&mut self, u: UpsId, n: usize) -> Result<(), Fault>
+        ensures served { Serves self.old (Event.DriverTook u n) (done result) self.new }
+        ensures no_memory { (k : ℕ) → result ≢ Err (Fault.Memory k) }
+    {
+        match self.connection(u) {
+            None => Err(Fault::NoSuchUps),
+            Some(false) => Err(Fault::NotConnected),
+            Some(true) => self.take_from_driver(u, n),
+        }
+    }
+
     /// A driver is lost, and what it told with it. Takes no memory.
     ///
     /// # Errors
@@ -374,6 +456,15 @@ impl Server {
                 Ok(())
             }
         }
+    }
+
+    /// The clock is at so many seconds. The moment never goes back. Each driver from which nothing was heard for a third
+    /// of the greatest age, and which wasn't asked for as long, is owed `PING`, where it fits. Takes no memory.
+    pub fn tick(&mut self, seconds: u64)
+        ensures { Serves self.old (Event.Tick seconds) Outcome.Done self.new }
+    {
+        self.moment = seconds.max(self.moment);
+        ping_upses(&mut self.upses, self.max_age.seconds(), self.moment);
     }
 
     /// How many lines of the UPS's drivers were refused. The count stops at its greatest number,
@@ -457,7 +548,7 @@ impl Server {
     ///
     /// `NoSuchClient`.
     pub fn offer(&mut self, c: ClientId) -> Result<&[u8], Fault>
-        ensures bytes { MatchResult result (λ bytes. (is_some (session c self.old) ≡ true) × (bytes.now ≡ take 4096 (owed c self.old))) (λ fault. (fault ≡ Fault.NoSuchClient) × (session c self.old ≡ None)) }
+        ensures bytes { MatchResult result (λ bytes. (is_some (session c self.old) ≡ true) × (bytes.now ≡ take OFFER_LIMIT (owed c self.old))) (λ fault. (fault ≡ Fault.NoSuchClient) × (session c self.old ≡ None)) }
         ensures* same { sem 𝓛 (Rests the_row self.entry (λ new. new ≡ self.old)) }
     {
         let Some(place) = self.place_of(c) else {
@@ -465,6 +556,21 @@ impl Server {
         };
         let session = &self.sessions[place];
         Ok(session.offer())
+    }
+
+    /// How many bytes are offered to the client.
+    ///
+    /// # Errors
+    ///
+    /// `NoSuchClient`.
+    pub fn offered(&self, c: ClientId) -> Result<usize, Fault>
+        ensures { Reads (λ x. length (offered (Some x))) (session c self.now) result }
+    {
+        let Some(place) = self.place_of(c) else {
+            return Err(Fault::NoSuchClient);
+        };
+        let session = &self.sessions[place];
+        Ok(session.offer().len())
     }
 
     /// The client took n bytes of what it is offered. Then its lines are executed, as long as they
@@ -525,7 +631,9 @@ impl Server {
         match event {
             Event::DriverUp(u) => outcome_of(self.driver_up(*u)),
             Event::DriverBytes(u, bytes) => outcome_of(self.driver_bytes(*u, bytes.as_slice())),
+            Event::DriverTook(u, n) => outcome_of(self.driver_took(*u, *n)),
             Event::DriverDown(u) => outcome_of(self.driver_down(*u)),
+            Event::Tick(seconds) => self.tick_at(*seconds),
             Event::Open(address) => self.open_at(address),
             Event::Feed(c, bytes) => match self.feed(*c, bytes.as_slice()) {
                 Ok(n) => Outcome::Fed(n),
@@ -534,6 +642,14 @@ impl Server {
             Event::Took(c, n) => outcome_of(self.took(*c, *n)),
             Event::Close(c) => outcome_of(self.close(*c)),
         }
+    }
+
+    /// The clock is at so many seconds.
+    fn tick_at(&mut self, seconds: u64) -> Outcome
+        ensures { Step self.old (Event.Tick seconds) result self.new }
+    {
+        self.tick(seconds);
+        Outcome::Done
     }
 
     /// Opens a session for the client at an address.
@@ -581,9 +697,42 @@ fn outcome_of(answer: Result<(), Fault>) -> Outcome
     }
 }
 
+/// How many of the sessions are logged in to the UPS.
+fn login_count(sessions: &Vec<Session>, u: UpsId) -> usize
+    ensures { result ≡ login_count u (map seen_client sessions.now.items) }
+{
+    let mut count = 0;
+    for session in sessions.iter() {
+        count += session.logins(u);
+    }
+    count
+}
+
+/// A forced shutdown of the UPS is set, where there is such a UPS.
+fn set_fsd(upses: &mut Vec<Ups>, u: UpsId)
+    ensures set { upses.new.items ≡ changed_at with_fsd u.place upses.old.items }
+    ensures length { length upses.new.items ≡ length upses.old.items }
+{
+    if (u.place as usize) < upses.len() {
+        let ups = &mut upses[u.place as usize];
+        ups.set_fsd();
+    }
+}
+
+/// The moment is this one now: each driver is pinged where a PING is due.
+fn ping_upses(upses: &mut Vec<Ups>, max_age: u32, moment: u64)
+    ensures pinged { upses.new.items ≡ map (after_tick max_age moment) upses.old.items }
+    ensures length { length upses.new.items ≡ length upses.old.items }
+{
+    for place in 0..upses.len() {
+        let ups = &mut upses[place];
+        ups.tick(max_age, moment);
+    }
+}
+
 /// A reply of at most one line, which changes nothing.
 fn one_line(text: &[u8]) -> Reply
-    requires { length text.now ≤ 1024 }
+    requires { length text.now ≤ LINE_ROOM }
     ensures { IsText text.now result }
 {
     let mut line = Line::new();

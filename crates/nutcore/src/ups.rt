@@ -1,35 +1,32 @@
 //! A UPS as the server keeps it: its driver's connection, and what the driver told.
 ghost use Rattle.std.specs.Prelude.{◌≡◌, ◌≢◌, ◌≤◌, length, drop, true, IfOk, IfErr, IsTrue, OnOk, OnErr, Ok, Err};
-ghost use Rattle.nutdriver.specs.DriverLine.{read_driver_line};
-ghost use Rattle.nutdriver.specs.DriverStep.{driver_step, changes_tree};
-ghost use Rattle.nutcore.specs.Ups.{new_ups, after_connecting, after_loss, after_effect, after_reading, after_text, with_faulty_line, with_bytes, wants_memory_read};
+ghost use Rattle.nutdriver.specs.Report.{line_changes};
+ghost use Rattle.nutwords.specs.declared.limits.TheConstants.{LINE_LIMIT};
+ghost use Rattle.nutcore.specs.Ups.{new_ups, after_connecting, after_loss, after_tick, with_fsd, after_text, with_faulty_line, with_bytes};
 ghost use Rattle.nutanswer.specs.View.{ups_seen};
 ghost use Rattle.nutcore.specs.Reply.{seen_ups};
-ghost use Rattle.nutcore.specs.Leaf.{CutsLine, IsStopped, IsFed};
+ghost use Rattle.nutcore.specs.Leaf.{CutsLine, IsStopped, IsFed, IsTaken};
 
+use crate::DRIVER_OWED_LIMIT;
 use crate::event::Fault;
 use arrayvec::ArrayVec;
 use nutanswer::UpsView;
-use nutdriver::{DriverFault, DriverLine, Effect, Tree};
+use nutdriver::{LineOutcome, Report};
 use nutmap::Meter;
 use nutwords::{Cut, LineCut};
 use std::alloc::{AllocError, Global};
 use std::marker::Model;
 
-/// The most bytes that a driver is still to be sent.
-const DRIVER_OWED_LIMIT: usize = 2048;
+/// The line by which a driver is asked whether it is there.
+const PING_LINE: &[u8] = b"PING\n";
 
 /// A UPS. Moments are in seconds.
 #[derive(Drop)]
 pub(crate) struct Ups {
     alloc: Global,
-    connected: bool,
-    dumped: bool,
-    ok: bool,
-    heard: u64,
+    report: Report,
     pinged: u64,
     fsd: bool,
-    tree: Tree,
     owed: ArrayVec<u8, DRIVER_OWED_LIMIT>,
     cut: LineCut,
     faulty: u64,
@@ -42,7 +39,7 @@ impl Model for Ups {
 
     ghost Value = { UpsState };
 
-    ghost view = { λ u. record { connected = u.connected; dumped = u.dumped; ok = u.ok; heard = u.heard; pinged = u.pinged; fsd = u.fsd; tree = u.tree; owed = u.owed.items; unfinished = u.cut; faulty = u.faulty } };
+    ghost view = { λ u. record { report = u.report; pinged = u.pinged; fsd = u.fsd; owed = u.owed.items; unfinished = u.cut; faulty = u.faulty } };
 
     ghost invariant = { λ u. split_line u.cut ≡ None };
 }
@@ -54,13 +51,9 @@ impl Ups {
     {
         Ups {
             alloc,
-            connected: false,
-            dumped: false,
-            ok: false,
-            heard: 0,
+            report: Report::lost(alloc),
             pinged: 0,
             fsd: false,
-            tree: Tree::new(alloc),
             owed: ArrayVec::new(),
             cut: LineCut::new(),
             faulty: 0,
@@ -69,9 +62,9 @@ impl Ups {
 
     /// Whether its driver is connected.
     pub(crate) fn is_connected(&self) -> bool
-        ensures { result ≡ self.now.connected }
+        ensures { result ≡ self.now.report.connected }
     {
-        self.connected
+        self.report.connected
     }
 
     /// How many lines of its drivers were refused.
@@ -86,12 +79,54 @@ impl Ups {
         ensures { ups_seen result ≡ seen_ups self.now }
     {
         UpsView {
-            connected: self.connected,
-            dumped: self.dumped,
-            ok: self.ok,
-            heard: self.heard,
+            report: &self.report,
             fsd: self.fsd,
-            tree: &self.tree,
+        }
+    }
+
+    /// A forced shutdown is set.
+    pub(crate) fn set_fsd(&mut self)
+        ensures { self.new ≡ with_fsd self.old }
+    {
+        self.fsd = true;
+    }
+
+    /// What its driver is offered.
+    pub(crate) fn offer(&self) -> &[u8]
+        ensures { result.now ≡ self.now.owed }
+    {
+        self.owed.as_slice()
+    }
+
+    /// The driver took n bytes of what it is owed.
+    ///
+    /// # Errors
+    ///
+    /// `TookTooMuch`, which changes nothing.
+    pub(crate) fn take(&mut self, n: usize) -> Result<(), Fault>
+        ensures { IsTaken n self.old result self.new }
+    {
+        if n > self.owed.len() {
+            return Err(Fault::TookTooMuch);
+        }
+        let rest = self.owed.len() - n;
+        self.owed.copy_within(n.., 0);
+        self.owed.truncate(rest);
+        Ok(())
+    }
+
+    /// The moment is this one now: the driver is pinged where a PING is due.
+    pub(crate) fn tick(&mut self, max_age: u32, moment: u64)
+        ensures { self.new ≡ after_tick max_age moment self.old }
+    {
+        let quiet = u64::from(max_age / 3);
+        if self.report.connected
+            && moment.saturating_sub(self.report.heard) >= quiet
+            && moment.saturating_sub(self.pinged) >= quiet
+            && self.owed.len() + PING_LINE.len() <= DRIVER_OWED_LIMIT
+        {
+            self.pinged = moment;
+            self.owed.try_extend_from_slice(PING_LINE).unwrap();
         }
     }
 
@@ -100,8 +135,7 @@ impl Ups {
         ensures { self.new ≡ after_connecting moment self.old }
     {
         self.disconnect();
-        self.connected = true;
-        self.heard = moment;
+        self.report = Report::connected(self.alloc, moment);
         self.pinged = moment;
         self.owed.try_extend_from_slice(b"DUMPALL\n").unwrap();
     }
@@ -110,12 +144,8 @@ impl Ups {
     pub(crate) fn disconnect(&mut self)
         ensures { self.new ≡ after_loss self.old }
     {
-        self.connected = false;
-        self.dumped = false;
-        self.ok = false;
-        self.heard = 0;
+        self.report = Report::lost(self.alloc);
         self.pinged = 0;
-        self.tree = Tree::new(self.alloc);
         self.owed.clear();
         self.cut = LineCut::new();
     }
@@ -127,7 +157,7 @@ impl Ups {
     ///
     /// `LineTooLong`, and `Memory` with how many lines of the call were done.
     pub(crate) fn feed(&mut self, moment: u64, piece: &[u8]) -> Result<(), Fault>
-        requires connected { self.old.connected ≡ true }
+        requires connected { self.old.report.connected ≡ true }
         ensures fed { IsFed moment (with_bytes piece.now self.old) result self.new }
     {
         let result = self.read_lines(moment, piece);
@@ -167,68 +197,16 @@ impl Ups {
 
     /// Does what a whole line says. A refused one is counted.
     fn execute(&mut self, moment: u64, line: &[u8]) -> Result<(), AllocError>
-        requires { length line.now ≤ 1023 }
+        requires { length line.now ≤ LINE_LIMIT }
         ensures ok { OnOk result (self.new ≡ after_text moment self.old line.now) }
-        ensures memory { OnErr result (wants_memory_read self.old.tree (read_driver_line line.now) ≡ true) }
+        ensures memory { OnErr result (IsTrue (line_changes self.old.report.tree line.now)) }
         ensures err { OnErr result (after_loss self.new ≡ after_loss self.old) }
     {
-        self.hear(moment);
-        match DriverLine::read(line) {
-            Ok(line) => self.apply(&line),
-            Err(_) => {
-                self.count_faulty_line();
-                Ok(())
-            }
+        match self.report.execute(moment, line, &mut Meter::new())? {
+            LineOutcome::Accepted => {}
+            LineOutcome::Refused(_) => self.count_faulty_line(),
         }
-    }
-
-    /// Does what a line says that was read. Without memory nothing changes.
-    fn apply(&mut self, line: &DriverLine) -> Result<(), AllocError>
-        ensures ok { OnOk result (self.new ≡ after_reading self.old (Ok line.now)) }
-        ensures memory { OnErr result (changes_tree self.old.tree line.now ≡ true) }
-        ensures err { OnErr result (self.new ≡ self.old) }
-    {
-        match self.change_tree(line) {
-            Ok(effect) => {
-                self.take_effect(effect);
-                Ok(())
-            }
-            Err(DriverFault::Memory) => Err(AllocError),
-            Err(_) => {
-                self.count_faulty_line();
-                Ok(())
-            }
-        }
-    }
-
-    /// What the line does to the tree.
-    fn change_tree(&mut self, line: &DriverLine) -> Result<Effect, DriverFault>
-        ensures ok { IfOk result (λ effect. driver_step self.old.tree line.now ≡ Ok (self.new.tree, effect)) }
-        ensures rest { self.new ≡ record self.old { tree = self.new.tree } }
-        ensures err { OnErr result (self.new ≡ self.old) }
-        ensures refused { IfErr result (λ fault. fault ≢ DriverFault.Memory → driver_step self.old.tree line.now ≡ Err fault) }
-        ensures memory { IfErr result (λ fault. fault ≡ DriverFault.Memory → IsTrue (changes_tree self.old.tree line.now)) }
-    {
-        self.tree.apply(line, &mut Meter::new())
-    }
-
-    /// What a line did beside the tree.
-    fn take_effect(&mut self, effect: Effect)
-        ensures { self.new ≡ after_effect effect self.old }
-    {
-        match effect {
-            Effect::Nothing | Effect::Changed | Effect::Pong => {}
-            Effect::DumpDone => self.dumped = true,
-            Effect::DataOk => self.ok = true,
-            Effect::DataStale => self.ok = false,
-        }
-    }
-
-    /// A whole line came at this moment.
-    fn hear(&mut self, moment: u64)
-        ensures { self.new ≡ record self.old { heard = moment } }
-    {
-        self.heard = moment;
+        Ok(())
     }
 
     /// One more line was refused. The count stops at its greatest number.

@@ -1,3 +1,5 @@
 pub mod FlagLemmas
-pub mod DigitLemmas
 pub mod TreeLemmas
+pub mod LawfulLines
+pub mod SoundTrees
+pub mod LineLemmas

@@ -1,17 +1,16 @@
 -- What changes of a tree's maps say of its names, and how many entries they leave.
-use Rattle.std.proofs.Common.{◌≡◌, ℕ, ◌<◌, ◌≤◌, Bool, true, false, cond, List, [], ◌∷◌, length, refl, ap, arith}
+use Rattle.std.proofs.Common.{◌≡◌, ℕ, ◌+◌, ◌<◌, ◌≤◌, Bool, true, false, cond, List, [], ◌∷◌, length, refl, ap, arith}
 use Rattle.std.specs.Prelude.{Option, Some, None, is_some, IsNone, ◌||◌}
 use Rattle.std.specs.List.{list_any}
 use Rattle.std.specs.Map.{keys_of, lookup, remove_entry}
 use Rattle.std.specs.Set.{remove_key}
-use Rattle.std.specs.BTreeMap.{insert_entry}
+use Rattle.std.specs.BTreeMap.{insert_entry, is_at}
 use Rattle.std.specs.BTreeSet.{insert_key}
 use Rattle.std.specs.declared.cmp.Ordering.{Ordering}
 use Rattle.std.specs.declared.cmp.Ordering.TheVariants.{Less, Equal, Greater}
 use Rattle.std.specs.Ordering.{match_ordering}
 use Rattle.nutmap.specs.Entries.{HasRisingKeys, value_at}
-use Rattle.nutmap.proofs.Lengths.{length-insert_new, length-insert_old, length-remove_entry, remove_entry-none}
-use Rattle.std.specs.Cmp.{IsTotalOrder}
+use Rattle.nutdriver.specs.Tree.{byte_order}
 use Rattle.std.specs.Borrow.{Bor}
 use Rattle.std.specs.Option.{option_copied}
 
@@ -45,23 +44,36 @@ module _ {K V : Type 0} (R : K → K → Ordering) (k : K) (v : V) where
   keys_of-insert_entry [] = refl
   keys_of-insert_entry (e ∷ es) = inserted (R k e.0) e es (insert_entry R es k v) (keys_of-insert_entry es)
 
-module _ {K V : Type 0} {R : K → K → Ordering} (o : IsTotalOrder R) (k : K) (v : V) (limit : ℕ) where
-  few_by : (es : List (K × V)) (held : Option V) → value_at R es k ≡ held → HasRisingKeys R es → length es ≤ limit → (IsNone held → length es < limit) → length (insert_entry R es k v) ≤ limit
-  few_by es None is rising few room = omega (arith, length-insert_new R k v es is, room refl)
-  few_by es (Some w) is rising few room = omega (arith, length-insert_old o k v es w rising.rising is)
+-- what nutmap's law says of how many entries a change leaves, for maps from names
+abbrev pub CountsAdded : Type 0 → Type 0
+CountsAdded V = (map : List (List ℕ × V)) (key : List ℕ) (value : V) → value_at byte_order map key ≡ None → length (insert_entry byte_order map key value) ≡ length map + 1
+
+abbrev pub CountsReplaced : Type 0 → Type 0
+CountsReplaced V = (map : List (List ℕ × V)) (key : List ℕ) (value before : V) → HasRisingKeys byte_order map → value_at byte_order map key ≡ Some before → length (insert_entry byte_order map key value) ≡ length map
+
+abbrev pub CountsTakenOut : Type 0 → Type 0
+CountsTakenOut V = (map : List (List ℕ × V)) (key : List ℕ) (before : V) → value_at byte_order map key ≡ Some before → length (remove_entry (is_at (byte_order key)) map) + 1 ≡ length map
+
+abbrev pub KeepsAbsent : Type 0 → Type 0
+KeepsAbsent V = (map : List (List ℕ × V)) (key : List ℕ) → value_at byte_order map key ≡ None → remove_entry (is_at (byte_order key)) map ≡ map
+
+module _ {V : Type 0} (added : CountsAdded V) (replaced : CountsReplaced V) (k : List ℕ) (v : V) (limit : ℕ) where
+  few_by : (es : List (List ℕ × V)) (held : Option V) → value_at byte_order es k ≡ held → HasRisingKeys byte_order es → length es ≤ limit → (IsNone held → length es < limit) → length (insert_entry byte_order es k v) ≤ limit
+  few_by es None is rising few room = omega (arith, added es k v is, room refl)
+  few_by es (Some w) is rising few room = omega (arith, replaced es k v w rising is)
 
   -- an entry more is no entry too many, where there is room for a new key
-  pub few_inserted : (es : List (K × V)) → HasRisingKeys R es → length es ≤ limit → (IsNone (value_at R es k) → length es < limit) → length (insert_entry R es k v) ≤ limit
-  few_inserted es rising few room = few_by es (value_at R es k) refl rising few room
+  pub few_inserted : (es : List (List ℕ × V)) → HasRisingKeys byte_order es → length es ≤ limit → (IsNone (value_at byte_order es k) → length es < limit) → length (insert_entry byte_order es k v) ≤ limit
+  few_inserted es rising few room = few_by es (value_at byte_order es k) refl rising few room
 
-module _ {K V : Type 0} (test : K → Bool) (limit : ℕ) where
-  few_left : (es : List (K × V)) (held : Option V) → lookup test es ≡ held → length es ≤ limit → length (remove_entry test es) ≤ limit
-  few_left es None is few = rw (remove_entry-none test es is) few
-  few_left es (Some w) is few = omega (arith, length-remove_entry test es w is)
+module _ {V : Type 0} (taken : CountsTakenOut V) (absent : KeepsAbsent V) (k : List ℕ) (limit : ℕ) where
+  few_left : (es : List (List ℕ × V)) (held : Option V) → value_at byte_order es k ≡ held → length es ≤ limit → length (remove_entry (is_at (byte_order k)) es) ≤ limit
+  few_left es None is few = rw (absent es k is) few
+  few_left es (Some w) is few = omega (arith, taken es k w is)
 
   -- an entry less is no entry too many
-  pub few_removed : (es : List (K × V)) → length es ≤ limit → length (remove_entry test es) ≤ limit
-  few_removed es few = few_left es (lookup test es) refl few
+  pub few_removed : (es : List (List ℕ × V)) → length es ≤ limit → length (remove_entry (is_at (byte_order k)) es) ≤ limit
+  few_removed es few = few_left es (value_at byte_order es k) refl few
 
 pub is_some-copied : {V : Type 0} (held : Option (Bor V)) → is_some (option_copied held) ≡ is_some held
 is_some-copied None = refl

@@ -1,11 +1,25 @@
--- What the parts of a tree answer: what the definitions say, or want of memory where there would be a change.
-use Rattle.std.specs.Prelude.{◌≡◌, Bool, true, false, Option, Some, Result, Ok, Err}
+-- What the parts of a tree answer: what the definitions say, or out of memory where there would be a change.
+use Rattle.std.specs.Prelude.{◌≡◌, ◌≤◌, ℕ, Bool, true, false, Option, Some, None, Result, Ok, Err, IfOk}
+use Rattle.nutmap.specs.Meter.{counted_up}
 use Rattle.nutdriver.specs.declared.fault.DriverFault.{DriverFault}
 use Rattle.nutdriver.specs.declared.fault.DriverFault.TheVariants.{Memory}
 use Rattle.nutdriver.specs.declared.effect.Effect.{Effect}
-use Rattle.nutdriver.specs.Variable.{VariableState}
+use Rattle.nutdriver.specs.declared.effect.Effect.TheVariants.{Changed}
+use Rattle.nutdriver.specs.declared.line.DriverLine.{DriverLine}
+use Rattle.nutdriver.specs.declared.line.DriverLine.TheVariants.{AddEnum, DelEnum, AddRange, DelRange, SetAux, SetFlags}
+use Rattle.nutdriver.specs.Variable.{VariableState, add_enum, delete_enum, add_range, delete_range, with_aux, with_flags}
 use Rattle.nutdriver.specs.Tree.{TreeState}
 use Rattle.nutdriver.specs.DriverStep.{is_change}
+
+-- What a line does to the variable that it names, which has to be there. Other lines do nothing to it.
+abbrev pub variable_step : DriverLine → VariableState → Result (Option VariableState) DriverFault
+variable_step (AddEnum name value) v = add_enum value v
+variable_step (DelEnum name value) v = delete_enum value v
+variable_step (AddRange name range) v = add_range range v
+variable_step (DelRange name range) v = delete_range range v
+variable_step (SetAux name aux) v = Ok (Some (with_aux aux v))
+variable_step (SetFlags name flags) v = Ok (Some (with_flags flags v))
+variable_step _ v = Ok None
 
 -- The variable would change.
 abbrev pub is_other : Result (Option VariableState) DriverFault → Bool
@@ -23,3 +37,7 @@ abbrev pub AnswersStep : Result (TreeState × Effect) DriverFault → TreeState 
 AnswersStep would old (Ok effect) new = would ≡ Ok (new, effect)
 AnswersStep would old (Err Memory) new = (is_change would ≡ true) × (new ≡ old)
 AnswersStep would old (Err fault) new = (would ≡ Err fault) × (new ≡ old)
+
+-- A change is counted: the meter goes from `old` to `new`.
+abbrev pub CountsChange : Result Effect DriverFault → ℕ → ℕ → Type 0
+CountsChange result old new = IfOk result (λ effect. effect ≡ Changed → counted_up old ≤ new)

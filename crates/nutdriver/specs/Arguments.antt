@@ -1,12 +1,14 @@
 -- What stands behind the first word of a driver's line. Their number and the name are looked at before what follows the name.
 use Rattle.std.specs.Prelude.{ℕ, ℤ, List, [], ◌∷◌, Option, Some, None, Result, Ok, Err, int_le, if◌then◌else◌}
+use Rattle.nutwords.specs.Natural.{read_natural}
 use Rattle.nutwords.specs.Reading.{read_name, read_value}
 use Rattle.nutwords.specs.declared.faults.BadName.{BadName}
 use Rattle.nutdriver.specs.declared.fault.DriverFault.{DriverFault}
 use Rattle.nutdriver.specs.declared.fault.DriverFault.TheVariants.{Malformed, BadNumber, TooLong}
 use Rattle.nutdriver.specs.declared.flags.Flags.{Flags}
 use Rattle.nutdriver.specs.declared.range.Range.{Range}
-use Rattle.nutdriver.specs.Number.{read_natural, read_number}
+use Rattle.nutdriver.specs.declared.limits.TheConstants.{NUMBER_LIMIT}
+use Rattle.nutdriver.specs.Number.{read_number}
 use Rattle.nutdriver.specs.Flags.{flags_of}
 
 -- A name beside what follows it, each of which may be refused: the name's refusal comes first.
@@ -50,7 +52,7 @@ name_and_range _ = Err Malformed
 
 -- `name number`, of which the number isn't negative
 abbrev pub name_and_aux : List (List ℕ) → Result (List ℕ × ℕ) DriverFault
-name_and_aux (name ∷ aux ∷ []) = beside (lawful_name (read_name name)) (lawful_number (read_natural aux))
+name_and_aux (name ∷ aux ∷ []) = beside (lawful_name (read_name name)) (lawful_number (read_natural NUMBER_LIMIT aux))
 name_and_aux _ = Err Malformed
 
 -- `name flag ..`

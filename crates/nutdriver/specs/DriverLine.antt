@@ -6,7 +6,7 @@ use Rattle.nutdriver.specs.declared.line.DriverLine.{DriverLine}
 use Rattle.nutdriver.specs.declared.line.DriverLine.TheVariants.{Blank, SetInfo, DelInfo, AddEnum, DelEnum, AddRange, DelRange, SetAux, SetFlags, AddCmd, DelCmd, DumpDone, DataOk, DataStale, Pong}
 use Rattle.nutdriver.specs.declared.fault.DriverFault.{DriverFault}
 use Rattle.nutdriver.specs.declared.fault.DriverFault.TheVariants.{Malformed, Unknown}
-use Rattle.nutdriver.specs.Spelling.{is_word}
+use Rattle.nutwords.specs.Keyword.{is_word}
 use Rattle.nutdriver.specs.Arguments.{name_alone, name_and_value, name_and_range, name_and_aux, name_and_flags}
 
 -- The line of these arguments, or their refusal.

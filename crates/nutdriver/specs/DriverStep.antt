@@ -72,3 +72,9 @@ abbrev pub entries_before : TreeState → DriverLine → ℕ
 entries_before tree (AddCmd name) = length tree.commands
 entries_before tree (DelCmd name) = length tree.commands
 entries_before tree _ = length tree.variables
+
+-- The line puts an entry into a map where it changes the tree: it is none of those that take one out.
+abbrev pub puts_entry : DriverLine → Bool
+puts_entry (DelInfo name) = false
+puts_entry (DelCmd name) = false
+puts_entry _ = true

@@ -8,3 +8,5 @@ pub mod Variable
 pub mod Tree
 pub mod DriverStep
 pub mod Answers
+pub mod Report
+pub mod Sound

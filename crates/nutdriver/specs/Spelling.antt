@@ -1,7 +1,2 @@
--- The words of the protocol, as they are spelled.
-use Rattle.std.specs.Prelude.{ℕ, Bool, List}
-use Rattle.std.specs.Str.{str_eq_ignore_ascii_case}
-
--- The word of the protocol, in capitals or not.
-abbrev pub is_word : List ℕ → List ℕ → Bool
-is_word word spelling = str_eq_ignore_ascii_case word spelling
+-- The words of the protocol, as nutwords spells them.
+pub use Rattle.nutwords.specs.Keyword.{is_word}

@@ -1,13 +1,11 @@
--- What a driver has told of its UPS.
+-- What a driver has reported of its UPS.
 use Rattle.std.specs.Prelude.{ℕ, Bool, List, [], Option}
 use Rattle.std.specs.List.{list_any}
-use Rattle.std.specs.Cmp.Lexicographic.{slice_cmp}
-use Rattle.std.specs.Ordering.{nat_cmp}
-use Rattle.std.specs.declared.cmp.Ordering.{Ordering}
 use Rattle.std.specs.BTreeMap.{insert_entry, is_at}
 use Rattle.std.specs.BTreeSet.{insert_key}
 use Rattle.std.specs.Map.{remove_entry}
 use Rattle.std.specs.Set.{remove_key}
+pub use Rattle.nutwords.specs.NameOrder.{byte_order}
 use Rattle.nutmap.specs.Entries.{value_at}
 use Rattle.nutdriver.specs.Variable.{VariableState}
 
@@ -16,13 +14,9 @@ pub record TreeState : Type 0 where
   pub variables : List (List ℕ × VariableState)
   pub commands : List (List ℕ)
 
--- Nothing was told.
+-- Nothing was reported.
 abbrev pub empty_tree : TreeState
 empty_tree = record { variables = []; commands = [] }
-
--- The order of names: byte by byte, a beginning before what it begins.
-abbrev pub byte_order : List ℕ → List ℕ → Ordering
-byte_order = slice_cmp nat_cmp
 
 -- The variable of this name.
 abbrev pub variable_at : TreeState → List ℕ → Option VariableState

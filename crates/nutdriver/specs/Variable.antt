@@ -18,7 +18,7 @@ pub record VariableState : Type 0 where
   pub enum_values : List (List ℕ)
   pub ranges : List Range
 
--- A variable that is told for the first time.
+-- A variable that is reported for the first time.
 abbrev pub new_variable : List ℕ → VariableState
 new_variable value = record { value = value; flags = no_flags; aux = 0; enum_values = []; ranges = [] }
 

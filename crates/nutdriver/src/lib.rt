@@ -4,12 +4,13 @@
 mod effect;
 mod fault;
 mod flags;
+pub mod laws;
 mod limits;
 mod line;
 mod lists;
 mod number;
 mod range;
-mod spelling;
+mod report;
 #[cfg(test)]
 mod tests;
 mod tree;
@@ -22,5 +23,6 @@ pub use limits::{COMMAND_LIMIT, ENUM_LIMIT, NUMBER_LIMIT, RANGE_LIMIT, VARIABLE_
 pub use line::DriverLine;
 pub use number::read_number;
 pub use range::Range;
+pub use report::{LineOutcome, Report};
 pub use tree::Tree;
 pub use variable::Variable;

@@ -4,10 +4,9 @@ ghost use Rattle.nutwords.specs.declared.limits.TheConstants.{LINE_LIMIT};
 
 mod arguments;
 
-use crate::spelling::is_word;
 use crate::{DriverFault, Flags, Range};
 use arguments::{name_alone, name_and_aux, name_and_flags, name_and_range, name_and_value};
-use nutwords::{Name, Value, Words, words};
+use nutwords::{Name, SpelledWords, Value, spelled_words};
 
 /// A line of a driver.
 #[derive(Clone, Debug, PartialEq, Eq, Drop)]
@@ -34,7 +33,7 @@ pub enum DriverLine {
     AddCmd(Name),
     /// `DELCMD`: the UPS no longer has this command.
     DelCmd(Name),
-    /// `DUMPDONE`: all that the driver knows was told.
+    /// `DUMPDONE`: all that the driver knows was reported.
     DumpDone,
     /// `DATAOK`: the data are right.
     DataOk,
@@ -56,57 +55,56 @@ impl DriverLine {
         requires { length line.now ≤ LINE_LIMIT }
         ensures { result ≡ read_driver_line line.now }
     {
-        match words(line) {
+        match spelled_words(line) {
             Ok(words) => DriverLine::of(words),
             Err(_) => Err(DriverFault::Malformed),
         }
     }
 
     /// The line that the words are.
-    fn of(mut words: Words<'_>) -> Result<DriverLine, DriverFault>
+    fn of(mut words: SpelledWords<'_>) -> Result<DriverLine, DriverFault>
         ensures { result ≡ driver_line_of words.entry }
     {
         let Some(first) = words.next() else {
             return Ok(DriverLine::Blank);
         };
-        let first = first.as_bytes();
-        if is_word(first, b"SETINFO") {
+        if first.is_word(b"SETINFO") {
             let (name, value) = name_and_value(words)?;
             Ok(DriverLine::SetInfo(name, value))
-        } else if is_word(first, b"DELINFO") {
+        } else if first.is_word(b"DELINFO") {
             let name = name_alone(words)?;
             Ok(DriverLine::DelInfo(name))
-        } else if is_word(first, b"ADDENUM") {
+        } else if first.is_word(b"ADDENUM") {
             let (name, value) = name_and_value(words)?;
             Ok(DriverLine::AddEnum(name, value))
-        } else if is_word(first, b"DELENUM") {
+        } else if first.is_word(b"DELENUM") {
             let (name, value) = name_and_value(words)?;
             Ok(DriverLine::DelEnum(name, value))
-        } else if is_word(first, b"ADDRANGE") {
+        } else if first.is_word(b"ADDRANGE") {
             let (name, range) = name_and_range(words)?;
             Ok(DriverLine::AddRange(name, range))
-        } else if is_word(first, b"DELRANGE") {
+        } else if first.is_word(b"DELRANGE") {
             let (name, range) = name_and_range(words)?;
             Ok(DriverLine::DelRange(name, range))
-        } else if is_word(first, b"SETAUX") {
+        } else if first.is_word(b"SETAUX") {
             let (name, aux) = name_and_aux(words)?;
             Ok(DriverLine::SetAux(name, aux))
-        } else if is_word(first, b"SETFLAGS") {
+        } else if first.is_word(b"SETFLAGS") {
             let (name, flags) = name_and_flags(words)?;
             Ok(DriverLine::SetFlags(name, flags))
-        } else if is_word(first, b"ADDCMD") {
+        } else if first.is_word(b"ADDCMD") {
             let name = name_alone(words)?;
             Ok(DriverLine::AddCmd(name))
-        } else if is_word(first, b"DELCMD") {
+        } else if first.is_word(b"DELCMD") {
             let name = name_alone(words)?;
             Ok(DriverLine::DelCmd(name))
-        } else if is_word(first, b"DUMPDONE") {
+        } else if first.is_word(b"DUMPDONE") {
             DriverLine::DumpDone.alone(words)
-        } else if is_word(first, b"DATAOK") {
+        } else if first.is_word(b"DATAOK") {
             DriverLine::DataOk.alone(words)
-        } else if is_word(first, b"DATASTALE") {
+        } else if first.is_word(b"DATASTALE") {
             DriverLine::DataStale.alone(words)
-        } else if is_word(first, b"PONG") {
+        } else if first.is_word(b"PONG") {
             DriverLine::Pong.alone(words)
         } else {
             Err(DriverFault::Unknown)
@@ -114,7 +112,7 @@ impl DriverLine {
     }
 
     /// The line, where no further word stands on it.
-    fn alone(self, mut words: Words<'_>) -> Result<DriverLine, DriverFault>
+    fn alone(self, mut words: SpelledWords<'_>) -> Result<DriverLine, DriverFault>
         ensures { result ≡ alone self words.entry }
     {
         match words.next() {

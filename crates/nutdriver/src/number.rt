@@ -1,7 +1,7 @@
 //! The numbers of the protocol: the ends of ranges, and the aux of a variable.
 ghost use Rattle.std.specs.Prelude.{◌≡◌, ◌≤◌, ℕ, neg_ℤ, pos, if◌then◌else◌};
-ghost use Rattle.nutdriver.specs.Number.{is_natural, is_digit, has_no_leading_zero, read_natural, read_number};
-ghost use Rattle.std.specs.List.{list_all};
+ghost use Rattle.nutwords.specs.Natural.{read_natural};
+ghost use Rattle.nutdriver.specs.Number.{read_number};
 
 use crate::NUMBER_LIMIT;
 
@@ -24,50 +24,10 @@ pub fn read_number(word: &[u8]) -> Option<i32>
 
 /// Reads a number without a sign, from 0 to 1,000,000,000.
 pub(crate) fn read_natural(digits: &[u8]) -> Option<u32>
-    ensures { result ≡ read_natural digits.now }
+    ensures { result ≡ read_natural NUMBER_LIMIT digits.now }
 {
-    if !is_natural(digits) {
-        return None;
-    }
-    let mut value = 0;
-    for digit in digits {
-        value = value * 10 + u64::from(*digit - b'0');
-        if value > u64::from(NUMBER_LIMIT) {
-            return None;
-        }
-    }
-    Some(value as u32)
-}
-
-/// Whether they are digits, one at least, and the first is 0 only where it is alone.
-fn is_natural(digits: &[u8]) -> bool
-    ensures { result ≡ is_natural digits.now }
-{
-    are_digits(digits) && has_no_leading_zero(digits)
-}
-
-/// Whether each byte is an ASCII digit.
-fn are_digits(bytes: &[u8]) -> bool
-    ensures { result ≡ list_all is_digit bytes.now }
-{
-    bytes.iter().all(|b| is_digit(*b))
-}
-
-/// Whether there is a first byte, and it is no 0 or stands alone.
-fn has_no_leading_zero(bytes: &[u8]) -> bool
-    ensures { result ≡ has_no_leading_zero bytes.now }
-{
-    match bytes {
-        [] => false,
-        [first, rest @ ..] => *first != b'0' || rest.is_empty(),
-    }
-}
-
-/// Whether the byte is an ASCII digit.
-fn is_digit(b: u8) -> bool
-    ensures { result ≡ is_digit b }
-{
-    b.is_ascii_digit()
+    let natural = nutwords::read_natural(digits, u64::from(NUMBER_LIMIT))?;
+    Some(natural as u32)
 }
 
 /// The number with its sign.

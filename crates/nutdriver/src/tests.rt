@@ -3,16 +3,18 @@
 //! A table is a text of rows. A row is what a line does, one space, and the line: the number of its refusal, or `.` for
 //! nothing, `+` for a change, `D` for a dump that is done, `O` and `S` for data that are right and out of date, `P` for
 //! a PONG. A row that begins with `=` is what `ups.mode` has then: value, flags, aux, enum values, ranges.
-use crate::{DriverFault, DriverLine, Effect, Tree, Variable, read_number};
+use crate::{
+    DriverFault, DriverLine, Effect, LineOutcome, Report, Tree, Variable, laws, read_number,
+};
 use nutmap::Meter;
-use nutwords::Name;
+use nutwords::{LINE_LIMIT, Name};
 use std::alloc::{AllocError, Global};
 use std::test::Fail;
 
 /// Reads a line, and does it where it isn't refused.
-fn told(tree: &mut Tree, line: &[u8]) -> Result<Effect, DriverFault> {
+fn done(tree: &mut Tree, line: &[u8]) -> Result<Effect, DriverFault> {
     let mut meter = Meter::new();
-    if line.len() > 1023 {
+    if line.len() > LINE_LIMIT {
         return Err(DriverFault::Malformed);
     }
     let line = DriverLine::read(line)?;
@@ -21,7 +23,7 @@ fn told(tree: &mut Tree, line: &[u8]) -> Result<Effect, DriverFault> {
 
 /// What the line does, as a row says it.
 fn sign(tree: &mut Tree, line: &[u8]) -> u8 {
-    match told(tree, line) {
+    match done(tree, line) {
         Ok(Effect::Nothing) => b'.',
         Ok(Effect::Changed) => b'+',
         Ok(Effect::DumpDone) => b'D',
@@ -289,7 +291,7 @@ fn long_row(alloc: Global, front: &[u8], length: usize) -> Result<Vec<u8>, Alloc
 /// The first of the fronts whose row isn't so.
 fn wrong_front(alloc: Global, fronts: &[u8], length: usize) -> Result<Option<usize>, AllocError> {
     let mut tree = Tree::new(alloc);
-    let _ = told(&mut tree, b"SETINFO a x");
+    let _ = done(&mut tree, b"SETINFO a x");
     for (number, front) in fronts.split(|b| *b == b',').enumerate() {
         let row = long_row(alloc, front, length)?;
         if !is_so(alloc, &mut tree, &row)? {
@@ -389,12 +391,12 @@ fn reads_numbers_in_their_one_spelling(rt: HostRuntime) -> Result<(), Fail> {
     Ok(())
 }
 
-/// What is told before a version is kept.
+/// What is reported before a version is kept.
 fn before() -> &'static [u8] {
     b"+ SETINFO ups.mode old\n+ ADDENUM ups.mode e\n+ SETINFO b x\n+ ADDCMD c"
 }
 
-/// What is told after it.
+/// What is reported after it.
 fn later() -> &'static [u8] {
     b"+ SETINFO ups.mode new\n+ DELENUM ups.mode e\n+ SETFLAGS ups.mode RW\n+ DELINFO b\n+ DELCMD c\n= new RW 0 [] []"
 }
@@ -411,5 +413,66 @@ fn keeps_each_version(rt: HostRuntime) -> Result<(), Fail> {
     let mut version = tree.share()?;
     assert_eq!(rt; wrong_row(rt.alloc(), &mut tree, later())?, None);
     assert_eq!(rt; wrong_row(rt.alloc(), &mut version, kept())?, None);
+    Ok(())
+}
+
+#[test]
+fn tells_each_fault(rt: HostRuntime) -> Result<(), Fail> {
+    for (fault, number, text) in [
+        (DriverFault::Malformed, 1, "malformed line"),
+        (DriverFault::Unknown, 2, "unknown word"),
+        (DriverFault::NoSuchVar, 3, "no such variable"),
+        (DriverFault::NoSuchItem, 4, "no such item"),
+        (DriverFault::BadNumber, 5, "bad number"),
+        (DriverFault::BadFlag, 6, "bad flag"),
+        (DriverFault::TooLong, 7, "value too long"),
+        (DriverFault::Full, 8, "too many"),
+        (DriverFault::Memory, 9, "out of memory"),
+    ] {
+        assert_eq!(rt; fault.number(), number);
+        let told = format!(in rt.alloc(); "{fault}")?;
+        assert_eq!(rt; told.as_str(), text);
+    }
+    Ok(())
+}
+
+#[test]
+fn keeps_the_report_of_a_driver(rt: HostRuntime) -> Result<(), Fail> {
+    let mut report = Report::connected(rt.alloc(), 7);
+    assert!(rt; report.connected && !report.dumped && !report.ok && report.heard == 7);
+    let mut meter = Meter::new();
+    let unknown = LineOutcome::Refused(DriverFault::Unknown);
+    let absent = LineOutcome::Refused(DriverFault::NoSuchVar);
+    for (moment, line, outcome) in [
+        (
+            8,
+            b"SETINFO ups.mode auto".as_slice(),
+            LineOutcome::Accepted,
+        ),
+        (9, b"DELINFO nope".as_slice(), absent),
+        (10, b"HELLO".as_slice(), unknown),
+        (11, b"DUMPDONE".as_slice(), LineOutcome::Accepted),
+        (12, b"DATAOK".as_slice(), LineOutcome::Accepted),
+        (13, b"PONG".as_slice(), LineOutcome::Accepted),
+    ] {
+        assert_eq!(rt; report.execute(moment, line, &mut meter)?, outcome);
+        assert_eq!(rt; report.heard, moment);
+    }
+    assert!(rt; report.connected && report.dumped && report.ok && meter.made() == 1);
+    assert_eq!(rt; mode(rt.alloc(), &report.tree)?.as_str(), "auto 0 [] []");
+    let outcome = report.execute(14, b"DATASTALE", &mut meter)?;
+    assert!(rt; outcome == LineOutcome::Accepted && !report.ok && report.dumped);
+    let report = Report::lost(rt.alloc());
+    assert!(rt; !report.connected && !report.dumped && !report.ok && report.heard == 0);
+    assert_eq!(rt; mode(rt.alloc(), &report.tree)?.as_str(), "none");
+    Ok(())
+}
+
+#[test]
+fn calls_the_laws(_rt: HostRuntime) -> Result<(), Fail> {
+    laws::limits();
+    laws::read_lines_are_lawful();
+    laws::lawful_lines_keep_trees_sound();
+    laws::each_line_keeps_the_tree_sound();
     Ok(())
 }

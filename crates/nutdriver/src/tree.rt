@@ -1,23 +1,25 @@
-//! The tree of a UPS: what its driver has told of it.
-ghost use Rattle.std.specs.Prelude.{◌≡◌, ◌≢◌, ◌≤◌, ◌<◌, ◌+◌, ◌⊎◌, IsTrue, IsNone, IfOk, IfErr, OnErr, Ok, Some, length, is_some};
+//! The tree of a UPS: what its driver has reported of it.
+ghost use Rattle.std.specs.Prelude.{◌≡◌, ◌≢◌, ◌≤◌, ◌<◌, ◌+◌, ◌⊎◌, IsTrue, IsNone, IfOk, IfErr, OnErr, OnOk, Ok, Some, length, is_some};
 ghost use Rattle.std.specs.Map.{keys_of};
 ghost use Rattle.std.specs.Option.{option_copied};
 ghost use Rattle.nutmap.specs.Digits.{most_nodes};
+ghost use Rattle.nutmap.specs.Meter.{counted_up};
 ghost use Rattle.nutdriver.specs.Tree.{empty_tree, variable_at, with_variable, has_command, with_command, without_command};
-ghost use Rattle.nutdriver.specs.DriverStep.{driver_step, changes_tree, entries_before, put_back};
-ghost use Rattle.nutdriver.specs.Answers.{AnswersStep};
+ghost use Rattle.nutdriver.specs.DriverStep.{driver_step, changes_tree, entries_before, put_back, on_variable, puts_entry};
+ghost use Rattle.nutdriver.specs.Answers.{AnswersStep, CountsChange, variable_step};
 ghost use Rattle.nutdriver.specs.declared.line.DriverLine.TheVariants.{SetInfo, DelInfo, AddEnum, DelEnum, AddRange, DelRange, SetAux, SetFlags, AddCmd, DelCmd};
 
 use crate::variable::{Change, Variable};
 use crate::{COMMAND_LIMIT, DriverFault, DriverLine, Effect, Flags, Range, VARIABLE_LIMIT};
+use nutmap::laws::changes_count_one_entry;
 use nutmap::{Map, Meter};
 use nutwords::{Name, Value};
 use std::alloc::{AllocError, Global};
 use std::marker::Model;
 
-/// What a driver has told of its UPS: at most 4,096 variables and 1,024 commands, by their names.
+/// What a driver has reported of its UPS: at most 4,096 variables and 1,024 commands, by their names.
 ///
-/// A version that is shared keeps what it has whatever the driver tells later. Contracts see the entries of the
+/// A version that is shared keeps what it has whatever the driver reports later. Contracts see the entries of the
 /// variables and the names of the commands, both in the order of the names.
 #[derive(Drop)]
 pub struct Tree {
@@ -40,7 +42,7 @@ impl Model for Tree {
 }
 
 impl Tree {
-    /// The tree of which nothing was told. Takes no memory.
+    /// The tree of which nothing was reported. Takes no memory.
     pub fn new(alloc: Global) -> Tree
         ensures { result ≡ empty_tree }
     {
@@ -94,7 +96,8 @@ impl Tree {
 
     /// Does what the line says.
     ///
-    /// The nodes that it makes are counted by `meter`, at most `most_nodes` of the entries before.
+    /// The nodes that it makes are counted by `meter`, at most `most_nodes` of the entries before, and at least one where
+    /// the line puts an entry.
     ///
     /// # Errors
     ///
@@ -107,17 +110,18 @@ impl Tree {
         ensures memory { IfErr result (λ fault. fault ≡ DriverFault.Memory → IsTrue (changes_tree self.old line.now)) }
         ensures not_less { meter.old ≤ meter.new }
         ensures most { meter.new ≤ meter.old + most_nodes (entries_before self.old line.now) }
+        ensures counted { IsTrue (puts_entry line.now) → CountsChange result meter.old meter.new }
     {
         match line {
             DriverLine::Blank => Ok(Effect::Nothing),
             DriverLine::SetInfo(name, value) => self.set_info(name, value, meter),
             DriverLine::DelInfo(name) => self.delete_info(name, meter),
-            DriverLine::AddEnum(name, value) => self.add_enum(name, value, meter),
-            DriverLine::DelEnum(name, value) => self.delete_enum(name, value, meter),
-            DriverLine::AddRange(name, range) => self.add_range(name, *range, meter),
-            DriverLine::DelRange(name, range) => self.delete_range(name, *range, meter),
-            DriverLine::SetAux(name, aux) => self.set_aux(name, *aux, meter),
-            DriverLine::SetFlags(name, flags) => self.set_flags(name, *flags, meter),
+            DriverLine::AddEnum(name, _)
+            | DriverLine::DelEnum(name, _)
+            | DriverLine::AddRange(name, _)
+            | DriverLine::DelRange(name, _)
+            | DriverLine::SetAux(name, _)
+            | DriverLine::SetFlags(name, _) => self.change_variable(name, line, meter),
             DriverLine::AddCmd(name) => self.add_command(name, meter),
             DriverLine::DelCmd(name) => self.delete_command(name, meter),
             DriverLine::DumpDone => Ok(Effect::DumpDone),
@@ -138,7 +142,9 @@ impl Tree {
         ensures step { AnswersStep (Ok (with_variable self.old name.now variable, Effect.Changed)) self.old result self.new }
         ensures not_less { meter.old ≤ meter.new }
         ensures most { meter.new ≤ meter.old + most_nodes (length self.old.variables) }
+        ensures counted { OnOk result (counted_up meter.old ≤ meter.new) }
     {
+        changes_count_one_entry::<Name, Variable>();
         let Ok(name) = copied(name) else {
             return Err(DriverFault::Memory);
         };
@@ -160,6 +166,7 @@ impl Tree {
         ensures err { IfErr change (λ fault. (result ≡ Err fault) × (self.new ≡ self.old)) }
         ensures not_less { meter.old ≤ meter.new }
         ensures most { meter.new ≤ meter.old + most_nodes (length self.old.variables) }
+        ensures counted { CountsChange result meter.old meter.new }
     {
         match change {
             Ok(Some(variable)) => self.put(name, variable, meter),
@@ -178,6 +185,7 @@ impl Tree {
         ensures step { AnswersStep (driver_step self.old (SetInfo name.now value.now)) self.old result self.new }
         ensures not_less { meter.old ≤ meter.new }
         ensures most { meter.new ≤ meter.old + most_nodes (length self.old.variables) }
+        ensures counted { CountsChange result meter.old meter.new }
     {
         if let Some(variable) = self.get(name) {
             let change = variable.with_value(value);
@@ -199,112 +207,30 @@ impl Tree {
         if self.get(name).is_none() {
             return Err(DriverFault::NoSuchVar);
         }
+        changes_count_one_entry::<Name, Variable>();
         let Ok(_) = self.variables.remove(name, meter) else {
             return Err(DriverFault::Memory);
         };
         Ok(Effect::Changed)
     }
 
-    /// Adds an enum value of a variable as the last.
-    fn add_enum(
+    /// Does what the line says of a variable that has to be there.
+    fn change_variable(
         &mut self,
         name: &Name,
-        value: &Value,
+        line: &DriverLine,
         meter: &mut Meter,
     ) -> Result<Effect, DriverFault>
-        ensures step { AnswersStep (driver_step self.old (AddEnum name.now value.now)) self.old result self.new }
+        requires { driver_step self.old line.now ≡ on_variable self.old name.now (variable_step line.now) }
+        ensures step { AnswersStep (driver_step self.old line.now) self.old result self.new }
         ensures not_less { meter.old ≤ meter.new }
         ensures most { meter.new ≤ meter.old + most_nodes (length self.old.variables) }
+        ensures counted { CountsChange result meter.old meter.new }
     {
         let Some(variable) = self.get(name) else {
             return Err(DriverFault::NoSuchVar);
         };
-        let change = variable.add_enum(value);
-        self.put_back(name, change, meter)
-    }
-
-    /// Takes an enum value of a variable out.
-    fn delete_enum(
-        &mut self,
-        name: &Name,
-        value: &Value,
-        meter: &mut Meter,
-    ) -> Result<Effect, DriverFault>
-        ensures step { AnswersStep (driver_step self.old (DelEnum name.now value.now)) self.old result self.new }
-        ensures not_less { meter.old ≤ meter.new }
-        ensures most { meter.new ≤ meter.old + most_nodes (length self.old.variables) }
-    {
-        let Some(variable) = self.get(name) else {
-            return Err(DriverFault::NoSuchVar);
-        };
-        let change = variable.delete_enum(value);
-        self.put_back(name, change, meter)
-    }
-
-    /// Adds a range of a variable as the last.
-    fn add_range(
-        &mut self,
-        name: &Name,
-        range: Range,
-        meter: &mut Meter,
-    ) -> Result<Effect, DriverFault>
-        ensures step { AnswersStep (driver_step self.old (AddRange name.now range)) self.old result self.new }
-        ensures not_less { meter.old ≤ meter.new }
-        ensures most { meter.new ≤ meter.old + most_nodes (length self.old.variables) }
-    {
-        let Some(variable) = self.get(name) else {
-            return Err(DriverFault::NoSuchVar);
-        };
-        let change = variable.add_range(range);
-        self.put_back(name, change, meter)
-    }
-
-    /// Takes a range of a variable out.
-    fn delete_range(
-        &mut self,
-        name: &Name,
-        range: Range,
-        meter: &mut Meter,
-    ) -> Result<Effect, DriverFault>
-        ensures step { AnswersStep (driver_step self.old (DelRange name.now range)) self.old result self.new }
-        ensures not_less { meter.old ≤ meter.new }
-        ensures most { meter.new ≤ meter.old + most_nodes (length self.old.variables) }
-    {
-        let Some(variable) = self.get(name) else {
-            return Err(DriverFault::NoSuchVar);
-        };
-        let change = variable.delete_range(range);
-        self.put_back(name, change, meter)
-    }
-
-    /// Sets the aux of a variable.
-    fn set_aux(&mut self, name: &Name, aux: u32, meter: &mut Meter) -> Result<Effect, DriverFault>
-        ensures step { AnswersStep (driver_step self.old (SetAux name.now aux)) self.old result self.new }
-        ensures not_less { meter.old ≤ meter.new }
-        ensures most { meter.new ≤ meter.old + most_nodes (length self.old.variables) }
-    {
-        let Some(variable) = self.get(name) else {
-            return Err(DriverFault::NoSuchVar);
-        };
-        let change = variable.with_aux(aux);
-        self.put_back(name, change, meter)
-    }
-
-    /// Gives a variable exactly these flags.
-    fn set_flags(
-        &mut self,
-        name: &Name,
-        flags: Flags,
-        meter: &mut Meter,
-    ) -> Result<Effect, DriverFault>
-        ensures step { AnswersStep (driver_step self.old (SetFlags name.now flags)) self.old result self.new }
-        ensures not_less { meter.old ≤ meter.new }
-        ensures most { meter.new ≤ meter.old + most_nodes (length self.old.variables) }
-    {
-        let Some(variable) = self.get(name) else {
-            return Err(DriverFault::NoSuchVar);
-        };
-        let change = variable.with_flags(flags);
+        let change = variable.after(line);
         self.put_back(name, change, meter)
     }
 
@@ -313,6 +239,7 @@ impl Tree {
         ensures step { AnswersStep (driver_step self.old (AddCmd name.now)) self.old result self.new }
         ensures not_less { meter.old ≤ meter.new }
         ensures most { meter.new ≤ meter.old + most_nodes (length self.old.commands) }
+        ensures counted { CountsChange result meter.old meter.new }
     {
         if self.has_command(name) {
             return Ok(Effect::Nothing);
@@ -348,7 +275,9 @@ impl Tree {
         ensures step { AnswersStep (Ok (with_command self.old name.now, Effect.Changed)) self.old result self.new }
         ensures not_less { meter.old ≤ meter.new }
         ensures most { meter.new ≤ meter.old + most_nodes (length self.old.commands) }
+        ensures counted { OnOk result (counted_up meter.old ≤ meter.new) }
     {
+        changes_count_one_entry::<Name, ()>();
         let Ok(name) = copied(name) else {
             return Err(DriverFault::Memory);
         };
@@ -364,6 +293,7 @@ impl Tree {
         ensures not_less { meter.old ≤ meter.new }
         ensures most { meter.new ≤ meter.old + most_nodes (length self.old.commands) }
     {
+        changes_count_one_entry::<Name, ()>();
         let Ok(_) = self.commands.remove(name, meter) else {
             return Err(DriverFault::Memory);
         };

@@ -1,10 +1,10 @@
 //! A variable of a UPS.
 ghost use Rattle.std.specs.Prelude.{◌≡◌, ◌≤◌, length, IfOk};
 ghost use Rattle.nutdriver.specs.Variable.{VariableState, new_variable, with_value, with_aux, with_flags, add_enum, delete_enum, add_range, delete_range, has_value, has_range};
-ghost use Rattle.nutdriver.specs.Answers.{AnswersChange};
+ghost use Rattle.nutdriver.specs.Answers.{AnswersChange, variable_step};
 
 use crate::lists::{copied, has_range, has_value, take_range_out, take_value_out};
-use crate::{DriverFault, ENUM_LIMIT, Flags, RANGE_LIMIT, Range};
+use crate::{DriverFault, DriverLine, ENUM_LIMIT, Flags, RANGE_LIMIT, Range};
 use nutwords::Value;
 use std::alloc::{AllocError, Global};
 use std::marker::Model;
@@ -104,6 +104,21 @@ impl Variable {
         })
     }
 
+    /// What becomes of the variable by a line that names it.
+    pub(crate) fn after(&self, line: &DriverLine) -> Change
+        ensures { AnswersChange (variable_step line.now self.now) result }
+    {
+        match line {
+            DriverLine::AddEnum(_, value) => self.add_enum(value),
+            DriverLine::DelEnum(_, value) => self.delete_enum(value),
+            DriverLine::AddRange(_, range) => self.add_range(*range),
+            DriverLine::DelRange(_, range) => self.delete_range(*range),
+            DriverLine::SetAux(_, aux) => self.with_aux(*aux),
+            DriverLine::SetFlags(_, flags) => self.with_flags(*flags),
+            _ => Ok(None),
+        }
+    }
+
     /// The variable with another value.
     pub(crate) fn with_value(&self, value: &Value) -> Change
         ensures { AnswersChange (Ok (Some (with_value value.now self.now))) result }
@@ -118,7 +133,7 @@ impl Variable {
     }
 
     /// The variable with another aux.
-    pub(crate) fn with_aux(&self, aux: u32) -> Change
+    fn with_aux(&self, aux: u32) -> Change
         ensures { AnswersChange (Ok (Some (with_aux aux self.now))) result }
     {
         let Ok(copy) = self.copied() else {
@@ -128,7 +143,7 @@ impl Variable {
     }
 
     /// The variable with exactly these flags.
-    pub(crate) fn with_flags(&self, flags: Flags) -> Change
+    fn with_flags(&self, flags: Flags) -> Change
         ensures { AnswersChange (Ok (Some (with_flags flags self.now))) result }
     {
         let Ok(copy) = self.copied() else {
@@ -138,7 +153,7 @@ impl Variable {
     }
 
     /// The variable with one more enum value, unless it has it.
-    pub(crate) fn add_enum(&self, value: &Value) -> Change
+    fn add_enum(&self, value: &Value) -> Change
         ensures { AnswersChange (add_enum value.now self.now) result }
     {
         if has_value(&self.enum_values, value) {
@@ -160,7 +175,7 @@ impl Variable {
     }
 
     /// The variable without an enum value.
-    pub(crate) fn delete_enum(&self, value: &Value) -> Change
+    fn delete_enum(&self, value: &Value) -> Change
         ensures { AnswersChange (delete_enum value.now self.now) result }
     {
         if !has_value(&self.enum_values, value) {
@@ -174,7 +189,7 @@ impl Variable {
     }
 
     /// The variable with one more range, unless it has it.
-    pub(crate) fn add_range(&self, range: Range) -> Change
+    fn add_range(&self, range: Range) -> Change
         ensures { AnswersChange (add_range range self.now) result }
     {
         if has_range(&self.ranges, range) {
@@ -193,7 +208,7 @@ impl Variable {
     }
 
     /// The variable without a range.
-    pub(crate) fn delete_range(&self, range: Range) -> Change
+    fn delete_range(&self, range: Range) -> Change
         ensures { AnswersChange (delete_range range self.now) result }
     {
         if !has_range(&self.ranges, range) {

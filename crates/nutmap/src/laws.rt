@@ -1,5 +1,5 @@
 //! What the contracts of a map say of it as a finite map. A function with an empty body does nothing: it is its contract.
-ghost use Rattle.std.specs.Prelude.{◌≡◌, ℕ, List, [], ◌∷◌, Option, Some, None, MatchOption, IfOk, OnOk};
+ghost use Rattle.std.specs.Prelude.{◌≡◌, ◌+◌, ℕ, List, [], ◌∷◌, length, Option, Some, None, MatchOption, IfOk, OnOk};
 ghost use Rattle.std.specs.Map.{remove_entry};
 ghost use Rattle.std.specs.BTreeMap.{insert_entry, is_at};
 ghost use Rattle.nutmap.specs.Digits.{digits, most_nodes, IsDigitCount};
@@ -20,6 +20,26 @@ pub fn insert_changes_one_key<K: Ord + Drop, V: Drop>()
 pub fn remove_changes_one_key<K: Ord + Drop, V: Drop>()
     ensures { (map : List (K × V)) (key : K) → HasRisingKeys K.cmp map
         → ChangesOneKey K.cmp map (remove_entry (is_at (K.cmp key)) map) key None }
+{}
+
+/// A change leaves the keys rising.
+pub fn changes_keep_keys_rising<K: Ord + Drop, V: Drop>()
+    ensures inserted { (map : List (K × V)) (key : K) (value : V) → HasRisingKeys K.cmp map
+        → HasRisingKeys K.cmp (insert_entry K.cmp map key value) }
+    ensures removed { (map : List (K × V)) (key : K) → HasRisingKeys K.cmp map
+        → HasRisingKeys K.cmp (remove_entry (is_at (K.cmp key)) map) }
+{}
+
+/// An insert adds one entry where the key is new, and a removal takes one out where the key is there.
+pub fn changes_count_one_entry<K: Ord + Drop, V: Drop>()
+    ensures added { (map : List (K × V)) (key : K) (value : V) → value_at K.cmp map key ≡ None
+        → length (insert_entry K.cmp map key value) ≡ length map + 1 }
+    ensures replaced { (map : List (K × V)) (key : K) (value before : V) → HasRisingKeys K.cmp map
+        → value_at K.cmp map key ≡ Some before → length (insert_entry K.cmp map key value) ≡ length map }
+    ensures taken_out { (map : List (K × V)) (key : K) (before : V) → value_at K.cmp map key ≡ Some before
+        → length (remove_entry (is_at (K.cmp key)) map) + 1 ≡ length map }
+    ensures absent { (map : List (K × V)) (key : K) → value_at K.cmp map key ≡ None
+        → remove_entry (is_at (K.cmp key)) map ≡ map }
 {}
 
 /// The entry after a key is the one with the least key above it, and there is none where no key is above it.

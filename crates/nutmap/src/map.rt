@@ -101,7 +101,7 @@ impl<K: Ord + Drop, V: Drop> Map<K, V> {
 
     /// Sets the value of a key, and answers the earlier value. An equal key that is there stays.
     ///
-    /// The nodes that it makes are counted by `meter`: at least one for a new key, and at most 8 d + 8, where d is
+    /// The nodes that it makes are counted by `meter`: at least one, and at most 8 d + 8, where d is
     /// how many binary digits write one more than the entries before.
     ///
     /// # Errors
@@ -120,7 +120,7 @@ impl<K: Ord + Drop, V: Drop> Map<K, V> {
         ensures rising { HasRisingKeys K.cmp self.old }
         ensures not_less { meter.old ≤ meter.new }
         ensures most { meter.new ≤ meter.old + most_nodes (length self.old) }
-        ensures counted { OnOk result (IsNone (value_at K.cmp self.old key) → counted_up meter.old ≤ meter.new) }
+        ensures counted { OnOk result (counted_up meter.old ≤ meter.new) }
     {
         // What the root says of the entries: their keys rise, and they are enough for its height.
         let _ = height(&self.root);

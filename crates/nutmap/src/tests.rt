@@ -172,6 +172,8 @@ fn drops_without_a_frame_for_each_entry(rt: HostRuntime) -> Result<(), Fail> {
 fn calls_the_laws(rt: HostRuntime) -> Result<(), Fail> {
     laws::insert_changes_one_key::<u32, u32>();
     laws::remove_changes_one_key::<u32, u32>();
+    laws::changes_keep_keys_rising::<u32, u32>();
+    laws::changes_count_one_entry::<u32, u32>();
     laws::after_is_next::<u32, u32>();
     laws::after_walks_the_entries::<u32, u32>();
     laws::digits_are_fewest();

@@ -1,4 +1,3 @@
-mod Cutting
 mod Progress
 mod SectionLemmas
 mod NamesApart

@@ -13,7 +13,7 @@ use Rattle.std.proofs.lemmas.Map.Keys.{IsDistinct-cons, IsDistinct-head, IsDisti
 use Rattle.std.proofs.lemmas.Map.Text.{is_eq-slice_cmp}
 use Rattle.nutusers.specs.ConfigLine.{ConfigLine, silent, malformed, section, setting, upsmon, read_config_line}
 use Rattle.nutusers.specs.File.{AreAccepted}
-use Rattle.nutusers.specs.Names.{byte_order}
+use Rattle.nutwords.specs.NameOrder.{byte_order}
 use Rattle.nutusers.specs.Sections.{sections, with_last_line}
 use Rattle.nutusers.specs.declared.fault.Cause.{Cause}
 use Rattle.nutusers.specs.declared.fault.Cause.TheVariants.{BadName, Duplicate}
@@ -33,7 +33,7 @@ not_there true true fault h = absurd (cc h)
 not_there true false fault h = refl
 not_there false there fault h = absurd (cc h)
 
--- what the sections of a file mean, by name, and why a line is refused behind them
+-- what the sections of a file mean, by name, and why a line is refused after them
 pub record HasNames {A : Type 0} (name_of : A → List ℕ) (of : List ℕ × List ConfigLine → A) (fault : List A → ConfigLine → Option Cause) : Type 0 where
   pub named : (name : List ℕ) (lines : List ConfigLine) → name_of (of (name, lines)) ≡ name
   pub is_new : (all : List A) (name : List ℕ) → fault all (section name) ≡ None → is_some (find (λ a. bytes_eq (name_of a) name) all) ≡ false

@@ -1,8 +1,9 @@
 -- How far a file has been read.
-use Rattle.std.proofs.Common.{◌≡◌, ℕ, ◌+◌, ◌≤◌, List, [], ◌∷◌, ◌++◌, length, reverse, None, refl, sym, ap, ◌∙◌, append_assoc, append-nil, arith, length-append}
+use Rattle.std.proofs.Common.{◌≡◌, ℕ, ◌+◌, ◌≤◌, Bool, true, List, [], ◌∷◌, ◌++◌, length, reverse, None, refl, sym, ap, ◌∙◌, append_assoc, append-nil, arith, length-append}
 use Rattle.std.proofs.lemmas.List.{reverse-append, reverse-reverse, length-reverse}
 use Rattle.nutusers.specs.File.{Format, AreAccepted, IsRefused, Means, verdict_of}
 use Rattle.nutusers.specs.declared.fault.Cause.{Cause}
+use Rattle.nutusers.specs.declared.fault.Cause.TheVariants.{Memory}
 
 -- the first lines are read, all of them are accepted, and the value is what they mean; the others are left
 pub record HasRead (format : Format) {A : Type 0} (meaning : List (List ℕ) → A) (lines left : List (List ℕ)) (number : ℕ) (value : A) : Type 0 where
@@ -37,8 +38,9 @@ module _ {format : Format} {A : Type 0} {meaning : List (List ℕ) → A} {lines
       record { accepted = rw back h.accepted; value_is = rw back h.value_is }
 
   -- the next line is refused
-  pub next_refused : (line : List ℕ) (left : List (List ℕ)) (n : ℕ) (value : A) (cause : Cause) → (h : HasRead format meaning lines (line ∷ left) n value) → format h.earlier line ≡ verdict_of cause → IsRefused format lines (record { line = n + 1; cause = cause })
-  next_refused line left n value cause h why = record { earlier = h.earlier; line = line; later = left; whole = h.whole; accepted = h.accepted; number = ap (λ m. m + 1) h.number_is; here = why }
+  pub next_refused : (adds : List ℕ → Bool) (line : List ℕ) (left : List (List ℕ)) (n : ℕ) (value : A) (cause : Cause) → (h : HasRead format meaning lines (line ∷ left) n value) → format h.earlier line ≡ verdict_of cause
+      → (cause ≡ Memory → adds line ≡ true) → IsRefused format adds lines (record { line = n + 1; cause = cause })
+  next_refused adds line left n value cause h why memory = record { earlier = h.earlier; line = line; later = left; whole = h.whole; accepted = h.accepted; number = ap (λ m. m + 1) h.number_is; here = why; memory = memory }
 
   -- a line that is left is not beyond the last
   pub room : (line : List ℕ) (left : List (List ℕ)) (n : ℕ) (value : A) → HasRead format meaning lines (line ∷ left) n value → n + 1 ≤ length lines

@@ -4,7 +4,8 @@ use Rattle.std.specs.List.{IsDistinct}
 use Rattle.nutusers.specs.ConfigLine.{read_config_line}
 use Rattle.nutwords.specs.Reading.{is_ups_name}
 use Rattle.nutusers.specs.File.{AreAccepted}
-use Rattle.nutusers.specs.UpsFile.{Ups, new_ups, ups_of, upses_of, ups_line_fault, ups_format}
+use Rattle.nutusers.specs.UpsFile.{ups_of, upses_of, ups_line_fault, ups_format}
+use Rattle.nutusers.specs.UpsList.{Ups, new_ups}
 use Rattle.nutusers.proofs.NamesApart.{HasNames, not_there, same_name, accepted_apart}
 use Rattle.nutusers.specs.UpsStep.{with_ups_line, upses_with}
 use Rattle.nutusers.proofs.SectionLemmas.{MeansByLines, sections-line}

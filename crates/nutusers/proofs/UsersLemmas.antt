@@ -6,8 +6,9 @@ use Rattle.nutusers.specs.Rights.{grant_of}
 use Rattle.nutusers.specs.Sections.{value_in}
 use Rattle.nutusers.specs.File.{AreAccepted}
 use Rattle.nutusers.specs.Texts.{is_text_within}
-use Rattle.nutusers.specs.UsersFile.{User, user_of, users_of, user_line_fault, users_format, HaveOneNameEach}
-use Rattle.nutusers.specs.declared.TheConstants.{USER_NAME_LIMIT}
+use Rattle.nutusers.specs.UsersFile.{user_of, users_of, user_line_fault, users_format}
+use Rattle.nutusers.specs.Users.{User, HaveOneNameEach}
+use Rattle.nutusers.specs.declared.limits.TheConstants.{USER_NAME_LIMIT}
 use Rattle.nutusers.proofs.NamesApart.{HasNames, not_there, names_apart, accepted_apart}
 use Rattle.nutusers.specs.UsersStep.{new_user, with_user_line, with_grant, users_with}
 use Rattle.nutusers.specs.declared.rights.Grant.{Grant}

@@ -1,8 +1,9 @@
 -- A line of a file with sections, as upsd.users(5) and ups.conf(5) have them.
-use Rattle.std.specs.Prelude.{ℕ, ◌==◌, List, [], ◌∷◌, codes, Option, None, Some, if◌then◌else◌}
+use Rattle.std.specs.Prelude.{ℕ, Bool, true, false, ◌==◌, List, [], ◌∷◌, codes, Option, None, Some, if◌then◌else◌}
 use Rattle.std.specs.Option.{option_map, option_map_or}
 use Rattle.std.specs.Str.{bytes_eq}
-use Rattle.nutusers.specs.Line.{is_silent, words_in}
+use Rattle.nutwords.specs.Text.{is_silent}
+use Rattle.nutusers.specs.Line.{words_in}
 
 -- silent: it says nothing. section: `[name]`. setting: `key = value`. upsmon: `upsmon role`.
 pub data ConfigLine : Type 0 where
@@ -11,6 +12,14 @@ pub data ConfigLine : Type 0 where
   section : (name : List ℕ) → ConfigLine
   setting : (key : List ℕ) → (value : List ℕ) → ConfigLine
   upsmon : (role : List ℕ) → ConfigLine
+
+-- It begins a section.
+abbrev pub is_section : ConfigLine → Bool
+is_section silent = false
+is_section malformed = false
+is_section (section name) = true
+is_section (setting key value) = false
+is_section (upsmon role) = false
 
 -- The bytes before a closing bracket at the end.
 abbrev pub before_bracket : List ℕ → Option (List ℕ)

@@ -1,13 +1,15 @@
 -- The file of descriptions (NUT's cmdvartab).
-use Rattle.std.specs.Prelude.{ℕ, not, List, [], ◌∷◌, map, codes, is_some, Option, None, Some, if◌then◌else◌}
+use Rattle.std.specs.Prelude.{ℕ, Bool, true, false, not, List, [], ◌∷◌, map, codes, is_some, Option, None, Some, if◌then◌else◌}
 use Rattle.std.specs.BTreeMap.{insert_entry}
 use Rattle.std.specs.Option.{option_map_or}
 use Rattle.std.specs.Str.{bytes_eq}
-use Rattle.nutwords.specs.Reading.{is_name, is_value}
-use Rattle.nutmap.specs.Entries.{value_at}
+use Rattle.nutwords.specs.Reading.{is_name}
+pub use Rattle.nutusers.specs.Descriptions.{Texts, text_at, Descriptions, no_descriptions}
 use Rattle.nutusers.specs.File.{Format, bad_value_unless}
-use Rattle.nutusers.specs.Line.{is_silent, words_in}
-use Rattle.nutusers.specs.Names.{byte_order}
+use Rattle.nutwords.specs.Text.{is_silent}
+use Rattle.nutusers.specs.Line.{words_in}
+use Rattle.nutwords.specs.NameOrder.{byte_order}
+use Rattle.nutusers.specs.Texts.{is_description}
 use Rattle.nutusers.specs.declared.fault.Cause.{Cause}
 use Rattle.nutusers.specs.declared.fault.Cause.TheVariants.{Malformed, BadName, Duplicate, UnknownKey}
 
@@ -28,29 +30,12 @@ table_line_of (kind ∷ name ∷ text ∷ fourth ∷ words) = malformed
 abbrev pub read_table_line : List ℕ → TableLine
 read_table_line line = if is_silent line then silent else option_map_or table_line_of (words_in line) malformed
 
--- The texts of names: a finite map, as its entries in the order of the names.
-abbrev pub Texts : Type 0
-Texts = List (List ℕ × List ℕ)
-
--- The text of this name.
-abbrev pub text_at : Texts → List ℕ → Option (List ℕ)
-text_at texts name = value_at byte_order texts name
-
 -- What the lines of a kind say: each name has its line's text. The lines are listed from the last to the first.
 abbrev pub texts_of : List ℕ → List TableLine → Texts
 texts_of kind [] = []
 texts_of kind (silent ∷ earlier) = texts_of kind earlier
 texts_of kind (malformed ∷ earlier) = texts_of kind earlier
 texts_of kind (entry word name text ∷ earlier) = if bytes_eq word kind then insert_entry byte_order (texts_of kind earlier) name text else texts_of kind earlier
-
--- The descriptions of variables and of commands.
-pub record Descriptions : Type 0 where
-  pub vars : Texts
-  pub cmds : Texts
-
--- Those of no lines.
-abbrev pub no_descriptions : Descriptions
-no_descriptions = record { vars = []; cmds = [] }
 
 -- The descriptions that some lines mean. The lines are listed from the last to the first.
 abbrev pub descriptions_of : List (List ℕ) → Descriptions
@@ -61,9 +46,9 @@ abbrev pub text_fault : Texts → List ℕ → List ℕ → Option Cause
 text_fault texts name text =
     if not (is_name name) then Some BadName
     else if is_some (text_at texts name) then Some Duplicate
-    else bad_value_unless (is_value text)
+    else bad_value_unless (is_description text)
 
--- Why a line is refused behind lines that mean these descriptions.
+-- Why a line is refused after lines that mean these descriptions.
 abbrev pub table_line_fault : Descriptions → TableLine → Option Cause
 table_line_fault descriptions silent = None
 table_line_fault descriptions malformed = Some Malformed
@@ -74,3 +59,12 @@ table_line_fault descriptions (entry kind name text) =
 
 abbrev pub descriptions_format : Format
 descriptions_format earlier line = table_line_fault (descriptions_of earlier) (read_table_line line)
+
+-- The lines that add a text.
+abbrev pub is_entry : TableLine → Bool
+is_entry silent = false
+is_entry malformed = false
+is_entry (entry kind name text) = true
+
+abbrev pub adds_text : List ℕ → Bool
+adds_text line = is_entry (read_table_line line)

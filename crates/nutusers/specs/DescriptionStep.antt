@@ -3,8 +3,9 @@ use Rattle.std.specs.Prelude.{ℕ, List, codes, if◌then◌else◌}
 use Rattle.std.specs.BTreeMap.{insert_entry}
 use Rattle.std.specs.Str.{bytes_eq}
 use Rattle.nutwords.specs.Word.{bytes_of}
-use Rattle.nutusers.specs.DescriptionFile.{TableLine, silent, malformed, entry, Texts, Descriptions}
-use Rattle.nutusers.specs.Names.{byte_order}
+use Rattle.nutusers.specs.DescriptionFile.{TableLine, silent, malformed, entry}
+use Rattle.nutusers.specs.Descriptions.{Texts, Descriptions}
+use Rattle.nutwords.specs.NameOrder.{byte_order}
 use Rattle.nutusers.specs.declared.table_line.TableLine.{TableLine as Given}
 use Rattle.nutusers.specs.declared.table_line.TableLine.TheVariants.{Silent, Malformed, Entry}
 

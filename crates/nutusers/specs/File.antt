@@ -1,34 +1,24 @@
--- A file as the list of its lines, and which of them is refused.
-use Rattle.std.specs.Prelude.{◌≡◌, ℕ, ◌+◌, Bool, ◌==◌, List, [], ◌∷◌, ◌++◌, length, reverse, Option, None, Some, if◌then◌else◌}
+-- A file as the list of its lines, and which of them is refused. The lines are those of the whole text.
+use Rattle.std.specs.Prelude.{◌≡◌, ℕ, ◌+◌, Bool, true, List, [], ◌∷◌, ◌++◌, length, reverse, Option, None, Some, if◌then◌else◌}
 use Rattle.nutusers.specs.declared.fault.Cause.{Cause}
 use Rattle.nutusers.specs.declared.fault.Cause.TheVariants.{Malformed, OutsideSection, BadName, Duplicate, UnknownKey, BadValue, Memory}
 use Rattle.nutusers.specs.declared.fault.ConfFault.{ConfFault}
 
 -- A cause's number.
-abbrev pub number_of : Cause → ℕ
-number_of Malformed = 1
-number_of OutsideSection = 2
-number_of BadName = 3
-number_of Duplicate = 4
-number_of UnknownKey = 5
-number_of BadValue = 6
-number_of Memory = 7
+abbrev pub number_of_cause : Cause → ℕ
+number_of_cause Malformed = 1
+number_of_cause OutsideSection = 2
+number_of_cause BadName = 3
+number_of_cause Duplicate = 4
+number_of_cause UnknownKey = 5
+number_of_cause BadValue = 6
+number_of_cause Memory = 7
 
--- A byte more in front of the first line.
-abbrev pub with_byte : ℕ → List (List ℕ) → List (List ℕ)
-with_byte b [] = (b ∷ []) ∷ []
-with_byte b (line ∷ lines) = (b ∷ line) ∷ lines
-
--- The lines of a file, each ended by LF, the last one with or without it.
-abbrev pub lines_of : List ℕ → List (List ℕ)
-lines_of [] = []
-lines_of (b ∷ bytes) = if b == 10 then [] ∷ lines_of bytes else with_byte b (lines_of bytes)
-
--- What a format says of a line that stands behind earlier ones: why it is refused, if it is. The earlier lines are listed from the last to the first, here and below.
+-- What a format says of a line that stands after earlier ones: why it is refused, if it is. The earlier lines are listed from the last to the first, here and below.
 abbrev pub Format : Type 0
 Format = List (List ℕ) → List ℕ → Option Cause
 
--- Each of the lines, listed from the last to the first, is accepted behind those before it.
+-- Each of the lines, listed from the last to the first, is accepted after those before it.
 abbrev pub AreAccepted : Format → List (List ℕ) → Type 0
 AreAccepted format [] = Unit {0}
 AreAccepted format (line ∷ earlier) = (format earlier line ≡ None) × AreAccepted format earlier
@@ -42,8 +32,8 @@ verdict_of cause = Some cause
 abbrev pub bad_value_unless : Bool → Option Cause
 bad_value_unless lawful = if lawful then None else Some BadValue
 
--- The file is refused at the first line that the format refuses, and for its cause; or memory was refused while a line was read, and it and all before it are accepted.
-pub record IsRefused (format : Format) (lines : List (List ℕ)) (fault : ConfFault) : Type 0 where
+-- The file is refused at the first line that the format refuses, and for its cause; or out of memory at a line that adds something, which is accepted, as all before it are.
+pub record IsRefused (format : Format) (adds : List ℕ → Bool) (lines : List (List ℕ)) (fault : ConfFault) : Type 0 where
   pub earlier : List (List ℕ)
   pub line : List ℕ
   pub later : List (List ℕ)
@@ -51,6 +41,7 @@ pub record IsRefused (format : Format) (lines : List (List ℕ)) (fault : ConfFa
   pub accepted : AreAccepted format earlier
   pub number : fault.line ≡ length earlier + 1
   pub here : format earlier line ≡ verdict_of fault.cause
+  pub memory : fault.cause ≡ Memory → adds line ≡ true
 
 -- The file means this: each of its lines is accepted, and this is the meaning of them all.
 pub record Means (format : Format) {A : Type 0} (meaning : List (List ℕ) → A) (lines : List (List ℕ)) (value : A) : Type 0 where

@@ -1,5 +1,5 @@
 pub mod Texts
-pub mod Names
+pub mod Credentials
 pub mod Line
 pub mod File
 pub mod ConfigLine
@@ -7,10 +7,13 @@ pub mod ReadConfigLine
 pub mod Sections
 pub mod SectionsStep
 pub mod Rights
+pub mod Users
 pub mod UsersFile
 pub mod UsersStep
+pub mod UpsList
 pub mod UpsFile
 pub mod UpsStep
+pub mod Descriptions
 pub mod DescriptionFile
 pub mod DescriptionStep
 pub mod FirstRefusal

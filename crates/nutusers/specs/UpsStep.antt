@@ -4,7 +4,7 @@ use Rattle.std.specs.Option.{option_or}
 use Rattle.nutusers.specs.ConfigLine.{ConfigLine}
 use Rattle.nutusers.specs.Sections.{value_of}
 use Rattle.nutusers.specs.SectionsStep.{sections_with}
-use Rattle.nutusers.specs.UpsFile.{Ups, new_ups}
+use Rattle.nutusers.specs.UpsList.{Ups, new_ups}
 
 -- the UPS with a line more
 abbrev pub with_ups_line : ConfigLine → Ups → Ups

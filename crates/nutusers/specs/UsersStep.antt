@@ -5,7 +5,7 @@ use Rattle.nutusers.specs.ConfigLine.{ConfigLine}
 use Rattle.nutusers.specs.Rights.{grant_of}
 use Rattle.nutusers.specs.Sections.{value_of}
 use Rattle.nutusers.specs.SectionsStep.{sections_with}
-use Rattle.nutusers.specs.UsersFile.{User}
+use Rattle.nutusers.specs.Users.{User}
 use Rattle.nutusers.specs.declared.rights.Grant.{Grant}
 
 abbrev pub new_user : List ℕ → User

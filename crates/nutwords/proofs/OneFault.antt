@@ -6,7 +6,7 @@ use Rattle.std.proofs.lemmas.List.{take-append-drop}
 use Rattle.nutwords.specs.Bytes.{is_lawful, is_bare, is_quotable}
 use Rattle.nutwords.specs.Grammar.{Units, none, itself, escaped, IsBareWord, IsQuotedWord, Spells, bare, quoted, WordEndsBefore, Reads, end, blank, word, ReadsToBoundary, nothing, before_blank}
 use Rattle.nutwords.specs.Fault.{Begins, IsFirstBad, EndsIn, EndsInBareWord, EndsInQuotedWord, EndsInOpenQuote, EndsInBareBackslash, EndsInQuotedBackslash, IsByteFault, control, quote_inside, after_quote, IsEndFault, bare_backslash, quoted_backslash, open_quote, IsFault, at_byte, at_end}
-use Rattle.nutwords.specs.Scan.{class_of, step, finish}
+use Rattle.nutwords.specs.Scan.{class_of, step, finish, read_line}
 use Rattle.nutwords.specs.declared.faults.BadLine.{BadLine}
 use Rattle.nutwords.specs.declared.scan.Class.{Class}
 use Rattle.nutwords.specs.declared.scan.Class.TheVariants.{Blank, Quote, Backslash, Other, Control}
@@ -14,7 +14,8 @@ use Rattle.nutwords.specs.declared.scan.Place.{Place}
 use Rattle.nutwords.specs.declared.scan.Place.TheVariants.{Between, Bare, BareEscape, Quoted, QuotedEscape, Closed}
 use Rattle.nutwords.proofs.Classes.{class_of-blank, class_of-bare, quotable_kinds, not_control}
 use Rattle.nutwords.proofs.Stands.{Begins-front}
-use Rattle.nutwords.proofs.FaultLemmas.{At, At-start, At-step, At-fault, At-end}
+use Rattle.nutwords.proofs.FaultLemmas.{At, At-start, At-step, At-fault, At-stuck, At-end, FaultOf, IsFault-no_words}
+use Rattle.nutwords.proofs.Complete.{read_line-complete}
 
 -- the bytes lead the scan from one place to another
 data Leads : Place → List ℕ → Place → Type 0 where
@@ -191,22 +192,67 @@ IsFault-one line e f (at_byte p s x) (at_end b n y) = absurd (begins_all line p 
 IsFault-one line e f (at_end b n x) (at_byte q t y) = absurd (begins_all line q b t)
 IsFault-one line e f (at_end b n x) (at_end b' n' y) = IsEndFault-one line e f x y
 
--- what the line is, as it is scanned to its end
+-- what the line is, as it is scanned to its end, and what is computed for it
+abbrev pub Computed : List ℕ → Type 0
+Computed line = ((words : List (List ℕ)) × Reads line words) ⊎ ((fault : BadLine) × FaultOf line fault)
+
+computed_at_end : (place : Place) (line : List ℕ) → At place line → Computed line
+computed_at_end place line a = go (finish place) refl (At-end place line a)
+  where
+    go : (r : Result (List (List ℕ)) BadLine) → finish place ≡ r → MatchResult r (λ _. (ws : List (List ℕ)) × Reads line ws) (λ e. IsFault line e) → Computed line
+    go (Ok x) h m = inl m
+    go (Err e) h m = inr (e, (m, ap read_line (sym (append-nil line)) ∙ a.leads [] e h))
+
+computed_from : (rest : List ℕ) (place : Place) (front : List ℕ) → At place front → Computed (front ++ rest)
+computed_from [] place front a = subst Computed (sym (append-nil front)) (computed_at_end place front a)
+computed_from (b ∷ rest) place front a = go (λ next at. computed_from rest next (front ++ b ∷ []) at) (step place (class_of b)) refl
+  where
+    go : ((next : Place) → At next (front ++ b ∷ []) → Computed ((front ++ b ∷ []) ++ rest)) → (r : Result Place BadLine) → step place (class_of b) ≡ r → Computed (front ++ b ∷ rest)
+    go goes_on (Ok next) h = subst Computed (append_assoc front (b ∷ []) rest) (goes_on next (At-step place next front b a h))
+    go goes_on (Err e) h = inr (e, (At-fault place front b rest e a h, At-stuck place front b e rest a h))
+
+pub computed : (line : List ℕ) → Computed line
+computed line = computed_from line Between [] At-start
+
+-- A line has words or a fault.
 abbrev pub Meaning : List ℕ → Type 0
 Meaning line = ((words : List (List ℕ)) × Reads line words) ⊎ ((fault : BadLine) × IsFault line fault)
 
-meaning_at_end : (r : Result (List (List ℕ)) BadLine) (line : List ℕ) → MatchResult r (λ _. (ws : List (List ℕ)) × Reads line ws) (λ e. IsFault line e) → Meaning line
-meaning_at_end (Ok x) line h = inl h
-meaning_at_end (Err e) line h = inr (e, h)
-
-meaning_from : (rest : List ℕ) (place : Place) (front : List ℕ) → At place front → Meaning (front ++ rest)
-meaning_from [] place front a = subst Meaning (sym (append-nil front)) (meaning_at_end (finish place) front (At-end place front a))
-meaning_from (b ∷ rest) place front a = go (λ next at. meaning_from rest next (front ++ b ∷ []) at) (step place (class_of b)) refl
-  where
-    go : ((next : Place) → At next (front ++ b ∷ []) → Meaning ((front ++ b ∷ []) ++ rest)) → (r : Result Place BadLine) → step place (class_of b) ≡ r → Meaning (front ++ b ∷ rest)
-    go goes_on (Ok next) h = subst Meaning (append_assoc front (b ∷ []) rest) (goes_on next (At-step place next front b a h))
-    go goes_on (Err e) h = inr (e, At-fault place front b rest e a h)
-
--- A line has words or a fault.
 pub words_or_fault : (line : List ℕ) → Meaning line
-words_or_fault line = meaning_from line Between [] At-start
+words_or_fault line = go (computed line)
+  where
+    go : Computed line → Meaning line
+    go (inl w) = inl w
+    go (inr f) = inr (f.0, f.1.0)
+
+-- What is computed is the words of the grammar.
+same_words : (r : Result (List (List ℕ)) BadLine) (words others : List (List ℕ)) → r ≡ Ok words → r ≡ Ok others → words ≡ others
+same_words r words others h k = let e : Ok words ≡ Ok others = sym h ∙ k in cc
+
+not_both : {A : Type 0} (r : Result (List (List ℕ)) BadLine) (words : List (List ℕ)) (e : BadLine) → r ≡ Ok words → r ≡ Err e → A
+not_both r words e h k = let bad : Ok words ≡ Err e = sym h ∙ k in cc
+
+same_fault : (r : Result (List (List ℕ)) BadLine) (e f : BadLine) → r ≡ Err e → r ≡ Err f → e ≡ f
+same_fault r e f h k = let same : Err e ≡ Err f = sym h ∙ k in cc
+
+pub computed-words : (line : List ℕ) (words : List (List ℕ)) → read_line line ≡ Ok words → Reads line words
+computed-words line words h = go (computed line)
+  where
+    go : Computed line → Reads line words
+    go (inl w) = subst (λ ws. Reads line ws) (same_words (read_line line) w.0 words (read_line-complete line w.0 w.1) h) w.1
+    go (inr f) = not_both (read_line line) words f.0 h f.1.1
+
+-- and its fault
+pub computed-fault : (line : List ℕ) (fault : BadLine) → read_line line ≡ Err fault → IsFault line fault
+computed-fault line fault h = go (computed line)
+  where
+    go : Computed line → IsFault line fault
+    go (inl w) = not_both (read_line line) w.0 fault (read_line-complete line w.0 w.1) h
+    go (inr f) = subst (λ e. IsFault line e) (same_fault (read_line line) f.0 fault f.1.1 h) f.1.0
+
+pub fault-computed : (line : List ℕ) (fault : BadLine) → IsFault line fault → read_line line ≡ Err fault
+fault-computed line fault h = go (computed line)
+  where
+    go : Computed line → read_line line ≡ Err fault
+    go (inl w) = absurd (IsFault-no_words line fault h w.0 w.1)
+    go (inr f) = f.1.1 ∙ ap (λ e. Err e) (IsFault-one line fault f.0 h f.1.0)

@@ -9,7 +9,7 @@ use Rattle.nutwords.specs.Lines.{Tail, Unfinished, Overlong, IsCutInto, line, un
 use Rattle.nutwords.specs.declared.limits.TheConstants.{LINE_ROOM}
 use Rattle.nutwords.proofs.Lines.{split_line-other, split_line-append, none-of_map, with_byte, with_front}
 
-some_none : {A : Type 0} {x : A} → Some x ≡ None → ⊥
+pub some_none : {A : Type 0} {x : A} → Some x ≡ None → ⊥
 some_none h = cc
 
 -- the parts of a split that is known in two ways
@@ -21,17 +21,17 @@ rest_of : Option (List ℕ × List ℕ) → List ℕ
 rest_of None = []
 rest_of (Some s) = s.1
 
-parts : (a b c d : List ℕ) → ◌≡◌ {A = Option (List ℕ × List ℕ)} (Some (a, b)) (Some (c, d)) → (a ≡ c) × (b ≡ d)
+pub parts : (a b c d : List ℕ) → ◌≡◌ {A = Option (List ℕ × List ℕ)} (Some (a, b)) (Some (c, d)) → (a ≡ c) × (b ≡ d)
 unfolding front_of rest_of
 parts a b c d h = (ap front_of h, ap rest_of h)
 
 -- what a byte more before the first line leaves
-with_byte-some : (x : ℕ) (o : Option (List ℕ × List ℕ)) (first rest : List ℕ) → with_byte x o ≡ Some (first, rest) → (more : List ℕ) × (o ≡ Some (more, rest)) × (first ≡ x ∷ more)
+pub with_byte-some : (x : ℕ) (o : Option (List ℕ × List ℕ)) (first rest : List ℕ) → with_byte x o ≡ Some (first, rest) → (more : List ℕ) × (o ≡ Some (more, rest)) × (first ≡ x ∷ more)
 with_byte-some x None first rest h = absurd (some_none (sym h))
 with_byte-some x (Some s) first rest h = let p = parts (x ∷ s.0) s.1 first rest h in (s.0, ap (λ r. Some (s.0, r)) p.1, sym p.0)
 
 -- the first byte of a text is an LF, or another byte of its first line
-at_lf : (x : ℕ) (text : List ℕ) → eqb x 10 ≡ true → split_line (x ∷ text) ≡ Some ([], text)
+pub at_lf : (x : ℕ) (text : List ℕ) → eqb x 10 ≡ true → split_line (x ∷ text) ≡ Some ([], text)
 at_lf x text h = rw h
 
 -- The bytes are the first line, its LF and the rest.

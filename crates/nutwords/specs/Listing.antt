@@ -1,10 +1,11 @@
 -- What is written as a listing is read back.
-use Rattle.std.specs.Prelude.{◌≡◌, ℕ, ◌<◌, ◌≤◌, List, [], ◌∷◌, ◌++◌, length, IsTrue, codes}
-use Rattle.std.specs.List.{list_all, AllZip}
+use Rattle.std.specs.Prelude.{◌≡◌, ℕ, ◌<◌, ◌≤◌, List, [], ◌∷◌, ◌++◌, length, IsTrue, codes, map}
+use Rattle.std.specs.List.{list_all, concat, AllZip}
 use Rattle.nutwords.specs.Bytes.{is_lawful, is_bare}
 use Rattle.nutwords.specs.Grammar.{Reads}
 use Rattle.nutwords.specs.Spelling.{quoted}
-use Rattle.nutwords.specs.Frame.{line_of, frame}
+use Rattle.nutwords.specs.Frame.{line_of, begin_line, frame_lines, frame}
+use Rattle.nutwords.specs.Text.{with_lf}
 use Rattle.nutwords.specs.Lines.{IsCutInto, Unfinished}
 use Rattle.nutwords.specs.declared.limits.TheConstants.{LINE_ROOM}
 
@@ -26,9 +27,21 @@ ReadsAsLines text rows = (lines : List (List ℕ)) × IsCutInto text lines (Unfi
 abbrev pub listing_words : List (List ℕ) → List (List (List ℕ)) → List (List (List ℕ))
 listing_words asked rows = (codes "BEGIN" ∷ codes "LIST" ∷ asked) ∷ (rows ++ (codes "END" ∷ codes "LIST" ∷ asked) ∷ [])
 
--- The text of a listing reads as BEGIN and what was asked for, the items' words in their order, END and what was asked for (RFC 9271: LIST).
+-- These lines, each with its LF, are the lines that a reader cuts off their text, and they read as these words, line by line.
+abbrev pub ReadsLineByLine : List (List ℕ) → List (List (List ℕ)) → Type 0
+ReadsLineByLine wholes rows = (lines : List (List ℕ)) × (wholes ≡ map with_lf lines) × IsCutInto (concat wholes) lines (Unfinished []) × AllZip Reads lines rows
+
+-- What a listing of these items needs to be read back: each word is written so, and each line fits.
+abbrev pub IsWrittenListing : List ℕ → List (List ℕ) → List (List (List ℕ)) → List (List ℕ) → List (List (List ℕ)) → Type 0
+IsWrittenListing kind names items asked rows = AllZip IsWritten (kind ∷ names) asked × (length (begin_line kind names) ≤ LINE_ROOM) × AllZip IsWrittenLine items rows
+
+-- The lines of a listing are those that a reader cuts off its text, and they read as BEGIN and what was asked for, the items' words in their order, END and what was asked for (RFC 9271: LIST).
+abbrev pub LinesAreReadBack : Type 0
+LinesAreReadBack = (kind : List ℕ) (names asked : List (List ℕ)) (items rows : List (List (List ℕ))) → IsWrittenListing kind names items asked rows → ReadsLineByLine (frame_lines kind names items) (listing_words asked rows)
+
+-- So its text reads as those words.
 abbrev pub ListingIsReadBack : Type 0
-ListingIsReadBack = (kind : List ℕ) (names asked : List (List ℕ)) (items rows : List (List (List ℕ))) → AllZip IsWritten (kind ∷ names) asked → length (line_of (codes "BEGIN" ∷ codes "LIST" ∷ kind ∷ names)) ≤ LINE_ROOM → AllZip IsWrittenLine items rows → ReadsAsLines (frame kind names items) (listing_words asked rows)
+ListingIsReadBack = (kind : List ℕ) (names asked : List (List ℕ)) (items rows : List (List (List ℕ))) → AllZip IsWritten (kind ∷ names) asked → length (begin_line kind names) ≤ LINE_ROOM → AllZip IsWrittenLine items rows → ReadsAsLines (frame kind names items) (listing_words asked rows)
 
 -- A text of whole lines reads as one list of words a line.
 abbrev pub OneReading : Type 0

@@ -1,7 +1,8 @@
 -- That a line has one meaning: the words of the grammar, or a fault.
-use Rattle.std.specs.Prelude.{◌≡◌, ◌⊎◌, ℕ, List}
+use Rattle.std.specs.Prelude.{◌≡◌, ◌⊎◌, ◌↔◌, ℕ, List, Ok, Err}
 use Rattle.nutwords.specs.Grammar.{Reads}
 use Rattle.nutwords.specs.Fault.{IsFault}
+use Rattle.nutwords.specs.Scan.{read_line}
 use Rattle.nutwords.specs.declared.faults.BadLine.{BadLine}
 
 -- Each line reads as some words or has a fault.
@@ -19,3 +20,10 @@ OneListOfWords = (line : List ℕ) (words others : List (List ℕ)) → Reads li
 -- A line has one fault at most.
 abbrev pub OneFault : Type 0
 OneFault = (line : List ℕ) (fault other : BadLine) → IsFault line fault → IsFault line other → other ≡ fault
+
+-- What is computed for a line is the words that it reads as, or its fault.
+abbrev pub ReadLineIsTheGrammar : Type 0
+ReadLineIsTheGrammar = (line : List ℕ) (words : List (List ℕ)) → (read_line line ≡ Ok words) ↔ Reads line words
+
+abbrev pub ReadLineIsTheFault : Type 0
+ReadLineIsTheFault = (line : List ℕ) (fault : BadLine) → (read_line line ≡ Err fault) ↔ IsFault line fault

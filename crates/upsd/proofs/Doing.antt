@@ -7,7 +7,7 @@ use Rattle.std.proofs.lemmas.List.{take_more, take_all}
 use Rattle.std.proofs.lemmas.Option.{slice_get_within, get_or_from_slice_get}
 use Rattle.std.proofs.lemmas.Grind.{common_steps}
 use Rattle.upsd.specs.declared.script.ScriptLine.{ScriptLine}
-use Rattle.nutusers.specs.UpsFile.{Ups}
+use Rattle.nutusers.specs.UpsList.{Ups}
 use Rattle.upsd.specs.Transcript.{Told, IsDone, AreDone, named_part, driver_part}
 
 -- one more line is done

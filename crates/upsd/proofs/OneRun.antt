@@ -5,10 +5,10 @@ use Rattle.std.proofs.lemmas.Grind.{common_steps}
 use Rattle.std.proofs.lemmas.Bool.{eqb-true}
 use Rattle.nutusers.specs.declared.ups_list.UpsId.{UpsId}
 use Rattle.nutcore.specs.declared.event.Event.{Event}
-use Rattle.nutcore.specs.declared.event.Event.TheVariants.{DriverUp, DriverBytes, DriverDown, Open, Feed, Took, Close}
-use Rattle.nutusers.specs.UpsFile.{Ups}
-use Rattle.nutusers.specs.UsersFile.{User}
-use Rattle.nutusers.specs.DescriptionFile.{Descriptions}
+use Rattle.nutcore.specs.declared.event.Event.TheVariants.{DriverUp, DriverBytes, DriverTook, DriverDown, Tick, Open, Feed, Took, Close}
+use Rattle.nutusers.specs.UpsList.{Ups}
+use Rattle.nutusers.specs.Users.{User}
+use Rattle.nutusers.specs.Descriptions.{Descriptions}
 use Rattle.nutcore.specs.Server.{ServerState, session, new_server}
 use Rattle.nutcore.specs.Headline.{IsLawful, WhatWasSentAndIsOwedIsTheAnswers}
 use Rattle.nutcore.specs.Pump.{owed_of}
@@ -56,7 +56,9 @@ sent_by : (c : ℕ) (s : ServerState) (e : Event) → sent_to c (taken_by s e) �
 unfolding taken_in_event
 sent_by c s (DriverUp u) = refl
 sent_by c s (DriverBytes u piece) = refl
+sent_by c s (DriverTook u n) = refl
 sent_by c s (DriverDown u) = refl
+sent_by c s (Tick seconds) = refl
 sent_by c s (Open address) = refl
 sent_by c s (Feed d piece) = refl
 sent_by c s (Took d n) = append-nil (if eqb d c then taken_in_event d s (Took d n) else []) ∙ took_if c d n s (eqb d c) refl
@@ -115,6 +117,7 @@ unfolding IsDone
 line_runs line (asked.DriverUp name) old new h = once_to_runs (ups_named name old) line (λ u. DriverUp u) old new h
 line_runs line (asked.DriverBytes name piece) old new h = once_to_runs (ups_named name old) line (λ u. DriverBytes u piece) old new h
 line_runs line (asked.DriverDown name) old new h = once_to_runs (ups_named name old) line (λ u. DriverDown u) old new h
+line_runs line (asked.Tick seconds) old new h = once_runs line (Tick seconds) old new h
 line_runs line (asked.Open address) old new h = once_runs line (Open address) old new h
 line_runs line (asked.Feed c piece) old new h = once_runs line (Feed c piece) old new h
 line_runs line (asked.Took c n) old new h = once_runs line (Took c n) old new h

@@ -2,11 +2,11 @@
 use Rattle.std.specs.Prelude.{◌≡◌, ℕ, false, List, [], ◌∷◌, ◌++◌, Option, Some, None, map}
 use Rattle.std.specs.List.{flat_map}
 use Rattle.nutusers.specs.declared.ups_list.UpsId.{UpsId}
-use Rattle.nutusers.specs.UpsFile.{Ups}
-use Rattle.nutusers.specs.UsersFile.{User}
-use Rattle.nutusers.specs.DescriptionFile.{Descriptions}
+use Rattle.nutusers.specs.UpsList.{Ups}
+use Rattle.nutusers.specs.Users.{User}
+use Rattle.nutusers.specs.Descriptions.{Descriptions}
 use Rattle.nutcore.specs.declared.event.Event.{Event}
-use Rattle.nutcore.specs.declared.event.Event.TheVariants.{DriverUp, DriverBytes, DriverDown, Open, Feed, Took, Close}
+use Rattle.nutcore.specs.declared.event.Event.TheVariants.{DriverUp, DriverBytes, DriverDown, Tick, Open, Feed, Took, Close}
 use Rattle.nutcore.specs.declared.event.Outcome.{Outcome}
 use Rattle.nutcore.specs.Server.{ServerState, new_server}
 use Rattle.nutcore.specs.Run.{Run}
@@ -47,6 +47,7 @@ unfolding IsDone
 of_line line (asked.DriverUp name) old new h = once_to (ups_named name old) line (λ u. DriverUp u) old new h
 of_line line (asked.DriverBytes name piece) old new h = once_to (ups_named name old) line (λ u. DriverBytes u piece) old new h
 of_line line (asked.DriverDown name) old new h = once_to (ups_named name old) line (λ u. DriverDown u) old new h
+of_line line (asked.Tick seconds) old new h = once line (Tick seconds) old new h
 of_line line (asked.Open address) old new h = once line (Open address) old new h
 of_line line (asked.Feed c piece) old new h = once line (Feed c piece) old new h
 of_line line (asked.Took c n) old new h = once line (Took c n) old new h

@@ -8,9 +8,9 @@ use Rattle.std.specs.Str.Parse.{digits_value}
 use Rattle.nutwords.specs.Reading.{read_ups_name, read_address}
 use Rattle.nutcore.specs.Lines.{with_lf}
 use Rattle.upsd.specs.declared.script.Action.{Action}
-use Rattle.upsd.specs.declared.script.Action.TheVariants.{DriverUp, DriverBytes, DriverDown, Open, Feed, Took, TookAll, Close}
+use Rattle.upsd.specs.declared.script.Action.TheVariants.{DriverUp, DriverBytes, DriverDown, Tick, Open, Feed, Took, TookAll, Close}
 use Rattle.upsd.specs.declared.script.Verb.{Verb}
-use Rattle.upsd.specs.declared.script.Verb.TheVariants.{Up, Down, Driver, DriverPart, OpenFrom, Client, Part, TookBy, CloseOf}
+use Rattle.upsd.specs.declared.script.Verb.TheVariants.{Up, Down, Driver, DriverPart, TickTo, OpenFrom, Client, Part, TookBy, CloseOf}
 use Rattle.upsd.specs.declared.script.Saying.{Saying}
 use Rattle.upsd.specs.declared.script.Saying.TheVariants.{Nothing, Does, Bad}
 use Rattle.upsd.specs.declared.script.ScriptLine.{ScriptLine}
@@ -41,6 +41,7 @@ verb_of word =
     else if bytes_eq word (codes "down") then Some Down
     else if bytes_eq word (codes "driver") then Some Driver
     else if bytes_eq word (codes "driver-part") then Some DriverPart
+    else if bytes_eq word (codes "tick") then Some TickTo
     else if bytes_eq word (codes "open") then Some OpenFrom
     else if bytes_eq word (codes "client") then Some Client
     else if bytes_eq word (codes "part") then Some Part
@@ -92,6 +93,7 @@ said_by Up text = option_map (λ u. DriverUp u) (ups_name text)
 said_by Down text = option_map (λ u. DriverDown u) (ups_name text)
 said_by Driver text = option_map (λ p. DriverBytes p.0 (with_lf p.1)) (ups_and_rest text)
 said_by DriverPart text = option_map (λ p. DriverBytes p.0 p.1) (ups_and_rest text)
+said_by TickTo text = option_map (λ n. Tick n) (number text)
 said_by OpenFrom text = option_map (λ a. Open a) (address text)
 said_by Client text = option_map (λ p. Feed p.0 (with_lf p.1)) (client_and_rest text)
 said_by Part text = option_map (λ p. Feed p.0 p.1) (client_and_rest text)

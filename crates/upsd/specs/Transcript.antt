@@ -4,11 +4,11 @@ use Rattle.std.specs.List.{flat_map}
 use Rattle.std.specs.Option.{option_map}
 use Rattle.std.specs.Fmt.{decimal}
 use Rattle.nutusers.specs.declared.ups_list.UpsId.{UpsId}
-use Rattle.nutusers.specs.UpsFile.{Ups, place_of, id_at}
-use Rattle.nutusers.specs.UsersFile.{User}
-use Rattle.nutusers.specs.DescriptionFile.{Descriptions}
+use Rattle.nutusers.specs.UpsList.{Ups, place_of, id_at}
+use Rattle.nutusers.specs.Users.{User}
+use Rattle.nutusers.specs.Descriptions.{Descriptions}
 use Rattle.nutcore.specs.declared.event.Event.{Event}
-use Rattle.nutcore.specs.declared.event.Event.TheVariants.{DriverUp, DriverBytes, DriverDown, Open, Feed, Took, Close}
+use Rattle.nutcore.specs.declared.event.Event.TheVariants.{DriverUp, DriverBytes, DriverDown, Tick, Open, Feed, Took, Close}
 use Rattle.nutcore.specs.declared.event.Outcome.{Outcome}
 use Rattle.nutcore.specs.declared.event.Outcome.TheVariants.{Done, Fed, Opened, Refused}
 use Rattle.nutcore.specs.declared.event.Fault.{Fault}
@@ -106,6 +106,7 @@ unfoldable pub IsDone : ℕ → Action → Told → Told → Type 0
 IsDone line (asked.DriverUp name) old new = HappensTo (ups_named name old) line (λ u. DriverUp u) old new
 IsDone line (asked.DriverBytes name piece) old new = HappensTo (ups_named name old) line (λ u. DriverBytes u piece) old new
 IsDone line (asked.DriverDown name) old new = HappensTo (ups_named name old) line (λ u. DriverDown u) old new
+IsDone line (asked.Tick seconds) old new = Happens line (Tick seconds) old new
 IsDone line (asked.Open address) old new = Happens line (Open address) old new
 IsDone line (asked.Feed c piece) old new = Happens line (Feed c piece) old new
 IsDone line (asked.Took c n) old new = Happens line (Took c n) old new

@@ -1,8 +1,12 @@
 //! The files that the program's words name, and why it ends.
 ghost use Rattle.std.specs.Prelude.{◌≡◌, ◌≢◌, ◌⊎◌, ◌∷◌, [], ℕ, List, codes, IfOk, IfErr, None};
-ghost use Rattle.nutusers.specs.File.{number_of, lines_of, Means};
-ghost use Rattle.nutusers.specs.UpsFile.{new_ups, IsUpsList};
-ghost use Rattle.nutusers.specs.DescriptionFile.{no_descriptions, descriptions_format, descriptions_of};
+ghost use Rattle.nutwords.specs.Text.{lines_of};
+ghost use Rattle.nutusers.specs.File.{number_of_cause, Means};
+ghost use Rattle.nutusers.specs.UpsFile.{IsUpsList};
+ghost use Rattle.nutusers.specs.UpsList.{new_ups};
+ghost use Rattle.nutusers.specs.UsersFile.{users_format, users_of};
+ghost use Rattle.nutusers.specs.DescriptionFile.{descriptions_format, descriptions_of};
+ghost use Rattle.nutusers.specs.Descriptions.{no_descriptions};
 
 use crate::replay::{ReplayFault, replay};
 use nutcore::{Descriptions, UpsList, Users};
@@ -41,7 +45,7 @@ pub enum Ending<'a> {
     Write,
 }
 
-/// `upsd replay`: replays the script of the file over the UPSs and the descriptions of theirs. Each
+/// `upsd replay`: replays the script of the file over the UPSs, users and descriptions of theirs. Each
 /// file is read and judged before the next one is opened.
 ///
 /// # Errors
@@ -50,13 +54,14 @@ pub enum Ending<'a> {
 pub fn replay_files<'a>(
     rt: &HostRuntime,
     ups: Option<&'a str>,
+    users: Option<&'a str>,
     vars: Option<&'a str>,
     script: &'a str,
 ) -> Result<(), Ending<'a>> {
     let list = list_in(rt, ups)?;
+    let users = users_in(rt, users)?;
     let descriptions = descriptions_in(rt, vars)?;
     let bytes = read(rt, script)?;
-    let users = Users::none(rt.alloc());
     let mut out = io::writer(rt);
     match replay(rt.alloc(), list, users, descriptions, &bytes, &mut out) {
         Ok(()) => Ok(()),
@@ -75,6 +80,21 @@ fn list_in<'a>(rt: &HostRuntime, path: Option<&'a str>) -> Result<UpsList, Endin
     let bytes = read(rt, path)?;
     match UpsList::read(rt.alloc(), &bytes) {
         Ok(list) => Ok(list),
+        Err(fault) => Err(ending_of_file(path, fault)),
+    }
+}
+
+/// The users of the file. Without a file there are none.
+fn users_in<'a>(rt: &HostRuntime, path: Option<&'a str>) -> Result<Users, Ending<'a>>
+    ensures none { path.entry ≡ None → IfOk result (λ users. users ≡ []) }
+    ensures of_file { path.entry ≢ None → IfOk result (λ users. (bytes : List ℕ) × Means users_format users_of (lines_of bytes) users) }
+{
+    let Some(path) = path else {
+        return Ok(Users::none(rt.alloc()));
+    };
+    let bytes = read(rt, path)?;
+    match Users::read(rt.alloc(), &bytes) {
+        Ok(users) => Ok(users),
         Err(fault) => Err(ending_of_file(path, fault)),
     }
 }
@@ -110,7 +130,7 @@ fn read<'a>(rt: &HostRuntime, path: &'a str) -> Result<Vec<u8>, Ending<'a>>
 /// How the program ends where the configuration file is refused so.
 fn ending_of_file(path: &str, fault: ConfFault) -> Ending<'_>
     ensures memory { fault.cause ≡ Cause.Memory → result ≡ Ending.Memory }
-    ensures refused { fault.cause ≢ Cause.Memory → result ≡ Ending.Refused path.entry fault.line (number_of fault.cause) }
+    ensures refused { fault.cause ≢ Cause.Memory → result ≡ Ending.Refused path.entry fault.line (number_of_cause fault.cause) }
 {
     match fault.cause {
         Cause::Memory => Ending::Memory,

@@ -52,6 +52,10 @@ fn matches_of(alloc: Global, words: &[String]) -> Result<ArgMatches<'_>, Error> 
         .long("ups")
         .value_name("F")
         .help("The file of the UPSs [without it: su alone]");
+    let users = Arg::new(alloc, "users")
+        .long("users")
+        .value_name("F")
+        .help("The file of the users [without it: none]");
     let vars = Arg::new(alloc, "vars")
         .long("vars")
         .value_name("F")
@@ -62,6 +66,7 @@ fn matches_of(alloc: Global, words: &[String]) -> Result<ArgMatches<'_>, Error> 
     let replay = Command::new(alloc, "replay")
         .about("Replays a script of events, and prints what was sent")
         .arg(ups)?
+        .arg(users)?
         .arg(vars)?
         .arg(script)?;
     let upsd = Command::new(alloc, "upsd")
@@ -91,7 +96,13 @@ fn run(rt: &HostRuntime, matches: &ArgMatches<'_>) -> ExitCode {
     let Some(script) = found.get_str("SCRIPT") else {
         return ExitCode::from(WORD_FAULT);
     };
-    match replay_files(rt, found.get_str("ups"), found.get_str("vars"), script) {
+    match replay_files(
+        rt,
+        found.get_str("ups"),
+        found.get_str("users"),
+        found.get_str("vars"),
+        script,
+    ) {
         Ok(()) => ExitCode::SUCCESS,
         Err(ending) => tell(rt, ending),
     }

@@ -19,6 +19,8 @@ pub enum Action {
     DriverBytes(UpsName, Bytes),
     /// The driver of the UPS of this name is lost.
     DriverDown(UpsName),
+    /// The clock is at so many seconds.
+    Tick(u64),
     /// A client connects from an address.
     Open(Address),
     /// Bytes come from a client.
@@ -60,6 +62,8 @@ enum Verb {
     Driver,
     /// `driver-part U REST`
     DriverPart,
+    /// `tick S`
+    TickTo,
     /// `open ADDRESS`
     OpenFrom,
     /// `client N REST`
@@ -85,6 +89,8 @@ impl Verb {
             Some(Verb::Driver)
         } else if word == b"driver-part".as_slice() {
             Some(Verb::DriverPart)
+        } else if word == b"tick".as_slice() {
+            Some(Verb::TickTo)
         } else if word == b"open".as_slice() {
             Some(Verb::OpenFrom)
         } else if word == b"client".as_slice() {
@@ -190,6 +196,7 @@ fn action_of(alloc: Global, verb: Verb, text: &[u8]) -> Result<Option<Action>, A
     Ok(match verb {
         Verb::Up => ups_name(text).map(|ups| Action::DriverUp(ups)),
         Verb::Down => ups_name(text).map(|ups| Action::DriverDown(ups)),
+        Verb::TickTo => read_number(text).map(|seconds| Action::Tick(seconds)),
         Verb::OpenFrom => Address::read(text).ok().map(|from| Action::Open(from)),
         Verb::CloseOf => read_number(text).map(|c| Action::Close(c)),
         Verb::TookBy => match client_and_rest(text) {

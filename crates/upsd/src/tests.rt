@@ -397,7 +397,7 @@ fn names_the_first_bad_line(rt: HostRuntime) -> Result<(), Fail> {
         (b"close".as_slice(), 1),
         (b"close 1 ".as_slice(), 1),
         (b"close 1\t".as_slice(), 1),
-        (b"tick 1".as_slice(), 1),
+        (b"tick 01".as_slice(), 1),
         (b"driver-took su all".as_slice(), 1),
         (b"hello su".as_slice(), 1),
         (b"\0".as_slice(), 1),

@@ -80,6 +80,7 @@ impl Transcript {
                 Some(u) => self.event(line, &Event::DriverDown(u)),
                 None => self.refuse(line, Fault::NoSuchUps),
             },
+            Action::Tick(seconds) => self.event(line, &Event::Tick(seconds)),
             Action::Open(address) => self.event(line, &Event::Open(address)),
             Action::Feed(c, piece) => self.event(line, &Event::Feed(c, piece)),
             Action::Took(c, n) => self.event(line, &Event::Took(c, n)),

@@ -1,6 +1,6 @@
 //! Each row of the table, and each of its checks.
 use super::answer;
-use super::sample::{Sample, SampleUps};
+use super::sample::{Sample, SampleUps, nobody};
 use crate::{Change, Command, ErrWord, Reply};
 use nutwords::{Line, Name, UpsName};
 use std::alloc::Global;
@@ -14,10 +14,14 @@ fn name(text: &[u8]) -> Option<Name> {
     Name::read(text).ok()
 }
 
-/// The line that answers the command, or no bytes for a listing.
+/// The line that answers the command, or no bytes for a listing or a change.
 fn told(sample: &Sample, command: &Command) -> Result<Line, Fail> {
-    match answer(sample, command)? {
-        Reply::One(line, Change::Nothing) => Ok(line),
+    match answer(sample, nobody(), command)? {
+        Reply::One(line, change) => Ok(if change == Change::Nothing {
+            line
+        } else {
+            Line::new()
+        }),
         Reply::Many(_listing) => Ok(Line::new()),
     }
 }
@@ -25,7 +29,7 @@ fn told(sample: &Sample, command: &Command) -> Result<Line, Fail> {
 /// A server whose UPS `su` was told these lines, and `off` isn't connected.
 fn server(alloc: Global, lines: &[u8]) -> Result<Sample, Fail> {
     let mut off = SampleUps::new(alloc, b"SETINFO ups.id x")?;
-    off.connected = false;
+    off.report.connected = false;
     let mut sample = Sample::new(alloc)?;
     sample.push(off)?;
     sample.push(SampleUps::new(alloc, lines)?)?;
@@ -256,7 +260,7 @@ fn live_answers(
         Command::ListRw(ups(of)),
         Command::ListCmd(ups(of)),
     ] {
-        if let Ok(Reply::One(line, _)) = &answer(sample, &command) {
+        if let Ok(Reply::One(line, _)) = &answer(sample, nobody(), &command) {
             text.extend_from_slice(line.as_slice())?;
         }
     }
@@ -330,10 +334,10 @@ fn refusal_at(
     moment: u64,
 ) -> Result<Vec<u8>, Fail> {
     let mut su = SampleUps::new(alloc, b"SETINFO ups.id x")?;
-    su.connected = connected;
-    su.dumped = dumped;
-    su.ok = ok;
-    su.heard = 10;
+    su.report.connected = connected;
+    su.report.dumped = dumped;
+    su.report.ok = ok;
+    su.report.heard = 10;
     let mut sample = Sample::new(alloc)?;
     sample.push(SampleUps::new(alloc, b"")?)?;
     sample.push(su)?;
@@ -361,7 +365,7 @@ fn refuses_what_is_out_of_date(rt: HostRuntime) -> Result<(), Fail> {
 /// The whole text that answers the command.
 fn text(alloc: Global, sample: &Sample, command: &Command) -> Result<Vec<u8>, Fail> {
     let mut text = Vec::new(alloc);
-    match answer(sample, command)? {
+    match answer(sample, nobody(), command)? {
         Reply::One(line, _) => text.extend_from_slice(line.as_slice())?,
         Reply::Many(listing) => listing.write(&mut text)?,
     }

@@ -1,9 +1,10 @@
 //! What stands behind the words that say which command it is.
 ghost use Rattle.std.specs.Prelude.{◌≡◌};
-ghost use Rattle.nutanswer.specs.Command.{alone, ups_alone, ups_and_name};
+ghost use Rattle.nutanswer.specs.Command.{alone, user_name_alone, password_alone, ups_alone, ups_and_name};
 
 use super::Command;
 use crate::ErrWord;
+use nutusers::{Password, UserName};
 use nutwords::{Name, UpsName, Words};
 
 /// The command, where no further word stands behind it.
@@ -13,6 +14,26 @@ pub(crate) fn alone(command: Command, mut words: Words<'_>) -> Result<Command, E
     match words.next() {
         None => Ok(command),
         Some(_) => Err(ErrWord::InvalidArgument),
+    }
+}
+
+/// The user name that one word and no other is, if it is as long as one may be.
+pub(crate) fn user_name_alone(mut words: Words<'_>) -> Result<Option<UserName>, ErrWord>
+    ensures { result ≡ user_name_alone words.entry }
+{
+    match (words.next(), words.next()) {
+        (Some(name), None) => Ok(UserName::read(name.as_bytes())),
+        _ => Err(ErrWord::InvalidArgument),
+    }
+}
+
+/// The password that one word and no other is, if it is as long as one may be.
+pub(crate) fn password_alone(mut words: Words<'_>) -> Result<Option<Password>, ErrWord>
+    ensures { result ≡ password_alone words.entry }
+{
+    match (words.next(), words.next()) {
+        (Some(password), None) => Ok(Password::read(password.as_bytes())),
+        _ => Err(ErrWord::InvalidArgument),
     }
 }
 

@@ -3,6 +3,7 @@
 //! A table is a text of rows. A row is a line, a bar, and what the line is read as: a command with the names that stand
 //! behind it, `-` where a word names nothing; `none`; or the line that refuses it.
 use super::Command;
+use nutusers::{Password, UserName};
 use nutwords::{Name, UpsName};
 use std::alloc::{AllocError, Global};
 use std::test::Fail;
@@ -30,13 +31,36 @@ fn push_name(text: &mut String, name: &Option<Name>) -> Result<(), AllocError> {
     }
 }
 
+fn push_user_name(text: &mut String, name: &Option<UserName>) -> Result<(), AllocError> {
+    text.push(' ')?;
+    match name {
+        Some(name) => push_bytes(text, name.as_bytes()),
+        None => text.push('-'),
+    }
+}
+
+fn push_password(text: &mut String, password: &Option<Password>) -> Result<(), AllocError> {
+    text.push(' ')?;
+    match password {
+        Some(password) => push_bytes(text, password.as_bytes()),
+        None => text.push('-'),
+    }
+}
+
 fn kind(command: &Command) -> &'static str {
     match command {
+        Command::Username(_) => "Username",
+        Command::Password(_) => "Password",
+        Command::Login(_) => "Login",
+        Command::Logout => "Logout",
+        Command::Primary(_) => "Primary",
+        Command::Fsd(_) => "Fsd",
         Command::GetVar(_, _) => "GetVar",
         Command::GetType(_, _) => "GetType",
         Command::GetDesc(_, _) => "GetDesc",
         Command::GetCmdDesc(_, _) => "GetCmdDesc",
         Command::GetUpsDesc(_) => "GetUpsDesc",
+        Command::GetNumLogins(_) => "GetNumLogins",
         Command::ListUps => "ListUps",
         Command::ListVar(_) => "ListVar",
         Command::ListRw(_) => "ListRw",
@@ -63,7 +87,13 @@ fn push_command(text: &mut String, command: &Command) -> Result<(), AllocError> 
             push_ups(text, ups)?;
             push_name(text, name)
         }
-        Command::GetUpsDesc(ups)
+        Command::Username(name) => push_user_name(text, name),
+        Command::Password(password) => push_password(text, password),
+        Command::Login(ups)
+        | Command::Primary(ups)
+        | Command::Fsd(ups)
+        | Command::GetUpsDesc(ups)
+        | Command::GetNumLogins(ups)
         | Command::ListVar(ups)
         | Command::ListRw(ups)
         | Command::ListCmd(ups) => push_ups(text, ups),
@@ -107,7 +137,14 @@ fn wrong_row(alloc: Global, table: &[u8]) -> Result<Option<usize>, AllocError> {
 
 /// Each command in capitals.
 fn commands() -> &'static [u8] {
-    b"GET VAR su ups.status|GetVar su ups.status\n\
+    b"USERNAME admin|Username admin\n\
+PASSWORD secret|Password secret\n\
+LOGIN su|Login su\n\
+LOGOUT|Logout\n\
+PRIMARY su|Primary su\n\
+FSD su|Fsd su\n\
+GET NUMLOGINS su|GetNumLogins su\n\
+GET VAR su ups.status|GetVar su ups.status\n\
 GET TYPE su ups.status|GetType su ups.status\n\
 GET DESC su ups.status|GetDesc su ups.status\n\
 GET CMDDESC su load.off|GetCmdDesc su load.off\n\
@@ -139,6 +176,13 @@ list rw su|ListRw su\n\
 list cmd su|ListCmd su\n\
 list enum su x|ListEnum su x\n\
 list range su x|ListRange su x\n\
+username admin|Username admin\n\
+Password \"s3 cret\"|Password s3 cret\n\
+\"login\" s\\u|Login su\n\
+LogOut |Logout\n\
+\tprimary \"su\"|Primary su\n\
+fs\\d su|Fsd su\n\
+get numLogins su|GetNumLogins su\n\
 help|Help\n\
 \"ver\"|Ver\n\
 NetVer|NetVer\n\
@@ -163,7 +207,18 @@ GET DESC su ups\\ status|GetDesc su -\n\
 GET CMDDESC su ups:status|GetCmdDesc su -\n\
 LIST ENUM \"su \" ups,mode|ListEnum - -\n\
 LIST RANGE \"\" \"\"|ListRange - -\n\
-LIST VAR \xe9|ListVar -"
+LIST VAR \xe9|ListVar -\n\
+USERNAME Admin|Username Admin\n\
+USERNAME \"a \\\"b\\\"\"|Username a \"b\"\n\
+USERNAME a/@|Username a/@\n\
+USERNAME \"\"|Username -\n\
+PASSWORD PASSWORD|Password PASSWORD\n\
+PASSWORD \"\"|Password -\n\
+LOGIN SU|Login SU\n\
+LOGIN \"\"|Login -\n\
+PRIMARY s/u|Primary -\n\
+FSD \"s u\"|Fsd -\n\
+GET NUMLOGINS su@host|GetNumLogins -"
 }
 
 /// Lines that don't read as words, whatever the words before the fault.
@@ -191,12 +246,8 @@ VAR su x|ERR UNKNOWN-COMMAND\n\
 VERSION|ERR UNKNOWN-COMMAND\n\
 NET VER|ERR UNKNOWN-COMMAND\n\
 QUIT a b c d|ERR UNKNOWN-COMMAND\n\
-USERNAME admin|ERR UNKNOWN-COMMAND\n\
-PASSWORD x|ERR UNKNOWN-COMMAND\n\
-LOGIN su|ERR UNKNOWN-COMMAND\n\
-LOGOUT|ERR UNKNOWN-COMMAND\n\
-PRIMARY su|ERR UNKNOWN-COMMAND\n\
-FSD su|ERR UNKNOWN-COMMAND\n\
+MASTER su|ERR UNKNOWN-COMMAND\n\
+NUMLOGINS su|ERR UNKNOWN-COMMAND\n\
 SET VAR su x y|ERR UNKNOWN-COMMAND\n\
 INSTCMD su x|ERR UNKNOWN-COMMAND"
 }
@@ -211,7 +262,6 @@ GET \"\" su x|ERR INVALID-ARGUMENT\n\
 GET VARS su x|ERR INVALID-ARGUMENT\n\
 GET RW su|ERR INVALID-ARGUMENT\n\
 GET UPS su|ERR INVALID-ARGUMENT\n\
-GET NUMLOGINS su|ERR INVALID-ARGUMENT\n\
 LIST X|ERR INVALID-ARGUMENT\n\
 LIST X su|ERR INVALID-ARGUMENT\n\
 LIST VARS su|ERR INVALID-ARGUMENT\n\
@@ -228,6 +278,12 @@ GET TYPE su|ERR INVALID-ARGUMENT\n\
 GET DESC su|ERR INVALID-ARGUMENT\n\
 GET CMDDESC su|ERR INVALID-ARGUMENT\n\
 GET UPSDESC|ERR INVALID-ARGUMENT\n\
+GET NUMLOGINS|ERR INVALID-ARGUMENT\n\
+USERNAME|ERR INVALID-ARGUMENT\n\
+PASSWORD|ERR INVALID-ARGUMENT\n\
+LOGIN|ERR INVALID-ARGUMENT\n\
+PRIMARY|ERR INVALID-ARGUMENT\n\
+FSD|ERR INVALID-ARGUMENT\n\
 LIST|ERR INVALID-ARGUMENT\n\
 LIST VAR|ERR INVALID-ARGUMENT\n\
 LIST RW|ERR INVALID-ARGUMENT\n\
@@ -244,6 +300,13 @@ GET TYPE su x y|ERR INVALID-ARGUMENT\n\
 GET DESC su x y|ERR INVALID-ARGUMENT\n\
 GET CMDDESC su x y|ERR INVALID-ARGUMENT\n\
 GET UPSDESC su x|ERR INVALID-ARGUMENT\n\
+GET NUMLOGINS su x|ERR INVALID-ARGUMENT\n\
+USERNAME a b|ERR INVALID-ARGUMENT\n\
+PASSWORD a b|ERR INVALID-ARGUMENT\n\
+LOGIN su x|ERR INVALID-ARGUMENT\n\
+LOGOUT su|ERR INVALID-ARGUMENT\n\
+PRIMARY su x|ERR INVALID-ARGUMENT\n\
+FSD su x|ERR INVALID-ARGUMENT\n\
 LIST UPS su|ERR INVALID-ARGUMENT\n\
 LIST VAR su x|ERR INVALID-ARGUMENT\n\
 LIST VAR \"\" x|ERR INVALID-ARGUMENT\n\
@@ -333,6 +396,15 @@ fn keeps_names_up_to_their_limits(rt: HostRuntime) -> Result<(), Fail> {
     assert!(rt; is_read_as(rt.alloc(), b"LIST VAR ", 33, "ListVar -")?);
     assert!(rt; is_kept(rt.alloc(), b"GET VAR su ", b"GetVar su ", 64)?);
     assert!(rt; is_read_as(rt.alloc(), b"GET VAR su ", 65, "GetVar su -")?);
+    Ok(())
+}
+
+#[test]
+fn keeps_user_names_and_passwords_up_to_their_limits(rt: HostRuntime) -> Result<(), Fail> {
+    assert!(rt; is_kept(rt.alloc(), b"USERNAME ", b"Username ", 64)?);
+    assert!(rt; is_read_as(rt.alloc(), b"USERNAME ", 65, "Username -")?);
+    assert!(rt; is_kept(rt.alloc(), b"PASSWORD ", b"Password ", 256)?);
+    assert!(rt; is_read_as(rt.alloc(), b"PASSWORD ", 257, "Password -")?);
     Ok(())
 }
 

@@ -1,7 +1,7 @@
-use Rattle.std.proofs.Common.{◌∷◌, Ok, refl, sym, ◌∙◌, ap}
+use Rattle.std.proofs.Common.{◌∷◌, refl, sym, ◌∙◌, ap}
 use Rattle.std.specs.Prelude.{codes}
-use Rattle.nutanswer.specs.Answer.{one_line, is_listing, text_of_answer}
-use Rattle.nutanswer.specs.Types.{type_words}
+use Rattle.nutanswer.specs.Answer.{told, shares_version, text_of_answer, change_of_answer}
+use Rattle.nutlisting.specs.Types.{type_words}
 use Rattle.nutanswer.specs.Leaf.{known_variable}
 use Rattle.nutanswer.proofs.Rows.{with_variable}
 use Rattle.nutanswer.proofs.answers.get_type.Goals as goal
@@ -10,10 +10,10 @@ pub returns : goal.returns
 returns g c =
     let s = g.V.View.seen c.args.view.now in
     let k = known_variable c.in_ok-found.found in
-    let row = with_variable s c.args.ups.now c.args.name.now (λ u v x. Ok (one_line (codes "TYPE" ∷ u.name ∷ v ∷ type_words x))) k c.in_ok-found.ensures in
+    let row = with_variable s c.args.ups.now c.args.name.now (λ u v x. told (codes "TYPE" ∷ u.name ∷ v ∷ type_words x)) k c.in_ok-found.ensures in
     record {
       text = c.type_line.ensures.text ∙ ap text_of_answer (sym row);
-      one = ap is_listing row;
+      changes = ap change_of_answer (sym row);
+      one = ap shares_version row;
       whole_line = c.type_line.ensures.whole;
-      unchanged = refl;
     }

@@ -1,22 +1,20 @@
-use Rattle.std.proofs.Common.{[], refl}
-use Rattle.nutwords.specs.Lines.{Unfinished}
-use Rattle.nutwords.proofs.Pieces.{pieces_give_the_lines, cuts_do_not_matter, IsCutInto-some, IsCutInto-one, IsCutInto-whole, IsCutInto-append}
+use Rattle.nutwords.proofs.PublicLaws as law
 use Rattle.nutwords.proofs.laws.cuts_do_not_matter.Goals as goal
 
 pub returns-clause-pieces : goal.returns-clause-pieces
-returns-clause-pieces c = λ pieces lines tail. pieces_give_the_lines pieces lines tail
+returns-clause-pieces c = law.pieces_give_the_lines
 
 pub returns-clause-cuts : goal.returns-clause-cuts
-returns-clause-cuts c = λ pieces others lines tail same gives. cuts_do_not_matter pieces others lines tail same gives
+returns-clause-cuts c = law.cuts_do_not_matter
 
 pub returns-clause-some : goal.returns-clause-some
-returns-clause-some c = λ text. IsCutInto-some text
+returns-clause-some c = law.each_text_is_cut
 
 pub returns-clause-one : goal.returns-clause-one
-returns-clause-one c = λ text lines others tail end first second. IsCutInto-one text lines others tail end first second
+returns-clause-one c = law.one_cutting
 
 pub returns-clause-all : goal.returns-clause-all
-returns-clause-all c = λ text rest lines cut. IsCutInto-whole text rest lines (Unfinished rest) cut refl
+returns-clause-all c = law.no_byte_is_lost
 
 pub returns-clause-joined : goal.returns-clause-joined
-returns-clause-joined c = λ text more lines others tail cut behind. IsCutInto-append text more lines others (Unfinished []) tail cut refl behind
+returns-clause-joined c = law.lines_are_joined

@@ -1,19 +1,17 @@
-use Rattle.std.proofs.Common.{◌≡◌, ◌∙◌, Some, sym, ap, List, ℕ, subst}
+use Rattle.std.proofs.Common.{◌≡◌, ◌∙◌, Some, sym, ap, List, ℕ, subst, set}
 use Rattle.nutcore.specs.Session.{SessionState}
 use Rattle.nutcore.specs.Server.{ServerState, session}
-use Rattle.nutcore.specs.Reply.{reply}
-use Rattle.nutcore.specs.Pump.{answered, after_line, next_line_for}
-use Rattle.nutcore.specs.Serving.{IsAt}
+use Rattle.nutcore.specs.Serving.{IsAt, IsAnswered}
 use Rattle.nutcore.specs.contracts.server.Server.{the_view}
 use Rattle.nutcore.proofs.Found.{find_id}
-use Rattle.nutcore.proofs.Serving.{found_in, goes, next_of_found, apart_set, line_is}
+use Rattle.nutcore.proofs.Serving.{found_in, goes, apart_set, answered_is}
 use Rattle.nutcore.proofs.server.Server.answer_text.Goals as goal
 
 pub answer-requires-clause-going : goal.answer-requires-clause-going
 answer-requires-clause-going c =
     let x : SessionState = c.index_mut-session.result.now in
     let found : session c.args.c c.args.self.now ≡ Some x = found_in c.args.c c.args.place (the_view c.self.inside) c.args.self.now x c.self.view_is c.requires.at c.index_mut-session.ensures.value in
-    goes c.args.self.now c.args.c x c.requires.next.0 found c.requires.next.1
+    goes c.args.self.now c.args.c x found c.requires.next
 
 pub invariant_of-self : goal.invariant_of-self
 invariant_of-self c =
@@ -32,11 +30,8 @@ pub returns : goal.returns
 returns c =
     let v : ServerState = the_view c.self.inside in
     let x : SessionState = c.index_mut-session.result.now in
-    let line : List ℕ = c.requires.next.0 in
+    let y : SessionState = c.answer.new.self in
     let at : IsAt c.args.c c.args.place v.sessions = subst (λ (z : ServerState). IsAt c.args.c c.args.place z.sessions) (sym c.self.view_is) c.requires.at in
     let found : session c.args.c v ≡ Some x = ap (session c.args.c) c.self.view_is ∙ found_in c.args.c c.args.place v c.args.self.now x c.self.view_is c.requires.at c.index_mut-session.ensures.value in
-    let next : next_line_for v c.args.c ≡ Some line = ap (λ (z : ServerState). next_line_for z c.args.c) c.self.view_is ∙ c.requires.next.1 in
-    let text : (reply v c.args.c line).text ≡ c.args.text.now = ap (λ (z : ServerState). (reply z c.args.c line).text) c.self.view_is ∙ c.requires.next.2 in
-    line_is v c.args.c c.args.place line x c.answer.new.self at found next
-    (c.answer.ensures.answered line (next_of_found v c.args.c x line found next) ∙ ap (λ (t : List ℕ). answered line t x) (sym text))
-    ∙ ap (λ (z : ServerState). after_line z c.args.c) c.self.view_is
+    subst (λ (z : ServerState). let code : ServerState = record v { sessions = set v.sessions c.args.place y } in IsAnswered z c.args.c c.args.text.now c.args.change code) c.self.view_is
+    (answered_is v c.args.c c.args.place c.args.text.now c.args.change x y at found c.answer.ensures.id c.answer.ensures.answered)

@@ -1,6 +1,7 @@
-use Rattle.std.proofs.Common.{◌≡◌, ◌∙◌, Some, ap}
+use Rattle.std.proofs.Common.{◌≡◌, ◌∙◌, Some, sym, ap}
 use Rattle.nutcore.specs.Server.{session}
 use Rattle.nutcore.specs.Pump.{next_line_of}
+use Rattle.nutcore.specs.Reply.{asker_of}
 use Rattle.nutcore.specs.contracts.server.Server.{the_view}
 use Rattle.nutcore.proofs.Serving.{found_in}
 use Rattle.nutcore.proofs.server.Server.next_reply.Goals as goal
@@ -24,3 +25,8 @@ pub returns-in-Some-clause-held : goal.returns-in-Some-clause-held
 returns-in-Some-clause-held c =
     let found : session c.args.c c.args.self.now ≡ Some c.index-session.result.now = found_in c.args.c c.args.place (the_view c.self.inside) c.args.self.now c.index-session.result.now c.self.view_is c.requires c.index-session.ensures in
     rw found c.in-Some.ensures.held
+
+pub reply-requires-clause-asks : goal.reply-requires-clause-asks
+reply-requires-clause-asks c =
+    let found : session c.args.c c.args.self.now ≡ Some c.index-session.result.now = found_in c.args.c c.args.place (the_view c.self.inside) c.args.self.now c.index-session.result.now c.self.view_is c.requires c.index-session.ensures in
+    c.asker.ensures ∙ ap asker_of (sym found)

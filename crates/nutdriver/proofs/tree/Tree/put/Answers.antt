@@ -1,6 +1,5 @@
 use Rattle.std.proofs.Common.{◌<◌, length, sym, subst, refl}
 use Rattle.std.specs.Prelude.{IsNone}
-use Rattle.std.proofs.lemmas.Cmp.{nat_list_cmp_total}
 use Rattle.nutdriver.specs.declared.limits.TheConstants.{VARIABLE_LIMIT}
 use Rattle.nutdriver.specs.Tree.{TreeState, variable_at}
 use Rattle.nutdriver.proofs.TreeLemmas.{few_inserted}
@@ -10,7 +9,7 @@ pub invariant_of-self-2 : goal.invariant_of-self-2
 invariant_of-self-2 c =
     let P : TreeState → Type 0 = λ t. IsNone (variable_at t c.args.name.now) → length t.variables < VARIABLE_LIMIT in
     let room = subst P (sym c.self.view_is) c.requires in
-    let few = few_inserted nat_list_cmp_total c.args.name.now c.args.variable VARIABLE_LIMIT c.self.inside.variables c.insert.ensures.rising c.self.invariant.0 room in
+    let few = few_inserted c.changes_count_one_entry.ensures.added c.changes_count_one_entry.ensures.replaced c.args.name.now c.args.variable VARIABLE_LIMIT c.self.inside.variables c.insert.ensures.rising c.self.invariant.0 room in
     (rw (c.in-Ok-insert.ensures.ok, c.in-Ok.ensures) few, c.self.invariant.1)
 
 pub returns-clause-step : goal.returns-clause-step

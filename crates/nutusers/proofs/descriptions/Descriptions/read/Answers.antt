@@ -1,7 +1,7 @@
 use Rattle.std.proofs.Common.{◌∷◌, [], sym, ap, ◌∙◌, arith}
-use Rattle.nutusers.specs.File.{lines_of}
+use Rattle.nutwords.specs.Text.{lines_of}
 use Rattle.nutusers.specs.DescriptionFile.{read_table_line}
-use Rattle.nutusers.specs.DescriptionFile.{descriptions_format, descriptions_of}
+use Rattle.nutusers.specs.DescriptionFile.{descriptions_format, descriptions_of, adds_text}
 use Rattle.nutusers.specs.DescriptionStep.{descriptions_with}
 use Rattle.nutusers.proofs.Progress.{HasRead, nothing_read, one_read, all_read, next_refused, room}
 use Rattle.nutusers.proofs.DescriptionLemmas.{descriptions_of-line}
@@ -22,7 +22,7 @@ overflow_add-number c =
 pub returns-in-Err-clause-err : goal.returns-in-Err-clause-err
 returns-in-Err-clause-err c =
     let read : HasRead descriptions_format descriptions_of (lines_of c.args.bytes.now) (c.in-Some.line.now ∷ c.next.new.self) c.loop-line.number c.loop-line.descriptions = rw c.in-Some.ensures.steps at c.loop-line.invariant.read in
-    next_refused _ _ _ _ _ read (rw read.value_is at c.in-Err.ensures.fault)
+    next_refused adds_text _ _ _ _ _ read (rw read.value_is at c.in-Err.ensures.fault) c.in-Err.ensures.memory
 
 pub loop-line-preserved : goal.loop-line-preserved
 loop-line-preserved c =

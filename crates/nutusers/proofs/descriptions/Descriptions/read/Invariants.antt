@@ -1,4 +1,4 @@
-use Rattle.nutusers.specs.File.{lines_of}
+use Rattle.nutwords.specs.Text.{lines_of}
 use Rattle.nutusers.specs.DescriptionFile.{descriptions_format, descriptions_of}
 use Rattle.nutusers.proofs.Progress.{HasRead}
 use Rattle.nutusers.proofs.descriptions.Descriptions.read.Given as goal

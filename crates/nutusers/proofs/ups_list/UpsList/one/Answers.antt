@@ -1,5 +1,5 @@
 use Rattle.std.proofs.Common.{◌≡◌, ◌∷◌, [], ◌++◌, ap, ◌∙◌, arith}
-use Rattle.nutusers.specs.UpsFile.{Ups}
+use Rattle.nutusers.specs.UpsList.{Ups}
 use Rattle.nutusers.proofs.NamesApart.{rising_one}
 use Rattle.nutusers.proofs.ups_list.UpsList.one.Goals as goal
 

@@ -2,9 +2,10 @@ use Rattle.std.proofs.Common.{rules, reverse, is_lt}
 use Rattle.std.specs.List.Sorted.{IsSorted, IsPermutation}
 use Rattle.std.proofs.lemmas.Cmp.{nat_list_cmp_total}
 use Rattle.std.proofs.lemmas.List.Sorted.{ranks_by, answers_always, length_permutation}
-use Rattle.nutusers.specs.File.{lines_of}
-use Rattle.nutusers.specs.Names.{byte_order}
-use Rattle.nutusers.specs.UpsFile.{Ups, IsUpsList, upses_of}
+use Rattle.nutwords.specs.Text.{lines_of}
+use Rattle.nutwords.specs.NameOrder.{byte_order}
+use Rattle.nutusers.specs.UpsFile.{IsUpsList, upses_of}
+use Rattle.nutusers.specs.UpsList.{Ups}
 use Rattle.nutusers.proofs.NamesApart.{rising_names}
 use Rattle.nutusers.proofs.UpsLemmas.{upses_apart}
 use Rattle.nutusers.proofs.ups_list.UpsList.read.Goals as goal

@@ -1,7 +1,7 @@
 use Rattle.std.proofs.Common.{reverse, ◌∷◌, [], sym, ap, ◌∙◌, arith}
-use Rattle.nutusers.specs.File.{lines_of}
+use Rattle.nutwords.specs.Text.{lines_of}
 use Rattle.nutusers.specs.ConfigLine.{read_config_line}
-use Rattle.nutusers.specs.UsersFile.{users_format, users_of}
+use Rattle.nutusers.specs.UsersFile.{users_format, users_of, adds_to_users}
 use Rattle.nutusers.specs.UsersStep.{users_with}
 use Rattle.nutusers.proofs.Progress.{HasRead, nothing_read, one_read, all_read, next_refused, room}
 use Rattle.nutusers.proofs.UsersLemmas.{users_of-line, users_apart}
@@ -22,7 +22,7 @@ overflow_add-number c =
 pub returns-in-Err-clause-err : goal.returns-in-Err-clause-err
 returns-in-Err-clause-err c =
     let read : HasRead users_format users_of (lines_of c.args.bytes.now) (c.in-Some.line.now ∷ c.next.new.self) c.loop-line.number c.loop-line.users = rw c.in-Some.ensures.steps at c.loop-line.invariant.read in
-    next_refused _ _ _ _ _ read (rw read.value_is at c.in-Err.ensures.fault)
+    next_refused adds_to_users _ _ _ _ _ read (rw read.value_is at c.in-Err.ensures.fault) c.in-Err.ensures.memory
 
 pub loop-line-preserved : goal.loop-line-preserved
 loop-line-preserved c =

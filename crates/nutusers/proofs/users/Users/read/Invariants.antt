@@ -1,4 +1,4 @@
-use Rattle.nutusers.specs.File.{lines_of}
+use Rattle.nutwords.specs.Text.{lines_of}
 use Rattle.nutusers.specs.UsersFile.{users_format, users_of}
 use Rattle.nutusers.proofs.Progress.{HasRead}
 use Rattle.nutusers.proofs.users.Users.read.Given as goal

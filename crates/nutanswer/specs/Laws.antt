@@ -1,0 +1,31 @@
+-- What holds of every row of the table.
+use Rattle.std.specs.Prelude.{◌≡◌, ℕ, Bool, true, false, List, [], ◌∷◌, codes, Result, Ok, Err}
+use Rattle.std.specs.Str.{bytes_eq}
+use Rattle.nutanswer.specs.declared.command.Command.{Command}
+use Rattle.nutanswer.specs.declared.err_word.ErrWord.{ErrWord}
+use Rattle.nutanswer.specs.declared.reply.Change.TheVariants.{Nothing}
+use Rattle.nutanswer.specs.View.{Seen, AskerSeen}
+use Rattle.nutanswer.specs.Answer.{Answer, one_line, listing, answer_to, change_of_answer}
+
+-- The first word is OK.
+abbrev pub begins_with_ok : List (List ℕ) → Bool
+begins_with_ok [] = false
+begins_with_ok (first ∷ words) = bytes_eq first (codes "OK")
+
+-- The answer is a line whose first word is OK.
+abbrev pub is_ok_line : Result Answer ErrWord → Bool
+is_ok_line (Err word) = false
+is_ok_line (Ok (one_line words change)) = begins_with_ok words
+is_ok_line (Ok (listing l)) = false
+
+-- A refused line changes nothing.
+abbrev pub RefusedLinesChangeNothing : Type 0
+RefusedLinesChangeNothing =
+    (s : Seen) (asker : AskerSeen) (command : Command) (word : ErrWord)
+    → answer_to s asker command ≡ Err word → change_of_answer (answer_to s asker command) ≡ Nothing
+
+-- What isn't answered by a line of OK changes nothing: refusals, what is told, and listings.
+abbrev pub OnlyOkChanges : Type 0
+OnlyOkChanges =
+    (s : Seen) (asker : AskerSeen) (command : Command)
+    → is_ok_line (answer_to s asker command) ≡ false → change_of_answer (answer_to s asker command) ≡ Nothing

@@ -1,0 +1,113 @@
+//! The commands of sessions: who asks, what it is logged in to, and the forced shutdown (RFC 9271).
+ghost use Rattle.std.specs.Prelude.{◌≡◌, ◌∷◌, [], Ok, codes};
+ghost use Rattle.nutanswer.specs.View.{Seen, AskerSeen, asker_seen};
+ghost use Rattle.nutanswer.specs.Answer.{answer_to, one_line, ok, IsReply};
+ghost use Rattle.nutanswer.specs.Leaf.{Gives, IsLineOf, row};
+ghost use Rattle.nutanswer.specs.declared.command.Command.TheVariants.{Username, Password, Login, Logout, Primary, Fsd, GetNumLogins};
+
+use crate::checks::{known_ups, user};
+use crate::{Asker, Change, ErrWord, Reply, View};
+use nutlisting::{count_line, plain_line};
+use nutusers::{Right, UserName};
+use nutwords::{Line, UpsName};
+
+/// USERNAME.
+pub(crate) fn username(asker: Asker<'_>, name: &Option<UserName>) -> Result<Reply, ErrWord>
+    ensures { (s : Seen) → Gives
+        (answer_to s (asker_seen asker.entry) (Username name.now)) result }
+{
+    if asker.username.is_some() {
+        return Err(ErrWord::AlreadySetUsername);
+    }
+    match name {
+        Some(name) => Ok(ok(Change::Username(name.copied()))),
+        None => Err(ErrWord::InvalidArgument),
+    }
+}
+
+/// PASSWORD.
+pub(crate) fn password(
+    asker: Asker<'_>,
+    password: &Option<nutusers::Password>,
+) -> Result<Reply, ErrWord>
+    ensures { (s : Seen) → Gives
+        (answer_to s (asker_seen asker.entry) (Password password.now)) result }
+{
+    if asker.password.is_some() {
+        return Err(ErrWord::AlreadySetPassword);
+    }
+    match password {
+        Some(password) => Ok(ok(Change::Password(password.copied()))),
+        None => Err(ErrWord::InvalidArgument),
+    }
+}
+
+/// LOGIN.
+pub(crate) fn login<V: View>(
+    view: &V,
+    asker: Asker<'_>,
+    ups: &Option<UpsName>,
+) -> Result<Reply, ErrWord>
+    ensures { Gives
+        (answer_to (V.seen view.now) (asker_seen asker.entry) (Login ups.now)) result }
+{
+    user(view, asker, Right::Login)?;
+    let ups = known_ups(view, ups)?;
+    if asker.login.is_some() {
+        return Err(ErrWord::AlreadyLoggedIn);
+    }
+    Ok(ok(Change::Login(ups.id)))
+}
+
+/// LOGOUT.
+pub(crate) fn logout() -> Reply
+    ensures { (s : Seen) (a : AskerSeen) → IsReply (answer_to s a Logout) result }
+{
+    Reply::One(plain_line(b"OK Goodbye"), Change::Ending)
+}
+
+/// PRIMARY.
+pub(crate) fn primary<V: View>(
+    view: &V,
+    asker: Asker<'_>,
+    ups: &Option<UpsName>,
+) -> Result<Reply, ErrWord>
+    ensures { Gives
+        (answer_to (V.seen view.now) (asker_seen asker.entry) (Primary ups.now)) result }
+{
+    user(view, asker, Right::Primary)?;
+    known_ups(view, ups)?;
+    Ok(ok(Change::Nothing))
+}
+
+/// FSD.
+pub(crate) fn fsd<V: View>(
+    view: &V,
+    asker: Asker<'_>,
+    ups: &Option<UpsName>,
+) -> Result<Reply, ErrWord>
+    ensures { Gives
+        (answer_to (V.seen view.now) (asker_seen asker.entry) (Fsd ups.now)) result }
+{
+    user(view, asker, Right::Fsd)?;
+    let ups = known_ups(view, ups)?;
+    Ok(Reply::One(plain_line(b"OK FSD-SET"), Change::Fsd(ups.id)))
+}
+
+/// GET NUMLOGINS.
+pub(crate) fn get_num_logins<V: View>(view: &V, ups: &Option<UpsName>) -> Result<Line, ErrWord>
+    ensures { IsLineOf (row (V.seen view.now) (GetNumLogins ups.now)) result }
+{
+    let ups = known_ups(view, ups)?;
+    Ok(count_line(ups.name, view.login_count(ups.id)))
+}
+
+/// The bare OK, of a command that changes this.
+fn ok(change: Change) -> Reply
+    ensures { IsReply (Ok (one_line ok change)) result }
+{
+    Reply::One(plain_line(b"OK"), change)
+}
+
+#[cfg(test)]
+mod tests;

@@ -1,0 +1,4 @@
+pub mod Known
+pub mod Underway
+pub mod Printing
+pub mod Ports

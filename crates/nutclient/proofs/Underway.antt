@@ -1,0 +1,136 @@
+-- Requests of which some are answered.
+use Rattle.std.proofs.Common.{◌≡◌, ℕ, List, [], ◌∷◌, ◌++◌, Option, Some, None, Result, Ok, Err, refl, sym, ap, subst, ◌∙◌, append_assoc, append-nil, drop, suc, length, get_or, add-one, ◌+◌, ◌<◌}
+use Rattle.std.proofs.Math.Seq.{drop-cons}
+use Rattle.std.specs.Io.KnownBytes.{Appends, Consumes, IsAtEnd}
+use Rattle.nutreply.specs.Ends.{counted, Received, ReadFailed, Written, WriteFailed, IsBeginning}
+use Rattle.nutreply.specs.Request.{request_line}
+use Rattle.nutreply.specs.Reply.{Reply, Refused, Whole, Bad, Unfinished, reply}
+use Rattle.nutreply.specs.Session.{AskGives}
+use Rattle.nutreply.specs.declared.item.Item.{Item}
+use Rattle.nutreply.specs.declared.request.Request.{Request}
+use Rattle.nutreply.specs.declared.faults.ClientFault.{ClientFault}
+use Rattle.nutreply.specs.declared.faults.ClientFault.TheVariants.{Connect, Read, Write, EarlyEnd, ErrWord, BadReply, BadTarget, Memory}
+use Rattle.nutclient.specs.Requests.{lines_behind, sent_lines, reply_behind, last_reply_after, last_reply, RequestsGive}
+use Rattle.nutclient.proofs.Known.{received_joins, read_failed_joins, received_nothing, written_nothing, written_joins, appends_joins}
+
+-- Of all requests these are left: what came and what was written so far are the replies and the lines up to there, and these items came last.
+pub record IsUnderWay {R W : Type 0} (rem : R → Option (List ℕ)) (rf : R → ℕ) (con : W → Option (List ℕ)) (wf : W → ℕ) (all : List Request) (old : List ℕ) (reader : R) (writer : W)
+    (items : List Item) (left : List Request) (kept : List ℕ) (after : R) (sent : W) : Type 0 where
+  pub came : List ℕ
+  pub text : List ℕ
+  pub read : Received rem rf reader came after
+  pub written : Written con wf writer text sent
+  pub lines : (more : List ℕ) → sent_lines all (old ++ (came ++ more)) ≡ text ++ sent_lines left (kept ++ more)
+  pub replies : (more : List ℕ) → last_reply all (old ++ (came ++ more)) ≡ last_reply_after items left (kept ++ more)
+
+pub starts : {R W : Type 0} (rem : R → Option (List ℕ)) (rf : R → ℕ) (con : W → Option (List ℕ)) (wf : W → ℕ) (all : List Request) (old : List ℕ) (reader : R) (writer : W) → IsUnderWay rem rf con wf all old reader writer [] all old reader writer
+starts rem rf con wf all old reader writer = record {
+  came = [];
+  text = [];
+  read = received_nothing rem rf reader;
+  written = written_nothing con wf writer;
+  lines = λ more. refl;
+  replies = λ more. refl;
+}
+
+-- one request more is granted
+pub goes_further : {R W : Type 0} (rem : R → Option (List ℕ)) (rf : R → ℕ) (con : W → Option (List ℕ)) (wf : W → ℕ) (all : List Request) (old : List ℕ) (reader : R) (writer : W)
+    (items : List Item) (request : Request) (left : List Request) (kept new : List ℕ) (mid after : R) (middle sent : W) (next : List Item)
+    → IsUnderWay rem rf con wf all old reader writer items (request ∷ left) kept mid middle → AskGives rem rf con wf request kept mid middle (Ok next) new after sent
+    → IsUnderWay rem rf con wf all old reader writer next left new after sent
+goes_further rem rf con wf all old reader writer items request left kept new mid after middle sent next i a = let o = a.1 in record {
+  came = i.came ++ o.0;
+  text = i.text ++ request_line request;
+  read = received_joins rem rf reader mid after i.came o.0 i.read o.1;
+  written = written_joins con wf writer middle sent i.text (request_line request) i.written a.0.bytes_written a.0.well;
+  lines = λ more.
+      ap (λ bs. sent_lines all (old ++ bs)) (append_assoc i.came o.0 more) ∙ i.lines (o.0 ++ more)
+      ∙ ap (λ r. i.text ++ (request_line request ++ lines_behind r (λ rest. sent_lines left rest))) (o.2 more) ∙ sym (append_assoc i.text (request_line request) (sent_lines left (new ++ more)));
+  replies = λ more.
+      ap (λ bs. last_reply all (old ++ bs)) (append_assoc i.came o.0 more) ∙ i.replies (o.0 ++ more)
+      ∙ ap (λ r. reply_behind r (λ later rest. last_reply_after later left rest)) (o.2 more);
+}
+
+-- all are granted
+pub ends_well : {R W : Type 0} (rem : R → Option (List ℕ)) (rf : R → ℕ) (con : W → Option (List ℕ)) (wf : W → ℕ) (all : List Request) (old : List ℕ) (reader : R) (writer : W) (items : List Item) (kept : List ℕ) (after : R) (sent : W)
+    → IsUnderWay rem rf con wf all old reader writer items [] kept after sent → RequestsGive rem rf con wf all old reader writer (Ok items) kept after sent
+ends_well rem rf con wf all old reader writer items kept after sent i = (i.came, i.text, i.read, i.written, (λ more. i.lines more ∙ append-nil i.text), i.replies)
+
+-- the lines that were sent, where the reply to the last isn't whole
+sent_so_far : {R W : Type 0} (rem : R → Option (List ℕ)) (rf : R → ℕ) (con : W → Option (List ℕ)) (wf : W → ℕ) (all : List Request) (old : List ℕ) (reader : R) (writer : W)
+    (items : List Item) (request : Request) (left : List Request) (kept : List ℕ) (mid : R) (middle : W) (i : IsUnderWay rem rf con wf all old reader writer items (request ∷ left) kept mid middle)
+    (bs : List ℕ) (r : Reply) → reply request (kept ++ bs) ≡ r → lines_behind r (λ rest. sent_lines left rest) ≡ [] → sent_lines all (old ++ (i.came ++ bs)) ≡ i.text ++ request_line request
+sent_so_far rem rf con wf all old reader writer items request left kept mid middle i bs r e none =
+    i.lines bs ∙ ap (λ q. i.text ++ (request_line request ++ lines_behind q (λ rest. sent_lines left rest))) e ∙ ap (λ t. i.text ++ (request_line request ++ t)) none ∙ ap (λ t. i.text ++ t) (append-nil (request_line request))
+
+-- the next request's line and those before are a beginning of all
+begins_all : {R W : Type 0} (rem : R → Option (List ℕ)) (rf : R → ℕ) (con : W → Option (List ℕ)) (wf : W → ℕ) (all : List Request) (old : List ℕ) (reader : R) (writer : W)
+    (items : List Item) (request : Request) (left : List Request) (kept : List ℕ) (mid : R) (middle : W) (i : IsUnderWay rem rf con wf all old reader writer items (request ∷ left) kept mid middle)
+    (bs : List ℕ) → IsBeginning (i.text ++ request_line request) (sent_lines all (old ++ (i.came ++ bs)))
+begins_all rem rf con wf all old reader writer items request left kept mid middle i bs =
+    (lines_behind (reply request (kept ++ bs)) (λ rest. sent_lines left rest), i.lines bs ∙ sym (append_assoc i.text (request_line request) (lines_behind (reply request (kept ++ bs)) (λ rest. sent_lines left rest))))
+
+-- the next request isn't granted
+pub ends_early : {R W : Type 0} (rem : R → Option (List ℕ)) (rf : R → ℕ) (con : W → Option (List ℕ)) (wf : W → ℕ) (all : List Request) (old : List ℕ) (reader : R) (writer : W)
+    (items : List Item) (request : Request) (left : List Request) (kept new : List ℕ) (mid after : R) (middle sent : W) (fault : ClientFault)
+    → IsUnderWay rem rf con wf all old reader writer items (request ∷ left) kept mid middle → AskGives rem rf con wf request kept mid middle (Err fault) new after sent
+    → RequestsGive rem rf con wf all old reader writer (Err fault) new after sent
+ends_early rem rf con wf all old reader writer items request left kept new mid after middle sent Write i a = let b = a.0 in (
+  i.came,
+  i.text ++ request_line request,
+  subst (λ r. Received rem rf reader i.came r) (sym a.1) i.read,
+  record {
+    front = i.text ++ b.front;
+    begins = (b.begins.0, ap (λ t. i.text ++ t) b.begins.1 ∙ sym (append_assoc i.text b.front b.begins.0));
+    bytes_written = appends_joins (con writer) (con middle) (con sent) i.text b.front i.written.bytes_written b.bytes_written;
+    failed = b.failed ∙ ap counted i.written.well;
+  },
+  λ more. begins_all rem rf con wf all old reader writer items request left kept mid middle i more,
+)
+ends_early rem rf con wf all old reader writer items request left kept new mid after middle sent (ErrWord w) i a = let f = a.1 in (
+  i.came ++ f.0,
+  i.text ++ request_line request,
+  received_joins rem rf reader mid after i.came f.0 i.read f.1,
+  written_joins con wf writer middle sent i.text (request_line request) i.written a.0.bytes_written a.0.well,
+  (λ more. ap (λ bs. sent_lines all (old ++ bs)) (append_assoc i.came f.0 more) ∙ sent_so_far rem rf con wf all old reader writer items request left kept mid middle i (f.0 ++ more) (Refused w) (f.2 more) refl),
+  (λ more. ap (λ bs. last_reply all (old ++ bs)) (append_assoc i.came f.0 more) ∙ i.replies (f.0 ++ more) ∙ ap (λ r. reply_behind r (λ later rest. last_reply_after later left rest)) (f.2 more)),
+)
+ends_early rem rf con wf all old reader writer items request left kept new mid after middle sent BadReply i a = let f = a.1 in (
+  i.came ++ f.0,
+  i.text ++ request_line request,
+  received_joins rem rf reader mid after i.came f.0 i.read f.1,
+  written_joins con wf writer middle sent i.text (request_line request) i.written a.0.bytes_written a.0.well,
+  (λ more. ap (λ bs. sent_lines all (old ++ bs)) (append_assoc i.came f.0 more) ∙ sent_so_far rem rf con wf all old reader writer items request left kept mid middle i (f.0 ++ more) Bad (f.2 more) refl),
+  (λ more. ap (λ bs. last_reply all (old ++ bs)) (append_assoc i.came f.0 more) ∙ i.replies (f.0 ++ more) ∙ ap (λ r. reply_behind r (λ later rest. last_reply_after later left rest)) (f.2 more)),
+)
+ends_early rem rf con wf all old reader writer items request left kept new mid after middle sent EarlyEnd i a = let f = a.1 in (
+  i.came ++ f.0,
+  i.text ++ request_line request,
+  received_joins rem rf reader mid after i.came f.0 i.read f.1,
+  written_joins con wf writer middle sent i.text (request_line request) i.written a.0.bytes_written a.0.well,
+  f.2,
+  sent_so_far rem rf con wf all old reader writer items request left kept mid middle i f.0 Unfinished f.3 refl,
+  i.replies f.0 ∙ ap (λ r. reply_behind r (λ later rest. last_reply_after later left rest)) f.3,
+)
+ends_early rem rf con wf all old reader writer items request left kept new mid after middle sent Read i a = let f = a.1 in (
+  i.came ++ f.0,
+  i.text ++ request_line request,
+  read_failed_joins rem rf reader mid after i.came f.0 i.read f.1,
+  written_joins con wf writer middle sent i.text (request_line request) i.written a.0.bytes_written a.0.well,
+  sent_so_far rem rf con wf all old reader writer items request left kept mid middle i f.0 Unfinished f.2 refl,
+  i.replies f.0 ∙ ap (λ r. reply_behind r (λ later rest. last_reply_after later left rest)) f.2,
+)
+ends_early rem rf con wf all old reader writer items request left kept new mid after middle sent Memory i a = let f = a.1 in (
+  i.came ++ f.0,
+  i.text ++ request_line request,
+  received_joins rem rf reader mid after i.came f.0 i.read f.1,
+  written_joins con wf writer middle sent i.text (request_line request) i.written a.0.bytes_written a.0.well,
+  (λ more. subst (λ bs. IsBeginning (i.text ++ request_line request) (sent_lines all (old ++ bs))) (sym (append_assoc i.came f.0 more)) (begins_all rem rf con wf all old reader writer items request left kept mid middle i (f.0 ++ more))),
+)
+ends_early rem rf con wf all old reader writer items request left kept new mid after middle sent Connect i a = absurd a.1
+ends_early rem rf con wf all old reader writer items request left kept new mid after middle sent BadTarget i a = absurd a.1
+
+-- the next of what is left
+pub next_left : (all : List Request) (i : ℕ) (item next : Request) → i < length all → item ≡ get_or all i item → next ≡ item → drop i all ≡ next ∷ drop (i + 1) all
+next_left all i item next within is e =
+    drop-cons all i item within ∙ ap (λ x. x ∷ drop (suc i) all) (sym is) ∙ ap (λ x. x ∷ drop (suc i) all) (sym e) ∙ ap (λ n. next ∷ drop n all) (sym (add-one i))

@@ -1,0 +1,90 @@
+-- What a program's words ask for: the server, the requests, and how the items of the last reply are printed.
+use Rattle.std.specs.Prelude.{ℕ, Bool, true, false, List, [], ◌∷◌, ◌++◌, ◌==◌, ◌&&◌, nat_le, length, Option, Some, None, option_map, option_and_then, if◌then◌else◌, codes}
+use Rattle.std.specs.List.{before_first, after_first}
+use denote.Ref.{Bor}
+use Rattle.nutwords.specs.Reading.{read_name, read_value}
+use Rattle.nutreply.specs.declared.request.Query.{Query}
+use Rattle.nutreply.specs.declared.request.Query.TheVariants.{Ups, Var, Rw, Cmd, Client}
+use Rattle.nutreply.specs.declared.request.Request.{Request}
+use Rattle.nutreply.specs.declared.request.Request.TheVariants.{List as ListOf, GetVar, Username, Password, SetVar, Instcmd}
+use Rattle.nutclient.specs.Target.{lawful, both, has_byte, server_of, local_server, ups_place_of}
+use Rattle.nutclient.specs.declared.limits.TheConstants.{USER_LIMIT, PASSWORD_LIMIT}
+use Rattle.nutclient.specs.Requests.{requests_in}
+use Rattle.nutclient.specs.declared.job.Job.{Job}
+use Rattle.nutclient.specs.declared.target.Target.{Target}
+use Rattle.nutclient.specs.declared.form.Form.{Form}
+use Rattle.nutclient.specs.declared.form.Form.TheVariants.{Name, Value, Colon, Equals}
+use Rattle.nutclient.specs.declared.given.Given.{Given}
+use Rattle.nutclient.specs.declared.given.Given.TheVariants.{Variables, Variable, Upses, Descriptions, Clients, Writable, Set, Commands, Command}
+
+-- A UPS and its server.
+abbrev pub UpsPlace : Type 0
+UpsPlace = List ℕ × Target
+
+abbrev pub JobParts : Type 0
+JobParts = Target × List Request × Form
+
+-- What a job is of.
+abbrev pub parts_of : Job → JobParts
+parts_of job = (job.target, requests_in job.requests, job.form)
+
+-- A listing of a UPS.
+abbrev pub listing_of : (List ℕ → Query) → Form → Option UpsPlace → Option JobParts
+listing_of query form place = option_map (λ p. (p.1, ListOf (query p.0) ∷ [], form)) place
+
+abbrev pub server_or_local : Option (Bor (List ℕ)) → Option Target
+server_or_local None = Some local_server
+server_or_local (Some text) = server_of text.now
+
+-- The UPSs of a server.
+abbrev pub upses_of : Form → Option Target → Option JobParts
+upses_of form server = option_map (λ target. (target, ListOf Ups ∷ [], form)) server
+
+-- 1 to so many lawful bytes.
+abbrev pub word_of : ℕ → List ℕ → Option (List ℕ)
+word_of most text = if nat_le 1 (length text) && nat_le (length text) most then lawful (read_value text) else None
+
+-- The user's name, then the password.
+abbrev pub login_of : List ℕ → List ℕ → Option (List Request)
+login_of user password = both (λ u p. Username u ∷ Password p ∷ []) (word_of USER_LIMIT user) (word_of PASSWORD_LIMIT password)
+
+-- The variable and the value of `VAR=VALUE`, cut at the first equals sign.
+abbrev pub setting_of : List ℕ → Option (List ℕ × List ℕ)
+setting_of text =
+    if has_byte 61 text then both (λ name value. (name, value)) (lawful (read_name (before_first (λ b. b == 61) text))) (lawful (read_value (after_first (λ b. b == 61) text)))
+    else None
+
+-- A value for a command, which may have none.
+abbrev pub value_of : Option (Bor (List ℕ)) → Option (Option (List ℕ))
+value_of None = Some None
+value_of (Some text) = option_map (λ value. Some value) (lawful (read_value text.now))
+
+-- An order behind the login.
+abbrev pub ordered : Option (List Request) → Option (Target × Request) → Option JobParts
+ordered login order = both (λ requests o. (o.0, requests ++ o.1 ∷ [], Value)) login order
+
+abbrev pub set_order : Option UpsPlace → Option (List ℕ × List ℕ) → Option (Target × Request)
+set_order = both (λ place set. (place.1, SetVar place.0 set.0 set.1))
+
+-- A UPS, its server and a name.
+abbrev pub named_place : Option UpsPlace → Option (List ℕ) → Option (UpsPlace × List ℕ)
+named_place = both (λ place name. (place, name))
+
+abbrev pub command_order : Option UpsPlace → Option (List ℕ) → Option (Option (List ℕ)) → Option (Target × Request)
+command_order place name value = both (λ named v. (named.0.1, Instcmd named.0.0 named.1 v)) (named_place place name) value
+
+-- The value of a variable.
+abbrev pub variable_of : Option UpsPlace → Option (List ℕ) → Option JobParts
+variable_of = both (λ p n. (p.1, GetVar p.0 n ∷ [], Value))
+
+-- What each of the programs' forms asks for, where its words are lawful.
+abbrev pub job_of : Given → Option JobParts
+job_of (Variables ups) = listing_of Var Colon (ups_place_of ups.now)
+job_of (Variable ups name) = variable_of (ups_place_of ups.now) (lawful (read_name name.now))
+job_of (Upses server) = upses_of Name (server_or_local server)
+job_of (Descriptions server) = upses_of Colon (server_or_local server)
+job_of (Clients ups) = listing_of Client Name (ups_place_of ups.now)
+job_of (Writable ups) = listing_of Rw Equals (ups_place_of ups.now)
+job_of (Set ups setting user password) = ordered (login_of user.now password.now) (set_order (ups_place_of ups.now) (setting_of setting.now))
+job_of (Commands ups) = listing_of Cmd Name (ups_place_of ups.now)
+job_of (Command ups name value user password) = ordered (login_of user.now password.now) (command_order (ups_place_of ups.now) (lawful (read_name name.now)) (value_of value))

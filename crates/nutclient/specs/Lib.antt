@@ -1,0 +1,4 @@
+pub mod Requests
+pub mod Printed
+pub mod Target
+pub mod Job

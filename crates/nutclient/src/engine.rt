@@ -1,0 +1,85 @@
+//! The engine of the programs.
+ghost use Rattle.std.specs.Prelude.{◌≡◌, ◌≢◌, ◌++◌, [], Err, OnErr, OnOk, MatchResult, true, false, Some, List, ℕ};
+ghost use Rattle.nutreply.specs.Ends.{NoneFailed};
+ghost use Rattle.nutreply.specs.State.{unread_of, reader_of, writer_of, is_over};
+ghost use Rattle.nutclient.specs.Requests.{RequestsGive, requests_in};
+ghost use Rattle.nutclient.specs.Printed.{text_of, printed, PrintGives, RunGives, Answers};
+
+use crate::printed::text_of;
+use crate::{Form, Job};
+use nutreply::{ClientFault, Items, Request, Session, Sink, Source, ask, send};
+use std::alloc::Global;
+
+/// Does the job: sends its requests, each once the one before is granted, and prints the items of the last reply once
+/// it is whole. This is what upsc, upsrw and upscmd do.
+pub fn run<R: Source, W: Sink, O: Sink>(
+    session: &mut Session<R, W>,
+    out: &mut O,
+    job: &Job,
+) -> Result<(), ClientFault>
+    // After a fault every further job is refused, and changes nothing.
+    ensures over { is_over session.old ≡ true
+        → (result ≡ Err ClientFault.EarlyEnd) × (session.new ≡ session.old) × (out.new ≡ out.old) }
+    // What was sent, what came and what was printed, for each result.
+    ensures gives { is_over session.old ≡ false
+        → RunGives R.remaining R.failures W.contents W.failures O.contents O.failures
+        (requests_in job.now.requests) job.now.form
+        (unread_of session.old) (reader_of session.old) (writer_of session.old) out.old result
+        (reader_of session.new) (writer_of session.new) out.new }
+    // Where no call failed and memory was there, the bytes decide what is printed, however they are cut.
+    ensures printed { is_over session.old ≡ false
+        → (bytes : List ℕ) → R.remaining (reader_of session.old) ≡ Some bytes
+        → NoneFailed (R.failures (reader_of session.old)) (R.failures (reader_of session.new))
+        → NoneFailed (W.failures (writer_of session.old)) (W.failures (writer_of session.new))
+        → NoneFailed (O.failures out.old) (O.failures out.new)
+        → result ≢ Err ClientFault.Memory
+        → Answers O.contents
+        (printed (requests_in job.now.requests) job.now.form (unread_of session.old ++ bytes))
+        out.old result out.new }
+    ensures fault { OnErr result (is_over session.new ≡ true) }
+{
+    if session.is_over() {
+        return Err(ClientFault::EarlyEnd);
+    }
+    let items = match ask_all(session, job.requests.as_slice()) {
+        Ok(items) => items,
+        Err(fault) => return Err(fault),
+    };
+    let printed = print(session.alloc(), job.form, &items, out);
+    if printed.is_err() {
+        session.end();
+    }
+    printed
+}
+
+/// Sends each request once the one before is granted, and gives the items of the last reply.
+fn ask_all<R: Source, W: Sink>(
+    session: &mut Session<R, W>,
+    requests: &[Request],
+) -> Result<Items, ClientFault>
+    requires { is_over session.old ≡ false }
+    ensures gives { RequestsGive R.remaining R.failures W.contents W.failures requests.now
+        (unread_of session.old) (reader_of session.old) (writer_of session.old) result
+        (unread_of session.new) (reader_of session.new) (writer_of session.new) }
+    ensures fault { OnErr result (is_over session.new ≡ true) }
+    ensures goes_on { OnOk result (is_over session.new ≡ false) }
+{
+    let mut items = Items::new(session.alloc());
+    for request in requests {
+        items = match ask(session, request) {
+            Ok(items) => items,
+            Err(fault) => return Err(fault),
+        };
+    }
+    Ok(items)
+}
+
+/// Prints the items, each on a line.
+fn print<O: Sink>(alloc: Global, form: Form, items: &Items, out: &mut O) -> Result<(), ClientFault>
+    ensures { PrintGives O.contents O.failures (text_of form items.now) out.old result out.new }
+{
+    match text_of(alloc, form, items) {
+        Ok(text) => send(out, text.as_slice()),
+        Err(_) => Err(ClientFault::Memory),
+    }
+}

@@ -1,0 +1,50 @@
+//! What a program's words ask for.
+
+/// What a program is asked to do, by its words as they were typed (upsc(8), upsrw(8), upscmd(8)).
+#[derive(Clone, Copy, Debug, PartialEq, Eq)]
+pub enum Given<'a> {
+    /// `upsc UPS`: the variables of a UPS.
+    Variables {
+        ups: &'a str,
+    },
+    /// `upsc UPS VAR`: the value of a variable.
+    Variable {
+        ups: &'a str,
+        name: &'a str,
+    },
+    /// `upsc -l [HOST]`: the names of the UPSs.
+    Upses {
+        server: Option<&'a str>,
+    },
+    /// `upsc -L [HOST]`: the names of the UPSs with their descriptions.
+    Descriptions {
+        server: Option<&'a str>,
+    },
+    /// `upsc -c UPS`: the clients that are logged in to a UPS.
+    Clients {
+        ups: &'a str,
+    },
+    /// `upsrw UPS`: the variables that may be set.
+    Writable {
+        ups: &'a str,
+    },
+    /// `upsrw -s VAR=VALUE -u USER -p PASS UPS`: set a variable.
+    Set {
+        ups: &'a str,
+        setting: &'a str,
+        user: &'a str,
+        password: &'a str,
+    },
+    /// `upscmd -l UPS`: the commands of a UPS.
+    Commands {
+        ups: &'a str,
+    },
+    /// `upscmd -u USER -p PASS UPS CMD [VALUE]`: do a command.
+    Command {
+        ups: &'a str,
+        name: &'a str,
+        value: Option<&'a str>,
+        user: &'a str,
+        password: &'a str,
+    },
+}

@@ -1,0 +1,28 @@
+//! The clients upsc, upsrw and upscmd (RFC 9271; upsc(8), upsrw(8), upscmd(8)): what their words ask for, the requests
+//! that are sent for it, and what is printed of the replies.
+#![tactic(auto)]
+
+mod connection;
+mod engine;
+mod form;
+mod given;
+mod host;
+mod job;
+mod limits;
+mod printed;
+mod program;
+mod requests;
+mod target;
+#[cfg(test)]
+mod tests;
+
+pub use connection::connect;
+pub use engine::run;
+pub use form::Form;
+pub use given::Given;
+pub use host::Host;
+pub use job::Job;
+pub use limits::{DEFAULT_PORT, HOST_LIMIT, PASSWORD_LIMIT, PORT_LIMIT, USER_LIMIT};
+pub use program::{end, perform, tell, words_of};
+pub use requests::Requests;
+pub use target::Target;

@@ -1,0 +1,16 @@
+//! The limits of the words, in bytes, and the port of the protocol.
+
+/// The longest name of a host.
+pub const HOST_LIMIT: usize = 255;
+
+/// The longest name of a user.
+pub const USER_LIMIT: usize = 64;
+
+/// The longest password.
+pub const PASSWORD_LIMIT: usize = 256;
+
+/// The greatest port.
+pub const PORT_LIMIT: usize = 65_535;
+
+/// The port of the protocol (IANA: nut).
+pub const DEFAULT_PORT: u16 = 3493;

@@ -1,0 +1,24 @@
+//! The requests of a job.
+ghost use Rattle.std.specs.Prelude.{◌≡◌};
+ghost use Rattle.nutclient.specs.Requests.{requests_in};
+
+use nutreply::Request;
+
+/// The requests of a job: one, or one behind the user's name and the password.
+#[derive(Debug, Drop)]
+pub enum Requests {
+    Alone([Request; 1]),
+    BehindLogin([Request; 3]),
+}
+
+impl Requests {
+    /// All of them, in the order in which they are sent.
+    pub fn as_slice(&self) -> &[Request]
+        ensures { result.now ≡ requests_in self.now }
+    {
+        match self {
+            Requests::Alone(requests) => requests,
+            Requests::BehindLogin(requests) => requests,
+        }
+    }
+}

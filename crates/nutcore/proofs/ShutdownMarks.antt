@@ -1,0 +1,182 @@
+-- A forced shutdown is set by lines alone, and by those that have the right.
+use Rattle.std.proofs.Common.{◌≡◌, ◌≢◌, ℕ, zero, suc, Bool, true, false, List, [], ◌∷◌, Option, Some, None, Result, Ok, Err, refl, sym, ◌∙◌, ap, cond, eqb, map, length, arith}
+use Rattle.std.specs.Prelude.{slice_get, codes}
+use Rattle.std.specs.Option.{option_map_or, option_map}
+use Rattle.std.proofs.lemmas.Bool.{eqb-true, eqb-false}
+use Rattle.nutusers.specs.declared.rights.Right.TheVariants as rights
+use Rattle.nutusers.specs.declared.ups_list.UpsId.{UpsId}
+use Rattle.nutdriver.specs.declared.report.Report.{Report}
+use Rattle.nutdriver.specs.declared.report.LineOutcome.{LineOutcome}
+use Rattle.nutdriver.specs.declared.report.LineOutcome.TheVariants.{Accepted, Refused}
+use Rattle.nutdriver.specs.Report.{after_line as report_after}
+use Rattle.nutanswer.specs.declared.command.Command.{Command}
+use Rattle.nutanswer.specs.declared.command.Command.TheVariants.{Fsd}
+use Rattle.nutanswer.specs.declared.err_word.ErrWord.{ErrWord}
+use Rattle.nutanswer.specs.declared.reply.Change.{Change}
+use Rattle.nutanswer.specs.declared.reply.Change.TheVariants as changes
+use Rattle.nutanswer.specs.Command.{read_command}
+use Rattle.nutcore.specs.declared.event.Event.{Event}
+use Rattle.nutcore.specs.declared.event.Event.TheVariants.{DriverUp, DriverBytes, DriverTook, DriverDown, Tick, Open, Feed, Took, Close}
+use Rattle.nutcore.specs.Lines.{behind}
+use Rattle.nutcore.specs.Session.{SessionState}
+use Rattle.nutcore.specs.Ups.{UpsState, with_fsd, after_connecting, after_loss, after_outcome, after_text, after_driver_line, after_driver_line_of, after_driver_lines, after_all_driver_lines, next_driver_line, after_tick, ping_is_due, with_bytes, is_driver_overlong}
+use Rattle.nutcore.specs.Server.{ServerState, session, with_session, ups_at, changed_at, with_ups_changed}
+use Rattle.nutcore.specs.Reply.{seen, asker, changed_upses, change_by, text_to}
+use Rattle.nutcore.specs.Pump.{next_line_for, after_line, after_notice, after_notice_of, is_overlong_of, notified}
+use Rattle.nutcore.specs.Step.{after_by, with_input, with_input_of, without_output, without_output_of, opened, may_open, ticked, connected, disconnected, after_driver_pump, after_driver_bytes, after_driver_took, driver_may_take}
+use Rattle.nutcore.specs.History.{Execution, of_line}
+use Rattle.nutcore.specs.ByRight.{IsByRight, SetsShutdownByRight, is_shut_down, AForcedShutdownIsSetByRight}
+use Rattle.nutcore.proofs.Pumping.{is_next, after_line_is, change_at}
+use Rattle.nutcore.proofs.TableRows.{shutdown_row}
+use Rattle.nutcore.proofs.Marks.{IsSetByLines, IsPlain, run_sets, no_mark}
+
+-- the forced shutdown of the UPS at a place
+abbrev fsd_at : ℕ → List UpsState → Bool
+fsd_at q xs = option_map_or (λ (x : UpsState). x.fsd) (slice_get xs q) false
+
+abbrev Keeps : (UpsState → UpsState) → Type 0
+Keeps f = (x : UpsState) → (f x).fsd ≡ x.fsd
+
+changed_keeps : (f : UpsState → UpsState) → Keeps f → (p q : ℕ) (xs : List UpsState) → fsd_at q (changed_at f p xs) ≡ fsd_at q xs
+changed_keeps f k p q [] = refl
+changed_keeps f k zero zero (x ∷ xs) = k x
+changed_keeps f k zero (suc q) (x ∷ xs) = refl
+changed_keeps f k (suc p) zero (x ∷ xs) = refl
+changed_keeps f k (suc p) (suc q) (x ∷ xs) = changed_keeps f k p q xs
+
+map_keeps : (f : UpsState → UpsState) → Keeps f → (q : ℕ) (xs : List UpsState) → fsd_at q (map f xs) ≡ fsd_at q xs
+map_keeps f k q [] = refl
+map_keeps f k zero (x ∷ xs) = k x
+map_keeps f k (suc q) (x ∷ xs) = map_keeps f k q xs
+
+-- a UPS at another place isn't changed
+other_place : (f : UpsState → UpsState) (p q : ℕ) (xs : List UpsState) → p ≢ q → fsd_at q (changed_at f p xs) ≡ fsd_at q xs
+other_place f p q [] differ = refl
+other_place f zero zero (x ∷ xs) differ = absurd (differ refl)
+other_place f zero (suc q) (x ∷ xs) differ = refl
+other_place f (suc p) zero (x ∷ xs) differ = refl
+other_place f (suc p) (suc q) (x ∷ xs) differ = other_place f p q xs (λ (e : p ≡ q). differ (ap suc e))
+
+outcome_fsd : (x : UpsState) (r : Report × LineOutcome) → (after_outcome x r).fsd ≡ x.fsd
+outcome_fsd x (report, Accepted) = refl
+outcome_fsd x (report, Refused fault) = refl
+
+driver_line_fsd : (moment : ℕ) (x : UpsState) (o : Option (List ℕ)) → (after_driver_line_of moment x o).fsd ≡ x.fsd
+unfolding after_driver_line_of
+driver_line_fsd moment x None = refl
+driver_line_fsd moment x (Some line) = outcome_fsd (record x { unfinished = behind line x.unfinished }) (report_after moment x.report line)
+
+driver_lines_fsd : (k moment : ℕ) (x : UpsState) → (after_driver_lines k moment x).fsd ≡ x.fsd
+unfolding after_driver_lines after_driver_line
+driver_lines_fsd zero moment x = refl
+driver_lines_fsd (suc k) moment x = driver_lines_fsd k moment (after_driver_line moment x) ∙ driver_line_fsd moment x (next_driver_line x)
+
+cond_fsd : (b : Bool) (x y z : UpsState) → x.fsd ≡ z.fsd → y.fsd ≡ z.fsd → (cond b x y).fsd ≡ z.fsd
+cond_fsd true x y z e f = e
+cond_fsd false x y z e f = f
+
+all_lines_fsd : (moment : ℕ) (x : UpsState) → (after_all_driver_lines moment x).fsd ≡ x.fsd
+unfolding after_all_driver_lines
+all_lines_fsd moment x = driver_lines_fsd (length x.unfinished) moment x
+
+driver_bytes_fsd : (moment : ℕ) (piece : List ℕ) (m : Option ℕ) → Keeps (after_driver_bytes moment piece m)
+unfolding after_driver_bytes
+driver_bytes_fsd moment piece None x =
+    let y : UpsState = after_all_driver_lines moment (with_bytes piece x) in
+    let e : y.fsd ≡ x.fsd = all_lines_fsd moment (with_bytes piece x) in
+    cond_fsd x.report.connected (cond (is_driver_overlong y) (after_loss y) y) x x (cond_fsd (is_driver_overlong y) (after_loss y) y x e e) refl
+driver_bytes_fsd moment piece (Some k) x = cond_fsd x.report.connected (after_loss (after_driver_lines k moment (with_bytes piece x))) x x (driver_lines_fsd k moment (with_bytes piece x)) refl
+
+-- what isn't the line of a client sets no forced shutdown
+of_upses : (q : ℕ) (xs ys : List UpsState) → fsd_at q ys ≡ fsd_at q xs → fsd_at q xs ≡ false → fsd_at q ys ≡ false
+of_upses q xs ys e h = e ∙ h
+
+either_of : (u : UpsId) (s t : ServerState) (b : Bool) → is_shut_down u s ≡ false → is_shut_down u t ≡ false → is_shut_down u (cond b s t) ≡ false
+either_of u s t true e f = e
+either_of u s t false e f = f
+
+opened_by : (u : UpsId) (s : ServerState) (address : List ℕ) (m : Option ℕ) → is_shut_down u s ≡ false → is_shut_down u (opened s address m) ≡ false
+unfolding opened
+opened_by u s address None h = either_of u _ s (may_open s) h h
+opened_by u s address (Some k) h = h
+
+by_plain : (u : UpsId) (s : ServerState) (e : Event) (m : Option ℕ) → IsPlain e → is_shut_down u s ≡ false → is_shut_down u (after_by s e m) ≡ false
+unfolding after_by ticked
+by_plain u s (DriverUp v) m plain h = changed_keeps (connected s.moment) (λ x. cond_fsd x.report.connected x (after_connecting s.moment x) x refl refl) v.place u.place s.upses ∙ h
+by_plain u s (DriverBytes v piece) m plain h = changed_keeps (after_driver_bytes s.moment piece m) (driver_bytes_fsd s.moment piece m) v.place u.place s.upses ∙ h
+by_plain u s (DriverTook v n) m plain h = changed_keeps (after_driver_took n) (λ x. cond_fsd (driver_may_take n x) _ x x refl refl) v.place u.place s.upses ∙ h
+by_plain u s (DriverDown v) m plain h = changed_keeps disconnected (λ x. cond_fsd x.report.connected (after_loss x) x x refl refl) v.place u.place s.upses ∙ h
+by_plain u s (Tick seconds) m plain h = map_keeps _ (λ x. cond_fsd (ping_is_due s.max_age _ x) _ x x refl refl) u.place s.upses ∙ h
+by_plain u s (Open address) m plain h = opened_by u s address m h
+by_plain u s (Feed c piece) m plain h = absurd plain
+by_plain u s (Took c n) m plain h = absurd plain
+by_plain u s (Close c) m plain h = h
+
+by_notice_of : (u : UpsId) (s : ServerState) (o : Option SessionState) → is_shut_down u s ≡ false → is_shut_down u (after_notice_of s o) ≡ false
+unfolding after_notice_of
+by_notice_of u s None h = h
+by_notice_of u s (Some x) h = either_of u (with_session s (notified x)) s (is_overlong_of (Some x)) h h
+
+-- a line that sets it has the row of FSD
+change_sets : (u : UpsId) (change : Change) (xs : List UpsState) → fsd_at u.place xs ≡ false → fsd_at u.place (changed_upses change xs) ≡ true → change ≡ changes.Fsd u
+change_sets u changes.Nothing xs before after = no_mark _ before after
+change_sets u (changes.Username name) xs before after = no_mark _ before after
+change_sets u (changes.Password password) xs before after = no_mark _ before after
+change_sets u (changes.Login v) xs before after = no_mark _ before after
+change_sets u changes.Ending xs before after = no_mark _ before after
+change_sets u (changes.Fsd v) xs before after = by_place (eqb v.place u.place) refl
+  where
+    by_place : (b : Bool) → eqb v.place u.place ≡ b → changes.Fsd v ≡ changes.Fsd u
+    by_place true e = ap (λ (p : ℕ). let w : UpsId = record { place = p } in changes.Fsd w) (eqb-true v.place u.place e)
+    by_place false e = no_mark _ before (sym (other_place with_fsd v.place u.place xs (λ (k : v.place ≡ u.place). eqb-false v.place u.place e k)) ∙ after)
+
+by_read : (s : ServerState) (c : ℕ) (line : List ℕ) (u : UpsId) (r : Result (Option Command) ErrWord) → read_command line ≡ r → change_by s c r ≡ changes.Fsd u → IsByRight s c line Fsd rights.Fsd (codes "OK" ∷ codes "FSD-SET" ∷ []) u
+by_read s c line u (Err word) e h = cc h
+by_read s c line u (Ok None) e h = cc h
+by_read s c line u (Ok (Some command)) e h =
+    let row = shutdown_row (seen s) (asker c s) u command h in
+    record {
+      ups = row.ups;
+      name = row.has.name;
+      password = row.has.password;
+      known = row.known;
+      command = e ∙ ap (λ (k : Command). let r : Result (Option Command) ErrWord = Ok (Some k) in r) row.is;
+      named = row.named;
+      this = row.this;
+      username_given = row.has.username_given;
+      password_given = row.has.password_given;
+      granted = row.has.granted;
+      answered = ap (text_to s c) e ∙ row.text;
+    }
+
+by_line : (u : UpsId) (s : ServerState) (c : ℕ) (line : List ℕ) → next_line_for s c ≡ Some line → is_shut_down u s ≡ false → is_shut_down u (after_line s c) ≡ true → SetsShutdownByRight u (of_line s c line)
+by_line u s c line next before after =
+    let n = is_next s c line next in
+    let set : fsd_at u.place (changed_upses (change_at s c line) s.upses) ≡ true = ap (is_shut_down u) (sym (after_line_is s c line n.asking n.found next)) ∙ after in
+    by_read s c line u (read_command line) refl (change_sets u (change_at s c line) s.upses before set)
+
+by_notice : (u : UpsId) (s : ServerState) (c : ℕ) → is_shut_down u s ≡ false → is_shut_down u (after_notice s c) ≡ false
+unfolding after_notice
+by_notice u s c h = by_notice_of u s (session c s) h
+
+by_input_of : (u : UpsId) (s : ServerState) (piece : List ℕ) (o : Option SessionState) → is_shut_down u s ≡ false → is_shut_down u (with_input_of s o piece) ≡ false
+unfolding with_input_of
+by_input_of u s piece None h = h
+by_input_of u s piece (Some x) h = h
+
+by_input : (u : UpsId) (s : ServerState) (c : ℕ) (piece : List ℕ) → is_shut_down u s ≡ false → is_shut_down u (with_input s c piece) ≡ false
+unfolding with_input
+by_input u s c piece h = by_input_of u s piece (session c s) h
+
+by_output_of : (u : UpsId) (s : ServerState) (n : ℕ) (o : Option SessionState) → is_shut_down u s ≡ false → is_shut_down u (without_output_of s o n) ≡ false
+unfolding without_output_of
+by_output_of u s n None h = h
+by_output_of u s n (Some x) h = h
+
+by_output : (u : UpsId) (s : ServerState) (c n : ℕ) → is_shut_down u s ≡ false → is_shut_down u (without_output s c n) ≡ false
+unfolding without_output
+by_output u s c n h = by_output_of u s n (session c s) h
+
+pub shutdowns : AForcedShutdownIsSetByRight
+shutdowns = λ old new events outcomes u run before after.
+    run_sets (is_shut_down u) (SetsShutdownByRight u) (record { by_line = by_line u; by_notice = by_notice u; by_input = by_input u; by_output = by_output u; by_plain = by_plain u }) old new events outcomes run before after

@@ -1,0 +1,5 @@
+use Rattle.nutcore.proofs.LoginMarks.{logins}
+use Rattle.nutcore.proofs.a_login_is_by_right.Goals as goal
+
+pub returns : goal.returns
+returns c = logins

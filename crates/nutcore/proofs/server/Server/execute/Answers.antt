@@ -1,0 +1,25 @@
+use Rattle.std.proofs.Common.{◌≡◌, ◌∙◌, Result, Ok, sym, ap, subst, refl, List, ℕ}
+use Rattle.std.specs.declared.alloc.AllocError.{AllocError}
+use Rattle.nutanswer.specs.declared.reply.Reply.{Reply}
+use Rattle.nutanswer.specs.declared.reply.Reply.TheVariants.{One, Many}
+use Rattle.nutanswer.specs.declared.reply.Change.TheVariants.{Nothing}
+use Rattle.nutlisting.specs.Items.{text_of}
+use Rattle.nutcore.specs.Serving.{Replies, RepliesOrLacks}
+use Rattle.nutcore.proofs.Serving.{line_is, on_ok_weaker}
+use Rattle.nutcore.proofs.server.Server.execute.Goals as goal
+
+pub returns-in-One-clause-ok : goal.returns-in-One-clause-ok
+returns-in-One-clause-ok c =
+    let line : List ℕ = c.requires.next.0 in
+    let e : c.args.reply ≡ Ok (One c.in-One.text c.in-One.change) = c.in_ok-text.was ∙ ap (λ (r : Reply). Ok r) c.in-One.is in
+    let told : Replies c.args.self.now c.args.c line (One c.in-One.text c.in-One.change) = subst (λ (r : Result Reply AllocError). RepliesOrLacks c.args.self.now c.args.c line r) e c.requires.next.2 in
+    line_is c.args.self.now c.change_upses.new.self c.answer_text.new.self c.args.c line c.as_slice.result.now c.in-One.change c.requires.next.1 (told.1 ∙ sym c.as_slice.ensures.value) told.2 c.change_upses.ensures c.answer_text.ensures
+
+pub returns-in-Many-clause-ok : goal.returns-in-Many-clause-ok
+returns-in-Many-clause-ok c =
+    let line : List ℕ = c.requires.next.0 in
+    let e : c.args.reply ≡ Ok (Many c.in-Many.listing) = c.in_ok-text.was ∙ ap (λ (r : Reply). Ok r) c.in-Many.is in
+    let told : Replies c.args.self.now c.args.c line (Many c.in-Many.listing) = subst (λ (r : Result Reply AllocError). RepliesOrLacks c.args.self.now c.args.c line r) e c.requires.next.2 in
+    on_ok_weaker c.answer_listing.result _ _
+    (λ answered. line_is c.args.self.now c.args.self.now c.answer_listing.new.self c.args.c line (text_of c.in-Many.listing) Nothing c.requires.next.1 told.1 told.2 refl answered)
+    c.answer_listing.ensures.ok

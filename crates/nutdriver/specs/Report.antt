@@ -1,0 +1,57 @@
+-- What a driver has reported, and what a whole line of it does to that.
+use Rattle.std.specs.Prelude.{ℕ, Bool, true, false, List, Result, Ok, Err}
+use Rattle.nutdriver.specs.declared.line.DriverLine.{DriverLine}
+use Rattle.nutdriver.specs.declared.fault.DriverFault.{DriverFault}
+use Rattle.nutdriver.specs.declared.effect.Effect.{Effect}
+use Rattle.nutdriver.specs.declared.effect.Effect.TheVariants.{Nothing, Changed, DumpDone, DataOk, DataStale, Pong}
+use Rattle.nutdriver.specs.declared.report.Report.{Report}
+use Rattle.nutdriver.specs.declared.report.LineOutcome.{LineOutcome}
+use Rattle.nutdriver.specs.declared.report.LineOutcome.TheVariants.{Accepted, Refused}
+use Rattle.nutdriver.specs.Tree.{TreeState, empty_tree}
+use Rattle.nutdriver.specs.DriverLine.{read_driver_line}
+use Rattle.nutdriver.specs.DriverStep.{driver_step, changes_tree, entries_before}
+
+-- No driver is connected.
+abbrev pub lost_report : Report
+lost_report = record { connected = false; dumped = false; ok = false; heard = 0; tree = empty_tree }
+
+-- A driver has connected at this moment, and has reported nothing yet.
+abbrev pub connected_report : ℕ → Report
+connected_report moment = record { connected = true; dumped = false; ok = false; heard = moment; tree = empty_tree }
+
+-- What a line does beside the tree.
+abbrev pub after_effect : Effect → Report → Report
+after_effect Nothing report = report
+after_effect Changed report = report
+after_effect DumpDone report = record report { dumped = true }
+after_effect DataOk report = record report { ok = true }
+after_effect DataStale report = record report { ok = false }
+after_effect Pong report = report
+
+abbrev pub after_step : Report → Result (TreeState × Effect) DriverFault → Report × LineOutcome
+after_step report (Ok (tree, effect)) = (after_effect effect (record report { tree = tree }), Accepted)
+after_step report (Err fault) = (report, Refused fault)
+
+abbrev pub after_reading : Report → Result DriverLine DriverFault → Report × LineOutcome
+after_reading report (Ok line) = after_step report (driver_step report.tree line)
+after_reading report (Err fault) = (report, Refused fault)
+
+-- A whole line is heard at this moment, accepted or refused. A refused one changes nothing more.
+abbrev pub after_line : ℕ → Report → List ℕ → Report × LineOutcome
+after_line moment report line = after_reading (record report { heard = moment }) (read_driver_line line)
+
+-- The line would change the tree, for which memory may be refused.
+abbrev pub reading_changes : TreeState → Result DriverLine DriverFault → Bool
+reading_changes tree (Ok line) = changes_tree tree line
+reading_changes tree (Err fault) = false
+
+abbrev pub line_changes : TreeState → List ℕ → Bool
+line_changes tree line = reading_changes tree (read_driver_line line)
+
+-- How many entries the map has that the line may change.
+abbrev pub entries_before_reading : TreeState → Result DriverLine DriverFault → ℕ
+entries_before_reading tree (Ok line) = entries_before tree line
+entries_before_reading tree (Err fault) = 0
+
+abbrev pub entries_before_line : TreeState → List ℕ → ℕ
+entries_before_line tree line = entries_before_reading tree (read_driver_line line)

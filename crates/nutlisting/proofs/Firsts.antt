@@ -1,0 +1,59 @@
+-- The first of the items after a place.
+use Rattle.std.proofs.Common.{◌≡◌, ℕ, Bool, true, false, List, [], ◌∷◌, Option, Some, None, refl, sym, ap, ◌∙◌}
+use Rattle.std.specs.Prelude.{map, filter, MatchOption}
+use Rattle.std.specs.Map.{keys_of}
+use Rattle.std.specs.Ordering.{is_lt}
+use Rattle.std.specs.declared.cmp.Ordering.{Ordering}
+use Rattle.nutwords.specs.Frame.{line_of}
+use Rattle.nutmap.specs.Entries.{entries_after, entry_after}
+use Rattle.nutdriver.specs.Tree.{TreeState, byte_order}
+use Rattle.nutlisting.specs.declared.listing.Content.{Content}
+use Rattle.nutlisting.specs.declared.listing.Content.TheVariants.{Commands}
+use Rattle.nutlisting.specs.declared.listing.place.Place.TheVariants.{After}
+use Rattle.nutlisting.specs.Items.{command_item}
+use Rattle.nutlisting.specs.Lines.{IsWholeLine}
+use Rattle.nutlisting.specs.Places.{IsFirst, items_past, names_after}
+
+pub first_of : {E : Type 0} (item : E → List (List ℕ)) (all others : List E) (e : E) (line : List ℕ) → all ≡ e ∷ others → line ≡ line_of (item e) → IsWholeLine line → IsFirst (map item all) line (map item others)
+first_of item all others e line s l w = record {
+  first = ap (λ es. map line_of (map item es)) s ∙ ap (λ z. z ∷ map line_of (map item others)) (sym l);
+  whole_line = w;
+}
+
+module _ {K V : Type 0} (cmp : K → K → Ordering) (es : List (K × V)) (key : Option K) where
+  -- the entries after a key are the next one and those after it
+  abbrev pub Walks : Type 0
+  Walks = MatchOption (entry_after cmp es key) (entries_after cmp es key ≡ []) (λ next. entries_after cmp es key ≡ next ∷ entries_after cmp es (Some next.0))
+
+  pub walks_on : (e : K × V) → Walks → entry_after cmp es key ≡ Some e → entries_after cmp es key ≡ e ∷ entries_after cmp es (Some e.0)
+  walks_on e w h = rw h at w
+
+  pub walks_no_more : Walks → entry_after cmp es key ≡ None → entries_after cmp es key ≡ []
+  walks_no_more w h = rw h at w
+
+-- the names after a name are the keys of the entries after it
+keys_filtered : (p : List ℕ → Bool) (es : List (List ℕ × Unit {0})) → keys_of (filter (λ e. p e.0) es) ≡ filter p (keys_of es)
+keys_filtered p [] = refl
+keys_filtered p (e ∷ es) = cases (p e.0) refl (keys_filtered p es)
+  where
+    cases : (b : Bool) → p e.0 ≡ b → keys_of (filter (λ e. p e.0) es) ≡ filter p (keys_of es) → keys_of (filter (λ e. p e.0) (e ∷ es)) ≡ filter p (keys_of (e ∷ es))
+    cases true h f = rw h (ap (λ names. e.0 ∷ names) f)
+    cases false h f = rw h f
+
+pub names_of_entries : (es : List (List ℕ × Unit {0})) (last : Option (List ℕ)) → keys_of (entries_after byte_order es last) ≡ names_after (keys_of es) last
+names_of_entries es None = refl
+names_of_entries es (Some name) = keys_filtered (λ other. is_lt (byte_order name other)) es
+
+-- the commands after a name, as the listing has them
+pub command_items : (content : Content) (ups : List ℕ) (tree : TreeState) (es : List (List ℕ × Unit {0})) (last : Option (List ℕ)) (line : List ℕ) (found : Option (List ℕ)) → content ≡ Commands ups tree → keys_of es ≡ tree.commands
+    → MatchOption found (entries_after byte_order es last ≡ []) (λ name. IsFirst (map (command_item ups) (keys_of (entries_after byte_order es last))) line (map (command_item ups) (keys_of (entries_after byte_order es (Some name)))))
+    → MatchOption found (items_past content (After last) ≡ []) (λ name. IsFirst (items_past content (After last)) line (items_past content (After (Some name))))
+command_items content ups tree es last line found is keys h = cases found h
+  where
+    past : (name : Option (List ℕ)) → items_past content (After name) ≡ map (command_item ups) (keys_of (entries_after byte_order es name))
+    past name = ap (λ (x : Content). items_past x (After name)) is ∙ ap (λ names. map (command_item ups) (names_after names name)) (sym keys) ∙ ap (map (command_item ups)) (sym (names_of_entries es name))
+
+    cases : (found : Option (List ℕ)) → MatchOption found (entries_after byte_order es last ≡ []) (λ name. IsFirst (map (command_item ups) (keys_of (entries_after byte_order es last))) line (map (command_item ups) (keys_of (entries_after byte_order es (Some name)))))
+        → MatchOption found (items_past content (After last) ≡ []) (λ name. IsFirst (items_past content (After last)) line (items_past content (After (Some name))))
+    cases None h = past last ∙ ap (λ (rest : List (List ℕ × Unit {0})). map (command_item ups) (keys_of rest)) h
+    cases (Some name) h = rw (past last, past (Some name)) h

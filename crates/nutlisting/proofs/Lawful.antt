@@ -1,0 +1,85 @@
+-- Names, values, quoted texts and numbers have lawful bytes alone.
+use Rattle.std.proofs.Common.{◌≡◌, ℕ, ℤ, pos, negsuc, ◌+◌, ◌%◌, ◌^◌, ◌<◌, Bool, true, false, eqb, cond, List, [], ◌∷◌, ◌++◌, refl, ◌∙◌, suc, arith, SFits, w32}
+use Rattle.std.specs.Prelude.{◌||◌, is_ok, IsTrue}
+use Rattle.std.specs.List.{list_all}
+use Rattle.std.specs.Fmt.{decimal, signed_decimal}
+use Rattle.std.proofs.lemmas.Bool.{and_from, and_parts}
+use Rattle.std.proofs.lemmas.Bool.Decides.{nat_tests}
+use Rattle.std.proofs.lemmas.Fmt.{decimal_by_steps}
+use Rattle.std.proofs.lemmas.Grind.{common_steps}
+use Rattle.std.proofs.lemmas.List.Folds.{list_all-append}
+use Rattle.nutwords.specs.Bytes.{is_lawful, is_name_byte, is_address_byte}
+use Rattle.nutwords.specs.Reading.{read_text, is_name, is_ups_name, is_address, is_value}
+use Rattle.nutwords.specs.Spelling.{with_backslashes, quoted}
+
+-- each byte is lawful
+abbrev pub Lawful : List ℕ → Type 0
+Lawful text = list_all is_lawful text ≡ true
+
+pub both_lawful : (a b : List ℕ) → Lawful a → Lawful b → Lawful (a ++ b)
+both_lawful a b h k = list_all-append is_lawful a b ∙ and_from (list_all is_lawful a) (list_all is_lawful b) h k
+
+pub byte_lawful : (b : ℕ) (text : List ℕ) → is_lawful b ≡ true → Lawful text → Lawful (b ∷ text)
+byte_lawful b text h k = and_from (is_lawful b) (list_all is_lawful text) h k
+
+-- what is read as a text has these bytes alone
+text_all : (allowed : ℕ → Bool) (may_be_empty : Bool) (most : ℕ) (bytes : List ℕ) → is_ok (read_text allowed may_be_empty most bytes) ≡ true → list_all allowed bytes ≡ true
+text_all allowed may_be_empty most bytes h = grind (arith, nat_tests, common_steps)
+
+name_byte : (b : ℕ) → is_name_byte b ≡ true → is_lawful b ≡ true
+name_byte b h = grind (arith, nat_tests)
+
+name_bytes : (bytes : List ℕ) → list_all is_name_byte bytes ≡ true → list_all is_lawful bytes ≡ true
+name_bytes [] h = refl
+name_bytes (b ∷ bytes) h =
+    let p = and_parts (is_name_byte b) (list_all is_name_byte bytes) h in
+    and_from (is_lawful b) (list_all is_lawful bytes) (name_byte b p.0) (name_bytes bytes p.1)
+
+pub name_lawful : (bytes : List ℕ) → IsTrue (is_name bytes) → Lawful bytes
+name_lawful bytes h = name_bytes bytes (text_all is_name_byte false 64 bytes h)
+
+pub ups_name_lawful : (bytes : List ℕ) → IsTrue (is_ups_name bytes) → Lawful bytes
+ups_name_lawful bytes h = name_bytes bytes (text_all is_name_byte false 32 bytes h)
+
+pub value_lawful : (bytes : List ℕ) → IsTrue (is_value bytes) → Lawful bytes
+value_lawful bytes h = text_all is_lawful true 256 bytes h
+
+address_byte : (b : ℕ) → is_address_byte b ≡ true → is_lawful b ≡ true
+address_byte b h = grind (arith, nat_tests)
+
+address_bytes : (bytes : List ℕ) → list_all is_address_byte bytes ≡ true → list_all is_lawful bytes ≡ true
+address_bytes [] h = refl
+address_bytes (b ∷ bytes) h =
+    let p = and_parts (is_address_byte b) (list_all is_address_byte bytes) h in
+    and_from (is_lawful b) (list_all is_lawful bytes) (address_byte b p.0) (address_bytes bytes p.1)
+
+pub address_lawful : (bytes : List ℕ) → IsTrue (is_address bytes) → Lawful bytes
+address_lawful bytes h = address_bytes bytes (text_all is_address_byte false 64 bytes h)
+
+spelled : (v : Bool) (b : ℕ) → is_lawful b ≡ true → Lawful (cond v (92 ∷ b ∷ []) (b ∷ []))
+spelled true b h = byte_lawful 92 (b ∷ []) refl (byte_lawful b [] h refl)
+spelled false b h = byte_lawful b [] h refl
+
+backslashes_lawful : (word : List ℕ) → Lawful word → Lawful (with_backslashes word)
+backslashes_lawful [] h = refl
+backslashes_lawful (b ∷ word) h =
+    let p = and_parts (is_lawful b) (list_all is_lawful word) h in
+    both_lawful (cond (eqb b 34 || eqb b 92) (92 ∷ b ∷ []) (b ∷ [])) (with_backslashes word) (spelled (eqb b 34 || eqb b 92) b p.0) (backslashes_lawful word p.1)
+
+pub quoted_lawful : (word : List ℕ) → Lawful word → Lawful (quoted word)
+quoted_lawful word h = byte_lawful 34 (with_backslashes word ++ 34 ∷ []) refl (both_lawful (with_backslashes word) (34 ∷ []) (backslashes_lawful word h) refl)
+
+digit : (d : ℕ) → d < 10 → is_lawful (48 + d) ≡ true
+digit d h = grind (arith, nat_tests)
+
+pub decimal_lawful : (n : ℕ) → n < 2 ^ 64 → Lawful (decimal n)
+decimal_lawful n small = decimal_by_steps (λ n text. Lawful text)
+    (λ n h. byte_lawful (48 + n) [] (digit n h) refl)
+    (λ n text h k. both_lawful text ((48 + n % 10) ∷ []) k (byte_lawful (48 + n % 10) [] (digit (n % 10) (omega arith)) refl))
+    n small
+
+pub signed_lawful : (z : ℤ) → SFits w32 z → Lawful (signed_decimal z)
+signed_lawful (pos n) h = decimal_lawful n (omega (arith, h))
+signed_lawful (negsuc n) h = byte_lawful 45 (decimal (suc n)) refl (decimal_lawful (suc n) (omega (arith, h)))
+
+pub ruleset lawful_steps = (list_all-append, and_from, name_lawful, ups_name_lawful, address_lawful, value_lawful, quoted_lawful)

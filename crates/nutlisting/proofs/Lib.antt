@@ -1,0 +1,12 @@
+mod Quoted
+mod Firsts
+mod Upses
+mod Lawful
+mod Joined
+mod Writing
+mod Counting
+mod LineFacts
+mod Filling
+mod Positions
+mod Owing
+mod Ended

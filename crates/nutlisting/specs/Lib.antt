@@ -1,0 +1,13 @@
+pub mod Lines
+pub mod Shown
+pub mod Types
+pub mod Items
+pub mod Content
+pub mod Spaced
+pub mod Counts
+pub mod Filled
+pub mod Rest
+pub mod Places
+pub mod Written
+pub mod Owed
+pub mod Laws

@@ -1,0 +1,32 @@
+-- What a session owes.
+use Rattle.std.specs.Prelude.{◌≡◌, ℕ, ◌<◌, ◌≤◌, ◌||◌, List, [], ◌++◌, length, Option, None, Some, MatchOption, IsTrue, is_some, codes}
+use Rattle.std.specs.Str.{bytes_eq}
+use Rattle.nutlisting.specs.Rest.{Position, rest}
+use Rattle.nutlisting.specs.declared.ring.TheConstants.{RING_LIMIT}
+
+pub record Owes : Type 0 where
+  pub ring : List ℕ
+  pub cursor : Option Position
+
+abbrev pub rest_of : Option Position → List ℕ
+rest_of None = []
+rest_of (Some cursor) = rest cursor
+
+-- The bytes of the ring, and the rest of the cursor.
+abbrev pub owed : Owes → List ℕ
+owed o = o.ring ++ rest_of o.cursor
+
+-- The ring is full, and something rests.
+pub record IsFull (ring : List ℕ) (rest : List ℕ) : Type 0 where
+  pub full : length ring ≡ RING_LIMIT
+  pub going : 0 < length rest
+
+-- A cursor is there only while something rests, and then the ring is full.
+pub record IsOutbox (ring : List ℕ) (cursor : Option Position) : Type 0 where
+  pub short : length ring ≤ RING_LIMIT
+  pub while_resting : MatchOption cursor (Unit {0}) (λ c. IsFull ring (rest c))
+
+-- The place for the clients of a listing is there, or a cursor over clients has it.
+abbrev pub HasPlaceForClients : Option Position → Option (List (List ℕ)) → Type 0
+HasPlaceForClients None clients = IsTrue (is_some clients)
+HasPlaceForClients (Some c) clients = IsTrue (is_some clients || bytes_eq c.listing.kind (codes "CLIENT"))

@@ -1,0 +1,223 @@
+//! The lines of answers (RFC 9271: GET, LIST), each with its LF.
+ghost use Rattle.std.specs.Prelude.{◌≡◌, ◌+◌, ◌*◌, ◌≤◌, [], ◌∷◌, ◌++◌, codes, length, IsTrue};
+ghost use Rattle.std.specs.Fmt.{decimal, signed_decimal};
+ghost use Rattle.std.specs.List.{list_all, join_with_byte};
+ghost use Rattle.std.specs.Option.{option_copied};
+ghost use Rattle.nutwords.specs.Bytes.{is_lawful};
+ghost use Rattle.nutwords.specs.Frame.{line_of};
+ghost use Rattle.nutwords.specs.Spelling.{quoted};
+ghost use Rattle.nutwords.specs.declared.limits.TheConstants.{LINE_LIMIT};
+ghost use Rattle.nutlisting.specs.Shown.{description_of, text_or_unavailable};
+ghost use Rattle.nutlisting.specs.Items.{variable_item, command_item, range_item, client_item};
+ghost use Rattle.nutlisting.specs.Lines.{IsWholeLine};
+ghost use Rattle.nutlisting.specs.Types.{type_words};
+ghost use Rattle.nutlisting.specs.declared.lines.shown.TheConstants.{SHOWN_LIMIT};
+
+mod owned;
+mod shown;
+mod types;
+
+use itoa::Buffer;
+use nutdriver::{Range, Variable};
+use nutwords::{Address, Line, Name, UpsName, Value, quote_into};
+pub use owned::{count_line, desc_line, plain_line, type_line, ups_line, variable_line};
+
+/// The most bytes of a line's kind: `UPSDESC`, `CMDDESC`.
+pub(crate) const KIND_LIMIT: usize = 7;
+
+/// The most bytes of a line before what it tells: its kind, the names of a UPS and a variable, two blanks.
+pub(crate) const FRONT_LIMIT: usize = 105;
+
+/// Makes the line of a variable's value as clients see it.
+pub fn variable_line_into(
+    kind: &[u8],
+    ups: &UpsName,
+    fsd: bool,
+    name: &Name,
+    variable: &Variable,
+    line: &mut Line,
+)
+    requires kind { length kind.now ≤ KIND_LIMIT }
+    requires lawful { IsTrue (list_all is_lawful kind.now) }
+    ensures text { line.new.items ≡ line_of (variable_item kind.now ups.now fsd (name.now, variable.now)) }
+    ensures whole { IsWholeLine line.new.items }
+{
+    let shown = shown::shown(fsd, name, variable);
+    value_line_into(kind, ups, name, shown.as_slice(), line);
+}
+
+/// Makes the line of the description of a variable or a command.
+pub fn desc_line_into(
+    kind: &[u8],
+    ups: &UpsName,
+    name: &Name,
+    text: Option<&Value>,
+    line: &mut Line,
+)
+    requires kind { length kind.now ≤ KIND_LIMIT }
+    requires lawful { IsTrue (list_all is_lawful kind.now) }
+    ensures text { line.new.items ≡ line_of (kind.now ∷ ups.now ∷ name.now ∷ quoted (description_of (option_copied text.entry)) ∷ []) }
+    ensures whole { IsWholeLine line.new.items }
+{
+    value_line_into(kind, ups, name, shown::described(text), line);
+}
+
+/// Makes the line of a text that belongs to a variable or a command.
+pub fn value_line_into(kind: &[u8], ups: &UpsName, name: &Name, value: &[u8], line: &mut Line)
+    requires kind { length kind.now ≤ KIND_LIMIT }
+    requires lawful { IsTrue (list_all is_lawful kind.now) }
+    requires value { length value.now ≤ SHOWN_LIMIT }
+    requires value_lawful { IsTrue (list_all is_lawful value.now) }
+    ensures text { line.new.items ≡ line_of (kind.now ∷ ups.now ∷ name.now ∷ quoted value.now ∷ []) }
+    ensures whole { IsWholeLine line.new.items }
+{
+    named_front(line, kind, ups, name);
+    push_quoted(line, value);
+    finish(line);
+}
+
+/// Makes the line of the description of a UPS.
+pub fn ups_line_into(kind: &[u8], ups: &UpsName, desc: Option<&Value>, line: &mut Line)
+    requires kind { length kind.now ≤ KIND_LIMIT }
+    requires lawful { IsTrue (list_all is_lawful kind.now) }
+    ensures text { line.new.items ≡ line_of (kind.now ∷ ups.now ∷ quoted (text_or_unavailable (option_copied desc.entry)) ∷ []) }
+    ensures whole { IsWholeLine line.new.items }
+{
+    front(line, kind, ups);
+    push_quoted(line, shown::ups_described(desc));
+    finish(line);
+}
+
+/// Makes the line of a command.
+pub(crate) fn command_line_into(ups: &UpsName, name: &Name, line: &mut Line)
+    ensures text { line.new.items ≡ line_of (command_item ups.now name.now) }
+    ensures whole { IsWholeLine line.new.items }
+{
+    named_front(line, b"CMD", ups, name);
+    finish(line);
+}
+
+/// Makes the line of a range of a variable.
+pub(crate) fn range_line_into(ups: &UpsName, name: &Name, range: Range, line: &mut Line)
+    ensures text { line.new.items ≡ line_of (range_item ups.now name.now range) }
+    ensures whole { IsWholeLine line.new.items }
+{
+    named_front(line, b"RANGE", ups, name);
+    push_number(line, range.least);
+    push_number(line, range.greatest);
+    finish(line);
+}
+
+/// Makes the line of a client of a UPS.
+#[tactic(auto, using(crate::proofs::Lawful::lawful_steps))]
+pub(crate) fn client_line_into(ups: &UpsName, address: &Address, line: &mut Line)
+    ensures text { line.new.items ≡ line_of (client_item ups.now address.now) }
+    ensures whole { IsWholeLine line.new.items }
+{
+    front(line, b"CLIENT", ups);
+    push_word(line, address.as_bytes());
+    finish(line);
+}
+
+/// Makes the line of what values a variable may have.
+pub fn type_line_into(ups: &UpsName, name: &Name, variable: &Variable, line: &mut Line)
+    ensures text { line.new.items ≡ line_of (codes "TYPE" ∷ ups.now ∷ name.now ∷ type_words variable.now) }
+    ensures whole { IsWholeLine line.new.items }
+{
+    named_front(line, b"TYPE", ups, name);
+    types::push_type(line, variable);
+    finish(line);
+}
+
+/// Makes a line of a text of at most 128 bytes.
+pub fn plain_line_into(text: &[u8], line: &mut Line)
+    requires short { length text.now ≤ 128 }
+    requires lawful { IsTrue (list_all is_lawful text.now) }
+    ensures text { line.new.items ≡ text.now ++ 10 ∷ [] }
+    ensures whole { IsWholeLine line.new.items }
+{
+    begin(line, text);
+    finish(line);
+}
+
+/// Begins a line: its kind, and the names of a UPS and of a variable or a command.
+#[tactic(auto, using(crate::proofs::Lawful::lawful_steps))]
+fn named_front(line: &mut Line, kind: &[u8], ups: &UpsName, name: &Name)
+    requires kind { length kind.now ≤ KIND_LIMIT }
+    requires lawful { IsTrue (list_all is_lawful kind.now) }
+    ensures text { line.new.items ≡ join_with_byte 32 (kind.now ∷ ups.now ∷ name.now ∷ []) }
+    ensures short { length line.new.items ≤ FRONT_LIMIT }
+    ensures lawful { IsTrue (list_all is_lawful line.new.items) }
+{
+    front(line, kind, ups);
+    push_word(line, name.as_bytes());
+}
+
+/// Begins a line: its kind and the name of a UPS.
+#[tactic(auto, using(crate::proofs::Lawful::lawful_steps))]
+fn front(line: &mut Line, kind: &[u8], ups: &UpsName)
+    requires kind { length kind.now ≤ KIND_LIMIT }
+    requires lawful { IsTrue (list_all is_lawful kind.now) }
+    ensures text { line.new.items ≡ join_with_byte 32 (kind.now ∷ ups.now ∷ []) }
+    ensures short { length line.new.items ≤ 40 }
+    ensures lawful { IsTrue (list_all is_lawful line.new.items) }
+{
+    begin(line, kind);
+    push_word(line, ups.as_bytes());
+}
+
+/// Begins a line by words of at most 128 bytes, as they stand, in place of what the line held.
+pub(crate) fn begin(line: &mut Line, text: &[u8])
+    requires { length text.now ≤ 128 }
+    ensures { line.new.items ≡ text.now }
+{
+    line.clear();
+    line.try_extend_from_slice(text).unwrap();
+}
+
+/// Appends words of at most 128 bytes.
+#[tactic(auto, using(crate::proofs::Lawful::lawful_steps))]
+pub(crate) fn push_word(line: &mut Line, word: &[u8])
+    requires room { length line.old.items ≤ 300 }
+    requires word { length word.now ≤ 128 }
+    ensures text { line.new.items ≡ line.old.items ++ 32 ∷ word.now }
+    ensures short { length line.new.items ≡ length line.old.items + (1 + length word.now) }
+    ensures lawful { IsTrue (list_all is_lawful word.now) → IsTrue (list_all is_lawful line.old.items) → IsTrue (list_all is_lawful line.new.items) }
+{
+    line.push(b' ');
+    line.try_extend_from_slice(word).unwrap();
+}
+
+/// Appends a text in quotes.
+#[tactic(auto, using(crate::proofs::Lawful::lawful_steps))]
+fn push_quoted(line: &mut Line, text: &[u8])
+    requires room { length line.old.items ≤ 300 }
+    requires text { length text.now ≤ SHOWN_LIMIT }
+    ensures text { line.new.items ≡ line.old.items ++ 32 ∷ quoted text.now }
+    ensures short { length line.new.items ≤ length line.old.items + (2 * length text.now + 3) }
+    ensures lawful { IsTrue (list_all is_lawful text.now) → IsTrue (list_all is_lawful line.old.items) → IsTrue (list_all is_lawful line.new.items) }
+{
+    line.push(b' ');
+    quote_into(text, line);
+}
+
+/// Appends a number in quotes.
+fn push_number(line: &mut Line, number: i32)
+    requires { length line.old.items ≤ 300 }
+    ensures text { line.new.items ≡ line.old.items ++ 32 ∷ quoted (signed_decimal number) }
+    ensures short { length line.new.items ≤ length line.old.items + 83 }
+    ensures lawful { IsTrue (list_all is_lawful line.old.items) → IsTrue (list_all is_lawful line.new.items) }
+{
+    let mut buffer = Buffer::new();
+    push_quoted(line, buffer.format(number).as_bytes());
+}
+
+/// Ends the line by its LF.
+pub(crate) fn finish(line: &mut Line)
+    requires short { length line.old.items ≤ LINE_LIMIT }
+    requires lawful { IsTrue (list_all is_lawful line.old.items) }
+    ensures text { line.new.items ≡ line.old.items ++ 10 ∷ [] }
+    ensures whole { IsWholeLine line.new.items }
+{
+    line.push(b'\n');
+}

@@ -1,0 +1,5 @@
+pub mod Known
+pub mod Cutting
+pub mod Reading
+pub mod Quoted
+pub mod Replies

@@ -1,0 +1,20 @@
+-- The numbers of a client's faults.
+use Rattle.std.specs.Prelude.{ℕ}
+use Rattle.nutreply.specs.declared.faults.ClientFault.{ClientFault}
+use Rattle.nutreply.specs.declared.faults.ClientFault.TheVariants.{Connect, Read, Write, EarlyEnd, ErrWord, BadReply, BadTarget, Memory}
+
+-- 1 cannot connect, 2 read failed, 3 write failed, 4 the reply ended early, 5 the server answered ERR, 6 bad reply, 7 bad argument, 8 no memory.
+abbrev pub number_of : ClientFault → ℕ
+number_of Connect = 1
+number_of Read = 2
+number_of Write = 3
+number_of EarlyEnd = 4
+number_of (ErrWord word) = 5
+number_of BadReply = 6
+number_of BadTarget = 7
+number_of Memory = 8
+
+-- The exit status of a program that meets the fault.
+abbrev pub status_of : ClientFault → ℕ
+status_of BadTarget = 2
+status_of _ = 1

@@ -1,0 +1,9 @@
+pub mod Fault
+pub mod Ends
+pub mod Lines
+pub mod Inbox
+pub mod Writing
+pub mod Request
+pub mod Reply
+pub mod Session
+pub mod State

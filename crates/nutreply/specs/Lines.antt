@@ -1,0 +1,20 @@
+-- Bytes as a list of lines, for definitions that go on from line to line.
+use Rattle.std.specs.Prelude.{ℕ, List, [], ◌∷◌, ◌++◌, ◌==◌, length, nat_le, if◌then◌else◌}
+use Rattle.nutwords.specs.declared.limits.TheConstants.{LINE_LIMIT}
+
+-- A line without its LF and the bytes that follow it, or 1,024 bytes without LF.
+pub data FoundLine : Type 0 where
+  Line : (line rest : List ℕ) → FoundLine
+  TooLong : FoundLine
+
+-- The lines of the bytes, these being the bytes of the first line so far.
+abbrev pub lines_from : List ℕ → List ℕ → List FoundLine
+lines_from held [] = []
+lines_from held (b ∷ bytes) =
+    if b == 10 then Line held bytes ∷ lines_from [] bytes
+    else if nat_le LINE_LIMIT (length held) then TooLong ∷ []
+    else lines_from (held ++ b ∷ []) bytes
+
+-- The lines that are whole. Behind 1,024 bytes without LF no line is looked for, and an unfinished last line is none.
+abbrev pub lines : List ℕ → List FoundLine
+lines bytes = lines_from [] bytes

@@ -1,0 +1,27 @@
+//! A client's end of the NUT protocol (RFC 9271): requests, and their replies as they are read.
+//!
+//! A reply is taken as a whole or not at all: it is a function of the bytes that came, however they were cut.
+#![tactic(auto)]
+
+mod bytes;
+mod counted;
+mod ends;
+mod faults;
+mod inbox;
+mod item;
+mod limits;
+mod line;
+mod read;
+mod request;
+mod session;
+mod writing;
+
+pub use bytes::Bytes;
+pub use counted::{CountedReader, CountedWriter};
+pub use ends::{Failed, Sink, Source};
+pub use faults::ClientFault;
+pub use item::{Item, Items};
+pub use limits::ITEM_LIMIT;
+pub use request::{Query, Request};
+pub use session::{Session, ask};
+pub use writing::send;

@@ -1,0 +1,35 @@
+use Rattle.std.proofs.Common.{◌∷◌, [], sym, ap, ◌∙◌, arith}
+use Rattle.nutwords.specs.Text.{lines_of}
+use Rattle.nutusers.specs.ConfigLine.{read_config_line}
+use Rattle.nutusers.specs.UpsFile.{ups_format, upses_of, adds_ups}
+use Rattle.nutusers.specs.UpsStep.{upses_with}
+use Rattle.nutusers.proofs.Progress.{HasRead, nothing_read, one_read, all_read, next_refused, room}
+use Rattle.nutusers.proofs.UpsLemmas.{upses_of-line}
+use Rattle.nutusers.proofs.ups_list.file.read_sections.Goals as goal
+
+pub loop-line-init : goal.loop-line-init
+loop-line-init c = record {
+  read = rw (c.into_iter-line-iterator.ensures.into_iter_gives, c.of-line-items.ensures.value) (nothing_read c.new.result.items c.new.ensures.items);
+  can = tt;
+  finite = tt;
+}
+
+pub overflow_add-number : goal.overflow_add-number
+overflow_add-number c =
+    let read : HasRead ups_format upses_of (lines_of c.args.bytes.now) (c.in-Some.line.now ∷ c.next.new.self) c.loop-line.number c.loop-line.sections = rw c.in-Some.ensures.steps at c.loop-line.invariant.read in
+    omega (arith, room _ _ _ _ read, c.of-line-items.ensures.few)
+
+pub returns-in-Err-clause-err : goal.returns-in-Err-clause-err
+returns-in-Err-clause-err c =
+    let read : HasRead ups_format upses_of (lines_of c.args.bytes.now) (c.in-Some.line.now ∷ c.next.new.self) c.loop-line.number c.loop-line.sections = rw c.in-Some.ensures.steps at c.loop-line.invariant.read in
+    next_refused adds_ups _ _ _ _ _ read (rw read.value_is at c.in-Err.ensures.fault) c.in-Err.ensures.memory
+
+pub loop-line-preserved : goal.loop-line-preserved
+loop-line-preserved c =
+    let read : HasRead ups_format upses_of (lines_of c.args.bytes.now) (c.in-Some.line.now ∷ c.next.new.self) c.loop-line.number c.loop-line.sections = rw c.in-Some.ensures.steps at c.loop-line.invariant.read in
+    record { read = one_read _ _ _ _ _ read (rw read.value_is at c.in_default.ensures.fault) (c.in_default.ensures.ok ∙ ap (λ upses. upses_with upses (read_config_line c.in-Some.line.now)) read.value_is ∙ sym (upses_of-line c.in-Some.line.now read.earlier)); can = tt; finite = tt }
+
+pub returns-clause-ok : goal.returns-clause-ok
+returns-clause-ok c =
+    let read : HasRead ups_format upses_of (lines_of c.args.bytes.now) [] c.loop-line.number c.loop-line.sections = rw c.in-None.ensures.steps.0 at c.loop-line.invariant.read in
+    all_read _ _ read

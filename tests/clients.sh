@@ -1,0 +1,166 @@
+#!/usr/bin/env bash
+# The clients as a new user tries them: what upsc, upsrw and upscmd say, and with which status they end, without words,
+# with a wrong word, with --help, with a word that isn't lawful, at a port that refuses, at a server that says nothing
+# and closes, and at one that answers. A full output is shown by nutclient's tests: `rt try` needs the output itself.
+#
+# One build of each program runs all its cases. `rt try --cases` writes a case's output behind a line `== NAME`, and
+# what it wrote to standard error before a line `case=NAME run=ended status=N ..`.
+set -euo pipefail
+cd "$(dirname "${BASH_SOURCE[0]}")/../crates"
+
+folder=$(mktemp -d)
+server=
+trap '[[ -z $server ]] || kill "$server"; rm -r "$folder"' EXIT
+
+# Tells three ports: one that refuses, one that takes a line and closes, one that answers. Then it serves.
+perl -MIO::Socket::INET -e '
+    $| = 1;
+    sub listening { IO::Socket::INET->new(Listen => 9, LocalAddr => "127.0.0.1", LocalPort => 0) or die }
+    my ($refusing, $silent, $answering) = (listening, listening, listening);
+    print join(" ", map { $_->sockport } $refusing, $silent, $answering), "\n";
+    close $refusing;
+    my %replies = (
+        "LIST VAR su" => "BEGIN LIST VAR su\nVAR su ups.status \"OL\"\nEND LIST VAR su\n",
+        "LIST RW su" => "BEGIN LIST RW su\nRW su ups.delay \"30\"\nEND LIST RW su\n",
+        "LIST CMD su" => "BEGIN LIST CMD su\nCMD su load.off\nEND LIST CMD su\n",
+        "LIST UPS" => "BEGIN LIST UPS\nUPS su \"Rack 1\"\nEND LIST UPS\n",
+        "LIST CLIENT su" => "BEGIN LIST CLIENT su\nCLIENT su 192.0.2.1\nEND LIST CLIENT su\n",
+        "GET VAR su ups.status" => "VAR su ups.status \"OL\"\n",
+        "USERNAME \"admin\"" => "OK\n", "PASSWORD \"s3 cret\"" => "OK\n", "PASSWORD \"no\"" => "ERR ACCESS-DENIED\n",
+        "SET VAR su ups.delay \"30\"" => "OK\n", "INSTCMD su load.off" => "OK\n",
+    );
+    sub serve {
+        my ($listener, $speaks) = @_;
+        while (my $client = $listener->accept) {
+            while (my $line = <$client>) {
+                chomp $line;
+                last unless $speaks;
+                print $client $replies{$line} // "ERR UNKNOWN-UPS\n";
+                $client->flush;
+            }
+            close $client;
+        }
+    }
+    my $child = fork;
+    $SIG{TERM} = sub { kill "TERM", $child if $child; exit };
+    $child ? serve($silent, 0) : serve($answering, 1);
+' >"$folder/ports" &
+server=$!
+for _ in $(seq 50); do
+    [[ -s $folder/ports ]] && break
+    sleep 0.1
+done
+read -r refusing silent answering <"$folder/ports"
+
+declare -a names=()
+
+# The program, given the words behind the first four arguments, ends with this status, output and standard error. The
+# last two are patterns.
+ends() {
+    local name=$1 word
+    names+=("$name")
+    printf %s "$2" >"$folder/want/$name.status"
+    printf %s "$3" >"$folder/want/$name.out"
+    printf %s "$4" >"$folder/want/$name.err"
+    : >"$folder/cases/$name"
+    : >"$folder/cases/$name.args"
+    for word in "${@:5}"; do
+        printf '%s\n' "$word" >>"$folder/cases/$name.args"
+    done
+}
+
+prints() { ends "$1" 0 "$2" "" "${@:3}"; }
+faults() { ends "$1" 1 "" "$2" "${@:3}"; }
+refuses_words() { ends "$1" 2 "" "error: *" "${@:2}"; }
+
+# Splits what the cases wrote into a file each.
+split_output() {
+    awk -v got="$folder/got" '/^== / { name = $2; next } { print > (got "/" name ".out") }' "$folder/out"
+    awk -v got="$folder/got" '
+        /^case=/ {
+            name = substr($1, 6); status = $3; sub(/^status=/, "", status)
+            printf "%s", status > (got "/" name ".status"); printf "%s", text > (got "/" name ".err")
+            text = ""; next
+        }
+        { text = text $0 "\n" }' "$folder/err"
+}
+
+failed=0 cases=0
+compare() {
+    local want got
+    want=$(<"$folder/want/$2.$3") got=$(cat "$folder/got/$2.$3" 2>/dev/null) || true
+    # shellcheck disable=SC2053 # what is wanted is a pattern
+    if [[ $got != $want ]]; then
+        printf 'clients: FAILED: %s: %s: %s\nwanted: %s\ngot: %s\n' "$1" "$2" "$3" "$want" "$got"
+        failed=1
+    fi
+}
+
+begin() {
+    rm -rf "$folder"/{cases,want,got}
+    mkdir "$folder"/{cases,want,got}
+    names=()
+    refuses_words no_words
+    refuses_words wrong_word --nope
+    ends help 0 "*Usage: $1 *" "" --help
+}
+
+# Runs the program's cases. One step: the interpreter's run isn't needed.
+try_program() {
+    local name what
+    if ! (cd "$1" && rt try --steps 1 --cases "$folder/cases" >"$folder/out" 2>"$folder/err"); then
+        cat "$folder/err"
+        echo "clients: FAILED: $1 wasn't run"
+        exit 1
+    fi
+    split_output
+    for name in "${names[@]}"; do
+        for what in status out err; do
+            compare "$1" "$name" "$what"
+        done
+    done
+    cases=$((cases + ${#names[@]}))
+}
+
+begin upsc
+refuses_words three_words su ups.status more
+refuses_words clients_without_a_ups -c
+refuses_words two_lists -l -L
+refuses_words list_of_a_variable -l localhost ups.status
+ends unlawful_ups 2 "" "upsc: bad argument" s/u
+ends unlawful_port 2 "" "upsc: bad argument" su@localhost:0
+faults refused "upsc: cannot connect" "su@localhost:$refusing"
+faults closed "upsc: reply ended early" "su@127.0.0.1:$silent"
+faults unknown_ups "upsc: server answered ERR UNKNOWN-UPS" "other@127.0.0.1:$answering"
+prints variables "ups.status: OL" "su@localhost:$answering"
+prints variable "OL" "su@127.0.0.1:$answering" ups.status
+prints names "su" -l "127.0.0.1:$answering"
+prints descriptions "su: Rack 1" -L "127.0.0.1:$answering"
+prints clients "192.0.2.1" -c "su@127.0.0.1:$answering"
+try_program upsc
+
+begin upsrw
+refuses_words set_without_a_user -s ups.delay=30 su
+refuses_words user_without_a_setting -u admin su
+ends unlawful_setting 2 "" "upsrw: bad argument" -s ups.delay -u admin -p "s3 cret" su
+faults refused "upsrw: cannot connect" "su@127.0.0.1:$refusing"
+faults closed "upsrw: reply ended early" "su@127.0.0.1:$silent"
+faults denied "upsrw: server answered ERR ACCESS-DENIED" -s ups.delay=30 -u admin -p no "su@127.0.0.1:$answering"
+prints writable "ups.delay=30" "su@127.0.0.1:$answering"
+prints set "OK" -s ups.delay=30 -u admin -p "s3 cret" "su@127.0.0.1:$answering"
+try_program upsrw
+
+begin upscmd
+refuses_words command_without_a_user su load.off
+refuses_words list_of_a_command -l su load.off
+refuses_words no_command -u admin -p "s3 cret" su
+ends unlawful_command 2 "" "upscmd: bad argument" -u admin -p "s3 cret" su load/off
+faults refused "upscmd: cannot connect" -l "su@127.0.0.1:$refusing"
+faults closed "upscmd: reply ended early" -u admin -p "s3 cret" "su@127.0.0.1:$silent" load.off
+faults denied "upscmd: server answered ERR ACCESS-DENIED" -u admin -p no "su@127.0.0.1:$answering" load.off
+prints commands "load.off" -l "su@127.0.0.1:$answering"
+prints done "OK" -u admin -p "s3 cret" "su@127.0.0.1:$answering" load.off
+try_program upscmd
+
+((failed == 0)) || exit 1
+echo "clients: ok: $cases cases"
