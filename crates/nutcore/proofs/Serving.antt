@@ -3,7 +3,7 @@ use Rattle.std.proofs.Common.{◌≡◌, ℕ, ◌+◌, ◌<◌, ◌≤◌, Bool,
 use Rattle.std.specs.Prelude.{IsTrue, OnOk, OnErr, is_err, is_some, is_none}
 use Rattle.std.proofs.lemmas.Bool.{le-leb, lt-leb, leb-true, cond-true, cond-false}
 use Rattle.std.proofs.lemmas.Bool.Decides.{nat_tests}
-use Rattle.nutcore.specs.declared.TheConstants.{OFFER_LIMIT}
+use Rattle.nutlisting.specs.declared.ring.TheConstants.{RING_LIMIT}
 use Rattle.nutcore.specs.Session.{SessionState, find, put, without, AreApart, new_session}
 use Rattle.nutcore.specs.Server.{ServerState, session, with_session}
 use Rattle.nutanswer.specs.declared.reply.Change.{Change}
@@ -153,10 +153,8 @@ may_take_false o x n k e ek lt =
     let few : k ≡ length (offered (Some x)) = ek ∙ ap (λ (z : Option SessionState). length (offered z)) e in
     ap (λ (z : Option SessionState). may_take z n) e ∙ lt-leb _ _ (let l : length (offered (Some x)) < n = omega (arith, few) in l)
 
-pub within_owed : (o : Option SessionState) (x : SessionState) (n : ℕ) → o ≡ Some x → may_take o n ≡ true → n ≤ length x.owed
-within_owed o x n e may =
-    let le : n ≤ length (offered (Some x)) = leb-true _ _ (ap (λ (z : Option SessionState). may_take z n) (sym e) ∙ may) in
-    omega (arith, le, length-take OFFER_LIMIT x.owed)
+pub within_offered : (o : Option SessionState) (x : SessionState) (n : ℕ) → o ≡ Some x → may_take o n ≡ true → n ≤ length (offered (Some x))
+within_offered o x n e may = leb-true _ _ (ap (λ (z : Option SessionState). may_take z n) (sym e) ∙ may)
 
 -- what is left of the sessions where one is removed at its place
 pub left_out : (n c i : ℕ) (xs : List SessionState) → AreApart n xs → IsAt c i xs → without c xs ≡ take i xs ++ drop (i + 1) xs

@@ -1,6 +1,7 @@
 -- Which held lines of a session are executed, and what that leaves.
 use Rattle.std.specs.Prelude.{ℕ, zero, suc, Bool, false, List, [], ◌++◌, Option, Some, None, is_none, nat_lt, nat_le, not, ◌||◌, ◌&&◌, if◌then◌else◌, length, Result, Ok, Err}
-use Rattle.nutcore.specs.declared.TheConstants.{HELD_LIMIT, OWED_LIMIT}
+use Rattle.nutcore.specs.declared.TheConstants.{HELD_LIMIT}
+use Rattle.nutlisting.specs.declared.outbox.TheConstants.{OWED_LIMIT}
 use Rattle.nutanswer.specs.declared.command.Command.{Command}
 use Rattle.nutanswer.specs.declared.err_word.ErrWord.{ErrWord}
 use Rattle.nutanswer.specs.Command.{read_command}

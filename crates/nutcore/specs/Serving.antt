@@ -8,7 +8,7 @@ use Rattle.nutanswer.specs.declared.reply.Reply.{Reply as Answer}
 use Rattle.nutanswer.specs.declared.reply.Reply.TheVariants.{One, Many}
 use Rattle.nutanswer.specs.declared.reply.Change.{Change}
 use Rattle.nutanswer.specs.declared.reply.Change.TheVariants.{Nothing}
-use Rattle.nutcore.specs.declared.TheConstants.{OWED_LIMIT}
+use Rattle.nutlisting.specs.declared.outbox.TheConstants.{OWED_LIMIT}
 use Rattle.nutanswer.specs.Command.{read_command}
 use Rattle.nutlisting.specs.Items.{text_of}
 use Rattle.nutcore.specs.Session.{SessionState}

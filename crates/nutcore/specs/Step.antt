@@ -1,6 +1,8 @@
 -- What each event does, and what may be answered to it.
 use Rattle.std.specs.Prelude.{◌≡◌, ℕ, ◌+◌, ◌-◌, ◌^◌, Bool, false, List, [], ◌∷◌, ◌++◌, Option, Some, None, nat_lt, nat_le, ◌&&◌, if◌then◌else◌, length, take, drop, min, max, map, not, ◌⊎◌, IsTrue}
-use Rattle.nutcore.specs.declared.TheConstants.{HELD_LIMIT, OFFER_LIMIT, SESSION_LIMIT}
+use Rattle.nutcore.specs.declared.TheConstants.{HELD_LIMIT}
+use Rattle.nutlisting.specs.declared.ring.TheConstants.{RING_LIMIT}
+use Rattle.nutlisting.specs.declared.listing.clients.TheConstants.{SESSION_LIMIT}
 use Rattle.nutcore.specs.declared.event.Event.{Event}
 use Rattle.nutcore.specs.declared.event.Event.TheVariants.{DriverUp, DriverBytes, DriverTook, DriverDown, Tick, Open, Feed, Took, Close}
 use Rattle.nutcore.specs.declared.event.Outcome.{Outcome}
@@ -30,7 +32,7 @@ with_input s c piece = with_input_of s (session c s) piece
 
 -- What is offered: the first 4,096 bytes of what is owed, or all.
 abbrev pub offered : Option SessionState → List ℕ
-offered x = take OFFER_LIMIT (owed_of x)
+offered x = take RING_LIMIT (owed_of x)
 
 abbrev pub may_take : Option SessionState → ℕ → Bool
 may_take None n = false

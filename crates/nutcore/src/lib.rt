@@ -9,6 +9,7 @@ mod bytes;
 mod event;
 mod lines;
 mod max_age;
+mod scratch;
 mod server;
 mod session;
 #[cfg(test)]
@@ -18,23 +19,15 @@ mod ups;
 pub use bytes::Bytes;
 pub use event::{ClientId, Event, Fault, Outcome};
 pub use max_age::{MAX_AGE_DEFAULT, MAX_AGE_LEAST, MAX_AGE_MOST, MaxAge};
+pub use nutlisting::{OWED_LIMIT, Outbox, RING_LIMIT, SESSION_LIMIT};
 pub use nutusers::{Descriptions, UpsId, UpsList, Users};
 pub use server::Server;
 
 /// The most bytes of input that a session holds, and that may stand without an LF.
 pub const HELD_LIMIT: usize = 1024;
 
-/// A session's next line is executed only while at most so many bytes are owed to it.
-pub const OWED_LIMIT: usize = 2048;
-
-/// The most bytes that one offer has.
-pub const OFFER_LIMIT: usize = 4096;
-
 /// The most bytes that a driver is still to be sent.
 pub const DRIVER_OWED_LIMIT: usize = 2048;
-
-/// The most sessions that are open at once.
-pub const SESSION_LIMIT: usize = 64;
 
 /// Over every run, what each client was sent, followed by what it is still owed, is exactly the
 /// answers to its executed lines, in order.

@@ -16,13 +16,16 @@ ghost use Rattle.nutcore.specs.Serving.{IsAt, PumpGives, RepliesOrLacks, IsText,
 ghost use Rattle.nutcore.specs.Reply.{asker, changed_upses, seen_client};
 ghost use Rattle.nutanswer.specs.View.{asker_seen, login_count};
 ghost use Rattle.nutanswer.specs.declared.reply.Change.TheVariants.{Nothing};
-ghost use Rattle.nutcore.specs.declared.TheConstants.{HELD_LIMIT, OFFER_LIMIT, OWED_LIMIT};
+ghost use Rattle.nutcore.specs.declared.TheConstants.{HELD_LIMIT};
+ghost use Rattle.nutlisting.specs.declared.outbox.TheConstants.{OWED_LIMIT};
+ghost use Rattle.nutlisting.specs.declared.ring.TheConstants.{RING_LIMIT};
 ghost use Rattle.nutwords.specs.declared.limits.TheConstants.{LINE_LIMIT, LINE_ROOM};
 ghost use Rattle.nutlisting.specs.Items.{text_of};
 ghost use Rattle.nutcore.specs.declared.event.Outcome.TheVariants.{Fed};
 ghost use Rattle.nutcore.specs.contracts.server.Server.{the_row};
 
-use crate::SESSION_LIMIT;
+use crate::scratch::Scratch;
+use nutlisting::SESSION_LIMIT;
 use crate::event::{ClientId, Event, Fault, Outcome};
 use crate::max_age::MaxAge;
 use crate::session::Session;
@@ -45,11 +48,12 @@ pub struct Server {
     upses: Vec<Ups>,
     sessions: Vec<Session>,
     next_id: u64,
+    scratch: Scratch,
 }
 
 impl Model for Server {
     ghost use Rattle.std.specs.Prelude.{◌≡◌, ◌≤◌, vec_capacity, vec_len, length};
-    ghost use Rattle.nutcore.specs.declared.TheConstants.{SESSION_LIMIT};
+    ghost use Rattle.nutlisting.specs.declared.listing.clients.TheConstants.{SESSION_LIMIT};
     ghost use Rattle.nutcore.specs.Session.{AreApart};
     ghost use Rattle.nutcore.specs.Server.{ServerState};
 
@@ -129,6 +133,7 @@ impl Server {
             upses,
             sessions,
             next_id: 1,
+            scratch: Scratch::new(),
         })
     }
 
@@ -195,7 +200,7 @@ impl Server {
         ensures { IsAnswered self.old c text.now change self.new }
     {
         let session = &mut self.sessions[place];
-        session.answer(text, change);
+        session.answer(text, change, &mut self.scratch);
     }
 
     /// Does what an answer changes of the UPSs.
@@ -207,20 +212,14 @@ impl Server {
         }
     }
 
-    /// Executes the next line, whose answer is this listing. Without memory nothing changes.
-    fn answer_listing(
-        &mut self,
-        c: ClientId,
-        place: usize,
-        listing: &Listing,
-    ) -> Result<(), AllocError>
+    /// Executes the next line, whose answer is this listing. Takes no memory.
+    fn answer_listing(&mut self, c: ClientId, place: usize, listing: Listing)
         requires at { IsAt c place self.old.sessions }
         requires next { is_some (next_line_for self.old c) ≡ true }
-        ensures ok { OnOk result (IsAnswered self.old c (text_of listing.now) Nothing self.new) }
-        ensures err { OnErr result (self.new ≡ self.old) }
+        ensures { IsAnswered self.old c (text_of listing) Nothing self.new }
     {
         let session = &mut self.sessions[place];
-        session.answer_listing(listing)
+        session.answer_listing(listing, &mut self.scratch);
     }
 
     /// Executes the next line. Without memory nothing changes.
@@ -242,7 +241,10 @@ impl Server {
                 self.answer_text(c, place, text.as_slice(), change);
                 Ok(())
             }
-            Reply::Many(listing) => self.answer_listing(c, place, &listing),
+            Reply::Many(listing) => {
+                self.answer_listing(c, place, listing);
+                Ok(())
+            }
         }
     }
 
@@ -253,7 +255,7 @@ impl Server {
         ensures notified { self.new ≡ after_notice self.old c }
     {
         let session = &mut self.sessions[place];
-        session.end_if_overlong()
+        session.end_if_overlong(&mut self.scratch)
     }
 
     /// Executes the session's lines, as long as they may be executed.
@@ -296,7 +298,7 @@ impl Server {
         ensures short { length (held_of (session c self.new)) ≤ HELD_LIMIT }
     {
         let session = &mut self.sessions[place];
-        session.take(n);
+        session.take(n, &mut self.scratch);
     }
 
     /// How many bytes are offered.
@@ -305,7 +307,7 @@ impl Server {
         ensures { result ≡ length (offered (session c self.now)) }
     {
         let session = &self.sessions[place];
-        session.offer().len()
+        session.offered()
     }
 
     /// Whether a driver is connected to the UPS, if there is such a UPS.
@@ -548,13 +550,13 @@ impl Server {
     ///
     /// `NoSuchClient`.
     pub fn offer(&mut self, c: ClientId) -> Result<&[u8], Fault>
-        ensures bytes { MatchResult result (λ bytes. (is_some (session c self.old) ≡ true) × (bytes.now ≡ take OFFER_LIMIT (owed c self.old))) (λ fault. (fault ≡ Fault.NoSuchClient) × (session c self.old ≡ None)) }
+        ensures bytes { MatchResult result (λ bytes. (is_some (session c self.old) ≡ true) × (bytes.now ≡ take RING_LIMIT (owed c self.old))) (λ fault. (fault ≡ Fault.NoSuchClient) × (session c self.old ≡ None)) }
         ensures* same { sem 𝓛 (Rests the_row self.entry (λ new. new ≡ self.old)) }
     {
         let Some(place) = self.place_of(c) else {
             return Err(Fault::NoSuchClient);
         };
-        let session = &self.sessions[place];
+        let session = &mut self.sessions[place];
         Ok(session.offer())
     }
 
@@ -570,7 +572,7 @@ impl Server {
             return Err(Fault::NoSuchClient);
         };
         let session = &self.sessions[place];
-        Ok(session.offer().len())
+        Ok(session.offered())
     }
 
     /// The client took n bytes of what it is offered. Then its lines are executed, as long as they

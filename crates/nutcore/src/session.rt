@@ -5,15 +5,22 @@ ghost use Rattle.nutcore.specs.Lines.{first_line, behind};
 ghost use Rattle.nutcore.specs.Pump.{next_line, answered, is_overlong_of, notified};
 ghost use Rattle.nutcore.specs.Step.{accepted_bytes, accepted};
 ghost use Rattle.nutlisting.specs.Items.{text_of};
-ghost use Rattle.nutcore.specs.declared.TheConstants.{HELD_LIMIT, OFFER_LIMIT, OWED_LIMIT};
+ghost use Rattle.std.specs.Borrow.{sem};
+ghost use Rattle.std.specs.Io.BufRead.{Rests};
+ghost use Rattle.nutcore.specs.declared.TheConstants.{HELD_LIMIT};
+ghost use Rattle.nutlisting.specs.Owed.{owed as owed_in, IsOutbox};
+ghost use Rattle.nutlisting.specs.declared.outbox.TheConstants.{OWED_LIMIT};
+ghost use Rattle.nutlisting.specs.declared.ring.TheConstants.{RING_LIMIT};
 ghost use Rattle.nutwords.specs.declared.limits.TheConstants.{LINE_LIMIT};
 ghost use Rattle.nutcore.specs.Calls.{is_finished, room_of};
 ghost use Rattle.nutcore.specs.Reply.{asker_of, seen_client, changed_session};
 ghost use Rattle.nutanswer.specs.View.{asker_seen, is_logged_in};
 
 use crate::lines::{drop_front, line_end};
-use crate::{HELD_LIMIT, OFFER_LIMIT, OWED_LIMIT};
-use nutanswer::{Asker, Change, Listing};
+use crate::HELD_LIMIT;
+use crate::scratch::Scratch;
+use nutanswer::{Asker, Change};
+use nutlisting::{Listing, Outbox};
 use nutusers::{Password, UpsId, UserName};
 use nutwords::Address;
 use std::alloc::{AllocError, Global};
@@ -25,7 +32,7 @@ pub(crate) struct Session {
     id: u64,
     address: Address,
     held: Vec<u8>,
-    owed: Vec<u8>,
+    outbox: Outbox,
     username: Option<UserName>,
     password: Option<Password>,
     login: Option<UpsId>,
@@ -34,28 +41,31 @@ pub(crate) struct Session {
 
 impl Model for Session {
     ghost use Rattle.std.specs.Prelude.{◌≤◌, vec_capacity, vec_len};
-    ghost use Rattle.nutcore.specs.declared.TheConstants.{HELD_LIMIT, OFFER_LIMIT};
+    ghost use Rattle.nutcore.specs.declared.TheConstants.{HELD_LIMIT};
+    ghost use Rattle.nutlisting.specs.Owed.{owed};
     ghost use Rattle.nutcore.specs.Session.{SessionState};
 
     ghost Value = { SessionState };
 
-    ghost view = { λ s. record { id = s.id; address = s.address; held = s.held.items; owed = s.owed.items; username = s.username; password = s.password; login = s.login; ending = s.ending } };
+    ghost view = { λ s. record { id = s.id; address = s.address; held = s.held.items; owed = owed s.outbox; username = s.username; password = s.password; login = s.login; ending = s.ending } };
 
-    ghost invariant = { λ s. (HELD_LIMIT ≤ vec_capacity s.held) × (OFFER_LIMIT ≤ vec_capacity s.owed) × (vec_len s.held ≤ HELD_LIMIT) };
+    ghost invariant = { λ s. (HELD_LIMIT ≤ vec_capacity s.held) × (vec_len s.held ≤ HELD_LIMIT) };
 }
 
 impl Session {
+    ghost use Rattle.nutcore.specs.contracts.session.Session.{the_row};
+
     /// A new session, with room for what it may hold, and for any answer of one line.
     pub(crate) fn new(alloc: Global, id: u64, address: Address) -> Result<Self, AllocError>
         ensures { IfOk result (λ x. x ≡ new_session id address) }
     {
         let held = Vec::with_capacity(alloc, HELD_LIMIT)?;
-        let owed = Vec::with_capacity(alloc, OFFER_LIMIT)?;
+        let outbox = Outbox::new(alloc)?;
         Ok(Session {
             id,
             address,
             held,
-            owed,
+            outbox,
             username: None,
             password: None,
             login: None,
@@ -95,7 +105,7 @@ impl Session {
     pub(crate) fn is_finished(&self) -> bool
         ensures { result ≡ is_finished self.now }
     {
-        self.ending && self.owed.is_empty()
+        self.ending && self.outbox.is_empty()
     }
 
     /// How many bytes of input it takes in now.
@@ -130,7 +140,7 @@ impl Session {
         ensures line { MatchOption result (next_line self.now ≡ None) (λ line. next_line self.now ≡ Some line.now) }
         ensures short { MatchOption result (Unit {0}) (λ line. length line.now ≤ LINE_LIMIT) }
     {
-        if self.ending || self.owed.len() > OWED_LIMIT {
+        if self.ending || !self.outbox.is_ready() {
             return None;
         }
         let end = line_end(&self.held)?;
@@ -139,37 +149,45 @@ impl Session {
 
     /// Takes the next line, joins its answer of one line to what is owed, and does what it changes
     /// of the session. Takes no memory.
-    pub(crate) fn answer(&mut self, text: &[u8], change: Change)
+    pub(crate) fn answer(&mut self, text: &[u8], change: Change, scratch: &mut Scratch)
         requires going { is_some (next_line self.old) ≡ true }
         requires short { length text.now ≤ OWED_LIMIT }
         ensures answered { (line : List ℕ) → next_line self.old ≡ Some line → self.new ≡ changed_session change (answered line text.now self.old) }
         ensures id { self.new.id ≡ self.old.id }
     {
-        self.owed.extend_from_slice(text).unwrap();
+        self.owe(text, scratch);
         self.take_line();
         self.change(change);
     }
 
-    /// Takes the next line, and joins the listing that answers it to what is owed. Without memory
-    /// nothing changes.
-    pub(crate) fn answer_listing(&mut self, listing: &Listing) -> Result<(), AllocError>
+    /// Takes the next line, and joins the listing that answers it to what is owed. Takes no memory.
+    pub(crate) fn answer_listing(&mut self, listing: Listing, scratch: &mut Scratch)
         requires { is_some (next_line self.old) ≡ true }
-        ensures ok { OnOk result ((line : List ℕ) → next_line self.old ≡ Some line → self.new ≡ answered line (text_of listing.now) self.old) }
-        ensures err { OnErr result (self.new ≡ self.old) }
+        ensures answered { (line : List ℕ) → next_line self.old ≡ Some line → self.new ≡ answered line (text_of listing) self.old }
         ensures id { self.new.id ≡ self.old.id }
     {
-        self.owe(listing)?;
+        self.owe_listing(listing, scratch);
         self.take_line();
-        Ok(())
     }
 
-    /// Joins a listing to what is owed. Without memory nothing changes.
-    pub(crate) fn owe(&mut self, listing: &Listing) -> Result<(), AllocError>
-        ensures ok { OnOk result (self.new ≡ record self.old { owed = self.old.owed ++ text_of listing.now }) }
-        ensures err { OnErr result (self.new ≡ self.old) }
+    /// Joins an answer of one line to what is owed.
+    fn owe(&mut self, text: &[u8], scratch: &mut Scratch)
+        requires ready { length self.old.owed ≤ OWED_LIMIT }
+        requires short { length text.now ≤ OWED_LIMIT }
+        ensures owes { self.new ≡ record self.old { owed = self.old.owed ++ text.now } }
         ensures id { self.new.id ≡ self.old.id }
     {
-        listing.write(&mut self.owed)
+        self.outbox.push(text, &mut scratch.renders);
+    }
+
+    /// Joins a listing to what is owed.
+    fn owe_listing(&mut self, listing: Listing, scratch: &mut Scratch)
+        requires { length self.old.owed ≤ OWED_LIMIT }
+        ensures owes { self.new ≡ record self.old { owed = self.old.owed ++ text_of listing } }
+        ensures id { self.new.id ≡ self.old.id }
+    {
+        let Scratch { line, renders } = scratch;
+        self.outbox.accept(listing, line, renders);
     }
 
     /// Takes the first line.
@@ -183,20 +201,20 @@ impl Session {
     }
 
     /// A session that holds 1,024 bytes without an LF is told so, and begins to end.
-    pub(crate) fn end_if_overlong(&mut self) -> bool
+    pub(crate) fn end_if_overlong(&mut self, scratch: &mut Scratch) -> bool
         ensures overlong { result ≡ is_overlong_of (Some self.old) }
         ensures ends { result ≡ true → self.new ≡ notified self.old }
         ensures same { result ≡ false → self.new ≡ self.old }
         ensures id { self.new.id ≡ self.old.id }
     {
         if self.ending
-            || self.owed.len() > OWED_LIMIT
+            || !self.outbox.is_ready()
             || self.held.len() < HELD_LIMIT
             || line_end(&self.held).is_some()
         {
             return false;
         }
-        self.owed.extend_from_slice(b"ERR TOO-LONG\n").unwrap();
+        self.owe(b"ERR TOO-LONG\n", scratch);
         self.begin_ending();
         true
     }
@@ -224,24 +242,31 @@ impl Session {
         }
     }
 
-    /// What is offered to the client now.
-    pub(crate) fn offer(&self) -> &[u8]
-        ensures { result.now ≡ take OFFER_LIMIT self.now.owed }
+    /// What is offered to the client now: the first 4,096 bytes of what it is owed, or all. Nothing
+    /// changes.
+    pub(crate) fn offer(&mut self) -> &[u8]
+        ensures value { result.now ≡ take RING_LIMIT self.old.owed }
+        ensures* same { sem 𝓛 (Rests the_row self.entry (λ new. new ≡ self.old)) }
     {
-        if self.owed.len() > OFFER_LIMIT {
-            &self.owed[..OFFER_LIMIT]
-        } else {
-            self.owed.as_slice()
-        }
+        self.outbox.offer()
     }
 
-    /// The client took n bytes of what is owed.
-    pub(crate) fn take(&mut self, n: usize)
-        requires { n ≤ length self.old.owed }
+    /// How many bytes are offered.
+    pub(crate) fn offered(&self) -> usize
+        ensures { result ≡ length (take RING_LIMIT self.now.owed) }
+    {
+        self.outbox.offered()
+    }
+
+    /// The client took n bytes of what it is offered.
+    pub(crate) fn take(&mut self, n: usize, scratch: &mut Scratch)
+        requires { n ≤ length (take RING_LIMIT self.old.owed) }
         ensures short { length self.new.held ≤ HELD_LIMIT }
         ensures id { self.new.id ≡ self.old.id }
         ensures takes { self.new ≡ record self.old { owed = drop n self.old.owed } }
     {
-        drop_front(&mut self.owed, n);
+        let _ = self.outbox.offered();
+        let Scratch { line, renders } = scratch;
+        self.outbox.take(n, line, renders);
     }
 }

@@ -4,7 +4,7 @@ use Rattle.nutcore.specs.Server.{ServerState, session}
 use Rattle.nutcore.specs.Serving.{IsAt, IsAnswered}
 use Rattle.nutcore.specs.contracts.server.Server.{the_view}
 use Rattle.nutcore.proofs.Found.{find_id}
-use Rattle.nutcore.proofs.Serving.{found_in, goes, apart_set, answered_is, on_ok_weaker}
+use Rattle.nutcore.proofs.Serving.{found_in, goes, apart_set, answered_is}
 use Rattle.nutlisting.specs.Items.{text_of}
 use Rattle.nutanswer.specs.declared.reply.Change.TheVariants.{Nothing}
 use Rattle.nutcore.proofs.server.Server.answer_listing.Goals as goal
@@ -28,14 +28,12 @@ invariant_of-self c =
       named = c.self.invariant.named;
     }
 
-pub returns-clause-ok : goal.returns-clause-ok
-returns-clause-ok c =
+pub returns : goal.returns
+returns c =
     let v : ServerState = the_view c.self.inside in
     let x : SessionState = c.index_mut-session.result.now in
     let y : SessionState = c.answer_listing.new.self in
     let at : IsAt c.args.c c.args.place v.sessions = subst (λ (z : ServerState). IsAt c.args.c c.args.place z.sessions) (sym c.self.view_is) c.requires.at in
     let found : session c.args.c v ≡ Some x = ap (session c.args.c) c.self.view_is ∙ found_in c.args.c c.args.place v c.args.self.now x c.self.view_is c.requires.at c.index_mut-session.ensures.value in
-    on_ok_weaker c.answer_listing.result _ _
-    (λ written. subst (λ (z : ServerState). let code : ServerState = record v { sessions = set v.sessions c.args.place y } in IsAnswered z c.args.c (text_of c.args.listing.now) Nothing code) c.self.view_is
-    (answered_is v c.args.c c.args.place (text_of c.args.listing.now) Nothing x y at found c.answer_listing.ensures.id written))
-    c.answer_listing.ensures.ok
+    subst (λ (z : ServerState). let code : ServerState = record v { sessions = set v.sessions c.args.place y } in IsAnswered z c.args.c (text_of c.args.listing) Nothing code) c.self.view_is
+    (answered_is v c.args.c c.args.place (text_of c.args.listing) Nothing x y at found c.answer_listing.ensures.id c.answer_listing.ensures.answered)

@@ -5,7 +5,7 @@ use Rattle.nutanswer.specs.declared.reply.Reply.TheVariants.{One, Many}
 use Rattle.nutanswer.specs.declared.reply.Change.TheVariants.{Nothing}
 use Rattle.nutlisting.specs.Items.{text_of}
 use Rattle.nutcore.specs.Serving.{Replies, RepliesOrLacks}
-use Rattle.nutcore.proofs.Serving.{line_is, on_ok_weaker}
+use Rattle.nutcore.proofs.Serving.{line_is}
 use Rattle.nutcore.proofs.server.Server.execute.Goals as goal
 
 pub returns-in-One-clause-ok : goal.returns-in-One-clause-ok
@@ -20,6 +20,4 @@ returns-in-Many-clause-ok c =
     let line : List ℕ = c.requires.next.0 in
     let e : c.args.reply ≡ Ok (Many c.in-Many.listing) = c.in_ok-text.was ∙ ap (λ (r : Reply). Ok r) c.in-Many.is in
     let told : Replies c.args.self.now c.args.c line (Many c.in-Many.listing) = subst (λ (r : Result Reply AllocError). RepliesOrLacks c.args.self.now c.args.c line r) e c.requires.next.2 in
-    on_ok_weaker c.answer_listing.result _ _
-    (λ answered. line_is c.args.self.now c.args.self.now c.answer_listing.new.self c.args.c line (text_of c.in-Many.listing) Nothing c.requires.next.1 told.1 told.2 refl answered)
-    c.answer_listing.ensures.ok
+    line_is c.args.self.now c.args.self.now c.answer_listing.new.self c.args.c line (text_of c.in-Many.listing) Nothing c.requires.next.1 told.1 told.2 refl c.answer_listing.ensures

@@ -6,7 +6,7 @@ use Rattle.nutcore.specs.contracts.server.Server.{the_view}
 use Rattle.nutcore.proofs.Found.{find_id}
 use Rattle.nutcore.specs.Pump.{held_of}
 use Rattle.nutcore.specs.Step.{without_output}
-use Rattle.nutcore.proofs.Serving.{found_in, apart_set, within_owed}
+use Rattle.nutcore.proofs.Serving.{found_in, apart_set, within_offered}
 use Rattle.nutcore.proofs.EventSteps.{without_output_is}
 use Rattle.nutcore.proofs.Serving.{session_set}
 use Rattle.nutcore.proofs.server.Server.give.Goals as goal
@@ -27,7 +27,7 @@ pub take-requires : goal.take-requires
 take-requires c =
     let x : SessionState = c.index_mut-session.result.now in
     let found : session c.args.c c.args.self.now ≡ Some x = found_in c.args.c c.args.place (the_view c.self.inside) c.args.self.now x c.self.view_is c.requires.at c.index_mut-session.ensures.value in
-    within_owed (session c.args.c c.args.self.now) x c.args.n found c.requires.few
+    within_offered (session c.args.c c.args.self.now) x c.args.n found c.requires.few
 
 pub returns-clause-given : goal.returns-clause-given
 returns-clause-given c =

@@ -10,4 +10,4 @@ use Rattle.nutcore.proofs.server.Server.offered.Goals as goal
 pub returns : goal.returns
 returns c =
     let found : session c.args.c c.args.self.now ≡ Some c.index-session.result.now = found_in c.args.c c.in-Some.place (the_view c.self.inside) c.args.self.now c.index-session.result.now c.self.view_is c.in-Some.ensures.place c.index-session.ensures in
-    subst (λ (o : Option SessionState). Reads (λ (x : SessionState). length (offered (Some x))) o (Ok (length c.offer.result.now))) (sym found) (ap Ok (ap length c.offer.ensures))
+    subst (λ (o : Option SessionState). Reads (λ (x : SessionState). length (offered (Some x))) o (Ok c.offered.result)) (sym found) (ap Ok c.offered.ensures)

@@ -9,4 +9,4 @@ use Rattle.nutcore.proofs.server.Server.offered_at.Goals as goal
 pub returns : goal.returns
 returns c =
     let found : session c.args.c c.args.self.now ≡ Some c.index-session.result.now = found_in c.args.c c.args.place (the_view c.self.inside) c.args.self.now c.index-session.result.now c.self.view_is c.requires c.index-session.ensures in
-    ap length c.offer.ensures ∙ sym (ap (λ (o : Option SessionState). length (offered o)) found)
+    c.offered.ensures ∙ sym (ap (λ (o : Option SessionState). length (offered o)) found)
