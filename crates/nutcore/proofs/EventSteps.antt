@@ -30,7 +30,7 @@ without_output_is s c i n x y h e ey =
     set_is s c i y h (ap (λ (z : SessionState). z.id) ey ∙ find_id c s.sessions x e) ∙ ap (with_session s) ey ∙ sym (ap (λ (o : Option SessionState). without_output_of s o n) e)
 
 -- where the client isn't open, the pump does nothing
-pump_absent : (s : ServerState) (c : ℕ) → session c s ≡ None → s ≡ pumped s c
+pub pump_absent : (s : ServerState) (c : ℕ) → session c s ≡ None → s ≡ pumped s c
 unfolding pumped after_all_lines
 pump_absent s c e =
     let none : is_overlong s c ≡ false = ap is_overlong_of e in
@@ -38,7 +38,7 @@ pump_absent s c e =
     let lines = stopped_lines (length (held_of (session c s))) s c stop in
     sym (ap (λ (z : ServerState). after_notice z c) lines ∙ no_notice s c none)
 
-input_absent : (s : ServerState) (c : ℕ) (piece : List ℕ) → session c s ≡ None → with_input s c piece ≡ s
+pub input_absent : (s : ServerState) (c : ℕ) (piece : List ℕ) → session c s ≡ None → with_input s c piece ≡ s
 unfolding with_input with_input_of
 input_absent s c piece e = ap (λ (o : Option SessionState). with_input_of s o piece) e
 

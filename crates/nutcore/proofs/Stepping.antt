@@ -34,7 +34,7 @@ unfolding executions_until pumped_until
 until_goes c s None = pump_goes c s
 until_goes c s (Some k) = lines_go k c s
 
-until_other : (c d : ℕ) (s : ServerState) (m : Option ℕ) → c ≢ d → presence c (pumped_until s d m) ≡ presence c s
+pub until_other : (c d : ℕ) (s : ServerState) (m : Option ℕ) → c ≢ d → presence c (pumped_until s d m) ≡ presence c s
 unfolding pumped_until
 until_other c d s None differ = pump_other c d s differ
 until_other c d s (Some k) differ = lines_other k c d s differ
@@ -51,7 +51,7 @@ input_goes_of c s piece (Some x) e =
     (presence_put c s x y (find_id c s.sessions x e) e)
     (moves x y (ltb c s.next_id) [] [] more [] (append-nil x.owed) (λ h. refl) (λ h. (x.held ++ more, refl)) (λ h. (h, cond-true _ _ _ h, refl)))
 
-input_other_of : (c d : ℕ) (s : ServerState) (piece : List ℕ) (o : Option SessionState) → session d s ≡ o → c ≢ d → presence c (with_input_of s o piece) ≡ presence c s
+pub input_other_of : (c d : ℕ) (s : ServerState) (piece : List ℕ) (o : Option SessionState) → session d s ≡ o → c ≢ d → presence c (with_input_of s o piece) ≡ presence c s
 unfolding with_input_of
 input_other_of c d s piece None e differ = refl
 input_other_of c d s piece (Some x) e differ = presence_put_other c s (record x { held = x.held ++ accepted_bytes (Some x) piece }) (λ (h : c ≡ x.id). differ (h ∙ find_id d s.sessions x e))
@@ -90,7 +90,7 @@ output_goes_of c s n (Some x) e may =
     (presence_put c s x y (find_id c s.sessions x e) e)
     (moves x y (ltb c s.next_id) [] (take n x.owed) [] [] (append-nil x.owed ∙ sym (take-append-drop n x.owed)) (λ h. append-nil x.held) (λ h. (x.held, sym (append-nil x.held))) (λ h. (h, refl, refl)))
 
-output_other_of : (c d : ℕ) (s : ServerState) (n : ℕ) (o : Option SessionState) → session d s ≡ o → c ≢ d → presence c (without_output_of s o n) ≡ presence c s
+pub output_other_of : (c d : ℕ) (s : ServerState) (n : ℕ) (o : Option SessionState) → session d s ≡ o → c ≢ d → presence c (without_output_of s o n) ≡ presence c s
 unfolding without_output_of
 output_other_of c d s n None e differ = refl
 output_other_of c d s n (Some x) e differ = presence_put_other c s (record x { owed = drop n x.owed }) (λ (h : c ≡ x.id). differ (h ∙ find_id d s.sessions x e))

@@ -10,6 +10,8 @@ pub mod Step
 pub mod Run
 pub mod History
 pub mod Headline
+pub mod Isolation
+pub mod Limits
 pub mod ByRight
 pub mod Calls
 pub mod Serving

@@ -1,5 +1,5 @@
 use Rattle.nutcore.proofs.LoginMarks.{logins}
-use Rattle.nutcore.proofs.a_login_is_by_right.Goals as goal
+use Rattle.nutcore.proofs.laws.a_login_is_by_right.Goals as goal
 
 pub returns : goal.returns
 returns c = logins

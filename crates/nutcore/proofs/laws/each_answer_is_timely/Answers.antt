@@ -1,5 +1,5 @@
 use Rattle.nutcore.proofs.Executions.{each_answer_timely}
-use Rattle.nutcore.proofs.each_answer_is_timely.Goals as goal
+use Rattle.nutcore.proofs.laws.each_answer_is_timely.Goals as goal
 
 pub returns : goal.returns
 returns c = λ old events outcomes. each_answer_timely old events outcomes

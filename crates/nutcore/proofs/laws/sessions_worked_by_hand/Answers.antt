@@ -1,5 +1,5 @@
 use Rattle.nutcore.proofs.Examples.{two_variables, empty_listing, taken_in_four, longest_line, three_lines, escaped_value, faulty_lines, cases_and_faults, not_connected, described, pipelined_get}
-use Rattle.nutcore.proofs.sessions_worked_by_hand.Goals as goal
+use Rattle.nutcore.proofs.laws.sessions_worked_by_hand.Goals as goal
 
 pub returns-clause-two_variables : goal.returns-clause-two_variables
 returns-clause-two_variables c = two_variables

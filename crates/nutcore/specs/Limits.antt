@@ -1,0 +1,11 @@
+-- The limits.
+use Rattle.std.specs.Prelude.{◌≡◌}
+use Rattle.nutcore.specs.declared.TheConstants.{HELD_LIMIT, DRIVER_OWED_LIMIT}
+use Rattle.nutcore.specs.declared.max_age.TheConstants.{MAX_AGE_LEAST, MAX_AGE_MOST, MAX_AGE_DEFAULT}
+
+pub record Limits : Type 0 where
+  pub held : HELD_LIMIT ≡ 1024
+  pub driver_owed : DRIVER_OWED_LIMIT ≡ 2048
+  pub max_age_least : MAX_AGE_LEAST ≡ 3
+  pub max_age_most : MAX_AGE_MOST ≡ 86400
+  pub max_age_default : MAX_AGE_DEFAULT ≡ 15

@@ -1,0 +1,91 @@
+//! Laws of every server, event and run. No program calls them.
+ghost use Rattle.nutcore.specs.Headline.{WhatWasSentAndIsOwedIsTheAnswers, WhatWasAskedIsExecutedOrHeld, EachAnswerIsTimely, AListingIsWhatIsHeld, ARefusedLineChangesNothing, ThePumpExecutesTheLeast, EachEventIsAFunction};
+ghost use Rattle.nutcore.specs.ByRight.{AForcedShutdownIsSetByRight, ALoginIsByRight};
+ghost use Rattle.nutcore.specs.Examples.{TwoVariables, EmptyListing, TakenInFour, LongestLine, ThreeLines, EscapedValue, FaultyLines, CasesAndFaults, NotConnected, Described, PipelinedGet};
+ghost use Rattle.nutcore.specs.Isolation.{AClientTouchesNoOther, ADriverTouchesNoOther, ARefusedEventChangesNothing};
+ghost use Rattle.nutcore.specs.Limits.{Limits};
+
+/// Over every run, what each client was sent, followed by what it is still owed, is exactly the
+/// answers to its executed lines, in order.
+pub fn what_was_sent_and_is_owed_is_the_answers()
+    ensures { WhatWasSentAndIsOwedIsTheAnswers }
+{}
+
+/// Over every run, what each client asked is executed in order, or still held.
+pub fn what_was_asked_is_executed_or_held()
+    ensures { WhatWasAskedIsExecutedOrHeld }
+{}
+
+/// Each answer of a run is the reply to its line on the server of that line's own moment.
+pub fn each_answer_is_timely()
+    ensures { EachAnswerIsTimely }
+{}
+
+/// A listing is the frame of exactly the variables that the UPS holds when its line is executed.
+pub fn a_listing_is_what_is_held()
+    ensures { AListingIsWhatIsHeld }
+{}
+
+/// A whole line that is refused changes nothing but its own session's held and owed bytes.
+pub fn a_refused_line_changes_nothing()
+    ensures { ARefusedLineChangesNothing }
+{}
+
+/// A forced shutdown is set only by right: where it is set after a run and wasn't before, one of the
+/// lines that the run executed was `FSD` of that UPS, answered `OK FSD-SET`, of a session that had
+/// given the name and the password of a user who has the right.
+pub fn a_forced_shutdown_is_set_by_right()
+    ensures { AForcedShutdownIsSetByRight }
+{}
+
+/// The same of a login: it comes of the client's own `LOGIN`, answered `OK`, with the right.
+pub fn a_login_is_by_right()
+    ensures { ALoginIsByRight }
+{}
+
+/// The pump executes the least number of lines after which it stops.
+pub fn the_pump_executes_the_least()
+    ensures { ThePumpExecutesTheLeast }
+{}
+
+/// Given a server, an event and its outcome there is one next server, and but for want of memory
+/// there is one outcome.
+pub fn each_event_is_a_function()
+    ensures { EachEventIsAFunction }
+{}
+
+/// The limits, in bytes but for the sessions and the seconds: what a session holds of input; what a driver is still to be
+/// sent; the greatest age of what a driver told, its least, its greatest and the one that stands unless another is set.
+pub fn limits()
+    ensures { Limits }
+{}
+
+/// What a client sends or takes, or its end, touches no other session, and of the server nothing but what commands change.
+pub fn a_client_touches_no_other()
+    ensures { AClientTouchesNoOther }
+{}
+
+/// What a driver does touches no session, no other UPS, and nothing else of the server.
+pub fn a_driver_touches_no_other()
+    ensures { ADriverTouchesNoOther }
+{}
+
+/// An event that is refused, but for a line that is too long and for being out of memory, changes nothing.
+pub fn a_refused_event_changes_nothing()
+    ensures { ARefusedEventChangesNothing }
+{}
+
+/// Sessions worked out by hand are what the definitions give.
+pub fn sessions_worked_by_hand()
+    ensures two_variables { TwoVariables }
+    ensures empty_listing { EmptyListing }
+    ensures taken_in_four { TakenInFour }
+    ensures longest_line { LongestLine }
+    ensures three_lines { ThreeLines }
+    ensures escaped_value { EscapedValue }
+    ensures faulty_lines { FaultyLines }
+    ensures cases_and_faults { CasesAndFaults }
+    ensures not_connected { NotConnected }
+    ensures described { Described }
+    ensures pipelined_get { PipelinedGet }
+{}
