@@ -1,5 +1,5 @@
 -- What an event executes is one client's, each line at its moment.
-use Rattle.std.proofs.Common.{◌≡◌, ◌≢◌, ℕ, zero, suc, ◌<◌, Bool, true, false, List, [], ◌∷◌, ◌++◌, Option, Some, None, refl, sym, ◌∙◌, ap, cond, eqb, arith, length, get_or}
+use Rattle.std.proofs.Common.{◌≡◌, ◌≢◌, ℕ, zero, suc, ◌+◌, ◌<◌, Bool, true, false, List, [], ◌∷◌, ◌++◌, Option, Some, None, refl, sym, ◌∙◌, ap, subst, cond, eqb, arith, length, get_or}
 use Rattle.std.specs.Prelude.{All}
 use Rattle.std.specs.List.{filter}
 use Rattle.std.proofs.lemmas.Bool.{cond-true, cond-false, eqb-true, eqb-false, eq-eqb}
@@ -8,10 +8,12 @@ use Rattle.nutcore.specs.declared.event.Event.{Event}
 use Rattle.nutcore.specs.declared.event.Event.TheVariants.{DriverUp, DriverBytes, DriverTook, DriverDown, Tick, Open, Feed, Took, Close}
 use Rattle.nutcore.specs.declared.event.Outcome.{Outcome}
 use Rattle.nutcore.specs.Server.{ServerState, session}
-use Rattle.nutcore.specs.Pump.{next_line_for, after_line, is_overlong, after_all_lines}
-use Rattle.nutcore.specs.Step.{after, refused_after, may_take, with_input, without_output}
+use Rattle.nutcore.specs.Pump.{next_line_for, after_line, after_lines, is_overlong, after_all_lines}
+use Rattle.nutcore.specs.Step.{Step, after, refused_after, may_take, with_input, without_output}
+use Rattle.nutcore.specs.Run.{Run}
 use Rattle.nutcore.specs.History.{Execution, of_line, of_notice, client_of, next_execution, lines_executed, notice, pump_executions, executions_until, executions_by, executions, of_client}
-use Rattle.nutcore.specs.Headline.{IsTimely}
+use Rattle.nutcore.specs.Headline.{IsInPump, IsInEvent, IsTimely, EachAnswerIsTimely}
+use Rattle.nutcore.proofs.Loops.{after_lines-suc}
 
 -- this holds of each of them
 pub data Each (P : Execution → Type 0) : List Execution → Type 0 where
@@ -21,6 +23,10 @@ pub data Each (P : Execution → Type 0) : List Execution → Type 0 where
 both : (P : Execution → Type 0) (xs ys : List Execution) → Each P xs → Each P ys → Each P (xs ++ ys)
 both P _ ys none_left more = more
 both P _ ys (one_more {rest = rest} first others) more = one_more first (both P rest ys others more)
+
+each_notice : (P : Execution → Type 0) (c : ℕ) (b : Bool) → P (of_notice c) → Each P (cond b (of_notice c ∷ []) [])
+each_notice P c true at_notice = one_more at_notice none_left
+each_notice P c false at_notice = none_left
 
 -- all that a pump executes has what its lines and its notice have
 module _ (P : Execution → Type 0) (c : ℕ) (at_line : (s : ServerState) (line : List ℕ) → next_line_for s c ≡ Some line → P (of_line s c line)) (at_notice : P (of_notice c)) where
@@ -33,13 +39,9 @@ module _ (P : Execution → Type 0) (c : ℕ) (at_line : (s : ServerState) (line
   each_line zero s = none_left
   each_line (suc k) s = both P (next_execution s c (next_line_for s c)) (lines_executed k (after_line s c) c) (each_next s (next_line_for s c) refl) (each_line k (after_line s c))
 
-  each_notice : (b : Bool) → Each P (cond b (of_notice c ∷ []) [])
-  each_notice true = one_more at_notice none_left
-  each_notice false = none_left
-
   each_until : (s : ServerState) (m : Option ℕ) → Each P (executions_until s c m)
   unfolding executions_until pump_executions
-  each_until s None = both P _ _ (each_line _ s) (each_notice (is_overlong (after_all_lines s c) c))
+  each_until s None = both P _ _ (each_line _ s) (each_notice P c (is_overlong (after_all_lines s c) c) at_notice)
   each_until s (Some k) = each_line k s
 
 -- it is this client's
@@ -94,14 +96,27 @@ given_is c s (Took d n) m = of_client_when c (executions_until (without_output s
 given_is c s (Close d) m = refl
 
 -- each line is executed at its moment
-until_timely : (c : ℕ) (s : ServerState) (m : Option ℕ) → Each IsTimely (executions_until s c m)
-until_timely c s m = each_until IsTimely c (λ s line h. h) tt s m
+pump_line : (begun : ServerState) (c k : ℕ) (s : ServerState) (j : ℕ) → s ≡ after_lines j begun c → Each (IsInPump begun c) (lines_executed k s c)
+unfolding lines_executed
+pump_line begun c zero s j e = none_left
+pump_line begun c (suc k) s j e =
+    both (IsInPump begun c) (next_execution s c (next_line_for s c)) (lines_executed k (after_line s c) c) (next (next_line_for s c) refl)
+    (pump_line begun c k (after_line s c) (j + 1) (ap (λ (z : ServerState). after_line z c) e ∙ sym (after_lines-suc j begun c)))
+  where
+    next : (o : Option (List ℕ)) → next_line_for s c ≡ o → Each (IsInPump begun c) (next_execution s c o)
+    next None h = none_left
+    next (Some line) h = one_more (refl, j, e, h) none_left
 
-when_timely : (xs : List Execution) (b : Bool) → Each IsTimely xs → Each IsTimely (cond b xs [])
-when_timely xs true each = each
-when_timely xs false each = none_left
+until_timely : (begun : ServerState) (c : ℕ) (m : Option ℕ) → Each (IsInPump begun c) (executions_until begun c m)
+unfolding executions_until pump_executions after_lines
+until_timely begun c None = both (IsInPump begun c) _ _ (pump_line begun c _ begun 0 refl) (each_notice (IsInPump begun c) c (is_overlong (after_all_lines begun c) c) refl)
+until_timely begun c (Some k) = pump_line begun c k begun 0 refl
 
-event_timely : (s : ServerState) (e : Event) (m : Option ℕ) → Each IsTimely (executions_by s e m)
+when_each : (P : Execution → Type 0) (xs : List Execution) (b : Bool) → Each P xs → Each P (cond b xs [])
+when_each P xs true each = each
+when_each P xs false each = none_left
+
+event_timely : (s : ServerState) (e : Event) (m : Option ℕ) → Each (IsInEvent s e) (executions_by s e m)
 unfolding executions_by
 event_timely s (DriverUp u) m = none_left
 event_timely s (DriverBytes u piece) m = none_left
@@ -109,22 +124,47 @@ event_timely s (DriverTook u n) m = none_left
 event_timely s (DriverDown u) m = none_left
 event_timely s (Tick seconds) m = none_left
 event_timely s (Open address) m = none_left
-event_timely s (Feed c piece) m = until_timely c (with_input s c piece) m
-event_timely s (Took c n) m = when_timely (executions_until (without_output s c n) c m) (may_take (session c s) n) (until_timely c (without_output s c n) m)
+event_timely s (Feed c piece) m = until_timely (with_input s c piece) c m
+event_timely s (Took c n) m = when_each (IsInPump (without_output s c n) c) (executions_until (without_output s c n) c m) (may_take (session c s) n) (until_timely (without_output s c n) c m)
 event_timely s (Close c) m = none_left
 
-run_timely : (s : ServerState) (es : List Event) (os : List Outcome) → Each IsTimely (executions s es os)
-run_timely s [] os = none_left
-run_timely s (e ∷ es) [] = none_left
-run_timely s (e ∷ es) (o ∷ os) = both IsTimely _ _ (event_timely s e (refused_after o)) (run_timely (after s e o) es os)
+each_more : (P Q : Execution → Type 0) → ((x : Execution) → P x → Q x) → (xs : List Execution) → Each P xs → Each Q xs
+each_more P Q f _ none_left = none_left
+each_more P Q f _ (one_more {x = x} {rest = rest} first others) = one_more (f x first) (each_more P Q f rest others)
 
-all_of : (xs : List Execution) → Each IsTimely xs → All IsTimely xs
-all_of _ none_left = λ k d (lt : k < 0). absurd (omega arith)
-all_of _ (one_more {x = x} {rest = rest} first others) = λ k d lt. at x k first (all_of rest others) d lt
+run_timely : (s t : ServerState) (es : List Event) (os : List Outcome) → Run s es os t → Each (IsTimely s es os) (executions s es os)
+run_timely s t [] [] r = none_left
+run_timely s t [] (o ∷ os) r = absurd r
+run_timely s t (e ∷ es) [] r = absurd r
+run_timely s t (e ∷ es) (o ∷ os) (mid, step, r) =
+    let next : ServerState = after s e o in
+    let rest = run_timely next t es os (subst (λ (z : ServerState). Run z es os t) step.leaves r) in
+    both (IsTimely s (e ∷ es) (o ∷ os)) _ _
+    (each_more (IsInEvent s e) (IsTimely s (e ∷ es) (o ∷ os)) (λ x h. record { events_before = []; event = e; events_after = es; outcomes_before = []; outcome = o; outcomes_after = os; server = s; events_are = refl; outcomes_are = refl; reached = refl; executed = h }) _ (event_timely s e (refused_after o)))
+    (each_more (IsTimely next es os) (IsTimely s (e ∷ es) (o ∷ os)) (λ x h. later s mid e o es os x step h) _ rest)
   where
-    at : (x : Execution) (k : ℕ) → IsTimely x → All IsTimely rest → (d : Execution) → k < suc (length rest) → IsTimely (get_or (x ∷ rest) k d)
+    later : (s mid : ServerState) (e : Event) (o : Outcome) (es : List Event) (os : List Outcome) (x : Execution) → Step s e o mid → IsTimely (after s e o) es os x → IsTimely s (e ∷ es) (o ∷ os) x
+    later s mid e o es os x step h = record {
+      events_before = e ∷ h.events_before;
+      event = h.event;
+      events_after = h.events_after;
+      outcomes_before = o ∷ h.outcomes_before;
+      outcome = h.outcome;
+      outcomes_after = h.outcomes_after;
+      server = h.server;
+      events_are = ap (λ (ys : List Event). e ∷ ys) h.events_are;
+      outcomes_are = ap (λ (ys : List Outcome). o ∷ ys) h.outcomes_are;
+      reached = (mid, step, subst (λ (z : ServerState). Run z h.events_before h.outcomes_before h.server) (sym step.leaves) h.reached);
+      executed = h.executed;
+    }
+
+all_of : (P : Execution → Type 0) (xs : List Execution) → Each P xs → All P xs
+all_of P _ none_left = λ k d (lt : k < 0). absurd (omega arith)
+all_of P _ (one_more {x = x} {rest = rest} first others) = λ k d lt. at x k first (all_of P rest others) d lt
+  where
+    at : (x : Execution) (k : ℕ) → P x → All P rest → (d : Execution) → k < suc (length rest) → P (get_or (x ∷ rest) k d)
     at x zero first others d lt = first
     at x (suc k) first others d lt = others k d (omega arith)
 
-pub each_answer_timely : (s : ServerState) (es : List Event) (os : List Outcome) → All IsTimely (executions s es os)
-each_answer_timely s es os = all_of (executions s es os) (run_timely s es os)
+pub each_answer_timely : EachAnswerIsTimely
+each_answer_timely s t es os r = all_of (IsTimely s es os) (executions s es os) (run_timely s t es os r)

@@ -1,11 +1,17 @@
 -- The pump executes the least number of lines after which it stops.
-use Rattle.std.proofs.Common.{◌≡◌, ℕ, zero, suc, ◌<◌, ◌≤◌, Bool, true, false, List, [], ◌∷◌, Option, Some, None, refl, sym, ap, subst, cond, arith, length}
+use Rattle.std.proofs.Common.{◌≡◌, ℕ, zero, suc, ◌<◌, ◌≤◌, Bool, true, false, List, [], ◌∷◌, Option, Some, None, refl, sym, ◌∙◌, ap, subst, cond, arith, length, inl, inr}
 use Rattle.std.specs.Prelude.{is_none}
 use Rattle.nutcore.specs.Lines.{first_line}
 use Rattle.nutcore.specs.Session.{SessionState}
 use Rattle.nutcore.specs.Server.{ServerState, session}
-use Rattle.nutcore.specs.Pump.{next_line_of, next_line_for, after_line, after_lines, pump_stops, held_of, pumped, after_notice}
-use Rattle.nutcore.specs.Headline.{IsLeast}
+use Rattle.std.proofs.lemmas.Bool.{cond-true}
+use Rattle.nutcore.specs.declared.event.Event.TheVariants.{Feed, Took}
+use Rattle.nutcore.specs.declared.event.Outcome.TheVariants.{Done, Fed, Refused}
+use Rattle.nutcore.specs.declared.event.Fault.TheVariants.{TookTooMuch, LineTooLong, Memory}
+use Rattle.nutcore.specs.Step.{Step, with_input, without_output, may_take, fed_by, took_by, outcome_of, after_by, pumped_until}
+use Rattle.nutcore.specs.Pump.{next_line_of, next_line_for, after_line, after_lines, pump_stops, held_of, pumped, after_notice, after_all_lines, is_overlong}
+use Rattle.nutcore.specs.Headline.{IsLeast, NothingIsLeftToExecute}
+use Rattle.nutcore.proofs.Serving.{no_notice}
 use Rattle.nutcore.proofs.Loops.{stopped_lines, line_shortens, all_lines_are}
 
 -- the pump goes on where there is a next line
@@ -62,3 +68,44 @@ pump_least s c =
     let n = length (held_of (session c s)) in
     let l = least n s c (stops_at_last n s c (omega arith)) in
     (l.0, record { there = l.1.there; before = l.1.before; pumped_is = ap (λ (z : ServerState). after_notice z c) (all_lines_are l.0 s c l.1.within l.1.there) })
+
+-- after an event of a client that wasn't refused the pump has stopped
+pump_stopped : (s : ServerState) (c : ℕ) → is_overlong (after_all_lines s c) c ≡ false → pump_stops (pumped s c) c ≡ true
+unfolding pumped after_all_lines
+pump_stopped s c short =
+    let n : ℕ = length (held_of (session c s)) in
+    subst (λ (z : ServerState). pump_stops z c ≡ true) (sym (no_notice (after_lines n s c) c short)) (stops_at_last n s c (omega arith))
+
+fed_short : (o : Option SessionState) (piece : List ℕ) (n : ℕ) (b : Bool) → Fed n ≡ fed_by o piece b → b ≡ false
+fed_short None piece n b h = cc
+fed_short (Some x) piece n true h = cc
+fed_short (Some x) piece n false h = refl
+
+took_short : (o : Option SessionState) (n : ℕ) (b : Bool) → Done ≡ took_by o n b → (b ≡ false) × (may_take o n ≡ true)
+took_short None n b h = cc
+took_short (Some x) n b h = short_by (may_take (Some x) n) refl b h
+  where
+    short_by : (d : Bool) → may_take (Some x) n ≡ d → (b : Bool) → Done ≡ cond d (cond b (Refused LineTooLong) Done) (Refused TookTooMuch) → (b ≡ false) × (may_take (Some x) n ≡ true)
+    short_by true e true h = cc
+    short_by true e false h = (refl, e)
+    short_by false e b h = cc
+
+fed_stops : (old new : ServerState) (c n : ℕ) (piece : List ℕ) → Step old (Feed c piece) (Fed n) new → pump_stops new c ≡ true
+unfolding outcome_of after_by pumped_until
+fed_stops old new c n piece step =
+    elim step.allowed [
+      | inl told ↦ subst (λ (z : ServerState). pump_stops z c ≡ true) (sym step.leaves) (pump_stopped (with_input old c piece) c (fed_short (session c old) piece n _ told))
+      | inr lack ↦ (let e : Fed n ≡ Refused (Memory lack.0) = lack.1 in cc)
+    ]
+
+took_stops : (old new : ServerState) (c n : ℕ) → Step old (Took c n) Done new → pump_stops new c ≡ true
+unfolding outcome_of after_by pumped_until
+took_stops old new c n step =
+    elim step.allowed [
+      | inl told ↦ (let short = took_short (session c old) n _ told in
+        subst (λ (z : ServerState). pump_stops z c ≡ true) (sym (step.leaves ∙ cond-true _ _ _ short.1)) (pump_stopped (without_output old c n) c short.0))
+      | inr lack ↦ (let e : Done ≡ Refused (Memory lack.0) = lack.1 in cc)
+    ]
+
+pub nothing_left : NothingIsLeftToExecute
+nothing_left = record { fed = fed_stops; took = took_stops }

@@ -3,8 +3,9 @@ use Rattle.std.specs.Prelude.{◌≡◌, ◌⊎◌, ℕ, ◌<◌, true, false, L
 use Rattle.std.specs.List.{starts_with}
 use Rattle.nutwords.specs.Frame.{frame}
 use Rattle.nutcore.specs.declared.event.Event.{Event}
+use Rattle.nutcore.specs.declared.event.Event.TheVariants.{DriverUp, DriverBytes, DriverTook, DriverDown, Tick, Open, Feed, Took, Close}
 use Rattle.nutcore.specs.declared.event.Outcome.{Outcome}
-use Rattle.nutcore.specs.declared.event.Outcome.TheVariants.{Refused}
+use Rattle.nutcore.specs.declared.event.Outcome.TheVariants.{Done, Fed, Refused}
 use Rattle.nutcore.specs.declared.event.Fault.TheVariants.{Memory}
 use Rattle.nutanswer.specs.declared.command.Command.{Command}
 use Rattle.nutanswer.specs.declared.command.Command.TheVariants.{ListVar}
@@ -17,7 +18,7 @@ use Rattle.nutcore.specs.Session.{SessionState}
 use Rattle.nutcore.specs.Server.{ServerState, session, with_session}
 use Rattle.nutcore.specs.Reply.{seen, asker, reply}
 use Rattle.nutcore.specs.Pump.{next_line_for, pump_stops, after_line, after_lines, after_notice, pumped, answered}
-use Rattle.nutcore.specs.Step.{Step, outcome_of}
+use Rattle.nutcore.specs.Step.{Step, with_input, without_output, outcome_of}
 use Rattle.nutcore.specs.Run.{Run}
 use Rattle.nutcore.specs.History.{Execution, of_line, of_notice, executions, answers, executed, taken, asked, owed, held, is_closed, is_over}
 
@@ -54,14 +55,46 @@ abbrev pub WhatWasAskedIsExecutedOrHeld : Type 0
 WhatWasAskedIsExecutedOrHeld =
     (old new : ServerState) (events : List Event) (outcomes : List Outcome) → IsLawful old → Run old events outcomes new → (c : ℕ) → TakenUp c old events outcomes new
 
--- The line was its client's next one on the server as it was.
-abbrev pub IsTimely : Execution → Type 0
-IsTimely (of_line s c line) = next_line_for s c ≡ Some line
-IsTimely (of_notice c) = Unit {0}
+-- It belongs to the pump that began so: the line is its client's next one once so many lines before it are executed.
+abbrev pub IsInPump : ServerState → ℕ → Execution → Type 0
+IsInPump begun c (of_line s d line) = (d ≡ c) × (k : ℕ) × (s ≡ after_lines k begun c) × (next_line_for s c ≡ Some line)
+IsInPump begun c (of_notice d) = d ≡ c
 
--- Each answer of a run is the reply to its line on the server of the line's own moment, at which the line was the next to be executed.
+-- It belongs to this event on this server: to the pump that begins once the bytes have come, or are taken.
+abbrev pub IsInEvent : ServerState → Event → Execution → Type 0
+IsInEvent s (DriverUp u) x = ⊥
+IsInEvent s (DriverBytes u piece) x = ⊥
+IsInEvent s (DriverTook u n) x = ⊥
+IsInEvent s (DriverDown u) x = ⊥
+IsInEvent s (Tick seconds) x = ⊥
+IsInEvent s (Open address) x = ⊥
+IsInEvent s (Feed c piece) x = IsInPump (with_input s c piece) c x
+IsInEvent s (Took c n) x = IsInPump (without_output s c n) c x
+IsInEvent s (Close c) x = ⊥
+
+-- It belongs to an event of the run, on the server to which the run's own beginning before that event leads.
+pub record IsTimely (old : ServerState) (events : List Event) (outcomes : List Outcome) (x : Execution) : Type 0 where
+  pub events_before : List Event
+  pub event : Event
+  pub events_after : List Event
+  pub outcomes_before : List Outcome
+  pub outcome : Outcome
+  pub outcomes_after : List Outcome
+  pub server : ServerState
+  pub events_are : events ≡ events_before ++ event ∷ events_after
+  pub outcomes_are : outcomes ≡ outcomes_before ++ outcome ∷ outcomes_after
+  pub reached : Run old events_before outcomes_before server
+  pub executed : IsInEvent server event x
+
+-- Each answer of a run is the reply to its line on the server of that point of that run, at which the line was the next to be executed.
 abbrev pub EachAnswerIsTimely : Type 0
-EachAnswerIsTimely = (old : ServerState) (events : List Event) (outcomes : List Outcome) → All IsTimely (executions old events outcomes)
+EachAnswerIsTimely =
+    (old new : ServerState) (events : List Event) (outcomes : List Outcome) → Run old events outcomes new → All (IsTimely old events outcomes) (executions old events outcomes)
+
+-- After bytes that were taken in, and after bytes that were taken, nothing is left that may be executed.
+pub record NothingIsLeftToExecute : Type 0 where
+  pub fed : (old new : ServerState) (c n : ℕ) (piece : List ℕ) → Step old (Feed c piece) (Fed n) new → pump_stops new c ≡ true
+  pub took : (old new : ServerState) (c n : ℕ) → Step old (Took c n) Done new → pump_stops new c ≡ true
 
 -- The text that answers a listing's line is BEGIN, exactly the items that the server has then, and END. Of LIST VAR, of a UPS that is usable, they are the variables that it holds.
 pub record AListingIsWhatIsHeld : Type 0 where

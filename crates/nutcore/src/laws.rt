@@ -1,5 +1,5 @@
 //! Laws of every server, event and run. No program calls them.
-ghost use Rattle.nutcore.specs.Headline.{WhatWasSentAndIsOwedIsTheAnswers, WhatWasAskedIsExecutedOrHeld, EachAnswerIsTimely, AListingIsWhatIsHeld, ARefusedLineChangesNothing, ThePumpExecutesTheLeast, EachEventIsAFunction};
+ghost use Rattle.nutcore.specs.Headline.{WhatWasSentAndIsOwedIsTheAnswers, WhatWasAskedIsExecutedOrHeld, EachAnswerIsTimely, NothingIsLeftToExecute, AListingIsWhatIsHeld, ARefusedLineChangesNothing, ThePumpExecutesTheLeast, EachEventIsAFunction};
 ghost use Rattle.nutcore.specs.ByRight.{AForcedShutdownIsSetByRight, ALoginIsByRight};
 ghost use Rattle.nutcore.specs.Examples.{TwoVariables, EmptyListing, TakenInFour, LongestLine, ThreeLines, EscapedValue, FaultyLines, CasesAndFaults, NotConnected, Described, PipelinedGet};
 ghost use Rattle.nutcore.specs.Isolation.{AClientTouchesNoOther, ADriverTouchesNoOther, ARefusedEventChangesNothing};
@@ -16,9 +16,15 @@ pub fn what_was_asked_is_executed_or_held()
     ensures { WhatWasAskedIsExecutedOrHeld }
 {}
 
-/// Each answer of a run is the reply to its line on the server of that line's own moment.
+/// Each answer of a run is the reply to its line on the server of that point of that run: the one to which the run's own
+/// beginning leads, and on which the line was the next to be executed.
 pub fn each_answer_is_timely()
     ensures { EachAnswerIsTimely }
+{}
+
+/// After a feed or a take that isn't refused its client holds no line that may be executed.
+pub fn nothing_is_left_to_execute()
+    ensures { NothingIsLeftToExecute }
 {}
 
 /// A listing is the frame of exactly the variables that the UPS holds when its line is executed.

@@ -2,4 +2,4 @@ use Rattle.nutcore.proofs.Executions.{each_answer_timely}
 use Rattle.nutcore.proofs.laws.each_answer_is_timely.Goals as goal
 
 pub returns : goal.returns
-returns c = λ old events outcomes. each_answer_timely old events outcomes
+returns c = each_answer_timely
