@@ -20,3 +20,4 @@ mod Marks
 mod ShutdownMarks
 mod LoginMarks
 mod LoginCount
+mod OrderFits
