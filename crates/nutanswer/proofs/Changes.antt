@@ -1,12 +1,13 @@
 -- Rows of the table that change something are answered by OK.
 use Rattle.std.proofs.Common.{◌≡◌, ℕ, true, false, List, Result, Ok, Err, refl, ap}
 use Rattle.nutanswer.specs.declared.command.Command.{Command}
-use Rattle.nutanswer.specs.declared.command.Command.TheVariants.{Username, Password, Login, Logout, Primary, Fsd, GetVar, GetType, GetDesc, GetCmdDesc, GetUpsDesc, GetNumLogins, ListUps, ListVar, ListRw, ListCmd, ListEnum, ListRange, Help, Ver, NetVer, ProtVer, StartTls}
+use Rattle.nutanswer.specs.declared.command.Command.TheVariants.{Username, Password, Login, Logout, Primary, Fsd, SetVar, InstCmd, GetVar, GetType, GetDesc, GetCmdDesc, GetUpsDesc, GetNumLogins, ListUps, ListVar, ListRw, ListCmd, ListEnum, ListRange, Help, Ver, NetVer, ProtVer, StartTls}
 use Rattle.nutusers.specs.declared.rights.Right.TheVariants as rights
 use Rattle.nutanswer.specs.declared.err_word.ErrWord.{ErrWord}
 use Rattle.nutanswer.specs.declared.reply.Change.TheVariants.{Nothing}
 use Rattle.nutanswer.specs.View.{Seen, AskerSeen}
-use Rattle.nutanswer.specs.Checks.{◌>>=◌, ◌>>◌, user, unknown_ups, live, var_not_supported, var_not_lawful, cmd_not_lawful, already_set_username, already_set_password, already_logged_in, invalid_argument}
+use Rattle.nutanswer.specs.Checks.{◌>>=◌, ◌>>◌, user, unknown_ups, live, var_not_supported, var_not_lawful, cmd_not_lawful, cmd_not_supported, already_set_username, already_set_password, already_logged_in, invalid_argument, readonly, too_long, too_long_of_command, invalid_value, set_failed, instcmd_failed}
+use Rattle.nutanswer.specs.Orders.{instcmd_right, set_line, instcmd_line}
 use Rattle.nutanswer.specs.Answer.{Answer, answer_to, change_of_answer}
 use Rattle.nutanswer.specs.Laws.{is_ok_line}
 
@@ -38,6 +39,13 @@ row_says s asker (Login ups) = behind (user s asker rights.Login) _ (after (unkn
 row_says s asker Logout = ok_row refl
 row_says s asker (Primary ups) = behind (user s asker rights.Primary) _ (after (unknown_ups s ups) _ (λ u. ok_row refl))
 row_says s asker (Fsd ups) = behind (user s asker rights.Fsd) _ (after (unknown_ups s ups) _ (λ u. ok_row refl))
+row_says s asker (SetVar ups name word) =
+    behind (user s asker rights.Set) _ (after (unknown_ups s ups) _ (λ u. behind (live s u) _ (after (var_not_supported u name) _
+    (λ v. behind (readonly v.1) _ (after (too_long v.1 word) _ (λ value. behind (invalid_value v.1 value) _
+    (behind (set_failed u (set_line v.0 value)) _ (ok_row refl))))))))
+row_says s asker (InstCmd ups name word) =
+    behind (user s asker (instcmd_right name)) _ (after (unknown_ups s ups) _ (λ u. behind (live s u) _ (after (cmd_not_supported u name) _
+    (λ c. after (too_long_of_command word) _ (λ value. behind (instcmd_failed u (instcmd_line c value)) _ (ok_row refl))))))
 row_says s asker (GetVar ups name) = after (unknown_ups s ups) _ (λ u. behind (live s u) _ (after (var_not_supported u name) _ (λ v. told_row refl)))
 row_says s asker (GetType ups name) = after (unknown_ups s ups) _ (λ u. behind (live s u) _ (after (var_not_supported u name) _ (λ v. told_row refl)))
 row_says s asker (GetDesc ups name) = after (unknown_ups s ups) _ (λ u. after (var_not_lawful name) _ (λ v. told_row refl))

@@ -1,3 +1,6 @@
 mod Rows
 pub mod Changes
 mod ErrorLemmas
+mod Quoted
+mod RightLemmas
+pub mod OrderFits

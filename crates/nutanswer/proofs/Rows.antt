@@ -2,9 +2,19 @@
 use Rattle.std.proofs.Common.{◌≡◌, ℕ, List, Option, Result, Ok, Err, refl, sym, ap, ◌∙◌}
 use Rattle.nutdriver.specs.Variable.{VariableState}
 use Rattle.nutanswer.specs.declared.err_word.ErrWord.{ErrWord}
-use Rattle.nutanswer.specs.View.{Seen}
-use Rattle.nutanswer.specs.Checks.{◌>>=◌, ◌>>◌, KnownUps, unknown_ups, live, var_not_supported}
-use Rattle.nutanswer.specs.Leaf.{live_variable}
+use Rattle.nutusers.specs.declared.rights.Right.TheVariants.{Set}
+use Rattle.nutanswer.specs.View.{Seen, AskerSeen}
+use Rattle.nutanswer.specs.declared.command.Command.TheVariants.{SetVar, InstCmd}
+use Rattle.nutanswer.specs.Answer.{Answer, answer_to, one_line, ok}
+use Rattle.nutanswer.specs.Checks.{◌>>=◌, ◌>>◌, KnownUps, user, unknown_ups, live, var_not_supported, cmd_not_supported, readonly, too_long, too_long_of_command, invalid_value, set_failed, instcmd_failed}
+use Rattle.nutanswer.specs.Orders.{set_line, instcmd_line, instcmd_right, order}
+use Rattle.nutanswer.specs.Leaf.{live_variable, live_command, settable, Gives}
+use Rattle.nutanswer.specs.declared.reply.Reply.{Reply}
+use Rattle.nutanswer.specs.declared.err_word.ErrWord.TheVariants.{SetFailed}
+use Rattle.std.specs.Prelude.{◌≤◌, ◌<◌, Bool, true, false, nat_le, length}
+use Rattle.std.proofs.Common.{subst}
+use Rattle.std.proofs.lemmas.Bool.{le-leb, lt-leb}
+use Rattle.nutanswer.specs.Checks.{unless}
 
 -- what comes after a check, in two parts
 after_check : {A B C : Type 0} (m : Result A ErrWord) (both : A → Result C ErrWord) (first : A → Result B ErrWord) (next : B → Result C ErrWord)
@@ -36,3 +46,76 @@ module _ {A : Type 0} (s : Seen) (ups name : Option (List ℕ)) (next : KnownUps
   pub without_variable : (word : ErrWord) → Err word ≡ live_variable s ups name
       → (unknown_ups s ups >>= (λ u. live s u >> (var_not_supported u name >>= (λ v. next u v.0 v.1)))) ≡ Err word
   without_variable word e = row_of_variable s ups name next ∙ ap (λ r. r >>= (λ k. next k.0 k.1 k.2)) (sym e)
+
+-- the checks of a command of a live UPS
+row_of_command : {A : Type 0} (s : Seen) (ups name : Option (List ℕ)) (next : KnownUps → List ℕ → Result A ErrWord)
+    → (unknown_ups s ups >>= (λ u. live s u >> (cmd_not_supported u name >>= (λ c. next u c)))) ≡ (live_command s ups name >>= (λ k. next k.0 k.1))
+row_of_command s ups name next =
+    after_check (unknown_ups s ups) (λ u. live s u >> (cmd_not_supported u name >>= (λ c. next u c))) (λ u. live s u >> (cmd_not_supported u name >>= (λ c. Ok (u, c)))) (λ k. next k.0 k.1)
+    (λ u. after_test (live s u) (cmd_not_supported u name >>= (λ c. next u c)) (cmd_not_supported u name >>= (λ c. Ok (u, c))) (λ k. next k.0 k.1)
+    (after_check (cmd_not_supported u name) (λ c. next u c) (λ c. Ok (u, c)) (λ k. next k.0 k.1) (λ c. refl)))
+
+-- the checks of a value that a variable is to be set to
+row_of_value : {A : Type 0} (x : VariableState) (word : Option (List ℕ)) (next : List ℕ → Result A ErrWord)
+    → (readonly x >> (too_long x word >>= (λ value. invalid_value x value >> next value))) ≡ (settable x word >>= next)
+row_of_value x word next =
+    after_test (readonly x) (too_long x word >>= (λ value. invalid_value x value >> next value)) (too_long x word >>= (λ value. invalid_value x value >> Ok value)) next
+    (after_check (too_long x word) (λ value. invalid_value x value >> next value) (λ value. invalid_value x value >> Ok value) next
+    (λ value. after_test (invalid_value x value) (next value) (Ok value) next refl))
+
+-- the end of SET VAR: the line fits, and is owed
+abbrev pub set_end : KnownUps → List ℕ → Result Answer ErrWord
+set_end u line = set_failed u line >> Ok (one_line ok (order u.id line))
+
+-- and of INSTCMD
+abbrev pub instcmd_end : KnownUps → List ℕ → Result Answer ErrWord
+instcmd_end u line = instcmd_failed u line >> Ok (one_line ok (order u.id line))
+
+module _ (s : Seen) (asker : AskerSeen) (ups name : Option (List ℕ)) where
+  -- SET VAR, by the user's right and the checks of a variable
+  pub set_row : (word : Option (List ℕ)) (k : KnownUps × List ℕ × VariableState) → Ok tt ≡ user s asker Set → Ok k ≡ live_variable s ups name
+      → answer_to s asker (SetVar ups name word) ≡ (settable k.2 word >>= (λ value. set_end k.0 (set_line k.1 value)))
+  set_row word k h e =
+      let next : KnownUps → List ℕ → VariableState → Result Answer ErrWord =
+      λ u v x. readonly x >> (too_long x word >>= (λ value. invalid_value x value >> set_end u (set_line v value))) in
+      ap (λ (m : Result (Unit {0}) ErrWord). m >> (unknown_ups s ups >>= (λ u. live s u >> (var_not_supported u name >>= (λ v. next u v.0 v.1))))) (sym h)
+      ∙ with_variable s ups name next k e ∙ row_of_value k.2 word (λ value. set_end k.0 (set_line k.1 value))
+
+  -- INSTCMD, by the user's right and the checks of a command
+  pub instcmd_row : (word : Option (Option (List ℕ))) → Ok tt ≡ user s asker (instcmd_right name)
+      → answer_to s asker (InstCmd ups name word) ≡ (live_command s ups name >>= (λ k. too_long_of_command word >>= (λ value. instcmd_end k.0 (instcmd_line k.1 value))))
+  instcmd_row word h =
+      let next : KnownUps → List ℕ → Result Answer ErrWord = λ u c. too_long_of_command word >>= (λ value. instcmd_end u (instcmd_line c value)) in
+      ap (λ (m : Result (Unit {0}) ErrWord). m >> (unknown_ups s ups >>= (λ u. live s u >> (cmd_not_supported u name >>= (λ c. next u c))))) (sym h)
+      ∙ row_of_command s ups name next
+
+  module _ (word : Option (List ℕ)) (k : KnownUps × List ℕ × VariableState) (h : Ok tt ≡ user s asker Set) (e : Ok k ≡ live_variable s ups name) where
+    -- the variable isn't to have this value
+    pub set_refused : (why : ErrWord) → Err why ≡ settable k.2 word → (r : Result Reply ErrWord) → r ≡ Err why
+        → Gives (answer_to s asker (SetVar ups name word)) r
+    set_refused why f r is =
+        subst (λ (r : Result Reply ErrWord). Gives (answer_to s asker (SetVar ups name word)) r) (sym is)
+        (set_row word k h e ∙ ap (λ (m : Result (List ℕ) ErrWord). m >>= (λ value. set_end k.0 (set_line k.1 value))) (sym f))
+
+    set_checked : (value : List ℕ) → Ok value ≡ settable k.2 word → (fits : Bool) → nat_le (length (set_line k.1 value)) k.0.state.free ≡ fits
+        → answer_to s asker (SetVar ups name word) ≡ (unless fits SetFailed >> Ok (one_line ok (order k.0.id (set_line k.1 value))))
+    set_checked value f fits is =
+        set_row word k h e ∙ ap (λ (m : Result (List ℕ) ErrWord). m >>= (λ value. set_end k.0 (set_line k.1 value))) (sym f)
+        ∙ ap (λ (fits : Bool). unless fits SetFailed >> Ok (one_line ok (order k.0.id (set_line k.1 value)))) is
+
+    -- the line doesn't fit
+    pub set_full : (value : List ℕ) → Ok value ≡ settable k.2 word → k.0.state.free < length (set_line k.1 value)
+        → answer_to s asker (SetVar ups name word) ≡ Err SetFailed
+    set_full value f more = set_checked value f false (lt-leb _ _ more)
+
+    -- the driver is owed the line
+    pub set_done : (value : List ℕ) → Ok value ≡ settable k.2 word → length (set_line k.1 value) ≤ k.0.state.free
+        → answer_to s asker (SetVar ups name word) ≡ Ok (one_line ok (order k.0.id (set_line k.1 value)))
+    set_done value f fits = set_checked value f true (le-leb _ _ fits)
+
+  -- a command that isn't there
+  pub instcmd_refused : (word : Option (Option (List ℕ))) → Ok tt ≡ user s asker (instcmd_right name) → (why : ErrWord) → Err why ≡ live_command s ups name
+      → (r : Result Reply ErrWord) → r ≡ Err why → Gives (answer_to s asker (InstCmd ups name word)) r
+  instcmd_refused word h why f r is =
+      subst (λ (r : Result Reply ErrWord). Gives (answer_to s asker (InstCmd ups name word)) r) (sym is)
+      (instcmd_row word h ∙ ap (λ (m : Result (KnownUps × List ℕ) ErrWord). m >>= (λ k. too_long_of_command word >>= (λ value. instcmd_end k.0 (instcmd_line k.1 value)))) (sym f))

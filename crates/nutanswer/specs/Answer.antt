@@ -6,7 +6,7 @@ use Rattle.nutwords.specs.Spelling.{quoted}
 use Rattle.nutusers.specs.Descriptions.{text_at}
 use Rattle.nutusers.specs.declared.rights.Right.TheVariants as rights
 use Rattle.nutanswer.specs.declared.command.Command.{Command}
-use Rattle.nutanswer.specs.declared.command.Command.TheVariants.{Username, Password, Login, Logout, Primary, Fsd, GetVar, GetType, GetDesc, GetCmdDesc, GetUpsDesc, GetNumLogins, ListUps, ListVar, ListRw, ListCmd, ListEnum, ListRange, Help, Ver, NetVer, ProtVer, StartTls}
+use Rattle.nutanswer.specs.declared.command.Command.TheVariants.{Username, Password, Login, Logout, Primary, Fsd, SetVar, InstCmd, GetVar, GetType, GetDesc, GetCmdDesc, GetUpsDesc, GetNumLogins, ListUps, ListVar, ListRw, ListCmd, ListEnum, ListRange, Help, Ver, NetVer, ProtVer, StartTls}
 use Rattle.nutanswer.specs.declared.err_word.ErrWord.{ErrWord}
 use Rattle.nutanswer.specs.declared.err_word.ErrWord.TheVariants.{FeatureNotConfigured}
 use Rattle.nutanswer.specs.declared.reply.Change.{Change}
@@ -19,7 +19,8 @@ use Rattle.nutanswer.specs.View.{Seen, AskerSeen, login_count}
 use Rattle.nutlisting.specs.Shown.{shown, description_of}
 use Rattle.nutlisting.specs.Types.{type_words}
 use Rattle.nutlisting.specs.Items.{ListingState, text_of, ups_listing, variable_listing, rw_listing, command_listing, enum_listing, range_listing}
-use Rattle.nutanswer.specs.Checks.{◌>>=◌, ◌>>◌, user, unknown_ups, live, var_not_supported, var_not_lawful, cmd_not_lawful, already_set_username, already_set_password, already_logged_in, invalid_argument}
+use Rattle.nutanswer.specs.Checks.{◌>>=◌, ◌>>◌, user, unknown_ups, live, var_not_supported, var_not_lawful, cmd_not_lawful, cmd_not_supported, already_set_username, already_set_password, already_logged_in, invalid_argument, readonly, too_long, too_long_of_command, invalid_value, set_failed, instcmd_failed}
+use Rattle.nutanswer.specs.Orders.{instcmd_right, set_line, instcmd_line, order}
 
 -- The words of a line, as they are spelled, and what the command changes; or a listing.
 pub data Answer : Type 0 where
@@ -61,6 +62,24 @@ answer_to s asker (Fsd ups) = do
   user s asker rights.Fsd
   u ← unknown_ups s ups
   Ok (one_line (codes "OK" ∷ codes "FSD-SET" ∷ []) (changes.Fsd u.id))
+answer_to s asker (SetVar ups name word) = do
+  user s asker rights.Set
+  u ← unknown_ups s ups
+  live s u
+  (v, x) ← var_not_supported u name
+  readonly x
+  value ← too_long x word
+  invalid_value x value
+  set_failed u (set_line v value)
+  Ok (one_line ok (order u.id (set_line v value)))
+answer_to s asker (InstCmd ups name word) = do
+  user s asker (instcmd_right name)
+  u ← unknown_ups s ups
+  live s u
+  c ← cmd_not_supported u name
+  value ← too_long_of_command word
+  instcmd_failed u (instcmd_line c value)
+  Ok (one_line ok (order u.id (instcmd_line c value)))
 answer_to s asker (GetVar ups name) = do
   u ← unknown_ups s ups
   live s u

@@ -1,16 +1,17 @@
 -- The checks of a command, each named for the word of the error that is answered where it fails. A row of the table is a `do` block of them: what stands below a check that fails isn't looked at.
-use Rattle.std.specs.Prelude.{ℕ, Bool, ◌&&◌, is_none, List, Option, Some, None, Result, Ok, Err, slice_get, if◌then◌else◌}
+use Rattle.std.specs.Prelude.{ℕ, Bool, ◌&&◌, nat_le, length, is_none, List, Option, Some, None, Result, Ok, Err, slice_get, if◌then◌else◌}
 use Rattle.std.specs.Option.{ok_or, option_map, option_and_then}
-use Rattle.nutdriver.specs.Tree.{TreeState, variable_at}
+use Rattle.nutdriver.specs.Tree.{TreeState, variable_at, has_command}
 use Rattle.nutdriver.specs.Variable.{VariableState}
 use Rattle.nutusers.specs.UpsList.{Ups, place_of, id_at}
 use Rattle.nutusers.specs.Users.{may}
 use Rattle.nutusers.specs.declared.rights.Right.{Right}
 use Rattle.nutusers.specs.declared.ups_list.UpsId.{UpsId}
 use Rattle.nutanswer.specs.declared.err_word.ErrWord.{ErrWord}
-use Rattle.nutanswer.specs.declared.err_word.ErrWord.TheVariants.{AccessDenied, UnknownUps, DriverNotConnected, DataStale, VarNotSupported, CmdNotSupported, InvalidArgument, AlreadyLoggedIn, AlreadySetPassword, AlreadySetUsername, UsernameRequired, PasswordRequired}
+use Rattle.nutanswer.specs.declared.err_word.ErrWord.TheVariants.{AccessDenied, UnknownUps, DriverNotConnected, DataStale, VarNotSupported, CmdNotSupported, InvalidArgument, AlreadyLoggedIn, AlreadySetPassword, AlreadySetUsername, UsernameRequired, PasswordRequired, Readonly, TooLong, InvalidValue, SetFailed, InstcmdFailed}
 use Rattle.nutlisting.specs.Shown.{ups_description}
 use Rattle.nutanswer.specs.View.{Seen, AskerSeen, UpsSeen, Readiness, not_connected, stale, usable, readiness}
+use Rattle.nutanswer.specs.Orders.{is_short_enough, is_listed, is_in_ranges}
 
 -- What a check finds is handed on, where it doesn't fail.
 infixl 10 ◌>>=◌
@@ -114,3 +115,40 @@ already_logged_in asker = unless (is_none asker.login) AlreadyLoggedIn
 -- The word isn't as long as a user name or a password may be.
 abbrev pub invalid_argument : Option (List ℕ) → Result (List ℕ) ErrWord
 invalid_argument word = ok_or word InvalidArgument
+
+-- The name of a command that the driver has reported.
+abbrev pub cmd_not_supported : KnownUps → Option (List ℕ) → Result (List ℕ) ErrWord
+cmd_not_supported u name = do
+  c ← cmd_not_lawful name
+  unless (has_command u.state.report.tree c) CmdNotSupported
+  Ok c
+
+-- Clients may set the variable.
+abbrev pub readonly : VariableState → Result (Unit {0}) ErrWord
+readonly x = unless x.flags.rw Readonly
+
+-- A value as long as the variable may have. The word is none where it has more than 256 bytes.
+abbrev pub too_long : VariableState → Option (List ℕ) → Result (List ℕ) ErrWord
+too_long x word = do
+  value ← ok_or word TooLong
+  unless (is_short_enough x value) TooLong
+  Ok value
+
+-- The value of a command, which may be left out. The word is none where it has more than 256 bytes.
+abbrev pub too_long_of_command : Option (Option (List ℕ)) → Result (Option (List ℕ)) ErrWord
+too_long_of_command None = Ok None
+too_long_of_command (Some None) = Err TooLong
+too_long_of_command (Some (Some value)) = Ok (Some value)
+
+-- The variable may have this value.
+abbrev pub invalid_value : VariableState → List ℕ → Result (Unit {0}) ErrWord
+invalid_value x value =
+    unless (is_listed x.enum_values value && is_in_ranges x.ranges value) InvalidValue
+
+-- The line fits in what the driver may still be owed.
+abbrev pub set_failed : KnownUps → List ℕ → Result (Unit {0}) ErrWord
+set_failed u line = unless (nat_le (length line) u.state.free) SetFailed
+
+-- The same, of INSTCMD.
+abbrev pub instcmd_failed : KnownUps → List ℕ → Result (Unit {0}) ErrWord
+instcmd_failed u line = unless (nat_le (length line) u.state.free) InstcmdFailed

@@ -2,12 +2,12 @@
 use Rattle.std.specs.Prelude.{ℕ, List, [], ◌∷◌, Option, Some, None, Result, Ok, Err, codes, if◌then◌else◌}
 use Rattle.std.specs.Result.{result_ok}
 use Rattle.nutwords.specs.Scan.{read_line}
-use Rattle.nutwords.specs.Reading.{read_name, read_ups_name}
+use Rattle.nutwords.specs.Reading.{read_name, read_ups_name, read_value}
 use Rattle.nutwords.specs.declared.faults.BadLine.{BadLine}
 use Rattle.nutusers.specs.Credentials.{read_user_name, read_password}
 use Rattle.nutdriver.specs.Spelling.{is_word}
 use Rattle.nutanswer.specs.declared.command.Command.{Command}
-use Rattle.nutanswer.specs.declared.command.Command.TheVariants.{Username, Password, Login, Logout, Primary, Fsd, GetVar, GetType, GetDesc, GetCmdDesc, GetUpsDesc, GetNumLogins, ListUps, ListVar, ListRw, ListCmd, ListEnum, ListRange, Help, Ver, NetVer, ProtVer, StartTls}
+use Rattle.nutanswer.specs.declared.command.Command.TheVariants.{Username, Password, Login, Logout, Primary, Fsd, SetVar, InstCmd, GetVar, GetType, GetDesc, GetCmdDesc, GetUpsDesc, GetNumLogins, ListUps, ListVar, ListRw, ListCmd, ListEnum, ListRange, Help, Ver, NetVer, ProtVer, StartTls}
 use Rattle.nutanswer.specs.declared.err_word.ErrWord.{ErrWord}
 use Rattle.nutanswer.specs.declared.err_word.ErrWord.TheVariants.{InvalidArgument, UnknownCommand}
 
@@ -40,6 +40,30 @@ ups_alone _ = Err InvalidArgument
 abbrev pub ups_and_name : List (List ℕ) → Result (Option (List ℕ) × Option (List ℕ)) ErrWord
 ups_and_name (ups ∷ name ∷ []) = Ok (result_ok (read_ups_name ups), result_ok (read_name name))
 ups_and_name _ = Err InvalidArgument
+
+-- `ups name value`: a word of more than 256 bytes is no value. It has lawful bytes alone, as the line has.
+abbrev pub ups_name_and_value : List (List ℕ) → Result (Option (List ℕ) × Option (List ℕ) × Option (List ℕ)) ErrWord
+ups_name_and_value (ups ∷ name ∷ value ∷ []) =
+    Ok (result_ok (read_ups_name ups), result_ok (read_name name), result_ok (read_value value))
+ups_name_and_value _ = Err InvalidArgument
+
+-- `ups name`, or `ups name value`
+abbrev pub ups_name_and_value_if_any : List (List ℕ) → Result (Option (List ℕ) × Option (List ℕ) × Option (Option (List ℕ))) ErrWord
+ups_name_and_value_if_any (ups ∷ name ∷ []) =
+    Ok (result_ok (read_ups_name ups), result_ok (read_name name), None)
+ups_name_and_value_if_any (ups ∷ name ∷ value ∷ []) =
+    Ok (result_ok (read_ups_name ups), result_ok (read_name name), Some (result_ok (read_value value)))
+ups_name_and_value_if_any _ = Err InvalidArgument
+
+-- SET: one case a second word.
+abbrev pub set_of : List ℕ → List (List ℕ) → Result Command ErrWord
+set_of kind words =
+    if is_word kind (codes "VAR") then command_with (λ a. SetVar a.0 a.1 a.2) (ups_name_and_value words)
+    else Err InvalidArgument
+
+abbrev pub read_set : List (List ℕ) → Result Command ErrWord
+read_set [] = Err InvalidArgument
+read_set (kind ∷ words) = set_of kind words
 
 -- GET: one case a second word.
 abbrev pub get_of : List ℕ → List (List ℕ) → Result Command ErrWord
@@ -82,6 +106,8 @@ command_named first words =
     else if is_word first (codes "LOGOUT") then alone Logout words
     else if is_word first (codes "PRIMARY") then command_with (λ ups. Primary ups) (ups_alone words)
     else if is_word first (codes "FSD") then command_with (λ ups. Fsd ups) (ups_alone words)
+    else if is_word first (codes "SET") then read_set words
+    else if is_word first (codes "INSTCMD") then command_with (λ a. InstCmd a.0 a.1 a.2) (ups_name_and_value_if_any words)
     else if is_word first (codes "HELP") then alone Help words
     else if is_word first (codes "VER") then alone Ver words
     else if is_word first (codes "NETVER") then alone NetVer words

@@ -1,10 +1,12 @@
 -- What holds of every row of the table.
-use Rattle.std.specs.Prelude.{◌≡◌, ℕ, Bool, true, false, List, [], ◌∷◌, codes, Result, Ok, Err}
+use Rattle.std.specs.Prelude.{◌≡◌, ◌≤◌, ℕ, Bool, true, false, List, [], ◌∷◌, codes, length, slice_get, Some, Result, Ok, Err}
 use Rattle.std.specs.Str.{bytes_eq}
+use Rattle.arrayvec.specs.ArrayVec.{ArrayVec}
+use Rattle.nutusers.specs.declared.ups_list.UpsId.{UpsId}
 use Rattle.nutanswer.specs.declared.command.Command.{Command}
 use Rattle.nutanswer.specs.declared.err_word.ErrWord.{ErrWord}
-use Rattle.nutanswer.specs.declared.reply.Change.TheVariants.{Nothing}
-use Rattle.nutanswer.specs.View.{Seen, AskerSeen}
+use Rattle.nutanswer.specs.declared.reply.Change.TheVariants.{Nothing, Order}
+use Rattle.nutanswer.specs.View.{Seen, AskerSeen, UpsSeen}
 use Rattle.nutanswer.specs.Answer.{Answer, one_line, listing, answer_to, change_of_answer}
 
 -- The first word is OK.
@@ -29,3 +31,10 @@ abbrev pub OnlyOkChanges : Type 0
 OnlyOkChanges =
     (s : Seen) (asker : AskerSeen) (command : Command)
     → is_ok_line (answer_to s asker command) ≡ false → change_of_answer (answer_to s asker command) ≡ Nothing
+
+-- The line of an order fits in what the driver of its UPS may still be owed.
+abbrev pub OrdersFit : Type 0
+OrdersFit =
+    (s : Seen) (asker : AskerSeen) (command : Command) (u : UpsId) (line : ArrayVec ℕ) (x : UpsSeen)
+    → change_of_answer (answer_to s asker command) ≡ Order u line
+    → slice_get s.upses u.place ≡ Some x → length line.items ≤ x.free

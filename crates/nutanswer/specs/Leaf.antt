@@ -7,12 +7,13 @@ use Rattle.nutusers.specs.UpsList.{new_ups}
 use Rattle.nutanswer.specs.declared.err_word.ErrWord.{ErrWord}
 use Rattle.nutanswer.specs.declared.known.Known.{Known}
 use Rattle.nutanswer.specs.declared.known.KnownVariable.{KnownVariable}
+use Rattle.nutanswer.specs.declared.known.KnownCommand.{KnownCommand}
 use Rattle.nutanswer.specs.declared.command.Command.{Command}
 use Rattle.nutanswer.specs.declared.reply.Change.TheVariants.{Nothing}
 use Rattle.nutanswer.specs.declared.reply.Reply.{Reply}
 use Rattle.nutlisting.specs.Shown.{ups_description}
 use Rattle.nutanswer.specs.View.{Seen, AskerSeen, ups_seen}
-use Rattle.nutanswer.specs.Checks.{◌>>=◌, ◌>>◌, KnownUps, unknown_ups, live, var_not_supported}
+use Rattle.nutanswer.specs.Checks.{◌>>=◌, ◌>>◌, KnownUps, unknown_ups, live, var_not_supported, cmd_not_supported, readonly, too_long, invalid_value}
 use Rattle.nutanswer.specs.Answer.{Answer, answer_to, IsOneLine, IsReply}
 
 -- The UPS that was found.
@@ -41,6 +42,26 @@ live_variable s ups name = do
   live s u
   (v, x) ← var_not_supported u name
   Ok (u, v, x)
+
+-- The UPS and the command that were found.
+abbrev pub known_command : KnownCommand → KnownUps × List ℕ
+known_command k = (known_ups k.ups, k.name.now)
+
+-- The command of this name, of a live UPS.
+abbrev pub live_command : Seen → Option (List ℕ) → Option (List ℕ) → Result (KnownUps × List ℕ) ErrWord
+live_command s ups name = do
+  u ← unknown_ups s ups
+  live s u
+  c ← cmd_not_supported u name
+  Ok (u, c)
+
+-- The value of this word, where the variable may be set to it.
+abbrev pub settable : VariableState → Option (List ℕ) → Result (List ℕ) ErrWord
+settable x word = do
+  readonly x
+  value ← too_long x word
+  invalid_value x value
+  Ok value
 
 -- The reply gives this answer, or the word of its error.
 abbrev pub Gives : Result Answer ErrWord → Result Reply ErrWord → Type 0

@@ -9,10 +9,11 @@ use Rattle.nutusers.specs.declared.ups_list.UpsId.{UpsId}
 use Rattle.nutanswer.specs.declared.view.Asker.{Asker}
 use Rattle.nutanswer.specs.declared.view.UpsView.{UpsView}
 
--- A UPS: what its driver has reported, and whether a forced shutdown is set.
+-- A UPS: what its driver has reported, whether a forced shutdown is set, and how many bytes more its driver may be owed.
 pub record UpsSeen : Type 0 where
   pub report : Report
   pub fsd : Bool
+  pub free : ℕ
 
 -- An open session: the client's address, and the UPS that it is logged in to.
 pub record ClientSeen : Type 0 where
@@ -37,7 +38,7 @@ pub record AskerSeen : Type 0 where
 
 -- The UPS behind a view of it.
 abbrev pub ups_seen : UpsView → UpsSeen
-ups_seen u = record { report = u.report.now; fsd = u.fsd }
+ups_seen u = record { report = u.report.now; fsd = u.fsd; free = u.free }
 
 -- The session behind a view of it.
 abbrev pub asker_seen : Asker → AskerSeen

@@ -7,6 +7,7 @@ ghost use Rattle.nutanswer.specs.Answer.{answer_to, shares_version, told, Answer
 ghost use Rattle.nutanswer.specs.Leaf.{Gives, IsLineOf, row};
 ghost use Rattle.nutanswer.specs.declared.command.Command.TheVariants.{GetVar, GetType, GetDesc, GetCmdDesc, GetUpsDesc, ListVar, ListRw, ListCmd, ListEnum, ListRange};
 
+mod orders;
 mod session;
 
 use crate::checks::{known_ups, live_ups, live_variable};
@@ -34,6 +35,12 @@ pub fn answer<V: View>(view: &V, asker: Asker<'_>, command: &Command) -> Result<
         Command::Logout => Ok(session::logout()),
         Command::Primary(ups) => Ok(given(session::primary(view, asker, ups))),
         Command::Fsd(ups) => Ok(given(session::fsd(view, asker, ups))),
+        Command::SetVar(ups, name, value) => {
+            Ok(given(orders::set_var(view, asker, ups, name, value)))
+        }
+        Command::InstCmd(ups, name, value) => {
+            Ok(given(orders::inst_cmd(view, asker, ups, name, value)))
+        }
         Command::GetVar(ups, name) => Ok(one(get_var(view, ups, name))),
         Command::GetType(ups, name) => Ok(one(get_type(view, ups, name))),
         Command::GetDesc(ups, name) => Ok(one(get_desc(view, ups, name))),
@@ -231,6 +238,8 @@ fn list_range<V: View>(
     Ok(Reply::Many(listing))
 }
 
+#[cfg(test)]
+mod rows;
 #[cfg(test)]
 mod sample;
 #[cfg(test)]

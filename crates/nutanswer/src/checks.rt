@@ -1,13 +1,16 @@
 //! The checks of commands (RFC 9271: error responses), each in the order of the table.
 ghost use Rattle.std.specs.Prelude.{◌≡◌};
+ghost use Rattle.std.specs.Option.{option_copied};
 ghost use Rattle.nutanswer.specs.View.{asker_seen};
-ghost use Rattle.nutanswer.specs.Checks.{unknown_ups, user};
-ghost use Rattle.nutanswer.specs.Leaf.{known_ups, known_variable, found, live_ups, live_variable};
+ghost use Rattle.nutanswer.specs.Checks.{unknown_ups, user, too_long_of_command};
+ghost use Rattle.nutanswer.specs.Orders.{instcmd_right, is_short_enough, is_listed, is_in_ranges, is_within_one, is_within};
+ghost use Rattle.nutanswer.specs.Leaf.{known_ups, known_variable, known_command, found, live_ups, live_variable, live_command, settable};
 
-use crate::known::{Known, KnownVariable};
+use crate::known::{Known, KnownCommand, KnownVariable};
 use crate::{Asker, ErrWord, View};
+use nutdriver::{Range, Variable, read_number};
 use nutusers::Right;
-use nutwords::{Name, UpsName};
+use nutwords::{Name, UpsName, Value};
 
 /// The session has given the name and the password of a user to whom the right is granted.
 pub(crate) fn user<V: View>(view: &V, asker: Asker<'_>, right: Right<'_>) -> Result<(), ErrWord>
@@ -26,6 +29,20 @@ pub(crate) fn user<V: View>(view: &V, asker: Asker<'_>, right: Right<'_>) -> Res
         return Err(ErrWord::AccessDenied);
     }
     Ok(())
+}
+
+/// The same of the right to a command. A word that is no lawful name is granted to nobody by name.
+pub(crate) fn user_of_command<V: View>(
+    view: &V,
+    asker: Asker<'_>,
+    name: &Option<Name>,
+) -> Result<(), ErrWord>
+    ensures { result ≡ user (V.seen view.now) (asker_seen asker.entry) (instcmd_right name.now) }
+{
+    match name {
+        Some(name) => user(view, asker, Right::Instcmd(name.as_bytes())),
+        None => user(view, asker, Right::Instcmd(b"")),
+    }
 }
 
 /// The UPS of this name.
@@ -92,4 +109,99 @@ pub(crate) fn live_variable<'a, V: View>(
         name,
         variable,
     })
+}
+
+/// The command of this name, of a live UPS.
+pub(crate) fn live_command<'a, V: View>(
+    view: &'a V,
+    ups: &'a Option<UpsName>,
+    name: &'a Option<Name>,
+) -> Result<KnownCommand<'a>, ErrWord>
+    ensures { found known_command result ≡ live_command (V.seen view.now) ups.now name.now }
+{
+    let live = live_ups(view, ups)?;
+    let Some(name) = name else {
+        return Err(ErrWord::CmdNotSupported);
+    };
+    if !live.state.report.tree.has_command(name) {
+        return Err(ErrWord::CmdNotSupported);
+    }
+    Ok(KnownCommand { ups: live, name })
+}
+
+/// The value that the variable may be set to.
+pub(crate) fn settable<'a>(
+    variable: &Variable,
+    value: &'a Option<Value>,
+) -> Result<&'a Value, ErrWord>
+    ensures { found (λ v. v.now) result ≡ settable variable.now value.now }
+{
+    if !variable.flags().rw {
+        return Err(ErrWord::Readonly);
+    }
+    let Some(value) = value else {
+        return Err(ErrWord::TooLong);
+    };
+    if !is_short_enough(variable, value) {
+        return Err(ErrWord::TooLong);
+    }
+    if !is_listed(variable.enum_values(), value) || !is_in_ranges(variable.ranges(), value) {
+        return Err(ErrWord::InvalidValue);
+    }
+    Ok(value)
+}
+
+/// The value of a command, which may be left out.
+pub(crate) fn command_value(value: &Option<Option<Value>>) -> Result<Option<&Value>, ErrWord>
+    ensures { found option_copied result ≡ too_long_of_command value.now }
+{
+    match value {
+        None => Ok(None),
+        Some(None) => Err(ErrWord::TooLong),
+        Some(Some(value)) => Ok(Some(value)),
+    }
+}
+
+/// Whether a text is as short as the variable asks for.
+fn is_short_enough(variable: &Variable, value: &Value) -> bool
+    ensures { result ≡ is_short_enough variable.now value.now }
+{
+    let most = variable.aux();
+    !variable.flags().string || most == 0 || value.as_bytes().len() <= most as usize
+}
+
+/// Whether the value is among these, where there are any.
+fn is_listed(values: &[Value], value: &Value) -> bool
+    ensures { result ≡ is_listed values.now value.now }
+{
+    values.is_empty() || values.contains(value)
+}
+
+/// Whether the value is a number within one of these ranges, where there are any.
+fn is_in_ranges(ranges: &[Range], value: &Value) -> bool
+    ensures { result ≡ is_in_ranges ranges.now value.now }
+{
+    ranges.is_empty() || is_within_one(ranges, read_number(value.as_bytes()))
+}
+
+/// Whether there is a number, and it is within one of these ranges.
+fn is_within_one(ranges: &[Range], number: Option<i32>) -> bool
+    ensures { result ≡ is_within_one ranges.now number }
+{
+    let Some(number) = number else {
+        return false;
+    };
+    for range in ranges {
+        if is_within(number, range) {
+            return true;
+        }
+    }
+    false
+}
+
+/// Whether the number is within the range, its ends included.
+fn is_within(number: i32, range: &Range) -> bool
+    ensures { result ≡ is_within number range.now }
+{
+    range.least <= number && number <= range.greatest
 }

@@ -7,9 +7,12 @@ mod arguments;
 mod tests;
 
 use crate::ErrWord;
-use arguments::{alone, password_alone, ups_alone, ups_and_name, user_name_alone};
+use arguments::{
+    alone, password_alone, ups_alone, ups_and_name, ups_name_and_value, ups_name_and_value_if_any,
+    user_name_alone,
+};
 use nutusers::{Password, UserName};
-use nutwords::{Name, UpsName, Words, words};
+use nutwords::{Name, UpsName, Value, Words, words};
 
 /// A command of a client. A word that is no lawful name names nothing.
 #[derive(Clone, Debug, PartialEq, Eq, Drop)]
@@ -26,6 +29,11 @@ pub enum Command {
     Primary(Option<UpsName>),
     /// `FSD`: the forced shutdown of the UPS is set.
     Fsd(Option<UpsName>),
+    /// `SET VAR`: a variable is to have this value; `None` where it isn't as short as one may be.
+    SetVar(Option<UpsName>, Option<Name>, Option<Value>),
+    /// `INSTCMD`: the UPS is to do this command, with this value, if one is given; `Some(None)` where it isn't as short as
+    /// one may be.
+    InstCmd(Option<UpsName>, Option<Name>, Option<Option<Value>>),
     /// `GET VAR`: the value of a variable.
     GetVar(Option<UpsName>, Option<Name>),
     /// `GET TYPE`: what kind of variable it is.
@@ -63,13 +71,13 @@ pub enum Command {
 }
 
 impl Command {
-    ghost use Rattle.nutanswer.specs.Command.{read_command, command_of, command_named, read_get, get_of, read_list, list_of};
+    ghost use Rattle.nutanswer.specs.Command.{read_command, command_of, command_named, read_set, set_of, read_get, get_of, read_list, list_of};
 
     /// Reads a line without its LF, of at most 1,023 bytes. A line without words is no command.
     ///
-    /// The first word, and the second one of GET and LIST, are read in capitals or not; names byte for byte. Refused, in
+    /// The first word, and the second one of GET, LIST and SET, are read in capitals or not; names byte for byte. Refused, in
     /// this order: a line that doesn't read as words (INVALID-ARGUMENT); a first word that is no command
-    /// (UNKNOWN-COMMAND); a second word of GET or LIST that isn't known, or another number of words (INVALID-ARGUMENT).
+    /// (UNKNOWN-COMMAND); a second word of GET, LIST or SET that isn't known, or another number of words (INVALID-ARGUMENT).
     pub fn read(line: &[u8]) -> Result<Option<Command>, ErrWord>
         requires { length line.now ≤ LINE_LIMIT }
         ensures { result ≡ read_command line.now }
@@ -111,6 +119,11 @@ impl Command {
             Ok(Command::Primary(ups_alone(words)?))
         } else if first.eq_ignore_ascii_case(b"FSD") {
             Ok(Command::Fsd(ups_alone(words)?))
+        } else if first.eq_ignore_ascii_case(b"SET") {
+            Command::set(words)
+        } else if first.eq_ignore_ascii_case(b"INSTCMD") {
+            let (ups, name, value) = ups_name_and_value_if_any(words)?;
+            Ok(Command::InstCmd(ups, name, value))
         } else if first.eq_ignore_ascii_case(b"HELP") {
             alone(Command::Help, words)
         } else if first.eq_ignore_ascii_case(b"VER") {
@@ -123,6 +136,28 @@ impl Command {
             alone(Command::StartTls, words)
         } else {
             Err(ErrWord::UnknownCommand)
+        }
+    }
+
+    /// What a SET asks for.
+    fn set(mut words: Words<'_>) -> Result<Command, ErrWord>
+        ensures { result ≡ read_set words.entry }
+    {
+        match words.next() {
+            Some(kind) => Command::set_of(kind.as_bytes(), words),
+            None => Err(ErrWord::InvalidArgument),
+        }
+    }
+
+    /// What a SET with this second word asks for.
+    fn set_of(kind: &[u8], words: Words<'_>) -> Result<Command, ErrWord>
+        ensures { result ≡ set_of kind.now words.entry }
+    {
+        if kind.eq_ignore_ascii_case(b"VAR") {
+            let (ups, name, value) = ups_name_and_value(words)?;
+            Ok(Command::SetVar(ups, name, value))
+        } else {
+            Err(ErrWord::InvalidArgument)
         }
     }
 

@@ -1,11 +1,14 @@
-//! The line of an error (RFC 9271: error responses).
-ghost use Rattle.std.specs.Prelude.{◌≡◌};
+//! The line of an error (RFC 9271: error responses), and that of an order to a driver.
+ghost use Rattle.std.specs.Prelude.{◌≡◌, ◌≤◌, ◌∷◌, ◌++◌, length};
+ghost use Rattle.std.specs.Option.{option_copied};
+ghost use Rattle.nutwords.specs.Spelling.{quoted};
 ghost use Rattle.nutlisting.specs.Lines.{IsWholeLine};
 ghost use Rattle.nutanswer.specs.ErrWord.{error_line};
+ghost use Rattle.nutanswer.specs.Orders.{order_line};
 
 use crate::ErrWord;
 use arrayvec::ArrayVec;
-use nutwords::Line;
+use nutwords::{Line, Name, Value, quote_into};
 
 /// The line of an error.
 pub(crate) fn error_line(word: ErrWord) -> Line
@@ -15,4 +18,39 @@ pub(crate) fn error_line(word: ErrWord) -> Line
     let mut line = ArrayVec::new();
     line.try_extend_from_slice(word.line()).unwrap();
     line
+}
+
+/// The most bytes of an order's verb: `INSTCMD`.
+const VERB_LIMIT: usize = 7;
+
+/// The most bytes of an order before its value: its verb, the name of a variable or a command, a blank.
+const ORDER_FRONT_LIMIT: usize = 72;
+
+/// The most bytes of an order without its LF: each byte of its value may stand behind a backslash.
+const ORDER_LIMIT: usize = 587;
+
+/// The line of an order: its verb, the name of a variable or a command, and the value, if there is one.
+pub(crate) fn order_line(verb: &[u8], name: &Name, value: Option<&Value>) -> Line
+    requires { length verb.now ≤ VERB_LIMIT }
+    ensures { result.items ≡ order_line verb.now name.now (option_copied value.entry) }
+{
+    let mut line = ArrayVec::new();
+    line.try_extend_from_slice(verb).unwrap();
+    line.push(b' ');
+    line.try_extend_from_slice(name.as_bytes()).unwrap();
+    if let Some(value) = value {
+        push_value(&mut line, value);
+    }
+    line.push(b'\n');
+    line
+}
+
+/// Appends a value in quotes.
+fn push_value(line: &mut Line, value: &Value)
+    requires { length line.old.items ≤ ORDER_FRONT_LIMIT }
+    ensures text { line.new.items ≡ line.old.items ++ 32 ∷ quoted value.now }
+    ensures short { length line.new.items ≤ ORDER_LIMIT }
+{
+    line.push(b' ');
+    quote_into(value.as_bytes(), line);
 }

@@ -18,6 +18,8 @@ pub enum Change {
     Ending,
     /// The forced shutdown of this UPS is set (RFC 9271: FSD).
     Fsd(UpsId),
+    /// The driver of this UPS is owed this line, with its LF (RFC 9271: SET, INSTCMD).
+    Order(UpsId, Line),
 }
 
 /// The answer to a command.

@@ -22,6 +22,8 @@ pub struct UpsView<'a> {
     pub report: &'a Report,
     /// Whether a forced shutdown is set.
     pub fsd: bool,
+    /// How many bytes more its driver may be owed.
+    pub free: usize,
 }
 
 /// What an answer may look at of a server.

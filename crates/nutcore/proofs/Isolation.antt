@@ -4,7 +4,7 @@ use Rattle.std.specs.Prelude.{slice_get, nat_le}
 use Rattle.std.proofs.lemmas.Bool.{cond-true, cond-false}
 use Rattle.nutusers.specs.declared.ups_list.UpsId.{UpsId}
 use Rattle.nutanswer.specs.declared.reply.Change.{Change}
-use Rattle.nutanswer.specs.declared.reply.Change.TheVariants.{Nothing, Username, Password, Login, Ending, Fsd}
+use Rattle.nutanswer.specs.declared.reply.Change.TheVariants.{Nothing, Username, Password, Login, Ending, Fsd, Order}
 use Rattle.nutcore.specs.declared.event.Event.{Event}
 use Rattle.nutcore.specs.declared.event.Event.TheVariants.{DriverUp, DriverBytes, DriverTook, DriverDown, Tick, Open, Feed, Took, Close}
 use Rattle.nutcore.specs.declared.event.Outcome.{Outcome}
@@ -13,7 +13,7 @@ use Rattle.nutcore.specs.declared.event.Fault.{Fault}
 use Rattle.nutcore.specs.declared.event.Fault.TheVariants.{NoSuchUps, NoSuchClient, TooManyClients, TookTooMuch, NotConnected, AlreadyConnected, LineTooLong, Memory}
 use Rattle.nutcore.specs.Numbers.{number_of_fault}
 use Rattle.nutcore.specs.Session.{SessionState, without}
-use Rattle.nutcore.specs.Ups.{UpsState, with_fsd, with_bytes, after_all_driver_lines, is_driver_overlong}
+use Rattle.nutcore.specs.Ups.{UpsState, with_fsd, with_order, with_bytes, after_all_driver_lines, is_driver_overlong}
 use Rattle.nutcore.specs.Server.{ServerState, session, with_session, with_session_changed, with_session_changed_of, ups_at, changed_at, with_ups_changed}
 use Rattle.nutcore.specs.Reply.{Reply, reply, changed_session, changed_upses, changed, change_by}
 use Rattle.nutanswer.specs.Command.{read_command}
@@ -49,6 +49,7 @@ masked (Password password) xs = refl
 masked (Login u) xs = refl
 masked Ending xs = refl
 masked (Fsd u) xs = masked_at with_fsd (λ x. refl) u.place xs
+masked (Order u line) xs = masked_at (with_order line.items) (λ x. refl) u.place xs
 
 kept_either : (b : Bool) (s t r : ServerState) → kept_from_clients s ≡ kept_from_clients r → kept_from_clients t ≡ kept_from_clients r → kept_from_clients (cond b s t) ≡ kept_from_clients r
 kept_either true s t r h k = h

@@ -21,3 +21,4 @@ mod ShutdownMarks
 mod LoginMarks
 mod LoginCount
 mod Isolation
+mod OrderFits

@@ -121,6 +121,7 @@ change_logs_in u (changes.Password password) x before after = no_mark _ before a
 change_logs_in u (changes.Login v) x before after = ap (λ (p : ℕ). let w : UpsId = record { place = p } in changes.Login w) (eqb-true v.place u.place after)
 change_logs_in u changes.Ending x before after = cc after
 change_logs_in u (changes.Fsd v) x before after = no_mark _ before after
+change_logs_in u (changes.Order v line) x before after = no_mark _ before after
 
 by_read : (s : ServerState) (c : ℕ) (line : List ℕ) (u : UpsId) (r : Result (Option Command) ErrWord) → read_command line ≡ r → change_by s c r ≡ changes.Login u → IsByRight s c line Login rights.Login (codes "OK" ∷ []) u
 by_read s c line u (Err word) e h = cc h

@@ -5,7 +5,7 @@ use Rattle.nutcore.specs.Lines.{behind}
 use Rattle.nutcore.specs.Session.{SessionState, find, put}
 use Rattle.nutcore.specs.Server.{ServerState, session}
 use Rattle.nutanswer.specs.declared.reply.Change.{Change}
-use Rattle.nutanswer.specs.declared.reply.Change.TheVariants.{Nothing, Username, Password, Login, Ending, Fsd}
+use Rattle.nutanswer.specs.declared.reply.Change.TheVariants.{Nothing, Username, Password, Login, Ending, Fsd, Order}
 use Rattle.nutcore.specs.Reply.{reply, changed_session}
 use Rattle.nutcore.specs.Pump.{next_line_for, answered, after_line, after_line_of, after_lines, pump_stops, held_of, after_all_lines}
 use Rattle.nutcore.proofs.FirstLine.{behind_shorter}
@@ -66,6 +66,7 @@ changed_shorter (Password password) x = omega arith
 changed_shorter (Login u) x = omega arith
 changed_shorter Ending x = omega arith
 changed_shorter (Fsd u) x = omega arith
+changed_shorter (Order u line) x = omega arith
 
 -- each line takes bytes from what is held
 pub line_shortens : (s : ServerState) (c : ℕ) (line : List ℕ) → next_line_for s c ≡ Some line → length (held_of (session c (after_line s c))) < length (held_of (session c s))

@@ -6,7 +6,7 @@ use Rattle.std.proofs.lemmas.Grind.{flat_map-append}
 use Rattle.nutanswer.specs.declared.command.Command.{Command}
 use Rattle.nutanswer.specs.declared.err_word.ErrWord.{ErrWord}
 use Rattle.nutanswer.specs.declared.reply.Change.{Change}
-use Rattle.nutanswer.specs.declared.reply.Change.TheVariants.{Nothing, Username, Password, Login, Ending, Fsd}
+use Rattle.nutanswer.specs.declared.reply.Change.TheVariants.{Nothing, Username, Password, Login, Ending, Fsd, Order}
 use Rattle.nutcore.specs.Lines.{first_line, behind, with_lf}
 use Rattle.nutcore.specs.Session.{SessionState, find, put}
 use Rattle.nutcore.specs.Server.{ServerState, session, with_session, with_session_changed, with_session_changed_of}
@@ -35,6 +35,7 @@ changed_id (Password password) x = refl
 changed_id (Login u) x = refl
 changed_id Ending x = refl
 changed_id (Fsd u) x = refl
+changed_id (Order u line) x = refl
 
 changed_owed : (change : Change) (x : SessionState) → (changed_session change x).owed ≡ x.owed
 changed_owed Nothing x = refl
@@ -43,6 +44,7 @@ changed_owed (Password password) x = refl
 changed_owed (Login u) x = refl
 changed_owed Ending x = refl
 changed_owed (Fsd u) x = refl
+changed_owed (Order u line) x = refl
 
 changed_held : (change : Change) (x : SessionState) → (changed_session change x).ending ≡ false → (changed_session change x).held ≡ x.held
 changed_held Nothing x going = refl
@@ -51,6 +53,7 @@ changed_held (Password password) x going = refl
 changed_held (Login u) x going = refl
 changed_held Ending x going = cc
 changed_held (Fsd u) x going = refl
+changed_held (Order u line) x going = refl
 
 -- an answer joined after the change is one joined before
 changed_answered : (change : Change) (line text : List ℕ) (x : SessionState) → answered line text (changed_session change x) ≡ changed_session change (answered line text x)
@@ -60,6 +63,7 @@ changed_answered (Password password) line text x = refl
 changed_answered (Login u) line text x = refl
 changed_answered Ending line text x = ap (λ (held : List ℕ). let y : SessionState = record x { held = held; owed = x.owed ++ text; login = None; ending = true } in y) (drop-nil (length line + 1))
 changed_answered (Fsd u) line text x = refl
+changed_answered (Order u order) line text x = refl
 
 -- the server in which this session and the UPSs are changed
 abbrev pub line_done : ServerState → Change → SessionState → ServerState

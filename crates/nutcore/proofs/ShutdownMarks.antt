@@ -19,7 +19,7 @@ use Rattle.nutcore.specs.declared.event.Event.{Event}
 use Rattle.nutcore.specs.declared.event.Event.TheVariants.{DriverUp, DriverBytes, DriverTook, DriverDown, Tick, Open, Feed, Took, Close}
 use Rattle.nutcore.specs.Lines.{behind}
 use Rattle.nutcore.specs.Session.{SessionState}
-use Rattle.nutcore.specs.Ups.{UpsState, with_fsd, after_connecting, after_loss, after_outcome, after_text, after_driver_line, after_driver_line_of, after_driver_lines, after_all_driver_lines, next_driver_line, after_tick, ping_is_due, with_bytes, is_driver_overlong}
+use Rattle.nutcore.specs.Ups.{UpsState, with_fsd, with_order, after_connecting, after_loss, after_outcome, after_text, after_driver_line, after_driver_line_of, after_driver_lines, after_all_driver_lines, next_driver_line, after_tick, ping_is_due, with_bytes, is_driver_overlong}
 use Rattle.nutcore.specs.Server.{ServerState, session, with_session, ups_at, changed_at, with_ups_changed}
 use Rattle.nutcore.specs.Reply.{seen, asker, changed_upses, change_by, text_to}
 use Rattle.nutcore.specs.Pump.{next_line_for, after_line, after_notice, after_notice_of, is_overlong_of, notified}
@@ -124,6 +124,7 @@ change_sets u (changes.Username name) xs before after = no_mark _ before after
 change_sets u (changes.Password password) xs before after = no_mark _ before after
 change_sets u (changes.Login v) xs before after = no_mark _ before after
 change_sets u changes.Ending xs before after = no_mark _ before after
+change_sets u (changes.Order v line) xs before after = no_mark _ before (sym (changed_keeps (with_order line.items) (λ x. refl) v.place u.place xs) ∙ after)
 change_sets u (changes.Fsd v) xs before after = by_place (eqb v.place u.place) refl
   where
     by_place : (b : Bool) → eqb v.place u.place ≡ b → changes.Fsd v ≡ changes.Fsd u

@@ -9,13 +9,14 @@ use Rattle.nutusers.specs.declared.rights.Right.{Right}
 use Rattle.nutusers.specs.declared.rights.Right.TheVariants as rights
 use Rattle.nutusers.specs.declared.ups_list.UpsId.{UpsId}
 use Rattle.nutanswer.specs.declared.command.Command.{Command}
-use Rattle.nutanswer.specs.declared.command.Command.TheVariants.{Username, Password, Login, Logout, Primary, Fsd, GetVar, GetType, GetDesc, GetCmdDesc, GetUpsDesc, GetNumLogins, ListUps, ListVar, ListRw, ListCmd, ListEnum, ListRange, Help, Ver, NetVer, ProtVer, StartTls}
+use Rattle.nutanswer.specs.declared.command.Command.TheVariants.{Username, Password, Login, Logout, Primary, Fsd, SetVar, InstCmd, GetVar, GetType, GetDesc, GetCmdDesc, GetUpsDesc, GetNumLogins, ListUps, ListVar, ListRw, ListCmd, ListEnum, ListRange, Help, Ver, NetVer, ProtVer, StartTls}
 use Rattle.nutanswer.specs.declared.err_word.ErrWord.{ErrWord}
 use Rattle.nutanswer.specs.declared.err_word.ErrWord.TheVariants.{AccessDenied, UnknownUps, UsernameRequired, PasswordRequired, AlreadyLoggedIn}
 use Rattle.nutanswer.specs.declared.reply.Change.{Change}
 use Rattle.nutanswer.specs.declared.reply.Change.TheVariants as changes
 use Rattle.nutanswer.specs.View.{Seen, AskerSeen}
-use Rattle.nutanswer.specs.Checks.{◌>>=◌, ◌>>◌, unless, KnownUps, ups_named, unknown_ups, live, user, access_denied, var_not_supported, var_not_lawful, cmd_not_lawful, already_set_username, already_set_password, already_logged_in, invalid_argument}
+use Rattle.nutanswer.specs.Checks.{◌>>=◌, ◌>>◌, unless, KnownUps, ups_named, unknown_ups, live, user, access_denied, var_not_supported, var_not_lawful, cmd_not_lawful, cmd_not_supported, already_set_username, already_set_password, already_logged_in, invalid_argument, readonly, too_long, too_long_of_command, invalid_value, set_failed, instcmd_failed}
+use Rattle.nutanswer.specs.Orders.{instcmd_right, set_line, instcmd_line, order}
 use Rattle.nutanswer.specs.Answer.{Answer, one_line, answer_to, change_of_answer, text_of_answer}
 
 -- the session has given the name and the password of a user with the right
@@ -70,7 +71,8 @@ module _ (s : Seen) (asker : AskerSeen) (P : Command → Change → Type 0) (no 
     (password : (word : Option (List ℕ)) (given : List ℕ) → P (Password word) (changes.Password given))
     (ending : P Logout changes.Ending)
     (login : (ups : Option (List ℕ)) → P (Login ups) (change_of_answer (answer_to s asker (Login ups))))
-    (fsd : (ups : Option (List ℕ)) → P (Fsd ups) (change_of_answer (answer_to s asker (Fsd ups)))) where
+    (fsd : (ups : Option (List ℕ)) → P (Fsd ups) (change_of_answer (answer_to s asker (Fsd ups))))
+    (ordered : (u : UpsId) (line : List ℕ) (command : Command) → P command (order u line)) where
   rows : (command : Command) → P command (change_of_answer (answer_to s asker command))
   rows (Username word) = held (P (Username word)) (no _) (already_set_username asker) _ (found (P (Username word)) (no _) (invalid_argument word) _ (λ given. name word given))
   rows (Password word) = held (P (Password word)) (no _) (already_set_password asker) _ (found (P (Password word)) (no _) (invalid_argument word) _ (λ given. password word given))
@@ -78,6 +80,15 @@ module _ (s : Seen) (asker : AskerSeen) (P : Command → Change → Type 0) (no 
   rows Logout = ending
   rows (Primary ups) = held (P (Primary ups)) (no _) (user s asker rights.Primary) _ (found (P (Primary ups)) (no _) (unknown_ups s ups) _ (λ u. no _))
   rows (Fsd ups) = fsd ups
+  rows (SetVar ups v word) =
+      let Q : Change → Type 0 = P (SetVar ups v word) in
+      held Q (no _) (user s asker rights.Set) _ (of_variable Q (no _) s ups v _
+      (λ u x. held Q (no _) (readonly x.1) _ (found Q (no _) (too_long x.1 word) _ (λ value. held Q (no _) (invalid_value x.1 value) _
+      (held Q (no _) (set_failed u (set_line x.0 value)) _ (ordered u.id (set_line x.0 value) _))))))
+  rows (InstCmd ups v word) =
+      let Q : Change → Type 0 = P (InstCmd ups v word) in
+      held Q (no _) (user s asker (instcmd_right v)) _ (found Q (no _) (unknown_ups s ups) _ (λ u. held Q (no _) (live s u) _ (found Q (no _) (cmd_not_supported u v) _
+      (λ c. found Q (no _) (too_long_of_command word) _ (λ value. held Q (no _) (instcmd_failed u (instcmd_line c value)) _ (ordered u.id (instcmd_line c value) _))))))
   rows (GetVar ups v) = of_variable (P (GetVar ups v)) (no _) s ups v _ (λ u x. no _)
   rows (GetType ups v) = of_variable (P (GetType ups v)) (no _) s ups v _ (λ u x. no _)
   rows (ListEnum ups v) = of_variable (P (ListEnum ups v)) (no _) s ups v _ (λ u x. no _)
@@ -141,7 +152,7 @@ login_row s asker u ups h = by_user (user s asker rights.Login) (ups_named s ups
 pub shutdown_row : (s : Seen) (asker : AskerSeen) (u : UpsId) (command : Command) → change_of_answer (answer_to s asker command) ≡ changes.Fsd u → IsRow s asker Fsd rights.Fsd (codes "OK" ∷ codes "FSD-SET" ∷ []) u command
 shutdown_row s asker u command =
     rows s asker (λ (command : Command) (change : Change). change ≡ changes.Fsd u → IsRow s asker Fsd rights.Fsd (codes "OK" ∷ codes "FSD-SET" ∷ []) u command)
-    (λ command e. cc e) (λ word given e. cc e) (λ word given e. cc e) (λ e. cc e) (λ ups e. never_shutdown ups e) (λ ups e. fsd_row s asker u ups e) command
+    (λ command e. cc e) (λ word given e. cc e) (λ word given e. cc e) (λ e. cc e) (λ ups e. never_shutdown ups e) (λ ups e. fsd_row s asker u ups e) (λ v line command e. cc e) command
   where
     by_login : (r : Result (Unit {0}) ErrWord) (o : Result KnownUps ErrWord) (l : Result (Unit {0}) ErrWord) → change_of_answer (r >> (o >>= (λ k. l >> Ok (one_line (codes "OK" ∷ []) (changes.Login k.id))))) ≡ changes.Fsd u → ⊥
     by_login (Err word) o l h = cc h
@@ -155,7 +166,7 @@ shutdown_row s asker u command =
 pub logged_in_row : (s : Seen) (asker : AskerSeen) (u : UpsId) (command : Command) → change_of_answer (answer_to s asker command) ≡ changes.Login u → IsRow s asker Login rights.Login (codes "OK" ∷ []) u command
 logged_in_row s asker u command =
     rows s asker (λ (command : Command) (change : Change). change ≡ changes.Login u → IsRow s asker Login rights.Login (codes "OK" ∷ []) u command)
-    (λ command e. cc e) (λ word given e. cc e) (λ word given e. cc e) (λ e. cc e) (λ ups e. login_row s asker u ups e) (λ ups e. never_login ups e) command
+    (λ command e. cc e) (λ word given e. cc e) (λ word given e. cc e) (λ e. cc e) (λ ups e. login_row s asker u ups e) (λ ups e. never_login ups e) (λ v line command e. cc e) command
   where
     by_fsd : (r : Result (Unit {0}) ErrWord) (o : Result KnownUps ErrWord) → change_of_answer (r >> (o >>= (λ k. Ok (one_line (codes "OK" ∷ codes "FSD-SET" ∷ []) (changes.Fsd k.id))))) ≡ changes.Login u → ⊥
     by_fsd (Err word) o h = cc h

@@ -6,16 +6,16 @@ use Rattle.nutanswer.specs.declared.err_word.ErrWord.TheVariants.{TooLong}
 use Rattle.nutanswer.specs.ErrWord.{error_line}
 use Rattle.nutanswer.specs.Command.{read_command}
 use Rattle.nutanswer.specs.declared.reply.Change.{Change}
-use Rattle.nutanswer.specs.declared.reply.Change.TheVariants.{Nothing, Username, Password, Login, Ending, Fsd}
+use Rattle.nutanswer.specs.declared.reply.Change.TheVariants.{Nothing, Username, Password, Login, Ending, Fsd, Order}
 use Rattle.nutanswer.specs.View.{Seen, UpsSeen, ClientSeen, AskerSeen}
 use Rattle.nutanswer.specs.Answer.{Answer, answer_to, text_of_answer, change_of_answer}
 use Rattle.nutcore.specs.Session.{SessionState, begin_ending}
-use Rattle.nutcore.specs.Ups.{UpsState, with_fsd}
+use Rattle.nutcore.specs.Ups.{UpsState, with_fsd, free_room, with_order}
 use Rattle.nutcore.specs.Server.{ServerState, session, changed_at, with_session_changed}
 
 -- A UPS as answers see it.
 abbrev pub seen_ups : UpsState → UpsSeen
-seen_ups x = record { report = x.report; fsd = x.fsd }
+seen_ups x = record { report = x.report; fsd = x.fsd; free = free_room x }
 
 -- A session as answers see it.
 abbrev pub seen_client : SessionState → ClientSeen
@@ -41,6 +41,7 @@ changed_session (Password password) x = record x { password = Some password }
 changed_session (Login u) x = record x { login = Some u }
 changed_session Ending x = begin_ending x
 changed_session (Fsd u) x = x
+changed_session (Order u line) x = x
 
 -- to the UPSs,
 abbrev pub changed_upses : Change → List UpsState → List UpsState
@@ -50,6 +51,7 @@ changed_upses (Password password) upses = upses
 changed_upses (Login u) upses = upses
 changed_upses Ending upses = upses
 changed_upses (Fsd u) upses = changed_at with_fsd u.place upses
+changed_upses (Order u line) upses = changed_at (with_order line.items) u.place upses
 
 -- and so to the server.
 abbrev pub changed : Change → ℕ → ServerState → ServerState

@@ -1,5 +1,5 @@
 -- What the private parts of a server promise one another.
-use Rattle.std.specs.Prelude.{◌≡◌, ◌<◌, ◌≤◌, ◌==◌, ℕ, Bool, true, false, List, Some, Result, Ok, Err, IsTrue, length}
+use Rattle.std.specs.Prelude.{◌≡◌, ◌<◌, ◌≤◌, ◌==◌, ℕ, Bool, true, false, List, Some, Result, Ok, Err, IsTrue, length, slice_get}
 use Rattle.std.specs.List.{position_or_len}
 use Rattle.nutcore.specs.declared.event.Fault.{Fault}
 use Rattle.nutcore.specs.declared.event.Fault.TheVariants.{NoSuchUps, NoSuchClient, TooManyClients, TookTooMuch, NotConnected, AlreadyConnected, LineTooLong, Memory}
@@ -7,12 +7,13 @@ use Rattle.std.specs.declared.alloc.AllocError.{AllocError}
 use Rattle.nutanswer.specs.declared.reply.Reply.{Reply as Answer}
 use Rattle.nutanswer.specs.declared.reply.Reply.TheVariants.{One, Many}
 use Rattle.nutanswer.specs.declared.reply.Change.{Change}
-use Rattle.nutanswer.specs.declared.reply.Change.TheVariants.{Nothing}
+use Rattle.nutanswer.specs.declared.reply.Change.TheVariants.{Nothing, Order}
+use Rattle.arrayvec.specs.ArrayVec.{ArrayVec}
 use Rattle.nutlisting.specs.declared.outbox.TheConstants.{OWED_LIMIT}
 use Rattle.nutanswer.specs.Command.{read_command}
 use Rattle.nutlisting.specs.Items.{text_of}
 use Rattle.nutcore.specs.Session.{SessionState}
-use Rattle.nutcore.specs.Ups.{UpsState, with_bytes}
+use Rattle.nutcore.specs.Ups.{UpsState, with_bytes, free_room}
 use Rattle.nutcore.specs.Leaf.{IsFed, IsTaken}
 use Rattle.nutusers.specs.declared.ups_list.UpsId.{UpsId}
 use Rattle.nutcore.specs.Server.{ServerState, session, with_session, ups_at, with_ups_changed}
@@ -43,6 +44,12 @@ PumpGives old c (Err AlreadyConnected) new = ⊥
 abbrev pub Replies : ServerState → ℕ → List ℕ → Answer → Type 0
 Replies s c line (One text change) = (shares_version_read s c (read_command line) ≡ false) × (text_to s c (read_command line) ≡ text.items) × (change_by s c (read_command line) ≡ change) × (length text.items ≤ OWED_LIMIT)
 Replies s c line (Many listing) = (shares_version_read s c (read_command line) ≡ true) × (text_to s c (read_command line) ≡ text_of listing) × (change_by s c (read_command line) ≡ Nothing)
+
+-- an order fits in what its driver may still be owed
+abbrev pub OrderFits : Change → List UpsState → Type 0
+OrderFits change upses =
+    (u : UpsId) (line : ArrayVec ℕ) (x : UpsState) → change ≡ Order u line
+    → slice_get upses u.place ≡ Some x → length line.items ≤ free_room x
 
 -- it is this text, and changes nothing
 abbrev pub IsText : List ℕ → Answer → Type 0

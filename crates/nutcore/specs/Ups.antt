@@ -33,6 +33,14 @@ after_loss x = record x { report = lost_report; pinged = 0; owed = []; unfinishe
 abbrev pub with_fsd : UpsState → UpsState
 with_fsd x = record x { fsd = true }
 
+-- How many bytes more its driver may be owed.
+abbrev pub free_room : UpsState → ℕ
+free_room x = DRIVER_OWED_LIMIT - length x.owed
+
+-- Its driver is owed this line, behind what it is owed already.
+abbrev pub with_order : List ℕ → UpsState → UpsState
+with_order line x = record x { owed = x.owed ++ line }
+
 -- The line by which a driver is asked whether it is there.
 abbrev pub ping_line : List ℕ
 ping_line = codes "PING" ++ 10 ∷ []

@@ -10,9 +10,10 @@ ghost use Rattle.nutcore.specs.Step.{Step, with_input, without_output, offered, 
 ghost use Rattle.nutcore.specs.Run.{Run};
 ghost use Rattle.nutcore.specs.History.{owed};
 ghost use Rattle.nutcore.specs.Headline.{IsLawful, SentAndOwed, TakenUp, Serves};
-ghost use Rattle.nutcore.specs.Ups.{after_connecting, after_loss, after_tick, with_fsd};
+ghost use Rattle.nutcore.specs.Ups.{after_connecting, after_loss, after_tick, with_fsd, free_room, with_order};
+ghost use Rattle.nutcore.specs.Ups.{UpsState};
 ghost use Rattle.nutcore.specs.Calls.{fed, done, opened_as, is_finished, room_of, owed_to, Reads, ReadsUps};
-ghost use Rattle.nutcore.specs.Serving.{IsAt, PumpGives, RepliesOrLacks, IsText, NextIs, IsAnswered, DriverFeedGives, DriverTakes, is_connected};
+ghost use Rattle.nutcore.specs.Serving.{IsAt, OrderFits, PumpGives, RepliesOrLacks, IsText, NextIs, IsAnswered, DriverFeedGives, DriverTakes, is_connected};
 ghost use Rattle.nutcore.specs.Reply.{asker, changed_upses, seen_client};
 ghost use Rattle.nutanswer.specs.View.{asker_seen, login_count};
 ghost use Rattle.nutanswer.specs.declared.reply.Change.TheVariants.{Nothing};
@@ -205,10 +206,13 @@ impl Server {
 
     /// Does what an answer changes of the UPSs.
     fn change_upses(&mut self, change: &Change)
+        requires fits { OrderFits change.now self.old.upses }
         ensures { self.new ≡ record self.old { upses = changed_upses change.now self.old.upses } }
     {
-        if let Change::Fsd(u) = change {
-            set_fsd(&mut self.upses, *u);
+        match change {
+            Change::Fsd(u) => set_fsd(&mut self.upses, *u),
+            Change::Order(u, line) => order(&mut self.upses, *u, line.as_slice()),
+            _ => {}
         }
     }
 
@@ -718,6 +722,19 @@ fn set_fsd(upses: &mut Vec<Ups>, u: UpsId)
     if (u.place as usize) < upses.len() {
         let ups = &mut upses[u.place as usize];
         ups.set_fsd();
+    }
+}
+
+/// The driver of the UPS is owed this line, which fits, where there is such a UPS.
+fn order(upses: &mut Vec<Ups>, u: UpsId, line: &[u8])
+    requires fits { (x : UpsState) → slice_get upses.old.items u.place ≡ Some x
+        → length line.now ≤ free_room x }
+    ensures owed { upses.new.items ≡ changed_at (with_order line.now) u.place upses.old.items }
+    ensures length { length upses.new.items ≡ length upses.old.items }
+{
+    if (u.place as usize) < upses.len() {
+        let ups = &mut upses[u.place as usize];
+        ups.order(line);
     }
 }
 

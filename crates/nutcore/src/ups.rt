@@ -2,7 +2,7 @@
 ghost use Rattle.std.specs.Prelude.{◌≡◌, ◌≢◌, ◌≤◌, length, drop, true, IfOk, IfErr, IsTrue, OnOk, OnErr, Ok, Err};
 ghost use Rattle.nutdriver.specs.Report.{line_changes};
 ghost use Rattle.nutwords.specs.declared.limits.TheConstants.{LINE_LIMIT};
-ghost use Rattle.nutcore.specs.Ups.{new_ups, after_connecting, after_loss, after_tick, with_fsd, after_text, with_faulty_line, with_bytes};
+ghost use Rattle.nutcore.specs.Ups.{new_ups, after_connecting, after_loss, after_tick, with_fsd, free_room, with_order, after_text, with_faulty_line, with_bytes};
 ghost use Rattle.nutanswer.specs.View.{ups_seen};
 ghost use Rattle.nutcore.specs.Reply.{seen_ups};
 ghost use Rattle.nutcore.specs.Leaf.{CutsLine, IsStopped, IsFed, IsTaken};
@@ -81,6 +81,7 @@ impl Ups {
         UpsView {
             report: &self.report,
             fsd: self.fsd,
+            free: DRIVER_OWED_LIMIT - self.owed.len(),
         }
     }
 
@@ -89,6 +90,16 @@ impl Ups {
         ensures { self.new ≡ with_fsd self.old }
     {
         self.fsd = true;
+    }
+
+    /// Its driver is owed this line, which fits.
+    pub(crate) fn order(&mut self, line: &[u8])
+        requires fits { length line.now ≤ free_room self.old }
+        ensures { self.new ≡ with_order line.now self.old }
+    {
+        let owed = self.owed.len();
+        prove!(owed + line.len() <= DRIVER_OWED_LIMIT);
+        self.owed.try_extend_from_slice(line).unwrap();
     }
 
     /// What its driver is offered.

@@ -15,6 +15,7 @@ use std::test::Fail;
 pub(crate) struct SampleUps {
     pub(crate) report: Report,
     pub(crate) fsd: bool,
+    pub(crate) free: usize,
 }
 
 impl SampleUps {
@@ -33,7 +34,11 @@ impl SampleUps {
             heard: 0,
             tree,
         };
-        Ok(SampleUps { report, fsd: false })
+        Ok(SampleUps {
+            report,
+            fsd: false,
+            free: 2040,
+        })
     }
 }
 
@@ -81,10 +86,10 @@ impl Model for Sample {
 
     ghost Value = { Seen };
 
-    ghost view = { λ s. record { moment = s.moment; max_age = s.max_age; list = s.list; upses = map (λ u. record { report = u.report; fsd = u.fsd }) s.upses.items; users = s.users; descriptions = s.descriptions; clients = s.clients.items } };
+    ghost view = { λ s. record { moment = s.moment; max_age = s.max_age; list = s.list; upses = map (λ u. record { report = u.report; fsd = u.fsd; free = u.free }) s.upses.items; users = s.users; descriptions = s.descriptions; clients = s.clients.items } };
 }
 
-/// The users of a sample: one of each role and action, and one without a password.
+/// The users of a sample: one of each role and action, one with a command, and one without a password.
 const USERS: &[u8] = b"[admin]
 password = \"s3 cret\"
 upsmon primary
@@ -98,6 +103,9 @@ actions = FSD
 password = pw
 actions = SET
 instcmds = ALL
+[cmd]
+password = pw
+instcmds = load.off
 [guest]
 upsmon primary";
 
@@ -158,6 +166,7 @@ impl View for Sample {
         Some(UpsView {
             report: &ups.report,
             fsd: ups.fsd,
+            free: ups.free,
         })
     }
 

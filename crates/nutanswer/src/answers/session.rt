@@ -103,7 +103,7 @@ pub(crate) fn get_num_logins<V: View>(view: &V, ups: &Option<UpsName>) -> Result
 }
 
 /// The bare OK, of a command that changes this.
-fn ok(change: Change) -> Reply
+pub(crate) fn ok(change: Change) -> Reply
     ensures { IsReply (Ok (one_line ok change)) result }
 {
     Reply::One(plain_line(b"OK"), change)

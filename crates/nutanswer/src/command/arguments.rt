@@ -1,11 +1,11 @@
 //! What stands behind the words that say which command it is.
 ghost use Rattle.std.specs.Prelude.{◌≡◌};
-ghost use Rattle.nutanswer.specs.Command.{alone, user_name_alone, password_alone, ups_alone, ups_and_name};
+ghost use Rattle.nutanswer.specs.Command.{alone, user_name_alone, password_alone, ups_alone, ups_and_name, ups_name_and_value, ups_name_and_value_if_any};
 
 use super::Command;
 use crate::ErrWord;
 use nutusers::{Password, UserName};
-use nutwords::{Name, UpsName, Words};
+use nutwords::{Name, UpsName, Value, Words};
 
 /// The command, where no further word stands behind it.
 pub(crate) fn alone(command: Command, mut words: Words<'_>) -> Result<Command, ErrWord>
@@ -56,6 +56,46 @@ pub(crate) fn ups_and_name(mut words: Words<'_>) -> Result<(Option<UpsName>, Opt
             let ups = UpsName::read(ups.as_bytes()).ok();
             let name = Name::read(name.as_bytes()).ok();
             Ok((ups, name))
+        }
+        _ => Err(ErrWord::InvalidArgument),
+    }
+}
+
+/// The UPS and the variable that two words name, if they name one, and the value that a third word is, if it is as short as
+/// one may be.
+pub(crate) fn ups_name_and_value(
+    mut words: Words<'_>,
+) -> Result<(Option<UpsName>, Option<Name>, Option<Value>), ErrWord>
+    ensures { result ≡ ups_name_and_value words.entry }
+{
+    match (words.next(), words.next(), words.next(), words.next()) {
+        (Some(ups), Some(name), Some(value), None) => {
+            let ups = UpsName::read(ups.as_bytes()).ok();
+            let name = Name::read(name.as_bytes()).ok();
+            let value = Value::read(value.as_bytes()).ok();
+            Ok((ups, name, value))
+        }
+        _ => Err(ErrWord::InvalidArgument),
+    }
+}
+
+/// The same of a command, whose value may be left out.
+pub(crate) fn ups_name_and_value_if_any(
+    mut words: Words<'_>,
+) -> Result<(Option<UpsName>, Option<Name>, Option<Option<Value>>), ErrWord>
+    ensures { result ≡ ups_name_and_value_if_any words.entry }
+{
+    match (words.next(), words.next(), words.next(), words.next()) {
+        (Some(ups), Some(name), None, _) => {
+            let ups = UpsName::read(ups.as_bytes()).ok();
+            let name = Name::read(name.as_bytes()).ok();
+            Ok((ups, name, None))
+        }
+        (Some(ups), Some(name), Some(value), None) => {
+            let ups = UpsName::read(ups.as_bytes()).ok();
+            let name = Name::read(name.as_bytes()).ok();
+            let value = Value::read(value.as_bytes()).ok();
+            Ok((ups, name, Some(value)))
         }
         _ => Err(ErrWord::InvalidArgument),
     }

@@ -4,7 +4,7 @@
 //! behind it, `-` where a word names nothing; `none`; or the line that refuses it.
 use super::Command;
 use nutusers::{Password, UserName};
-use nutwords::{Name, UpsName};
+use nutwords::{Name, UpsName, Value};
 use std::alloc::{AllocError, Global};
 use std::test::Fail;
 
@@ -47,6 +47,14 @@ fn push_password(text: &mut String, password: &Option<Password>) -> Result<(), A
     }
 }
 
+fn push_value(text: &mut String, value: &Option<Value>) -> Result<(), AllocError> {
+    text.push(' ')?;
+    match value {
+        Some(value) => push_bytes(text, value.as_bytes()),
+        None => text.push('-'),
+    }
+}
+
 fn kind(command: &Command) -> &'static str {
     match command {
         Command::Username(_) => "Username",
@@ -55,6 +63,8 @@ fn kind(command: &Command) -> &'static str {
         Command::Logout => "Logout",
         Command::Primary(_) => "Primary",
         Command::Fsd(_) => "Fsd",
+        Command::SetVar(_, _, _) => "SetVar",
+        Command::InstCmd(_, _, _) => "InstCmd",
         Command::GetVar(_, _) => "GetVar",
         Command::GetType(_, _) => "GetType",
         Command::GetDesc(_, _) => "GetDesc",
@@ -86,6 +96,19 @@ fn push_command(text: &mut String, command: &Command) -> Result<(), AllocError> 
         | Command::ListRange(ups, name) => {
             push_ups(text, ups)?;
             push_name(text, name)
+        }
+        Command::SetVar(ups, name, value) => {
+            push_ups(text, ups)?;
+            push_name(text, name)?;
+            push_value(text, value)
+        }
+        Command::InstCmd(ups, name, value) => {
+            push_ups(text, ups)?;
+            push_name(text, name)?;
+            match value {
+                Some(value) => push_value(text, value),
+                None => Ok(()),
+            }
         }
         Command::Username(name) => push_user_name(text, name),
         Command::Password(password) => push_password(text, password),
@@ -143,6 +166,9 @@ LOGIN su|Login su\n\
 LOGOUT|Logout\n\
 PRIMARY su|Primary su\n\
 FSD su|Fsd su\n\
+SET VAR su ups.delay 30|SetVar su ups.delay 30\n\
+INSTCMD su load.off|InstCmd su load.off\n\
+INSTCMD su load.off 5|InstCmd su load.off 5\n\
 GET NUMLOGINS su|GetNumLogins su\n\
 GET VAR su ups.status|GetVar su ups.status\n\
 GET TYPE su ups.status|GetType su ups.status\n\
@@ -182,6 +208,10 @@ Password \"s3 cret\"|Password s3 cret\n\
 LogOut |Logout\n\
 \tprimary \"su\"|Primary su\n\
 fs\\d su|Fsd su\n\
+set var su x \"a b\"|SetVar su x a b\n\
+\"Set\" V\\AR \\su x a\\\"b|SetVar su x a\"b\n\
+InstCmd su \"x\"|InstCmd su x\n\
+inst\\cmd su x \"\"|InstCmd su x \n\
 get numLogins su|GetNumLogins su\n\
 help|Help\n\
 \"ver\"|Ver\n\
@@ -218,6 +248,10 @@ LOGIN SU|Login SU\n\
 LOGIN \"\"|Login -\n\
 PRIMARY s/u|Primary -\n\
 FSD \"s u\"|Fsd -\n\
+SET VAR SU UPS.Delay Off|SetVar SU UPS.Delay Off\n\
+SET VAR \"\" a/b \"\"|SetVar - - \n\
+INSTCMD VAR Load.OFF VAR|InstCmd VAR Load.OFF VAR\n\
+INSTCMD s/u \"load off\"|InstCmd - -\n\
 GET NUMLOGINS su@host|GetNumLogins -"
 }
 
@@ -248,11 +282,11 @@ NET VER|ERR UNKNOWN-COMMAND\n\
 QUIT a b c d|ERR UNKNOWN-COMMAND\n\
 MASTER su|ERR UNKNOWN-COMMAND\n\
 NUMLOGINS su|ERR UNKNOWN-COMMAND\n\
-SET VAR su x y|ERR UNKNOWN-COMMAND\n\
-INSTCMD su x|ERR UNKNOWN-COMMAND"
+SETVAR su x y|ERR UNKNOWN-COMMAND\n\
+INSTCMDS su x|ERR UNKNOWN-COMMAND"
 }
 
-/// Second words of GET and LIST that aren't known, with one number of words or another.
+/// Second words of GET, LIST and SET that aren't known, with one number of words or another.
 fn unknown_seconds() -> &'static [u8] {
     b"GET X|ERR INVALID-ARGUMENT\n\
 GET X su|ERR INVALID-ARGUMENT\n\
@@ -266,6 +300,10 @@ LIST X|ERR INVALID-ARGUMENT\n\
 LIST X su|ERR INVALID-ARGUMENT\n\
 LIST VARS su|ERR INVALID-ARGUMENT\n\
 LIST TYPE su x|ERR INVALID-ARGUMENT\n\
+SET X|ERR INVALID-ARGUMENT\n\
+SET su x y|ERR INVALID-ARGUMENT\n\
+SET RW su x y|ERR INVALID-ARGUMENT\n\
+SET VARS su x y|ERR INVALID-ARGUMENT\n\
 LIST CLIENT su|ERR INVALID-ARGUMENT"
 }
 
@@ -284,6 +322,12 @@ PASSWORD|ERR INVALID-ARGUMENT\n\
 LOGIN|ERR INVALID-ARGUMENT\n\
 PRIMARY|ERR INVALID-ARGUMENT\n\
 FSD|ERR INVALID-ARGUMENT\n\
+SET|ERR INVALID-ARGUMENT\n\
+SET VAR|ERR INVALID-ARGUMENT\n\
+SET VAR su|ERR INVALID-ARGUMENT\n\
+SET VAR su x|ERR INVALID-ARGUMENT\n\
+INSTCMD|ERR INVALID-ARGUMENT\n\
+INSTCMD su|ERR INVALID-ARGUMENT\n\
 LIST|ERR INVALID-ARGUMENT\n\
 LIST VAR|ERR INVALID-ARGUMENT\n\
 LIST RW|ERR INVALID-ARGUMENT\n\
@@ -307,6 +351,8 @@ LOGIN su x|ERR INVALID-ARGUMENT\n\
 LOGOUT su|ERR INVALID-ARGUMENT\n\
 PRIMARY su x|ERR INVALID-ARGUMENT\n\
 FSD su x|ERR INVALID-ARGUMENT\n\
+SET VAR su x y z|ERR INVALID-ARGUMENT\n\
+INSTCMD su x y \"\"|ERR INVALID-ARGUMENT\n\
 LIST UPS su|ERR INVALID-ARGUMENT\n\
 LIST VAR su x|ERR INVALID-ARGUMENT\n\
 LIST VAR \"\" x|ERR INVALID-ARGUMENT\n\
@@ -409,9 +455,19 @@ fn keeps_user_names_and_passwords_up_to_their_limits(rt: HostRuntime) -> Result<
 }
 
 #[test]
+fn keeps_values_up_to_their_limit(rt: HostRuntime) -> Result<(), Fail> {
+    assert!(rt; is_kept(rt.alloc(), b"SET VAR su x ", b"SetVar su x ", 256)?);
+    assert!(rt; is_read_as(rt.alloc(), b"SET VAR su x ", 257, "SetVar su x -")?);
+    assert!(rt; is_kept(rt.alloc(), b"INSTCMD su x ", b"InstCmd su x ", 256)?);
+    assert!(rt; is_read_as(rt.alloc(), b"INSTCMD su x ", 257, "InstCmd su x -")?);
+    Ok(())
+}
+
+#[test]
 fn reads_lines_of_1023_bytes(rt: HostRuntime) -> Result<(), Fail> {
     assert!(rt; is_read_as(rt.alloc(), b"GET VAR su ", 1012, "GetVar su -")?);
     assert!(rt; is_read_as(rt.alloc(), b"LIST VAR ", 1014, "ListVar -")?);
+    assert!(rt; is_read_as(rt.alloc(), b"SET VAR su x ", 1010, "SetVar su x -")?);
     assert!(rt; is_read_as(rt.alloc(), b"", 1023, "ERR UNKNOWN-COMMAND")?);
     Ok(())
 }

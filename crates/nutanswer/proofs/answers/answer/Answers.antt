@@ -63,3 +63,13 @@ pub returns-in-GetNumLogins-clause-ok : goal.returns-in-GetNumLogins-clause-ok
 returns-in-GetNumLogins-clause-ok g c =
     let s = g.V.View.seen c.args.view.now in
     subst (λ (command : Command). IsReply (answer_to s (asker_seen c.args.asker) command) c.one-in-GetNumLogins.result) (sym c.in-GetNumLogins.is) (c.one-in-GetNumLogins.ensures _ c.get_num_logins.ensures)
+
+pub returns-in-SetVar-clause-ok : goal.returns-in-SetVar-clause-ok
+returns-in-SetVar-clause-ok g c =
+    let s = g.V.View.seen c.args.view.now in
+    subst (λ (command : Command). IsReply (answer_to s (asker_seen c.args.asker) command) c.given-in-SetVar.result) (sym c.in-SetVar.is) (c.given-in-SetVar.ensures _ c.set_var.ensures)
+
+pub returns-in-InstCmd-clause-ok : goal.returns-in-InstCmd-clause-ok
+returns-in-InstCmd-clause-ok g c =
+    let s = g.V.View.seen c.args.view.now in
+    subst (λ (command : Command). IsReply (answer_to s (asker_seen c.args.asker) command) c.given-in-InstCmd.result) (sym c.in-InstCmd.is) (c.given-in-InstCmd.ensures _ c.inst_cmd.ensures)

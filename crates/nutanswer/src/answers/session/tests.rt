@@ -1,18 +1,10 @@
 //! Each command of sessions: its answer, what it changes, and its checks, each alone and in pairs.
-//!
-//! A table is a text of rows: the user name and the password that the session has given, `-` for none; the place of the
-//! UPS that it is logged in to, `-` for none; the line; and the answer without its LF.
-use crate::answers::answer;
-use crate::answers::sample::{Sample, SampleAsker, SampleUps};
-use crate::{Change, Command, ErrWord, Reply};
-use nutusers::{Password, UpsId, UserName};
-use nutwords::Line;
+use crate::answers::rows::{OFF, SU, asker, reply, wrong_row};
+use crate::answers::sample::{Sample, SampleUps};
+use crate::{Change, ErrWord};
+use nutusers::UpsId;
 use std::alloc::Global;
 use std::test::Fail;
-
-const OFF: UpsId = UpsId { place: 0 };
-
-const SU: UpsId = UpsId { place: 1 };
 
 /// A server whose UPS `su` is usable and `off` isn't connected, with sessions of these logins.
 fn server(alloc: Global, logins: &[Option<UpsId>]) -> Result<Sample, Fail> {
@@ -25,69 +17,6 @@ fn server(alloc: Global, logins: &[Option<UpsId>]) -> Result<Sample, Fail> {
         sample.open(*login)?;
     }
     Ok(sample)
-}
-
-/// A session that has given these, `-` for none, and is logged in to the UPS at this place.
-fn asker(username: &[u8], password: &[u8], login: &[u8]) -> SampleAsker {
-    let none = b"-".as_slice();
-    SampleAsker {
-        username: if username == none {
-            None
-        } else {
-            UserName::read(username)
-        },
-        password: if password == none {
-            None
-        } else {
-            Password::read(password)
-        },
-        login: match login {
-            b"0" => Some(OFF),
-            b"1" => Some(SU),
-            _ => None,
-        },
-    }
-}
-
-/// The line that answers this line, and what it changes. A line that is no command is answered by no bytes.
-fn reply(sample: &Sample, asker: &SampleAsker, line: &[u8]) -> Result<(Line, Change), Fail> {
-    let nothing = (Line::new(), Change::Nothing);
-    if line.len() > 1023 {
-        return Ok(nothing);
-    }
-    let Ok(Some(command)) = Command::read(line) else {
-        return Ok(nothing);
-    };
-    match answer(sample, asker.view(), &command)? {
-        Reply::One(line, change) => Ok((line, change)),
-        Reply::Many(_listing) => Ok(nothing),
-    }
-}
-
-/// Whether the row is so; and where it is refused, nothing is changed.
-fn is_so(sample: &Sample, row: &[u8]) -> Result<bool, Fail> {
-    let mut parts = row.split(|b| *b == b'|');
-    let (Some(username), Some(password), Some(login)) = (parts.next(), parts.next(), parts.next())
-    else {
-        return Ok(false);
-    };
-    let (Some(line), Some(want)) = (parts.next(), parts.next()) else {
-        return Ok(false);
-    };
-    let (got, change) = reply(sample, &asker(username, password, login), line)?;
-    let is_refused = got.as_slice().starts_with(b"ERR ");
-    Ok(got.as_slice().trim_ascii_end() == want && (!is_refused || change == Change::Nothing))
-}
-
-/// The first row of the table that isn't so, counted from 0.
-fn wrong_row(alloc: Global, table: &[u8]) -> Result<Option<usize>, Fail> {
-    let sample = server(alloc, &[])?;
-    for (number, row) in table.split(|b| *b == b'\n').enumerate() {
-        if !is_so(&sample, row)? {
-            return Ok(Some(number));
-        }
-    }
-    Ok(None)
 }
 
 /// LOGIN by whom it is granted to, and each check of it alone and before those behind it.
@@ -178,25 +107,25 @@ mon|pw|1|LOGOUT|OK Goodbye"
 
 #[test]
 fn logs_in_by_right_alone(rt: HostRuntime) -> Result<(), Fail> {
-    assert_eq!(rt; wrong_row(rt.alloc(), logins())?, None);
+    assert_eq!(rt; wrong_row(&server(rt.alloc(), &[])?, logins())?, None);
     Ok(())
 }
 
 #[test]
 fn grants_nothing_to_others(rt: HostRuntime) -> Result<(), Fail> {
-    assert_eq!(rt; wrong_row(rt.alloc(), credentials())?, None);
+    assert_eq!(rt; wrong_row(&server(rt.alloc(), &[])?, credentials())?, None);
     Ok(())
 }
 
 #[test]
 fn sets_the_forced_shutdown_by_right_alone(rt: HostRuntime) -> Result<(), Fail> {
-    assert_eq!(rt; wrong_row(rt.alloc(), primaries())?, None);
+    assert_eq!(rt; wrong_row(&server(rt.alloc(), &[])?, primaries())?, None);
     Ok(())
 }
 
 #[test]
 fn takes_a_name_and_a_password_once(rt: HostRuntime) -> Result<(), Fail> {
-    assert_eq!(rt; wrong_row(rt.alloc(), given())?, None);
+    assert_eq!(rt; wrong_row(&server(rt.alloc(), &[])?, given())?, None);
     Ok(())
 }
 

@@ -6,7 +6,16 @@ use Rattle.nutanswer.specs.declared.reply.Change.TheVariants.{Nothing}
 use Rattle.nutlisting.specs.Items.{text_of}
 use Rattle.nutcore.specs.Serving.{Replies, RepliesOrLacks}
 use Rattle.nutcore.proofs.Serving.{line_is}
+use Rattle.nutanswer.specs.Command.{read_command}
+use Rattle.nutcore.proofs.OrderFits.{order_fits}
 use Rattle.nutcore.proofs.server.Server.execute.Goals as goal
+
+pub change_upses-requires : goal.change_upses-requires
+change_upses-requires c =
+    let line : List ℕ = c.requires.next.0 in
+    let e : c.args.reply ≡ Ok (One c.in-One.text c.in-One.change) = c.in_ok-text.was ∙ ap (λ (r : Reply). Ok r) c.in-One.is in
+    let told : Replies c.args.self.now c.args.c line (One c.in-One.text c.in-One.change) = subst (λ (r : Result Reply AllocError). RepliesOrLacks c.args.self.now c.args.c line r) e c.requires.next.2 in
+    record { fits = order_fits c.args.self.now c.args.c (read_command line) c.in-One.change told.2 }
 
 pub returns-in-One-clause-ok : goal.returns-in-One-clause-ok
 returns-in-One-clause-ok c =

@@ -1,0 +1,60 @@
+-- Orders to drivers (RFC 9271: SET, INSTCMD): which values a variable may be set to, and the line that tells the driver.
+use Rattle.std.specs.Prelude.{ℕ, ℤ, ◌==◌, ◌&&◌, ◌||◌, Bool, false, not, nat_le, int_le, List, [], ◌∷◌, codes, length, Option, Some, None}
+use Rattle.std.specs.List.{list_any}
+use Rattle.nutwords.specs.Frame.{line_of}
+use Rattle.nutwords.specs.Spelling.{quoted}
+use Rattle.nutdriver.specs.Number.{read_number}
+use Rattle.nutdriver.specs.Variable.{VariableState, has_value}
+use Rattle.nutdriver.specs.declared.range.Range.{Range}
+use Rattle.nutlisting.specs.Types.{is_empty}
+use Rattle.nutusers.specs.declared.rights.Right.{Right}
+use Rattle.nutusers.specs.declared.rights.Right.TheVariants as rights
+use Rattle.nutusers.specs.declared.ups_list.UpsId.{UpsId}
+use Rattle.nutanswer.specs.declared.reply.Change.{Change}
+use Rattle.nutanswer.specs.declared.reply.Change.TheVariants as changes
+
+-- A text of a variable has at most as many bytes as its aux, unless that is 0.
+abbrev pub is_short_enough : VariableState → List ℕ → Bool
+is_short_enough x value = not x.flags.string || (x.aux == 0 || nat_le (length value) x.aux)
+
+-- The value is one of those that the variable may have, byte for byte. Where none are listed, any will do.
+abbrev pub is_listed : List (List ℕ) → List ℕ → Bool
+is_listed values value = is_empty values || has_value values value
+
+-- The number is within the range, its ends included.
+abbrev pub is_within : ℤ → Range → Bool
+is_within n range = int_le range.least n && int_le n range.greatest
+
+abbrev pub is_within_one : List Range → Option ℤ → Bool
+is_within_one ranges None = false
+is_within_one ranges (Some n) = list_any (is_within n) ranges
+
+-- The value is a number within one of the ranges. Where there are none, any value will do.
+abbrev pub is_in_ranges : List Range → List ℕ → Bool
+is_in_ranges ranges value = is_empty ranges || is_within_one ranges (read_number value)
+
+-- The line of an order with its LF: its verb, the name of a variable or a command, and the value in quotes, if there is one.
+abbrev pub order_line : List ℕ → List ℕ → Option (List ℕ) → List ℕ
+order_line verb name None = line_of (verb ∷ name ∷ [])
+order_line verb name (Some value) = line_of (verb ∷ name ∷ quoted value ∷ [])
+
+-- The line by which a driver is told to set a variable,
+abbrev pub set_line : List ℕ → List ℕ → List ℕ
+set_line name value = order_line (codes "SET") name (Some value)
+
+-- and that by which it is told a command.
+abbrev pub instcmd_line : List ℕ → Option (List ℕ) → List ℕ
+instcmd_line name value = order_line (codes "INSTCMD") name value
+
+-- The driver of the UPS is owed this line.
+abbrev pub order : UpsId → List ℕ → Change
+order u line = changes.Order u (record { items = line })
+
+-- The right to the command that this word names. What is asked of a right is its bytes alone, not where they stand.
+abbrev pub right_to : List ℕ → Right
+right_to command = rights.Instcmd (record { ref_ptr = (0, 0); now = command })
+
+-- The right to the command that was asked for. A word that is no lawful name is granted to nobody by name, as the word of no bytes is.
+abbrev pub instcmd_right : Option (List ℕ) → Right
+instcmd_right None = right_to []
+instcmd_right (Some command) = right_to command
