@@ -1,7 +1,7 @@
 -- Rows of the table that change something are answered by OK.
 use Rattle.std.proofs.Common.{◌≡◌, ℕ, true, false, List, Result, Ok, Err, refl, ap}
 use Rattle.nutanswer.specs.declared.command.Command.{Command}
-use Rattle.nutanswer.specs.declared.command.Command.TheVariants.{Username, Password, Login, Logout, Primary, Fsd, SetVar, InstCmd, GetVar, GetType, GetDesc, GetCmdDesc, GetUpsDesc, GetNumLogins, ListUps, ListVar, ListRw, ListCmd, ListEnum, ListRange, Help, Ver, NetVer, ProtVer, StartTls}
+use Rattle.nutanswer.specs.declared.command.Command.TheVariants.{Username, Password, Login, Logout, Primary, Fsd, SetVar, InstCmd, GetVar, GetType, GetDesc, GetCmdDesc, GetUpsDesc, GetNumLogins, ListUps, ListVar, ListRw, ListCmd, ListEnum, ListRange, ListClient, Help, Ver, NetVer, ProtVer, StartTls}
 use Rattle.nutusers.specs.declared.rights.Right.TheVariants as rights
 use Rattle.nutanswer.specs.declared.err_word.ErrWord.{ErrWord}
 use Rattle.nutanswer.specs.declared.reply.Change.TheVariants.{Nothing}
@@ -58,6 +58,7 @@ row_says s asker (ListRw ups) = after (unknown_ups s ups) _ (λ u. behind (live 
 row_says s asker (ListCmd ups) = after (unknown_ups s ups) _ (λ u. behind (live s u) _ (told_row refl))
 row_says s asker (ListEnum ups name) = after (unknown_ups s ups) _ (λ u. behind (live s u) _ (after (var_not_supported u name) _ (λ v. told_row refl)))
 row_says s asker (ListRange ups name) = after (unknown_ups s ups) _ (λ u. behind (live s u) _ (after (var_not_supported u name) _ (λ v. told_row refl)))
+row_says s asker (ListClient ups) = after (unknown_ups s ups) _ (λ u. told_row refl)
 row_says s asker Help = told_row refl
 row_says s asker Ver = told_row refl
 row_says s asker NetVer = told_row refl

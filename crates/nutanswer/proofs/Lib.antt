@@ -4,3 +4,4 @@ mod ErrorLemmas
 mod Quoted
 mod RightLemmas
 pub mod OrderFits
+mod Carried

@@ -9,7 +9,7 @@ use Rattle.nutusers.specs.UpsList.{Ups, place_of, id_at}
 use Rattle.nutusers.specs.declared.ups_list.UpsId.{UpsId}
 use Rattle.nutusers.specs.declared.rights.Right.TheVariants as rights
 use Rattle.nutanswer.specs.declared.command.Command.{Command}
-use Rattle.nutanswer.specs.declared.command.Command.TheVariants.{Username, Password, Login, Logout, Primary, Fsd, SetVar, InstCmd, GetVar, GetType, GetDesc, GetCmdDesc, GetUpsDesc, GetNumLogins, ListUps, ListVar, ListRw, ListCmd, ListEnum, ListRange, Help, Ver, NetVer, ProtVer, StartTls}
+use Rattle.nutanswer.specs.declared.command.Command.TheVariants.{Username, Password, Login, Logout, Primary, Fsd, SetVar, InstCmd, GetVar, GetType, GetDesc, GetCmdDesc, GetUpsDesc, GetNumLogins, ListUps, ListVar, ListRw, ListCmd, ListEnum, ListRange, ListClient, Help, Ver, NetVer, ProtVer, StartTls}
 use Rattle.nutanswer.specs.declared.err_word.ErrWord.{ErrWord}
 use Rattle.nutanswer.specs.declared.reply.Change.{Change}
 use Rattle.nutanswer.specs.declared.reply.Change.TheVariants as changes
@@ -121,6 +121,7 @@ module _ (s : Seen) where
   row_fits asker (ListCmd ups) = after (unknown_ups s ups) _ (λ u _. behind (live s u) _ (none refl))
   row_fits asker (ListEnum ups name) = after (unknown_ups s ups) _ (λ u _. behind (live s u) _ (after (var_not_supported u name) _ (λ v _. none refl)))
   row_fits asker (ListRange ups name) = after (unknown_ups s ups) _ (λ u _. behind (live s u) _ (after (var_not_supported u name) _ (λ v _. none refl)))
+  row_fits asker (ListClient ups) = after (unknown_ups s ups) _ (λ u _. none refl)
   row_fits asker Help = none refl
   row_fits asker Ver = none refl
   row_fits asker NetVer = none refl

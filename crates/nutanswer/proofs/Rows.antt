@@ -8,7 +8,7 @@ use Rattle.nutanswer.specs.declared.command.Command.TheVariants.{SetVar, InstCmd
 use Rattle.nutanswer.specs.Answer.{Answer, answer_to, one_line, ok}
 use Rattle.nutanswer.specs.Checks.{◌>>=◌, ◌>>◌, KnownUps, user, unknown_ups, live, var_not_supported, cmd_not_supported, readonly, too_long, too_long_of_command, invalid_value, set_failed, instcmd_failed}
 use Rattle.nutanswer.specs.Orders.{set_line, instcmd_line, instcmd_right, order}
-use Rattle.nutanswer.specs.Leaf.{live_variable, live_command, settable, Gives}
+use Rattle.nutanswer.specs.Leaf.{live_ups, live_variable, live_command, settable, Gives}
 use Rattle.nutanswer.specs.declared.reply.Reply.{Reply}
 use Rattle.nutanswer.specs.declared.err_word.ErrWord.TheVariants.{SetFailed}
 use Rattle.std.specs.Prelude.{◌≤◌, ◌<◌, Bool, true, false, nat_le, length}
@@ -46,6 +46,13 @@ module _ {A : Type 0} (s : Seen) (ups name : Option (List ℕ)) (next : KnownUps
   pub without_variable : (word : ErrWord) → Err word ≡ live_variable s ups name
       → (unknown_ups s ups >>= (λ u. live s u >> (var_not_supported u name >>= (λ v. next u v.0 v.1)))) ≡ Err word
   without_variable word e = row_of_variable s ups name next ∙ ap (λ r. r >>= (λ k. next k.0 k.1 k.2)) (sym e)
+
+-- the checks of a live UPS: where one of them fails, the row fails so
+pub without_ups : {A : Type 0} (s : Seen) (ups : Option (List ℕ)) (next : KnownUps → Result A ErrWord) (word : ErrWord) → Err word ≡ live_ups s ups
+    → (unknown_ups s ups >>= (λ u. live s u >> next u)) ≡ Err word
+without_ups s ups next word e =
+    after_check (unknown_ups s ups) (λ u. live s u >> next u) (λ u. live s u >> Ok u) next (λ u. after_test (live s u) (next u) (Ok u) next refl)
+    ∙ ap (λ r. r >>= next) (sym e)
 
 -- the checks of a command of a live UPS
 row_of_command : {A : Type 0} (s : Seen) (ups name : Option (List ℕ)) (next : KnownUps → List ℕ → Result A ErrWord)

@@ -6,26 +6,27 @@ use Rattle.nutwords.specs.Spelling.{quoted}
 use Rattle.nutusers.specs.Descriptions.{text_at}
 use Rattle.nutusers.specs.declared.rights.Right.TheVariants as rights
 use Rattle.nutanswer.specs.declared.command.Command.{Command}
-use Rattle.nutanswer.specs.declared.command.Command.TheVariants.{Username, Password, Login, Logout, Primary, Fsd, SetVar, InstCmd, GetVar, GetType, GetDesc, GetCmdDesc, GetUpsDesc, GetNumLogins, ListUps, ListVar, ListRw, ListCmd, ListEnum, ListRange, Help, Ver, NetVer, ProtVer, StartTls}
+use Rattle.nutanswer.specs.declared.command.Command.TheVariants.{Username, Password, Login, Logout, Primary, Fsd, SetVar, InstCmd, GetVar, GetType, GetDesc, GetCmdDesc, GetUpsDesc, GetNumLogins, ListUps, ListVar, ListRw, ListCmd, ListEnum, ListRange, ListClient, Help, Ver, NetVer, ProtVer, StartTls}
 use Rattle.nutanswer.specs.declared.err_word.ErrWord.{ErrWord}
 use Rattle.nutanswer.specs.declared.err_word.ErrWord.TheVariants.{FeatureNotConfigured}
 use Rattle.nutanswer.specs.declared.reply.Change.{Change}
 use Rattle.nutanswer.specs.declared.reply.Change.TheVariants as changes
 use Rattle.nutanswer.specs.declared.reply.Reply.{Reply}
-use Rattle.nutanswer.specs.declared.reply.Reply.TheVariants.{One, Many}
+use Rattle.nutanswer.specs.declared.reply.Reply.TheVariants.{One, Many, Clients}
 use Rattle.nutanswer.specs.ErrWord.{error_line}
 use Rattle.nutlisting.specs.Lines.{IsWholeLine}
-use Rattle.nutanswer.specs.View.{Seen, AskerSeen, login_count}
+use Rattle.nutanswer.specs.View.{Seen, AskerSeen, login_count, addresses_at}
 use Rattle.nutlisting.specs.Shown.{shown, description_of}
 use Rattle.nutlisting.specs.Types.{type_words}
-use Rattle.nutlisting.specs.Items.{ListingState, text_of, ups_listing, variable_listing, rw_listing, command_listing, enum_listing, range_listing}
+use Rattle.nutlisting.specs.Items.{ListingState, text_of, ups_listing, variable_listing, rw_listing, command_listing, enum_listing, range_listing, client_listing}
 use Rattle.nutanswer.specs.Checks.{◌>>=◌, ◌>>◌, user, unknown_ups, live, var_not_supported, var_not_lawful, cmd_not_lawful, cmd_not_supported, already_set_username, already_set_password, already_logged_in, invalid_argument, readonly, too_long, too_long_of_command, invalid_value, set_failed, instcmd_failed}
 use Rattle.nutanswer.specs.Orders.{instcmd_right, set_line, instcmd_line, order}
 
--- The words of a line, as they are spelled, and what the command changes; or a listing.
+-- The words of a line, as they are spelled, and what the command changes; or a listing, that of clients apart: it copies what it lists.
 pub data Answer : Type 0 where
   one_line : (words : List (List ℕ)) → (change : Change) → Answer
   listing : (l : ListingState) → Answer
+  listing_of_clients : (l : ListingState) → Answer
 
 -- A line of a command that changes nothing.
 abbrev pub told : List (List ℕ) → Result Answer ErrWord
@@ -127,6 +128,9 @@ answer_to s asker (ListRange ups name) = do
   live s u
   (v, x) ← var_not_supported u name
   Ok (listing (range_listing u.name v (Some x)))
+answer_to s asker (ListClient ups) = do
+  u ← unknown_ups s ups
+  Ok (listing_of_clients (client_listing u.name (addresses_at u.id s.clients)))
 answer_to s asker Help = told (help_text ∷ [])
 answer_to s asker Ver = told (codes "Network UPS Tools upsd, profile 1" ∷ [])
 answer_to s asker NetVer = told (codes "1.3" ∷ [])
@@ -138,18 +142,21 @@ abbrev pub text_of_answer : Result Answer ErrWord → List ℕ
 text_of_answer (Err word) = error_line word
 text_of_answer (Ok (one_line words change)) = line_of words
 text_of_answer (Ok (listing l)) = text_of l
+text_of_answer (Ok (listing_of_clients l)) = text_of l
 
 -- What a command that is answered so changes: nothing where it is refused, and nothing where it lists.
 abbrev pub change_of_answer : Result Answer ErrWord → Change
 change_of_answer (Err word) = changes.Nothing
 change_of_answer (Ok (one_line words change)) = change
 change_of_answer (Ok (listing l)) = changes.Nothing
+change_of_answer (Ok (listing_of_clients l)) = changes.Nothing
 
 -- The answer shares a version of what it lists, which takes memory.
 abbrev pub shares_version : Result Answer ErrWord → Bool
 shares_version (Err word) = false
 shares_version (Ok (one_line words change)) = false
 shares_version (Ok (listing l)) = true
+shares_version (Ok (listing_of_clients l)) = false
 
 -- A line that answers a command, and what the command changes.
 pub record IsOneLine (answer : Result Answer ErrWord) (line : List ℕ) (change : Change) : Type 0 where
@@ -158,7 +165,8 @@ pub record IsOneLine (answer : Result Answer ErrWord) (line : List ℕ) (change 
   pub one : shares_version answer ≡ false
   pub whole_line : IsWholeLine line
 
--- The reply gives this answer.
-abbrev pub IsReply : Result Answer ErrWord → Reply → Type 0
-IsReply answer (One line change) = IsOneLine answer line.items change
-IsReply answer (Many l) = answer ≡ Ok (listing l)
+-- The reply gives this answer. The clients of a UPS are those that are seen.
+abbrev pub IsReply : Seen → Result Answer ErrWord → Reply → Type 0
+IsReply s answer (One line change) = IsOneLine answer line.items change
+IsReply s answer (Many l) = answer ≡ Ok (listing l)
+IsReply s answer (Clients name u) = answer ≡ Ok (listing_of_clients (client_listing name (addresses_at u s.clients)))

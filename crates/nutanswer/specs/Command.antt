@@ -7,7 +7,7 @@ use Rattle.nutwords.specs.declared.faults.BadLine.{BadLine}
 use Rattle.nutusers.specs.Credentials.{read_user_name, read_password}
 use Rattle.nutdriver.specs.Spelling.{is_word}
 use Rattle.nutanswer.specs.declared.command.Command.{Command}
-use Rattle.nutanswer.specs.declared.command.Command.TheVariants.{Username, Password, Login, Logout, Primary, Fsd, SetVar, InstCmd, GetVar, GetType, GetDesc, GetCmdDesc, GetUpsDesc, GetNumLogins, ListUps, ListVar, ListRw, ListCmd, ListEnum, ListRange, Help, Ver, NetVer, ProtVer, StartTls}
+use Rattle.nutanswer.specs.declared.command.Command.TheVariants.{Username, Password, Login, Logout, Primary, Fsd, SetVar, InstCmd, GetVar, GetType, GetDesc, GetCmdDesc, GetUpsDesc, GetNumLogins, ListUps, ListVar, ListRw, ListCmd, ListEnum, ListRange, ListClient, Help, Ver, NetVer, ProtVer, StartTls}
 use Rattle.nutanswer.specs.declared.err_word.ErrWord.{ErrWord}
 use Rattle.nutanswer.specs.declared.err_word.ErrWord.TheVariants.{InvalidArgument, UnknownCommand}
 
@@ -89,6 +89,7 @@ list_of kind words =
     else if is_word kind (codes "CMD") then command_with (λ ups. ListCmd ups) (ups_alone words)
     else if is_word kind (codes "ENUM") then command_with (λ a. ListEnum a.0 a.1) (ups_and_name words)
     else if is_word kind (codes "RANGE") then command_with (λ a. ListRange a.0 a.1) (ups_and_name words)
+    else if is_word kind (codes "CLIENT") then command_with (λ ups. ListClient ups) (ups_alone words)
     else Err InvalidArgument
 
 abbrev pub read_list : List (List ℕ) → Result Command ErrWord

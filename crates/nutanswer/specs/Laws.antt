@@ -7,7 +7,7 @@ use Rattle.nutanswer.specs.declared.command.Command.{Command}
 use Rattle.nutanswer.specs.declared.err_word.ErrWord.{ErrWord}
 use Rattle.nutanswer.specs.declared.reply.Change.TheVariants.{Nothing, Order}
 use Rattle.nutanswer.specs.View.{Seen, AskerSeen, UpsSeen}
-use Rattle.nutanswer.specs.Answer.{Answer, one_line, listing, answer_to, change_of_answer}
+use Rattle.nutanswer.specs.Answer.{Answer, one_line, listing, listing_of_clients, answer_to, change_of_answer}
 
 -- The first word is OK.
 abbrev pub begins_with_ok : List (List ℕ) → Bool
@@ -19,6 +19,7 @@ abbrev pub is_ok_line : Result Answer ErrWord → Bool
 is_ok_line (Err word) = false
 is_ok_line (Ok (one_line words change)) = begins_with_ok words
 is_ok_line (Ok (listing l)) = false
+is_ok_line (Ok (listing_of_clients l)) = false
 
 -- A refused line changes nothing.
 abbrev pub RefusedLinesChangeNothing : Type 0

@@ -11,10 +11,11 @@ use Rattle.nutanswer.specs.declared.known.KnownCommand.{KnownCommand}
 use Rattle.nutanswer.specs.declared.command.Command.{Command}
 use Rattle.nutanswer.specs.declared.reply.Change.TheVariants.{Nothing}
 use Rattle.nutanswer.specs.declared.reply.Reply.{Reply}
+use Rattle.nutanswer.specs.declared.reply.Reply.TheVariants.{One, Many, Clients}
 use Rattle.nutlisting.specs.Shown.{ups_description}
 use Rattle.nutanswer.specs.View.{Seen, AskerSeen, ups_seen}
 use Rattle.nutanswer.specs.Checks.{◌>>=◌, ◌>>◌, KnownUps, unknown_ups, live, var_not_supported, cmd_not_supported, readonly, too_long, invalid_value}
-use Rattle.nutanswer.specs.Answer.{Answer, answer_to, IsOneLine, IsReply}
+use Rattle.nutanswer.specs.Answer.{Answer, listing, answer_to, IsOneLine}
 
 -- The UPS that was found.
 abbrev pub known_ups : Known → KnownUps
@@ -63,9 +64,15 @@ settable x word = do
   invalid_value x value
   Ok value
 
+-- The reply carries the whole answer, as each does but that of a listing of clients.
+abbrev pub CarriesAnswer : Result Answer ErrWord → Reply → Type 0
+CarriesAnswer answer (One line change) = IsOneLine answer line.items change
+CarriesAnswer answer (Many l) = answer ≡ Ok (listing l)
+CarriesAnswer answer (Clients name u) = ⊥
+
 -- The reply gives this answer, or the word of its error.
 abbrev pub Gives : Result Answer ErrWord → Result Reply ErrWord → Type 0
-Gives answer (Ok reply) = IsReply answer reply
+Gives answer (Ok reply) = CarriesAnswer answer reply
 Gives answer (Err word) = answer ≡ Err word
 
 -- A session that has given nothing.

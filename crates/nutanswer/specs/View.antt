@@ -1,5 +1,5 @@
 -- What an answer may look at of a server, and of the session that asks.
-use Rattle.std.specs.Prelude.{ℕ, ◌-◌, ◌==◌, Bool, false, not, ◌||◌, nat_lt, count_by, List, Option, if◌then◌else◌}
+use Rattle.std.specs.Prelude.{ℕ, ◌-◌, ◌==◌, Bool, false, not, ◌||◌, nat_lt, count_by, map, filter, List, Option, if◌then◌else◌}
 use Rattle.std.specs.Option.{option_copied, option_map_or}
 use Rattle.nutdriver.specs.declared.report.Report.{Report}
 use Rattle.nutusers.specs.UpsList.{Ups}
@@ -50,6 +50,10 @@ is_logged_in u client = option_map_or (λ v. v.place == u.place) client.login fa
 -- How many of the sessions are logged in to the UPS.
 abbrev pub login_count : UpsId → List ClientSeen → ℕ
 login_count u clients = count_by (is_logged_in u) clients
+
+-- The addresses of those that are, in the order of opening.
+abbrev pub addresses_at : UpsId → List ClientSeen → List (List ℕ)
+addresses_at u clients = map (λ client. client.address) (filter (is_logged_in u) clients)
 
 -- Whether clients are told what the driver has reported.
 pub data Readiness : Type 0 where

@@ -4,7 +4,7 @@ ghost use Rattle.std.specs.List.{list_all};
 ghost use Rattle.nutwords.specs.Bytes.{is_lawful};
 ghost use Rattle.nutanswer.specs.View.{asker_seen};
 ghost use Rattle.nutanswer.specs.Answer.{answer_to, shares_version, told, Answer, IsReply};
-ghost use Rattle.nutanswer.specs.Leaf.{Gives, IsLineOf, row};
+ghost use Rattle.nutanswer.specs.Leaf.{CarriesAnswer, Gives, IsLineOf, row};
 ghost use Rattle.nutanswer.specs.declared.command.Command.TheVariants.{GetVar, GetType, GetDesc, GetCmdDesc, GetUpsDesc, ListVar, ListRw, ListCmd, ListEnum, ListRange};
 
 mod orders;
@@ -24,7 +24,8 @@ use std::alloc::AllocError;
 /// `AllocError` where a listing is due that shares a version, and memory is refused.
 pub fn answer<V: View>(view: &V, asker: Asker<'_>, command: &Command) -> Result<Reply, AllocError>
     ensures ok { IfOk result
-        (IsReply (answer_to (V.seen view.now) (asker_seen asker.entry) command.now)) }
+        (IsReply (V.seen view.now)
+            (answer_to (V.seen view.now) (asker_seen asker.entry) command.now)) }
     ensures memory { OnErr result
         (IsTrue (shares_version (answer_to (V.seen view.now) (asker_seen asker.entry) command.now))) }
 {
@@ -53,6 +54,7 @@ pub fn answer<V: View>(view: &V, asker: Asker<'_>, command: &Command) -> Result<
         Command::ListCmd(ups) => list_cmd(view, ups),
         Command::ListEnum(ups, name) => list_enum(view, ups, name),
         Command::ListRange(ups, name) => list_range(view, ups, name),
+        Command::ListClient(ups) => Ok(session::list_client(view, ups)),
         Command::Help => Ok(plain(
             b"Commands: HELP VER NETVER PROTVER GET LIST SET INSTCMD LOGIN LOGOUT PRIMARY FSD USERNAME PASSWORD STARTTLS",
         )),
@@ -122,7 +124,8 @@ fn get_ups_desc<V: View>(view: &V, ups: &Option<UpsName>) -> Result<Line, ErrWor
 
 /// A line that was found, or the line of the error.
 fn one(found: Result<Line, ErrWord>) -> Reply
-    ensures { (answer : Result Answer ErrWord) → IsLineOf answer found → IsReply answer result }
+    ensures { (answer : Result Answer ErrWord)
+        → IsLineOf answer found → CarriesAnswer answer result }
 {
     match found {
         Ok(line) => Reply::One(line, Change::Nothing),
@@ -132,7 +135,8 @@ fn one(found: Result<Line, ErrWord>) -> Reply
 
 /// A reply, or the line of the error.
 fn given(found: Result<Reply, ErrWord>) -> Reply
-    ensures { (answer : Result Answer ErrWord) → Gives answer found → IsReply answer result }
+    ensures { (answer : Result Answer ErrWord)
+        → Gives answer found → CarriesAnswer answer result }
 {
     match found {
         Ok(reply) => reply,
@@ -142,7 +146,8 @@ fn given(found: Result<Reply, ErrWord>) -> Reply
 
 /// The line of an error.
 fn refused(word: ErrWord) -> Reply
-    ensures { (answer : Result Answer ErrWord) → answer ≡ Err word → IsReply answer result }
+    ensures { (answer : Result Answer ErrWord)
+        → answer ≡ Err word → CarriesAnswer answer result }
 {
     Reply::One(error_line(word), Change::Nothing)
 }
@@ -151,14 +156,15 @@ fn refused(word: ErrWord) -> Reply
 fn plain(text: &[u8]) -> Reply
     requires short { length text.now ≤ 128 }
     requires lawful { IsTrue (list_all is_lawful text.now) }
-    ensures { IsReply (told (text.now ∷ [])) result }
+    ensures { CarriesAnswer (told (text.now ∷ [])) result }
 {
     Reply::One(plain_line(text), Change::Nothing)
 }
 
 /// LIST VAR.
 fn list_var<V: View>(view: &V, ups: &Option<UpsName>) -> Result<Reply, AllocError>
-    ensures ok { IfOk result (IsReply (row (V.seen view.now) (ListVar ups.now))) }
+    ensures ok { IfOk result (CarriesAnswer
+        (row (V.seen view.now) (ListVar ups.now))) }
     ensures memory { OnErr result
         (IsTrue (shares_version (row (V.seen view.now) (ListVar ups.now)))) }
 {
@@ -173,7 +179,8 @@ fn list_var<V: View>(view: &V, ups: &Option<UpsName>) -> Result<Reply, AllocErro
 
 /// LIST RW.
 fn list_rw<V: View>(view: &V, ups: &Option<UpsName>) -> Result<Reply, AllocError>
-    ensures ok { IfOk result (IsReply (row (V.seen view.now) (ListRw ups.now))) }
+    ensures ok { IfOk result (CarriesAnswer
+        (row (V.seen view.now) (ListRw ups.now))) }
     ensures memory { OnErr result
         (IsTrue (shares_version (row (V.seen view.now) (ListRw ups.now)))) }
 {
@@ -188,7 +195,8 @@ fn list_rw<V: View>(view: &V, ups: &Option<UpsName>) -> Result<Reply, AllocError
 
 /// LIST CMD.
 fn list_cmd<V: View>(view: &V, ups: &Option<UpsName>) -> Result<Reply, AllocError>
-    ensures ok { IfOk result (IsReply (row (V.seen view.now) (ListCmd ups.now))) }
+    ensures ok { IfOk result (CarriesAnswer
+        (row (V.seen view.now) (ListCmd ups.now))) }
     ensures memory { OnErr result
         (IsTrue (shares_version (row (V.seen view.now) (ListCmd ups.now)))) }
 {
@@ -206,7 +214,8 @@ fn list_enum<V: View>(
     ups: &Option<UpsName>,
     name: &Option<Name>,
 ) -> Result<Reply, AllocError>
-    ensures ok { IfOk result (IsReply (row (V.seen view.now) (ListEnum ups.now name.now))) }
+    ensures ok { IfOk result (CarriesAnswer
+        (row (V.seen view.now) (ListEnum ups.now name.now))) }
     ensures memory { OnErr result
         (IsTrue (shares_version (row (V.seen view.now) (ListEnum ups.now name.now)))) }
 {
@@ -225,7 +234,8 @@ fn list_range<V: View>(
     ups: &Option<UpsName>,
     name: &Option<Name>,
 ) -> Result<Reply, AllocError>
-    ensures ok { IfOk result (IsReply (row (V.seen view.now) (ListRange ups.now name.now))) }
+    ensures ok { IfOk result (CarriesAnswer
+        (row (V.seen view.now) (ListRange ups.now name.now))) }
     ensures memory { OnErr result
         (IsTrue (shares_version (row (V.seen view.now) (ListRange ups.now name.now)))) }
 {

@@ -58,6 +58,8 @@ pub enum Command {
     ListEnum(Option<UpsName>, Option<Name>),
     /// `LIST RANGE`: the ranges of numbers that a variable may have.
     ListRange(Option<UpsName>, Option<Name>),
+    /// `LIST CLIENT`: the clients that are logged in to a UPS.
+    ListClient(Option<UpsName>),
     /// `HELP`: the commands that there are.
     Help,
     /// `VER`: the version of the server.
@@ -229,6 +231,9 @@ impl Command {
         } else if kind.eq_ignore_ascii_case(b"RANGE") {
             let (ups, name) = ups_and_name(words)?;
             Ok(Command::ListRange(ups, name))
+        } else if kind.eq_ignore_ascii_case(b"CLIENT") {
+            let ups = ups_alone(words)?;
+            Ok(Command::ListClient(ups))
         } else {
             Err(ErrWord::InvalidArgument)
         }

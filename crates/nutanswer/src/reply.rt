@@ -1,7 +1,7 @@
 //! The answer to a command.
 use crate::Listing;
 use nutusers::{Password, UpsId, UserName};
-use nutwords::Line;
+use nutwords::{Line, UpsName};
 
 /// What a command changes.
 #[derive(Debug, PartialEq, Eq, Drop)]
@@ -29,4 +29,7 @@ pub enum Reply {
     One(Line, Change),
     /// A listing (RFC 9271: LIST). No command that is answered so changes anything.
     Many(Listing),
+    /// The listing of the clients that are logged in to this UPS, of this name (RFC 9271: LIST CLIENT). It isn't
+    /// carried here: who is asked for it copies their addresses. It changes nothing.
+    Clients(UpsName, UpsId),
 }

@@ -103,7 +103,7 @@ impl Listing {
     pub(crate) fn of_clients(ups: &UpsName, clients: Clients) -> Listing
         ensures { result ≡ client_listing ups.now clients }
     {
-        let content = Content::Clients(clients::ups_name_copied(ups), clients);
+        let content = Content::Clients(ups.copied(), clients);
         Listing { content }
     }
 

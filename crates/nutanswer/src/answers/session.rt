@@ -2,9 +2,10 @@
 ghost use Rattle.std.specs.Prelude.{◌≡◌, ◌∷◌, [], Ok, codes};
 ghost use Rattle.nutanswer.specs.View.{Seen, AskerSeen, asker_seen};
 ghost use Rattle.nutanswer.specs.Answer.{answer_to, one_line, ok, IsReply};
-ghost use Rattle.nutanswer.specs.Leaf.{Gives, IsLineOf, row};
-ghost use Rattle.nutanswer.specs.declared.command.Command.TheVariants.{Username, Password, Login, Logout, Primary, Fsd, GetNumLogins};
+ghost use Rattle.nutanswer.specs.Leaf.{CarriesAnswer, Gives, IsLineOf, row};
+ghost use Rattle.nutanswer.specs.declared.command.Command.TheVariants.{Username, Password, Login, Logout, Primary, Fsd, GetNumLogins, ListClient};
 
+use super::refused;
 use crate::checks::{known_ups, user};
 use crate::{Asker, Change, ErrWord, Reply, View};
 use nutlisting::{count_line, plain_line};
@@ -61,7 +62,7 @@ pub(crate) fn login<V: View>(
 
 /// LOGOUT.
 pub(crate) fn logout() -> Reply
-    ensures { (s : Seen) (a : AskerSeen) → IsReply (answer_to s a Logout) result }
+    ensures { (s : Seen) (a : AskerSeen) → CarriesAnswer (answer_to s a Logout) result }
 {
     Reply::One(plain_line(b"OK Goodbye"), Change::Ending)
 }
@@ -102,9 +103,19 @@ pub(crate) fn get_num_logins<V: View>(view: &V, ups: &Option<UpsName>) -> Result
     Ok(count_line(ups.name, view.login_count(ups.id)))
 }
 
+/// LIST CLIENT.
+pub(crate) fn list_client<V: View>(view: &V, ups: &Option<UpsName>) -> Reply
+    ensures { IsReply (V.seen view.now) (row (V.seen view.now) (ListClient ups.now)) result }
+{
+    match known_ups(view, ups) {
+        Ok(ups) => Reply::Clients(ups.name.copied(), ups.id),
+        Err(word) => refused(word),
+    }
+}
+
 /// The bare OK, of a command that changes this.
 pub(crate) fn ok(change: Change) -> Reply
-    ensures { IsReply (Ok (one_line ok change)) result }
+    ensures { CarriesAnswer (Ok (one_line ok change)) result }
 {
     Reply::One(plain_line(b"OK"), change)
 }

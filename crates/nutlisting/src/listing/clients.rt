@@ -2,7 +2,7 @@
 ghost use Rattle.std.specs.Prelude.{◌≡◌, ◌≤◌, [], length, IfOk};
 ghost use Rattle.nutlisting.specs.declared.listing.clients.TheConstants.{SESSION_LIMIT};
 
-use nutwords::{Address, Name, UpsName};
+use nutwords::Address;
 use std::alloc::{AllocError, Global};
 use std::marker::Model;
 
@@ -50,28 +50,7 @@ impl Clients {
     {
         self.addresses.clear();
         for address in addresses {
-            self.addresses.push(address_copied(address)).unwrap();
+            self.addresses.push(address.copied()).unwrap();
         }
     }
-}
-
-/// An equal name. It takes no memory.
-pub(crate) fn name_copied(name: &Name) -> Name
-    ensures { result ≡ name.now }
-{
-    Name::read(name.as_bytes()).unwrap()
-}
-
-/// An equal name of a UPS. It takes no memory.
-pub(crate) fn ups_name_copied(name: &UpsName) -> UpsName
-    ensures { result ≡ name.now }
-{
-    UpsName::read(name.as_bytes()).unwrap()
-}
-
-/// An equal address. It takes no memory.
-fn address_copied(address: &Address) -> Address
-    ensures { result ≡ address.now }
-{
-    Address::read(address.as_bytes()).unwrap()
 }

@@ -9,7 +9,6 @@ ghost use Rattle.nutlisting.specs.Places.{items_past, IsFirst};
 ghost use Rattle.nutlisting.specs.declared.listing.place.Place.TheVariants.{After, Items};
 
 use super::Content;
-use super::clients::name_copied;
 use crate::lines::{
     client_line_into, command_line_into, range_line_into, ups_line_into, value_line_into,
     variable_line_into,
@@ -85,7 +84,7 @@ fn variable_after(
         return None;
     };
     variable_line_into(b"VAR", ups, fsd, name, variable, line);
-    Some(name_copied(name))
+    Some(name.copied())
 }
 
 /// Makes the line of the variable after a name that clients may set, and answers its name.
@@ -104,7 +103,7 @@ fn rw_after(
         return None;
     };
     variable_line_into(b"RW", ups, fsd, name, variable, line);
-    Some(name_copied(name))
+    Some(name.copied())
 }
 
 /// The variable after a name that clients may set.
@@ -145,7 +144,7 @@ fn command_after(
         return None;
     };
     command_line_into(ups, name, line);
-    Some(name_copied(name))
+    Some(name.copied())
 }
 
 /// Makes the line of the UPS after so many.
