@@ -13,7 +13,7 @@ use Rattle.nutanswer.specs.Command.{read_command}
 use Rattle.nutanswer.specs.View.{Readiness, readiness, usable}
 use Rattle.nutlisting.specs.Items.{ListingState, variable_listing}
 use Rattle.nutanswer.specs.Checks.{◌>>=◌, ◌>>◌, KnownUps, ups_named, live, driver_not_connected, data_stale}
-use Rattle.nutanswer.specs.Answer.{Answer, one_line, answer_to, listing, text_of_answer, change_of_answer}
+use Rattle.nutanswer.specs.Answer.{Answer, one_line, answer_to, listing, listing_of_clients, text_of_answer, change_of_answer}
 use Rattle.std.specs.Option.{ok_or}
 use Rattle.nutcore.specs.Server.{ServerState}
 use Rattle.nutcore.specs.Reply.{seen, asker, reply, text_to}
@@ -59,6 +59,7 @@ ok_text (Ok (one_line (first ∷ words) change)) ok e =
     let same : first ≡ codes "OK" = (bytes_eq-Decides first (codes "OK")).0 ok in
     ok_line words (ap (λ (w : List ℕ). starts_with nat_eq (line_of (w ∷ words)) (codes "ERR")) (sym same) ∙ e)
 ok_text (Ok (listing l)) ok e = cc ok
+ok_text (Ok (listing_of_clients l)) ok e = cc ok
 
 -- so what begins with ERR changes nothing
 pub refused_change : (s : ServerState) (c : ℕ) (r : Result (Option Command) ErrWord) → starts_with nat_eq (text_to s c r) (codes "ERR") ≡ true → change_by s c r ≡ Nothing

@@ -97,6 +97,7 @@ module _ (s : Seen) (asker : AskerSeen) (P : Command → Change → Type 0) (no 
   rows (GetCmdDesc ups v) = found (P (GetCmdDesc ups v)) (no _) (unknown_ups s ups) _ (λ u. found (P (GetCmdDesc ups v)) (no _) (cmd_not_lawful v) _ (λ n. no _))
   rows (GetUpsDesc ups) = found (P (GetUpsDesc ups)) (no _) (unknown_ups s ups) _ (λ u. no _)
   rows (GetNumLogins ups) = found (P (GetNumLogins ups)) (no _) (unknown_ups s ups) _ (λ u. no _)
+  rows (ListClient ups) = found (P (ListClient ups)) (no _) (unknown_ups s ups) _ (λ u. no _)
   rows (ListVar ups) = found (P (ListVar ups)) (no _) (unknown_ups s ups) _ (λ u. held (P (ListVar ups)) (no _) (live s u) _ (no _))
   rows (ListRw ups) = found (P (ListRw ups)) (no _) (unknown_ups s ups) _ (λ u. held (P (ListRw ups)) (no _) (live s u) _ (no _))
   rows (ListCmd ups) = found (P (ListCmd ups)) (no _) (unknown_ups s ups) _ (λ u. held (P (ListCmd ups)) (no _) (live s u) _ (no _))

@@ -1,23 +1,24 @@
 -- What the private parts of a server promise one another.
-use Rattle.std.specs.Prelude.{◌≡◌, ◌<◌, ◌≤◌, ◌==◌, ℕ, Bool, true, false, List, Some, Result, Ok, Err, IsTrue, length, slice_get}
+use Rattle.std.specs.Prelude.{◌≡◌, ◌<◌, ◌≤◌, ◌==◌, ℕ, Bool, true, false, List, Some, Result, Ok, Err, IsTrue, length, map, slice_get}
 use Rattle.std.specs.List.{position_or_len}
 use Rattle.nutcore.specs.declared.event.Fault.{Fault}
 use Rattle.nutcore.specs.declared.event.Fault.TheVariants.{NoSuchUps, NoSuchClient, TooManyClients, TookTooMuch, NotConnected, AlreadyConnected, LineTooLong, Memory}
 use Rattle.std.specs.declared.alloc.AllocError.{AllocError}
 use Rattle.nutanswer.specs.declared.reply.Reply.{Reply as Answer}
-use Rattle.nutanswer.specs.declared.reply.Reply.TheVariants.{One, Many}
+use Rattle.nutanswer.specs.declared.reply.Reply.TheVariants.{One, Many, Clients}
 use Rattle.nutanswer.specs.declared.reply.Change.{Change}
 use Rattle.nutanswer.specs.declared.reply.Change.TheVariants.{Nothing, Order}
 use Rattle.arrayvec.specs.ArrayVec.{ArrayVec}
 use Rattle.nutlisting.specs.declared.outbox.TheConstants.{OWED_LIMIT}
 use Rattle.nutanswer.specs.Command.{read_command}
-use Rattle.nutlisting.specs.Items.{text_of}
+use Rattle.nutlisting.specs.Items.{text_of, client_listing}
+use Rattle.nutanswer.specs.View.{addresses_at}
 use Rattle.nutcore.specs.Session.{SessionState}
 use Rattle.nutcore.specs.Ups.{UpsState, with_bytes, free_room}
 use Rattle.nutcore.specs.Leaf.{IsFed, IsTaken}
 use Rattle.nutusers.specs.declared.ups_list.UpsId.{UpsId}
 use Rattle.nutcore.specs.Server.{ServerState, session, with_session, ups_at, with_ups_changed}
-use Rattle.nutcore.specs.Reply.{text_to, change_by, changed_session}
+use Rattle.nutcore.specs.Reply.{text_to, change_by, changed_session, seen_client}
 use Rattle.nutcore.specs.Pump.{pumped, after_all_lines, after_lines, is_overlong, wants_memory, shares_version_read, next_line_for, answered}
 
 -- where the session of this id stands
@@ -43,6 +44,8 @@ PumpGives old c (Err AlreadyConnected) new = ⊥
 -- the answer is that to the line: one line at most, which takes no memory, with what it changes, or the listing
 abbrev pub Replies : ServerState → ℕ → List ℕ → Answer → Type 0
 Replies s c line (One text change) = (shares_version_read s c (read_command line) ≡ false) × (text_to s c (read_command line) ≡ text.items) × (change_by s c (read_command line) ≡ change) × (length text.items ≤ OWED_LIMIT)
+Replies s c line (Clients name u) =
+    (shares_version_read s c (read_command line) ≡ false) × (text_to s c (read_command line) ≡ text_of (client_listing name (addresses_at u (map seen_client s.sessions)))) × (change_by s c (read_command line) ≡ Nothing)
 Replies s c line (Many listing) = (shares_version_read s c (read_command line) ≡ true) × (text_to s c (read_command line) ≡ text_of listing) × (change_by s c (read_command line) ≡ Nothing)
 
 -- an order fits in what its driver may still be owed
@@ -55,6 +58,7 @@ OrderFits change upses =
 abbrev pub IsText : List ℕ → Answer → Type 0
 IsText text (One line change) = (line.items ≡ text) × (change ≡ Nothing)
 IsText text (Many listing) = ⊥
+IsText text (Clients name u) = ⊥
 
 -- or memory was refused for a listing
 abbrev pub RepliesOrLacks : ServerState → ℕ → List ℕ → Result Answer AllocError → Type 0

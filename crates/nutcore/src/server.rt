@@ -15,25 +15,26 @@ ghost use Rattle.nutcore.specs.Ups.{UpsState};
 ghost use Rattle.nutcore.specs.Calls.{fed, done, opened_as, is_finished, room_of, owed_to, Reads, ReadsUps};
 ghost use Rattle.nutcore.specs.Serving.{IsAt, OrderFits, PumpGives, RepliesOrLacks, IsText, NextIs, IsAnswered, DriverFeedGives, DriverTakes, is_connected};
 ghost use Rattle.nutcore.specs.Reply.{asker, changed_upses, seen_client};
-ghost use Rattle.nutanswer.specs.View.{asker_seen, login_count};
+ghost use Rattle.nutanswer.specs.View.{asker_seen, login_count, addresses_at};
+ghost use Rattle.nutlisting.specs.declared.listing.clients.TheConstants.{SESSION_LIMIT};
 ghost use Rattle.nutanswer.specs.declared.reply.Change.TheVariants.{Nothing};
 ghost use Rattle.nutcore.specs.declared.TheConstants.{HELD_LIMIT};
 ghost use Rattle.nutlisting.specs.declared.outbox.TheConstants.{OWED_LIMIT};
 ghost use Rattle.nutlisting.specs.declared.ring.TheConstants.{RING_LIMIT};
 ghost use Rattle.nutwords.specs.declared.limits.TheConstants.{LINE_LIMIT, LINE_ROOM};
-ghost use Rattle.nutlisting.specs.Items.{text_of};
+ghost use Rattle.nutlisting.specs.Items.{text_of, client_listing};
 ghost use Rattle.nutcore.specs.declared.event.Outcome.TheVariants.{Fed};
 ghost use Rattle.nutcore.specs.contracts.server.Server.{the_row};
 
 use crate::scratch::Scratch;
-use nutlisting::SESSION_LIMIT;
+use nutlisting::{Clients, SESSION_LIMIT};
 use crate::event::{ClientId, Event, Fault, Outcome};
 use crate::max_age::MaxAge;
 use crate::session::Session;
 use crate::ups::Ups;
 use nutanswer::{Asker, Change, Command, Listing, Reply, UpsView, View, answer};
 use nutusers::{Descriptions, UpsId, UpsList, Users};
-use nutwords::{Address, Line};
+use nutwords::{Address, Line, UpsName};
 use std::alloc::{AllocError, Global};
 use std::marker::Model;
 
@@ -124,6 +125,7 @@ impl Server {
             upses.push(Ups::new(alloc)).unwrap();
         }
         let sessions = Vec::with_capacity(alloc, SESSION_LIMIT)?;
+        let scratch = Scratch::new(alloc)?;
         Ok(Server {
             alloc,
             moment: 0,
@@ -134,7 +136,7 @@ impl Server {
             upses,
             sessions,
             next_id: 1,
-            scratch: Scratch::new(),
+            scratch,
         })
     }
 
@@ -226,6 +228,20 @@ impl Server {
         session.answer_listing(listing, &mut self.scratch);
     }
 
+    /// Executes the next line, which is answered by the listing of the clients that are logged in to this UPS. Takes no
+    /// memory.
+    fn answer_clients(&mut self, c: ClientId, place: usize, name: &UpsName, u: UpsId)
+        requires at { IsAt c place self.old.sessions }
+        requires next { is_some (next_line_for self.old c) ≡ true }
+        ensures { IsAnswered self.old c
+            (text_of (client_listing name.now (addresses_at u (map seen_client self.old.sessions))))
+            Nothing self.new }
+    {
+        list_clients(&self.sessions, u, &mut self.scratch.clients);
+        let session = &mut self.sessions[place];
+        session.answer_clients(name, &mut self.scratch);
+    }
+
     /// Executes the next line. Without memory nothing changes.
     fn execute(
         &mut self,
@@ -247,6 +263,10 @@ impl Server {
             }
             Reply::Many(listing) => {
                 self.answer_listing(c, place, listing);
+                Ok(())
+            }
+            Reply::Clients(name, u) => {
+                self.answer_clients(c, place, &name, u);
                 Ok(())
             }
         }
@@ -712,6 +732,17 @@ fn login_count(sessions: &Vec<Session>, u: UpsId) -> usize
         count += session.logins(u);
     }
     count
+}
+
+/// Puts together the addresses of the sessions that are logged in to the UPS, in the order of opening.
+fn list_clients(sessions: &Vec<Session>, u: UpsId, clients: &mut Clients)
+    requires { length sessions.now.items ≤ SESSION_LIMIT }
+    ensures { clients.new ≡ addresses_at u (map seen_client sessions.now.items) }
+{
+    clients.clear();
+    for session in sessions.iter() {
+        session.list(u, clients);
+    }
 }
 
 /// A forced shutdown of the UPS is set, where there is such a UPS.

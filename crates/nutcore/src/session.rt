@@ -1,10 +1,11 @@
 //! One session: what it holds of its client's input, and what it owes.
-ghost use Rattle.std.specs.Prelude.{◌≡◌, ◌≤◌, ◌<◌, ◌-◌, ◌++◌, ℕ, List, length, drop, take, IfOk, OnOk, OnErr, MatchOption, true, false, Some, None, [], is_some, if◌then◌else◌};
+ghost use Rattle.std.specs.Prelude.{◌≡◌, ◌≤◌, ◌<◌, ◌-◌, ◌++◌, ℕ, List, length, drop, take, IfOk, OnOk, OnErr, MatchOption, true, false, Some, None, [], ◌∷◌, is_some, if◌then◌else◌};
 ghost use Rattle.nutcore.specs.Session.{new_session, begin_ending};
 ghost use Rattle.nutcore.specs.Lines.{first_line, behind};
 ghost use Rattle.nutcore.specs.Pump.{next_line, answered, is_overlong_of, notified};
 ghost use Rattle.nutcore.specs.Step.{accepted_bytes, accepted};
-ghost use Rattle.nutlisting.specs.Items.{text_of};
+ghost use Rattle.nutlisting.specs.Items.{text_of, client_listing};
+ghost use Rattle.nutlisting.specs.declared.listing.clients.TheConstants.{SESSION_LIMIT};
 ghost use Rattle.std.specs.Borrow.{sem};
 ghost use Rattle.std.specs.Io.BufRead.{Rests};
 ghost use Rattle.nutcore.specs.declared.TheConstants.{HELD_LIMIT};
@@ -14,15 +15,15 @@ ghost use Rattle.nutlisting.specs.declared.ring.TheConstants.{RING_LIMIT};
 ghost use Rattle.nutwords.specs.declared.limits.TheConstants.{LINE_LIMIT};
 ghost use Rattle.nutcore.specs.Calls.{is_finished, room_of};
 ghost use Rattle.nutcore.specs.Reply.{asker_of, seen_client, changed_session};
-ghost use Rattle.nutanswer.specs.View.{asker_seen, is_logged_in};
+ghost use Rattle.nutanswer.specs.View.{asker_seen, is_logged_in, addresses_at};
 
 use crate::lines::{drop_front, line_end};
 use crate::HELD_LIMIT;
 use crate::scratch::Scratch;
 use nutanswer::{Asker, Change};
-use nutlisting::{Listing, Outbox};
+use nutlisting::{Clients, Listing, Outbox};
 use nutusers::{Password, UpsId, UserName};
-use nutwords::Address;
+use nutwords::{Address, UpsName};
 use std::alloc::{AllocError, Global};
 use std::marker::Model;
 
@@ -101,6 +102,16 @@ impl Session {
         }
     }
 
+    /// Adds its address to the clients, where it is logged in to the UPS.
+    pub(crate) fn list(&self, u: UpsId, clients: &mut Clients)
+        requires { length clients.old < SESSION_LIMIT }
+        ensures { clients.new ≡ clients.old ++ addresses_at u (seen_client self.now ∷ []) }
+    {
+        if self.logins(u) == 1 {
+            clients.push(&self.address);
+        }
+    }
+
     /// Whether it is ending and owes nothing.
     pub(crate) fn is_finished(&self) -> bool
         ensures { result ≡ is_finished self.now }
@@ -170,6 +181,34 @@ impl Session {
         self.take_line();
     }
 
+    /// Takes the next line, and joins the listing of the clients in the scratch, who are those of this UPS, to what is
+    /// owed. Takes no memory.
+    pub(crate) fn answer_clients(&mut self, ups: &UpsName, scratch: &mut Scratch)
+        requires { is_some (next_line self.old) ≡ true }
+        ensures answered { (line : List ℕ) → next_line self.old ≡ Some line
+            → self.new ≡ answered line (text_of (client_listing ups.now scratch.old.clients)) self.old }
+        ensures id { self.new.id ≡ self.old.id }
+    {
+        self.owe_clients(ups, scratch);
+        self.take_line();
+    }
+
+    /// Joins the listing of these clients to what is owed.
+    fn owe_clients(&mut self, ups: &UpsName, scratch: &mut Scratch)
+        requires { length self.old.owed ≤ OWED_LIMIT }
+        ensures owes { self.new ≡ record self.old
+            { owed = self.old.owed ++ text_of (client_listing ups.now scratch.old.clients) } }
+        ensures id { self.new.id ≡ self.old.id }
+    {
+        let Scratch {
+            line,
+            renders,
+            clients,
+        } = scratch;
+        self.outbox
+            .accept_clients(ups, clients.addresses(), line, renders);
+    }
+
     /// Joins an answer of one line to what is owed.
     fn owe(&mut self, text: &[u8], scratch: &mut Scratch)
         requires ready { length self.old.owed ≤ OWED_LIMIT }
@@ -186,7 +225,7 @@ impl Session {
         ensures owes { self.new ≡ record self.old { owed = self.old.owed ++ text_of listing } }
         ensures id { self.new.id ≡ self.old.id }
     {
-        let Scratch { line, renders } = scratch;
+        let Scratch { line, renders, .. } = scratch;
         self.outbox.accept(listing, line, renders);
     }
 
@@ -266,7 +305,7 @@ impl Session {
         ensures takes { self.new ≡ record self.old { owed = drop n self.old.owed } }
     {
         let _ = self.outbox.offered();
-        let Scratch { line, renders } = scratch;
+        let Scratch { line, renders, .. } = scratch;
         self.outbox.take(n, line, renders);
     }
 }

@@ -14,8 +14,7 @@ mod place;
 mod tests;
 
 use crate::renders::Renders;
-pub(crate) use clients::Clients;
-pub use clients::SESSION_LIMIT;
+pub use clients::{Clients, SESSION_LIMIT};
 use nutdriver::Tree;
 use nutusers::UpsList;
 use nutwords::{Line, Name, UpsName};

@@ -1,5 +1,5 @@
 //! The clients of a UPS, as LIST CLIENT tells them.
-ghost use Rattle.std.specs.Prelude.{◌≡◌, ◌≤◌, [], length, IfOk};
+ghost use Rattle.std.specs.Prelude.{◌≡◌, ◌≤◌, ◌<◌, [], ◌∷◌, ◌++◌, length, IfOk};
 ghost use Rattle.nutlisting.specs.declared.listing.clients.TheConstants.{SESSION_LIMIT};
 
 use nutwords::Address;
@@ -11,7 +11,7 @@ pub const SESSION_LIMIT: usize = 64;
 
 /// The addresses of at most 64 clients. There is room for all of them once it is made.
 #[derive(Drop)]
-pub(crate) struct Clients {
+pub struct Clients {
     addresses: Vec<Address>,
 }
 
@@ -28,7 +28,11 @@ impl Model for Clients {
 
 impl Clients {
     /// None. Only here it asks for memory.
-    pub(crate) fn new(alloc: Global) -> Result<Clients, AllocError>
+    ///
+    /// # Errors
+    ///
+    /// `AllocError` where memory is refused.
+    pub fn new(alloc: Global) -> Result<Clients, AllocError>
         ensures { IfOk result (λ clients. clients ≡ []) }
     {
         let addresses = Vec::with_capacity(alloc, SESSION_LIMIT)?;
@@ -36,11 +40,26 @@ impl Clients {
     }
 
     /// The addresses.
-    pub(crate) fn addresses(&self) -> &[Address]
+    pub fn addresses(&self) -> &[Address]
         ensures value { result.now ≡ self.now }
         ensures few { length result.now ≤ SESSION_LIMIT }
     {
         self.addresses.as_slice()
+    }
+
+    /// Holds no clients.
+    pub fn clear(&mut self)
+        ensures { self.new ≡ [] }
+    {
+        self.addresses.clear();
+    }
+
+    /// Holds this client, copied, behind those before. Takes no memory.
+    pub fn push(&mut self, address: &Address)
+        requires { length self.old < SESSION_LIMIT }
+        ensures { self.new ≡ self.old ++ address.now ∷ [] }
+    {
+        self.addresses.push(address.copied()).unwrap();
     }
 
     /// Holds these clients, in place of those before.

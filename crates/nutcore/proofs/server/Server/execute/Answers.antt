@@ -1,9 +1,11 @@
-use Rattle.std.proofs.Common.{◌≡◌, ◌∙◌, Result, Ok, sym, ap, subst, refl, List, ℕ}
+use Rattle.std.proofs.Common.{◌≡◌, ◌∙◌, Result, Ok, sym, ap, subst, refl, List, ℕ, map}
 use Rattle.std.specs.declared.alloc.AllocError.{AllocError}
 use Rattle.nutanswer.specs.declared.reply.Reply.{Reply}
-use Rattle.nutanswer.specs.declared.reply.Reply.TheVariants.{One, Many}
+use Rattle.nutanswer.specs.declared.reply.Reply.TheVariants.{One, Many, Clients}
 use Rattle.nutanswer.specs.declared.reply.Change.TheVariants.{Nothing}
-use Rattle.nutlisting.specs.Items.{text_of}
+use Rattle.nutlisting.specs.Items.{text_of, client_listing}
+use Rattle.nutanswer.specs.View.{addresses_at}
+use Rattle.nutcore.specs.Reply.{seen_client}
 use Rattle.nutcore.specs.Serving.{Replies, RepliesOrLacks}
 use Rattle.nutcore.proofs.Serving.{line_is}
 use Rattle.nutanswer.specs.Command.{read_command}
@@ -30,3 +32,10 @@ returns-in-Many-clause-ok c =
     let e : c.args.reply ≡ Ok (Many c.in-Many.listing) = c.in_ok-text.was ∙ ap (λ (r : Reply). Ok r) c.in-Many.is in
     let told : Replies c.args.self.now c.args.c line (Many c.in-Many.listing) = subst (λ (r : Result Reply AllocError). RepliesOrLacks c.args.self.now c.args.c line r) e c.requires.next.2 in
     line_is c.args.self.now c.args.self.now c.answer_listing.new.self c.args.c line (text_of c.in-Many.listing) Nothing c.requires.next.1 told.1 told.2 refl c.answer_listing.ensures
+
+pub returns-in-Clients-clause-ok : goal.returns-in-Clients-clause-ok
+returns-in-Clients-clause-ok c =
+    let line : List ℕ = c.requires.next.0 in
+    let e : c.args.reply ≡ Ok (Clients c.in-Clients.name c.in-Clients.u) = c.in_ok-text.was ∙ ap (λ (r : Reply). Ok r) c.in-Clients.is in
+    let told : Replies c.args.self.now c.args.c line (Clients c.in-Clients.name c.in-Clients.u) = subst (λ (r : Result Reply AllocError). RepliesOrLacks c.args.self.now c.args.c line r) e c.requires.next.2 in
+    line_is c.args.self.now c.args.self.now c.answer_clients.new.self c.args.c line (text_of (client_listing c.in-Clients.name (addresses_at c.in-Clients.u (map seen_client c.args.self.now.sessions)))) Nothing c.requires.next.1 told.1 told.2 refl c.answer_clients.ensures

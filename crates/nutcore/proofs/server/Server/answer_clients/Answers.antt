@@ -1,0 +1,44 @@
+use Rattle.std.proofs.Common.{◌≡◌, ◌∙◌, Some, sym, ap, List, ℕ, subst, set, map}
+use Rattle.nutcore.specs.Session.{SessionState}
+use Rattle.nutcore.specs.Server.{ServerState, session}
+use Rattle.nutcore.specs.Serving.{IsAt, IsAnswered}
+use Rattle.nutcore.specs.contracts.server.Server.{the_view}
+use Rattle.nutcore.proofs.Found.{find_id}
+use Rattle.nutcore.proofs.Serving.{found_in, goes, apart_set, answered_is}
+use Rattle.nutlisting.specs.Items.{text_of, client_listing}
+use Rattle.nutanswer.specs.View.{addresses_at}
+use Rattle.nutcore.specs.Reply.{seen_client}
+use Rattle.nutcore.specs.Pump.{answered}
+use Rattle.nutanswer.specs.declared.reply.Change.TheVariants.{Nothing}
+use Rattle.nutcore.proofs.server.Server.answer_clients.Goals as goal
+
+pub answer_clients-requires : goal.answer_clients-requires
+answer_clients-requires c =
+    let x : SessionState = c.index_mut-session.result.now in
+    let found : session c.args.c c.args.self.now ≡ Some x = found_in c.args.c c.args.place (the_view c.self.inside) c.args.self.now x c.self.view_is c.requires.at c.index_mut-session.ensures.value in
+    goes c.args.self.now c.args.c x found c.requires.next
+
+pub invariant_of-self : goal.invariant_of-self
+invariant_of-self c =
+    let v : ServerState = the_view c.self.inside in
+    let x : SessionState = c.index_mut-session.result.now in
+    let at : IsAt c.args.c c.args.place v.sessions = subst (λ (z : ServerState). IsAt c.args.c c.args.place z.sessions) (sym c.self.view_is) c.requires.at in
+    let found : session c.args.c v ≡ Some x = ap (session c.args.c) c.self.view_is ∙ found_in c.args.c c.args.place v c.args.self.now x c.self.view_is c.requires.at c.index_mut-session.ensures.value in
+    record {
+      apart = apart_set c.self.inside.next_id c.args.c c.args.place c.self.inside.sessions.items c.answer_clients.new.self at (c.answer_clients.ensures.id ∙ find_id c.args.c v.sessions x found) c.self.invariant.apart;
+      room = c.self.invariant.room;
+      few = c.self.invariant.few;
+      named = c.self.invariant.named;
+    }
+
+pub returns : goal.returns
+returns c =
+    let v : ServerState = the_view c.self.inside in
+    let x : SessionState = c.index_mut-session.result.now in
+    let y : SessionState = c.answer_clients.new.self in
+    let at : IsAt c.args.c c.args.place v.sessions = subst (λ (z : ServerState). IsAt c.args.c c.args.place z.sessions) (sym c.self.view_is) c.requires.at in
+    let found : session c.args.c v ≡ Some x = ap (session c.args.c) c.self.view_is ∙ found_in c.args.c c.args.place v c.args.self.now x c.self.view_is c.requires.at c.index_mut-session.ensures.value in
+    let text : List ℕ = text_of (client_listing c.args.name.now (addresses_at c.args.u (map seen_client v.sessions))) in
+    let listed = ap (λ (addresses : List (List ℕ)). text_of (client_listing c.args.name.now addresses)) c.list_clients.ensures in
+    subst (λ (z : ServerState). let code : ServerState = record v { sessions = set v.sessions c.args.place y } in IsAnswered z c.args.c (text_of (client_listing c.args.name.now (addresses_at c.args.u (map seen_client z.sessions)))) Nothing code) c.self.view_is
+    (answered_is v c.args.c c.args.place text Nothing x y at found c.answer_clients.ensures.id (λ line h. c.answer_clients.ensures.answered line h ∙ ap (λ (t : List ℕ). answered line t x) listed))
