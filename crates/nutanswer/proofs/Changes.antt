@@ -1,5 +1,5 @@
 -- Rows of the table that change something are answered by OK.
-use Rattle.std.proofs.Common.{◌≡◌, ℕ, true, false, List, Result, Ok, Err, refl, ap}
+use Rattle.std.proofs.Common.{◌≡◌, true, false, Result, Ok, Err, refl, ap}
 use Rattle.nutanswer.specs.declared.command.Command.{Command}
 use Rattle.nutanswer.specs.declared.command.Command.TheVariants.{Username, Password, Login, Logout, Primary, Fsd, SetVar, InstCmd, GetVar, GetType, GetDesc, GetCmdDesc, GetUpsDesc, GetNumLogins, ListUps, ListVar, ListRw, ListCmd, ListEnum, ListRange, ListClient, Help, Ver, NetVer, ProtVer, StartTls}
 use Rattle.nutusers.specs.declared.rights.Right.TheVariants as rights

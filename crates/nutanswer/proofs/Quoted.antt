@@ -3,7 +3,6 @@ use Rattle.std.proofs.Common.{ℕ, ◌+◌, ◌*◌, ◌≤◌, Bool, true, fals
 use Rattle.std.specs.Prelude.{◌||◌, IsTrue}
 use Rattle.std.proofs.lemmas.Bool.Decides.{nat_tests}
 use Rattle.std.proofs.lemmas.Grind.{common_steps}
-use Rattle.nutwords.specs.Bytes.{is_lawful}
 use Rattle.nutwords.specs.Reading.{is_value}
 use Rattle.nutwords.specs.Spelling.{with_backslashes, quoted}
 

@@ -11,7 +11,7 @@ use Rattle.nutusers.specs.Users.{user_named, has_password}
 use Rattle.nutanswer.specs.declared.err_word.ErrWord.{ErrWord}
 use Rattle.nutanswer.specs.declared.err_word.ErrWord.TheVariants.{AccessDenied}
 use Rattle.nutanswer.specs.View.{Seen, AskerSeen}
-use Rattle.nutanswer.specs.Checks.{◌>>=◌, ◌>>◌, user, username_required, password_required, unless}
+use Rattle.nutanswer.specs.Checks.{◌>>=◌, user, username_required, password_required, unless}
 use Rattle.nutanswer.specs.Orders.{right_to}
 
 module _ (command : Bor (List ℕ)) where

@@ -1,5 +1,5 @@
 -- What is answered to a command (RFC 9271): one row a command, its checks from left to right, here from above, and then the answer and what it changes.
-use Rattle.std.specs.Prelude.{◌≡◌, ℕ, Bool, true, false, List, [], ◌∷◌, codes, Option, Some, Result, Ok, Err}
+use Rattle.std.specs.Prelude.{◌≡◌, ℕ, Bool, true, false, List, [], ◌∷◌, codes, Some, Result, Ok, Err}
 use Rattle.std.specs.Fmt.{decimal}
 use Rattle.nutwords.specs.Frame.{line_of}
 use Rattle.nutwords.specs.Spelling.{quoted}

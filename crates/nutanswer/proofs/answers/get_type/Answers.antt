@@ -1,4 +1,4 @@
-use Rattle.std.proofs.Common.{◌∷◌, refl, sym, ◌∙◌, ap}
+use Rattle.std.proofs.Common.{◌∷◌, sym, ◌∙◌, ap}
 use Rattle.std.specs.Prelude.{codes}
 use Rattle.nutanswer.specs.Answer.{told, shares_version, text_of_answer, change_of_answer}
 use Rattle.nutlisting.specs.Types.{type_words}
