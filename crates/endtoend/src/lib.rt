@@ -4,6 +4,8 @@
 #![tactic(auto)]
 
 pub mod laws;
+#[cfg(test)]
+mod tests;
 mod upsc;
 
 pub use upsc::print_what_is_held;
