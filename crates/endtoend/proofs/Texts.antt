@@ -28,6 +28,9 @@ text_some allowed most bytes h = grind (arith, nat_tests, common_steps)
 pub text_itself : (allowed : ℕ → Bool) (may_be_empty : Bool) (most : ℕ) (bytes : List ℕ) → is_ok (read_text allowed may_be_empty most bytes) ≡ true → read_text allowed may_be_empty most bytes ≡ Ok bytes
 text_itself allowed may_be_empty most bytes h = grind (arith, nat_tests, common_steps)
 
+pub text_same : (allowed : ℕ → Bool) (may_be_empty : Bool) (most : ℕ) (bytes read : List ℕ) → read_text allowed may_be_empty most bytes ≡ Ok read → bytes ≡ read
+text_same allowed may_be_empty most bytes read h = grind (arith, nat_tests, common_steps)
+
 name_byte-bare : (b : ℕ) → is_name_byte b ≡ true → is_bare b ≡ true
 name_byte-bare b h = grind (arith, nat_tests)
 

@@ -1,4 +1,4 @@
--- `upsc` over a session that is handed what the server answers.
+-- A program over a session that is handed what the server answers.
 use Rattle.std.specs.Prelude.{◌≡◌, ◌≢◌, ℕ, List, [], ◌++◌, false, Option, Some, Result, Ok, Err}
 use Rattle.std.specs.Io.KnownBytes.{Appends}
 use denote.Ref.{Bor}
@@ -17,10 +17,10 @@ use Rattle.nutreply.specs.declared.request.Request.TheVariants.{List as ListOf, 
 use Rattle.nutreply.specs.declared.session.Session.{Session}
 use Rattle.nutclient.specs.Job.{UpsPlace, job_of, parts_of}
 use Rattle.nutclient.specs.Target.{ups_place_of}
-use Rattle.nutclient.specs.declared.given.Given.TheVariants.{Variables, Variable, Upses, Descriptions}
+use Rattle.nutclient.specs.declared.given.Given.TheVariants.{Variables, Variable, Upses, Descriptions, Writable, Commands}
 use Rattle.nutclient.specs.declared.job.Job.{Job}
 use Rattle.endtoend.specs.Served.{IsLineOf, IsUsable, HasVariable, IsLawfulList}
-use Rattle.endtoend.specs.Printed.{variable_lines, name_lines, description_lines}
+use Rattle.endtoend.specs.Printed.{variable_lines, setting_lines, command_lines, name_lines, description_lines}
 
 -- A run of a program: the session and the output before it and after it, and the result.
 pub record ProgramRun (R W O : Type 0) : Type 0 where
@@ -64,6 +64,22 @@ module _ {R W O : Type 0} (remaining : R → Option (List ℕ)) (failures : R �
       → job_of (Variable words name) ≡ Some (parts_of job) → ups_place_of words.now ≡ Some place
       → IsUsable s place.0 known → HasVariable known name.now variable → IsLineOf (GetVar place.0 name.now) line
       → IsHanded ((reply s client line).text ++ more) r → IsPrinted (with_lf (shown known.state.fsd name.now variable)) r
+
+  -- `upsrw ups`, handed the answer to LIST RW, prints a line for each variable of the UPS that may be set.
+  abbrev pub PrintsTheSettings : Job → ProgramRun R W O → Type 0
+  PrintsTheSettings job r =
+      (s : ServerState) (client : ℕ) (words : Bor (List ℕ)) (place : UpsPlace) (line : List ℕ) (known : KnownUps) (more : List ℕ)
+      → job_of (Writable words) ≡ Some (parts_of job) → ups_place_of words.now ≡ Some place
+      → IsUsable s place.0 known → IsLineOf (ListOf (queries.Rw place.0)) line
+      → IsHanded ((reply s client line).text ++ more) r → IsPrinted (setting_lines known) r
+
+  -- `upscmd -l ups`, handed the answer to LIST CMD, prints a line for each command of the UPS.
+  abbrev pub PrintsTheCommands : Job → ProgramRun R W O → Type 0
+  PrintsTheCommands job r =
+      (s : ServerState) (client : ℕ) (words : Bor (List ℕ)) (place : UpsPlace) (line : List ℕ) (known : KnownUps) (more : List ℕ)
+      → job_of (Commands words) ≡ Some (parts_of job) → ups_place_of words.now ≡ Some place
+      → IsUsable s place.0 known → IsLineOf (ListOf (queries.Cmd place.0)) line
+      → IsHanded ((reply s client line).text ++ more) r → IsPrinted (command_lines known) r
 
   -- `upsc -l` and `upsc -L`, handed the answer to LIST UPS, print a line for each UPS of the server's list.
   abbrev pub PrintsTheNames : Job → ProgramRun R W O → Type 0

@@ -1,9 +1,11 @@
 -- What a client prints of what the server answers to it.
-use Rattle.std.specs.Prelude.{◌≡◌, ℕ, Bool, List, [], ◌∷◌, ◌++◌, codes}
+use Rattle.std.specs.Prelude.{◌≡◌, ℕ, Bool, List, [], ◌∷◌, ◌++◌, codes, filter, IsTrue}
 use Rattle.std.specs.List.{flat_map}
+use Rattle.nutwords.specs.Reading.{is_name, is_ups_name}
 use Rattle.nutwords.specs.Text.{with_lf}
 use Rattle.nutdriver.specs.Variable.{VariableState}
 use Rattle.nutusers.specs.UpsList.{Ups}
+use Rattle.nutlisting.specs.Items.{is_rw}
 use Rattle.nutlisting.specs.Shown.{shown, ups_description}
 use Rattle.nutanswer.specs.Checks.{KnownUps}
 use Rattle.nutcore.specs.Reply.{reply}
@@ -26,15 +28,41 @@ variable_lines known = flat_map (variable_line known.state.fsd) known.state.repo
 abbrev pub UpscPrintsTheVariables : Type 0
 UpscPrintsTheVariables =
     (s : ServerState) (client : ℕ) (ups line : List ℕ) (known : KnownUps) (more : List ℕ)
-    → IsUsable s ups known → IsLineOf (ListOf (queries.Var ups)) line
+    → IsTrue (is_ups_name ups) → IsUsable s ups known → IsLineOf (ListOf (queries.Var ups)) line
     → printed (ListOf (queries.Var ups) ∷ []) forms.Colon ((reply s client line).text ++ more) ≡ Prints (variable_lines known)
 
 -- `upsc ups variable`: the variable's value, as clients see it.
 abbrev pub UpscPrintsTheVariable : Type 0
 UpscPrintsTheVariable =
     (s : ServerState) (client : ℕ) (ups name line : List ℕ) (known : KnownUps) (variable : VariableState) (more : List ℕ)
-    → IsUsable s ups known → HasVariable known name variable → IsLineOf (GetVar ups name) line
+    → IsTrue (is_ups_name ups) → IsTrue (is_name name) → IsUsable s ups known → HasVariable known name variable → IsLineOf (GetVar ups name) line
     → printed (GetVar ups name ∷ []) forms.Value ((reply s client line).text ++ more) ≡ Prints (with_lf (shown known.state.fsd name variable))
+
+-- A line `name=value`.
+abbrev pub setting_line : Bool → List ℕ × VariableState → List ℕ
+setting_line fsd entry = with_lf (entry.0 ++ codes "=" ++ shown fsd entry.0 entry.1)
+
+-- Such a line for each variable that may be set, in the order of the names.
+abbrev pub setting_lines : KnownUps → List ℕ
+setting_lines known = flat_map (setting_line known.state.fsd) (filter is_rw known.state.report.tree.variables)
+
+-- `upsrw ups`
+abbrev pub UpsrwPrintsTheVariables : Type 0
+UpsrwPrintsTheVariables =
+    (s : ServerState) (client : ℕ) (ups line : List ℕ) (known : KnownUps) (more : List ℕ)
+    → IsTrue (is_ups_name ups) → IsUsable s ups known → IsLineOf (ListOf (queries.Rw ups)) line
+    → printed (ListOf (queries.Rw ups) ∷ []) forms.Equals ((reply s client line).text ++ more) ≡ Prints (setting_lines known)
+
+-- The name of each command of the UPS, in the order of the names.
+abbrev pub command_lines : KnownUps → List ℕ
+command_lines known = flat_map with_lf known.state.report.tree.commands
+
+-- `upscmd -l ups`
+abbrev pub UpscmdPrintsTheCommands : Type 0
+UpscmdPrintsTheCommands =
+    (s : ServerState) (client : ℕ) (ups line : List ℕ) (known : KnownUps) (more : List ℕ)
+    → IsTrue (is_ups_name ups) → IsUsable s ups known → IsLineOf (ListOf (queries.Cmd ups)) line
+    → printed (ListOf (queries.Cmd ups) ∷ []) forms.Name ((reply s client line).text ++ more) ≡ Prints (command_lines known)
 
 -- `upsc -l`: a line for each UPS of the server's list, its name.
 abbrev pub name_lines : List Ups → List ℕ

@@ -1,6 +1,6 @@
 -- A client's request at the server: its line, and what of the server it is about.
 use Rattle.std.specs.Prelude.{◌≡◌, ◌≤◌, ℕ, List, All, IfSome, IsTrue, Some, length}
-use Rattle.nutwords.specs.Reading.{is_name, is_ups_name}
+use Rattle.nutwords.specs.Reading.{is_ups_name}
 use Rattle.nutwords.specs.Text.{with_lf}
 use Rattle.nutdriver.specs.Sound.{IsSoundTree}
 use Rattle.nutdriver.specs.Tree.{variable_at}
@@ -21,15 +21,13 @@ IsLineOf request line = with_lf line ≡ request_line request
 
 -- Clients are told what the driver of the UPS of this name has reported. It is sound, as whatever a driver's lines have made is.
 pub record IsUsable (s : ServerState) (ups : List ℕ) (known : KnownUps) : Type 0 where
-  pub name : IsTrue (is_ups_name ups)
   pub named : ups_named (seen s) (Some ups) ≡ Some known
   pub ready : readiness s.moment s.max_age known.state.report ≡ usable
   pub sound : IsSoundTree known.state.report.tree
 
--- The UPS has this variable.
-pub record HasVariable (known : KnownUps) (name : List ℕ) (variable : VariableState) : Type 0 where
-  pub lawful : IsTrue (is_name name)
-  pub there : variable_at known.state.report.tree name ≡ Some variable
+-- The UPS has this variable of this name.
+abbrev pub HasVariable : KnownUps → List ℕ → VariableState → Type 0
+HasVariable known name variable = variable_at known.state.report.tree name ≡ Some variable
 
 -- A UPS as a list of UPSs has it: its name is lawful, and its description, if it has one.
 pub record IsLawfulUps (ups : Ups) : Type 0 where

@@ -1,6 +1,6 @@
 //! Laws over both ends: the server's `reply` and the client's `printed`, each as its own crate defines it.
 ghost use Rattle.endtoend.specs.Frames.{AFrameIsReadAsItsItems};
-ghost use Rattle.endtoend.specs.Printed.{UpscPrintsTheVariables, UpscPrintsTheVariable, UpscPrintsTheUpses};
+ghost use Rattle.endtoend.specs.Printed.{UpscPrintsTheVariables, UpscPrintsTheVariable, UpscPrintsTheUpses, UpsrwPrintsTheVariables, UpscmdPrintsTheCommands};
 
 use nutcore::a_listing_is_what_is_held;
 
@@ -27,4 +27,16 @@ pub fn upsc_prints_the_variable()
 /// list, in the order of the names.
 pub fn upsc_prints_the_upses()
     ensures { UpscPrintsTheUpses }
+{}
+
+/// `upsrw UPS`: what is printed of the server's answer to `LIST RW` is exactly one line `name=value` for each variable of
+/// the UPS that may be set, in the order of the names.
+pub fn upsrw_prints_the_variables()
+    ensures { UpsrwPrintsTheVariables }
+{}
+
+/// `upscmd -l UPS`: what is printed of the server's answer to `LIST CMD` is exactly one line for each command of the UPS,
+/// in the order of the names.
+pub fn upscmd_prints_the_commands()
+    ensures { UpscmdPrintsTheCommands }
 {}

@@ -4,8 +4,8 @@
 #![tactic(auto)]
 
 pub mod laws;
+mod program;
 #[cfg(test)]
 mod tests;
-mod upsc;
 
-pub use upsc::print_what_is_held;
+pub use program::print_what_is_held;

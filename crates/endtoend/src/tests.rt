@@ -1,5 +1,5 @@
-//! A server and `upsc` in one process: each line that `upsc` sends goes to the server, and what the server answers goes
-//! back, byte by byte.
+//! A server and a client in one process: the line that the client sends goes to the server, and what the server answers
+//! goes back, byte by byte.
 use crate::print_what_is_held;
 use nutclient::{Given, Job};
 use nutcore::{ClientId, Descriptions, MaxAge, Server, UpsList, Users};
@@ -14,6 +14,9 @@ use std::test::Fail;
 const REPORT: &[u8] = b"SETINFO ups.status \"OL\"
 SETINFO battery.charge 100
 SETINFO device.model \"Smart \\\"X\\\" \\\\ 5\"
+SETFLAGS battery.charge RW
+ADDCMD test.battery.start
+ADDCMD load.off
 DUMPDONE
 DATAOK
 ";
@@ -33,7 +36,7 @@ impl Read for Bytewise<'_> {
     }
 }
 
-/// What a run of `upsc` sent and printed, and how it ended.
+/// What a client sent and printed, and how it ended.
 #[derive(Drop)]
 struct Ran {
     sent: Vec<u8>,
@@ -41,7 +44,7 @@ struct Ran {
     ended: Result<(), ClientFault>,
 }
 
-/// Runs `upsc` over these bytes of the server.
+/// Runs the client over these bytes of the server.
 fn run_over(alloc: Global, given: &Given<'_>, answer: &[u8]) -> Result<Ran, Fail> {
     let job = Job::read(given).map_err(|_| "a lawful job")?;
     let mut sent = Vec::new(alloc);
@@ -71,7 +74,7 @@ fn server_of_su(alloc: Global) -> Result<(Server, ClientId), Fail> {
     Ok((server, client))
 }
 
-/// What `upsc` prints of what the server answers to the line that `upsc` sends.
+/// What the client prints of what the server answers to the line that it sends.
 fn printed(alloc: Global, given: &Given<'_>) -> Result<Vec<u8>, Fail> {
     let (mut server, client) = server_of_su(alloc)?;
     let asking = run_over(alloc, given, b"")?;
@@ -79,12 +82,12 @@ fn printed(alloc: Global, given: &Given<'_>) -> Result<Vec<u8>, Fail> {
     let mut answer = Vec::new(alloc);
     answer.extend_from_slice(server.offer(client)?)?;
     let ran = run_over(alloc, given, &answer)?;
-    ran.ended.map_err(|_| "upsc is done")?;
+    ran.ended.map_err(|_| "the client is done")?;
     Ok(ran.printed)
 }
 
 #[test]
-fn upsc_prints_what_the_server_holds(rt: HostRuntime) -> Result<(), Fail> {
+fn clients_print_what_the_server_holds(rt: HostRuntime) -> Result<(), Fail> {
     for (given, want) in [
         (
             Given::Variables { ups: "su" },
@@ -96,6 +99,11 @@ fn upsc_prints_what_the_server_holds(rt: HostRuntime) -> Result<(), Fail> {
                 name: "device.model",
             },
             "Smart \"X\" \\ 5\n",
+        ),
+        (Given::Writable { ups: "su" }, "battery.charge=100\n"),
+        (
+            Given::Commands { ups: "su" },
+            "load.off\ntest.battery.start\n",
         ),
         (Given::Upses { server: None }, "su\n"),
         (Given::Descriptions { server: None }, "su: Unavailable\n"),
