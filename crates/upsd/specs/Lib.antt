@@ -1,4 +1,6 @@
 pub mod Script
 pub mod Transcript
 pub mod ReplayFault
+pub mod Ending
+pub mod Files
 pub mod OneRun

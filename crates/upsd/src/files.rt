@@ -1,48 +1,55 @@
-//! The files that the program's words name, and why it ends.
-ghost use Rattle.std.specs.Prelude.{◌≡◌, ◌≢◌, ◌⊎◌, ◌∷◌, [], ℕ, List, codes, IfOk, IfErr, None};
+//! The files that the program's words name, and what their bytes mean.
+ghost use Rattle.std.specs.Prelude.{◌≡◌, ◌⊎◌, ◌∷◌, [], codes, IfOk, IfErr, IfSome, MatchOption, None, Some, Ok, option_map};
+ghost use Rattle.clap.specs.Words.{first_value};
+ghost use Rattle.clap.specs.Matches.{found_of};
 ghost use Rattle.nutwords.specs.Text.{lines_of};
-ghost use Rattle.nutusers.specs.File.{number_of_cause, Means};
-ghost use Rattle.nutusers.specs.UpsFile.{IsUpsList};
+ghost use Rattle.nutusers.specs.File.{Means};
+ghost use Rattle.nutusers.specs.UpsFile.{ups_format, adds_ups, IsUpsList};
 ghost use Rattle.nutusers.specs.UpsList.{new_ups};
-ghost use Rattle.nutusers.specs.UsersFile.{users_format, users_of};
-ghost use Rattle.nutusers.specs.DescriptionFile.{descriptions_format, descriptions_of};
+ghost use Rattle.nutusers.specs.UsersFile.{users_format, adds_to_users, users_of};
+ghost use Rattle.nutusers.specs.DescriptionFile.{descriptions_format, adds_text, descriptions_of};
 ghost use Rattle.nutusers.specs.Descriptions.{no_descriptions};
+ghost use Rattle.upsd.specs.Ending.{TellsRefusal};
+ghost use Rattle.upsd.specs.Files.{AreNamedIn};
 
-use crate::replay::{ReplayFault, replay};
+use crate::ending::{Ending, ended, ending_of_file};
+use crate::replay::replay;
+use clap::ArgMatches;
 use nutcore::{Descriptions, UpsList, Users};
-use nutusers::{Cause, ConfFault};
+use nutreply::CountedWriter;
 use nutwords::UpsName;
 use std::alloc::{AllocError, Global};
 use std::{fs, io};
-use thiserror::Error;
 
-/// Why the program ends at run time. A path is told as it was typed.
-#[derive(Clone, Copy, Debug, PartialEq, Eq, Error)]
-pub enum Ending<'a> {
-    /// Memory was refused.
-    #[error("no memory")]
-    Memory,
-    /// The file can't be read.
-    #[error("{path}: cannot read")]
-    Unread {
-        path: &'a str,
-    },
-    /// This line of a configuration file is refused, with the number of its cause.
-    #[error("{path}:{line}: cause {cause}")]
-    Refused {
-        path: &'a str,
-        line: usize,
-        cause: u8,
-    },
-    /// This line of the script is none of a script's lines.
-    #[error("{path}:{line}: bad event")]
-    BadEvent {
-        path: &'a str,
-        line: usize,
-    },
-    /// The output failed.
-    #[error("write failed")]
-    Write,
+/// The files that the words of `replay` name, as they were typed.
+#[derive(Clone, Copy)]
+pub struct Files<'a> {
+    pub ups: Option<&'a str>,
+    pub users: Option<&'a str>,
+    pub vars: Option<&'a str>,
+    pub script: &'a str,
+}
+
+/// Which of the words is which file, or `None` where no script is named.
+pub fn files_named<'a>(found: &ArgMatches<'a>) -> Option<Files<'a>>
+    ensures { MatchOption result
+        (first_value (found_of found.now) (codes "SCRIPT") ≡ None)
+        (λ files. AreNamedIn found.now files) }
+{
+    let script = found.get_str("SCRIPT")?;
+    Some(Files {
+        ups: found.get_str("ups"),
+        users: found.get_str("users"),
+        vars: found.get_str("vars"),
+        script,
+    })
+}
+
+/// A file that was read: its path, as it was typed, and its bytes.
+#[derive(Drop)]
+struct File<'a> {
+    path: &'a str,
+    bytes: Vec<u8>,
 }
 
 /// `upsd replay`: replays the script of the file over the UPSs, users and descriptions of theirs. Each
@@ -51,67 +58,80 @@ pub enum Ending<'a> {
 /// # Errors
 ///
 /// The first file that can't be read or is refused; `Memory`; `Write`.
-pub fn replay_files<'a>(
-    rt: &HostRuntime,
-    ups: Option<&'a str>,
-    users: Option<&'a str>,
-    vars: Option<&'a str>,
-    script: &'a str,
-) -> Result<(), Ending<'a>> {
-    let list = list_in(rt, ups)?;
-    let users = users_in(rt, users)?;
-    let descriptions = descriptions_in(rt, vars)?;
-    let bytes = read(rt, script)?;
-    let mut out = io::writer(rt);
-    match replay(rt.alloc(), list, users, descriptions, &bytes, &mut out) {
-        Ok(()) => Ok(()),
-        Err(fault) => Err(ending_of_script(script, fault)),
-    }
+pub fn replay_files<'a>(rt: &HostRuntime, files: Files<'a>) -> Result<(), Ending<'a>> {
+    let list = list_in(rt.alloc(), read_named(rt, files.ups)?)?;
+    let users = users_in(rt.alloc(), read_named(rt, files.users)?)?;
+    let descriptions = descriptions_in(rt.alloc(), read_named(rt, files.vars)?)?;
+    let script = read(rt, files.script)?;
+    let mut out = CountedWriter::new(io::writer(rt));
+    let replayed = replay(rt.alloc(), list, users, descriptions, &script, &mut out);
+    ended(files.script, replayed)
 }
 
-/// The UPSs of the file. Without a file `su` alone.
-fn list_in<'a>(rt: &HostRuntime, path: Option<&'a str>) -> Result<UpsList, Ending<'a>>
-    ensures alone { path.entry ≡ None → IfOk result (λ list. list ≡ new_ups (codes "su") ∷ []) }
-    ensures of_file { path.entry ≢ None → IfOk result (λ list. (bytes : List ℕ) × IsUpsList (lines_of bytes) list) }
+/// The UPSs that the file's bytes mean. Without a file `su` alone.
+fn list_in(alloc: Global, file: Option<File<'_>>) -> Result<UpsList, Ending<'_>>
+    ensures alone { file.entry ≡ None → IfOk result (λ list. list ≡ new_ups (codes "su") ∷ []) }
+    ensures memory { file.entry ≡ None → IfErr result (λ ending. ending ≡ Ending.Memory) }
+    ensures means { IfSome file.entry (λ file.
+        IfOk result (λ list. IsUpsList (lines_of file.bytes.items) list)) }
+    ensures refused { IfSome file.entry (λ file. IfErr result (λ ending.
+        TellsRefusal ups_format adds_ups file.path (lines_of file.bytes.items) ending)) }
 {
-    let Some(path) = path else {
-        return su_alone(rt.alloc()).map_err(|_| Ending::Memory);
+    let Some(file) = file else {
+        return su_alone(alloc).map_err(|_| Ending::Memory);
     };
-    let bytes = read(rt, path)?;
-    match UpsList::read(rt.alloc(), &bytes) {
+    match UpsList::read(alloc, &file.bytes) {
         Ok(list) => Ok(list),
-        Err(fault) => Err(ending_of_file(path, fault)),
+        Err(fault) => Err(ending_of_file(file.path, fault)),
     }
 }
 
-/// The users of the file. Without a file there are none.
-fn users_in<'a>(rt: &HostRuntime, path: Option<&'a str>) -> Result<Users, Ending<'a>>
-    ensures none { path.entry ≡ None → IfOk result (λ users. users ≡ []) }
-    ensures of_file { path.entry ≢ None → IfOk result (λ users. (bytes : List ℕ) × Means users_format users_of (lines_of bytes) users) }
+/// The users that the file's bytes mean. Without a file there are none.
+fn users_in(alloc: Global, file: Option<File<'_>>) -> Result<Users, Ending<'_>>
+    ensures none { file.entry ≡ None → result ≡ Ok [] }
+    ensures means { IfSome file.entry (λ file.
+        IfOk result (λ users. Means users_format users_of (lines_of file.bytes.items) users)) }
+    ensures refused { IfSome file.entry (λ file. IfErr result (λ ending.
+        TellsRefusal users_format adds_to_users file.path (lines_of file.bytes.items) ending)) }
 {
-    let Some(path) = path else {
-        return Ok(Users::none(rt.alloc()));
+    let Some(file) = file else {
+        return Ok(Users::none(alloc));
     };
-    let bytes = read(rt, path)?;
-    match Users::read(rt.alloc(), &bytes) {
+    match Users::read(alloc, &file.bytes) {
         Ok(users) => Ok(users),
-        Err(fault) => Err(ending_of_file(path, fault)),
+        Err(fault) => Err(ending_of_file(file.path, fault)),
     }
 }
 
-/// The descriptions of the file. Without a file there are none.
-fn descriptions_in<'a>(rt: &HostRuntime, path: Option<&'a str>) -> Result<Descriptions, Ending<'a>>
-    ensures none { path.entry ≡ None → IfOk result (λ descriptions. descriptions ≡ no_descriptions) }
-    ensures of_file { path.entry ≢ None → IfOk result (λ descriptions. (bytes : List ℕ) × Means descriptions_format descriptions_of (lines_of bytes) descriptions) }
+/// The descriptions that the file's bytes mean. Without a file there are none.
+fn descriptions_in(alloc: Global, file: Option<File<'_>>) -> Result<Descriptions, Ending<'_>>
+    ensures none { file.entry ≡ None → result ≡ Ok no_descriptions }
+    ensures means { IfSome file.entry (λ file. IfOk result (λ descriptions.
+        Means descriptions_format descriptions_of (lines_of file.bytes.items) descriptions)) }
+    ensures refused { IfSome file.entry (λ file. IfErr result (λ ending.
+        TellsRefusal descriptions_format adds_text file.path
+        (lines_of file.bytes.items) ending)) }
+{
+    let Some(file) = file else {
+        return Ok(Descriptions::none(alloc));
+    };
+    match Descriptions::read(alloc, &file.bytes) {
+        Ok(descriptions) => Ok(descriptions),
+        Err(fault) => Err(ending_of_file(file.path, fault)),
+    }
+}
+
+/// The file of this path, where one is named.
+fn read_named<'a>(rt: &HostRuntime, path: Option<&'a str>) -> Result<Option<File<'a>>, Ending<'a>>
+    ensures named { IfOk result (λ file. option_map (λ file. file.path) file ≡ path.entry) }
+    ensures unread { IfErr result (λ ending.
+        (ending ≡ Ending.Memory) ⊎ (Some ending ≡ option_map (λ path. Ending.Unread path) path.entry)) }
 {
     let Some(path) = path else {
-        return Ok(Descriptions::none(rt.alloc()));
+        return Ok(None);
     };
     let bytes = read(rt, path)?;
-    match Descriptions::read(rt.alloc(), &bytes) {
-        Ok(descriptions) => Ok(descriptions),
-        Err(fault) => Err(ending_of_file(path, fault)),
-    }
+    Ok(Some(File { path, bytes }))
 }
 
 /// The bytes of the file.
@@ -124,34 +144,6 @@ fn read<'a>(rt: &HostRuntime, path: &'a str) -> Result<Vec<u8>, Ending<'a>>
             io::ErrorKind::OutOfMemory => Ending::Memory,
             _ => Ending::Unread { path },
         }),
-    }
-}
-
-/// How the program ends where the configuration file is refused so.
-fn ending_of_file(path: &str, fault: ConfFault) -> Ending<'_>
-    ensures memory { fault.cause ≡ Cause.Memory → result ≡ Ending.Memory }
-    ensures refused { fault.cause ≢ Cause.Memory → result ≡ Ending.Refused path.entry fault.line (number_of_cause fault.cause) }
-{
-    match fault.cause {
-        Cause::Memory => Ending::Memory,
-        cause => Ending::Refused {
-            path,
-            line: fault.line,
-            cause: cause.number(),
-        },
-    }
-}
-
-/// How the program ends where the script isn't replayed.
-fn ending_of_script(path: &str, fault: ReplayFault) -> Ending<'_>
-    ensures bad { (n : ℕ) → fault ≡ ReplayFault.BadEvent n → result ≡ Ending.BadEvent path.entry n }
-    ensures memory { fault ≡ ReplayFault.Memory → result ≡ Ending.Memory }
-    ensures write { fault ≡ ReplayFault.Write → result ≡ Ending.Write }
-{
-    match fault {
-        ReplayFault::BadEvent(line) => Ending::BadEvent { path, line },
-        ReplayFault::Memory => Ending::Memory,
-        ReplayFault::Write => Ending::Write,
     }
 }
 

@@ -1,5 +1,8 @@
 //! What holds of every transcript.
+ghost use Rattle.std.specs.Prelude.{◌≡◌};
 ghost use Rattle.upsd.specs.OneRun.{AnOutputTellsOneRun};
+ghost use Rattle.upsd.specs.declared.ending.TheConstants.{DONE, FAULT, WORD_FAULT};
+ghost use Rattle.upsd.specs.declared.replay.TheConstants.{REPLAY_MAX_AGE};
 
 use nutcore::what_was_sent_and_is_owed_is_the_answers;
 
@@ -11,3 +14,11 @@ pub fn an_output_tells_one_run()
 {
     what_was_sent_and_is_owed_is_the_answers();
 }
+
+/// The statuses with which the program ends, and the age at which a replayed script's UPSs are stale.
+pub fn numbers()
+    ensures done { DONE ≡ 0 }
+    ensures fault { FAULT ≡ 1 }
+    ensures words { WORD_FAULT ≡ 2 }
+    ensures max_age { REPLAY_MAX_AGE ≡ 15 }
+{}

@@ -1,10 +1,11 @@
 //! upsd: a UPS server that shares what the drivers of UPSs tell with clients over the network (RFC 9271).
 #![tactic(auto)]
 
-ghost use Rattle.std.specs.Prelude.{◌≡◌, ◌≢◌};
+ghost use Rattle.std.specs.Prelude.{◌≡◌, ◌≢◌, MatchResult};
 ghost use Rattle.std.specs.Process.{exit_status};
 ghost use Rattle.clap.specs.Words.{kind_of};
 
+mod ending;
 mod files;
 mod laws;
 mod replay;
@@ -13,28 +14,23 @@ mod script;
 mod tests;
 mod transcript;
 
-use crate::files::{Ending, replay_files};
+use crate::ending::{DONE, Ending, FAULT, WORD_FAULT, status_of};
+use crate::files::{files_named, replay_files};
 use clap::error::ErrorKind;
 use clap::{Arg, ArgMatches, Command, Error};
 use std::alloc::Global;
 use std::process::ExitCode;
 use std::{env, io};
 
-/// The status of a fault at run time.
-const FAULT: u8 = 1;
-
-/// The status of a fault of the command's words.
-const WORD_FAULT: u8 = 2;
-
 fn main(rt: HostRuntime) -> ExitCode {
     let words: Vec<String> = match env::args(&rt) {
         Ok(args) => match args.collect(rt.alloc()) {
             Ok(words) => words,
-            Err(_) => return tell(&rt, Ending::Memory),
+            Err(_) => return end_without_memory(&rt),
         },
         Err(error) => {
             if error.kind() == io::ErrorKind::OutOfMemory {
-                return tell(&rt, Ending::Memory);
+                return end_without_memory(&rt);
             }
             let _ = eprintln!(rt; "upsd: bad argument");
             return ExitCode::from(WORD_FAULT);
@@ -83,35 +79,36 @@ fn end(rt: &HostRuntime, error: &Error) -> ExitCode
     ensures words { kind_of error.now ≢ ErrorKind.OutOfMemory → kind_of error.now ≢ ErrorKind.DisplayHelp → kind_of error.now ≢ ErrorKind.DisplayVersion → exit_status result ≡ WORD_FAULT }
 {
     if error.kind() == ErrorKind::OutOfMemory {
-        return tell(rt, Ending::Memory);
+        return end_without_memory(rt);
     }
     let _ = error.print(rt);
     ExitCode::from(if error.use_stderr() { WORD_FAULT } else { 0 })
 }
 
+/// Replays what the words name.
 fn run(rt: &HostRuntime, matches: &ArgMatches<'_>) -> ExitCode {
     let Some((_, found)) = matches.subcommand() else {
         return ExitCode::from(WORD_FAULT);
     };
-    let Some(script) = found.get_str("SCRIPT") else {
+    let Some(files) = files_named(found) else {
         return ExitCode::from(WORD_FAULT);
     };
-    match replay_files(
-        rt,
-        found.get_str("ups"),
-        found.get_str("users"),
-        found.get_str("vars"),
-        script,
-    ) {
-        Ok(()) => ExitCode::SUCCESS,
-        Err(ending) => tell(rt, ending),
-    }
+    finish(rt, &replay_files(rt, files))
 }
 
-/// Tells why the program ends at run time.
-fn tell(rt: &HostRuntime, ending: Ending<'_>) -> ExitCode
+/// Ends the program, and tells why where it isn't done.
+fn finish(rt: &HostRuntime, ended: &Result<(), Ending<'_>>) -> ExitCode
+    ensures { MatchResult ended.now (λ _. exit_status result ≡ DONE) (λ _. exit_status result ≡ FAULT) }
+{
+    if let Err(ending) = ended {
+        let _ = eprintln!(rt; "upsd: {ending}");
+    }
+    ExitCode::from(status_of(ended))
+}
+
+/// Ends the program for want of memory.
+fn end_without_memory(rt: &HostRuntime) -> ExitCode
     ensures { exit_status result ≡ FAULT }
 {
-    let _ = eprintln!(rt; "upsd: {ending}");
-    ExitCode::from(FAULT)
+    finish(rt, &Err(Ending::Memory))
 }

@@ -1,14 +1,14 @@
 //! Replaying a script over a server.
 ghost use Rattle.std.specs.Prelude.{◌≡◌, ◌⊎◌, ℕ, List, OnOk, IfOk, IfErr, Some, None};
-ghost use Rattle.std.specs.Io.KnownBytes.{Appends};
+ghost use Rattle.nutreply.specs.Ends.{Written, WriteFailed};
 ghost use Rattle.upsd.specs.Script.{first_bad_line};
 ghost use Rattle.upsd.specs.Transcript.{IsOutput};
 
 use crate::script::read_script;
 use crate::transcript::Transcript;
 use nutcore::{Descriptions, MaxAge, UpsList, Users};
+use nutreply::{Sink, send};
 use std::alloc::{AllocError, AllocFailed, Global};
-use std::io::Write;
 use thiserror::Error;
 
 /// After how many seconds without a line of its driver a UPS of a replayed script is stale.
@@ -72,9 +72,9 @@ impl From<AllocError> for ReplayFault {
 /// # Errors
 ///
 /// `BadEvent` with the number of the first line that is none of a script's lines, and `Memory`:
-/// nothing is written then. `Write`, where the output failed in this call: a beginning may be
+/// nothing is written then. `Write`, where a write of this call failed: a beginning of what the script tells is
 /// written.
-pub fn replay<W: Write>(
+pub fn replay<W: Sink>(
     alloc: Global,
     list: UpsList,
     users: Users,
@@ -82,14 +82,22 @@ pub fn replay<W: Write>(
     script: &[u8],
     out: &mut W,
 ) -> Result<(), ReplayFault>
-    ensures told { OnOk result ((output : List ℕ) × IsOutput list users descriptions REPLAY_MAX_AGE script.now output × Appends (W.contents out.old) (W.contents out.new) output) }
+    ensures told { OnOk result ((output : List ℕ)
+        × IsOutput list users descriptions REPLAY_MAX_AGE script.now output
+        × Written W.contents W.failures out.old output out.new) }
     ensures good { OnOk result (first_bad_line script.now ≡ None) }
-    ensures bad { IfErr result (λ fault. (n : ℕ) → fault ≡ ReplayFault.BadEvent n → first_bad_line script.now ≡ Some n) }
-    ensures failed { IfErr result (λ fault. fault ≡ ReplayFault.Write → first_bad_line script.now ≡ None) }
-    ensures unwritten { IfErr result (λ fault. (fault ≡ ReplayFault.Write) ⊎ (out.new ≡ out.old)) }
+    ensures bad { IfErr result (λ fault. (n : ℕ) → fault ≡ ReplayFault.BadEvent n
+        → first_bad_line script.now ≡ Some n) }
+    ensures failed { IfErr result (λ fault. fault ≡ ReplayFault.Write
+        → first_bad_line script.now ≡ None) }
+    ensures written { IfErr result (λ fault. fault ≡ ReplayFault.Write → (output : List ℕ)
+        × IsOutput list users descriptions REPLAY_MAX_AGE script.now output
+        × WriteFailed W.contents W.failures out.old output out.new) }
+    ensures unwritten { IfErr result (λ fault.
+        (fault ≡ ReplayFault.Write) ⊎ (out.new ≡ out.old)) }
 {
     let text = transcript(alloc, list, users, descriptions, script)?;
-    match out.write_all(&text) {
+    match send(out, &text) {
         Ok(()) => Ok(()),
         Err(_) => Err(ReplayFault::Write),
     }

@@ -1,7 +1,9 @@
 //! Scripts, and what they tell.
-use crate::files::{Ending, su_alone};
+use crate::ending::Ending;
+use crate::files::su_alone;
 use crate::replay::{ReplayFault, replay};
 use nutcore::{Descriptions, UpsList, Users};
+use nutreply::CountedWriter;
 use std::alloc::{AllocError, Global};
 use std::io;
 use std::io::Write;
@@ -66,9 +68,9 @@ fn told_over(
 ) -> Result<(Result<(), ReplayFault>, Vec<u8>), AllocError> {
     let users = Users::none(alloc);
     let descriptions = Descriptions::none(alloc);
-    let mut out = Vec::new(alloc);
+    let mut out = CountedWriter::new(Vec::new(alloc));
     let answer = replay(alloc, list, users, descriptions, script, &mut out);
-    Ok((answer, out))
+    Ok((answer, out.into_inner()))
 }
 
 fn joined(alloc: Global, parts: &[&[u8]]) -> Result<Vec<u8>, AllocError> {
@@ -442,17 +444,17 @@ fn tells_that_the_output_failed(rt: HostRuntime) -> Result<(), Fail> {
         let list = su_alone(rt.alloc())?;
         let users = Users::none(rt.alloc());
         let descriptions = Descriptions::none(rt.alloc());
-        let mut out = Failing {
+        let mut out = CountedWriter::new(Failing {
             got: Vec::new(rt.alloc()),
             room,
-        };
+        });
         let answer = replay(rt.alloc(), list, users, descriptions, &script, &mut out);
         if room < LISTED.len() {
             assert_eq!(rt; answer, Err(ReplayFault::Write), "room {room}");
         } else {
             assert_eq!(rt; answer, Ok(()));
         }
-        assert_eq!(rt; out.got.as_slice(), &LISTED[..room]);
+        assert_eq!(rt; out.into_inner().got.as_slice(), &LISTED[..room]);
     }
     Ok(())
 }

@@ -1,0 +1,116 @@
+-- What a program prints of the bytes that its session is handed.
+use Rattle.std.proofs.Common.{◌≡◌, ℕ, true, false, List, [], ◌∷◌, ◌++◌, Option, Some, None, Err, sym, ap, subst, ◌∙◌, Bool, cond, Result, Ok, refl}
+use Rattle.nutwords.specs.declared.faults.BadName.{BadName}
+use Rattle.std.specs.List.{before_first, after_first}
+use Rattle.std.specs.Prelude.{◌≢◌, ◌==◌, is_ok}
+use Rattle.nutwords.specs.Bytes.{is_name_byte}
+use Rattle.nutwords.specs.Reading.{read_name, is_name, read_ups_name, is_ups_name}
+use Rattle.nutreply.specs.Ends.{NoneFailed}
+use Rattle.nutreply.specs.State.{unread_of, reader_of, writer_of, is_over}
+use Rattle.nutreply.specs.declared.faults.ClientFault.TheVariants.{Memory}
+use Rattle.nutreply.specs.declared.request.Query.{Query}
+use Rattle.nutreply.specs.declared.request.Query.TheVariants as queries
+use Rattle.nutreply.specs.declared.request.Request.{Request}
+use Rattle.nutreply.specs.declared.request.Request.TheVariants.{List as ListOf, GetVar}
+use Rattle.nutclient.specs.Job.{UpsPlace, JobParts, listing_of, variable_of, upses_of, parts_of}
+use Rattle.nutclient.specs.Printed.{Prints, printed, Answers}
+use Rattle.nutclient.specs.Requests.{requests_in}
+use Rattle.nutclient.specs.Target.{lawful, both, ups_of, has_byte, server_of, local_server, ups_place_of}
+use Rattle.nutclient.specs.declared.form.Form.{Form}
+use Rattle.nutclient.specs.declared.form.Form.TheVariants as forms
+use Rattle.nutclient.specs.declared.job.Job.{Job}
+use Rattle.nutclient.specs.declared.target.Target.{Target}
+use Rattle.endtoend.specs.Handed.{ProgramRun, IsHanded, IsPrinted}
+use Rattle.endtoend.proofs.Texts.{text_itself, text_same}
+
+none-not_some : {A : Type 0} {x : A} → None ≡ Some x → ⊥
+none-not_some h = cc
+
+some_same : {A : Type 0} {x y : A} → Some x ≡ Some y → x ≡ y
+some_same h = cc
+
+-- what is lawful was read as it is
+lawful_name : (text name : List ℕ) → ups_of text ≡ Some name → is_ups_name name ≡ true
+lawful_name text name h = by (read_ups_name text) refl
+  where
+    by : (r : Result (List ℕ) BadName) → read_ups_name text ≡ r → is_ups_name name ≡ true
+    by (Err bad) e = let k : None ≡ Some name = sym (ap lawful e) ∙ h in absurd (none-not_some k)
+    by (Ok read) e =
+        let k : Some read ≡ Some name = sym (ap lawful e) ∙ h in
+        let same : text ≡ read = text_same is_name_byte false 32 text read e in
+        ap is_ups_name (sym (same ∙ some_same k)) ∙ ap is_ok e
+
+-- the UPS that the words name
+both_first : (a : Option (List ℕ)) (b : Option Target) (place : UpsPlace) → both (λ ups server. (ups, server)) a b ≡ Some place → a ≡ Some place.0
+both_first (Some a) (Some b) place h = ap (λ (p : UpsPlace). Some p.0) (some_same h)
+both_first (Some a) None place h = absurd (none-not_some h)
+both_first None b place h = absurd (none-not_some h)
+
+pub place_lawful : (text : List ℕ) (place : UpsPlace) → ups_place_of text ≡ Some place → is_ups_name place.0 ≡ true
+place_lawful text place h = by (has_byte 64 text) h
+  where
+    front : List ℕ
+    front = before_first (λ b. b == 64) text
+
+    behind : List ℕ
+    behind = after_first (λ b. b == 64) text
+
+    by : (v : Bool) → cond v (both (λ ups server. (ups, server)) (ups_of front) (server_of behind)) (both (λ ups server. (ups, server)) (ups_of text) (Some local_server)) ≡ Some place → is_ups_name place.0 ≡ true
+    by true k = lawful_name front place.0 (both_first (ups_of front) (server_of behind) place k)
+    by false k = lawful_name text place.0 (both_first (ups_of text) (Some local_server) place k)
+
+-- what a job asks for, and in which form it is printed
+pub record Asks (requests : List Request) (form : Form) (job : Job) : Type 0 where
+  pub requests_are : requests_in job.requests ≡ requests
+  pub form_is : job.form ≡ form
+
+asks_parts : (target : Target) (requests : List Request) (form : Form) (job : Job) → Some (target, requests, form) ≡ Some (parts_of job) → Asks requests form job
+asks_parts target requests form job h =
+    let same : (target, requests, form) ≡ parts_of job = some_same h in
+    record {
+      requests_are = sym (ap (λ (p : JobParts). p.1) same);
+      form_is = sym (ap (λ (p : JobParts). p.2) same);
+    }
+
+pub asks_listing : (query : List ℕ → Query) (form : Form) (o : Option UpsPlace) (place : UpsPlace) (job : Job) → listing_of query form o ≡ Some (parts_of job) → o ≡ Some place → Asks (ListOf (query place.0) ∷ []) form job
+asks_listing query form o place job h at = asks_parts place.1 (ListOf (query place.0) ∷ []) form job (sym (ap (listing_of query form) at) ∙ h)
+
+-- the variable's name is lawful, where the job was read
+pub name_asked : (o : Option UpsPlace) (name : List ℕ) (job : Job) → variable_of o (lawful (read_name name)) ≡ Some (parts_of job) → is_name name ≡ true
+name_asked None name job h = absurd (none-not_some h)
+name_asked (Some place) name job h = by (read_name name) h
+  where
+    by : (r : Result (List ℕ) BadName) → variable_of (Some place) (lawful r) ≡ Some (parts_of job) → is_ok r ≡ true
+    by (Ok read) k = refl
+    by (Err bad) k = absurd (none-not_some k)
+
+pub asks_variable : (o : Option UpsPlace) (name : List ℕ) (place : UpsPlace) (job : Job) → variable_of o (lawful (read_name name)) ≡ Some (parts_of job) → o ≡ Some place → is_name name ≡ true → Asks (GetVar place.0 name ∷ []) forms.Value job
+asks_variable o name place job h at k =
+    let read : lawful (read_name name) ≡ Some name = ap lawful (text_itself is_name_byte false 64 name k) in
+    asks_parts place.1 (GetVar place.0 name ∷ []) forms.Value job (sym (ap (λ p. variable_of p (lawful (read_name name))) at ∙ ap (λ n. variable_of (Some place) n) read) ∙ h)
+
+pub asks_upses : (form : Form) (o : Option Target) (job : Job) → upses_of form o ≡ Some (parts_of job) → Asks (ListOf queries.Ups ∷ []) form job
+asks_upses form None job h = absurd (none-not_some h)
+asks_upses form (Some target) job h = asks_parts target (ListOf queries.Ups ∷ []) form job h
+
+module _ {R W O : Type 0} (remaining : R → Option (List ℕ)) (failures : R → ℕ) (write_failures : W → ℕ) (contents : O → Option (List ℕ)) (print_failures : O → ℕ) where
+  -- what the engine answers where no call failed
+  abbrev pub Runs : Job → ProgramRun R W O → Type 0
+  Runs job r =
+      is_over r.session ≡ false → (bytes : List ℕ) → remaining (reader_of r.session) ≡ Some bytes
+      → NoneFailed (failures (reader_of r.session)) (failures (reader_of r.session_after))
+      → NoneFailed (write_failures (writer_of r.session)) (write_failures (writer_of r.session_after))
+      → NoneFailed (print_failures r.out) (print_failures r.out_after) → r.result ≢ Err Memory
+      → Answers contents (printed (requests_in job.requests) job.form (unread_of r.session ++ bytes)) r.out r.result r.out_after
+
+  pub handed : (job : Job) (requests : List Request) (form : Form) (bytes text : List ℕ) (r : ProgramRun R W O)
+      → Runs job r → Asks requests form job → printed requests form bytes ≡ Prints text → IsHanded remaining failures write_failures contents print_failures bytes r → IsPrinted remaining failures write_failures contents print_failures text r
+  handed job requests form bytes text r runs asks prints h =
+      let answers = runs h.going bytes h.gives h.reads h.writes h.prints h.memory in
+      let same : printed (requests_in job.requests) job.form (unread_of r.session ++ bytes) ≡ Prints text =
+      ap (λ before. printed (requests_in job.requests) job.form (before ++ bytes)) h.fresh
+      ∙ ap (λ rs. printed rs job.form bytes) asks.requests_are
+      ∙ ap (λ f. printed requests f bytes) asks.form_is
+      ∙ prints in
+      let k = subst (λ p. Answers contents p r.out r.result r.out_after) same answers in
+      record { done = k.0; output = k.1 }

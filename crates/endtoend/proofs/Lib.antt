@@ -1,0 +1,7 @@
+pub mod LineReading
+pub mod FrameReading
+pub mod Texts
+pub mod Requests
+pub mod Rows
+pub mod Printing
+pub mod Handing

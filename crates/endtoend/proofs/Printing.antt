@@ -1,0 +1,254 @@
+-- What is printed of what the server answers.
+use Rattle.std.proofs.Common.{◌≡◌, ℕ, ◌≤◌, Bool, true, List, [], ◌∷◌, ◌++◌, length, refl, ap, subst, ◌∙◌, arith, append-nil, sym, false, cond}
+use Rattle.std.specs.Prelude.{false, codes, map, All, IsTrue, IfSome, filter}
+use Rattle.std.specs.List.{AllZip, flat_map}
+use Rattle.std.specs.BTreeMap.{is_at}
+use Rattle.std.specs.Map.{keys_of, values_of}
+use Rattle.std.proofs.lemmas.List.{length-map}
+use Rattle.std.proofs.lemmas.Map.Views.{IfSome-lookup_from_All}
+use Rattle.std.proofs.lemmas.List.Elements.{All-head, All-tail, All-nil, All-cons, All-filter}
+use Rattle.nutwords.specs.Bytes.{is_name_byte}
+use Rattle.nutwords.specs.Frame.{frame, line_of, begin_line}
+use Rattle.nutwords.specs.Listing.{as_it_is, IsWrittenLine, IsWritten}
+use Rattle.nutwords.specs.Reading.{is_name, is_ups_name, is_value}
+use Rattle.nutwords.specs.Spelling.{quoted}
+use Rattle.nutwords.specs.Text.{with_lf}
+use Rattle.nutdriver.specs.Sound.{IsSoundVariable, IsSoundTree}
+use Rattle.nutdriver.specs.Tree.{byte_order}
+use Rattle.nutdriver.specs.Variable.{VariableState}
+use Rattle.nutusers.specs.UpsList.{Ups}
+use Rattle.nutlisting.specs.Items.{variable_item, is_rw, command_item, ups_item}
+use Rattle.nutlisting.specs.Shown.{shown, ups_description}
+use Rattle.nutanswer.specs.Checks.{KnownUps}
+use Rattle.nutcore.specs.Headline.{AListingIsWhatIsHeld}
+use Rattle.nutcore.specs.Reply.{seen}
+use Rattle.nutcore.specs.Reply as server
+use Rattle.nutreply.specs.declared.item.Item.{Item}
+use Rattle.nutreply.specs.declared.request.Query.TheVariants as queries
+use Rattle.nutreply.specs.declared.request.Request.{Request}
+use Rattle.nutreply.specs.declared.request.Request.TheVariants as requests
+use Rattle.nutreply.specs.declared.request.Query.{Query}
+use Rattle.nutreply.specs.Request.{has_value}
+use Rattle.nutreply.specs.Reply.{Reply, Whole, reply, one_item, is_item_name}
+use Rattle.nutclient.specs.Requests.{reply_behind}
+use Rattle.nutclient.specs.Printed.{Prints, printed, printed_of, item_line, text_of}
+use Rattle.nutclient.specs.declared.form.Form.{Form}
+use Rattle.nutclient.specs.declared.form.Form.TheVariants as forms
+use Rattle.endtoend.specs.Frames.{item_words, IsItem}
+use Rattle.endtoend.specs.Served.{HasVariable, IsLawfulUps}
+use Rattle.endtoend.specs.Printed.{variable_line, setting_line, UpsrwPrintsTheVariables, UpscmdPrintsTheCommands, name_lines, description_line, description_lines, UpscPrintsTheVariables, UpscPrintsTheVariable, UpscPrintsTheUpses}
+use Rattle.endtoend.proofs.FrameReading.{frame_read, value_read}
+use Rattle.endtoend.proofs.Texts.{text_short, name_written, ups_name_written, quoted_written, quoted_short, shown_lawful, description_lawful}
+use Rattle.endtoend.proofs.Requests.{list_var_read, list_rw_read, list_cmd_read, list_ups_read, get_var_read, line_of_three, line_of_four}
+use Rattle.endtoend.proofs.Rows.{name_kept, settings_answered, commands_answered, variable_answered, upses_answered}
+
+-- one request, whose reply is whole
+printed_whole : (request : Request) (form : Form) (bytes : List ℕ) (items : List Item) (rest : List ℕ) → reply request bytes ≡ Whole items rest → printed (request ∷ []) form bytes ≡ Prints (text_of form items)
+printed_whole request form bytes items rest h = ap (λ (r : Reply). printed_of form (reply_behind r (λ more behind. Whole more behind))) h
+
+-- a variable as an item
+abbrev variable_of : Bool → List ℕ × VariableState → Item
+variable_of fsd entry = record { name = entry.0; value = shown fsd entry.0 entry.1 }
+
+-- an entry of a sound tree
+abbrev IsLawfulEntry : List ℕ × VariableState → Type 0
+IsLawfulEntry entry = IsTrue (is_name entry.0) × IsTrue (is_value entry.1.value)
+
+entries_lawful : (entries : List (List ℕ × VariableState)) → All (λ name. IsTrue (is_name name)) (keys_of entries) → All IsSoundVariable (values_of entries) → All IsLawfulEntry entries
+entries_lawful [] names values = All-nil IsLawfulEntry
+entries_lawful (entry ∷ entries) names values =
+    All-cons IsLawfulEntry entry entries
+    (All-head (λ name. IsTrue (is_name name)) entry.0 (keys_of entries) names, (All-head IsSoundVariable entry.1 (values_of entries) values).value)
+    (entries_lawful entries (All-tail (λ name. IsTrue (is_name name)) entry.0 (keys_of entries) names) (All-tail IsSoundVariable entry.1 (values_of entries) values))
+
+-- the line of a variable, behind the word of its listing
+variable_written : (word ups : List ℕ) (fsd : Bool) (entry : List ℕ × VariableState) → IsWritten word word → length word ≤ 64 → is_ups_name ups ≡ true → IsLawfulEntry entry
+    → IsWrittenLine (variable_item word ups fsd entry) (word ∷ ups ∷ entry.0 ∷ shown fsd entry.0 entry.1 ∷ [])
+variable_written word ups fsd entry w few h lawful =
+    let value = shown fsd entry.0 entry.1 in
+    let s = shown_lawful fsd entry.0 entry.1 lawful.1 in
+    record {
+      written = (w, (ups_name_written ups h, (name_written entry.0 lawful.0, (quoted_written value s.0, tt))));
+      fits = omega (arith, few, text_short is_name_byte false 32 ups h, text_short is_name_byte false 64 entry.0 lawful.0, s.1, quoted_short value, line_of_four word ups entry.0 (quoted value));
+    }
+
+variables_written : (query : Query) (word ups : List ℕ) (fsd : Bool) (entries : List (List ℕ × VariableState)) → ((item : Item) → item_words query item ≡ word ∷ ups ∷ item.name ∷ item.value ∷ [])
+    → IsWritten word word → length word ≤ 64 → is_ups_name ups ≡ true → All IsLawfulEntry entries
+    → AllZip IsWrittenLine (map (variable_item word ups fsd) entries) (map (item_words query) (map (variable_of fsd) entries))
+variables_written query word ups fsd [] same w few h lawful = tt
+variables_written query word ups fsd (entry ∷ entries) same w few h lawful = (
+  subst (λ words. IsWrittenLine (variable_item word ups fsd entry) words) (sym (same (variable_of fsd entry))) (variable_written word ups fsd entry w few h (All-head IsLawfulEntry entry entries lawful)),
+  variables_written query word ups fsd entries same w few h (All-tail IsLawfulEntry entry entries lawful),
+)
+
+variables_known : (query : Query) (fsd : Bool) (entries : List (List ℕ × VariableState)) → ((name : List ℕ) → is_name name ≡ true → is_item_name query name ≡ true) → has_value query ≡ true → All IsLawfulEntry entries
+    → All (IsItem query) (map (variable_of fsd) entries)
+variables_known query fsd [] named valued lawful = All-nil (IsItem query)
+variables_known query fsd (entry ∷ entries) named valued lawful =
+    All-cons (IsItem query) (variable_of fsd entry) (map (variable_of fsd) entries)
+    (record { name = named entry.0 (All-head IsLawfulEntry entry entries lawful).0; value = λ none. let bad : true ≡ false = sym valued ∙ none in cc })
+    (variables_known query fsd entries named valued (All-tail IsLawfulEntry entry entries lawful))
+
+variables_text : (form : Form) (fsd : Bool) (line_of : List ℕ × VariableState → List ℕ) (entries : List (List ℕ × VariableState)) → ((entry : List ℕ × VariableState) → item_line form (variable_of fsd entry) ≡ line_of entry)
+    → text_of form (map (variable_of fsd) entries) ≡ flat_map line_of entries
+variables_text form fsd line_of [] same = refl
+variables_text form fsd line_of (entry ∷ entries) same = ap (λ t. t ++ text_of form (map (variable_of fsd) entries)) (same entry) ∙ ap (λ t. line_of entry ++ t) (variables_text form fsd line_of entries same)
+
+-- a listing of one UPS is written so
+listing_written : (kind ups : List ℕ) → length kind ≤ 64 → is_ups_name ups ≡ true → length (begin_line kind (ups ∷ [])) ≤ 1024
+listing_written kind ups few h = omega (arith, few, text_short is_name_byte false 32 ups h, line_of_four (codes "BEGIN") (codes "LIST") kind ups)
+
+pub prints_variables : AListingIsWhatIsHeld → UpscPrintsTheVariables
+prints_variables held = λ s client ups line known more n u e.
+    let query = queries.Var ups in
+    let entries = known.state.report.tree.variables in
+    let fsd = known.state.fsd in
+    let lawful = entries_lawful entries u.sound.names u.sound.variables in
+    let read = list_var_read ups line n e in
+    let same : known.name ≡ ups = name_kept (seen s) ups known u.named in
+    let text = held.variables s client line ups known read u.named u.ready in
+    let few : length (map (variable_of fsd) entries) ≤ 65536 = omega (arith, u.sound.variables_few, length-map entries (variable_of fsd)) in
+    let written = variables_written query (codes "VAR") ups fsd entries (λ item. refl) (as_it_is (omega arith) refl) (omega arith) n lawful in
+    let items = variables_known query fsd entries (λ name h. h) refl lawful in
+    let whole = frame_read query (map (variable_item (codes "VAR") ups fsd) entries) (map (variable_of fsd) entries) more
+    ((as_it_is (omega arith) refl, (ups_name_written ups n, tt)), listing_written (codes "VAR") ups (omega arith) n, written) items few in
+    printed_whole (requests.List query) forms.Colon ((server.reply s client line).text ++ more) (map (variable_of fsd) entries) more
+    (ap (λ t. reply (requests.List query) (t ++ more)) (text ∙ ap (λ x. frame (codes "VAR") (x ∷ []) (map (variable_item (codes "VAR") x fsd) entries)) same) ∙ whole)
+    ∙ ap Prints (variables_text forms.Colon fsd (variable_line fsd) entries (λ entry. refl))
+
+-- those that pass a test are no more
+kept_short : {X : Type 0} (v : Bool) (x : X) (kept xs : List X) → length kept ≤ length xs → length (cond v (x ∷ kept) kept) ≤ length (x ∷ xs)
+kept_short true x kept xs few = omega (arith, few)
+kept_short false x kept xs few = omega (arith, few)
+
+filter_short : {X : Type 0} (p : X → Bool) (xs : List X) → length (filter p xs) ≤ length xs
+filter_short p [] = omega arith
+filter_short p (x ∷ xs) = kept_short (p x) x (filter p xs) xs (filter_short p xs)
+
+-- the variables that may be set are some of them
+pub prints_settings : UpsrwPrintsTheVariables
+prints_settings = λ s client ups line known more n u e.
+    let query = queries.Rw ups in
+    let entries = filter is_rw known.state.report.tree.variables in
+    let fsd = known.state.fsd in
+    let lawful = All-filter is_rw IsLawfulEntry known.state.report.tree.variables (entries_lawful known.state.report.tree.variables u.sound.names u.sound.variables) in
+    let read = list_rw_read ups line n e in
+    let same : known.name ≡ ups = name_kept (seen s) ups known u.named in
+    let text = settings_answered s client ups line known u.named u.ready read in
+    let few : length (map (variable_of fsd) entries) ≤ 65536 = omega (arith, u.sound.variables_few, filter_short is_rw known.state.report.tree.variables, length-map entries (variable_of fsd)) in
+    let written = variables_written query (codes "RW") ups fsd entries (λ item. refl) (as_it_is (omega arith) refl) (omega arith) n lawful in
+    let items = variables_known query fsd entries (λ name h. h) refl lawful in
+    let whole = frame_read query (map (variable_item (codes "RW") ups fsd) entries) (map (variable_of fsd) entries) more
+    ((as_it_is (omega arith) refl, (ups_name_written ups n, tt)), listing_written (codes "RW") ups (omega arith) n, written) items few in
+    printed_whole (requests.List query) forms.Equals ((server.reply s client line).text ++ more) (map (variable_of fsd) entries) more
+    (ap (λ t. reply (requests.List query) (t ++ more)) (text ∙ ap (λ x. frame (codes "RW") (x ∷ []) (map (variable_item (codes "RW") x fsd) entries)) same) ∙ whole)
+    ∙ ap Prints (variables_text forms.Equals fsd (setting_line fsd) entries (λ entry. refl))
+
+-- a command as an item
+abbrev command_of : List ℕ → Item
+command_of name = record { name = name; value = [] }
+
+commands_written : (ups : List ℕ) (commands : List (List ℕ)) → is_ups_name ups ≡ true → All (λ name. IsTrue (is_name name)) commands
+    → AllZip IsWrittenLine (map (command_item ups) commands) (map (item_words (queries.Cmd ups)) (map command_of commands))
+commands_written ups [] h names = tt
+commands_written ups (name ∷ commands) h names =
+    let k = All-head (λ name. IsTrue (is_name name)) name commands names in (
+      record {
+        written = (as_it_is (omega arith) refl, (ups_name_written ups h, (name_written name k, tt)));
+        fits = omega (arith, text_short is_name_byte false 32 ups h, text_short is_name_byte false 64 name k, line_of_three (codes "CMD") ups name);
+      },
+      commands_written ups commands h (All-tail (λ name. IsTrue (is_name name)) name commands names),
+    )
+
+commands_known : (ups : List ℕ) (commands : List (List ℕ)) → All (λ name. IsTrue (is_name name)) commands → All (IsItem (queries.Cmd ups)) (map command_of commands)
+commands_known ups [] names = All-nil (IsItem (queries.Cmd ups))
+commands_known ups (name ∷ commands) names =
+    All-cons (IsItem (queries.Cmd ups)) (command_of name) (map command_of commands)
+    (record { name = All-head (λ name. IsTrue (is_name name)) name commands names; value = λ none. refl })
+    (commands_known ups commands (All-tail (λ name. IsTrue (is_name name)) name commands names))
+
+commands_text : (commands : List (List ℕ)) → text_of forms.Name (map command_of commands) ≡ flat_map with_lf commands
+commands_text [] = refl
+commands_text (name ∷ commands) = ap (λ t. with_lf name ++ t) (commands_text commands)
+
+pub prints_commands : UpscmdPrintsTheCommands
+prints_commands = λ s client ups line known more n u e.
+    let query = queries.Cmd ups in
+    let commands = known.state.report.tree.commands in
+    let read = list_cmd_read ups line n e in
+    let same : known.name ≡ ups = name_kept (seen s) ups known u.named in
+    let text = commands_answered s client ups line known u.named u.ready read in
+    let few : length (map command_of commands) ≤ 65536 = omega (arith, u.sound.commands_few, length-map commands command_of) in
+    let whole = frame_read query (map (command_item ups) commands) (map command_of commands) more
+    ((as_it_is (omega arith) refl, (ups_name_written ups n, tt)), listing_written (codes "CMD") ups (omega arith) n, commands_written ups commands n u.sound.commands) (commands_known ups commands u.sound.commands) few in
+    printed_whole (requests.List query) forms.Name ((server.reply s client line).text ++ more) (map command_of commands) more
+    (ap (λ t. reply (requests.List query) (t ++ more)) (text ∙ ap (λ x. frame (codes "CMD") (x ∷ []) (map (command_item x) commands)) same) ∙ whole)
+    ∙ ap Prints (commands_text commands)
+
+-- the value of a variable that is there is lawful
+value_there : (known : KnownUps) (name : List ℕ) (variable : VariableState) → IsSoundTree known.state.report.tree → HasVariable known name variable → is_value variable.value ≡ true
+value_there known name variable sound has = (subst (λ o. IfSome o IsSoundVariable) has (IfSome-lookup_from_All IsSoundVariable (is_at (byte_order name)) known.state.report.tree.variables sound.variables)).value
+
+pub prints_variable : UpscPrintsTheVariable
+prints_variable = λ s client ups name line known variable more n m u has e.
+    let fsd = known.state.fsd in
+    let value = shown fsd name variable in
+    let lawful = shown_lawful fsd name variable (value_there known name variable u.sound has) in
+    let read = get_var_read ups name line n m e in
+    let same : known.name ≡ ups = name_kept (seen s) ups known u.named in
+    let text = variable_answered s client ups name line known variable u.named u.ready has read in
+    let texts : List (List ℕ) = codes "VAR" ∷ ups ∷ name ∷ quoted value ∷ [] in
+    let written : IsWrittenLine texts (codes "VAR" ∷ ups ∷ name ∷ value ∷ []) = record {
+      written = (as_it_is (omega arith) refl, (ups_name_written ups n, (name_written name m, (quoted_written value lawful.0, tt))));
+      fits = omega (arith, text_short is_name_byte false 32 ups n, text_short is_name_byte false 64 name m, lawful.1, quoted_short value, line_of_four (codes "VAR") ups name (quoted value));
+    } in
+    printed_whole (requests.GetVar ups name) forms.Value ((server.reply s client line).text ++ more) (one_item value) more
+    (ap (λ t. reply (requests.GetVar ups name) (t ++ more)) (text ∙ ap (λ x. line_of (codes "VAR" ∷ x ∷ name ∷ quoted value ∷ [])) same) ∙ value_read ups name value texts more written)
+    ∙ ap Prints (append-nil (with_lf value))
+
+-- the UPSs
+abbrev ups_of_list : Ups → Item
+ups_of_list ups = record { name = ups.name; value = ups_description ups }
+
+ups_written : (ups : Ups) → IsLawfulUps ups → IsWrittenLine (ups_item ups) (item_words queries.Ups (ups_of_list ups))
+ups_written ups lawful =
+    let text = ups_description ups in
+    let d = description_lawful ups lawful.description in
+    record {
+      written = (as_it_is (omega arith) refl, (ups_name_written ups.name lawful.name, (quoted_written text d.0, tt)));
+      fits = omega (arith, text_short is_name_byte false 32 ups.name lawful.name, d.1, quoted_short text, line_of_three (codes "UPS") ups.name (quoted text));
+    }
+
+upses_written : (list : List Ups) → All IsLawfulUps list → AllZip IsWrittenLine (map ups_item list) (map (item_words queries.Ups) (map ups_of_list list))
+upses_written [] each = tt
+upses_written (ups ∷ list) each = (ups_written ups (All-head IsLawfulUps ups list each), upses_written list (All-tail IsLawfulUps ups list each))
+
+upses_known : (list : List Ups) → All IsLawfulUps list → All (IsItem queries.Ups) (map ups_of_list list)
+upses_known [] each = All-nil (IsItem queries.Ups)
+upses_known (ups ∷ list) each =
+    All-cons (IsItem queries.Ups) (ups_of_list ups) (map ups_of_list list)
+    (record { name = (All-head IsLawfulUps ups list each).name; value = λ none. cc })
+    (upses_known list (All-tail IsLawfulUps ups list each))
+
+names_text : (list : List Ups) → text_of forms.Name (map ups_of_list list) ≡ name_lines list
+names_text [] = refl
+names_text (ups ∷ list) = ap (λ t. with_lf ups.name ++ t) (names_text list)
+
+descriptions_text : (list : List Ups) → text_of forms.Colon (map ups_of_list list) ≡ description_lines list
+descriptions_text [] = refl
+descriptions_text (ups ∷ list) = ap (λ t. description_line ups ++ t) (descriptions_text list)
+
+pub prints_upses : UpscPrintsTheUpses
+prints_upses = λ s client line more lawful e.
+    let list = s.list in
+    let text = upses_answered s client line (list_ups_read line e) in
+    let few : length (map ups_of_list list) ≤ 65536 = omega (arith, lawful.few, length-map list ups_of_list) in
+    let whole = frame_read queries.Ups (map ups_item list) (map ups_of_list list) more
+    ((as_it_is (omega arith) refl, tt), omega arith, upses_written list lawful.each)
+    (upses_known list lawful.each) few in
+    let read = ap (λ t. reply (requests.List queries.Ups) (t ++ more)) text ∙ whole in
+    let bytes = (server.reply s client line).text ++ more in
+    record {
+      names = printed_whole (requests.List queries.Ups) forms.Name bytes (map ups_of_list list) more read ∙ ap Prints (names_text list);
+      descriptions = printed_whole (requests.List queries.Ups) forms.Colon bytes (map ups_of_list list) more read ∙ ap Prints (descriptions_text list);
+    }

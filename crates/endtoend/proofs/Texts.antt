@@ -1,0 +1,87 @@
+-- Names, values and descriptions as the words of a line.
+use Rattle.std.proofs.Common.{◌≡◌, ℕ, ◌+◌, ◌*◌, ◌<◌, ◌≤◌, Bool, true, false, eqb, leb, cond, List, [], ◌∷◌, ◌++◌, length, Option, Some, None, Ok, refl, arith, length-append}
+use Rattle.std.specs.Prelude.{◌||◌, ◌&&◌, is_ok, IsTrue, codes, IfSome}
+use Rattle.std.specs.List.{list_all}
+use Rattle.std.specs.Str.{bytes_eq}
+use Rattle.std.proofs.lemmas.Bool.{and_parts, and_from}
+use Rattle.std.proofs.lemmas.Bool.Decides.{nat_tests}
+use Rattle.std.proofs.lemmas.Grind.{common_steps}
+use Rattle.nutwords.specs.Bytes.{is_lawful, is_bare, is_name_byte}
+use Rattle.nutwords.specs.Listing.{IsWritten, as_it_is, in_quotes}
+use Rattle.nutwords.specs.Reading.{read_text, is_name, is_ups_name, is_value}
+use Rattle.nutwords.specs.Spelling.{with_backslashes, quoted}
+use Rattle.nutdriver.specs.Variable.{VariableState}
+use Rattle.nutusers.specs.Texts.{is_description}
+use Rattle.nutusers.specs.UpsList.{Ups}
+use Rattle.nutlisting.specs.Shown.{shown, ups_description}
+
+-- what is read as a text: its length, its bytes, and itself
+pub text_short : (allowed : ℕ → Bool) (may_be_empty : Bool) (most : ℕ) (bytes : List ℕ) → is_ok (read_text allowed may_be_empty most bytes) ≡ true → length bytes ≤ most
+text_short allowed may_be_empty most bytes h = grind (arith, nat_tests, common_steps)
+
+pub text_all : (allowed : ℕ → Bool) (may_be_empty : Bool) (most : ℕ) (bytes : List ℕ) → is_ok (read_text allowed may_be_empty most bytes) ≡ true → list_all allowed bytes ≡ true
+text_all allowed may_be_empty most bytes h = grind (arith, nat_tests, common_steps)
+
+pub text_some : (allowed : ℕ → Bool) (most : ℕ) (bytes : List ℕ) → is_ok (read_text allowed false most bytes) ≡ true → 0 < length bytes
+text_some allowed most bytes h = grind (arith, nat_tests, common_steps)
+
+pub text_itself : (allowed : ℕ → Bool) (may_be_empty : Bool) (most : ℕ) (bytes : List ℕ) → is_ok (read_text allowed may_be_empty most bytes) ≡ true → read_text allowed may_be_empty most bytes ≡ Ok bytes
+text_itself allowed may_be_empty most bytes h = grind (arith, nat_tests, common_steps)
+
+pub text_same : (allowed : ℕ → Bool) (may_be_empty : Bool) (most : ℕ) (bytes read : List ℕ) → read_text allowed may_be_empty most bytes ≡ Ok read → bytes ≡ read
+text_same allowed may_be_empty most bytes read h = grind (arith, nat_tests, common_steps)
+
+name_byte-bare : (b : ℕ) → is_name_byte b ≡ true → is_bare b ≡ true
+name_byte-bare b h = grind (arith, nat_tests)
+
+name_bytes-bare : (bytes : List ℕ) → list_all is_name_byte bytes ≡ true → list_all is_bare bytes ≡ true
+name_bytes-bare [] h = refl
+name_bytes-bare (b ∷ bytes) h =
+    let p = and_parts (is_name_byte b) (list_all is_name_byte bytes) h in
+    and_from (is_bare b) (list_all is_bare bytes) (name_byte-bare b p.0) (name_bytes-bare bytes p.1)
+
+-- a name is written as it is
+pub name_written : (name : List ℕ) → is_name name ≡ true → IsWritten name name
+name_written name h = as_it_is (text_some is_name_byte 64 name h) (name_bytes-bare name (text_all is_name_byte false 64 name h))
+
+pub ups_name_written : (name : List ℕ) → is_ups_name name ≡ true → IsWritten name name
+ups_name_written name h = as_it_is (text_some is_name_byte 32 name h) (name_bytes-bare name (text_all is_name_byte false 32 name h))
+
+-- a text of lawful bytes is written in quotes
+pub quoted_written : (text : List ℕ) → list_all is_lawful text ≡ true → IsWritten (quoted text) text
+quoted_written text h = in_quotes h
+
+backslashes_by : (v : Bool) (b : ℕ) (word : List ℕ) → length (with_backslashes word) ≤ 2 * length word → length (cond v (92 ∷ b ∷ []) (b ∷ []) ++ with_backslashes word) ≤ 2 * length (b ∷ word)
+backslashes_by true b word le = omega (arith, le)
+backslashes_by false b word le = omega (arith, le)
+
+backslashes_short : (word : List ℕ) → length (with_backslashes word) ≤ 2 * length word
+backslashes_short [] = omega arith
+backslashes_short (b ∷ word) = backslashes_by (eqb b 34 || eqb b 92) b word (backslashes_short word)
+
+-- a backslash before each byte at most
+pub quoted_short : (word : List ℕ) → length (quoted word) ≤ 2 * length word + 2
+quoted_short word = omega (arith, backslashes_short word, length-append (with_backslashes word) (34 ∷ []))
+
+-- a value as clients see it
+shown_by : (v : Bool) (value : List ℕ) → list_all is_lawful value ≡ true → length value ≤ 256
+    → (list_all is_lawful (cond v (codes "FSD " ++ value) value) ≡ true) × (length (cond v (codes "FSD " ++ value) value) ≤ 260)
+shown_by true value h few = (h, omega (arith, few))
+shown_by false value h few = (h, omega (arith, few))
+
+pub shown_lawful : (fsd : Bool) (name : List ℕ) (variable : VariableState) → is_value variable.value ≡ true
+    → (list_all is_lawful (shown fsd name variable) ≡ true) × (length (shown fsd name variable) ≤ 260)
+shown_lawful fsd name variable h =
+    shown_by (fsd && bytes_eq name (codes "ups.status")) variable.value (text_all is_lawful true 256 variable.value h) (text_short is_lawful true 256 variable.value h)
+
+-- a description as clients see it
+pub description_lawful : (ups : Ups) → IfSome ups.desc (λ text. IsTrue (is_description text))
+    → (list_all is_lawful (ups_description ups) ≡ true) × (length (ups_description ups) ≤ 260)
+description_lawful ups h = by ups.desc refl
+  where
+    by : (o : Option (List ℕ)) → ups.desc ≡ o → (list_all is_lawful (ups_description ups) ≡ true) × (length (ups_description ups) ≤ 260)
+    by None e = rw e (refl, omega arith)
+    by (Some text) e =
+        let k : is_description text ≡ true = rw e at h in
+        let v : is_value text ≡ true = (and_parts (leb (length text) 256) (is_value text) k).1 in
+        rw e (text_all is_lawful true 256 text v, omega (arith, text_short is_lawful true 256 text v))

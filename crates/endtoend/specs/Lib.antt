@@ -1,0 +1,4 @@
+pub mod Frames
+pub mod Served
+pub mod Printed
+pub mod Handed

@@ -1,0 +1,42 @@
+//! Laws over both ends: the server's `reply` and the client's `printed`, each as its own crate defines it.
+ghost use Rattle.endtoend.specs.Frames.{AFrameIsReadAsItsItems};
+ghost use Rattle.endtoend.specs.Printed.{UpscPrintsTheVariables, UpscPrintsTheVariable, UpscPrintsTheUpses, UpsrwPrintsTheVariables, UpscmdPrintsTheCommands};
+
+use nutcore::a_listing_is_what_is_held;
+
+/// What is written as a listing is read as the reply of its items, in their order, whatever stands behind it.
+pub fn a_frame_is_read_as_its_items()
+    ensures { AFrameIsReadAsItsItems }
+{}
+
+/// `upsc UPS`: of every server, and every UPS of it that is usable, what is printed of the server's answer to `LIST VAR`
+/// is exactly one line `name: value` for each variable that the UPS holds, in the order of the names, with the value as
+/// clients see it.
+pub fn upsc_prints_the_variables()
+    ensures { UpscPrintsTheVariables }
+{
+    a_listing_is_what_is_held();
+}
+
+/// `upsc UPS VAR`: what is printed of the server's answer to `GET VAR` is the variable's value, as clients see it.
+pub fn upsc_prints_the_variable()
+    ensures { UpscPrintsTheVariable }
+{}
+
+/// `upsc -l` and `upsc -L`: what is printed of the server's answer to `LIST UPS` is exactly one line for each UPS of its
+/// list, in the order of the names.
+pub fn upsc_prints_the_upses()
+    ensures { UpscPrintsTheUpses }
+{}
+
+/// `upsrw UPS`: what is printed of the server's answer to `LIST RW` is exactly one line `name=value` for each variable of
+/// the UPS that may be set, in the order of the names.
+pub fn upsrw_prints_the_variables()
+    ensures { UpsrwPrintsTheVariables }
+{}
+
+/// `upscmd -l UPS`: what is printed of the server's answer to `LIST CMD` is exactly one line for each command of the UPS,
+/// in the order of the names.
+pub fn upscmd_prints_the_commands()
+    ensures { UpscmdPrintsTheCommands }
+{}

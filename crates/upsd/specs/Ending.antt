@@ -1,0 +1,25 @@
+-- How the program ends by what it meets.
+use Rattle.std.specs.Prelude.{◌≡◌, ◌≢◌, ℕ, Bool, List}
+use denote.Ref.{Bor}
+use Rattle.nutusers.specs.File.{Format, IsRefused, number_of_cause}
+use Rattle.nutusers.specs.declared.fault.Cause.TheVariants as causes
+use Rattle.nutusers.specs.declared.fault.ConfFault.{ConfFault}
+use Rattle.upsd.specs.declared.ending.Ending.{Ending}
+use Rattle.upsd.specs.declared.ending.Ending.TheVariants as endings
+use Rattle.upsd.specs.declared.replay.ReplayFault.{ReplayFault}
+use Rattle.upsd.specs.declared.replay.ReplayFault.TheVariants as faults
+
+-- The ending tells of this refusal of the file: no memory where memory was refused, and nowhere else; else the file's path, and the line and the cause's number of the refusal.
+pub record IsToldOf (path : Bor (List ℕ)) (fault : ConfFault) (ending : Ending) : Type 0 where
+  pub memory : fault.cause ≡ causes.Memory → ending ≡ endings.Memory
+  pub line : fault.cause ≢ causes.Memory → ending ≡ endings.Refused path fault.line (number_of_cause fault.cause)
+
+-- The ending tells of the refusal of a file with these lines.
+abbrev pub TellsRefusal : Format → (List ℕ → Bool) → Bor (List ℕ) → List (List ℕ) → Ending → Type 0
+TellsRefusal format adds path lines ending = (fault : ConfFault) × IsRefused format adds lines fault × IsToldOf path fault ending
+
+-- How the program ends where its script isn't replayed.
+abbrev pub ending_of_replay : Bor (List ℕ) → ReplayFault → Ending
+ending_of_replay script (faults.BadEvent line) = endings.BadEvent script line
+ending_of_replay script faults.Memory = endings.Memory
+ending_of_replay script faults.Write = endings.Write

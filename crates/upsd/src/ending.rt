@@ -1,0 +1,84 @@
+//! Why the program ends, and with which status.
+ghost use Rattle.std.specs.Prelude.{◌≡◌, ◌≢◌, MatchResult, Ok, Err};
+ghost use Rattle.nutusers.specs.File.{number_of_cause};
+ghost use Rattle.upsd.specs.Ending.{IsToldOf, ending_of_replay};
+
+use crate::replay::ReplayFault;
+use nutusers::{Cause, ConfFault};
+use thiserror::Error;
+
+/// The status of a run that is done.
+pub const DONE: u8 = 0;
+
+/// The status of a fault at run time.
+pub const FAULT: u8 = 1;
+
+/// The status of a fault of the command's words.
+pub const WORD_FAULT: u8 = 2;
+
+/// Why the program ends at run time. A path is told as it was typed.
+#[derive(Clone, Copy, Debug, PartialEq, Eq, Error)]
+pub enum Ending<'a> {
+    /// Memory was refused.
+    #[error("no memory")]
+    Memory,
+    /// The file can't be read.
+    #[error("{path}: cannot read")]
+    Unread {
+        path: &'a str,
+    },
+    /// This line of a configuration file is refused, with the number of its cause.
+    #[error("{path}:{line}: cause {cause}")]
+    Refused {
+        path: &'a str,
+        line: usize,
+        cause: u8,
+    },
+    /// This line of the script is none of a script's lines.
+    #[error("{path}:{line}: bad event")]
+    BadEvent {
+        path: &'a str,
+        line: usize,
+    },
+    /// The output failed.
+    #[error("write failed")]
+    Write,
+}
+
+/// How the program ends where the configuration file is refused so.
+pub fn ending_of_file(path: &str, fault: ConfFault) -> Ending<'_>
+    ensures { IsToldOf path.entry fault result }
+{
+    match fault.cause {
+        Cause::Memory => Ending::Memory,
+        cause => Ending::Refused {
+            path,
+            line: fault.line,
+            cause: cause.number(),
+        },
+    }
+}
+
+/// How the program ends by what became of the script.
+pub fn ended<'a>(script: &'a str, replayed: Result<(), ReplayFault>) -> Result<(), Ending<'a>>
+    ensures { MatchResult replayed
+        (λ done. result ≡ Ok done)
+        (λ fault. result ≡ Err (ending_of_replay script.entry fault)) }
+{
+    match replayed {
+        Ok(()) => Ok(()),
+        Err(ReplayFault::BadEvent(line)) => Err(Ending::BadEvent { path: script, line }),
+        Err(ReplayFault::Memory) => Err(Ending::Memory),
+        Err(ReplayFault::Write) => Err(Ending::Write),
+    }
+}
+
+/// The status with which the program ends: 0 where it is done, and nowhere else.
+pub fn status_of(ended: &Result<(), Ending<'_>>) -> u8
+    ensures { MatchResult ended.now (λ _. result ≡ DONE) (λ _. result ≡ FAULT) }
+{
+    match ended {
+        Ok(()) => DONE,
+        Err(_) => FAULT,
+    }
+}
