@@ -1,8 +1,7 @@
 -- A read that gave no line.
-use Rattle.std.proofs.Common.{◌≡◌, ℕ, ◌<◌, List, [], ◌∷◌, ◌++◌, length, Option, Some, None, Result, Ok, Err, refl, sym, ap, subst, ◌∙◌, append-nil}
+use Rattle.std.proofs.Common.{◌≡◌, ℕ, ◌<◌, List, [], ◌++◌, length, Option, None, Err, append-nil}
 use Rattle.nutwords.specs.SplitLine.{split_line}
-use Rattle.nutreply.specs.Lines.{lines}
-use Rattle.nutreply.specs.Ends.{Received, ReadFailed}
+use Rattle.nutreply.specs.Ends.{Received}
 use Rattle.nutreply.specs.Inbox.{FillGives, LineGives}
 use Rattle.nutreply.specs.declared.faults.ClientFault.{ClientFault}
 use Rattle.nutreply.specs.declared.faults.ClientFault.TheVariants.{Connect, Read, Write, EarlyEnd, ErrWord, BadReply, BadTarget, Memory}

@@ -1,4 +1,4 @@
-use Rattle.std.proofs.Common.{◌≡◌, ◌++◌, ◌+◌, List, ℕ, ◌∙◌, ap, sym, [], ◌∷◌, ◌≤◌, ◌-◌, length, subst, take, drop, arith, length-drop}
+use Rattle.std.proofs.Common.{◌≡◌, ◌++◌, List, ℕ, sym, ◌≤◌, ◌-◌, length, subst, take, drop, arith, length-drop}
 use Rattle.std.specs.Io.KnownBytes.{Appends}
 use Rattle.nutreply.proofs.Known.{take-all}
 use Rattle.std.proofs.lemmas.List.{take-append-drop}
