@@ -5,7 +5,7 @@ use Rattle.nutreply.specs.Ends.{Received}
 use Rattle.nutreply.specs.Inbox.{FillGives, LineGives}
 use Rattle.nutreply.specs.declared.faults.ClientFault.{ClientFault}
 use Rattle.nutreply.specs.declared.faults.ClientFault.TheVariants.{Connect, Read, Write, EarlyEnd, ErrWord, BadReply, BadTarget, Memory}
-use Rattle.nutreply.proofs.Known.{received_joins, read_failed_joins}
+use Rattle.nutreply.proofs.PublicLaws.{received_joins, read_failed_joins}
 use Rattle.nutreply.proofs.Cutting.{first_open}
 
 pub line_fails : {R : Type 0} (remaining : R → Option (List ℕ)) (failures : R → ℕ) (reader mid after : R) (old kept came new : List ℕ) (fault : ClientFault)

@@ -14,7 +14,7 @@ use Rattle.nutreply.specs.declared.request.Request.{Request}
 use Rattle.nutreply.specs.declared.request.Request.TheVariants.{List as ListOf}
 use Rattle.nutreply.specs.declared.faults.ClientFault.{ClientFault}
 use Rattle.nutreply.specs.declared.faults.ClientFault.TheVariants.{Connect, Read, Write, EarlyEnd, ErrWord, BadReply, BadTarget, Memory}
-use Rattle.nutreply.proofs.Known.{received_joins, read_failed_joins}
+use Rattle.nutreply.proofs.PublicLaws.{received_joins, read_failed_joins}
 
 -- no line came: nothing that is read by lines goes on
 pub line_fault : {R : Type 0} (remaining : R → Option (List ℕ)) (failures : R → ℕ) (f : List FoundLine → Reply) (kept new : List ℕ) (reader after : R) (fault : ClientFault)

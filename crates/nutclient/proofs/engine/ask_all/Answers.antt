@@ -1,6 +1,5 @@
-use Rattle.std.proofs.Common.{◌≡◌, ◌+◌, List, ◌∷◌, refl, sym, subst, drop, false}
-use Rattle.nutreply.specs.Session.{AskGives}
-use Rattle.nutreply.specs.State.{unread_of, reader_of, writer_of, is_over}
+use Rattle.std.proofs.Common.{◌≡◌, ◌+◌, List, ◌∷◌, refl, sym, subst, drop}
+use Rattle.nutreply.specs.State.{unread_of, reader_of, writer_of}
 use Rattle.nutreply.specs.declared.request.Request.{Request}
 use Rattle.nutclient.proofs.Underway.{IsUnderWay, starts, goes_further, ends_early, next_left}
 use Rattle.nutclient.proofs.engine.ask_all.Goals as goal

@@ -4,7 +4,7 @@ use Rattle.nutreply.specs.Inbox.{unread}
 use Rattle.nutreply.specs.Lines.{lines}
 use Rattle.nutreply.specs.Reply.{items_from, later_of}
 use Rattle.nutreply.specs.Session.{TakeGives}
-use Rattle.nutreply.proofs.Known.{received_joins}
+use Rattle.nutreply.proofs.PublicLaws.{received_joins}
 use Rattle.nutreply.proofs.Replies.{line_fault, fails_behind, later_line, take_fails}
 use Rattle.nutreply.proofs.session.read_items.Goals as goal
 
