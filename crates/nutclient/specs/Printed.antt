@@ -4,6 +4,7 @@ use Rattle.std.specs.List.{flat_map}
 use Rattle.std.specs.Io.KnownBytes.{IsAtEnd, Appends}
 use Rattle.nutreply.specs.Ends.{Received, ReadFailed, Written, WriteFailed, IsBeginning}
 use Rattle.nutreply.specs.Reply.{Reply, Whole, Bad, Unfinished, Refused}
+use Rattle.nutreply.specs.Fault.{status_of}
 use Rattle.nutreply.specs.declared.item.Item.{Item}
 use Rattle.nutreply.specs.declared.request.Request.{Request}
 use Rattle.nutreply.specs.declared.faults.ClientFault.{ClientFault}
@@ -88,6 +89,11 @@ RunGives remaining failures contents write_failures printed_so_far print_failure
     × ((more : List ℕ) → IsBeginning text (sent_lines requests (old ++ (came ++ more)))) × (then ≡ out)
 RunGives remaining failures contents write_failures printed_so_far print_failures requests form old reader writer out (Err Connect) after sent then = ⊥
 RunGives remaining failures contents write_failures printed_so_far print_failures requests form old reader writer out (Err BadTarget) after sent then = ⊥
+
+-- The status that a program ends with.
+abbrev pub end_status : Result (Unit {0}) ClientFault → ℕ
+end_status (Ok done) = 0
+end_status (Err fault) = status_of fault
 
 -- The result and what the output took, by what is to be printed.
 abbrev pub Answers : {O : Type 0} → (O → Option (List ℕ)) → Printed → O → Result (Unit {0}) ClientFault → O → Type 0
