@@ -2,6 +2,7 @@
 use crate::{Given, Job, run};
 use nutreply::{ClientFault, CountedReader, CountedWriter, Session};
 use std::alloc::Global;
+use std::fs::File;
 use std::io;
 use std::io::{Read, Write};
 use std::process::Abort;
@@ -357,6 +358,21 @@ fn a_full_output_holds_a_beginning(rt: HostRuntime) -> Result<(), Fail> {
         ..sending(b"BEGIN LIST VAR su\nEND LIST VAR su\n")
     };
     check_met(&rt, rt.alloc(), &OF_SU, empty, (b"LIST VAR su\n", b"", 0))?;
+    Ok(())
+}
+
+#[test]
+fn a_full_device_is_a_failed_write(rt: HostRuntime) -> Result<(), Fail> {
+    let job = Job::read(&OF_SU).map_err(|_| "a lawful job")?;
+    let mut sent = Vec::new(rt.alloc());
+    let mut session = Session::new(
+        rt.alloc(),
+        CountedReader::new(VARIABLES),
+        CountedWriter::new(&mut sent),
+    );
+    let full = File::options().write(true).open(&rt, "/dev/full")?;
+    let mut out = CountedWriter::new(&full);
+    assert_eq!(rt; run(&mut session, &mut out, &job), Err(ClientFault::Write));
     Ok(())
 }
 
