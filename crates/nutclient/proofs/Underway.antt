@@ -125,6 +125,13 @@ ends_early rem rf con wf all old reader writer items request left kept new mid a
 ends_early rem rf con wf all old reader writer items request left kept new mid after middle sent BadTarget i a = absurd a.1
 
 -- the next of what is left
-pub next_left : (all : List Request) (i : ℕ) (item next : Request) → i < length all → item ≡ get_or all i item → next ≡ item → drop i all ≡ next ∷ drop (i + 1) all
-next_left all i item next within is e =
-    drop-cons all i item within ∙ ap (λ x. x ∷ drop (suc i) all) (sym is) ∙ ap (λ x. x ∷ drop (suc i) all) (sym e) ∙ ap (λ n. next ∷ drop n all) (sym (add-one i))
+next_left : (all : List Request) (i : ℕ) (item : Request) → i < length all → item ≡ get_or all i item → drop i all ≡ item ∷ drop (i + 1) all
+next_left all i item within is = drop-cons all i item within ∙ ap (λ x. x ∷ drop (suc i) all) (sym is) ∙ ap (λ n. item ∷ drop n all) (sym (add-one i))
+
+-- what is left begins with the next request
+pub comes_next : {R W : Type 0} (rem : R → Option (List ℕ)) (rf : R → ℕ) (con : W → Option (List ℕ)) (wf : W → ℕ) (all : List Request) (old : List ℕ) (reader : R) (writer : W)
+    (items : List Item) (n : ℕ) (request : Request) (kept : List ℕ) (after : R) (sent : W)
+    → IsUnderWay rem rf con wf all old reader writer items (drop n all) kept after sent → n < length all → request ≡ get_or all n request
+    → IsUnderWay rem rf con wf all old reader writer items (request ∷ drop (n + 1) all) kept after sent
+comes_next rem rf con wf all old reader writer items n request kept after sent i within is =
+    subst (λ left. IsUnderWay rem rf con wf all old reader writer items left kept after sent) (next_left all n request within is) i

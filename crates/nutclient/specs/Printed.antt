@@ -5,6 +5,7 @@ use Rattle.std.specs.Io.KnownBytes.{IsAtEnd, Appends}
 use Rattle.nutreply.specs.Ends.{Received, ReadFailed, Written, WriteFailed, IsBeginning}
 use Rattle.nutreply.specs.Reply.{Reply, Whole, Bad, Unfinished, Refused}
 use Rattle.nutreply.specs.Fault.{status_of}
+use Rattle.nutreply.specs.Writing.{SendGives}
 use Rattle.nutreply.specs.declared.item.Item.{Item}
 use Rattle.nutreply.specs.declared.request.Request.{Request}
 use Rattle.nutreply.specs.declared.faults.ClientFault.{ClientFault}
@@ -44,15 +45,8 @@ printed requests form bytes = printed_of form (last_reply requests bytes)
 
 -- What the output took of a text, for each result of its printing.
 abbrev pub PrintGives : {O : Type 0} → (O → Option (List ℕ)) → (O → ℕ) → List ℕ → O → Result (Unit {0}) ClientFault → O → Type 0
-PrintGives contents failures text out (Ok done) after = Written contents failures out text after
-PrintGives contents failures text out (Err Write) after = WriteFailed contents failures out text after
 PrintGives contents failures text out (Err Memory) after = after ≡ out
-PrintGives contents failures text out (Err Connect) after = ⊥
-PrintGives contents failures text out (Err Read) after = ⊥
-PrintGives contents failures text out (Err EarlyEnd) after = ⊥
-PrintGives contents failures text out (Err (ErrWord word)) after = ⊥
-PrintGives contents failures text out (Err BadReply) after = ⊥
-PrintGives contents failures text out (Err BadTarget) after = ⊥
+PrintGives contents failures text out result after = SendGives contents failures text out result after
 
 -- These bytes came, each line that they ask for was sent, and they print this, whatever stands behind.
 abbrev pub CameAndSent : {R W : Type 0} → (R → Option (List ℕ)) → (R → ℕ) → (W → Option (List ℕ)) → (W → ℕ) → List Request → Form → List ℕ → R → W → Printed → R → W → Type 0

@@ -142,6 +142,17 @@ fn check_met(
     Ok(())
 }
 
+/// The order is sent by these lines, granted and told as done.
+fn check_done(rt: &impl Abort, alloc: Global, given: &Given<'_>, sent: &[u8]) -> Result<(), Fail> {
+    check_met(
+        rt,
+        alloc,
+        given,
+        sending(b"OK\nOK\nOK\n"),
+        (sent, b"OK\n", 0),
+    )
+}
+
 #[test]
 fn each_program_prints_its_reply(rt: HostRuntime) -> Result<(), Fail> {
     let rows: [(Given<'_>, &[u8], &[u8], &[u8]); 8] = [
@@ -223,13 +234,7 @@ fn an_order_has_a_value_or_none(rt: HostRuntime) -> Result<(), Fail> {
             user: "admin",
             password: "pw",
         };
-        check_met(
-            &rt,
-            rt.alloc(),
-            &given,
-            sending(b"OK\nOK\nOK\n"),
-            (sent, b"OK\n", 0),
-        )?;
+        check_done(&rt, rt.alloc(), &given, sent)?;
     }
     Ok(())
 }
@@ -426,13 +431,7 @@ fn a_setting_is_cut_at_its_first_equals_sign(rt: HostRuntime) -> Result<(), Fail
             user: "u",
             password: "p",
         };
-        check_met(
-            &rt,
-            rt.alloc(),
-            &given,
-            sending(b"OK\nOK\nOK\n"),
-            (sent, b"OK\n", 0),
-        )?;
+        check_done(&rt, rt.alloc(), &given, sent)?;
     }
     Ok(())
 }
