@@ -9,7 +9,7 @@ use Rattle.nutreply.specs.Writing.{SendGives}
 use Rattle.nutreply.specs.declared.item.Item.{Item}
 use Rattle.nutreply.specs.declared.request.Request.{Request}
 use Rattle.nutreply.specs.declared.faults.ClientFault.{ClientFault}
-use Rattle.nutreply.specs.declared.faults.ClientFault.TheVariants.{Connect, Read, Write, EarlyEnd, ErrWord, BadReply, BadTarget, Memory}
+use Rattle.nutreply.specs.declared.faults.ClientFault.TheVariants.{Read, Write, EarlyEnd, ErrWord, BadReply, Memory}
 use Rattle.nutclient.specs.Requests.{sent_lines, last_reply}
 use Rattle.nutclient.specs.declared.form.Form.{Form}
 use Rattle.nutclient.specs.declared.form.Form.TheVariants.{Name, Value, Colon, Equals}
@@ -54,7 +54,7 @@ CameAndSent remaining failures contents write_failures requests form old reader 
     (came : List ℕ) × (text : List ℕ) × Received remaining failures reader came after × Written contents write_failures writer text sent
     × ((more : List ℕ) → sent_lines requests (old ++ (came ++ more)) ≡ text) × ((more : List ℕ) → printed requests form (old ++ (came ++ more)) ≡ print)
 
--- What was sent, what came and what was printed, for each result of a job.
+-- What was sent, what came and what was printed, for each result of a job. No other fault comes.
 abbrev pub RunGives : {R W O : Type 0} → (R → Option (List ℕ)) → (R → ℕ) → (W → Option (List ℕ)) → (W → ℕ) → (O → Option (List ℕ)) → (O → ℕ)
     → List Request → Form → List ℕ → R → W → O → Result (Unit {0}) ClientFault → R → W → O → Type 0
 -- the replies are whole, and the text of the last is written
@@ -81,8 +81,7 @@ RunGives remaining failures contents write_failures printed_so_far print_failure
 RunGives remaining failures contents write_failures printed_so_far print_failures requests form old reader writer out (Err Memory) after sent then =
     (came : List ℕ) × (text : List ℕ) × Received remaining failures reader came after × Written contents write_failures writer text sent
     × ((more : List ℕ) → IsBeginning text (sent_lines requests (old ++ (came ++ more)))) × (then ≡ out)
-RunGives remaining failures contents write_failures printed_so_far print_failures requests form old reader writer out (Err Connect) after sent then = ⊥
-RunGives remaining failures contents write_failures printed_so_far print_failures requests form old reader writer out (Err BadTarget) after sent then = ⊥
+RunGives remaining failures contents write_failures printed_so_far print_failures requests form old reader writer out result after sent then = ⊥
 
 -- The status that a program ends with.
 abbrev pub end_status : Result (Unit {0}) ClientFault → ℕ
