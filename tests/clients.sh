@@ -1,7 +1,10 @@
 #!/usr/bin/env bash
 # The clients as a new user tries them: what upsc, upsrw and upscmd say, and with which status they end, without words,
 # with a wrong word, with --help, with a word that isn't lawful, at a port that refuses, at a server that says nothing
-# and closes, and at one that answers. A full output is shown by nutclient's tests: `rt try` needs the output itself.
+# and closes, at one that answers, and with an output that is full.
+#
+# A full output is shown on the built programs, where they are built (`rt run` does it, and proves their crates first):
+# `rt try` needs the output itself. Where they aren't, it is shown by nutclient's tests alone, and the last line says so.
 #
 # One build of each program runs all its cases. `rt try --cases` writes a case's output behind a line `== NAME`, and
 # what it wrote to standard error before a line `case=NAME run=ended status=N ..`.
@@ -122,6 +125,31 @@ try_program() {
     cases=$((cases + ${#names[@]}))
 }
 
+unbuilt=
+# The built program, given the words behind its name, tells that its output is full.
+fails_at_a_full_output() {
+    local program=$1 status=0 got
+    if [[ ! -x $program/out/$program ]]; then
+        [[ $unbuilt == *" $program"* ]] || unbuilt+=" $program"
+        return
+    fi
+    got=$("$program/out/$program" "${@:2}" 2>&1 >/dev/full) || status=$?
+    if [[ $got != "$program: write failed" || $status != 1 ]]; then
+        printf 'clients: FAILED: %s: full output: status %s: %s\n' "$program" "$status" "$got"
+        failed=1
+    fi
+    cases=$((cases + 1))
+}
+
+# The built program is that of this source.
+build_again() {
+    [[ ! -x $1/out/$1 ]] || (cd "$1" && rt run -- --help) >"$folder/out" 2>&1 || {
+        cat "$folder/out"
+        echo "clients: FAILED: $1 wasn't built again"
+        exit 1
+    }
+}
+
 begin upsc
 refuses_words three_words su ups.status more
 refuses_words clients_without_a_ups -c
@@ -138,6 +166,10 @@ prints names "su" -l "127.0.0.1:$answering"
 prints descriptions "su: Rack 1" -L "127.0.0.1:$answering"
 prints clients "192.0.2.1" -c "su@127.0.0.1:$answering"
 try_program upsc
+build_again upsc
+fails_at_a_full_output upsc "su@localhost:$answering"
+fails_at_a_full_output upsc "su@localhost:$answering" ups.status
+fails_at_a_full_output upsc -L "localhost:$answering"
 
 begin upsrw
 refuses_words set_without_a_user -s ups.delay=30 su
@@ -149,6 +181,9 @@ faults denied "upsrw: server answered ERR ACCESS-DENIED" -s ups.delay=30 -u admi
 prints writable "ups.delay=30" "su@127.0.0.1:$answering"
 prints set "OK" -s ups.delay=30 -u admin -p "s3 cret" "su@127.0.0.1:$answering"
 try_program upsrw
+build_again upsrw
+fails_at_a_full_output upsrw "su@localhost:$answering"
+fails_at_a_full_output upsrw -s ups.delay=30 -u admin -p "s3 cret" "su@localhost:$answering"
 
 begin upscmd
 refuses_words command_without_a_user su load.off
@@ -161,6 +196,9 @@ faults denied "upscmd: server answered ERR ACCESS-DENIED" -u admin -p no "su@127
 prints commands "load.off" -l "su@127.0.0.1:$answering"
 prints done "OK" -u admin -p "s3 cret" "su@127.0.0.1:$answering" load.off
 try_program upscmd
+build_again upscmd
+fails_at_a_full_output upscmd -l "su@localhost:$answering"
+fails_at_a_full_output upscmd -u admin -p "s3 cret" "su@localhost:$answering" load.off
 
 ((failed == 0)) || exit 1
-echo "clients: ok: $cases cases"
+echo "clients: ok: $cases cases${unbuilt:+; not built, and so not tried at a full output:$unbuilt}"

@@ -1,4 +1,3 @@
-pub mod Known
 pub mod Underway
 pub mod Printing
 pub mod Ports

@@ -1,6 +1,6 @@
 -- Ports from their digits.
-use Rattle.std.proofs.Common.{◌≡◌, ℕ, ◌+◌, ◌-◌, ◌*◌, ◌<◌, ◌≤◌, ◌^◌, ◌∙◌, Bool, List, [], ◌∷◌, Option, Some, None, true, false, refl, sym, ap, subst, cond, eqb, leb, arith, length, drop}
-use Rattle.std.specs.Prelude.{◌&&◌, not, slice_index, ◌==◌}
+use Rattle.std.proofs.Common.{◌≡◌, ℕ, ◌<◌, ◌^◌, ◌∙◌, Bool, List, [], ◌∷◌, Some, None, true, false, refl, sym, ap, subst, cond, leb, arith, length, drop}
+use Rattle.std.specs.Prelude.{◌&&◌, not, ◌==◌}
 use Rattle.std.proofs.lemmas.Grind.{common_steps}
 use Rattle.std.proofs.lemmas.Bool.Decides.{nat_tests}
 use Rattle.std.specs.List.{list_all}

@@ -1,15 +1,14 @@
 -- What is printed of the replies to the requests.
-use Rattle.std.proofs.Common.{◌≡◌, ℕ, ◌+◌, ◌-◌, ◌<◌, List, [], ◌∷◌, ◌++◌, Option, Some, None, Result, Ok, Err, refl, sym, ap, subst, ◌∙◌, inl, inr, arith, append-nil}
-use Rattle.std.specs.Prelude.{min, ◌^◌, ◌⊎◌}
+use Rattle.std.proofs.Common.{◌≡◌, ℕ, ◌+◌, ◌-◌, ◌<◌, List, [], ◌++◌, Option, Some, None, Result, Ok, Err, refl, sym, ap, subst, ◌∙◌, inl, inr, arith, append-nil}
+use Rattle.std.specs.Prelude.{min, ◌^◌}
 use Rattle.std.specs.Io.KnownBytes.{Consumes, IsAtEnd}
-use Rattle.nutreply.specs.Ends.{counted, Received, ReadFailed, Written, WriteFailed, IsBeginning, NoneFailed}
-use Rattle.nutreply.specs.Reply.{Whole, Unfinished}
+use Rattle.nutreply.specs.Ends.{counted, NoneFailed}
 use Rattle.nutreply.specs.declared.item.Item.{Item}
 use Rattle.nutreply.specs.declared.request.Request.{Request}
 use Rattle.nutreply.specs.declared.faults.ClientFault.{ClientFault}
 use Rattle.nutreply.specs.declared.faults.ClientFault.TheVariants.{Connect, Read, Write, EarlyEnd, ErrWord, BadReply, BadTarget, Memory}
-use Rattle.nutclient.specs.Requests.{sent_lines, last_reply, RequestsGive}
-use Rattle.nutclient.specs.Printed.{Printed, Prints, Faults, printed, printed_of, text_of, PrintGives, CameAndSent, RunGives, Answers}
+use Rattle.nutclient.specs.Requests.{RequestsGive}
+use Rattle.nutclient.specs.Printed.{Printed, Prints, Faults, printed, printed_of, text_of, PrintGives, RunGives, Answers}
 use Rattle.nutclient.specs.declared.form.Form.{Form}
 
 -- a fault of the requests is the job's, and nothing is printed

@@ -1,17 +1,16 @@
 -- Requests of which some are answered.
-use Rattle.std.proofs.Common.{◌≡◌, ℕ, List, [], ◌∷◌, ◌++◌, Option, Some, None, Result, Ok, Err, refl, sym, ap, subst, ◌∙◌, append_assoc, append-nil, drop, suc, length, get_or, add-one, ◌+◌, ◌<◌}
+use Rattle.std.proofs.Common.{◌≡◌, ℕ, List, [], ◌∷◌, ◌++◌, Option, Ok, Err, refl, sym, ap, subst, ◌∙◌, append_assoc, append-nil, drop, suc, length, get_or, add-one, ◌+◌, ◌<◌}
 use Rattle.std.proofs.Math.Seq.{drop-cons}
-use Rattle.std.specs.Io.KnownBytes.{Appends, Consumes, IsAtEnd}
-use Rattle.nutreply.specs.Ends.{counted, Received, ReadFailed, Written, WriteFailed, IsBeginning}
+use Rattle.nutreply.specs.Ends.{Received, Written, IsBeginning}
 use Rattle.nutreply.specs.Request.{request_line}
-use Rattle.nutreply.specs.Reply.{Reply, Refused, Whole, Bad, Unfinished, reply}
+use Rattle.nutreply.specs.Reply.{Reply, Refused, Bad, Unfinished, reply}
 use Rattle.nutreply.specs.Session.{AskGives}
 use Rattle.nutreply.specs.declared.item.Item.{Item}
 use Rattle.nutreply.specs.declared.request.Request.{Request}
 use Rattle.nutreply.specs.declared.faults.ClientFault.{ClientFault}
 use Rattle.nutreply.specs.declared.faults.ClientFault.TheVariants.{Connect, Read, Write, EarlyEnd, ErrWord, BadReply, BadTarget, Memory}
 use Rattle.nutclient.specs.Requests.{lines_behind, sent_lines, reply_behind, last_reply_after, last_reply, RequestsGive}
-use Rattle.nutclient.proofs.Known.{received_joins, read_failed_joins, received_nothing, written_nothing, written_joins, appends_joins}
+use Rattle.nutreply.proofs.PublicLaws.{nothing_is_received, received_joins, read_failed_joins, nothing_is_written, written_joins, write_failed_joins}
 
 -- Of all requests these are left: what came and what was written so far are the replies and the lines up to there, and these items came last.
 pub record IsUnderWay {R W : Type 0} (rem : R → Option (List ℕ)) (rf : R → ℕ) (con : W → Option (List ℕ)) (wf : W → ℕ) (all : List Request) (old : List ℕ) (reader : R) (writer : W)
@@ -27,8 +26,8 @@ pub starts : {R W : Type 0} (rem : R → Option (List ℕ)) (rf : R → ℕ) (co
 starts rem rf con wf all old reader writer = record {
   came = [];
   text = [];
-  read = received_nothing rem rf reader;
-  written = written_nothing con wf writer;
+  read = nothing_is_received rem rf reader;
+  written = nothing_is_written con wf writer;
   lines = λ more. refl;
   replies = λ more. refl;
 }
@@ -42,7 +41,7 @@ goes_further rem rf con wf all old reader writer items request left kept new mid
   came = i.came ++ o.0;
   text = i.text ++ request_line request;
   read = received_joins rem rf reader mid after i.came o.0 i.read o.1;
-  written = written_joins con wf writer middle sent i.text (request_line request) i.written a.0.bytes_written a.0.well;
+  written = written_joins con wf writer middle sent i.text (request_line request) i.written a.0;
   lines = λ more.
       ap (λ bs. sent_lines all (old ++ bs)) (append_assoc i.came o.0 more) ∙ i.lines (o.0 ++ more)
       ∙ ap (λ r. i.text ++ (request_line request ++ lines_behind r (λ rest. sent_lines left rest))) (o.2 more) ∙ sym (append_assoc i.text (request_line request) (sent_lines left (new ++ more)));
@@ -75,23 +74,18 @@ pub ends_early : {R W : Type 0} (rem : R → Option (List ℕ)) (rf : R → ℕ)
     (items : List Item) (request : Request) (left : List Request) (kept new : List ℕ) (mid after : R) (middle sent : W) (fault : ClientFault)
     → IsUnderWay rem rf con wf all old reader writer items (request ∷ left) kept mid middle → AskGives rem rf con wf request kept mid middle (Err fault) new after sent
     → RequestsGive rem rf con wf all old reader writer (Err fault) new after sent
-ends_early rem rf con wf all old reader writer items request left kept new mid after middle sent Write i a = let b = a.0 in (
+ends_early rem rf con wf all old reader writer items request left kept new mid after middle sent Write i a = (
   i.came,
   i.text ++ request_line request,
   subst (λ r. Received rem rf reader i.came r) (sym a.1) i.read,
-  record {
-    front = i.text ++ b.front;
-    begins = (b.begins.0, ap (λ t. i.text ++ t) b.begins.1 ∙ sym (append_assoc i.text b.front b.begins.0));
-    bytes_written = appends_joins (con writer) (con middle) (con sent) i.text b.front i.written.bytes_written b.bytes_written;
-    failed = b.failed ∙ ap counted i.written.well;
-  },
+  write_failed_joins con wf writer middle sent i.text (request_line request) i.written a.0,
   λ more. begins_all rem rf con wf all old reader writer items request left kept mid middle i more,
 )
 ends_early rem rf con wf all old reader writer items request left kept new mid after middle sent (ErrWord w) i a = let f = a.1 in (
   i.came ++ f.0,
   i.text ++ request_line request,
   received_joins rem rf reader mid after i.came f.0 i.read f.1,
-  written_joins con wf writer middle sent i.text (request_line request) i.written a.0.bytes_written a.0.well,
+  written_joins con wf writer middle sent i.text (request_line request) i.written a.0,
   (λ more. ap (λ bs. sent_lines all (old ++ bs)) (append_assoc i.came f.0 more) ∙ sent_so_far rem rf con wf all old reader writer items request left kept mid middle i (f.0 ++ more) (Refused w) (f.2 more) refl),
   (λ more. ap (λ bs. last_reply all (old ++ bs)) (append_assoc i.came f.0 more) ∙ i.replies (f.0 ++ more) ∙ ap (λ r. reply_behind r (λ later rest. last_reply_after later left rest)) (f.2 more)),
 )
@@ -99,7 +93,7 @@ ends_early rem rf con wf all old reader writer items request left kept new mid a
   i.came ++ f.0,
   i.text ++ request_line request,
   received_joins rem rf reader mid after i.came f.0 i.read f.1,
-  written_joins con wf writer middle sent i.text (request_line request) i.written a.0.bytes_written a.0.well,
+  written_joins con wf writer middle sent i.text (request_line request) i.written a.0,
   (λ more. ap (λ bs. sent_lines all (old ++ bs)) (append_assoc i.came f.0 more) ∙ sent_so_far rem rf con wf all old reader writer items request left kept mid middle i (f.0 ++ more) Bad (f.2 more) refl),
   (λ more. ap (λ bs. last_reply all (old ++ bs)) (append_assoc i.came f.0 more) ∙ i.replies (f.0 ++ more) ∙ ap (λ r. reply_behind r (λ later rest. last_reply_after later left rest)) (f.2 more)),
 )
@@ -107,7 +101,7 @@ ends_early rem rf con wf all old reader writer items request left kept new mid a
   i.came ++ f.0,
   i.text ++ request_line request,
   received_joins rem rf reader mid after i.came f.0 i.read f.1,
-  written_joins con wf writer middle sent i.text (request_line request) i.written a.0.bytes_written a.0.well,
+  written_joins con wf writer middle sent i.text (request_line request) i.written a.0,
   f.2,
   sent_so_far rem rf con wf all old reader writer items request left kept mid middle i f.0 Unfinished f.3 refl,
   i.replies f.0 ∙ ap (λ r. reply_behind r (λ later rest. last_reply_after later left rest)) f.3,
@@ -116,7 +110,7 @@ ends_early rem rf con wf all old reader writer items request left kept new mid a
   i.came ++ f.0,
   i.text ++ request_line request,
   read_failed_joins rem rf reader mid after i.came f.0 i.read f.1,
-  written_joins con wf writer middle sent i.text (request_line request) i.written a.0.bytes_written a.0.well,
+  written_joins con wf writer middle sent i.text (request_line request) i.written a.0,
   sent_so_far rem rf con wf all old reader writer items request left kept mid middle i f.0 Unfinished f.2 refl,
   i.replies f.0 ∙ ap (λ r. reply_behind r (λ later rest. last_reply_after later left rest)) f.2,
 )
@@ -124,13 +118,20 @@ ends_early rem rf con wf all old reader writer items request left kept new mid a
   i.came ++ f.0,
   i.text ++ request_line request,
   received_joins rem rf reader mid after i.came f.0 i.read f.1,
-  written_joins con wf writer middle sent i.text (request_line request) i.written a.0.bytes_written a.0.well,
+  written_joins con wf writer middle sent i.text (request_line request) i.written a.0,
   (λ more. subst (λ bs. IsBeginning (i.text ++ request_line request) (sent_lines all (old ++ bs))) (sym (append_assoc i.came f.0 more)) (begins_all rem rf con wf all old reader writer items request left kept mid middle i (f.0 ++ more))),
 )
 ends_early rem rf con wf all old reader writer items request left kept new mid after middle sent Connect i a = absurd a.1
 ends_early rem rf con wf all old reader writer items request left kept new mid after middle sent BadTarget i a = absurd a.1
 
 -- the next of what is left
-pub next_left : (all : List Request) (i : ℕ) (item next : Request) → i < length all → item ≡ get_or all i item → next ≡ item → drop i all ≡ next ∷ drop (i + 1) all
-next_left all i item next within is e =
-    drop-cons all i item within ∙ ap (λ x. x ∷ drop (suc i) all) (sym is) ∙ ap (λ x. x ∷ drop (suc i) all) (sym e) ∙ ap (λ n. next ∷ drop n all) (sym (add-one i))
+next_left : (all : List Request) (i : ℕ) (item : Request) → i < length all → item ≡ get_or all i item → drop i all ≡ item ∷ drop (i + 1) all
+next_left all i item within is = drop-cons all i item within ∙ ap (λ x. x ∷ drop (suc i) all) (sym is) ∙ ap (λ n. item ∷ drop n all) (sym (add-one i))
+
+-- what is left begins with the next request
+pub comes_next : {R W : Type 0} (rem : R → Option (List ℕ)) (rf : R → ℕ) (con : W → Option (List ℕ)) (wf : W → ℕ) (all : List Request) (old : List ℕ) (reader : R) (writer : W)
+    (items : List Item) (n : ℕ) (request : Request) (kept : List ℕ) (after : R) (sent : W)
+    → IsUnderWay rem rf con wf all old reader writer items (drop n all) kept after sent → n < length all → request ≡ get_or all n request
+    → IsUnderWay rem rf con wf all old reader writer items (request ∷ drop (n + 1) all) kept after sent
+comes_next rem rf con wf all old reader writer items n request kept after sent i within is =
+    subst (λ left. IsUnderWay rem rf con wf all old reader writer items left kept after sent) (next_left all n request within is) i

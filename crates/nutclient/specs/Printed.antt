@@ -4,10 +4,12 @@ use Rattle.std.specs.List.{flat_map}
 use Rattle.std.specs.Io.KnownBytes.{IsAtEnd, Appends}
 use Rattle.nutreply.specs.Ends.{Received, ReadFailed, Written, WriteFailed, IsBeginning}
 use Rattle.nutreply.specs.Reply.{Reply, Whole, Bad, Unfinished, Refused}
+use Rattle.nutreply.specs.Fault.{status_of}
+use Rattle.nutreply.specs.Writing.{SendGives}
 use Rattle.nutreply.specs.declared.item.Item.{Item}
 use Rattle.nutreply.specs.declared.request.Request.{Request}
 use Rattle.nutreply.specs.declared.faults.ClientFault.{ClientFault}
-use Rattle.nutreply.specs.declared.faults.ClientFault.TheVariants.{Connect, Read, Write, EarlyEnd, ErrWord, BadReply, BadTarget, Memory}
+use Rattle.nutreply.specs.declared.faults.ClientFault.TheVariants.{Read, Write, EarlyEnd, ErrWord, BadReply, Memory}
 use Rattle.nutclient.specs.Requests.{sent_lines, last_reply}
 use Rattle.nutclient.specs.declared.form.Form.{Form}
 use Rattle.nutclient.specs.declared.form.Form.TheVariants.{Name, Value, Colon, Equals}
@@ -43,15 +45,8 @@ printed requests form bytes = printed_of form (last_reply requests bytes)
 
 -- What the output took of a text, for each result of its printing.
 abbrev pub PrintGives : {O : Type 0} → (O → Option (List ℕ)) → (O → ℕ) → List ℕ → O → Result (Unit {0}) ClientFault → O → Type 0
-PrintGives contents failures text out (Ok done) after = Written contents failures out text after
-PrintGives contents failures text out (Err Write) after = WriteFailed contents failures out text after
 PrintGives contents failures text out (Err Memory) after = after ≡ out
-PrintGives contents failures text out (Err Connect) after = ⊥
-PrintGives contents failures text out (Err Read) after = ⊥
-PrintGives contents failures text out (Err EarlyEnd) after = ⊥
-PrintGives contents failures text out (Err (ErrWord word)) after = ⊥
-PrintGives contents failures text out (Err BadReply) after = ⊥
-PrintGives contents failures text out (Err BadTarget) after = ⊥
+PrintGives contents failures text out result after = SendGives contents failures text out result after
 
 -- These bytes came, each line that they ask for was sent, and they print this, whatever stands behind.
 abbrev pub CameAndSent : {R W : Type 0} → (R → Option (List ℕ)) → (R → ℕ) → (W → Option (List ℕ)) → (W → ℕ) → List Request → Form → List ℕ → R → W → Printed → R → W → Type 0
@@ -59,7 +54,7 @@ CameAndSent remaining failures contents write_failures requests form old reader 
     (came : List ℕ) × (text : List ℕ) × Received remaining failures reader came after × Written contents write_failures writer text sent
     × ((more : List ℕ) → sent_lines requests (old ++ (came ++ more)) ≡ text) × ((more : List ℕ) → printed requests form (old ++ (came ++ more)) ≡ print)
 
--- What was sent, what came and what was printed, for each result of a job.
+-- What was sent, what came and what was printed, for each result of a job. No other fault comes.
 abbrev pub RunGives : {R W O : Type 0} → (R → Option (List ℕ)) → (R → ℕ) → (W → Option (List ℕ)) → (W → ℕ) → (O → Option (List ℕ)) → (O → ℕ)
     → List Request → Form → List ℕ → R → W → O → Result (Unit {0}) ClientFault → R → W → O → Type 0
 -- the replies are whole, and the text of the last is written
@@ -86,8 +81,12 @@ RunGives remaining failures contents write_failures printed_so_far print_failure
 RunGives remaining failures contents write_failures printed_so_far print_failures requests form old reader writer out (Err Memory) after sent then =
     (came : List ℕ) × (text : List ℕ) × Received remaining failures reader came after × Written contents write_failures writer text sent
     × ((more : List ℕ) → IsBeginning text (sent_lines requests (old ++ (came ++ more)))) × (then ≡ out)
-RunGives remaining failures contents write_failures printed_so_far print_failures requests form old reader writer out (Err Connect) after sent then = ⊥
-RunGives remaining failures contents write_failures printed_so_far print_failures requests form old reader writer out (Err BadTarget) after sent then = ⊥
+RunGives remaining failures contents write_failures printed_so_far print_failures requests form old reader writer out result after sent then = ⊥
+
+-- The status that a program ends with.
+abbrev pub end_status : Result (Unit {0}) ClientFault → ℕ
+end_status (Ok done) = 0
+end_status (Err fault) = status_of fault
 
 -- The result and what the output took, by what is to be printed.
 abbrev pub Answers : {O : Type 0} → (O → Option (List ℕ)) → Printed → O → Result (Unit {0}) ClientFault → O → Type 0

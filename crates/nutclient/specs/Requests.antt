@@ -9,7 +9,7 @@ use Rattle.nutreply.specs.declared.request.Request.{Request}
 use Rattle.nutclient.specs.declared.requests.Requests.{Requests}
 use Rattle.nutclient.specs.declared.requests.Requests.TheVariants.{Alone, BehindLogin}
 use Rattle.nutreply.specs.declared.faults.ClientFault.{ClientFault}
-use Rattle.nutreply.specs.declared.faults.ClientFault.TheVariants.{Connect, Read, Write, EarlyEnd, ErrWord, BadReply, BadTarget, Memory}
+use Rattle.nutreply.specs.declared.faults.ClientFault.TheVariants.{Read, Write, EarlyEnd, ErrWord, BadReply, Memory}
 
 -- The requests of a job, in the order in which they are sent.
 abbrev pub requests_in : Requests → List Request
@@ -43,7 +43,7 @@ last_reply_after items (request ∷ requests) bytes = reply_behind (reply reques
 abbrev pub last_reply : List Request → List ℕ → Reply
 last_reply requests bytes = last_reply_after [] requests bytes
 
--- What was sent, and what came, for each result of the requests in turn. What came decides them, whatever stands behind; at an end and at a failed read it is unfinished.
+-- What was sent, and what came, for each result of the requests in turn. What came decides them, whatever stands behind; at an end and at a failed read it is unfinished. No other fault comes.
 abbrev pub RequestsGive : {R W : Type 0} → (R → Option (List ℕ)) → (R → ℕ) → (W → Option (List ℕ)) → (W → ℕ) → List Request → List ℕ → R → W → Result (List Item) ClientFault → List ℕ → R → W → Type 0
 RequestsGive remaining failures contents write_failures requests old reader writer (Ok items) new after sent =
     (came : List ℕ) × (text : List ℕ) × Received remaining failures reader came after × Written contents write_failures writer text sent
@@ -66,5 +66,4 @@ RequestsGive remaining failures contents write_failures requests old reader writ
 RequestsGive remaining failures contents write_failures requests old reader writer (Err Memory) new after sent =
     (came : List ℕ) × (text : List ℕ) × Received remaining failures reader came after × Written contents write_failures writer text sent
     × ((more : List ℕ) → IsBeginning text (sent_lines requests (old ++ (came ++ more))))
-RequestsGive remaining failures contents write_failures requests old reader writer (Err Connect) new after sent = ⊥
-RequestsGive remaining failures contents write_failures requests old reader writer (Err BadTarget) new after sent = ⊥
+RequestsGive remaining failures contents write_failures requests old reader writer result new after sent = ⊥

@@ -1,8 +1,10 @@
 //! What the three programs share: their words, what they do, and how a fault is told.
-ghost use Rattle.std.specs.Prelude.{◌≡◌, ◌≢◌};
+ghost use Rattle.std.specs.Prelude.{◌≡◌, ◌≢◌, ◌≤◌, ◌⊎◌, None, Err, IfErr};
 ghost use Rattle.std.specs.Process.{exit_status};
 ghost use Rattle.clap.specs.Words.{kind_of};
 ghost use Rattle.nutreply.specs.Fault.{status_of};
+ghost use Rattle.nutclient.specs.Job.{job_of};
+ghost use Rattle.nutclient.specs.Printed.{end_status};
 
 use crate::{Given, Job, connect, run};
 use clap::Error;
@@ -15,7 +17,9 @@ use std::{env, io};
 const WORD_FAULT: u8 = 2;
 
 /// The program's words. Words that are no text are bad arguments.
-pub fn words_of(rt: &HostRuntime) -> Result<Vec<String>, ClientFault> {
+pub fn words_of(rt: &HostRuntime) -> Result<Vec<String>, ClientFault>
+    ensures { IfErr result (λ fault. (fault ≡ ClientFault.BadTarget) ⊎ (fault ≡ ClientFault.Memory)) }
+{
     match env::args(rt) {
         Ok(args) => args.collect(rt.alloc()).map_err(|_| ClientFault::Memory),
         Err(error) => {
@@ -29,17 +33,37 @@ pub fn words_of(rt: &HostRuntime) -> Result<Vec<String>, ClientFault> {
 }
 
 /// Does what is asked for, and tells the fault that it meets.
-pub fn perform(rt: &HostRuntime, program: &str, given: &Given<'_>) -> ExitCode {
-    match print_given(rt, given) {
+pub fn perform(rt: &HostRuntime, program: &str, given: &Given<'_>) -> ExitCode
+    // Status 2 tells that a word isn't lawful, and nothing else does.
+    ensures unlawful { job_of given.now ≡ None → exit_status result ≡ 2 }
+    ensures lawful { job_of given.now ≢ None → exit_status result ≤ 1 }
+{
+    conclude(rt, program, print_given(rt, given))
+}
+
+/// The status of what came of it. A fault is told.
+fn conclude(rt: &HostRuntime, program: &str, outcome: Result<(), ClientFault>) -> ExitCode
+    ensures { exit_status result ≡ end_status outcome }
+{
+    match outcome {
         Ok(()) => ExitCode::SUCCESS,
         Err(fault) => tell(rt, program, &fault),
     }
 }
 
 /// Asks the server, and prints what it answers.
-fn print_given(rt: &HostRuntime, given: &Given<'_>) -> Result<(), ClientFault> {
-    let job = Job::read(given)?;
-    let stream = connect(rt, &job.target)?;
+fn print_given(rt: &HostRuntime, given: &Given<'_>) -> Result<(), ClientFault>
+    ensures unlawful { job_of given.now ≡ None → result ≡ Err ClientFault.BadTarget }
+    ensures lawful { job_of given.now ≢ None → result ≢ Err ClientFault.BadTarget }
+{
+    let job = match Job::read(given) {
+        Ok(job) => job,
+        Err(fault) => return Err(fault),
+    };
+    let stream = match connect(rt, &job.target) {
+        Ok(stream) => stream,
+        Err(fault) => return Err(fault),
+    };
     let mut session = Session::new(
         rt.alloc(),
         CountedReader::new(&stream),

@@ -2,6 +2,7 @@
 use crate::{Given, Job, run};
 use nutreply::{ClientFault, CountedReader, CountedWriter, Session};
 use std::alloc::Global;
+use std::fs::File;
 use std::io;
 use std::io::{Read, Write};
 use std::process::Abort;
@@ -141,6 +142,17 @@ fn check_met(
     Ok(())
 }
 
+/// The order is sent by these lines, granted and told as done.
+fn check_done(rt: &impl Abort, alloc: Global, given: &Given<'_>, sent: &[u8]) -> Result<(), Fail> {
+    check_met(
+        rt,
+        alloc,
+        given,
+        sending(b"OK\nOK\nOK\n"),
+        (sent, b"OK\n", 0),
+    )
+}
+
 #[test]
 fn each_program_prints_its_reply(rt: HostRuntime) -> Result<(), Fail> {
     let rows: [(Given<'_>, &[u8], &[u8], &[u8]); 8] = [
@@ -222,13 +234,7 @@ fn an_order_has_a_value_or_none(rt: HostRuntime) -> Result<(), Fail> {
             user: "admin",
             password: "pw",
         };
-        check_met(
-            &rt,
-            rt.alloc(),
-            &given,
-            sending(b"OK\nOK\nOK\n"),
-            (sent, b"OK\n", 0),
-        )?;
+        check_done(&rt, rt.alloc(), &given, sent)?;
     }
     Ok(())
 }
@@ -361,6 +367,21 @@ fn a_full_output_holds_a_beginning(rt: HostRuntime) -> Result<(), Fail> {
 }
 
 #[test]
+fn a_full_device_is_a_failed_write(rt: HostRuntime) -> Result<(), Fail> {
+    let job = Job::read(&OF_SU).map_err(|_| "a lawful job")?;
+    let mut sent = Vec::new(rt.alloc());
+    let mut session = Session::new(
+        rt.alloc(),
+        CountedReader::new(VARIABLES),
+        CountedWriter::new(&mut sent),
+    );
+    let full = File::options().write(true).open(&rt, "/dev/full")?;
+    let mut out = CountedWriter::new(&full);
+    assert_eq!(rt; run(&mut session, &mut out, &job), Err(ClientFault::Write));
+    Ok(())
+}
+
+#[test]
 fn unlawful_words_are_bad_arguments(rt: HostRuntime) -> Result<(), Fail> {
     let upses = [
         "",
@@ -410,13 +431,7 @@ fn a_setting_is_cut_at_its_first_equals_sign(rt: HostRuntime) -> Result<(), Fail
             user: "u",
             password: "p",
         };
-        check_met(
-            &rt,
-            rt.alloc(),
-            &given,
-            sending(b"OK\nOK\nOK\n"),
-            (sent, b"OK\n", 0),
-        )?;
+        check_done(&rt, rt.alloc(), &given, sent)?;
     }
     Ok(())
 }

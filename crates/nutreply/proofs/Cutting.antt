@@ -3,7 +3,7 @@ use Rattle.std.proofs.Common.{◌≡◌, ℕ, zero, suc, ◌+◌, ◌<◌, ◌�
 use Rattle.std.proofs.lemmas.Bool.Decides.{nat_tests}
 use Rattle.std.specs.Option.{option_map}
 use Rattle.nutwords.specs.SplitLine.{split_line}
-use Rattle.nutreply.specs.Lines.{lines, lines_from, FoundLine, Line, TooLong}
+use Rattle.nutreply.specs.Lines.{lines, lines_from, Line, TooLong}
 
 -- a byte more before the first line
 abbrev with_byte : ℕ → Option (List ℕ × List ℕ) → Option (List ℕ × List ℕ)

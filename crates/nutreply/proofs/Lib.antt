@@ -1,3 +1,4 @@
+pub mod PublicLaws
 pub mod Known
 pub mod Cutting
 pub mod Reading

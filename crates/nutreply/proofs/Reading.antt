@@ -1,12 +1,11 @@
 -- A read that gave no line.
-use Rattle.std.proofs.Common.{◌≡◌, ℕ, ◌<◌, List, [], ◌∷◌, ◌++◌, length, Option, Some, None, Result, Ok, Err, refl, sym, ap, subst, ◌∙◌, append-nil}
+use Rattle.std.proofs.Common.{◌≡◌, ℕ, ◌<◌, List, [], ◌++◌, length, Option, None, Err, append-nil}
 use Rattle.nutwords.specs.SplitLine.{split_line}
-use Rattle.nutreply.specs.Lines.{lines}
-use Rattle.nutreply.specs.Ends.{Received, ReadFailed}
+use Rattle.nutreply.specs.Ends.{Received}
 use Rattle.nutreply.specs.Inbox.{FillGives, LineGives}
 use Rattle.nutreply.specs.declared.faults.ClientFault.{ClientFault}
 use Rattle.nutreply.specs.declared.faults.ClientFault.TheVariants.{Connect, Read, Write, EarlyEnd, ErrWord, BadReply, BadTarget, Memory}
-use Rattle.nutreply.proofs.Known.{received_joins, read_failed_joins}
+use Rattle.nutreply.proofs.PublicLaws.{received_joins, read_failed_joins}
 use Rattle.nutreply.proofs.Cutting.{first_open}
 
 pub line_fails : {R : Type 0} (remaining : R → Option (List ℕ)) (failures : R → ℕ) (reader mid after : R) (old kept came new : List ℕ) (fault : ClientFault)

@@ -1,21 +1,20 @@
 -- A reply that is read line by line.
-use Rattle.std.proofs.Common.{◌≡◌, ℕ, ◌<◌, ◌≤◌, true, false, leb, ltb, List, [], ◌∷◌, ◌++◌, length, Option, Some, None, Result, Ok, Err, refl, sym, ap, subst, ◌∙◌, append_assoc, append-nil, arith}
-use Rattle.std.proofs.lemmas.Bool.Decides.{nat_tests}
-use Rattle.std.specs.Io.KnownBytes.{IsAtEnd}
+use Rattle.std.proofs.Common.{◌≡◌, ℕ, List, [], ◌∷◌, ◌++◌, Option, Result, Ok, Err, sym, ap, ◌∙◌, append_assoc}
+use Rattle.nutwords.specs.Scan.{words_of}
 use Rattle.nutreply.specs.Lines.{lines, FoundLine, Line, TooLong}
-use Rattle.nutreply.specs.Ends.{Received, ReadFailed, Written}
+use Rattle.nutreply.specs.Ends.{Received, Written}
 use Rattle.nutreply.specs.Inbox.{LineGives}
 use Rattle.nutreply.specs.Request.{request_line}
-use Rattle.nutreply.specs.Reply.{Reply, Whole, Bad, Unfinished, reply, items_from, after_later, after_expected}
-use Rattle.nutreply.specs.Session.{Fails, FirstGives, ItemsGive, ReplyGives, AskGives}
+use Rattle.nutreply.specs.Reply.{Reply, Bad, Unfinished, reply, items_from, later_of, after_later, after_expected}
+use Rattle.nutreply.specs.Session.{Fails, FirstGives, TakeGives, ItemsGive, ReplyGives, AskGives}
 use Rattle.nutreply.specs.declared.item.Item.{Item}
-use Rattle.nutreply.specs.declared.read.LaterLine.TheVariants.{End, Another, Bad as BadLater}
+use Rattle.nutreply.specs.declared.read.LaterLine.{LaterLine}
 use Rattle.nutreply.specs.declared.request.Query.{Query}
 use Rattle.nutreply.specs.declared.request.Request.{Request}
 use Rattle.nutreply.specs.declared.request.Request.TheVariants.{List as ListOf}
 use Rattle.nutreply.specs.declared.faults.ClientFault.{ClientFault}
 use Rattle.nutreply.specs.declared.faults.ClientFault.TheVariants.{Connect, Read, Write, EarlyEnd, ErrWord, BadReply, BadTarget, Memory}
-use Rattle.nutreply.proofs.Known.{received_joins, read_failed_joins}
+use Rattle.nutreply.proofs.PublicLaws.{received_joins, read_failed_joins}
 
 -- no line came: nothing that is read by lines goes on
 pub line_fault : {R : Type 0} (remaining : R → Option (List ℕ)) (failures : R → ℕ) (f : List FoundLine → Reply) (kept new : List ℕ) (reader after : R) (fault : ClientFault)
@@ -48,11 +47,28 @@ pub behind : (F : List ℕ → Reply) (f : List FoundLine → Reply) (x y kept n
     → (more : List ℕ) → F ((x ++ y) ++ more) ≡ f (Line line (new ++ more) ∷ lines (new ++ more))
 behind F f x y kept new line h k more = ap F (append_assoc x y more) ∙ h (y ++ more) ∙ ap f (k more)
 
-pub item_fits : (item : Item) (items : List Item) (rest : List ℕ) (go : List Item → Reply) → length items < 65536 → after_later (Another item) items rest go ≡ go (items ++ item ∷ [])
-item_fits item items rest go h = let e : ltb (length items) 65536 ≡ true = grind (arith, nat_tests) in rw e refl
+-- one later line more of a listing
+pub later_line : (query : Query) (items : List Item) (F : List ℕ → Reply) (x y kept new line words_line : List ℕ)
+    → ((more : List ℕ) → F (x ++ more) ≡ items_from query items (lines (kept ++ more)))
+    → ((more : List ℕ) → lines (kept ++ (y ++ more)) ≡ Line line (new ++ more) ∷ lines (new ++ more))
+    → words_line ≡ line
+    → (more : List ℕ) → F ((x ++ y) ++ more) ≡ after_later (later_of query (words_of words_line)) items (new ++ more) (λ all. items_from query all (lines (new ++ more)))
+later_line query items F x y kept new line words_line h k e more =
+    behind F (items_from query items) x y kept new line h k more
+    ∙ ap (λ l. after_later (later_of query (words_of l)) items (new ++ more) (λ all. items_from query all (lines (new ++ more)))) (sym e)
 
-pub item_too_many : (item : Item) (items : List Item) (rest : List ℕ) (go : List Item → Reply) → 65536 ≤ length items → after_later (Another item) items rest go ≡ Bad
-item_too_many item items rest go h = let e : ltb (length items) 65536 ≡ false = grind (arith, nat_tests) in rw e refl
+-- a line that can't follow, or no memory
+pub take_fails : {R : Type 0} (remaining : R → Option (List ℕ)) (failures : R → ℕ) (F : List ℕ → Reply) (later : LaterLine) (go : List ℕ → List Item → Reply) (items after_items : List Item) (came new : List ℕ) (reader after : R) (fault : ClientFault)
+    → Received remaining failures reader came after → ((more : List ℕ) → F (came ++ more) ≡ after_later later items (new ++ more) (go more))
+    → TakeGives later items (Err fault) after_items → Fails remaining failures F reader fault after
+take_fails remaining failures F later go items after_items came new reader after BadReply c h t = (came, c, λ more. h more ∙ t (new ++ more) (go more))
+take_fails remaining failures F later go items after_items came new reader after Memory c h t = (came, c)
+take_fails remaining failures F later go items after_items came new reader after EarlyEnd c h t = absurd t
+take_fails remaining failures F later go items after_items came new reader after Read c h t = absurd t
+take_fails remaining failures F later go items after_items came new reader after Connect c h t = absurd t
+take_fails remaining failures F later go items after_items came new reader after Write c h t = absurd t
+take_fails remaining failures F later go items after_items came new reader after (ErrWord w) c h t = absurd t
+take_fails remaining failures F later go items after_items came new reader after BadTarget c h t = absurd t
 
 -- the answer is the reply's, where the request was sent
 pub asked_of_reply : {R W : Type 0} (remaining : R → Option (List ℕ)) (failures : R → ℕ) (contents : W → Option (List ℕ)) (write_failures : W → ℕ) (request : Request) (old new : List ℕ) (reader after : R) (writer sent : W) (result : Result (List Item) ClientFault)

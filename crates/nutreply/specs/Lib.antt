@@ -1,5 +1,6 @@
 pub mod Fault
 pub mod Ends
+pub mod Joining
 pub mod Lines
 pub mod Inbox
 pub mod Writing

@@ -1,5 +1,5 @@
 -- A reply, as it is read from the bytes that come (RFC 9271).
-use Rattle.std.specs.Prelude.{ℕ, Bool, true, false, List, [], ◌∷◌, ◌++◌, ◌&&◌, ◌||◌, ◌==◌, nat_le, nat_lt, length, Option, Some, None, option_and_then, Result, Ok, Err, if◌then◌else◌, codes}
+use Rattle.std.specs.Prelude.{ℕ, Bool, true, false, List, [], ◌∷◌, ◌++◌, ◌&&◌, ◌||◌, ◌==◌, nat_le, length, Option, Some, None, option_and_then, Result, Ok, Err, if◌then◌else◌, codes}
 use Rattle.std.specs.Str.{bytes_eq}
 use Rattle.std.specs.List.{list_all}
 use Rattle.nutwords.specs.Scan.{words_of}
@@ -8,9 +8,9 @@ use Rattle.nutwords.specs.declared.faults.BadName.{BadName}
 use Rattle.nutreply.specs.declared.limits.TheConstants.{ITEM_LIMIT}
 use Rattle.nutreply.specs.declared.item.Item.{Item}
 use Rattle.nutreply.specs.declared.request.Query.{Query}
-use Rattle.nutreply.specs.declared.request.Query.TheVariants.{Ups, Var, Rw, Cmd, Client}
+use Rattle.nutreply.specs.declared.request.Query.TheVariants.{Ups, Client}
 use Rattle.nutreply.specs.declared.request.Request.{Request}
-use Rattle.nutreply.specs.declared.request.Request.TheVariants.{List as ListOf, GetVar, Username, Password, SetVar, Instcmd}
+use Rattle.nutreply.specs.declared.request.Request.TheVariants.{List as ListOf, GetVar}
 use Rattle.nutreply.specs.declared.read.FirstLine.{FirstLine}
 use Rattle.nutreply.specs.declared.read.FirstLine.TheVariants.{Expected, Refusal, Bad as BadFirst}
 use Rattle.nutreply.specs.declared.read.LaterLine.{LaterLine}
@@ -105,10 +105,14 @@ pub data Reply : Type 0 where
   Bad : Reply
   Unfinished : Reply
 
--- What a line makes of the items before it, by what is made of more of them. There are at most 65,536.
+-- There are 65,536: a listing has no more.
+abbrev pub is_full : List Item → Bool
+is_full items = nat_le ITEM_LIMIT (length items)
+
+-- What a line makes of the items before it, by what is made of more of them.
 abbrev pub after_later : LaterLine → List Item → List ℕ → (List Item → Reply) → Reply
 after_later End items rest go = Whole items rest
-after_later (Another item) items rest go = if nat_lt (length items) ITEM_LIMIT then go (items ++ item ∷ []) else Bad
+after_later (Another item) items rest go = if is_full items then Bad else go (items ++ item ∷ [])
 after_later BadLater items rest go = Bad
 
 -- The reply, from its later lines.

@@ -1,5 +1,5 @@
 -- What a client asks for, and the line that it sends for it (RFC 9271).
-use Rattle.std.specs.Prelude.{ℕ, Bool, true, false, List, [], ◌∷◌, ◌++◌, Option, Some, None, option_map, option_to_list, codes}
+use Rattle.std.specs.Prelude.{ℕ, Bool, true, false, List, [], ◌∷◌, Option, Some, None, option_map, option_to_list, codes}
 use Rattle.nutwords.specs.Frame.{line_of}
 use Rattle.nutwords.specs.Spelling.{quoted}
 use Rattle.nutreply.specs.declared.request.Query.{Query}

@@ -1,31 +1,40 @@
 -- What the calls of a session give. `remaining` and `failures` are the reader's, `contents` and `write_failures` the writer's.
-use Rattle.std.specs.Prelude.{◌≡◌, ℕ, List, [], ◌∷◌, ◌++◌, Option, Some, None, Result, Ok, Err}
+use Rattle.std.specs.Prelude.{◌≡◌, ⊤, ℕ, List, [], ◌++◌, ◌+◌, length, false, Option, Result, Ok, Err}
 use Rattle.std.specs.Io.KnownBytes.{IsAtEnd}
 use Rattle.nutreply.specs.Ends.{Received, ReadFailed, Written, WriteFailed}
 use Rattle.nutreply.specs.Lines.{lines}
 use Rattle.nutreply.specs.Request.{request_line}
-use Rattle.nutreply.specs.Reply.{Reply, Refused, Whole, Bad, Unfinished, reply, items_from, after_expected}
+use Rattle.nutreply.specs.Reply.{Reply, Refused, Whole, Bad, Unfinished, reply, items_from, after_later, is_full, after_expected}
 use Rattle.nutreply.specs.declared.item.Item.{Item}
+use Rattle.nutreply.specs.declared.read.LaterLine.{LaterLine}
+use Rattle.nutreply.specs.declared.session.Taken.{Taken}
+use Rattle.nutreply.specs.declared.session.Taken.TheVariants.{One, All}
 use Rattle.nutreply.specs.declared.request.Query.{Query}
 use Rattle.nutreply.specs.declared.request.Request.{Request}
 use Rattle.nutreply.specs.declared.faults.ClientFault.{ClientFault}
-use Rattle.nutreply.specs.declared.faults.ClientFault.TheVariants.{Connect, Read, Write, EarlyEnd, ErrWord, BadReply, BadTarget, Memory}
+use Rattle.nutreply.specs.declared.faults.ClientFault.TheVariants.{Read, Write, EarlyEnd, ErrWord, BadReply, Memory}
 
--- Why no reply is given, the bytes that come being read so: what came decides it, whatever stands behind; or what came is unfinished, and the reader ended or failed; or memory was refused.
+-- Why no reply is given, the bytes that come being read so: what came decides it, whatever stands behind; or what came is unfinished, and the reader ended or failed; or memory was refused. No other fault comes.
 abbrev pub Fails : {R : Type 0} → (R → Option (List ℕ)) → (R → ℕ) → (List ℕ → Reply) → R → ClientFault → R → Type 0
 Fails remaining failures reading reader (ErrWord word) after = (came : List ℕ) × Received remaining failures reader came after × ((more : List ℕ) → reading (came ++ more) ≡ Refused word)
 Fails remaining failures reading reader BadReply after = (came : List ℕ) × Received remaining failures reader came after × ((more : List ℕ) → reading (came ++ more) ≡ Bad)
 Fails remaining failures reading reader EarlyEnd after = (came : List ℕ) × Received remaining failures reader came after × IsAtEnd (remaining after) × (reading came ≡ Unfinished)
 Fails remaining failures reading reader Read after = (came : List ℕ) × ReadFailed remaining failures reader came after × (reading came ≡ Unfinished)
 Fails remaining failures reading reader Memory after = (came : List ℕ) × Received remaining failures reader came after
-Fails remaining failures reading reader Connect after = ⊥
-Fails remaining failures reading reader Write after = ⊥
-Fails remaining failures reading reader BadTarget after = ⊥
+Fails remaining failures reading reader fault after = ⊥
 
 -- The first line of a reply tells this, and the rest of the reply stands behind what came.
 abbrev pub FirstGives : {R : Type 0} → (R → Option (List ℕ)) → (R → ℕ) → Request → List ℕ → R → Result (List ℕ) ClientFault → List ℕ → R → Type 0
 FirstGives remaining failures request old reader (Ok value) new after = (came : List ℕ) × Received remaining failures reader came after × ((more : List ℕ) → reply request (old ++ (came ++ more)) ≡ after_expected request value (new ++ more))
 FirstGives remaining failures request old reader (Err fault) new after = Fails remaining failures (λ came. reply request (old ++ came)) reader fault after
+
+-- What a later line makes of the items before it, whatever stands behind it and however more items are read. No other fault comes.
+abbrev pub TakeGives : LaterLine → List Item → Result Taken ClientFault → List Item → Type 0
+TakeGives later old (Ok All) new = (rest : List ℕ) (go : List Item → Reply) → after_later later old rest go ≡ Whole new rest
+TakeGives later old (Ok One) new = (is_full old ≡ false) × (length new ≡ length old + 1) × ((rest : List ℕ) (go : List Item → Reply) → after_later later old rest go ≡ go new)
+TakeGives later old (Err BadReply) new = (rest : List ℕ) (go : List Item → Reply) → after_later later old rest go ≡ Bad
+TakeGives later old (Err Memory) new = ⊤
+TakeGives later old result new = ⊥
 
 -- The items of a listing, from behind its first line.
 abbrev pub ItemsGive : {R : Type 0} → (R → Option (List ℕ)) → (R → ℕ) → Query → List ℕ → R → Result (List Item) ClientFault → List ℕ → R → Type 0

@@ -1,7 +1,7 @@
 //! The items of a reply.
 ghost use Rattle.std.specs.Prelude.{◌≡◌, ◌∷◌, ◌++◌, [], length, MatchResult, IsTrue, ◌↔◌};
 
-use crate::Bytes;
+use crate::{Bytes, ITEM_LIMIT};
 use std::alloc::{AllocError, Global};
 use std::marker::Model;
 
@@ -29,6 +29,8 @@ impl Model for Items {
 }
 
 impl Items {
+    ghost use Rattle.nutreply.specs.Reply.{is_full};
+
     /// No items. Takes no memory.
     pub fn new(alloc: Global) -> Items
         ensures { result ≡ [] }
@@ -50,6 +52,13 @@ impl Items {
         ensures { IsTrue result ↔ (self.now ≡ []) }
     {
         self.all.is_empty()
+    }
+
+    /// Whether a listing may have no item more.
+    pub(crate) fn is_full(&self) -> bool
+        ensures { result ≡ is_full self.now }
+    {
+        self.all.len() >= ITEM_LIMIT
     }
 
     /// All of them.

@@ -9,6 +9,7 @@ mod ends;
 mod faults;
 mod inbox;
 mod item;
+pub mod laws;
 mod limits;
 mod line;
 mod read;

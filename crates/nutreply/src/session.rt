@@ -1,14 +1,16 @@
 //! A session: requests, each with its reply.
-ghost use Rattle.std.specs.Prelude.{◌≡◌, [], Err, OnErr, OnOk, MatchResult, true, false};
-ghost use Rattle.nutreply.specs.Reply.{one_item};
+ghost use Rattle.std.specs.Prelude.{◌≡◌, ◌≤◌, [], length, Err, OnErr, OnOk, MatchResult, true, false};
+ghost use Rattle.nutwords.specs.Scan.{words_of};
+ghost use Rattle.nutwords.specs.declared.limits.TheConstants.{LINE_LIMIT};
+ghost use Rattle.nutreply.specs.Reply.{one_item, later_of};
 ghost use Rattle.nutreply.specs.Inbox.{unread};
 ghost use Rattle.nutreply.specs.State.{unread_of, reader_of, writer_of, is_over};
-ghost use Rattle.nutreply.specs.Session.{FirstGives, ItemsGive, ReplyGives, AskGives};
+ghost use Rattle.nutreply.specs.Session.{FirstGives, TakeGives, ItemsGive, ReplyGives, AskGives};
 
 use crate::inbox::Inbox;
 use crate::line::request_line;
 use crate::read::{FirstLine, LaterLine, first_line, later_line};
-use crate::{Bytes, ClientFault, ITEM_LIMIT, Item, Items, Query, Request, Sink, Source, send};
+use crate::{Bytes, ClientFault, Item, Items, Query, Request, Sink, Source, send};
 use std::alloc::Global;
 
 /// A session over a reader and a writer. It keeps what was read past a reply, for the next.
@@ -154,19 +156,51 @@ fn read_items<R: Source>(
             Ok(line) => line,
             Err(fault) => return Err(fault),
         };
-        match later_line(alloc, query, &line) {
-            Ok(LaterLine::End) => return Ok(items),
-            Ok(LaterLine::Another(item)) => {
-                if items.len() >= ITEM_LIMIT {
-                    return Err(ClientFault::BadReply);
-                }
-                if items.push(item).is_err() {
-                    return Err(ClientFault::Memory);
-                }
-            }
-            Ok(LaterLine::Bad) => return Err(ClientFault::BadReply),
-            Err(_) => return Err(ClientFault::Memory),
+        match take_later(alloc, query, &line, &mut items) {
+            Ok(Taken::All) => return Ok(items),
+            Ok(Taken::One) => {}
+            Err(fault) => return Err(fault),
         }
+    }
+}
+
+/// What a later line brought.
+#[derive(Drop)]
+enum Taken {
+    /// An item more.
+    One,
+    /// The end: the items are all there.
+    All,
+}
+
+/// Takes a line of a listing behind the first.
+fn take_later(
+    alloc: Global,
+    query: &Query,
+    line: &[u8],
+    items: &mut Items,
+) -> Result<Taken, ClientFault>
+    requires { length line.now ≤ LINE_LIMIT }
+    ensures { TakeGives (later_of query.now (words_of line.now)) items.old result items.new }
+{
+    match later_line(alloc, query, line) {
+        Ok(LaterLine::End) => Ok(Taken::All),
+        Ok(LaterLine::Another(item)) => add_item(items, item),
+        Ok(LaterLine::Bad) => Err(ClientFault::BadReply),
+        Err(_) => Err(ClientFault::Memory),
+    }
+}
+
+/// Adds an item, where the listing has room for it.
+fn add_item(items: &mut Items, item: Item) -> Result<Taken, ClientFault>
+    ensures { TakeGives (LaterLine.Another item) items.old result items.new }
+{
+    if items.is_full() {
+        return Err(ClientFault::BadReply);
+    }
+    match items.push(item) {
+        Ok(()) => Ok(Taken::One),
+        Err(_) => Err(ClientFault::Memory),
     }
 }
 

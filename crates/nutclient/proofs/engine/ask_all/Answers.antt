@@ -1,8 +1,7 @@
-use Rattle.std.proofs.Common.{◌≡◌, ◌+◌, List, ◌∷◌, refl, sym, subst, drop, false}
-use Rattle.nutreply.specs.Session.{AskGives}
-use Rattle.nutreply.specs.State.{unread_of, reader_of, writer_of, is_over}
+use Rattle.std.proofs.Common.{◌+◌, List, sym, subst, drop}
+use Rattle.nutreply.specs.State.{unread_of, reader_of, writer_of}
 use Rattle.nutreply.specs.declared.request.Request.{Request}
-use Rattle.nutclient.proofs.Underway.{IsUnderWay, starts, goes_further, ends_early, next_left}
+use Rattle.nutclient.proofs.Underway.{IsUnderWay, starts, goes_further, ends_early, comes_next}
 use Rattle.nutclient.proofs.engine.ask_all.Goals as goal
 
 pub loop-request-init : goal.loop-request-init
@@ -15,27 +14,23 @@ loop-request-init g c = record {
 
 pub returns-in-Err-clause-gives : goal.returns-in-Err-clause-gives
 returns-in-Err-clause-gives g c =
-    let rest : List Request = drop (c.loop-request.request-index + 1) c.args.requests.now in
-    let left : drop c.loop-request.request-index c.args.requests.now ≡ c.request-item.result ∷ rest = next_left c.args.requests.now c.loop-request.request-index c.request-item.result c.request-item.result c.loop-request-test.true c.request-item.is refl in
-    let i : IsUnderWay g.R.Source.remaining g.R.Source.failures g.W.Sink.contents g.W.Sink.failures c.args.requests.now (unread_of c.args.session.now) (reader_of c.args.session.now) (writer_of c.args.session.now)
-    c.loop-request.items (c.request-item.result ∷ rest) (unread_of c.loop-request.session) (reader_of c.loop-request.session) (writer_of c.loop-request.session) =
-    subst (λ l. IsUnderWay g.R.Source.remaining g.R.Source.failures g.W.Sink.contents g.W.Sink.failures c.args.requests.now (unread_of c.args.session.now) (reader_of c.args.session.now) (writer_of c.args.session.now)
-    c.loop-request.items l (unread_of c.loop-request.session) (reader_of c.loop-request.session) (writer_of c.loop-request.session)) left c.loop-request.invariant.under_way in
-    ends_early g.R.Source.remaining g.R.Source.failures g.W.Sink.contents g.W.Sink.failures c.args.requests.now (unread_of c.args.session.now) (reader_of c.args.session.now) (writer_of c.args.session.now)
-    c.loop-request.items c.request-item.result rest (unread_of c.loop-request.session) (unread_of c.ask.new.session) (reader_of c.loop-request.session) (reader_of c.ask.new.session) (writer_of c.loop-request.session) (writer_of c.ask.new.session)
-    c.in-Err.fault i (c.in-Err.ensures.reply c.loop-request.invariant.goes_on)
+    let all : List Request = c.args.requests.now in
+    let l = c.loop-request in
+    ends_early g.R.Source.remaining g.R.Source.failures g.W.Sink.contents g.W.Sink.failures all (unread_of c.args.session.now) (reader_of c.args.session.now) (writer_of c.args.session.now)
+    l.items c.request-item.result (drop (l.request-index + 1) all) (unread_of l.session) (unread_of c.ask.new.session) (reader_of l.session) (reader_of c.ask.new.session) (writer_of l.session) (writer_of c.ask.new.session) c.in-Err.fault
+    (comes_next g.R.Source.remaining g.R.Source.failures g.W.Sink.contents g.W.Sink.failures all (unread_of c.args.session.now) (reader_of c.args.session.now) (writer_of c.args.session.now)
+    l.items l.request-index c.request-item.result (unread_of l.session) (reader_of l.session) (writer_of l.session) l.invariant.under_way c.loop-request-test.true c.request-item.is)
+    (c.in-Err.ensures.reply l.invariant.goes_on)
 
 pub loop-request-preserved : goal.loop-request-preserved
 loop-request-preserved g c =
-    let rest : List Request = drop (c.loop-request.request-index + 1) c.args.requests.now in
-    let left : drop c.loop-request.request-index c.args.requests.now ≡ c.request-item.result ∷ rest = next_left c.args.requests.now c.loop-request.request-index c.request-item.result c.request-item.result c.loop-request-test.true c.request-item.is refl in
-    let i : IsUnderWay g.R.Source.remaining g.R.Source.failures g.W.Sink.contents g.W.Sink.failures c.args.requests.now (unread_of c.args.session.now) (reader_of c.args.session.now) (writer_of c.args.session.now)
-    c.loop-request.items (c.request-item.result ∷ rest) (unread_of c.loop-request.session) (reader_of c.loop-request.session) (writer_of c.loop-request.session) =
-    subst (λ l. IsUnderWay g.R.Source.remaining g.R.Source.failures g.W.Sink.contents g.W.Sink.failures c.args.requests.now (unread_of c.args.session.now) (reader_of c.args.session.now) (writer_of c.args.session.now)
-    c.loop-request.items l (unread_of c.loop-request.session) (reader_of c.loop-request.session) (writer_of c.loop-request.session)) left c.loop-request.invariant.under_way in
+    let all : List Request = c.args.requests.now in
+    let l = c.loop-request in
     record {
-      under_way = goes_further g.R.Source.remaining g.R.Source.failures g.W.Sink.contents g.W.Sink.failures c.args.requests.now (unread_of c.args.session.now) (reader_of c.args.session.now) (writer_of c.args.session.now)
-          c.loop-request.items c.request-item.result rest (unread_of c.loop-request.session) (unread_of c.ask.new.session) (reader_of c.loop-request.session) (reader_of c.ask.new.session) (writer_of c.loop-request.session) (writer_of c.ask.new.session)
-          c.in-Ok.items i (c.in-Ok.ensures.reply c.loop-request.invariant.goes_on);
+      under_way = goes_further g.R.Source.remaining g.R.Source.failures g.W.Sink.contents g.W.Sink.failures all (unread_of c.args.session.now) (reader_of c.args.session.now) (writer_of c.args.session.now)
+          l.items c.request-item.result (drop (l.request-index + 1) all) (unread_of l.session) (unread_of c.ask.new.session) (reader_of l.session) (reader_of c.ask.new.session) (writer_of l.session) (writer_of c.ask.new.session) c.in-Ok.items
+          (comes_next g.R.Source.remaining g.R.Source.failures g.W.Sink.contents g.W.Sink.failures all (unread_of c.args.session.now) (reader_of c.args.session.now) (writer_of c.args.session.now)
+          l.items l.request-index c.request-item.result (unread_of l.session) (reader_of l.session) (writer_of l.session) l.invariant.under_way c.loop-request-test.true c.request-item.is)
+          (c.in-Ok.ensures.reply l.invariant.goes_on);
       goes_on = c.in-Ok.ensures.goes_on;
     }

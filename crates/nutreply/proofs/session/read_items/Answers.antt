@@ -1,11 +1,11 @@
-use Rattle.std.proofs.Common.{◌≡◌, ◌++◌, List, ℕ, ◌∙◌, ap, sym, refl, [], ◌∷◌, rules, arith, append_assoc}
-use Rattle.std.proofs.lemmas.Grind.{common_steps}
+use Rattle.std.proofs.Common.{◌++◌, ◌∙◌, refl, [], Ok, subst}
 use Rattle.nutwords.specs.Scan.{words_of}
 use Rattle.nutreply.specs.Inbox.{unread}
 use Rattle.nutreply.specs.Lines.{lines}
-use Rattle.nutreply.specs.Reply.{items_from, after_later, later_of}
-use Rattle.nutreply.proofs.Known.{received_joins}
-use Rattle.nutreply.proofs.Replies.{line_fault, fails_behind, behind, item_fits, item_too_many}
+use Rattle.nutreply.specs.Reply.{items_from, later_of}
+use Rattle.nutreply.specs.Session.{TakeGives}
+use Rattle.nutreply.proofs.PublicLaws.{received_joins}
+use Rattle.nutreply.proofs.Replies.{line_fault, fails_behind, later_line, take_fails}
 use Rattle.nutreply.proofs.session.read_items.Goals as goal
 
 pub returns-in-Err : goal.returns-in-Err
@@ -17,56 +17,18 @@ returns-in-Err g c =
     i.0 c.args.reader.now c.loop-line.reader c.line.new.reader c.in-Err.fault i.1 i.2
     (line_fault g.R.Source.remaining g.R.Source.failures (items_from query items) (unread c.loop-line.inbox) (unread c.line.new.self) c.loop-line.reader c.line.new.reader c.in-Err.fault refl refl c.in-Err.ensures)
 
-pub returns-in-Ok-End : goal.returns-in-Ok-End
-returns-in-Ok-End g c =
+pub returns-in-Ok-All : goal.returns-in-Ok-All
+returns-in-Ok-All g c =
     let i = c.loop-line.invariant in
     let l = c.in-Ok.ensures in
     let query = c.args.query.now in
-    let items = c.loop-line.items in (
+    let items = c.loop-line.items in
+    let new = unread c.line.new.self in
+    let taken = subst (λ t. TakeGives (later_of query (words_of c.deref.result.now)) items (Ok t) c.take_later.new.items) c.in-Ok-All.field-0-is c.in-Ok-All.ensures in (
       i.0 ++ l.0,
       received_joins g.R.Source.remaining g.R.Source.failures c.args.reader.now c.loop-line.reader c.line.new.reader i.0 l.0 i.1 l.1,
-      λ more. behind (λ bs. items_from query [] (lines (unread c.args.inbox.now ++ bs))) (items_from query items) i.0 l.0 (unread c.loop-line.inbox) (unread c.line.new.self) c.in-Ok.line.items i.2 l.3 more
-          ∙ ap (λ v. after_later v items (unread c.line.new.self ++ more) (λ all. items_from query all (lines (unread c.line.new.self ++ more))))
-          (ap (λ l. later_of query (words_of l)) (sym c.deref.ensures.0) ∙ sym c.in-Ok-End.ensures ∙ c.in-Ok-End.field-0-is),
-    )
-
-pub returns-in-Err-later_line : goal.returns-in-Err-later_line
-returns-in-Err-later_line g c =
-    let i = c.loop-line.invariant in
-    let l = c.in-Ok.ensures in
-    (i.0 ++ l.0, received_joins g.R.Source.remaining g.R.Source.failures c.args.reader.now c.loop-line.reader c.line.new.reader i.0 l.0 i.1 l.1)
-
-pub returns-then-is_err : goal.returns-then-is_err
-returns-then-is_err g c =
-    let i = c.loop-line.invariant in
-    let l = c.in-Ok.ensures in
-    (i.0 ++ l.0, received_joins g.R.Source.remaining g.R.Source.failures c.args.reader.now c.loop-line.reader c.line.new.reader i.0 l.0 i.1 l.1)
-
-pub returns-in-Ok-Bad : goal.returns-in-Ok-Bad
-returns-in-Ok-Bad g c =
-    let i = c.loop-line.invariant in
-    let l = c.in-Ok.ensures in
-    let query = c.args.query.now in
-    let items = c.loop-line.items in (
-      i.0 ++ l.0,
-      received_joins g.R.Source.remaining g.R.Source.failures c.args.reader.now c.loop-line.reader c.line.new.reader i.0 l.0 i.1 l.1,
-      λ more. behind (λ bs. items_from query [] (lines (unread c.args.inbox.now ++ bs))) (items_from query items) i.0 l.0 (unread c.loop-line.inbox) (unread c.line.new.self) c.in-Ok.line.items i.2 l.3 more
-          ∙ ap (λ v. after_later v items (unread c.line.new.self ++ more) (λ all. items_from query all (lines (unread c.line.new.self ++ more))))
-          (ap (λ l. later_of query (words_of l)) (sym c.deref.ensures.0) ∙ sym c.in-Ok-Bad.ensures ∙ c.in-Ok-Bad.field-0-is),
-    )
-
-pub returns-then-len-ge-ITEM_LIMIT : goal.returns-then-len-ge-ITEM_LIMIT
-returns-then-len-ge-ITEM_LIMIT g c =
-    let i = c.loop-line.invariant in
-    let l = c.in-Ok.ensures in
-    let query = c.args.query.now in
-    let items = c.loop-line.items in (
-      i.0 ++ l.0,
-      received_joins g.R.Source.remaining g.R.Source.failures c.args.reader.now c.loop-line.reader c.line.new.reader i.0 l.0 i.1 l.1,
-      λ more. behind (λ bs. items_from query [] (lines (unread c.args.inbox.now ++ bs))) (items_from query items) i.0 l.0 (unread c.loop-line.inbox) (unread c.line.new.self) c.in-Ok.line.items i.2 l.3 more
-          ∙ ap (λ v. after_later v items (unread c.line.new.self ++ more) (λ all. items_from query all (lines (unread c.line.new.self ++ more))))
-          (ap (λ l. later_of query (words_of l)) (sym c.deref.ensures.0) ∙ sym c.in-Ok-Another.ensures ∙ c.in-Ok-Another.field-0-is)
-          ∙ item_too_many c.in-Ok-Another.item items (unread c.line.new.self ++ more) (λ all. items_from query all (lines (unread c.line.new.self ++ more))) (omega arith),
+      λ more. later_line query items (λ bs. items_from query [] (lines (unread c.args.inbox.now ++ bs))) i.0 l.0 (unread c.loop-line.inbox) new c.in-Ok.line.items c.deref.result.now i.2 l.3 c.deref.ensures.0 more
+          ∙ taken (new ++ more) (λ all. items_from query all (lines (new ++ more))),
     )
 
 pub loop-line-preserved : goal.loop-line-preserved
@@ -75,12 +37,23 @@ loop-line-preserved g c =
     let l = c.in-Ok.ensures in
     let query = c.args.query.now in
     let items = c.loop-line.items in
-    let pushed : c.push.new.self ≡ c.loop-line.items ++ c.in-Ok-Another.item ∷ [] = first_of (search rules, grind (arith, common_steps)) in (
+    let new = unread c.line.new.self in
+    let taken = subst (λ t. TakeGives (later_of query (words_of c.deref.result.now)) items (Ok t) c.take_later.new.items) c.in-Ok-One.field-0-is c.in-Ok-One.ensures in (
       i.0 ++ l.0,
       received_joins g.R.Source.remaining g.R.Source.failures c.args.reader.now c.loop-line.reader c.line.new.reader i.0 l.0 i.1 l.1,
-      λ more. behind (λ bs. items_from query [] (lines (unread c.args.inbox.now ++ bs))) (items_from query items) i.0 l.0 (unread c.loop-line.inbox) (unread c.line.new.self) c.in-Ok.line.items i.2 l.3 more
-          ∙ ap (λ v. after_later v items (unread c.line.new.self ++ more) (λ all. items_from query all (lines (unread c.line.new.self ++ more))))
-          (ap (λ l. later_of query (words_of l)) (sym c.deref.ensures.0) ∙ sym c.in-Ok-Another.ensures ∙ c.in-Ok-Another.field-0-is)
-          ∙ item_fits c.in-Ok-Another.item items (unread c.line.new.self ++ more) (λ all. items_from query all (lines (unread c.line.new.self ++ more))) (omega arith)
-          ∙ ap (λ all. items_from query all (lines (unread c.line.new.self ++ more))) (sym pushed),
+      λ more. later_line query items (λ bs. items_from query [] (lines (unread c.args.inbox.now ++ bs))) i.0 l.0 (unread c.loop-line.inbox) new c.in-Ok.line.items c.deref.result.now i.2 l.3 c.deref.ensures.0 more
+          ∙ taken.2 (new ++ more) (λ all. items_from query all (lines (new ++ more))),
     )
+
+pub returns-in-Err-take_later : goal.returns-in-Err-take_later
+returns-in-Err-take_later g c =
+    let i = c.loop-line.invariant in
+    let l = c.in-Ok.ensures in
+    let query = c.args.query.now in
+    let items = c.loop-line.items in
+    let new = unread c.line.new.self in
+    take_fails g.R.Source.remaining g.R.Source.failures (λ bs. items_from query [] (lines (unread c.args.inbox.now ++ bs))) (later_of query (words_of c.deref.result.now)) (λ more all. items_from query all (lines (new ++ more)))
+    items c.take_later.new.items (i.0 ++ l.0) new c.args.reader.now c.line.new.reader c.in-Err-take_later.fault
+    (received_joins g.R.Source.remaining g.R.Source.failures c.args.reader.now c.loop-line.reader c.line.new.reader i.0 l.0 i.1 l.1)
+    (later_line query items (λ bs. items_from query [] (lines (unread c.args.inbox.now ++ bs))) i.0 l.0 (unread c.loop-line.inbox) new c.in-Ok.line.items c.deref.result.now i.2 l.3 c.deref.ensures.0)
+    c.in-Err-take_later.ensures

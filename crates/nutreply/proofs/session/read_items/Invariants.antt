@@ -1,4 +1,4 @@
-use Rattle.std.proofs.Common.{◌≡◌, ℕ, List, [], ◌++◌, ◌-◌, ◌≤◌, length}
+use Rattle.std.proofs.Common.{◌≡◌, ℕ, List, [], ◌++◌, ◌-◌, length}
 use Rattle.nutreply.specs.Ends.{Received}
 use Rattle.nutreply.specs.Inbox.{unread}
 use Rattle.nutreply.specs.Lines.{lines}

@@ -1,9 +1,9 @@
-use Rattle.std.proofs.Common.{◌≡◌, ◌++◌, ◌+◌, List, ℕ, ◌∙◌, ap, sym, [], ◌∷◌, ◌≤◌, ◌-◌, length, subst, take, drop, arith, length-drop}
+use Rattle.std.proofs.Common.{◌≡◌, ◌++◌, List, ℕ, sym, ◌≤◌, ◌-◌, length, subst, take, drop, arith, length-drop}
 use Rattle.std.specs.Io.KnownBytes.{Appends}
-use Rattle.nutreply.proofs.Known.{take-all}
-use Rattle.std.proofs.lemmas.List.{take-append-drop}
+use Rattle.std.proofs.lemmas.List.{take-append-drop, take_all}
 use Rattle.std.proofs.Math.Seq.{take-add}
-use Rattle.nutreply.proofs.Known.{written_joins, breaks_off}
+use Rattle.nutreply.proofs.Known.{breaks_off}
+use Rattle.nutreply.proofs.PublicLaws.{written_joins}
 use Rattle.nutreply.specs.Ends.{Written}
 use Rattle.nutreply.proofs.writing.send.Goals as goal
 
@@ -20,12 +20,12 @@ loop-sent-preserved g c =
     let sent : ℕ = c.loop-sent.sent in
     let n : ℕ = c.in-Ok.n in
     let room : length (drop sent text) ≤ length text - sent = omega (arith, length-drop sent text) in
-    let whole : take (length text - sent) (drop sent text) ≡ drop sent text = take-all (length text - sent) (drop sent text) room in
+    let whole : take (length text - sent) (drop sent text) ≡ drop sent text = take_all (length text - sent) (drop sent text) room in
     let bound : n ≤ length (drop sent text) = subst (λ xs. n ≤ length xs) whole c.in-Ok.ensures.bound in
     let bytes : Appends (g.W.Sink.contents c.loop-sent.writer) (g.W.Sink.contents c.write.new.self) (take n (drop sent text)) =
     subst (λ xs. Appends (g.W.Sink.contents c.loop-sent.writer) (g.W.Sink.contents c.write.new.self) (take n xs)) whole c.in-Ok.ensures.bytes in
     let took : Written g.W.Sink.contents g.W.Sink.failures c.args.writer.now (take sent text ++ take n (drop sent text)) c.write.new.self =
-    written_joins g.W.Sink.contents g.W.Sink.failures c.args.writer.now c.loop-sent.writer c.write.new.self (take sent text) (take n (drop sent text)) i.took bytes c.in-Ok.ensures.count in
+    written_joins g.W.Sink.contents g.W.Sink.failures c.args.writer.now c.loop-sent.writer c.write.new.self (take sent text) (take n (drop sent text)) i.took (record { bytes_written = bytes; well = c.in-Ok.ensures.count }) in
     record {
       within = omega (arith, length-drop sent text);
       took = subst (λ xs. Written g.W.Sink.contents g.W.Sink.failures c.args.writer.now xs c.write.new.self) (sym (take-add sent n text)) took;

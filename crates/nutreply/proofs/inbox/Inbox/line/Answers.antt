@@ -1,5 +1,5 @@
 use Rattle.nutreply.specs.Inbox.{unread}
-use Rattle.std.proofs.Common.{◌++◌, ◌∙◌}
+use Rattle.std.proofs.Common.{◌∙◌}
 use Rattle.nutreply.proofs.Cutting.{first_line, first_too_long}
 use Rattle.nutreply.proofs.Reading.{line_fails}
 use Rattle.nutreply.proofs.inbox.Inbox.line.Goals as goal
