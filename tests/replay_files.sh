@@ -77,6 +77,25 @@ file nobody '[mon]' 'upsmon tertiary'
 file login 'open 192.0.2.1' 'client 1 USERNAME mon' 'client 1 PASSWORD pass' 'client 1 LOGIN su' \
     'client 1 GET NUMLOGINS su' 'tick 7' 'took 1 all'
 
+file admins '[admin]' 'password = "s3 cret"' 'actions = SET' 'instcmds = test.battery.start' 'upsmon primary' \
+    '[mon]' 'password = pw' 'upsmon secondary'
+delay='SET VAR su ups.delay 30'
+mapfile -t as_often < <(for _ in {1..107}; do echo "client 2 $delay"; done)
+file setting 'up su' 'driver su SETINFO ups.delay "20"' 'driver su SETFLAGS ups.delay RW' \
+    'driver su ADDRANGE ups.delay 0 600' 'driver su SETINFO ups.mode "auto"' 'driver su SETFLAGS ups.mode RW' \
+    'driver su ADDENUM ups.mode "auto"' 'driver su ADDENUM ups.mode "eco"' 'driver su SETINFO ups.id "x"' \
+    'driver su SETFLAGS ups.id RW STRING' 'driver su SETAUX ups.id 8' 'driver su SETINFO ups.serial "1"' \
+    'driver su DUMPDONE' 'driver su DATAOK' 'open 192.0.2.1' 'open 192.0.2.2' "client 1 $delay" \
+    'client 1 USERNAME admin' "client 1 $delay" 'client 1 PASSWORD wrong' "client 1 $delay" \
+    'client 2 USERNAME admin' 'client 2 PASSWORD "s3 cret"' 'client 2 SET VAR nope ups.delay 30' \
+    'driver su DATASTALE' "client 2 $delay" 'driver su DATAOK' 'client 2 SET VAR su nope 30' \
+    'client 2 SET VAR su ups.serial 2' 'client 2 SET VAR su ups.id 123456789' 'client 2 SET VAR su ups.mode off' \
+    'client 2 SET VAR su ups.delay 601' 'client 2 SET VAR su ups.delay 030' "${as_often[@]}" "client 2 $delay" \
+    'took 1 all' 'took 2 all'
+file starting 'up su' 'driver su ADDCMD test.battery.start' 'driver su DUMPDONE' 'driver su DATAOK' 'open 192.0.2.1' \
+    'client 1 USERNAME admin' 'client 1 PASSWORD "s3 cret"' 'client 1 INSTCMD su test.battery.start' \
+    'client 1 INSTCMD su nope' 'client 1 INSTCMD su test.battery.start "a b"' 'took 1 all'
+
 of_two=$'line 3: refused 1\nclient 1 sent 40 bytes\nBEGIN LIST VAR bay-1\nEND LIST VAR bay-1\ndriver bay-1 sent 0 bytes\ndriver su sent 0 bytes'
 of_su=$'line 2: refused 1\nline 3: refused 1\nline 4: refused 1\nline 5: refused 1\nclient 1 sent 16 bytes\nERR UNKNOWN-UPS\ndriver su sent 0 bytes'
 of_none=$'line 1: refused 1\nline 2: refused 1\nline 3: refused 1\nline 4: refused 1\nline 5: refused 1\nclient 1 sent 16 bytes\nERR UNKNOWN-UPS'
@@ -85,6 +104,31 @@ replays both_options "$of_two" --ups two.conf --vars texts script
 of_login=$'client 1 sent 24 bytes\nOK\nOK\nOK\nNUMLOGINS su 1\ndriver su sent 0 bytes'
 of_stranger=$'client 1 sent 39 bytes\nOK\nOK\nERR ACCESS-DENIED\nNUMLOGINS su 0\ndriver su sent 0 bytes'
 
+oks=$(printf 'OK\n%.0s' {1..107})
+of_setting="client 1 sent 68 bytes
+ERR USERNAME-REQUIRED
+OK
+ERR PASSWORD-REQUIRED
+OK
+ERR ACCESS-DENIED
+client 2 sent 475 bytes
+OK
+OK
+ERR UNKNOWN-UPS
+ERR DATA-STALE
+ERR VAR-NOT-SUPPORTED
+ERR READONLY
+ERR TOO-LONG
+ERR INVALID-VALUE
+ERR INVALID-VALUE
+ERR INVALID-VALUE
+$oks
+ERR SET-FAILED
+driver su sent 0 bytes"
+of_starting=$'client 1 sent 30 bytes\nOK\nOK\nOK\nERR ACCESS-DENIED\nOK\ndriver su sent 0 bytes'
+
+replays orders_to_set_a_variable "$of_setting" --users admins setting
+replays orders_to_start_a_test "$of_starting" --users admins starting
 replays a_user_logs_in "$of_login" --users monitors login
 replays nobody_logs_in_without_users "$of_stranger" login
 faults bad_user $'upsd: nobody:2: cause 6\n' --users nobody login

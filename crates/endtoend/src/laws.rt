@@ -2,7 +2,7 @@
 ghost use Rattle.endtoend.specs.Frames.{AFrameIsReadAsItsItems};
 ghost use Rattle.endtoend.specs.Printed.{UpscPrintsTheVariables, UpscPrintsTheVariable, UpscPrintsTheUpses, UpsrwPrintsTheVariables, UpscmdPrintsTheCommands};
 
-use nutcore::a_listing_is_what_is_held;
+use nutcore::laws::a_listing_is_what_is_held;
 
 /// What is written as a listing is read as the reply of its items, in their order, whatever stands behind it.
 pub fn a_frame_is_read_as_its_items()

@@ -3,6 +3,7 @@
 mod answers;
 mod drivers;
 mod listings;
+mod orders;
 mod refusals;
 mod sessions;
 

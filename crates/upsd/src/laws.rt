@@ -4,7 +4,7 @@ ghost use Rattle.upsd.specs.OneRun.{AnOutputTellsOneRun};
 ghost use Rattle.upsd.specs.declared.ending.TheConstants.{DONE, FAULT, WORD_FAULT};
 ghost use Rattle.upsd.specs.declared.replay.TheConstants.{REPLAY_MAX_AGE};
 
-use nutcore::what_was_sent_and_is_owed_is_the_answers;
+use nutcore::laws::what_was_sent_and_is_owed_is_the_answers;
 
 /// What the output of a script lists for a client is what the client took in the one run of all
 /// the script's events. While the client is open, that, followed by what it is still owed, is
