@@ -96,6 +96,27 @@ file starting 'up su' 'driver su ADDCMD test.battery.start' 'driver su DUMPDONE'
     'client 1 USERNAME admin' 'client 1 PASSWORD "s3 cret"' 'client 1 INSTCMD su test.battery.start' \
     'client 1 INSTCMD su nope' 'client 1 INSTCMD su test.battery.start "a b"' 'took 1 all'
 
+file counting 'open 192.0.2.1' 'open 192.0.2.2' 'client 1 USERNAME mon' 'client 1 PASSWORD pw' 'client 1 LOGIN su' \
+    'client 1 LOGIN su' 'client 1 FSD su' 'client 2 GET NUMLOGINS su' 'client 2 LIST CLIENT su' 'client 1 LOGOUT' \
+    'client 2 GET NUMLOGINS su' 'client 2 LIST CLIENT su' 'client 2 LIST CLIENT nope' 'took 1 all' 'took 2 all'
+
+# A listing that waits to be taken, and a forced shutdown meanwhile.
+long=$(printf 'x%.0s' {1..256})
+mapfile -t hundred < <(seq -f 'a%03g' 100)
+mapfile -t reported < <(printf "driver su SETINFO %s $long\n" "${hundred[@]}")
+file shutting-down 'up su' "${reported[@]}" 'driver su SETINFO ups.status "OL"' 'driver su DUMPDONE' 'driver su DATAOK' \
+    'open 192.0.2.1' 'open 192.0.2.2' 'client 1 LIST VAR su' 'client 2 USERNAME admin' 'client 2 PASSWORD "s3 cret"' \
+    'client 2 FSD su' 'took 2 all' 'took 1 all' 'client 1 GET VAR su ups.status' 'took 1 all'
+
+# Sixty-three clients log in; the last one leaves, and another one comes, while the list of them waits to be taken.
+mapfile -t far < <(for id in {2..64}; do printf 'a%.0s' {1..61}; printf '%03d\n' "$id"; done)
+newcomer=$(printf 'b%.0s' {1..64})
+logs_in() { printf 'client %s %s\n' "$1" 'USERNAME mon' "$1" 'PASSWORD pw' "$1" 'LOGIN su'; }
+mapfile -t all_log_in < <(for id in {2..64}; do echo "open ${far[id - 2]}"; logs_in "$id"; done)
+mapfile -t one_logs_in < <(echo "open $newcomer"; logs_in 65)
+file sixty-four 'open 192.0.2.1' "${all_log_in[@]}" 'client 1 LIST CLIENT su' 'close 64' "${one_logs_in[@]}" \
+    'took 1 all' 'client 1 LIST CLIENT su' 'took 1 all'
+
 of_two=$'line 3: refused 1\nclient 1 sent 40 bytes\nBEGIN LIST VAR bay-1\nEND LIST VAR bay-1\ndriver bay-1 sent 0 bytes\ndriver su sent 0 bytes'
 of_su=$'line 2: refused 1\nline 3: refused 1\nline 4: refused 1\nline 5: refused 1\nclient 1 sent 16 bytes\nERR UNKNOWN-UPS\ndriver su sent 0 bytes'
 of_none=$'line 1: refused 1\nline 2: refused 1\nline 3: refused 1\nline 4: refused 1\nline 5: refused 1\nclient 1 sent 16 bytes\nERR UNKNOWN-UPS'
@@ -127,8 +148,37 @@ ERR SET-FAILED
 driver su sent 0 bytes"
 of_starting=$'client 1 sent 30 bytes\nOK\nOK\nOK\nERR ACCESS-DENIED\nOK\ndriver su sent 0 bytes'
 
+# What a client was sent: its id, and the lines.
+sent() {
+    local text
+    text=$(printf '%s\n' "${@:2}")
+    printf 'client %s sent %s bytes\n%s\n' "$1" "$((${#text} + 1))" "$text"
+}
+of_counting=$(
+    sent 1 OK OK OK 'ERR ALREADY-LOGGED-IN' 'ERR ACCESS-DENIED' 'OK Goodbye'
+    sent 2 'NUMLOGINS su 1' 'BEGIN LIST CLIENT su' 'CLIENT su 192.0.2.1' 'END LIST CLIENT su' 'NUMLOGINS su 0' \
+        'BEGIN LIST CLIENT su' 'END LIST CLIENT su' 'ERR UNKNOWN-UPS'
+    echo 'driver su sent 0 bytes'
+)
+mapfile -t items < <(printf "VAR su %s \"$long\"\n" "${hundred[@]}")
+of_shutting_down=$(
+    sent 1 'BEGIN LIST VAR su' "${items[@]}" 'VAR su ups.status "OL"' 'END LIST VAR su' 'VAR su ups.status "FSD OL"'
+    sent 2 OK OK 'OK FSD-SET'
+    echo 'driver su sent 0 bytes'
+)
+of_sixty_four=$(
+    listed=("${far[@]/#/CLIENT su }")
+    sent 1 'BEGIN LIST CLIENT su' "${listed[@]}" 'END LIST CLIENT su' \
+        'BEGIN LIST CLIENT su' "${listed[@]:0:62}" "CLIENT su $newcomer" 'END LIST CLIENT su'
+    for id in {2..65}; do echo "client $id sent 0 bytes"; done
+    echo 'driver su sent 0 bytes'
+)
+
 replays orders_to_set_a_variable "$of_setting" --users admins setting
 replays orders_to_start_a_test "$of_starting" --users admins starting
+replays logins_are_counted "$of_counting" --users admins counting
+replays forced_shutdown_while_a_listing_waits "$of_shutting_down" --users admins shutting-down
+replays sixty_four_clients_listed "$of_sixty_four" --users admins sixty-four
 replays a_user_logs_in "$of_login" --users monitors login
 replays nobody_logs_in_without_users "$of_stranger" login
 faults bad_user $'upsd: nobody:2: cause 6\n' --users nobody login
