@@ -3,7 +3,6 @@
 mod answers;
 mod drivers;
 mod listings;
-mod orders;
 mod refusals;
 mod sessions;
 
