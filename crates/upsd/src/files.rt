@@ -125,7 +125,8 @@ fn descriptions_in(alloc: Global, file: Option<File<'_>>) -> Result<Descriptions
 fn read_named<'a>(rt: &HostRuntime, path: Option<&'a str>) -> Result<Option<File<'a>>, Ending<'a>>
     ensures named { IfOk result (λ file. option_map (λ file. file.path) file ≡ path.entry) }
     ensures unread { IfErr result (λ ending.
-        (ending ≡ Ending.Memory) ⊎ (Some ending ≡ option_map (λ path. Ending.Unread path) path.entry)) }
+        (ending ≡ Ending.Memory)
+        ⊎ (Some ending ≡ option_map (λ path. Ending.Unread path) path.entry)) }
 {
     let Some(path) = path else {
         return Ok(None);
@@ -136,7 +137,8 @@ fn read_named<'a>(rt: &HostRuntime, path: Option<&'a str>) -> Result<Option<File
 
 /// The bytes of the file.
 fn read<'a>(rt: &HostRuntime, path: &'a str) -> Result<Vec<u8>, Ending<'a>>
-    ensures { IfErr result (λ ending. (ending ≡ Ending.Memory) ⊎ (ending ≡ Ending.Unread path.entry)) }
+    ensures { IfErr result (λ ending.
+        (ending ≡ Ending.Memory) ⊎ (ending ≡ Ending.Unread path.entry)) }
 {
     match fs::read(rt, path) {
         Ok(bytes) => Ok(bytes),

@@ -76,7 +76,9 @@ fn matches_of(alloc: Global, words: &[String]) -> Result<ArgMatches<'_>, Error> 
 fn end(rt: &HostRuntime, error: &Error) -> ExitCode
     ensures memory { kind_of error.now ≡ ErrorKind.OutOfMemory → exit_status result ≡ FAULT }
     ensures help { kind_of error.now ≡ ErrorKind.DisplayHelp → exit_status result ≡ 0 }
-    ensures words { kind_of error.now ≢ ErrorKind.OutOfMemory → kind_of error.now ≢ ErrorKind.DisplayHelp → kind_of error.now ≢ ErrorKind.DisplayVersion → exit_status result ≡ WORD_FAULT }
+    ensures words { kind_of error.now ≢ ErrorKind.OutOfMemory
+        → kind_of error.now ≢ ErrorKind.DisplayHelp
+        → kind_of error.now ≢ ErrorKind.DisplayVersion → exit_status result ≡ WORD_FAULT }
 {
     if error.kind() == ErrorKind::OutOfMemory {
         return end_without_memory(rt);
@@ -98,7 +100,9 @@ fn run(rt: &HostRuntime, matches: &ArgMatches<'_>) -> ExitCode {
 
 /// Ends the program, and tells why where it isn't done.
 fn finish(rt: &HostRuntime, ended: &Result<(), Ending<'_>>) -> ExitCode
-    ensures { MatchResult ended.now (λ _. exit_status result ≡ DONE) (λ _. exit_status result ≡ FAULT) }
+    ensures { MatchResult ended.now
+        (λ _. exit_status result ≡ DONE)
+        (λ _. exit_status result ≡ FAULT) }
 {
     if let Err(ending) = ended {
         let _ = eprintln!(rt; "upsd: {ending}");

@@ -111,8 +111,10 @@ fn transcript(
     descriptions: Descriptions,
     script: &[u8],
 ) -> Result<Vec<u8>, ReplayFault>
-    ensures ok { IfOk result (λ text. (first_bad_line script.now ≡ None) × IsOutput list users descriptions REPLAY_MAX_AGE script.now text.items) }
-    ensures err { IfErr result (λ fault. (fault ≡ ReplayFault.Memory) ⊎ ((n : ℕ) × (fault ≡ ReplayFault.BadEvent n) × (first_bad_line script.now ≡ Some n))) }
+    ensures ok { IfOk result (λ text. (first_bad_line script.now ≡ None)
+        × IsOutput list users descriptions REPLAY_MAX_AGE script.now text.items) }
+    ensures err { IfErr result (λ fault. (fault ≡ ReplayFault.Memory)
+        ⊎ ((n : ℕ) × (fault ≡ ReplayFault.BadEvent n) × (first_bad_line script.now ≡ Some n))) }
 {
     let lines = read_script(alloc, script)?;
     let max_age = MaxAge::read(REPLAY_MAX_AGE).unwrap();
