@@ -70,7 +70,8 @@ impl Items {
 
     /// Adds an item. Where memory is refused, the items are as before.
     pub(crate) fn push(&mut self, item: Item) -> Result<(), AllocError>
-        ensures { MatchResult result (λ _. self.new ≡ self.old ++ item ∷ []) (λ _. self.new ≡ self.old) }
+        ensures { MatchResult result
+            (λ _. self.new ≡ self.old ++ item ∷ []) (λ _. self.new ≡ self.old) }
     {
         match self.all.push(item) {
             Ok(()) => Ok(()),
