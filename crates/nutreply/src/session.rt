@@ -195,7 +195,7 @@ fn take_later(
 fn add_item(items: &mut Items, item: Item) -> Result<Taken, ClientFault>
     ensures { TakeGives (LaterLine.Another item) items.old result items.new }
 {
-    if items.is_full() {
+    if !items.has_room() {
         return Err(ClientFault::BadReply);
     }
     match items.push(item) {
