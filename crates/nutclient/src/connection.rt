@@ -12,7 +12,8 @@ use std::net::TcpStream;
 ///
 /// `Connect` where no address takes the connection; `Memory`.
 pub fn connect(rt: &HostRuntime, target: &Target) -> Result<TcpStream, ClientFault>
-    ensures { IfErr result (λ fault. (fault ≡ ClientFault.Connect) ⊎ (fault ≡ ClientFault.Memory)) }
+    ensures { IfErr result
+        (λ fault. (fault ≡ ClientFault.Connect) ⊎ (fault ≡ ClientFault.Memory)) }
 {
     match TcpStream::connect(rt, (target.host.as_str(), target.port)) {
         Ok(stream) => without_delay(stream),
@@ -22,7 +23,8 @@ pub fn connect(rt: &HostRuntime, target: &Target) -> Result<TcpStream, ClientFau
 
 /// The stream, which sends each line at once.
 fn without_delay(stream: TcpStream) -> Result<TcpStream, ClientFault>
-    ensures { IfErr result (λ fault. (fault ≡ ClientFault.Connect) ⊎ (fault ≡ ClientFault.Memory)) }
+    ensures { IfErr result
+        (λ fault. (fault ≡ ClientFault.Connect) ⊎ (fault ≡ ClientFault.Memory)) }
 {
     match stream.set_nodelay(true) {
         Ok(()) => Ok(stream),

@@ -33,7 +33,8 @@ fn put_line(text: &mut Vec<u8>, form: Form, item: &Item) -> Result<(), AllocErro
 
 /// Adds the item's name and its value, and this between them.
 fn put_pair(text: &mut Vec<u8>, item: &Item, between: &[u8]) -> Result<(), AllocError>
-    ensures { OnOk result (text.new.items ≡ text.old.items ++ (item.now.name ++ between.now ++ item.now.value)) }
+    ensures { OnOk result (text.new.items
+        ≡ text.old.items ++ (item.now.name ++ between.now ++ item.now.value)) }
 {
     text.extend_from_slice(item.name.as_slice())?;
     text.extend_from_slice(between)?;

@@ -18,7 +18,8 @@ const WORD_FAULT: u8 = 2;
 
 /// The program's words. Words that are no text are bad arguments.
 pub fn words_of(rt: &HostRuntime) -> Result<Vec<String>, ClientFault>
-    ensures { IfErr result (λ fault. (fault ≡ ClientFault.BadTarget) ⊎ (fault ≡ ClientFault.Memory)) }
+    ensures { IfErr result
+        (λ fault. (fault ≡ ClientFault.BadTarget) ⊎ (fault ≡ ClientFault.Memory)) }
 {
     match env::args(rt) {
         Ok(args) => args.collect(rt.alloc()).map_err(|_| ClientFault::Memory),

@@ -1,5 +1,5 @@
 -- A reply, as it is read from the bytes that come (RFC 9271).
-use Rattle.std.specs.Prelude.{ℕ, Bool, true, false, List, [], ◌∷◌, ◌++◌, ◌&&◌, ◌||◌, ◌==◌, nat_le, length, Option, Some, None, option_and_then, Result, Ok, Err, if◌then◌else◌, codes}
+use Rattle.std.specs.Prelude.{ℕ, Bool, true, false, List, [], ◌∷◌, ◌++◌, ◌&&◌, ◌||◌, ◌==◌, nat_le, nat_lt, length, Option, Some, None, option_and_then, Result, Ok, Err, if◌then◌else◌, codes}
 use Rattle.std.specs.Str.{bytes_eq}
 use Rattle.std.specs.List.{list_all}
 use Rattle.nutwords.specs.Scan.{words_of}
@@ -105,14 +105,14 @@ pub data Reply : Type 0 where
   Bad : Reply
   Unfinished : Reply
 
--- There are 65,536: a listing has no more.
-abbrev pub is_full : List Item → Bool
-is_full items = nat_le ITEM_LIMIT (length items)
+-- They are fewer than 65,536: a listing has no more.
+abbrev pub has_room : List Item → Bool
+has_room items = nat_lt (length items) ITEM_LIMIT
 
 -- What a line makes of the items before it, by what is made of more of them.
 abbrev pub after_later : LaterLine → List Item → List ℕ → (List Item → Reply) → Reply
 after_later End items rest go = Whole items rest
-after_later (Another item) items rest go = if is_full items then Bad else go (items ++ item ∷ [])
+after_later (Another item) items rest go = if has_room items then go (items ++ item ∷ []) else Bad
 after_later BadLater items rest go = Bad
 
 -- The reply, from its later lines.

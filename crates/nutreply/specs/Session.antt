@@ -1,10 +1,10 @@
 -- What the calls of a session give. `remaining` and `failures` are the reader's, `contents` and `write_failures` the writer's.
-use Rattle.std.specs.Prelude.{◌≡◌, ⊤, ℕ, List, [], ◌++◌, ◌+◌, length, false, Option, Result, Ok, Err}
+use Rattle.std.specs.Prelude.{◌≡◌, ⊤, ℕ, List, [], ◌++◌, ◌+◌, length, true, Option, Result, Ok, Err}
 use Rattle.std.specs.Io.KnownBytes.{IsAtEnd}
 use Rattle.nutreply.specs.Ends.{Received, ReadFailed, Written, WriteFailed}
 use Rattle.nutreply.specs.Lines.{lines}
 use Rattle.nutreply.specs.Request.{request_line}
-use Rattle.nutreply.specs.Reply.{Reply, Refused, Whole, Bad, Unfinished, reply, items_from, after_later, is_full, after_expected}
+use Rattle.nutreply.specs.Reply.{Reply, Refused, Whole, Bad, Unfinished, reply, items_from, after_later, has_room, after_expected}
 use Rattle.nutreply.specs.declared.item.Item.{Item}
 use Rattle.nutreply.specs.declared.read.LaterLine.{LaterLine}
 use Rattle.nutreply.specs.declared.session.Taken.{Taken}
@@ -31,7 +31,7 @@ FirstGives remaining failures request old reader (Err fault) new after = Fails r
 -- What a later line makes of the items before it, whatever stands behind it and however more items are read. No other fault comes.
 abbrev pub TakeGives : LaterLine → List Item → Result Taken ClientFault → List Item → Type 0
 TakeGives later old (Ok All) new = (rest : List ℕ) (go : List Item → Reply) → after_later later old rest go ≡ Whole new rest
-TakeGives later old (Ok One) new = (is_full old ≡ false) × (length new ≡ length old + 1) × ((rest : List ℕ) (go : List Item → Reply) → after_later later old rest go ≡ go new)
+TakeGives later old (Ok One) new = (has_room old ≡ true) × (length new ≡ length old + 1) × ((rest : List ℕ) (go : List Item → Reply) → after_later later old rest go ≡ go new)
 TakeGives later old (Err BadReply) new = (rest : List ℕ) (go : List Item → Reply) → after_later later old rest go ≡ Bad
 TakeGives later old (Err Memory) new = ⊤
 TakeGives later old result new = ⊥

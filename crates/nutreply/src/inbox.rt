@@ -56,7 +56,8 @@ impl Inbox {
     /// Reads some bytes.
     fn fill<R: Source>(&mut self, reader: &mut R) -> Result<(), ClientFault>
         requires { self.old.used ≡ length self.old.kept.items }
-        ensures { FillGives R.remaining R.failures (unread self.old) reader.old result (unread self.new) reader.new }
+        ensures { FillGives R.remaining R.failures (unread self.old) reader.old result
+            (unread self.new) reader.new }
     {
         let mut bytes = [0; LINE_ROOM];
         let Ok(n) = reader.read(&mut bytes) else {
@@ -73,7 +74,8 @@ impl Inbox {
 
     /// The next line, from what was read and what comes.
     pub(crate) fn line<R: Source>(&mut self, reader: &mut R) -> Result<Line, ClientFault>
-        ensures { LineGives R.remaining R.failures (unread self.old) reader.old result (unread self.new) reader.new }
+        ensures { LineGives R.remaining R.failures (unread self.old) reader.old result
+            (unread self.new) reader.new }
     {
         loop {
             match self.take_line() {

@@ -29,7 +29,7 @@ impl Model for Items {
 }
 
 impl Items {
-    ghost use Rattle.nutreply.specs.Reply.{is_full};
+    ghost use Rattle.nutreply.specs.Reply.{has_room};
 
     /// No items. Takes no memory.
     pub fn new(alloc: Global) -> Items
@@ -54,11 +54,11 @@ impl Items {
         self.all.is_empty()
     }
 
-    /// Whether a listing may have no item more.
-    pub(crate) fn is_full(&self) -> bool
-        ensures { result ≡ is_full self.now }
+    /// Whether a listing may have an item more.
+    pub(crate) fn has_room(&self) -> bool
+        ensures { result ≡ has_room self.now }
     {
-        self.all.len() >= ITEM_LIMIT
+        self.all.len() < ITEM_LIMIT
     }
 
     /// All of them.
@@ -70,7 +70,8 @@ impl Items {
 
     /// Adds an item. Where memory is refused, the items are as before.
     pub(crate) fn push(&mut self, item: Item) -> Result<(), AllocError>
-        ensures { MatchResult result (λ _. self.new ≡ self.old ++ item ∷ []) (λ _. self.new ≡ self.old) }
+        ensures { MatchResult result
+            (λ _. self.new ≡ self.old ++ item ∷ []) (λ _. self.new ≡ self.old) }
     {
         match self.all.push(item) {
             Ok(()) => Ok(()),

@@ -160,7 +160,8 @@ fn told_value(
     line: &[u8],
 ) -> Result<Option<Bytes>, AllocError>
     requires { length line.now ≤ LINE_LIMIT }
-    ensures { IfOk result (λ value. value ≡ only_word (behind (codes "VAR" ∷ ups.now ∷ name.now ∷ []) (words_of line.now))) }
+    ensures { IfOk result (λ value. value
+        ≡ only_word (behind (codes "VAR" ∷ ups.now ∷ name.now ∷ []) (words_of line.now))) }
 {
     let Ok(words) = words(line) else {
         return Ok(None);
@@ -253,7 +254,8 @@ fn is_error_byte(b: u8) -> bool
 
 /// The item of a line's words.
 fn listed_item(alloc: Global, query: &Query, words: Words<'_>) -> Result<LaterLine, AllocError>
-    ensures { IfOk result (λ later. later ≡ item_in query.now (behind (asked_words query.now) words.entry)) }
+    ensures { IfOk result (λ later. later
+        ≡ item_in query.now (behind (asked_words query.now) words.entry)) }
 {
     let Some(mut words) = behind_asked(query, words) else {
         return Ok(LaterLine::Bad);

@@ -195,7 +195,7 @@ fn take_later(
 fn add_item(items: &mut Items, item: Item) -> Result<Taken, ClientFault>
     ensures { TakeGives (LaterLine.Another item) items.old result items.new }
 {
-    if items.is_full() {
+    if !items.has_room() {
         return Err(ClientFault::BadReply);
     }
     match items.push(item) {
@@ -206,7 +206,8 @@ fn add_item(items: &mut Items, item: Item) -> Result<Taken, ClientFault>
 
 /// A reply of one line, as one item without a name.
 fn one_item(alloc: Global, value: Bytes) -> Result<Items, ClientFault>
-    ensures { MatchResult result (λ items. items ≡ one_item value) (λ fault. fault ≡ ClientFault.Memory) }
+    ensures { MatchResult result
+        (λ items. items ≡ one_item value) (λ fault. fault ≡ ClientFault.Memory) }
 {
     let name = Bytes::new(Vec::new(alloc));
     let mut items = Items::new(alloc);
