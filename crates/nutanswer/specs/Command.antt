@@ -41,25 +41,38 @@ abbrev pub ups_and_name : List (List ℕ) → Result (Option (List ℕ) × Optio
 ups_and_name (ups ∷ name ∷ []) = Ok (result_ok (read_ups_name ups), result_ok (read_name name))
 ups_and_name _ = Err InvalidArgument
 
--- `ups name value`: a word of more than 256 bytes is no value. It has lawful bytes alone, as the line has.
-abbrev pub ups_name_and_value : List (List ℕ) → Result (Option (List ℕ) × Option (List ℕ) × Option (List ℕ)) ErrWord
+-- The names of a UPS and of a variable or a command, and a value, each none where the word is no such thing.
+abbrev pub Names : Type 0 → Type 0
+Names A = Option (List ℕ) × Option (List ℕ) × A
+
+-- The value that a word is. A word of more than 256 bytes is none; its bytes are lawful, as the line's are.
+abbrev pub value_of : List ℕ → Option (List ℕ)
+value_of word = result_ok (read_value word)
+
+-- `ups name value`
+abbrev pub ups_name_and_value : List (List ℕ) → Result (Names (Option (List ℕ))) ErrWord
 ups_name_and_value (ups ∷ name ∷ value ∷ []) =
-    Ok (result_ok (read_ups_name ups), result_ok (read_name name), result_ok (read_value value))
+    Ok (result_ok (read_ups_name ups), result_ok (read_name name), value_of value)
 ups_name_and_value _ = Err InvalidArgument
 
 -- `ups name`, or `ups name value`
-abbrev pub ups_name_and_value_if_any : List (List ℕ) → Result (Option (List ℕ) × Option (List ℕ) × Option (Option (List ℕ))) ErrWord
+abbrev pub ups_name_and_value_if_any
+    : List (List ℕ) → Result (Names (Option (Option (List ℕ)))) ErrWord
 ups_name_and_value_if_any (ups ∷ name ∷ []) =
     Ok (result_ok (read_ups_name ups), result_ok (read_name name), None)
 ups_name_and_value_if_any (ups ∷ name ∷ value ∷ []) =
-    Ok (result_ok (read_ups_name ups), result_ok (read_name name), Some (result_ok (read_value value)))
+    Ok (result_ok (read_ups_name ups), result_ok (read_name name), Some (value_of value))
 ups_name_and_value_if_any _ = Err InvalidArgument
 
 -- SET: one case a second word.
 abbrev pub set_of : List ℕ → List (List ℕ) → Result Command ErrWord
 set_of kind words =
-    if is_word kind (codes "VAR") then command_with (λ a. SetVar a.0 a.1 a.2) (ups_name_and_value words)
+    if is_word kind (codes "VAR")
+    then command_with (λ a. SetVar a.0 a.1 a.2) (ups_name_and_value words)
     else Err InvalidArgument
+
+abbrev pub read_instcmd : List (List ℕ) → Result Command ErrWord
+read_instcmd words = command_with (λ a. InstCmd a.0 a.1 a.2) (ups_name_and_value_if_any words)
 
 abbrev pub read_set : List (List ℕ) → Result Command ErrWord
 read_set [] = Err InvalidArgument
@@ -108,7 +121,7 @@ command_named first words =
     else if is_word first (codes "PRIMARY") then command_with (λ ups. Primary ups) (ups_alone words)
     else if is_word first (codes "FSD") then command_with (λ ups. Fsd ups) (ups_alone words)
     else if is_word first (codes "SET") then read_set words
-    else if is_word first (codes "INSTCMD") then command_with (λ a. InstCmd a.0 a.1 a.2) (ups_name_and_value_if_any words)
+    else if is_word first (codes "INSTCMD") then read_instcmd words
     else if is_word first (codes "HELP") then alone Help words
     else if is_word first (codes "VER") then alone Ver words
     else if is_word first (codes "NETVER") then alone NetVer words

@@ -49,7 +49,8 @@ abbrev pub known_command : KnownCommand → KnownUps × List ℕ
 known_command k = (known_ups k.ups, k.name.now)
 
 -- The command of this name, of a live UPS.
-abbrev pub live_command : Seen → Option (List ℕ) → Option (List ℕ) → Result (KnownUps × List ℕ) ErrWord
+abbrev pub live_command
+    : Seen → Option (List ℕ) → Option (List ℕ) → Result (KnownUps × List ℕ) ErrWord
 live_command s ups name = do
   u ← unknown_ups s ups
   live s u

@@ -1,5 +1,5 @@
 -- An order that answers a line fits in what its driver may still be owed.
-use Rattle.std.proofs.Common.{◌≡◌, ℕ, ◌≤◌, List, Option, Some, None, Result, Ok, Err, length, ◌∙◌, ap}
+use Rattle.std.proofs.Common.{◌≡◌, ℕ, ◌≤◌, Option, Some, None, Result, Ok, Err, length, ◌∙◌, ap}
 use Rattle.std.specs.Prelude.{slice_get}
 use Rattle.std.specs.Option.{option_map}
 use Rattle.std.proofs.lemmas.Option.{slice_get-map}
@@ -9,7 +9,6 @@ use Rattle.nutanswer.specs.declared.command.Command.{Command}
 use Rattle.nutanswer.specs.declared.err_word.ErrWord.{ErrWord}
 use Rattle.nutanswer.specs.declared.reply.Change.{Change}
 use Rattle.nutanswer.specs.declared.reply.Change.TheVariants.{Order}
-use Rattle.nutanswer.specs.View.{UpsSeen}
 use Rattle.nutanswer.proofs.OrderFits.{orders_fit}
 use Rattle.nutcore.specs.Ups.{UpsState, free_room}
 use Rattle.nutcore.specs.Server.{ServerState}

@@ -1,4 +1,4 @@
-use Rattle.std.proofs.Common.{◌≡◌, ◌<◌, ◌≤◌, ℕ, List, sym, length, arith}
+use Rattle.std.proofs.Common.{◌<◌, ◌≤◌, List, sym, length, arith}
 use Rattle.std.proofs.lemmas.Option.{slice_get_past}
 use Rattle.nutcore.specs.Ups.{UpsState, with_order}
 use Rattle.nutcore.proofs.DriverSteps.{there_is, set_changed, changed_none}
