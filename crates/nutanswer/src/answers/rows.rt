@@ -49,6 +49,7 @@ pub(crate) fn reply(
     match answer(sample, asker.view(), &command)? {
         Reply::One(line, change) => Ok((line, change)),
         Reply::Many(_listing) => Ok(nothing),
+        Reply::Clients(_name, _) => Ok(nothing),
     }
 }
 

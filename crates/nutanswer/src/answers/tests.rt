@@ -23,6 +23,7 @@ fn told(sample: &Sample, command: &Command) -> Result<Line, Fail> {
             Line::new()
         }),
         Reply::Many(_listing) => Ok(Line::new()),
+        Reply::Clients(_name, _) => Ok(Line::new()),
     }
 }
 
@@ -368,6 +369,7 @@ fn text(alloc: Global, sample: &Sample, command: &Command) -> Result<Vec<u8>, Fa
     match answer(sample, nobody(), command)? {
         Reply::One(line, _) => text.extend_from_slice(line.as_slice())?,
         Reply::Many(listing) => listing.write(&mut text)?,
+        Reply::Clients(name, _) => text.extend_from_slice(name.as_bytes())?,
     }
     Ok(text)
 }

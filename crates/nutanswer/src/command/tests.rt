@@ -77,6 +77,7 @@ fn kind(command: &Command) -> &'static str {
         Command::ListCmd(_) => "ListCmd",
         Command::ListEnum(_, _) => "ListEnum",
         Command::ListRange(_, _) => "ListRange",
+        Command::ListClient(_) => "ListClient",
         Command::Help => "Help",
         Command::Ver => "Ver",
         Command::NetVer => "NetVer",
@@ -118,6 +119,7 @@ fn push_command(text: &mut String, command: &Command) -> Result<(), AllocError> 
         | Command::GetUpsDesc(ups)
         | Command::GetNumLogins(ups)
         | Command::ListVar(ups)
+        | Command::ListClient(ups)
         | Command::ListRw(ups)
         | Command::ListCmd(ups) => push_ups(text, ups),
         _ => Ok(()),
@@ -252,7 +254,9 @@ SET VAR SU UPS.Delay Off|SetVar SU UPS.Delay Off\n\
 SET VAR \"\" a/b \"\"|SetVar - - \n\
 INSTCMD VAR Load.OFF VAR|InstCmd VAR Load.OFF VAR\n\
 INSTCMD s/u \"load off\"|InstCmd - -\n\
-GET NUMLOGINS su@host|GetNumLogins -"
+GET NUMLOGINS su@host|GetNumLogins -\n\
+LIST CLIENT SU|ListClient SU\n\
+list client s/u|ListClient -"
 }
 
 /// Lines that don't read as words, whatever the words before the fault.
@@ -304,7 +308,7 @@ SET X|ERR INVALID-ARGUMENT\n\
 SET su x y|ERR INVALID-ARGUMENT\n\
 SET RW su x y|ERR INVALID-ARGUMENT\n\
 SET VARS su x y|ERR INVALID-ARGUMENT\n\
-LIST CLIENT su|ERR INVALID-ARGUMENT"
+LIST CLIENTS su|ERR INVALID-ARGUMENT"
 }
 
 /// Commands with a word too few.
@@ -317,6 +321,7 @@ GET DESC su|ERR INVALID-ARGUMENT\n\
 GET CMDDESC su|ERR INVALID-ARGUMENT\n\
 GET UPSDESC|ERR INVALID-ARGUMENT\n\
 GET NUMLOGINS|ERR INVALID-ARGUMENT\n\
+LIST CLIENT|ERR INVALID-ARGUMENT\n\
 USERNAME|ERR INVALID-ARGUMENT\n\
 PASSWORD|ERR INVALID-ARGUMENT\n\
 LOGIN|ERR INVALID-ARGUMENT\n\

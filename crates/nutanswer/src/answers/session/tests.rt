@@ -192,6 +192,8 @@ fn counts_the_logins_of_the_ups(rt: HostRuntime) -> Result<(), Fail> {
         (b"GET NUMLOGINS off", b"NUMLOGINS off 1\n"),
         (b"GET NUMLOGINS none", ErrWord::UnknownUps.line()),
         (b"GET NUMLOGINS \"\"", ErrWord::UnknownUps.line()),
+        (b"LIST CLIENT none", ErrWord::UnknownUps.line()),
+        (b"LIST CLIENT \"\"", ErrWord::UnknownUps.line()),
     ] {
         let (got, _) = reply(&sample, &nobody, line)?;
         assert_eq!(rt; got.as_slice(), want);
