@@ -25,7 +25,7 @@ use std::alloc::AllocError;
 pub fn answer<V: View>(view: &V, asker: Asker<'_>, command: &Command) -> Result<Reply, AllocError>
     ensures ok { IfOk result
         (IsReply (V.seen view.now)
-            (answer_to (V.seen view.now) (asker_seen asker.entry) command.now)) }
+        (answer_to (V.seen view.now) (asker_seen asker.entry) command.now)) }
     ensures memory { OnErr result
         (IsTrue (shares_version (answer_to (V.seen view.now) (asker_seen asker.entry) command.now))) }
 {

@@ -103,7 +103,7 @@ unfolding outcome_of after_by pumped_until
 took_stops old new c n step =
     elim step.allowed [
       | inl told ↦ (let short = took_short (session c old) n _ told in
-        subst (λ (z : ServerState). pump_stops z c ≡ true) (sym (step.leaves ∙ cond-true _ _ _ short.1)) (pump_stopped (without_output old c n) c short.0))
+          subst (λ (z : ServerState). pump_stops z c ≡ true) (sym (step.leaves ∙ cond-true _ _ _ short.1)) (pump_stopped (without_output old c n) c short.0))
       | inr lack ↦ (let e : Done ≡ Refused (Memory lack.0) = lack.1 in cc)
     ]
 

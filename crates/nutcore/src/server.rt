@@ -26,13 +26,13 @@ ghost use Rattle.nutlisting.specs.Items.{text_of, client_listing};
 ghost use Rattle.nutcore.specs.declared.event.Outcome.TheVariants.{Fed};
 ghost use Rattle.nutcore.specs.contracts.server.Server.{the_row};
 
-use crate::scratch::Scratch;
-use nutlisting::{Clients, SESSION_LIMIT};
 use crate::event::{ClientId, Event, Fault, Outcome};
 use crate::max_age::MaxAge;
+use crate::scratch::Scratch;
 use crate::session::Session;
 use crate::ups::Ups;
 use nutanswer::{Asker, Change, Command, Listing, Reply, UpsView, View, answer};
+use nutlisting::{Clients, SESSION_LIMIT};
 use nutusers::{Descriptions, UpsId, UpsList, Users};
 use nutwords::{Address, Line, UpsName};
 use std::alloc::{AllocError, Global};

@@ -17,8 +17,8 @@ ghost use Rattle.nutcore.specs.Calls.{is_finished, room_of};
 ghost use Rattle.nutcore.specs.Reply.{asker_of, seen_client, changed_session};
 ghost use Rattle.nutanswer.specs.View.{asker_seen, is_logged_in, addresses_at};
 
-use crate::lines::{drop_front, line_end};
 use crate::HELD_LIMIT;
+use crate::lines::{drop_front, line_end};
 use crate::scratch::Scratch;
 use nutanswer::{Asker, Change};
 use nutlisting::{Clients, Listing, Outbox};

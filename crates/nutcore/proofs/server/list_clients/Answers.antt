@@ -17,8 +17,8 @@ loop-session-preserved c =
     let more : List (List ℕ) = addresses_at c.args.u (seen_client x ∷ []) in
     record {
       listed = c.list.ensures ∙ ap (λ (ys : List (List ℕ)). ys ++ more) c.loop-session.invariant.listed
-        ∙ ap (λ (y : SessionState). addresses_at c.args.u (map seen_client (take i xs)) ++ addresses_at c.args.u (seen_client y ∷ [])) at
-        ∙ sym (list_more c.args.u xs i x within);
+          ∙ ap (λ (y : SessionState). addresses_at c.args.u (map seen_client (take i xs)) ++ addresses_at c.args.u (seen_client y ∷ [])) at
+          ∙ sym (list_more c.args.u xs i x within);
       few = omega (arith, c.loop-session.invariant.few, one_address c.args.u (seen_client x), ap length c.list.ensures, length-append c.loop-session.clients more);
     }
 
