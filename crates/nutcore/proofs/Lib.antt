@@ -18,7 +18,9 @@ mod Examples
 mod TableRows
 mod Marks
 mod ShutdownMarks
+mod SessionMarks
 mod LoginMarks
+mod CredentialMarks
 mod LoginCount
 mod Isolation
 mod OrderFits

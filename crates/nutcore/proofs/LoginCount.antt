@@ -1,6 +1,6 @@
 -- Counting the sessions that are logged in.
 use Rattle.std.proofs.Common.{◌≡◌, ℕ, suc, ◌+◌, ◌<◌, ◌≤◌, ◌++◌, Bool, true, false, List, [], ◌∷◌, refl, sym, ◌∙◌, ap, cond, map, take, length, get_or, arith}
-use Rattle.std.specs.Prelude.{count_by}
+use Rattle.std.specs.Prelude.{count_by, codes, Option, Some, Result, Ok}
 use Rattle.std.specs.List.{filter}
 use Rattle.std.proofs.Math.Seq.{take-suc}
 use Rattle.std.proofs.lemmas.List.{map-append}
@@ -8,9 +8,20 @@ use Rattle.std.proofs.lemmas.List.Elements.{filter-append}
 use Rattle.std.proofs.lemmas.Grind.{common_steps}
 use Rattle.std.proofs.lemmas.List.Sums.{count_by_more_yes, count_by_more_no}
 use Rattle.nutusers.specs.declared.ups_list.UpsId.{UpsId}
-use Rattle.nutanswer.specs.View.{ClientSeen, is_logged_in, addresses_at}
+use Rattle.nutanswer.specs.View.{ClientSeen, is_logged_in, login_count, addresses_at}
 use Rattle.nutcore.specs.Session.{SessionState}
-use Rattle.nutcore.specs.Reply.{seen_client}
+use Rattle.std.specs.Fmt.{decimal}
+use Rattle.std.specs.Option.{ok_or}
+use Rattle.std.proofs.lemmas.List.Sums.{length-filter}
+use Rattle.nutwords.specs.Frame.{frame, line_of as text_line}
+use Rattle.nutlisting.specs.Items.{text_of, client_item, client_listing}
+use Rattle.nutanswer.specs.declared.err_word.ErrWord.{ErrWord}
+use Rattle.nutanswer.specs.declared.err_word.ErrWord.TheVariants.{UnknownUps}
+use Rattle.nutanswer.specs.Checks.{◌>>=◌, KnownUps, ups_named, unknown_ups}
+use Rattle.nutanswer.specs.Answer.{Answer, told, listing_of_clients, text_of_answer}
+use Rattle.nutcore.specs.Server.{ServerState}
+use Rattle.nutcore.specs.ByRight.{WhatIsCountedIsWhoIsThere}
+use Rattle.nutcore.specs.Reply.{seen, seen_client, text_to}
 
 -- the session is logged in to the UPS
 abbrev pub is_in : UpsId → SessionState → Bool
@@ -52,3 +63,33 @@ one_address u x = by_test (is_logged_in u x)
     by_test : (b : Bool) → length (map (λ (x : ClientSeen). x.address) (cond b (x ∷ []) [])) ≤ 1
     by_test true = omega arith
     by_test false = omega arith
+
+-- the sessions that are logged in, as clients are seen
+seen_filter : (u : UpsId) (xs : List SessionState) → addresses_at u (map seen_client xs) ≡ map (λ (x : SessionState). x.address) (filter (is_in u) xs)
+seen_filter u [] = refl
+seen_filter u (x ∷ xs) = by_test (is_in u x) refl (seen_filter u xs)
+  where
+    by_test : (b : Bool) → is_in u x ≡ b → addresses_at u (map seen_client xs) ≡ map (λ (y : SessionState). y.address) (filter (is_in u) xs) →
+        map (λ (y : ClientSeen). y.address) (cond b (seen_client x ∷ filter (is_logged_in u) (map seen_client xs)) (filter (is_logged_in u) (map seen_client xs))) ≡ map (λ (y : SessionState). y.address) (cond b (x ∷ filter (is_in u) xs) (filter (is_in u) xs))
+    by_test true e rest = ap (λ (ys : List (List ℕ)). x.address ∷ ys) rest
+    by_test false e rest = rest
+
+-- the items of addresses
+items_of : (name : List ℕ) (xs : List SessionState) → map (client_item name) (map (λ (x : SessionState). x.address) xs) ≡ map (λ (x : SessionState). client_item name x.address) xs
+items_of name [] = refl
+items_of name (x ∷ xs) = ap (λ (items : List (List (List ℕ))). client_item name x.address ∷ items) (items_of name xs)
+
+-- a UPS that is named is found
+known_ups_is : (s : ServerState) (ups : Option (List ℕ)) (known : KnownUps) (f : KnownUps → Result Answer ErrWord) → ups_named (seen s) ups ≡ Some known → (unknown_ups (seen s) ups >>= f) ≡ f known
+known_ups_is s ups known f e = ap (λ (o : Option KnownUps). ok_or o UnknownUps >>= f) e
+
+pub who_is_there : WhatIsCountedIsWhoIsThere
+who_is_there = record {
+  counted = λ s c line ups known read named.
+    ap (text_to s c) read ∙ ap text_of_answer (known_ups_is s ups known (λ u. told (codes "NUMLOGINS" ∷ u.name ∷ decimal (login_count u.id (seen s).clients) ∷ [])) named)
+    ∙ ap (λ (n : ℕ). text_line (codes "NUMLOGINS" ∷ known.name ∷ decimal n ∷ [])) (count_seen known.id s.sessions ∙ sym (length-filter (is_in known.id) s.sessions));
+  listed = λ s c line ups known read named.
+    ap (text_to s c) read ∙ ap text_of_answer (known_ups_is s ups known (λ u. Ok (listing_of_clients (client_listing u.name (addresses_at u.id (seen s).clients)))) named)
+    ∙ ap (λ (addresses : List (List ℕ)). text_of (client_listing known.name addresses)) (seen_filter known.id s.sessions)
+    ∙ ap (λ (items : List (List (List ℕ))). frame (codes "CLIENT") (known.name ∷ []) items) (items_of known.name (filter (is_in known.id) s.sessions));
+}

@@ -60,6 +60,11 @@ module _ (P : Change → Type 0) (no : P changes.Nothing) where
   held (Err word) next h = no
   held (Ok none) next h = h
 
+  -- the same, where what stands below knows that the check held
+  once : (r : Result (Unit {0}) ErrWord) (next : Result Answer ErrWord) {q : Result (Unit {0}) ErrWord} → q ≡ r → (q ≡ Ok tt → P (change_of_answer next)) → P (change_of_answer (r >> next))
+  once (Err word) next e h = no
+  once (Ok none) next e h = h e
+
   -- of a variable of a live UPS
   of_variable : (s : Seen) (ups name : Option (List ℕ)) (f : KnownUps → List ℕ × VariableState → Result Answer ErrWord) → ((u : KnownUps) (v : List ℕ × VariableState) → P (change_of_answer (f u v))) →
       P (change_of_answer (unknown_ups s ups >>= (λ u. live s u >> (var_not_supported u name >>= (λ v. f u v)))))
@@ -67,15 +72,17 @@ module _ (P : Change → Type 0) (no : P changes.Nothing) where
 
 -- every row, but that those of LOGIN and FSD are given
 module _ (s : Seen) (asker : AskerSeen) (P : Command → Change → Type 0) (no : (command : Command) → P command changes.Nothing)
-    (name : (word : Option (List ℕ)) (given : List ℕ) → P (Username word) (changes.Username given))
-    (password : (word : Option (List ℕ)) (given : List ℕ) → P (Password word) (changes.Password given))
+    (name : (given : List ℕ) → already_set_username asker ≡ Ok tt → P (Username (Some given)) (changes.Username given))
+    (password : (given : List ℕ) → already_set_password asker ≡ Ok tt → P (Password (Some given)) (changes.Password given))
     (ending : P Logout changes.Ending)
     (login : (ups : Option (List ℕ)) → P (Login ups) (change_of_answer (answer_to s asker (Login ups))))
     (fsd : (ups : Option (List ℕ)) → P (Fsd ups) (change_of_answer (answer_to s asker (Fsd ups))))
     (ordered : (u : UpsId) (line : List ℕ) (command : Command) → P command (order u line)) where
   rows : (command : Command) → P command (change_of_answer (answer_to s asker command))
-  rows (Username word) = held (P (Username word)) (no _) (already_set_username asker) _ (found (P (Username word)) (no _) (invalid_argument word) _ (λ given. name word given))
-  rows (Password word) = held (P (Password word)) (no _) (already_set_password asker) _ (found (P (Password word)) (no _) (invalid_argument word) _ (λ given. password word given))
+  rows (Username None) = held (P (Username None)) (no _) (already_set_username asker) _ (no _)
+  rows (Username (Some given)) = once (P (Username (Some given))) (no _) (already_set_username asker) _ refl (λ free. name given free)
+  rows (Password None) = held (P (Password None)) (no _) (already_set_password asker) _ (no _)
+  rows (Password (Some given)) = once (P (Password (Some given))) (no _) (already_set_password asker) _ refl (λ free. password given free)
   rows (Login ups) = login ups
   rows Logout = ending
   rows (Primary ups) = held (P (Primary ups)) (no _) (user s asker rights.Primary) _ (found (P (Primary ups)) (no _) (unknown_ups s ups) _ (λ u. no _))
@@ -153,7 +160,7 @@ login_row s asker u ups h = by_user (user s asker rights.Login) (ups_named s ups
 pub shutdown_row : (s : Seen) (asker : AskerSeen) (u : UpsId) (command : Command) → change_of_answer (answer_to s asker command) ≡ changes.Fsd u → IsRow s asker Fsd rights.Fsd (codes "OK" ∷ codes "FSD-SET" ∷ []) u command
 shutdown_row s asker u command =
     rows s asker (λ (command : Command) (change : Change). change ≡ changes.Fsd u → IsRow s asker Fsd rights.Fsd (codes "OK" ∷ codes "FSD-SET" ∷ []) u command)
-    (λ command e. cc e) (λ word given e. cc e) (λ word given e. cc e) (λ e. cc e) (λ ups e. never_shutdown ups e) (λ ups e. fsd_row s asker u ups e) (λ v line command e. cc e) command
+    (λ command e. cc e) (λ given free e. cc e) (λ given free e. cc e) (λ e. cc e) (λ ups e. never_shutdown ups e) (λ ups e. fsd_row s asker u ups e) (λ v line command e. cc e) command
   where
     by_login : (r : Result (Unit {0}) ErrWord) (o : Result KnownUps ErrWord) (l : Result (Unit {0}) ErrWord) → change_of_answer (r >> (o >>= (λ k. l >> Ok (one_line (codes "OK" ∷ []) (changes.Login k.id))))) ≡ changes.Fsd u → ⊥
     by_login (Err word) o l h = cc h
@@ -167,7 +174,7 @@ shutdown_row s asker u command =
 pub logged_in_row : (s : Seen) (asker : AskerSeen) (u : UpsId) (command : Command) → change_of_answer (answer_to s asker command) ≡ changes.Login u → IsRow s asker Login rights.Login (codes "OK" ∷ []) u command
 logged_in_row s asker u command =
     rows s asker (λ (command : Command) (change : Change). change ≡ changes.Login u → IsRow s asker Login rights.Login (codes "OK" ∷ []) u command)
-    (λ command e. cc e) (λ word given e. cc e) (λ word given e. cc e) (λ e. cc e) (λ ups e. login_row s asker u ups e) (λ ups e. never_login ups e) (λ v line command e. cc e) command
+    (λ command e. cc e) (λ given free e. cc e) (λ given free e. cc e) (λ e. cc e) (λ ups e. login_row s asker u ups e) (λ ups e. never_login ups e) (λ v line command e. cc e) command
   where
     by_fsd : (r : Result (Unit {0}) ErrWord) (o : Result KnownUps ErrWord) → change_of_answer (r >> (o >>= (λ k. Ok (one_line (codes "OK" ∷ codes "FSD-SET" ∷ []) (changes.Fsd k.id))))) ≡ changes.Login u → ⊥
     by_fsd (Err word) o h = cc h
@@ -176,3 +183,54 @@ logged_in_row s asker u command =
 
     never_login : (ups : Option (List ℕ)) → change_of_answer (answer_to s asker (Fsd ups)) ≡ changes.Login u → IsRow s asker Login rights.Login (codes "OK" ∷ []) u (Fsd ups)
     never_login ups e = absurd (by_fsd (user s asker rights.Fsd) (unknown_ups s ups) e)
+
+-- USERNAME and PASSWORD
+pub record IsGiving (s : Seen) (asker : AskerSeen) (command gives : Command) : Type 0 where
+  pub is : command ≡ gives
+  pub text : text_of_answer (answer_to s asker command) ≡ line_of (codes "OK" ∷ [])
+
+pub username_row : (s : Seen) (asker : AskerSeen) (given : List ℕ) (command : Command) → change_of_answer (answer_to s asker command) ≡ changes.Username given → IsGiving s asker command (Username (Some given))
+username_row s asker given command =
+    rows s asker (λ (command : Command) (change : Change). change ≡ changes.Username given → IsGiving s asker command (Username (Some given)))
+    (λ command e. cc e) (λ word free e. of_word word free (cc e)) (λ word free e. cc e) (λ e. cc e) (λ ups e. absurd (no_login (user s asker rights.Login) (unknown_ups s ups) (already_logged_in asker) e))
+    (λ ups e. absurd (no_shutdown (user s asker rights.Fsd) (unknown_ups s ups) e)) (λ v line command e. cc e) command
+  where
+    of_word : (word : List ℕ) → already_set_username asker ≡ Ok tt → word ≡ given → IsGiving s asker (Username (Some word)) (Username (Some given))
+    of_word word free e = record {
+      is = ap (λ (w : List ℕ). let c : Command = Username (Some w) in c) e;
+      text = ap (λ r. text_of_answer (r >> Ok (one_line (codes "OK" ∷ []) (changes.Username word)))) free;
+    }
+
+    no_login : (r : Result (Unit {0}) ErrWord) (o : Result KnownUps ErrWord) (l : Result (Unit {0}) ErrWord) → change_of_answer (r >> (o >>= (λ k. l >> Ok (one_line (codes "OK" ∷ []) (changes.Login k.id))))) ≡ changes.Username given → ⊥
+    no_login (Err word) o l h = cc h
+    no_login (Ok none) (Err word) l h = cc h
+    no_login (Ok none) (Ok k) (Err word) h = cc h
+    no_login (Ok none) (Ok k) (Ok none2) h = cc h
+
+    no_shutdown : (r : Result (Unit {0}) ErrWord) (o : Result KnownUps ErrWord) → change_of_answer (r >> (o >>= (λ k. Ok (one_line (codes "OK" ∷ codes "FSD-SET" ∷ []) (changes.Fsd k.id))))) ≡ changes.Username given → ⊥
+    no_shutdown (Err word) o h = cc h
+    no_shutdown (Ok none) (Err word) h = cc h
+    no_shutdown (Ok none) (Ok k) h = cc h
+
+pub password_row : (s : Seen) (asker : AskerSeen) (given : List ℕ) (command : Command) → change_of_answer (answer_to s asker command) ≡ changes.Password given → IsGiving s asker command (Password (Some given))
+password_row s asker given command =
+    rows s asker (λ (command : Command) (change : Change). change ≡ changes.Password given → IsGiving s asker command (Password (Some given)))
+    (λ command e. cc e) (λ word free e. cc e) (λ word free e. of_word word free (cc e)) (λ e. cc e) (λ ups e. absurd (no_login (user s asker rights.Login) (unknown_ups s ups) (already_logged_in asker) e))
+    (λ ups e. absurd (no_shutdown (user s asker rights.Fsd) (unknown_ups s ups) e)) (λ v line command e. cc e) command
+  where
+    of_word : (word : List ℕ) → already_set_password asker ≡ Ok tt → word ≡ given → IsGiving s asker (Password (Some word)) (Password (Some given))
+    of_word word free e = record {
+      is = ap (λ (w : List ℕ). let c : Command = Password (Some w) in c) e;
+      text = ap (λ r. text_of_answer (r >> Ok (one_line (codes "OK" ∷ []) (changes.Password word)))) free;
+    }
+
+    no_login : (r : Result (Unit {0}) ErrWord) (o : Result KnownUps ErrWord) (l : Result (Unit {0}) ErrWord) → change_of_answer (r >> (o >>= (λ k. l >> Ok (one_line (codes "OK" ∷ []) (changes.Login k.id))))) ≡ changes.Password given → ⊥
+    no_login (Err word) o l h = cc h
+    no_login (Ok none) (Err word) l h = cc h
+    no_login (Ok none) (Ok k) (Err word) h = cc h
+    no_login (Ok none) (Ok k) (Ok none2) h = cc h
+
+    no_shutdown : (r : Result (Unit {0}) ErrWord) (o : Result KnownUps ErrWord) → change_of_answer (r >> (o >>= (λ k. Ok (one_line (codes "OK" ∷ codes "FSD-SET" ∷ []) (changes.Fsd k.id))))) ≡ changes.Password given → ⊥
+    no_shutdown (Err word) o h = cc h
+    no_shutdown (Ok none) (Err word) h = cc h
+    no_shutdown (Ok none) (Ok k) h = cc h

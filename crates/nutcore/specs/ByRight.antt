@@ -1,13 +1,16 @@
 -- Who may do what: a forced shutdown and a login come of a line whose session has the right (upsd.users(5)).
-use Rattle.std.specs.Prelude.{◌≡◌, ℕ, Bool, false, true, List, [], ◌∷◌, ◌++◌, Option, Some, None, Ok, codes, ◌==◌}
+use Rattle.std.specs.Prelude.{◌≡◌, ℕ, Bool, false, true, List, [], ◌∷◌, ◌++◌, Option, Some, None, Ok, codes, ◌==◌, length, map}
+use Rattle.std.specs.List.{filter}
+use Rattle.std.specs.Fmt.{decimal}
 use Rattle.std.specs.Option.{option_map_or}
-use Rattle.nutwords.specs.Frame.{line_of as text_line}
+use Rattle.nutwords.specs.Frame.{frame, line_of as text_line}
+use Rattle.nutlisting.specs.Items.{client_item}
 use Rattle.nutusers.specs.Users.{may}
 use Rattle.nutusers.specs.declared.rights.Right.{Right}
 use Rattle.nutusers.specs.declared.rights.Right.TheVariants as rights
 use Rattle.nutusers.specs.declared.ups_list.UpsId.{UpsId}
 use Rattle.nutanswer.specs.declared.command.Command.{Command}
-use Rattle.nutanswer.specs.declared.command.Command.TheVariants.{Fsd, Login}
+use Rattle.nutanswer.specs.declared.command.Command.TheVariants.{Username, Password, Login, Fsd, GetNumLogins, ListClient}
 use Rattle.nutanswer.specs.Command.{read_command}
 use Rattle.nutanswer.specs.Checks.{KnownUps, ups_named}
 use Rattle.nutcore.specs.declared.event.Event.{Event}
@@ -69,3 +72,35 @@ abbrev pub ALoginIsByRight : Type 0
 ALoginIsByRight =
     (old new : ServerState) (events : List Event) (outcomes : List Outcome) (c : ℕ) (u : UpsId) → Run old events outcomes new → is_logged_in c u old ≡ false → is_logged_in c u new ≡ true
     → (x : Execution) × IsAmong x (executions old events outcomes) × LogsInByRight c u x
+
+-- This line of the client gives this user name: `USERNAME name`, answered `OK`.
+abbrev pub GivesUsername : ℕ → List ℕ → Execution → Type 0
+GivesUsername c name (of_line s d line) = (d ≡ c) × (read_command line ≡ Ok (Some (Username (Some name)))) × ((reply s d line).text ≡ text_line (codes "OK" ∷ []))
+GivesUsername c name (of_notice d) = ⊥
+
+-- The same of a password.
+abbrev pub GivesPassword : ℕ → List ℕ → Execution → Type 0
+GivesPassword c password (of_line s d line) = (d ≡ c) × (read_command line ≡ Ok (Some (Password (Some password)))) × ((reply s d line).text ≡ text_line (codes "OK" ∷ []))
+GivesPassword c password (of_notice d) = ⊥
+
+-- The user name and the password with which a line is executed were given by lines of its client, executed before it.
+pub record WasGivenBefore (before : List Execution) (s : ServerState) (c : ℕ) : Type 0 where
+  pub username : (name : List ℕ) → (asker c s).username ≡ Some name → (x : Execution) × IsAmong x before × GivesUsername c name x
+  pub password : (word : List ℕ) → (asker c s).password ≡ Some word → (x : Execution) × IsAmong x before × GivesPassword c word x
+
+-- What a session has given it gave by lines of the run: of every line that a run from a server without sessions executed, whatever was executed before it.
+abbrev pub CredentialsAreGivenByLines : Type 0
+CredentialsAreGivenByLines =
+    (old new : ServerState) (events : List Event) (outcomes : List Outcome) (before after : List Execution) (s : ServerState) (c : ℕ) (line : List ℕ) → old.sessions ≡ [] → Run old events outcomes new → executions old events outcomes ≡ before ++ of_line s c line ∷ after
+    → WasGivenBefore before s c
+
+-- The open sessions that are logged in to the UPS, in the order of opening.
+abbrev pub logged_in : UpsId → ServerState → List SessionState
+logged_in u s = filter (is_logged_in_of u) s.sessions
+
+-- What is counted is who is there: `GET NUMLOGINS` tells the number of the sessions that are logged in to the UPS, and `LIST CLIENT` lists exactly these, by their addresses.
+pub record WhatIsCountedIsWhoIsThere : Type 0 where
+  pub counted : (s : ServerState) (c : ℕ) (line : List ℕ) (ups : Option (List ℕ)) (known : KnownUps) → read_command line ≡ Ok (Some (GetNumLogins ups)) → ups_named (seen s) ups ≡ Some known
+      → (reply s c line).text ≡ text_line (codes "NUMLOGINS" ∷ known.name ∷ decimal (length (logged_in known.id s)) ∷ [])
+  pub listed : (s : ServerState) (c : ℕ) (line : List ℕ) (ups : Option (List ℕ)) (known : KnownUps) → read_command line ≡ Ok (Some (ListClient ups)) → ups_named (seen s) ups ≡ Some known
+      → (reply s c line).text ≡ frame (codes "CLIENT") (known.name ∷ []) (map (λ x. client_item known.name x.address) (logged_in known.id s))

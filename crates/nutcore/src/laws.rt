@@ -1,6 +1,6 @@
 //! Laws of every server, event and run. No program calls them.
 ghost use Rattle.nutcore.specs.Headline.{WhatWasSentAndIsOwedIsTheAnswers, WhatWasAskedIsExecutedOrHeld, EachAnswerIsTimely, NothingIsLeftToExecute, AListingIsWhatIsHeld, ARefusedLineChangesNothing, ThePumpExecutesTheLeast, EachEventIsAFunction};
-ghost use Rattle.nutcore.specs.ByRight.{AForcedShutdownIsSetByRight, ALoginIsByRight};
+ghost use Rattle.nutcore.specs.ByRight.{AForcedShutdownIsSetByRight, ALoginIsByRight, CredentialsAreGivenByLines, WhatIsCountedIsWhoIsThere};
 ghost use Rattle.nutcore.specs.Examples.{TwoVariables, EmptyListing, TakenInFour, LongestLine, ThreeLines, EscapedValue, FaultyLines, CasesAndFaults, NotConnected, Described, PipelinedGet};
 ghost use Rattle.nutcore.specs.Isolation.{AClientTouchesNoOther, ADriverTouchesNoOther, ARefusedEventChangesNothing};
 ghost use Rattle.nutcore.specs.Limits.{Limits};
@@ -47,6 +47,18 @@ pub fn a_forced_shutdown_is_set_by_right()
 /// The same of a login: it comes of the client's own `LOGIN`, answered `OK`, with the right.
 pub fn a_login_is_by_right()
     ensures { ALoginIsByRight }
+{}
+
+/// The user name and the password with which a line is executed were given by lines of its client, `USERNAME` and
+/// `PASSWORD`, each answered `OK`, which the run executed before it.
+pub fn credentials_are_given_by_lines()
+    ensures { CredentialsAreGivenByLines }
+{}
+
+/// `GET NUMLOGINS` tells how many of the open sessions are logged in to the UPS, and `LIST CLIENT` lists exactly these, in
+/// the order of opening.
+pub fn what_is_counted_is_who_is_there()
+    ensures { WhatIsCountedIsWhoIsThere }
 {}
 
 /// The pump executes the least number of lines after which it stops.

@@ -1,0 +1,126 @@
+-- A user name and a password are given by lines alone.
+use Rattle.std.proofs.Common.{◌≡◌, ◌∙◌, ◌++◌, ℕ, true, false, List, [], ◌∷◌, Option, Some, None, Result, Ok, Err, refl, sym, ap, inl}
+use Rattle.std.specs.Prelude.{Bool, codes}
+use Rattle.std.specs.Option.{option_map_or}
+use Rattle.std.specs.Str.{bytes_eq}
+use Rattle.std.proofs.lemmas.Slice.Eq.{bytes_eq-Decides}
+use Rattle.nutanswer.specs.declared.command.Command.{Command}
+use Rattle.nutanswer.specs.declared.command.Command.TheVariants.{Username, Password}
+use Rattle.nutanswer.specs.declared.err_word.ErrWord.{ErrWord}
+use Rattle.nutanswer.specs.declared.reply.Change.{Change}
+use Rattle.nutanswer.specs.declared.reply.Change.TheVariants as changes
+use Rattle.nutanswer.specs.Command.{read_command}
+use Rattle.nutwords.specs.Frame.{line_of as text_line}
+use Rattle.nutcore.specs.declared.event.Event.{Event}
+use Rattle.nutcore.specs.declared.event.Outcome.{Outcome}
+use Rattle.nutcore.specs.Session.{SessionState, find}
+use Rattle.nutcore.specs.Server.{ServerState, session}
+use Rattle.nutcore.specs.Reply.{seen, asker, asker_of, reply, changed_session, change_by, text_to}
+use Rattle.nutcore.specs.Pump.{answered}
+use Rattle.nutcore.specs.Run.{Run}
+use Rattle.nutcore.specs.History.{Execution, of_line, of_notice, executions}
+use Rattle.nutcore.specs.ByRight.{IsAmong, GivesUsername, GivesPassword, WasGivenBefore, CredentialsAreGivenByLines}
+use Rattle.nutcore.proofs.TableRows.{username_row, password_row}
+use Rattle.nutcore.proofs.Marks.{OneIs, run_told, no_mark}
+use Rattle.nutcore.proofs.SessionMarks.{IsSessionMark, SetsMark, is_marked, marks}
+
+-- this text, where one is given
+abbrev is_given : List ℕ → Option (List ℕ) → Bool
+is_given text o = option_map_or (λ given. bytes_eq given text) o false
+
+same_text : (given text : List ℕ) → bytes_eq given text ≡ true → given ≡ text
+same_text given text e = (bytes_eq-Decides given text).0 e
+
+text_given : (text : List ℕ) (o : Option (List ℕ)) → o ≡ Some text → is_given text o ≡ true
+text_given text o e = ap (is_given text) e ∙ (bytes_eq-Decides text text).1 refl
+
+module _ (name : List ℕ) where
+  -- the session has given this user name
+  abbrev pub named_so : SessionState → Bool
+  named_so x = is_given name x.username
+
+  abbrev pub IsName : Change → Type 0
+  IsName change = change ≡ changes.Username name
+
+  names : (change : Change) (line text : List ℕ) (x : SessionState) → named_so x ≡ false → named_so (changed_session change (answered line text x)) ≡ true → IsName change
+  names changes.Nothing line text x before after = no_mark _ before after
+  names (changes.Username given) line text x before after = ap (λ (w : List ℕ). let c : Change = changes.Username w in c) (same_text given name after)
+  names (changes.Password password) line text x before after = no_mark _ before after
+  names (changes.Login v) line text x before after = no_mark _ before after
+  names changes.Ending line text x before after = no_mark _ before after
+  names (changes.Fsd v) line text x before after = no_mark _ before after
+  names (changes.Order v order) line text x before after = no_mark _ before after
+
+  pub is_name_mark : IsSessionMark named_so IsName
+  is_name_mark = record { held = λ x bytes. refl; owed = λ x bytes. refl; noticed = λ x. inl refl; fresh = λ c address. refl; set = names }
+
+  by_name : (s : ServerState) (c : ℕ) (line : List ℕ) (r : Result (Option Command) ErrWord) → read_command line ≡ r → change_by s c r ≡ changes.Username name
+      → (read_command line ≡ Ok (Some (Username (Some name)))) × ((reply s c line).text ≡ text_line (codes "OK" ∷ []))
+  by_name s c line (Err word) e h = cc h
+  by_name s c line (Ok None) e h = cc h
+  by_name s c line (Ok (Some command)) e h =
+      let row = username_row (seen s) (asker c s) name command h in
+      (e ∙ ap (λ (k : Command). let r : Result (Option Command) ErrWord = Ok (Some k) in r) row.is, ap (text_to s c) e ∙ row.text)
+
+  gives_name : (c : ℕ) (x : Execution) → SetsMark named_so IsName is_name_mark c x → GivesUsername c name x
+  gives_name c (of_line s d line) h = let given = by_name s d line (read_command line) refl h.1 in (h.0, given.0, given.1)
+  gives_name c (of_notice d) h = absurd h
+
+module _ (word : List ℕ) where
+  -- the session has given this password
+  abbrev pub has_word : SessionState → Bool
+  has_word x = is_given word x.password
+
+  abbrev pub IsWord : Change → Type 0
+  IsWord change = change ≡ changes.Password word
+
+  words : (change : Change) (line text : List ℕ) (x : SessionState) → has_word x ≡ false → has_word (changed_session change (answered line text x)) ≡ true → IsWord change
+  words changes.Nothing line text x before after = no_mark _ before after
+  words (changes.Username name) line text x before after = no_mark _ before after
+  words (changes.Password given) line text x before after = ap (λ (w : List ℕ). let c : Change = changes.Password w in c) (same_text given word after)
+  words (changes.Login v) line text x before after = no_mark _ before after
+  words changes.Ending line text x before after = no_mark _ before after
+  words (changes.Fsd v) line text x before after = no_mark _ before after
+  words (changes.Order v order) line text x before after = no_mark _ before after
+
+  pub is_word_mark : IsSessionMark has_word IsWord
+  is_word_mark = record { held = λ x bytes. refl; owed = λ x bytes. refl; noticed = λ x. inl refl; fresh = λ c address. refl; set = words }
+
+  by_word : (s : ServerState) (c : ℕ) (line : List ℕ) (r : Result (Option Command) ErrWord) → read_command line ≡ r → change_by s c r ≡ changes.Password word
+      → (read_command line ≡ Ok (Some (Password (Some word)))) × ((reply s c line).text ≡ text_line (codes "OK" ∷ []))
+  by_word s c line (Err w) e h = cc h
+  by_word s c line (Ok None) e h = cc h
+  by_word s c line (Ok (Some command)) e h =
+      let row = password_row (seen s) (asker c s) word command h in
+      (e ∙ ap (λ (k : Command). let r : Result (Option Command) ErrWord = Ok (Some k) in r) row.is, ap (text_to s c) e ∙ row.text)
+
+  gives_word : (c : ℕ) (x : Execution) → SetsMark has_word IsWord is_word_mark c x → GivesPassword c word x
+  gives_word c (of_line s d line) h = let given = by_word s d line (read_command line) refl h.1 in (h.0, given.0, given.1)
+  gives_word c (of_notice d) h = absurd h
+
+-- what is asked with was given
+asked_name : (name : List ℕ) (o : Option SessionState) → (asker_of o).username ≡ Some name → option_map_or (named_so name) o false ≡ true
+asked_name name None e = cc e
+asked_name name (Some x) e = text_given name x.username e
+
+asked_word : (word : List ℕ) (o : Option SessionState) → (asker_of o).password ≡ Some word → option_map_or (has_word word) o false ≡ true
+asked_word word None e = cc e
+asked_word word (Some x) e = text_given word x.password e
+
+none_open : (c : ℕ) (s : ServerState) → s.sessions ≡ [] → session c s ≡ None
+none_open c s e = ap (find c) e
+
+one_gives : (P Q : Execution → Type 0) (xs : List Execution) → ((x : Execution) → P x → Q x) → OneIs P xs → OneIs Q xs
+one_gives P Q xs f one = (one.0, one.1, f one.0 one.2)
+
+pub given_before : CredentialsAreGivenByLines
+given_before old new events outcomes before after s c line empty run e = record {
+  username = λ name asked.
+    one_gives (SetsMark (named_so name) (IsName name) (is_name_mark name) c) (GivesUsername c name) before (gives_name name c)
+    (run_told (is_marked (named_so name) (IsName name) (is_name_mark name) c) (SetsMark (named_so name) (IsName name) (is_name_mark name) c) (marks (named_so name) (IsName name) (is_name_mark name) c) old new events outcomes run
+    (ap (λ (o : Option SessionState). option_map_or (named_so name) o false) (none_open c old empty)) before after (of_line s c line) e (asked_name name (session c s) asked));
+  password = λ word asked.
+    one_gives (SetsMark (has_word word) (IsWord word) (is_word_mark word) c) (GivesPassword c word) before (gives_word word c)
+    (run_told (is_marked (has_word word) (IsWord word) (is_word_mark word) c) (SetsMark (has_word word) (IsWord word) (is_word_mark word) c) (marks (has_word word) (IsWord word) (is_word_mark word) c) old new events outcomes run
+    (ap (λ (o : Option SessionState). option_map_or (has_word word) o false) (none_open c old empty)) before after (of_line s c line) e (asked_word word (session c s) asked));
+}
