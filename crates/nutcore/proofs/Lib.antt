@@ -24,3 +24,4 @@ mod CredentialMarks
 mod LoginCount
 mod Isolation
 mod OrderFits
+mod Sound

@@ -11,6 +11,7 @@ pub mod Run
 pub mod History
 pub mod Headline
 pub mod Isolation
+pub mod Sound
 pub mod Limits
 pub mod ByRight
 pub mod Calls

@@ -4,6 +4,9 @@ ghost use Rattle.nutcore.specs.ByRight.{AForcedShutdownIsSetByRight, ALoginIsByR
 ghost use Rattle.nutcore.specs.Examples.{TwoVariables, EmptyListing, TakenInFour, LongestLine, ThreeLines, EscapedValue, FaultyLines, CasesAndFaults, NotConnected, Described, PipelinedGet};
 ghost use Rattle.nutcore.specs.Isolation.{AClientTouchesNoOther, ADriverTouchesNoOther, ARefusedEventChangesNothing};
 ghost use Rattle.nutcore.specs.Limits.{Limits};
+ghost use Rattle.nutcore.specs.Sound.{ANewServerIsSound, EachEventKeepsTheServerSound, EveryRunKeepsTheServerSound, ASoundServerIsLawful};
+
+use nutdriver::laws::{each_line_keeps_the_tree_sound, lawful_lines_keep_trees_sound};
 
 /// Over every run, what each client was sent, followed by what it is still owed, is exactly the
 /// answers to its executed lines, in order.
@@ -60,6 +63,19 @@ pub fn credentials_are_given_by_lines()
 pub fn what_is_counted_is_who_is_there()
     ensures { WhatIsCountedIsWhoIsThere }
 {}
+
+/// Every server is sound: a new one is, and each event and each run keeps it so. The tree of each UPS is sound (names
+/// strictly rise, and all that was reported is lawful and within its limits), nothing was heard later than now, what is
+/// held and owed is within its limits, and the ids of sessions are apart. So the premise of the laws of every run holds.
+pub fn every_server_is_sound()
+    ensures opening { ANewServerIsSound }
+    ensures event { EachEventKeepsTheServerSound }
+    ensures run { EveryRunKeepsTheServerSound }
+    ensures lawful { ASoundServerIsLawful }
+{
+    lawful_lines_keep_trees_sound();
+    each_line_keeps_the_tree_sound();
+}
 
 /// The pump executes the least number of lines after which it stops.
 pub fn the_pump_executes_the_least()
