@@ -25,3 +25,4 @@ mod LoginCount
 mod Isolation
 mod OrderFits
 mod Sound
+mod Listed

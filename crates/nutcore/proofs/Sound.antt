@@ -44,7 +44,7 @@ and_true false b e = cc e
 
 -- lists
 module _ {A : Type 0} (P : A → Type 0) where
-  each_map : {B : Type 0} (Q : B → Type 0) (f : A → B) → ((x : A) → P x → Q (f x)) → (xs : List A) → Each P xs → Each Q (map f xs)
+  pub each_map : {B : Type 0} (Q : B → Type 0) (f : A → B) → ((x : A) → P x → Q (f x)) → (xs : List A) → Each P xs → Each Q (map f xs)
   each_map Q f h [] all = tt
   each_map Q f h (x ∷ xs) all = (h x all.0, each_map Q f h xs all.1)
 

@@ -12,6 +12,7 @@ pub mod History
 pub mod Headline
 pub mod Isolation
 pub mod Sound
+pub mod Listed
 pub mod Limits
 pub mod ByRight
 pub mod Calls

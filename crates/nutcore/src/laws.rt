@@ -4,6 +4,7 @@ ghost use Rattle.nutcore.specs.ByRight.{AForcedShutdownIsSetByRight, ALoginIsByR
 ghost use Rattle.nutcore.specs.Examples.{TwoVariables, EmptyListing, TakenInFour, LongestLine, ThreeLines, EscapedValue, FaultyLines, CasesAndFaults, NotConnected, Described, PipelinedGet};
 ghost use Rattle.nutcore.specs.Isolation.{AClientTouchesNoOther, ADriverTouchesNoOther, ARefusedEventChangesNothing};
 ghost use Rattle.nutcore.specs.Limits.{Limits};
+ghost use Rattle.nutcore.specs.Listed.{EachIsListedOnce};
 ghost use Rattle.nutcore.specs.Sound.{ANewServerIsSound, EachEventKeepsTheServerSound, EveryRunKeepsTheServerSound, ASoundServerIsLawful};
 
 use nutdriver::laws::{each_line_keeps_the_tree_sound, lawful_lines_keep_trees_sound};
@@ -76,6 +77,12 @@ pub fn every_server_is_sound()
     lawful_lines_keep_trees_sound();
     each_line_keeps_the_tree_sound();
 }
+
+/// Of a sound server, a listing of variables or of commands is the frame of exactly those that the UPS holds, whose names
+/// strictly rise: each comes once, in the order of names. Whatever is told of a UPS stands in a sound tree.
+pub fn each_is_listed_once()
+    ensures { EachIsListedOnce }
+{}
 
 /// The pump executes the least number of lines after which it stops.
 pub fn the_pump_executes_the_least()
