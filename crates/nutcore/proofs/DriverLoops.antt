@@ -110,7 +110,7 @@ driver_lines-add zero k moment x = ap (λ n. after_driver_lines n moment x) (zer
 driver_lines-add (suc j) k moment x = let e : suc j + k ≡ suc (j + k) = omega arith in ap (λ n. after_driver_lines n moment x) e ∙ driver_lines-add j k moment (after_driver_line moment x)
 
 -- where no line is whole, nothing happens
-stopped_line : (moment : ℕ) (x : UpsState) → next_driver_line x ≡ None → after_driver_line moment x ≡ x
+pub stopped_line : (moment : ℕ) (x : UpsState) → next_driver_line x ≡ None → after_driver_line moment x ≡ x
 unfolding after_driver_line after_driver_line_of
 stopped_line moment x h = ap (after_driver_line_of moment x) h
 

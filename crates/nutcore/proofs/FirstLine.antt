@@ -12,7 +12,7 @@ abbrev pub with_byte : ℕ → Option (List ℕ × List ℕ) → Option (List �
 with_byte x o = option_map (λ s. (x ∷ s.0, s.1)) o
 
 -- two splits that are one have the same parts
-parts : (p q : List ℕ × List ℕ) → Some p ≡ Some q → (p.0 ≡ q.0) × (p.1 ≡ q.1)
+pub parts : (p q : List ℕ × List ℕ) → Some p ≡ Some q → (p.0 ≡ q.0) × (p.1 ≡ q.1)
 parts p q h =
     let e : p ≡ q = cc h in
     let first : p.0 ≡ q.0 = ap (λ (z : List ℕ × List ℕ). z.0) e in

@@ -105,7 +105,7 @@ unfolding without_output_of
 kept_output_of s None n = refl
 kept_output_of s (Some x) n = refl
 
-own : (s : ServerState) (e : Event) (m : Option ℕ) (c : ℕ) → client_of e ≡ Some c → LeavesOtherClients c s (after_by s e m)
+pub own : (s : ServerState) (e : Event) (m : Option ℕ) (c : ℕ) → client_of e ≡ Some c → LeavesOtherClients c s (after_by s e m)
 unfolding after_by with_input without_output
 own s (DriverUp u) m c h = cc
 own s (DriverBytes u piece) m c h = cc
@@ -130,7 +130,7 @@ pub client_alone : AClientTouchesNoOther
 client_alone old new e o c step h = subst (λ (t : ServerState). LeavesOtherClients c old t) (sym step.leaves) (own old e (refused_after o) c h)
 
 -- a driver's event: the other UPSs
-other_ups : (f : UpsState → UpsState) (p q : ℕ) (xs : List UpsState) → q ≢ p → slice_get (changed_at f p xs) q ≡ slice_get xs q
+pub other_ups : (f : UpsState → UpsState) (p q : ℕ) (xs : List UpsState) → q ≢ p → slice_get (changed_at f p xs) q ≡ slice_get xs q
 other_ups f p q [] differ = refl
 other_ups f zero zero (x ∷ xs) differ = absurd (differ refl)
 other_ups f zero (suc q) (x ∷ xs) differ = refl

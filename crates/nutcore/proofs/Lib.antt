@@ -26,3 +26,4 @@ mod Isolation
 mod OrderFits
 mod Sound
 mod Listed
+mod DriverHistory

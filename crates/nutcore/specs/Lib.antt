@@ -13,6 +13,7 @@ pub mod Headline
 pub mod Isolation
 pub mod Sound
 pub mod Listed
+pub mod DriverHistory
 pub mod Limits
 pub mod ByRight
 pub mod Calls

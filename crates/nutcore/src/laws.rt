@@ -4,6 +4,7 @@ ghost use Rattle.nutcore.specs.ByRight.{AForcedShutdownIsSetByRight, ALoginIsByR
 ghost use Rattle.nutcore.specs.Examples.{TwoVariables, EmptyListing, TakenInFour, LongestLine, ThreeLines, EscapedValue, FaultyLines, CasesAndFaults, NotConnected, Described, PipelinedGet};
 ghost use Rattle.nutcore.specs.Isolation.{AClientTouchesNoOther, ADriverTouchesNoOther, ARefusedEventChangesNothing};
 ghost use Rattle.nutcore.specs.Limits.{Limits};
+ghost use Rattle.nutcore.specs.DriverHistory.{WhatADriverToldIsExecuted};
 ghost use Rattle.nutcore.specs.Listed.{EachIsListedOnce};
 ghost use Rattle.nutcore.specs.Sound.{ANewServerIsSound, EachEventKeepsTheServerSound, EveryRunKeepsTheServerSound, ASoundServerIsLawful};
 
@@ -82,6 +83,13 @@ pub fn every_server_is_sound()
 /// strictly rise: each comes once, in the order of names. Whatever is told of a UPS stands in a sound tree.
 pub fn each_is_listed_once()
     ensures { EachIsListedOnce }
+{}
+
+/// The drivers' half: while a driver isn't lost, what was unfinished of it, followed by all that came from it in a run, is
+/// its executed lines, followed by what is unfinished; and its report is what these lines made of it, in order, each at
+/// its moment.
+pub fn what_a_driver_told_is_executed()
+    ensures { WhatADriverToldIsExecuted }
 {}
 
 /// The pump executes the least number of lines after which it stops.

@@ -1,0 +1,82 @@
+-- What a driver told in a run, from the events alone: the other half of the headline.
+use Rattle.std.specs.Prelude.{◌≡◌, ◌≤◌, ℕ, Bool, true, false, List, [], ◌∷◌, ◌++◌, Option, Some, None, ◌==◌, if◌then◌else◌, length}
+use Rattle.std.specs.List.{flat_map}
+use Rattle.std.specs.Option.{option_map_or}
+use Rattle.nutwords.specs.SplitLine.{split_line}
+use Rattle.nutwords.specs.declared.limits.TheConstants.{LINE_LIMIT}
+use Rattle.nutusers.specs.declared.ups_list.UpsId.{UpsId}
+use Rattle.nutdriver.specs.declared.report.Report.{Report}
+use Rattle.nutdriver.specs.Report.{after_line}
+use Rattle.nutcore.specs.declared.event.Event.{Event}
+use Rattle.nutcore.specs.declared.event.Event.TheVariants.{DriverUp, DriverBytes, DriverTook, DriverDown, Tick, Open, Feed, Took, Close}
+use Rattle.nutcore.specs.declared.event.Outcome.{Outcome}
+use Rattle.nutcore.specs.Lines.{with_lf}
+use Rattle.nutcore.specs.Ups.{UpsState}
+use Rattle.nutcore.specs.Server.{ServerState, ups_at}
+use Rattle.nutcore.specs.Step.{after}
+use Rattle.nutcore.specs.Run.{Run}
+use Rattle.nutcore.specs.Sound.{Each}
+
+-- A line of a driver, and the moment at which it was executed.
+pub record Heard : Type 0 where
+  pub moment : ℕ
+  pub line : List ℕ
+
+-- The bytes of the lines, each with its LF.
+abbrev pub bytes_heard : List Heard → List ℕ
+bytes_heard lines = flat_map (λ x. with_lf x.line) lines
+
+-- The report once the lines are executed, one after another.
+abbrev pub after_heard : Report → List Heard → Report
+after_heard report [] = report
+after_heard report (x ∷ lines) = after_heard (after_line x.moment report x.line).0 lines
+
+-- A line has no LF, and at most 1,023 bytes.
+pub record IsWholeLine (x : Heard) : Type 0 where
+  pub one : split_line x.line ≡ None
+  pub short : length x.line ≤ LINE_LIMIT
+
+-- What came from the driver of this UPS in an event, and in a run.
+abbrev pub came_in_event : UpsId → Event → List ℕ
+came_in_event u (DriverUp v) = []
+came_in_event u (DriverBytes v piece) = if v.place == u.place then piece else []
+came_in_event u (DriverTook v n) = []
+came_in_event u (DriverDown v) = []
+came_in_event u (Tick seconds) = []
+came_in_event u (Open address) = []
+came_in_event u (Feed c piece) = []
+came_in_event u (Took c n) = []
+came_in_event u (Close c) = []
+
+abbrev pub came : UpsId → List Event → List ℕ
+came u [] = []
+came u (e ∷ es) = came_in_event u e ++ came u es
+
+-- A driver is connected to the UPS,
+abbrev pub has_driver : UpsId → ServerState → Bool
+has_driver u s = option_map_or (λ x. x.report.connected) (ups_at u.place s) false
+
+-- and was never lost in the run.
+abbrev pub StaysConnected : UpsId → ServerState → List Event → List Outcome → Type 0
+StaysConnected u s [] os = has_driver u s ≡ true
+StaysConnected u s (e ∷ es) [] = has_driver u s ≡ true
+StaysConnected u s (e ∷ es) (o ∷ os) = (has_driver u s ≡ true) × StaysConnected u (after s e o) es os
+
+-- From one state of a UPS to another: what was unfinished, followed by what came, is the executed lines, followed by what is unfinished; and the report is what these lines made of it, in order.
+pub record IsHeard (before : UpsState) (came : List ℕ) (after : UpsState) : Type 0 where
+  pub lines : List Heard
+  pub whole : Each IsWholeLine lines
+  pub all : before.unfinished ++ came ≡ bytes_heard lines ++ after.unfinished
+  pub report : after.report ≡ after_heard before.report lines
+
+pub record DriverIsHeard (u : UpsId) (old : ServerState) (came : List ℕ) (new : ServerState) : Type 0 where
+  pub before : UpsState
+  pub after : UpsState
+  pub there_before : ups_at u.place old ≡ Some before
+  pub there_after : ups_at u.place new ≡ Some after
+  pub heard : IsHeard before came after
+
+-- While a driver isn't lost, all that came from it is its executed lines, followed by what is unfinished, and its report is what these lines made of it.
+abbrev pub WhatADriverToldIsExecuted : Type 0
+WhatADriverToldIsExecuted =
+    (old new : ServerState) (events : List Event) (outcomes : List Outcome) (u : UpsId) → Run old events outcomes new → StaysConnected u old events outcomes → DriverIsHeard u old (came u events) new
