@@ -1,10 +1,16 @@
 -- The limits.
 use Rattle.std.specs.Prelude.{◌≡◌}
 use Rattle.nutcore.specs.declared.TheConstants.{HELD_LIMIT, DRIVER_OWED_LIMIT}
+use Rattle.nutlisting.specs.declared.outbox.TheConstants.{OWED_LIMIT}
+use Rattle.nutlisting.specs.declared.ring.TheConstants.{RING_LIMIT}
+use Rattle.nutlisting.specs.declared.listing.clients.TheConstants.{SESSION_LIMIT}
 use Rattle.nutcore.specs.declared.max_age.TheConstants.{MAX_AGE_LEAST, MAX_AGE_MOST, MAX_AGE_DEFAULT}
 
 pub record Limits : Type 0 where
   pub held : HELD_LIMIT ≡ 1024
+  pub owed : OWED_LIMIT ≡ 2048
+  pub offered : RING_LIMIT ≡ 4096
+  pub sessions : SESSION_LIMIT ≡ 64
   pub driver_owed : DRIVER_OWED_LIMIT ≡ 2048
   pub max_age_least : MAX_AGE_LEAST ≡ 3
   pub max_age_most : MAX_AGE_MOST ≡ 86400

@@ -103,8 +103,9 @@ pub fn each_event_is_a_function()
     ensures { EachEventIsAFunction }
 {}
 
-/// The limits, in bytes but for the sessions and the seconds: what a session holds of input; what a driver is still to be
-/// sent; the greatest age of what a driver told, its least, its greatest and the one that stands unless another is set.
+/// The limits, in bytes but for the sessions and the seconds: what a session holds of input; what may be owed to it while
+/// a line is executed; what one offer has; how many sessions are open; what a driver is still to be sent; the greatest age
+/// of what a driver told, its least, its greatest and the one that stands unless another is set.
 pub fn limits()
     ensures { Limits }
 {}
