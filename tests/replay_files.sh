@@ -100,6 +100,11 @@ file counting 'open 192.0.2.1' 'open 192.0.2.2' 'client 1 USERNAME mon' 'client 
     'client 1 LOGIN su' 'client 1 FSD su' 'client 2 GET NUMLOGINS su' 'client 2 LIST CLIENT su' 'client 1 LOGOUT' \
     'client 2 GET NUMLOGINS su' 'client 2 LIST CLIENT su' 'client 2 LIST CLIENT nope' 'took 1 all' 'took 2 all'
 
+# A driver that was last heard at 100 seconds: its data are right for 15 more.
+file aging 'tick 100' 'up su' 'driver su SETINFO ups.status "OL"' 'driver su DUMPDONE' 'driver su DATAOK' \
+    'open 192.0.2.1' 'tick 105' 'tick 115' 'client 1 GET VAR su ups.status' 'tick 90' 'client 1 GET VAR su ups.status' \
+    'tick 116' 'client 1 GET VAR su ups.status' 'driver su PONG' 'client 1 GET VAR su ups.status' 'took 1 all'
+
 # A listing that waits to be taken, and a forced shutdown meanwhile.
 long=$(printf 'x%.0s' {1..256})
 mapfile -t hundred < <(seq -f 'a%03g' 100)
@@ -160,6 +165,10 @@ of_counting=$(
         'BEGIN LIST CLIENT su' 'END LIST CLIENT su' 'ERR UNKNOWN-UPS'
     echo 'driver su sent 0 bytes'
 )
+of_aging=$(
+    sent 1 'VAR su ups.status "OL"' 'VAR su ups.status "OL"' 'ERR DATA-STALE' 'VAR su ups.status "OL"'
+    echo 'driver su sent 0 bytes'
+)
 mapfile -t items < <(printf "VAR su %s \"$long\"\n" "${hundred[@]}")
 of_shutting_down=$(
     sent 1 'BEGIN LIST VAR su' "${items[@]}" 'VAR su ups.status "OL"' 'END LIST VAR su' 'VAR su ups.status "FSD OL"'
@@ -176,6 +185,7 @@ of_sixty_four=$(
 
 replays orders_to_set_a_variable "$of_setting" --users admins setting
 replays orders_to_start_a_test "$of_starting" --users admins starting
+replays data_grow_stale_above_the_greatest_age "$of_aging" aging
 replays logins_are_counted "$of_counting" --users admins counting
 replays forced_shutdown_while_a_listing_waits "$of_shutting_down" --users admins shutting-down
 replays sixty_four_clients_listed "$of_sixty_four" --users admins sixty-four
