@@ -1,16 +1,21 @@
 -- The pump executes the least number of lines after which it stops.
-use Rattle.std.proofs.Common.{◌≡◌, ℕ, zero, suc, ◌<◌, ◌≤◌, Bool, true, false, List, [], ◌∷◌, Option, Some, None, refl, sym, ◌∙◌, ap, subst, cond, arith, length, inl, inr}
+use Rattle.std.proofs.Common.{◌≡◌, ℕ, zero, suc, ◌<◌, ◌≤◌, Bool, true, false, List, [], ◌∷◌, Option, Some, None, refl, sym, ◌∙◌, ap, subst, cond, arith, length, inl, inr, ltb, ◌||◌, ◌++◌}
 use Rattle.std.specs.Prelude.{is_none}
 use Rattle.nutcore.specs.Lines.{first_line}
-use Rattle.nutcore.specs.Session.{SessionState}
+use Rattle.nutcore.specs.Session.{SessionState, find, put}
 use Rattle.nutcore.specs.Server.{ServerState, session}
 use Rattle.std.proofs.lemmas.Bool.{cond-true}
 use Rattle.nutcore.specs.declared.event.Event.TheVariants.{Feed, Took}
 use Rattle.nutcore.specs.declared.event.Outcome.TheVariants.{Done, Fed, Refused}
 use Rattle.nutcore.specs.declared.event.Fault.TheVariants.{TookTooMuch, LineTooLong, Memory}
 use Rattle.nutcore.specs.Step.{Step, with_input, without_output, may_take, fed_by, took_by, outcome_of, after_by, pumped_until}
-use Rattle.nutcore.specs.Pump.{next_line_of, next_line_for, after_line, after_lines, pump_stops, held_of, pumped, after_notice, after_all_lines, is_overlong}
-use Rattle.nutcore.specs.Headline.{IsLeast, NothingIsLeftToExecute}
+use Rattle.nutcore.specs.Pump.{next_line_of, next_line_for, after_line, after_lines, pump_stops, held_of, pumped, after_notice, after_all_lines, is_overlong, answered, owed_of}
+use Rattle.nutcore.specs.Headline.{IsLeast, NothingIsLeftToExecute, OneAnswerAtMostIsOwedAbove}
+use Rattle.nutcore.specs.Reply.{reply}
+use Rattle.nutlisting.specs.declared.outbox.TheConstants.{OWED_LIMIT}
+use Rattle.std.proofs.lemmas.Bool.Decides.{nat_tests}
+use Rattle.nutcore.proofs.Found.{find_put}
+use Rattle.nutcore.proofs.Pumping.{is_next, after_line_is, session_after, session_after_id, change_at, line_done, changed_owed}
 use Rattle.nutcore.proofs.Serving.{no_notice}
 use Rattle.nutcore.proofs.Loops.{stopped_lines, line_shortens, all_lines_are}
 
@@ -109,3 +114,28 @@ took_stops old new c n step =
 
 pub nothing_left : NothingIsLeftToExecute
 nothing_left = record { fed = fed_stops; took = took_stops }
+
+-- a line is executed while little is owed
+little_by : (owed : List ℕ) (ending : Bool) (bytes : List ℕ) (line : List ℕ) → cond (ending || ltb OWED_LIMIT (length owed)) None (first_line bytes) ≡ Some line → length owed ≤ OWED_LIMIT
+little_by owed true bytes line h = cc h
+little_by owed false bytes line h = by_length (ltb OWED_LIMIT (length owed)) refl h
+  where
+    by_length : (b : Bool) → ltb OWED_LIMIT (length owed) ≡ b → cond b None (first_line bytes) ≡ Some line → length owed ≤ OWED_LIMIT
+    by_length true e k = cc k
+    by_length false e k = grind (arith, nat_tests)
+
+little_of : (o : Option SessionState) (line : List ℕ) → next_line_of o ≡ Some line → length (owed_of o) ≤ OWED_LIMIT
+little_of None line h = cc h
+little_of (Some x) line h = little_by x.owed x.ending x.held line h
+
+pub one_answer_above : OneAnswerAtMostIsOwedAbove
+one_answer_above s c line next =
+    let n = is_next s c line next in
+    let y : SessionState = session_after s c line n.asking in
+    let id : y.id ≡ c = session_after_id s c line n.asking n.found in
+    let found : find y.id s.sessions ≡ Some n.asking = ap (λ (k : ℕ). find k s.sessions) id ∙ n.found in
+    let there : session c (line_done s (change_at s c line) y) ≡ Some y = ap (λ (k : ℕ). find k (put y s.sessions)) (sym id) ∙ find_put y s.sessions n.asking found in
+    (little_of (session c s) line next,
+    ap (λ (z : ServerState). owed_of (session c z)) (after_line_is s c line n.asking n.found next) ∙ ap owed_of there
+    ∙ changed_owed (change_at s c line) (answered line (reply s c line).text n.asking)
+    ∙ ap (λ (o : Option SessionState). owed_of o ++ (reply s c line).text) (sym n.found))

@@ -37,7 +37,7 @@ changed_id Ending x = refl
 changed_id (Fsd u) x = refl
 changed_id (Order u line) x = refl
 
-changed_owed : (change : Change) (x : SessionState) → (changed_session change x).owed ≡ x.owed
+pub changed_owed : (change : Change) (x : SessionState) → (changed_session change x).owed ≡ x.owed
 changed_owed Nothing x = refl
 changed_owed (Username name) x = refl
 changed_owed (Password password) x = refl

@@ -1,7 +1,8 @@
 -- The laws of every run.
-use Rattle.std.specs.Prelude.{◌≡◌, ◌⊎◌, ℕ, ◌<◌, true, false, List, [], ◌∷◌, ◌++◌, All, Some, Ok, is_some, codes, map, nat_eq}
+use Rattle.std.specs.Prelude.{◌≡◌, ◌⊎◌, ℕ, ◌<◌, ◌≤◌, length, true, false, List, [], ◌∷◌, ◌++◌, All, Some, Ok, is_some, codes, map, nat_eq}
 use Rattle.std.specs.List.{starts_with}
 use Rattle.nutwords.specs.Frame.{frame}
+use Rattle.nutlisting.specs.declared.outbox.TheConstants.{OWED_LIMIT}
 use Rattle.nutcore.specs.declared.event.Event.{Event}
 use Rattle.nutcore.specs.declared.event.Event.TheVariants.{DriverUp, DriverBytes, DriverTook, DriverDown, Tick, Open, Feed, Took, Close}
 use Rattle.nutcore.specs.declared.event.Outcome.{Outcome}
@@ -95,6 +96,10 @@ EachAnswerIsTimely =
 pub record NothingIsLeftToExecute : Type 0 where
   pub fed : (old new : ServerState) (c n : ℕ) (piece : List ℕ) → Step old (Feed c piece) (Fed n) new → pump_stops new c ≡ true
   pub took : (old new : ServerState) (c n : ℕ) → Step old (Took c n) Done new → pump_stops new c ≡ true
+
+-- A line is executed only while at most 2,048 bytes are owed to its client, and its answer is joined behind them: so what is owed is at most that, and one answer.
+abbrev pub OneAnswerAtMostIsOwedAbove : Type 0
+OneAnswerAtMostIsOwedAbove = (s : ServerState) (c : ℕ) (line : List ℕ) → next_line_for s c ≡ Some line → (length (owed c s) ≤ OWED_LIMIT) × (owed c (after_line s c) ≡ owed c s ++ (reply s c line).text)
 
 -- The text that answers a listing's line is BEGIN, exactly the items that the server has then, and END. Of LIST VAR, of a UPS that is usable, they are the variables that it holds.
 pub record AListingIsWhatIsHeld : Type 0 where

@@ -1,5 +1,5 @@
 //! Laws of every server, event and run. No program calls them.
-ghost use Rattle.nutcore.specs.Headline.{WhatWasSentAndIsOwedIsTheAnswers, WhatWasAskedIsExecutedOrHeld, EachAnswerIsTimely, NothingIsLeftToExecute, AListingIsWhatIsHeld, ARefusedLineChangesNothing, ThePumpExecutesTheLeast, EachEventIsAFunction};
+ghost use Rattle.nutcore.specs.Headline.{WhatWasSentAndIsOwedIsTheAnswers, WhatWasAskedIsExecutedOrHeld, EachAnswerIsTimely, NothingIsLeftToExecute, OneAnswerAtMostIsOwedAbove, AListingIsWhatIsHeld, ARefusedLineChangesNothing, ThePumpExecutesTheLeast, EachEventIsAFunction};
 ghost use Rattle.nutcore.specs.ByRight.{AForcedShutdownIsSetByRight, ALoginIsByRight, CredentialsAreGivenByLines, WhatIsCountedIsWhoIsThere};
 ghost use Rattle.nutcore.specs.Examples.{TwoVariables, EmptyListing, TakenInFour, LongestLine, ThreeLines, EscapedValue, FaultyLines, CasesAndFaults, NotConnected, Described, PipelinedGet};
 ghost use Rattle.nutcore.specs.Isolation.{AClientTouchesNoOther, ADriverTouchesNoOther, ARefusedEventChangesNothing};
@@ -30,6 +30,11 @@ pub fn each_answer_is_timely()
 /// After a feed or a take that isn't refused its client holds no line that may be executed.
 pub fn nothing_is_left_to_execute()
     ensures { NothingIsLeftToExecute }
+{}
+
+/// A line is executed only while at most 2,048 bytes are owed to its client, and its answer is joined behind them.
+pub fn one_answer_at_most_is_owed_above()
+    ensures { OneAnswerAtMostIsOwedAbove }
 {}
 
 /// A listing is the frame of exactly the variables that the UPS holds when its line is executed.
