@@ -116,11 +116,11 @@ one_gives P Q xs f one = (one.0, one.1, f one.0 one.2)
 pub given_before : CredentialsAreGivenByLines
 given_before old new events outcomes before after s c line empty run e = record {
   username = λ name asked.
-    one_gives (SetsMark (named_so name) (IsName name) (is_name_mark name) c) (GivesUsername c name) before (gives_name name c)
-    (run_told (is_marked (named_so name) (IsName name) (is_name_mark name) c) (SetsMark (named_so name) (IsName name) (is_name_mark name) c) (marks (named_so name) (IsName name) (is_name_mark name) c) old new events outcomes run
-    (ap (λ (o : Option SessionState). option_map_or (named_so name) o false) (none_open c old empty)) before after (of_line s c line) e (asked_name name (session c s) asked));
+      one_gives (SetsMark (named_so name) (IsName name) (is_name_mark name) c) (GivesUsername c name) before (gives_name name c)
+      (run_told (is_marked (named_so name) (IsName name) (is_name_mark name) c) (SetsMark (named_so name) (IsName name) (is_name_mark name) c) (marks (named_so name) (IsName name) (is_name_mark name) c) old new events outcomes run
+      (ap (λ (o : Option SessionState). option_map_or (named_so name) o false) (none_open c old empty)) before after (of_line s c line) e (asked_name name (session c s) asked));
   password = λ word asked.
-    one_gives (SetsMark (has_word word) (IsWord word) (is_word_mark word) c) (GivesPassword c word) before (gives_word word c)
-    (run_told (is_marked (has_word word) (IsWord word) (is_word_mark word) c) (SetsMark (has_word word) (IsWord word) (is_word_mark word) c) (marks (has_word word) (IsWord word) (is_word_mark word) c) old new events outcomes run
-    (ap (λ (o : Option SessionState). option_map_or (has_word word) o false) (none_open c old empty)) before after (of_line s c line) e (asked_word word (session c s) asked));
+      one_gives (SetsMark (has_word word) (IsWord word) (is_word_mark word) c) (GivesPassword c word) before (gives_word word c)
+      (run_told (is_marked (has_word word) (IsWord word) (is_word_mark word) c) (SetsMark (has_word word) (IsWord word) (is_word_mark word) c) (marks (has_word word) (IsWord word) (is_word_mark word) c) old new events outcomes run
+      (ap (λ (o : Option SessionState). option_map_or (has_word word) o false) (none_open c old empty)) before after (of_line s c line) e (asked_word word (session c s) asked));
 }

@@ -51,7 +51,7 @@ next_in_front x line h =
     let back : List ℕ = drop LINE_ROOM x.unfinished in
     let rest : List ℕ = behind line front ++ back in
     let whole : x.unfinished ≡ with_lf line ++ rest =
-        sym (take-append-drop LINE_ROOM x.unfinished) ∙ ap (λ (z : List ℕ). z ++ back) (first_line_splits front line h) ∙ append_assoc (with_lf line) (behind line front) back in
+    sym (take-append-drop LINE_ROOM x.unfinished) ∙ ap (λ (z : List ℕ). z ++ back) (first_line_splits front line h) ∙ append_assoc (with_lf line) (behind line front) back in
     let flat : with_lf line ++ rest ≡ line ++ 10 ∷ rest = append_assoc line (10 ∷ []) rest in
     let left : behind line x.unfinished ≡ rest = ap (λ (z : List ℕ). drop (length line + 1) z) (whole ∙ flat) ∙ behind_is line rest in
     whole ∙ ap (λ (z : List ℕ). with_lf line ++ z) (sym left)
@@ -232,9 +232,9 @@ heard_both x y z a b f g = record {
   lines = f.lines ++ g.lines;
   whole = each_both IsWholeLine f.lines g.lines f.whole g.whole;
   all =
-    sym (append_assoc x.unfinished a b) ∙ ap (λ (w : List ℕ). w ++ b) f.all ∙ append_assoc (bytes_heard f.lines) y.unfinished b
-    ∙ ap (λ (w : List ℕ). bytes_heard f.lines ++ w) g.all ∙ sym (append_assoc (bytes_heard f.lines) (bytes_heard g.lines) z.unfinished)
-    ∙ ap (λ (w : List ℕ). w ++ z.unfinished) (sym (bytes_both f.lines g.lines));
+      sym (append_assoc x.unfinished a b) ∙ ap (λ (w : List ℕ). w ++ b) f.all ∙ append_assoc (bytes_heard f.lines) y.unfinished b
+      ∙ ap (λ (w : List ℕ). bytes_heard f.lines ++ w) g.all ∙ sym (append_assoc (bytes_heard f.lines) (bytes_heard g.lines) z.unfinished)
+      ∙ ap (λ (w : List ℕ). w ++ z.unfinished) (sym (bytes_both f.lines g.lines));
   report = g.report ∙ ap (λ (r : Report). after_heard r g.lines) f.report ∙ sym (after_both x.report f.lines g.lines);
 }
 

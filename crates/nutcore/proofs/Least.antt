@@ -134,8 +134,9 @@ one_answer_above s c line next =
     let y : SessionState = session_after s c line n.asking in
     let id : y.id ≡ c = session_after_id s c line n.asking n.found in
     let found : find y.id s.sessions ≡ Some n.asking = ap (λ (k : ℕ). find k s.sessions) id ∙ n.found in
-    let there : session c (line_done s (change_at s c line) y) ≡ Some y = ap (λ (k : ℕ). find k (put y s.sessions)) (sym id) ∙ find_put y s.sessions n.asking found in
-    (little_of (session c s) line next,
-    ap (λ (z : ServerState). owed_of (session c z)) (after_line_is s c line n.asking n.found next) ∙ ap owed_of there
-    ∙ changed_owed (change_at s c line) (answered line (reply s c line).text n.asking)
-    ∙ ap (λ (o : Option SessionState). owed_of o ++ (reply s c line).text) (sym n.found))
+    let there : session c (line_done s (change_at s c line) y) ≡ Some y = ap (λ (k : ℕ). find k (put y s.sessions)) (sym id) ∙ find_put y s.sessions n.asking found in (
+      little_of (session c s) line next,
+      ap (λ (z : ServerState). owed_of (session c z)) (after_line_is s c line n.asking n.found next) ∙ ap owed_of there
+          ∙ changed_owed (change_at s c line) (answered line (reply s c line).text n.asking)
+          ∙ ap (λ (o : Option SessionState). owed_of o ++ (reply s c line).text) (sym n.found),
+    )

@@ -86,10 +86,10 @@ known_ups_is s ups known f e = ap (λ (o : Option KnownUps). ok_or o UnknownUps 
 pub who_is_there : WhatIsCountedIsWhoIsThere
 who_is_there = record {
   counted = λ s c line ups known read named.
-    ap (text_to s c) read ∙ ap text_of_answer (known_ups_is s ups known (λ u. told (codes "NUMLOGINS" ∷ u.name ∷ decimal (login_count u.id (seen s).clients) ∷ [])) named)
-    ∙ ap (λ (n : ℕ). text_line (codes "NUMLOGINS" ∷ known.name ∷ decimal n ∷ [])) (count_seen known.id s.sessions ∙ sym (length-filter (is_in known.id) s.sessions));
+      ap (text_to s c) read ∙ ap text_of_answer (known_ups_is s ups known (λ u. told (codes "NUMLOGINS" ∷ u.name ∷ decimal (login_count u.id (seen s).clients) ∷ [])) named)
+      ∙ ap (λ (n : ℕ). text_line (codes "NUMLOGINS" ∷ known.name ∷ decimal n ∷ [])) (count_seen known.id s.sessions ∙ sym (length-filter (is_in known.id) s.sessions));
   listed = λ s c line ups known read named.
-    ap (text_to s c) read ∙ ap text_of_answer (known_ups_is s ups known (λ u. Ok (listing_of_clients (client_listing u.name (addresses_at u.id (seen s).clients)))) named)
-    ∙ ap (λ (addresses : List (List ℕ)). text_of (client_listing known.name addresses)) (seen_filter known.id s.sessions)
-    ∙ ap (λ (items : List (List (List ℕ))). frame (codes "CLIENT") (known.name ∷ []) items) (items_of known.name (filter (is_in known.id) s.sessions));
+      ap (text_to s c) read ∙ ap text_of_answer (known_ups_is s ups known (λ u. Ok (listing_of_clients (client_listing u.name (addresses_at u.id (seen s).clients)))) named)
+      ∙ ap (λ (addresses : List (List ℕ)). text_of (client_listing known.name addresses)) (seen_filter known.id s.sessions)
+      ∙ ap (λ (items : List (List (List ℕ))). frame (codes "CLIENT") (known.name ∷ []) items) (items_of known.name (filter (is_in known.id) s.sessions));
 }

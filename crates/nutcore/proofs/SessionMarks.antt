@@ -20,7 +20,6 @@ use Rattle.nutcore.proofs.Found.{find_id, find_put, find_put_other, find_without
 use Rattle.nutcore.proofs.Pumping.{is_next, after_line_is, change_at, session_after, session_after_id}
 use Rattle.nutcore.proofs.Marks.{IsSetByLines, IsPlain, run_sets, no_mark}
 
-
 -- a mark of a session that only a change sets, which this then holds of
 pub record IsSessionMark (mark : SessionState → Bool) (IsSet : Change → Type 0) : Type 0 where
   pub held : (x : SessionState) (bytes : List ℕ) → mark (record x { held = bytes }) ≡ mark x

@@ -57,3 +57,26 @@ fn finds_its_upses(rt: HostRuntime) -> Result<(), Fail> {
     }
     Ok(())
 }
+
+#[test]
+fn tells_each_fault(rt: HostRuntime) -> Result<(), Fail> {
+    for (fault, number, text) in [
+        (Fault::NoSuchUps, 1, "no such UPS"),
+        (Fault::NoSuchClient, 2, "no such client"),
+        (Fault::TooManyClients, 3, "too many clients"),
+        (Fault::TookTooMuch, 4, "more was taken than offered"),
+        (Fault::NotConnected, 5, "the driver isn't connected"),
+        (
+            Fault::AlreadyConnected,
+            6,
+            "the driver is connected already",
+        ),
+        (Fault::LineTooLong, 7, "line too long"),
+        (Fault::Memory(3), 8, "out of memory after 3 lines"),
+    ] {
+        assert_eq!(rt; fault.number(), number);
+        let told = format!(in rt.alloc(); "{fault}")?;
+        assert_eq!(rt; told.as_str(), text);
+    }
+    Ok(())
+}
