@@ -113,6 +113,30 @@ file shutting-down 'up su' "${reported[@]}" 'driver su SETINFO ups.status "OL"' 
     'open 192.0.2.1' 'open 192.0.2.2' 'client 1 LIST VAR su' 'client 2 USERNAME admin' 'client 2 PASSWORD "s3 cret"' \
     'client 2 FSD su' 'took 2 all' 'took 1 all' 'client 1 GET VAR su ups.status' 'took 1 all'
 
+# A listing taken in parts; it keeps what it lists, whatever its driver does meanwhile.
+ready() { printf '%s\n' 'up su' "$@" 'driver su DUMPDONE' 'driver su DATAOK' 'open 192.0.2.1'; }
+mapfile -t two_variables < <(ready 'driver su SETINFO ups.status "OL"' 'driver su SETINFO battery.charge "100"')
+file four-parts "${two_variables[@]}" 'client 1 LIST VAR su' 'took 1 86' 'took 1 17' 'took 1 1' 'took 1 1' 'took 1 66'
+mapfile -t many < <(seq -f 'v%04g' 4096)
+mapfile -t many_reported < <(printf 'driver su SETINFO %s "x"\n' "${many[@]}")
+mapfile -t all_of_many < <(ready "${many_reported[@]}")
+mapfile -t growing < <(printf 'took 1 %s\n' {1..372} 288)
+file growing-parts "${all_of_many[@]}" 'client 1 LIST VAR su' "${growing[@]}"
+mapfile -t numbered < <(seq -f 'v%03g' 100)
+mapfile -t named_reported < <(printf "driver su SETINFO %s $long\\n" "${numbered[@]}")
+mapfile -t paused < <(ready "${named_reported[@]}"; printf '%s\n' 'client 1 LIST VAR su' 'took 1 4000' 'took 1 4000' 'took 1 4004')
+file deleted "${paused[@]}" 'driver su DELINFO v060' 'driver su SETINFO v000 "new"' 'took 1 all' 'open 192.0.2.2' \
+    'client 2 LIST VAR su' 'took 2 all'
+file lost "${paused[@]}" 'down su' 'took 1 all' 'client 1 LIST VAR su' 'took 1 all'
+mapfile -t with_status < <(ready "${reported[@]}" 'driver su SETINFO ups.status "OL"')
+file pipelined "${with_status[@]}" 'client 1 LIST VAR su' 'client 1 GET VAR su ups.status' \
+    'driver su SETINFO ups.status "OB"' 'took 1 all'
+
+# A line is executed while at most 2,048 bytes are owed, and not at one more.
+mapfile -t seven < <(ready "${named_reported[@]:0:7}" "driver su SETINFO v008 ${long:0:102}")
+file at-the-limit "${seven[@]}" 'client 1 LIST VAR su' 'client 1 VER' 'took 1 2082' \
+    "driver su SETINFO v008 ${long:0:103}" 'client 1 LIST VAR su' 'client 1 VER' 'took 1 2050' 'took 1 1' 'took 1 2082' 'took 1 1'
+
 # Sixty-three clients log in; the last one leaves, and another one comes, while the list of them waits to be taken.
 mapfile -t far < <(for id in {2..64}; do printf 'a%.0s' {1..61}; printf '%03d\n' "$id"; done)
 newcomer=$(printf 'b%.0s' {1..64})
@@ -175,6 +199,37 @@ of_shutting_down=$(
     sent 2 OK OK 'OK FSD-SET'
     echo 'driver su sent 0 bytes'
 )
+of_four_parts=$(
+    echo 'line 8: refused 4'
+    sent 1 'BEGIN LIST VAR su' 'VAR su battery.charge "100"' 'VAR su ups.status "OL"' 'END LIST VAR su'
+    echo 'driver su sent 0 bytes'
+)
+mapfile -t many_items < <(printf 'VAR su %s "x"\n' "${many[@]}")
+of_growing_parts=$(
+    sent 1 'BEGIN LIST VAR su' "${many_items[@]}" 'END LIST VAR su'
+    echo 'driver su sent 0 bytes'
+)
+mapfile -t named_items < <(printf "VAR su %s \"$long\"\n" "${numbered[@]}")
+of_deleted=$(
+    sent 1 'BEGIN LIST VAR su' "${named_items[@]}" 'END LIST VAR su'
+    sent 2 'BEGIN LIST VAR su' 'VAR su v000 "new"' "${named_items[@]:0:59}" "${named_items[@]:60}" 'END LIST VAR su'
+    echo 'driver su sent 0 bytes'
+)
+of_lost=$(
+    sent 1 'BEGIN LIST VAR su' "${named_items[@]}" 'END LIST VAR su' 'ERR DRIVER-NOT-CONNECTED'
+    echo 'driver su sent 0 bytes'
+)
+of_pipelined=$(
+    sent 1 'BEGIN LIST VAR su' "${items[@]}" 'VAR su ups.status "OL"' 'END LIST VAR su' 'VAR su ups.status "OB"'
+    echo 'driver su sent 0 bytes'
+)
+version='Network UPS Tools upsd, profile 1'
+of_at_the_limit=$(
+    printf '%s\n' 'line 19: refused 4' 'line 22: refused 4'
+    sent 1 'BEGIN LIST VAR su' "${named_items[@]:0:7}" "VAR su v008 \"${long:0:102}\"" 'END LIST VAR su' "$version" \
+        'BEGIN LIST VAR su' "${named_items[@]:0:7}" "VAR su v008 \"${long:0:103}\"" 'END LIST VAR su' "$version"
+    echo 'driver su sent 0 bytes'
+)
 of_sixty_four=$(
     listed=("${far[@]/#/CLIENT su }")
     sent 1 'BEGIN LIST CLIENT su' "${listed[@]}" 'END LIST CLIENT su' \
@@ -189,6 +244,12 @@ replays data_grow_stale_above_the_greatest_age "$of_aging" aging
 replays logins_are_counted "$of_counting" --users admins counting
 replays forced_shutdown_while_a_listing_waits "$of_shutting_down" --users admins shutting-down
 replays sixty_four_clients_listed "$of_sixty_four" --users admins sixty-four
+replays listing_taken_in_four_parts "$of_four_parts" four-parts
+replays listing_of_4096_variables_taken_in_growing_parts "$of_growing_parts" growing-parts
+replays deleted_variable_stays_in_a_paused_listing "$of_deleted" deleted
+replays listing_survives_driver_loss "$of_lost" lost
+replays pipelined_get_is_answered_behind_the_listing "$of_pipelined" pipelined
+replays line_is_executed_at_2048_bytes_owed "$of_at_the_limit" at-the-limit
 replays a_user_logs_in "$of_login" --users monitors login
 replays nobody_logs_in_without_users "$of_stranger" login
 faults bad_user $'upsd: nobody:2: cause 6\n' --users nobody login

@@ -1,8 +1,6 @@
 //! Whole runs, with ample memory.
 
 mod answers;
-mod drivers;
-mod listings;
 mod refusals;
 mod sessions;
 
