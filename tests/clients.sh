@@ -9,7 +9,9 @@
 # One build of each program runs all its cases. `rt try --cases` writes a case's output behind a line `== NAME`, and
 # what it wrote to standard error before a line `case=NAME run=ended status=N ..`.
 set -euo pipefail
-cd "$(dirname "${BASH_SOURCE[0]}")/../crates"
+# shellcheck source=tests/built.bash
+source "$(dirname "${BASH_SOURCE[0]}")/built.bash"
+cd "$top/crates"
 
 folder=$(mktemp -d)
 server=
@@ -141,15 +143,6 @@ fails_at_a_full_output() {
     cases=$((cases + 1))
 }
 
-# The built program is that of this source.
-build_again() {
-    [[ ! -x $1/out/$1 ]] || (cd "$1" && rt run -- --help) >"$folder/out" 2>&1 || {
-        cat "$folder/out"
-        echo "clients: FAILED: $1 wasn't built again"
-        exit 1
-    }
-}
-
 begin upsc
 refuses_words three_words su ups.status more
 refuses_words clients_without_a_ups -c
@@ -166,7 +159,7 @@ prints names "su" -l "127.0.0.1:$answering"
 prints descriptions "su: Rack 1" -L "127.0.0.1:$answering"
 prints clients "192.0.2.1" -c "su@127.0.0.1:$answering"
 try_program upsc
-build_again upsc
+[[ ! -x upsc/out/upsc ]] || built upsc
 fails_at_a_full_output upsc "su@localhost:$answering"
 fails_at_a_full_output upsc "su@localhost:$answering" ups.status
 fails_at_a_full_output upsc -L "localhost:$answering"
@@ -181,7 +174,7 @@ faults denied "upsrw: server answered ERR ACCESS-DENIED" -s ups.delay=30 -u admi
 prints writable "ups.delay=30" "su@127.0.0.1:$answering"
 prints set "OK" -s ups.delay=30 -u admin -p "s3 cret" "su@127.0.0.1:$answering"
 try_program upsrw
-build_again upsrw
+[[ ! -x upsrw/out/upsrw ]] || built upsrw
 fails_at_a_full_output upsrw "su@localhost:$answering"
 fails_at_a_full_output upsrw -s ups.delay=30 -u admin -p "s3 cret" "su@localhost:$answering"
 
@@ -196,7 +189,7 @@ faults denied "upscmd: server answered ERR ACCESS-DENIED" -u admin -p no "su@127
 prints commands "load.off" -l "su@127.0.0.1:$answering"
 prints done "OK" -u admin -p "s3 cret" "su@127.0.0.1:$answering" load.off
 try_program upscmd
-build_again upscmd
+[[ ! -x upscmd/out/upscmd ]] || built upscmd
 fails_at_a_full_output upscmd -l "su@localhost:$answering"
 fails_at_a_full_output upscmd -u admin -p "s3 cret" "su@localhost:$answering" load.off
 

@@ -91,11 +91,19 @@ file setting 'up su' 'driver su SETINFO ups.delay "20"' 'driver su SETFLAGS ups.
     'driver su DATASTALE' "client 2 $delay" 'driver su DATAOK' 'client 2 SET VAR su nope 30' \
     'client 2 SET VAR su ups.serial 2' 'client 2 SET VAR su ups.id 123456789' 'client 2 SET VAR su ups.mode off' \
     'client 2 SET VAR su ups.delay 601' 'client 2 SET VAR su ups.delay 030' "${as_often[@]}" "client 2 $delay" \
-    'took 1 all' 'took 2 all'
+    'took 1 all' 'took 2 all' 'driver-took su all'
 file starting 'up su' 'driver su ADDCMD test.battery.start' 'driver su DUMPDONE' 'driver su DATAOK' 'open 192.0.2.1' \
     'client 1 USERNAME admin' 'client 1 PASSWORD "s3 cret"' 'client 1 INSTCMD su test.battery.start' \
-    'client 1 INSTCMD su nope' 'client 1 INSTCMD su test.battery.start "a b"' 'took 1 all'
+    'client 1 INSTCMD su nope' 'client 1 INSTCMD su test.battery.start "a b"' 'took 1 all' \
+    'driver-took su all'
+# What a driver is offered it takes once, and a lost one nothing; each connection begins with DUMPALL.
+file driver-takes 'driver-took su 0' 'driver-took nope all' 'up su' 'driver-took su 9' 'driver-took su 3' \
+    'driver-took su all' 'driver-took su all' 'down su' 'driver-took su all' 'up su' 'driver-took su all'
 
+overlong=$(printf 'x%.0s' {1..1024})
+file refusals 'driver su PONG' 'down su' 'up nope' 'driver nope PONG' 'down nope' 'up su' 'up su' 'client 1 VER' \
+    'took 1 0' 'close 1' 'open 192.0.2.1' 'took 1 1' 'took 1 0' "client 1 ${overlong:1}" 'took 1 all' \
+    "client 1 $overlong" 'client 1 VER' 'took 1 all' 'close 1' 'client 1 VER' 'down su' 'down su'
 file counting 'open 192.0.2.1' 'open 192.0.2.2' 'client 1 USERNAME mon' 'client 1 PASSWORD pw' 'client 1 LOGIN su' \
     'client 1 LOGIN su' 'client 1 FSD su' 'client 2 GET NUMLOGINS su' 'client 2 LIST CLIENT su' 'client 1 LOGOUT' \
     'client 2 GET NUMLOGINS su' 'client 2 LIST CLIENT su' 'client 2 LIST CLIENT nope' 'took 1 all' 'took 2 all'
@@ -103,7 +111,8 @@ file counting 'open 192.0.2.1' 'open 192.0.2.2' 'client 1 USERNAME mon' 'client 
 # A driver that was last heard at 100 seconds: its data are right for 15 more.
 file aging 'tick 100' 'up su' 'driver su SETINFO ups.status "OL"' 'driver su DUMPDONE' 'driver su DATAOK' \
     'open 192.0.2.1' 'tick 105' 'tick 115' 'client 1 GET VAR su ups.status' 'tick 90' 'client 1 GET VAR su ups.status' \
-    'tick 116' 'client 1 GET VAR su ups.status' 'driver su PONG' 'client 1 GET VAR su ups.status' 'took 1 all'
+    'tick 116' 'client 1 GET VAR su ups.status' 'driver su PONG' 'client 1 GET VAR su ups.status' 'took 1 all' \
+    'driver-took su all'
 
 # A listing that waits to be taken, and a forced shutdown meanwhile.
 long=$(printf 'x%.0s' {1..256})
@@ -147,6 +156,27 @@ file sixty-four 'open 192.0.2.1' "${all_log_in[@]}" 'client 1 LIST CLIENT su' 'c
     'took 1 all' 'client 1 LIST CLIENT su' 'took 1 all'
 
 of_two=$'line 3: refused 1\nclient 1 sent 40 bytes\nBEGIN LIST VAR bay-1\nEND LIST VAR bay-1\ndriver bay-1 sent 0 bytes\ndriver su sent 0 bytes'
+# What a client is told of what a driver said: escapes, faulty lines, and what is taken back.
+mapfile -t escaping < <(ready 'driver su SETINFO ups.id "a\"b\\c"')
+file escapes "${escaping[@]}" 'client 1 GET VAR su ups.id' 'took 1 all'
+mapfile -t faulty < <(ready 'driver su SETINFO ups.mode "auto"' 'driver su ADDENUM nope "x"' \
+    'driver su ADDENUM ups.mode "auto"' 'driver su ADDENUM ups.mode "eco"' 'driver su ADDENUM ups.mode "auto"' \
+    'driver su SETFLAGS ups.mode RW BLUE' 'driver su HELLO' 'driver su SETFLAGS ups.mode RW')
+file faulty-lines "${faulty[@]}" 'client 1 GET TYPE su ups.mode' 'client 1 LIST ENUM su ups.mode' \
+    'driver su DELENUM ups.mode "auto"' 'driver su ADDRANGE ups.mode 0 9' 'driver su ADDRANGE ups.mode 20 30' \
+    'driver su DELRANGE ups.mode 0 9' 'driver su ADDCMD a' 'driver su ADDCMD b' 'driver su DELCMD a' \
+    'client 1 LIST ENUM su ups.mode' 'client 1 LIST RANGE su ups.mode' 'client 1 LIST CMD su' 'client 1 LIST RW su' \
+    'took 1 all'
+mapfile -t blank_lines < <(for _ in {1..60}; do echo 'client 1 '; done)
+file words "${two_variables[@]}" 'client 1 get var su "ups.status"' 'client 1 GET VAR SU ups.status' \
+    'client 1 GET VAR su ups.st"atus' 'client 1 GET' "${blank_lines[@]}" 'took 1 all'
+file describing 'open 192.0.2.1' 'client 1 LIST UPS' 'client 1 GET UPSDESC su' 'client 1 GET DESC su ups.status' \
+    'client 1 STARTTLS' 'client 1 NETVER' 'took 1 all'
+asks='client 1 GET VAR su a'
+file reporting 'open 192.0.2.1' 'up su' 'driver su SETINFO a x' 'driver su DATAOK' "$asks" 'driver su DUMPDONE now' "$asks" \
+    'driver su DUMPDONE' 'driver su NONE' 'driver su ' "$asks" 'driver su DATASTALE' "$asks" 'driver su DATAOK' \
+    'driver-part su SETINFO a' "$asks" 'driver su  y' "$asks" 'took 1 all'
+
 of_su=$'line 2: refused 1\nline 3: refused 1\nline 4: refused 1\nline 5: refused 1\nclient 1 sent 16 bytes\nERR UNKNOWN-UPS\ndriver su sent 0 bytes'
 of_none=$'line 1: refused 1\nline 2: refused 1\nline 3: refused 1\nline 4: refused 1\nline 5: refused 1\nclient 1 sent 16 bytes\nERR UNKNOWN-UPS'
 
@@ -154,7 +184,15 @@ replays both_options "$of_two" --ups two.conf --vars texts script
 of_login=$'client 1 sent 24 bytes\nOK\nOK\nOK\nNUMLOGINS su 1\ndriver su sent 0 bytes'
 of_stranger=$'client 1 sent 39 bytes\nOK\nOK\nERR ACCESS-DENIED\nNUMLOGINS su 0\ndriver su sent 0 bytes'
 
+# What a client or a driver was sent: which it is, and the lines.
+sent_to() {
+    local text
+    text=$(printf '%s\n' "${@:2}")
+    printf '%s sent %s bytes\n%s\n' "$1" "$((${#text} + 1))" "$text"
+}
+sent() { sent_to "client $1" "${@:2}"; }
 oks=$(printf 'OK\n%.0s' {1..107})
+mapfile -t orders < <(for _ in {1..107}; do echo 'SET ups.delay "30"'; done)
 of_setting="client 1 sent 68 bytes
 ERR USERNAME-REQUIRED
 OK
@@ -174,15 +212,21 @@ ERR INVALID-VALUE
 ERR INVALID-VALUE
 $oks
 ERR SET-FAILED
-driver su sent 0 bytes"
-of_starting=$'client 1 sent 30 bytes\nOK\nOK\nOK\nERR ACCESS-DENIED\nOK\ndriver su sent 0 bytes'
+$(sent_to 'driver su' DUMPALL "${orders[@]}")"
+of_starting=$(
+    sent 1 OK OK OK 'ERR ACCESS-DENIED' OK
+    sent_to 'driver su' DUMPALL 'INSTCMD test.battery.start' 'INSTCMD test.battery.start "a b"'
+)
+of_driver_takes=$(
+    printf 'line %s: refused %s\n' 1 5 2 1 4 4 9 5
+    sent_to 'driver su' DUMPALL DUMPALL
+)
 
-# What a client was sent: its id, and the lines.
-sent() {
-    local text
-    text=$(printf '%s\n' "${@:2}")
-    printf 'client %s sent %s bytes\n%s\n' "$1" "$((${#text} + 1))" "$text"
-}
+of_refusals=$(
+    printf 'line %s: refused %s\n' 1 5 2 5 3 1 4 1 5 1 7 6 8 2 9 2 10 2 12 4 16 7 20 2 22 5
+    sent 1 'ERR UNKNOWN-COMMAND' 'ERR TOO-LONG'
+    echo 'driver su sent 0 bytes'
+)
 of_counting=$(
     sent 1 OK OK OK 'ERR ALREADY-LOGGED-IN' 'ERR ACCESS-DENIED' 'OK Goodbye'
     sent 2 'NUMLOGINS su 1' 'BEGIN LIST CLIENT su' 'CLIENT su 192.0.2.1' 'END LIST CLIENT su' 'NUMLOGINS su 0' \
@@ -191,7 +235,7 @@ of_counting=$(
 )
 of_aging=$(
     sent 1 'VAR su ups.status "OL"' 'VAR su ups.status "OL"' 'ERR DATA-STALE' 'VAR su ups.status "OL"'
-    echo 'driver su sent 0 bytes'
+    sent_to 'driver su' DUMPALL PING PING
 )
 mapfile -t items < <(printf "VAR su %s \"$long\"\n" "${hundred[@]}")
 of_shutting_down=$(
@@ -238,8 +282,46 @@ of_sixty_four=$(
     echo 'driver su sent 0 bytes'
 )
 
+of_escapes=$(
+    sent 1 'VAR su ups.id "a\"b\\c"'
+    echo 'driver su sent 0 bytes'
+)
+of_faulty_lines=$(
+    sent 1 'TYPE su ups.mode RW ENUM' 'BEGIN LIST ENUM su ups.mode' 'ENUM su ups.mode "auto"' 'ENUM su ups.mode "eco"' \
+        'END LIST ENUM su ups.mode' 'BEGIN LIST ENUM su ups.mode' 'ENUM su ups.mode "eco"' 'END LIST ENUM su ups.mode' \
+        'BEGIN LIST RANGE su ups.mode' 'RANGE su ups.mode "20" "30"' 'END LIST RANGE su ups.mode' 'BEGIN LIST CMD su' \
+        'CMD su b' 'END LIST CMD su' 'BEGIN LIST RW su' 'RW su ups.mode "auto"' 'END LIST RW su'
+    echo 'driver su sent 0 bytes'
+)
+of_words=$(
+    sent 1 'VAR su ups.status "OL"' 'ERR UNKNOWN-UPS' 'ERR INVALID-ARGUMENT' 'ERR INVALID-ARGUMENT'
+    echo 'driver su sent 0 bytes'
+)
+of_describing=$(
+    sent 1 'BEGIN LIST UPS' 'UPS su "Unavailable"' 'END LIST UPS' 'UPSDESC su "Unavailable"' \
+        'DESC su ups.status "Description unavailable"' 'ERR FEATURE-NOT-CONFIGURED' '1.3'
+    echo 'driver su sent 0 bytes'
+)
+of_files_describing=$(
+    sent 1 'BEGIN LIST UPS' 'UPS bay-1 "Unavailable"' 'UPS su "Server room"' 'END LIST UPS' 'UPSDESC su "Server room"' \
+        'DESC su ups.status "UPS status"' 'ERR FEATURE-NOT-CONFIGURED' '1.3'
+    printf 'driver %s sent 0 bytes\n' bay-1 su
+)
+of_reporting=$(
+    sent 1 'ERR DATA-STALE' 'ERR DATA-STALE' 'VAR su a "x"' 'ERR DATA-STALE' 'VAR su a "x"' 'VAR su a "y"'
+    echo 'driver su sent 0 bytes'
+)
+
+replays a_value_is_told_with_its_escapes "${of_escapes//\\/\\\\}" escapes # a pattern: its backslashes stand twice
+replays faulty_lines_leave_what_the_others_told "$of_faulty_lines" faulty-lines
+replays words_match_in_any_case_and_names_byte_for_byte "$of_words" words
+replays a_ups_is_described_while_no_driver_is_connected "$of_describing" describing
+replays descriptions_are_those_of_the_files "$of_files_describing" --ups two.conf --vars texts describing
+replays a_ups_is_usable_once_all_was_told "$of_reporting" reporting
 replays orders_to_set_a_variable "$of_setting" --users admins setting
 replays orders_to_start_a_test "$of_starting" --users admins starting
+replays each_refusal_has_its_number "$of_refusals" refusals
+replays what_a_driver_takes_is_told "$of_driver_takes" driver-takes
 replays data_grow_stale_above_the_greatest_age "$of_aging" aging
 replays logins_are_counted "$of_counting" --users admins counting
 replays forced_shutdown_while_a_listing_waits "$of_shutting_down" --users admins shutting-down

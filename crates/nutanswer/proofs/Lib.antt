@@ -1,7 +1,8 @@
 mod Rows
-pub mod Changes
+mod Changes
 mod ErrorLemmas
 mod Quoted
 mod RightLemmas
-pub mod OrderFits
+mod OrderFits
+pub mod PublicLaws
 mod Carried

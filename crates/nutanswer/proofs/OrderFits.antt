@@ -1,9 +1,9 @@
 -- An order fits in what its driver may still be owed.
-use Rattle.std.proofs.Common.{◌≡◌, ℕ, ◌≤◌, length, Bool, true, false, List, [], Option, Some, None, Result, Ok, Err, refl, sym, ap, subst}
+use Rattle.std.proofs.Common.{◌≡◌, ℕ, ◌≤◌, length, Bool, true, false, List, [], Option, Some, None, Result, Ok, Err, refl, sym, ◌∙◌, ap, subst, not}
 use Rattle.std.specs.Prelude.{nat_le, slice_get}
-use Rattle.std.proofs.lemmas.Bool.{leb-true}
+use Rattle.std.proofs.lemmas.Bool.{cond-true, leb-true}
 use Rattle.std.specs.Option.{ok_or, option_map, option_and_then}
-use Rattle.nutanswer.specs.declared.err_word.ErrWord.TheVariants.{UnknownUps, SetFailed, InstcmdFailed}
+use Rattle.nutanswer.specs.declared.err_word.ErrWord.TheVariants.{DriverNotConnected, UnknownUps, SetFailed, InstcmdFailed}
 use Rattle.arrayvec.specs.ArrayVec.{ArrayVec}
 use Rattle.nutusers.specs.UpsList.{Ups, place_of}
 use Rattle.nutusers.specs.declared.ups_list.UpsId.{UpsId}
@@ -13,10 +13,11 @@ use Rattle.nutanswer.specs.declared.command.Command.TheVariants.{Username, Passw
 use Rattle.nutanswer.specs.declared.err_word.ErrWord.{ErrWord}
 use Rattle.nutanswer.specs.declared.reply.Change.{Change}
 use Rattle.nutanswer.specs.declared.reply.Change.TheVariants as changes
-use Rattle.nutanswer.specs.View.{Seen, AskerSeen, UpsSeen}
+use Rattle.nutanswer.specs.View.{Seen, AskerSeen, UpsSeen, Readiness, not_connected}
 use Rattle.nutanswer.specs.Orders.{instcmd_right, set_line, instcmd_line, order}
-use Rattle.nutanswer.specs.Checks.{◌>>=◌, ◌>>◌, unless, KnownUps, known, ups_at, ups_named, user, unknown_ups, live, var_not_supported, var_not_lawful, cmd_not_lawful, cmd_not_supported, already_set_username, already_set_password, already_logged_in, invalid_argument, readonly, too_long, too_long_of_command, invalid_value}
+use Rattle.nutanswer.specs.Checks.{ready, ◌>>=◌, ◌>>◌, unless, KnownUps, known, ups_at, ups_named, user, unknown_ups, live, driver_not_connected, data_stale, var_not_supported, var_not_lawful, cmd_not_lawful, cmd_not_supported, already_set_username, already_set_password, already_logged_in, invalid_argument, readonly, too_long, too_long_of_command, invalid_value}
 use Rattle.nutanswer.specs.Answer.{Answer, one_line, ok, answer_to, change_of_answer}
+use Rattle.nutanswer.specs.Laws.{TakesOrder, OrdersFit}
 
 -- the order of this change, if it is one
 abbrev place_of_order : Change → ℕ
@@ -31,19 +32,19 @@ abbrev is_order : Change → Bool
 is_order (changes.Order u line) = true
 is_order _ = false
 
-abbrev free_of : Option UpsSeen → ℕ
-free_of None = 0
-free_of (Some x) = x.free
+abbrev Takes : List ℕ → Option UpsSeen → Type 0
+Takes line None = Unit {0}
+Takes line (Some x) = TakesOrder line x
 
 abbrev option_of : Result KnownUps ErrWord → Option KnownUps
 option_of (Ok u) = Some u
 option_of (Err word) = None
 
 module _ (s : Seen) where
-  -- where it is an order, that fits
+  -- where it is an order, its driver takes it
   record Fits (answer : Result Answer ErrWord) : Type 0 where
     fits : is_order (change_of_answer answer) ≡ true
-        → length (bytes_of_order (change_of_answer answer)) ≤ free_of (slice_get s.upses (place_of_order (change_of_answer answer)))
+        → Takes (bytes_of_order (change_of_answer answer)) (slice_get s.upses (place_of_order (change_of_answer answer)))
 
   none : {answer : Result Answer ErrWord} → is_order (change_of_answer answer) ≡ false → Fits answer
   none h = record { fits = λ k. absurd (cc) }
@@ -55,6 +56,22 @@ module _ (s : Seen) where
   behind : (m : Result (Unit {0}) ErrWord) (next : Result Answer ErrWord) → Fits next → Fits (m >> next)
   behind (Err word) next h = none refl
   behind (Ok n) next h = h
+
+  -- behind a check, which passed
+  behind_it : (m : Result (Unit {0}) ErrWord) (next : Result Answer ErrWord) → (m ≡ Ok tt → Fits next) → Fits (m >> next)
+  behind_it (Err word) next h = none refl
+  behind_it (Ok tt) next h = h refl
+
+  -- a UPS that is live has a driver
+  connected : (u : KnownUps) → live s u ≡ Ok tt → u.state.report.connected ≡ true
+  connected u h = by_connection u.state.report.connected refl
+    where
+      by_connection : (b : Bool) → u.state.report.connected ≡ b → b ≡ true
+      by_connection true e = refl
+      by_connection false e =
+          let unready : ready s u ≡ not_connected = cond-true _ _ _ (ap not e) in
+          let never : Err DriverNotConnected ≡ Ok tt = sym (ap (λ (r : Readiness). driver_not_connected r >> data_stale r) unready) ∙ h in
+          cc never
 
   abbrev IsKnown : KnownUps → Type 0
   IsKnown u = slice_get s.upses u.id.place ≡ Some u.state
@@ -88,10 +105,11 @@ module _ (s : Seen) where
   known_is ups u h = named ups u (found (ups_named s ups) u h)
 
   -- an order behind the check that it fits
-  order_fits : (u : KnownUps) (line : List ℕ) (word : ErrWord) (b : Bool) → IsKnown u → nat_le (length line) u.state.free ≡ b
+  order_fits : (u : KnownUps) (line : List ℕ) (word : ErrWord) (b : Bool) → IsKnown u → live s u ≡ Ok tt → nat_le (length line) u.state.free ≡ b
       → Fits (unless b word >> Ok (one_line ok (order u.id line)))
-  order_fits u line word true at e = record { fits = λ _. subst (λ (x : Option UpsSeen). length line ≤ free_of x) (sym at) (leb-true (length line) u.state.free e) }
-  order_fits u line word false at e = none refl
+  order_fits u line word true at going e =
+      record { fits = λ _. subst (Takes line) (sym at) (record { connected = connected u going; fits = leb-true (length line) u.state.free e }) }
+  order_fits u line word false at going e = none refl
 
   -- each row of the table
   row_fits : (asker : AskerSeen) (command : Command) → Fits (answer_to s asker command)
@@ -102,13 +120,13 @@ module _ (s : Seen) where
   row_fits asker (Primary ups) = behind (user s asker rights.Primary) _ (after (unknown_ups s ups) _ (λ u _. none refl))
   row_fits asker (Fsd ups) = behind (user s asker rights.Fsd) _ (after (unknown_ups s ups) _ (λ u _. none refl))
   row_fits asker (SetVar ups name word) =
-      behind (user s asker rights.Set) _ (after (unknown_ups s ups) _ (λ u at. behind (live s u) _ (after (var_not_supported u name) _
+      behind (user s asker rights.Set) _ (after (unknown_ups s ups) _ (λ u at. behind_it (live s u) _ (λ going. after (var_not_supported u name) _
       (λ v _. behind (readonly v.1) _ (after (too_long v.1 word) _ (λ value _. behind (invalid_value v.1 value) _
-      (order_fits u (set_line v.0 value) SetFailed _ (known_is ups u at) refl)))))))
+      (order_fits u (set_line v.0 value) SetFailed _ (known_is ups u at) going refl)))))))
   row_fits asker (InstCmd ups name word) =
-      behind (user s asker (instcmd_right name)) _ (after (unknown_ups s ups) _ (λ u at. behind (live s u) _ (after (cmd_not_supported u name) _
+      behind (user s asker (instcmd_right name)) _ (after (unknown_ups s ups) _ (λ u at. behind_it (live s u) _ (λ going. after (cmd_not_supported u name) _
       (λ c _. after (too_long_of_command word) _ (λ value _.
-      order_fits u (instcmd_line c value) InstcmdFailed _ (known_is ups u at) refl)))))
+      order_fits u (instcmd_line c value) InstcmdFailed _ (known_is ups u at) going refl)))))
   row_fits asker (GetVar ups name) = after (unknown_ups s ups) _ (λ u _. behind (live s u) _ (after (var_not_supported u name) _ (λ v _. none refl)))
   row_fits asker (GetType ups name) = after (unknown_ups s ups) _ (λ u _. behind (live s u) _ (after (var_not_supported u name) _ (λ v _. none refl)))
   row_fits asker (GetDesc ups name) = after (unknown_ups s ups) _ (λ u _. after (var_not_lawful name) _ (λ v _. none refl))
@@ -128,12 +146,11 @@ module _ (s : Seen) where
   row_fits asker ProtVer = none refl
   row_fits asker StartTls = none refl
 
--- where the change is this order, it fits
+-- where the change is this order, its driver takes it
 told_fits : (s : Seen) (answer : Result Answer ErrWord) (change : Change) → change_of_answer answer ≡ change → Fits s answer
-    → is_order change ≡ true → length (bytes_of_order change) ≤ free_of (slice_get s.upses (place_of_order change))
-told_fits s answer change e h = subst (λ (change : Change). is_order change ≡ true → length (bytes_of_order change) ≤ free_of (slice_get s.upses (place_of_order change))) e h.fits
+    → is_order change ≡ true → Takes (bytes_of_order change) (slice_get s.upses (place_of_order change))
+told_fits s answer change e h = subst (λ (change : Change). is_order change ≡ true → Takes (bytes_of_order change) (slice_get s.upses (place_of_order change))) e h.fits
 
-pub orders_fit : (s : Seen) (asker : AskerSeen) (command : Command) (u : UpsId) (line : ArrayVec ℕ) (x : UpsSeen)
-    → change_of_answer (answer_to s asker command) ≡ changes.Order u line → slice_get s.upses u.place ≡ Some x → length line.items ≤ x.free
+pub orders_fit : OrdersFit
 orders_fit s asker command u line x e at =
-    subst (λ (y : Option UpsSeen). length line.items ≤ free_of y) at (told_fits s (answer_to s asker command) (changes.Order u line) e (row_fits s asker command) refl)
+    subst (Takes line.items) at (told_fits s (answer_to s asker command) (changes.Order u line) e (row_fits s asker command) refl)

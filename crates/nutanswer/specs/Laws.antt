@@ -1,5 +1,5 @@
 -- What holds of every row of the table.
-use Rattle.std.specs.Prelude.{◌≡◌, ◌≤◌, ℕ, Bool, false, List, [], ◌∷◌, codes, length, slice_get, Some, Result, Ok, Err}
+use Rattle.std.specs.Prelude.{◌≡◌, ◌≤◌, ℕ, Bool, true, false, List, [], ◌∷◌, codes, length, slice_get, Some, Result, Ok, Err}
 use Rattle.std.specs.Str.{bytes_eq}
 use Rattle.arrayvec.specs.ArrayVec.{ArrayVec}
 use Rattle.nutusers.specs.declared.ups_list.UpsId.{UpsId}
@@ -33,9 +33,14 @@ OnlyOkChanges =
     (s : Seen) (asker : AskerSeen) (command : Command)
     → is_ok_line (answer_to s asker command) ≡ false → change_of_answer (answer_to s asker command) ≡ Nothing
 
--- The line of an order fits in what the driver of its UPS may still be owed.
+-- The driver of this UPS is connected, and the line fits in what it may still be owed.
+pub record TakesOrder (line : List ℕ) (x : UpsSeen) : Type 0 where
+  pub connected : x.report.connected ≡ true
+  pub fits : length line ≤ x.free
+
+-- An order is for a driver that is connected, and fits in what it may still be owed.
 abbrev pub OrdersFit : Type 0
 OrdersFit =
     (s : Seen) (asker : AskerSeen) (command : Command) (u : UpsId) (line : ArrayVec ℕ) (x : UpsSeen)
     → change_of_answer (answer_to s asker command) ≡ Order u line
-    → slice_get s.upses u.place ≡ Some x → length line.items ≤ x.free
+    → slice_get s.upses u.place ≡ Some x → TakesOrder line.items x

@@ -64,7 +64,11 @@ pub fn answer<V: View>(view: &V, asker: Asker<'_>, command: &Command) -> Result<
     }
 }
 
+// The rows stay calls of their own: what is inlined here is cleared for each command, also where another one was asked
+// for, and lines are long.
+
 /// GET VAR.
+#[inline(never)]
 fn get_var<V: View>(view: &V, ups: &Option<UpsName>, name: &Option<Name>) -> Result<Line, ErrWord>
     ensures { IsLineOf (row (V.seen view.now) (GetVar ups.now name.now)) result }
 {
@@ -79,6 +83,7 @@ fn get_var<V: View>(view: &V, ups: &Option<UpsName>, name: &Option<Name>) -> Res
 }
 
 /// GET TYPE.
+#[inline(never)]
 fn get_type<V: View>(view: &V, ups: &Option<UpsName>, name: &Option<Name>) -> Result<Line, ErrWord>
     ensures { IsLineOf (row (V.seen view.now) (GetType ups.now name.now)) result }
 {
@@ -87,6 +92,7 @@ fn get_type<V: View>(view: &V, ups: &Option<UpsName>, name: &Option<Name>) -> Re
 }
 
 /// GET DESC.
+#[inline(never)]
 fn get_desc<V: View>(view: &V, ups: &Option<UpsName>, name: &Option<Name>) -> Result<Line, ErrWord>
     ensures { IsLineOf (row (V.seen view.now) (GetDesc ups.now name.now)) result }
 {
@@ -99,6 +105,7 @@ fn get_desc<V: View>(view: &V, ups: &Option<UpsName>, name: &Option<Name>) -> Re
 }
 
 /// GET CMDDESC.
+#[inline(never)]
 fn get_cmd_desc<V: View>(
     view: &V,
     ups: &Option<UpsName>,
@@ -115,6 +122,7 @@ fn get_cmd_desc<V: View>(
 }
 
 /// GET UPSDESC.
+#[inline(never)]
 fn get_ups_desc<V: View>(view: &V, ups: &Option<UpsName>) -> Result<Line, ErrWord>
     ensures { IsLineOf (row (V.seen view.now) (GetUpsDesc ups.now)) result }
 {
@@ -145,6 +153,7 @@ fn given(found: Result<Reply, ErrWord>) -> Reply
 }
 
 /// The line of an error.
+#[inline(never)]
 fn refused(word: ErrWord) -> Reply
     ensures { (answer : Result Answer ErrWord)
         → answer ≡ Err word → CarriesAnswer answer result }
@@ -153,6 +162,7 @@ fn refused(word: ErrWord) -> Reply
 }
 
 /// A text without its LF, as it stands.
+#[inline(never)]
 fn plain(text: &[u8]) -> Reply
     requires short { length text.now ≤ 128 }
     requires lawful { IsTrue (list_all is_lawful text.now) }
@@ -162,6 +172,7 @@ fn plain(text: &[u8]) -> Reply
 }
 
 /// LIST VAR.
+#[inline(never)]
 fn list_var<V: View>(view: &V, ups: &Option<UpsName>) -> Result<Reply, AllocError>
     ensures ok { IfOk result (CarriesAnswer
         (row (V.seen view.now) (ListVar ups.now))) }
@@ -178,6 +189,7 @@ fn list_var<V: View>(view: &V, ups: &Option<UpsName>) -> Result<Reply, AllocErro
 }
 
 /// LIST RW.
+#[inline(never)]
 fn list_rw<V: View>(view: &V, ups: &Option<UpsName>) -> Result<Reply, AllocError>
     ensures ok { IfOk result (CarriesAnswer
         (row (V.seen view.now) (ListRw ups.now))) }
@@ -194,6 +206,7 @@ fn list_rw<V: View>(view: &V, ups: &Option<UpsName>) -> Result<Reply, AllocError
 }
 
 /// LIST CMD.
+#[inline(never)]
 fn list_cmd<V: View>(view: &V, ups: &Option<UpsName>) -> Result<Reply, AllocError>
     ensures ok { IfOk result (CarriesAnswer
         (row (V.seen view.now) (ListCmd ups.now))) }
@@ -209,6 +222,7 @@ fn list_cmd<V: View>(view: &V, ups: &Option<UpsName>) -> Result<Reply, AllocErro
 }
 
 /// LIST ENUM.
+#[inline(never)]
 fn list_enum<V: View>(
     view: &V,
     ups: &Option<UpsName>,
@@ -229,6 +243,7 @@ fn list_enum<V: View>(
 }
 
 /// LIST RANGE.
+#[inline(never)]
 fn list_range<V: View>(
     view: &V,
     ups: &Option<UpsName>,
@@ -248,8 +263,6 @@ fn list_range<V: View>(
     Ok(Reply::Many(listing))
 }
 
-#[cfg(test)]
-mod rows;
 #[cfg(test)]
 mod sample;
 #[cfg(test)]

@@ -12,7 +12,7 @@ use arguments::{
     user_name_alone,
 };
 use nutusers::{Password, UserName};
-use nutwords::{Name, UpsName, Value, Words, words};
+use nutwords::{Name, SpelledWord, SpelledWords, UpsName, Value, spelled_words};
 
 /// A command of a client. A word that is no lawful name names nothing.
 #[derive(Clone, Debug, PartialEq, Eq, Drop)]
@@ -73,6 +73,7 @@ pub enum Command {
 }
 
 impl Command {
+    ghost use Rattle.nutwords.specs.Spelled.{spelled};
     ghost use Rattle.nutanswer.specs.Command.{read_command, command_of, command_named, read_set, set_of, read_get, get_of, read_list, list_of};
 
     /// Reads a line without its LF, of at most 1,023 bytes. A line without words is no command.
@@ -84,57 +85,57 @@ impl Command {
         requires { length line.now ≤ LINE_LIMIT }
         ensures { result ≡ read_command line.now }
     {
-        match words(line) {
+        match spelled_words(line) {
             Ok(words) => Command::of(words),
             Err(_) => Err(ErrWord::InvalidArgument),
         }
     }
 
     /// The command that the words are.
-    fn of(mut words: Words<'_>) -> Result<Option<Command>, ErrWord>
+    fn of(mut words: SpelledWords<'_>) -> Result<Option<Command>, ErrWord>
         ensures { result ≡ command_of words.entry }
     {
         let Some(first) = words.next() else {
             return Ok(None);
         };
-        let command = Command::named(first.as_bytes(), words)?;
+        let command = Command::named(&first, words)?;
         Ok(Some(command))
     }
 
     /// The command that is called so, with these words after its first.
-    fn named(first: &[u8], words: Words<'_>) -> Result<Command, ErrWord>
-        ensures { result ≡ command_named first.now words.entry }
+    fn named(first: &SpelledWord<'_>, words: SpelledWords<'_>) -> Result<Command, ErrWord>
+        ensures { result ≡ command_named (spelled first.now) words.entry }
     {
-        if first.eq_ignore_ascii_case(b"GET") {
+        if first.is_word(b"GET") {
             Command::get(words)
-        } else if first.eq_ignore_ascii_case(b"LIST") {
+        } else if first.is_word(b"LIST") {
             Command::list(words)
-        } else if first.eq_ignore_ascii_case(b"USERNAME") {
+        } else if first.is_word(b"USERNAME") {
             Ok(Command::Username(user_name_alone(words)?))
-        } else if first.eq_ignore_ascii_case(b"PASSWORD") {
+        } else if first.is_word(b"PASSWORD") {
             Ok(Command::Password(password_alone(words)?))
-        } else if first.eq_ignore_ascii_case(b"LOGIN") {
+        } else if first.is_word(b"LOGIN") {
             Ok(Command::Login(ups_alone(words)?))
-        } else if first.eq_ignore_ascii_case(b"LOGOUT") {
+        } else if first.is_word(b"LOGOUT") {
             alone(Command::Logout, words)
-        } else if first.eq_ignore_ascii_case(b"PRIMARY") {
+        } else if first.is_word(b"PRIMARY") {
             Ok(Command::Primary(ups_alone(words)?))
-        } else if first.eq_ignore_ascii_case(b"FSD") {
+        } else if first.is_word(b"FSD") {
             Ok(Command::Fsd(ups_alone(words)?))
-        } else if first.eq_ignore_ascii_case(b"SET") {
+        } else if first.is_word(b"SET") {
             Command::set(words)
-        } else if first.eq_ignore_ascii_case(b"INSTCMD") {
+        } else if first.is_word(b"INSTCMD") {
             let (ups, name, value) = ups_name_and_value_if_any(words)?;
             Ok(Command::InstCmd(ups, name, value))
-        } else if first.eq_ignore_ascii_case(b"HELP") {
+        } else if first.is_word(b"HELP") {
             alone(Command::Help, words)
-        } else if first.eq_ignore_ascii_case(b"VER") {
+        } else if first.is_word(b"VER") {
             alone(Command::Ver, words)
-        } else if first.eq_ignore_ascii_case(b"NETVER") {
+        } else if first.is_word(b"NETVER") {
             alone(Command::NetVer, words)
-        } else if first.eq_ignore_ascii_case(b"PROTVER") {
+        } else if first.is_word(b"PROTVER") {
             alone(Command::ProtVer, words)
-        } else if first.eq_ignore_ascii_case(b"STARTTLS") {
+        } else if first.is_word(b"STARTTLS") {
             alone(Command::StartTls, words)
         } else {
             Err(ErrWord::UnknownCommand)
@@ -142,20 +143,20 @@ impl Command {
     }
 
     /// What a SET asks for.
-    fn set(mut words: Words<'_>) -> Result<Command, ErrWord>
+    fn set(mut words: SpelledWords<'_>) -> Result<Command, ErrWord>
         ensures { result ≡ read_set words.entry }
     {
         match words.next() {
-            Some(kind) => Command::set_of(kind.as_bytes(), words),
+            Some(kind) => Command::set_of(&kind, words),
             None => Err(ErrWord::InvalidArgument),
         }
     }
 
     /// What a SET with this second word asks for.
-    fn set_of(kind: &[u8], words: Words<'_>) -> Result<Command, ErrWord>
-        ensures { result ≡ set_of kind.now words.entry }
+    fn set_of(kind: &SpelledWord<'_>, words: SpelledWords<'_>) -> Result<Command, ErrWord>
+        ensures { result ≡ set_of (spelled kind.now) words.entry }
     {
-        if kind.eq_ignore_ascii_case(b"VAR") {
+        if kind.is_word(b"VAR") {
             let (ups, name, value) = ups_name_and_value(words)?;
             Ok(Command::SetVar(ups, name, value))
         } else {
@@ -164,35 +165,35 @@ impl Command {
     }
 
     /// What a GET asks for.
-    fn get(mut words: Words<'_>) -> Result<Command, ErrWord>
+    fn get(mut words: SpelledWords<'_>) -> Result<Command, ErrWord>
         ensures { result ≡ read_get words.entry }
     {
         match words.next() {
-            Some(kind) => Command::get_of(kind.as_bytes(), words),
+            Some(kind) => Command::get_of(&kind, words),
             None => Err(ErrWord::InvalidArgument),
         }
     }
 
     /// What a GET with this second word asks for.
-    fn get_of(kind: &[u8], words: Words<'_>) -> Result<Command, ErrWord>
-        ensures { result ≡ get_of kind.now words.entry }
+    fn get_of(kind: &SpelledWord<'_>, words: SpelledWords<'_>) -> Result<Command, ErrWord>
+        ensures { result ≡ get_of (spelled kind.now) words.entry }
     {
-        if kind.eq_ignore_ascii_case(b"VAR") {
+        if kind.is_word(b"VAR") {
             let (ups, name) = ups_and_name(words)?;
             Ok(Command::GetVar(ups, name))
-        } else if kind.eq_ignore_ascii_case(b"TYPE") {
+        } else if kind.is_word(b"TYPE") {
             let (ups, name) = ups_and_name(words)?;
             Ok(Command::GetType(ups, name))
-        } else if kind.eq_ignore_ascii_case(b"DESC") {
+        } else if kind.is_word(b"DESC") {
             let (ups, name) = ups_and_name(words)?;
             Ok(Command::GetDesc(ups, name))
-        } else if kind.eq_ignore_ascii_case(b"CMDDESC") {
+        } else if kind.is_word(b"CMDDESC") {
             let (ups, name) = ups_and_name(words)?;
             Ok(Command::GetCmdDesc(ups, name))
-        } else if kind.eq_ignore_ascii_case(b"UPSDESC") {
+        } else if kind.is_word(b"UPSDESC") {
             let ups = ups_alone(words)?;
             Ok(Command::GetUpsDesc(ups))
-        } else if kind.eq_ignore_ascii_case(b"NUMLOGINS") {
+        } else if kind.is_word(b"NUMLOGINS") {
             let ups = ups_alone(words)?;
             Ok(Command::GetNumLogins(ups))
         } else {
@@ -201,37 +202,37 @@ impl Command {
     }
 
     /// What a LIST asks for.
-    fn list(mut words: Words<'_>) -> Result<Command, ErrWord>
+    fn list(mut words: SpelledWords<'_>) -> Result<Command, ErrWord>
         ensures { result ≡ read_list words.entry }
     {
         match words.next() {
-            Some(kind) => Command::list_of(kind.as_bytes(), words),
+            Some(kind) => Command::list_of(&kind, words),
             None => Err(ErrWord::InvalidArgument),
         }
     }
 
     /// What a LIST with this second word asks for.
-    fn list_of(kind: &[u8], words: Words<'_>) -> Result<Command, ErrWord>
-        ensures { result ≡ list_of kind.now words.entry }
+    fn list_of(kind: &SpelledWord<'_>, words: SpelledWords<'_>) -> Result<Command, ErrWord>
+        ensures { result ≡ list_of (spelled kind.now) words.entry }
     {
-        if kind.eq_ignore_ascii_case(b"UPS") {
+        if kind.is_word(b"UPS") {
             alone(Command::ListUps, words)
-        } else if kind.eq_ignore_ascii_case(b"VAR") {
+        } else if kind.is_word(b"VAR") {
             let ups = ups_alone(words)?;
             Ok(Command::ListVar(ups))
-        } else if kind.eq_ignore_ascii_case(b"RW") {
+        } else if kind.is_word(b"RW") {
             let ups = ups_alone(words)?;
             Ok(Command::ListRw(ups))
-        } else if kind.eq_ignore_ascii_case(b"CMD") {
+        } else if kind.is_word(b"CMD") {
             let ups = ups_alone(words)?;
             Ok(Command::ListCmd(ups))
-        } else if kind.eq_ignore_ascii_case(b"ENUM") {
+        } else if kind.is_word(b"ENUM") {
             let (ups, name) = ups_and_name(words)?;
             Ok(Command::ListEnum(ups, name))
-        } else if kind.eq_ignore_ascii_case(b"RANGE") {
+        } else if kind.is_word(b"RANGE") {
             let (ups, name) = ups_and_name(words)?;
             Ok(Command::ListRange(ups, name))
-        } else if kind.eq_ignore_ascii_case(b"CLIENT") {
+        } else if kind.is_word(b"CLIENT") {
             let ups = ups_alone(words)?;
             Ok(Command::ListClient(ups))
         } else {

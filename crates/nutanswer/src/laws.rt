@@ -8,7 +8,7 @@ pub fn only_ok_changes()
     ensures ok { OnlyOkChanges }
 {}
 
-/// An order is one that fits in what the driver of its UPS may still be owed.
+/// An order is for a driver that is connected, and fits in what it may still be owed.
 pub fn orders_fit()
     ensures { OrdersFit }
 {}

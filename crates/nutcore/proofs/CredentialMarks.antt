@@ -1,5 +1,5 @@
 -- A user name and a password are given by lines alone.
-use Rattle.std.proofs.Common.{◌≡◌, ◌∙◌, ◌++◌, ℕ, true, false, List, [], ◌∷◌, Option, Some, None, Result, Ok, Err, refl, sym, ap, inl}
+use Rattle.std.proofs.Common.{◌≡◌, ◌∙◌, ℕ, true, false, List, [], ◌∷◌, Option, Some, None, Result, Ok, Err, refl, ap, inl}
 use Rattle.std.specs.Prelude.{Bool, codes}
 use Rattle.std.specs.Option.{option_map_or}
 use Rattle.std.specs.Str.{bytes_eq}
@@ -11,15 +11,12 @@ use Rattle.nutanswer.specs.declared.reply.Change.{Change}
 use Rattle.nutanswer.specs.declared.reply.Change.TheVariants as changes
 use Rattle.nutanswer.specs.Command.{read_command}
 use Rattle.nutwords.specs.Frame.{line_of as text_line}
-use Rattle.nutcore.specs.declared.event.Event.{Event}
-use Rattle.nutcore.specs.declared.event.Outcome.{Outcome}
 use Rattle.nutcore.specs.Session.{SessionState, find}
 use Rattle.nutcore.specs.Server.{ServerState, session}
 use Rattle.nutcore.specs.Reply.{seen, asker, asker_of, reply, changed_session, change_by, text_to}
 use Rattle.nutcore.specs.Pump.{answered}
-use Rattle.nutcore.specs.Run.{Run}
-use Rattle.nutcore.specs.History.{Execution, of_line, of_notice, executions}
-use Rattle.nutcore.specs.ByRight.{IsAmong, GivesUsername, GivesPassword, WasGivenBefore, CredentialsAreGivenByLines}
+use Rattle.nutcore.specs.History.{Execution, of_line, of_notice}
+use Rattle.nutcore.specs.ByRight.{GivesUsername, GivesPassword, CredentialsAreGivenByLines}
 use Rattle.nutcore.proofs.TableRows.{username_row, password_row}
 use Rattle.nutcore.proofs.Marks.{OneIs, run_told, no_mark}
 use Rattle.nutcore.proofs.SessionMarks.{IsSessionMark, SetsMark, is_marked, marks}

@@ -1,12 +1,11 @@
 -- What a driver told is executed.
-use Rattle.std.proofs.Common.{◌≡◌, ◌≢◌, ◌∙◌, ◌+◌, ◌≤◌, ℕ, zero, suc, Bool, true, false, List, [], ◌∷◌, ◌++◌, Option, Some, None, refl, sym, ap, subst, cond, eqb, map, max, length, take, drop, append_assoc, append-nil, arith}
+use Rattle.std.proofs.Common.{◌≡◌, ◌∙◌, ◌+◌, ℕ, zero, suc, Bool, true, false, List, [], ◌∷◌, ◌++◌, Option, Some, None, refl, sym, ap, subst, cond, eqb, map, max, length, take, drop, append_assoc, append-nil}
 use Rattle.std.specs.Prelude.{slice_get}
-use Rattle.std.specs.List.{flat_map}
-use Rattle.std.specs.Option.{option_map, option_map_or}
+use Rattle.std.specs.Option.{option_map_or}
 use Rattle.std.proofs.lemmas.Bool.{cond-true, eqb-true, eqb-false}
 use Rattle.std.proofs.lemmas.List.{take-append-drop}
 use Rattle.nutwords.specs.SplitLine.{split_line}
-use Rattle.nutwords.specs.declared.limits.TheConstants.{LINE_LIMIT, LINE_ROOM}
+use Rattle.nutwords.specs.declared.limits.TheConstants.{LINE_ROOM}
 use Rattle.nutusers.specs.declared.ups_list.UpsId.{UpsId}
 use Rattle.nutdriver.specs.declared.report.Report.{Report}
 use Rattle.nutdriver.specs.declared.report.LineOutcome.{LineOutcome}
@@ -15,18 +14,18 @@ use Rattle.nutdriver.specs.Report.{after_line}
 use Rattle.nutcore.specs.declared.event.Event.{Event}
 use Rattle.nutcore.specs.declared.event.Event.TheVariants.{DriverUp, DriverBytes, DriverTook, DriverDown, Tick, Open, Feed, Took, Close}
 use Rattle.nutcore.specs.declared.event.Outcome.{Outcome}
-use Rattle.nutcore.specs.Lines.{first_line, behind, with_lf}
-use Rattle.nutcore.specs.Ups.{UpsState, after_connecting, after_loss, after_tick, ping_is_due, ping_line, after_outcome, after_text, next_driver_line, after_driver_line, after_driver_lines, after_all_driver_lines, is_driver_overlong, with_bytes}
+use Rattle.nutcore.specs.Lines.{behind, with_lf}
+use Rattle.nutcore.specs.Ups.{UpsState, after_loss, after_tick, ping_is_due, ping_line, after_outcome, after_text, next_driver_line, after_driver_line, after_driver_lines, after_all_driver_lines, is_driver_overlong, with_bytes}
 use Rattle.nutcore.specs.Session.{new_session}
 use Rattle.nutcore.specs.Server.{ServerState, ups_at, changed_at, with_ups_changed}
-use Rattle.nutcore.specs.Step.{Step, connected, disconnected, after_driver_pump, after_driver_bytes, driver_may_take, after_driver_took, may_open, opened, ticked, after_by, after, refused_after}
+use Rattle.nutcore.specs.Step.{connected, disconnected, after_driver_pump, after_driver_bytes, driver_may_take, after_driver_took, may_open, opened, ticked, after_by, after, refused_after}
 use Rattle.nutcore.specs.Run.{Run}
-use Rattle.nutcore.specs.Sound.{Each}
-use Rattle.nutcore.specs.Isolation.{client_of, without_commands, kept_from_clients}
-use Rattle.nutcore.specs.DriverHistory.{Heard, bytes_heard, after_heard, IsWholeLine, came_in_event, came, has_driver, StaysConnected, IsHeard, DriverIsHeard, WhatADriverToldIsExecuted}
+use Rattle.nutcore.specs.Isolation.{without_commands, kept_from_clients}
+use Rattle.nutcore.specs.DriverHistory.{Heard, bytes_heard, after_heard, IsWholeLine, came_in_event, came, has_driver, StaysConnected, IsHeard, WhatADriverToldIsExecuted}
 use Rattle.nutcore.proofs.FirstLine.{with_byte, parts, line_found, first_line_splits, behind_is}
 use Rattle.nutcore.proofs.DriverLoops.{driver_line_is, stopped_line, next_short}
 use Rattle.nutcore.proofs.Isolation.{own, other_ups}
+use Rattle.nutcore.proofs.SoundUps.{each_join}
 
 -- a line that is split off has no LF
 no_lf : (bytes line rest : List ℕ) → split_line bytes ≡ Some (line, rest) → split_line line ≡ None
@@ -121,12 +120,12 @@ bytes_are_heard m piece (Some k) x there still =
     no_driver lost.report.connected (ap (λ (y : UpsState). y.report.connected) (sym is) ∙ still) refl
 
 -- one UPS of the server
-at_changed : (f : UpsState → UpsState) (p : ℕ) (xs : List UpsState) (x : UpsState) → slice_get xs p ≡ Some x → slice_get (changed_at f p xs) p ≡ Some (f x)
+pub at_changed : (f : UpsState → UpsState) (p : ℕ) (xs : List UpsState) (x : UpsState) → slice_get xs p ≡ Some x → slice_get (changed_at f p xs) p ≡ Some (f x)
 at_changed f p [] x e = cc e
 at_changed f zero (y ∷ xs) x e = let same : y ≡ x = cc e in ap (λ (z : UpsState). Some (f z)) same
 at_changed f (suc p) (y ∷ xs) x e = at_changed f p xs x e
 
-at_mapped : (f : UpsState → UpsState) (p : ℕ) (xs : List UpsState) (x : UpsState) → slice_get xs p ≡ Some x → slice_get (map f xs) p ≡ Some (f x)
+pub at_mapped : (f : UpsState → UpsState) (p : ℕ) (xs : List UpsState) (x : UpsState) → slice_get xs p ≡ Some x → slice_get (map f xs) p ≡ Some (f x)
 at_mapped f p [] x e = cc e
 at_mapped f zero (y ∷ xs) x e = let same : y ≡ x = cc e in ap (λ (z : UpsState). Some (f z)) same
 at_mapped f (suc p) (y ∷ xs) x e = at_mapped f p xs x e
@@ -219,10 +218,6 @@ after_both : (report : Report) (xs ys : List Heard) → after_heard report (xs +
 after_both report [] ys = refl
 after_both report (x ∷ xs) ys = after_both (after_line x.moment report x.line).0 xs ys
 
-each_both : (P : Heard → Type 0) (xs ys : List Heard) → Each P xs → Each P ys → Each P (xs ++ ys)
-each_both P [] ys all more = more
-each_both P (x ∷ xs) ys all more = (all.0, each_both P xs ys all.1 more)
-
 bytes_both : (xs ys : List Heard) → bytes_heard (xs ++ ys) ≡ bytes_heard xs ++ bytes_heard ys
 bytes_both [] ys = refl
 bytes_both (x ∷ xs) ys = ap (λ (z : List ℕ). with_lf x.line ++ z) (bytes_both xs ys) ∙ sym (append_assoc (with_lf x.line) (bytes_heard xs) (bytes_heard ys))
@@ -230,7 +225,7 @@ bytes_both (x ∷ xs) ys = ap (λ (z : List ℕ). with_lf x.line ++ z) (bytes_bo
 heard_both : (x y z : UpsState) (a b : List ℕ) → IsHeard x a y → IsHeard y b z → IsHeard x (a ++ b) z
 heard_both x y z a b f g = record {
   lines = f.lines ++ g.lines;
-  whole = each_both IsWholeLine f.lines g.lines f.whole g.whole;
+  whole = each_join IsWholeLine f.lines g.lines f.whole g.whole;
   all =
       sym (append_assoc x.unfinished a b) ∙ ap (λ (w : List ℕ). w ++ b) f.all ∙ append_assoc (bytes_heard f.lines) y.unfinished b
       ∙ ap (λ (w : List ℕ). bytes_heard f.lines ++ w) g.all ∙ sym (append_assoc (bytes_heard f.lines) (bytes_heard g.lines) z.unfinished)

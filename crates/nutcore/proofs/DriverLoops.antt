@@ -4,8 +4,7 @@ use Rattle.std.proofs.lemmas.Bool.{le-leb, lt-leb}
 use Rattle.std.proofs.lemmas.List.{take_all}
 use Rattle.std.specs.Option.{option_map}
 use Rattle.std.specs.Prelude.{OnOk, is_err}
-use Rattle.nutwords.specs.SplitLine.{split_line}
-use Rattle.nutwords.proofs.Lines.{with_front, split_line-append}
+use Rattle.nutwords.specs.SplitLine.{split_line, HeldGoesInFront}
 use Rattle.nutwords.specs.Cut.{Cuts}
 use Rattle.nutwords.specs.declared.cut.Cut.{Cut}
 use Rattle.nutwords.specs.declared.cut.Cut.TheVariants.{Line, More, TooLong}
@@ -47,6 +46,10 @@ first_line-take (suc n) (b ∷ bytes) line rest h le = by_byte (λ l r s. first_
 behind_split : (bytes line rest : List ℕ) → split_line bytes ≡ Some (line, rest) → behind line bytes ≡ rest
 behind_split bytes line rest h = ap (behind line) (split_is bytes line rest h) ∙ behind_is line rest
 
+-- bytes more before the first line
+abbrev with_front : List ℕ → Option (List ℕ × List ℕ) → Option (List ℕ × List ℕ)
+with_front a o = option_map (λ s. (a ++ s.0, s.1)) o
+
 -- a line that wasn't whole takes some of the piece
 used_by : (held piece line : List ℕ) (used : ℕ) (o : Option (List ℕ × List ℕ)) → split_line piece ≡ o → with_front held o ≡ Some (line, drop used piece) → 0 < used
 used_by held piece line used None e h = cc
@@ -54,8 +57,8 @@ used_by held piece line used (Some s) e h =
     let rest : s.1 ≡ drop used piece = ap (λ (z : List ℕ × List ℕ). z.1) (some_same (held ++ s.0, s.1) (line, drop used piece) h) in
     omega (arith, ap length rest, ap length (split_is piece s.0 s.1 e), length-append s.0 (10 ∷ s.1), length-drop used piece)
 
-some_used : (held piece line : List ℕ) (used : ℕ) → split_line held ≡ None → split_line (held ++ piece) ≡ Some (line, drop used piece) → 0 < used
-some_used held piece line used none h = used_by held piece line used (split_line piece) refl (sym (split_line-append held piece none) ∙ h)
+some_used : HeldGoesInFront → (held piece line : List ℕ) (used : ℕ) → split_line held ≡ None → split_line (held ++ piece) ≡ Some (line, drop used piece) → 0 < used
+some_used in_front held piece line used none h = used_by held piece line used (split_line piece) refl (sym (in_front held piece none) ∙ h)
 
 -- what is kept has no LF
 pub cuts_none : (held piece after : List ℕ) (cut : Cut) → Cuts held piece cut after → split_line after ≡ None
@@ -64,16 +67,16 @@ cuts_none held piece after More h = ap split_line h.2 ∙ h.0
 cuts_none held piece after TooLong h = ap split_line h.2
 
 -- what the cutter says, of the UPS
-pub cuts_line : (piece : List ℕ) (old : UpsState) (cut : Cut) (after : List ℕ) → split_line old.unfinished ≡ None → Cuts old.unfinished piece cut after → let new : UpsState = record old { unfinished = after } in CutsLine piece old cut new
-cuts_line piece old (Line line used) after none h =
+pub cuts_line : HeldGoesInFront → (piece : List ℕ) (old : UpsState) (cut : Cut) (after : List ℕ) → split_line old.unfinished ≡ None → Cuts old.unfinished piece cut after → let new : UpsState = record old { unfinished = after } in CutsLine piece old cut new
+cuts_line in_front piece old (Line line used) after none h =
     let bytes : List ℕ = old.unfinished ++ piece in
     let e : after ++ drop used piece ≡ behind line.items bytes = ap (λ z. z ++ drop used piece) h.3 ∙ sym (behind_split bytes line.items (drop used piece) h.0) in
-    (first_line-take LINE_ROOM bytes line.items (drop used piece) h.0 h.2, some_used old.unfinished piece line.items used none h.0, h.1, ap (λ bs. let z : UpsState = record old { unfinished = bs } in z) e)
-cuts_line piece old More after none h =
+    (first_line-take LINE_ROOM bytes line.items (drop used piece) h.0 h.2, some_used in_front old.unfinished piece line.items used none h.0, h.1, ap (λ bs. let z : UpsState = record old { unfinished = bs } in z) e)
+cuts_line in_front piece old More after none h =
     let bytes : List ℕ = old.unfinished ++ piece in
     let few : length bytes ≤ LINE_ROOM = omega (arith, h.1) in
     (ap first_line (take_all LINE_ROOM bytes few) ∙ ap (option_map (λ s. s.0)) h.0, lt-leb LINE_ROOM (length bytes) h.1, ap (λ bs. let z : UpsState = record old { unfinished = bs } in z) h.2)
-cuts_line piece old TooLong after none h =
+cuts_line in_front piece old TooLong after none h =
     let bytes : List ℕ = old.unfinished ++ piece in
     (ap (option_map (λ s. s.0)) h.0, le-leb LINE_ROOM (length bytes) h.1, refl)
 

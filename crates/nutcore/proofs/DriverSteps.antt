@@ -13,8 +13,8 @@ use Rattle.nutcore.specs.Ups.{UpsState, after_connecting, after_loss, after_tick
 use Rattle.nutcore.specs.Leaf.{IsFed, IsTaken}
 use Rattle.nutcore.specs.Server.{ServerState, ups_at, changed_at, with_ups_changed}
 use Rattle.nutcore.specs.Step.{Step, connected, disconnected, after_driver_bytes, after_driver_took, ticked, connected_by, disconnected_by, driver_took_by, driver_bytes_by, driver_may_lack_memory, outcome_of, after_by, MayLackMemory}
-use Rattle.nutcore.specs.Calls.{done}
-use Rattle.nutcore.specs.Serving.{is_connected, DriverFeedGives, DriverTakes}
+use Rattle.nutcore.specs.Calls.{is_connected, done}
+use Rattle.nutcore.specs.Serving.{DriverFeedGives, DriverTakes}
 
 -- changes at a place that agree there are one
 pub changed_agree : (f g : UpsState → UpsState) (i : ℕ) (xs : List UpsState) (x : UpsState) → slice_get xs i ≡ Some x → f x ≡ g x → changed_at f i xs ≡ changed_at g i xs
@@ -148,7 +148,7 @@ bytes_unconnected s u piece h = record {
   leaves = server_same s u (after_driver_bytes s.moment piece None) h.ups h.there (cond-false _ _ _ h.is);
 }
 
-connected_as : (s : ServerState) (u : UpsId) (x : UpsState) → IsThere s u true → ups_at u.place s ≡ Some x → x.report.connected ≡ true
+pub connected_as : (s : ServerState) (u : UpsId) (x : UpsState) → IsThere s u true → ups_at u.place s ≡ Some x → x.report.connected ≡ true
 connected_as s u x h there = let same : Some h.ups ≡ Some x = sym h.there ∙ there in let e : h.ups ≡ x = cc same in ap (λ (z : UpsState). z.report.connected) (sym e) ∙ h.is
 
 fed_by : (s t : ServerState) (u : UpsId) (piece : List ℕ) (x y : UpsState) (r : Result (Unit {0}) Fault) → ups_at u.place s ≡ Some x → x.report.connected ≡ true → IsFed s.moment (with_bytes piece x) r y → t ≡ with_ups_changed (λ z. y) u s → Step s (DriverBytes u piece) (done r) t

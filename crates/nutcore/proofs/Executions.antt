@@ -1,9 +1,7 @@
 -- What an event executes is one client's, each line at its moment.
-use Rattle.std.proofs.Common.{◌≡◌, ◌≢◌, ℕ, zero, suc, ◌+◌, ◌<◌, Bool, true, false, List, [], ◌∷◌, ◌++◌, Option, Some, None, refl, sym, ◌∙◌, ap, subst, cond, eqb, arith, length, get_or}
+use Rattle.std.proofs.Common.{◌≡◌, ℕ, zero, suc, ◌+◌, ◌<◌, Bool, true, false, List, [], ◌∷◌, ◌++◌, Option, Some, None, refl, sym, ◌∙◌, ap, subst, cond, eqb, arith, length, get_or}
 use Rattle.std.specs.Prelude.{All}
-use Rattle.std.specs.List.{filter}
-use Rattle.std.proofs.lemmas.Bool.{cond-true, cond-false, eqb-true, eqb-false, eq-eqb}
-use Rattle.std.proofs.lemmas.Bool.Decides.{nat_tests}
+use Rattle.std.proofs.lemmas.Bool.{cond-true, cond-false, eqb-true, eq-eqb}
 use Rattle.nutcore.specs.declared.event.Event.{Event}
 use Rattle.nutcore.specs.declared.event.Event.TheVariants.{DriverUp, DriverBytes, DriverTook, DriverDown, Tick, Open, Feed, Took, Close}
 use Rattle.nutcore.specs.declared.event.Outcome.{Outcome}
@@ -11,7 +9,7 @@ use Rattle.nutcore.specs.Server.{ServerState, session}
 use Rattle.nutcore.specs.Pump.{next_line_for, after_line, after_lines, is_overlong, after_all_lines}
 use Rattle.nutcore.specs.Step.{Step, after, refused_after, may_take, with_input, without_output}
 use Rattle.nutcore.specs.Run.{Run}
-use Rattle.nutcore.specs.History.{Execution, of_line, of_notice, client_of, next_execution, lines_executed, notice, pump_executions, executions_until, executions_by, executions, of_client}
+use Rattle.nutcore.specs.History.{Execution, of_line, of_notice, client_of, next_execution, lines_executed, pump_executions, executions_until, executions_by, executions, of_client}
 use Rattle.nutcore.specs.Headline.{IsInPump, IsInEvent, IsTimely, EachAnswerIsTimely}
 use Rattle.nutcore.proofs.Loops.{after_lines-suc}
 

@@ -17,8 +17,8 @@ use Rattle.nutcore.specs.Ups.{UpsState, with_fsd, with_order, with_bytes, after_
 use Rattle.nutcore.specs.Server.{ServerState, session, with_session, with_session_changed, with_session_changed_of, ups_at, changed_at, with_ups_changed}
 use Rattle.nutcore.specs.Reply.{Reply, reply, changed_session, changed_upses, changed, change_by}
 use Rattle.nutanswer.specs.Command.{read_command}
-use Rattle.nutcore.specs.Pump.{next_line_for, after_line, after_line_of, after_reply, after_reply_of, after_lines, after_all_lines, after_notice, after_notice_of, is_overlong, is_overlong_of, notified, pumped, held_of, answered}
-use Rattle.nutcore.specs.Step.{Step, with_input, with_input_of, without_output, without_output_of, may_take, may_open, opened, pumped_until, after_by, after, refused_after, outcome_of, connected, disconnected, after_driver_pump, after_driver_bytes, after_driver_took, driver_may_take, connected_by, driver_bytes_by, driver_pump_outcome, driver_took_by, disconnected_by, fed_by, took_by, closed_by, accepted}
+use Rattle.nutcore.specs.Pump.{next_line_for, after_line, after_line_of, after_reply, after_reply_of, after_lines, after_all_lines, after_notice, after_notice_of, is_overlong, is_overlong_of, notified, pumped, held_of}
+use Rattle.nutcore.specs.Step.{with_input, with_input_of, without_output, without_output_of, may_take, may_open, opened, pumped_until, after_by, refused_after, outcome_of, connected, disconnected, after_driver_bytes, after_driver_took, connected_by, driver_bytes_by, driver_pump_outcome, driver_took_by, disconnected_by, fed_by, took_by, closed_by, accepted}
 use Rattle.nutcore.specs.Isolation.{client_of, ups_of, without_commands, kept_from_clients, LeavesOtherClients, LeavesOtherUpses, AClientTouchesNoOther, ADriverTouchesNoOther, ARefusedEventChangesNothing}
 use Rattle.nutcore.proofs.Progress.{Presence}
 use Rattle.nutcore.proofs.Found.{find_without_other}

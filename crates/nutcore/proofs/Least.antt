@@ -24,7 +24,7 @@ goes_on : (o : Option (List ℕ)) → is_none o ≡ false → (line : List ℕ) 
 goes_on None h = let k : true ≡ false = h in cc k
 goes_on (Some line) h = (line, refl)
 
-shortens : (s : ServerState) (c : ℕ) → pump_stops s c ≡ false → length (held_of (session c (after_line s c))) < length (held_of (session c s))
+pub shortens : (s : ServerState) (c : ℕ) → pump_stops s c ≡ false → length (held_of (session c (after_line s c))) < length (held_of (session c s))
 shortens s c h = let n = goes_on (next_line_for s c) h in line_shortens s c n.0 n.1
 
 none_by : (b : Bool) (bytes : List ℕ) → bytes ≡ [] → is_none (cond b None (first_line bytes)) ≡ true
@@ -75,7 +75,7 @@ pump_least s c =
     (l.0, record { there = l.1.there; before = l.1.before; pumped_is = ap (λ (z : ServerState). after_notice z c) (all_lines_are l.0 s c l.1.within l.1.there) })
 
 -- after an event of a client that wasn't refused the pump has stopped
-pump_stopped : (s : ServerState) (c : ℕ) → is_overlong (after_all_lines s c) c ≡ false → pump_stops (pumped s c) c ≡ true
+pub pump_stopped : (s : ServerState) (c : ℕ) → is_overlong (after_all_lines s c) c ≡ false → pump_stops (pumped s c) c ≡ true
 unfolding pumped after_all_lines
 pump_stopped s c short =
     let n : ℕ = length (held_of (session c s)) in

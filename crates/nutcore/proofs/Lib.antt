@@ -16,6 +16,8 @@ mod Runs
 mod DriverSteps
 mod Examples
 mod TableRows
+mod Named
+mod OrderRows
 mod Marks
 mod ShutdownMarks
 mod SessionMarks
@@ -23,7 +25,18 @@ mod LoginMarks
 mod CredentialMarks
 mod LoginCount
 mod Isolation
+mod KeptSound
 mod OrderFits
+mod SoundUps
 mod Sound
+mod Bounded
+mod Taking
 mod Listed
 mod DriverHistory
+mod DriverOrders
+mod OrdersByRight
+mod LawfulCommands
+mod Written
+mod TellingLines
+mod ReadsBack
+mod Addresses

@@ -1,48 +1,40 @@
 -- What a sound server lists comes once, in the stated order.
-use Rattle.std.proofs.Common.{◌≡◌, ◌∙◌, ℕ, zero, suc, List, [], ◌∷◌, Option, Some, None, Result, Ok, refl, sym, ap, subst, map}
-use Rattle.std.specs.Prelude.{slice_get}
-use Rattle.std.specs.Option.{ok_or, option_map, option_and_then}
-use Rattle.nutusers.specs.UpsList.{Ups, place_of}
-use Rattle.nutdriver.specs.Sound.{IsSoundTree}
-use Rattle.nutlisting.specs.Items.{ListingState, variable_listing, command_listing}
-use Rattle.nutanswer.specs.declared.command.Command.TheVariants.{ListVar, ListCmd}
+use Rattle.std.proofs.Common.{◌≡◌, ◌↔◌, ◌∙◌, ◌<◌, ℕ, Bool, true, false, List, [], ◌∷◌, Option, Some, None, Result, Ok, refl, sym, ap, subst, cond, arith, inl, inr}
+use Rattle.std.specs.Prelude.{codes, IfSome}
+use Rattle.std.specs.List.{Contains, filter, AllByRecursion}
+use Rattle.std.specs.List.Sorted.{IsStrictlySortedBy}
+use Rattle.std.specs.Map.{keys_of}
+use Rattle.std.specs.BTreeMap.{is_at}
+use Rattle.std.specs.Ordering.{is_eq}
+use Rattle.std.specs.declared.cmp.Ordering.{Ordering}
+use Rattle.std.specs.declared.cmp.Ordering.TheVariants.{Less, Equal, Greater}
+use Rattle.std.specs.Option.{ok_or, option_map}
+use Rattle.std.proofs.lemmas.Cmp.{nat_list_cmp_total, eq_by_cmp_equiv}
+use Rattle.std.proofs.lemmas.List.Elements.{Contains-push_cases, Contains-append_cases, Contains-append_left, Contains-append_right}
+use Rattle.std.proofs.lemmas.Map.Keys.{IsDistinct-from_sorted}
+use Rattle.std.proofs.lemmas.Map.Lookups.{exact_bytes}
+use Rattle.std.proofs.lemmas.Map.Views.{lookup-from_Contains, Contains-from_lookup, list_any-from_Contains, Contains-from_any, IfSome-lookup_from_All}
+use Rattle.nutmap.specs.Entries.{value_at}
+use Rattle.nutdriver.specs.Variable.{VariableState}
+use Rattle.nutdriver.specs.Tree.{TreeState, byte_order, variable_at}
+use Rattle.nutdriver.specs.Sound.{IsSoundTree, IsSoundVariable}
+use Rattle.nutlisting.specs.Items.{ListingState, variable_item, variable_listing, is_rw, rw_listing, command_listing, enum_listing, range_listing}
 use Rattle.nutanswer.specs.declared.err_word.ErrWord.{ErrWord}
-use Rattle.nutanswer.specs.declared.err_word.ErrWord.TheVariants.{UnknownUps}
-use Rattle.nutanswer.specs.View.{Seen, UpsSeen, Readiness, readiness, usable}
-use Rattle.nutanswer.specs.Checks.{◌>>=◌, ◌>>◌, KnownUps, known, ups_at, ups_named, unknown_ups, live, driver_not_connected, data_stale}
-use Rattle.nutanswer.specs.Answer.{Answer, listing, text_of_answer}
-use Rattle.nutcore.specs.Ups.{UpsState}
+use Rattle.nutanswer.specs.declared.err_word.ErrWord.TheVariants.{UnknownUps, VarNotSupported}
+use Rattle.nutanswer.specs.View.{Seen, UpsSeen, Readiness}
+use Rattle.nutanswer.specs.Checks.{◌>>=◌, ◌>>◌, KnownUps, ups_named, unknown_ups, live, driver_not_connected, data_stale, var_not_supported}
+use Rattle.nutanswer.specs.Answer.{Answer, listing, told, text_of_answer}
 use Rattle.nutcore.specs.Server.{ServerState}
 use Rattle.nutcore.specs.Reply.{seen, seen_ups, text_to}
 use Rattle.nutcore.specs.Sound.{Each, IsSoundUps, IsSound}
-use Rattle.nutcore.specs.Listed.{AsksOf, EachIsListedOnce}
-use Rattle.nutcore.proofs.Sound.{each_map}
+use Rattle.nutcore.specs.Listed.{AsksOf, EachIsListedOnce, WhatIsListedIsWhatIsHeld}
+use Rattle.nutcore.proofs.Named.{named_at}
+use Rattle.nutcore.proofs.SoundUps.{each_get, each_map}
 
 -- a UPS that is named is one of those seen
 module _ (P : UpsSeen → Type 0) where
-  at_place : (xs : List UpsSeen) (p : ℕ) (x : UpsSeen) → slice_get xs p ≡ Some x → Each P xs → P x
-  at_place [] p x e all = cc e
-  at_place (y ∷ xs) zero x e all = let same : y ≡ x = cc e in subst P same all.0
-  at_place (y ∷ xs) (suc p) x e all = at_place xs p x e all.1
-
-  module _ (s : Seen) (all : Each P s.upses) where
-    state_at : (name : List ℕ) (place : ℕ) (listed : Ups) (x : Option UpsSeen) (u : KnownUps) → slice_get s.upses place ≡ x → option_map (known name place listed) x ≡ Some u → P u.state
-    state_at name place listed None u f h = cc h
-    state_at name place listed (Some x) u f h =
-        let e : known name place listed x ≡ u = cc h in
-        subst (λ (k : KnownUps). P k.state) e (at_place s.upses place x f all)
-
-    known_at : (name : List ℕ) (place : ℕ) (listed : Option Ups) (u : KnownUps) → option_and_then (λ l. option_map (known name place l) (slice_get s.upses place)) listed ≡ Some u → P u.state
-    known_at name place None u h = cc h
-    known_at name place (Some listed) u h = state_at name place listed (slice_get s.upses place) u refl h
-
-    placed : (name : List ℕ) (place : Option ℕ) (u : KnownUps) → option_and_then (ups_at s name) place ≡ Some u → P u.state
-    placed name None u h = cc h
-    placed name (Some place) u h = known_at name place (slice_get s.list place) u h
-
-    pub of_named : (ups : Option (List ℕ)) (u : KnownUps) → ups_named s ups ≡ Some u → P u.state
-    of_named None u h = cc h
-    of_named (Some name) u h = placed name (place_of name s.list) u h
+  pub of_named : (s : Seen) → Each P s.upses → (ups : Option (List ℕ)) (u : KnownUps) → ups_named s ups ≡ Some u → P u.state
+  of_named s all ups u named = each_get P s.upses u.id.place u.state (named_at s ups u named) all
 
 abbrev has_sound_tree : UpsSeen → Type 0
 has_sound_tree x = IsSoundTree x.report.tree
@@ -51,22 +43,122 @@ tree_of : (s : ServerState) (ups : Option (List ℕ)) (u : KnownUps) → IsSound
 tree_of s ups u sound named =
     of_named has_sound_tree (seen s) (each_map (IsSoundUps s.moment) has_sound_tree seen_ups (λ x h. h.tree) s.upses sound.upses) ups u named
 
--- the row of a listing of a usable UPS
-listed : (s : ServerState) (ups : Option (List ℕ)) (u : KnownUps) (l : KnownUps → ListingState) → AsksOf s ups u
-    → (unknown_ups (seen s) ups >>= (λ k. live (seen s) k >> (let r : Result Answer ErrWord = Ok (listing (l k)) in r))) ≡ Ok (listing (l u))
-listed s ups u l asks =
-    ap (λ (o : Option KnownUps). ok_or o UnknownUps >>= (λ k. live (seen s) k >> (let r : Result Answer ErrWord = Ok (listing (l k)) in r))) asks.named
-    ∙ ap (λ (r : Readiness). let a : Result Answer ErrWord = Ok (listing (l u)) in (driver_not_connected r >> data_stale r) >> a) asks.ready
+-- the row of a usable UPS
+usable_row : (s : ServerState) (ups : Option (List ℕ)) (u : KnownUps) (row : KnownUps → Result Answer ErrWord) → AsksOf s ups u → (unknown_ups (seen s) ups >>= (λ k. live (seen s) k >> row k)) ≡ row u
+usable_row s ups u row asks = ap (λ (o : Option KnownUps). ok_or o UnknownUps >>= (λ k. live (seen s) k >> row k)) asks.named ∙ ap (λ (r : Readiness). (driver_not_connected r >> data_stale r) >> row u) asks.ready
+
+-- of a variable that it has
+variable_row : (s : ServerState) (ups : Option (List ℕ)) (u : KnownUps) (name : List ℕ) (o : Option VariableState) (row : KnownUps → List ℕ × VariableState → Result Answer ErrWord) → AsksOf s ups u → variable_at u.state.report.tree name ≡ o
+    → (unknown_ups (seen s) ups >>= (λ k. live (seen s) k >> (var_not_supported k (Some name) >>= (λ v. row k v)))) ≡ (ok_or (option_map (λ x. (name, x)) o) VarNotSupported >>= (λ v. row u v))
+variable_row s ups u name o row asks e =
+    usable_row s ups u (λ k. var_not_supported k (Some name) >>= (λ v. row k v)) asks ∙ ap (λ (x : Option VariableState). ok_or (option_map (λ y. (name, y)) x) VarNotSupported >>= (λ v. row u v)) e
+
+abbrev lists : ListingState → Result Answer ErrWord
+lists l = Ok (listing l)
 
 abbrev variables_of : KnownUps → ListingState
 variables_of u = variable_listing u.name u.state.fsd u.state.report.tree.variables
 
+abbrev rw_of : KnownUps → ListingState
+rw_of u = rw_listing u.name u.state.fsd u.state.report.tree.variables
+
 abbrev commands_of : KnownUps → ListingState
 commands_of u = command_listing u.name u.state.report.tree.commands
 
+abbrev enum_of : KnownUps → List ℕ × VariableState → ListingState
+enum_of u v = enum_listing u.name v.0 (Some v.1)
+
+abbrev range_of : KnownUps → List ℕ × VariableState → ListingState
+range_of u v = range_listing u.name v.0 (Some v.1)
+
+-- what is left of rising keys rises
+all_left : (p : List ℕ × VariableState → Bool) (P : List ℕ → Type 0) (es : List (List ℕ × VariableState)) → AllByRecursion P (keys_of es) → AllByRecursion P (keys_of (filter p es))
+all_left p P [] all = tt
+all_left p P (e ∷ es) all = by_test (p e) (all_left p P es all.1)
+  where
+    by_test : (b : Bool) → AllByRecursion P (keys_of (filter p es)) → AllByRecursion P (keys_of (cond b (e ∷ filter p es) (filter p es)))
+    by_test true rest = (all.0, rest)
+    by_test false rest = rest
+
+left_rise : (p : List ℕ × VariableState → Bool) (es : List (List ℕ × VariableState)) → IsStrictlySortedBy byte_order (keys_of es) → IsStrictlySortedBy byte_order (keys_of (filter p es))
+unfolding IsStrictlySortedBy
+left_rise p [] rise = tt
+left_rise p (e ∷ es) rise = by_test (p e) (left_rise p es rise.1)
+  where
+    by_test : (b : Bool) → IsStrictlySortedBy byte_order (keys_of (filter p es)) → IsStrictlySortedBy byte_order (keys_of (cond b (e ∷ filter p es) (filter p es)))
+    by_test true rest = (all_left p (λ k. byte_order e.0 k ≡ Less) es rise.0, rest)
+    by_test false rest = rest
+
+pub variable_sound : (tree : TreeState) (name : List ℕ) (variable : VariableState) → IsSoundTree tree → variable_at tree name ≡ Some variable → IsSoundVariable variable
+variable_sound tree name variable sound e = subst (λ (o : Option VariableState). IfSome o IsSoundVariable) e (IfSome-lookup_from_All IsSoundVariable (is_at (byte_order name)) tree.variables sound.variables)
+
 pub listed_once : EachIsListedOnce
 listed_once = record {
-  variables = λ s c line ups u sound read asks. (ap (text_to s c) read ∙ ap text_of_answer (listed s ups u variables_of asks), (tree_of s ups u sound asks.named).names_rise);
-  commands = λ s c line ups u sound read asks. (ap (text_to s c) read ∙ ap text_of_answer (listed s ups u commands_of asks), (tree_of s ups u sound asks.named).commands_rise);
+  variables = λ s c line ups u sound read asks. (ap (text_to s c) read ∙ ap text_of_answer (usable_row s ups u (λ k. lists (variables_of k)) asks), (tree_of s ups u sound asks.named).names_rise);
+  commands = λ s c line ups u sound read asks. (ap (text_to s c) read ∙ ap text_of_answer (usable_row s ups u (λ k. lists (commands_of k)) asks), (tree_of s ups u sound asks.named).commands_rise);
+  rw = λ s c line ups u sound read asks. (ap (text_to s c) read ∙ ap text_of_answer (usable_row s ups u (λ k. lists (rw_of k)) asks), record { rising = left_rise is_rw u.state.report.tree.variables (tree_of s ups u sound asks.named).names_rise.rising });
+  enum_values = λ s c line ups name u variable sound read asks there. (
+    ap (text_to s c) read ∙ ap text_of_answer (variable_row s ups u name (Some variable) (λ k v. lists (enum_of k v)) asks there),
+    (variable_sound u.state.report.tree name variable (tree_of s ups u sound asks.named) there).enum_values_once,
+  );
+  ranges = λ s c line ups name u variable sound read asks there. (
+    ap (text_to s c) read ∙ ap text_of_answer (variable_row s ups u name (Some variable) (λ k v. lists (range_of k v)) asks there),
+    (variable_sound u.state.report.tree name variable (tree_of s ups u sound asks.named) there).ranges_once,
+  );
+  upses = λ s c line sound read. (ap (text_to s c) read, sound.list.by_name);
   tree = tree_of;
+}
+
+-- what is held
+is_equal : (c : Ordering) → is_eq c ≡ true → c ≡ Equal
+is_equal Less h = cc h
+is_equal Equal h = refl
+is_equal Greater h = cc h
+
+one_name : (name other : List ℕ) → is_at (byte_order name) other ≡ true → name ≡ other
+one_name name other h = exact_bytes name other (is_equal (byte_order name other) h)
+
+held_by : (es : List (List ℕ × VariableState)) (name : List ℕ) (variable : VariableState) → IsStrictlySortedBy byte_order (keys_of es) → Contains es (name, variable) ↔ (value_at byte_order es name ≡ Some variable)
+held_by es name variable rise = (
+  λ h. lookup-from_Contains (eq_by_cmp_equiv nat_list_cmp_total) name variable es (IsDistinct-from_sorted byte_order (keys_of es) rise) h,
+  λ e. Contains-from_lookup one_name name variable es e,
+)
+
+module _ {A : Type 0} (p : A → Bool) where
+  only : (x y : A) → Contains (x ∷ []) y → x ≡ y
+  only x y h = elim (Contains-push_cases [] x y h) [ inl (i, few, e) ↦ absurd (omega (arith, few)) | inr e ↦ e ]
+
+  passing : (xs : List A) (y : A) → Contains (filter p xs) y → Contains xs y × (p y ≡ true)
+  passing [] y h = let few : h.0 < 0 = h.1 in absurd (omega (arith, few))
+  passing (x ∷ xs) y h = by_test (p x) refl h (passing xs y)
+    where
+      by_test : (b : Bool) → p x ≡ b → Contains (cond b (x ∷ filter p xs) (filter p xs)) y → (Contains (filter p xs) y → Contains xs y × (p y ≡ true)) → Contains (x ∷ xs) y × (p y ≡ true)
+      by_test true e k rest = elim (Contains-append_cases (x ∷ []) (filter p xs) y k) [
+        | inl one ↦ (Contains-append_left (x ∷ []) xs y one, ap p (sym (only x y one)) ∙ e)
+        | inr more ↦ (let r = rest more in (Contains-append_right (x ∷ []) xs y r.0, r.1))
+      ]
+      by_test false e k rest = let r = rest k in (Contains-append_right (x ∷ []) xs y r.0, r.1)
+
+  passed : (xs : List A) (y : A) → Contains xs y → p y ≡ true → Contains (filter p xs) y
+  passed [] y h e = let few : h.0 < 0 = h.1 in absurd (omega (arith, few))
+  passed (x ∷ xs) y h e = elim (Contains-append_cases (x ∷ []) xs y h) [ inl one ↦ by_first (p x) (ap p (only x y one) ∙ e) one | inr more ↦ by_rest (p x) (passed xs y more e) ]
+    where
+      by_first : (b : Bool) → b ≡ true → Contains (x ∷ []) y → Contains (cond b (x ∷ filter p xs) (filter p xs)) y
+      by_first true k one = Contains-append_left (x ∷ []) (filter p xs) y one
+      by_first false k one = cc k
+
+      by_rest : (b : Bool) → Contains (filter p xs) y → Contains (cond b (x ∷ filter p xs) (filter p xs)) y
+      by_rest true more = Contains-append_right (x ∷ []) (filter p xs) y more
+      by_rest false more = more
+
+pub listed_is_held : WhatIsListedIsWhatIsHeld
+listed_is_held = record {
+  variables = λ tree name variable sound. held_by tree.variables name variable sound.names_rise.rising;
+  rw = λ tree name variable sound. (
+    λ h. (let r = passing is_rw tree.variables (name, variable) h in ((held_by tree.variables name variable sound.names_rise.rising).0 r.0, r.1)),
+    λ (e, writable). passed is_rw tree.variables (name, variable) ((held_by tree.variables name variable sound.names_rise.rising).1 e) writable,
+  );
+  commands = λ tree name sound. (λ h. list_any-from_Contains (eq_by_cmp_equiv nat_list_cmp_total) name tree.commands h, λ e. Contains-from_any one_name name tree.commands e);
+  got = λ s c line ups name u variable read asks there. ap (text_to s c) read ∙ ap text_of_answer (variable_row s ups u name (Some variable) (λ k v. told (variable_item (codes "VAR") k.name k.state.fsd v)) asks there);
+  refused = λ s c line ups name u read asks there. ap (text_to s c) read ∙ ap text_of_answer (variable_row s ups u name None (λ k v. told (variable_item (codes "VAR") k.name k.state.fsd v)) asks there);
 }

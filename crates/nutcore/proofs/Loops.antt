@@ -1,7 +1,6 @@
 -- The pump, line by line.
 use Rattle.std.proofs.Common.{◌≡◌, ℕ, zero, suc, ◌+◌, ◌-◌, ◌<◌, ◌≤◌, true, List, Option, Some, None, refl, sym, ◌∙◌, ap, arith, length, zero-add}
 use Rattle.std.specs.Prelude.{is_none}
-use Rattle.nutcore.specs.Lines.{behind}
 use Rattle.nutcore.specs.Session.{SessionState, find, put}
 use Rattle.nutcore.specs.Server.{ServerState, session}
 use Rattle.nutanswer.specs.declared.reply.Change.{Change}

@@ -5,9 +5,7 @@ use Rattle.nutcore.specs.declared.event.Event.TheVariants.{DriverUp, DriverBytes
 use Rattle.nutcore.specs.declared.event.Outcome.{Outcome}
 use Rattle.nutcore.specs.Server.{ServerState, session}
 use Rattle.nutcore.specs.Pump.{next_line_for, after_line, after_line_of, after_lines, after_all_lines, after_notice, is_overlong, pumped, held_of}
-use Rattle.nutcore.specs.Step.{after, after_by, refused_after, may_take, with_input, without_output, pumped_until, opened, ticked, connected, disconnected, after_driver_bytes, after_driver_took}
-use Rattle.nutcore.specs.Server.{with_ups_changed}
-use Rattle.nutcore.specs.Session.{without}
+use Rattle.nutcore.specs.Step.{after, after_by, refused_after, may_take, with_input, without_output, pumped_until}
 use Rattle.nutcore.specs.Run.{Run}
 use Rattle.nutcore.specs.History.{Execution, of_line, of_notice, next_execution, lines_executed, notice, pump_executions, executions_until, executions_by, executions_in_event, executions}
 use Rattle.nutcore.specs.ByRight.{IsAmong}

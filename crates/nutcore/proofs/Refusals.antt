@@ -2,7 +2,6 @@
 use Rattle.std.proofs.Common.{◌≡◌, ℕ, Bool, true, false, List, [], ◌∷◌, Option, Some, None, Result, Ok, Err, refl, sym, ◌∙◌, ap}
 use Rattle.std.specs.Prelude.{codes, nat_eq}
 use Rattle.std.specs.List.{starts_with}
-use Rattle.std.specs.Str.{bytes_eq}
 use Rattle.std.proofs.lemmas.Slice.Eq.{bytes_eq-Decides}
 use Rattle.nutwords.specs.Frame.{frame, line_of}
 use Rattle.nutanswer.specs.declared.command.Command.{Command}
@@ -25,8 +24,7 @@ use Rattle.nutcore.specs.Pump.{answered as answered_line}
 use Rattle.nutcore.proofs.Pumping.{after_line_is, line_done}
 use Rattle.nutanswer.specs.declared.reply.Change.{Change}
 use Rattle.nutanswer.specs.declared.reply.Change.TheVariants.{Nothing}
-use Rattle.nutanswer.specs.Laws.{is_ok_line}
-use Rattle.nutanswer.proofs.Changes.{only_ok}
+use Rattle.nutanswer.specs.Laws.{is_ok_line, OnlyOkChanges}
 use Rattle.nutcore.specs.Headline.{AListingIsWhatIsHeld}
 
 framed : (s : ServerState) (c : ℕ) (line : List ℕ) (command : Command) (l : ListingState) → read_command line ≡ Ok (Some command) → answer_to (seen s) (asker c s) command ≡ Ok (listing l) → (reply s c line).text ≡ frame l.kind l.names l.items
@@ -62,16 +60,16 @@ ok_text (Ok (listing l)) ok e = cc ok
 ok_text (Ok (listing_of_clients l)) ok e = cc ok
 
 -- so what begins with ERR changes nothing
-pub refused_change : (s : ServerState) (c : ℕ) (r : Result (Option Command) ErrWord) → starts_with nat_eq (text_to s c r) (codes "ERR") ≡ true → change_by s c r ≡ Nothing
-refused_change s c (Err word) e = refl
-refused_change s c (Ok None) e = refl
-refused_change s c (Ok (Some command)) e = by_ok (is_ok_line (answer_to (seen s) (asker c s) command)) refl
+refused_change : OnlyOkChanges → (s : ServerState) (c : ℕ) (r : Result (Option Command) ErrWord) → starts_with nat_eq (text_to s c r) (codes "ERR") ≡ true → change_by s c r ≡ Nothing
+refused_change only_ok s c (Err word) e = refl
+refused_change only_ok s c (Ok None) e = refl
+refused_change only_ok s c (Ok (Some command)) e = by_ok (is_ok_line (answer_to (seen s) (asker c s) command)) refl
   where
     by_ok : (b : Bool) → is_ok_line (answer_to (seen s) (asker c s) command) ≡ b → change_of_answer (answer_to (seen s) (asker c s) command) ≡ Nothing
     by_ok true ok = absurd (ok_text (answer_to (seen s) (asker c s) command) ok e)
     by_ok false not_ok = only_ok (seen s) (asker c s) command not_ok
 
-pub refused_line : (s : ServerState) (c : ℕ) (line : List ℕ) (x : SessionState) → session c s ≡ Some x → next_line_for s c ≡ Some line → starts_with nat_eq (reply s c line).text (codes "ERR") ≡ true → after_line s c ≡ with_session s (answered_line line (reply s c line).text x)
-refused_line s c line x found next refused =
+pub refused_line : OnlyOkChanges → (s : ServerState) (c : ℕ) (line : List ℕ) (x : SessionState) → session c s ≡ Some x → next_line_for s c ≡ Some line → starts_with nat_eq (reply s c line).text (codes "ERR") ≡ true → after_line s c ≡ with_session s (answered_line line (reply s c line).text x)
+refused_line only_ok s c line x found next refused =
     after_line_is s c line x found next
-    ∙ ap (λ (change : Change). line_done s change (changed_session change (answered_line line (reply s c line).text x))) (refused_change s c (read_command line) refused)
+    ∙ ap (λ (change : Change). line_done s change (changed_session change (answered_line line (reply s c line).text x))) (refused_change only_ok s c (read_command line) refused)

@@ -1,6 +1,6 @@
 -- What the server's methods do, over plain states.
 use Rattle.std.proofs.Common.{◌≡◌, ℕ, ◌+◌, ◌<◌, ◌≤◌, Bool, true, false, List, [], ◌∷◌, ◌++◌, Option, Some, None, Result, Ok, Err, refl, sym, ◌∙◌, ap, subst, arith, length, get_or, set, take, drop, length-take}
-use Rattle.std.specs.Prelude.{IsTrue, OnOk, OnErr, is_err, is_some, is_none}
+use Rattle.std.specs.Prelude.{IsTrue, OnOk, OnErr, MatchOption, is_err, is_some, is_none}
 use Rattle.std.proofs.lemmas.Bool.{le-leb, lt-leb, leb-true, cond-true, cond-false}
 use Rattle.std.proofs.lemmas.Bool.Decides.{nat_tests}
 use Rattle.nutlisting.specs.declared.ring.TheConstants.{RING_LIMIT}
@@ -60,6 +60,22 @@ next_of_found s c x line found h = ap next_line_of (sym found) ∙ h
 pub goes : (s : ServerState) (c : ℕ) (x : SessionState) → session c s ≡ Some x → is_some (next_line_for s c) ≡ true → is_some (next_line x) ≡ true
 goes s c x found h = ap (λ (o : Option SessionState). is_some (next_line_of o)) (sym found) ∙ h
 
+-- one is there where the other is
+pub some_alike : {A B : Type 0} (r : Option A) (o : Option B) (read : A → B) → MatchOption r (o ≡ None) (λ a. o ≡ Some (read a)) → is_some r ≡ is_some o
+some_alike None o read h = ap is_some (sym h)
+some_alike (Some a) o read h = ap is_some (sym h)
+
+pub some_read : {A B : Type 0} (r : Option A) (a : A) (o : Option B) (read : A → B) → r ≡ Some a → MatchOption r (o ≡ None) (λ x. o ≡ Some (read x)) → o ≡ Some (read a)
+some_read {A = A} r a o read e h = subst (λ (z : Option A). MatchOption z (o ≡ None) (λ x. o ≡ Some (read x))) e h
+
+pub some_there : {A : Type 0} (o : Option A) → is_some o ≡ true → (a : A) × (o ≡ Some a)
+some_there None h = cc h
+some_there (Some a) h = (a, refl)
+
+pub none_there : {A : Type 0} (o : Option A) → is_some o ≡ false → o ≡ None
+none_there None h = refl
+none_there (Some a) h = cc h
+
 -- what the code leaves is what the session's next line leaves of the sessions
 pub answered_is : (s : ServerState) (c i : ℕ) (text : List ℕ) (change : Change) (x y : SessionState) → IsAt c i s.sessions → session c s ≡ Some x → y.id ≡ x.id →
     ((line : List ℕ) → next_line x ≡ Some line → y ≡ changed_session change (answered line text x)) →
@@ -94,7 +110,7 @@ at_line s c i line h next =
     subst (λ (z : ServerState). IsAt c i z.sessions) (sym (after_line_is s c line n.asking n.found next)) (at_put c i (session_after s c line n.asking) s.sessions h)
 
 -- the notice, as the code writes it
-notice_there : (s : ServerState) (c : ℕ) (x : SessionState) → session c s ≡ Some x → is_overlong_of (Some x) ≡ true → after_notice s c ≡ with_session s (notified x)
+pub notice_there : (s : ServerState) (c : ℕ) (x : SessionState) → session c s ≡ Some x → is_overlong_of (Some x) ≡ true → after_notice s c ≡ with_session s (notified x)
 unfolding after_notice after_notice_of
 notice_there s c x e over = ap (after_notice_of s) e ∙ cond-true _ _ _ over
 

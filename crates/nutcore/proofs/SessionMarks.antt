@@ -1,24 +1,19 @@
 -- What only lines set of a session: a name, a password, a login.
-use Rattle.std.proofs.Common.{◌≡◌, ◌≢◌, ℕ, ◌+◌, Bool, true, false, List, [], ◌∷◌, ◌++◌, Option, Some, None, Result, Ok, Err, refl, sym, ◌∙◌, ap, cond, eqb, inl, inr, drop, ◌⊎◌}
+use Rattle.std.proofs.Common.{◌≡◌, ℕ, Bool, true, false, List, [], ◌∷◌, ◌++◌, Option, Some, None, refl, sym, ◌∙◌, ap, cond, eqb, inl, inr, drop, ◌⊎◌}
 use Rattle.std.specs.Option.{option_map_or}
 use Rattle.std.proofs.lemmas.Bool.{eqb-true, eqb-false}
-use Rattle.nutanswer.specs.declared.command.Command.{Command}
-use Rattle.nutanswer.specs.declared.command.Command.TheVariants.{Login}
-use Rattle.nutanswer.specs.declared.err_word.ErrWord.{ErrWord}
 use Rattle.nutanswer.specs.declared.reply.Change.{Change}
-use Rattle.nutanswer.specs.declared.reply.Change.TheVariants as changes
-use Rattle.nutanswer.specs.Command.{read_command}
 use Rattle.nutcore.specs.declared.event.Event.{Event}
 use Rattle.nutcore.specs.declared.event.Event.TheVariants.{DriverUp, DriverBytes, DriverTook, DriverDown, Tick, Open, Feed, Took, Close}
 use Rattle.nutcore.specs.Session.{SessionState, find, put, without, new_session}
 use Rattle.nutcore.specs.Server.{ServerState, session, with_session}
-use Rattle.nutcore.specs.Reply.{seen, asker, reply, changed_session, change_by, text_to}
+use Rattle.nutcore.specs.Reply.{reply, changed_session}
 use Rattle.nutcore.specs.Pump.{next_line_for, answered, after_line, after_notice, after_notice_of, is_overlong_of, notified}
 use Rattle.nutcore.specs.Step.{after_by, accepted_bytes, with_input, with_input_of, without_output, without_output_of, opened, may_open, ticked}
 use Rattle.nutcore.specs.History.{Execution, of_line, of_notice}
-use Rattle.nutcore.proofs.Found.{find_id, find_put, find_put_other, find_without, find_without_other, find_last, find_last_other}
+use Rattle.nutcore.proofs.Found.{find_id, find_put, find_put_other, find_without, find_without_other}
 use Rattle.nutcore.proofs.Pumping.{is_next, after_line_is, change_at, session_after, session_after_id}
-use Rattle.nutcore.proofs.Marks.{IsSetByLines, IsPlain, run_sets, no_mark}
+use Rattle.nutcore.proofs.Marks.{IsSetByLines, IsPlain, no_mark}
 
 -- a mark of a session that only a change sets, which this then holds of
 pub record IsSessionMark (mark : SessionState → Bool) (IsSet : Change → Type 0) : Type 0 where

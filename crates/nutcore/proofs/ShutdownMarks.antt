@@ -1,7 +1,7 @@
 -- A forced shutdown is set by lines alone, and by those that have the right.
-use Rattle.std.proofs.Common.{◌≡◌, ◌≢◌, ℕ, zero, suc, Bool, true, false, List, [], ◌∷◌, Option, Some, None, Result, Ok, Err, refl, sym, ◌∙◌, ap, cond, eqb, map, length, arith}
+use Rattle.std.proofs.Common.{◌≡◌, ◌≢◌, ℕ, zero, suc, Bool, true, false, List, [], ◌∷◌, Option, Some, None, Result, Ok, Err, refl, sym, ◌∙◌, ap, cond, eqb, map, length}
 use Rattle.std.specs.Prelude.{slice_get, codes}
-use Rattle.std.specs.Option.{option_map_or, option_map}
+use Rattle.std.specs.Option.{option_map_or}
 use Rattle.std.proofs.lemmas.Bool.{eqb-true, eqb-false}
 use Rattle.nutusers.specs.declared.rights.Right.TheVariants as rights
 use Rattle.nutusers.specs.declared.ups_list.UpsId.{UpsId}
@@ -19,16 +19,16 @@ use Rattle.nutcore.specs.declared.event.Event.{Event}
 use Rattle.nutcore.specs.declared.event.Event.TheVariants.{DriverUp, DriverBytes, DriverTook, DriverDown, Tick, Open, Feed, Took, Close}
 use Rattle.nutcore.specs.Lines.{behind}
 use Rattle.nutcore.specs.Session.{SessionState}
-use Rattle.nutcore.specs.Ups.{UpsState, with_fsd, with_order, after_connecting, after_loss, after_outcome, after_text, after_driver_line, after_driver_line_of, after_driver_lines, after_all_driver_lines, next_driver_line, after_tick, ping_is_due, with_bytes, is_driver_overlong}
-use Rattle.nutcore.specs.Server.{ServerState, session, with_session, ups_at, changed_at, with_ups_changed}
+use Rattle.nutcore.specs.Ups.{UpsState, with_fsd, with_order, after_connecting, after_loss, after_outcome, after_driver_line, after_driver_line_of, after_driver_lines, after_all_driver_lines, next_driver_line, ping_is_due, with_bytes, is_driver_overlong}
+use Rattle.nutcore.specs.Server.{ServerState, session, with_session, changed_at}
 use Rattle.nutcore.specs.Reply.{seen, asker, changed_upses, change_by, text_to}
 use Rattle.nutcore.specs.Pump.{next_line_for, after_line, after_notice, after_notice_of, is_overlong_of, notified}
-use Rattle.nutcore.specs.Step.{after_by, with_input, with_input_of, without_output, without_output_of, opened, may_open, ticked, connected, disconnected, after_driver_pump, after_driver_bytes, after_driver_took, driver_may_take}
-use Rattle.nutcore.specs.History.{Execution, of_line}
+use Rattle.nutcore.specs.Step.{after_by, with_input, with_input_of, without_output, without_output_of, opened, may_open, ticked, connected, disconnected, after_driver_bytes, after_driver_took, driver_may_take}
+use Rattle.nutcore.specs.History.{of_line}
 use Rattle.nutcore.specs.ByRight.{IsByRight, SetsShutdownByRight, is_shut_down, AForcedShutdownIsSetByRight}
 use Rattle.nutcore.proofs.Pumping.{is_next, after_line_is, change_at}
 use Rattle.nutcore.proofs.TableRows.{shutdown_row}
-use Rattle.nutcore.proofs.Marks.{IsSetByLines, IsPlain, run_sets, no_mark}
+use Rattle.nutcore.proofs.Marks.{IsPlain, run_sets, no_mark}
 
 -- the forced shutdown of the UPS at a place
 abbrev fsd_at : ℕ → List UpsState → Bool

@@ -1,6 +1,6 @@
 -- The rows of the table of answers that change something: FSD and LOGIN, where their checks hold.
-use Rattle.std.proofs.Common.{◌≡◌, ℕ, Bool, true, false, List, [], ◌∷◌, Option, Some, None, Result, Ok, Err, refl, sym, ◌∙◌, ap, cond}
-use Rattle.std.specs.Prelude.{codes, is_none}
+use Rattle.std.proofs.Common.{◌≡◌, ℕ, Bool, true, false, List, [], ◌∷◌, Option, Some, None, Result, Ok, Err, refl, ◌∙◌, ap}
+use Rattle.std.specs.Prelude.{codes}
 use Rattle.std.specs.Option.{ok_or}
 use Rattle.nutwords.specs.Frame.{line_of}
 use Rattle.nutdriver.specs.Variable.{VariableState}
@@ -11,11 +11,11 @@ use Rattle.nutusers.specs.declared.ups_list.UpsId.{UpsId}
 use Rattle.nutanswer.specs.declared.command.Command.{Command}
 use Rattle.nutanswer.specs.declared.command.Command.TheVariants.{Username, Password, Login, Logout, Primary, Fsd, SetVar, InstCmd, GetVar, GetType, GetDesc, GetCmdDesc, GetUpsDesc, GetNumLogins, ListUps, ListVar, ListRw, ListCmd, ListEnum, ListRange, ListClient, Help, Ver, NetVer, ProtVer, StartTls}
 use Rattle.nutanswer.specs.declared.err_word.ErrWord.{ErrWord}
-use Rattle.nutanswer.specs.declared.err_word.ErrWord.TheVariants.{AccessDenied, UnknownUps, UsernameRequired, PasswordRequired, AlreadyLoggedIn}
+use Rattle.nutanswer.specs.declared.err_word.ErrWord.TheVariants.{AccessDenied, UnknownUps, UsernameRequired, PasswordRequired}
 use Rattle.nutanswer.specs.declared.reply.Change.{Change}
 use Rattle.nutanswer.specs.declared.reply.Change.TheVariants as changes
 use Rattle.nutanswer.specs.View.{Seen, AskerSeen}
-use Rattle.nutanswer.specs.Checks.{◌>>=◌, ◌>>◌, unless, KnownUps, ups_named, unknown_ups, live, user, access_denied, var_not_supported, var_not_lawful, cmd_not_lawful, cmd_not_supported, already_set_username, already_set_password, already_logged_in, invalid_argument, readonly, too_long, too_long_of_command, invalid_value, set_failed, instcmd_failed}
+use Rattle.nutanswer.specs.Checks.{◌>>=◌, ◌>>◌, unless, KnownUps, ups_named, unknown_ups, live, user, access_denied, var_not_supported, var_not_lawful, cmd_not_lawful, cmd_not_supported, already_set_username, already_set_password, already_logged_in, readonly, too_long, too_long_of_command, invalid_value, set_failed, instcmd_failed}
 use Rattle.nutanswer.specs.Orders.{instcmd_right, set_line, instcmd_line, order}
 use Rattle.nutanswer.specs.Answer.{Answer, one_line, answer_to, change_of_answer, text_of_answer}
 
@@ -27,11 +27,11 @@ pub record HasRight (s : Seen) (asker : AskerSeen) (right : Right) : Type 0 wher
   pub password_given : asker.password ≡ Some password
   pub granted : may s.users name password right ≡ true
 
-unless_ok : (b : Bool) (word : ErrWord) → unless b word ≡ Ok tt → b ≡ true
+pub unless_ok : (b : Bool) (word : ErrWord) → unless b word ≡ Ok tt → b ≡ true
 unless_ok true word e = refl
 unless_ok false word e = cc e
 
-has_right : (s : Seen) (asker : AskerSeen) (right : Right) → user s asker right ≡ Ok tt → HasRight s asker right
+pub has_right : (s : Seen) (asker : AskerSeen) (right : Right) → user s asker right ≡ Ok tt → HasRight s asker right
 has_right s asker right e = by_given asker.username asker.password refl refl e
   where
     by_given : (name password : Option (List ℕ)) → asker.username ≡ name → asker.password ≡ password
@@ -70,7 +70,46 @@ module _ (P : Change → Type 0) (no : P changes.Nothing) where
       P (change_of_answer (unknown_ups s ups >>= (λ u. live s u >> (var_not_supported u name >>= (λ v. f u v)))))
   of_variable s ups name f h = found (unknown_ups s ups) _ (λ u. held (live s u) _ (found (var_not_supported u name) _ (λ v. h u v)))
 
--- every row, but that those of LOGIN and FSD are given
+-- every row, but that those of LOGIN, FSD, SET VAR and INSTCMD are given
+module _ (s : Seen) (asker : AskerSeen) (P : Command → Change → Type 0) (no : (command : Command) → P command changes.Nothing)
+    (name : (given : List ℕ) → already_set_username asker ≡ Ok tt → P (Username (Some given)) (changes.Username given))
+    (password : (given : List ℕ) → already_set_password asker ≡ Ok tt → P (Password (Some given)) (changes.Password given))
+    (ending : P Logout changes.Ending)
+    (login : (ups : Option (List ℕ)) → P (Login ups) (change_of_answer (answer_to s asker (Login ups))))
+    (fsd : (ups : Option (List ℕ)) → P (Fsd ups) (change_of_answer (answer_to s asker (Fsd ups))))
+    (set_var : (ups v word : Option (List ℕ)) → P (SetVar ups v word) (change_of_answer (answer_to s asker (SetVar ups v word))))
+    (instcmd : (ups v : Option (List ℕ)) (word : Option (Option (List ℕ))) → P (InstCmd ups v word) (change_of_answer (answer_to s asker (InstCmd ups v word)))) where
+  pub every_row : (command : Command) → P command (change_of_answer (answer_to s asker command))
+  every_row (Username None) = held (P (Username None)) (no _) (already_set_username asker) _ (no _)
+  every_row (Username (Some given)) = once (P (Username (Some given))) (no _) (already_set_username asker) _ refl (λ free. name given free)
+  every_row (Password None) = held (P (Password None)) (no _) (already_set_password asker) _ (no _)
+  every_row (Password (Some given)) = once (P (Password (Some given))) (no _) (already_set_password asker) _ refl (λ free. password given free)
+  every_row (Login ups) = login ups
+  every_row Logout = ending
+  every_row (Primary ups) = held (P (Primary ups)) (no _) (user s asker rights.Primary) _ (found (P (Primary ups)) (no _) (unknown_ups s ups) _ (λ u. no _))
+  every_row (Fsd ups) = fsd ups
+  every_row (SetVar ups v word) = set_var ups v word
+  every_row (InstCmd ups v word) = instcmd ups v word
+  every_row (GetVar ups v) = of_variable (P (GetVar ups v)) (no _) s ups v _ (λ u x. no _)
+  every_row (GetType ups v) = of_variable (P (GetType ups v)) (no _) s ups v _ (λ u x. no _)
+  every_row (ListEnum ups v) = of_variable (P (ListEnum ups v)) (no _) s ups v _ (λ u x. no _)
+  every_row (ListRange ups v) = of_variable (P (ListRange ups v)) (no _) s ups v _ (λ u x. no _)
+  every_row (GetDesc ups v) = found (P (GetDesc ups v)) (no _) (unknown_ups s ups) _ (λ u. found (P (GetDesc ups v)) (no _) (var_not_lawful v) _ (λ n. no _))
+  every_row (GetCmdDesc ups v) = found (P (GetCmdDesc ups v)) (no _) (unknown_ups s ups) _ (λ u. found (P (GetCmdDesc ups v)) (no _) (cmd_not_lawful v) _ (λ n. no _))
+  every_row (GetUpsDesc ups) = found (P (GetUpsDesc ups)) (no _) (unknown_ups s ups) _ (λ u. no _)
+  every_row (GetNumLogins ups) = found (P (GetNumLogins ups)) (no _) (unknown_ups s ups) _ (λ u. no _)
+  every_row (ListClient ups) = found (P (ListClient ups)) (no _) (unknown_ups s ups) _ (λ u. no _)
+  every_row (ListVar ups) = found (P (ListVar ups)) (no _) (unknown_ups s ups) _ (λ u. held (P (ListVar ups)) (no _) (live s u) _ (no _))
+  every_row (ListRw ups) = found (P (ListRw ups)) (no _) (unknown_ups s ups) _ (λ u. held (P (ListRw ups)) (no _) (live s u) _ (no _))
+  every_row (ListCmd ups) = found (P (ListCmd ups)) (no _) (unknown_ups s ups) _ (λ u. held (P (ListCmd ups)) (no _) (live s u) _ (no _))
+  every_row ListUps = no _
+  every_row Help = no _
+  every_row Ver = no _
+  every_row NetVer = no _
+  every_row ProtVer = no _
+  every_row StartTls = no _
+
+-- where an order is given whatever the command, those two are
 module _ (s : Seen) (asker : AskerSeen) (P : Command → Change → Type 0) (no : (command : Command) → P command changes.Nothing)
     (name : (given : List ℕ) → already_set_username asker ≡ Ok tt → P (Username (Some given)) (changes.Username given))
     (password : (given : List ℕ) → already_set_password asker ≡ Ok tt → P (Password (Some given)) (changes.Password given))
@@ -78,42 +117,21 @@ module _ (s : Seen) (asker : AskerSeen) (P : Command → Change → Type 0) (no 
     (login : (ups : Option (List ℕ)) → P (Login ups) (change_of_answer (answer_to s asker (Login ups))))
     (fsd : (ups : Option (List ℕ)) → P (Fsd ups) (change_of_answer (answer_to s asker (Fsd ups))))
     (ordered : (u : UpsId) (line : List ℕ) (command : Command) → P command (order u line)) where
-  rows : (command : Command) → P command (change_of_answer (answer_to s asker command))
-  rows (Username None) = held (P (Username None)) (no _) (already_set_username asker) _ (no _)
-  rows (Username (Some given)) = once (P (Username (Some given))) (no _) (already_set_username asker) _ refl (λ free. name given free)
-  rows (Password None) = held (P (Password None)) (no _) (already_set_password asker) _ (no _)
-  rows (Password (Some given)) = once (P (Password (Some given))) (no _) (already_set_password asker) _ refl (λ free. password given free)
-  rows (Login ups) = login ups
-  rows Logout = ending
-  rows (Primary ups) = held (P (Primary ups)) (no _) (user s asker rights.Primary) _ (found (P (Primary ups)) (no _) (unknown_ups s ups) _ (λ u. no _))
-  rows (Fsd ups) = fsd ups
-  rows (SetVar ups v word) =
+  set_row : (ups v word : Option (List ℕ)) → P (SetVar ups v word) (change_of_answer (answer_to s asker (SetVar ups v word)))
+  set_row ups v word =
       let Q : Change → Type 0 = P (SetVar ups v word) in
       held Q (no _) (user s asker rights.Set) _ (of_variable Q (no _) s ups v _
       (λ u x. held Q (no _) (readonly x.1) _ (found Q (no _) (too_long x.1 word) _ (λ value. held Q (no _) (invalid_value x.1 value) _
       (held Q (no _) (set_failed u (set_line x.0 value)) _ (ordered u.id (set_line x.0 value) _))))))
-  rows (InstCmd ups v word) =
+
+  command_row : (ups v : Option (List ℕ)) (word : Option (Option (List ℕ))) → P (InstCmd ups v word) (change_of_answer (answer_to s asker (InstCmd ups v word)))
+  command_row ups v word =
       let Q : Change → Type 0 = P (InstCmd ups v word) in
       held Q (no _) (user s asker (instcmd_right v)) _ (found Q (no _) (unknown_ups s ups) _ (λ u. held Q (no _) (live s u) _ (found Q (no _) (cmd_not_supported u v) _
       (λ c. found Q (no _) (too_long_of_command word) _ (λ value. held Q (no _) (instcmd_failed u (instcmd_line c value)) _ (ordered u.id (instcmd_line c value) _))))))
-  rows (GetVar ups v) = of_variable (P (GetVar ups v)) (no _) s ups v _ (λ u x. no _)
-  rows (GetType ups v) = of_variable (P (GetType ups v)) (no _) s ups v _ (λ u x. no _)
-  rows (ListEnum ups v) = of_variable (P (ListEnum ups v)) (no _) s ups v _ (λ u x. no _)
-  rows (ListRange ups v) = of_variable (P (ListRange ups v)) (no _) s ups v _ (λ u x. no _)
-  rows (GetDesc ups v) = found (P (GetDesc ups v)) (no _) (unknown_ups s ups) _ (λ u. found (P (GetDesc ups v)) (no _) (var_not_lawful v) _ (λ n. no _))
-  rows (GetCmdDesc ups v) = found (P (GetCmdDesc ups v)) (no _) (unknown_ups s ups) _ (λ u. found (P (GetCmdDesc ups v)) (no _) (cmd_not_lawful v) _ (λ n. no _))
-  rows (GetUpsDesc ups) = found (P (GetUpsDesc ups)) (no _) (unknown_ups s ups) _ (λ u. no _)
-  rows (GetNumLogins ups) = found (P (GetNumLogins ups)) (no _) (unknown_ups s ups) _ (λ u. no _)
-  rows (ListClient ups) = found (P (ListClient ups)) (no _) (unknown_ups s ups) _ (λ u. no _)
-  rows (ListVar ups) = found (P (ListVar ups)) (no _) (unknown_ups s ups) _ (λ u. held (P (ListVar ups)) (no _) (live s u) _ (no _))
-  rows (ListRw ups) = found (P (ListRw ups)) (no _) (unknown_ups s ups) _ (λ u. held (P (ListRw ups)) (no _) (live s u) _ (no _))
-  rows (ListCmd ups) = found (P (ListCmd ups)) (no _) (unknown_ups s ups) _ (λ u. held (P (ListCmd ups)) (no _) (live s u) _ (no _))
-  rows ListUps = no _
-  rows Help = no _
-  rows Ver = no _
-  rows NetVer = no _
-  rows ProtVer = no _
-  rows StartTls = no _
+
+  rows : (command : Command) → P command (change_of_answer (answer_to s asker command))
+  rows command = every_row s asker P no name password ending login fsd set_row command_row command
 
 -- FSD
 fsd_row : (s : Seen) (asker : AskerSeen) (u : UpsId) (ups : Option (List ℕ)) → change_of_answer (answer_to s asker (Fsd ups)) ≡ changes.Fsd u → IsRow s asker Fsd rights.Fsd (codes "OK" ∷ codes "FSD-SET" ∷ []) u (Fsd ups)

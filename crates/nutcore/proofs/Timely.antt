@@ -1,5 +1,5 @@
 -- To an event there is one answer but for being out of memory, and one next server.
-use Rattle.std.proofs.Common.{◌≡◌, sym, ◌∙◌, inl, inr}
+use Rattle.std.proofs.Common.{sym, ◌∙◌, inl, inr}
 use Rattle.nutcore.specs.declared.event.Event.{Event}
 use Rattle.nutcore.specs.Server.{ServerState}
 use Rattle.nutcore.specs.Headline.{IsAFunction}

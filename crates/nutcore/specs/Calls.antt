@@ -38,6 +38,10 @@ abbrev pub ReadsUps : {A : Type 0} → (UpsState → A) → Option UpsState → 
 ReadsUps read None answer = answer ≡ Err NoSuchUps
 ReadsUps read (Some x) answer = answer ≡ Ok (read x)
 
+-- A driver is connected to the UPS.
+abbrev pub is_connected : UpsState → Bool
+is_connected x = x.report.connected
+
 -- What the UPS's driver is owed.
 abbrev pub owed_to : UpsState → List ℕ
 owed_to x = x.owed

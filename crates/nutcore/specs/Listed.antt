@@ -1,12 +1,17 @@
 -- What a sound server lists: each once, in the stated order (RFC 9271: LIST).
-use Rattle.std.specs.Prelude.{◌≡◌, ℕ, List, [], ◌∷◌, Option, Some, Ok, codes, map}
+use Rattle.std.specs.Prelude.{◌≡◌, ◌↔◌, ℕ, true, List, [], ◌∷◌, Option, Some, None, Ok, codes, map}
+use Rattle.std.specs.List.{Contains, filter}
 use Rattle.std.specs.List.Sorted.{IsStrictlySortedBy}
-use Rattle.nutwords.specs.Frame.{frame}
-use Rattle.nutdriver.specs.Tree.{byte_order}
+use Rattle.nutwords.specs.Frame.{frame, line_of}
+use Rattle.nutusers.specs.UpsList.{AreByName}
+use Rattle.nutdriver.specs.Variable.{VariableState}
+use Rattle.nutdriver.specs.Tree.{TreeState, byte_order, variable_at, has_command}
 use Rattle.nutmap.specs.Entries.{HasRisingKeys}
-use Rattle.nutdriver.specs.Sound.{IsSoundTree}
-use Rattle.nutlisting.specs.Items.{variable_item, command_item}
-use Rattle.nutanswer.specs.declared.command.Command.TheVariants.{ListVar, ListCmd}
+use Rattle.nutdriver.specs.Sound.{IsSoundTree, HasNoRepeats}
+use Rattle.nutlisting.specs.Items.{ups_item, variable_item, is_rw, command_item, enum_item, range_item}
+use Rattle.nutanswer.specs.declared.command.Command.TheVariants.{GetVar, ListUps, ListVar, ListRw, ListCmd, ListEnum, ListRange}
+use Rattle.nutanswer.specs.declared.err_word.ErrWord.TheVariants.{VarNotSupported}
+use Rattle.nutanswer.specs.ErrWord.{error_line}
 use Rattle.nutanswer.specs.Command.{read_command}
 use Rattle.nutanswer.specs.View.{readiness, usable}
 use Rattle.nutanswer.specs.Checks.{KnownUps, ups_named}
@@ -25,5 +30,28 @@ pub record EachIsListedOnce : Type 0 where
       → ((reply s c line).text ≡ frame (codes "VAR") (known.name ∷ []) (map (variable_item (codes "VAR") known.name known.state.fsd) known.state.report.tree.variables)) × HasRisingKeys byte_order known.state.report.tree.variables
   pub commands : (s : ServerState) (c : ℕ) (line : List ℕ) (ups : Option (List ℕ)) (known : KnownUps) → IsSound s → read_command line ≡ Ok (Some (ListCmd ups)) → AsksOf s ups known
       → ((reply s c line).text ≡ frame (codes "CMD") (known.name ∷ []) (map (command_item known.name) known.state.report.tree.commands)) × IsStrictlySortedBy byte_order known.state.report.tree.commands
+  pub rw : (s : ServerState) (c : ℕ) (line : List ℕ) (ups : Option (List ℕ)) (known : KnownUps) → IsSound s → read_command line ≡ Ok (Some (ListRw ups)) → AsksOf s ups known
+      → ((reply s c line).text ≡ frame (codes "RW") (known.name ∷ []) (map (variable_item (codes "RW") known.name known.state.fsd) (filter is_rw known.state.report.tree.variables)))
+      × HasRisingKeys byte_order (filter is_rw known.state.report.tree.variables)
+  -- Enum values and ranges stand in the order in which they were added, each once.
+  pub enum_values : (s : ServerState) (c : ℕ) (line : List ℕ) (ups : Option (List ℕ)) (name : List ℕ) (known : KnownUps) (variable : VariableState) → IsSound s → read_command line ≡ Ok (Some (ListEnum ups (Some name))) → AsksOf s ups known
+      → variable_at known.state.report.tree name ≡ Some variable
+      → ((reply s c line).text ≡ frame (codes "ENUM") (known.name ∷ name ∷ []) (map (enum_item known.name name) variable.enum_values)) × HasNoRepeats variable.enum_values
+  pub ranges : (s : ServerState) (c : ℕ) (line : List ℕ) (ups : Option (List ℕ)) (name : List ℕ) (known : KnownUps) (variable : VariableState) → IsSound s → read_command line ≡ Ok (Some (ListRange ups (Some name))) → AsksOf s ups known
+      → variable_at known.state.report.tree name ≡ Some variable
+      → ((reply s c line).text ≡ frame (codes "RANGE") (known.name ∷ name ∷ []) (map (range_item known.name name) variable.ranges)) × HasNoRepeats variable.ranges
+  -- UPSs stand in the order of the list, which is that of their names.
+  pub upses : (s : ServerState) (c : ℕ) (line : List ℕ) → IsSound s → read_command line ≡ Ok (Some ListUps) → ((reply s c line).text ≡ frame (codes "UPS") [] (map ups_item s.list)) × AreByName s.list
   -- Whatever an answer tells of a UPS stands in a sound tree.
   pub tree : (s : ServerState) (ups : Option (List ℕ)) (known : KnownUps) → IsSound s → ups_named (seen s) ups ≡ Some known → IsSoundTree known.state.report.tree
+
+-- An item is there exactly where the server holds it, with what GET answers for it.
+pub record WhatIsListedIsWhatIsHeld : Type 0 where
+  pub variables : (tree : TreeState) (name : List ℕ) (variable : VariableState) → IsSoundTree tree → Contains tree.variables (name, variable) ↔ (variable_at tree name ≡ Some variable)
+  pub rw : (tree : TreeState) (name : List ℕ) (variable : VariableState) → IsSoundTree tree → Contains (filter is_rw tree.variables) (name, variable) ↔ ((variable_at tree name ≡ Some variable) × (variable.flags.rw ≡ true))
+  pub commands : (tree : TreeState) (name : List ℕ) → IsSoundTree tree → Contains tree.commands name ↔ (has_command tree name ≡ true)
+  -- `GET VAR` is answered by the line of the item that LIST VAR has, where it has one, and refused where it has none.
+  pub got : (s : ServerState) (c : ℕ) (line : List ℕ) (ups : Option (List ℕ)) (name : List ℕ) (known : KnownUps) (variable : VariableState) → read_command line ≡ Ok (Some (GetVar ups (Some name))) → AsksOf s ups known
+      → variable_at known.state.report.tree name ≡ Some variable → (reply s c line).text ≡ line_of (variable_item (codes "VAR") known.name known.state.fsd (name, variable))
+  pub refused : (s : ServerState) (c : ℕ) (line : List ℕ) (ups : Option (List ℕ)) (name : List ℕ) (known : KnownUps) → read_command line ≡ Ok (Some (GetVar ups (Some name))) → AsksOf s ups known
+      → variable_at known.state.report.tree name ≡ None → (reply s c line).text ≡ error_line VarNotSupported

@@ -48,11 +48,15 @@ Replies s c line (Clients name u) =
     (shares_version_read s c (read_command line) ≡ false) × (text_to s c (read_command line) ≡ text_of (client_listing name (addresses_at u (map seen_client s.sessions)))) × (change_by s c (read_command line) ≡ Nothing)
 Replies s c line (Many listing) = (shares_version_read s c (read_command line) ≡ true) × (text_to s c (read_command line) ≡ text_of listing) × (change_by s c (read_command line) ≡ Nothing)
 
--- an order fits in what its driver may still be owed
+-- an order is for a driver that is connected, and fits in what it may still be owed
+pub record TakesLine (line : List ℕ) (x : UpsState) : Type 0 where
+  pub connected : x.report.connected ≡ true
+  pub fits : length line ≤ free_room x
+
 abbrev pub OrderFits : Change → List UpsState → Type 0
 OrderFits change upses =
     (u : UpsId) (line : ArrayVec ℕ) (x : UpsState) → change ≡ Order u line
-    → slice_get upses u.place ≡ Some x → length line.items ≤ free_room x
+    → slice_get upses u.place ≡ Some x → TakesLine line.items x
 
 -- it is this text, and changes nothing
 abbrev pub IsText : List ℕ → Answer → Type 0
@@ -72,9 +76,6 @@ IsAnswered old c text change new = (line : List ℕ) (x : SessionState) → next
 -- the client's next line may be executed, and this holds of it
 abbrev pub NextIs : ServerState → ℕ → (List ℕ → Type 0) → Type 0
 NextIs s c P = (line : List ℕ) × (next_line_for s c ≡ Some line) × P line
-
-abbrev pub is_connected : UpsState → Bool
-is_connected x = x.report.connected
 
 -- what the bytes of a driver leave of its UPS, and of nothing else
 pub record DriverFeedGives (u : UpsId) (piece : List ℕ) (old : ServerState) (result : Result (Unit {0}) Fault) (new : ServerState) : Type 0 where

@@ -1,16 +1,15 @@
 -- Sound servers: what every server is that events have made of a new one.
 use Rattle.std.specs.Prelude.{◌≡◌, ◌≤◌, ℕ, true, false, List, [], ◌∷◌, None, length}
-use Rattle.nutdriver.specs.Report.{lost_report}
 use Rattle.nutdriver.specs.Sound.{IsSoundTree}
 use Rattle.nutlisting.specs.declared.listing.clients.TheConstants.{SESSION_LIMIT}
-use Rattle.nutusers.specs.UpsList.{Ups}
+use Rattle.nutusers.specs.UpsList.{Ups, IsList}
 use Rattle.nutusers.specs.Users.{User}
 use Rattle.nutusers.specs.Descriptions.{Descriptions}
 use Rattle.nutcore.specs.declared.TheConstants.{HELD_LIMIT, DRIVER_OWED_LIMIT}
 use Rattle.nutcore.specs.declared.event.Event.{Event}
 use Rattle.nutcore.specs.declared.event.Outcome.{Outcome}
 use Rattle.nutcore.specs.Session.{SessionState, AreApart}
-use Rattle.nutcore.specs.Ups.{UpsState}
+use Rattle.nutcore.specs.Ups.{UpsState, new_ups}
 use Rattle.nutcore.specs.Server.{ServerState, new_server}
 use Rattle.nutcore.specs.Step.{Step}
 use Rattle.nutcore.specs.Run.{Run}
@@ -27,16 +26,17 @@ pub record IsSoundSession (x : SessionState) : Type 0 where
   pub held : length x.held ≤ HELD_LIMIT
   pub ending : x.ending ≡ true → (x.held ≡ []) × (x.login ≡ None)
 
--- A UPS, at this moment: the tree that its driver reported is sound; nothing was heard or asked later than now; its driver is owed no more than it may be; and where no driver is connected, none has reported or been asked anything, and nothing came of a line.
+-- A UPS, at this moment: the tree that its driver reported is sound; nothing was heard or asked later than now; its driver is owed no more than it may be; and where no driver is connected, none has reported or been asked anything, nothing came of a line, and nothing is owed: it is a new one but for a forced shutdown and the count of faults.
 pub record IsSoundUps (moment : ℕ) (x : UpsState) : Type 0 where
   pub tree : IsSoundTree x.report.tree
   pub heard : x.report.heard ≤ moment
   pub pinged : x.pinged ≤ moment
   pub owed : length x.owed ≤ DRIVER_OWED_LIMIT
-  pub lost : x.report.connected ≡ false → (x.report ≡ lost_report) × (x.pinged ≡ 0) × (x.unfinished ≡ [])
+  pub lost : x.report.connected ≡ false → x ≡ record new_ups { fsd = x.fsd; faulty = x.faulty }
 
--- A server: a state for each UPS of its list; at most 64 sessions, of whom no two have one id, each below the next one, which is at least 1; and all of them sound.
+-- A server: the names of the UPSs of its list rise, and there are no more than there may be; a state for each UPS of the list; at most 64 sessions, of whom no two have one id, each below the next one, which is at least 1; and all of them sound.
 pub record IsSound (s : ServerState) : Type 0 where
+  pub list : IsList s.list
   pub named : length s.upses ≡ length s.list
   pub few : length s.sessions ≤ SESSION_LIMIT
   pub apart : AreApart s.next_id s.sessions
@@ -44,8 +44,9 @@ pub record IsSound (s : ServerState) : Type 0 where
   pub sessions : Each IsSoundSession s.sessions
   pub upses : Each (IsSoundUps s.moment) s.upses
 
+-- Of every list of UPSs, as each that was read is one.
 abbrev pub ANewServerIsSound : Type 0
-ANewServerIsSound = (list : List Ups) (users : List User) (descriptions : Descriptions) (max_age : ℕ) → IsSound (new_server list users descriptions max_age)
+ANewServerIsSound = (list : List Ups) (users : List User) (descriptions : Descriptions) (max_age : ℕ) → IsList list → IsSound (new_server list users descriptions max_age)
 
 abbrev pub EachEventKeepsTheServerSound : Type 0
 EachEventKeepsTheServerSound = (old new : ServerState) (event : Event) (outcome : Outcome) → Step old event outcome new → IsSound old → IsSound new

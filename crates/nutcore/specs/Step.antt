@@ -48,7 +48,7 @@ without_output s c n = without_output_of s (session c s) n
 
 -- Clients come: at most 64 at once, and an id is never used again.
 abbrev pub may_open : ServerState → Bool
-may_open s = nat_lt (length s.sessions) SESSION_LIMIT && nat_lt s.next_id (2 ^ 64 - 1)
+may_open s = nat_lt (length s.sessions) SESSION_LIMIT && nat_lt s.next_id (2 ^ 64)
 
 unfoldable pub opened : ServerState → List ℕ → Option ℕ → ServerState
 opened s address None = if may_open s then record s { sessions = s.sessions ++ new_session s.next_id address ∷ []; next_id = s.next_id + 1 } else s

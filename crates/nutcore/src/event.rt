@@ -9,6 +9,15 @@ use thiserror::Error;
 /// A client's session. Ids count from 1 and are never used again.
 pub type ClientId = u64;
 
+/// Who is at the other end of a connection.
+#[derive(Clone, Copy, Debug, PartialEq, Eq)]
+pub enum Peer {
+    /// The client of this session.
+    Client(ClientId),
+    /// The driver of this UPS.
+    Driver(UpsId),
+}
+
 /// What may happen to a server. Each event is one atomic step.
 #[derive(Debug, Drop)]
 pub enum Event {

@@ -1,14 +1,23 @@
 //! Laws of every server, event and run. No program calls them.
 ghost use Rattle.nutcore.specs.Headline.{WhatWasSentAndIsOwedIsTheAnswers, WhatWasAskedIsExecutedOrHeld, EachAnswerIsTimely, NothingIsLeftToExecute, OneAnswerAtMostIsOwedAbove, AListingIsWhatIsHeld, ARefusedLineChangesNothing, ThePumpExecutesTheLeast, EachEventIsAFunction};
 ghost use Rattle.nutcore.specs.ByRight.{AForcedShutdownIsSetByRight, ALoginIsByRight, CredentialsAreGivenByLines, WhatIsCountedIsWhoIsThere};
+ghost use Rattle.nutcore.specs.OrdersByRight.{EachOrderIsByRight};
+ghost use Rattle.nutcore.specs.TellingLines.{EachTellingIsAWholeLine};
 ghost use Rattle.nutcore.specs.Examples.{TwoVariables, EmptyListing, TakenInFour, LongestLine, ThreeLines, EscapedValue, FaultyLines, CasesAndFaults, NotConnected, Described, PipelinedGet};
 ghost use Rattle.nutcore.specs.Isolation.{AClientTouchesNoOther, ADriverTouchesNoOther, ARefusedEventChangesNothing};
 ghost use Rattle.nutcore.specs.Limits.{Limits};
+ghost use Rattle.nutcore.specs.Bounded.{EachEventIsBounded};
+ghost use Rattle.nutcore.specs.Taking.{WhoTakesGetsEverything};
 ghost use Rattle.nutcore.specs.DriverHistory.{WhatADriverToldIsExecuted};
-ghost use Rattle.nutcore.specs.Listed.{EachIsListedOnce};
+ghost use Rattle.nutcore.specs.DriverOrders.{WhatADriverWasSentAndIsOwedIsWhatItWasTold};
+ghost use Rattle.nutcore.specs.Listed.{EachIsListedOnce, WhatIsListedIsWhatIsHeld};
+ghost use Rattle.nutcore.specs.ReadsBack.{EachListingReadsBack};
+ghost use Rattle.nutcore.specs.Addresses.{ANewServerHasLawfulAddresses, EveryRunKeepsAddressesLawful, EveryRunKeepsTheList};
 ghost use Rattle.nutcore.specs.Sound.{ANewServerIsSound, EachEventKeepsTheServerSound, EveryRunKeepsTheServerSound, ASoundServerIsLawful};
 
+use nutanswer::laws::only_ok_changes;
 use nutdriver::laws::{each_line_keeps_the_tree_sound, lawful_lines_keep_trees_sound};
+use nutwords::laws::listing_is_read_back;
 
 /// Over every run, what each client was sent, followed by what it is still owed, is exactly the
 /// answers to its executed lines, in order.
@@ -45,7 +54,9 @@ pub fn a_listing_is_what_is_held()
 /// A whole line that is refused changes nothing but its own session's held and owed bytes.
 pub fn a_refused_line_changes_nothing()
     ensures { ARefusedLineChangesNothing }
-{}
+{
+    only_ok_changes();
+}
 
 /// A forced shutdown is set only by right: where it is set after a run and wasn't before, one of the
 /// lines that the run executed was `FSD` of that UPS, answered `OK FSD-SET`, of a session that had
@@ -84,10 +95,36 @@ pub fn every_server_is_sound()
     each_line_keeps_the_tree_sound();
 }
 
-/// Of a sound server, a listing of variables or of commands is the frame of exactly those that the UPS holds, whose names
-/// strictly rise: each comes once, in the order of names. Whatever is told of a UPS stands in a sound tree.
+/// Of a sound server, each listing is the frame of exactly what the server holds, each once in its order: variables, those
+/// of them that clients may set, commands and UPSs by their names, which strictly rise; enum values and ranges as they were
+/// added. Whatever is told of a UPS stands in a sound tree.
 pub fn each_is_listed_once()
     ensures { EachIsListedOnce }
+{}
+
+/// An item is there exactly where the server holds it: a look-up finds what is listed, and nothing else. `GET VAR` is
+/// answered by the line of the item that `LIST VAR` has, where it has one, and else refused.
+pub fn what_is_listed_is_what_is_held()
+    ensures { WhatIsListedIsWhatIsHeld }
+{}
+
+/// What a sound server lists is read back: the text that answers LIST VAR, RW, CMD, ENUM or RANGE reads, by the grammar
+/// of lines, as BEGIN with the words of the listing, then each item's words, in their order, then END with the words of
+/// the listing, and as nothing else. So does LIST UPS where the names and descriptions of the server's list are lawful,
+/// and LIST CLIENT where the addresses of its clients are.
+pub fn each_listing_reads_back()
+    ensures { EachListingReadsBack }
+{
+    listing_is_read_back();
+}
+
+/// Over every run whose sessions are opened from lawful addresses, as each `Address` is, the addresses of a server's
+/// sessions stay lawful; a new server has none. The list of UPSs is never changed. So the premises of the listings of UPSs
+/// and of clients hold of every server that was given a list that was read.
+pub fn addresses_are_lawful()
+    ensures opening { ANewServerHasLawfulAddresses }
+    ensures run { EveryRunKeepsAddressesLawful }
+    ensures list { EveryRunKeepsTheList }
 {}
 
 /// The drivers' half: while a driver isn't lost, what was unfinished of it, followed by all that came from it in a run, is
@@ -97,9 +134,45 @@ pub fn what_a_driver_told_is_executed()
     ensures { WhatADriverToldIsExecuted }
 {}
 
+/// The other half: over every run, what the driver of a UPS was owed, followed by what its connections (`DUMPALL`), the
+/// lines that were executed (orders) and the ticks (`PING`) told it, in their order, is what was taken for it, followed by
+/// what it is owed. A driver that is lost was sent a beginning of that, and the next connection begins with nothing owed.
+pub fn what_a_driver_was_sent_and_is_owed()
+    ensures { WhatADriverWasSentAndIsOwedIsWhatItWasTold }
+{
+    every_server_is_sound();
+}
+
+/// No order without right: the orders that a run told the driver of a UPS are exactly those of the lines that it executed
+/// by right, one each, in their order. Such a line is `SET VAR` or `INSTCMD` of that UPS, answered `OK`, of a session that
+/// had given the name and the password of a user with the right to it; and at that moment the UPS was usable, and had the
+/// variable, which clients may set and which may have the value, or the command.
+pub fn each_order_is_by_right()
+    ensures { EachOrderIsByRight }
+{}
+
+/// Whatever a run tells a driver is whole lines: `DUMPALL`, `PING`, `SET name "value"`, `INSTCMD name` or
+/// `INSTCMD name "value"`, of lawful names and values, each of at most 1,023 lawful bytes without an LF, and its LF.
+pub fn each_telling_is_a_whole_line()
+    ensures { EachTellingIsAWholeLine }
+{}
+
 /// The pump executes the least number of lines after which it stops.
 pub fn the_pump_executes_the_least()
     ensures { ThePumpExecutesTheLeast }
+{}
+
+/// What one event executes and offers is bounded, however much a server holds and lists: of each client it executes no more
+/// lines than bytes of its input were held and came, in all at most 1,024; and what is offered to a client after it, with
+/// what the client took, is at most 4,096 bytes more than what was offered before.
+pub fn each_event_is_bounded()
+    ensures { EachEventIsBounded }
+{}
+
+/// Of every server and every client there is a number of takes of all that is offered, one after another and with memory
+/// there, after which the client is owed nothing, and no line of it is held that may be executed.
+pub fn who_takes_gets_everything()
+    ensures { WhoTakesGetsEverything }
 {}
 
 /// Given a server, an event and its outcome there is one next server, and but for want of memory

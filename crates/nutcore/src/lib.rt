@@ -9,12 +9,10 @@ mod max_age;
 mod scratch;
 mod server;
 mod session;
-#[cfg(test)]
-mod tests;
 mod ups;
 
 pub use bytes::Bytes;
-pub use event::{ClientId, Event, Fault, Outcome};
+pub use event::{ClientId, Event, Fault, Outcome, Peer};
 pub use max_age::{MAX_AGE_DEFAULT, MAX_AGE_LEAST, MAX_AGE_MOST, MaxAge};
 pub use nutlisting::{OWED_LIMIT, Outbox, RING_LIMIT, SESSION_LIMIT};
 pub use nutusers::{Descriptions, UpsId, UpsList, Users};

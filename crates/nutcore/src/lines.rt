@@ -6,7 +6,8 @@ use bstr::ByteSlice;
 
 /// Where the first whole line ends.
 pub(crate) fn line_end(bytes: &[u8]) -> Option<usize>
-    ensures { MatchOption result (first_line bytes.now ≡ None) (λ end. (end < length bytes.now) × (first_line bytes.now ≡ Some (take end bytes.now))) }
+    ensures { MatchOption result (first_line bytes.now ≡ None)
+        (λ end. (end < length bytes.now) × (first_line bytes.now ≡ Some (take end bytes.now))) }
 {
     bytes.find_byte(b'\n')
 }

@@ -133,7 +133,10 @@ impl Session {
     /// Joins as much of a piece as there is room for. An ending session drops it.
     pub(crate) fn join(&mut self, piece: &[u8]) -> usize
         ensures id { self.new.id ≡ self.old.id }
-        ensures joins { self.new ≡ record self.old { held = self.old.held ++ accepted_bytes (Some self.old) piece.now } }
+        ensures joins { self.new ≡ record self.old {
+          held = self.old.held ++ accepted_bytes
+              (Some self.old) piece.now;
+        } }
         ensures short { length self.new.held ≤ HELD_LIMIT }
         ensures count { result ≡ accepted self.old piece.now }
     {
@@ -148,7 +151,8 @@ impl Session {
     /// Its next line, if it may be executed.
     pub(crate) fn next_line(&self) -> Option<&[u8]>
         ensures held { length self.now.held ≤ HELD_LIMIT }
-        ensures line { MatchOption result (next_line self.now ≡ None) (λ line. next_line self.now ≡ Some line.now) }
+        ensures line { MatchOption result (next_line self.now ≡ None)
+            (λ line. next_line self.now ≡ Some line.now) }
         ensures short { MatchOption result (Unit {0}) (λ line. length line.now ≤ LINE_LIMIT) }
     {
         if self.ending || !self.outbox.is_ready() {
@@ -163,7 +167,8 @@ impl Session {
     pub(crate) fn answer(&mut self, text: &[u8], change: Change, scratch: &mut Scratch)
         requires going { is_some (next_line self.old) ≡ true }
         requires short { length text.now ≤ OWED_LIMIT }
-        ensures answered { (line : List ℕ) → next_line self.old ≡ Some line → self.new ≡ changed_session change (answered line text.now self.old) }
+        ensures answered { (line : List ℕ) → next_line self.old ≡ Some line
+            → self.new ≡ changed_session change (answered line text.now self.old) }
         ensures id { self.new.id ≡ self.old.id }
     {
         self.owe(text, scratch);
@@ -174,7 +179,8 @@ impl Session {
     /// Takes the next line, and joins the listing that answers it to what is owed. Takes no memory.
     pub(crate) fn answer_listing(&mut self, listing: Listing, scratch: &mut Scratch)
         requires { is_some (next_line self.old) ≡ true }
-        ensures answered { (line : List ℕ) → next_line self.old ≡ Some line → self.new ≡ answered line (text_of listing) self.old }
+        ensures answered { (line : List ℕ) → next_line self.old ≡ Some line
+            → self.new ≡ answered line (text_of listing) self.old }
         ensures id { self.new.id ≡ self.old.id }
     {
         self.owe_listing(listing, scratch);
@@ -232,7 +238,8 @@ impl Session {
     /// Takes the first line.
     fn take_line(&mut self)
         requires { is_some (first_line self.old.held) ≡ true }
-        ensures taken { (line : List ℕ) → first_line self.old.held ≡ Some line → self.new ≡ answered line [] self.old }
+        ensures taken { (line : List ℕ) → first_line self.old.held ≡ Some line
+            → self.new ≡ answered line [] self.old }
         ensures id { self.new.id ≡ self.old.id }
     {
         let end = line_end(&self.held).unwrap();

@@ -13,6 +13,7 @@ use arrayvec::ArrayVec;
 use nutanswer::UpsView;
 use nutdriver::{LineOutcome, Report};
 use nutmap::Meter;
+use nutwords::laws::first_line_is_cut_off;
 use nutwords::{Cut, LineCut};
 use std::alloc::{AllocError, Global};
 use std::marker::Model;
@@ -65,6 +66,13 @@ impl Ups {
         ensures { result ≡ self.now.report.connected }
     {
         self.report.connected
+    }
+
+    /// Whether a forced shutdown is set.
+    pub(crate) fn fsd(&self) -> bool
+        ensures { result ≡ self.now.fsd }
+    {
+        self.fsd
     }
 
     /// How many lines of its drivers were refused.
@@ -203,6 +211,7 @@ impl Ups {
     fn cut_line(&mut self, piece: &[u8]) -> Cut
         ensures { CutsLine piece.now self.old result self.new }
     {
+        first_line_is_cut_off();
         self.cut.next(piece)
     }
 

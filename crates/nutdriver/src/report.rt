@@ -74,11 +74,13 @@ impl Report {
         meter: &mut Meter,
     ) -> Result<LineOutcome, AllocError>
         requires { length line.now ≤ LINE_LIMIT }
-        ensures ok { IfOk result (λ outcome. after_line moment self.old line.now ≡ (self.new, outcome)) }
+        ensures ok { IfOk result (λ outcome. after_line moment self.old line.now
+            ≡ (self.new, outcome)) }
         ensures memory { OnErr result (IsTrue (line_changes self.old.tree line.now)) }
         ensures err { OnErr result (self.new ≡ record self.old { heard = moment }) }
         ensures not_less { meter.old ≤ meter.new }
-        ensures most { meter.new ≤ meter.old + most_nodes (entries_before_line self.old.tree line.now) }
+        ensures most { meter.new ≤ meter.old + most_nodes
+            (entries_before_line self.old.tree line.now) }
     {
         self.heard = moment;
         match DriverLine::read(line) {
@@ -89,7 +91,8 @@ impl Report {
 
     /// Does what a line says that was read. Where memory is refused nothing changes.
     fn apply(&mut self, line: &DriverLine, meter: &mut Meter) -> Result<LineOutcome, AllocError>
-        ensures ok { IfOk result (λ outcome. after_reading self.old (Ok line.now) ≡ (self.new, outcome)) }
+        ensures ok { IfOk result (λ outcome. after_reading self.old (Ok line.now)
+            ≡ (self.new, outcome)) }
         ensures memory { OnErr result (IsTrue (changes_tree self.old.tree line.now)) }
         ensures err { OnErr result (self.new ≡ self.old) }
         ensures not_less { meter.old ≤ meter.new }

@@ -106,8 +106,10 @@ impl Tree {
     pub fn apply(&mut self, line: &DriverLine, meter: &mut Meter) -> Result<Effect, DriverFault>
         ensures ok { IfOk result (λ effect. driver_step self.old line.now ≡ Ok (self.new, effect)) }
         ensures err { OnErr result (self.new ≡ self.old) }
-        ensures refused { IfErr result (λ fault. fault ≢ DriverFault.Memory → driver_step self.old line.now ≡ Err fault) }
-        ensures memory { IfErr result (λ fault. fault ≡ DriverFault.Memory → IsTrue (changes_tree self.old line.now)) }
+        ensures refused { IfErr result
+            (λ fault. fault ≢ DriverFault.Memory → driver_step self.old line.now ≡ Err fault) }
+        ensures memory { IfErr result
+            (λ fault. fault ≡ DriverFault.Memory → IsTrue (changes_tree self.old line.now)) }
         ensures not_less { meter.old ≤ meter.new }
         ensures most { meter.new ≤ meter.old + most_nodes (entries_before self.old line.now) }
         ensures counted { IsTrue (puts_entry line.now) → CountsChange result meter.old meter.new }
@@ -138,8 +140,10 @@ impl Tree {
         variable: Variable,
         meter: &mut Meter,
     ) -> Result<Effect, DriverFault>
-        requires { IsNone (variable_at self.old name.now) → length self.old.variables < VARIABLE_LIMIT }
-        ensures step { AnswersStep (Ok (with_variable self.old name.now variable, Effect.Changed)) self.old result self.new }
+        requires { IsNone (variable_at self.old name.now)
+            → length self.old.variables < VARIABLE_LIMIT }
+        ensures step { AnswersStep (Ok
+            (with_variable self.old name.now variable, Effect.Changed)) self.old result self.new }
         ensures not_less { meter.old ≤ meter.new }
         ensures most { meter.new ≤ meter.old + most_nodes (length self.old.variables) }
         ensures counted { OnOk result (counted_up meter.old ≤ meter.new) }
@@ -161,8 +165,10 @@ impl Tree {
         change: Change,
         meter: &mut Meter,
     ) -> Result<Effect, DriverFault>
-        requires { IsNone (variable_at self.old name.now) → length self.old.variables < VARIABLE_LIMIT }
-        ensures ok { IfOk change (λ changed. AnswersStep (put_back self.old name.now change) self.old result self.new) }
+        requires { IsNone (variable_at self.old name.now)
+            → length self.old.variables < VARIABLE_LIMIT }
+        ensures ok { IfOk change (λ changed. AnswersStep
+            (put_back self.old name.now change) self.old result self.new) }
         ensures err { IfErr change (λ fault. (result ≡ Err fault) × (self.new ≡ self.old)) }
         ensures not_less { meter.old ≤ meter.new }
         ensures most { meter.new ≤ meter.old + most_nodes (length self.old.variables) }
@@ -182,7 +188,8 @@ impl Tree {
         value: &Value,
         meter: &mut Meter,
     ) -> Result<Effect, DriverFault>
-        ensures step { AnswersStep (driver_step self.old (SetInfo name.now value.now)) self.old result self.new }
+        ensures step { AnswersStep (driver_step self.old
+            (SetInfo name.now value.now)) self.old result self.new }
         ensures not_less { meter.old ≤ meter.new }
         ensures most { meter.new ≤ meter.old + most_nodes (length self.old.variables) }
         ensures counted { CountsChange result meter.old meter.new }
@@ -200,7 +207,8 @@ impl Tree {
 
     /// Takes a variable out.
     fn delete_info(&mut self, name: &Name, meter: &mut Meter) -> Result<Effect, DriverFault>
-        ensures step { AnswersStep (driver_step self.old (DelInfo name.now)) self.old result self.new }
+        ensures step { AnswersStep (driver_step self.old
+            (DelInfo name.now)) self.old result self.new }
         ensures not_less { meter.old ≤ meter.new }
         ensures most { meter.new ≤ meter.old + most_nodes (length self.old.variables) }
     {
@@ -221,7 +229,8 @@ impl Tree {
         line: &DriverLine,
         meter: &mut Meter,
     ) -> Result<Effect, DriverFault>
-        requires { driver_step self.old line.now ≡ on_variable self.old name.now (variable_step line.now) }
+        requires { driver_step self.old line.now
+            ≡ on_variable self.old name.now (variable_step line.now) }
         ensures step { AnswersStep (driver_step self.old line.now) self.old result self.new }
         ensures not_less { meter.old ≤ meter.new }
         ensures most { meter.new ≤ meter.old + most_nodes (length self.old.variables) }
@@ -236,7 +245,8 @@ impl Tree {
 
     /// Adds a command.
     fn add_command(&mut self, name: &Name, meter: &mut Meter) -> Result<Effect, DriverFault>
-        ensures step { AnswersStep (driver_step self.old (AddCmd name.now)) self.old result self.new }
+        ensures step { AnswersStep (driver_step self.old
+            (AddCmd name.now)) self.old result self.new }
         ensures not_less { meter.old ≤ meter.new }
         ensures most { meter.new ≤ meter.old + most_nodes (length self.old.commands) }
         ensures counted { CountsChange result meter.old meter.new }
@@ -252,7 +262,8 @@ impl Tree {
 
     /// Takes a command out.
     fn delete_command(&mut self, name: &Name, meter: &mut Meter) -> Result<Effect, DriverFault>
-        ensures step { AnswersStep (driver_step self.old (DelCmd name.now)) self.old result self.new }
+        ensures step { AnswersStep (driver_step self.old
+            (DelCmd name.now)) self.old result self.new }
         ensures not_less { meter.old ≤ meter.new }
         ensures most { meter.new ≤ meter.old + most_nodes (length self.old.commands) }
     {
@@ -272,7 +283,8 @@ impl Tree {
     /// Gives the UPS this command.
     fn put_command(&mut self, name: &Name, meter: &mut Meter) -> Result<Effect, DriverFault>
         requires { length self.old.commands < COMMAND_LIMIT }
-        ensures step { AnswersStep (Ok (with_command self.old name.now, Effect.Changed)) self.old result self.new }
+        ensures step { AnswersStep (Ok
+            (with_command self.old name.now, Effect.Changed)) self.old result self.new }
         ensures not_less { meter.old ≤ meter.new }
         ensures most { meter.new ≤ meter.old + most_nodes (length self.old.commands) }
         ensures counted { OnOk result (counted_up meter.old ≤ meter.new) }
@@ -289,7 +301,8 @@ impl Tree {
 
     /// Takes a command from the UPS, where it has it.
     fn take_command_out(&mut self, name: &Name, meter: &mut Meter) -> Result<Effect, DriverFault>
-        ensures step { AnswersStep (Ok (without_command self.old name.now, Effect.Changed)) self.old result self.new }
+        ensures step { AnswersStep (Ok
+            (without_command self.old name.now, Effect.Changed)) self.old result self.new }
         ensures not_less { meter.old ≤ meter.new }
         ensures most { meter.new ≤ meter.old + most_nodes (length self.old.commands) }
     {

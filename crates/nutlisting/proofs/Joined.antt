@@ -1,8 +1,7 @@
 -- The lines of a text, and of texts one after another.
-use Rattle.std.proofs.Common.{◌≡◌, ℕ, List, [], ◌∷◌, ◌++◌, refl, sym, ap, ◌∙◌, append-nil, append_assoc, map}
-use Rattle.std.specs.List.{concat, flat_map, AllByRecursion}
+use Rattle.std.proofs.Common.{◌≡◌, ℕ, List, [], ◌∷◌, ◌++◌, refl, sym, ap, ◌∙◌, append-nil}
+use Rattle.std.specs.List.{flat_map, AllByRecursion}
 use Rattle.std.proofs.lemmas.List.Concat.{flat_map-append}
-use Rattle.nutwords.specs.Frame.{line_of}
 use Rattle.nutlisting.specs.Lines.{IsAnswerLine, IsWholeLine, AreLines}
 
 pub no_lines : AreLines []

@@ -1,5 +1,6 @@
 mod Quoted
 mod Firsts
+mod AheadLemmas
 mod Upses
 mod Lawful
 mod Joined

@@ -1,9 +1,8 @@
 -- The text of a listing is its lines, one after another.
 use Rattle.std.proofs.Common.{◌≡◌, ℕ, ◌+◌, ◌<◌, ◌≤◌, List, [], ◌∷◌, ◌++◌, length, refl, sym, ap, ◌∙◌, append_assoc, append-nil, length-append, arith, map}
-use Rattle.std.specs.Prelude.{codes}
 use Rattle.std.specs.List.{concat, flat_map}
 use Rattle.nutwords.specs.Frame.{line_of}
-use Rattle.nutlisting.specs.Items.{ListingState, text_of, lines_of, edge_line}
+use Rattle.nutlisting.specs.Items.{ListingState, text_of, lines_of}
 use Rattle.nutlisting.specs.Lines.{IsWholeLine}
 use Rattle.nutlisting.specs.Written.{IsWrittenSoFar}
 use Rattle.nutlisting.proofs.Joined.{no_lines, joined_with}

@@ -8,6 +8,7 @@ pub mod Counts
 pub mod Filled
 pub mod Rest
 pub mod Places
+pub mod Ahead
 pub mod Written
 pub mod Owed
 pub mod Laws

@@ -11,7 +11,7 @@ use Rattle.nutlisting.specs.declared.listing.place.Place.TheVariants.{Start, Aft
 use Rattle.nutlisting.specs.Content.{listing_of}
 use Rattle.nutlisting.specs.Items.{lines_of, edge_line, ups_item, variable_item, is_rw, command_item, enum_item, enum_values_of, range_item, ranges_of, client_item}
 use Rattle.nutlisting.specs.Lines.{IsWholeLine}
-use Rattle.nutlisting.specs.Rest.{Position}
+use Rattle.nutlisting.specs.Rest.{Position, rest}
 
 -- The names after a name, all of them where none is given.
 abbrev pub names_after : List (List ℕ) → Option (List ℕ) → List (List ℕ)
@@ -76,3 +76,7 @@ position content place offset = record { listing = listing_of content; place = l
 pub record IsPosition (content : Content) (place : Place) (offset : ℕ) : Type 0 where
   pub at : lines_past content place ≡ drop (lines_done content place) (lines_of (listing_of content))
   pub within : IsWithin (lines_past content place) offset
+
+-- What is still to be placed from there.
+abbrev pub rest_at : Content → Place → ℕ → List ℕ
+rest_at content place offset = rest (position content place offset)

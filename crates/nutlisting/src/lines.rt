@@ -39,7 +39,8 @@ pub fn variable_line_into(
 )
     requires kind { length kind.now ≤ KIND_LIMIT }
     requires lawful { IsTrue (list_all is_lawful kind.now) }
-    ensures text { line.new.items ≡ line_of (variable_item kind.now ups.now fsd (name.now, variable.now)) }
+    ensures text { line.new.items
+        ≡ line_of (variable_item kind.now ups.now fsd (name.now, variable.now)) }
     ensures whole { IsWholeLine line.new.items }
 {
     let shown = shown::shown(fsd, name, variable);
@@ -56,7 +57,9 @@ pub fn desc_line_into(
 )
     requires kind { length kind.now ≤ KIND_LIMIT }
     requires lawful { IsTrue (list_all is_lawful kind.now) }
-    ensures text { line.new.items ≡ line_of (kind.now ∷ ups.now ∷ name.now ∷ quoted (description_of (option_copied text.entry)) ∷ []) }
+    ensures text { line.new.items
+        ≡ line_of (kind.now ∷ ups.now ∷ name.now ∷ quoted
+        (description_of (option_copied text.entry)) ∷ []) }
     ensures whole { IsWholeLine line.new.items }
 {
     value_line_into(kind, ups, name, shown::described(text), line);
@@ -68,7 +71,8 @@ pub fn value_line_into(kind: &[u8], ups: &UpsName, name: &Name, value: &[u8], li
     requires lawful { IsTrue (list_all is_lawful kind.now) }
     requires value { length value.now ≤ SHOWN_LIMIT }
     requires value_lawful { IsTrue (list_all is_lawful value.now) }
-    ensures text { line.new.items ≡ line_of (kind.now ∷ ups.now ∷ name.now ∷ quoted value.now ∷ []) }
+    ensures text { line.new.items
+        ≡ line_of (kind.now ∷ ups.now ∷ name.now ∷ quoted value.now ∷ []) }
     ensures whole { IsWholeLine line.new.items }
 {
     named_front(line, kind, ups, name);
@@ -80,7 +84,9 @@ pub fn value_line_into(kind: &[u8], ups: &UpsName, name: &Name, value: &[u8], li
 pub fn ups_line_into(kind: &[u8], ups: &UpsName, desc: Option<&Value>, line: &mut Line)
     requires kind { length kind.now ≤ KIND_LIMIT }
     requires lawful { IsTrue (list_all is_lawful kind.now) }
-    ensures text { line.new.items ≡ line_of (kind.now ∷ ups.now ∷ quoted (text_or_unavailable (option_copied desc.entry)) ∷ []) }
+    ensures text { line.new.items
+        ≡ line_of (kind.now ∷ ups.now ∷ quoted (text_or_unavailable (option_copied desc.entry))
+        ∷ []) }
     ensures whole { IsWholeLine line.new.items }
 {
     front(line, kind, ups);
@@ -121,7 +127,8 @@ pub(crate) fn client_line_into(ups: &UpsName, address: &Address, line: &mut Line
 
 /// Makes the line of what values a variable may have.
 pub fn type_line_into(ups: &UpsName, name: &Name, variable: &Variable, line: &mut Line)
-    ensures text { line.new.items ≡ line_of (codes "TYPE" ∷ ups.now ∷ name.now ∷ type_words variable.now) }
+    ensures text { line.new.items
+        ≡ line_of (codes "TYPE" ∷ ups.now ∷ name.now ∷ type_words variable.now) }
     ensures whole { IsWholeLine line.new.items }
 {
     named_front(line, b"TYPE", ups, name);
@@ -182,7 +189,8 @@ pub(crate) fn push_word(line: &mut Line, word: &[u8])
     requires word { length word.now ≤ 128 }
     ensures text { line.new.items ≡ line.old.items ++ 32 ∷ word.now }
     ensures short { length line.new.items ≡ length line.old.items + (1 + length word.now) }
-    ensures lawful { IsTrue (list_all is_lawful word.now) → IsTrue (list_all is_lawful line.old.items) → IsTrue (list_all is_lawful line.new.items) }
+    ensures lawful { IsTrue (list_all is_lawful word.now)
+        → IsTrue (list_all is_lawful line.old.items) → IsTrue (list_all is_lawful line.new.items) }
 {
     line.push(b' ');
     line.try_extend_from_slice(word).unwrap();
@@ -195,7 +203,8 @@ fn push_quoted(line: &mut Line, text: &[u8])
     requires text { length text.now ≤ SHOWN_LIMIT }
     ensures text { line.new.items ≡ line.old.items ++ 32 ∷ quoted text.now }
     ensures short { length line.new.items ≤ length line.old.items + (2 * length text.now + 3) }
-    ensures lawful { IsTrue (list_all is_lawful text.now) → IsTrue (list_all is_lawful line.old.items) → IsTrue (list_all is_lawful line.new.items) }
+    ensures lawful { IsTrue (list_all is_lawful text.now)
+        → IsTrue (list_all is_lawful line.old.items) → IsTrue (list_all is_lawful line.new.items) }
 {
     line.push(b' ');
     quote_into(text, line);
@@ -206,7 +215,8 @@ fn push_number(line: &mut Line, number: i32)
     requires { length line.old.items ≤ 300 }
     ensures text { line.new.items ≡ line.old.items ++ 32 ∷ quoted (signed_decimal number) }
     ensures short { length line.new.items ≤ length line.old.items + 83 }
-    ensures lawful { IsTrue (list_all is_lawful line.old.items) → IsTrue (list_all is_lawful line.new.items) }
+    ensures lawful { IsTrue (list_all is_lawful line.old.items)
+        → IsTrue (list_all is_lawful line.new.items) }
 {
     let mut buffer = Buffer::new();
     push_quoted(line, buffer.format(number).as_bytes());

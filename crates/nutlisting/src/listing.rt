@@ -6,6 +6,7 @@ ghost use Rattle.nutlisting.specs.Items.{text_of, ups_listing, variable_listing,
 ghost use Rattle.nutlisting.specs.Content.{listing_of};
 ghost use Rattle.nutlisting.specs.Written.{IsWrittenSoFar};
 
+mod ahead;
 mod clients;
 mod edges;
 mod items;
@@ -14,6 +15,7 @@ mod place;
 mod tests;
 
 use crate::renders::Renders;
+pub(crate) use ahead::Ahead;
 pub use clients::{Clients, SESSION_LIMIT};
 use nutdriver::Tree;
 use nutusers::UpsList;
@@ -84,7 +86,8 @@ impl Listing {
 
     /// The values that a variable may have.
     pub fn of_enum_values(ups: &UpsName, name: &Name, tree: &Tree) -> Result<Listing, AllocError>
-        ensures { IfOk result (λ l. l ≡ enum_listing ups.now name.now (variable_at tree.now name.now)) }
+        ensures { IfOk result (λ l. l
+            ≡ enum_listing ups.now name.now (variable_at tree.now name.now)) }
     {
         let content = Content::EnumValues(ups.clone()?, name.clone()?, tree.share()?);
         Ok(Listing { content })
@@ -92,7 +95,8 @@ impl Listing {
 
     /// The ranges of numbers that a variable may have.
     pub fn of_ranges(ups: &UpsName, name: &Name, tree: &Tree) -> Result<Listing, AllocError>
-        ensures { IfOk result (λ l. l ≡ range_listing ups.now name.now (variable_at tree.now name.now)) }
+        ensures { IfOk result (λ l. l
+            ≡ range_listing ups.now name.now (variable_at tree.now name.now)) }
     {
         let content = Content::Ranges(ups.clone()?, name.clone()?, tree.share()?);
         Ok(Listing { content })
@@ -122,7 +126,8 @@ impl Listing {
         ensures ok { OnOk result (out.new.items ≡ out.old.items ++ text_of self.now) }
         ensures err { OnErr result (out.new.items ≡ out.old.items) }
         ensures room { vec_capacity out.old ≤ vec_capacity out.new }
-        ensures full { OnErr result (vec_capacity out.old < vec_len out.old + length (text_of self.now)) }
+        ensures full { OnErr result
+            (vec_capacity out.old < vec_len out.old + length (text_of self.now)) }
         // Each line has at most 1,023 bytes before its LF, and they are lawful.
         ensures lines { OnOk result (AreLines (text_of self.now)) }
     {
@@ -136,14 +141,19 @@ impl Listing {
 
     /// Joins the lines to `out`, as many as there is memory for.
     fn write_lines(&self, out: &mut Vec<u8>) -> Result<(), AllocError>
-        ensures ok { OnOk result (IsWrittenSoFar out.old.items (text_of self.now) [] out.new.items) }
+        ensures ok { OnOk result (IsWrittenSoFar out.old.items
+            (text_of self.now) [] out.new.items) }
         ensures err { OnErr result (take (length out.old.items) out.new.items ≡ out.old.items) }
         ensures room { vec_capacity out.old ≤ vec_capacity out.new }
-        ensures full { OnErr result (vec_capacity out.old < vec_len out.old + length (text_of self.now)) }
+        ensures full { OnErr result
+            (vec_capacity out.old < vec_len out.old + length (text_of self.now)) }
     {
         let (mut line, mut renders) = (Line::new(), Renders::new());
-        let mut place = Place::Start;
-        while let Some(after) = self.content.next(&place, &mut line, &mut renders) {
+        let (mut place, mut ahead) = (Place::Start, Ahead::new());
+        while let Some(after) = self
+            .content
+            .next(&place, &mut ahead, &mut line, &mut renders)
+        {
             if let Err(refused) = out.extend_from_slice(line.as_slice()) {
                 return Err(refused);
             }

@@ -122,7 +122,8 @@ impl Outbox {
         ensures ring { self.new.ring ≡ self.old.ring ++ what_fits self.old.ring (text_of listing) }
         ensures rest { rest_of self.new.cursor ≡ what_stays self.old.ring (text_of listing) }
         ensures outbox { IsOutbox self.old.ring self.old.cursor }
-        ensures counts { renders.new ≡ count_more renders.old (lines (what_fits self.old.ring (text_of listing))) }
+        ensures counts { renders.new ≡ count_more renders.old
+            (lines (what_fits self.old.ring (text_of listing))) }
     {
         let cursor = Cursor::start(listing);
         self.cursor = drain(cursor, &mut self.ring, &mut self.clients, line, renders);
@@ -138,11 +139,16 @@ impl Outbox {
     )
         requires ready { length (owed self.old) ≤ OWED_LIMIT }
         requires few { length addresses.now ≤ SESSION_LIMIT }
-        ensures owed { owed self.new ≡ owed self.old ++ text_of (client_listing ups.now addresses.now) }
-        ensures ring { self.new.ring ≡ self.old.ring ++ what_fits self.old.ring (text_of (client_listing ups.now addresses.now)) }
-        ensures rest { rest_of self.new.cursor ≡ what_stays self.old.ring (text_of (client_listing ups.now addresses.now)) }
+        ensures owed { owed self.new
+            ≡ owed self.old ++ text_of (client_listing ups.now addresses.now) }
+        ensures ring { self.new.ring
+            ≡ self.old.ring ++ what_fits self.old.ring
+            (text_of (client_listing ups.now addresses.now)) }
+        ensures rest { rest_of self.new.cursor
+            ≡ what_stays self.old.ring (text_of (client_listing ups.now addresses.now)) }
         ensures outbox { IsOutbox self.old.ring self.old.cursor }
-        ensures counts { renders.new ≡ count_more renders.old (lines (what_fits self.old.ring (text_of (client_listing ups.now addresses.now)))) }
+        ensures counts { renders.new ≡ count_more renders.old
+            (lines (what_fits self.old.ring (text_of (client_listing ups.now addresses.now)))) }
     {
         let _ = &self.cursor;
         let place = self.clients.take().unwrap();
@@ -154,10 +160,13 @@ impl Outbox {
     pub fn take(&mut self, n: usize, line: &mut Line, renders: &mut Renders)
         requires { n ≤ length self.old.ring }
         ensures owed { owed self.new ≡ drop n (owed self.old) }
-        ensures ring { self.new.ring ≡ drop n self.old.ring ++ what_fits (drop n self.old.ring) (rest_of self.old.cursor) }
-        ensures rest { rest_of self.new.cursor ≡ what_stays (drop n self.old.ring) (rest_of self.old.cursor) }
+        ensures ring { self.new.ring
+            ≡ drop n self.old.ring ++ what_fits (drop n self.old.ring) (rest_of self.old.cursor) }
+        ensures rest { rest_of self.new.cursor
+            ≡ what_stays (drop n self.old.ring) (rest_of self.old.cursor) }
         ensures outbox { IsOutbox self.old.ring self.old.cursor }
-        ensures counts { renders.new ≡ count_more renders.old (lines (what_fits (drop n self.old.ring) (rest_of self.old.cursor))) }
+        ensures counts { renders.new ≡ count_more renders.old
+            (lines (what_fits (drop n self.old.ring) (rest_of self.old.cursor))) }
     {
         self.ring.drop_front(n);
         let cursor = self.cursor.take();
@@ -190,7 +199,8 @@ fn drain(
     ensures clients { HasPlaceForClients result clients.new }
     ensures ring { ring.new ≡ ring.old ++ what_fits ring.old (rest cursor) }
     ensures rest { rest_of result ≡ what_stays ring.old (rest cursor) }
-    ensures counts { renders.new ≡ count_more renders.old (lines (what_fits ring.old (rest cursor))) }
+    ensures counts { renders.new ≡ count_more renders.old
+        (lines (what_fits ring.old (rest cursor))) }
 {
     let mut cursor = cursor;
     if !cursor.fill(ring, line, renders) {
@@ -214,7 +224,8 @@ fn resume(
     ensures clients { HasPlaceForClients result clients.new }
     ensures ring { ring.new ≡ ring.old ++ what_fits ring.old (rest_of cursor) }
     ensures rest { rest_of result ≡ what_stays ring.old (rest_of cursor) }
-    ensures counts { renders.new ≡ count_more renders.old (lines (what_fits ring.old (rest_of cursor))) }
+    ensures counts { renders.new ≡ count_more renders.old
+        (lines (what_fits ring.old (rest_of cursor))) }
 {
     // What the count says of itself: it is a number of 64 bits.
     let _ = renders.made();
@@ -226,7 +237,8 @@ fn resume(
 
 /// Keeps the place for clients of a cursor that is done.
 fn give_back(cursor: Cursor, clients: &mut Option<Clients>)
-    ensures { is_some clients.new ≡ is_some clients.old || bytes_eq cursor.listing.kind (codes "CLIENT") }
+    ensures { is_some clients.new
+        ≡ is_some clients.old || bytes_eq cursor.listing.kind (codes "CLIENT") }
 {
     if let Some(place) = cursor.into_clients() {
         *clients = Some(place);

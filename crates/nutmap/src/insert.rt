@@ -27,8 +27,10 @@ pub(crate) fn insert<K: Ord + Drop, V: Drop>(
     meter: &mut Meter,
 ) -> Result<Inserted<K, V>, AllocError>
     requires height_fits { height_of link.now < greatest_height }
-    ensures entries { IfOk result (λ r. r.root.value.0 ≡ insert_entry K.cmp (entries_of link.now) key.value value.value) }
-    ensures before { IfOk result (λ r. option_map (λ held. held.value) r.before ≡ value_at K.cmp (entries_of link.now) key.value) }
+    ensures entries { IfOk result (λ r. r.root.value.0
+        ≡ insert_entry K.cmp (entries_of link.now) key.value value.value) }
+    ensures before { IfOk result (λ r. option_map
+        (λ held. held.value) r.before ≡ value_at K.cmp (entries_of link.now) key.value) }
     ensures not_lower { IfOk result (λ r. height_of link.now ≤ r.root.value.1) }
     ensures not_higher { IfOk result (λ r. r.root.value.1 ≤ height_of link.now + 1) }
     ensures not_less { meter.old ≤ meter.new }

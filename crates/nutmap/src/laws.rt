@@ -65,7 +65,8 @@ pub fn versions_are_apart<K: Ord + Drop, V: Drop>(
     meter: &mut Meter,
 ) -> Result<Map<K, V>, AllocError>
     ensures version { IfOk result (λ version. version ≡ map.old) }
-    ensures changed { OnOk result (map.new ≡ remove_entry (is_at (K.cmp gone.now)) (insert_entry K.cmp map.old key value)) }
+    ensures changed { OnOk result (map.new
+        ≡ remove_entry (is_at (K.cmp gone.now)) (insert_entry K.cmp map.old key value)) }
 {
     let version = map.share()?;
     let _ = map.insert(key, value, meter)?;

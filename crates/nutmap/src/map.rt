@@ -1,10 +1,10 @@
 //! The map.
-ghost use Rattle.std.specs.Prelude.{◌≡◌, ◌+◌, ◌≤◌, [], length, IsNone, IfOk, OnOk, OnErr};
+ghost use Rattle.std.specs.Prelude.{◌≡◌, ◌+◌, ◌≤◌, [], length, map, take, Some, IsNone, IfOk, OnOk, OnErr};
 ghost use Rattle.std.specs.Option.{option_copied, option_map};
 ghost use Rattle.std.specs.Map.{remove_entry};
 ghost use Rattle.std.specs.BTreeMap.{insert_entry, is_at};
 ghost use Rattle.nutmap.specs.Digits.{most_nodes};
-ghost use Rattle.nutmap.specs.Entries.{value_at, entry_after, HasRisingKeys};
+ghost use Rattle.nutmap.specs.Entries.{value_at, entry_after, entries_after, HasRisingKeys};
 ghost use Rattle.nutmap.specs.Meter.{counted_up};
 
 use crate::find;
@@ -12,6 +12,7 @@ use crate::insert::{self, Inserted};
 use crate::meter::Meter;
 use crate::remove::{self, Removed};
 use crate::tree::{Link, height, shared};
+use arrayvec::ArrayVec;
 use std::alloc::{AllocError, Global};
 use std::marker::Model;
 use std::rc::Rc;
@@ -75,7 +76,8 @@ impl<K: Ord + Drop, V: Drop> Map<K, V> {
     ///
     /// A walk that goes from each key to the next meets every entry once, and takes no memory.
     pub fn after(&self, above: Option<&K>) -> Option<(&K, &V)>
-        ensures entry { option_map (λ e. (e.0.now, e.1.now)) result ≡ entry_after K.cmp self.now (option_map (λ k. k.now) above.entry) }
+        ensures entry { option_map (λ e. (e.0.now, e.1.now)) result
+            ≡ entry_after K.cmp self.now (option_map (λ k. k.now) above.entry) }
         ensures rising { HasRisingKeys K.cmp self.now }
     {
         // What the root says of the entries: their keys rise.
@@ -83,6 +85,26 @@ impl<K: Ord + Drop, V: Drop> Map<K, V> {
         match above {
             None => find::first(&self.root),
             Some(key) => find::above(&self.root, key),
+        }
+    }
+
+    /// Puts the first entries above `above`, or of all where that is `None`, into `out`, in the order of their keys: as many
+    /// as there is room for. They take the place of what it held. One walk of the tree finds them all.
+    pub fn collect_after<'a, const N: usize>(
+        &'a self,
+        above: Option<&K>,
+        out: &mut ArrayVec<Option<(&'a K, &'a V)>, N>,
+    )
+        ensures entries { map (option_map {U = K × V} (λ e. (e.0.now, e.1.now))) out.new.items
+            ≡ map Some (take N (entries_after K.cmp self.now (option_map (λ k. k.now) above.entry))) }
+        ensures rising { HasRisingKeys K.cmp self.now }
+    {
+        // What the root says of the entries: their keys rise.
+        let _ = height(&self.root);
+        out.clear();
+        match above {
+            None => find::collect(&self.root, out),
+            Some(key) => find::collect_above(&self.root, key, out),
         }
     }
 
@@ -114,7 +136,8 @@ impl<K: Ord + Drop, V: Drop> Map<K, V> {
         value: V,
         meter: &mut Meter,
     ) -> Result<Option<Rc<V>>, AllocError>
-        ensures before { IfOk result (λ before. option_map (λ held. held.value) before ≡ value_at K.cmp self.old key) }
+        ensures before { IfOk result (λ before. option_map
+            (λ held. held.value) before ≡ value_at K.cmp self.old key) }
         ensures ok { OnOk result (self.new ≡ insert_entry K.cmp self.old key value) }
         ensures err { OnErr result (self.new ≡ self.old) }
         ensures rising { HasRisingKeys K.cmp self.old }
@@ -149,13 +172,15 @@ impl<K: Ord + Drop, V: Drop> Map<K, V> {
     ///
     /// `AllocError` where memory is refused. The map is then as it was, and the meter keeps what was made.
     pub fn remove(&mut self, key: &K, meter: &mut Meter) -> Result<Option<Rc<V>>, AllocError>
-        ensures before { IfOk result (λ before. option_map (λ held. held.value) before ≡ value_at K.cmp self.old key.now) }
+        ensures before { IfOk result (λ before. option_map
+            (λ held. held.value) before ≡ value_at K.cmp self.old key.now) }
         ensures ok { OnOk result (self.new ≡ remove_entry (is_at (K.cmp key.now)) self.old) }
         ensures absent { IsNone (value_at K.cmp self.old key.now) → self.new ≡ self.old }
         ensures err { OnErr result (self.new ≡ self.old) }
         ensures rising { HasRisingKeys K.cmp self.old }
         ensures not_less { meter.old ≤ meter.new }
-        ensures unmade { OnOk result (IsNone (value_at K.cmp self.old key.now) → meter.new ≡ meter.old) }
+        ensures unmade { OnOk result (IsNone (value_at K.cmp self.old key.now)
+            → meter.new ≡ meter.old) }
         ensures most { meter.new ≤ meter.old + most_nodes (length self.old) }
     {
         // What the root says of the entries: their keys rise, and they are enough for its height.

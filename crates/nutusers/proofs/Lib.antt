@@ -3,6 +3,7 @@ mod SectionLemmas
 mod NamesApart
 mod UsersLemmas
 mod UpsLemmas
+mod LawfulUpses
 mod ClosingBracket
 mod DescriptionLemmas
 mod FirstLines

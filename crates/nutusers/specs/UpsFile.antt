@@ -1,12 +1,12 @@
 -- The list of UPSs (ups.conf(5), of which upsd reads the names, the descriptions and the sockets).
-use Rattle.std.specs.Prelude.{ℕ, Bool, ◌&&◌, not, List, map, reverse, length, codes, nat_le, is_some, IsPermutation, Option, None, Some, if◌then◌else◌}
+use Rattle.std.specs.Prelude.{ℕ, Bool, ◌&&◌, not, List, map, reverse, length, codes, nat_le, is_some, All, IsPermutation, Option, None, Some, if◌then◌else◌}
 use Rattle.std.specs.Str.{bytes_eq, is_utf8}
 use Rattle.nutwords.specs.Reading.{is_ups_name}
 use Rattle.nutusers.specs.ConfigLine.{ConfigLine, silent, malformed, section, setting, upsmon, is_section, read_config_line}
 use Rattle.nutusers.specs.File.{Format, AreAccepted, bad_value_unless}
 use Rattle.nutusers.specs.Sections.{sections, value_in, last_of, in_section}
 use Rattle.nutusers.specs.Texts.{is_text_within, is_description}
-use Rattle.nutusers.specs.UpsList.{AreByName, ups_named}
+use Rattle.nutusers.specs.UpsList.{IsLawfulUps, AreByName, ups_named}
 pub use Rattle.nutusers.specs.UpsList.{Ups, new_ups, place_of, id_at}
 use Rattle.nutusers.specs.declared.limits.TheConstants.{UPS_LIMIT, SOCKET_LIMIT}
 use Rattle.nutusers.specs.declared.fault.Cause.{Cause}
@@ -65,3 +65,7 @@ pub record IsUpsList (lines : List (List ℕ)) (list : List Ups) : Type 0 where
   pub accepted : AreAccepted ups_format (reverse lines)
   pub same : IsPermutation (upses_of (reverse lines)) list
   pub by_name : AreByName list
+
+-- Each UPS of a list that a file means is lawful.
+abbrev pub EachUpsThatIsReadIsLawful : Type 0
+EachUpsThatIsReadIsLawful = (lines : List (List ℕ)) (list : List Ups) → IsUpsList lines list → All IsLawfulUps list

@@ -1,8 +1,10 @@
 -- The UPSs that the server knows, by their places.
-use Rattle.std.specs.Prelude.{ℕ, ◌≤◌, List, find, position, length, Option, None}
+use Rattle.std.specs.Prelude.{ℕ, ◌≤◌, List, find, position, length, Option, None, IfSome, IsTrue}
 use Rattle.std.specs.List.Sorted.{IsStrictlySortedBy}
 use Rattle.std.specs.Str.{bytes_eq}
 use Rattle.nutwords.specs.NameOrder.{byte_order}
+use Rattle.nutwords.specs.Reading.{is_ups_name}
+use Rattle.nutusers.specs.Texts.{is_description}
 use Rattle.nutusers.specs.declared.limits.TheConstants.{UPS_LIMIT}
 use Rattle.nutusers.specs.declared.ups_list.UpsId.{UpsId}
 
@@ -15,6 +17,11 @@ pub record Ups : Type 0 where
 -- A UPS of which only the name is told.
 abbrev pub new_ups : List ℕ → Ups
 new_ups name = record { name = name; desc = None; socket = None }
+
+-- A UPS as its file's format demands: its name is lawful, and its description, if it has one.
+pub record IsLawfulUps (ups : Ups) : Type 0 where
+  pub name : IsTrue (is_ups_name ups.name)
+  pub description : IfSome ups.desc (λ text. IsTrue (is_description text))
 
 -- The names rise, so no name comes twice.
 abbrev pub AreByName : List Ups → Type 0

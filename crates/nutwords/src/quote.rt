@@ -1,13 +1,14 @@
 //! The one written spelling of a word: in double quotes, with a backslash before each quote and backslash.
-ghost use Rattle.std.specs.Prelude.{◌≡◌, ◌+◌, ◌≤◌, ◌==◌, ◌||◌, [], ◌∷◌, ◌++◌, length, List, ℕ, IsTrue};
+ghost use Rattle.std.specs.Prelude.{◌≡◌, ◌+◌, ◌≤◌, ◌==◌, ◌||◌, [], ◌∷◌, ◌++◌, length, List, ℕ, IsTrue, MatchOption};
 ghost use Rattle.std.specs.List.{list_all};
 ghost use Rattle.nutwords.specs.Bytes.{is_lawful};
 ghost use Rattle.nutwords.specs.Grammar.{Reads, ReadsToBoundary};
 ghost use Rattle.arrayvec.specs.ArrayVec.{array_vec_len};
-ghost use Rattle.nutwords.specs.Spelling.{quoted};
+ghost use Rattle.nutwords.specs.Spelling.{quoted, with_backslashes, IsFirstSpelled};
 
 use crate::LINE_ROOM;
 use arrayvec::ArrayVec;
+use memchr::memchr2;
 
 /// A line, or what has come of one so far: there is room for 1,023 bytes and an LF.
 pub type Line = ArrayVec<u8, LINE_ROOM>;
@@ -35,13 +36,23 @@ pub fn quote_into(word: &[u8], line: &mut Line)
         → ReadsToBoundary line.old.items words → Reads line.new.items (words ++ word.now ∷ []) }
 {
     line.push(b'"');
-    for b in word {
-        if needs_backslash(*b) {
-            line.push(b'\\');
-        }
-        line.push(*b);
+    let mut rest = word;
+    while let Some(at) = first_behind_backslash(rest) {
+        line.try_extend_from_slice(&rest[..at]).unwrap();
+        line.push(b'\\');
+        line.push(rest[at]);
+        rest = &rest[at + 1..];
     }
+    line.try_extend_from_slice(rest).unwrap();
     line.push(b'"');
+}
+
+/// Where the first byte stands that is written behind a backslash.
+fn first_behind_backslash(word: &[u8]) -> Option<usize>
+    ensures { MatchOption result (with_backslashes word.now ≡ word.now)
+        (λ at. IsFirstSpelled word.now at) }
+{
+    memchr2(b'"', b'\\', word)
 }
 
 /// Whether the byte is written behind a backslash.

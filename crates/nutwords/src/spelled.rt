@@ -57,7 +57,8 @@ impl<'a> SpelledWord<'a> {
 
     /// Its bytes, where they are at most so many.
     pub fn held<const N: usize>(&self) -> Option<ArrayVec<u8, N>>
-        ensures { MatchOption result (N < length (spelled self.now)) (λ bytes. bytes.items ≡ spelled self.now) }
+        ensures { MatchOption result (N < length (spelled self.now))
+            (λ bytes. bytes.items ≡ spelled self.now) }
     {
         unescaped(self.text)
     }
@@ -138,7 +139,8 @@ impl<'a> SpelledWord<'a> {
 
 /// The bytes that the spelled word stands for, where they are at most so many.
 fn unescaped<const N: usize>(text: &[u8]) -> Option<ArrayVec<u8, N>>
-    ensures { MatchOption result (N < length (unescaped text.now false)) (λ word. word.items ≡ unescaped text.now false) }
+    ensures { MatchOption result (N < length (unescaped text.now false))
+        (λ word. word.items ≡ unescaped text.now false) }
 {
     let mut word = ArrayVec::new();
     let mut pending = false;
@@ -217,7 +219,8 @@ fn first_word(line: &[u8]) -> Option<(SpelledWord<'_>, &[u8])>
     requires short { length line.now ≤ LINE_LIMIT }
     requires start { StartsInWord line.now }
     requires reads { is_ok (read_line line.now) ≡ true }
-    ensures takes { MatchOption result (line.now ≡ []) (λ w. TakesWord (read_line line.now) (spelled w.0) w.1.now) }
+    ensures takes { MatchOption result (line.now ≡ [])
+        (λ w. TakesWord (read_line line.now) (spelled w.0) w.1.now) }
     ensures short { IfSome result (λ w. length w.1.now ≤ length line.now) }
 {
     let first = line.first()?;

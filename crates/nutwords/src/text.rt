@@ -90,7 +90,8 @@ impl<'a> Iterator for TextLines<'a> {
 
 /// The first line, without its LF, and what is behind it.
 fn first_line(bytes: &[u8]) -> Option<(&[u8], &[u8])>
-    ensures { MatchOption result (bytes.now ≡ []) (λ cut. lines_of bytes.now ≡ cut.0.now ∷ lines_of cut.1.now) }
+    ensures { MatchOption result (bytes.now ≡ [])
+        (λ cut. lines_of bytes.now ≡ cut.0.now ∷ lines_of cut.1.now) }
 {
     if bytes.is_empty() {
         return None;

@@ -48,6 +48,7 @@ fn matches_of(alloc: Global, words: &[String]) -> Result<ArgMatches<'_>, Error> 
     Command::new(alloc, PROGRAM)
         .bin_name(PROGRAM)?
         .about("Prints what a UPS server tells of a UPS (RFC 9271)")
+        .after_help("Example: upsc su@localhost ups.status")
         .arg(names)?
         .arg(descriptions)?
         .arg(clients)?

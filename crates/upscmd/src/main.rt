@@ -50,6 +50,7 @@ fn matches_of(alloc: Global, words: &[String]) -> Result<ArgMatches<'_>, Error> 
     Command::new(alloc, PROGRAM)
         .bin_name(PROGRAM)?
         .about("Lists the commands of a UPS, or does one (RFC 9271)")
+        .after_help("Example: upscmd -u admin -p change-me su@localhost test.battery.start")
         .arg(list)?
         .arg(user)?
         .arg(password)?

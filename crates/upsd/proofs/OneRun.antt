@@ -1,26 +1,31 @@
 -- The events of a script are one run of the server.
-use Rattle.std.proofs.Common.{◌≡◌, ℕ, Bool, true, false, List, [], ◌∷◌, ◌++◌, ◌∙◌, Option, Some, None, refl, sym, ap, subst, eqb, arith, take, append-nil, append_assoc, if◌then◌else◌}
+use Rattle.std.proofs.Common.{◌≡◌, ℕ, Bool, true, false, ◌&&◌, List, [], ◌∷◌, ◌++◌, ◌∙◌, Option, Some, None, refl, sym, ap, subst, eqb, arith, take, append-nil, append_assoc, if◌then◌else◌}
 use Rattle.std.specs.List.{flat_map}
 use Rattle.std.proofs.lemmas.Grind.{common_steps}
-use Rattle.std.proofs.lemmas.Bool.{eqb-true}
+use Rattle.std.proofs.lemmas.Bool.{eqb-true, and_left}
+use Rattle.std.specs.Option.{option_map_or}
 use Rattle.nutusers.specs.declared.ups_list.UpsId.{UpsId}
 use Rattle.nutcore.specs.declared.event.Event.{Event}
 use Rattle.nutcore.specs.declared.event.Event.TheVariants.{DriverUp, DriverBytes, DriverTook, DriverDown, Tick, Open, Feed, Took, Close}
 use Rattle.nutusers.specs.UpsList.{Ups}
 use Rattle.nutusers.specs.Users.{User}
 use Rattle.nutusers.specs.Descriptions.{Descriptions}
-use Rattle.nutcore.specs.Server.{ServerState, session, new_server}
+use Rattle.nutcore.specs.Server.{ServerState, session, ups_at, new_server}
 use Rattle.nutcore.specs.Headline.{IsLawful, WhatWasSentAndIsOwedIsTheAnswers}
 use Rattle.nutcore.specs.Pump.{owed_of}
-use Rattle.nutcore.specs.Step.{after, may_take}
+use Rattle.nutcore.specs.Step.{after, may_take, driver_may_take}
 use Rattle.nutcore.specs.Run.{Run}
+use Rattle.nutcore.specs.declared.event.Outcome.{Outcome}
+use Rattle.nutcore.specs.declared.event.Peer.{Peer}
+use Rattle.nutcore.specs.declared.event.Peer.TheVariants.{Client, Driver}
+use Rattle.nutcore.specs.DriverOrders.{all_taken as driver_taken, taken_in_event as driver_taken_in_event, owed_to_driver}
 use Rattle.nutcore.specs.History.{taken, taken_in_event, owed}
 use Rattle.upsd.specs.declared.script.Action.{Action}
 use Rattle.upsd.specs.declared.script.Action.TheVariants as asked
 use Rattle.upsd.specs.declared.script.ScriptLine.{ScriptLine}
 use Rattle.upsd.specs.declared.transcript.Taken.{Taken}
 use Rattle.upsd.specs.Script.{actions_of}
-use Rattle.upsd.specs.Transcript.{Told, before, Happens, HappensTo, TakesAgain, all_taken, again, IsDone, AreDone, IsOutput, ups_named, count_offered, sent_to, taken_by, opened_by}
+use Rattle.upsd.specs.Transcript.{Told, before, Happens, HappensTo, TakesAgain, all_taken, again, IsDone, AreDone, IsOutput, ups_named, count_offered, count_owed, sent_to, taken_by, opened_by}
 use Rattle.upsd.proofs.Taking.{when_true, when_false}
 use Rattle.upsd.specs.OneRun.{Happening, events_of, outcomes_of, once, once_to, takings, of_line, of_lines, TellsRun}
 
@@ -29,19 +34,36 @@ run_joined : (s m t : ServerState) (hs is : List Happening) → Run s (events_of
 run_joined s m t [] is same r = subst (λ (z : ServerState). Run z (events_of is) (outcomes_of is) t) same r
 run_joined s m t (h ∷ hs) is (mid, first, rest) r = (mid, first, run_joined mid m t hs is rest r)
 
+-- what is told of each event of a run, in order
+module _ (in_event : ServerState → Event → List ℕ) (whole : ServerState → List Event → List Outcome → List ℕ)
+    (none : (s : ServerState) → whole s [] [] ≡ [])
+    (more : (s : ServerState) (e : Event) (o : Outcome) (es : List Event) (os : List Outcome) → whole s (e ∷ es) (o ∷ os) ≡ in_event s e ++ whole (after s e o) es os)
+  where
+    abbrev of_run : ServerState → List Happening → List ℕ
+    of_run s hs = whole s (events_of hs) (outcomes_of hs)
+
+    told_joined : (s m : ServerState) (hs is : List Happening) → Run s (events_of hs) (outcomes_of hs) m → of_run s (hs ++ is) ≡ of_run s hs ++ of_run m is
+    told_joined s m [] is same = ap (λ (z : ServerState). of_run z is) (sym same) ∙ sym (ap (λ (xs : List ℕ). xs ++ of_run m is) (none s))
+    told_joined s m (h ∷ hs) is (mid, first, rest) =
+        let here : List ℕ = in_event s h.event in
+        let next : ServerState = after s h.event h.outcome in
+        let left : of_run next (hs ++ is) ≡ of_run next hs ++ of_run m is =
+        subst (λ (z : ServerState). of_run z (hs ++ is) ≡ of_run z hs ++ of_run m is) first.leaves (told_joined mid m hs is rest) in
+        more s h.event h.outcome (events_of (hs ++ is)) (outcomes_of (hs ++ is))
+        ∙ ap (λ (xs : List ℕ). here ++ xs) left
+        ∙ sym (append_assoc here (of_run next hs) (of_run m is))
+        ∙ ap (λ (xs : List ℕ). xs ++ of_run m is) (sym (more s h.event h.outcome (events_of hs) (outcomes_of hs)))
+
 taken_joined : (c : ℕ) (s m : ServerState) (hs is : List Happening) → Run s (events_of hs) (outcomes_of hs) m → taken c s (events_of (hs ++ is)) (outcomes_of (hs ++ is)) ≡ taken c s (events_of hs) (outcomes_of hs) ++ taken c m (events_of is) (outcomes_of is)
-taken_joined c s m [] is same = ap (λ (z : ServerState). taken c z (events_of is) (outcomes_of is)) (sym same)
-taken_joined c s m (h ∷ hs) is (mid, first, rest) =
-    let here : List ℕ = taken_in_event c s h.event in
-    let left : taken c mid (events_of (hs ++ is)) (outcomes_of (hs ++ is)) ≡ taken c mid (events_of hs) (outcomes_of hs) ++ taken c m (events_of is) (outcomes_of is) = taken_joined c mid m hs is rest in
-    let moved : taken c (after s h.event h.outcome) (events_of (hs ++ is)) (outcomes_of (hs ++ is)) ≡ taken c (after s h.event h.outcome) (events_of hs) (outcomes_of hs) ++ taken c m (events_of is) (outcomes_of is) =
-    subst (λ (z : ServerState). taken c z (events_of (hs ++ is)) (outcomes_of (hs ++ is)) ≡ taken c z (events_of hs) (outcomes_of hs) ++ taken c m (events_of is) (outcomes_of is)) first.leaves left in
-    ap (λ (xs : List ℕ). here ++ xs) moved ∙ sym (append_assoc here (taken c (after s h.event h.outcome) (events_of hs) (outcomes_of hs)) (taken c m (events_of is) (outcomes_of is)))
+taken_joined c = told_joined (taken_in_event c) (taken c) (λ s. refl) (λ s e o es os. refl)
+
+driver_taken_joined : (u : UpsId) (s m : ServerState) (hs is : List Happening) → Run s (events_of hs) (outcomes_of hs) m → driver_taken u s (events_of (hs ++ is)) (outcomes_of (hs ++ is)) ≡ driver_taken u s (events_of hs) (outcomes_of hs) ++ driver_taken u m (events_of is) (outcomes_of is)
+driver_taken_joined u = told_joined (driver_taken_in_event u) (driver_taken u) (λ s. refl) (λ s e o es os. refl)
 
 -- what a client took by one event
-sent_joined : (c : ℕ) (ts us : List Taken) → sent_to c (ts ++ us) ≡ sent_to c ts ++ sent_to c us
-sent_joined c [] us = refl
-sent_joined c (t ∷ ts) us = grind (arith, common_steps, sent_joined c ts us)
+sent_joined : (p : Peer) (ts us : List Taken) → sent_to p (ts ++ us) ≡ sent_to p ts ++ sent_to p us
+sent_joined p [] us = refl
+sent_joined p (t ∷ ts) us = grind (arith, common_steps, sent_joined p ts us)
 
 none_either_way : (may same : Bool) (xs : List ℕ) → same ≡ false → (if may then (if same then xs else []) else []) ≡ []
 none_either_way true same xs e = when_false same xs e
@@ -52,7 +74,7 @@ unfolding taken_in_event
 took_if c d n s true e = when_true (eqb d c) (taken_in_event d s (Took d n)) e ∙ ap (λ (z : ℕ). taken_in_event z s (Took d n)) (eqb-true d c e)
 took_if c d n s false e = when_false (eqb d c) (taken_in_event d s (Took d n)) e ∙ sym (none_either_way (may_take (session d s) n) (eqb d c) (take n (owed_of (session d s))) e)
 
-sent_by : (c : ℕ) (s : ServerState) (e : Event) → sent_to c (taken_by s e) ≡ taken_in_event c s e
+sent_by : (c : ℕ) (s : ServerState) (e : Event) → sent_to (Client c) (taken_by s e) ≡ taken_in_event c s e
 unfolding taken_in_event
 sent_by c s (DriverUp u) = refl
 sent_by c s (DriverBytes u piece) = refl
@@ -64,6 +86,25 @@ sent_by c s (Feed d piece) = refl
 sent_by c s (Took d n) = append-nil (if eqb d c then taken_in_event d s (Took d n) else []) ∙ took_if c d n s (eqb d c) refl
 sent_by c s (Close d) = refl
 
+driver_took_if : (u v : UpsId) (n : ℕ) (s : ServerState) (b : Bool) → eqb v.place u.place ≡ b → (if eqb v.place u.place then driver_taken_in_event v s (DriverTook v n) else []) ≡ driver_taken_in_event u s (DriverTook v n)
+driver_took_if u v n s true e =
+    let at : ℕ → List ℕ = λ p. if eqb v.place p && option_map_or (driver_may_take n) (ups_at p s) false then take n (option_map_or (λ x. x.owed) (ups_at p s) []) else [] in
+    when_true (eqb v.place u.place) (driver_taken_in_event v s (DriverTook v n)) e ∙ ap at (eqb-true v.place u.place e)
+driver_took_if u v n s false e =
+    when_false (eqb v.place u.place) (driver_taken_in_event v s (DriverTook v n)) e
+    ∙ sym (when_false (eqb v.place u.place && option_map_or (driver_may_take n) (ups_at u.place s) false) (take n (owed_to_driver u s)) (and_left _ _ e))
+
+driver_sent_by : (u : UpsId) (s : ServerState) (e : Event) → sent_to (Driver u) (taken_by s e) ≡ driver_taken_in_event u s e
+driver_sent_by u s (DriverUp v) = refl
+driver_sent_by u s (DriverBytes v piece) = refl
+driver_sent_by u s (DriverTook v n) = append-nil (if eqb v.place u.place then driver_taken_in_event v s (DriverTook v n) else []) ∙ driver_took_if u v n s (eqb v.place u.place) refl
+driver_sent_by u s (DriverDown v) = refl
+driver_sent_by u s (Tick seconds) = refl
+driver_sent_by u s (Open address) = refl
+driver_sent_by u s (Feed c piece) = refl
+driver_sent_by u s (Took c n) = refl
+driver_sent_by u s (Close c) = refl
+
 opened_joined : (hs is : List Happening) → flat_map opened_by (outcomes_of (hs ++ is)) ≡ flat_map opened_by (outcomes_of hs) ++ flat_map opened_by (outcomes_of is)
 opened_joined [] is = refl
 opened_joined (h ∷ hs) is = ap (λ (xs : List ℕ). opened_by h.outcome ++ xs) (opened_joined hs is) ∙ sym (append_assoc (opened_by h.outcome) (flat_map opened_by (outcomes_of hs)) (flat_map opened_by (outcomes_of is)))
@@ -72,13 +113,15 @@ opened_joined (h ∷ hs) is = ap (λ (xs : List ℕ). opened_by h.outcome ++ xs)
 pub record IsRun (hs : List Happening) (old new : Told) : Type 0 where
   pub run : Run old.server (events_of hs) (outcomes_of hs) new.server
   pub clients : new.clients ≡ old.clients ++ flat_map opened_by (outcomes_of hs)
-  pub sent : (c : ℕ) → sent_to c new.taken ≡ sent_to c old.taken ++ taken c old.server (events_of hs) (outcomes_of hs)
+  pub sent : (c : ℕ) → sent_to (Client c) new.taken ≡ sent_to (Client c) old.taken ++ taken c old.server (events_of hs) (outcomes_of hs)
+  pub driver : (u : UpsId) → sent_to (Driver u) new.taken ≡ sent_to (Driver u) old.taken ++ driver_taken u old.server (events_of hs) (outcomes_of hs)
 
 nothing : (old new : Told) → new.server ≡ old.server → new.clients ≡ old.clients → new.taken ≡ old.taken → IsRun [] old new
 nothing old new s k t = record {
   run = s;
   clients = k ∙ sym (append-nil old.clients);
-  sent = λ c. ap (sent_to c) t ∙ sym (append-nil (sent_to c old.taken));
+  sent = λ c. ap (sent_to (Client c)) t ∙ sym (append-nil (sent_to (Client c) old.taken));
+  driver = λ u. ap (sent_to (Driver u)) t ∙ sym (append-nil (sent_to (Driver u) old.taken));
 }
 
 joined : (hs is : List Happening) (old mid new : Told) → IsRun hs old mid → IsRun is mid new → IsRun (hs ++ is) old new
@@ -90,8 +133,12 @@ joined hs is old mid new a b = record {
       ∙ ap (λ (xs : List ℕ). old.clients ++ xs) (sym (opened_joined hs is));
   sent = λ c.
       b.sent c ∙ ap (λ (xs : List ℕ). xs ++ taken c mid.server (events_of is) (outcomes_of is)) (a.sent c)
-      ∙ append_assoc (sent_to c old.taken) (taken c old.server (events_of hs) (outcomes_of hs)) (taken c mid.server (events_of is) (outcomes_of is))
-      ∙ ap (λ (xs : List ℕ). sent_to c old.taken ++ xs) (sym (taken_joined c old.server mid.server hs is a.run));
+      ∙ append_assoc (sent_to (Client c) old.taken) (taken c old.server (events_of hs) (outcomes_of hs)) (taken c mid.server (events_of is) (outcomes_of is))
+      ∙ ap (λ (xs : List ℕ). sent_to (Client c) old.taken ++ xs) (sym (taken_joined c old.server mid.server hs is a.run));
+  driver = λ u.
+      b.driver u ∙ ap (λ (xs : List ℕ). xs ++ driver_taken u mid.server (events_of is) (outcomes_of is)) (a.driver u)
+      ∙ append_assoc (sent_to (Driver u) old.taken) (driver_taken u old.server (events_of hs) (outcomes_of hs)) (driver_taken u mid.server (events_of is) (outcomes_of is))
+      ∙ ap (λ (xs : List ℕ). sent_to (Driver u) old.taken ++ xs) (sym (driver_taken_joined u old.server mid.server hs is a.run));
 }
 
 once_runs : (line : ℕ) (event : Event) (old new : Told) (h : Happens line event old new) → IsRun (once line event old new h) old new
@@ -99,8 +146,11 @@ once_runs line event old new h = record {
   run = (new.server, h.steps, refl);
   clients = h.clients ∙ ap (λ (xs : List ℕ). old.clients ++ xs) (sym (append-nil (opened_by h.outcome)));
   sent = λ c.
-      ap (sent_to c) h.taken ∙ sent_joined c old.taken (taken_by old.server event)
-      ∙ ap (λ (xs : List ℕ). sent_to c old.taken ++ xs) (sent_by c old.server event ∙ sym (append-nil (taken_in_event c old.server event)));
+      ap (sent_to (Client c)) h.taken ∙ sent_joined (Client c) old.taken (taken_by old.server event)
+      ∙ ap (λ (xs : List ℕ). sent_to (Client c) old.taken ++ xs) (sent_by c old.server event ∙ sym (append-nil (taken_in_event c old.server event)));
+  driver = λ u.
+      ap (sent_to (Driver u)) h.taken ∙ sent_joined (Driver u) old.taken (taken_by old.server event)
+      ∙ ap (λ (xs : List ℕ). sent_to (Driver u) old.taken ++ xs) (driver_sent_by u old.server event ∙ sym (append-nil (driver_taken_in_event u old.server event)));
 }
 
 once_to_runs : (o : Option UpsId) (line : ℕ) (event : UpsId → Event) (old new : Told) (h : HappensTo o line event old new) → IsRun (once_to o line event old new h) old new
@@ -116,6 +166,8 @@ line_runs : (line : ℕ) (action : Action) (old new : Told) (h : IsDone line act
 unfolding IsDone
 line_runs line (asked.DriverUp name) old new h = once_to_runs (ups_named name old) line (λ u. DriverUp u) old new h
 line_runs line (asked.DriverBytes name piece) old new h = once_to_runs (ups_named name old) line (λ u. DriverBytes u piece) old new h
+line_runs line (asked.DriverTook name n) old new h = once_to_runs (ups_named name old) line (λ u. DriverTook u n) old new h
+line_runs line (asked.DriverTookAll name) old new h = once_to_runs (ups_named name old) line (λ u. DriverTook u (count_owed u old)) old new h
 line_runs line (asked.DriverDown name) old new h = once_to_runs (ups_named name old) line (λ u. DriverDown u) old new h
 line_runs line (asked.Tick seconds) old new h = once_runs line (Tick seconds) old new h
 line_runs line (asked.Open address) old new h = once_runs line (Open address) old new h
@@ -143,6 +195,7 @@ output_tells law list users descriptions max_age script output told =
       run = whole.run;
       clients = whole.clients;
       sent = whole.sent;
+      sent_to_driver = whole.driver;
       answered = λ c going.
           ap (λ (xs : List ℕ). xs ++ owed c told.end.server) (whole.sent c)
           ∙ sym ((law start told.end.server (events_of hs) (outcomes_of hs) (new_lawful list users descriptions max_age) whole.run c).while_open going);

@@ -6,16 +6,18 @@ use Rattle.nutusers.specs.UpsList.{Ups}
 use Rattle.nutusers.specs.Users.{User}
 use Rattle.nutusers.specs.Descriptions.{Descriptions}
 use Rattle.nutcore.specs.declared.event.Event.{Event}
-use Rattle.nutcore.specs.declared.event.Event.TheVariants.{DriverUp, DriverBytes, DriverDown, Tick, Open, Feed, Took, Close}
+use Rattle.nutcore.specs.declared.event.Event.TheVariants.{DriverUp, DriverBytes, DriverTook, DriverDown, Tick, Open, Feed, Took, Close}
+use Rattle.nutcore.specs.declared.event.Peer.TheVariants.{Client, Driver}
 use Rattle.nutcore.specs.declared.event.Outcome.{Outcome}
 use Rattle.nutcore.specs.Server.{ServerState, new_server}
 use Rattle.nutcore.specs.Run.{Run}
 use Rattle.nutcore.specs.History.{taken, answers, owed, is_closed}
+use Rattle.nutcore.specs.DriverOrders.{all_taken as driver_taken}
 use Rattle.upsd.specs.declared.script.Action.{Action}
 use Rattle.upsd.specs.declared.script.Action.TheVariants as asked
 use Rattle.upsd.specs.declared.script.ScriptLine.{ScriptLine}
 use Rattle.upsd.specs.Script.{actions_of}
-use Rattle.upsd.specs.Transcript.{Told, before, Happens, HappensTo, TakesAgain, all_taken, again, IsDone, AreDone, IsOutput, ups_named, opened_by, count_offered, sent_to}
+use Rattle.upsd.specs.Transcript.{Told, before, Happens, HappensTo, TakesAgain, all_taken, again, IsDone, AreDone, IsOutput, ups_named, opened_by, count_offered, count_owed, sent_to}
 
 pub record Happening : Type 0 where
   pub event : Event
@@ -46,6 +48,8 @@ abbrev pub of_line : (line : ℕ) (action : Action) (old new : Told) → IsDone 
 unfolding IsDone
 of_line line (asked.DriverUp name) old new h = once_to (ups_named name old) line (λ u. DriverUp u) old new h
 of_line line (asked.DriverBytes name piece) old new h = once_to (ups_named name old) line (λ u. DriverBytes u piece) old new h
+of_line line (asked.DriverTook name n) old new h = once_to (ups_named name old) line (λ u. DriverTook u n) old new h
+of_line line (asked.DriverTookAll name) old new h = once_to (ups_named name old) line (λ u. DriverTook u (count_owed u old)) old new h
 of_line line (asked.DriverDown name) old new h = once_to (ups_named name old) line (λ u. DriverDown u) old new h
 of_line line (asked.Tick seconds) old new h = once line (Tick seconds) old new h
 of_line line (asked.Open address) old new h = once line (Open address) old new h
@@ -59,12 +63,13 @@ abbrev pub of_lines : (lines : List ScriptLine) (old new : Told) → AreDone lin
 of_lines [] old new h = []
 of_lines (line ∷ lines) old new h = of_line line.number line.action old h.0 h.1 ++ of_lines lines h.0 new h.2
 
--- The clients listed are those that the run opened, in order. What is listed for a client is what it took in the run. While it is open, that, followed by what it is still owed, is the answers to its executed lines.
+-- The clients listed are those that the run opened, in order. What is listed for a client or a driver is what it took in the run. While it is open, that, followed by what it is still owed, is the answers to its executed lines.
 pub record TellsRun (start : ServerState) (hs : List Happening) (end : Told) : Type 0 where
   pub run : Run start (events_of hs) (outcomes_of hs) end.server
   pub clients : end.clients ≡ flat_map opened_by (outcomes_of hs)
-  pub sent : (c : ℕ) → sent_to c end.taken ≡ taken c start (events_of hs) (outcomes_of hs)
-  pub answered : (c : ℕ) → is_closed c end.server ≡ false → sent_to c end.taken ++ owed c end.server ≡ answers c start (events_of hs) (outcomes_of hs)
+  pub sent : (c : ℕ) → sent_to (Client c) end.taken ≡ taken c start (events_of hs) (outcomes_of hs)
+  pub sent_to_driver : (u : UpsId) → sent_to (Driver u) end.taken ≡ driver_taken u start (events_of hs) (outcomes_of hs)
+  pub answered : (c : ℕ) → is_closed c end.server ≡ false → sent_to (Client c) end.taken ++ owed c end.server ≡ answers c start (events_of hs) (outcomes_of hs)
 
 -- The output of a script tells of the one run of all its events.
 abbrev pub AnOutputTellsOneRun : Type 0

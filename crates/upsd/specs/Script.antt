@@ -5,12 +5,13 @@ use Rattle.std.specs.Option.{option_map}
 use Rattle.std.specs.Result.{result_ok}
 use Rattle.std.specs.Str.{bytes_eq}
 use Rattle.std.specs.Str.Parse.{digits_value}
+use Rattle.hex.specs.Hex.{decode_of}
 use Rattle.nutwords.specs.Reading.{read_ups_name, read_address}
 use Rattle.nutcore.specs.Lines.{with_lf}
 use Rattle.upsd.specs.declared.script.Action.{Action}
-use Rattle.upsd.specs.declared.script.Action.TheVariants.{DriverUp, DriverBytes, DriverDown, Tick, Open, Feed, Took, TookAll, Close}
+use Rattle.upsd.specs.declared.script.Action.TheVariants.{DriverUp, DriverBytes, DriverTook, DriverTookAll, DriverDown, Tick, Open, Feed, Took, TookAll, Close}
 use Rattle.upsd.specs.declared.script.Verb.{Verb}
-use Rattle.upsd.specs.declared.script.Verb.TheVariants.{Up, Down, Driver, DriverPart, TickTo, OpenFrom, Client, Part, TookBy, CloseOf}
+use Rattle.upsd.specs.declared.script.Verb.TheVariants.{Up, Down, Driver, DriverPart, DriverHex, DriverTookBy, TickTo, OpenFrom, Client, Part, ClientHex, TookBy, CloseOf}
 use Rattle.upsd.specs.declared.script.Saying.{Saying}
 use Rattle.upsd.specs.declared.script.Saying.TheVariants.{Nothing, Does, Bad}
 use Rattle.upsd.specs.declared.script.ScriptLine.{ScriptLine}
@@ -41,10 +42,13 @@ verb_of word =
     else if bytes_eq word (codes "down") then Some Down
     else if bytes_eq word (codes "driver") then Some Driver
     else if bytes_eq word (codes "driver-part") then Some DriverPart
+    else if bytes_eq word (codes "driver-hex") then Some DriverHex
+    else if bytes_eq word (codes "driver-took") then Some DriverTookBy
     else if bytes_eq word (codes "tick") then Some TickTo
     else if bytes_eq word (codes "open") then Some OpenFrom
     else if bytes_eq word (codes "client") then Some Client
     else if bytes_eq word (codes "part") then Some Part
+    else if bytes_eq word (codes "client-hex") then Some ClientHex
     else if bytes_eq word (codes "took") then Some TookBy
     else if bytes_eq word (codes "close") then Some CloseOf
     else None
@@ -87,16 +91,45 @@ abbrev pub taking_by : Option (ℕ × List ℕ) → Option Action
 taking_by None = None
 taking_by (Some parts) = taking parts.0 parts.1
 
+abbrev pub driver_taking : List ℕ → List ℕ → Option Action
+driver_taking ups count = if bytes_eq count (codes "all") then Some (DriverTookAll ups) else option_map (λ n. DriverTook ups n) (number count)
+
+abbrev pub driver_taking_by : Option (List ℕ × List ℕ) → Option Action
+driver_taking_by None = None
+driver_taking_by (Some parts) = driver_taking parts.0 parts.1
+
+-- The bytes that an even number of hexadecimal digits writes, in either case, two digits at least.
+abbrev pub hex_bytes : List ℕ → Option (List ℕ)
+hex_bytes digits = if length digits == 0 then None else result_ok (decode_of digits)
+
+-- Bytes that are written so.
+abbrev pub driver_hex : List ℕ → List ℕ → Option Action
+driver_hex ups digits = option_map (λ piece. DriverBytes ups piece) (hex_bytes digits)
+
+abbrev pub driver_hex_by : Option (List ℕ × List ℕ) → Option Action
+driver_hex_by None = None
+driver_hex_by (Some parts) = driver_hex parts.0 parts.1
+
+abbrev pub client_hex : ℕ → List ℕ → Option Action
+client_hex c digits = option_map (λ piece. Feed c piece) (hex_bytes digits)
+
+abbrev pub client_hex_by : Option (ℕ × List ℕ) → Option Action
+client_hex_by None = None
+client_hex_by (Some parts) = client_hex parts.0 parts.1
+
 -- What the verb says of the bytes behind its space.
 abbrev pub said_by : Verb → List ℕ → Option Action
 said_by Up text = option_map (λ u. DriverUp u) (ups_name text)
 said_by Down text = option_map (λ u. DriverDown u) (ups_name text)
 said_by Driver text = option_map (λ p. DriverBytes p.0 (with_lf p.1)) (ups_and_rest text)
 said_by DriverPart text = option_map (λ p. DriverBytes p.0 p.1) (ups_and_rest text)
+said_by DriverHex text = driver_hex_by (ups_and_rest text)
+said_by DriverTookBy text = driver_taking_by (ups_and_rest text)
 said_by TickTo text = option_map (λ n. Tick n) (number text)
 said_by OpenFrom text = option_map (λ a. Open a) (address text)
 said_by Client text = option_map (λ p. Feed p.0 (with_lf p.1)) (client_and_rest text)
 said_by Part text = option_map (λ p. Feed p.0 p.1) (client_and_rest text)
+said_by ClientHex text = client_hex_by (client_and_rest text)
 said_by TookBy text = taking_by (client_and_rest text)
 said_by CloseOf text = option_map (λ c. Close c) (number text)
 

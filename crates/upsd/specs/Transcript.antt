@@ -1,5 +1,5 @@
 -- What replaying a script does to the server, and what is told of it.
-use Rattle.std.specs.Prelude.{◌≡◌, ◌≢◌, ℕ, ◌-◌, List, [], ◌∷◌, ◌++◌, Option, Some, None, ◌==◌, nat_lt, if◌then◌else◌, length, slice_get, codes}
+use Rattle.std.specs.Prelude.{◌≡◌, ◌≢◌, ℕ, ◌+◌, ◌-◌, Bool, false, List, [], ◌∷◌, ◌++◌, Option, Some, None, ◌==◌, nat_lt, if◌then◌else◌, length, slice_get, codes}
 use Rattle.std.specs.List.{flat_map}
 use Rattle.std.specs.Option.{option_map}
 use Rattle.std.specs.Fmt.{decimal}
@@ -8,15 +8,20 @@ use Rattle.nutusers.specs.UpsList.{Ups, place_of, id_at}
 use Rattle.nutusers.specs.Users.{User}
 use Rattle.nutusers.specs.Descriptions.{Descriptions}
 use Rattle.nutcore.specs.declared.event.Event.{Event}
-use Rattle.nutcore.specs.declared.event.Event.TheVariants.{DriverUp, DriverBytes, DriverDown, Tick, Open, Feed, Took, Close}
+use Rattle.nutcore.specs.declared.event.Event.TheVariants.{DriverUp, DriverBytes, DriverTook, DriverDown, Tick, Open, Feed, Took, Close}
+use Rattle.nutcore.specs.declared.event.Peer.{Peer}
+use Rattle.nutcore.specs.declared.event.Peer.TheVariants.{Client, Driver}
 use Rattle.nutcore.specs.declared.event.Outcome.{Outcome}
 use Rattle.nutcore.specs.declared.event.Outcome.TheVariants.{Done, Fed, Opened, Refused}
 use Rattle.nutcore.specs.declared.event.Fault.{Fault}
 use Rattle.nutcore.specs.declared.event.Fault.TheVariants.{NoSuchUps}
 use Rattle.nutcore.specs.Numbers.{number_of_fault}
-use Rattle.nutcore.specs.Server.{ServerState, session, new_server}
+use Rattle.nutcore.specs.Server.{ServerState, session, ups_at, new_server}
+use Rattle.nutcore.specs.Ups.{UpsState}
 use Rattle.nutcore.specs.Step.{Step, offered}
 use Rattle.nutcore.specs.History.{taken_in_event}
+use Rattle.nutcore.specs.DriverOrders.{taken_in_event as driver_taken_in_event}
+use Rattle.nutcore.specs.Calls.{owed_to}
 use Rattle.upsd.specs.declared.script.Action.{Action}
 use Rattle.upsd.specs.declared.script.Action.TheVariants as asked
 use Rattle.upsd.specs.declared.script.ScriptLine.{ScriptLine}
@@ -24,7 +29,7 @@ use Rattle.upsd.specs.declared.transcript.Taken.{Taken}
 use Rattle.upsd.specs.declared.transcript.Transcript.{Transcript}
 use Rattle.upsd.specs.Script.{actions_of}
 
--- server: after the events so far. text: what was told of them. clients: the ids, in the order of opening. taken: what clients took, in order.
+-- server: after the events so far. text: what was told of them. clients: the ids, in the order of opening. taken: what clients and drivers took, in order.
 pub record Told : Type 0 where
   pub server : ServerState
   pub text : List ℕ
@@ -67,9 +72,14 @@ abbrev pub opened_by : Outcome → List ℕ
 opened_by (Opened c) = c ∷ []
 opened_by _ = []
 
--- What a client takes by the event, and its id. It is what the server counts as taken.
+-- What one of them took.
+abbrev pub taken_of : Peer → List ℕ → List Taken
+taken_of peer bytes = record { peer = peer; bytes = bytes } ∷ []
+
+-- What a client or a driver takes by the event, and which it is. It is what the server counts as taken.
 abbrev pub taken_by : ServerState → Event → List Taken
-taken_by s (Took c n) = record { client = c; bytes = taken_in_event c s (Took c n) } ∷ []
+taken_by s (Took c n) = taken_of (Client c) (taken_in_event c s (Took c n))
+taken_by s (DriverTook u n) = taken_of (Driver u) (driver_taken_in_event u s (DriverTook u n))
 taken_by s _ = []
 
 -- One event of a line happens to the server, and is told.
@@ -98,6 +108,14 @@ abbrev pub HappensTo : Option UpsId → ℕ → (UpsId → Event) → Told → T
 HappensTo None line event old new = new ≡ record old { text = old.text ++ refusal line NoSuchUps }
 HappensTo (Some u) line event old new = Happens line (event u) old new
 
+-- How many bytes the driver is offered.
+abbrev pub owed_of : Option UpsState → List ℕ
+owed_of None = []
+owed_of (Some x) = owed_to x
+
+abbrev pub count_owed : UpsId → Told → ℕ
+count_owed u t = length (owed_of (ups_at u.place t.server))
+
 abbrev pub ups_named : List ℕ → Told → Option UpsId
 ups_named name t = option_map id_at (place_of name t.server.list)
 
@@ -105,6 +123,8 @@ ups_named name t = option_map id_at (place_of name t.server.list)
 unfoldable pub IsDone : ℕ → Action → Told → Told → Type 0
 IsDone line (asked.DriverUp name) old new = HappensTo (ups_named name old) line (λ u. DriverUp u) old new
 IsDone line (asked.DriverBytes name piece) old new = HappensTo (ups_named name old) line (λ u. DriverBytes u piece) old new
+IsDone line (asked.DriverTook name n) old new = HappensTo (ups_named name old) line (λ u. DriverTook u n) old new
+IsDone line (asked.DriverTookAll name) old new = HappensTo (ups_named name old) line (λ u. DriverTook u (count_owed u old)) old new
 IsDone line (asked.DriverDown name) old new = HappensTo (ups_named name old) line (λ u. DriverDown u) old new
 IsDone line (asked.Tick seconds) old new = Happens line (Tick seconds) old new
 IsDone line (asked.Open address) old new = Happens line (Open address) old new
@@ -120,10 +140,16 @@ AreDone (line ∷ lines) old new = (mid : Told) × IsDone line.number line.actio
 
 -- The whole text.
 
--- The bytes that the client took, in order.
-abbrev pub sent_to : ℕ → List Taken → List ℕ
-sent_to c [] = []
-sent_to c (t ∷ ts) = (if t.client == c then t.bytes else []) ++ sent_to c ts
+abbrev pub is_same : Peer → Peer → Bool
+is_same (Client c) (Client d) = c == d
+is_same (Driver u) (Driver v) = u.place == v.place
+is_same (Client c) (Driver u) = false
+is_same (Driver u) (Client c) = false
+
+-- The bytes that the client or the driver took, in order.
+abbrev pub sent_to : Peer → List Taken → List ℕ
+sent_to p [] = []
+sent_to p (t ∷ ts) = (if is_same t.peer p then t.bytes else []) ++ sent_to p ts
 
 -- An LF, unless there is nothing to end or it ends with one.
 abbrev pub ending_of : Option ℕ → List ℕ
@@ -135,18 +161,19 @@ abbrev pub sent_part : List ℕ → List ℕ → List ℕ
 sent_part peer sent = peer ++ codes " sent " ++ decimal (length sent) ++ (codes " bytes" ++ 10 ∷ []) ++ sent ++ ending_of (slice_get sent (length sent - 1))
 
 abbrev pub client_part : List Taken → ℕ → List ℕ
-client_part taken c = sent_part (codes "client " ++ decimal c) (sent_to c taken)
+client_part taken c = sent_part (codes "client " ++ decimal c) (sent_to (Client c) taken)
 
--- Nothing is sent to a driver yet.
-abbrev pub named_part : List ℕ → List ℕ
-named_part name = sent_part (codes "driver " ++ name) []
+abbrev pub driver_part : List Taken → ℕ → List ℕ → List ℕ
+driver_part taken place name = sent_part (codes "driver " ++ name) (sent_to (Driver (id_at place)) taken)
 
-abbrev pub driver_part : Ups → List ℕ
-driver_part ups = named_part ups.name
+-- The drivers of the UPSs that stand from this place on.
+abbrev pub drivers_part : List Taken → ℕ → List Ups → List ℕ
+drivers_part taken place [] = []
+drivers_part taken place (ups ∷ list) = driver_part taken place ups.name ++ drivers_part taken (place + 1) list
 
 -- What was told of the events, then each client in the order of opening, then each UPS of the list, which is in byte order.
 unfoldable pub whole_text : Told → List ℕ
-whole_text t = t.text ++ flat_map (client_part t.taken) t.clients ++ flat_map driver_part t.server.list
+whole_text t = t.text ++ flat_map (client_part t.taken) t.clients ++ drivers_part t.taken 0 t.server.list
 
 -- The output of a script over these UPSs, users and descriptions: what the actions of its lines, in order, do to a new server.
 pub record IsOutput (list : List Ups) (users : List User) (descriptions : Descriptions) (max_age : ℕ) (script output : List ℕ) : Type 0 where

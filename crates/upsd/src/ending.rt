@@ -4,6 +4,7 @@ ghost use Rattle.nutusers.specs.File.{number_of_cause};
 ghost use Rattle.upsd.specs.Ending.{IsToldOf, ending_of_replay};
 
 use crate::replay::ReplayFault;
+use nutloop::LoopFault;
 use nutusers::{Cause, ConfFault};
 use thiserror::Error;
 
@@ -43,6 +44,12 @@ pub enum Ending<'a> {
     /// The output failed.
     #[error("write failed")]
     Write,
+    /// The address can't be listened at.
+    #[error("cannot listen")]
+    Listen,
+    /// The loop can't go on.
+    #[error("{0}")]
+    Loop(LoopFault),
 }
 
 /// How the program ends where the configuration file is refused so.

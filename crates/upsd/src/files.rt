@@ -1,7 +1,5 @@
 //! The files that the program's words name, and what their bytes mean.
-ghost use Rattle.std.specs.Prelude.{◌≡◌, ◌⊎◌, ◌∷◌, [], codes, IfOk, IfErr, IfSome, MatchOption, None, Some, Ok, option_map};
-ghost use Rattle.clap.specs.Words.{first_value};
-ghost use Rattle.clap.specs.Matches.{found_of};
+ghost use Rattle.std.specs.Prelude.{◌≡◌, ◌⊎◌, ◌∷◌, [], codes, IfOk, IfErr, IfSome, None, Some, Ok, option_map};
 ghost use Rattle.nutwords.specs.Text.{lines_of};
 ghost use Rattle.nutusers.specs.File.{Means};
 ghost use Rattle.nutusers.specs.UpsFile.{ups_format, adds_ups, IsUpsList};
@@ -21,27 +19,46 @@ use nutwords::UpsName;
 use std::alloc::{AllocError, Global};
 use std::{fs, io};
 
-/// The files that the words of `replay` name, as they were typed.
+/// The configuration files that the words name, as they were typed.
 #[derive(Clone, Copy)]
 pub struct Files<'a> {
     pub ups: Option<&'a str>,
     pub users: Option<&'a str>,
     pub vars: Option<&'a str>,
-    pub script: &'a str,
 }
 
-/// Which of the words is which file, or `None` where no script is named.
-pub fn files_named<'a>(found: &ArgMatches<'a>) -> Option<Files<'a>>
-    ensures { MatchOption result
-        (first_value (found_of found.now) (codes "SCRIPT") ≡ None)
-        (λ files. AreNamedIn found.now files) }
+/// Which of the words is which file.
+pub fn files_named<'a>(found: &ArgMatches<'a>) -> Files<'a>
+    ensures { AreNamedIn found.now result }
 {
-    let script = found.get_str("SCRIPT")?;
-    Some(Files {
+    Files {
         ups: found.get_str("ups"),
         users: found.get_str("users"),
         vars: found.get_str("vars"),
-        script,
+    }
+}
+
+/// What the configuration files mean.
+#[derive(Drop)]
+pub struct Configuration {
+    pub list: UpsList,
+    pub users: Users,
+    pub descriptions: Descriptions,
+}
+
+/// What these files mean. Each file is read and judged before the next one is opened.
+///
+/// # Errors
+///
+/// The first file that can't be read or is refused; `Memory`.
+pub fn configuration_in<'a>(
+    rt: &HostRuntime,
+    files: Files<'a>,
+) -> Result<Configuration, Ending<'a>> {
+    Ok(Configuration {
+        list: list_in(rt.alloc(), read_named(rt, files.ups)?)?,
+        users: users_in(rt.alloc(), read_named(rt, files.users)?)?,
+        descriptions: descriptions_in(rt.alloc(), read_named(rt, files.vars)?)?,
     })
 }
 
@@ -52,20 +69,25 @@ struct File<'a> {
     bytes: Vec<u8>,
 }
 
-/// `upsd replay`: replays the script of the file over the UPSs, users and descriptions of theirs. Each
-/// file is read and judged before the next one is opened.
+/// `upsd replay`: replays the script of the file over the UPSs, users and descriptions of theirs.
 ///
 /// # Errors
 ///
-/// The first file that can't be read or is refused; `Memory`; `Write`.
-pub fn replay_files<'a>(rt: &HostRuntime, files: Files<'a>) -> Result<(), Ending<'a>> {
-    let list = list_in(rt.alloc(), read_named(rt, files.ups)?)?;
-    let users = users_in(rt.alloc(), read_named(rt, files.users)?)?;
-    let descriptions = descriptions_in(rt.alloc(), read_named(rt, files.vars)?)?;
-    let script = read(rt, files.script)?;
+/// The first file that can't be read or is refused, the script last; `BadEvent`; `Memory`; `Write`.
+pub fn replay_files<'a>(
+    rt: &HostRuntime,
+    files: Files<'a>,
+    script: &'a str,
+) -> Result<(), Ending<'a>> {
+    let Configuration {
+        list,
+        users,
+        descriptions,
+    } = configuration_in(rt, files)?;
+    let events = read(rt, script)?;
     let mut out = CountedWriter::new(io::writer(rt));
-    let replayed = replay(rt.alloc(), list, users, descriptions, &script, &mut out);
-    ended(files.script, replayed)
+    let replayed = replay(rt.alloc(), list, users, descriptions, &events, &mut out);
+    ended(script, replayed)
 }
 
 /// The UPSs that the file's bytes mean. Without a file `su` alone.

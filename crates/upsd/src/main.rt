@@ -7,18 +7,23 @@ ghost use Rattle.clap.specs.Words.{kind_of};
 
 mod ending;
 mod files;
+mod journal;
 mod laws;
 mod replay;
 mod script;
+mod serve;
 #[cfg(test)]
 mod tests;
 mod transcript;
 
 use crate::ending::{DONE, Ending, FAULT, WORD_FAULT, status_of};
 use crate::files::{files_named, replay_files};
+use crate::serve::{DEFAULT_ADDRESS, serve_files, service_named};
+use clap::builder::ValueParser;
 use clap::error::ErrorKind;
 use clap::{Arg, ArgMatches, Command, Error};
-use std::alloc::Global;
+use nutcore::{MAX_AGE_LEAST, MAX_AGE_MOST};
+use std::alloc::{AllocError, Global};
 use std::process::ExitCode;
 use std::{env, io};
 
@@ -32,8 +37,7 @@ fn main(rt: HostRuntime) -> ExitCode {
             if error.kind() == io::ErrorKind::OutOfMemory {
                 return end_without_memory(&rt);
             }
-            let _ = eprintln!(rt; "upsd: bad argument");
-            return ExitCode::from(WORD_FAULT);
+            return end_at_bad_argument(&rt);
         }
     };
     match matches_of(rt.alloc(), &words) {
@@ -44,32 +48,69 @@ fn main(rt: HostRuntime) -> ExitCode {
 
 /// What the words say.
 fn matches_of(alloc: Global, words: &[String]) -> Result<ArgMatches<'_>, Error> {
-    let ups = Arg::new(alloc, "ups")
-        .long("ups")
-        .value_name("F")
-        .help("The file of the UPSs [without it: su alone]");
-    let users = Arg::new(alloc, "users")
-        .long("users")
-        .value_name("F")
-        .help("The file of the users [without it: none]");
-    let vars = Arg::new(alloc, "vars")
-        .long("vars")
-        .value_name("F")
-        .help("The file of the descriptions [without it: none]");
-    let script = Arg::new(alloc, "SCRIPT")
-        .required(true)
-        .help("The script's file");
-    let replay = Command::new(alloc, "replay")
-        .about("Replays a script of events, and prints what was sent")
-        .arg(ups)?
-        .arg(users)?
-        .arg(vars)?
-        .arg(script)?;
     let upsd = Command::new(alloc, "upsd")
         .about("A UPS server (RFC 9271)")
         .subcommand_required(true)
-        .subcommand(replay)?;
+        .subcommand(serve_command(alloc)?)?
+        .subcommand(replay_command(alloc)?)?;
     upsd.try_get_matches_from(words)
+}
+
+/// The words of `serve`.
+fn serve_command<'a>(alloc: Global) -> Result<Command<'a>, AllocError> {
+    let ups = file(alloc, "ups", "The file of the UPSs").required(true);
+    let users = file(alloc, "users", "The file of the users").required(true);
+    let vars = file(
+        alloc,
+        "vars",
+        "The file of the descriptions [without it: none]",
+    );
+    let listen = Arg::new(alloc, "listen")
+        .long("listen")
+        .value_name("A:P")
+        .default_value(DEFAULT_ADDRESS)
+        .help("The IP address and port for clients");
+    let max_age = Arg::new(alloc, "maxage")
+        .long("maxage")
+        .value_name("N")
+        .value_parser(ValueParser::unsigned(MAX_AGE_LEAST as u64, MAX_AGE_MOST as u64))
+        .help(
+            "After how many seconds without a line of its driver a UPS is stale [without it: 15]",
+        );
+    Command::new(alloc, "serve")
+        .about("Serves clients over the network what the UPSs' drivers tell")
+        .after_help("Example: upsd serve --ups ups.conf --users upsd.users --listen 127.0.0.1:3493")
+        .arg(ups)?
+        .arg(users)?
+        .arg(vars)?
+        .arg(listen)?
+        .arg(max_age)
+}
+
+/// The words of `replay`.
+fn replay_command<'a>(alloc: Global) -> Result<Command<'a>, AllocError> {
+    let ups = file(alloc, "ups", "The file of the UPSs [without it: su alone]");
+    let users = file(alloc, "users", "The file of the users [without it: none]");
+    let vars = file(
+        alloc,
+        "vars",
+        "The file of the descriptions [without it: none]",
+    );
+    let script = Arg::new(alloc, "SCRIPT")
+        .required(true)
+        .help("The script's file");
+    Command::new(alloc, "replay")
+        .about("Replays a script of events, and prints what was sent")
+        .after_help("Example: upsd replay data/first.txt")
+        .arg(ups)?
+        .arg(users)?
+        .arg(vars)?
+        .arg(script)
+}
+
+/// The word that names a file.
+fn file<'a>(alloc: Global, name: &'a str, help: &'a str) -> Arg<'a> {
+    Arg::new(alloc, name).long(name).value_name("F").help(help)
 }
 
 /// Prints what the parser of the words says: the help, or a fault of the words.
@@ -87,15 +128,30 @@ fn end(rt: &HostRuntime, error: &Error) -> ExitCode
     ExitCode::from(if error.use_stderr() { WORD_FAULT } else { 0 })
 }
 
-/// Replays what the words name.
+/// Serves or replays what the words name.
 fn run(rt: &HostRuntime, matches: &ArgMatches<'_>) -> ExitCode {
-    let Some((_, found)) = matches.subcommand() else {
+    let Some((name, found)) = matches.subcommand() else {
         return ExitCode::from(WORD_FAULT);
     };
-    let Some(files) = files_named(found) else {
+    let files = files_named(found);
+    if name == "serve" {
+        let Some(service) = service_named(found) else {
+            return end_at_bad_argument(rt);
+        };
+        return finish(rt, &serve_files(rt, files, service));
+    }
+    let Some(script) = found.get_str("SCRIPT") else {
         return ExitCode::from(WORD_FAULT);
     };
-    finish(rt, &replay_files(rt, files))
+    finish(rt, &replay_files(rt, files, script))
+}
+
+/// Ends the program, since one of its words isn't what it has to be.
+fn end_at_bad_argument(rt: &HostRuntime) -> ExitCode
+    ensures { exit_status result ≡ WORD_FAULT }
+{
+    let _ = eprintln!(rt; "upsd: bad argument");
+    ExitCode::from(WORD_FAULT)
 }
 
 /// Ends the program, and tells why where it isn't done.

@@ -3,9 +3,10 @@ ghost use Rattle.std.specs.Prelude.{◌≡◌, ◌<◌, ◌⊎◌, ◌+◌, ◌-
 ghost use Rattle.std.specs.List.{find, list_all};
 ghost use Rattle.std.specs.Str.Parse.{digits_value};
 ghost use Rattle.nutcore.specs.Lines.{with_lf};
-ghost use Rattle.upsd.specs.Script.{lines_of, is_blank, is_silent, split_at_space, verb_of, is_digit, is_numeral, below_limit, number, ups_name, address, ups_and_rest, client_and_rest, taking, said_by, said, says, actions_of, first_bad_line};
+ghost use Rattle.upsd.specs.Script.{lines_of, is_blank, is_silent, split_at_space, verb_of, is_digit, is_numeral, below_limit, number, ups_name, address, ups_and_rest, client_and_rest, taking, driver_taking, hex_bytes, driver_hex_by, client_hex_by, said_by, said, says, actions_of, first_bad_line};
 
 use crate::replay::ReplayFault;
+use hex::FromHexError;
 use nutcore::{Bytes, ClientId};
 use nutwords::{Address, UpsName};
 use std::alloc::{AllocError, Global};
@@ -17,6 +18,10 @@ pub enum Action {
     DriverUp(UpsName),
     /// Bytes come from the driver of the UPS of this name.
     DriverBytes(UpsName, Bytes),
+    /// The driver of the UPS of this name takes so many of the bytes that it is offered.
+    DriverTook(UpsName, usize),
+    /// The driver of the UPS of this name takes all that it is offered.
+    DriverTookAll(UpsName),
     /// The driver of the UPS of this name is lost.
     DriverDown(UpsName),
     /// The clock is at so many seconds.
@@ -62,6 +67,10 @@ enum Verb {
     Driver,
     /// `driver-part U REST`
     DriverPart,
+    /// `driver-hex U DIGITS`
+    DriverHex,
+    /// `driver-took U COUNT`
+    DriverTookBy,
     /// `tick S`
     TickTo,
     /// `open ADDRESS`
@@ -70,6 +79,8 @@ enum Verb {
     Client,
     /// `part N REST`
     Part,
+    /// `client-hex N DIGITS`
+    ClientHex,
     /// `took N COUNT`
     TookBy,
     /// `close N`
@@ -89,6 +100,10 @@ impl Verb {
             Some(Verb::Driver)
         } else if word == b"driver-part".as_slice() {
             Some(Verb::DriverPart)
+        } else if word == b"driver-hex".as_slice() {
+            Some(Verb::DriverHex)
+        } else if word == b"driver-took".as_slice() {
+            Some(Verb::DriverTookBy)
         } else if word == b"tick".as_slice() {
             Some(Verb::TickTo)
         } else if word == b"open".as_slice() {
@@ -97,6 +112,8 @@ impl Verb {
             Some(Verb::Client)
         } else if word == b"part".as_slice() {
             Some(Verb::Part)
+        } else if word == b"client-hex".as_slice() {
+            Some(Verb::ClientHex)
         } else if word == b"took".as_slice() {
             Some(Verb::TookBy)
         } else if word == b"close".as_slice() {
@@ -114,8 +131,11 @@ impl Verb {
 /// `BadEvent` with the number of the first line that says nothing that a script may say, and
 /// `Memory`.
 pub fn read_script(alloc: Global, script: &[u8]) -> Result<Vec<ScriptLine>, ReplayFault>
-    ensures ok { IfOk result (λ lines. (first_bad_line script.now ≡ None) × (lines.items ≡ actions_of script.now)) }
-    ensures err { IfErr result (λ fault. (fault ≡ ReplayFault.Memory) ⊎ ((n : ℕ) × (fault ≡ ReplayFault.BadEvent n) × (first_bad_line script.now ≡ Some n))) }
+    ensures ok { IfOk result (λ lines. (first_bad_line script.now ≡ None)
+        × (lines.items ≡ actions_of script.now)) }
+    ensures err { IfErr result
+        (λ fault. (fault ≡ ReplayFault.Memory)
+        ⊎ ((n : ℕ) × (fault ≡ ReplayFault.BadEvent n) × (first_bad_line script.now ≡ Some n))) }
 {
     let texts = lines_of(alloc, script)?;
     let mut lines = Vec::new(alloc);
@@ -203,6 +223,10 @@ fn action_of(alloc: Global, verb: Verb, text: &[u8]) -> Result<Option<Action>, A
             Some((c, count)) => taking(c, count),
             None => None,
         },
+        Verb::DriverTookBy => match ups_and_rest(text) {
+            Some((ups, count)) => driver_taking(ups, count),
+            None => None,
+        },
         Verb::Driver => match ups_and_rest(text) {
             Some((ups, rest)) => Some(Action::DriverBytes(ups, whole_line(alloc, rest)?)),
             None => None,
@@ -211,6 +235,7 @@ fn action_of(alloc: Global, verb: Verb, text: &[u8]) -> Result<Option<Action>, A
             Some((ups, rest)) => Some(Action::DriverBytes(ups, piece(alloc, rest)?)),
             None => None,
         },
+        Verb::DriverHex => driver_hex(alloc, text)?,
         Verb::Client => match client_and_rest(text) {
             Some((c, rest)) => Some(Action::Feed(c, whole_line(alloc, rest)?)),
             None => None,
@@ -219,6 +244,7 @@ fn action_of(alloc: Global, verb: Verb, text: &[u8]) -> Result<Option<Action>, A
             Some((c, rest)) => Some(Action::Feed(c, piece(alloc, rest)?)),
             None => None,
         },
+        Verb::ClientHex => client_hex(alloc, text)?,
     })
 }
 
@@ -235,9 +261,59 @@ fn taking(c: ClientId, count: &[u8]) -> Option<Action>
     }
 }
 
+/// What a driver takes: so many bytes, or `all`.
+fn driver_taking(ups: UpsName, count: &[u8]) -> Option<Action>
+    ensures { result ≡ driver_taking ups count.now }
+{
+    if count == b"all".as_slice() {
+        return Some(Action::DriverTookAll(ups));
+    }
+    match read_number(count) {
+        Some(n) => Some(Action::DriverTook(ups, n as usize)),
+        None => None,
+    }
+}
+
+/// What the driver of a UPS sends, written in hexadecimal digits.
+fn driver_hex(alloc: Global, text: &[u8]) -> Result<Option<Action>, AllocError>
+    ensures { IfOk result (λ action. action ≡ driver_hex_by (ups_and_rest text.now)) }
+{
+    let Some((ups, digits)) = ups_and_rest(text) else {
+        return Ok(None);
+    };
+    let piece = hex_bytes(alloc, digits)?;
+    Ok(piece.map(|piece| Action::DriverBytes(ups, piece)))
+}
+
+/// What a client sends, written in hexadecimal digits.
+fn client_hex(alloc: Global, text: &[u8]) -> Result<Option<Action>, AllocError>
+    ensures { IfOk result (λ action. action ≡ client_hex_by (client_and_rest text.now)) }
+{
+    let Some((c, digits)) = client_and_rest(text) else {
+        return Ok(None);
+    };
+    let piece = hex_bytes(alloc, digits)?;
+    Ok(piece.map(|piece| Action::Feed(c, piece)))
+}
+
+/// The bytes that an even number of hexadecimal digits writes, two digits at least.
+fn hex_bytes(alloc: Global, digits: &[u8]) -> Result<Option<Bytes>, AllocError>
+    ensures { IfOk result (λ bytes. bytes ≡ hex_bytes digits.now) }
+{
+    if digits.is_empty() {
+        return Ok(None);
+    }
+    match hex::decode(alloc, digits) {
+        Ok(bytes) => Ok(Some(Bytes::new(bytes))),
+        Err(FromHexError::OutOfMemory) => Err(AllocError),
+        Err(_) => Ok(None),
+    }
+}
+
 /// The name of a UPS and the bytes behind the space that follows it.
 fn ups_and_rest(text: &[u8]) -> Option<(UpsName, &[u8])>
-    ensures { MatchOption result (ups_and_rest text.now ≡ None) (λ p. ups_and_rest text.now ≡ Some (p.0, p.1.now)) }
+    ensures { MatchOption result (ups_and_rest text.now ≡ None)
+        (λ p. ups_and_rest text.now ≡ Some (p.0, p.1.now)) }
 {
     let (first, rest) = split_at_space(text)?;
     let ups = ups_name(first)?;
@@ -246,7 +322,8 @@ fn ups_and_rest(text: &[u8]) -> Option<(UpsName, &[u8])>
 
 /// A client's id and the bytes behind the space that follows it.
 fn client_and_rest(text: &[u8]) -> Option<(ClientId, &[u8])>
-    ensures { MatchOption result (client_and_rest text.now ≡ None) (λ p. client_and_rest text.now ≡ Some (p.0, p.1.now)) }
+    ensures { MatchOption result (client_and_rest text.now ≡ None)
+        (λ p. client_and_rest text.now ≡ Some (p.0, p.1.now)) }
 {
     let (first, rest) = split_at_space(text)?;
     let c = read_number(first)?;
@@ -261,7 +338,8 @@ fn ups_name(text: &[u8]) -> Option<UpsName>
 
 /// The bytes before the first space and those behind it.
 fn split_at_space(line: &[u8]) -> Option<(&[u8], &[u8])>
-    ensures { MatchOption result (split_at_space line.now ≡ None) (λ p. split_at_space line.now ≡ Some (p.0.now, p.1.now)) }
+    ensures { MatchOption result (split_at_space line.now ≡ None)
+        (λ p. split_at_space line.now ≡ Some (p.0.now, p.1.now)) }
 {
     let i = space_in(line)?;
     Some((&line[..i], &line[i + 1..]))

@@ -400,7 +400,8 @@ fn names_the_first_bad_line(rt: HostRuntime) -> Result<(), Fail> {
         (b"close 1 ".as_slice(), 1),
         (b"close 1\t".as_slice(), 1),
         (b"tick 01".as_slice(), 1),
-        (b"driver-took su all".as_slice(), 1),
+        (b"driver-took su".as_slice(), 1),
+        (b"driver-took su ALL".as_slice(), 1),
         (b"hello su".as_slice(), 1),
         (b"\0".as_slice(), 1),
         (b" \r\n".as_slice(), 1),
@@ -410,6 +411,65 @@ fn names_the_first_bad_line(rt: HostRuntime) -> Result<(), Fail> {
         let (answer, out) = told(rt.alloc(), script)?;
         assert_eq!(rt; answer, Err(ReplayFault::BadEvent(line)));
         assert!(rt; out.is_empty());
+    }
+    Ok(())
+}
+
+#[test]
+fn names_the_line_of_bad_digits(rt: HostRuntime) -> Result<(), Fail> {
+    for line in [
+        b"client-hex 1".as_slice(),
+        b"client-hex 1 ".as_slice(),
+        b"client-hex 1 5".as_slice(),
+        b"client-hex 1 564".as_slice(),
+        b"client-hex 1 5G".as_slice(),
+        b"client-hex 1 56 45".as_slice(),
+        b"client-hex 1 56 ".as_slice(),
+        b"client-hex 1 0x56".as_slice(),
+        b"client-hex 01 56".as_slice(),
+        b"client-hex su 56".as_slice(),
+        b"Client-hex 1 56".as_slice(),
+        b"driver-hex su".as_slice(),
+        b"driver-hex su ".as_slice(),
+        b"driver-hex su 0".as_slice(),
+        b"driver-hex su 0g".as_slice(),
+        b"driver-hex s/u 56".as_slice(),
+    ] {
+        let script = joined(rt.alloc(), &[b"up su\nclient-hex 7 00\n", line])?;
+        let (answer, out) = told(rt.alloc(), &script)?;
+        assert_eq!(rt; answer, Err(ReplayFault::BadEvent(3)));
+        assert!(rt; out.is_empty());
+    }
+    Ok(())
+}
+
+#[test]
+fn takes_bytes_of_digits_as_they_are(rt: HostRuntime) -> Result<(), Fail> {
+    for (script, want) in [
+        (
+            b"open a\nclient-hex 1 5645520A0A\ntook 1 all".as_slice(),
+            b"client 1 sent 34 bytes\nNetwork UPS Tools upsd, profile 1\ndriver su sent 0 bytes\n".as_slice(),
+        ),
+        (
+            b"open a\nclient-hex 1 4e45\npart 1 TV\nclient-hex 1 65520a\ntook 1 all".as_slice(),
+            b"client 1 sent 4 bytes\n1.3\ndriver su sent 0 bytes\n".as_slice(),
+        ),
+        (
+            b"open a\nclient-hex 1 5645520d0A\ntook 1 all".as_slice(),
+            b"client 1 sent 21 bytes\nERR INVALID-ARGUMENT\ndriver su sent 0 bytes\n".as_slice(),
+        ),
+        (
+            b"up su\ndriver-hex su 44554D50444f4e450A44415441\ndriver su OK\nopen a\nclient 1 LIST VAR su\ntook 1 all".as_slice(),
+            b"client 1 sent 34 bytes\nBEGIN LIST VAR su\nEND LIST VAR su\ndriver su sent 0 bytes\n".as_slice(),
+        ),
+        (
+            b"driver-hex su 00\nclient-hex 1 Ff\n".as_slice(),
+            b"line 1: refused 5\nline 2: refused 2\ndriver su sent 0 bytes\n".as_slice(),
+        ),
+    ] {
+        let (answer, out) = told(rt.alloc(), script)?;
+        assert_eq!(rt; answer, Ok(()));
+        assert_eq!(rt; out.as_slice(), want);
     }
     Ok(())
 }

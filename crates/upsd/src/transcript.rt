@@ -4,21 +4,23 @@ ghost use Rattle.std.specs.List.{flat_map};
 ghost use Rattle.std.specs.Fmt.{decimal};
 ghost use Rattle.nutcore.specs.Step.{Step, offered};
 ghost use Rattle.nutcore.specs.Numbers.{number_of_fault};
-ghost use Rattle.nutcore.specs.Server.{session};
+ghost use Rattle.nutcore.specs.Server.{session, ups_at};
 ghost use Rattle.nutcore.specs.History.{taken_in_event};
-ghost use Rattle.upsd.specs.Transcript.{told, before, refusal, held_back, count_taken, count_held, remark, opened_by, taken_by, Happens, HappensTo, TakesAll, IsDone, AreDone, count_offered, sent_to, ending_of, sent_part, client_part, named_part, driver_part, whole_text};
+ghost use Rattle.nutcore.specs.DriverOrders.{taken_in_event as driver_taken_in_event};
+ghost use Rattle.upsd.specs.Transcript.{told, before, refusal, held_back, count_taken, count_held, remark, opened_by, taken_by, taken_of, Happens, HappensTo, TakesAll, IsDone, AreDone, count_offered, count_owed, owed_of, is_same, sent_to, ending_of, sent_part, client_part, driver_part, drivers_part, whole_text};
 
 use crate::script::{Action, ScriptLine};
 use nutcore::{
-    Bytes, ClientId, Descriptions, Event, Fault, MaxAge, Outcome, Server, UpsId, UpsList, Users,
+    Bytes, ClientId, Descriptions, Event, Fault, MaxAge, Outcome, Peer, Server, UpsId, UpsList,
+    Users,
 };
 use std::alloc::{AllocError, Global};
 use std::slice;
 
-/// What a client took by one event.
+/// What a client or a driver took by one event.
 #[derive(Debug, Drop)]
 pub struct Taken {
-    client: ClientId,
+    peer: Peer,
     bytes: Bytes,
 }
 
@@ -76,6 +78,14 @@ impl Transcript {
                 Some(u) => self.event(line, &Event::DriverBytes(u, piece)),
                 None => self.refuse(line, Fault::NoSuchUps),
             },
+            Action::DriverTook(ups, n) => match self.server.find(ups.as_bytes()) {
+                Some(u) => self.event(line, &Event::DriverTook(u, n)),
+                None => self.refuse(line, Fault::NoSuchUps),
+            },
+            Action::DriverTookAll(ups) => match self.server.find(ups.as_bytes()) {
+                Some(u) => self.driver_take_all(line, u),
+                None => self.refuse(line, Fault::NoSuchUps),
+            },
             Action::DriverDown(ups) => match self.server.find(ups.as_bytes()) {
                 Some(u) => self.event(line, &Event::DriverDown(u)),
                 None => self.refuse(line, Fault::NoSuchUps),
@@ -98,24 +108,39 @@ impl Transcript {
         self.note(line, event, outcome)
     }
 
-    /// What a client takes by the event is kept.
+    /// What a client or a driver takes by the event is kept.
     fn note_taken(&mut self, event: &Event) -> Result<(), AllocError>
-        ensures { OnOk result (told self.new ≡ record (told self.old) { taken = (told self.old).taken ++ taken_by self.old.server event.now }) }
+        ensures { OnOk result (told self.new ≡ record (told self.old)
+            { taken = (told self.old).taken ++ taken_by self.old.server event.now }) }
     {
-        if let Event::Took(c, n) = event {
-            let bytes = bytes_taken(self.alloc, &mut self.server, *c, *n)?;
-            self.taken.push(Taken {
-                client: *c,
-                bytes: Bytes::new(bytes),
-            })?;
+        match event {
+            Event::Took(c, n) => {
+                let bytes = bytes_taken(self.alloc, &mut self.server, *c, *n)?;
+                self.keep(Peer::Client(*c), bytes)
+            }
+            Event::DriverTook(u, n) => {
+                let bytes = driver_bytes_taken(self.alloc, &mut self.server, *u, *n)?;
+                self.keep(Peer::Driver(*u), bytes)
+            }
+            _ => Ok(()),
         }
-        Ok(())
+    }
+
+    /// Keeps what a peer took.
+    fn keep(&mut self, peer: Peer, bytes: Vec<u8>) -> Result<(), AllocError>
+        ensures { OnOk result (told self.new ≡ record (told self.old)
+            { taken = (told self.old).taken ++ taken_of peer bytes.items }) }
+    {
+        let bytes = Bytes::new(bytes);
+        Ok(self.taken.push(Taken { peer, bytes })?)
     }
 
     /// The event happens to the server.
     fn step(&mut self, event: &Event) -> Result<Outcome, AllocError>
-        ensures steps { IfOk result (λ outcome. Step self.old.server event.now outcome self.new.server) }
-        ensures same { OnOk result (told self.new ≡ record (told self.old) { server = self.new.server }) }
+        ensures steps { IfOk result
+            (λ outcome. Step self.old.server event.now outcome self.new.server) }
+        ensures same { OnOk result (told self.new
+            ≡ record (told self.old) { server = self.new.server }) }
     {
         let outcomes = self.server.run(slice::from_ref(event))?;
         Ok(outcomes[0])
@@ -123,7 +148,13 @@ impl Transcript {
 
     /// What is told of the event, and the client that it opened.
     fn note(&mut self, line: usize, event: &Event, outcome: Outcome) -> Result<(), AllocError>
-        ensures { OnOk result (told self.new ≡ record (told self.old) { text = (told self.old).text ++ remark line event.now outcome; clients = (told self.old).clients ++ opened_by outcome }) }
+        ensures { OnOk result (told self.new
+            ≡ record (told self.old) {
+              text = (told self.old).text
+                  ++ remark line event.now outcome;
+              clients = (told self.old).clients
+                  ++ opened_by outcome;
+            }) }
     {
         match outcome {
             Outcome::Done => Ok(()),
@@ -138,7 +169,11 @@ impl Transcript {
 
     /// Tells that a feed took so many of its bytes, where it had more.
     fn note_fed(&mut self, line: usize, n: usize, all: usize) -> Result<(), AllocError>
-        ensures { OnOk result (told self.new ≡ record (told self.old) { text = (told self.old).text ++ (if nat_lt n all then held_back line n all else []) }) }
+        ensures { OnOk result (told self.new
+            ≡ record (told self.old) {
+              text = (told self.old).text ++
+                  (if nat_lt n all then held_back line n all else []);
+            }) }
     {
         if n < all {
             self.hold_back(line, n, all)?;
@@ -148,21 +183,24 @@ impl Transcript {
 
     /// Tells that only n bytes of a feed were taken.
     fn hold_back(&mut self, line: usize, n: usize, all: usize) -> Result<(), AllocError>
-        ensures { OnOk result (told self.new ≡ record (told self.old) { text = (told self.old).text ++ held_back line n all }) }
+        ensures { OnOk result (told self.new
+            ≡ record (told self.old) { text = (told self.old).text ++ held_back line n all }) }
     {
         self.count_taken(line, n)?;
         self.count_held(all)
     }
 
     fn count_taken(&mut self, line: usize, n: usize) -> Result<(), AllocError>
-        ensures { OnOk result (told self.new ≡ record (told self.old) { text = (told self.old).text ++ count_taken line n }) }
+        ensures { OnOk result (told self.new
+            ≡ record (told self.old) { text = (told self.old).text ++ count_taken line n }) }
     {
         let text = format!(in self.alloc; "line {line}: {n}")?;
         self.text.extend_from_slice(text.as_bytes())
     }
 
     fn count_held(&mut self, all: usize) -> Result<(), AllocError>
-        ensures { OnOk result (told self.new ≡ record (told self.old) { text = (told self.old).text ++ count_held all }) }
+        ensures { OnOk result (told self.new
+            ≡ record (told self.old) { text = (told self.old).text ++ count_held all }) }
     {
         let text = format!(in self.alloc; " of {all} bytes held\n")?;
         self.text.extend_from_slice(text.as_bytes())
@@ -170,7 +208,8 @@ impl Transcript {
 
     /// Tells that the line's event is refused.
     fn refuse(&mut self, line: usize, fault: Fault) -> Result<(), AllocError>
-        ensures { OnOk result (told self.new ≡ record (told self.old) { text = (told self.old).text ++ refusal line fault }) }
+        ensures { OnOk result (told self.new
+            ≡ record (told self.old) { text = (told self.old).text ++ refusal line fault }) }
     {
         let number = fault.number();
         let text = format!(in self.alloc; "line {line}: refused {number}\n")?;
@@ -189,9 +228,19 @@ impl Transcript {
         Ok(())
     }
 
+    /// A driver takes all that it is offered.
+    fn driver_take_all(&mut self, line: usize, u: UpsId) -> Result<(), AllocError>
+        ensures { OnOk result (Happens line (Event.DriverTook u (count_owed u (told self.old)))
+            (told self.old) (told self.new)) }
+    {
+        let n = count_owed(&self.server, u);
+        self.event(line, &Event::DriverTook(u, n))
+    }
+
     /// A client takes n bytes. The answer is how many it is offered then.
     fn take(&mut self, line: usize, c: ClientId, n: usize) -> Result<usize, AllocError>
-        ensures happens { OnOk result (Happens line (Event.Took c n) (told self.old) (told self.new)) }
+        ensures happens { OnOk result (Happens line (Event.Took c n) (told self.old)
+            (told self.new)) }
         ensures left { IfOk result (λ left. left ≡ count_offered c (told self.new)) }
     {
         self.event(line, &Event::Took(c, n))?;
@@ -211,7 +260,7 @@ impl Transcript {
             taken,
         } = self;
         write_clients(alloc, &clients, &taken, &mut text)?;
-        write_drivers(alloc, server.ups(), &mut text)?;
+        write_drivers(alloc, server.ups(), &taken, &mut text)?;
         Ok(text)
     }
 }
@@ -234,11 +283,42 @@ fn bytes_taken(
     c: ClientId,
     n: usize,
 ) -> Result<Vec<u8>, AllocError>
-    ensures bytes { IfOk result (λ bytes. bytes.items ≡ taken_in_event c server.old (Event.Took c n)) }
+    ensures bytes { IfOk result (λ bytes. bytes.items
+        ≡ taken_in_event c server.old (Event.Took c n)) }
     ensures same { server.new ≡ server.old }
 {
     let mut taken = Vec::new(alloc);
     if let Ok(bytes) = server.offer(c) {
+        if n <= bytes.len() {
+            taken.extend_from_slice(&bytes[..n])?;
+        }
+    }
+    Ok(taken)
+}
+
+/// How many bytes the driver is offered: none where there is no such UPS.
+fn count_owed(server: &Server, u: UpsId) -> usize
+    ensures { result ≡ length (owed_of (ups_at u.place server.now)) }
+{
+    match server.driver_offered(u) {
+        Ok(n) => n,
+        Err(_) => 0,
+    }
+}
+
+/// The bytes that the driver takes, if it may take so many.
+fn driver_bytes_taken(
+    alloc: Global,
+    server: &mut Server,
+    u: UpsId,
+    n: usize,
+) -> Result<Vec<u8>, AllocError>
+    ensures bytes { IfOk result (λ bytes.
+        bytes.items ≡ driver_taken_in_event u server.old (Event.DriverTook u n)) }
+    ensures same { server.new ≡ server.old }
+{
+    let mut taken = Vec::new(alloc);
+    if let Ok(bytes) = server.driver_offer(u) {
         if n <= bytes.len() {
             taken.extend_from_slice(&bytes[..n])?;
         }
@@ -253,50 +333,76 @@ fn write_clients(
     taken: &[Taken],
     text: &mut Vec<u8>,
 ) -> Result<(), AllocError>
-    ensures { OnOk result (text.new.items ≡ text.old.items ++ flat_map (client_part taken.now) clients.now) }
+    ensures { OnOk result (text.new.items
+        ≡ text.old.items ++ flat_map (client_part taken.now) clients.now) }
 {
     for c in clients {
-        let sent = sent_to(alloc, *c, taken)?;
+        let sent = sent_to(alloc, Peer::Client(*c), taken)?;
         let peer = format!(in alloc; "client {c}")?;
         write_part(alloc, peer.as_bytes(), &sent, text)?;
     }
     Ok(())
 }
 
-/// The bytes that the client took, in order.
-fn sent_to(alloc: Global, c: ClientId, taken: &[Taken]) -> Result<Vec<u8>, AllocError>
-    ensures { IfOk result (λ sent. sent.items ≡ sent_to c taken.now) }
+/// The bytes that the client or the driver took, in order.
+fn sent_to(alloc: Global, peer: Peer, taken: &[Taken]) -> Result<Vec<u8>, AllocError>
+    ensures { IfOk result (λ sent. sent.items ≡ sent_to peer taken.now) }
 {
     let mut sent = Vec::new(alloc);
     for t in taken {
-        if t.client == c {
+        if is_same(t.peer, peer) {
             sent.extend_from_slice(t.bytes.as_slice())?;
         }
     }
     Ok(sent)
 }
 
-/// What was sent to each driver: nothing yet.
-fn write_drivers(alloc: Global, list: &UpsList, text: &mut Vec<u8>) -> Result<(), AllocError>
-    ensures { OnOk result (text.new.items ≡ text.old.items ++ flat_map driver_part list.now) }
+fn is_same(one: Peer, other: Peer) -> bool
+    ensures { result ≡ is_same one other }
+{
+    match (one, other) {
+        (Peer::Client(c), Peer::Client(d)) => c == d,
+        (Peer::Driver(u), Peer::Driver(v)) => u.place == v.place,
+        (Peer::Client(_), Peer::Driver(_)) => false,
+        (Peer::Driver(_), Peer::Client(_)) => false,
+    }
+}
+
+/// What was sent to the driver of each UPS of the list.
+fn write_drivers(
+    alloc: Global,
+    list: &UpsList,
+    taken: &[Taken],
+    text: &mut Vec<u8>,
+) -> Result<(), AllocError>
+    ensures { OnOk result (text.new.items ≡ text.old.items ++ drivers_part taken.now 0 list.now) }
 {
     for place in 0..list.len() {
-        let Some(name) = list.name(UpsId { place: place as u8 }) else {
+        let u = UpsId { place: place as u8 };
+        let Some(name) = list.name(u) else {
             unreachable!()
         };
-        write_driver(alloc, name.as_bytes(), text)?;
+        write_driver(alloc, u, name.as_bytes(), taken, text)?;
     }
     Ok(())
 }
 
 /// What was sent to the driver of the UPS of this name.
-fn write_driver(alloc: Global, name: &[u8], text: &mut Vec<u8>) -> Result<(), AllocError>
-    ensures { OnOk result (text.new.items ≡ text.old.items ++ named_part name.now) }
+fn write_driver(
+    alloc: Global,
+    u: UpsId,
+    name: &[u8],
+    taken: &[Taken],
+    text: &mut Vec<u8>,
+) -> Result<(), AllocError>
+    ensures { OnOk result (text.new.items
+        ≡ text.old.items ++ driver_part taken.now u.place name.now) }
 {
     let mut peer = Vec::new(alloc);
     peer.extend_from_slice(b"driver ")?;
     peer.extend_from_slice(name)?;
-    write_part(alloc, &peer, &[], text)
+    let sent = sent_to(alloc, Peer::Driver(u), taken)?;
+    write_part(alloc, &peer, &sent, text)
 }
 
 /// What was sent to one peer: how many bytes, these, and an LF more unless they end with one.

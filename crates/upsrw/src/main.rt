@@ -44,6 +44,7 @@ fn matches_of(alloc: Global, words: &[String]) -> Result<ArgMatches<'_>, Error> 
     Command::new(alloc, PROGRAM)
         .bin_name(PROGRAM)?
         .about("Prints the variables of a UPS that may be set, or sets one (RFC 9271)")
+        .after_help("Example: upsrw -s ups.delay=30 -u admin -p change-me su@localhost")
         .arg(setting)?
         .arg(user)?
         .arg(password)?

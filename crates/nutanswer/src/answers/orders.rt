@@ -14,6 +14,7 @@ use nutusers::Right;
 use nutwords::{Name, UpsName, Value};
 
 /// SET VAR.
+#[inline(never)]
 pub(crate) fn set_var<V: View>(
     view: &V,
     asker: Asker<'_>,
@@ -36,6 +37,7 @@ pub(crate) fn set_var<V: View>(
 }
 
 /// INSTCMD.
+#[inline(never)]
 pub(crate) fn inst_cmd<V: View>(
     view: &V,
     asker: Asker<'_>,
@@ -56,6 +58,3 @@ pub(crate) fn inst_cmd<V: View>(
     }
     Ok(ok(Change::Order(ups.id, line)))
 }
-
-#[cfg(test)]
-mod tests;

@@ -3,29 +3,37 @@ ghost use Rattle.std.specs.Prelude.{◌≡◌};
 ghost use Rattle.nutanswer.specs.View.{is_logged_in};
 
 use crate::{Asker, UpsView, View};
-use nutdriver::{DriverLine, Report, Tree};
+use nutdriver::{DriverFault, DriverLine, Report, Tree};
 use nutmap::Meter;
 use nutusers::{Descriptions, Password, UpsId, UpsList, UserName, Users};
+use nutwords::LINE_LIMIT;
 use std::alloc::Global;
 use std::marker::Model;
 use std::test::Fail;
 
 /// A UPS of a sample.
 #[derive(Drop)]
-pub(crate) struct SampleUps {
-    pub(crate) report: Report,
-    pub(crate) fsd: bool,
-    pub(crate) free: usize,
+struct SampleUps {
+    report: Report,
+    fsd: bool,
+    free: usize,
+}
+
+/// Does what a driver's line says.
+fn tell(tree: &mut Tree, line: &[u8]) -> Result<(), DriverFault> {
+    if line.len() > LINE_LIMIT {
+        return Err(DriverFault::Malformed);
+    }
+    tree.apply(&DriverLine::read(line)?, &mut Meter::new())?;
+    Ok(())
 }
 
 impl SampleUps {
     /// A UPS that is usable, of which a driver has reported these lines.
-    pub(crate) fn new(alloc: Global, lines: &[u8]) -> Result<SampleUps, Fail> {
+    fn new(alloc: Global, lines: &[u8]) -> Result<SampleUps, DriverFault> {
         let mut tree = Tree::new(alloc);
         for line in lines.split(|b| *b == b'\n') {
-            if line.len() <= 1023 {
-                tree.apply(&DriverLine::read(line)?, &mut Meter::new())?;
-            }
+            tell(&mut tree, line)?;
         }
         let report = Report {
             connected: true,
@@ -37,7 +45,7 @@ impl SampleUps {
         Ok(SampleUps {
             report,
             fsd: false,
-            free: 2040,
+            free: 2048,
         })
     }
 }
@@ -71,8 +79,8 @@ impl SampleClient {
 /// A server that is nothing but what answers may look at.
 #[derive(Drop)]
 pub(crate) struct Sample {
-    pub(crate) moment: u64,
-    pub(crate) max_age: u32,
+    moment: u64,
+    max_age: u32,
     list: UpsList,
     upses: Vec<SampleUps>,
     users: Users,
@@ -89,52 +97,38 @@ impl Model for Sample {
     ghost view = { λ s. record { moment = s.moment; max_age = s.max_age; list = s.list; upses = map (λ u. record { report = u.report; fsd = u.fsd; free = u.free }) s.upses.items; users = s.users; descriptions = s.descriptions; clients = s.clients.items } };
 }
 
-/// The users of a sample: one of each role and action, one with a command, and one without a password.
+/// A user who may do everything.
 const USERS: &[u8] = b"[admin]
-password = \"s3 cret\"
+password = pw
 upsmon primary
-[mon]
-password = pw
-upsmon secondary
-[fsd]
-password = pw
-actions = FSD
-[set]
-password = pw
 actions = SET
-instcmds = ALL
-[cmd]
-password = pw
-instcmds = load.off
-[guest]
-upsmon primary";
+instcmds = ALL";
+
+/// A variable that may be set, and a command.
+const LINES: &[u8] = b"SETINFO ups.mode a
+SETFLAGS ups.mode RW
+ADDENUM ups.mode a
+ADDENUM ups.mode b
+ADDCMD load.off";
 
 impl Sample {
-    /// The UPSs `off`, `su` and `ups`, of which the last two have descriptions, two more descriptions, and users.
+    /// The UPS `su`, to which one of two sessions is logged in.
     pub(crate) fn new(alloc: Global) -> Result<Sample, Fail> {
-        let list = b"[off]\n[su]\ndesc = \"Rack 1\"\n[ups]\ndesc = \"\"\n";
-        let texts = b"VARDESC ups.id \"The \\\"id\\\"\"\nCMDDESC load.off \"Off\"\n";
-        Ok(Sample {
+        let texts = b"VARDESC ups.mode Mode\nCMDDESC load.off Off";
+        let mut sample = Sample {
             moment: 0,
             max_age: 15,
-            list: UpsList::read(alloc, list.as_slice())?,
+            list: UpsList::read(alloc, b"[su]\ndesc = \"Rack 1\"")?,
             upses: Vec::new(alloc),
             users: Users::read(alloc, USERS)?,
             descriptions: Descriptions::read(alloc, texts.as_slice())?,
             clients: Vec::new(alloc),
-        })
-    }
-
-    /// Adds what is known of the list's next UPS.
-    pub(crate) fn push(&mut self, ups: SampleUps) -> Result<(), Fail> {
-        self.upses.push(ups)?;
-        Ok(())
-    }
-
-    /// Opens a session that is logged in to this UPS.
-    pub(crate) fn open(&mut self, login: Option<UpsId>) -> Result<(), Fail> {
-        self.clients.push(SampleClient { login })?;
-        Ok(())
+        };
+        sample.upses.push(SampleUps::new(alloc, LINES)?)?;
+        for login in [None, Some(UpsId { place: 0 })] {
+            sample.clients.push(SampleClient { login })?;
+        }
+        Ok(sample)
     }
 }
 
@@ -181,27 +175,33 @@ impl View for Sample {
 /// A session that asks.
 #[derive(Drop)]
 pub(crate) struct SampleAsker {
-    pub(crate) username: Option<UserName>,
-    pub(crate) password: Option<Password>,
-    pub(crate) login: Option<UpsId>,
+    username: Option<UserName>,
+    password: Option<Password>,
 }
 
 impl SampleAsker {
+    /// A session that has given nothing.
+    pub(crate) fn nobody() -> SampleAsker {
+        SampleAsker {
+            username: None,
+            password: None,
+        }
+    }
+
+    /// The user's session.
+    pub(crate) fn admin() -> SampleAsker {
+        SampleAsker {
+            username: UserName::read(b"admin"),
+            password: Password::read(b"pw"),
+        }
+    }
+
     /// As answers see it.
     pub(crate) fn view(&self) -> Asker<'_> {
         Asker {
             username: self.username.as_ref(),
             password: self.password.as_ref(),
-            login: self.login,
+            login: None,
         }
-    }
-}
-
-/// A session that has given nothing.
-pub(crate) fn nobody() -> Asker<'static> {
-    Asker {
-        username: None,
-        password: None,
-        login: None,
     }
 }

@@ -13,6 +13,7 @@ use nutusers::{Right, UserName};
 use nutwords::{Line, UpsName};
 
 /// USERNAME.
+#[inline(never)]
 pub(crate) fn username(asker: Asker<'_>, name: &Option<UserName>) -> Result<Reply, ErrWord>
     ensures { (s : Seen) → Gives
         (answer_to s (asker_seen asker.entry) (Username name.now)) result }
@@ -27,6 +28,7 @@ pub(crate) fn username(asker: Asker<'_>, name: &Option<UserName>) -> Result<Repl
 }
 
 /// PASSWORD.
+#[inline(never)]
 pub(crate) fn password(
     asker: Asker<'_>,
     password: &Option<nutusers::Password>,
@@ -44,6 +46,7 @@ pub(crate) fn password(
 }
 
 /// LOGIN.
+#[inline(never)]
 pub(crate) fn login<V: View>(
     view: &V,
     asker: Asker<'_>,
@@ -68,6 +71,7 @@ pub(crate) fn logout() -> Reply
 }
 
 /// PRIMARY.
+#[inline(never)]
 pub(crate) fn primary<V: View>(
     view: &V,
     asker: Asker<'_>,
@@ -82,6 +86,7 @@ pub(crate) fn primary<V: View>(
 }
 
 /// FSD.
+#[inline(never)]
 pub(crate) fn fsd<V: View>(
     view: &V,
     asker: Asker<'_>,
@@ -96,6 +101,7 @@ pub(crate) fn fsd<V: View>(
 }
 
 /// GET NUMLOGINS.
+#[inline(never)]
 pub(crate) fn get_num_logins<V: View>(view: &V, ups: &Option<UpsName>) -> Result<Line, ErrWord>
     ensures { IsLineOf (row (V.seen view.now) (GetNumLogins ups.now)) result }
 {
@@ -104,6 +110,7 @@ pub(crate) fn get_num_logins<V: View>(view: &V, ups: &Option<UpsName>) -> Result
 }
 
 /// LIST CLIENT.
+#[inline(never)]
 pub(crate) fn list_client<V: View>(view: &V, ups: &Option<UpsName>) -> Reply
     ensures { IsReply (V.seen view.now) (row (V.seen view.now) (ListClient ups.now)) result }
 {
@@ -119,6 +126,3 @@ pub(crate) fn ok(change: Change) -> Reply
 {
     Reply::One(plain_line(b"OK"), change)
 }
-
-#[cfg(test)]
-mod tests;

@@ -94,7 +94,8 @@ fn lawful_value(word: &SpelledWord<'_>) -> Result<Value, DriverFault>
 
 /// The range with these ends, the least first.
 fn range_of(least: SpelledWord<'_>, greatest: SpelledWord<'_>) -> Result<Range, DriverFault>
-    ensures { result ≡ lawful_range (read_number (spelled least.entry)) (read_number (spelled greatest.entry)) }
+    ensures { result ≡ lawful_range (read_number (spelled least.entry))
+        (read_number (spelled greatest.entry)) }
 {
     match (number(least), number(greatest)) {
         (Some(least), Some(greatest)) if least <= greatest => Ok(Range { least, greatest }),

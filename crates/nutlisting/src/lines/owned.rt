@@ -30,7 +30,8 @@ pub fn variable_line(
 ) -> Line
     requires kind { length kind.now ≤ KIND_LIMIT }
     requires lawful { IsTrue (list_all is_lawful kind.now) }
-    ensures text { result.items ≡ line_of (variable_item kind.now ups.now fsd (name.now, variable.now)) }
+    ensures text { result.items
+        ≡ line_of (variable_item kind.now ups.now fsd (name.now, variable.now)) }
     ensures whole { IsWholeLine result.items }
 {
     let mut line = Line::new();
@@ -42,7 +43,9 @@ pub fn variable_line(
 pub fn desc_line(kind: &[u8], ups: &UpsName, name: &Name, text: Option<&Value>) -> Line
     requires kind { length kind.now ≤ KIND_LIMIT }
     requires lawful { IsTrue (list_all is_lawful kind.now) }
-    ensures text { result.items ≡ line_of (kind.now ∷ ups.now ∷ name.now ∷ quoted (description_of (option_copied text.entry)) ∷ []) }
+    ensures text { result.items
+        ≡ line_of (kind.now ∷ ups.now ∷ name.now ∷ quoted
+        (description_of (option_copied text.entry)) ∷ []) }
     ensures whole { IsWholeLine result.items }
 {
     let mut line = Line::new();
@@ -54,7 +57,9 @@ pub fn desc_line(kind: &[u8], ups: &UpsName, name: &Name, text: Option<&Value>) 
 pub fn ups_line(kind: &[u8], ups: &UpsName, desc: Option<&Value>) -> Line
     requires kind { length kind.now ≤ KIND_LIMIT }
     requires lawful { IsTrue (list_all is_lawful kind.now) }
-    ensures text { result.items ≡ line_of (kind.now ∷ ups.now ∷ quoted (text_or_unavailable (option_copied desc.entry)) ∷ []) }
+    ensures text { result.items
+        ≡ line_of (kind.now ∷ ups.now ∷ quoted (text_or_unavailable (option_copied desc.entry))
+        ∷ []) }
     ensures whole { IsWholeLine result.items }
 {
     let mut line = Line::new();
@@ -64,7 +69,8 @@ pub fn ups_line(kind: &[u8], ups: &UpsName, desc: Option<&Value>) -> Line
 
 /// The line of what values a variable may have.
 pub fn type_line(ups: &UpsName, name: &Name, variable: &Variable) -> Line
-    ensures text { result.items ≡ line_of (codes "TYPE" ∷ ups.now ∷ name.now ∷ type_words variable.now) }
+    ensures text { result.items
+        ≡ line_of (codes "TYPE" ∷ ups.now ∷ name.now ∷ type_words variable.now) }
     ensures whole { IsWholeLine result.items }
 {
     let mut line = Line::new();

@@ -4,11 +4,12 @@ ghost use Rattle.std.specs.Map.{keys_of};
 ghost use Rattle.std.specs.Option.{option_map};
 ghost use Rattle.nutmap.specs.Entries.{entries_after, HasRisingKeys};
 ghost use Rattle.nutdriver.specs.Tree.{byte_order};
+ghost use Rattle.nutlisting.specs.Ahead.{AreFirst, IsAhead};
 ghost use Rattle.nutlisting.specs.Items.{ups_item, variable_item, is_rw, command_item, enum_item, range_item, client_item};
 ghost use Rattle.nutlisting.specs.Places.{items_past, IsFirst};
 ghost use Rattle.nutlisting.specs.declared.listing.place.Place.TheVariants.{After, Items};
 
-use super::Content;
+use super::{Ahead, Content};
 use crate::lines::{
     client_line_into, command_line_into, range_line_into, ups_line_into, value_line_into,
     variable_line_into,
@@ -21,15 +22,25 @@ use nutwords::{Address, Line, Name, UpsName, Value};
 
 impl Content {
     /// Makes the line of the item after a name, and answers its name.
-    pub(crate) fn item_after(&self, last: &Option<Name>, line: &mut Line) -> Option<Name>
-        ensures { MatchOption result (items_past self.now (After last.now) ≡ [])
+    pub(crate) fn item_after<'a>(
+        &'a self,
+        last: &Option<Name>,
+        ahead: &mut Ahead<'a>,
+        line: &mut Line,
+    ) -> Option<Name>
+        requires { IsAhead self.now (After last.now) ahead.old }
+        ensures item { MatchOption result (items_past self.now (After last.now) ≡ [])
             (λ name. IsFirst (items_past self.now (After last.now)) line.new.items (items_past self.now (After (Some name)))) }
+        ensures ahead { MatchOption result (ahead.new ≡ [])
+            (λ name. IsAhead self.now (After (Some name)) ahead.new) }
     {
         match self {
             Content::Variables(ups, fsd, tree) => {
-                variable_after(ups, *fsd, tree.variables(), last, line)
+                variable_after(ups, *fsd, tree.variables(), last, ahead, line)
             }
-            Content::Rw(ups, fsd, tree) => rw_after(ups, *fsd, tree.variables(), last, line),
+            Content::Rw(ups, fsd, tree) => {
+                rw_after(ups, *fsd, tree.variables(), last, ahead, line)
+            }
             Content::Commands(ups, tree) => command_after(ups, tree.commands(), last, line),
             _ => None,
         }
@@ -67,20 +78,22 @@ fn above(last: &Option<Name>) -> Option<&Name>
 }
 
 /// Makes the line of the variable after a name, and answers its name.
-fn variable_after(
+fn variable_after<'a>(
     ups: &UpsName,
     fsd: bool,
-    variables: &Map<Name, Variable>,
+    variables: &'a Map<Name, Variable>,
     last: &Option<Name>,
+    ahead: &mut Ahead<'a>,
     line: &mut Line,
 ) -> Option<Name>
-    ensures { MatchOption result (entries_after byte_order variables.now last.now ≡ [])
+    requires { AreFirst (entries_after byte_order variables.now last.now) ahead.old }
+    ensures ahead { MatchOption result (ahead.new ≡ [])
+        (λ name. AreFirst (entries_after byte_order variables.now (Some name)) ahead.new) }
+    ensures item { MatchOption result (entries_after byte_order variables.now last.now ≡ [])
         (λ name. IsFirst (map (variable_item (codes "VAR") ups.now fsd) (entries_after byte_order variables.now last.now)) line.new.items
         (map (variable_item (codes "VAR") ups.now fsd) (entries_after byte_order variables.now (Some name)))) }
 {
-    // What the calls of `after` meet, one after another.
-    after_walks_the_entries::<Name, Variable>();
-    let Some((name, variable)) = variables.after(above(last)) else {
+    let Some((name, variable)) = ahead.next(variables, above(last)) else {
         return None;
     };
     variable_line_into(b"VAR", ups, fsd, name, variable, line);
@@ -88,18 +101,22 @@ fn variable_after(
 }
 
 /// Makes the line of the variable after a name that clients may set, and answers its name.
-fn rw_after(
+fn rw_after<'a>(
     ups: &UpsName,
     fsd: bool,
-    variables: &Map<Name, Variable>,
+    variables: &'a Map<Name, Variable>,
     last: &Option<Name>,
+    ahead: &mut Ahead<'a>,
     line: &mut Line,
 ) -> Option<Name>
-    ensures { MatchOption result (filter is_rw (entries_after byte_order variables.now last.now) ≡ [])
+    requires { AreFirst (entries_after byte_order variables.now last.now) ahead.old }
+    ensures ahead { MatchOption result (ahead.new ≡ [])
+        (λ name. AreFirst (entries_after byte_order variables.now (Some name)) ahead.new) }
+    ensures item { MatchOption result (filter is_rw (entries_after byte_order variables.now last.now) ≡ [])
         (λ name. IsFirst (map (variable_item (codes "RW") ups.now fsd) (filter is_rw (entries_after byte_order variables.now last.now))) line.new.items
         (map (variable_item (codes "RW") ups.now fsd) (filter is_rw (entries_after byte_order variables.now (Some name))))) }
 {
-    let Some((name, variable)) = next_rw(variables, last) else {
+    let Some((name, variable)) = next_rw(variables, last, ahead) else {
         return None;
     };
     variable_line_into(b"RW", ups, fsd, name, variable, line);
@@ -107,18 +124,20 @@ fn rw_after(
 }
 
 /// The variable after a name that clients may set.
-fn next_rw<'m>(
-    variables: &'m Map<Name, Variable>,
-    last: &'m Option<Name>,
-) -> Option<(&'m Name, &'m Variable)>
-    ensures { MatchOption result (filter is_rw (entries_after byte_order variables.now last.now) ≡ [])
+fn next_rw<'a>(
+    variables: &'a Map<Name, Variable>,
+    last: &Option<Name>,
+    ahead: &mut Ahead<'a>,
+) -> Option<(&'a Name, &'a Variable)>
+    requires { AreFirst (entries_after byte_order variables.now last.now) ahead.old }
+    ensures ahead { MatchOption result (ahead.new ≡ [])
+        (λ e. AreFirst (entries_after byte_order variables.now (Some e.0.now)) ahead.new) }
+    ensures variable { MatchOption result (filter is_rw (entries_after byte_order variables.now last.now) ≡ [])
         (λ e. filter is_rw (entries_after byte_order variables.now last.now)
         ≡ (e.0.now, e.1.now) ∷ filter is_rw (entries_after byte_order variables.now (Some e.0.now))) }
 {
-    // What the calls of `after` meet, one after another.
-    after_walks_the_entries::<Name, Variable>();
     let mut done = above(last);
-    while let Some((name, variable)) = variables.after(done) {
+    while let Some((name, variable)) = ahead.next(variables, done) {
         if variable.flags().rw {
             return Some((name, variable));
         }

@@ -1,8 +1,7 @@
-use Rattle.std.proofs.Common.{◌≡◌, ◌++◌, take}
-use Rattle.std.specs.List.{flat_map}
-use Rattle.upsd.specs.Transcript.{driver_part}
+use Rattle.std.proofs.Common.{◌≡◌, ◌++◌, drop}
+use Rattle.upsd.specs.Transcript.{drivers_part}
 use Rattle.upsd.proofs.transcript.write_drivers.Given as goal
 
--- the UPSs so far are written
+-- what is written, followed by the UPSs that are left, is all
 abbrev pub invariant-loop-place : goal.invariant-loop-place
-invariant-loop-place l = l.text.items ≡ l.initial.text.items ++ flat_map driver_part (take l.place l.list)
+invariant-loop-place l = l.text.items ++ drivers_part l.taken l.place (drop l.place l.list) ≡ l.initial.text.items ++ drivers_part l.taken 0 l.list

@@ -1,12 +1,14 @@
-use Rattle.std.proofs.Common.{◌≡◌, ◌∙◌, Some, sym, ap, List, ℕ, subst, set}
+use Rattle.std.specs.Prelude.{is_some}
+use Rattle.std.proofs.Common.{◌≡◌, ◌∙◌, Some, sym, ap, true, subst, set}
 use Rattle.nutcore.specs.Session.{SessionState}
 use Rattle.nutcore.specs.Server.{ServerState, session}
 use Rattle.nutcore.specs.Serving.{IsAt, IsAnswered}
+use Rattle.nutcore.specs.Pump.{next_line_for}
 use Rattle.nutcore.specs.contracts.server.Server.{the_view}
-use Rattle.nutcore.proofs.Found.{find_id}
-use Rattle.nutcore.proofs.Serving.{found_in, goes, apart_set, answered_is}
+use Rattle.nutcore.proofs.Serving.{found_in, goes, answered_is}
 use Rattle.nutlisting.specs.Items.{text_of}
 use Rattle.nutanswer.specs.declared.reply.Change.TheVariants.{Nothing}
+use Rattle.nutcore.proofs.KeptSound.{session_kept, answered_kept}
 use Rattle.nutcore.proofs.server.Server.answer_listing.Goals as goal
 
 pub answer_listing-requires : goal.answer_listing-requires
@@ -21,11 +23,10 @@ invariant_of-self c =
     let x : SessionState = c.index_mut-session.result.now in
     let at : IsAt c.args.c c.args.place v.sessions = subst (λ (z : ServerState). IsAt c.args.c c.args.place z.sessions) (sym c.self.view_is) c.requires.at in
     let found : session c.args.c v ≡ Some x = ap (session c.args.c) c.self.view_is ∙ found_in c.args.c c.args.place v c.args.self.now x c.self.view_is c.requires.at c.index_mut-session.ensures.value in
+    let y : SessionState = c.answer_listing.new.self in
     record {
-      apart = apart_set c.self.inside.next_id c.args.c c.args.place c.self.inside.sessions.items c.answer_listing.new.self at (c.answer_listing.ensures.id ∙ find_id c.args.c v.sessions x found) c.self.invariant.apart;
+      sound = session_kept v c.args.c c.args.place x y at found c.answer_listing.ensures.id (answered_kept Nothing (text_of c.args.listing) x y (goes v c.args.c x found (subst (λ (z : ServerState). is_some (next_line_for z c.args.c) ≡ true) (sym c.self.view_is) c.requires.next)) c.answer_listing.ensures.answered) c.self.invariant.sound;
       room = c.self.invariant.room;
-      few = c.self.invariant.few;
-      named = c.self.invariant.named;
     }
 
 pub returns : goal.returns

@@ -3,8 +3,9 @@ use Rattle.nutcore.specs.Session.{SessionState}
 use Rattle.nutcore.specs.Server.{ServerState}
 use Rattle.nutcore.specs.Serving.{IsAt}
 use Rattle.nutcore.specs.contracts.server.Server.{the_view}
-use Rattle.nutcore.specs.Session.{AreApart, without}
-use Rattle.nutcore.proofs.Places.{apart_without}
+use Rattle.nutcore.specs.Session.{without}
+use Rattle.nutcore.proofs.Sound.{sound_closed}
+use Rattle.nutcore.specs.Sound.{IsSound}
 use Rattle.nutcore.specs.declared.event.Event.TheVariants.{Close}
 use Rattle.nutcore.specs.declared.event.Outcome.TheVariants.{Done}
 use Rattle.nutcore.proofs.Serving.{at_found, left_out}
@@ -20,18 +21,16 @@ pub invariant_of-self : goal.invariant_of-self
 invariant_of-self c =
     let v : ServerState = the_view c.self.inside in
     let at : IsAt c.args.c c.in-Some.place v.sessions = subst (λ (z : ServerState). IsAt c.args.c c.in-Some.place z.sessions) (sym c.self.view_is) c.in-Some.ensures.place in
-    let left : c.remove-session.new.self.items ≡ without c.args.c v.sessions = c.remove-session.ensures.by_index.2 ∙ sym (left_out v.next_id c.args.c c.in-Some.place v.sessions c.self.invariant.apart at) in
+    let left : c.remove-session.new.self.items ≡ without c.args.c v.sessions = c.remove-session.ensures.by_index.2 ∙ sym (left_out v.next_id c.args.c c.in-Some.place v.sessions c.self.invariant.sound.apart at) in
     record {
-      apart = subst (λ (xs : List SessionState). AreApart c.self.inside.next_id xs) (sym left) (apart_without c.self.inside.next_id c.args.c v.sessions c.self.invariant.apart);
+      sound = subst (λ (xs : List SessionState). let z : ServerState = record v { sessions = xs } in IsSound z) (sym left) (sound_closed v c.args.c c.self.invariant.sound);
       room = omega (arith, c.remove-session.ensures.capacity, c.self.invariant.room);
-      few = omega (arith, c.remove-session.ensures.len, c.self.invariant.few);
-      named = c.self.invariant.named;
     }
 
 pub returns-clause-served : goal.returns-clause-served
 returns-clause-served c =
     let v : ServerState = the_view c.self.inside in
     let at : IsAt c.args.c c.in-Some.place v.sessions = subst (λ (z : ServerState). IsAt c.args.c c.in-Some.place z.sessions) (sym c.self.view_is) c.in-Some.ensures.place in
-    let left : c.remove-session.new.self.items ≡ without c.args.c v.sessions = c.remove-session.ensures.by_index.2 ∙ sym (left_out v.next_id c.args.c c.in-Some.place v.sessions c.self.invariant.apart at) in
+    let left : c.remove-session.new.self.items ≡ without c.args.c v.sessions = c.remove-session.ensures.by_index.2 ∙ sym (left_out v.next_id c.args.c c.in-Some.place v.sessions c.self.invariant.sound.apart at) in
     let t : ServerState = record v { sessions = c.remove-session.new.self.items } in
     served _ _ _ _ c.place_of.ensures.lawful (step_from v c.args.self.now t t (Close c.args.c) Done c.self.view_is refl (close_present v c.args.c _ c.remove-session.new.self.items (at_found c.args.c c.in-Some.place v.sessions at) left))

@@ -7,21 +7,22 @@ use Rattle.nutcore.proofs.Found.{find_id}
 use Rattle.nutcore.specs.declared.event.Outcome.TheVariants.{Fed}
 use Rattle.nutcore.specs.Pump.{held_of}
 use Rattle.nutcore.specs.Step.{with_input, fed_by}
-use Rattle.nutcore.proofs.Serving.{found_in, apart_set}
+use Rattle.nutcore.proofs.Serving.{found_in}
 use Rattle.nutcore.proofs.EventSteps.{with_input_is}
 use Rattle.nutcore.proofs.Serving.{session_set}
+use Rattle.nutcore.proofs.KeptSound.{session_kept, joined_kept}
 use Rattle.nutcore.proofs.server.Server.join.Goals as goal
 
 pub invariant_of-self : goal.invariant_of-self
 invariant_of-self c =
     let v : ServerState = the_view c.self.inside in
+    let x : SessionState = c.index_mut-session.result.now in
+    let y : SessionState = c.join.new.self in
     let at : IsAt c.args.c c.args.place v.sessions = subst (λ (z : ServerState). IsAt c.args.c c.args.place z.sessions) (sym c.self.view_is) c.requires in
-    let found : session c.args.c c.args.self.now ≡ Some c.index_mut-session.result.now = found_in c.args.c c.args.place v c.args.self.now c.index_mut-session.result.now c.self.view_is c.requires c.index_mut-session.ensures.value in
+    let found : session c.args.c v ≡ Some x = ap (session c.args.c) c.self.view_is ∙ found_in c.args.c c.args.place v c.args.self.now x c.self.view_is c.requires c.index_mut-session.ensures.value in
     record {
-      apart = apart_set c.self.inside.next_id c.args.c c.args.place c.self.inside.sessions.items c.join.new.self at (c.join.ensures.id ∙ find_id c.args.c c.args.self.now.sessions c.index_mut-session.result.now found) c.self.invariant.apart;
+      sound = session_kept v c.args.c c.args.place x y at found c.join.ensures.id (joined_kept c.args.piece.now x y c.join.ensures.joins) c.self.invariant.sound;
       room = c.self.invariant.room;
-      few = c.self.invariant.few;
-      named = c.self.invariant.named;
     }
 
 pub returns-clause-joined : goal.returns-clause-joined

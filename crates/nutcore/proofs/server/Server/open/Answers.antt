@@ -1,4 +1,4 @@
-use Rattle.std.proofs.Common.{◌≡◌, ◌+◌, ◌<◌, ◌≤◌, ◌∙◌, ◌++◌, ◌∷◌, [], true, false, refl, sym, ap, List, subst, length, arith}
+use Rattle.std.proofs.Common.{◌≡◌, ◌+◌, ◌<◌, ◌≤◌, ◌∙◌, ◌++◌, ◌∷◌, [], true, false, refl, ap, subst, length, arith}
 use Rattle.nutcore.specs.Session.{SessionState}
 use Rattle.nutcore.specs.Server.{ServerState}
 use Rattle.nutcore.specs.contracts.server.Server.{the_view}
@@ -10,7 +10,7 @@ use Rattle.std.proofs.lemmas.Bool.{lt-ltb, le-ltb, and_left, and_right, and_from
 use Rattle.nutcore.specs.Session.{AreApart}
 use Rattle.nutcore.proofs.Runs.{served, lawful}
 use Rattle.nutcore.proofs.server.Server.open.Goals.{then-len-ge-SESSION_LIMIT-via-then-len-ge-SESSION_LIMIT, then-len-ge-SESSION_LIMIT-via-else-len-ge-SESSION_LIMIT+then-self}
-use Rattle.nutcore.proofs.Places.{apart_push}
+use Rattle.nutcore.proofs.Sound.{sound_opening}
 use Rattle.nutcore.proofs.EventSteps.{open_full, open_refused, open_done, step_from}
 use Rattle.nutcore.proofs.server.Server.open.Goals as goal
 
@@ -19,35 +19,37 @@ returns-then-len-ge-SESSION_LIMIT c =
     let v : ServerState = the_view c.self.inside in
     let full : may_open v ≡ false = elim c.then-len-ge-SESSION_LIMIT.branch [
       | then-len-ge-SESSION_LIMIT-via-then-len-ge-SESSION_LIMIT w ↦ and_left _ _ (le-ltb _ _ (let le : 64 ≤ length v.sessions = omega arith in le))
-      | then-len-ge-SESSION_LIMIT-via-else-len-ge-SESSION_LIMIT+then-self w ↦ and_right _ _ (le-ltb _ _ (let le : 18446744073709551615 ≤ v.next_id = omega arith in le))
+      | then-len-ge-SESSION_LIMIT-via-else-len-ge-SESSION_LIMIT+then-self w ↦ and_right _ _ (le-ltb _ _ (let le : 18446744073709551616 ≤ v.next_id = omega arith in le))
     ] in
-    served _ _ _ _ (lawful c.args.self.now (subst (λ (z : ServerState). AreApart z.next_id z.sessions) c.self.view_is c.self.invariant.apart)) (step_from v c.args.self.now v c.args.self.now (Open c.args.address) (Refused TooManyClients) c.self.view_is c.self.view_is (open_full v c.args.address full))
+    served _ _ _ _ (lawful c.args.self.now (subst (λ (z : ServerState). AreApart z.next_id z.sessions) c.self.view_is c.self.invariant.sound.apart)) (step_from v c.args.self.now v c.args.self.now (Open c.args.address) (Refused TooManyClients) c.self.view_is c.self.view_is (open_full v c.args.address full))
 
 pub returns-in_default : goal.returns-in_default
 returns-in_default c =
     let v : ServerState = the_view c.self.inside in
     let some : length v.sessions < 64 = omega arith in
-    let low : v.next_id < 18446744073709551615 = omega arith in
+    let low : v.next_id < 18446744073709551616 = omega arith in
     let may : may_open v ≡ true = and_from _ _ (lt-ltb _ _ some) (lt-ltb _ _ low) in
-    served _ _ _ _ (lawful c.args.self.now (subst (λ (z : ServerState). AreApart z.next_id z.sessions) c.self.view_is c.self.invariant.apart)) (step_from v c.args.self.now v c.args.self.now (Open c.args.address) (Refused (Memory 0)) c.self.view_is c.self.view_is (open_refused v c.args.address may))
+    served _ _ _ _ (lawful c.args.self.now (subst (λ (z : ServerState). AreApart z.next_id z.sessions) c.self.view_is c.self.invariant.sound.apart)) (step_from v c.args.self.now v c.args.self.now (Open c.args.address) (Refused (Memory 0)) c.self.view_is c.self.view_is (open_refused v c.args.address may))
 
 pub invariant_of-self : goal.invariant_of-self
 invariant_of-self c =
     let more : c.push.new.self.items ≡ c.self.inside.sessions.items ++ c.in-Ok.session ∷ [] = rw c.unwrap.ensures at c.push.ensures.items in
+    let v : ServerState = the_view c.self.inside in
+    let some : length v.sessions < 64 = omega arith in
+    let low : v.next_id < 18446744073709551616 = omega arith in
+    let may : may_open v ≡ true = and_from _ _ (lt-ltb _ _ some) (lt-ltb _ _ low) in
     record {
-      apart = subst (λ (xs : List SessionState). AreApart (c.self.inside.next_id + 1) xs) (sym more) (apart_push c.self.inside.next_id c.in-Ok.session c.self.inside.sessions.items (ap (λ (x : SessionState). x.id) c.in-Ok.ensures) c.self.invariant.apart);
+      sound = sound_opening v _ c.args.address v.next_id (open_done v c.args.address c.push.new.self.items may (more ∙ ap (λ (x : SessionState). c.self.inside.sessions.items ++ x ∷ []) c.in-Ok.ensures)) c.self.invariant.sound;
       room = omega (arith, c.push.ensures.capacity, c.self.invariant.room);
-      few = omega (arith, c.push.ensures.upper_bound, c.if-len-ge-SESSION_LIMIT.false);
-      named = c.self.invariant.named;
     }
 
 pub returns : goal.returns
 returns c =
     let v : ServerState = the_view c.self.inside in
     let some : length v.sessions < 64 = omega arith in
-    let low : v.next_id < 18446744073709551615 = omega arith in
+    let low : v.next_id < 18446744073709551616 = omega arith in
     let may : may_open v ≡ true = and_from _ _ (lt-ltb _ _ some) (lt-ltb _ _ low) in
     let more : c.push.new.self.items ≡ c.self.inside.sessions.items ++ c.in-Ok.session ∷ [] = rw c.unwrap.ensures at c.push.ensures.items in
     let t : ServerState = record v { sessions = c.push.new.self.items; next_id = v.next_id + 1 } in
-    served _ _ _ _ (lawful c.args.self.now (subst (λ (z : ServerState). AreApart z.next_id z.sessions) c.self.view_is c.self.invariant.apart)) (step_from v c.args.self.now t t (Open c.args.address) (Opened v.next_id) c.self.view_is refl
+    served _ _ _ _ (lawful c.args.self.now (subst (λ (z : ServerState). AreApart z.next_id z.sessions) c.self.view_is c.self.invariant.sound.apart)) (step_from v c.args.self.now t t (Open c.args.address) (Opened v.next_id) c.self.view_is refl
     (open_done v c.args.address c.push.new.self.items may (more ∙ ap (λ (x : SessionState). c.self.inside.sessions.items ++ x ∷ []) c.in-Ok.ensures)))

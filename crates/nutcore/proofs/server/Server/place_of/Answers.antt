@@ -19,7 +19,7 @@ returns-clause-place c =
     absent c.args.c c.args.self.now.sessions (λ k d lt. c.loop-i.invariant k d (let below : k < c.loop-i.i = omega (arith, ap length same) in below))
 
 pub returns-then-id-c-clause-lawful : goal.returns-then-id-c-clause-lawful
-returns-then-id-c-clause-lawful c = lawful c.args.self.now (subst (λ (z : ServerState). AreApart z.next_id z.sessions) c.self.view_is c.self.invariant.apart)
+returns-then-id-c-clause-lawful c = lawful c.args.self.now (subst (λ (z : ServerState). AreApart z.next_id z.sessions) c.self.view_is c.self.invariant.sound.apart)
 
 pub returns-clause-lawful : goal.returns-clause-lawful
-returns-clause-lawful c = lawful c.args.self.now (subst (λ (z : ServerState). AreApart z.next_id z.sessions) c.self.view_is c.self.invariant.apart)
+returns-clause-lawful c = lawful c.args.self.now (subst (λ (z : ServerState). AreApart z.next_id z.sessions) c.self.view_is c.self.invariant.sound.apart)

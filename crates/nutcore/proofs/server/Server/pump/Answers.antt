@@ -3,50 +3,52 @@ use Rattle.nutcore.specs.Server.{ServerState, session}
 use Rattle.nutcore.specs.Serving.{IsAt}
 use Rattle.nutcore.specs.Pump.{next_line_for, after_line, held_of, is_overlong}
 use Rattle.nutcore.proofs.Loops.{line_shortens}
-use Rattle.nutcore.proofs.Serving.{begins, goes_on, ok_when, err_when, at_line, pump_ends, refused}
+use Rattle.nutcore.proofs.Serving.{begins, goes_on, ok_when, err_when, some_there, none_there, at_line, pump_ends, refused}
 use Rattle.nutcore.proofs.server.Server.pump.Goals as goal
 
-pub loop-reply-init : goal.loop-reply-init
-loop-reply-init c = record {
+pub loop-self-init : goal.loop-self-init
+loop-self-init c = record {
   at = c.requires.at;
   done = begins c.args.self.now c.args.c;
   rest = omega arith;
 }
 
-pub loop-reply-smaller : goal.loop-reply-smaller
-loop-reply-smaller c =
-    let line : List ℕ = c.in-Some.ensures.next.0 in
-    let next : next_line_for c.loop-reply.self c.args.c ≡ Some line = c.in-Some.ensures.next.1 in
-    let e : c.execute.new.self ≡ after_line c.loop-reply.self c.args.c = ok_when c.execute.result _ (sym c.is_err.ensures.value ∙ c.if-is_err.false) c.execute.ensures.ok in
-    subst (λ (z : ServerState). length (held_of (session c.args.c z)) < length (held_of (session c.args.c c.loop-reply.self))) (sym e) (line_shortens c.loop-reply.self c.args.c line next)
+pub loop-self-smaller : goal.loop-self-smaller
+loop-self-smaller c =
+    let there = some_there (next_line_for c.loop-self.self c.args.c) (sym c.has_line.ensures ∙ c.loop-self-test.true) in
+    let line : List ℕ = there.0 in
+    let next : next_line_for c.loop-self.self c.args.c ≡ Some line = there.1 in
+    let e : c.execute.new.self ≡ after_line c.loop-self.self c.args.c = ok_when c.execute.result _ (sym c.is_err.ensures.value ∙ c.if-is_err.false) c.execute.ensures.ok in
+    subst (λ (z : ServerState). length (held_of (session c.args.c z)) < length (held_of (session c.args.c c.loop-self.self))) (sym e) (line_shortens c.loop-self.self c.args.c line next)
 
-pub loop-reply-preserved : goal.loop-reply-preserved
-loop-reply-preserved c =
-    let line : List ℕ = c.in-Some.ensures.next.0 in
-    let next : next_line_for c.loop-reply.self c.args.c ≡ Some line = c.in-Some.ensures.next.1 in
-    let e : c.execute.new.self ≡ after_line c.loop-reply.self c.args.c = ok_when c.execute.result _ (sym c.is_err.ensures.value ∙ c.if-is_err.false) c.execute.ensures.ok in
-    let less : length (held_of (session c.args.c c.execute.new.self)) < length (held_of (session c.args.c c.loop-reply.self)) = subst (λ (z : ServerState). length (held_of (session c.args.c z)) < length (held_of (session c.args.c c.loop-reply.self))) (sym e) (line_shortens c.loop-reply.self c.args.c line next) in
+pub loop-self-preserved : goal.loop-self-preserved
+loop-self-preserved c =
+    let there = some_there (next_line_for c.loop-self.self c.args.c) (sym c.has_line.ensures ∙ c.loop-self-test.true) in
+    let line : List ℕ = there.0 in
+    let next : next_line_for c.loop-self.self c.args.c ≡ Some line = there.1 in
+    let e : c.execute.new.self ≡ after_line c.loop-self.self c.args.c = ok_when c.execute.result _ (sym c.is_err.ensures.value ∙ c.if-is_err.false) c.execute.ensures.ok in
+    let less : length (held_of (session c.args.c c.execute.new.self)) < length (held_of (session c.args.c c.loop-self.self)) = subst (λ (z : ServerState). length (held_of (session c.args.c z)) < length (held_of (session c.args.c c.loop-self.self))) (sym e) (line_shortens c.loop-self.self c.args.c line next) in
     record {
-      at = subst (λ (z : ServerState). IsAt c.args.c c.args.place z.sessions) (sym e) (at_line c.loop-reply.self c.args.c c.args.place line c.loop-reply.invariant.at next);
-      done = goes_on c.args.self.now c.loop-reply.self c.execute.new.self c.args.c c.loop-reply.done c.loop-reply.invariant.done e;
-      rest = omega (arith, less, c.loop-reply.invariant.rest);
+      at = subst (λ (z : ServerState). IsAt c.args.c c.args.place z.sessions) (sym e) (at_line c.loop-self.self c.args.c c.args.place line c.loop-self.invariant.at next);
+      done = goes_on c.args.self.now c.loop-self.self c.execute.new.self c.args.c c.loop-self.done c.loop-self.invariant.done e;
+      rest = omega (arith, less, c.loop-self.invariant.rest);
     }
 
 pub returns-then-is_err : goal.returns-then-is_err
 returns-then-is_err c =
     let failed = sym c.is_err.ensures.value ∙ c.if-is_err.true in
-    refused c.args.self.now c.loop-reply.self c.execute.new.self c.args.c c.loop-reply.done c.loop-reply.invariant.done (err_when c.execute.result _ failed c.execute.ensures.memory) (err_when c.execute.result _ failed c.execute.ensures.err)
+    refused c.args.self.now c.loop-self.self c.execute.new.self c.args.c c.loop-self.done c.loop-self.invariant.done (err_when c.execute.result _ failed c.execute.ensures.memory) (err_when c.execute.result _ failed c.execute.ensures.err)
 
 pub returns-then-end_if_overlong : goal.returns-then-end_if_overlong
 returns-then-end_if_overlong c =
-    let none : next_line_for c.loop-reply.self c.args.c ≡ None = c.in_default.ensures.next in
-    let le : c.loop-reply.done ≤ length (held_of (session c.args.c c.args.self.now)) = omega (arith, c.loop-reply.invariant.rest) in
-    let ends = pump_ends c.args.self.now c.loop-reply.self c.end_if_overlong.new.self c.args.c c.loop-reply.done c.loop-reply.invariant.done le none c.end_if_overlong.ensures.notified in
+    let none : next_line_for c.loop-self.self c.args.c ≡ None = none_there (next_line_for c.loop-self.self c.args.c) (sym c.has_line.ensures ∙ c.loop-self-test.false) in
+    let le : c.loop-self.done ≤ length (held_of (session c.args.c c.args.self.now)) = omega (arith, c.loop-self.invariant.rest) in
+    let ends = pump_ends c.args.self.now c.loop-self.self c.end_if_overlong.new.self c.args.c c.loop-self.done c.loop-self.invariant.done le none c.end_if_overlong.ensures.notified in
     (ap (λ (z : ServerState). is_overlong z c.args.c) ends.0 ∙ sym c.end_if_overlong.ensures.overlong ∙ c.if-end_if_overlong.true, ends.1)
 
 pub returns : goal.returns
 returns c =
-    let none : next_line_for c.loop-reply.self c.args.c ≡ None = c.in_default.ensures.next in
-    let le : c.loop-reply.done ≤ length (held_of (session c.args.c c.args.self.now)) = omega (arith, c.loop-reply.invariant.rest) in
-    let ends = pump_ends c.args.self.now c.loop-reply.self c.end_if_overlong.new.self c.args.c c.loop-reply.done c.loop-reply.invariant.done le none c.end_if_overlong.ensures.notified in
+    let none : next_line_for c.loop-self.self c.args.c ≡ None = none_there (next_line_for c.loop-self.self c.args.c) (sym c.has_line.ensures ∙ c.loop-self-test.false) in
+    let le : c.loop-self.done ≤ length (held_of (session c.args.c c.args.self.now)) = omega (arith, c.loop-self.invariant.rest) in
+    let ends = pump_ends c.args.self.now c.loop-self.self c.end_if_overlong.new.self c.args.c c.loop-self.done c.loop-self.invariant.done le none c.end_if_overlong.ensures.notified in
     (ap (λ (z : ServerState). is_overlong z c.args.c) ends.0 ∙ sym c.end_if_overlong.ensures.overlong ∙ c.if-end_if_overlong.false, ends.1)

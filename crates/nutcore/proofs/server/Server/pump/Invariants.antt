@@ -5,12 +5,12 @@ use Rattle.nutcore.specs.Pump.{after_lines, held_of}
 use Rattle.nutcore.proofs.server.Server.pump.Given as goal
 
 -- so many lines are done, and the session still stands at its place
-abbrev pub invariant-loop-reply : goal.invariant-loop-reply
-invariant-loop-reply l = record {
+abbrev pub invariant-loop-self : goal.invariant-loop-self
+invariant-loop-self l = record {
   at : IsAt l.c l.place l.self.sessions;
   done : l.self ≡ after_lines l.done l.fn.self l.c;
   rest : l.done + length (held_of (session l.c l.self)) ≤ length (held_of (session l.c l.fn.self));
 }
 
-abbrev pub decreases-loop-reply : goal.decreases-loop-reply
-decreases-loop-reply l = length (held_of (session l.c l.self))
+abbrev pub decreases-loop-self : goal.decreases-loop-self
+decreases-loop-self l = length (held_of (session l.c l.self))

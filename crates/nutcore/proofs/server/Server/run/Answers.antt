@@ -27,12 +27,12 @@ pub returns-clause-sent_and_owed : goal.returns-clause-sent_and_owed
 returns-clause-sent_and_owed c =
     let all : take c.loop-event.event-index c.args.events.now ≡ c.args.events.now = take_all _ _ (omega arith) in
     run_sent c.args.self.now c.loop-event.self c.args.events.now c.loop-event.outcomes.items
-    (lawful c.args.self.now (subst (λ (z : ServerState). AreApart z.next_id z.sessions) c.self.view_is c.self.invariant.apart))
+    (lawful c.args.self.now (subst (λ (z : ServerState). AreApart z.next_id z.sessions) c.self.view_is c.self.invariant.sound.apart))
     (subst (λ (es : List Event). Run c.args.self.now es c.loop-event.outcomes.items c.loop-event.self) all c.loop-event.invariant.run)
 
 pub returns-clause-taken_up : goal.returns-clause-taken_up
 returns-clause-taken_up c =
     let all : take c.loop-event.event-index c.args.events.now ≡ c.args.events.now = take_all _ _ (omega arith) in
     run_taken_up c.args.self.now c.loop-event.self c.args.events.now c.loop-event.outcomes.items
-    (lawful c.args.self.now (subst (λ (z : ServerState). AreApart z.next_id z.sessions) c.self.view_is c.self.invariant.apart))
+    (lawful c.args.self.now (subst (λ (z : ServerState). AreApart z.next_id z.sessions) c.self.view_is c.self.invariant.sound.apart))
     (subst (λ (es : List Event). Run c.args.self.now es c.loop-event.outcomes.items c.loop-event.self) all c.loop-event.invariant.run)

@@ -12,4 +12,4 @@ pub returns : goal.returns
 returns c =
     let x : UpsState = the_view c.self.inside in
     let y : UpsState = record x { unfinished = c.next.new.self } in
-    subst (λ (z : UpsState). CutsLine c.args.piece.now z c.next.result y) c.self.view_is (cuts_line c.args.piece.now x c.next.result c.next.new.self c.self.invariant c.next.ensures)
+    subst (λ (z : UpsState). CutsLine c.args.piece.now z c.next.result y) c.self.view_is (cuts_line c.first_line_is_cut_off.ensures.held c.args.piece.now x c.next.result c.next.new.self c.self.invariant c.next.ensures)

@@ -1,4 +1,4 @@
-use Rattle.std.proofs.Common.{◌≡◌, ◌+◌, ◌∙◌, ap, length, arith}
+use Rattle.std.proofs.Common.{◌≡◌, ◌+◌, ◌∙◌, ap, length, refl, arith}
 use Rattle.std.specs.Prelude.{vec_len}
 use Rattle.std.specs.List.{concat}
 use Rattle.nutlisting.specs.Content.{listing_of}
@@ -14,6 +14,7 @@ loop-after-init c =
       so_far = none_written c.args.out.now.items (text_of c.args.self.now) (concat (lines_of (listing_of c.self.inside.content))) text;
       len = ap (λ t. vec_len c.args.out.now + length t) text;
       room = omega arith;
+      ahead = rw c.new-ahead.ensures refl;
     }
 
 pub returns-in-Err-clause-full : goal.returns-in-Err-clause-full
@@ -26,4 +27,5 @@ loop-after-preserved c = record {
   so_far = line_written c.args.out.now.items (text_of c.args.self.now) c.loop-after.out.items c.extend_from_slice.new.self.items c.next.new.line.items (lines_past c.self.inside.content c.loop-after.place) (lines_past c.self.inside.content c.in-Some.after) c.in-Some.ensures.next.first c.in-Some.ensures.next.whole_line (rw c.as_slice.ensures.value at c.in_default-extend_from_slice.ensures.items) c.loop-after.invariant.so_far;
   len = rw (rw c.as_slice.ensures.value at c.in_default-extend_from_slice.ensures.len) (length_left (vec_len c.loop-after.out) _ c.next.new.line.items (lines_past c.self.inside.content c.loop-after.place) (lines_past c.self.inside.content c.in-Some.after) c.in-Some.ensures.next.first c.loop-after.invariant.len);
   room = omega (arith, c.loop-after.invariant.room, c.extend_from_slice.ensures.capacity);
+  ahead = c.in-Some.ensures.ahead;
 }

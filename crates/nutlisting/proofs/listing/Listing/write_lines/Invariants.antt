@@ -1,6 +1,7 @@
 use Rattle.std.proofs.Common.{◌≡◌, ◌+◌, ◌≤◌, length}
 use Rattle.std.specs.Prelude.{vec_capacity, vec_len}
 use Rattle.std.specs.List.{concat}
+use Rattle.nutlisting.specs.Ahead.{IsAhead}
 use Rattle.nutlisting.specs.Items.{text_of}
 use Rattle.nutlisting.specs.Places.{lines_past}
 use Rattle.nutlisting.specs.Written.{IsWrittenSoFar}
@@ -12,6 +13,7 @@ invariant-loop-after l = record {
   so_far : IsWrittenSoFar l.fn.out.items (text_of l.self) (concat (lines_past l.self-inside.content l.place)) l.out.items;
   len : vec_len l.out + length (concat (lines_past l.self-inside.content l.place)) ≡ vec_len l.fn.out + length (text_of l.self);
   room : vec_capacity l.fn.out ≤ vec_capacity l.out;
+  ahead : IsAhead l.self-inside.content l.place l.ahead;
 }
 
 -- how many lines are left

@@ -1,0 +1,152 @@
+//! A server whose UPS has as many variables as one may have.
+use anyhow::{Error, Result};
+use nutcore::{ClientId, Descriptions, MaxAge, Server, UpsId, UpsList, Users};
+use nutwords::{Address, UpsName};
+use std::alloc::Global;
+use std::fmt::Write;
+
+/// How many variables the UPS has.
+pub const VARIABLES: u32 = 4096;
+
+/// How many bytes a line of a driver has beside its value.
+const AROUND_A_VALUE: usize = 17;
+
+/// One user, who may set variables.
+const USERS: &[u8] = b"[admin]
+password = pw
+actions = SET
+";
+
+/// A server, its UPS, and what its driver tells of each variable, a line each of the same length.
+#[derive(Drop)]
+pub struct Sample {
+    server: Server,
+    su: UpsId,
+    lines: Vec<u8>,
+    line_length: usize,
+}
+
+/// A server of the UPS `su` and of one user, with no driver yet.
+fn new_server(alloc: Global) -> Result<Server> {
+    let list = UpsList::one(alloc, UpsName::read(b"su")?)?;
+    let users = Users::read(alloc, USERS).map_err(|_| Error::msg("the users"))?;
+    let max_age = MaxAge::read(15).ok_or(Error::msg("the greatest age"))?;
+    Ok(Server::new(alloc, list, users, Descriptions::none(alloc), max_age)?)
+}
+
+/// The name of the variable of this number.
+fn write_name(name: &mut String, number: u32) -> Result<()> {
+    name.clear();
+    write!(name, "v{number:04}")?;
+    Ok(())
+}
+
+/// Joins the line that tells the value, so many bytes, of the variable of this name.
+fn push_line(lines: &mut Vec<u8>, name: &[u8], width: usize) -> Result<()> {
+    lines.extend_from_slice(b"SETINFO ")?;
+    lines.extend_from_slice(name)?;
+    lines.extend_from_slice(b" \"")?;
+    for _ in 0..width {
+        lines.push(b'x')?;
+    }
+    lines.extend_from_slice(b"\"\n")?;
+    Ok(())
+}
+
+/// What a driver tells of each variable.
+fn all_lines(alloc: Global, width: usize) -> Result<Vec<u8>> {
+    let mut lines = Vec::new(alloc);
+    let mut name = String::new(alloc);
+    for number in 0..VARIABLES {
+        write_name(&mut name, number)?;
+        push_line(&mut lines, name.as_bytes(), width)?;
+    }
+    Ok(lines)
+}
+
+impl Sample {
+    /// A server whose UPS `su` has all variables, `v0000` to `v4095`, with values of so many bytes. Clients may set
+    /// `v2048`.
+    pub fn new(alloc: Global, width: usize) -> Result<Sample> {
+        let server = new_server(alloc)?;
+        let su = server.find(b"su").ok_or(Error::msg("the UPS"))?;
+        let mut sample = Sample {
+            server,
+            su,
+            lines: all_lines(alloc, width)?,
+            line_length: width.saturating_add(AROUND_A_VALUE),
+        };
+        sample.connect()?;
+        sample.tell_all()?;
+        sample.tell(b"SETFLAGS v2048 RW STRING\nDUMPDONE\nDATAOK\n")?;
+        Ok(sample)
+    }
+
+    /// The driver connects.
+    fn connect(&mut self) -> Result<()> {
+        self.server.driver_up(self.su)?;
+        Ok(())
+    }
+
+    /// The driver tells these lines.
+    fn tell(&mut self, lines: &[u8]) -> Result<()> {
+        self.server.driver_bytes(self.su, lines)?;
+        Ok(())
+    }
+
+    /// The driver tells of each variable.
+    fn tell_all(&mut self) -> Result<()> {
+        self.server.driver_bytes(self.su, &self.lines)?;
+        Ok(())
+    }
+
+    /// A driver tells so many variables again, one a call.
+    pub fn report(&mut self, count: u32) -> Result<()> {
+        for line in self
+            .lines
+            .chunks(self.line_length.max(1))
+            .cycle()
+            .take(count as usize)
+        {
+            self.server.driver_bytes(self.su, line)?;
+        }
+        Ok(())
+    }
+
+    /// The driver takes all that it is owed.
+    pub fn take_orders(&mut self) -> Result<()> {
+        let offered = self.server.driver_offered(self.su)?;
+        self.server.driver_took(self.su, offered)?;
+        Ok(())
+    }
+
+    /// A client's session.
+    pub fn open(&mut self) -> Result<ClientId> {
+        Ok(self.server.open(Address::read(b"192.0.2.1")?)?)
+    }
+
+    /// The client sends these lines.
+    pub fn send(&mut self, client: ClientId, lines: &[u8]) -> Result<()> {
+        self.server.feed(client, lines)?;
+        Ok(())
+    }
+
+    /// The client takes what it is offered. The answer is how many bytes there were.
+    pub fn take_offered(&mut self, client: ClientId) -> Result<usize> {
+        let offered = self.server.offer(client)?.len();
+        self.server.took(client, offered)?;
+        Ok(offered)
+    }
+
+    /// The client takes all that it is owed. The answer is how many bytes there were.
+    pub fn take(&mut self, client: ClientId) -> Result<u64> {
+        let mut taken = 0u64;
+        for _ in 0..u32::MAX {
+            match self.take_offered(client)? {
+                0 => break,
+                offered => taken = taken.saturating_add(offered as u64),
+            }
+        }
+        Ok(taken)
+    }
+}

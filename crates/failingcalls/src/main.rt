@@ -1,0 +1,125 @@
+//! Turns of the loop over sockets in memory, with two clients and a driver: once as they are, and then once for each call
+//! of the sockets, which fails. It prints a line for each.
+#![tactic(auto)]
+
+mod rows;
+mod run;
+mod seen;
+
+use crate::rows::{Row, SU, rows};
+use crate::run::{Failing, Part, Ran, run};
+use crate::seen::{bytes_taken, other_calls, shuts};
+use anyhow::Result;
+use nutcore::Peer;
+use nutloop::Ready;
+
+fn main(rt: HostRuntime) -> Result<()> {
+    let rows = rows(rt.alloc())?;
+    let as_ever = run(rt.alloc(), &rows, None)?;
+    tell_as_ever(&rt, &as_ever)?;
+    for turn in 0..rows.len() {
+        fail_ready(&rt, &rows, turn, &as_ever)?;
+        fail_answer(&rt, &rows, turn, &as_ever)?;
+    }
+    Ok(())
+}
+
+/// The run in which nothing fails. Its driver ends in the middle of a line, behind one line that is refused.
+fn tell_as_ever(rt: &HostRuntime, ran: &Ran) -> Result<()> {
+    let failed = ran.sockets.failures();
+    println!(rt; "nothing fails: {failed} failed calls")?;
+    let first = bytes_taken(rt.alloc(), &ran.sockets, Peer::Client(1))?.len();
+    let second = bytes_taken(rt.alloc(), &ran.sockets, Peer::Client(2))?.len();
+    println!(rt; "client 1 takes {first} bytes, and client 2 {second}")?;
+    let down = yes(ran.server.driver_connected(SU) == Ok(false));
+    let faulty = ran.server.driver_faults(SU)?;
+    let shut = shuts(&ran.sockets, Peer::Driver(SU));
+    println!(rt;
+        "the driver ends in the middle of a line: down: {down}, shut: {shut}, refused lines: {faulty}"
+    )?;
+    Ok(())
+}
+
+/// The turn's `ready` fails.
+fn fail_ready(rt: &HostRuntime, rows: &[Row], turn: usize, as_ever: &Ran) -> Result<()> {
+    let part = Part::Ready;
+    let ran = run(rt.alloc(), rows, Some(Failing { turn, part }))?;
+    print!(rt; "turn {turn:>2}: ready fails: ")?;
+    tell_fault(rt, &ran, as_ever)
+}
+
+/// What the turn asks behind `ready` fails, if it asks anything.
+fn fail_answer(rt: &HostRuntime, rows: &[Row], turn: usize, as_ever: &Ran) -> Result<()> {
+    let Some((ready, reply)) = rows.get(turn) else {
+        return Ok(());
+    };
+    if !reply.is_asked() {
+        return Ok(());
+    }
+    let part = Part::Answer;
+    let ran = run(rt.alloc(), rows, Some(Failing { turn, part }))?;
+    print!(rt; "turn {turn:>2}: ")?;
+    match *ready {
+        Ready::Read(p) => {
+            print!(rt; "a read of ")?;
+            tell_loss(rt, p, &ran, as_ever)
+        }
+        Ready::Write(p) => {
+            print!(rt; "a write to ")?;
+            tell_loss(rt, p, &ran, as_ever)
+        }
+        _ => {
+            print!(rt; "accept fails: ")?;
+            tell_fault(rt, &ran, as_ever)
+        }
+    }
+}
+
+/// The turn's fault, and whether the server and its peers went on as if nothing had failed.
+fn tell_fault(rt: &HostRuntime, ran: &Ran, as_ever: &Ran) -> Result<()> {
+    let failed = ran.sockets.failures();
+    let same = other_calls(rt.alloc(), &ran.sockets)? == other_calls(rt.alloc(), &as_ever.sockets)?;
+    let number = ran.faults.first().map_or(0, |fault| fault.number());
+    let same = yes(same && ran.faults.len() == 1);
+    println!(rt; "{failed} failed call, fault {number}, all other turns as ever: {same}")?;
+    Ok(())
+}
+
+/// The loss of a peer, and whether the other client was served as ever.
+fn tell_loss(rt: &HostRuntime, p: Peer, ran: &Ran, as_ever: &Ran) -> Result<()> {
+    match p {
+        Peer::Client(c) => {
+            let gone = ran.server.offered(c).is_err();
+            print!(rt; "client {c} fails: ")?;
+            tell_shut(rt, p, gone, ran)?;
+            let other = Peer::Client(if c == 1 { 2 } else { 1 });
+            let taken = bytes_taken(rt.alloc(), &ran.sockets, other)?;
+            let same = yes(taken == bytes_taken(rt.alloc(), &as_ever.sockets, other)?);
+            println!(rt; ", the other client as ever: {same}")?;
+        }
+        Peer::Driver(u) => {
+            let down = ran.server.driver_connected(u) == Ok(false);
+            print!(rt; "the driver fails: ")?;
+            tell_shut(rt, p, down, ran)?;
+            println!(rt;)?;
+        }
+    }
+    Ok(())
+}
+
+/// What became of a peer of which a call failed.
+fn tell_shut(rt: &HostRuntime, p: Peer, is_gone: bool, ran: &Ran) -> Result<()> {
+    let failed = ran.sockets.failures();
+    let is_ok = yes(ran.faults.is_empty());
+    let at_once = yes(ran.shut_behind == Some(p));
+    let shut = shuts(&ran.sockets, p);
+    let gone = yes(is_gone);
+    print!(rt;
+        "{failed} failed call, turns Ok: {is_ok}, shut at once: {at_once}, shut: {shut}, gone: {gone}"
+    )?;
+    Ok(())
+}
+
+fn yes(holds: bool) -> &'static str {
+    if holds { "yes" } else { "no" }
+}

@@ -1,0 +1,99 @@
+//! Measures a UPS server over the network, by the protocol alone: requests and listings a second, and how long a good
+//! client waits beside slow ones.
+#![tactic(auto)]
+
+mod connection;
+mod loads;
+
+use crate::connection::Server;
+use crate::loads::{Waits, gets, lists, lists_anew, slow_readers, waits_of};
+use std::time::{Duration, Instant};
+use std::{env, io};
+
+/// What is printed without the two words.
+const USAGE: &str = "usage: netbench HOST:PORT UPS";
+
+/// How many requests each load has.
+const REQUESTS: usize = 100_000;
+
+/// How many listings each load has.
+const LISTINGS: usize = 100;
+
+/// How many connections there are, where there are many.
+const MANY: usize = 64;
+
+/// How many bytes of listings a slow client asks for.
+const UNDRAINED: usize = 4_000_000;
+
+/// How many waits of a good client are looked at.
+const WAITS: usize = 10_000;
+
+fn main(rt: HostRuntime) -> io::Result<()> {
+    let words = env::args(&rt)?.collect::<Vec<String>>(rt.alloc())?;
+    let [_, address, ups] = words.as_slice() else {
+        println!(rt; "{USAGE}")?;
+        return Ok(());
+    };
+    let server = Server::new(rt.alloc(), address.as_str(), ups.as_str())?;
+    requests(&rt, &server)?;
+    listings(&rt, &server)?;
+    good_client(&rt, &server)
+}
+
+/// GET VAR on one connection and on many.
+fn requests(rt: &HostRuntime, server: &Server) -> io::Result<()> {
+    for (connections, depth) in [(1, 1), (MANY, 1), (1, 512), (MANY, 32)] {
+        let mut clients = server.connections(rt, connections)?;
+        let start = Instant::now(rt)?;
+        let asked = gets(&mut clients, server, REQUESTS, depth)?;
+        let rate = a_second(asked, start.elapsed(rt)?);
+        println!(rt;
+            "GET VAR   {connections:>3} connections, {depth:>3} at once: {rate:>9} a second"
+        )?;
+    }
+    Ok(())
+}
+
+/// LIST VAR on fresh connections, and on one that stands.
+fn listings(rt: &HostRuntime, server: &Server) -> io::Result<()> {
+    let start = Instant::now(rt)?;
+    let bytes = lists_anew(rt, server, LISTINGS)?;
+    tell_listings(rt, "fresh connections:", bytes, start.elapsed(rt)?)?;
+    let mut client = server.connect(rt)?;
+    let start = Instant::now(rt)?;
+    let bytes = lists(&mut client, server, LISTINGS)?;
+    tell_listings(rt, "one connection:   ", bytes, start.elapsed(rt)?)
+}
+
+fn tell_listings(rt: &HostRuntime, kind: &str, bytes: usize, time: Duration) -> io::Result<()> {
+    let rate = a_second(LISTINGS, time);
+    let kilobytes = a_second(bytes / 1000, time);
+    println!(rt; "LIST VAR  {kind} {rate:>9} a second, {kilobytes:>9} KB a second")
+}
+
+/// The waits of a good client, alone and beside many that take nothing of long listings.
+fn good_client(rt: &HostRuntime, server: &Server) -> io::Result<()> {
+    let mut good = server.connect(rt)?;
+    tell_waits(
+        rt,
+        "alone:        ",
+        waits_of(rt, &mut good, server, WAITS)?,
+    )?;
+    let _slow = slow_readers(rt, server, MANY - 1, UNDRAINED)?;
+    tell_waits(
+        rt,
+        "beside 63 slow:",
+        waits_of(rt, &mut good, server, WAITS)?,
+    )
+}
+
+fn tell_waits(rt: &HostRuntime, kind: &str, waits: Waits) -> io::Result<()> {
+    let Waits { high, worst } = waits;
+    println!(rt; "GET VAR   {kind} 99 of 100 within {high} us, the worst {worst} us")
+}
+
+/// How many a second, where there were so many in this time.
+fn a_second(count: usize, time: Duration) -> u128 {
+    let nanos = time.as_nanos().max(1);
+    (count as u128).saturating_mul(1_000_000_000) / nanos
+}

@@ -1,0 +1,108 @@
+-- What a method puts in place of one session or of one UPS keeps the server sound.
+use Rattle.std.proofs.Common.{◌≡◌, ℕ, zero, suc, Bool, true, false, ◌||◌, List, [], ◌∷◌, ◌++◌, Option, Some, None, Result, Ok, Err, refl, sym, ◌∙◌, ap, subst, cond, set, drop, length, length-set, arith}
+use Rattle.std.specs.Prelude.{is_some, nat_lt}
+use Rattle.nutdriver.specs.Tree.{empty_tree}
+use Rattle.nutdriver.specs.Sound.{IsSoundTree, EachLineKeepsTheTreeSound}
+use Rattle.nutusers.specs.declared.ups_list.UpsId.{UpsId}
+use Rattle.nutlisting.specs.declared.outbox.TheConstants.{OWED_LIMIT}
+use Rattle.nutanswer.specs.declared.reply.Change.{Change}
+use Rattle.nutcore.specs.declared.event.Fault.{Fault}
+use Rattle.nutcore.specs.declared.event.Fault.TheVariants.{NoSuchUps, NoSuchClient, TooManyClients, TookTooMuch, NotConnected, AlreadyConnected, LineTooLong, Memory}
+use Rattle.nutcore.specs.Lines.{first_line}
+use Rattle.nutcore.specs.Session.{SessionState}
+use Rattle.nutcore.specs.Ups.{UpsState, after_driver_lines, after_all_driver_lines, with_bytes}
+use Rattle.nutcore.specs.Server.{ServerState, session, ups_at}
+use Rattle.nutcore.specs.Reply.{changed_session, changed_upses}
+use Rattle.nutcore.specs.Pump.{next_line, answered, notified}
+use Rattle.nutcore.specs.Step.{accepted_bytes}
+use Rattle.nutcore.specs.Leaf.{IsFed, IsTaken}
+use Rattle.nutcore.specs.Serving.{IsAt, OrderFits}
+use Rattle.nutcore.specs.Sound.{Each, IsSoundSession, IsSoundUps, IsSound}
+use Rattle.nutcore.proofs.Found.{find_id}
+use Rattle.nutcore.proofs.Serving.{set_is}
+use Rattle.nutcore.proofs.SoundUps.{each_get, sound_changes, length-changes, sound_fewer, sound_connected_lines, sound_loss}
+use Rattle.nutcore.proofs.Sound.{each_found, sound_with, sound_answered, sound_input}
+
+-- lists
+each_set : {A : Type 0} (P : A → Type 0) (y : A) → P y → (i : ℕ) (xs : List A) → Each P xs → Each P (set xs i y)
+each_set P y p i [] all = tt
+each_set P y p zero (x ∷ xs) all = (p, all.1)
+each_set P y p (suc i) (x ∷ xs) all = (all.0, each_set P y p i xs all.1)
+
+-- a session in place of the one that stands there
+pub session_kept : (v : ServerState) (c i : ℕ) (x y : SessionState) → IsAt c i v.sessions → session c v ≡ Some x → y.id ≡ x.id → (IsSoundSession x → IsSoundSession y) → IsSound v →
+    let code : ServerState = record v { sessions = set v.sessions i y } in IsSound code
+session_kept v c i x y at found id keeps h =
+    subst IsSound (sym (set_is v c i y at (id ∙ find_id c v.sessions x found))) (sound_with v y (keeps (each_found IsSoundSession c v.sessions x found h.sessions)) h)
+
+-- its next line is answered
+pub answered_kept : (change : Change) (text : List ℕ) (x y : SessionState) → is_some (next_line x) ≡ true → ((line : List ℕ) → next_line x ≡ Some line → y ≡ changed_session change (answered line text x)) →
+    IsSoundSession x → IsSoundSession y
+answered_kept change text x y going is h = by_line (next_line x) refl going
+  where
+    going_of : (a b : Bool) (o : Option (List ℕ)) (line : List ℕ) → cond (a || b) None o ≡ Some line → a ≡ false
+    going_of false b o line e = refl
+    going_of true b o line e = cc e
+
+    by_line : (o : Option (List ℕ)) → next_line x ≡ o → is_some o ≡ true → IsSoundSession y
+    by_line None e some = cc some
+    by_line (Some line) e some = subst IsSoundSession (sym (is line e)) (sound_answered change line text x (going_of x.ending (nat_lt OWED_LIMIT (length x.owed)) (first_line x.held) line e) h)
+
+-- it is told that its line is too long, or stays
+pub noticed_kept : (x y : SessionState) (b : Bool) → (b ≡ true → y ≡ notified x) → (b ≡ false → y ≡ x) → IsSoundSession x → IsSoundSession y
+noticed_kept x y true ends same h = subst IsSoundSession (sym (ends refl)) (record { id = h.id; held = omega arith; ending = λ k. (refl, refl) })
+noticed_kept x y false ends same h = subst IsSoundSession (sym (same refl)) h
+
+-- bytes join what it holds
+pub joined_kept : (piece : List ℕ) (x y : SessionState) → y ≡ record x { held = x.held ++ accepted_bytes (Some x) piece } → IsSoundSession x → IsSoundSession y
+joined_kept piece x y e h = subst IsSoundSession (sym e) (sound_input piece x h)
+
+-- bytes are taken from what it owes
+pub taken_kept : (n : ℕ) (x y : SessionState) → y ≡ record x { owed = drop n x.owed } → IsSoundSession x → IsSoundSession y
+taken_kept n x y e h = subst IsSoundSession (sym e) (record { id = h.id; held = h.held; ending = h.ending })
+
+-- a UPS in place of the one that stands there
+pub ups_kept : (v : ServerState) (u : UpsId) (x y : UpsState) → ups_at u.place v ≡ Some x → (IsSoundUps v.moment x → IsSoundUps v.moment y) → IsSound v →
+    let code : ServerState = record v { upses = set v.upses u.place y } in IsSound code
+ups_kept v u x y there keeps h = record {
+  list = h.list;
+  named = length-set v.upses u.place y ∙ h.named;
+  few = h.few;
+  apart = h.apart;
+  first = h.first;
+  sessions = h.sessions;
+  upses = each_set (IsSoundUps v.moment) y (keeps (each_get (IsSoundUps v.moment) v.upses u.place x there h.upses)) u.place v.upses h.upses;
+}
+
+-- an answer changes the UPSs
+pub upses_kept : (v : ServerState) (change : Change) (xs : List UpsState) → xs ≡ changed_upses change v.upses → OrderFits change v.upses → IsSound v →
+    let code : ServerState = record v { upses = xs } in IsSound code
+upses_kept v change xs e fits h = record {
+  list = h.list;
+  named = ap length e ∙ length-changes change v.upses ∙ h.named;
+  few = h.few;
+  apart = h.apart;
+  first = h.first;
+  sessions = h.sessions;
+  upses = subst (Each (IsSoundUps v.moment)) (sym e) (sound_changes v.moment change v.upses fits h.upses);
+}
+
+-- its driver takes bytes
+pub driver_taken_kept : (m n : ℕ) (x y : UpsState) (r : Result (Unit {0}) Fault) → IsTaken n x r y → IsSoundUps m x → IsSoundUps m y
+driver_taken_kept m n x y (Ok u) taken h =
+    subst (IsSoundUps m) (sym taken.1) (sound_fewer m n x h)
+driver_taken_kept m n x y (Err fault) taken h = subst (IsSoundUps m) (sym taken.2) h
+
+-- bytes come from its driver
+module _ (empty : IsSoundTree empty_tree) (line_keeps : EachLineKeepsTheTreeSound) where
+  pub driver_fed_kept : (m : ℕ) (piece : List ℕ) (x y : UpsState) (r : Result (Unit {0}) Fault) → x.report.connected ≡ true → IsFed m (with_bytes piece x) r y → IsSoundUps m x → IsSoundUps m y
+  unfolding after_all_driver_lines
+  driver_fed_kept m piece x y (Ok u) is fed h = subst (IsSoundUps m) (sym fed.1) (sound_connected_lines empty line_keeps (length (with_bytes piece x).unfinished) m piece x is h)
+  driver_fed_kept m piece x y (Err LineTooLong) is fed h = subst (IsSoundUps m) (sym fed.1) (sound_loss empty line_keeps m (after_all_driver_lines m (with_bytes piece x)))
+  driver_fed_kept m piece x y (Err (Memory k)) is fed h = subst (IsSoundUps m) (sym fed.1) (sound_loss empty line_keeps m (after_driver_lines k m (with_bytes piece x)))
+  driver_fed_kept m piece x y (Err NoSuchUps) is fed h = absurd fed
+  driver_fed_kept m piece x y (Err NoSuchClient) is fed h = absurd fed
+  driver_fed_kept m piece x y (Err TooManyClients) is fed h = absurd fed
+  driver_fed_kept m piece x y (Err TookTooMuch) is fed h = absurd fed
+  driver_fed_kept m piece x y (Err NotConnected) is fed h = absurd fed
+  driver_fed_kept m piece x y (Err AlreadyConnected) is fed h = absurd fed

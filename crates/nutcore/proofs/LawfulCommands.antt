@@ -1,0 +1,206 @@
+-- The names and values of a command that was read are lawful.
+use Rattle.std.proofs.Common.{◌≡◌, ◌∙◌, ℕ, Bool, true, false, not, ◌&&◌, List, [], ◌∷◌, Option, Some, None, Result, Ok, Err, refl, sym, ap, subst, cond, eqb, length}
+use Rattle.std.specs.Prelude.{IsTrue, is_ok, nat_lt, codes}
+use Rattle.std.specs.Result.{result_ok}
+use Rattle.std.specs.List.{list_all}
+use Rattle.nutwords.specs.declared.faults.BadName.{BadName}
+use Rattle.nutwords.specs.declared.faults.BadName.TheVariants.{Empty, TooLong, AnotherByte}
+use Rattle.nutwords.specs.declared.faults.BadLine.{BadLine}
+use Rattle.nutwords.specs.Scan.{read_line}
+use Rattle.nutwords.specs.Bytes.{is_name_byte, is_lawful}
+use Rattle.nutwords.specs.Reading.{read_text, is_name, is_ups_name, is_value}
+use Rattle.nutanswer.specs.declared.command.Command.{Command}
+use Rattle.nutanswer.specs.declared.command.Command.TheVariants.{Username, Password, Login, Logout, Primary, Fsd, SetVar, InstCmd, GetVar, GetType, GetDesc, GetCmdDesc, GetUpsDesc, GetNumLogins, ListUps, ListVar, ListRw, ListCmd, ListEnum, ListRange, ListClient, Help, Ver, NetVer, ProtVer, StartTls}
+use Rattle.nutanswer.specs.declared.err_word.ErrWord.{ErrWord}
+use Rattle.nutwords.specs.Keyword.{is_word}
+use Rattle.nutanswer.specs.Command.{command_with, alone, user_name_alone, password_alone, ups_alone, ups_and_name, Names, value_of, ups_name_and_value, ups_name_and_value_if_any, read_set, read_instcmd, read_get, read_list, command_named, some_command, command_of, command_from, read_command}
+
+-- a text that is read stands for itself
+read_is : (allowed : ℕ → Bool) (may_be_empty : Bool) (most : ℕ) (bytes text : List ℕ) → result_ok (read_text allowed may_be_empty most bytes) ≡ Some text → is_ok (read_text allowed may_be_empty most text) ≡ true
+read_is allowed may_be_empty most bytes text h =
+    let ok : read_text allowed may_be_empty most bytes ≡ Ok text = by_result (read_text allowed may_be_empty most bytes) h in
+    let same : bytes ≡ text = by_checks (eqb (length bytes) 0 && not may_be_empty) (nat_lt most (length bytes)) (list_all allowed bytes) ok in
+    ap (λ (b : List ℕ). is_ok (read_text allowed may_be_empty most b)) (sym same) ∙ ap is_ok ok
+  where
+    by_result : (r : Result (List ℕ) BadName) → result_ok r ≡ Some text → r ≡ Ok text
+    by_result (Ok b) e = let k : b ≡ text = cc e in ap (λ (z : List ℕ). let r : Result (List ℕ) BadName = Ok z in r) k
+    by_result (Err bad) e = cc e
+
+    by_checks : (a b c : Bool) → cond a (Err Empty) (cond b (Err TooLong) (cond c (Ok bytes) (Err AnotherByte))) ≡ Ok text → bytes ≡ text
+    by_checks true b c e = cc e
+    by_checks false true c e = cc e
+    by_checks false false true e = cc e
+    by_checks false false false e = cc e
+
+abbrev pub HasLawfulName : Option (List ℕ) → Type 0
+HasLawfulName v = (name : List ℕ) → v ≡ Some name → IsTrue (is_name name)
+
+abbrev pub HasLawfulUpsName : Option (List ℕ) → Type 0
+HasLawfulUpsName ups = (name : List ℕ) → ups ≡ Some name → IsTrue (is_ups_name name)
+
+abbrev pub HasLawfulValue : Option (List ℕ) → Type 0
+HasLawfulValue word = (value : List ℕ) → word ≡ Some value → IsTrue (is_value value)
+
+abbrev pub HasLawfulValueIfAny : Option (Option (List ℕ)) → Type 0
+HasLawfulValueIfAny word = (value : List ℕ) → word ≡ Some (Some value) → IsTrue (is_value value)
+
+-- of the commands that give orders, and of those that list what is known of a UPS
+abbrev pub IsLawfulCommand : Command → Type 0
+IsLawfulCommand (SetVar ups v word) = HasLawfulName v × HasLawfulValue word
+IsLawfulCommand (InstCmd ups v word) = HasLawfulName v × HasLawfulValueIfAny word
+IsLawfulCommand (ListVar ups) = HasLawfulUpsName ups
+IsLawfulCommand (ListRw ups) = HasLawfulUpsName ups
+IsLawfulCommand (ListCmd ups) = HasLawfulUpsName ups
+IsLawfulCommand (ListEnum ups v) = HasLawfulUpsName ups × HasLawfulName v
+IsLawfulCommand (ListRange ups v) = HasLawfulUpsName ups × HasLawfulName v
+IsLawfulCommand (ListClient ups) = HasLawfulUpsName ups
+IsLawfulCommand _ = Unit {0}
+
+record IsLawfulResult (r : Result Command ErrWord) : Type 0 where
+  lawful : (command : Command) → r ≡ Ok command → IsLawfulCommand command
+
+abbrev pub IsLawfulReading : Result (Option Command) ErrWord → Type 0
+IsLawfulReading (Err word) = Unit {0}
+IsLawfulReading (Ok None) = Unit {0}
+IsLawfulReading (Ok (Some command)) = IsLawfulCommand command
+
+none_lawful : (word : ErrWord) → IsLawfulResult (Err word)
+none_lawful word = record { lawful = λ command e. cc e }
+
+abbrev read_as : Command → Result Command ErrWord
+read_as command = Ok command
+
+one_lawful : (command : Command) → IsLawfulCommand command → IsLawfulResult (read_as command)
+one_lawful command h = record { lawful = λ other e. subst IsLawfulCommand (same other e) h }
+  where
+    same : (other : Command) → read_as command ≡ read_as other → command ≡ other
+    same other e = cc e
+
+with_lawful : {X : Type 0} (f : X → Command) (r : Result X ErrWord) → ((x : X) → r ≡ Ok x → IsLawfulCommand (f x)) → IsLawfulResult (command_with f r)
+with_lawful f (Err word) h = none_lawful word
+with_lawful f (Ok x) h = one_lawful (f x) (h x refl)
+
+alone_lawful : (command : Command) (words : List (List ℕ)) → IsLawfulCommand command → IsLawfulResult (alone command words)
+alone_lawful command [] h = one_lawful command h
+alone_lawful command (w ∷ words) h = none_lawful _
+
+either_lawful : (b : Bool) {x y : Result Command ErrWord} → IsLawfulResult x → IsLawfulResult y → IsLawfulResult (cond b x y)
+either_lawful true h k = h
+either_lawful false h k = k
+
+set_words : (words : List (List ℕ)) (a : Names (Option (List ℕ))) → ups_name_and_value words ≡ Ok a → HasLawfulName a.1 × HasLawfulValue a.2
+set_words [] a e = cc e
+set_words (ups ∷ []) a e = cc e
+set_words (ups ∷ v ∷ []) a e = cc e
+set_words (ups ∷ v ∷ w ∷ []) a e =
+    let first : result_ok (read_text is_name_byte false 64 v) ≡ a.1 = cc e in
+    let second : value_of w ≡ a.2 = cc e in
+    (λ name is. read_is is_name_byte false 64 v name (first ∙ is), λ value is. read_is is_lawful true 256 w value (second ∙ is))
+set_words (ups ∷ v ∷ w ∷ x ∷ words) a e = cc e
+
+instcmd_words : (words : List (List ℕ)) (a : Names (Option (Option (List ℕ)))) → ups_name_and_value_if_any words ≡ Ok a → HasLawfulName a.1 × HasLawfulValueIfAny a.2
+instcmd_words [] a e = cc e
+instcmd_words (ups ∷ []) a e = cc e
+instcmd_words (ups ∷ v ∷ []) a e =
+    let first : result_ok (read_text is_name_byte false 64 v) ≡ a.1 = cc e in
+    let second : None ≡ a.2 = cc e in
+    (λ name is. read_is is_name_byte false 64 v name (first ∙ is), λ value is. no_value value (second ∙ is))
+  where
+    no_value : (value : List ℕ) → None ≡ Some (Some value) → IsTrue (is_value value)
+    no_value value k = cc k
+instcmd_words (ups ∷ v ∷ w ∷ []) a e =
+    let first : result_ok (read_text is_name_byte false 64 v) ≡ a.1 = cc e in
+    let second : Some (value_of w) ≡ a.2 = cc e in
+    (λ name is. read_is is_name_byte false 64 v name (first ∙ is), λ value is. read_is is_lawful true 256 w value (one value (second ∙ is)))
+  where
+    one : (value : List ℕ) → Some (value_of w) ≡ Some (Some value) → value_of w ≡ Some value
+    one value k = cc k
+instcmd_words (ups ∷ v ∷ w ∷ x ∷ words) a e = cc e
+
+of_two : (f : Option (List ℕ) × Option (List ℕ) → Command) (words : List (List ℕ)) → ((a : Option (List ℕ) × Option (List ℕ)) → IsLawfulCommand (f a)) → IsLawfulResult (command_with f (ups_and_name words))
+of_two f words h = with_lawful f (ups_and_name words) (λ a e. h a)
+
+of_ups : (f : Option (List ℕ) → Command) (words : List (List ℕ)) → ((ups : Option (List ℕ)) → IsLawfulCommand (f ups)) → IsLawfulResult (command_with f (ups_alone words))
+of_ups f words h = with_lawful f (ups_alone words) (λ ups e. h ups)
+
+ups_words : (words : List (List ℕ)) (ups : Option (List ℕ)) → ups_alone words ≡ Ok ups → HasLawfulUpsName ups
+ups_words [] ups e = cc e
+ups_words (u ∷ []) ups e =
+    let named : result_ok (read_text is_name_byte false 32 u) ≡ ups = cc e in
+    λ name is. read_is is_name_byte false 32 u name (named ∙ is)
+ups_words (u ∷ w ∷ words) ups e = cc e
+
+two_words : (words : List (List ℕ)) (a : Option (List ℕ) × Option (List ℕ)) → ups_and_name words ≡ Ok a → HasLawfulUpsName a.0 × HasLawfulName a.1
+two_words [] a e = cc e
+two_words (u ∷ []) a e = cc e
+two_words (u ∷ v ∷ []) a e =
+    let first : result_ok (read_text is_name_byte false 32 u) ≡ a.0 = cc e in
+    let second : result_ok (read_text is_name_byte false 64 v) ≡ a.1 = cc e in
+    (λ name is. read_is is_name_byte false 32 u name (first ∙ is), λ name is. read_is is_name_byte false 64 v name (second ∙ is))
+two_words (u ∷ v ∷ w ∷ words) a e = cc e
+
+get_lawful : (words : List (List ℕ)) → IsLawfulResult (read_get words)
+get_lawful [] = none_lawful _
+get_lawful (kind ∷ words) =
+    either_lawful (is_word kind (codes "VAR")) (of_two (λ a. GetVar a.0 a.1) words (λ a. tt))
+    (either_lawful (is_word kind (codes "TYPE")) (of_two (λ a. GetType a.0 a.1) words (λ a. tt))
+    (either_lawful (is_word kind (codes "DESC")) (of_two (λ a. GetDesc a.0 a.1) words (λ a. tt))
+    (either_lawful (is_word kind (codes "CMDDESC")) (of_two (λ a. GetCmdDesc a.0 a.1) words (λ a. tt))
+    (either_lawful (is_word kind (codes "UPSDESC")) (of_ups (λ ups. GetUpsDesc ups) words (λ ups. tt))
+    (either_lawful (is_word kind (codes "NUMLOGINS")) (of_ups (λ ups. GetNumLogins ups) words (λ ups. tt))
+    (none_lawful _))))))
+
+list_lawful : (words : List (List ℕ)) → IsLawfulResult (read_list words)
+list_lawful [] = none_lawful _
+list_lawful (kind ∷ words) =
+    either_lawful (is_word kind (codes "UPS")) (alone_lawful ListUps words tt)
+    (either_lawful (is_word kind (codes "VAR")) (with_lawful (λ ups. ListVar ups) (ups_alone words) (ups_words words))
+    (either_lawful (is_word kind (codes "RW")) (with_lawful (λ ups. ListRw ups) (ups_alone words) (ups_words words))
+    (either_lawful (is_word kind (codes "CMD")) (with_lawful (λ ups. ListCmd ups) (ups_alone words) (ups_words words))
+    (either_lawful (is_word kind (codes "ENUM")) (with_lawful (λ a. ListEnum a.0 a.1) (ups_and_name words) (two_words words))
+    (either_lawful (is_word kind (codes "RANGE")) (with_lawful (λ a. ListRange a.0 a.1) (ups_and_name words) (two_words words))
+    (either_lawful (is_word kind (codes "CLIENT")) (with_lawful (λ ups. ListClient ups) (ups_alone words) (ups_words words))
+    (none_lawful _)))))))
+
+set_lawful : (words : List (List ℕ)) → IsLawfulResult (read_set words)
+set_lawful [] = none_lawful _
+set_lawful (kind ∷ words) =
+    either_lawful (is_word kind (codes "VAR")) (with_lawful (λ (a : Names (Option (List ℕ))). SetVar a.0 a.1 a.2) (ups_name_and_value words) (set_words words))
+    (none_lawful _)
+
+instcmd_lawful : (words : List (List ℕ)) → IsLawfulResult (read_instcmd words)
+instcmd_lawful words = with_lawful (λ (a : Names (Option (Option (List ℕ)))). InstCmd a.0 a.1 a.2) (ups_name_and_value_if_any words) (instcmd_words words)
+
+named_lawful : (first : List ℕ) (words : List (List ℕ)) → IsLawfulResult (command_named first words)
+named_lawful first words =
+    either_lawful (is_word first (codes "GET")) (get_lawful words)
+    (either_lawful (is_word first (codes "LIST")) (list_lawful words)
+    (either_lawful (is_word first (codes "USERNAME")) (with_lawful (λ (name : Option (List ℕ)). Username name) (user_name_alone words) (λ a e. tt))
+    (either_lawful (is_word first (codes "PASSWORD")) (with_lawful (λ (name : Option (List ℕ)). Password name) (password_alone words) (λ a e. tt))
+    (either_lawful (is_word first (codes "LOGIN")) (of_ups (λ ups. Login ups) words (λ ups. tt))
+    (either_lawful (is_word first (codes "LOGOUT")) (alone_lawful Logout words tt)
+    (either_lawful (is_word first (codes "PRIMARY")) (of_ups (λ ups. Primary ups) words (λ ups. tt))
+    (either_lawful (is_word first (codes "FSD")) (of_ups (λ ups. Fsd ups) words (λ ups. tt))
+    (either_lawful (is_word first (codes "SET")) (set_lawful words)
+    (either_lawful (is_word first (codes "INSTCMD")) (instcmd_lawful words)
+    (either_lawful (is_word first (codes "HELP")) (alone_lawful Help words tt)
+    (either_lawful (is_word first (codes "VER")) (alone_lawful Ver words tt)
+    (either_lawful (is_word first (codes "NETVER")) (alone_lawful NetVer words tt)
+    (either_lawful (is_word first (codes "PROTVER")) (alone_lawful ProtVer words tt)
+    (either_lawful (is_word first (codes "STARTTLS")) (alone_lawful StartTls words tt)
+    (none_lawful _)))))))))))))))
+
+some_lawful : (r : Result Command ErrWord) → IsLawfulResult r → IsLawfulReading (some_command r)
+some_lawful (Err word) h = tt
+some_lawful (Ok command) h = h.lawful command refl
+
+command_of_lawful : (words : List (List ℕ)) → IsLawfulReading (command_of words)
+command_of_lawful [] = tt
+command_of_lawful (first ∷ words) = some_lawful (command_named first words) (named_lawful first words)
+
+from_lawful : (r : Result (List (List ℕ)) BadLine) → IsLawfulReading (command_from r)
+from_lawful (Err bad) = tt
+from_lawful (Ok words) = command_of_lawful words
+
+pub reading_is_lawful : (line : List ℕ) → IsLawfulReading (read_command line)
+reading_is_lawful line = from_lawful (read_line line)

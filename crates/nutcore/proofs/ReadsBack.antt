@@ -1,0 +1,209 @@
+-- What a sound server lists is read back.
+use Rattle.std.proofs.Common.{◌≡◌, ℕ, ◌≤◌, Bool, List, [], ◌∷◌, Option, Some, None, length, refl, sym, ap, subst, arith}
+use Rattle.std.specs.Prelude.{codes, map, filter, All, IsTrue, slice_get}
+use Rattle.std.specs.List.{AllZip}
+use Rattle.std.specs.Option.{option_map, option_and_then}
+use Rattle.std.specs.Fmt.{signed_decimal}
+use Rattle.std.specs.Map.{keys_of, values_of}
+use Rattle.std.proofs.lemmas.Int.{ints}
+use Rattle.std.proofs.lemmas.List.Elements.{All-head, All-tail, All-nil, All-cons, All-filter}
+use Rattle.nutwords.specs.Frame.{frame, begin_line}
+use Rattle.nutwords.specs.Listing.{IsWritten, IsWrittenLine, ReadsAsLines, listing_words, ListingIsReadBack, OneReading}
+use Rattle.nutwords.specs.Reading.{is_name, is_ups_name, is_value, is_address}
+use Rattle.nutwords.specs.Spelling.{quoted}
+use Rattle.nutwords.specs.declared.limits.TheConstants.{LINE_ROOM}
+use Rattle.nutdriver.specs.declared.range.Range.{Range}
+use Rattle.nutdriver.specs.Sound.{IsSoundRange, IsSoundVariable, IsSoundTree}
+use Rattle.nutdriver.specs.Variable.{VariableState}
+use Rattle.nutusers.specs.UpsList.{Ups, IsLawfulUps, place_of}
+use Rattle.nutlisting.specs.Items.{is_rw, variable_item, command_item, enum_item, range_item, ups_item, client_item}
+use Rattle.nutlisting.specs.Shown.{shown, ups_description}
+use Rattle.nutanswer.specs.Checks.{KnownUps, known, ups_at, ups_named}
+use Rattle.nutanswer.specs.View.{Seen, UpsSeen}
+use Rattle.nutcore.specs.ByRight.{logged_in}
+use Rattle.nutcore.specs.ReadsBack.{variable_words, enum_words, range_words, ups_words, ReadsBack, HasLawfulAddress, EachListingReadsBack}
+use Rattle.nutcore.specs.Reply.{seen}
+use Rattle.nutcore.proofs.LawfulCommands.{HasLawfulUpsName, IsLawfulReading, reading_is_lawful}
+use Rattle.nutcore.proofs.Listed.{variable_sound, listed_once}
+use Rattle.nutcore.proofs.LoginCount.{is_in, who_is_there}
+use Rattle.nutcore.proofs.Written.{IsShortText, name_word, ups_word, address_word, value_text, shown_text, description_text, number_text, line_of_one, line_of_more}
+
+-- a keyword of a listing: as a name it is written as it is
+abbrev IsKeyword : List ℕ → Type 0
+IsKeyword word = IsTrue (is_name word)
+
+-- the lines of items
+variable_written : (word ups : List ℕ) (fsd : Bool) (entry : List ℕ × VariableState) → IsKeyword word → IsTrue (is_ups_name ups) → IsTrue (is_name entry.0) × IsTrue (is_value entry.1.value)
+    → IsWrittenLine (variable_item word ups fsd entry) (variable_words word ups fsd entry)
+variable_written word ups fsd entry k u (n, v) =
+    let w = name_word word k in
+    let x = ups_word ups u in
+    let y = name_word entry.0 n in
+    let z = shown_text fsd entry.0 entry.1 v in
+    let value = quoted (shown fsd entry.0 entry.1) in
+    record {
+      written = (w.written, (x.written, (y.written, (z.written, tt))));
+      fits = omega (arith, w.short, x.short, y.short, z.short, line_of_more word ups (entry.0 ∷ value ∷ []), line_of_more ups entry.0 (value ∷ []), line_of_more entry.0 value [], line_of_one value);
+    }
+
+command_written : (ups name : List ℕ) → IsTrue (is_ups_name ups) → IsTrue (is_name name) → IsWrittenLine (command_item ups name) (command_item ups name)
+command_written ups name u n =
+    let x = ups_word ups u in
+    let y = name_word name n in
+    record {
+      written = ((name_word (codes "CMD") refl).written, (x.written, (y.written, tt)));
+      fits = omega (arith, x.short, y.short, line_of_more (codes "CMD") ups (name ∷ []), line_of_more ups name [], line_of_one name);
+    }
+
+enum_written : (ups name value : List ℕ) → IsTrue (is_ups_name ups) → IsTrue (is_name name) → IsTrue (is_value value) → IsWrittenLine (enum_item ups name value) (enum_words ups name value)
+enum_written ups name value u n v =
+    let x = ups_word ups u in
+    let y = name_word name n in
+    let z = value_text value v in
+    record {
+      written = ((name_word (codes "ENUM") refl).written, (x.written, (y.written, (z.written, tt))));
+      fits = omega (arith, x.short, y.short, z.short, line_of_more (codes "ENUM") ups (name ∷ quoted value ∷ []), line_of_more ups name (quoted value ∷ []), line_of_more name (quoted value) [], line_of_one (quoted value));
+    }
+
+range_written : (ups name : List ℕ) (range : Range) → IsTrue (is_ups_name ups) → IsTrue (is_name name) → IsSoundRange range → IsWrittenLine (range_item ups name range) (range_words ups name range)
+range_written ups name range u n r =
+    let x = ups_word ups u in
+    let y = name_word name n in
+    let least : IsShortText 24 (signed_decimal range.least) = number_text range.least r.least (omega (arith, ints, r.rises, r.greatest)) in
+    let greatest : IsShortText 24 (signed_decimal range.greatest) = number_text range.greatest (omega (arith, ints, r.least, r.rises)) r.greatest in
+    let a = quoted (signed_decimal range.least) in
+    let b = quoted (signed_decimal range.greatest) in
+    record {
+      written = ((name_word (codes "RANGE") refl).written, (x.written, (y.written, (least.written, (greatest.written, tt)))));
+      fits = omega (arith, x.short, y.short, least.short, greatest.short, line_of_more (codes "RANGE") ups (name ∷ a ∷ b ∷ []), line_of_more ups name (a ∷ b ∷ []), line_of_more name a (b ∷ []), line_of_more a b [], line_of_one b);
+    }
+
+ups_written : (ups : Ups) → IsLawfulUps ups → IsWrittenLine (ups_item ups) (ups_words ups)
+ups_written ups h =
+    let x = ups_word ups.name h.name in
+    let z = description_text ups.desc h.description in
+    let text = quoted (ups_description ups) in
+    record {
+      written = ((name_word (codes "UPS") refl).written, (x.written, (z.written, tt)));
+      fits = omega (arith, x.short, z.short, line_of_more (codes "UPS") ups.name (text ∷ []), line_of_more ups.name text [], line_of_one text);
+    }
+
+client_written : (ups address : List ℕ) → IsTrue (is_ups_name ups) → IsTrue (is_address address) → IsWrittenLine (client_item ups address) (client_item ups address)
+client_written ups address u h =
+    let x = ups_word ups u in
+    let y = address_word address h in
+    record {
+      written = ((name_word (codes "CLIENT") refl).written, (x.written, (y.written, tt)));
+      fits = omega (arith, x.short, y.short, line_of_more (codes "CLIENT") ups (address ∷ []), line_of_more ups address [], line_of_one address);
+    }
+
+module _ {X : Type 0} (P : X → Type 0) (item words : X → List (List ℕ)) where
+  rows_written : ((x : X) → P x → IsWrittenLine (item x) (words x)) → (xs : List X) → All P xs → AllZip IsWrittenLine (map item xs) (map words xs)
+  rows_written each [] all = tt
+  rows_written each (x ∷ xs) all = (each x (All-head P x xs all), rows_written each xs (All-tail P x xs all))
+
+-- the line that begins a listing
+begin_of_ups : (kind ups : List ℕ) → IsKeyword kind → IsTrue (is_ups_name ups) → length (begin_line kind (ups ∷ [])) ≤ LINE_ROOM
+begin_of_ups kind ups k u =
+    let w = name_word kind k in
+    let x = ups_word ups u in
+    omega (arith, w.short, x.short, line_of_more (codes "BEGIN") (codes "LIST") (kind ∷ ups ∷ []), line_of_more (codes "LIST") kind (ups ∷ []), line_of_more kind ups [], line_of_one ups)
+
+begin_of_name : (kind ups name : List ℕ) → IsKeyword kind → IsTrue (is_ups_name ups) → IsTrue (is_name name) → length (begin_line kind (ups ∷ name ∷ [])) ≤ LINE_ROOM
+begin_of_name kind ups name k u n =
+    let w = name_word kind k in
+    let x = ups_word ups u in
+    let y = name_word name n in
+    omega (arith, w.short, x.short, y.short, line_of_more (codes "BEGIN") (codes "LIST") (kind ∷ ups ∷ name ∷ []), line_of_more (codes "LIST") kind (ups ∷ name ∷ []), line_of_more kind ups (name ∷ []), line_of_more ups name [], line_of_one name)
+
+-- the variables of a sound tree
+abbrev IsLawfulEntry : List ℕ × VariableState → Type 0
+IsLawfulEntry entry = IsTrue (is_name entry.0) × IsTrue (is_value entry.1.value)
+
+entries_lawful : (entries : List (List ℕ × VariableState)) → All (λ name. IsTrue (is_name name)) (keys_of entries) → All IsSoundVariable (values_of entries) → All IsLawfulEntry entries
+entries_lawful [] names values = All-nil IsLawfulEntry
+entries_lawful (entry ∷ entries) names values =
+    All-cons IsLawfulEntry entry entries
+    (All-head (λ name. IsTrue (is_name name)) entry.0 (keys_of entries) names, (All-head IsSoundVariable entry.1 (values_of entries) values).value)
+    (entries_lawful entries (All-tail (λ name. IsTrue (is_name name)) entry.0 (keys_of entries) names) (All-tail IsSoundVariable entry.1 (values_of entries) values))
+
+tree_lawful : (u : KnownUps) → IsSoundTree u.state.report.tree → All IsLawfulEntry u.state.report.tree.variables
+tree_lawful u sound = entries_lawful u.state.report.tree.variables sound.names sound.variables
+
+-- a UPS that is found by a name has the name, which is lawful where the line gave it
+name_kept : (s : Seen) (ups : List ℕ) (u : KnownUps) → ups_named s (Some ups) ≡ Some u → ups ≡ u.name
+name_kept s ups u h = placed (place_of ups s.list) h
+  where
+    state : (place : ℕ) (listed : Ups) (x : Option UpsSeen) → option_map (known ups place listed) x ≡ Some u → ups ≡ u.name
+    state place listed None e = cc e
+    state place listed (Some x) e = let k : known ups place listed x ≡ u = cc e in ap (λ (a : KnownUps). a.name) k
+
+    at_place : (place : ℕ) (o : Option Ups) → option_and_then (λ listed. option_map (known ups place listed) (slice_get s.upses place)) o ≡ Some u → ups ≡ u.name
+    at_place place None e = cc e
+    at_place place (Some listed) e = state place listed (slice_get s.upses place) e
+
+    placed : (o : Option ℕ) → option_and_then (ups_at s ups) o ≡ Some u → ups ≡ u.name
+    placed None e = cc e
+    placed (Some place) e = at_place place (slice_get s.list place) e
+
+named_lawful : (s : Seen) (ups : Option (List ℕ)) (u : KnownUps) → HasLawfulUpsName ups → ups_named s ups ≡ Some u → IsTrue (is_ups_name u.name)
+named_lawful s None u lawful named = cc named
+named_lawful s (Some ups) u lawful named = subst (λ (name : List ℕ). IsTrue (is_ups_name name)) (name_kept s ups u named) (lawful ups refl)
+
+module _ (back : ListingIsReadBack) (one : OneReading) where
+  reads_back : (text kind : List ℕ) (names : List (List ℕ)) (items rows : List (List (List ℕ))) → text ≡ frame kind names items
+      → AllZip IsWritten (kind ∷ names) (kind ∷ names) → length (begin_line kind names) ≤ LINE_ROOM → AllZip IsWrittenLine items rows → ReadsBack text (kind ∷ names) rows
+  reads_back text kind names items rows e asked fits written =
+      let reads : ReadsAsLines text (listing_words (kind ∷ names) rows) = subst (λ (t : List ℕ). ReadsAsLines t (listing_words (kind ∷ names) rows)) (sym e) (back kind names (kind ∷ names) items rows asked fits written) in
+      record { reads = reads; only = λ others h. one text (listing_words (kind ∷ names) rows) others reads h }
+
+  -- of a UPS
+  of_ups : (text kind ups : List ℕ) (items rows : List (List (List ℕ))) → IsKeyword kind → IsTrue (is_ups_name ups) → text ≡ frame kind (ups ∷ []) items → AllZip IsWrittenLine items rows → ReadsBack text (kind ∷ ups ∷ []) rows
+  of_ups text kind ups items rows k u e written = reads_back text kind (ups ∷ []) items rows e ((name_word kind k).written, ((ups_word ups u).written, tt)) (begin_of_ups kind ups k u) written
+
+  -- of a variable of a UPS
+  of_variable : (text kind ups name : List ℕ) (items rows : List (List (List ℕ))) → IsKeyword kind → IsTrue (is_ups_name ups) → IsTrue (is_name name) → text ≡ frame kind (ups ∷ name ∷ []) items → AllZip IsWrittenLine items rows
+      → ReadsBack text (kind ∷ ups ∷ name ∷ []) rows
+  of_variable text kind ups name items rows k u n e written =
+      reads_back text kind (ups ∷ name ∷ []) items rows e ((name_word kind k).written, ((ups_word ups u).written, ((name_word name n).written, tt))) (begin_of_name kind ups name k u n) written
+
+  pub listings_read_back : EachListingReadsBack
+  listings_read_back = record {
+    variables = λ s c line ups u sound read asks.
+        let named = named_lawful (seen s) ups u (subst IsLawfulReading read (reading_is_lawful line)) asks.named in
+        let tree = listed_once.tree s ups u sound asks.named in
+        of_ups _ (codes "VAR") u.name _ _ refl named (listed_once.variables s c line ups u sound read asks).0
+        (rows_written IsLawfulEntry (variable_item (codes "VAR") u.name u.state.fsd) (variable_words (codes "VAR") u.name u.state.fsd) (λ entry h. variable_written (codes "VAR") u.name u.state.fsd entry refl named h) u.state.report.tree.variables (tree_lawful u tree));
+    rw = λ s c line ups u sound read asks.
+        let named = named_lawful (seen s) ups u (subst IsLawfulReading read (reading_is_lawful line)) asks.named in
+        let tree = listed_once.tree s ups u sound asks.named in
+        of_ups _ (codes "RW") u.name _ _ refl named (listed_once.rw s c line ups u sound read asks).0
+        (rows_written IsLawfulEntry (variable_item (codes "RW") u.name u.state.fsd) (variable_words (codes "RW") u.name u.state.fsd) (λ entry h. variable_written (codes "RW") u.name u.state.fsd entry refl named h) (filter is_rw u.state.report.tree.variables)
+        (All-filter is_rw IsLawfulEntry u.state.report.tree.variables (tree_lawful u tree)));
+    commands = λ s c line ups u sound read asks.
+        let named = named_lawful (seen s) ups u (subst IsLawfulReading read (reading_is_lawful line)) asks.named in
+        let tree = listed_once.tree s ups u sound asks.named in
+        of_ups _ (codes "CMD") u.name _ _ refl named (listed_once.commands s c line ups u sound read asks).0
+        (rows_written (λ name. IsTrue (is_name name)) (command_item u.name) (command_item u.name) (λ name h. command_written u.name name named h) u.state.report.tree.commands tree.commands);
+    enum_values = λ s c line ups name u variable sound read asks there.
+        let lawful = subst IsLawfulReading read (reading_is_lawful line) in
+        let named = named_lawful (seen s) ups u lawful.0 asks.named in
+        let n = lawful.1 name refl in
+        let x = variable_sound u.state.report.tree name variable (listed_once.tree s ups u sound asks.named) there in
+        of_variable _ (codes "ENUM") u.name name _ _ refl named n (listed_once.enum_values s c line ups name u variable sound read asks there).0
+        (rows_written (λ value. IsTrue (is_value value)) (enum_item u.name name) (enum_words u.name name) (λ value h. enum_written u.name name value named n h) variable.enum_values x.enum_values);
+    ranges = λ s c line ups name u variable sound read asks there.
+        let lawful = subst IsLawfulReading read (reading_is_lawful line) in
+        let named = named_lawful (seen s) ups u lawful.0 asks.named in
+        let n = lawful.1 name refl in
+        let x = variable_sound u.state.report.tree name variable (listed_once.tree s ups u sound asks.named) there in
+        of_variable _ (codes "RANGE") u.name name _ _ refl named n (listed_once.ranges s c line ups name u variable sound read asks there).0
+        (rows_written IsSoundRange (range_item u.name name) (range_words u.name name) (λ range h. range_written u.name name range named n h) variable.ranges x.ranges);
+    upses = λ s c line sound read lawful.
+        reads_back _ (codes "UPS") [] _ _ (listed_once.upses s c line sound read).0 ((name_word (codes "UPS") refl).written, tt) (omega arith)
+        (rows_written IsLawfulUps ups_item ups_words ups_written s.list lawful);
+    clients = λ s c line ups u sound read found lawful.
+        let named = named_lawful (seen s) ups u (subst IsLawfulReading read (reading_is_lawful line)) found in
+        of_ups _ (codes "CLIENT") u.name _ _ refl named (who_is_there.listed s c line ups u read found)
+        (rows_written HasLawfulAddress (λ x. client_item u.name x.address) (λ x. client_item u.name x.address) (λ x h. client_written u.name x.address named h) (logged_in u.id s) (All-filter (is_in u.id) HasLawfulAddress s.sessions lawful));
+  }

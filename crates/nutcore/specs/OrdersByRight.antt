@@ -1,0 +1,74 @@
+-- No order without right (RFC 9271: SET, INSTCMD; upsd.users(5)).
+use Rattle.std.specs.Prelude.{◌≡◌, ℕ, true, List, [], ◌∷◌, ◌++◌, Option, Some, None, codes, ◌⊎◌}
+use Rattle.std.specs.List.{flat_map}
+use Rattle.nutdriver.specs.Variable.{VariableState}
+use Rattle.nutdriver.specs.Tree.{variable_at, has_command}
+use Rattle.nutusers.specs.declared.rights.Right.TheVariants as rights
+use Rattle.nutusers.specs.declared.ups_list.UpsId.{UpsId}
+use Rattle.nutanswer.specs.declared.command.Command.TheVariants.{SetVar, InstCmd}
+use Rattle.nutanswer.specs.View.{readiness, usable}
+use Rattle.nutanswer.specs.Orders.{is_short_enough, is_listed, is_in_ranges, right_to, set_line, instcmd_line}
+use Rattle.nutcore.specs.declared.event.Event.{Event}
+use Rattle.nutcore.specs.declared.event.Outcome.{Outcome}
+use Rattle.nutcore.specs.Server.{ServerState}
+use Rattle.nutcore.specs.History.{Execution, of_line, of_notice, executions}
+use Rattle.nutcore.specs.ByRight.{IsByRight}
+use Rattle.nutcore.specs.DriverOrders.{Telling, dump_all, ping, order, Connections, last, lost, connections}
+
+-- The line is `SET VAR` of this UPS, answered `OK`, of a session that has given the name and the password of a user with the right to set variables; its UPS is usable, and has the variable, which clients may set, and which may have this value at that moment. The order is `SET name "value"`.
+pub record IsSetByRight (u : UpsId) (bytes : List ℕ) (s : ServerState) (c : ℕ) (line : List ℕ) : Type 0 where
+  pub name : List ℕ
+  pub value : List ℕ
+  pub variable : VariableState
+  pub by_right : IsByRight s c line (λ ups. SetVar ups (Some name) (Some value)) rights.Set (codes "OK" ∷ []) u
+  pub ready : readiness s.moment s.max_age by_right.known.state.report ≡ usable
+  pub there : variable_at by_right.known.state.report.tree name ≡ Some variable
+  pub writable : variable.flags.rw ≡ true
+  pub short : is_short_enough variable value ≡ true
+  pub listed : is_listed variable.enum_values value ≡ true
+  pub in_range : is_in_ranges variable.ranges value ≡ true
+  pub order_is : bytes ≡ set_line name value
+
+-- A value as a line gives it, if it gives one.
+abbrev pub value_given : Option (List ℕ) → Option (Option (List ℕ))
+value_given None = None
+value_given (Some value) = Some (Some value)
+
+-- The line is `INSTCMD` of this UPS, answered `OK`, of a session that has given the name and the password of a user with the right to this command; its UPS is usable, and has the command. The order is `INSTCMD name`, with the value behind it where the line gives one.
+pub record IsCommandedByRight (u : UpsId) (bytes : List ℕ) (s : ServerState) (c : ℕ) (line : List ℕ) : Type 0 where
+  pub name : List ℕ
+  pub value : Option (List ℕ)
+  pub by_right : IsByRight s c line (λ ups. InstCmd ups (Some name) (value_given value)) (right_to name) (codes "OK" ∷ []) u
+  pub ready : readiness s.moment s.max_age by_right.known.state.report ≡ usable
+  pub there : has_command by_right.known.state.report.tree name ≡ true
+  pub order_is : bytes ≡ instcmd_line name value
+
+-- The execution is by right one of this order to this UPS.
+abbrev pub IsOrderByRight : UpsId → List ℕ → Execution → Type 0
+IsOrderByRight u bytes (of_line s c line) = IsSetByRight u bytes s c line ⊎ IsCommandedByRight u bytes s c line
+IsOrderByRight u bytes (of_notice c) = ⊥
+
+-- The orders are exactly those of the executions that are by right, one each, in their order.
+pub data AreOrdersByRight (u : UpsId) : List Execution → List (List ℕ) → Type 0 where
+  none_left : AreOrdersByRight u [] []
+  given : {x : Execution} {bytes : List ℕ} {xs : List Execution} {orders : List (List ℕ)} → IsOrderByRight u bytes x → AreOrdersByRight u xs orders → AreOrdersByRight u (x ∷ xs) (bytes ∷ orders)
+  passed_over : {x : Execution} {xs : List Execution} {orders : List (List ℕ)} → ((bytes : List ℕ) → IsOrderByRight u bytes x → ⊥) → AreOrdersByRight u xs orders → AreOrdersByRight u (x ∷ xs) orders
+
+-- The order of a telling, if it is one.
+abbrev pub order_of : Telling → List (List ℕ)
+order_of dump_all = []
+order_of ping = []
+order_of (order bytes) = bytes ∷ []
+
+-- What the driver was told in all connections of a run.
+abbrev pub all_told : Connections → List Telling
+all_told (last now) = now.told
+all_told (lost first later) = first.told ++ all_told later
+
+-- The orders that a run told the driver of this UPS.
+abbrev pub orders_told : UpsId → ServerState → List Event → List Outcome → List (List ℕ)
+orders_told u s es os = flat_map order_of (all_told (connections u s es os))
+
+-- The orders that a run told the driver of a UPS are exactly those of the lines that it executed by right, one each, in their order.
+abbrev pub EachOrderIsByRight : Type 0
+EachOrderIsByRight = (old : ServerState) (events : List Event) (outcomes : List Outcome) (u : UpsId) → AreOrdersByRight u (executions old events outcomes) (orders_told u old events outcomes)

@@ -1,0 +1,81 @@
+//! The UPSs: what their drivers do to them.
+ghost use Rattle.std.specs.Prelude.{◌≡◌, ◌<◌, length, map, Some, None, true};
+ghost use Rattle.std.specs.Option.{option_map};
+ghost use Rattle.nutcore.specs.Server.{ups_at, with_ups_changed};
+ghost use Rattle.nutcore.specs.History.{owed};
+ghost use Rattle.nutcore.specs.Headline.{IsLawful};
+ghost use Rattle.nutcore.specs.Ups.{after_connecting, after_loss, after_tick};
+ghost use Rattle.nutcore.specs.Serving.{DriverFeedGives, DriverTakes};
+ghost use Rattle.nutcore.specs.Calls.{is_connected};
+
+use super::Server;
+use crate::event::Fault;
+use crate::ups::Ups;
+use nutdriver::laws::{each_line_keeps_the_tree_sound, lawful_lines_keep_trees_sound};
+use nutusers::UpsId;
+
+impl Server {
+    /// Whether a driver is connected to the UPS, if there is such a UPS.
+    pub(super) fn connection(&self, u: UpsId) -> Option<bool>
+        ensures connected { result ≡ option_map is_connected (ups_at u.place self.now) }
+        ensures lawful { IsLawful self.now }
+    {
+        match self.upses.get(u.place as usize) {
+            Some(ups) => Some(ups.is_connected()),
+            None => None,
+        }
+    }
+
+    /// Connects a driver to the UPS.
+    pub(super) fn connect(&mut self, u: UpsId)
+        requires { u.place < length self.old.upses }
+        ensures { self.new ≡ with_ups_changed (after_connecting self.old.moment) u self.old }
+    {
+        lawful_lines_keep_trees_sound();
+        each_line_keeps_the_tree_sound();
+        let ups = &mut self.upses[u.place as usize];
+        ups.connect(self.moment);
+    }
+
+    /// Takes the driver from the UPS, and what it told.
+    pub(super) fn disconnect(&mut self, u: UpsId)
+        requires { u.place < length self.old.upses }
+        ensures { self.new ≡ with_ups_changed after_loss u self.old }
+    {
+        lawful_lines_keep_trees_sound();
+        each_line_keeps_the_tree_sound();
+        let ups = &mut self.upses[u.place as usize];
+        ups.disconnect();
+    }
+
+    /// Takes n bytes of what the driver is owed.
+    pub(super) fn take_from_driver(&mut self, u: UpsId, n: usize) -> Result<(), Fault>
+        requires { option_map is_connected (ups_at u.place self.old) ≡ Some true }
+        ensures { DriverTakes u n self.old result self.new }
+    {
+        let ups = &mut self.upses[u.place as usize];
+        ups.take(n)
+    }
+
+    /// Hands the bytes of its driver to the UPS.
+    pub(super) fn feed_driver(&mut self, u: UpsId, piece: &[u8]) -> Result<(), Fault>
+        requires { option_map is_connected (ups_at u.place self.old) ≡ Some true }
+        ensures { DriverFeedGives u piece.now self.old result self.new }
+    {
+        lawful_lines_keep_trees_sound();
+        each_line_keeps_the_tree_sound();
+        let ups = &mut self.upses[u.place as usize];
+        ups.feed(self.moment, piece)
+    }
+}
+
+/// The moment is this one now: each driver is pinged where a PING is due.
+pub(super) fn ping_upses(upses: &mut Vec<Ups>, max_age: u32, moment: u64)
+    ensures pinged { upses.new.items ≡ map (after_tick max_age moment) upses.old.items }
+    ensures length { length upses.new.items ≡ length upses.old.items }
+{
+    for place in 0..upses.len() {
+        let ups = &mut upses[place];
+        ups.tick(max_age, moment);
+    }
+}

@@ -1,0 +1,217 @@
+//! The pump: which of a session's lines are executed, and what each does.
+ghost use Rattle.std.specs.Prelude.{◌≡◌, ◌≤◌, ◌<◌, length, map, slice_get, OnOk, OnErr, MatchOption, IsTrue, is_some, Some, None, true};
+ghost use Rattle.nutcore.specs.Server.{session, changed_at};
+ghost use Rattle.nutcore.specs.Pump.{next_line_for, after_line, held_of, is_overlong, after_notice, wants_memory};
+ghost use Rattle.nutcore.specs.History.{owed};
+ghost use Rattle.nutcore.specs.Ups.{with_fsd, with_order};
+ghost use Rattle.nutcore.specs.Ups.{UpsState};
+ghost use Rattle.nutcore.specs.Calls.{done};
+ghost use Rattle.nutcore.specs.Serving.{IsAt, TakesLine, OrderFits, PumpGives, RepliesOrLacks, IsText, NextIs, IsAnswered};
+ghost use Rattle.nutcore.specs.Reply.{asker, changed_upses, seen_client};
+ghost use Rattle.nutanswer.specs.View.{asker_seen, addresses_at};
+ghost use Rattle.nutlisting.specs.declared.listing.clients.TheConstants.{SESSION_LIMIT};
+ghost use Rattle.nutanswer.specs.declared.reply.Change.TheVariants.{Nothing};
+ghost use Rattle.nutcore.specs.declared.TheConstants.{HELD_LIMIT};
+ghost use Rattle.nutlisting.specs.declared.outbox.TheConstants.{OWED_LIMIT};
+ghost use Rattle.nutwords.specs.declared.limits.TheConstants.{LINE_LIMIT, LINE_ROOM};
+ghost use Rattle.nutlisting.specs.Items.{text_of, client_listing};
+
+use super::Server;
+use crate::event::{ClientId, Fault};
+use crate::session::Session;
+use crate::ups::Ups;
+use nutanswer::{Asker, Change, Command, Listing, Reply, answer};
+use nutlisting::Clients;
+use nutusers::UpsId;
+use nutwords::{Line, UpsName};
+use std::alloc::AllocError;
+
+impl Server {
+    /// What answers a line of the client, as the server is now. Memory is asked for by a listing
+    /// alone.
+    pub(super) fn reply(
+        &self,
+        c: ClientId,
+        who: Asker<'_>,
+        line: &[u8],
+    ) -> Result<Reply, AllocError>
+        requires asks { asker_seen who ≡ asker c self.now }
+        requires short { length line.now ≤ LINE_LIMIT }
+        ensures { RepliesOrLacks self.now c line.now result }
+    {
+        match Command::read(line) {
+            Err(word) => Ok(one_line(word.line())),
+            Ok(None) => Ok(one_line(b"")),
+            Ok(Some(command)) => answer(self, who, &command),
+        }
+    }
+
+    /// Whether the session's next line may be executed.
+    pub(super) fn has_line(&self, c: ClientId, place: usize) -> bool
+        requires { IsAt c place self.now.sessions }
+        ensures { result ≡ is_some (next_line_for self.now c) }
+    {
+        let session = &self.sessions[place];
+        session.next_line().is_some()
+    }
+
+    /// What answers the session's next line, which is there.
+    pub(super) fn next_reply(&self, c: ClientId, place: usize) -> Result<Reply, AllocError>
+        requires at { IsAt c place self.now.sessions }
+        requires next { is_some (next_line_for self.now c) ≡ true }
+        ensures next { NextIs self.now c (λ line. RepliesOrLacks self.now c line result) }
+    {
+        let session = &self.sessions[place];
+        let line = session.next_line().unwrap();
+        self.reply(c, session.asker(), line)
+    }
+
+    /// Takes the next line, joins the text that answers it, and does what it changes of the
+    /// session. Takes no memory.
+    pub(super) fn answer_text(&mut self, c: ClientId, place: usize, text: &[u8], change: Change)
+        requires at { IsAt c place self.old.sessions }
+        requires next { is_some (next_line_for self.old c) ≡ true }
+        requires short { length text.now ≤ OWED_LIMIT }
+        ensures { IsAnswered self.old c text.now change self.new }
+    {
+        let session = &mut self.sessions[place];
+        session.answer(text, change, &mut self.scratch);
+    }
+
+    /// Does what an answer changes of the UPSs.
+    pub(super) fn change_upses(&mut self, change: &Change)
+        requires fits { OrderFits change.now self.old.upses }
+        ensures { self.new ≡ record self.old { upses = changed_upses change.now self.old.upses } }
+    {
+        match change {
+            Change::Fsd(u) => set_fsd(&mut self.upses, *u),
+            Change::Order(u, line) => order(&mut self.upses, *u, line.as_slice()),
+            _ => {}
+        }
+    }
+
+    /// Executes the next line, whose answer is this listing. Takes no memory.
+    pub(super) fn answer_listing(&mut self, c: ClientId, place: usize, listing: Listing)
+        requires at { IsAt c place self.old.sessions }
+        requires next { is_some (next_line_for self.old c) ≡ true }
+        ensures { IsAnswered self.old c (text_of listing) Nothing self.new }
+    {
+        let session = &mut self.sessions[place];
+        session.answer_listing(listing, &mut self.scratch);
+    }
+
+    /// Executes the next line, which is answered by the listing of the clients that are logged in to this UPS. Takes no
+    /// memory.
+    pub(super) fn answer_clients(&mut self, c: ClientId, place: usize, name: &UpsName, u: UpsId)
+        requires at { IsAt c place self.old.sessions }
+        requires next { is_some (next_line_for self.old c) ≡ true }
+        ensures { IsAnswered self.old c
+            (text_of (client_listing name.now (addresses_at u (map seen_client self.old.sessions))))
+            Nothing self.new }
+    {
+        list_clients(&self.sessions, u, &mut self.scratch.clients);
+        let session = &mut self.sessions[place];
+        session.answer_clients(name, &mut self.scratch);
+    }
+
+    /// Executes the next line, which is there. Without memory nothing changes. It alone has large locals, which are
+    /// cleared where a function begins: so it is a call of its own, and a session without a line pays for none.
+    #[inline(never)]
+    pub(super) fn execute(&mut self, c: ClientId, place: usize) -> Result<(), AllocError>
+        requires at { IsAt c place self.old.sessions }
+        requires next { is_some (next_line_for self.old c) ≡ true }
+        ensures ok { OnOk result (self.new ≡ after_line self.old c) }
+        ensures err { OnErr result (self.new ≡ self.old) }
+        ensures memory { OnErr result (IsTrue (wants_memory self.old c)) }
+    {
+        match self.next_reply(c, place)? {
+            Reply::One(text, change) => {
+                self.change_upses(&change);
+                self.answer_text(c, place, text.as_slice(), change);
+                Ok(())
+            }
+            Reply::Many(listing) => {
+                self.answer_listing(c, place, listing);
+                Ok(())
+            }
+            Reply::Clients(name, u) => {
+                self.answer_clients(c, place, &name, u);
+                Ok(())
+            }
+        }
+    }
+
+    /// A session that holds too long a line is told so, and begins to end.
+    pub(super) fn end_if_overlong(&mut self, c: ClientId, place: usize) -> bool
+        requires { IsAt c place self.old.sessions }
+        ensures overlong { result ≡ is_overlong self.old c }
+        ensures notified { self.new ≡ after_notice self.old c }
+    {
+        let session = &mut self.sessions[place];
+        session.end_if_overlong(&mut self.scratch)
+    }
+
+    /// Executes the session's lines, as long as they may be executed.
+    pub(super) fn pump(&mut self, c: ClientId, place: usize) -> Result<(), Fault>
+        requires at { IsAt c place self.old.sessions }
+        requires short { length (held_of (session c self.old)) ≤ HELD_LIMIT }
+        ensures { PumpGives self.old c result self.new }
+    {
+        let mut done = 0;
+        while self.has_line(c, place) {
+            if self.execute(c, place).is_err() {
+                return Err(Fault::Memory(done));
+            }
+            done += 1;
+        }
+        if self.end_if_overlong(c, place) {
+            return Err(Fault::LineTooLong);
+        }
+        Ok(())
+    }
+}
+
+/// Puts together the addresses of the sessions that are logged in to the UPS, in the order of opening.
+fn list_clients(sessions: &Vec<Session>, u: UpsId, clients: &mut Clients)
+    requires { length sessions.now.items ≤ SESSION_LIMIT }
+    ensures { clients.new ≡ addresses_at u (map seen_client sessions.now.items) }
+{
+    clients.clear();
+    for session in sessions.iter() {
+        session.list(u, clients);
+    }
+}
+
+/// A forced shutdown of the UPS is set, where there is such a UPS.
+fn set_fsd(upses: &mut Vec<Ups>, u: UpsId)
+    ensures set { upses.new.items ≡ changed_at with_fsd u.place upses.old.items }
+    ensures length { length upses.new.items ≡ length upses.old.items }
+{
+    if (u.place as usize) < upses.len() {
+        let ups = &mut upses[u.place as usize];
+        ups.set_fsd();
+    }
+}
+
+/// The driver of the UPS is owed this line, which fits, where there is such a UPS.
+fn order(upses: &mut Vec<Ups>, u: UpsId, line: &[u8])
+    requires fits { (x : UpsState) → slice_get upses.old.items u.place ≡ Some x
+        → TakesLine line.now x }
+    ensures owed { upses.new.items ≡ changed_at (with_order line.now) u.place upses.old.items }
+    ensures length { length upses.new.items ≡ length upses.old.items }
+{
+    if (u.place as usize) < upses.len() {
+        let ups = &mut upses[u.place as usize];
+        ups.order(line);
+    }
+}
+
+/// A reply of at most one line, which changes nothing.
+fn one_line(text: &[u8]) -> Reply
+    requires { length text.now ≤ LINE_ROOM }
+    ensures { IsText text.now result }
+{
+    let mut line = Line::new();
+    line.try_extend_from_slice(text).unwrap();
+    Reply::One(line, Change::Nothing)
+}

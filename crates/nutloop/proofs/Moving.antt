@@ -1,0 +1,218 @@
+-- What the calls that are told and the events of a turn have in common: a reading of the calls, g, and one of the events, f, that fit.
+use Rattle.std.proofs.Common.{◌≡◌, ℕ, Bool, true, false, List, [], ◌∷◌, ◌++◌, length, take, Option, Some, None, refl, sym, ap, subst, ◌∙◌, append-nil}
+use Rattle.std.specs.Prelude.{◌≤◌, ◌==◌, if◌then◌else◌, is_some}
+use Rattle.std.specs.List.{flat_map}
+use Rattle.std.proofs.lemmas.Grind.{flat_map-append}
+use Rattle.nutusers.specs.declared.ups_list.UpsId.{UpsId}
+use Rattle.nutcore.specs.declared.event.Event.{Event}
+use Rattle.nutcore.specs.declared.event.Event.TheVariants as event
+use Rattle.nutcore.specs.declared.event.Outcome.{Outcome}
+use Rattle.nutcore.specs.declared.event.Outcome.TheVariants as outcome
+use Rattle.nutcore.specs.declared.event.Peer.{Peer}
+use Rattle.nutcore.specs.declared.event.Peer.TheVariants.{Client, Driver}
+use Rattle.nutcore.specs.Server.{ServerState, session}
+use Rattle.nutcore.specs.Step.{after, offered}
+use Rattle.nutcore.specs.Run.{Run}
+use Rattle.nutcore.specs.DriverHistory.{has_driver}
+use Rattle.nutloop.specs.declared.sockets.Ready.{Ready}
+use Rattle.nutloop.specs.declared.sockets.Ready.TheVariants.{Nothing, Tick, Newcomer, DriverUp, Read, Write}
+use Rattle.nutloop.specs.declared.sockets.Call.{Call}
+use Rattle.nutloop.specs.declared.sockets.Call.TheVariants.{Readied, Accepted, Named, Refused, Gave, Waits, Ended, Wrote, Shut}
+use Rattle.nutloop.specs.declared.turns.TheConstants.{DRIVER_READ_LIMIT}
+use Rattle.nutloop.specs.Turn.{nobody, accepts, reads, Answer, unasked, newcomer, gave, later, ended, took, failed, ask, write_of, room_at, owed_to_driver, is_finished_at, MayAnswer, answered, row_events, read_of_client, read_of_driver, write_to_client, write_to_driver, opening, last_events, calls_behind, calls_behind_all, loses_driver}
+use Rattle.nutloop.specs.Moved.{along}
+
+pub record Fit (g : Call → List ℕ) (f : ServerState → Event → List ℕ) : Type 0 where
+  pub readied : (r : Ready) → g (Readied r) ≡ []
+  pub accepted : (a : Option (List ℕ)) → g (Accepted a) ≡ []
+  pub named : (c : ℕ) → g (Named c) ≡ []
+  pub refused : g Refused ≡ []
+  pub waits : (p : Peer) → g (Waits p) ≡ []
+  pub ends : (p : Peer) → g (Ended p) ≡ []
+  pub shut : (p : Peer) → g (Shut p) ≡ []
+  pub ups : (s : ServerState) (u : UpsId) → f s (event.DriverUp u) ≡ []
+  pub downs : (s : ServerState) (u : UpsId) → f s (event.DriverDown u) ≡ []
+  pub ticks : (s : ServerState) (n : ℕ) → f s (event.Tick n) ≡ []
+  pub opens : (s : ServerState) (a : List ℕ) → f s (event.Open a) ≡ []
+  pub closes : (s : ServerState) (c : ℕ) → f s (event.Close c) ≡ []
+  pub tries : (s : ServerState) (c : ℕ) → f s (event.Feed c []) ≡ []
+  pub asks : (s : ServerState) (u : UpsId) → f s (event.DriverTook u 0) ≡ []
+  pub feeds : (s : ServerState) (c : ℕ) (bytes : List ℕ) → length bytes ≤ room_at c s → g (Gave (Client c) bytes) ≡ f s (event.Feed c bytes)
+  pub comes : (s : ServerState) (u : UpsId) (bytes : List ℕ) → g (Gave (Driver u) bytes) ≡ f s (event.DriverBytes u bytes)
+  pub takes : (s : ServerState) (c n : ℕ) (xs : List ℕ) → xs ≡ offered (session c s) → n ≤ length xs → g (Wrote (Client c) (take n xs)) ≡ f s (event.Took c n)
+  pub driver_takes : (s : ServerState) (u : UpsId) (n : ℕ) (xs : List ℕ) → xs ≡ owed_to_driver u s → n ≤ length xs → g (Wrote (Driver u) (take n xs)) ≡ f s (event.DriverTook u n)
+
+-- One call, and one event.
+one_call : (g : Call → List ℕ) (x : Call) (bytes : List ℕ) → g x ≡ bytes → flat_map g (x ∷ []) ≡ bytes
+one_call g x bytes h = append-nil (g x) ∙ h
+
+one_event : (f : ServerState → Event → List ℕ) (s mid : ServerState) (e : Event) (os : List Outcome) → Run s (e ∷ []) os mid → along f s (e ∷ []) os ≡ f s e
+one_event f s mid e [] r = absurd r
+one_event f s mid e (o ∷ os) r = append-nil (f s e)
+
+-- An event of no bytes, and one behind it.
+event_behind : (f : ServerState → Event → List ℕ) (s mid : ServerState) (a e : Event) (os : List Outcome) (bytes : List ℕ) → f s a ≡ [] → ((t : ServerState) → f t e ≡ bytes) → Run s (a ∷ e ∷ []) os mid → along f s (a ∷ e ∷ []) os ≡ bytes
+event_behind f s mid a e [] bytes h k r = absurd r
+event_behind f s mid a e (o ∷ []) bytes h k r = absurd r.2
+event_behind f s mid a e (o ∷ p ∷ os) bytes h k r = ap (λ v. v ++ (f (after s a o) e ++ [])) h ∙ append-nil (f (after s a o) e) ∙ k (after s a o)
+
+-- No bytes are in the calls behind an event.
+behind_open : (g : Call → List ℕ) (f : ServerState → Event → List ℕ) → Fit g f → (a : List ℕ) (o : Outcome) → flat_map g (calls_behind (event.Open a) o) ≡ []
+behind_open g f fit a outcome.Done = refl
+behind_open g f fit a (outcome.Fed n) = refl
+behind_open g f fit a (outcome.Opened c) = one_call g (Named c) [] (fit.named c)
+behind_open g f fit a (outcome.Refused r) = one_call g Refused [] fit.refused
+
+behind_lost : (g : Call → List ℕ) (f : ServerState → Event → List ℕ) → Fit g f → (u : UpsId) (b : Bool) → flat_map g (if b then Shut (Driver u) ∷ [] else []) ≡ []
+behind_lost g f fit u true = one_call g (Shut (Driver u)) [] (fit.shut (Driver u))
+behind_lost g f fit u false = refl
+
+behind_bytes : (g : Call → List ℕ) (f : ServerState → Event → List ℕ) → Fit g f → (u : UpsId) (piece : List ℕ) (o : Outcome) → flat_map g (calls_behind (event.DriverBytes u piece) o) ≡ []
+behind_bytes g f fit u piece outcome.Done = refl
+behind_bytes g f fit u piece (outcome.Fed n) = refl
+behind_bytes g f fit u piece (outcome.Opened c) = refl
+behind_bytes g f fit u piece (outcome.Refused r) = behind_lost g f fit u (loses_driver r)
+
+behind : (g : Call → List ℕ) (f : ServerState → Event → List ℕ) → Fit g f → (e : Event) (o : Outcome) → flat_map g (calls_behind e o) ≡ []
+behind g f fit (event.DriverUp u) o = refl
+behind g f fit (event.DriverBytes u piece) o = behind_bytes g f fit u piece o
+behind g f fit (event.DriverTook u n) o = refl
+behind g f fit (event.DriverDown u) o = one_call g (Shut (Driver u)) [] (fit.shut (Driver u))
+behind g f fit (event.Tick n) o = refl
+behind g f fit (event.Open a) o = behind_open g f fit a o
+behind g f fit (event.Feed c piece) o = refl
+behind g f fit (event.Took c n) o = refl
+behind g f fit (event.Close c) o = one_call g (Shut (Client c)) [] (fit.shut (Client c))
+
+pub behind_all : (g : Call → List ℕ) (f : ServerState → Event → List ℕ) → Fit g f → (es : List Event) (os : List Outcome) → flat_map g (calls_behind_all es os) ≡ []
+behind_all g f fit [] os = refl
+behind_all g f fit (e ∷ es) [] = refl
+behind_all g f fit (e ∷ es) (o ∷ os) = flat_map-append g (calls_behind e o) (calls_behind_all es os) ∙ ap (λ v. v ++ flat_map g (calls_behind_all es os)) (behind g f fit e o) ∙ behind_all g f fit es os
+
+-- The rows.
+tried : (g : Call → List ℕ) (f : ServerState → Event → List ℕ) → Fit g f → (s mid : ServerState) (c : ℕ) (b : Bool) (os : List Outcome) → Run s (if b then event.Feed c [] ∷ [] else []) os mid → [] ≡ along f s (if b then event.Feed c [] ∷ [] else []) os
+tried g f fit s mid c true os r = sym (one_event f s mid (event.Feed c []) os r ∙ fit.tries s c)
+tried g f fit s mid c false os r = refl
+
+from_client : (g : Call → List ℕ) (f : ServerState → Event → List ℕ) → Fit g f → (s mid : ServerState) (c n : ℕ) (b : Bool) (answer : Answer) (os : List Outcome) → n ≡ room_at c s
+    → MayAnswer (if b then nobody else reads (Client c) n) answer → Run s (read_of_client s c answer) os mid → flat_map g (answered (if b then nobody else reads (Client c) n) answer) ≡ along f s (read_of_client s c answer) os
+from_client g f fit s mid c n true unasked os e may r = tried g f fit s mid c (is_some (session c s)) os r
+from_client g f fit s mid c n true (newcomer a) os e may r = absurd may
+from_client g f fit s mid c n true (gave bytes) os e may r = absurd may
+from_client g f fit s mid c n true later os e may r = absurd may
+from_client g f fit s mid c n true ended os e may r = absurd may
+from_client g f fit s mid c n true (took k) os e may r = absurd may
+from_client g f fit s mid c n true failed os e may r = absurd may
+from_client g f fit s mid c n false unasked os e may r = absurd may
+from_client g f fit s mid c n false (newcomer a) os e may r = absurd may
+from_client g f fit s mid c n false (gave bytes) os e may r = one_call g (Gave (Client c) bytes) (f s (event.Feed c bytes)) (fit.feeds s c bytes (subst (λ k. length bytes ≤ k) e may)) ∙ sym (one_event f s mid (event.Feed c bytes) os r)
+from_client g f fit s mid c n false later os e may r = one_call g (Waits (Client c)) [] (fit.waits (Client c))
+from_client g f fit s mid c n false ended os e may r = one_call g (Ended (Client c)) [] (fit.ends (Client c)) ∙ sym (one_event f s mid (event.Close c) os r ∙ fit.closes s c)
+from_client g f fit s mid c n false (took k) os e may r = absurd may
+from_client g f fit s mid c n false failed os e may r = sym (one_event f s mid (event.Close c) os r ∙ fit.closes s c)
+
+from_driver : (g : Call → List ℕ) (f : ServerState → Event → List ℕ) → Fit g f → (s mid : ServerState) (u : UpsId) (b : Bool) (answer : Answer) (os : List Outcome)
+    → MayAnswer (if b then reads (Driver u) DRIVER_READ_LIMIT else nobody) answer → Run s (event.DriverTook u 0 ∷ read_of_driver u answer) os mid → flat_map g (answered (if b then reads (Driver u) DRIVER_READ_LIMIT else nobody) answer) ≡ along f s (event.DriverTook u 0 ∷ read_of_driver u answer) os
+from_driver g f fit s mid u false unasked os may r = sym (one_event f s mid (event.DriverTook u 0) os r ∙ fit.asks s u)
+from_driver g f fit s mid u false (newcomer a) os may r = absurd may
+from_driver g f fit s mid u false (gave bytes) os may r = absurd may
+from_driver g f fit s mid u false later os may r = absurd may
+from_driver g f fit s mid u false ended os may r = absurd may
+from_driver g f fit s mid u false (took k) os may r = absurd may
+from_driver g f fit s mid u false failed os may r = absurd may
+from_driver g f fit s mid u true unasked os may r = absurd may
+from_driver g f fit s mid u true (newcomer a) os may r = absurd may
+from_driver g f fit s mid u true (gave bytes) os may r =
+    append-nil (g (Gave (Driver u) bytes)) ∙ sym (event_behind f s mid (event.DriverTook u 0) (event.DriverBytes u bytes) os (g (Gave (Driver u) bytes)) (fit.asks s u) (λ t. sym (fit.comes t u bytes)) r)
+from_driver g f fit s mid u true later os may r = one_call g (Waits (Driver u)) [] (fit.waits (Driver u)) ∙ sym (one_event f s mid (event.DriverTook u 0) os r ∙ fit.asks s u)
+from_driver g f fit s mid u true ended os may r = one_call g (Ended (Driver u)) [] (fit.ends (Driver u)) ∙ sym (event_behind f s mid (event.DriverTook u 0) (event.DriverDown u) os [] (fit.asks s u) (λ t. fit.downs t u) r)
+from_driver g f fit s mid u true (took k) os may r = absurd may
+from_driver g f fit s mid u true failed os may r = sym (event_behind f s mid (event.DriverTook u 0) (event.DriverDown u) os [] (fit.asks s u) (λ t. fit.downs t u) r)
+
+to_client : (g : Call → List ℕ) (f : ServerState → Event → List ℕ) → Fit g f → (s mid : ServerState) (c : ℕ) (xs : List ℕ) (answer : Answer) (os : List Outcome) → xs ≡ offered (session c s)
+    → MayAnswer (write_of (Client c) xs) answer → Run s (write_to_client c answer) os mid → flat_map g (answered (write_of (Client c) xs) answer) ≡ along f s (write_to_client c answer) os
+to_client g f fit s mid c [] unasked os e may r = refl
+to_client g f fit s mid c [] (newcomer a) os e may r = absurd may
+to_client g f fit s mid c [] (gave bytes) os e may r = absurd may
+to_client g f fit s mid c [] later os e may r = absurd may
+to_client g f fit s mid c [] ended os e may r = absurd may
+to_client g f fit s mid c [] (took k) os e may r = absurd may
+to_client g f fit s mid c [] failed os e may r = absurd may
+to_client g f fit s mid c (x ∷ xs) unasked os e may r = absurd may
+to_client g f fit s mid c (x ∷ xs) (newcomer a) os e may r = absurd may
+to_client g f fit s mid c (x ∷ xs) (gave bytes) os e may r = absurd may
+to_client g f fit s mid c (x ∷ xs) later os e may r = absurd may
+to_client g f fit s mid c (x ∷ xs) ended os e may r = absurd may
+to_client g f fit s mid c (x ∷ xs) (took k) os e may r = one_call g (Wrote (Client c) (take k (x ∷ xs))) (f s (event.Took c k)) (fit.takes s c k (x ∷ xs) e may) ∙ sym (one_event f s mid (event.Took c k) os r)
+to_client g f fit s mid c (x ∷ xs) failed os e may r = sym (one_event f s mid (event.Close c) os r ∙ fit.closes s c)
+
+to_driver : (g : Call → List ℕ) (f : ServerState → Event → List ℕ) → Fit g f → (s mid : ServerState) (u : UpsId) (xs : List ℕ) (answer : Answer) (os : List Outcome) → xs ≡ owed_to_driver u s
+    → MayAnswer (write_of (Driver u) xs) answer → Run s (write_to_driver u answer) os mid → flat_map g (answered (write_of (Driver u) xs) answer) ≡ along f s (write_to_driver u answer) os
+to_driver g f fit s mid u [] unasked os e may r = refl
+to_driver g f fit s mid u [] (newcomer a) os e may r = absurd may
+to_driver g f fit s mid u [] (gave bytes) os e may r = absurd may
+to_driver g f fit s mid u [] later os e may r = absurd may
+to_driver g f fit s mid u [] ended os e may r = absurd may
+to_driver g f fit s mid u [] (took k) os e may r = absurd may
+to_driver g f fit s mid u [] failed os e may r = absurd may
+to_driver g f fit s mid u (x ∷ xs) unasked os e may r = absurd may
+to_driver g f fit s mid u (x ∷ xs) (newcomer a) os e may r = absurd may
+to_driver g f fit s mid u (x ∷ xs) (gave bytes) os e may r = absurd may
+to_driver g f fit s mid u (x ∷ xs) later os e may r = absurd may
+to_driver g f fit s mid u (x ∷ xs) ended os e may r = absurd may
+to_driver g f fit s mid u (x ∷ xs) (took k) os e may r = one_call g (Wrote (Driver u) (take k (x ∷ xs))) (f s (event.DriverTook u k)) (fit.driver_takes s u k (x ∷ xs) e may) ∙ sym (one_event f s mid (event.DriverTook u k) os r)
+to_driver g f fit s mid u (x ∷ xs) failed os e may r = sym (one_event f s mid (event.DriverDown u) os r ∙ fit.downs s u)
+
+of_nobody : (g : Call → List ℕ) (answer : Answer) → MayAnswer nobody answer → flat_map g (answered nobody answer) ≡ []
+of_nobody g unasked may = refl
+of_nobody g (newcomer a) may = absurd may
+of_nobody g (gave bytes) may = absurd may
+of_nobody g later may = absurd may
+of_nobody g ended may = absurd may
+of_nobody g (took k) may = absurd may
+of_nobody g failed may = absurd may
+
+of_newcomer : (g : Call → List ℕ) (f : ServerState → Event → List ℕ) → Fit g f → (s mid : ServerState) (answer : Answer) (os : List Outcome) → MayAnswer accepts answer → Run s (opening answer) os mid → flat_map g (answered accepts answer) ≡ along f s (opening answer) os
+of_newcomer g f fit s mid unasked os may r = absurd may
+of_newcomer g f fit s mid (newcomer None) os may r = one_call g (Accepted None) [] (fit.accepted None)
+of_newcomer g f fit s mid (newcomer (Some a)) os may r = one_call g (Accepted (Some a)) [] (fit.accepted (Some a)) ∙ sym (one_event f s mid (event.Open a) os r ∙ fit.opens s a)
+of_newcomer g f fit s mid (gave bytes) os may r = absurd may
+of_newcomer g f fit s mid later os may r = absurd may
+of_newcomer g f fit s mid ended os may r = absurd may
+of_newcomer g f fit s mid (took k) os may r = absurd may
+of_newcomer g f fit s mid failed os may r = absurd may
+
+-- What the call of a row moved is what its events moved.
+pub row_moves : (g : Call → List ℕ) (f : ServerState → Event → List ℕ) → Fit g f → (s mid : ServerState) (ready : Ready) (answer : Answer) (os : List Outcome)
+    → MayAnswer (ask s ready) answer → Run s (row_events s ready answer) os mid → flat_map g (answered (ask s ready) answer) ≡ along f s (row_events s ready answer) os
+row_moves g f fit s mid Nothing answer os may r = of_nobody g answer may
+row_moves g f fit s mid (Tick n) answer os may r = of_nobody g answer may ∙ sym (one_event f s mid (event.Tick n) os r ∙ fit.ticks s n)
+row_moves g f fit s mid Newcomer answer os may r = of_newcomer g f fit s mid answer os may r
+row_moves g f fit s mid (DriverUp u) answer os may r = of_nobody g answer may ∙ sym (one_event f s mid (event.DriverUp u) os r ∙ fit.ups s u)
+row_moves g f fit s mid (Read (Client c)) answer os may r = from_client g f fit s mid c (room_at c s) (room_at c s == 0) answer os refl may r
+row_moves g f fit s mid (Read (Driver u)) answer os may r = from_driver g f fit s mid u (has_driver u s) answer os may r
+row_moves g f fit s mid (Write (Client c)) answer os may r = to_client g f fit s mid c (offered (session c s)) answer os refl may r
+row_moves g f fit s mid (Write (Driver u)) answer os may r = to_driver g f fit s mid u (owed_to_driver u s) answer os refl may r
+
+-- The last events of a row move nothing.
+closing : (g : Call → List ℕ) (f : ServerState → Event → List ℕ) → Fit g f → (s new : ServerState) (c : ℕ) (b : Bool) (os : List Outcome) → Run s (if b then event.Close c ∷ [] else []) os new → along f s (if b then event.Close c ∷ [] else []) os ≡ []
+closing g f fit s new c true os r = one_event f s new (event.Close c) os r ∙ fit.closes s c
+closing g f fit s new c false os r = refl
+
+last_of_client : (g : Call → List ℕ) (f : ServerState → Event → List ℕ) → Fit g f → (s new : ServerState) (c : ℕ) (answer : Answer) (os : List Outcome) → Run s (last_events s (Write (Client c)) answer) os new → along f s (last_events s (Write (Client c)) answer) os ≡ []
+last_of_client g f fit s new c unasked os r = closing g f fit s new c (is_finished_at c s) os r
+last_of_client g f fit s new c (took n) os r = closing g f fit s new c (is_finished_at c s) os r
+last_of_client g f fit s new c (newcomer a) os r = refl
+last_of_client g f fit s new c (gave bytes) os r = refl
+last_of_client g f fit s new c later os r = refl
+last_of_client g f fit s new c ended os r = refl
+last_of_client g f fit s new c failed os r = refl
+
+pub last_moves : (g : Call → List ℕ) (f : ServerState → Event → List ℕ) → Fit g f → (s new : ServerState) (ready : Ready) (answer : Answer) (os : List Outcome) → Run s (last_events s ready answer) os new → along f s (last_events s ready answer) os ≡ []
+last_moves g f fit s new Nothing answer os r = refl
+last_moves g f fit s new (Tick n) answer os r = refl
+last_moves g f fit s new Newcomer answer os r = refl
+last_moves g f fit s new (DriverUp u) answer os r = refl
+last_moves g f fit s new (Read p) answer os r = refl
+last_moves g f fit s new (Write (Client c)) answer os r = last_of_client g f fit s new c answer os r
+last_moves g f fit s new (Write (Driver u)) answer os r = refl

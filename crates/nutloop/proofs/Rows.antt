@@ -1,0 +1,223 @@
+-- The rows of a turn.
+use Rattle.std.proofs.Common.{◌≡◌, ℕ, suc, Bool, true, false, eqb, List, [], ◌∷◌, ◌++◌, length, Option, Some, None, refl, sym, ap, subst, ◌⊎◌, inl, inr, ◌∙◌, arith, append-nil, append_assoc}
+use Rattle.std.specs.Prelude.{is_some, Result, Ok, Err, is_ok, is_err, not, nat_le, if◌then◌else◌}
+use Rattle.std.specs.Option.{option_map, option_map_or}
+use Rattle.std.specs.Result.{result_unwrap_or}
+use Rattle.std.proofs.lemmas.Bool.Decides.{nat_tests}
+use Rattle.nutusers.specs.declared.ups_list.UpsId.{UpsId}
+use Rattle.nutcore.specs.declared.event.Event.{Event}
+use Rattle.nutcore.specs.declared.event.Event.TheVariants.{DriverTook, Close}
+use Rattle.nutcore.specs.declared.event.Outcome.{Outcome}
+use Rattle.nutcore.specs.declared.event.Outcome.TheVariants.{Done, Refused}
+use Rattle.nutcore.specs.declared.event.Fault.{Fault}
+use Rattle.nutcore.specs.declared.event.Fault.TheVariants.{NotConnected, TookTooMuch, Memory}
+use Rattle.nutcore.specs.declared.event.Peer.{Peer}
+use Rattle.nutcore.specs.declared.event.Peer.TheVariants.{Client, Driver}
+use Rattle.nutcore.specs.Session.{SessionState}
+use Rattle.nutcore.specs.Ups.{UpsState}
+use Rattle.nutcore.specs.Server.{ServerState, session, ups_at}
+use Rattle.nutcore.specs.Step.{Step, offered, outcome_of, driver_took_by, MayLackMemory}
+use Rattle.nutcore.specs.Run.{Run}
+use Rattle.nutcore.specs.Calls.{room_of, is_finished, owed_to, done, Reads}
+use Rattle.nutcore.specs.DriverHistory.{has_driver}
+use Rattle.nutloop.specs.declared.sockets.Ready.{Ready}
+use Rattle.nutloop.specs.declared.sockets.Ready.TheVariants.{Read}
+use Rattle.nutloop.specs.declared.sockets.Call.{Call}
+use Rattle.nutloop.specs.declared.sockets.Call.TheVariants.{Readied}
+use Rattle.nutloop.specs.declared.turns.TheConstants.{DRIVER_READ_LIMIT}
+use Rattle.nutloop.specs.Sockets.{Grows}
+use Rattle.nutloop.specs.Turn.{Ask, nobody, reads, writes, Answer, ask, read_of, write_of, owed_to_driver, MayAnswer, answered, row_events, last_events, end_of, calls_behind, calls_behind_all, Does, failures_by, IsRow}
+
+pub grows_nothing : (a : Option (List Call)) → Grows a a []
+grows_nothing None = tt
+grows_nothing (Some xs) = sym (append-nil xs)
+
+pub grows_joins : (a b c : Option (List Call)) (x y : List Call) → Grows a b x → Grows b c y → Grows a c (x ++ y)
+grows_joins None None None x y h k = tt
+grows_joins None None (Some zs) x y h k = absurd k
+grows_joins None (Some ys) c x y h k = absurd h
+grows_joins (Some xs) None None x y h k = tt
+grows_joins (Some xs) None (Some zs) x y h k = absurd k
+grows_joins (Some xs) (Some ys) None x y h k = tt
+grows_joins (Some xs) (Some ys) (Some zs) x y h k = k ∙ ap (λ t. t ++ y) h ∙ append_assoc xs x y
+
+-- One event is done, and then the call behind it is made.
+pub does_one : {S : Type 0} (calls : S → Option (List Call)) (failures : S → ℕ) (e : Event) (o : Outcome) (old : ServerState) (sockets : S) (new : ServerState) (after : S)
+    → Step old e o new → Grows (calls sockets) (calls after) (calls_behind e o) → failures after ≡ failures sockets
+    → Does calls failures (e ∷ []) old sockets new after
+does_one calls failures e o old sockets new after step told count = record {
+  outcomes = o ∷ [];
+  run = (new, step, refl);
+  told = subst (λ cs. Grows (calls sockets) (calls after) cs) (sym (append-nil (calls_behind e o))) told;
+  count = count;
+}
+
+-- One event is done, behind which no call is made.
+pub does_quietly : {S : Type 0} (calls : S → Option (List Call)) (failures : S → ℕ) (e : Event) (o : Outcome) (old : ServerState) (sockets : S) (new : ServerState)
+    → calls_behind e o ≡ [] → Step old e o new
+    → Does calls failures (e ∷ []) old sockets new sockets
+does_quietly calls failures e o old sockets new quiet step =
+    does_one calls failures e o old sockets new sockets step (subst (λ cs. Grows (calls sockets) (calls sockets) cs) (sym quiet) (grows_nothing (calls sockets))) refl
+
+pub does_nothing : {S : Type 0} (calls : S → Option (List Call)) (failures : S → ℕ) (old : ServerState) (sockets : S) (new : ServerState)
+    → new ≡ old → Does calls failures [] old sockets new sockets
+does_nothing calls failures old sockets new same = record { outcomes = []; run = same; told = grows_nothing (calls sockets); count = refl }
+
+-- A driver is asked for, and then these events are done.
+pub does_behind_asking : {S : Type 0} (calls : S → Option (List Call)) (failures : S → ℕ) (u : UpsId) (o : Outcome) (es : List Event) (old mid : ServerState) (sockets : S) (new : ServerState) (after : S)
+    → Step old (DriverTook u 0) o mid → Does calls failures es mid sockets new after
+    → Does calls failures (DriverTook u 0 ∷ es) old sockets new after
+does_behind_asking calls failures u o es old mid sockets new after step rest = record {
+  outcomes = o ∷ rest.outcomes;
+  run = (mid, step, rest.run);
+  told = rest.told;
+  count = rest.count;
+}
+
+-- The same from a server that is the same.
+pub does_from : {S : Type 0} (calls : S → Option (List Call)) (failures : S → ℕ) (es : List Event) (old mid : ServerState) (sockets : S) (new : ServerState) (after : S)
+    → mid ≡ old → Does calls failures es mid sockets new after → Does calls failures es old sockets new after
+does_from calls failures es old mid sockets new after same rest = subst (λ s. Does calls failures es s sockets new after) same rest
+
+-- A row: the call that it makes, the events and the last events.
+pub row : {S : Type 0} (calls : S → Option (List Call)) (failures : S → ℕ) (ready : Ready) (answer : Answer) (a : Ask) (es ls : List Event) (old : ServerState) (sockets middle : S) (mid : ServerState) (later : S) (new : ServerState) (after : S)
+    → ask old ready ≡ a → row_events old ready answer ≡ es → last_events mid ready answer ≡ ls
+    → MayAnswer a answer → Grows (calls sockets) (calls middle) (answered a answer) → failures middle ≡ failures_by answer (failures sockets)
+    → Does calls failures es old middle mid later → Does calls failures ls mid later new after
+    → IsRow calls failures [] ready old sockets new after
+row calls failures ready answer a es ls old sockets middle mid later new after asked rows ends may told count first last = record {
+  answer = answer;
+  mid = mid;
+  outcomes = first.outcomes;
+  last = last.outcomes;
+  may = subst (λ x. MayAnswer x answer) (sym asked) may;
+  makes = subst (λ x. Run old x first.outcomes mid) (sym rows) first.run;
+  finishes = subst (λ x. Run mid x last.outcomes new) (sym ends) last.run;
+  told = subst (λ x. Grows (calls sockets) (calls after) (answered x answer ++ (calls_behind_all (row_events old ready answer) first.outcomes ++ calls_behind_all (last_events mid ready answer) last.outcomes))) (sym asked)
+      (subst (λ x. Grows (calls sockets) (calls after) (answered a answer ++ (calls_behind_all x first.outcomes ++ calls_behind_all (last_events mid ready answer) last.outcomes))) (sym rows)
+      (subst (λ x. Grows (calls sockets) (calls after) (answered a answer ++ (calls_behind_all es first.outcomes ++ calls_behind_all x last.outcomes))) (sym ends)
+      (grows_joins (calls sockets) (calls middle) (calls after) (answered a answer) (calls_behind_all es first.outcomes ++ calls_behind_all ls last.outcomes) told
+      (grows_joins (calls middle) (calls later) (calls after) (calls_behind_all es first.outcomes) (calls_behind_all ls last.outcomes) first.told last.told))));
+  count = last.count ∙ first.count ∙ count;
+}
+
+-- A row without last events.
+pub row_of : {S : Type 0} (calls : S → Option (List Call)) (failures : S → ℕ) (ready : Ready) (answer : Answer) (a : Ask) (es : List Event) (old : ServerState) (sockets middle : S) (new : ServerState) (after : S)
+    → ask old ready ≡ a → row_events old ready answer ≡ es → last_events new ready answer ≡ []
+    → MayAnswer a answer → Grows (calls sockets) (calls middle) (answered a answer) → failures middle ≡ failures_by answer (failures sockets)
+    → Does calls failures es old middle new after
+    → IsRow calls failures [] ready old sockets new after
+row_of calls failures ready answer a es old sockets middle new after asked rows ends may told count first =
+    row calls failures ready answer a es [] old sockets middle new after new after asked rows ends may told count first (does_nothing calls failures new after new refl)
+
+-- A row behind the answer of ready.
+pub row_behind : {S : Type 0} (calls : S → Option (List Call)) (failures : S → ℕ) (ready : Ready) (old : ServerState) (sockets middle : S) (new : ServerState) (after : S)
+    → Grows (calls sockets) (calls middle) (Readied ready ∷ []) → failures middle ≡ failures sockets → IsRow calls failures [] ready old middle new after
+    → IsRow calls failures (Readied ready ∷ []) ready old sockets new after
+row_behind calls failures ready old sockets middle new after told count r = record {
+  answer = r.answer;
+  mid = r.mid;
+  outcomes = r.outcomes;
+  last = r.last;
+  may = r.may;
+  makes = r.makes;
+  finishes = r.finishes;
+  told = grows_joins (calls sockets) (calls middle) (calls after) (Readied ready ∷ []) (answered (ask old ready) r.answer ++ (calls_behind_all (row_events old ready r.answer) r.outcomes ++ calls_behind_all (last_events r.mid ready r.answer) r.last)) told r.told;
+  count = r.count ∙ ap (failures_by r.answer) count;
+}
+
+-- The calls of clients' rows.
+
+not_zero : (n : ℕ) → (n ≡ 0 → ⊥) → eqb n 0 ≡ false
+not_zero n h = grind (arith, nat_tests)
+
+room_is : (n : ℕ) (o : Option SessionState) → Reads room_of o (Ok n) → option_map_or room_of o 0 ≡ n
+room_is n None h = cc
+room_is n (Some x) h = cc
+
+pub is_there : (n : ℕ) (o : Option SessionState) → Reads room_of o (Ok n) → is_some o ≡ true
+is_there n None h = cc
+is_there n (Some x) h = refl
+
+pub is_absent : (f : Fault) (o : Option SessionState) → Reads room_of o (Err f) → o ≡ None
+is_absent f None h = refl
+is_absent f (Some x) h = cc
+
+pub asks_read : (c n : ℕ) (s : ServerState) → Reads room_of (session c s) (Ok n) → (n ≡ 0 → ⊥) → ask s (Read (Client c)) ≡ reads (Client c) n
+asks_read c n s h some = rw (room_is n (session c s) h, not_zero n some) refl
+
+pub asks_nobody : (c n : ℕ) (s : ServerState) → Reads room_of (session c s) (Ok n) → n ≡ 0 → ask s (Read (Client c)) ≡ nobody
+asks_nobody c n s h none = ap (read_of (Client c)) (room_is n (session c s) h ∙ none)
+
+pub asks_nobody_there : (c : ℕ) (s : ServerState) → session c s ≡ None → ask s (Read (Client c)) ≡ nobody
+asks_nobody_there c s h = ap (λ o. read_of (Client c) (option_map_or room_of o 0)) h
+
+-- The writes.
+
+pub writes_all : (p : Peer) (xs ys : List ℕ) → xs ≡ ys → eqb (length xs) 0 ≡ false → write_of p ys ≡ writes p xs
+writes_all p [] ys e h = cc
+writes_all p (x ∷ xs) ys e h = ap (write_of p) (sym e)
+
+pub writes_nothing : (p : Peer) (xs ys : List ℕ) → xs ≡ ys → eqb (length xs) 0 ≡ true → write_of p ys ≡ nobody
+writes_nothing p [] ys e h = ap (write_of p) (sym e)
+writes_nothing p (x ∷ xs) ys e h = absurd (not_empty (length xs) h)
+  where
+    not_empty : (n : ℕ) → eqb (suc n) 0 ≡ true → ⊥
+    not_empty n h = grind (arith, nat_tests)
+
+pub owed_is : (xs : List ℕ) (o : Option UpsState) → option_map owed_to o ≡ Some xs → xs ≡ option_map_or owed_to o []
+owed_is xs None h = cc
+owed_is xs (Some x) h = cc
+
+pub nothing_is_offered : (c : ℕ) (s : ServerState) → session c s ≡ None → write_of (Client c) (offered (session c s)) ≡ nobody
+nothing_is_offered c s h = ap (λ o. write_of (Client c) (offered o)) h
+
+pub nothing_is_owed : (u : UpsId) (s : ServerState) → ups_at u.place s ≡ None → write_of (Driver u) (owed_to_driver u s) ≡ nobody
+nothing_is_owed u s h = ap (λ o. write_of (Driver u) (option_map_or owed_to o [])) h
+
+-- The end of a client.
+
+pub nobody_ends : (c : ℕ) (s : ServerState) → session c s ≡ None → end_of c s ≡ []
+nobody_ends c s h = ap (λ o. if option_map_or is_finished o false then Close c ∷ [] else []) h
+
+-- Drivers.
+
+asked_of_flag : (b : Bool) (n : ℕ) (r : Result (Unit {0}) Fault) → done r ≡ (if not b then Refused NotConnected else if nat_le 0 n then Done else Refused TookTooMuch) → b ≡ is_ok r
+asked_of_flag true n (Ok u) h = refl
+asked_of_flag true n (Err f) h = let none : nat_le 0 n ≡ true = grind (arith, nat_tests) in cc
+asked_of_flag false n (Ok u) h = cc
+asked_of_flag false n (Err f) h = refl
+
+asked_of : (o : Option UpsState) (r : Result (Unit {0}) Fault) → done r ≡ driver_took_by 0 o → option_map_or (λ x. x.report.connected) o false ≡ is_ok r
+asked_of None (Ok u) h = cc
+asked_of None (Err f) h = refl
+asked_of (Some x) r h = asked_of_flag x.report.connected (length x.owed) r h
+
+pub driver_is_there : (u : UpsId) (r : Result (Unit {0}) Fault) (old new : ServerState) → Step old (DriverTook u 0) (done r) new → has_driver u old ≡ is_ok r
+unfolding outcome_of MayLackMemory
+driver_is_there u r old new step = from step.allowed
+  where
+    from : (done r ≡ outcome_of old (DriverTook u 0)) ⊎ ((k : ℕ) × (done r ≡ Refused (Memory k)) × MayLackMemory old (DriverTook u 0) k) → has_driver u old ≡ is_ok r
+    from (inl h) = asked_of (ups_at u.place old) r h
+    from (inr h) = absurd h.2
+
+pub finished_is : (r : Result Bool Fault) (o : Option SessionState) → Reads is_finished o r → option_map_or is_finished o false ≡ result_unwrap_or r false
+finished_is (Ok b) None h = cc
+finished_is (Ok b) (Some x) h = cc
+finished_is (Err f) None h = refl
+finished_is (Err f) (Some x) h = cc
+
+pub nobody_ends_from : (c : ℕ) (old new : ServerState) → new ≡ old → session c old ≡ None → end_of c new ≡ []
+nobody_ends_from c old new same h = subst (λ s. end_of c s ≡ []) (sym same) (nobody_ends c old h)
+
+ok_of : {T E : Type 0} (r : Result T E) (b : Bool) → is_err r ≡ b → is_ok r ≡ not b
+ok_of (Ok x) true h = cc
+ok_of (Ok x) false h = refl
+ok_of (Err e) true h = refl
+ok_of (Err e) false h = cc
+
+pub asks_driver : (u : UpsId) (r : Result (Unit {0}) Fault) (old new : ServerState) → Step old (DriverTook u 0) (done r) new → is_err r ≡ false → ask old (Read (Driver u)) ≡ reads (Driver u) DRIVER_READ_LIMIT
+asks_driver u r old new step h = ap (λ b. if b then reads (Driver u) DRIVER_READ_LIMIT else nobody) (driver_is_there u r old new step ∙ ok_of r false h)
+
+pub asks_no_driver : (u : UpsId) (r : Result (Unit {0}) Fault) (old new : ServerState) → Step old (DriverTook u 0) (done r) new → is_err r ≡ true → ask old (Read (Driver u)) ≡ nobody
+asks_no_driver u r old new step h = ap (λ b. if b then reads (Driver u) DRIVER_READ_LIMIT else nobody) (driver_is_there u r old new step ∙ ok_of r true h)

@@ -1,0 +1,260 @@
+-- Turns, one after another, and what they move.
+use Rattle.std.proofs.Common.{◌≡◌, ℕ, zero, suc, Bool, true, false, List, [], ◌∷◌, ◌++◌, length, take, Option, Some, None, refl, sym, ap, subst, ◌∙◌, append-nil, append_assoc, arith, rules}
+use Rattle.std.specs.Prelude.{◌≤◌, ◌==◌, if◌then◌else◌, Result, Ok, Err, nat_le}
+use Rattle.std.specs.List.{flat_map}
+use Rattle.std.proofs.lemmas.Grind.{flat_map-append}
+use Rattle.std.proofs.lemmas.Bool.Decides.{nat_tests}
+use Rattle.nutusers.specs.declared.ups_list.UpsId.{UpsId}
+use Rattle.nutcore.specs.declared.event.Event.{Event}
+use Rattle.nutcore.specs.declared.event.Outcome.{Outcome}
+use Rattle.nutcore.specs.Session.{SessionState}
+use Rattle.nutcore.specs.Server.{ServerState, session}
+use Rattle.nutcore.specs.Pump.{owed_of}
+use Rattle.nutcore.specs.Step.{after, offered, may_take}
+use Rattle.nutcore.specs.Run.{Run}
+use Rattle.nutcore.specs.History.{taken, taken_in_event}
+use Rattle.nutcore.specs.DriverHistory.{came, came_in_event}
+use Rattle.nutloop.specs.declared.fault.LoopFault.{LoopFault}
+use Rattle.nutloop.specs.declared.fault.LoopFault.TheVariants as fault
+use Rattle.nutloop.specs.declared.sockets.Ready.{Ready}
+use Rattle.nutloop.specs.declared.sockets.Ready.TheVariants.{Newcomer}
+use Rattle.nutloop.specs.declared.sockets.Call.{Call}
+use Rattle.nutloop.specs.declared.sockets.Call.TheVariants.{Readied}
+use Rattle.nutloop.specs.Sockets.{Grows}
+use Rattle.nutloop.specs.Turn.{ask, answered, row_events, last_events, calls_behind_all, IsRow, TurnGives}
+use Rattle.nutloop.specs.Moved.{Turns, is_client, is_driver, gave_in, took_in, along, fed_in_event, driver_took_in_event, AreMoved, EveryByteIsMovedOnce}
+use Rattle.nutloop.proofs.Rows.{grows_nothing, grows_joins}
+use Rattle.nutloop.proofs.Moving.{Fit, row_moves, last_moves, behind_all}
+
+-- Runs and what is found along them are joined.
+run_joins : (s mid new : ServerState) (es fs : List Event) (os qs : List Outcome) → Run s es os mid → Run mid fs qs new → Run s (es ++ fs) (os ++ qs) new
+run_joins s mid new [] fs [] qs r q = subst (λ t. Run t fs qs new) r q
+run_joins s mid new [] fs (o ∷ os) qs r q = absurd r
+run_joins s mid new (e ∷ es) fs [] qs r q = absurd r
+run_joins s mid new (e ∷ es) fs (o ∷ os) qs r q = (r.0, r.1, run_joins r.0 mid new es fs os qs r.2 q)
+
+along_joins : (f : ServerState → Event → List ℕ) (s mid : ServerState) (es fs : List Event) (os qs : List Outcome) → Run s es os mid → along f s (es ++ fs) (os ++ qs) ≡ along f s es os ++ along f mid fs qs
+along_joins f s mid [] fs [] qs r = ap (λ t. along f t fs qs) (sym r)
+along_joins f s mid [] fs (o ∷ os) qs r = absurd r
+along_joins f s mid (e ∷ es) fs [] qs r = absurd r
+along_joins f s mid (e ∷ es) fs (o ∷ os) qs r =
+    let rest : Run (after s e o) es os mid = subst (λ t. Run t es os mid) r.1.leaves r.2 in
+    ap (λ v. f s e ++ v) (along_joins f (after s e o) mid es fs os qs rest) ∙ sym (append_assoc (f s e) (along f (after s e o) es os) (along f mid fs qs))
+
+-- What turns did, in the words of any reading of calls and events that fit.
+record Moves {S : Type 0} (calls : S → Option (List Call)) (old : ServerState) (sockets : S) (new : ServerState) (after : S) : Type 0 where
+  pub since : List Call
+  pub events : List Event
+  pub outcomes : List Outcome
+  pub grown : Grows (calls sockets) (calls after) since
+  pub run : Run old events outcomes new
+  pub moves : (g : Call → List ℕ) (f : ServerState → Event → List ℕ) → Fit g f → flat_map g since ≡ along f old events outcomes
+
+-- The calls of a row.
+row_reads : (g : Call → List ℕ) (f : ServerState → Event → List ℕ) → Fit g f → (r : Ready) (a b c : List Call) (bytes : List ℕ) → flat_map g a ≡ bytes → flat_map g b ≡ [] → flat_map g c ≡ [] → flat_map g ((Readied r ∷ a) ++ (b ++ c)) ≡ bytes
+row_reads g f fit r a b c bytes ha hb hc =
+    flat_map-append g (Readied r ∷ a) (b ++ c)
+    ∙ ap (λ v. (v ++ flat_map g a) ++ flat_map g (b ++ c)) (fit.readied r)
+    ∙ ap (λ v. flat_map g a ++ v) (flat_map-append g b c)
+    ∙ ap (λ v. flat_map g a ++ (v ++ flat_map g c)) hb
+    ∙ ap (λ v. flat_map g a ++ v) hc
+    ∙ append-nil (flat_map g a)
+    ∙ ha
+
+row_is_moved : {S : Type 0} (calls : S → Option (List Call)) (failures : S → ℕ) (ready : Ready) (old : ServerState) (sockets : S) (new : ServerState) (after : S) → IsRow calls failures (Readied ready ∷ []) ready old sockets new after → Moves calls old sockets new after
+row_is_moved calls failures ready old sockets new after w = record {
+  since = (Readied ready ∷ answered (ask old ready) w.answer) ++ (calls_behind_all (row_events old ready w.answer) w.outcomes ++ calls_behind_all (last_events w.mid ready w.answer) w.last);
+  events = row_events old ready w.answer ++ last_events w.mid ready w.answer;
+  outcomes = w.outcomes ++ w.last;
+  grown = w.told;
+  run = run_joins old w.mid new (row_events old ready w.answer) (last_events w.mid ready w.answer) w.outcomes w.last w.makes w.finishes;
+  moves = λ g f fit. row_reads g f fit ready (answered (ask old ready) w.answer) (calls_behind_all (row_events old ready w.answer) w.outcomes) (calls_behind_all (last_events w.mid ready w.answer) w.last) (along f old (row_events old ready w.answer) w.outcomes)
+      (row_moves g f fit old w.mid ready w.answer w.outcomes w.may w.makes) (behind_all g f fit (row_events old ready w.answer) w.outcomes) (behind_all g f fit (last_events w.mid ready w.answer) w.last)
+      ∙ sym (along_joins f old w.mid (row_events old ready w.answer) (last_events w.mid ready w.answer) w.outcomes w.last w.makes
+      ∙ ap (λ v. along f old (row_events old ready w.answer) w.outcomes ++ v) (last_moves g f fit w.mid new ready w.answer w.last w.finishes) ∙ append-nil (along f old (row_events old ready w.answer) w.outcomes));
+}
+
+nothing_is_moved : {S : Type 0} (calls : S → Option (List Call)) (old : ServerState) (sockets : S) (new : ServerState) (after : S) → Grows (calls sockets) (calls after) [] → new ≡ old → Moves calls old sockets new after
+nothing_is_moved calls old sockets new after told same = record { since = []; events = []; outcomes = []; grown = told; run = same; moves = λ g f fit. refl }
+
+newcomer_is_moved : {S : Type 0} (calls : S → Option (List Call)) (old : ServerState) (sockets : S) (new : ServerState) (after : S) → Grows (calls sockets) (calls after) (Readied Newcomer ∷ []) → new ≡ old → Moves calls old sockets new after
+newcomer_is_moved calls old sockets new after told same = record { since = Readied Newcomer ∷ []; events = []; outcomes = []; grown = told; run = same; moves = λ g f fit. append-nil (g (Readied Newcomer)) ∙ fit.readied Newcomer }
+
+turn_is_moved : {S : Type 0} (calls : S → Option (List Call)) (failures : S → ℕ) (old : ServerState) (sockets : S) (r : Result (Unit {0}) LoopFault) (new : ServerState) (after : S) → TurnGives calls failures old sockets r new after → Moves calls old sockets new after
+turn_is_moved calls failures old sockets (Ok u) new after t = row_is_moved calls failures t.0 old sockets new after t.1
+turn_is_moved calls failures old sockets (Err fault.Ready) new after t = nothing_is_moved calls old sockets new after t.told t.same
+turn_is_moved calls failures old sockets (Err fault.Accept) new after t = newcomer_is_moved calls old sockets new after t.told t.same
+
+both_are_moved : {S : Type 0} (calls : S → Option (List Call)) (old : ServerState) (sockets : S) (mid : ServerState) (middle : S) (new : ServerState) (after : S) → Moves calls old sockets mid middle → Moves calls mid middle new after → Moves calls old sockets new after
+both_are_moved calls old sockets mid middle new after x y = record {
+  since = x.since ++ y.since;
+  events = x.events ++ y.events;
+  outcomes = x.outcomes ++ y.outcomes;
+  grown = grows_joins (calls sockets) (calls middle) (calls after) x.since y.since x.grown y.grown;
+  run = run_joins old mid new x.events y.events x.outcomes y.outcomes x.run y.run;
+  moves = λ g f fit. flat_map-append g x.since y.since ∙ ap (λ v. v ++ flat_map g y.since) (x.moves g f fit) ∙ ap (λ v. along f old x.events x.outcomes ++ v) (y.moves g f fit) ∙ sym (along_joins f old mid x.events y.events x.outcomes y.outcomes x.run);
+}
+
+turns_are_moved : {S : Type 0} (calls : S → Option (List Call)) (failures : S → ℕ) (rs : List (Result (Unit {0}) LoopFault)) (old : ServerState) (sockets : S) (new : ServerState) (after : S) → Turns calls failures old sockets rs new after → Moves calls old sockets new after
+turns_are_moved calls failures [] old sockets new after t = nothing_is_moved calls old sockets new after (subst (λ k. Grows (calls sockets) (calls k) []) (sym t.1) (grows_nothing (calls sockets))) t.0
+turns_are_moved calls failures (r ∷ rs) old sockets new after t =
+    both_are_moved calls old sockets t.0 t.1.0 new after (turn_is_moved calls failures old sockets r t.0 t.1.0 t.1.1) (turns_are_moved calls failures rs t.0 t.1.0 new after t.1.2)
+
+-- The four readings.
+none : (b : Bool) → if◌then◌else◌ {A = List ℕ} b [] [] ≡ []
+none true = refl
+none false = refl
+
+fed_fits : (c : ℕ) → Fit (gave_in (is_client c)) (fed_in_event c)
+fed_fits c = record {
+  readied = λ r. refl;
+  accepted = λ a. refl;
+  named = λ d. refl;
+  refused = refl;
+  waits = λ p. refl;
+  ends = λ p. refl;
+  shut = λ p. refl;
+  ups = λ s u. refl;
+  downs = λ s u. refl;
+  ticks = λ s n. refl;
+  opens = λ s a. refl;
+  closes = λ s d. refl;
+  tries = λ s d. none (d == c);
+  asks = λ s u. refl;
+  feeds = λ s d bytes h. refl;
+  comes = λ s u bytes. refl;
+  takes = λ s d n xs e h. refl;
+  driver_takes = λ s u n xs e h. refl;
+}
+
+-- The front of a front.
+front : (n r : ℕ) (ys : List ℕ) → n ≤ length (take r ys) → take n (take r ys) ≡ take n ys
+front zero r ys h = refl
+front (suc n) zero ys h = absurd (no_more n h)
+  where
+    no_more : (k : ℕ) → suc k ≤ 0 → ⊥
+    no_more k h = omega arith
+front (suc n) (suc r) [] h = refl
+front (suc n) (suc r) (y ∷ ys) h = ap (λ v. y ∷ v) (front n r ys (omega arith))
+
+within : (n m : ℕ) → n ≤ m → nat_le n m ≡ true
+within n m h = grind (arith, nat_tests)
+
+front_of : (n : ℕ) (x : SessionState) → n ≤ length (offered (Some x)) → take n (offered (Some x)) ≡ take n x.owed
+front_of n x h = search (rules, front)
+
+nothing_of : (b : Bool) (n : ℕ) → n ≤ 0 → (if b then take {A = ℕ} n [] else []) ≡ []
+nothing_of true zero h = refl
+nothing_of true (suc n) h = refl
+nothing_of false n h = refl
+
+taken_of : (b : Bool) (n : ℕ) (o : Option SessionState) → n ≤ length (offered o) → (if b then take n (offered o) else []) ≡ (if may_take o n then (if b then take n (owed_of o) else []) else [])
+taken_of b n None h = nothing_of b n h
+taken_of b n (Some x) h = rw (within n (length (offered (Some x))) h) (ap (λ ys. if b then ys else []) (front_of n x h))
+
+taken_fits : (c : ℕ) → Fit (took_in (is_client c)) (taken_in_event c)
+unfolding taken_in_event
+taken_fits c = record {
+  readied = λ r. refl;
+  accepted = λ a. refl;
+  named = λ d. refl;
+  refused = refl;
+  waits = λ p. refl;
+  ends = λ p. refl;
+  shut = λ p. refl;
+  ups = λ s u. refl;
+  downs = λ s u. refl;
+  ticks = λ s n. refl;
+  opens = λ s a. refl;
+  closes = λ s d. refl;
+  tries = λ s d. refl;
+  asks = λ s u. refl;
+  feeds = λ s d bytes h. refl;
+  comes = λ s u bytes. refl;
+  takes = λ s d n xs e h. ap (λ ys. if d == c then take n ys else []) e ∙ taken_of (d == c) n (session d s) (subst (λ ys. n ≤ length ys) e h);
+  driver_takes = λ s u n xs e h. refl;
+}
+
+came_fits : (u : UpsId) → Fit (gave_in (is_driver u)) (λ s e. came_in_event u e)
+came_fits u = record {
+  readied = λ r. refl;
+  accepted = λ a. refl;
+  named = λ d. refl;
+  refused = refl;
+  waits = λ p. refl;
+  ends = λ p. refl;
+  shut = λ p. refl;
+  ups = λ s v. refl;
+  downs = λ s v. refl;
+  ticks = λ s n. refl;
+  opens = λ s a. refl;
+  closes = λ s d. refl;
+  tries = λ s d. refl;
+  asks = λ s v. refl;
+  feeds = λ s d bytes h. refl;
+  comes = λ s v bytes. refl;
+  takes = λ s d n xs e h. refl;
+  driver_takes = λ s v n xs e h. refl;
+}
+
+driver_took_fits : (u : UpsId) → Fit (took_in (is_driver u)) (driver_took_in_event u)
+driver_took_fits u = record {
+  readied = λ r. refl;
+  accepted = λ a. refl;
+  named = λ d. refl;
+  refused = refl;
+  waits = λ p. refl;
+  ends = λ p. refl;
+  shut = λ p. refl;
+  ups = λ s v. refl;
+  downs = λ s v. refl;
+  ticks = λ s n. refl;
+  opens = λ s a. refl;
+  closes = λ s d. refl;
+  tries = λ s d. refl;
+  asks = λ s v. none (v.place == u.place);
+  feeds = λ s d bytes h. refl;
+  comes = λ s v bytes. refl;
+  takes = λ s d n xs e h. refl;
+  driver_takes = λ s v n xs e h. ap (λ ys. if v.place == u.place then take n ys else []) e;
+}
+
+-- The histories of nutcore are such readings.
+taken_is_along : (c : ℕ) (s : ServerState) (es : List Event) (os : List Outcome) → along (taken_in_event c) s es os ≡ taken c s es os
+taken_is_along c s [] os = refl
+taken_is_along c s (e ∷ es) [] = refl
+taken_is_along c s (e ∷ es) (o ∷ os) = ap (λ v. taken_in_event c s e ++ v) (taken_is_along c (after s e o) es os)
+
+came_is_along : (u : UpsId) (s new : ServerState) (es : List Event) (os : List Outcome) → Run s es os new → along (λ t e. came_in_event u e) s es os ≡ came u es
+came_is_along u s new [] [] r = refl
+came_is_along u s new [] (o ∷ os) r = absurd r
+came_is_along u s new (e ∷ es) [] r = absurd r
+came_is_along u s new (e ∷ es) (o ∷ os) r = ap (λ v. came_in_event u e ++ v) (came_is_along u (after s e o) new es os (subst (λ t. Run t es os new) r.1.leaves r.2))
+
+told_since : (a b : Option (List Call)) (before now since : List Call) → Grows a b since → a ≡ Some before → b ≡ Some now → now ≡ before ++ since
+told_since (Some xs) (Some ys) before now since h e k = cc
+told_since None b before now since h e k = cc
+told_since (Some xs) None before now since h e k = cc
+
+pub every_byte_is_moved_once : {S : Type 0} (calls : S → Option (List Call)) (failures : S → ℕ) → EveryByteIsMovedOnce calls failures
+every_byte_is_moved_once {S} calls failures = λ old new sockets after results before now turns told told_after. from old new sockets after before now (turns_are_moved calls failures results old sockets new after turns) told told_after
+  where
+    from : (old new : ServerState) (sockets after : S) (before now : List Call) → Moves calls old sockets new after → calls sockets ≡ Some before → calls after ≡ Some now
+        → (since : List Call) × ((events : List Event) × ((outcomes : List Outcome) × (now ≡ before ++ since) × AreMoved since old events outcomes new))
+    from old new sockets after before now m told told_after = (
+      m.since,
+      (
+        m.events,
+        (
+          m.outcomes,
+          told_since (calls sockets) (calls after) before now m.since m.grown told told_after,
+          record {
+            run = m.run;
+            fed = λ c. m.moves (gave_in (is_client c)) (fed_in_event c) (fed_fits c);
+            taken_by_client = λ c. m.moves (took_in (is_client c)) (taken_in_event c) (taken_fits c) ∙ taken_is_along c old m.events m.outcomes;
+            came_of_driver = λ u. m.moves (gave_in (is_driver u)) (λ s e. came_in_event u e) (came_fits u) ∙ came_is_along u old new m.events m.outcomes m.run;
+            taken_by_driver = λ u. m.moves (took_in (is_driver u)) (driver_took_in_event u) (driver_took_fits u);
+          },
+        ),
+      ),
+    )

@@ -1,0 +1,5 @@
+pub mod Fault
+pub mod Moved
+pub mod Scripted
+pub mod Sockets
+pub mod Turn

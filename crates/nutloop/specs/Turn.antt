@@ -1,0 +1,201 @@
+-- What one turn does: one row of a table, by what is ready and by what the sockets answer.
+use Rattle.std.specs.Prelude.{◌≡◌, ◌≤◌, ℕ, Bool, true, false, List, [], ◌∷◌, ◌++◌, ⊤, Option, Some, Result, Ok, Err, ◌==◌, if◌then◌else◌, is_some, length, take}
+use Rattle.std.specs.Option.{option_map_or}
+use Rattle.nutusers.specs.declared.ups_list.UpsId.{UpsId}
+use Rattle.nutcore.specs.declared.event.Event.{Event}
+use Rattle.nutcore.specs.declared.event.Event.TheVariants as event
+use Rattle.nutcore.specs.declared.event.Outcome.{Outcome}
+use Rattle.nutcore.specs.declared.event.Outcome.TheVariants as outcome
+use Rattle.nutcore.specs.declared.event.Fault.{Fault}
+use Rattle.nutcore.specs.declared.event.Fault.TheVariants.{LineTooLong, Memory}
+use Rattle.nutcore.specs.declared.event.Peer.{Peer}
+use Rattle.nutcore.specs.declared.event.Peer.TheVariants.{Client, Driver}
+use Rattle.nutcore.specs.Server.{ServerState, session, ups_at}
+use Rattle.nutcore.specs.Step.{offered}
+use Rattle.nutcore.specs.Run.{Run}
+use Rattle.nutcore.specs.Calls.{room_of, is_finished, owed_to}
+use Rattle.nutcore.specs.DriverHistory.{has_driver}
+use Rattle.nutloop.specs.declared.sockets.Ready.{Ready}
+use Rattle.nutloop.specs.declared.sockets.Ready.TheVariants.{Nothing, Tick, Newcomer, DriverUp, Read, Write}
+use Rattle.nutloop.specs.declared.sockets.Call.{Call}
+use Rattle.nutloop.specs.declared.sockets.Call.TheVariants.{Readied, Accepted, Named, Refused, Gave, Waits, Ended, Wrote, Shut}
+use Rattle.nutloop.specs.declared.fault.LoopFault.{LoopFault}
+use Rattle.nutloop.specs.declared.fault.LoopFault.TheVariants as fault
+use Rattle.nutloop.specs.declared.turns.TheConstants.{DRIVER_READ_LIMIT}
+use Rattle.nutloop.specs.Sockets.{Grows, counted}
+
+-- The one call that a row makes of the sockets and that may fail, if it makes one: reads has at most how many bytes, writes which ones.
+pub data Ask : Type 0 where
+  nobody : Ask
+  accepts : Ask
+  reads : (peer : Peer) → (most : ℕ) → Ask
+  writes : (peer : Peer) → (bytes : List ℕ) → Ask
+
+-- What is answered to it.
+pub data Answer : Type 0 where
+  unasked : Answer
+  newcomer : (address : Option (List ℕ)) → Answer
+  gave : (bytes : List ℕ) → Answer
+  later : Answer
+  ended : Answer
+  took : (count : ℕ) → Answer
+  failed : Answer
+
+-- A client takes in no bytes where it isn't open.
+abbrev pub room_at : ℕ → ServerState → ℕ
+room_at c s = option_map_or room_of (session c s) 0
+
+abbrev pub is_finished_at : ℕ → ServerState → Bool
+is_finished_at c s = option_map_or is_finished (session c s) false
+
+abbrev pub owed_to_driver : UpsId → ServerState → List ℕ
+owed_to_driver u s = option_map_or owed_to (ups_at u.place s) []
+
+-- A read is of some bytes, and a write is of all that is offered, if that is anything.
+abbrev pub read_of : Peer → ℕ → Ask
+read_of p most = if most == 0 then nobody else reads p most
+
+abbrev pub write_of : Peer → List ℕ → Ask
+write_of p [] = nobody
+write_of p (x ∷ xs) = writes p (x ∷ xs)
+
+-- Which call a row makes: the rows, by what is ready.
+abbrev pub ask : ServerState → Ready → Ask
+ask s Nothing = nobody
+ask s (Tick seconds) = nobody
+ask s Newcomer = accepts
+ask s (DriverUp u) = nobody
+ask s (Read (Client c)) = read_of (Client c) (room_at c s)
+ask s (Read (Driver u)) = if has_driver u s then reads (Driver u) DRIVER_READ_LIMIT else nobody
+ask s (Write (Client c)) = write_of (Client c) (offered (session c s))
+ask s (Write (Driver u)) = write_of (Driver u) (owed_to_driver u s)
+
+-- Which answers that call has. An `accept` that fails is no row: the turn fails.
+abbrev pub MayAnswer : Ask → Answer → Type 0
+MayAnswer nobody unasked = ⊤
+MayAnswer accepts (newcomer address) = ⊤
+MayAnswer (reads p most) (gave bytes) = length bytes ≤ most
+MayAnswer (reads p most) later = ⊤
+MayAnswer (reads p most) ended = ⊤
+MayAnswer (reads p most) failed = ⊤
+MayAnswer (writes p bytes) (took n) = n ≤ length bytes
+MayAnswer (writes p bytes) failed = ⊤
+MayAnswer _ _ = ⊥
+
+-- What is told of it.
+abbrev pub answered : Ask → Answer → List Call
+answered accepts (newcomer address) = Accepted address ∷ []
+answered (reads p most) (gave bytes) = Gave p bytes ∷ []
+answered (reads p most) later = Waits p ∷ []
+answered (reads p most) ended = Ended p ∷ []
+answered (writes p bytes) (took n) = Wrote p (take n bytes) ∷ []
+answered _ _ = []
+
+-- The events of a row, by the answer. Where nothing is asked of a client that is open, it has no room, and the lines that it holds are tried again.
+abbrev pub read_of_client : ServerState → ℕ → Answer → List Event
+read_of_client s c unasked = if is_some (session c s) then event.Feed c [] ∷ [] else []
+read_of_client s c (gave bytes) = event.Feed c bytes ∷ []
+read_of_client s c ended = event.Close c ∷ []
+read_of_client s c failed = event.Close c ∷ []
+read_of_client s c _ = []
+
+abbrev pub read_of_driver : UpsId → Answer → List Event
+read_of_driver u (gave bytes) = event.DriverBytes u bytes ∷ []
+read_of_driver u ended = event.DriverDown u ∷ []
+read_of_driver u failed = event.DriverDown u ∷ []
+read_of_driver u _ = []
+
+abbrev pub write_to_client : ℕ → Answer → List Event
+write_to_client c (took n) = event.Took c n ∷ []
+write_to_client c failed = event.Close c ∷ []
+write_to_client c _ = []
+
+abbrev pub write_to_driver : UpsId → Answer → List Event
+write_to_driver u (took n) = event.DriverTook u n ∷ []
+write_to_driver u failed = event.DriverDown u ∷ []
+write_to_driver u _ = []
+
+abbrev pub opening : Answer → List Event
+opening (newcomer (Some address)) = event.Open address ∷ []
+opening _ = []
+
+-- The events of each row. Whether a driver is there is asked by a taking of no bytes, which changes nothing.
+abbrev pub row_events : ServerState → Ready → Answer → List Event
+row_events s Nothing answer = []
+row_events s (Tick seconds) answer = event.Tick seconds ∷ []
+row_events s Newcomer answer = opening answer
+row_events s (DriverUp u) answer = event.DriverUp u ∷ []
+row_events s (Read (Client c)) answer = read_of_client s c answer
+row_events s (Read (Driver u)) answer = event.DriverTook u 0 ∷ read_of_driver u answer
+row_events s (Write (Client c)) answer = write_to_client c answer
+row_events s (Write (Driver u)) answer = write_to_driver u answer
+
+abbrev pub end_of : ℕ → ServerState → List Event
+end_of c s = if is_finished_at c s then event.Close c ∷ [] else []
+
+-- The last event of a row, on the server behind the others: a client that is finished is closed.
+abbrev pub last_events : ServerState → Ready → Answer → List Event
+last_events s (Write (Client c)) unasked = end_of c s
+last_events s (Write (Client c)) (took n) = end_of c s
+last_events s _ _ = []
+
+-- A driver is lost by a line that is too long, and where memory is refused.
+abbrev pub loses_driver : Fault → Bool
+loses_driver LineTooLong = true
+loses_driver (Memory k) = true
+loses_driver _ = false
+
+-- The calls behind an event, which can't fail: a newcomer is named, or refused where no session is opened; who is gone is shut, and so is a driver that is lost by what it sent.
+abbrev pub calls_behind : Event → Outcome → List Call
+calls_behind (event.Open address) (outcome.Opened c) = Named c ∷ []
+calls_behind (event.Open address) (outcome.Refused fault) = Refused ∷ []
+calls_behind (event.Close c) _ = Shut (Client c) ∷ []
+calls_behind (event.DriverDown u) _ = Shut (Driver u) ∷ []
+calls_behind (event.DriverBytes u piece) (outcome.Refused fault) = if loses_driver fault then Shut (Driver u) ∷ [] else []
+calls_behind _ _ = []
+
+abbrev pub calls_behind_all : List Event → List Outcome → List Call
+calls_behind_all [] os = []
+calls_behind_all (e ∷ es) [] = []
+calls_behind_all (e ∷ es) (o ∷ os) = calls_behind e o ++ calls_behind_all es os
+
+-- These events were done, with the calls behind them, and no call failed.
+pub record Does {S : Type 0} (calls : S → Option (List Call)) (failures : S → ℕ) (events : List Event) (old : ServerState) (sockets : S) (new : ServerState) (after : S) : Type 0 where
+  pub outcomes : List Outcome
+  pub run : Run old events outcomes new
+  pub told : Grows (calls sockets) (calls after) (calls_behind_all events outcomes)
+  pub count : failures after ≡ failures sockets
+
+abbrev pub failures_by : Answer → ℕ → ℕ
+failures_by failed n = counted n
+failures_by _ n = n
+
+-- A row is done, behind what was told before it: its call is answered, then its events are done, with the calls behind them.
+pub record IsRow {S : Type 0} (calls : S → Option (List Call)) (failures : S → ℕ) (before : List Call) (ready : Ready) (old : ServerState) (sockets : S) (new : ServerState) (after : S) : Type 0 where
+  pub answer : Answer
+  pub mid : ServerState
+  pub outcomes : List Outcome
+  pub last : List Outcome
+  pub may : MayAnswer (ask old ready) answer
+  pub makes : Run old (row_events old ready answer) outcomes mid
+  pub finishes : Run mid (last_events mid ready answer) last new
+  pub told : Grows (calls sockets) (calls after) ((before ++ answered (ask old ready) answer) ++ (calls_behind_all (row_events old ready answer) outcomes ++ calls_behind_all (last_events mid ready answer) last))
+  pub count : failures after ≡ failures_by answer (failures sockets)
+
+-- A call of the loop failed: only what was answered before it is told, and the server is as it was.
+pub record Fails {S : Type 0} (calls : S → Option (List Call)) (failures : S → ℕ) (before : List Call) (old : ServerState) (sockets : S) (new : ServerState) (after : S) : Type 0 where
+  pub told : Grows (calls sockets) (calls after) before
+  pub count : failures after ≡ counted (failures sockets)
+  pub same : new ≡ old
+
+-- A newcomer's row, or `accept` fails.
+abbrev pub NewcomerGives : {S : Type 0} → (S → Option (List Call)) → (S → ℕ) → ServerState → S → Result (Unit {0}) LoopFault → ServerState → S → Type 0
+NewcomerGives calls failures old sockets (Ok u) new after = IsRow calls failures [] Newcomer old sockets new after
+NewcomerGives calls failures old sockets (Err fault.Ready) new after = ⊥
+NewcomerGives calls failures old sockets (Err fault.Accept) new after = Fails calls failures [] old sockets new after
+
+-- A turn: `ready` is asked once, and then one row is done; or `ready` fails, or `accept` behind it.
+abbrev pub TurnGives : {S : Type 0} → (S → Option (List Call)) → (S → ℕ) → ServerState → S → Result (Unit {0}) LoopFault → ServerState → S → Type 0
+TurnGives calls failures old sockets (Ok u) new after = (ready : Ready) × IsRow calls failures (Readied ready ∷ []) ready old sockets new after
+TurnGives calls failures old sockets (Err fault.Ready) new after = Fails calls failures [] old sockets new after
+TurnGives calls failures old sockets (Err fault.Accept) new after = Fails calls failures (Readied Newcomer ∷ []) old sockets new after

@@ -1,0 +1,29 @@
+//! Why the loop ends.
+ghost use Rattle.std.specs.Prelude.{◌≡◌};
+
+use thiserror::Error;
+
+/// Why the loop can't go on.
+#[derive(Clone, Copy, Debug, PartialEq, Eq, Error)]
+pub enum LoopFault {
+    /// 1: what is ready can't be told.
+    #[error("ready failed")]
+    Ready,
+    /// 2: newcomers can't be taken in.
+    #[error("accept failed")]
+    Accept,
+}
+
+impl LoopFault {
+    ghost use Rattle.nutloop.specs.Fault.{number_of};
+
+    /// The fault's number, 1 or 2.
+    pub fn number(self) -> u8
+        ensures { result ≡ number_of self }
+    {
+        match self {
+            LoopFault::Ready => 1,
+            LoopFault::Accept => 2,
+        }
+    }
+}

@@ -1,0 +1,17 @@
+//! The loop of the server: its sockets, and what one turn does.
+#![tactic(auto)]
+
+mod fault;
+pub mod laws;
+mod over_mio;
+mod scripted;
+mod sockets;
+#[cfg(test)]
+mod tests;
+mod turns;
+
+pub use fault::LoopFault;
+pub use over_mio::MioSockets;
+pub use scripted::{Act, Scripted};
+pub use sockets::{Broken, Call, Got, Ready, Sockets};
+pub use turns::{DRIVER_READ_LIMIT, turn};

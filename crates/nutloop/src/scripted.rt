@@ -1,0 +1,234 @@
+//! Sockets in memory: they answer from a script, and keep every call that was answered.
+ghost use Rattle.std.specs.Prelude.{◌≡◌, ◌≤◌, ◌∷◌, [], true, IfOk, length, take};
+ghost use Rattle.nutloop.specs.declared.sockets.Call.TheVariants.{Readied, Accepted, Wrote};
+ghost use Rattle.nutloop.specs.Sockets.{Grows, Logs, AtMost, IsCounted, read_call};
+ghost use Rattle.nutloop.specs.Scripted.{told_while};
+
+use crate::{Broken, Call, Got, Ready, Sockets};
+use nutcore::{Bytes, ClientId, Peer, Server};
+use nutwords::Address;
+use std::alloc::Global;
+use std::vec::IntoIter;
+
+/// What a call is answered. A call that asks for something else fails.
+#[derive(Drop)]
+pub enum Act {
+    /// This is ready.
+    Ready(Ready),
+    /// A newcomer comes from this address, or none comes.
+    Comes(Option<Address>),
+    /// The peer gives these bytes.
+    Gives(Bytes),
+    /// The peer gives nothing now.
+    Waits,
+    /// The peer ends.
+    Ends,
+    /// The peer takes so many bytes, or as many as there are.
+    Takes(usize),
+    /// The call fails.
+    Fails,
+}
+
+/// Sockets that answer from a script.
+#[derive(Drop)]
+pub struct Scripted {
+    alloc: Global,
+    script: IntoIter<Act, Global>,
+    calls: Vec<Call>,
+    is_whole: bool,
+    failures: u64,
+}
+
+impl Scripted {
+    /// Sockets that answer these, one after another. Behind them every call fails.
+    pub fn new(alloc: Global, script: Vec<Act>) -> Self
+        ensures calls { result.calls.items ≡ [] }
+        ensures whole { result.is_whole ≡ true }
+        ensures failures { result.failures ≡ 0 }
+    {
+        Scripted {
+            alloc,
+            script: script.into_iter(),
+            calls: Vec::new(alloc),
+            is_whole: true,
+            failures: 0,
+        }
+    }
+
+    /// The calls that were answered, in order.
+    pub fn calls(&self) -> &[Call]
+        ensures { result.now ≡ self.now.calls.items }
+    {
+        self.calls.as_slice()
+    }
+
+    /// How many calls failed.
+    pub fn failures(&self) -> u64
+        ensures { result ≡ self.now.failures }
+    {
+        self.failures
+    }
+
+    fn next(&mut self) -> Result<Act, Broken>
+        ensures calls { self.new.calls.items ≡ self.old.calls.items }
+        ensures whole { self.new.is_whole ≡ self.old.is_whole }
+        ensures count { self.new.failures ≡ self.old.failures }
+    {
+        self.script.next().ok_or(Broken)
+    }
+
+    /// Keeps the call. Without memory it fails, and nothing is kept.
+    fn keep(&mut self, call: Call) -> Result<(), Broken>
+        ensures told { Logs (told_while self.old.is_whole self.old.calls.items)
+            (told_while self.new.is_whole self.new.calls.items) (λ _. call) result }
+        ensures count { self.new.failures ≡ self.old.failures }
+    {
+        match self.calls.push(call) {
+            Ok(()) => Ok(()),
+            Err(_) => Err(Broken),
+        }
+    }
+
+    /// Keeps a call that can't fail. Without memory the calls are known no more.
+    fn keep_or_stop(&mut self, call: Call)
+        ensures told { Grows (told_while self.old.is_whole self.old.calls.items)
+            (told_while self.new.is_whole self.new.calls.items) (call ∷ []) }
+        ensures count { self.new.failures ≡ self.old.failures }
+    {
+        if self.calls.push(call).is_err() {
+            self.is_whole = false;
+        }
+    }
+
+    /// Counts a call that failed.
+    fn count<T>(&mut self, answer: Result<T, Broken>) -> Result<T, Broken>
+        ensures same { result ≡ answer }
+        ensures calls { self.new.calls.items ≡ self.old.calls.items }
+        ensures whole { self.new.is_whole ≡ self.old.is_whole }
+        ensures count { IsCounted self.old.failures self.new.failures answer }
+    {
+        if answer.is_err() {
+            self.failures = self.failures.saturating_add(1);
+        }
+        answer
+    }
+
+    fn next_ready(&mut self) -> Result<Ready, Broken>
+        ensures told { Logs (told_while self.old.is_whole self.old.calls.items)
+            (told_while self.new.is_whole self.new.calls.items) Readied result }
+        ensures count { self.new.failures ≡ self.old.failures }
+    {
+        let Act::Ready(ready) = self.next()? else {
+            return Err(Broken);
+        };
+        self.keep(Call::Readied(ready))?;
+        Ok(ready)
+    }
+
+    fn next_newcomer(&mut self) -> Result<Option<Address>, Broken>
+        ensures told { Logs (told_while self.old.is_whole self.old.calls.items)
+            (told_while self.new.is_whole self.new.calls.items) Accepted result }
+        ensures count { self.new.failures ≡ self.old.failures }
+    {
+        let Act::Comes(address) = self.next()? else {
+            return Err(Broken);
+        };
+        let Ok(copy) = address.clone() else {
+            return Err(Broken);
+        };
+        self.keep(Call::Accepted(copy))?;
+        Ok(address)
+    }
+
+    /// The peer gives these bytes, which have to fit.
+    fn give(&mut self, p: Peer, bytes: Bytes, into: &mut [u8]) -> Result<Got, Broken>
+        ensures bound { AtMost result into.new }
+        ensures told { Logs (told_while self.old.is_whole self.old.calls.items)
+            (told_while self.new.is_whole self.new.calls.items) (read_call p into.new) result }
+        ensures count { self.new.failures ≡ self.old.failures }
+    {
+        let n = bytes.as_slice().len();
+        if n > into.len() {
+            return Err(Broken);
+        }
+        into[..n].copy_from_slice(bytes.as_slice());
+        self.keep(Call::Gave(p, bytes))?;
+        Ok(Got::Bytes(n))
+    }
+
+    fn next_read(&mut self, p: Peer, into: &mut [u8]) -> Result<Got, Broken>
+        ensures bound { AtMost result into.new }
+        ensures told { Logs (told_while self.old.is_whole self.old.calls.items)
+            (told_while self.new.is_whole self.new.calls.items) (read_call p into.new) result }
+        ensures count { self.new.failures ≡ self.old.failures }
+    {
+        match self.next()? {
+            Act::Gives(bytes) => self.give(p, bytes, into),
+            Act::Waits => {
+                self.keep(Call::Waits(p))?;
+                Ok(Got::Later)
+            }
+            Act::Ends => {
+                self.keep(Call::Ended(p))?;
+                Ok(Got::End)
+            }
+            _ => Err(Broken),
+        }
+    }
+
+    fn next_write(&mut self, p: Peer, from: &[u8]) -> Result<usize, Broken>
+        ensures bound { IfOk result (λ n. n ≤ length from.now) }
+        ensures told { Logs (told_while self.old.is_whole self.old.calls.items)
+            (told_while self.new.is_whole self.new.calls.items)
+            (λ n. Wrote p (take n from.now)) result }
+        ensures count { self.new.failures ≡ self.old.failures }
+    {
+        let Act::Takes(most) = self.next()? else {
+            return Err(Broken);
+        };
+        let n = most.min(from.len());
+        let Ok(taken) = Vec::from_slice(self.alloc, &from[..n]) else {
+            return Err(Broken);
+        };
+        self.keep(Call::Wrote(p, Bytes::new(taken)))?;
+        Ok(n)
+    }
+}
+
+impl Sockets for Scripted {
+    ghost calls = { λ s. told_while s.is_whole s.calls.items };
+
+    ghost failures = { λ s. s.failures };
+
+    fn ready(&mut self, _server: &Server) -> Result<Ready, Broken> {
+        let answer = self.next_ready();
+        self.count(answer)
+    }
+
+    fn accept(&mut self) -> Result<Option<Address>, Broken> {
+        let answer = self.next_newcomer();
+        self.count(answer)
+    }
+
+    fn name(&mut self, c: ClientId) {
+        self.keep_or_stop(Call::Named(c));
+    }
+
+    fn refuse(&mut self) {
+        self.keep_or_stop(Call::Refused);
+    }
+
+    fn read(&mut self, p: Peer, into: &mut [u8]) -> Result<Got, Broken> {
+        let answer = self.next_read(p, into);
+        self.count(answer)
+    }
+
+    fn write(&mut self, p: Peer, from: &[u8]) -> Result<usize, Broken> {
+        let answer = self.next_write(p, from);
+        self.count(answer)
+    }
+
+    fn shut(&mut self, p: Peer) {
+        self.keep_or_stop(Call::Shut(p));
+    }
+}

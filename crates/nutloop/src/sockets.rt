@@ -1,0 +1,110 @@
+//! The sockets of all peers, as a turn sees them.
+ghost use Rattle.std.specs.Prelude.{◌≡◌, ◌≤◌, ◌∷◌, [], ℕ, List, Option, length, take, IfOk};
+ghost use Rattle.nutloop.specs.declared.sockets.Call.{Call};
+ghost use Rattle.nutloop.specs.declared.sockets.Call.TheVariants.{Readied, Accepted, Named, Refused, Wrote, Shut};
+ghost use Rattle.nutloop.specs.Sockets.{Grows, Logs, AtMost, IsCounted, read_call};
+
+use nutcore::{Bytes, ClientId, Peer, Server, UpsId};
+use nutwords::Address;
+
+/// What is ready, and so what a turn does.
+#[derive(Clone, Copy, Debug, PartialEq, Eq)]
+pub enum Ready {
+    /// Nothing is.
+    Nothing,
+    /// The clock is at so many seconds.
+    Tick(u64),
+    /// A client may be there to be accepted.
+    Newcomer,
+    /// The driver of the UPS is there.
+    DriverUp(UpsId),
+    /// The peer may have sent something.
+    Read(Peer),
+    /// The peer may take what it is offered.
+    Write(Peer),
+}
+
+/// What a read gave.
+#[derive(Clone, Copy, Debug, PartialEq, Eq)]
+pub enum Got {
+    /// So many bytes.
+    Bytes(usize),
+    /// Nothing now. More may come.
+    Later,
+    /// Nothing now or later.
+    End,
+}
+
+/// A call that was answered, with its answer.
+#[derive(Debug, Drop)]
+pub enum Call {
+    /// This is ready.
+    Readied(Ready),
+    /// A newcomer is taken in, from this address, or there is none.
+    Accepted(Option<Address>),
+    /// The newcomer has the session of this id.
+    Named(ClientId),
+    /// The newcomer is sent away.
+    Refused,
+    /// The peer gave these bytes.
+    Gave(Peer, Bytes),
+    /// The peer gives nothing now.
+    Waits(Peer),
+    /// The peer gives nothing any more.
+    Ended(Peer),
+    /// The peer took these bytes.
+    Wrote(Peer, Bytes),
+    /// The peer's connection is shut.
+    Shut(Peer),
+}
+
+/// A call failed.
+#[derive(Clone, Copy, Debug, PartialEq, Eq)]
+pub struct Broken;
+
+/// The sockets of all peers. No call waits for a peer but `ready`, which waits for all of them.
+pub trait Sockets {
+    /// The calls that were answered so far, where these sockets tell them. A call that failed isn't among them.
+    ghost calls: { Self → Option (List Call) };
+
+    /// How many calls failed. The count stops at its greatest number.
+    ghost failures: { Self → ℕ };
+
+    /// What is ready now, of what concerns this server.
+    fn ready(&mut self, server: &Server) -> Result<Ready, Broken>
+        ensures told { Logs (calls self.old) (calls self.new) Readied result }
+        ensures count { IsCounted (failures self.old) (failures self.new) result };
+
+    /// Takes in the next newcomer, and tells its address. It is to be named or refused.
+    fn accept(&mut self) -> Result<Option<Address>, Broken>
+        ensures told { Logs (calls self.old) (calls self.new) Accepted result }
+        ensures count { IsCounted (failures self.old) (failures self.new) result };
+
+    /// The newcomer that was taken in last has the session of this id.
+    fn name(&mut self, c: ClientId)
+        ensures told { Grows (calls self.old) (calls self.new) (Named c ∷ []) }
+        ensures count { failures self.new ≡ failures self.old };
+
+    /// The newcomer that was taken in last is sent away.
+    fn refuse(&mut self)
+        ensures told { Grows (calls self.old) (calls self.new) (Refused ∷ []) }
+        ensures count { failures self.new ≡ failures self.old };
+
+    /// Reads some bytes of a peer into the front of the buffer.
+    fn read(&mut self, p: Peer, into: &mut [u8]) -> Result<Got, Broken>
+        ensures bound { AtMost result into.new }
+        ensures told { Logs (calls self.old) (calls self.new) (read_call p into.new) result }
+        ensures count { IsCounted (failures self.old) (failures self.new) result };
+
+    /// Writes a beginning of the bytes to a peer, and tells how many. 0 is for later.
+    fn write(&mut self, p: Peer, from: &[u8]) -> Result<usize, Broken>
+        ensures bound { IfOk result (λ n. n ≤ length from.now) }
+        ensures told { Logs (calls self.old) (calls self.new)
+            (λ n. Wrote p (take n from.now)) result }
+        ensures count { IsCounted (failures self.old) (failures self.new) result };
+
+    /// Shuts the connection of a peer. A client's is gone for good.
+    fn shut(&mut self, p: Peer)
+        ensures told { Grows (calls self.old) (calls self.new) (Shut p ∷ []) }
+        ensures count { failures self.new ≡ failures self.old };
+}

@@ -1,0 +1,51 @@
+//! A driver, the server and upsc in one process and one thread, over the system's sockets: the driver over a Unix socket,
+//! and the client over TCP at a port that the system gives. It prints what upsc prints, and whether that took few turns.
+#![tactic(auto)]
+
+mod client;
+mod driver;
+mod served;
+
+use crate::client::print_variables;
+use crate::driver::Driver;
+use crate::served::{Served, TURN_LIMIT};
+use anyhow::{Error, Result};
+use std::fs;
+
+/// The driver's socket, in the folder in which the program runs.
+const SOCKET: &str = "driver.socket";
+
+fn main(rt: HostRuntime) -> Result<()> {
+    remove_socket(&rt);
+    let outcome = run(&rt);
+    remove_socket(&rt);
+    outcome
+}
+
+/// Removes the file of the driver's socket, where there is one.
+fn remove_socket(rt: &HostRuntime) {
+    let _ = fs::remove_file(rt, SOCKET);
+}
+
+/// Starts the driver and the server, and asks as upsc does until the server knows what the driver tells.
+fn run(rt: &HostRuntime) -> Result<()> {
+    let driver = Driver::listen(rt, SOCKET)?;
+    let mut served = Served::start(rt, driver, SOCKET)?;
+    for _ in 0..TURN_LIMIT {
+        if print_variables(rt, &mut served)? {
+            return tell_turns(rt, &served);
+        }
+    }
+    Err(Error::msg("the server refused the client to the end"))
+}
+
+/// Tells that the turns were few. Without that there is no line, since no turn is above the limit.
+fn tell_turns(rt: &HostRuntime, served: &Served<'_>) -> Result<()> {
+    let is_few = if served.turns() <= TURN_LIMIT {
+        "yes"
+    } else {
+        "no"
+    };
+    println!(rt; "turns: at most {TURN_LIMIT}: {is_few}")?;
+    Ok(())
+}

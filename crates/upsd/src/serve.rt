@@ -1,0 +1,78 @@
+//! Serving clients and drivers.
+use crate::ending::Ending;
+use crate::files::{Configuration, Files, configuration_in};
+use crate::journal::Journal;
+use clap::ArgMatches;
+use nutcore::{MAX_AGE_DEFAULT, MaxAge, Server};
+use nutloop::{MioSockets, turn};
+use std::io;
+use std::net::SocketAddr;
+
+/// Where clients are listened for, unless the words name an address.
+pub const DEFAULT_ADDRESS: &str = "127.0.0.1:3493";
+
+/// How to serve, by the words of `serve`.
+#[derive(Clone, Copy)]
+pub struct Service {
+    pub address: SocketAddr,
+    pub max_age: MaxAge,
+}
+
+/// How the words say to serve, or `None` where they name no address and port.
+pub fn service_named(found: &ArgMatches<'_>) -> Option<Service> {
+    let address = found.get_str("listen").unwrap_or(DEFAULT_ADDRESS);
+    let max_age = found.get_one::<u32>("maxage").unwrap_or(MAX_AGE_DEFAULT);
+    Some(Service {
+        address: address.parse::<SocketAddr>().ok()?,
+        max_age: MaxAge::read(max_age)?,
+    })
+}
+
+/// `upsd serve`: serves until the loop can't go on.
+///
+/// # Errors
+///
+/// The first file that can't be read or is refused; `Listen`; `Loop`; `Memory`; `Write`.
+pub fn serve_files<'a>(
+    rt: &HostRuntime,
+    files: Files<'a>,
+    service: Service,
+) -> Result<(), Ending<'a>> {
+    let Configuration {
+        list,
+        users,
+        descriptions,
+    } = configuration_in(rt, files)?;
+    let server = Server::new(rt.alloc(), list, users, descriptions, service.max_age);
+    serve(rt, server.map_err(|_| Ending::Memory)?, service.address)
+}
+
+/// Listens at the address, and goes round the peers from then on.
+fn serve<'a>(rt: &HostRuntime, mut server: Server, address: SocketAddr) -> Result<(), Ending<'a>> {
+    let mut sockets = match MioSockets::new(rt, rt.alloc(), address, &server) {
+        Ok(sockets) => sockets,
+        Err(error) => return Err(ending_of_listening(&error)),
+    };
+    let Ok(bound) = sockets.local_addr() else {
+        return Err(Ending::Listen);
+    };
+    if println!(rt; "upsd: listening on {bound}").is_err() {
+        return Err(Ending::Write);
+    }
+    let mut journal = Journal::new();
+    for _ in 0..u64::MAX {
+        if let Err(fault) = turn(&mut server, &mut sockets) {
+            return Err(Ending::Loop(fault));
+        }
+        journal.tell(rt, &server);
+    }
+    Ok(())
+}
+
+/// How the program ends where it can't listen.
+fn ending_of_listening<'a>(error: &io::Error) -> Ending<'a> {
+    match error.kind() {
+        io::ErrorKind::OutOfMemory => Ending::Memory,
+        _ => Ending::Listen,
+    }
+}

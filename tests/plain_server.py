@@ -1,0 +1,601 @@
+"""The server in plain Python, as docs/PROTOCOL.md, docs/DRIVER.md and docs/FILES.md describe it.
+
+It shares nothing with the program: it is what the program's answers are compared with. A listing is text as soon as
+its line is executed, and what is owed is one text. Where memory is refused it is told so, since it can't know.
+"""
+
+MAX_AGE = 15
+LINE, HOLD, OWED, RING, DRIVER_OWED = 1023, 1024, 2048, 4096, 2048
+LETTERS = frozenset(b"ABCDEFGHIJKLMNOPQRSTUVWXYZabcdefghijklmnopqrstuvwxyz0123456789.-_")
+BLANKS = b" \t"
+
+
+class Refused(Exception):
+    """An event is refused, with the number of its fault."""
+
+    def __init__(self, number):
+        super().__init__(number)
+        self.number = number
+
+
+def is_lawful(byte):
+    return byte == 9 or 32 <= byte <= 126 or byte >= 128
+
+
+def read_words(line):
+    """The words of a line; None where it is malformed."""
+    words, at = [], 0
+    while True:
+        while at < len(line) and line[at] in BLANKS:
+            at += 1
+        if at == len(line):
+            return words
+        word, at = (read_quoted if line[at : at + 1] == b'"' else read_bare)(line, at)
+        if word is None:
+            return None
+        words.append(word)
+
+
+def read_bare(line, at):
+    word = bytearray()
+    while at < len(line) and line[at] not in BLANKS:
+        byte, at = read_unit(line, at)
+        if byte is None:
+            return None, at
+        word.append(byte)
+    return bytes(word), at
+
+
+def read_quoted(line, at):
+    word, at = bytearray(), at + 1
+    while at < len(line) and line[at] != ord('"'):
+        byte, at = read_unit(line, at)
+        if byte is None:
+            return None, at
+        word.append(byte)
+    closed = at < len(line) and (at + 1 == len(line) or line[at + 1] in BLANKS)
+    return (bytes(word) if closed else None), at + 1
+
+
+def read_unit(line, at):
+    """The byte that stands here, or that a backslash makes stand; None where none can."""
+    if line[at] == ord("\\"):
+        at += 1
+        if at == len(line):
+            return None, at
+    elif line[at] == ord('"'):
+        return None, at
+    return (line[at] if is_lawful(line[at]) else None), at + 1
+
+
+def quoted(value):
+    return b'"' + value.replace(b"\\", b"\\\\").replace(b'"', b'\\"') + b'"'
+
+
+def is_name(word, most=64):
+    return 1 <= len(word) <= most and all(byte in LETTERS for byte in word)
+
+
+def number_of(word):
+    """The number that the word is; None where it is none."""
+    digits = word[1:] if word.startswith(b"-") else word
+    if not digits.isdigit() or (digits.startswith(b"0") and word != b"0"):
+        return None
+    number = int(word)
+    return number if -(10**9) <= number <= 10**9 else None
+
+
+class Variable:
+    def __init__(self):
+        self.value, self.flags, self.aux, self.enums, self.ranges = b"", frozenset(), 0, [], []
+
+    def may_have(self, value):
+        if self.enums and value not in self.enums:
+            return False
+        number = number_of(value)
+        return not self.ranges or (number is not None and any(a <= number <= b for a, b in self.ranges))
+
+    def is_too_long(self, value):
+        return len(value) > 256 or (b"STRING" in self.flags and 0 < self.aux < len(value))
+
+    def type_words(self):
+        words = [b"RW"] if b"RW" in self.flags else []
+        form = [b"ENUM"] if self.enums else []
+        form += [b"RANGE"] if self.ranges else []
+        form += [b"STRING:%d" % self.aux] if b"STRING" in self.flags else []
+        return b" ".join(words + (form or [b"NUMBER"]))
+
+
+class Ups:
+    def __init__(self, name, desc=None):
+        self.name, self.desc, self.forced = name, desc, False
+        self.lose()
+
+    def lose(self):
+        self.connected = self.dumped = self.ok = False
+        self.heard = self.pinged = 0
+        self.variables, self.commands, self.unfinished, self.owed = {}, set(), b"", b""
+
+    def connect(self, moment):
+        self.lose()
+        self.connected, self.heard, self.pinged, self.owed = True, moment, moment, b"DUMPALL\n"
+
+    def shown(self, name):
+        value = self.variables[name].value
+        return b"FSD " + value if self.forced and name == b"ups.status" else value
+
+    def why_not_usable(self, moment):
+        if not self.connected:
+            return b"DRIVER-NOT-CONNECTED"
+        is_live = self.dumped and self.ok and moment - self.heard <= MAX_AGE
+        return None if is_live else b"DATA-STALE"
+
+    def owe(self, line):
+        """Owes the driver this line, where it fits."""
+        if len(self.owed) + len(line) + 1 > DRIVER_OWED:
+            return False
+        self.owed += line + b"\n"
+        return True
+
+    def hear(self, line):
+        """Does one whole line of the driver. A line that is refused does nothing."""
+        words = read_words(line)
+        if not words:
+            return
+        verb, rest = words[0].upper(), words[1:]
+        if verb in (b"DUMPDONE", b"DATAOK", b"DATASTALE", b"PONG"):
+            if not rest:
+                self.dumped |= verb == b"DUMPDONE"
+                self.ok = {b"DATAOK": True, b"DATASTALE": False}.get(verb, self.ok)
+            return
+        lengths = {b"SETINFO": 2, b"DELINFO": 1, b"ADDENUM": 2, b"DELENUM": 2, b"ADDRANGE": 3, b"DELRANGE": 3}
+        lengths |= {b"SETAUX": 2, b"ADDCMD": 1, b"DELCMD": 1}
+        fits = verb == b"SETFLAGS" and rest or len(rest) == lengths.get(verb)
+        if not fits or not is_name(rest[0]):
+            return
+        if verb in (b"ADDCMD", b"DELCMD"):
+            self.change_commands(verb, rest[0])
+        elif verb == b"SETINFO":
+            self.set_value(rest[0], rest[1])
+        elif rest[0] in self.variables:
+            self.change_variable(verb, rest[0], rest[1:])
+
+    def change_commands(self, verb, name):
+        if verb == b"DELCMD":
+            self.commands.discard(name)
+        elif len(self.commands) < 1024:
+            self.commands.add(name)
+
+    def set_value(self, name, value):
+        if len(value) <= 256 and (name in self.variables or len(self.variables) < 4096):
+            self.variables.setdefault(name, Variable()).value = value
+
+    def change_variable(self, verb, name, rest):
+        variable = self.variables[name]
+        if verb == b"DELINFO":
+            del self.variables[name]
+        elif verb == b"SETFLAGS":
+            flags = frozenset(word.upper() for word in rest)
+            if flags <= {b"RW", b"STRING", b"NUMBER"}:
+                variable.flags = flags
+        elif verb == b"SETAUX":
+            number = number_of(rest[0])
+            if number is not None and number >= 0:
+                variable.aux = number
+        elif verb in (b"ADDENUM", b"DELENUM"):
+            if len(rest[0]) <= 256:
+                change_list(verb, variable.enums, rest[0], 256)
+        else:
+            ends = tuple(number_of(word) for word in rest)
+            if None not in ends and ends[0] <= ends[1]:
+                change_list(verb, variable.ranges, ends, 32)
+
+
+def change_list(verb, items, item, most):
+    if verb.startswith(b"DEL"):
+        if item in items:
+            items.remove(item)
+    elif item not in items and len(items) < most:
+        items.append(item)
+
+
+class User:
+    """What the file of users says of one user."""
+
+    def __init__(self, password=None, actions=(), commands=(), upsmon=()):
+        self.password, self.actions, self.commands, self.upsmon = password, actions, commands, upsmon
+
+    def may(self, right):
+        if isinstance(right, tuple):
+            return b"ALL" in self.commands or right[0] in self.commands
+        return {
+            "login": bool(self.upsmon),
+            "primary": "primary" in self.upsmon,
+            "fsd": "FSD" in self.actions or "primary" in self.upsmon,
+            "set": "SET" in self.actions,
+        }[right]
+
+
+class Session:
+    def __init__(self, number, address):
+        self.number, self.address = number, address
+        self.held, self.owed, self.sent = b"", b"", b""
+        self.ending, self.is_open = False, True
+        self.username = self.password = self.login = None
+
+    def end(self):
+        self.ending, self.held, self.login = True, b"", None
+
+
+FORMS = {
+    b"USERNAME": (1,), b"PASSWORD": (1,), b"LOGIN": (1,), b"LOGOUT": (0,), b"PRIMARY": (1,), b"FSD": (1,),
+    b"INSTCMD": (2, 3), b"HELP": (0,), b"VER": (0,), b"NETVER": (0,), b"PROTVER": (0,), b"STARTTLS": (0,),
+    b"SET VAR": (3,), b"GET VAR": (2,), b"GET TYPE": (2,), b"GET DESC": (2,), b"GET CMDDESC": (2,),
+    b"GET UPSDESC": (1,), b"GET NUMLOGINS": (1,), b"LIST UPS": (0,), b"LIST VAR": (1,), b"LIST RW": (1,),
+    b"LIST CMD": (1,), b"LIST ENUM": (2,), b"LIST RANGE": (2,), b"LIST CLIENT": (1,),
+}  # fmt: skip
+TEXTS = {
+    b"HELP": b"Commands: HELP VER NETVER PROTVER GET LIST SET INSTCMD LOGIN LOGOUT PRIMARY FSD USERNAME PASSWORD STARTTLS",
+    b"VER": b"Network UPS Tools upsd, profile 1",
+    b"NETVER": b"1.3",
+    b"PROTVER": b"1.3",
+}
+LIVE = (b"GET VAR", b"GET TYPE", b"SET VAR", b"INSTCMD", b"LIST VAR", b"LIST RW", b"LIST CMD", b"LIST ENUM", b"LIST RANGE")
+OF_VARIABLE = (b"GET VAR", b"GET TYPE", b"SET VAR", b"LIST ENUM", b"LIST RANGE")
+RIGHTS = {b"LOGIN": "login", b"PRIMARY": "primary", b"FSD": "fsd", b"SET VAR": "set"}
+
+
+class Error(Exception):
+    """A line is answered by ERR and this word."""
+
+
+class Listed(Exception):
+    """A listing is due, and its memory is refused."""
+
+
+class Server:
+    def __init__(self, upses=None, users=None, descriptions=None):
+        self.upses = {ups.name: ups for ups in sorted(upses or [Ups(b"su")], key=lambda ups: ups.name)}
+        self.users, self.descriptions = users or {}, descriptions or {}
+        self.sessions, self.moment = [], 0
+        self.refuse = None  # how many lines of the event are executed before memory is refused
+
+    # What drivers do.
+
+    def ups(self, name):
+        if name not in self.upses:
+            raise Refused(1)
+        return self.upses[name]
+
+    def connected(self, name):
+        ups = self.ups(name)
+        if not ups.connected:
+            raise Refused(5)
+        return ups
+
+    def driver_up(self, name):
+        if self.ups(name).connected:
+            raise Refused(6)
+        self.ups(name).connect(self.moment)
+
+    def driver_down(self, name):
+        self.connected(name).lose()
+
+    def driver_bytes(self, name, piece):
+        ups = self.connected(name)
+        ups.unfinished += piece
+        while b"\n" in ups.unfinished[: LINE + 1]:
+            line, _, ups.unfinished = ups.unfinished.partition(b"\n")
+            if self.refuse == 0:
+                ups.lose()
+                raise Refused(8)
+            self.refuse = None if self.refuse is None else self.refuse - 1
+            ups.heard = self.moment
+            ups.hear(line)
+        if len(ups.unfinished) > LINE:
+            ups.lose()
+            raise Refused(7)
+
+    def driver_took(self, name, count):
+        ups = self.connected(name)
+        if count > len(ups.owed):
+            raise Refused(4)
+        taken, ups.owed = ups.owed[:count], ups.owed[count:]
+        return taken
+
+    def tick(self, seconds):
+        self.moment = max(self.moment, seconds)
+        for ups in self.upses.values():
+            quiet = min(self.moment - ups.heard, self.moment - ups.pinged)
+            if ups.connected and quiet >= MAX_AGE // 3 and ups.owe(b"PING"):
+                ups.pinged = self.moment
+
+    # What clients do.
+
+    def opened(self):
+        return [session for session in self.sessions if session.is_open]
+
+    def session(self, number):
+        for session in self.opened():
+            if session.number == number:
+                return session
+        raise Refused(2)
+
+    def open(self, address):
+        if len(self.opened()) == 64:
+            raise Refused(3)
+        if self.refuse is not None:
+            raise Refused(8)
+        self.sessions.append(Session(len(self.sessions) + 1, address))
+
+    def close(self, number):
+        session = self.session(number)
+        session.end()
+        session.is_open, session.owed = False, b""
+
+    def feed(self, number, piece):
+        session = self.session(number)
+        if session.ending:
+            return len(piece)
+        count = min(len(piece), HOLD - len(session.held))
+        session.held += piece[:count]
+        self.pump(session)
+        return count
+
+    def took(self, number, count):
+        session = self.session(number)
+        if count > len(session.owed[:RING]):
+            raise Refused(4)
+        session.sent += session.owed[:count]
+        session.owed = session.owed[count:]
+        self.pump(session)
+
+    def pump(self, session):
+        while not session.ending and len(session.owed) <= OWED:
+            line, found, rest = session.held.partition(b"\n")
+            if found:
+                try:
+                    session.owed += self.answer(session, line)
+                except Listed:
+                    raise Refused(8) from None
+                session.held = b"" if session.ending else rest
+            elif len(session.held) == HOLD:
+                session.owed += b"ERR TOO-LONG\n"
+                session.end()
+                raise Refused(7)
+            else:
+                return
+
+    # Answers.
+
+    def answer(self, session, line):
+        try:
+            text = self.execute(session, read_words(line))
+        except Error as error:
+            text = b"ERR " + error.args[0] + b"\n"
+        self.refuse = None if self.refuse is None else self.refuse - 1
+        return text
+
+    def execute(self, session, words):
+        if words is None:
+            raise Error(b"INVALID-ARGUMENT")
+        if not words:
+            return b""
+        verb, rest = words[0].upper(), words[1:]
+        if verb in (b"GET", b"LIST", b"SET"):
+            verb, rest = verb + b" " + (rest[0].upper() if rest else b""), rest[1:]
+            if verb not in FORMS:
+                raise Error(b"INVALID-ARGUMENT")
+        if verb not in FORMS:
+            raise Error(b"UNKNOWN-COMMAND")
+        if len(rest) not in FORMS[verb]:
+            raise Error(b"INVALID-ARGUMENT")
+        if verb.startswith(b"LIST "):
+            return self.list(verb, rest)
+        return self.say(session, verb, rest) + b"\n"
+
+    def allow(self, session, right):
+        for given, word in ((session.username, b"USERNAME"), (session.password, b"PASSWORD")):
+            if given is None:
+                raise Error(word + b"-REQUIRED")
+        user = self.users.get(session.username)
+        if not user or user.password is None or user.password != session.password or not user.may(right):
+            raise Error(b"ACCESS-DENIED")
+
+    def check(self, verb, rest):
+        """The checks of the UPS, of its state and of the variable."""
+        if rest[0] not in self.upses:
+            raise Error(b"UNKNOWN-UPS")
+        ups = self.upses[rest[0]]
+        why = ups.why_not_usable(self.moment)
+        if verb in LIVE and why:
+            raise Error(why)
+        if verb in OF_VARIABLE and rest[1] not in ups.variables:
+            raise Error(b"VAR-NOT-SUPPORTED")
+        return ups
+
+    def say(self, session, verb, rest):
+        if verb in TEXTS:
+            return TEXTS[verb]
+        if verb == b"STARTTLS":
+            raise Error(b"FEATURE-NOT-CONFIGURED")
+        if verb == b"LOGOUT":
+            session.end()
+            return b"OK Goodbye"
+        if verb in (b"USERNAME", b"PASSWORD"):
+            return self.give(session, verb, rest[0])
+        if verb in RIGHTS or verb == b"INSTCMD":
+            self.allow(session, RIGHTS.get(verb) or (rest[1],))
+        ups = self.check(verb, rest)
+        if verb.startswith(b"GET "):
+            return self.get(ups, verb[4:], rest)
+        return self.order(session, ups, verb, rest)
+
+    def give(self, session, verb, word):
+        attribute, most = ("username", 64) if verb == b"USERNAME" else ("password", 256)
+        if getattr(session, attribute) is not None:
+            raise Error(b"ALREADY-SET-" + verb)
+        if not 1 <= len(word) <= most:
+            raise Error(b"INVALID-ARGUMENT")
+        setattr(session, attribute, word)
+        return b"OK"
+
+    def order(self, session, ups, verb, rest):
+        if verb == b"LOGIN":
+            if session.login:
+                raise Error(b"ALREADY-LOGGED-IN")
+            session.login = ups.name
+        elif verb == b"FSD":
+            ups.forced = True
+            return b"OK FSD-SET"
+        elif verb == b"SET VAR":
+            self.set_variable(ups, *rest[1:])
+        elif verb == b"INSTCMD":
+            self.start(ups, *rest[1:])
+        return b"OK"
+
+    @staticmethod
+    def set_variable(ups, name, value):
+        variable = ups.variables[name]
+        if b"RW" not in variable.flags:
+            raise Error(b"READONLY")
+        if variable.is_too_long(value):
+            raise Error(b"TOO-LONG")
+        if not variable.may_have(value):
+            raise Error(b"INVALID-VALUE")
+        if not ups.owe(b"SET " + name + b" " + quoted(value)):
+            raise Error(b"SET-FAILED")
+
+    @staticmethod
+    def start(ups, name, value=None):
+        if name not in ups.commands:
+            raise Error(b"CMD-NOT-SUPPORTED")
+        if value is not None and len(value) > 256:
+            raise Error(b"TOO-LONG")
+        if not ups.owe(b"INSTCMD " + name + (b"" if value is None else b" " + quoted(value))):
+            raise Error(b"INSTCMD-FAILED")
+
+    def logged_in(self, ups):
+        return [session for session in self.opened() if session.login == ups.name]
+
+    def get(self, ups, kind, rest):
+        front = b" ".join([kind, *rest]) + b" "
+        if kind == b"VAR":
+            return front + quoted(ups.shown(rest[1]))
+        if kind == b"TYPE":
+            return front + ups.variables[rest[1]].type_words()
+        if kind == b"NUMLOGINS":
+            return front + b"%d" % len(self.logged_in(ups))
+        if kind == b"UPSDESC":
+            return front + quoted(b"Unavailable" if ups.desc is None else ups.desc)
+        if not is_name(rest[1]):
+            raise Error(b"VAR-NOT-SUPPORTED" if kind == b"DESC" else b"CMD-NOT-SUPPORTED")
+        text = self.descriptions.get((b"VARDESC" if kind == b"DESC" else b"CMDDESC", rest[1]))
+        return front + quoted(b"Description unavailable" if text is None else text)
+
+    def list(self, verb, rest):
+        ups = self.check(verb, rest) if rest else None
+        kind = verb[5:]
+        if kind == b"UPS":
+            items = [it.name + b" " + quoted(b"Unavailable" if it.desc is None else it.desc) for it in self.upses.values()]
+        else:
+            items = [b" ".join(rest) + b" " + item for item in self.items(kind, ups, rest)]
+        if self.refuse == 0 and kind != b"CLIENT":
+            raise Listed
+        head = b" LIST " + b" ".join([kind, *rest]) + b"\n"
+        return b"BEGIN" + head + b"".join(kind + b" " + item + b"\n" for item in items) + b"END" + head
+
+    def items(self, kind, ups, rest):
+        if kind in (b"VAR", b"RW"):
+            names = [it for it in sorted(ups.variables) if kind == b"VAR" or b"RW" in ups.variables[it].flags]
+            return [name + b" " + quoted(ups.shown(name)) for name in names]
+        if kind == b"CMD":
+            return sorted(ups.commands)
+        if kind == b"ENUM":
+            return [quoted(value) for value in ups.variables[rest[1]].enums]
+        if kind == b"RANGE":
+            return [b'"%d" "%d"' % ends for ends in ups.variables[rest[1]].ranges]
+        return [session.address for session in self.logged_in(ups)]
+
+
+class Replay:
+    """What `upsd replay` prints of a script. In the event (line, place in the line) memory is refused after so many lines."""
+
+    def __init__(self, server, refused=None, after=0):
+        self.server, self.refused, self.after = server, refused, after
+        self.told, self.taken = [], {name: b"" for name in server.upses}
+
+    def output(self, script):
+        for number, line in enumerate(script.split(b"\n"), 1):
+            if line.strip(BLANKS) and not line.lstrip(BLANKS).startswith(b"#"):
+                self.place = 0
+                self.act(number, *line.split(b" ", 1))
+        text = b"".join(self.told)
+        for session in self.server.sessions:
+            text += self.part(b"client %d" % session.number, session.sent)
+        for name in self.server.upses:
+            text += self.part(b"driver " + name, self.taken[name])
+        return text
+
+    @staticmethod
+    def part(who, sent):
+        return who + b" sent %d bytes\n" % len(sent) + sent + (b"\n" if sent and not sent.endswith(b"\n") else b"")
+
+    def event(self, number, call, *words):
+        self.server.refuse = self.after if self.refused == (number, self.place) else None
+        self.place += 1
+        try:
+            return call(*words)
+        except Refused as refused:
+            self.told.append(b"line %d: refused %d\n" % (number, refused.number))
+            return None
+        finally:
+            self.server.refuse = None
+
+    def act(self, number, verb, rest):
+        server = self.server
+        simple = {b"up": server.driver_up, b"down": server.driver_down, b"open": server.open}
+        numbered = {b"tick": server.tick, b"close": server.close}
+        if verb in simple:
+            self.event(number, simple[verb], rest)
+        elif verb in numbered:
+            self.event(number, numbered[verb], int(rest))
+        else:
+            who, rest = rest.split(b" ", 1)
+            self.move(number, verb, who, rest)
+
+    def move(self, number, verb, who, rest):
+        pieces = {b"driver": rest + b"\n", b"client": rest + b"\n", b"driver-part": rest, b"part": rest}
+        if verb.endswith(b"-hex"):
+            pieces[verb] = bytes.fromhex(rest.decode())
+        if verb == b"took":
+            self.take(number, int(who), rest)
+        elif verb == b"driver-took":
+            self.driver_take(number, who, rest)
+        elif verb.startswith(b"driver"):
+            self.event(number, self.server.driver_bytes, who, pieces[verb])
+        else:
+            count = self.event(number, self.server.feed, int(who), pieces[verb])
+            if count is not None and count < len(pieces[verb]):
+                self.told.append(b"line %d: %d of %d bytes held\n" % (number, count, len(pieces[verb])))
+
+    def take(self, number, who, rest):
+        if rest != b"all":
+            self.event(number, self.server.took, who, int(rest))
+            return
+        while True:
+            self.event(number, self.server.took, who, self.offered(who))
+            if not self.offered(who):
+                return
+
+    def offered(self, who):
+        owed = [session.owed for session in self.server.opened() if session.number == who]
+        return min(len(owed[0]), RING) if owed else 0
+
+    def driver_take(self, number, who, rest):
+        ups = self.server.upses.get(who)
+        count = (len(ups.owed) if ups else 0) if rest == b"all" else int(rest)
+        self.taken.setdefault(who, b"")
+        self.taken[who] += self.event(number, self.server.driver_took, who, count) or b""
+        if who not in self.server.upses:
+            del self.taken[who]

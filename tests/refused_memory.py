@@ -1,0 +1,444 @@
+"""The cases of tests/refused_memory.sh: each request for memory refused in turn, over the built programs.
+
+Words: the library that refuses (refuse.c), and the programs upsd, upsc, upsrw and upscmd. A run in which the Nth
+request is refused, for every N up to a run that makes fewer: of each the whole right output comes, or a fault is told
+and nothing else is said that isn't so. Where a run makes more than 2,000 requests, each of the first 300 is refused,
+and then every 50th.
+"""
+import mmap
+import os
+import select
+import signal
+import socket
+import socketserver
+import struct
+import subprocess
+import sys
+import tempfile
+import threading
+import time
+
+from plain_server import Replay, Server, Ups, User
+from replaying import Bench, lines, ready
+
+LIBRARY, UPSD, UPSC, UPSRW, UPSCMD = (os.path.abspath(word) for word in sys.argv[1:6])
+BENCH = Bench("refused_memory", UPSD)
+FOLDER = BENCH.folder.name
+EVERY, EACH, STEP = 2000, 300, 50
+ALL = 2**64 - 1
+
+
+class Control:
+    """What the library is told, and what it tells."""
+
+    def __init__(self):
+        with open(BENCH.file("control", bytes(32)), "r+b") as file:
+            self.words = mmap.mmap(file.fileno(), 32)
+
+    def refuse(self, first, last):
+        struct.pack_into("4Q", self.words, 0, 0, first, last, 0)
+
+    def go_on(self):
+        struct.pack_into("2Q", self.words, 8, 0, 0)
+
+    def refuse_all(self):
+        struct.pack_into("2Q", self.words, 8, 1, ALL)
+
+    @property
+    def requests(self):
+        return struct.unpack_from("Q", self.words, 0)[0]
+
+    @property
+    def refused(self):
+        return struct.unpack_from("Q", self.words, 24)[0]
+
+
+CONTROL = Control()
+REFUSING = {**os.environ, "LD_PRELOAD": LIBRARY, "REFUSE": os.path.join(FOLDER, "control")}
+
+
+def run(words):
+    done = subprocess.run(words, cwd=FOLDER, env=REFUSING, capture_output=True, timeout=60, check=False)
+    return done.returncode, done.stdout, done.stderr
+
+
+def turns():
+    """Which requests are refused: each one; of very many each of the first, and then some."""
+    total = CONTROL.requests
+    some = range(1, total + 1) if total <= EVERY else [*range(1, EACH + 1), *range(EACH + STEP, total + 1, STEP)]
+    return [*some, total + 1]
+
+
+def in_turn(words, want, judge):
+    """Refuses each request of the program in turn. The answer tells how many, and how often which fault was told."""
+    CONTROL.refuse(0, 0)
+    got = run(words)
+    assert got == (0, want, b""), got
+    total, seen = CONTROL.requests, {}
+    assert total > 0, "no request was counted"
+    for request in turns():
+        CONTROL.refuse(request, request)
+        got = run(words)
+        assert (CONTROL.refused == 1) == (request <= total), f"request {request} of {total}: {CONTROL.refused} refused"
+        kind = "whole" if got == (0, want, b"") else judge(got)
+        assert kind and (CONTROL.refused or kind == "whole"), f"request {request} of {total}: {got}"
+        seen[kind] = seen.get(kind, 0) + 1
+    seen["whole"] -= 1
+    return total, seen
+
+
+def from_one_on(words, want, judge):
+    """Refuses each request from the Nth on. What is told then is the same."""
+    CONTROL.refuse(0, 0)
+    run(words)
+    for request in turns():
+        CONTROL.refuse(request, ALL)
+        got = run(words)
+        assert got == (0, want, b"") or judge(got) not in (None, "refused 8"), f"from request {request} on: {got}"
+
+
+def figures(total, seen):
+    told = ", ".join(f"{count} {kind}" for kind, count in sorted(seen.items()) if count)
+    return f"{total} requests: {told}"
+
+
+# Replays.
+
+USERS = b'# users\n[admin]\npassword = "s3 cret"\nactions = SET\ninstcmds = test.start\nupsmon primary\n[mon]\npassword = pw\nupsmon secondary\n'
+VARS = b'VARDESC a "the first"\n\nCMDDESC test.start ""\nVARDESC b "the \\"second\\""\n'
+UPSES = b"# two\n[su]\ndesc = \"Room 1\"\nsocket = /run/nut/su\n[bay]\n"
+FILES = {"--ups": UPSES, "--users": USERS, "--vars": VARS}
+
+
+def server(options):
+    users = {b"admin": User(b"s3 cret", ["SET"], [b"test.start"], ["primary"]), b"mon": User(b"pw", upsmon=["secondary"])}
+    texts = {(b"VARDESC", b"a"): b"the first", (b"CMDDESC", b"test.start"): b"", (b"VARDESC", b"b"): b'the "second"'}
+    upses = [Ups(b"su", b"Room 1"), Ups(b"bay")] if "--ups" in options else [Ups(b"su")]
+    return Server(upses, users if "--users" in options else {}, texts if "--vars" in options else {})
+
+
+def judge_replay(script, options):
+    """A fault that ends the program, with nothing printed; or an event refused by 8, and then all that follows from it."""
+
+    def judge(got):
+        if got == (1, b"", b"upsd: no memory\n"):
+            return "no memory"
+        status, told, faults = got
+        if (status, faults) != (0, b""):
+            return None
+        said = [line for line in told.split(b"\n") if line.startswith(b"line ") and line.endswith(b": refused 8")]
+        for place in range(4 if len(said) == 1 else 0):
+            for after in range(8):
+                event = (int(said[0].split(b" ")[1][:-1]), place)
+                if Replay(server(options), event, after).output(script) == told:
+                    return "refused 8"
+        return None
+
+    return judge
+
+
+def replays(name, script, *options):
+    words = [UPSD, "replay", "script"]
+    for option in options:
+        words += [option, BENCH.file(option[2:], FILES[option])]
+    BENCH.file("script", script)
+    want = Replay(server(options), None).output(script)
+    judge = judge_replay(script, options)
+    BENCH.case(f"replay_{name}", lambda: figures(*in_turn(words, want, judge)))
+    BENCH.case(f"replay_{name}_from_one_on", from_one_on, words, want, judge)
+
+
+SOME = ['SETINFO a "1"', 'SETINFO b "2"', "SETFLAGS a RW", "ADDENUM a 1", 'ADDENUM a "2"', "ADDRANGE b 0 9", "ADDCMD test.start", "SETAUX b 8"]
+PIECES = ["driver-part su SETINFO x 1", "driver-hex su 0A" + b'SETINFO y "2"\nDELINFO x\nADDENUM y 3\nADDCMD c\nSETINFO a 5\n'.hex()]
+LISTINGS = ["UPS", "VAR su", "RW su", "CMD su", "ENUM su a", "RANGE su b", "CLIENT su"]
+KEPT = ["open 192.0.2.1", "client 1 LIST VAR su", "took 1 4", "driver su SETINFO a 3", "driver su DELINFO b", "took 1 all"]
+AGAIN = ["client 1 LIST VAR su", "took 1 all", "driver-took su all"]
+
+
+def replay_cases():
+    replays("of_nothing", b"")
+    replays("of_files", b"", "--ups", "--users", "--vars")
+    replays("of_one_listing", lines(ready(told=SOME[:2]), "open 192.0.2.1", "client 1 LIST VAR su", "took 1 all"))
+    replays("of_a_driver_in_pieces", lines(ready(told=SOME), PIECES, KEPT[:2], AGAIN, "down su", ready(told=SOME[:3]), AGAIN))
+    asks = [f"client 1 LIST {kind}" for kind in LISTINGS]
+    replays("of_every_listing", lines(ready(told=SOME), "open 192.0.2.1", asks, "took 1 all"), "--ups", "--vars")
+    in_one = "client-hex 1 " + "".join(f"LIST {kind}\n" for kind in LISTINGS).encode().hex()
+    replays("of_listings_in_one_piece", lines(ready(told=SOME), "open 192.0.2.1", in_one, "took 1 all"), "--vars")
+    replays("of_a_listing_that_waits", lines(ready(told=SOME), KEPT, AGAIN))
+    orders = ["USERNAME admin", 'PASSWORD "s3 cret"', "SET VAR su a 2", "INSTCMD su test.start", "LOGIN su", "FSD su", "LIST CLIENT su"]
+    gives = [f"client 2 {order}" for order in orders] + ["took 2 all", "open 192.0.2.3", "client 3 GET DESC su a", "close 1", "took 3 all"]
+    replays("of_orders", lines(ready(told=SOME), "open 192.0.2.1", "open 192.0.2.2", gives, "tick 9", "driver-took su all"), *FILES)
+    many = [f'SETINFO v{number:03} "{number}"' for number in range(250)]
+    replays("of_many_variables", lines(ready(told=many), KEPT[:3], [f"driver su {line}" for line in many[:100]], "took 1 all", AGAIN))
+
+
+# Clients.
+
+REPLIES = {
+    b"LIST VAR su": b'BEGIN LIST VAR su\nVAR su battery.charge "100"\nVAR su ups.status "OL"\nEND LIST VAR su\n',
+    b"LIST RW su": b'BEGIN LIST RW su\nRW su ups.delay "30"\nEND LIST RW su\n',
+    b"LIST CMD su": b"BEGIN LIST CMD su\nCMD su load.off\nCMD su load.on\nEND LIST CMD su\n",
+    b"LIST UPS": b'BEGIN LIST UPS\nUPS su "Rack 1"\nEND LIST UPS\n',
+    b"LIST CLIENT su": b"BEGIN LIST CLIENT su\nCLIENT su 192.0.2.1\nEND LIST CLIENT su\n",
+    b"GET VAR su ups.status": b'VAR su ups.status "OL"\n',
+}
+LOGIN = [b'USERNAME "admin"', b'PASSWORD "s3 cret"']
+
+
+class Answering(socketserver.ThreadingTCPServer):
+    """A server that answers, and keeps the lines that it was sent."""
+
+    daemon_threads = allow_reuse_address = True
+
+    def __init__(self):
+        super().__init__(("127.0.0.1", 0), Asked)
+        self.lines = []
+        threading.Thread(target=self.serve_forever, daemon=True).start()
+
+
+class Asked(socketserver.StreamRequestHandler):
+    def handle(self):
+        for line in self.rfile:
+            self.server.lines.append(line.rstrip(b"\n"))
+            self.wfile.write(REPLIES.get(line.rstrip(b"\n"), b"OK\n"))
+
+
+def asks(answering, name, program, sent, want, *words):
+    """Each request of the client refused in turn: it prints all, or tells a fault and prints nothing. Where none is refused, it
+    sends these lines."""
+    command = os.path.basename(program)
+
+    by_name = "localhost" in words[-1]
+    faults = ("no memory", "cannot connect") if by_name else ("no memory",)
+
+    def judge(got):
+        if by_name and got[0] in (-signal.SIGSEGV, -signal.SIGABRT) and got[1] == b"":
+            return "ended by the C library's look-up of a name"  # glibc 2.36: a null pointer, an assertion
+        return next((fault for fault in faults if got == (1, b"", f"{command}: {fault}\n".encode())), None)
+
+    def case():
+        words_of = [program, *(word.replace("PORT", str(answering.server_address[1])) for word in words)]
+        CONTROL.refuse(0, 0)
+        del answering.lines[:]
+        run(words_of)
+        assert answering.lines == sent, answering.lines
+        total, seen = in_turn(words_of, want, judge)
+        from_one_on(words_of, want, judge)
+        return figures(total, seen)
+
+    BENCH.case(name, case)
+
+
+def client_cases():
+    with Answering() as answering:
+        variables, su = b"battery.charge: 100\nups.status: OL\n", "su@127.0.0.1:PORT"
+        user = ["-u", "admin", "-p", "s3 cret"]
+        asks(answering, "upsc_variables", UPSC, [b"LIST VAR su"], variables, su)
+        asks(answering, "upsc_variables_of_a_host_by_name", UPSC, [b"LIST VAR su"], variables, "su@localhost:PORT")
+        asks(answering, "upsc_variable", UPSC, [b"GET VAR su ups.status"], b"OL\n", su, "ups.status")
+        asks(answering, "upsc_names", UPSC, [b"LIST UPS"], b"su\n", "-l", "127.0.0.1:PORT")
+        asks(answering, "upsc_descriptions", UPSC, [b"LIST UPS"], b"su: Rack 1\n", "-L", "127.0.0.1:PORT")
+        asks(answering, "upsc_clients", UPSC, [b"LIST CLIENT su"], b"192.0.2.1\n", "-c", su)
+        asks(answering, "upsrw_variables", UPSRW, [b"LIST RW su"], b"ups.delay=30\n", su)
+        setting = [*LOGIN, b'SET VAR su ups.delay "30"']
+        asks(answering, "upsrw_sets", UPSRW, setting, b"OK\n", "-s", "ups.delay=30", *user, su)
+        asks(answering, "upscmd_commands", UPSCMD, [b"LIST CMD su"], b"load.off\nload.on\n", "-l", su)
+        asks(answering, "upscmd_starts", UPSCMD, [*LOGIN, b"INSTCMD su load.off"], b"OK\n", *user, su, "load.off")
+        answering.shutdown()
+
+
+# The server that serves.
+
+MANY = 4096
+READY = b"DUMPDONE\nDATAOK\n"
+STATUS = b'SETINFO ups.status "OL"\nSETFLAGS ups.status RW\nADDCMD test.start\n'
+
+
+class Serving:
+    """The built server, with the driver of su behind it."""
+
+    def __init__(self, told):
+        self.wires = []
+        path = os.path.join(FOLDER, "driver")
+        self.listener = socket.socket(socket.AF_UNIX)
+        self.listener.bind(path)
+        self.listener.listen(4)
+        self.listener.settimeout(10)
+        ups = BENCH.file("ups.conf", b"[su]\nsocket = " + path.encode() + b"\n")
+        words = [UPSD, "serve", "--ups", ups, "--users", BENCH.file("users", USERS), "--listen", "127.0.0.1:0"]
+        CONTROL.refuse(0, 0)
+        self.err = tempfile.TemporaryFile()
+        self.child = subprocess.Popen(words, env=REFUSING, stdout=subprocess.PIPE, stderr=self.err)
+        try:
+            self.port = int(self.child.stdout.readline().rsplit(b":", 1)[1])
+            self.driver = self.driver_comes(told)
+        except BaseException:
+            self.__exit__()
+            raise
+
+    def __enter__(self):
+        return self
+
+    def __exit__(self, *_):
+        CONTROL.go_on()
+        self.child.terminate()
+        self.child.wait(10)
+        self.child.stdout.close()
+        self.err.close()
+        self.listener.close()
+        os.unlink(os.path.join(FOLDER, "driver"))
+        for wire in self.wires:
+            wire.close()
+
+    def driver_comes(self, told):
+        driver = self.listener.accept()[0]
+        driver.settimeout(10)
+        self.wires.append(driver)
+        assert read_lines(driver, 1) == b"DUMPALL\n"
+        driver.sendall(told + READY)
+        with self.client() as client:
+            for _ in range(500):
+                if ask(client, b"GET UPSDESC su\nGET VAR su ups.status\n", 2).endswith(b'"OL"\n'):
+                    return driver
+                time.sleep(0.02)
+        raise AssertionError("the driver's data are never right")
+
+    def client(self, buffer=None):
+        wire = socket.socket()
+        wire.settimeout(10)
+        self.wires.append(wire)
+        if buffer:
+            wire.setsockopt(socket.SOL_SOCKET, socket.SO_RCVBUF, buffer)
+        wire.connect(("127.0.0.1", self.port))
+        return wire
+
+
+def read_lines(wire, count):
+    text = b""
+    while text.count(b"\n") < count:
+        piece = wire.recv(1 << 16)
+        assert piece, text[-200:]
+        text += piece
+    return text
+
+
+def ask(wire, text, count):
+    wire.sendall(text)
+    return read_lines(wire, count)
+
+
+def is_silent(wire, seconds=0.3):
+    return not select.select([wire], [], [], seconds)[0]
+
+
+def a_listing_that_began_asks_for_no_memory():
+    """From the first byte that a client has taken of it on, every request is refused: the listing comes whole."""
+    names = [b"%064d" % number for number in range(1, MANY)]
+    value = b'"' + b'\\"' * 256 + b'"'
+    items = [b"VAR su %b %b\n" % (name, value) for name in names] + [b'VAR su ups.status "OL"\n']
+    want = b"BEGIN LIST VAR su\n" + b"".join(items) + b"END LIST VAR su\n"
+    with Serving(b"".join(b"SETINFO %b %b\n" % (name, value) for name in names) + STATUS) as serving:
+        client = serving.client(buffer=4096)
+        client.sendall(b"LIST VAR su\n")
+        got = client.recv(1)
+        before = CONTROL.requests
+        CONTROL.refuse_all()
+        got += read_lines(client, MANY + 1)
+        assert got == want, f"{len(got)} bytes, not {len(want)}"
+        assert (CONTROL.requests, CONTROL.refused) == (before, 0), f"{CONTROL.requests - before} requests"
+        return f"{len(got)} bytes, no request"
+
+
+def what_is_no_listing_asks_for_no_memory():
+    """Every command but a listing is answered while every request is refused, and none is made."""
+    login = b'USERNAME admin\nPASSWORD "s3 cret"\n'
+    commands = b"VER\nNETVER\nHELP\nGET VAR su ups.status\nGET TYPE su ups.status\nGET DESC su a\nGET CMDDESC su a\nGET UPSDESC su\n"
+    commands += b"GET NUMLOGINS su\nLIST CLIENT su\nSET VAR su ups.status OB\nINSTCMD su test.start\nLIST VAR none\nWHAT\n\x01\n\n"
+    with Serving(STATUS) as serving, serving.client() as client, serving.client() as other:
+        ask(other, b"VER\n", 1)
+        before = CONTROL.requests
+        CONTROL.refuse_all()
+        assert ask(client, login + b"LOGIN su\nFSD su\n", 4) == b"OK\nOK\nOK\nOK FSD-SET\n"
+        got = b"".join(ask(client, commands, 17) for _ in range(50))
+        assert got.count(b'VAR su ups.status "FSD OL"\n') == 50 and got.count(b"ERR UNKNOWN-UPS\n") == 50, got[-600:]
+        orders = b""
+        while orders.count(b"\n") < 100:
+            orders += read_lines(serving.driver, 1).replace(b"PING\n", b"")
+        assert orders == b'SET ups.status "OB"\nINSTCMD test.start\n' * 50
+        serving.driver.sendall(b"PONG\nDATASTALE\n")
+        while ask(client, b"GET VAR su ups.status\n", 1) != b"ERR DATA-STALE\n":
+            time.sleep(0.01)
+        assert ask(other, b"LOGOUT\n", 1) == b"OK Goodbye\n" and other.recv(1) == b""
+        assert (CONTROL.requests, CONTROL.refused) == (before, 0), f"{CONTROL.requests - before} requests"
+        return "over 1,000 lines, no request"
+
+
+def a_refused_listing_is_answered_later():
+    """LIST UPS alone asks for memory. The line stays held, and what was sent behind it; both are answered at the next
+    bytes once there is memory."""
+    with Serving(STATUS) as serving, serving.client() as client:
+        ask(client, b"VER\n", 1)
+        CONTROL.refuse_all()
+        client.sendall(b"NETVER\nLIST UPS\nVER\n")
+        assert read_lines(client, 1) == b"1.3\n" and is_silent(client)
+        client.sendall(b"\n")
+        assert is_silent(client) and CONTROL.refused >= 2, CONTROL.refused
+        CONTROL.go_on()
+        want = b'BEGIN LIST UPS\nUPS su "Unavailable"\nEND LIST UPS\nNetwork UPS Tools upsd, profile 1\n1.3\n'
+        got = ask(client, b"NETVER\n", 5)
+        assert got == want, got
+
+
+def a_client_without_memory_is_turned_away():
+    """A client that comes while memory is refused is closed without a word; the others go on, and later ones come in."""
+    with Serving(STATUS) as serving, serving.client() as client:
+        ask(client, b"VER\n", 1)
+        CONTROL.refuse_all()
+        with serving.client() as newcomer:
+            assert newcomer.recv(1) == b""
+        assert ask(client, b"NETVER\n", 1) == b"1.3\n" and CONTROL.refused > 0
+        CONTROL.go_on()
+        with serving.client() as newcomer:
+            assert ask(newcomer, b"GET VAR su ups.status\n", 1) == b'VAR su ups.status "OL"\n'
+
+
+def a_driver_without_memory_is_lost():
+    """It is connected to again, and its data are right once it has told them."""
+    with Serving(STATUS) as serving, serving.client() as client:
+        ask(client, b"VER\n", 1)
+        CONTROL.refuse_all()
+        serving.driver.sendall(b"SETINFO a 1\nSETINFO b 2\n")
+        assert serving.driver.recv(1) == b""
+        assert ask(client, b"GET VAR su a\n", 1) == b"ERR DRIVER-NOT-CONNECTED\n"
+        CONTROL.go_on()
+        serving.driver_comes(b"SETINFO a 1\n" + STATUS)
+        assert ask(client, b"GET VAR su a\n", 1) == b'VAR su a "1"\n'
+        serving.err.seek(0)
+        assert serving.err.read() == b"upsd: su: driver connected\nupsd: su: driver lost\nupsd: su: driver connected\n"
+
+
+def starting():
+    """Each request before it listens: it tells that there is no memory, or it listens."""
+    words = [UPSD, "serve", "--ups", BENCH.file("two.conf", b"[su]\ndesc = x\n[bay]\n"), "--users", BENCH.file("users", USERS)]
+    words += ["--vars", BENCH.file("vars", VARS), "--listen", "127.0.0.1:0"]
+    request, ended = 0, 0
+    while True:
+        request += 1
+        CONTROL.refuse(request, request)
+        child = subprocess.Popen(words, env=REFUSING, stdout=subprocess.PIPE, stderr=subprocess.PIPE)
+        listens = child.stdout.readline().startswith(b"upsd: listening on 127.0.0.1:")
+        if listens:
+            child.terminate()
+        _, faults = child.communicate(timeout=10)
+        assert listens or (child.returncode, faults) == (1, b"upsd: no memory\n"), (request, child.returncode, faults)
+        ended += not listens
+        if listens and not CONTROL.refused:
+            return f"{request - 1} requests: {ended} no memory"
+
+
+replay_cases()
+client_cases()
+for case in (starting, a_listing_that_began_asks_for_no_memory, what_is_no_listing_asks_for_no_memory,
+             a_refused_listing_is_answered_later, a_client_without_memory_is_turned_away, a_driver_without_memory_is_lost):  # fmt: skip
+    BENCH.case(case.__name__, case)
+BENCH.end()

@@ -1,0 +1,94 @@
+"""Runs of the built `upsd replay`, and the line that is printed a case."""
+import os
+import subprocess
+import sys
+import tempfile
+import time
+
+from plain_server import Replay, Server
+
+
+class Bench:
+    """The program, a folder for its files, and the cases."""
+
+    def __init__(self, name, upsd):
+        self.name, self.upsd, self.failed = name, os.path.abspath(upsd), 0
+        self.folder = tempfile.TemporaryDirectory()
+
+    def file(self, name, content):
+        path = os.path.join(self.folder.name, name)
+        with open(path, "wb") as out:
+            out.write(content)
+        return path
+
+    def run(self, script, *options):
+        """What a replay of this script ends with: its status, output, errors, and its greatest resident kilobytes."""
+        out, err = self.file("out", b""), self.file("err", b"")
+        words = [self.upsd, "replay", *options, self.file("script", script)]
+        with open(out, "wb") as told, open(err, "wb") as faults:
+            child = subprocess.Popen(words, cwd=self.folder.name, stdout=told, stderr=faults)
+            _, status, used = os.wait4(child.pid, 0)
+            child.returncode = os.waitstatus_to_exitcode(status)
+        with open(out, "rb") as told, open(err, "rb") as faults:
+            return child.returncode, told.read(), faults.read(), used.ru_maxrss
+
+    def prints(self, script, want, *options):
+        """The replay is done, and prints this. The answer is its greatest resident kilobytes."""
+        status, told, faults, kilobytes = self.run(script, *options)
+        assert (status, faults) == (0, b""), (status, faults)
+        assert told == want, difference(told, want)
+        return kilobytes
+
+    def agrees(self, script, server=None, options=()):
+        """The replay is done, and prints what the plain server does."""
+        want = Replay(server or Server(), None).output(script)
+        self.prints(script, want, *options)
+        return want
+
+    def faults(self, script, fault, *options):
+        status, told, faults, _ = self.run(script, *options)
+        assert (status, told, faults) == (1, b"", fault), (status, told[:200], faults)
+
+    def case(self, name, call, *words):
+        begun = time.monotonic()
+        try:
+            figures = call(*words)
+        except AssertionError as error:
+            self.failed += 1
+            print(f"{self.name}: FAILED: {name}: {error}", flush=True)
+            return
+        seconds = time.monotonic() - begun
+        print(f"{self.name}: ok: {name}: {seconds:.1f} s{f', {figures}' if figures else ''}", flush=True)
+
+    def end(self):
+        self.folder.cleanup()
+        sys.exit(1 if self.failed else 0)
+
+
+def difference(told, want):
+    at = next((i for i, pair in enumerate(zip(told, want)) if pair[0] != pair[1]), min(len(told), len(want)))
+    return f"{len(told)} bytes, not {len(want)}; at byte {at}: {told[at - 40:at + 60]!r}, not {want[at - 40:at + 60]!r}"
+
+
+def lines(*parts):
+    """The lines of a script: each part is a line, or a list of lines."""
+    every = []
+    for part in parts:
+        every += [part] if isinstance(part, (bytes, str)) else part
+    return b"".join((line.encode() if isinstance(line, str) else line) + b"\n" for line in every)
+
+
+def ready(ups="su", told=()):
+    """The lines with which a driver comes, tells these lines, and that all is told and right."""
+    return [f"up {ups}", *(f"driver {ups} {line}" for line in [*told, "DUMPDONE", "DATAOK"])]
+
+
+def hexed(verb, who, piece):
+    return f"{verb}-hex {who} {piece.hex()}"
+
+
+def sent(who, text):
+    return Replay.part(who.encode(), text)
+
+
+VERSION = b"Network UPS Tools upsd, profile 1\n"

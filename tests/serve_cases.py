@@ -1,0 +1,609 @@
+"""The cases of tests/serve.sh: the built server on real sockets. Words: the programs upsd and upsc."""
+import contextlib
+import os
+import resource
+import select
+import shutil
+import signal
+import socket
+import struct
+import subprocess
+import sys
+import tempfile
+import threading
+import time
+
+UPSD, UPSC = sys.argv[1:3]
+FOLDER = tempfile.mkdtemp()
+USERS = """[admin]
+password = "s3 cret"
+actions = SET
+instcmds = test.battery.start
+upsmon primary
+[mon]
+password = pw
+upsmon secondary
+"""
+ADMIN = b'USERNAME admin\nPASSWORD "s3 cret"\n'
+MON = b"USERNAME mon\nPASSWORD pw\n"
+READY = b"DUMPDONE\nDATAOK\n"
+TWO = b'SETINFO ups.status "OL"\nSETINFO battery.charge "100"\n'
+LISTED = b'BEGIN LIST VAR su\nVAR su battery.charge "100"\nVAR su ups.status "OL"\nEND LIST VAR su\n'
+GET, STATUS = b"GET VAR su ups.status\n", b'VAR su ups.status "OL"\n'
+AWAY = b"ERR DRIVER-NOT-CONNECTED\n"
+MANY = 4096
+
+
+def path(name):
+    return os.path.join(FOLDER, name)
+
+
+def file(name, text):
+    with open(path(name), "w", encoding="utf-8") as out:
+        out.write(text)
+    return path(name)
+
+
+class Driver:
+    """A UPS's driver, which the server connects to."""
+
+    def __init__(self, name):
+        self.path = path(name)
+        self.listener = socket.socket(socket.AF_UNIX)
+        self.listener.bind(self.path)
+        self.listener.listen(8)
+        self.listener.settimeout(10)
+
+    def accept(self, told=None):
+        """The server connects, and asks for all; the driver tells it this."""
+        self.wire = self.listener.accept()[0]
+        self.wire.settimeout(10)
+        self.lines = self.wire.makefile("rb")
+        line = self.lines.readline()
+        assert line == b"DUMPALL\n", line
+        if told is not None:
+            self.wire.sendall(told + READY)
+        return self
+
+    def send(self, text):
+        self.wire.sendall(text)
+
+    def line(self):
+        return self.lines.readline()
+
+    def lose(self):
+        self.lines.close()
+        self.wire.close()
+
+    def close(self):
+        with contextlib.suppress(AttributeError, OSError):
+            self.lose()
+        self.listener.close()
+        os.unlink(self.path)
+
+
+class Client:
+    """A client of the server."""
+
+    def __init__(self, port):
+        self.wire = socket.create_connection(("127.0.0.1", port), timeout=10)
+        self.kept = b""
+
+    def send(self, text):
+        self.wire.sendall(text)
+
+    def line(self):
+        while b"\n" not in self.kept:
+            piece = self.wire.recv(65536)
+            if not piece:
+                return self.kept
+            self.kept += piece
+        line, _, self.kept = self.kept.partition(b"\n")
+        return line + b"\n"
+
+    def ask(self, text):
+        """The answers to the lines, each of one line."""
+        self.send(text)
+        return b"".join(self.line() for _ in range(text.count(b"\n")))
+
+    def up_to_end(self):
+        """All that is still to come. A connection that is reset is a fault."""
+        pieces = [self.kept]
+        while True:
+            piece = self.wire.recv(1 << 20)
+            if not piece:
+                return b"".join(pieces)
+            pieces.append(piece)
+
+    def listing(self):
+        lines = [self.line()]
+        while not lines[-1].startswith((b"END LIST", b"ERR")):
+            lines.append(self.line())
+        return b"".join(lines)
+
+    def close(self):
+        self.wire.close()
+
+    def reset(self):
+        self.wire.setsockopt(socket.SOL_SOCKET, socket.SO_LINGER, struct.pack("ii", 1, 0))
+        self.wire.close()
+
+
+class Server:
+    """The built server, at a port that the system gives."""
+
+    def __init__(self, ups, *words, port=0, files=None):
+        limit = (lambda: resource.setrlimit(resource.RLIMIT_NOFILE, (files, files))) if files else None
+        self.journal_path = path(f"journal{time.monotonic_ns()}")
+        with open(self.journal_path, "wb") as journal:
+            self.process = subprocess.Popen(
+                [UPSD, "serve", "--ups", ups, "--users", path("users"), "--listen", f"127.0.0.1:{port}", *words],
+                stdout=subprocess.PIPE, stderr=journal, preexec_fn=limit)
+        ready, _, _ = select.select([self.process.stdout], [], [], 10)
+        assert ready, "it didn't say that it listens"
+        line = self.process.stdout.readline().decode()
+        assert line.startswith("upsd: listening on 127.0.0.1:"), line
+        self.port = int(line.rsplit(":", 1)[1])
+
+    def client(self):
+        return Client(self.port)
+
+    def journal(self):
+        with open(self.journal_path, encoding="utf-8") as journal:
+            return journal.read()
+
+    def kilobytes(self):
+        with open(f"/proc/{self.process.pid}/status", encoding="utf-8") as status:
+            return int(next(line for line in status if line.startswith("VmRSS")).split()[1])
+
+    def seconds_of_work(self):
+        with open(f"/proc/{self.process.pid}/stat", encoding="utf-8") as stat:
+            fields = stat.read().rsplit(")", 1)[1].split()
+        return (int(fields[11]) + int(fields[12])) / os.sysconf("SC_CLK_TCK")
+
+    def descriptors(self):
+        return len(os.listdir(f"/proc/{self.process.pid}/fd"))
+
+    def close(self):
+        self.process.send_signal(signal.SIGKILL)
+        self.process.wait()
+        self.process.stdout.close()
+
+
+def comes(holds, seconds=4.0):
+    """Whether it holds in time."""
+    end = time.monotonic() + seconds
+    while not holds():
+        if time.monotonic() > end:
+            return False
+        time.sleep(0.02)
+    return True
+
+
+@contextlib.contextmanager
+def served(told=TWO, *words, name="su"):
+    """A server, its driver, which has told this, and a good client."""
+    with contextlib.ExitStack() as stack:
+        driver = Driver(f"{name}.sock")
+        stack.callback(driver.close)
+        ups = file(f"{name}.conf", f"[{name}]\ndesc = \"Rack 1\"\nsocket = {driver.path}\n")
+        server = Server(ups, *words)
+        stack.callback(server.close)
+        driver.accept(told)
+        good = server.client()
+        stack.callback(good.close)
+        assert comes(lambda: good.ask(b"GET VAR su ups.status\n").startswith(b"VAR"))
+        yield server, driver, good
+
+
+def many(count, size):
+    """What a driver tells that has so many variables of so many bytes."""
+    return b'SETINFO ups.status "OL"\n' + b"".join(
+        b'SETINFO v%04d "%s"\n' % (i, b"x" * size) for i in range(1, count))
+
+
+def many_listed(count, size):
+    lines = [b"BEGIN LIST VAR su\n", b'VAR su ups.status "OL"\n']
+    lines += [b'VAR su v%04d "%s"\n' % (i, b"x" * size) for i in range(1, count)]
+    return b"".join(lines + [b"END LIST VAR su\n"])
+
+
+CASES = []
+
+
+def case(function):
+    CASES.append(function)
+    return function
+
+
+def run_to_end(*words):
+    ended = subprocess.run([UPSD, "serve", *words], capture_output=True, timeout=10, check=False)
+    return ended.returncode, ended.stdout, ended.stderr
+
+
+@case
+def words_and_files_are_told_as_faults():
+    ups, users = file("list", "[su]\n"), path("users")
+    files = ["--ups", ups, "--users", users]
+    bad = file("bad", "nothing\n")
+    for listen in ["localhost:3493", "127.0.0.1", "127.0.0.1:65536", ""]:
+        assert run_to_end(*files, "--listen", listen) == (2, b"", b"upsd: bad argument\n"), listen
+    for words in [["--maxage", "2"], ["--maxage", "86401"], ["--maxage", "x"], ["more"]]:
+        status, out, told = run_to_end(*files, *words)
+        assert (status, out, told[:7]) == (2, b"", b"error: "), words
+    assert run_to_end("--ups", ups)[0] == 2
+    absent = path("absent")
+    # The first fault is told, in the order of the words, the list, the users, the descriptions, the address.
+    for words, told in [
+            (["--ups", bad, "--users", absent], f"{bad}:1: cause 1"),
+            (["--ups", ups, "--users", absent, "--vars", bad], f"{absent}: cannot read"),
+            (["--ups", ups, "--users", users, "--vars", bad], f"{bad}:1: cause 1"),
+            (["--ups", bad, "--users", users, "--listen", "192.0.2.1:1"], f"{bad}:1: cause 1"),
+            (files + ["--listen", "192.0.2.1:1"], "cannot listen")]:
+        assert run_to_end(*words) == (1, b"", f"upsd: {told}\n".encode()), words
+
+
+@case
+def a_taken_port_is_told():
+    with served() as (server, _, _):
+        words = ["--ups", path("su.conf"), "--users", path("users"), "--listen", f"127.0.0.1:{server.port}"]
+        assert run_to_end(*words) == (1, b"", b"upsd: cannot listen\n")
+
+
+@case
+def a_driver_and_upsc_meet():
+    with served() as (server, _, good):
+        got = subprocess.run([UPSC, f"su@127.0.0.1:{server.port}"], capture_output=True, timeout=10, check=False)
+        assert (got.returncode, got.stdout, got.stderr) == (0, b"battery.charge: 100\nups.status: OL\n", b""), got
+        good.send(b"LIST VAR su\n")
+        assert good.listing() == LISTED
+        assert good.ask(b"GET UPSDESC su\n") == b'UPSDESC su "Rack 1"\n'
+
+
+@case
+def orders_reach_the_driver():
+    told = TWO + b'SETINFO ups.delay "20"\nSETFLAGS ups.delay RW\nADDRANGE ups.delay 0 600\nADDCMD test.battery.start\n'
+    with served(told) as (_, driver, good):
+        assert good.ask(ADMIN + b"SET VAR su ups.delay 30\n") == b"OK\n" * 3
+        assert driver.line() == b'SET ups.delay "30"\n'
+        assert good.ask(b"INSTCMD su test.battery.start\n") == b"OK\n"
+        assert driver.line() == b"INSTCMD test.battery.start\n"
+        driver.send(b'SETINFO ups.delay "30"\n')
+        assert comes(lambda: good.ask(b"GET VAR su ups.delay\n") == b'VAR su ups.delay "30"\n')
+
+
+@case
+def a_forced_shutdown_is_seen_and_told_once():
+    with served() as (server, _, good):
+        other = server.client()
+        assert other.ask(MON + b"FSD su\n") == b"OK\nOK\nERR ACCESS-DENIED\n"
+        assert server.journal() == "upsd: su: driver connected\n"
+        assert good.ask(ADMIN + b"FSD su\nFSD su\n") == b"OK\nOK\nOK FSD-SET\nOK FSD-SET\n"
+        assert other.ask(GET) == b'VAR su ups.status "FSD OL"\n'
+        told = "upsd: su: driver connected\nupsd: su: forced shutdown\n"
+        assert server.journal() == told, server.journal()
+        other.close()
+
+
+@case
+def logins_are_listed():
+    with served() as (server, _, good):
+        other = server.client()
+        assert other.ask(MON + b"LOGIN su\n") == b"OK\n" * 3
+        good.send(b"LIST CLIENT su\n")
+        assert good.listing() == b"BEGIN LIST CLIENT su\nCLIENT su 127.0.0.1\nEND LIST CLIENT su\n"
+        other.close()
+        assert comes(lambda: good.ask(b"GET NUMLOGINS su\n") == b"NUMLOGINS su 0\n")
+
+
+@case
+def a_lost_driver_comes_back():
+    with served() as (server, driver, good):
+        driver.lose()
+        assert comes(lambda: good.ask(GET) == AWAY)
+        driver.accept(TWO)
+        assert comes(lambda: good.ask(GET) == STATUS)
+        told = "upsd: su: driver connected\nupsd: su: driver lost\nupsd: su: driver connected\n"
+        assert server.journal() == told, server.journal()
+
+
+@case
+def a_driver_that_floods_without_lf_is_lost_and_comes_back():
+    with served() as (_, driver, good):
+        with contextlib.suppress(OSError):
+            driver.send(b"x" * 100_000)
+        assert comes(lambda: good.ask(GET) == AWAY)
+        driver.lose()
+        driver.accept(TWO)
+        assert comes(lambda: good.ask(GET) == STATUS)
+
+
+@case
+def drivers_that_are_not_there_are_tried_again():
+    absent, plain, refusing = path("absent.sock"), file("plain", ""), Driver("refusing.sock")
+    refusing.listener.close()
+    ups = file("three.conf", f"[a]\nsocket = {absent}\n[b]\nsocket = {plain}\n[c]\nsocket = {refusing.path}\n")
+    server = Server(ups)
+    good = server.client()
+    assert good.ask(b"GET VAR a x\nGET VAR b x\nGET VAR c x\n") == AWAY * 3
+    os.unlink(plain)
+    os.unlink(refusing.path)
+    drivers = [Driver("absent.sock"), Driver("plain"), Driver("refusing.sock")]
+    for driver in drivers:
+        driver.accept(b'SETINFO x "1"\n')
+    assert comes(lambda: good.ask(b"GET VAR a x\nGET VAR b x\nGET VAR c x\n").count(b'"1"') == 3)
+    for driver in drivers:
+        driver.close()
+    good.close()
+    server.close()
+
+
+@case
+def a_silent_driver_is_pinged_and_goes_stale():
+    with served(TWO, "--maxage", "3") as (_, driver, good):
+        assert driver.line() == b"PING\n"
+        assert good.ask(GET) == STATUS
+        assert comes(lambda: good.ask(GET) == b"ERR DATA-STALE\n", 6)
+        driver.send(b"PONG\n")
+        assert comes(lambda: good.ask(GET) == STATUS)
+
+
+@case
+def the_sixty_fifth_client_is_closed():
+    with served() as (server, _, good):
+        others = [server.client() for _ in range(63)]
+        for other in others:
+            assert other.ask(GET) == STATUS
+        for _ in range(3):
+            late = server.client()
+            with contextlib.suppress(ConnectionResetError):
+                assert late.wire.recv(1) == b""
+            late.close()
+        assert all(other.ask(GET) == STATUS for other in [good, *others])
+        others.pop().close()
+
+        def is_served():
+            late = server.client()
+            others.append(late)
+            with contextlib.suppress(OSError):
+                return late.ask(GET) == STATUS
+            return False
+        assert comes(is_served)
+        for other in others:
+            other.close()
+
+
+def worst_wait(client, count):
+    worst = 0.0
+    for _ in range(count):
+        begin = time.monotonic()
+        assert client.ask(GET) == STATUS
+        worst = max(worst, time.monotonic() - begin)
+    return worst
+
+
+@case
+def nobody_waits_for_slow_readers():
+    with served(many(MANY, 256)) as (server, _, good):
+        before = server.kilobytes()
+        slow = [server.client() for _ in range(63)]
+        for client in slow:
+            client.send(b"LIST VAR su\n" * 8)
+        worst = worst_wait(good, 500)
+        grown = server.kilobytes() - before
+        slow[7].send(b"LOGOUT\n")
+        slow[7].wire.settimeout(20)
+        got = slow[7].up_to_end()
+        assert got == many_listed(MANY, 256) * 8 + b"OK Goodbye\n", len(got)
+        for client in slow:
+            client.close()
+        assert worst < 0.5, f"a good client waited {worst:.3f} s"
+        assert grown < 24 * 64, f"{grown} KB more for 63 slow clients"
+
+
+@case
+def a_standing_connection_lists_without_delay():
+    with served(many(100, 10)) as (_, _, good):
+        waits = []
+        for _ in range(20):
+            begin = time.monotonic()
+            good.send(b"LIST VAR su\n")
+            assert good.listing() == many_listed(100, 10)
+            waits.append(time.monotonic() - begin)
+        assert sorted(waits)[10] < 0.030, waits
+
+
+@case
+def a_client_that_half_closes_gets_all():
+    with served(many(MANY, 256)) as (server, _, _):
+        for _ in range(5):
+            client = server.client()
+            client.send(b"LIST VAR su\nVER\nLIST VAR su\nGET VAR su ups.status\n")
+            client.wire.shutdown(socket.SHUT_WR)
+            time.sleep(0.05)
+            got = client.up_to_end()
+            client.close()
+            listed = many_listed(MANY, 256)
+            assert got.startswith(listed) and got.endswith(listed + STATUS), len(got)
+
+
+def flood(client, text, seconds):
+    """Sends on, in the background, as long as the server takes it."""
+    def send():
+        end = time.monotonic() + seconds
+        with contextlib.suppress(OSError):
+            while time.monotonic() < end:
+                client.wire.send(text)
+    thread = threading.Thread(target=send)
+    thread.start()
+    return thread
+
+
+@case
+def too_long_is_received_under_a_flood():
+    with served() as (server, _, good):
+        client = server.client()
+        thread = flood(client, b"x" * 65536, 0.5)
+        got = client.up_to_end()
+        assert got == b"ERR TOO-LONG\n", got
+        assert good.ask(GET) == STATUS
+        thread.join()
+        client.close()
+
+
+@case
+def goodbye_is_received_before_unread_lines():
+    with served() as (server, _, _):
+        client = server.client()
+        client.send(b"VER\nLOGOUT\n" + b"VER\n" * 100_000)
+        assert client.line() and client.up_to_end() == b"OK Goodbye\n"
+        client.close()
+
+
+@case
+def a_parting_client_is_closed_after_two_ticks():
+    with served() as (server, _, _):
+        before = server.descriptors()
+        clients = [server.client() for _ in range(10)]
+        assert all(client.ask(b"LOGOUT\n") == b"OK Goodbye\n" for client in clients)
+        assert server.descriptors() == before + 10
+        assert comes(lambda: server.descriptors() == before, 3.5)
+        for client in clients:
+            client.close()
+
+
+@case
+def clients_that_are_gone_before_their_answers_end_nothing():
+    with served(many(MANY, 256)) as (server, _, good):
+        for i in range(200):
+            client = server.client()
+            client.send(b"LIST VAR su\n" * 3)
+            if i % 2:
+                client.wire.recv(1000)
+            client.reset()
+        assert good.ask(GET) == STATUS
+        assert comes(lambda: server.descriptors() < 12)
+
+
+@case
+def more_clients_than_descriptors_end_nothing():
+    ups = file("alone.conf", "[su]\n")
+    server = Server(ups, files=20)
+    clients = [server.client() for _ in range(40)]
+    for client in clients:
+        client.wire.settimeout(0.2)
+        client.send(b"GET UPSDESC su\n")
+    answered = [client for client in clients if is_answered(client)]
+    assert 5 < len(answered) < 20, len(answered)
+    before = server.seconds_of_work()
+    time.sleep(1.5)
+    assert server.seconds_of_work() - before < 0.3, "it spins"
+    for client in answered:
+        client.close()
+    waiting = [client for client in clients if client not in answered]
+    assert comes(lambda: any(is_answered(client) for client in waiting))
+    for client in waiting:
+        client.close()
+    server.close()
+
+
+def is_answered(client):
+    with contextlib.suppress(OSError):
+        return client.line() == b'UPSDESC su "Unavailable"\n'
+    return False
+
+
+@case
+def drivers_and_ticks_are_not_late_in_a_flood():
+    with served(TWO, "--maxage", "6") as (server, driver, good):
+        floods = [server.client() for _ in range(8)]
+        threads = [flood(client, GET * 500, 3.5) for client in floods]
+        readers = [drain(client) for client in floods]
+        # A whole Unix socket of lines, written without waiting.
+        driver.wire.setblocking(False)
+        for i in range(270):
+            driver.wire.send(b'SETINFO battery.charge "%d"\n' % i)
+        assert comes(lambda: good.ask(b"GET VAR su battery.charge\n") == b'VAR su battery.charge "269"\n', 2)
+        assert worst_wait(good, 100) < 0.5
+        driver.wire.settimeout(5)
+        assert driver.line() == b"PING\n"
+        for thread in threads + readers:
+            thread.join()
+        for client in floods:
+            client.close()
+
+
+def drain(client):
+    """Reads and drops, in the background, up to the end or a pause."""
+    def read():
+        client.wire.settimeout(1)
+        with contextlib.suppress(OSError):
+            while client.wire.recv(1 << 20):
+                pass
+    thread = threading.Thread(target=read)
+    thread.start()
+    return thread
+
+
+def traffic(server, driver, good):
+    """Something of all that comes: listings, orders, faults, newcomers, floods of a driver."""
+    for i in range(150):
+        client = server.client()
+        client.send(b"LIST VAR su\nGET VAR su nope\n\x00\n\"\nLOGOUT\n")
+        client.up_to_end()
+        client.close()
+        driver.send(b"".join(b'SETINFO w%04d "%d"\nDELINFO w%04d\n' % (j, i, j) for j in range(40)))
+        good.ask(GET * 20)
+    for _ in range(10):
+        client = server.client()
+        client.send(b"x" * 200_000)
+        client.up_to_end()
+        client.close()
+
+
+@case
+def nothing_grows():
+    with served(many(500, 100)) as (server, driver, good):
+        traffic(server, driver, good)
+        time.sleep(0.2)
+        before, open_before = server.kilobytes(), server.descriptors()
+        for _ in range(4):
+            traffic(server, driver, good)
+        assert comes(lambda: server.descriptors() <= open_before)
+        grown = server.kilobytes() - before
+        assert grown <= 256, f"{grown} KB more"
+        assert server.journal() == "upsd: su: driver connected\n", server.journal()
+
+
+@case
+def it_starts_again_at_its_port():
+    with served() as (server, driver, good):
+        assert good.ask(GET) == STATUS
+        server.close()
+        driver.lose()
+        again = Server(path("su.conf"), port=server.port)
+        driver.accept(TWO)
+        late = again.client()
+        assert comes(lambda: late.ask(GET) == STATUS)
+        late.close()
+        again.close()
+
+
+def main():
+    file("users", USERS)
+    failed = 0
+    for function in CASES:
+        begin = time.monotonic()
+        try:
+            function()
+            print(f"serve: ok: {function.__name__} ({time.monotonic() - begin:.1f} s)", flush=True)
+        except Exception as fault:  # a case that fails is told, and the next one runs
+            failed += 1
+            line = fault.__traceback__.tb_next.tb_lineno
+            print(f"serve: FAILED: {function.__name__}: line {line}: {fault!r}", flush=True)
+    shutil.rmtree(FOLDER)
+    print(f"serve: {len(CASES) - failed} of {len(CASES)} cases")
+    sys.exit(failed > 0)
+
+
+main()
