@@ -10,16 +10,18 @@
 # answered by OK; it sends the line, and takes the answer. What the driver of `su` is owed for it stands behind the last
 # bar, which may be left out. `$` stands for an LF within an answer, `<TAB>` and `<CR>` for those bytes, and `<N>` for N bytes x.
 # A line `> EVENT` is an event of the script as it stands there, and `< LINE` a line more that the driver of `su` is owed.
-#
-# One build runs all tables, and `rt try --cases` compares what they print with what is wanted.
 set -euo pipefail
-tables=$(realpath "$(dirname "${BASH_SOURCE[0]}")/answers")
-cd "$tables/../../crates/upsd"
+# shellcheck source=tests/built.bash
+source "$(dirname "${BASH_SOURCE[0]}")/built.bash"
+# shellcheck source=tests/ends.bash
+source "$top/tests/ends.bash"
+built upsd
+program=upsd
+tables=$top/tests/answers
+cp "$tables"/{ups.conf,upsd.users,descriptions} "$folder/files"
 
-folder=$(mktemp -d)
-trap 'rm -r "$folder"' EXIT
 declare script want owed
-declare -i client count=0 rows=0
+declare -i client rows=0
 
 begin() {
     script=$(<"$tables/server.events")$'\n'
@@ -61,9 +63,8 @@ row() {
 finish() {
     local name=$1
     printf '%s' "${script}driver-took su all"$'\n' >"$folder/$name"
-    printf '%s\n' replay --ups ups.conf --users upsd.users --vars descriptions '{}' >"$folder/$name.args"
     { printf '%s' "$want"; sent 'driver off' ''; sent 'driver su' "$owed"; sent 'driver ups' ''; } >"$folder/$name.stdout"
-    count+=1
+    prints_what_stands_beside "$folder" "$name" replay --ups ups.conf --users upsd.users --vars descriptions
 }
 
 for file in "$tables"/*.rows; do
@@ -85,10 +86,5 @@ for file in "$tables"/*.rows; do
     finish "$name"
 done
 
-# One step: the interpreter's run isn't needed.
-if ! rt try --steps 1 --cases "$folder" --data "ups.conf=$tables/ups.conf" --data "upsd.users=$tables/upsd.users" \
-    --data "descriptions=$tables/descriptions"; then
-    echo "answers: FAILED"
-    exit 1
-fi
-echo "answers: ok: $rows rows of $count tables"
+((failed == 0)) || exit 1
+echo "answers: ok: $rows rows of $cases tables"

@@ -2,18 +2,13 @@
 # The clients as a new user tries them: what upsc, upsrw and upscmd say, and with which status they end, without words,
 # with a wrong word, with --help, with a word that isn't lawful, at a port that refuses, at a server that says nothing
 # and closes, at one that answers, and with an output that is full.
-#
-# A full output is shown on the built programs, where they are built (`rt run` does it, and proves their crates first):
-# `rt try` needs the output itself. Where they aren't, it is shown by nutclient's tests alone, and the last line says so.
-#
-# One build of each program runs all its cases. `rt try --cases` writes a case's output behind a line `== NAME`, and
-# what it wrote to standard error before a line `case=NAME run=ended status=N ..`.
 set -euo pipefail
 # shellcheck source=tests/built.bash
 source "$(dirname "${BASH_SOURCE[0]}")/built.bash"
-cd "$top/crates"
+# shellcheck source=tests/ends.bash
+source "$top/tests/ends.bash"
+built upsc upsrw upscmd
 
-folder=$(mktemp -d)
 server=
 trap '[[ -z $server ]] || kill "$server"; rm -r "$folder"' EXIT
 
@@ -57,90 +52,23 @@ for _ in $(seq 50); do
 done
 read -r refusing silent answering <"$folder/ports"
 
-declare -a names=()
-
-# The program, given the words behind the first four arguments, ends with this status, output and standard error. The
-# last two are patterns.
-ends() {
-    local name=$1 word
-    names+=("$name")
-    printf %s "$2" >"$folder/want/$name.status"
-    printf %s "$3" >"$folder/want/$name.out"
-    printf %s "$4" >"$folder/want/$name.err"
-    : >"$folder/cases/$name"
-    : >"$folder/cases/$name.args"
-    for word in "${@:5}"; do
-        printf '%s\n' "$word" >>"$folder/cases/$name.args"
-    done
-}
-
 prints() { ends "$1" 0 "$2" "" "${@:3}"; }
 faults() { ends "$1" 1 "" "$2" "${@:3}"; }
-refuses_words() { ends "$1" 2 "" "error: *" "${@:2}"; }
 
-# Splits what the cases wrote into a file each.
-split_output() {
-    awk -v got="$folder/got" '/^== / { name = $2; next } { print > (got "/" name ".out") }' "$folder/out"
-    awk -v got="$folder/got" '
-        /^case=/ {
-            name = substr($1, 6); status = $3; sub(/^status=/, "", status)
-            printf "%s", status > (got "/" name ".status"); printf "%s", text > (got "/" name ".err")
-            text = ""; next
-        }
-        { text = text $0 "\n" }' "$folder/err"
-}
-
-failed=0 cases=0
-compare() {
-    local want got
-    want=$(<"$folder/want/$2.$3") got=$(cat "$folder/got/$2.$3" 2>/dev/null) || true
-    # shellcheck disable=SC2053 # what is wanted is a pattern
-    if [[ $got != $want ]]; then
-        printf 'clients: FAILED: %s: %s: %s\nwanted: %s\ngot: %s\n' "$1" "$2" "$3" "$want" "$got"
-        failed=1
-    fi
-}
-
+# What each of the programs is tried for.
 begin() {
-    rm -rf "$folder"/{cases,want,got}
-    mkdir "$folder"/{cases,want,got}
-    names=()
+    program=$1
     refuses_words no_words
     refuses_words wrong_word --nope
     ends help 0 "*Usage: $1 *" "" --help
 }
 
-# Runs the program's cases. One step: the interpreter's run isn't needed.
-try_program() {
-    local name what
-    if ! (cd "$1" && rt try --steps 1 --cases "$folder/cases" >"$folder/out" 2>"$folder/err"); then
-        cat "$folder/err"
-        echo "clients: FAILED: $1 wasn't run"
-        exit 1
-    fi
-    split_output
-    for name in "${names[@]}"; do
-        for what in status out err; do
-            compare "$1" "$name" "$what"
-        done
-    done
-    cases=$((cases + ${#names[@]}))
-}
-
-unbuilt=
-# The built program, given the words behind its name, tells that its output is full.
+# The program, given these words, tells that its output is full.
 fails_at_a_full_output() {
-    local program=$1 status=0 got
-    if [[ ! -x $program/out/$program ]]; then
-        [[ $unbuilt == *" $program"* ]] || unbuilt+=" $program"
-        return
-    fi
-    got=$("$program/out/$program" "${@:2}" 2>&1 >/dev/full) || status=$?
-    if [[ $got != "$program: write failed" || $status != 1 ]]; then
-        printf 'clients: FAILED: %s: full output: status %s: %s\n' "$program" "$status" "$got"
-        failed=1
-    fi
+    local status=0 got
+    got=$("$top/crates/$program/out/$program" "$@" 2>&1 >/dev/full) || status=$?
     cases=$((cases + 1))
+    is 'full output' "$program: write failed \[1\]" "$got [$status]"
 }
 
 begin upsc
@@ -158,11 +86,9 @@ prints variable "OL" "su@127.0.0.1:$answering" ups.status
 prints names "su" -l "127.0.0.1:$answering"
 prints descriptions "su: Rack 1" -L "127.0.0.1:$answering"
 prints clients "192.0.2.1" -c "su@127.0.0.1:$answering"
-try_program upsc
-[[ ! -x upsc/out/upsc ]] || built upsc
-fails_at_a_full_output upsc "su@localhost:$answering"
-fails_at_a_full_output upsc "su@localhost:$answering" ups.status
-fails_at_a_full_output upsc -L "localhost:$answering"
+fails_at_a_full_output "su@localhost:$answering"
+fails_at_a_full_output "su@localhost:$answering" ups.status
+fails_at_a_full_output -L "localhost:$answering"
 
 begin upsrw
 refuses_words set_without_a_user -s ups.delay=30 su
@@ -173,10 +99,8 @@ faults closed "upsrw: reply ended early" "su@127.0.0.1:$silent"
 faults denied "upsrw: server answered ERR ACCESS-DENIED" -s ups.delay=30 -u admin -p no "su@127.0.0.1:$answering"
 prints writable "ups.delay=30" "su@127.0.0.1:$answering"
 prints set "OK" -s ups.delay=30 -u admin -p "s3 cret" "su@127.0.0.1:$answering"
-try_program upsrw
-[[ ! -x upsrw/out/upsrw ]] || built upsrw
-fails_at_a_full_output upsrw "su@localhost:$answering"
-fails_at_a_full_output upsrw -s ups.delay=30 -u admin -p "s3 cret" "su@localhost:$answering"
+fails_at_a_full_output "su@localhost:$answering"
+fails_at_a_full_output -s ups.delay=30 -u admin -p "s3 cret" "su@localhost:$answering"
 
 begin upscmd
 refuses_words command_without_a_user su load.off
@@ -188,10 +112,8 @@ faults closed "upscmd: reply ended early" -u admin -p "s3 cret" "su@127.0.0.1:$s
 faults denied "upscmd: server answered ERR ACCESS-DENIED" -u admin -p no "su@127.0.0.1:$answering" load.off
 prints commands "load.off" -l "su@127.0.0.1:$answering"
 prints done "OK" -u admin -p "s3 cret" "su@127.0.0.1:$answering" load.off
-try_program upscmd
-[[ ! -x upscmd/out/upscmd ]] || built upscmd
-fails_at_a_full_output upscmd -l "su@localhost:$answering"
-fails_at_a_full_output upscmd -u admin -p "s3 cret" "su@localhost:$answering" load.off
+fails_at_a_full_output -l "su@localhost:$answering"
+fails_at_a_full_output -u admin -p "s3 cret" "su@localhost:$answering" load.off
 
 ((failed == 0)) || exit 1
-echo "clients: ok: $cases cases${unbuilt:+; not built, and so not tried at a full output:$unbuilt}"
+echo "clients: ok: $cases cases"

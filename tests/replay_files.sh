@@ -1,63 +1,18 @@
 #!/usr/bin/env bash
 # The files that `upsd replay` takes: which are read in which order, what is told of them, and the program's status.
-#
-# One build runs all cases. `rt try --cases` writes a case's output behind a line `== NAME`, and what it wrote to
-# standard error before a line `case=NAME run=ended status=N ..`.
 set -euo pipefail
-cd "$(dirname "${BASH_SOURCE[0]}")/../crates/upsd"
-
-folder=$(mktemp -d)
-trap 'rm -r "$folder"' EXIT
-mkdir "$folder"/{files,cases,want,got}
-declare -a names=() data=()
+# shellcheck source=tests/built.bash
+source "$(dirname "${BASH_SOURCE[0]}")/built.bash"
+# shellcheck source=tests/ends.bash
+source "$top/tests/ends.bash"
+built upsd
+program=upsd
 
 # A file of this name, with these lines.
-file() {
-    printf '%s\n' "${@:2}" >"$folder/files/$1"
-    data+=(--data "$1=$folder/files/$1")
-}
-
-# The program, given the words behind the first four arguments, ends with this status, output and standard error. The
-# last is a pattern.
-ends() {
-    local name=$1 word
-    names+=("$name")
-    printf %s "$2" >"$folder/want/$name.status"
-    printf %s "$3" >"$folder/want/$name.out"
-    printf %s "$4" >"$folder/want/$name.err"
-    : >"$folder/cases/$name"
-    : >"$folder/cases/$name.args"
-    for word in "${@:5}"; do
-        printf '%s\n' "$word" >>"$folder/cases/$name.args"
-    done
-}
+file() { printf '%s\n' "${@:2}" >"$folder/files/$1"; }
 
 replays() { ends "$1" 0 "$2" "" replay "${@:3}"; }
 faults() { ends "$1" 1 "" "$2" replay "${@:3}"; }
-refuses_words() { ends "$1" 2 "" "error: *" "${@:2}"; }
-
-# Splits what the cases wrote into a file each.
-split_output() {
-    awk -v got="$folder/got" '/^== / { name = $2; next } { print > (got "/" name ".out") }' "$folder/out"
-    awk -v got="$folder/got" '
-        /^case=/ {
-            name = substr($1, 6); status = $3; sub(/^status=/, "", status)
-            printf "%s", status > (got "/" name ".status"); printf "%s", text > (got "/" name ".err")
-            text = ""; next
-        }
-        { text = text $0 "\n" }' "$folder/err"
-}
-
-failed=0
-compare() {
-    local want got
-    want=$(<"$folder/want/$1.$2") got=$(cat "$folder/got/$1.$2" 2>/dev/null) || true
-    # shellcheck disable=SC2053 # what is wanted is a pattern
-    if [[ $got != $want ]]; then
-        printf 'replay_files: FAILED: %s: %s\nwanted: %s\ngot: %s\n' "$1" "$2" "$want" "$got"
-        failed=1
-    fi
-}
 
 file two.conf '# two' '' '[su]' 'desc = "Server room"' '[bay-1]' 'socket = /run/nut/bay'
 file nothing.conf '# no UPS'
@@ -363,17 +318,5 @@ refuses_words one_option_twice replay --ups two.conf --ups two.conf script
 refuses_words two_scripts replay script script
 refuses_words unknown_command play script
 
-# One step: the interpreter's run isn't needed.
-if ! rt try --steps 1 --cases "$folder/cases" "${data[@]}" >"$folder/out" 2>"$folder/err"; then
-    cat "$folder/err"
-    echo "replay_files: FAILED: the program wasn't run"
-    exit 1
-fi
-split_output
-for name in "${names[@]}"; do
-    for what in status out err; do
-        compare "$name" "$what"
-    done
-done
 ((failed == 0)) || exit 1
-echo "replay_files: ok: ${#names[@]} cases"
+echo "replay_files: ok: $cases cases"

@@ -4,15 +4,14 @@
 # A case begins with a line `== TITLE`. Behind a line `-- list` stands the file of UPSs, if the case has one; behind
 # `-- script` the script; behind `-- output` what is printed. A blank line before the next title says nothing. `N* LINE` is the
 # line N times; `<N>` stands for N bytes x, `<TAB>` and `<CR>` for those bytes.
-#
-# One build runs all cases, and `rt try --cases` compares what they print with what is wanted.
 set -euo pipefail
-cases=$(realpath "$(dirname "${BASH_SOURCE[0]}")/scripts")
-cd "$cases/../../crates/upsd"
-
-folder=$(mktemp -d)
-trap 'rm -r "$folder"' EXIT
-mkdir "$folder/cases" "$folder/lists"
+# shellcheck source=tests/built.bash
+source "$(dirname "${BASH_SOURCE[0]}")/built.bash"
+# shellcheck source=tests/ends.bash
+source "$top/tests/ends.bash"
+built upsd
+program=upsd
+mkdir "$folder/scripts"
 
 awk -v folder="$folder" '
     function plain(line,    at, count, text) {
@@ -32,35 +31,30 @@ awk -v folder="$folder" '
     /^== / {
         name = FILENAME; sub(/.*\//, "", name); sub(/\.cases$/, "", name)
         name = name "_" substr($0, 4); gsub(/[^A-Za-z0-9]/, "_", name)
-        list = 0; blank = 0
+        blank = 0
         next
     }
-    /^-- list$/ { list = 1; file = folder "/lists/" name ".conf"; printf "" >file; next }
+    /^-- list$/ { file = folder "/files/" name ".conf"; printf "" >file; next }
     /^-- script$/ {
-        args = folder "/cases/" name ".args"
-        print "replay" >args
-        if (list) print "--ups\n" name ".conf" >args
-        print "{}" >args
-        file = folder "/cases/" name; printf "" >file
+        file = folder "/scripts/" name; printf "" >file
         next
     }
     /^-- output$/ {
         if (blank) { printf "\n" >file; blank = 0 }
-        file = folder "/cases/" name ".stdout"; printf "" >file
+        file = folder "/scripts/" name ".stdout"; printf "" >file
         next
     }
     { if (blank) printf "\n" >file; blank = 0 }
     /^$/ { blank = 1; next }
     { put($0) }
-' "$cases"/*.cases
+' "$top"/tests/scripts/*.cases
 
-data=()
-for list in "$folder"/lists/*; do
-    data+=(--data "$(basename "$list")=$list")
+for wanted in "$folder"/scripts/*.stdout; do
+    name=$(basename "$wanted" .stdout)
+    words=(replay)
+    [[ ! -e $folder/files/$name.conf ]] || words+=(--ups "$name.conf")
+    prints_what_stands_beside "$folder/scripts" "$name" "${words[@]}"
 done
-# One step: the interpreter's run isn't needed.
-if ! rt try --steps 1 --cases "$folder/cases" "${data[@]}"; then
-    echo "scripts: FAILED"
-    exit 1
-fi
-echo "scripts: ok: $(grep -c '^== ' "$cases"/*.cases) cases"
+is 'cases that have an output' "$(cat "$top"/tests/scripts/*.cases | grep -c '^== ')" "$cases"
+((failed == 0)) || exit 1
+echo "scripts: ok: $cases cases"

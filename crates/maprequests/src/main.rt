@@ -1,7 +1,7 @@
 //! The requests for memory of an insert into a map of which a version is shared.
 //!
 //! It says what the insert did, or where memory was refused, so that a run with each request refused in turn tells
-//! how many the insert makes. `tests/map_requests.sh` does that.
+//! how many the insert makes. `tests/refused_memory.sh` does that.
 #![tactic(auto)]
 
 use nutmap::{Map, Meter};
