@@ -32,7 +32,9 @@ install_nut() (
         printf '#!/bin/sh\nexit 101\n' >"$policy"
         chmod +x "$policy"
     fi
-    timeout 60 apt-get install -qq -y --no-install-recommends nut-server nut-client python3-nut >/dev/null 2>&1 || true
+    packages() { timeout 60 apt-get install -qq -y --no-install-recommends nut-server nut-client python3-nut; }
+    # Where the machine has no list of packages yet, it is fetched.
+    { packages || { timeout 60 apt-get update -qq && packages; }; } >/dev/null 2>&1 || true
 )
 
 if ! has_nut; then

@@ -1,4 +1,3 @@
-mod Numerals
 mod Reading
 mod Taking
 mod Doing

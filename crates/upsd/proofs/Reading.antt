@@ -1,14 +1,9 @@
 -- The lines of a script, one after another.
-use Rattle.std.proofs.Common.{◌≡◌, ℕ, ◌+◌, ◌<◌, List, ◌∷◌, ◌++◌, Some, Option, true, false, arith, map, drop, length, get_or}
+use Rattle.std.proofs.Common.{◌≡◌, ℕ, ◌+◌, List, ◌∷◌, ◌++◌, Some, Option, true, false, arith}
 use Rattle.std.proofs.lemmas.Grind.{common_steps}
-use Rattle.std.proofs.lemmas.List.{drop_more}
 use Rattle.upsd.specs.declared.script.ScriptLine.{ScriptLine}
 use Rattle.upsd.specs.declared.script.Saying.{Saying}
 use Rattle.upsd.specs.Script.{says, numbered, actions_from, is_bad, bad_line_from}
-
--- a line and those behind it, of what each item stands for
-pub drop_map : {A B : Type 0} (f : A → B) (xs : List A) (i : ℕ) (d : A) → i < length xs → drop i (map f xs) ≡ f (get_or xs i d) ∷ drop (i + 1) (map f xs)
-drop_map f xs i d h = grind (arith, common_steps, drop_more (map f xs) i (f d))
 
 -- what is read so far, when one more line is
 pub read_more : (n : ℕ) (line : List ℕ) (xs rest : List (List ℕ)) (told : Saying) (before after all : List ScriptLine) → xs ≡ line ∷ rest → told ≡ says line → after ≡ before ++ numbered n told → before ++ actions_from n xs ≡ all → after ++ actions_from (n + 1) rest ≡ all

@@ -1,12 +1,12 @@
 -- The replay script: what each of its lines says.
-use Rattle.std.specs.Prelude.{ℕ, ◌+◌, ◌^◌, Bool, true, false, not, List, [], ◌∷◌, ◌++◌, Option, Some, None, ◌==◌, ◌&&◌, ◌||◌, nat_lt, nat_le, if◌then◌else◌, length, take, drop, slice_index, position, codes}
-use Rattle.std.specs.List.{find, list_all, slice_split}
+use Rattle.std.specs.Prelude.{ℕ, ◌+◌, ◌-◌, ◌^◌, Bool, true, false, List, [], ◌∷◌, ◌++◌, Option, Some, None, ◌==◌, if◌then◌else◌, length, take, drop, position, codes}
 use Rattle.std.specs.Option.{option_map}
 use Rattle.std.specs.Result.{result_ok}
 use Rattle.std.specs.Str.{bytes_eq}
-use Rattle.std.specs.Str.Parse.{digits_value}
 use Rattle.hex.specs.Hex.{decode_of}
+use Rattle.nutwords.specs.Natural.{read_natural}
 use Rattle.nutwords.specs.Reading.{read_ups_name, read_address}
+use Rattle.nutwords.specs.Text.{lines_of, is_silent}
 use Rattle.nutcore.specs.Lines.{with_lf}
 use Rattle.upsd.specs.declared.script.Action.{Action}
 use Rattle.upsd.specs.declared.script.Action.TheVariants.{DriverUp, DriverBytes, DriverTook, DriverTookAll, DriverDown, Tick, Open, Feed, Took, TookAll, Close}
@@ -15,21 +15,6 @@ use Rattle.upsd.specs.declared.script.Verb.TheVariants.{Up, Down, Driver, Driver
 use Rattle.upsd.specs.declared.script.Saying.{Saying}
 use Rattle.upsd.specs.declared.script.Saying.TheVariants.{Nothing, Does, Bad}
 use Rattle.upsd.specs.declared.script.ScriptLine.{ScriptLine}
-
--- The lines: what stands between LFs. What follows the last LF is a line too, and where it is empty it says nothing.
-abbrev pub lines_of : List ℕ → List (List ℕ)
-lines_of script = slice_split (λ b. b == 10) script
-
--- A line that is empty or blank, or whose first byte that isn't a blank is `#`, says nothing. Blanks are space and TAB.
-abbrev pub is_blank : ℕ → Bool
-is_blank b = (b == 32) || (b == 9)
-
-abbrev pub is_silent_by : Option ℕ → Bool
-is_silent_by None = true
-is_silent_by (Some b) = b == 35
-
-abbrev pub is_silent : List ℕ → Bool
-is_silent line = is_silent_by (find (λ b. not (is_blank b)) line)
 
 -- The bytes before the first space, and those behind it.
 abbrev pub split_at_space : List ℕ → Option (List ℕ × List ℕ)
@@ -54,17 +39,8 @@ verb_of word =
     else None
 
 -- A number is `0`, or digits that don't begin with 0, below 2^64.
-abbrev pub is_digit : ℕ → Bool
-is_digit b = nat_le 48 b && nat_le b 57
-
-abbrev pub is_numeral : List ℕ → Bool
-is_numeral text = not (length text == 0) && list_all is_digit text && (not (slice_index text 0 == 48) || (length text == 1))
-
-abbrev pub below_limit : ℕ → Option ℕ
-below_limit n = if nat_lt n (2 ^ 64) then Some n else None
-
 abbrev pub number : List ℕ → Option ℕ
-number text = if is_numeral text then below_limit (digits_value 10 text) else None
+number text = read_natural (2 ^ 64 - 1) text
 
 abbrev pub ups_name : List ℕ → Option (List ℕ)
 ups_name text = result_ok (read_ups_name text)

@@ -1,14 +1,12 @@
 //! The replay script: what each of its lines says.
-ghost use Rattle.std.specs.Prelude.{◌≡◌, ◌<◌, ◌⊎◌, ◌+◌, ◌-◌, ◌*◌, ◌==◌, ℕ, not, true, length, map, position, IfOk, IfErr, IfSome, MatchOption, MatchResult, None, Some};
-ghost use Rattle.std.specs.List.{find, list_all};
-ghost use Rattle.std.specs.Str.Parse.{digits_value};
+ghost use Rattle.std.specs.Prelude.{◌≡◌, ◌<◌, ◌⊎◌, ◌==◌, ℕ, length, position, IfOk, IfErr, IfSome, MatchOption, MatchResult, None, Some};
 ghost use Rattle.nutcore.specs.Lines.{with_lf};
-ghost use Rattle.upsd.specs.Script.{lines_of, is_blank, is_silent, split_at_space, verb_of, is_digit, is_numeral, below_limit, number, ups_name, address, ups_and_rest, client_and_rest, taking, driver_taking, hex_bytes, driver_hex_by, client_hex_by, said_by, said, says, actions_of, first_bad_line};
+ghost use Rattle.upsd.specs.Script.{split_at_space, verb_of, number, ups_name, address, ups_and_rest, client_and_rest, taking, driver_taking, hex_bytes, driver_hex_by, client_hex_by, said_by, said, says, actions_of, first_bad_line};
 
 use crate::replay::ReplayFault;
 use hex::FromHexError;
 use nutcore::{Bytes, ClientId};
-use nutwords::{Address, UpsName};
+use nutwords::{Address, TextLines, UpsName, is_silent, read_natural};
 use std::alloc::{AllocError, Global};
 
 /// What a line of the script asks for.
@@ -137,26 +135,17 @@ pub fn read_script(alloc: Global, script: &[u8]) -> Result<Vec<ScriptLine>, Repl
         (λ fault. (fault ≡ ReplayFault.Memory)
         ⊎ ((n : ℕ) × (fault ≡ ReplayFault.BadEvent n) × (first_bad_line script.now ≡ Some n))) }
 {
-    let texts = lines_of(alloc, script)?;
     let mut lines = Vec::new(alloc);
-    for (i, line) in texts.iter().enumerate() {
+    let mut number = 0;
+    for line in TextLines::of(script) {
+        number += 1;
         match read_line(alloc, line)? {
             Saying::Nothing => {}
-            Saying::Does(action) => lines.push(ScriptLine {
-                number: i + 1,
-                action,
-            })?,
-            Saying::Bad => return Err(ReplayFault::BadEvent(i + 1)),
+            Saying::Does(action) => lines.push(ScriptLine { number, action })?,
+            Saying::Bad => return Err(ReplayFault::BadEvent(number)),
         }
     }
     Ok(lines)
-}
-
-/// The lines: what stands between LFs.
-fn lines_of(alloc: Global, script: &[u8]) -> Result<Vec<&[u8]>, AllocError>
-    ensures { IfOk result (λ lines. map (λ line. line.now) lines.items ≡ lines_of script.now) }
-{
-    script.split(|b| *b == b'\n').collect(alloc)
 }
 
 /// What a line says.
@@ -171,29 +160,6 @@ fn read_line(alloc: Global, line: &[u8]) -> Result<Saying, AllocError>
         Some(action) => Ok(Saying::Does(action)),
         None => Ok(Saying::Bad),
     }
-}
-
-/// Whether a line is blank or a comment.
-fn is_silent(line: &[u8]) -> bool
-    ensures { result ≡ is_silent line.now }
-{
-    match first_mark(line) {
-        None => true,
-        Some(b) => b == b'#',
-    }
-}
-
-/// The first byte that isn't a blank.
-fn first_mark(line: &[u8]) -> Option<u8>
-    ensures { result ≡ find (λ b. not (is_blank b)) line.now }
-{
-    line.iter().copied().find(|b| !is_blank(*b))
-}
-
-fn is_blank(b: u8) -> bool
-    ensures { result ≡ is_blank b }
-{
-    b == b' ' || b == b'\t'
 }
 
 /// What a line asks for, if it is one of a script's.
@@ -376,47 +342,5 @@ fn piece(alloc: Global, rest: &[u8]) -> Result<Bytes, AllocError>
 fn read_number(text: &[u8]) -> Option<u64>
     ensures { result ≡ number text.now }
 {
-    if !is_numeral(text) {
-        return None;
-    }
-    decimal_value(text)
-}
-
-/// Whether these are digits, of which the first isn't 0 or is the only one.
-fn is_numeral(text: &[u8]) -> bool
-    ensures { result ≡ is_numeral text.now }
-{
-    !text.is_empty() && are_digits(text) && (text[0] != b'0' || text.len() == 1)
-}
-
-fn are_digits(text: &[u8]) -> bool
-    ensures { result ≡ list_all is_digit text.now }
-{
-    text.iter().all(|b| is_digit(*b))
-}
-
-fn is_digit(b: u8) -> bool
-    ensures { result ≡ is_digit b }
-{
-    b'0' <= b && b <= b'9'
-}
-
-/// The number that the digits write, below 2^64.
-fn decimal_value(digits: &[u8]) -> Option<u64>
-    requires { list_all is_digit digits.now ≡ true }
-    ensures { result ≡ below_limit (digits_value 10 digits.now) }
-{
-    let mut value = 0;
-    for d in digits {
-        value = with_digit(value, *d)?;
-    }
-    Some(value)
-}
-
-/// The number with one more digit behind its last one.
-fn with_digit(value: u64, d: u8) -> Option<u64>
-    requires { is_digit d ≡ true }
-    ensures { result ≡ below_limit (value * 10 + (d - 48)) }
-{
-    value.checked_mul(10)?.checked_add(u64::from(d - b'0'))
+    read_natural(text, u64::MAX)
 }

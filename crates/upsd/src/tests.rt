@@ -1,8 +1,8 @@
-//! Scripts, and what they tell.
+//! Scripts, and what they tell. Whole scripts are shown by the cases of `tests/scripts/` at the top, on the built program.
 use crate::ending::Ending;
 use crate::files::su_alone;
 use crate::replay::{ReplayFault, replay};
-use nutcore::{Descriptions, UpsList, Users};
+use nutcore::{Descriptions, Users};
 use nutreply::CountedWriter;
 use std::alloc::{AllocError, Global};
 use std::io;
@@ -20,52 +20,9 @@ const ASK: &[u8] = b"open 192.0.2.1\nclient 1 LIST VAR su\n";
 const LISTED: &[u8] =
     b"client 1 sent 85 bytes\nBEGIN LIST VAR su\nVAR su battery.charge \"100\"\nVAR su ups.status \"OL\"\nEND LIST VAR su\ndriver su sent 0 bytes\n";
 
-/// Every line of the drivers' protocol, once at least. What is told of variables is as before.
-const EVERY_LINE: &[u8] = b"driver su SETINFO ups.mode \"auto\"
-driver su ADDENUM ups.mode \"auto\"
-driver su ADDENUM ups.mode \"eco\"
-driver su DELENUM ups.mode \"auto\"
-driver su ADDRANGE ups.mode 0 600
-driver su DELRANGE ups.mode 0 600
-driver su SETAUX ups.mode 8
-driver su SETFLAGS ups.mode RW STRING
-driver su ADDCMD load.off
-driver su DELCMD load.off
-driver su DELINFO ups.mode
-driver su DATASTALE
-driver su PONG
-driver su DUMPDONE
-driver su DATAOK
-";
-
-/// Lines of a driver that are refused.
-const REFUSED_LINES: &[u8] = b"driver su HELLO
-driver su SETINFO ups.status
-driver su DELINFO nope
-driver su ADDENUM nope x
-driver su DELENUM ups.status x
-driver su ADDRANGE ups.status 2 1
-driver su DELRANGE ups.status 1 2
-driver su SETAUX ups.status 01
-driver su SETFLAGS ups.status BLUE
-driver su ADDCMD load/off
-driver su DELCMD load.off
-driver su DATASTALE now
-driver su DUMPDONE \"
-";
-
 /// What replaying answers, and what it wrote.
 fn told(alloc: Global, script: &[u8]) -> Result<(Result<(), ReplayFault>, Vec<u8>), AllocError> {
     let list = su_alone(alloc)?;
-    told_over(alloc, list, script)
-}
-
-/// The same over these UPSs.
-fn told_over(
-    alloc: Global,
-    list: UpsList,
-    script: &[u8],
-) -> Result<(Result<(), ReplayFault>, Vec<u8>), AllocError> {
     let users = Users::none(alloc);
     let descriptions = Descriptions::none(alloc);
     let mut out = CountedWriter::new(Vec::new(alloc));
@@ -76,14 +33,6 @@ fn told_over(
 fn joined(alloc: Global, parts: &[&[u8]]) -> Result<Vec<u8>, AllocError> {
     let mut all = Vec::new(alloc);
     for part in parts {
-        all.extend_from_slice(part)?;
-    }
-    Ok(all)
-}
-
-fn repeated(alloc: Global, part: &[u8], count: usize) -> Result<Vec<u8>, AllocError> {
-    let mut all = Vec::new(alloc);
-    for _ in 0..count {
         all.extend_from_slice(part)?;
     }
     Ok(all)
@@ -121,240 +70,6 @@ fn lists_variables(rt: HostRuntime) -> Result<(), Fail> {
         assert_eq!(rt; answer, Ok(()));
         assert_eq!(rt; out.as_slice(), want);
     }
-    Ok(())
-}
-
-#[test]
-fn tells_of_small_scripts(rt: HostRuntime) -> Result<(), Fail> {
-    for (script, want) in [
-        (b"".as_slice(), b"driver su sent 0 bytes\n".as_slice()),
-        (b"\n".as_slice(), b"driver su sent 0 bytes\n".as_slice()),
-        (
-            b"# a comment\n\n \t\n\t # another\r\n#".as_slice(),
-            b"driver su sent 0 bytes\n".as_slice(),
-        ),
-        (
-            b"open a\ntook 1 all".as_slice(),
-            b"client 1 sent 0 bytes\ndriver su sent 0 bytes\n".as_slice(),
-        ),
-        (
-            b"open a\nclient 1 \npart 1 \npart 1  \ntook 1 0\ntook 1 all\n".as_slice(),
-            b"client 1 sent 0 bytes\ndriver su sent 0 bytes\n".as_slice(),
-        ),
-        (
-            b"up su\ndriver su DUMPDONE\ndriver-part su DATA\ndriver su OK\nopen a\npart 1 LIST \npart 1 VAR\nclient 1  su\ntook 1 all".as_slice(),
-            b"client 1 sent 34 bytes\nBEGIN LIST VAR su\nEND LIST VAR su\ndriver su sent 0 bytes\n".as_slice(),
-        ),
-        (
-            b"open a\nopen b\nclient 2 LIST VAR su\nclient 1 LIST VAR su\r\ntook 2 all\nclose 2\nopen c\ntook 1 all\n".as_slice(),
-            b"client 1 sent 21 bytes\nERR INVALID-ARGUMENT\nclient 2 sent 25 bytes\nERR DRIVER-NOT-CONNECTED\nclient 3 sent 0 bytes\ndriver su sent 0 bytes\n".as_slice(),
-        ),
-    ] {
-        let (answer, out) = told(rt.alloc(), script)?;
-        assert_eq!(rt; answer, Ok(()));
-        assert_eq!(rt; out.as_slice(), want);
-    }
-    Ok(())
-}
-
-#[test]
-fn tells_of_refused_events(rt: HostRuntime) -> Result<(), Fail> {
-    let (answer, out) = told(
-        rt.alloc(),
-        b"down su\nup nope\nup su\nup su\ndriver nope x\nclient 1 x\nopen a\ntook 1 1\ntook 2 0\ntook 2 all\nclose 2\nclose 1\nclose 1\ndriver-part nope x\ndown nope\ntook 0 all\npart 7 x\ndown su\ndriver su x\n",
-    )?;
-    assert_eq!(rt; answer, Ok(()));
-    assert_eq!(rt;
-        out.as_slice(),
-        b"line 1: refused 5\nline 2: refused 1\nline 4: refused 6\nline 5: refused 1\nline 6: refused 2\nline 8: refused 4\nline 9: refused 2\nline 10: refused 2\nline 11: refused 2\nline 13: refused 2\nline 14: refused 1\nline 15: refused 1\nline 16: refused 2\nline 17: refused 2\nline 19: refused 5\nclient 1 sent 0 bytes\ndriver su sent 0 bytes\n".as_slice()
-    );
-    Ok(())
-}
-
-#[test]
-fn tells_of_each_ups_in_byte_order(rt: HostRuntime) -> Result<(), Fail> {
-    for (file, want) in [
-        (
-            b"[su]\n[bay]\n".as_slice(),
-            b"driver bay sent 0 bytes\ndriver su sent 0 bytes\n".as_slice(),
-        ),
-        (
-            b"[bay]\n[su]\n".as_slice(),
-            b"driver bay sent 0 bytes\ndriver su sent 0 bytes\n".as_slice(),
-        ),
-        (
-            b"[bay]\n[Su]\n".as_slice(),
-            b"driver Su sent 0 bytes\ndriver bay sent 0 bytes\n".as_slice(),
-        ),
-        (
-            b"[su-]\n[su]".as_slice(),
-            b"driver su sent 0 bytes\ndriver su- sent 0 bytes\n".as_slice(),
-        ),
-        (b"[bay]".as_slice(), b"driver bay sent 0 bytes\n".as_slice()),
-        (b"# none".as_slice(), b"".as_slice()),
-    ] {
-        let list = UpsList::read(rt.alloc(), file)?;
-        let (answer, out) = told_over(rt.alloc(), list, b"")?;
-        assert_eq!(rt; answer, Ok(()));
-        assert_eq!(rt; out.as_slice(), want);
-    }
-    Ok(())
-}
-
-#[test]
-fn keeps_two_upses_apart(rt: HostRuntime) -> Result<(), Fail> {
-    let list = UpsList::read(rt.alloc(), b"[su]\n[bay]\n")?;
-    let script = joined(
-        rt.alloc(),
-        &[
-            READY,
-            b"up bay\nup su\nup nope\ndriver bay SETINFO ups.status \"OB\"\ndriver bay DUMPDONE\ndriver bay DATAOK\ndown su\n",
-            b"open a\nclient 1 LIST VAR bay\nclient 1 LIST VAR su\nclient 1 LIST VAR nope\ntook 1 all\n",
-        ],
-    )?;
-    let (answer, out) = told_over(rt.alloc(), list, &script)?;
-    assert_eq!(rt; answer, Ok(()));
-    assert_eq!(rt;
-        out.as_slice(),
-        b"line 7: refused 6\nline 8: refused 1\nclient 1 sent 101 bytes\nBEGIN LIST VAR bay\nVAR bay ups.status \"OB\"\nEND LIST VAR bay\nERR DRIVER-NOT-CONNECTED\nERR UNKNOWN-UPS\ndriver bay sent 0 bytes\ndriver su sent 0 bytes\n".as_slice()
-    );
-    Ok(())
-}
-
-#[test]
-fn refuses_an_unknown_ups(rt: HostRuntime) -> Result<(), Fail> {
-    let list = UpsList::read(rt.alloc(), b"[ups-2]\n[ups-1]\n")?;
-    let script = b"up su\nup UPS-1\ndriver ups x\ndriver-part ups-11 x\ndown su\n";
-    let (answer, out) = told_over(rt.alloc(), list, script)?;
-    assert_eq!(rt; answer, Ok(()));
-    assert_eq!(rt;
-        out.as_slice(),
-        b"line 1: refused 1\nline 2: refused 1\nline 3: refused 1\nline 4: refused 1\nline 5: refused 1\ndriver ups-1 sent 0 bytes\ndriver ups-2 sent 0 bytes\n".as_slice()
-    );
-    Ok(())
-}
-
-#[test]
-fn does_each_line_of_a_driver(rt: HostRuntime) -> Result<(), Fail> {
-    for (lines, want) in [
-        (EVERY_LINE, LISTED),
-        (REFUSED_LINES, LISTED),
-        (
-            b"driver su DATASTALE\ndriver su dataok\n".as_slice(),
-            LISTED,
-        ),
-        (
-            b"driver su SETINFO ups.mode \"a \\\"b\"\n".as_slice(),
-            b"client 1 sent 109 bytes\nBEGIN LIST VAR su\nVAR su battery.charge \"100\"\nVAR su ups.mode \"a \\\"b\"\nVAR su ups.status \"OL\"\nEND LIST VAR su\ndriver su sent 0 bytes\n".as_slice(),
-        ),
-        (
-            b"driver su DELINFO battery.charge\ndriver su SETINFO ups.status OB\n".as_slice(),
-            b"client 1 sent 57 bytes\nBEGIN LIST VAR su\nVAR su ups.status \"OB\"\nEND LIST VAR su\ndriver su sent 0 bytes\n".as_slice(),
-        ),
-        (
-            b"driver su DATASTALE\n".as_slice(),
-            b"client 1 sent 15 bytes\nERR DATA-STALE\ndriver su sent 0 bytes\n".as_slice(),
-        ),
-        (
-            b"down su\nup su\ndriver su DATAOK\n".as_slice(),
-            b"client 1 sent 15 bytes\nERR DATA-STALE\ndriver su sent 0 bytes\n".as_slice(),
-        ),
-    ] {
-        let script = joined(rt.alloc(), &[READY, lines, ASK, b"took 1 all\n"])?;
-        let (answer, out) = told(rt.alloc(), &script)?;
-        assert_eq!(rt; answer, Ok(()));
-        assert_eq!(rt; out.as_slice(), want);
-    }
-    Ok(())
-}
-
-#[test]
-fn refuses_a_client_beyond_the_sixty_fourth(rt: HostRuntime) -> Result<(), Fail> {
-    let opens = repeated(rt.alloc(), b"open a\n", 65)?;
-    let script = joined(rt.alloc(), &[&opens, b"close 64\nopen b\n"])?;
-    let (answer, out) = told(rt.alloc(), &script)?;
-    assert_eq!(rt; answer, Ok(()));
-    assert!(rt;
-        out.starts_with(
-            b"line 65: refused 3\nclient 1 sent 0 bytes\nclient 2 sent 0 bytes\n".as_slice()
-        )
-    );
-    assert!(rt;
-        out.ends_with(
-            b"client 64 sent 0 bytes\nclient 65 sent 0 bytes\ndriver su sent 0 bytes\n".as_slice()
-        )
-    );
-    Ok(())
-}
-
-#[test]
-fn takes_the_longest_line_and_no_longer_one(rt: HostRuntime) -> Result<(), Fail> {
-    let longest = repeated(rt.alloc(), b"x", 1023)?;
-    let longest = longest.as_slice();
-    for (front, back, want) in [
-        (
-            b"open a\nclient 1 ".as_slice(),
-            b"\ntook 1 all\n".as_slice(),
-            b"client 1 sent 20 bytes\nERR UNKNOWN-COMMAND\ndriver su sent 0 bytes\n".as_slice(),
-        ),
-        (
-            b"open a\npart 1 x".as_slice(),
-            b"\ntook 1 all\nclient 1 LIST VAR su\ntook 1 all".as_slice(),
-            b"line 2: refused 7\nclient 1 sent 13 bytes\nERR TOO-LONG\ndriver su sent 0 bytes\n".as_slice(),
-        ),
-        (
-            b"up su\ndriver-part su x".as_slice(),
-            b"\ndown su\n".as_slice(),
-            b"line 2: refused 7\nline 3: refused 5\ndriver su sent 0 bytes\n".as_slice(),
-        ),
-    ] {
-        let script = joined(rt.alloc(), &[front, longest, back])?;
-        let (answer, out) = told(rt.alloc(), &script)?;
-        assert_eq!(rt; answer, Ok(()));
-        assert_eq!(rt; out.as_slice(), want);
-    }
-    Ok(())
-}
-
-#[test]
-fn tells_how_much_of_a_feed_is_held(rt: HostRuntime) -> Result<(), Fail> {
-    let asked = repeated(rt.alloc(), b"client 1 x\n", 103)?;
-    let piece = repeated(rt.alloc(), b"y", 1030)?;
-    let script = joined(
-        rt.alloc(),
-        &[b"open a\n", &asked, b"part 1 ", &piece, b"\ntook 1 all\n"],
-    )?;
-    let answers = repeated(rt.alloc(), b"ERR UNKNOWN-COMMAND\n", 103)?;
-    let want = joined(
-        rt.alloc(),
-        &[
-            b"line 105: 1024 of 1030 bytes held\nline 106: refused 7\nclient 1 sent 2073 bytes\n",
-            &answers,
-            b"ERR TOO-LONG\ndriver su sent 0 bytes\n",
-        ],
-    )?;
-    let (answer, out) = told(rt.alloc(), &script)?;
-    assert_eq!(rt; answer, Ok(()));
-    assert_eq!(rt; out.as_slice(), want.as_slice());
-    Ok(())
-}
-
-#[test]
-fn takes_all_in_more_than_one_offer(rt: HostRuntime) -> Result<(), Fail> {
-    let asked = repeated(rt.alloc(), b"client 1 x\n", 300)?;
-    let script = joined(rt.alloc(), &[b"open a\n", &asked, b"took 1 all\n"])?;
-    let answers = repeated(rt.alloc(), b"ERR UNKNOWN-COMMAND\n", 300)?;
-    let want = joined(
-        rt.alloc(),
-        &[
-            b"client 1 sent 6000 bytes\n",
-            &answers,
-            b"driver su sent 0 bytes\n",
-        ],
-    )?;
-    let (answer, out) = told(rt.alloc(), &script)?;
-    assert_eq!(rt; answer, Ok(()));
-    assert_eq!(rt; out.as_slice(), want.as_slice());
     Ok(())
 }
 
