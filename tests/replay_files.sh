@@ -289,7 +289,7 @@ replays pipelined_get_is_answered_behind_the_listing "$of_pipelined" pipelined
 replays line_is_executed_at_2048_bytes_owed "$of_at_the_limit" at-the-limit
 replays a_user_logs_in "$of_login" --users monitors login
 replays nobody_logs_in_without_users "$of_stranger" login
-faults bad_user $'upsd: nobody:2: cause 6\n' --users nobody login
+faults bad_user 'upsd: nobody:2: cause 6' --users nobody login
 replays options_in_the_other_order "$of_two" --vars texts --ups two.conf script
 replays options_behind_the_script "$of_two" script --vars=texts --ups=two.conf
 replays list_alone "$of_two" --ups two.conf script
