@@ -13,7 +13,7 @@ ghost use Rattle.nutlisting.specs.Owed.{owed as owed_in, IsOutbox};
 ghost use Rattle.nutlisting.specs.declared.outbox.TheConstants.{OWED_LIMIT};
 ghost use Rattle.nutlisting.specs.declared.ring.TheConstants.{RING_LIMIT};
 ghost use Rattle.nutwords.specs.declared.limits.TheConstants.{LINE_LIMIT};
-ghost use Rattle.nutcore.specs.Calls.{is_finished, room_of};
+ghost use Rattle.nutcore.specs.Calls.{is_finished, room_of, IsOutboxOf};
 ghost use Rattle.nutcore.specs.Reply.{asker_of, seen_client, changed_session};
 ghost use Rattle.nutanswer.specs.View.{asker_seen, is_logged_in, addresses_at};
 
@@ -295,6 +295,14 @@ impl Session {
         ensures* same { sem 𝓛 (Rests the_row self.entry (λ new. new ≡ self.old)) }
     {
         self.outbox.offer()
+    }
+
+    /// What it owes, as a ring and a cursor.
+    pub(crate) fn outbox(&self) -> &Outbox
+        ensures { IsOutboxOf self.now.owed result.now }
+    {
+        let _ = self.outbox.offered();
+        &self.outbox
     }
 
     /// How many bytes are offered.
