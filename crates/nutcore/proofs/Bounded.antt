@@ -1,5 +1,5 @@
 -- How much one event makes a server do for its clients.
-use Rattle.std.proofs.Common.{◌≡◌, ℕ, zero, suc, ◌+◌, ◌-◌, ◌≤◌, Bool, true, false, List, [], ◌∷◌, ◌++◌, Option, Some, None, refl, ap, subst, cond, eqb, leb, not, ◌&&◌, arith, length, take, drop, length-append, length-take}
+use Rattle.std.proofs.Common.{◌≡◌, ℕ, zero, suc, ◌+◌, ◌-◌, ◌≤◌, Bool, true, false, List, [], ◌∷◌, ◌++◌, Option, Some, None, refl, ap, subst, cond, eqb, leb, not, ◌&&◌, arith, length, take, drop, length-append, length-take, length-drop}
 use Rattle.std.specs.Prelude.{is_none}
 use Rattle.std.proofs.lemmas.Bool.{eqb-true, leb-true}
 use Rattle.nutlisting.specs.declared.outbox.TheConstants.{OWED_LIMIT}
@@ -13,6 +13,9 @@ use Rattle.nutcore.specs.Server.{ServerState, session}
 use Rattle.nutcore.specs.Pump.{next_line_for, after_line, after_lines, after_all_lines, held_of, owed_of, is_overlong_of}
 use Rattle.nutcore.specs.Step.{accepted_bytes, with_input, with_input_of, without_output, without_output_of, may_take, offered, refused_after}
 use Rattle.nutcore.specs.History.{Execution, of_notice, next_execution, lines_executed, notice, pump_executions, executions_until, executions_by, held, taken_in_event, asked_in_event}
+use Rattle.nutlisting.proofs.PublicLaws.{lines_add_up}
+use Rattle.nutcore.specs.declared.cost.Cost.{Cost}
+use Rattle.nutcore.specs.Cost.{no_cost, cost_between, cost_of}
 use Rattle.nutcore.specs.Sound.{IsSound, IsSoundSession}
 use Rattle.nutcore.specs.Bounded.{EachEventIsBounded}
 use Rattle.nutcore.proofs.Executions.{given_by, given_is}
@@ -182,9 +185,38 @@ taken_few c s (Feed d piece) = omega arith
 taken_few c s (Took d n) = took_of c d s n (may_take (session d s) n) (eqb d c) refl refl
 taken_few c s (Close d) = omega arith
 
+-- a ring's worth of bytes is placed, and each line that is rendered has a byte of it
+record FewIn (cost : Cost) : Type 0 where
+  bytes : cost.placed ≤ RING_LIMIT
+  renders : cost.rendered ≤ cost.placed
+
+none_few : FewIn no_cost
+none_few = record { bytes = omega arith; renders = omega arith }
+
+client_few : (before after : List ℕ) (taken : ℕ) → taken ≤ length before → length after ≤ RING_LIMIT → FewIn (cost_between before taken after)
+client_few before after taken le few =
+    let placed : ℕ = length after + taken - length before in
+    record {
+      bytes = omega (arith, le, few);
+      renders = omega (arith, lines_add_up.few (drop (length after - placed) after), length-drop (length after - placed) after);
+    }
+
+cost_few : (old new : ServerState) (e : Event) → FewIn (cost_of old e new)
+cost_few old new (DriverUp u) = none_few
+cost_few old new (DriverBytes u piece) = none_few
+cost_few old new (DriverTook u n) = none_few
+cost_few old new (DriverDown u) = none_few
+cost_few old new (Tick seconds) = none_few
+cost_few old new (Open address) = none_few
+cost_few old new (Feed c piece) = client_few _ _ _ (taken_few c old (Feed c piece)) (omega (arith, length-take RING_LIMIT (owed_of (session c new))))
+cost_few old new (Took c n) = client_few _ _ _ (taken_few c old (Took c n)) (omega (arith, length-take RING_LIMIT (owed_of (session c new))))
+cost_few old new (Close c) = none_few
+
 pub bounded : EachEventIsBounded
 bounded old new e o step h = record {
   lines = λ c. let few = given_few c old e (refused_after o) in let same = ap (λ (xs : List Execution). length xs) (given_is c old e (refused_after o)) in omega (arith, few, same);
   in_all = all_few old e (refused_after o) h;
   placed = λ c. let few = taken_few c old e in omega (arith, few, length-take RING_LIMIT (owed_of (session c new)));
+  bytes = (cost_few old new e).bytes;
+  renders = (cost_few old new e).renders;
 }

@@ -19,7 +19,9 @@ use Rattle.nutcore.specs.Reply.{Reply, reply, changed_session, changed_upses, ch
 use Rattle.nutanswer.specs.Command.{read_command}
 use Rattle.nutcore.specs.Pump.{next_line_for, after_line, after_line_of, after_reply, after_reply_of, after_lines, after_all_lines, after_notice, after_notice_of, is_overlong, is_overlong_of, notified, pumped, held_of}
 use Rattle.nutcore.specs.Step.{with_input, with_input_of, without_output, without_output_of, may_take, may_open, opened, pumped_until, after_by, refused_after, outcome_of, connected, disconnected, after_driver_bytes, after_driver_took, connected_by, driver_bytes_by, driver_pump_outcome, driver_took_by, disconnected_by, fed_by, took_by, closed_by, accepted}
-use Rattle.nutcore.specs.Isolation.{client_of, ups_of, without_commands, kept_from_clients, LeavesOtherClients, LeavesOtherUpses, AClientTouchesNoOther, ADriverTouchesNoOther, ARefusedEventChangesNothing}
+use Rattle.nutcore.specs.Isolation.{client_of, ups_of, without_commands, kept_from_clients, LeavesOtherClients, LeavesOtherUpses, AClientTouchesNoOther, ADriverTouchesNoOther, ARefusedEventChangesNothing, ARefusedEventCostsNothing}
+use Rattle.nutcore.specs.Cost.{cost_of, no_cost}
+use Rattle.nutcore.proofs.Costs.{refused_feed_costs, refused_take_costs}
 use Rattle.nutcore.proofs.Progress.{Presence}
 use Rattle.nutcore.proofs.Found.{find_without_other}
 use Rattle.nutcore.proofs.Places.{without_none}
@@ -270,3 +272,32 @@ refused_alone old new e fault step h =
       | inl told ↦ step.leaves ∙ ap (after_by old e) (not_memory fault h) ∙ quiet old e (subst (λ (o : Outcome). refusal o ≤ 6) told h)
       | inr lack ↦ (let n : number_of_fault fault ≡ 8 = ap refusal lack.1 in absurd (omega arith))
     ]
+
+-- where a take is refused, nothing may be taken
+may_none : (x : SessionState) (n : ℕ) (b d : Bool) → may_take (Some x) n ≡ d → refusal (cond d (cond b (Refused LineTooLong) Done) (Refused TookTooMuch)) ≤ 6 → may_take (Some x) n ≡ false
+may_none x n b true ed h = absurd (pump_by b h)
+may_none x n b false ed h = ed
+
+may_of : (o : Option SessionState) (n : ℕ) (b : Bool) → refusal (took_by o n b) ≤ 6 → may_take o n ≡ false
+may_of None n b h = refl
+may_of (Some x) n b h = may_none x n b (may_take (Some x) n) refl h
+
+free : (s : ServerState) (e : Event) → refusal (outcome_of s e) ≤ 6 → no_cost ≡ cost_of s e s
+unfolding outcome_of
+free s (DriverUp u) h = refl
+free s (DriverBytes u piece) h = refl
+free s (DriverTook u n) h = refl
+free s (DriverDown u) h = refl
+free s (Tick seconds) h = refl
+free s (Open address) h = refl
+free s (Feed c piece) h = refused_feed_costs s s c piece refl
+free s (Took c n) h = refused_take_costs s s c n refl (may_of (session c s) n (is_overlong (after_all_lines (without_output s c n) c) c) h)
+free s (Close c) h = refl
+
+pub refused_free : ARefusedEventCostsNothing
+refused_free old new e fault step h =
+    ap (cost_of old e) (refused_alone old new e fault step h)
+    ∙ sym (elim step.allowed [
+      | inl told ↦ free old e (subst (λ (o : Outcome). refusal o ≤ 6) told h)
+      | inr lack ↦ (let n : number_of_fault fault ≡ 8 = ap refusal lack.1 in absurd (omega arith))
+    ])

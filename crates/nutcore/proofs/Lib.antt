@@ -40,3 +40,4 @@ mod Written
 mod TellingLines
 mod ReadsBack
 mod Addresses
+mod Costs

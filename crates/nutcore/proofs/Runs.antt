@@ -1,13 +1,15 @@
 -- Runs, one event after another.
-use Rattle.std.proofs.Common.{◌≡◌, ℕ, ◌<◌, List, [], ◌∷◌, ◌++◌, refl, subst, Option, Some, None, true}
+use Rattle.std.proofs.Common.{◌≡◌, ℕ, ◌<◌, List, [], ◌∷◌, ◌++◌, ◌∙◌, refl, ap, subst, Option, Some, None, true}
 use Rattle.std.specs.Prelude.{is_some}
 use Rattle.nutcore.specs.declared.event.Event.{Event}
 use Rattle.nutcore.specs.declared.event.Outcome.{Outcome}
 use Rattle.nutcore.specs.Session.{SessionState, AreApart}
 use Rattle.nutcore.specs.Server.{ServerState, session}
 use Rattle.nutcore.specs.Headline.{IsLawful, Serves}
-use Rattle.nutcore.specs.Step.{Step}
+use Rattle.nutcore.specs.Step.{Step, after}
 use Rattle.nutcore.specs.Run.{Run}
+use Rattle.nutcore.specs.declared.cost.Cost.{Cost}
+use Rattle.nutcore.specs.Cost.{RunningServer, cost_of, last_cost}
 use Rattle.nutcore.proofs.Places.{apart_lawful}
 use Rattle.nutcore.proofs.Stepping.{run_sent, run_taken_up}
 
@@ -17,6 +19,14 @@ run_push s m t [] [] e o r step = (t, subst (λ (z : ServerState). Step z e o t)
 run_push s m t [] (p ∷ os) e o r step = absurd r
 run_push s m t (d ∷ es) [] e o r step = absurd r
 run_push s m t (d ∷ es) (p ∷ os) e o (mid, first, r) step = (mid, first, run_push mid m t es os e o r step)
+
+-- and costs what that one costs
+pub cost_push : (before : Cost) (s m t : ServerState) (es : List Event) (os : List Outcome) (e : Event) (o : Outcome) → Run s es os m → Step m e o t → cost_of m e t ≡ last_cost before s (es ++ e ∷ []) (os ++ o ∷ [])
+cost_push before s m t [] [] e o r step = ap (cost_of m e) step.leaves ∙ ap (λ (z : ServerState). cost_of z e (after z e o)) r
+cost_push before s m t [] (p ∷ os) e o r step = absurd r
+cost_push before s m t (d ∷ es) [] e o r step = absurd r
+cost_push before s m t (d ∷ es) (p ∷ os) e o (mid, first, r) step =
+    cost_push (cost_of s d (after s d p)) mid m t es os e o r step ∙ ap (λ (z : ServerState). last_cost (cost_of s d (after s d p)) z (es ++ e ∷ []) (os ++ o ∷ [])) first.leaves
 
 -- sessions that stand apart are lawful
 lawful_by : (s : ServerState) (c : ℕ) (o : Option SessionState) → session c s ≡ o → AreApart s.next_id s.sessions → is_some o ≡ true → c < s.next_id
@@ -33,3 +43,11 @@ served s t e o lawful step = record {
   sent_and_owed = λ c. run_sent s t (e ∷ []) (o ∷ []) lawful (t, step, refl) c;
   taken_up = λ c. run_taken_up s t (e ∷ []) (o ∷ []) lawful (t, step, refl) c;
 }
+
+-- the state of a server
+pub state_is : {s t : RunningServer} → s ≡ t → s.state ≡ t.state
+state_is e = ap (λ (r : RunningServer). r.state) e
+
+-- an event of a server whose state is that of another
+pub served_from : (s s' t : ServerState) (e : Event) (o : Outcome) → s ≡ s' → IsLawful s → Step s e o t → Serves s' e o t
+served_from s s' t e o same lawful step = subst (λ (z : ServerState). Serves z e o t) same (served s t e o lawful step)

@@ -11,7 +11,13 @@ use Rattle.nutanswer.specs.Command.{read_command}
 use Rattle.nutcore.specs.Reply.{reply, text_to, change_by, changed_session, changed_upses}
 use Rattle.nutcore.specs.Pump.{next_line, next_line_of, next_line_for, answered, after_line, after_lines, pump_stops, held_of, after_all_lines, pumped, after_notice, after_notice_of, is_overlong, is_overlong_of, notified, wants_memory, shares_version_line, shares_version_read}
 use Rattle.nutcore.specs.Step.{offered, may_take}
-use Rattle.nutcore.specs.Serving.{place, IsAt, IsAnswered}
+use Rattle.nutanswer.specs.declared.command.Command.{Command}
+use Rattle.nutanswer.specs.declared.err_word.ErrWord.{ErrWord}
+use Rattle.nutanswer.specs.declared.reply.Reply.{Reply as Answer}
+use Rattle.nutanswer.specs.declared.reply.Reply.TheVariants.{One, Many, Clients}
+use Rattle.nutanswer.specs.declared.reply.Change.TheVariants.{Nothing}
+use Rattle.nutlisting.specs.declared.outbox.TheConstants.{OWED_LIMIT}
+use Rattle.nutcore.specs.Serving.{place, IsAt, IsAnswered, IsText, IsLineOrNone, Replies}
 use Rattle.nutcore.proofs.Found.{find_id, find_put, put_found}
 use Rattle.nutcore.proofs.Pumping.{after_line_is, is_next, change_at, session_after}
 use Rattle.nutcore.proofs.Places.{at_put, apart_put, found_at, find_at, put_is, without_at}
@@ -177,3 +183,11 @@ pub left_out : (n c i : ℕ) (xs : List SessionState) → AreApart n xs → IsAt
 left_out n c i xs apart h =
     let lt : place c xs < length xs = omega (arith, h.first, h.within) in
     without_at n c xs apart lt ∙ ap (λ j. take j xs ++ drop (j + 1) xs) h.first
+
+-- the answer of one line at most that changes nothing is this text
+pub replies_text : (s : ServerState) (c : ℕ) (line text : List ℕ) (r : Result (Option Command) ErrWord) (answer : Answer) → read_command line ≡ r → shares_version_read s c r ≡ false → text_to s c r ≡ text → change_by s c r ≡ Nothing → length text ≤ OWED_LIMIT →
+    IsLineOrNone text → IsText text answer → Replies s c line answer
+replies_text s c line text r (One given change) e shares is none short one (same, nothing) =
+    (ap (shares_version_read s c) e ∙ shares, ap (text_to s c) e ∙ is ∙ sym same, ap (change_by s c) e ∙ none ∙ sym nothing, subst (λ (t : List ℕ). length t ≤ OWED_LIMIT) (sym same) short, subst IsLineOrNone (sym same) one)
+replies_text s c line text r (Many listing) e shares is none short one never = absurd never
+replies_text s c line text r (Clients name u) e shares is none short one never = absurd never

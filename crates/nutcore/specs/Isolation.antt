@@ -9,6 +9,7 @@ use Rattle.nutcore.specs.declared.event.Fault.{Fault}
 use Rattle.nutcore.specs.Numbers.{number_of_fault}
 use Rattle.nutcore.specs.Ups.{UpsState}
 use Rattle.nutcore.specs.Server.{ServerState, session, ups_at}
+use Rattle.nutcore.specs.Cost.{cost_of, no_cost}
 use Rattle.nutcore.specs.Step.{Step}
 
 -- The client whose event it is.
@@ -67,3 +68,8 @@ greatest_harmless = 6
 abbrev pub ARefusedEventChangesNothing : Type 0
 ARefusedEventChangesNothing =
     (old new : ServerState) (event : Event) (fault : Fault) → Step old event (Refused fault) new → number_of_fault fault ≤ greatest_harmless → new ≡ old
+
+-- Nor does it cost anything.
+abbrev pub ARefusedEventCostsNothing : Type 0
+ARefusedEventCostsNothing =
+    (old new : ServerState) (event : Event) (fault : Fault) → Step old event (Refused fault) new → number_of_fault fault ≤ greatest_harmless → cost_of old event new ≡ no_cost

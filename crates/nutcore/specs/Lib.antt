@@ -9,6 +9,7 @@ pub mod Pump
 pub mod Step
 pub mod Run
 pub mod History
+pub mod Cost
 pub mod Headline
 pub mod Isolation
 pub mod Sound

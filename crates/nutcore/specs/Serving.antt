@@ -1,5 +1,5 @@
 -- What the private parts of a server promise one another.
-use Rattle.std.specs.Prelude.{◌≡◌, ◌<◌, ◌≤◌, ◌==◌, ℕ, Bool, true, false, List, Some, Result, Ok, Err, IsTrue, length, map, slice_get}
+use Rattle.std.specs.Prelude.{◌≡◌, ◌<◌, ◌≤◌, ◌-◌, ◌⊎◌, ◌==◌, ℕ, Bool, true, false, List, [], Some, Result, Ok, Err, IsTrue, length, drop, take, map, slice_get}
 use Rattle.std.specs.List.{position_or_len}
 use Rattle.nutcore.specs.declared.event.Fault.{Fault}
 use Rattle.nutcore.specs.declared.event.Fault.TheVariants.{NoSuchUps, NoSuchClient, TooManyClients, TookTooMuch, NotConnected, AlreadyConnected, LineTooLong, Memory}
@@ -11,6 +11,9 @@ use Rattle.nutanswer.specs.declared.reply.Change.TheVariants.{Nothing, Order}
 use Rattle.arrayvec.specs.ArrayVec.{ArrayVec}
 use Rattle.nutlisting.specs.declared.outbox.TheConstants.{OWED_LIMIT}
 use Rattle.nutanswer.specs.Command.{read_command}
+use Rattle.nutlisting.specs.declared.ring.TheConstants.{RING_LIMIT}
+use Rattle.nutlisting.specs.Counts.{is_open, lines}
+use Rattle.nutlisting.specs.Lines.{IsWholeLine}
 use Rattle.nutlisting.specs.Items.{text_of, client_listing}
 use Rattle.nutanswer.specs.View.{addresses_at}
 use Rattle.nutcore.specs.Session.{SessionState}
@@ -19,6 +22,9 @@ use Rattle.nutcore.specs.Leaf.{IsFed, IsTaken}
 use Rattle.nutusers.specs.declared.ups_list.UpsId.{UpsId}
 use Rattle.nutcore.specs.Server.{ServerState, session, with_session, ups_at, with_ups_changed}
 use Rattle.nutcore.specs.Reply.{text_to, change_by, changed_session, seen_client}
+use Rattle.nutcore.specs.declared.cost.Cost.{Cost}
+use Rattle.nutcore.specs.History.{owed}
+use Rattle.nutcore.specs.Cost.{RunningServer}
 use Rattle.nutcore.specs.Pump.{pumped, after_all_lines, after_lines, is_overlong, wants_memory, shares_version_read, next_line_for, answered}
 
 -- where the session of this id stands
@@ -41,9 +47,13 @@ PumpGives old c (Err TookTooMuch) new = ⊥
 PumpGives old c (Err NotConnected) new = ⊥
 PumpGives old c (Err AlreadyConnected) new = ⊥
 
+-- a whole line, or nothing where a line without words is answered
+abbrev pub IsLineOrNone : List ℕ → Type 0
+IsLineOrNone text = IsWholeLine text ⊎ (text ≡ [])
+
 -- the answer is that to the line: one line at most, which takes no memory, with what it changes, or the listing
 abbrev pub Replies : ServerState → ℕ → List ℕ → Answer → Type 0
-Replies s c line (One text change) = (shares_version_read s c (read_command line) ≡ false) × (text_to s c (read_command line) ≡ text.items) × (change_by s c (read_command line) ≡ change) × (length text.items ≤ OWED_LIMIT)
+Replies s c line (One text change) = (shares_version_read s c (read_command line) ≡ false) × (text_to s c (read_command line) ≡ text.items) × (change_by s c (read_command line) ≡ change) × (length text.items ≤ OWED_LIMIT) × IsLineOrNone text.items
 Replies s c line (Clients name u) =
     (shares_version_read s c (read_command line) ≡ false) × (text_to s c (read_command line) ≡ text_of (client_listing name (addresses_at u (map seen_client s.sessions)))) × (change_by s c (read_command line) ≡ Nothing)
 Replies s c line (Many listing) = (shares_version_read s c (read_command line) ≡ true) × (text_to s c (read_command line) ≡ text_of listing) × (change_by s c (read_command line) ≡ Nothing)
@@ -92,3 +102,21 @@ pub record DriverTakes (u : UpsId) (n : ℕ) (old : ServerState) (result : Resul
   pub there : ups_at u.place old ≡ Some before
   pub taken : IsTaken n before result after
   pub leaves : new ≡ with_ups_changed (λ x. after) u old
+
+-- of what is offered now, so many bytes were there before; the lines of those behind them are counted, and none of these is unfinished while a line may be executed
+pub record IsCounted (kept : ℕ) (owed : List ℕ) (made : ℕ) : Type 0 where
+  pub within : kept ≤ length (take RING_LIMIT owed)
+  pub counted : made ≡ lines (drop kept (take RING_LIMIT owed))
+  pub ended : length owed ≤ OWED_LIMIT → is_open (drop kept (take RING_LIMIT owed)) ≡ false
+
+-- where all were counted, all are
+abbrev pub KeepsCount : List ℕ → ℕ → List ℕ → ℕ → Type 0
+KeepsCount owed made owed' made' = (kept : ℕ) → IsCounted kept owed made → IsCounted kept owed' made'
+
+-- of this client
+abbrev pub KeepsCost : ℕ → RunningServer → RunningServer → Type 0
+KeepsCost c old new = KeepsCount (owed c old.state) old.cost.rendered (owed c new.state) new.cost.rendered
+
+-- the cost of an event after which these bytes are offered, so many of which were there before
+abbrev pub cost_beyond : ℕ → List ℕ → Cost
+cost_beyond kept after = record { rendered = lines (drop kept after); placed = length after - kept }

@@ -4,7 +4,7 @@ ghost use Rattle.nutcore.specs.ByRight.{AForcedShutdownIsSetByRight, ALoginIsByR
 ghost use Rattle.nutcore.specs.OrdersByRight.{EachOrderIsByRight};
 ghost use Rattle.nutcore.specs.TellingLines.{EachTellingIsAWholeLine};
 ghost use Rattle.nutcore.specs.Examples.{TwoVariables, EmptyListing, TakenInFour, LongestLine, ThreeLines, EscapedValue, FaultyLines, CasesAndFaults, NotConnected, Described, PipelinedGet};
-ghost use Rattle.nutcore.specs.Isolation.{AClientTouchesNoOther, ADriverTouchesNoOther, ARefusedEventChangesNothing};
+ghost use Rattle.nutcore.specs.Isolation.{AClientTouchesNoOther, ADriverTouchesNoOther, ARefusedEventChangesNothing, ARefusedEventCostsNothing};
 ghost use Rattle.nutcore.specs.Limits.{Limits};
 ghost use Rattle.nutcore.specs.Bounded.{EachEventIsBounded};
 ghost use Rattle.nutcore.specs.Taking.{WhoTakesGetsEverything};
@@ -201,6 +201,11 @@ pub fn a_driver_touches_no_other()
 /// An event that is refused, but for a line that is too long and for being out of memory, changes nothing.
 pub fn a_refused_event_changes_nothing()
     ensures { ARefusedEventChangesNothing }
+{}
+
+/// Nor does such an event cost anything.
+pub fn a_refused_event_costs_nothing()
+    ensures { ARefusedEventCostsNothing }
 {}
 
 /// Sessions worked out by hand are what the definitions give.

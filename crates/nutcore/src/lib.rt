@@ -2,6 +2,7 @@
 #![tactic(auto)]
 
 mod bytes;
+mod cost;
 mod event;
 pub mod laws;
 mod lines;
@@ -12,6 +13,7 @@ mod session;
 mod ups;
 
 pub use bytes::Bytes;
+pub use cost::Cost;
 pub use event::{ClientId, Event, Fault, Outcome, Peer};
 pub use max_age::{MAX_AGE_DEFAULT, MAX_AGE_LEAST, MAX_AGE_MOST, MaxAge};
 pub use nutlisting::{OWED_LIMIT, Outbox, RING_LIMIT, SESSION_LIMIT};

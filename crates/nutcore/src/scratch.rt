@@ -1,4 +1,5 @@
 //! What the pump works in.
+ghost use Rattle.std.specs.Prelude.{◌≡◌, IfOk};
 
 use nutlisting::{Clients, Renders};
 use nutwords::Line;
@@ -19,7 +20,9 @@ impl Scratch {
     /// # Errors
     ///
     /// `AllocError` where memory is refused.
-    pub(crate) fn new(alloc: Global) -> Result<Self, AllocError> {
+    pub(crate) fn new(alloc: Global) -> Result<Self, AllocError>
+        ensures { IfOk result (λ scratch. scratch.renders ≡ 0) }
+    {
         let clients = Clients::new(alloc)?;
         Ok(Scratch {
             line: Line::new(),

@@ -7,10 +7,11 @@ ghost use Rattle.nutcore.specs.Server.{session, ups_at, new_server};
 ghost use Rattle.nutusers.specs.UpsList.{place_of, id_at};
 ghost use Rattle.nutcore.specs.Step.{Step, offered};
 ghost use Rattle.nutcore.specs.Run.{Run};
+ghost use Rattle.nutcore.specs.Cost.{begun, no_cost, last_cost, Costs};
 ghost use Rattle.nutcore.specs.Sound.{IsSound};
 ghost use Rattle.nutcore.specs.History.{owed};
 ghost use Rattle.nutcore.specs.Headline.{SentAndOwed, TakenUp, Serves};
-ghost use Rattle.nutcore.specs.Calls.{is_connected, fed, done, opened_as, is_finished, room_of, owed_to, Reads, ReadsUps};
+ghost use Rattle.nutcore.specs.Calls.{is_connected, fed, done, opened_as, is_finished, room_of, owed_to, IsOutboxOf, Reads, ReadsUps};
 ghost use Rattle.nutlisting.specs.declared.listing.clients.TheConstants.{SESSION_LIMIT};
 ghost use Rattle.nutlisting.specs.declared.ring.TheConstants.{RING_LIMIT};
 ghost use Rattle.nutcore.specs.contracts.server.Server.{the_row};
@@ -22,13 +23,14 @@ mod status;
 mod view;
 
 use self::drivers::ping_upses;
+use crate::cost::Cost;
 use crate::event::{ClientId, Event, Fault, Outcome};
 use crate::max_age::MaxAge;
 use crate::scratch::Scratch;
 use crate::session::Session;
 use crate::ups::Ups;
 use nutdriver::laws::{each_line_keeps_the_tree_sound, lawful_lines_keep_trees_sound};
-use nutlisting::SESSION_LIMIT;
+use nutlisting::{Outbox, Renders, SESSION_LIMIT};
 use nutusers::{Descriptions, UpsId, UpsList, Users};
 use nutwords::Address;
 use std::alloc::{AllocError, Global};
@@ -47,17 +49,19 @@ pub struct Server {
     sessions: Vec<Session>,
     last_id: u64,
     scratch: Scratch,
+    /// How many bytes the last event placed.
+    placed: usize,
 }
 
 impl Model for Server {
     ghost use Rattle.std.specs.Prelude.{◌≤◌, ◌+◌, vec_capacity};
     ghost use Rattle.nutlisting.specs.declared.listing.clients.TheConstants.{SESSION_LIMIT};
-    ghost use Rattle.nutcore.specs.Server.{ServerState};
+    ghost use Rattle.nutcore.specs.Cost.{RunningServer};
     ghost use Rattle.nutcore.specs.Sound.{IsSound};
 
-    ghost Value = { ServerState };
+    ghost Value = { RunningServer };
 
-    ghost view = { λ s. record { moment = s.moment; max_age = s.max_age; list = s.list; users = s.users; descriptions = s.descriptions; upses = s.upses.items; sessions = s.sessions.items; next_id = s.last_id + 1 } };
+    ghost view = { λ s. record { state = record { moment = s.moment; max_age = s.max_age; list = s.list; users = s.users; descriptions = s.descriptions; upses = s.upses.items; sessions = s.sessions.items; next_id = s.last_id + 1 }; cost = record { rendered = s.scratch.renders; placed = s.placed } } };
 
     ghost invariant = { λ s. record {
       sound : IsSound (record { moment = s.moment; max_age = s.max_age; list = s.list; users = s.users; descriptions = s.descriptions; upses = s.upses.items; sessions = s.sessions.items; next_id = s.last_id + 1 });
@@ -75,7 +79,7 @@ impl Server {
         descriptions: Descriptions,
         max_age: MaxAge,
     ) -> Result<Self, AllocError>
-        ensures { IfOk result (λ s. s ≡ new_server list users descriptions max_age) }
+        ensures { IfOk result (λ s. s ≡ begun (new_server list users descriptions max_age)) }
     {
         lawful_lines_keep_trees_sound();
         each_line_keeps_the_tree_sound();
@@ -96,20 +100,40 @@ impl Server {
             sessions,
             last_id: 0,
             scratch,
+            placed: 0,
         })
     }
 
     /// The list handed in. Every server is sound.
     pub fn ups(&self) -> &UpsList
-        ensures list { result.now ≡ self.now.list }
-        ensures sound { IsSound self.now }
+        ensures list { result.now ≡ self.now.state.list }
+        ensures sound { IsSound self.now.state }
     {
         &self.list
     }
 
+    /// What the last event cost: the lines rendered and the bytes placed, none before any event.
+    pub fn cost(&self) -> Cost
+        ensures { result ≡ self.now.cost }
+    {
+        Cost {
+            rendered: self.scratch.renders.made(),
+            placed: self.placed,
+        }
+    }
+
+    /// Nothing is rendered or placed yet.
+    fn forget_cost(&mut self)
+        ensures state { self.new.state ≡ self.old.state }
+        ensures none { self.new.cost ≡ no_cost }
+    {
+        self.scratch.renders = Renders::new();
+        self.placed = 0;
+    }
+
     /// The UPS of this name.
     pub fn find(&self, name: &[u8]) -> Option<UpsId>
-        ensures { result ≡ option_map id_at (place_of name.now self.now.list) }
+        ensures { result ≡ option_map id_at (place_of name.now self.now.state.list) }
     {
         self.list.find(name)
     }
@@ -119,11 +143,13 @@ impl Server {
     ///
     /// # Errors
     ///
-    /// `NoSuchUps` and `AlreadyConnected`, which change nothing.
+    /// `NoSuchUps` and `AlreadyConnected`, which change nothing but the cost.
     pub fn driver_up(&mut self, u: UpsId) -> Result<(), Fault>
-        ensures served { Serves self.old (Event.DriverUp u) (done result) self.new }
+        ensures served { Serves self.old.state (Event.DriverUp u) (done result) self.new.state }
+        ensures cost { Costs self.old (Event.DriverUp u) self.new }
         ensures no_memory { (k : ℕ) → result ≢ Err (Fault.Memory k) }
     {
+        self.forget_cost();
         match self.connection(u) {
             None => Err(Fault::NoSuchUps),
             Some(true) => Err(Fault::AlreadyConnected),
@@ -139,11 +165,14 @@ impl Server {
     ///
     /// # Errors
     ///
-    /// `NoSuchUps` and `NotConnected`, which change nothing; `LineTooLong`, after the lines
+    /// `NoSuchUps` and `NotConnected`, which change nothing but the cost; `LineTooLong`, after the lines
     /// before; `Memory`, with how many lines of the call were done.
     pub fn driver_bytes(&mut self, u: UpsId, piece: &[u8]) -> Result<(), Fault>
-        ensures { Serves self.old (Event.DriverBytes u piece.now) (done result) self.new }
+        ensures served { Serves self.old.state (Event.DriverBytes u piece.now)
+            (done result) self.new.state }
+        ensures cost { Costs self.old (Event.DriverBytes u piece.now) self.new }
     {
+        self.forget_cost();
         match self.connection(u) {
             None => Err(Fault::NoSuchUps),
             Some(false) => Err(Fault::NotConnected),
@@ -159,10 +188,10 @@ impl Server {
     /// `NoSuchUps`.
     pub fn driver_offer(&mut self, u: UpsId) -> Result<&[u8], Fault>
         ensures bytes { MatchResult result
-            (λ bytes. option_map owed_to (ups_at u.place self.old) ≡ Some bytes.now)
-            (λ fault. (fault ≡ Fault.NoSuchUps) × (ups_at u.place self.old ≡ None)) }
+            (λ bytes. option_map owed_to (ups_at u.place self.old.state) ≡ Some bytes.now)
+            (λ fault. (fault ≡ Fault.NoSuchUps) × (ups_at u.place self.old.state ≡ None)) }
         ensures unconnected { IfOk result (λ bytes.
-            option_map is_connected (ups_at u.place self.old) ≡ Some false → bytes.now ≡ []) }
+            option_map is_connected (ups_at u.place self.old.state) ≡ Some false → bytes.now ≡ []) }
         ensures* same { sem 𝓛 (Rests the_row self.entry (λ new. new ≡ self.old)) }
     {
         if u.place as usize >= self.upses.len() {
@@ -178,7 +207,7 @@ impl Server {
     ///
     /// `NoSuchUps`.
     pub fn driver_offered(&self, u: UpsId) -> Result<usize, Fault>
-        ensures { ReadsUps (λ x. length x.owed) (ups_at u.place self.now) result }
+        ensures { ReadsUps (λ x. length x.owed) (ups_at u.place self.now.state) result }
     {
         match self.upses.get(u.place as usize) {
             Some(ups) => Ok(ups.offer().len()),
@@ -190,11 +219,13 @@ impl Server {
     ///
     /// # Errors
     ///
-    /// `NoSuchUps`, `NotConnected` and `TookTooMuch`, which change nothing.
+    /// `NoSuchUps`, `NotConnected` and `TookTooMuch`, which change nothing but the cost.
     pub fn driver_took(&mut self, u: UpsId, n: usize) -> Result<(), Fault>
-        ensures served { Serves self.old (Event.DriverTook u n) (done result) self.new }
+        ensures served { Serves self.old.state (Event.DriverTook u n) (done result) self.new.state }
+        ensures cost { Costs self.old (Event.DriverTook u n) self.new }
         ensures no_memory { (k : ℕ) → result ≢ Err (Fault.Memory k) }
     {
+        self.forget_cost();
         match self.connection(u) {
             None => Err(Fault::NoSuchUps),
             Some(false) => Err(Fault::NotConnected),
@@ -206,11 +237,13 @@ impl Server {
     ///
     /// # Errors
     ///
-    /// `NoSuchUps` and `NotConnected`, which change nothing.
+    /// `NoSuchUps` and `NotConnected`, which change nothing but the cost.
     pub fn driver_down(&mut self, u: UpsId) -> Result<(), Fault>
-        ensures served { Serves self.old (Event.DriverDown u) (done result) self.new }
+        ensures served { Serves self.old.state (Event.DriverDown u) (done result) self.new.state }
+        ensures cost { Costs self.old (Event.DriverDown u) self.new }
         ensures no_memory { (k : ℕ) → result ≢ Err (Fault.Memory k) }
     {
+        self.forget_cost();
         match self.connection(u) {
             None => Err(Fault::NoSuchUps),
             Some(false) => Err(Fault::NotConnected),
@@ -224,8 +257,10 @@ impl Server {
     /// The clock is at so many seconds. The moment never goes back. Each driver from which nothing was heard for a third
     /// of the greatest age, and which wasn't asked for as long, is owed `PING`, where it fits. Takes no memory.
     pub fn tick(&mut self, seconds: u64)
-        ensures { Serves self.old (Event.Tick seconds) Outcome.Done self.new }
+        ensures served { Serves self.old.state (Event.Tick seconds) Outcome.Done self.new.state }
+        ensures cost { Costs self.old (Event.Tick seconds) self.new }
     {
+        self.forget_cost();
         self.moment = seconds.max(self.moment);
         ping_upses(&mut self.upses, self.max_age.seconds(), self.moment);
     }
@@ -237,7 +272,7 @@ impl Server {
     ///
     /// `NoSuchUps`.
     pub fn driver_faults(&self, u: UpsId) -> Result<u64, Fault>
-        ensures { ReadsUps (λ x. x.faulty) (ups_at u.place self.now) result }
+        ensures { ReadsUps (λ x. x.faulty) (ups_at u.place self.now.state) result }
     {
         match self.upses.get(u.place as usize) {
             Some(ups) => Ok(ups.faulty()),
@@ -252,8 +287,11 @@ impl Server {
     ///
     /// `TooManyClients`, and `Memory(0)`; both change nothing.
     pub fn open(&mut self, address: Address) -> Result<ClientId, Fault>
-        ensures { Serves self.old (Event.Open address) (opened_as result) self.new }
+        ensures served { Serves self.old.state (Event.Open address)
+            (opened_as result) self.new.state }
+        ensures cost { Costs self.old (Event.Open address) self.new }
     {
+        self.forget_cost();
         if self.sessions.len() >= SESSION_LIMIT || self.last_id == u64::MAX {
             return Err(Fault::TooManyClients);
         }
@@ -273,7 +311,7 @@ impl Server {
     ///
     /// `NoSuchClient`.
     pub fn room(&self, c: ClientId) -> Result<usize, Fault>
-        ensures { Reads room_of (session c self.now) result }
+        ensures { Reads room_of (session c self.now.state) result }
     {
         let Some(place) = self.place_of(c) else {
             return Err(Fault::NoSuchClient);
@@ -288,17 +326,21 @@ impl Server {
     ///
     /// # Errors
     ///
-    /// `NoSuchClient` changes nothing. After `LineTooLong` the session is told `ERR TOO-LONG`, and
+    /// `NoSuchClient` changes nothing but the cost. After `LineTooLong` the session is told `ERR TOO-LONG`, and
     /// is ending. After `Memory(k)` k lines were executed, and the next one, a listing, stays held:
     /// it is tried again at the next call.
     pub fn feed(&mut self, c: ClientId, piece: &[u8]) -> Result<usize, Fault>
-        ensures { Serves self.old (Event.Feed c piece.now) (fed result) self.new }
+        ensures served { Serves self.old.state (Event.Feed c piece.now)
+            (fed result) self.new.state }
+        ensures cost { Costs self.old (Event.Feed c piece.now) self.new }
     {
+        self.forget_cost();
         let Some(place) = self.place_of(c) else {
             return Err(Fault::NoSuchClient);
         };
+        let kept = self.offered_at(c, place);
         let count = self.join(c, place, piece);
-        match self.pump(c, place) {
+        match self.serve(c, place, kept) {
             Ok(()) => Ok(count),
             Err(fault) => Err(fault),
         }
@@ -312,9 +354,9 @@ impl Server {
     /// `NoSuchClient`.
     pub fn offer(&mut self, c: ClientId) -> Result<&[u8], Fault>
         ensures bytes { MatchResult result
-            (λ bytes. (is_some (session c self.old) ≡ true)
-            × (bytes.now ≡ take RING_LIMIT (owed c self.old)))
-            (λ fault. (fault ≡ Fault.NoSuchClient) × (session c self.old ≡ None)) }
+            (λ bytes. (is_some (session c self.old.state) ≡ true)
+            × (bytes.now ≡ take RING_LIMIT (owed c self.old.state)))
+            (λ fault. (fault ≡ Fault.NoSuchClient) × (session c self.old.state ≡ None)) }
         ensures* same { sem 𝓛 (Rests the_row self.entry (λ new. new ≡ self.old)) }
     {
         let Some(place) = self.place_of(c) else {
@@ -324,13 +366,32 @@ impl Server {
         Ok(session.offer())
     }
 
+    /// What the session owes its client, as it is kept: the bytes that are offered in a ring, and a cursor while something
+    /// rests.
+    ///
+    /// # Errors
+    ///
+    /// `NoSuchClient`.
+    pub fn outbox(&self, c: ClientId) -> Result<&Outbox, Fault>
+        ensures { MatchResult result
+            (λ outbox. (is_some (session c self.now.state) ≡ true)
+            × IsOutboxOf (owed c self.now.state) outbox.now)
+            (λ fault. (fault ≡ Fault.NoSuchClient) × (session c self.now.state ≡ None)) }
+    {
+        let Some(place) = self.place_of(c) else {
+            return Err(Fault::NoSuchClient);
+        };
+        let session = &self.sessions[place];
+        Ok(session.outbox())
+    }
+
     /// How many bytes are offered to the client.
     ///
     /// # Errors
     ///
     /// `NoSuchClient`.
     pub fn offered(&self, c: ClientId) -> Result<usize, Fault>
-        ensures { Reads (λ x. length (offered (Some x))) (session c self.now) result }
+        ensures { Reads (λ x. length (offered (Some x))) (session c self.now.state) result }
     {
         let Some(place) = self.place_of(c) else {
             return Err(Fault::NoSuchClient);
@@ -344,19 +405,22 @@ impl Server {
     ///
     /// # Errors
     ///
-    /// `NoSuchClient` and `TookTooMuch` change nothing. After `LineTooLong` and `Memory` the bytes
+    /// `NoSuchClient` and `TookTooMuch` change nothing but the cost. After `LineTooLong` and `Memory` the bytes
     /// are taken; else they leave what they leave at `feed`.
     pub fn took(&mut self, c: ClientId, n: usize) -> Result<(), Fault>
-        ensures { Serves self.old (Event.Took c n) (done result) self.new }
+        ensures served { Serves self.old.state (Event.Took c n) (done result) self.new.state }
+        ensures cost { Costs self.old (Event.Took c n) self.new }
     {
+        self.forget_cost();
         let Some(place) = self.place_of(c) else {
             return Err(Fault::NoSuchClient);
         };
-        if n > self.offered_at(c, place) {
+        let offered = self.offered_at(c, place);
+        if n > offered {
             return Err(Fault::TookTooMuch);
         }
         self.give(c, place, n);
-        self.pump(c, place)
+        self.serve(c, place, offered - n)
     }
 
     /// Whether the session is ending and owes nothing.
@@ -365,7 +429,7 @@ impl Server {
     ///
     /// `NoSuchClient`.
     pub fn finished(&self, c: ClientId) -> Result<bool, Fault>
-        ensures { Reads is_finished (session c self.now) result }
+        ensures { Reads is_finished (session c self.now.state) result }
     {
         let Some(place) = self.place_of(c) else {
             return Err(Fault::NoSuchClient);
@@ -378,11 +442,13 @@ impl Server {
     ///
     /// # Errors
     ///
-    /// `NoSuchClient`, which changes nothing.
+    /// `NoSuchClient`, which changes nothing but the cost.
     pub fn close(&mut self, c: ClientId) -> Result<(), Fault>
-        ensures served { Serves self.old (Event.Close c) (done result) self.new }
+        ensures served { Serves self.old.state (Event.Close c) (done result) self.new.state }
+        ensures cost { Costs self.old (Event.Close c) self.new }
         ensures no_memory { (k : ℕ) → result ≢ Err (Fault.Memory k) }
     {
+        self.forget_cost();
         let Some(place) = self.place_of(c) else {
             return Err(Fault::NoSuchClient);
         };
@@ -392,7 +458,8 @@ impl Server {
 
     /// One event.
     fn step(&mut self, event: &Event) -> Outcome
-        ensures { Step self.old event.now result self.new }
+        ensures step { Step self.old.state event.now result self.new.state }
+        ensures cost { Costs self.old event.now self.new }
     {
         match event {
             Event::DriverUp(u) => outcome_of(self.driver_up(*u)),
@@ -412,7 +479,8 @@ impl Server {
 
     /// The clock is at so many seconds.
     fn tick_at(&mut self, seconds: u64) -> Outcome
-        ensures { Step self.old (Event.Tick seconds) result self.new }
+        ensures step { Step self.old.state (Event.Tick seconds) result self.new.state }
+        ensures cost { Costs self.old (Event.Tick seconds) self.new }
     {
         self.tick(seconds);
         Outcome::Done
@@ -420,9 +488,11 @@ impl Server {
 
     /// Opens a session for the client at an address.
     fn open_at(&mut self, address: &Address) -> Outcome
-        ensures { Step self.old (Event.Open address.now) result self.new }
+        ensures step { Step self.old.state (Event.Open address.now) result self.new.state }
+        ensures cost { Costs self.old (Event.Open address.now) self.new }
     {
         let Ok(address) = address.clone() else {
+            self.forget_cost();
             return Outcome::Refused(Fault::Memory(0));
         };
         match self.open(address) {
@@ -433,17 +503,20 @@ impl Server {
 
     /// Any events, in order, with the outcome of each. What each client was sent, followed by what
     /// it is still owed, is exactly the answers to its executed lines, in order; and what it asked
-    /// is executed in order, or held.
+    /// is executed in order, or held. The cost is that of the last event.
     ///
     /// # Errors
     ///
     /// Without memory for all outcomes nothing is done.
     pub fn run(&mut self, events: &[Event]) -> Result<Vec<Outcome>, AllocError>
-        ensures run { IfOk result (λ outcomes. Run self.old events.now outcomes.items self.new) }
+        ensures run { IfOk result (λ outcomes.
+            Run self.old.state events.now outcomes.items self.new.state) }
+        ensures cost { IfOk result (λ outcomes. self.new.cost
+            ≡ last_cost self.old.cost self.old.state events.now outcomes.items) }
         ensures sent_and_owed { IfOk result (λ outcomes. (c : ℕ)
-            → SentAndOwed c self.old events.now outcomes.items self.new) }
+            → SentAndOwed c self.old.state events.now outcomes.items self.new.state) }
         ensures taken_up { IfOk result (λ outcomes. (c : ℕ)
-            → TakenUp c self.old events.now outcomes.items self.new) }
+            → TakenUp c self.old.state events.now outcomes.items self.new.state) }
         ensures outcomes { IfOk result (λ outcomes. vec_len outcomes ≡ length events.now) }
         ensures err { OnErr result (self.new ≡ self.old) }
     {

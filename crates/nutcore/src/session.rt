@@ -13,7 +13,8 @@ ghost use Rattle.nutlisting.specs.Owed.{owed as owed_in, IsOutbox};
 ghost use Rattle.nutlisting.specs.declared.outbox.TheConstants.{OWED_LIMIT};
 ghost use Rattle.nutlisting.specs.declared.ring.TheConstants.{RING_LIMIT};
 ghost use Rattle.nutwords.specs.declared.limits.TheConstants.{LINE_LIMIT};
-ghost use Rattle.nutcore.specs.Calls.{is_finished, room_of};
+ghost use Rattle.nutcore.specs.Calls.{is_finished, room_of, IsOutboxOf};
+ghost use Rattle.nutcore.specs.Serving.{IsLineOrNone, IsCounted, KeepsCount};
 ghost use Rattle.nutcore.specs.Reply.{asker_of, seen_client, changed_session};
 ghost use Rattle.nutanswer.specs.View.{asker_seen, is_logged_in, addresses_at};
 
@@ -167,9 +168,12 @@ impl Session {
     pub(crate) fn answer(&mut self, text: &[u8], change: Change, scratch: &mut Scratch)
         requires going { is_some (next_line self.old) ≡ true }
         requires short { length text.now ≤ OWED_LIMIT }
+        requires line { IsLineOrNone text.now }
         ensures answered { (line : List ℕ) → next_line self.old ≡ Some line
             → self.new ≡ changed_session change (answered line text.now self.old) }
         ensures id { self.new.id ≡ self.old.id }
+        ensures keeps { KeepsCount self.old.owed scratch.old.renders
+            self.new.owed scratch.new.renders }
     {
         self.owe(text, scratch);
         self.take_line();
@@ -182,6 +186,8 @@ impl Session {
         ensures answered { (line : List ℕ) → next_line self.old ≡ Some line
             → self.new ≡ answered line (text_of listing) self.old }
         ensures id { self.new.id ≡ self.old.id }
+        ensures keeps { KeepsCount self.old.owed scratch.old.renders
+            self.new.owed scratch.new.renders }
     {
         self.owe_listing(listing, scratch);
         self.take_line();
@@ -194,6 +200,8 @@ impl Session {
         ensures answered { (line : List ℕ) → next_line self.old ≡ Some line
             → self.new ≡ answered line (text_of (client_listing ups.now scratch.old.clients)) self.old }
         ensures id { self.new.id ≡ self.old.id }
+        ensures keeps { KeepsCount self.old.owed scratch.old.renders
+            self.new.owed scratch.new.renders }
     {
         self.owe_clients(ups, scratch);
         self.take_line();
@@ -205,6 +213,8 @@ impl Session {
         ensures owes { self.new ≡ record self.old
             { owed = self.old.owed ++ text_of (client_listing ups.now scratch.old.clients) } }
         ensures id { self.new.id ≡ self.old.id }
+        ensures keeps { KeepsCount self.old.owed scratch.old.renders
+            self.new.owed scratch.new.renders }
     {
         let Scratch {
             line,
@@ -215,14 +225,19 @@ impl Session {
             .accept_clients(ups, clients.addresses(), line, renders);
     }
 
-    /// Joins an answer of one line to what is owed.
+    /// Joins an answer of one line to what is owed, if there is one.
     fn owe(&mut self, text: &[u8], scratch: &mut Scratch)
         requires ready { length self.old.owed ≤ OWED_LIMIT }
         requires short { length text.now ≤ OWED_LIMIT }
+        requires line { IsLineOrNone text.now }
         ensures owes { self.new ≡ record self.old { owed = self.old.owed ++ text.now } }
         ensures id { self.new.id ≡ self.old.id }
+        ensures keeps { KeepsCount self.old.owed scratch.old.renders
+            self.new.owed scratch.new.renders }
     {
-        self.outbox.push(text, &mut scratch.renders);
+        if !text.is_empty() {
+            self.outbox.push(text, &mut scratch.renders);
+        }
     }
 
     /// Joins a listing to what is owed.
@@ -230,6 +245,8 @@ impl Session {
         requires { length self.old.owed ≤ OWED_LIMIT }
         ensures owes { self.new ≡ record self.old { owed = self.old.owed ++ text_of listing } }
         ensures id { self.new.id ≡ self.old.id }
+        ensures keeps { KeepsCount self.old.owed scratch.old.renders
+            self.new.owed scratch.new.renders }
     {
         let Scratch { line, renders, .. } = scratch;
         self.outbox.accept(listing, line, renders);
@@ -241,6 +258,7 @@ impl Session {
         ensures taken { (line : List ℕ) → first_line self.old.held ≡ Some line
             → self.new ≡ answered line [] self.old }
         ensures id { self.new.id ≡ self.old.id }
+        ensures owed { self.new.owed ≡ self.old.owed }
     {
         let end = line_end(&self.held).unwrap();
         drop_front(&mut self.held, end + 1);
@@ -252,6 +270,8 @@ impl Session {
         ensures ends { result ≡ true → self.new ≡ notified self.old }
         ensures same { result ≡ false → self.new ≡ self.old }
         ensures id { self.new.id ≡ self.old.id }
+        ensures keeps { KeepsCount self.old.owed scratch.old.renders
+            self.new.owed scratch.new.renders }
     {
         if self.ending
             || !self.outbox.is_ready()
@@ -297,6 +317,14 @@ impl Session {
         self.outbox.offer()
     }
 
+    /// What it owes, as a ring and a cursor.
+    pub(crate) fn outbox(&self) -> &Outbox
+        ensures { IsOutboxOf self.now.owed result.now }
+    {
+        let _ = self.outbox.offered();
+        &self.outbox
+    }
+
     /// How many bytes are offered.
     pub(crate) fn offered(&self) -> usize
         ensures { result ≡ length (take RING_LIMIT self.now.owed) }
@@ -306,10 +334,13 @@ impl Session {
 
     /// The client took n bytes of what it is offered.
     pub(crate) fn take(&mut self, n: usize, scratch: &mut Scratch)
-        requires { n ≤ length (take RING_LIMIT self.old.owed) }
+        requires few { n ≤ length (take RING_LIMIT self.old.owed) }
+        requires none { scratch.old.renders ≡ 0 }
         ensures short { length self.new.held ≤ HELD_LIMIT }
         ensures id { self.new.id ≡ self.old.id }
         ensures takes { self.new ≡ record self.old { owed = drop n self.old.owed } }
+        ensures counted { IsCounted (length (take RING_LIMIT self.old.owed) - n)
+            self.new.owed scratch.new.renders }
     {
         let _ = self.outbox.offered();
         let Scratch { line, renders, .. } = scratch;

@@ -15,7 +15,7 @@ pub const DRIVER_READ_LIMIT: usize = 1024;
 /// A client's session ends, and its connection is shut.
 fn close<S: Sockets>(server: &mut Server, sockets: &mut S, c: ClientId)
     ensures { Does S.calls S.failures (event.Close c ∷ [])
-        server.old sockets.old server.new sockets.new }
+        server.old.state sockets.old server.new.state sockets.new }
 {
     let _ = server.close(c);
     sockets.shut(Peer::Client(c));
@@ -24,7 +24,7 @@ fn close<S: Sockets>(server: &mut Server, sockets: &mut S, c: ClientId)
 /// A driver is lost, and its connection is shut.
 fn lose<S: Sockets>(server: &mut Server, sockets: &mut S, u: UpsId)
     ensures { Does S.calls S.failures (event.DriverDown u ∷ [])
-        server.old sockets.old server.new sockets.new }
+        server.old.state sockets.old server.new.state sockets.new }
 {
     let _ = server.driver_down(u);
     sockets.shut(Peer::Driver(u));
@@ -32,8 +32,8 @@ fn lose<S: Sockets>(server: &mut Server, sockets: &mut S, u: UpsId)
 
 /// A client that is ending and is owed nothing is closed.
 fn close_finished<S: Sockets>(server: &mut Server, sockets: &mut S, c: ClientId)
-    ensures { Does S.calls S.failures (end_of c server.old)
-        server.old sockets.old server.new sockets.new }
+    ensures { Does S.calls S.failures (end_of c server.old.state)
+        server.old.state sockets.old server.new.state sockets.new }
 {
     if server.finished(c).unwrap_or(false) {
         close(server, sockets, c);
@@ -43,7 +43,7 @@ fn close_finished<S: Sockets>(server: &mut Server, sockets: &mut S, c: ClientId)
 /// A session is opened for a newcomer, which is named; or the newcomer is refused.
 fn open<S: Sockets>(server: &mut Server, sockets: &mut S, address: Address)
     ensures { Does S.calls S.failures (event.Open address ∷ [])
-        server.old sockets.old server.new sockets.new }
+        server.old.state sockets.old server.new.state sockets.new }
 {
     match server.open(address) {
         Ok(c) => sockets.name(c),
@@ -65,7 +65,7 @@ fn loses_driver(fault: Fault) -> bool
 /// A driver's bytes are done. Where they lose it, its connection is shut.
 fn feed_driver<S: Sockets>(server: &mut Server, sockets: &mut S, u: UpsId, piece: &[u8])
     ensures { Does S.calls S.failures (event.DriverBytes u piece.now ∷ [])
-        server.old sockets.old server.new sockets.new }
+        server.old.state sockets.old server.new.state sockets.new }
 {
     let Err(fault) = server.driver_bytes(u, piece) else {
         return;
@@ -77,7 +77,7 @@ fn feed_driver<S: Sockets>(server: &mut Server, sockets: &mut S, u: UpsId, piece
 
 fn newcomer<S: Sockets>(server: &mut Server, sockets: &mut S) -> Result<(), LoopFault>
     ensures { NewcomerGives S.calls S.failures
-        server.old sockets.old result server.new sockets.new }
+        server.old.state sockets.old result server.new.state sockets.new }
 {
     let Ok(accepted) = sockets.accept() else {
         return Err(LoopFault::Accept);
@@ -90,7 +90,7 @@ fn newcomer<S: Sockets>(server: &mut Server, sockets: &mut S) -> Result<(), Loop
 
 fn read_client<S: Sockets>(server: &mut Server, sockets: &mut S, c: ClientId)
     ensures { IsRow S.calls S.failures [] (Read (Client c))
-        server.old sockets.old server.new sockets.new }
+        server.old.state sockets.old server.new.state sockets.new }
 {
     let Ok(room) = server.room(c) else {
         return;
@@ -113,7 +113,7 @@ fn read_client<S: Sockets>(server: &mut Server, sockets: &mut S, c: ClientId)
 
 fn read_driver<S: Sockets>(server: &mut Server, sockets: &mut S, u: UpsId)
     ensures { IsRow S.calls S.failures [] (Read (Driver u))
-        server.old sockets.old server.new sockets.new }
+        server.old.state sockets.old server.new.state sockets.new }
 {
     if server.driver_took(u, 0).is_err() {
         return;
@@ -129,7 +129,7 @@ fn read_driver<S: Sockets>(server: &mut Server, sockets: &mut S, u: UpsId)
 
 fn read<S: Sockets>(server: &mut Server, sockets: &mut S, p: Peer)
     ensures { IsRow S.calls S.failures [] (Read p)
-        server.old sockets.old server.new sockets.new }
+        server.old.state sockets.old server.new.state sockets.new }
 {
     match p {
         Peer::Client(c) => read_client(server, sockets, c),
@@ -139,7 +139,7 @@ fn read<S: Sockets>(server: &mut Server, sockets: &mut S, p: Peer)
 
 fn write_client<S: Sockets>(server: &mut Server, sockets: &mut S, c: ClientId)
     ensures { IsRow S.calls S.failures [] (Write (Client c))
-        server.old sockets.old server.new sockets.new }
+        server.old.state sockets.old server.new.state sockets.new }
 {
     let Ok(offered) = server.offer(c) else {
         return;
@@ -159,7 +159,7 @@ fn write_client<S: Sockets>(server: &mut Server, sockets: &mut S, c: ClientId)
 
 fn write_driver<S: Sockets>(server: &mut Server, sockets: &mut S, u: UpsId)
     ensures { IsRow S.calls S.failures [] (Write (Driver u))
-        server.old sockets.old server.new sockets.new }
+        server.old.state sockets.old server.new.state sockets.new }
 {
     let Ok(owed) = server.driver_offer(u) else {
         return;
@@ -177,7 +177,7 @@ fn write_driver<S: Sockets>(server: &mut Server, sockets: &mut S, u: UpsId)
 
 fn write<S: Sockets>(server: &mut Server, sockets: &mut S, p: Peer)
     ensures { IsRow S.calls S.failures [] (Write p)
-        server.old sockets.old server.new sockets.new }
+        server.old.state sockets.old server.new.state sockets.new }
 {
     match p {
         Peer::Client(c) => write_client(server, sockets, c),
@@ -191,7 +191,8 @@ fn write<S: Sockets>(server: &mut Server, sockets: &mut S, p: Peer)
 ///
 /// `Ready` where `ready` failed and `Accept` where `accept` did. Both leave the server as it was.
 pub fn turn<S: Sockets>(server: &mut Server, sockets: &mut S) -> Result<(), LoopFault>
-    ensures { TurnGives S.calls S.failures server.old sockets.old result server.new sockets.new }
+    ensures { TurnGives S.calls S.failures
+        server.old.state sockets.old result server.new.state sockets.new }
 {
     let Ok(ready) = sockets.ready(server) else {
         return Err(LoopFault::Ready);

@@ -37,7 +37,7 @@ pub record Told : Type 0 where
   pub taken : List Taken
 
 abbrev pub told : Transcript → Told
-told t = record { server = t.server; text = t.text.items; clients = t.clients.items; taken = t.taken.items }
+told t = record { server = t.server.state; text = t.text.items; clients = t.clients.items; taken = t.taken.items }
 
 -- Before the first event.
 abbrev pub before : List Ups → List User → Descriptions → ℕ → Told

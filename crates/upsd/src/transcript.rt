@@ -111,7 +111,7 @@ impl Transcript {
     /// What a client or a driver takes by the event is kept.
     fn note_taken(&mut self, event: &Event) -> Result<(), AllocError>
         ensures { OnOk result (told self.new ≡ record (told self.old)
-            { taken = (told self.old).taken ++ taken_by self.old.server event.now }) }
+            { taken = (told self.old).taken ++ taken_by self.old.server.state event.now }) }
     {
         match event {
             Event::Took(c, n) => {
@@ -138,9 +138,9 @@ impl Transcript {
     /// The event happens to the server.
     fn step(&mut self, event: &Event) -> Result<Outcome, AllocError>
         ensures steps { IfOk result
-            (λ outcome. Step self.old.server event.now outcome self.new.server) }
+            (λ outcome. Step self.old.server.state event.now outcome self.new.server.state) }
         ensures same { OnOk result (told self.new
-            ≡ record (told self.old) { server = self.new.server }) }
+            ≡ record (told self.old) { server = self.new.server.state }) }
     {
         let outcomes = self.server.run(slice::from_ref(event))?;
         Ok(outcomes[0])
@@ -267,7 +267,7 @@ impl Transcript {
 
 /// How many bytes the client is offered: none where it isn't open.
 fn count_offered(server: &mut Server, c: ClientId) -> usize
-    ensures count { result ≡ length (offered (session c server.old)) }
+    ensures count { result ≡ length (offered (session c server.old.state)) }
     ensures same { server.new ≡ server.old }
 {
     match server.offer(c) {
@@ -284,7 +284,7 @@ fn bytes_taken(
     n: usize,
 ) -> Result<Vec<u8>, AllocError>
     ensures bytes { IfOk result (λ bytes. bytes.items
-        ≡ taken_in_event c server.old (Event.Took c n)) }
+        ≡ taken_in_event c server.old.state (Event.Took c n)) }
     ensures same { server.new ≡ server.old }
 {
     let mut taken = Vec::new(alloc);
@@ -298,7 +298,7 @@ fn bytes_taken(
 
 /// How many bytes the driver is offered: none where there is no such UPS.
 fn count_owed(server: &Server, u: UpsId) -> usize
-    ensures { result ≡ length (owed_of (ups_at u.place server.now)) }
+    ensures { result ≡ length (owed_of (ups_at u.place server.now.state)) }
 {
     match server.driver_offered(u) {
         Ok(n) => n,
@@ -314,7 +314,7 @@ fn driver_bytes_taken(
     n: usize,
 ) -> Result<Vec<u8>, AllocError>
     ensures bytes { IfOk result (λ bytes.
-        bytes.items ≡ driver_taken_in_event u server.old (Event.DriverTook u n)) }
+        bytes.items ≡ driver_taken_in_event u server.old.state (Event.DriverTook u n)) }
     ensures same { server.new ≡ server.old }
 {
     let mut taken = Vec::new(alloc);

@@ -17,8 +17,8 @@ use nutusers::UpsId;
 impl Server {
     /// Whether a driver is connected to the UPS, if there is such a UPS.
     pub(super) fn connection(&self, u: UpsId) -> Option<bool>
-        ensures connected { result ≡ option_map is_connected (ups_at u.place self.now) }
-        ensures lawful { IsLawful self.now }
+        ensures connected { result ≡ option_map is_connected (ups_at u.place self.now.state) }
+        ensures lawful { IsLawful self.now.state }
     {
         match self.upses.get(u.place as usize) {
             Some(ups) => Some(ups.is_connected()),
@@ -28,8 +28,10 @@ impl Server {
 
     /// Connects a driver to the UPS.
     pub(super) fn connect(&mut self, u: UpsId)
-        requires { u.place < length self.old.upses }
-        ensures { self.new ≡ with_ups_changed (after_connecting self.old.moment) u self.old }
+        requires { u.place < length self.old.state.upses }
+        ensures connects { self.new.state
+            ≡ with_ups_changed (after_connecting self.old.state.moment) u self.old.state }
+        ensures cost { self.new.cost ≡ self.old.cost }
     {
         lawful_lines_keep_trees_sound();
         each_line_keeps_the_tree_sound();
@@ -39,8 +41,9 @@ impl Server {
 
     /// Takes the driver from the UPS, and what it told.
     pub(super) fn disconnect(&mut self, u: UpsId)
-        requires { u.place < length self.old.upses }
-        ensures { self.new ≡ with_ups_changed after_loss u self.old }
+        requires { u.place < length self.old.state.upses }
+        ensures loses { self.new.state ≡ with_ups_changed after_loss u self.old.state }
+        ensures cost { self.new.cost ≡ self.old.cost }
     {
         lawful_lines_keep_trees_sound();
         each_line_keeps_the_tree_sound();
@@ -50,8 +53,9 @@ impl Server {
 
     /// Takes n bytes of what the driver is owed.
     pub(super) fn take_from_driver(&mut self, u: UpsId, n: usize) -> Result<(), Fault>
-        requires { option_map is_connected (ups_at u.place self.old) ≡ Some true }
-        ensures { DriverTakes u n self.old result self.new }
+        requires { option_map is_connected (ups_at u.place self.old.state) ≡ Some true }
+        ensures takes { DriverTakes u n self.old.state result self.new.state }
+        ensures cost { self.new.cost ≡ self.old.cost }
     {
         let ups = &mut self.upses[u.place as usize];
         ups.take(n)
@@ -59,8 +63,9 @@ impl Server {
 
     /// Hands the bytes of its driver to the UPS.
     pub(super) fn feed_driver(&mut self, u: UpsId, piece: &[u8]) -> Result<(), Fault>
-        requires { option_map is_connected (ups_at u.place self.old) ≡ Some true }
-        ensures { DriverFeedGives u piece.now self.old result self.new }
+        requires { option_map is_connected (ups_at u.place self.old.state) ≡ Some true }
+        ensures gives { DriverFeedGives u piece.now self.old.state result self.new.state }
+        ensures cost { self.new.cost ≡ self.old.cost }
     {
         lawful_lines_keep_trees_sound();
         each_line_keeps_the_tree_sound();

@@ -6,7 +6,8 @@ ghost use Rattle.nutcore.specs.History.{owed};
 ghost use Rattle.nutcore.specs.Ups.{with_fsd, with_order};
 ghost use Rattle.nutcore.specs.Ups.{UpsState};
 ghost use Rattle.nutcore.specs.Calls.{done};
-ghost use Rattle.nutcore.specs.Serving.{IsAt, TakesLine, OrderFits, PumpGives, RepliesOrLacks, IsText, NextIs, IsAnswered};
+ghost use Rattle.nutcore.specs.Step.{offered};
+ghost use Rattle.nutcore.specs.Serving.{IsAt, TakesLine, OrderFits, PumpGives, RepliesOrLacks, IsText, NextIs, IsAnswered, IsLineOrNone, IsCounted, KeepsCost, cost_beyond};
 ghost use Rattle.nutcore.specs.Reply.{asker, changed_upses, seen_client};
 ghost use Rattle.nutanswer.specs.View.{asker_seen, addresses_at};
 ghost use Rattle.nutlisting.specs.declared.listing.clients.TheConstants.{SESSION_LIMIT};
@@ -35,9 +36,9 @@ impl Server {
         who: Asker<'_>,
         line: &[u8],
     ) -> Result<Reply, AllocError>
-        requires asks { asker_seen who ≡ asker c self.now }
+        requires asks { asker_seen who ≡ asker c self.now.state }
         requires short { length line.now ≤ LINE_LIMIT }
-        ensures { RepliesOrLacks self.now c line.now result }
+        ensures { RepliesOrLacks self.now.state c line.now result }
     {
         match Command::read(line) {
             Err(word) => Ok(one_line(word.line())),
@@ -48,8 +49,8 @@ impl Server {
 
     /// Whether the session's next line may be executed.
     pub(super) fn has_line(&self, c: ClientId, place: usize) -> bool
-        requires { IsAt c place self.now.sessions }
-        ensures { result ≡ is_some (next_line_for self.now c) }
+        requires { IsAt c place self.now.state.sessions }
+        ensures { result ≡ is_some (next_line_for self.now.state c) }
     {
         let session = &self.sessions[place];
         session.next_line().is_some()
@@ -57,9 +58,10 @@ impl Server {
 
     /// What answers the session's next line, which is there.
     pub(super) fn next_reply(&self, c: ClientId, place: usize) -> Result<Reply, AllocError>
-        requires at { IsAt c place self.now.sessions }
-        requires next { is_some (next_line_for self.now c) ≡ true }
-        ensures next { NextIs self.now c (λ line. RepliesOrLacks self.now c line result) }
+        requires at { IsAt c place self.now.state.sessions }
+        requires next { is_some (next_line_for self.now.state c) ≡ true }
+        ensures next { NextIs self.now.state c
+            (λ line. RepliesOrLacks self.now.state c line result) }
     {
         let session = &self.sessions[place];
         let line = session.next_line().unwrap();
@@ -69,10 +71,12 @@ impl Server {
     /// Takes the next line, joins the text that answers it, and does what it changes of the
     /// session. Takes no memory.
     pub(super) fn answer_text(&mut self, c: ClientId, place: usize, text: &[u8], change: Change)
-        requires at { IsAt c place self.old.sessions }
-        requires next { is_some (next_line_for self.old c) ≡ true }
+        requires at { IsAt c place self.old.state.sessions }
+        requires next { is_some (next_line_for self.old.state c) ≡ true }
         requires short { length text.now ≤ OWED_LIMIT }
-        ensures { IsAnswered self.old c text.now change self.new }
+        requires line { IsLineOrNone text.now }
+        ensures answered { IsAnswered self.old.state c text.now change self.new.state }
+        ensures keeps { KeepsCost c self.old self.new }
     {
         let session = &mut self.sessions[place];
         session.answer(text, change, &mut self.scratch);
@@ -80,8 +84,10 @@ impl Server {
 
     /// Does what an answer changes of the UPSs.
     pub(super) fn change_upses(&mut self, change: &Change)
-        requires fits { OrderFits change.now self.old.upses }
-        ensures { self.new ≡ record self.old { upses = changed_upses change.now self.old.upses } }
+        requires fits { OrderFits change.now self.old.state.upses }
+        ensures changed { self.new.state ≡ record self.old.state
+            { upses = changed_upses change.now self.old.state.upses } }
+        ensures cost { self.new.cost ≡ self.old.cost }
     {
         match change {
             Change::Fsd(u) => set_fsd(&mut self.upses, *u),
@@ -92,9 +98,10 @@ impl Server {
 
     /// Executes the next line, whose answer is this listing. Takes no memory.
     pub(super) fn answer_listing(&mut self, c: ClientId, place: usize, listing: Listing)
-        requires at { IsAt c place self.old.sessions }
-        requires next { is_some (next_line_for self.old c) ≡ true }
-        ensures { IsAnswered self.old c (text_of listing) Nothing self.new }
+        requires at { IsAt c place self.old.state.sessions }
+        requires next { is_some (next_line_for self.old.state c) ≡ true }
+        ensures answered { IsAnswered self.old.state c (text_of listing) Nothing self.new.state }
+        ensures keeps { KeepsCost c self.old self.new }
     {
         let session = &mut self.sessions[place];
         session.answer_listing(listing, &mut self.scratch);
@@ -103,11 +110,13 @@ impl Server {
     /// Executes the next line, which is answered by the listing of the clients that are logged in to this UPS. Takes no
     /// memory.
     pub(super) fn answer_clients(&mut self, c: ClientId, place: usize, name: &UpsName, u: UpsId)
-        requires at { IsAt c place self.old.sessions }
-        requires next { is_some (next_line_for self.old c) ≡ true }
-        ensures { IsAnswered self.old c
-            (text_of (client_listing name.now (addresses_at u (map seen_client self.old.sessions))))
-            Nothing self.new }
+        requires at { IsAt c place self.old.state.sessions }
+        requires next { is_some (next_line_for self.old.state c) ≡ true }
+        ensures answered { IsAnswered self.old.state c
+            (text_of (client_listing name.now
+            (addresses_at u (map seen_client self.old.state.sessions))))
+            Nothing self.new.state }
+        ensures keeps { KeepsCost c self.old self.new }
     {
         list_clients(&self.sessions, u, &mut self.scratch.clients);
         let session = &mut self.sessions[place];
@@ -118,11 +127,12 @@ impl Server {
     /// cleared where a function begins: so it is a call of its own, and a session without a line pays for none.
     #[inline(never)]
     pub(super) fn execute(&mut self, c: ClientId, place: usize) -> Result<(), AllocError>
-        requires at { IsAt c place self.old.sessions }
-        requires next { is_some (next_line_for self.old c) ≡ true }
-        ensures ok { OnOk result (self.new ≡ after_line self.old c) }
-        ensures err { OnErr result (self.new ≡ self.old) }
-        ensures memory { OnErr result (IsTrue (wants_memory self.old c)) }
+        requires at { IsAt c place self.old.state.sessions }
+        requires next { is_some (next_line_for self.old.state c) ≡ true }
+        ensures ok { OnOk result (self.new.state ≡ after_line self.old.state c) }
+        ensures err { OnErr result (self.new.state ≡ self.old.state) }
+        ensures memory { OnErr result (IsTrue (wants_memory self.old.state c)) }
+        ensures keeps { KeepsCost c self.old self.new }
     {
         match self.next_reply(c, place)? {
             Reply::One(text, change) => {
@@ -143,9 +153,11 @@ impl Server {
 
     /// A session that holds too long a line is told so, and begins to end.
     pub(super) fn end_if_overlong(&mut self, c: ClientId, place: usize) -> bool
-        requires { IsAt c place self.old.sessions }
-        ensures overlong { result ≡ is_overlong self.old c }
-        ensures notified { self.new ≡ after_notice self.old c }
+        requires { IsAt c place self.old.state.sessions }
+        ensures overlong { result ≡ is_overlong self.old.state c }
+        ensures notified { self.new.state ≡ after_notice self.old.state c }
+        ensures keeps { KeepsCost c self.old self.new }
+        ensures at { IsAt c place self.new.state.sessions }
     {
         let session = &mut self.sessions[place];
         session.end_if_overlong(&mut self.scratch)
@@ -153,9 +165,11 @@ impl Server {
 
     /// Executes the session's lines, as long as they may be executed.
     pub(super) fn pump(&mut self, c: ClientId, place: usize) -> Result<(), Fault>
-        requires at { IsAt c place self.old.sessions }
-        requires short { length (held_of (session c self.old)) ≤ HELD_LIMIT }
-        ensures { PumpGives self.old c result self.new }
+        requires at { IsAt c place self.old.state.sessions }
+        requires short { length (held_of (session c self.old.state)) ≤ HELD_LIMIT }
+        ensures gives { PumpGives self.old.state c result self.new.state }
+        ensures keeps { KeepsCost c self.old self.new }
+        ensures at { IsAt c place self.new.state.sessions }
     {
         let mut done = 0;
         while self.has_line(c, place) {
@@ -168,6 +182,21 @@ impl Server {
             return Err(Fault::LineTooLong);
         }
         Ok(())
+    }
+
+    /// Executes the session's lines, and counts as placed what is offered then behind so many bytes, which were offered
+    /// before.
+    pub(super) fn serve(&mut self, c: ClientId, place: usize, kept: usize) -> Result<(), Fault>
+        requires at { IsAt c place self.old.state.sessions }
+        requires short { length (held_of (session c self.old.state)) ≤ HELD_LIMIT }
+        requires counted { IsCounted kept (owed c self.old.state) self.old.cost.rendered }
+        ensures gives { PumpGives self.old.state c result self.new.state }
+        ensures within { kept ≤ length (offered (session c self.new.state)) }
+        ensures cost { self.new.cost ≡ cost_beyond kept (offered (session c self.new.state)) }
+    {
+        let pumped = self.pump(c, place);
+        self.placed = self.offered_at(c, place) - kept;
+        pumped
     }
 }
 

@@ -13,7 +13,7 @@ impl Server {
     ///
     /// `NoSuchUps`.
     pub fn driver_connected(&self, u: UpsId) -> Result<bool, Fault>
-        ensures { ReadsUps (λ x. x.report.connected) (ups_at u.place self.now) result }
+        ensures { ReadsUps (λ x. x.report.connected) (ups_at u.place self.now.state) result }
     {
         match self.upses.get(u.place as usize) {
             Some(ups) => Ok(ups.is_connected()),
@@ -27,7 +27,7 @@ impl Server {
     ///
     /// `NoSuchUps`.
     pub fn forced_shutdown(&self, u: UpsId) -> Result<bool, Fault>
-        ensures { ReadsUps (λ x. x.fsd) (ups_at u.place self.now) result }
+        ensures { ReadsUps (λ x. x.fsd) (ups_at u.place self.now.state) result }
     {
         match self.upses.get(u.place as usize) {
             Some(ups) => Ok(ups.fsd()),

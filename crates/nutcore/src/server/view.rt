@@ -12,7 +12,7 @@ use nutusers::{Descriptions, UpsId, UpsList, Users};
 impl View for Server {
     ghost use Rattle.nutcore.specs.Reply.{seen};
 
-    ghost seen = { seen };
+    ghost seen = { λ s. seen s.state };
 
     fn moment(&self) -> u64 {
         self.moment

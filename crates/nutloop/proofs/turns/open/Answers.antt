@@ -5,10 +5,10 @@ use Rattle.nutloop.proofs.turns.open.Goals as goal
 
 pub returns-in-Ok : goal.returns-in-Ok
 returns-in-Ok g c =
-    does_one g.S.Sockets.calls g.S.Sockets.failures (Open c.args.address) (Opened c.in-Ok.c) c.args.server.now c.args.sockets.now c.open.new.self c.name.new.self
-    c.in-Ok.ensures.step c.name.ensures.told c.name.ensures.count
+    does_one g.S.Sockets.calls g.S.Sockets.failures (Open c.args.address) (Opened c.in-Ok.c) c.args.server.now.state c.args.sockets.now c.open.new.self.state c.name.new.self
+    c.in-Ok.ensures.served.step c.name.ensures.told c.name.ensures.count
 
 pub returns-in-Err : goal.returns-in-Err
 returns-in-Err g c =
-    does_one g.S.Sockets.calls g.S.Sockets.failures (Open c.args.address) (Refused c.in-Err.field-0) c.args.server.now c.args.sockets.now c.open.new.self c.refuse.new.self
-    c.in-Err.ensures.step c.refuse.ensures.told c.refuse.ensures.count
+    does_one g.S.Sockets.calls g.S.Sockets.failures (Open c.args.address) (Refused c.in-Err.field-0) c.args.server.now.state c.args.sockets.now c.open.new.self.state c.refuse.new.self
+    c.in-Err.ensures.served.step c.refuse.ensures.told c.refuse.ensures.count

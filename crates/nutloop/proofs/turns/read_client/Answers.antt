@@ -12,40 +12,40 @@ use Rattle.nutloop.proofs.turns.read_client.Goals as goal
 
 pub returns-in_default : goal.returns-in_default
 returns-in_default g c =
-    let none : session c.args.c c.args.server.now ≡ _ = is_absent c.in_default.field-0 (session c.args.c c.args.server.now) c.in_default.ensures in
-    row_of g.S.Sockets.calls g.S.Sockets.failures (Read (Client c.args.c)) unasked nobody [] c.args.server.now c.args.sockets.now c.args.sockets.now c.args.server.now c.args.sockets.now
-    (asks_nobody_there c.args.c c.args.server.now none) (ap (λ o. if is_some o then Feed c.args.c [] ∷ [] else []) none) refl tt (grows_nothing (g.S.Sockets.calls c.args.sockets.now)) refl
-    (does_nothing g.S.Sockets.calls g.S.Sockets.failures c.args.server.now c.args.sockets.now c.args.server.now refl)
+    let none : session c.args.c c.args.server.now.state ≡ _ = is_absent c.in_default.field-0 (session c.args.c c.args.server.now.state) c.in_default.ensures in
+    row_of g.S.Sockets.calls g.S.Sockets.failures (Read (Client c.args.c)) unasked nobody [] c.args.server.now.state c.args.sockets.now c.args.sockets.now c.args.server.now.state c.args.sockets.now
+    (asks_nobody_there c.args.c c.args.server.now.state none) (ap (λ o. if is_some o then Feed c.args.c [] ∷ [] else []) none) refl tt (grows_nothing (g.S.Sockets.calls c.args.sockets.now)) refl
+    (does_nothing g.S.Sockets.calls g.S.Sockets.failures c.args.server.now.state c.args.sockets.now c.args.server.now.state refl)
 
 pub returns-then-room-eq0 : goal.returns-then-room-eq0
 returns-then-room-eq0 g c =
-    row_of g.S.Sockets.calls g.S.Sockets.failures (Read (Client c.args.c)) unasked nobody (Feed c.args.c [] ∷ []) c.args.server.now c.args.sockets.now c.args.sockets.now c.feed.new.self c.args.sockets.now
-    (asks_nobody c.args.c c.in-Ok.room c.args.server.now c.in-Ok.ensures c.if-room-eq0.true) (ap (λ b. if b then Feed c.args.c [] ∷ [] else []) (is_there c.in-Ok.room (session c.args.c c.args.server.now) c.in-Ok.ensures)) refl tt (grows_nothing (g.S.Sockets.calls c.args.sockets.now)) refl
-    (does_quietly g.S.Sockets.calls g.S.Sockets.failures (Feed c.args.c []) (fed c.feed.result) c.args.server.now c.args.sockets.now c.feed.new.self refl c.feed.ensures.step)
+    row_of g.S.Sockets.calls g.S.Sockets.failures (Read (Client c.args.c)) unasked nobody (Feed c.args.c [] ∷ []) c.args.server.now.state c.args.sockets.now c.args.sockets.now c.feed.new.self.state c.args.sockets.now
+    (asks_nobody c.args.c c.in-Ok.room c.args.server.now.state c.in-Ok.ensures c.if-room-eq0.true) (ap (λ b. if b then Feed c.args.c [] ∷ [] else []) (is_there c.in-Ok.room (session c.args.c c.args.server.now.state) c.in-Ok.ensures)) refl tt (grows_nothing (g.S.Sockets.calls c.args.sockets.now)) refl
+    (does_quietly g.S.Sockets.calls g.S.Sockets.failures (Feed c.args.c []) (fed c.feed.result) c.args.server.now.state c.args.sockets.now c.feed.new.self.state refl c.feed.ensures.served.step)
 
 pub returns-in-Ok-Bytes : goal.returns-in-Ok-Bytes
 returns-in-Ok-Bytes g c =
     let bound : c.in-Ok-Bytes.n ≤ length c.read.new.into = rw c.in-Ok-Bytes.field-0-is at c.in-Ok-Bytes.ensures.bound in
     let same : length {A = ℕ} c.read.new.into ≡ length {A = ℕ} (take c.in-Ok.room (replicate HELD_LIMIT 0)) = c.read.auto.into in
-    row_of g.S.Sockets.calls g.S.Sockets.failures (Read (Client c.args.c)) (gave (take c.in-Ok-Bytes.n c.read.new.into)) (reads (Client c.args.c) c.in-Ok.room) (Feed c.args.c (take c.in-Ok-Bytes.n c.read.new.into) ∷ []) c.args.server.now c.args.sockets.now c.read.new.self c.feed-in-Ok-Bytes.new.self c.read.new.self
-    (asks_read c.args.c c.in-Ok.room c.args.server.now c.in-Ok.ensures c.if-room-eq0.false) refl refl (omega (arith, length-take {A = ℕ} c.in-Ok-Bytes.n c.read.new.into, length-take {A = ℕ} c.in-Ok.room (replicate HELD_LIMIT 0)))
+    row_of g.S.Sockets.calls g.S.Sockets.failures (Read (Client c.args.c)) (gave (take c.in-Ok-Bytes.n c.read.new.into)) (reads (Client c.args.c) c.in-Ok.room) (Feed c.args.c (take c.in-Ok-Bytes.n c.read.new.into) ∷ []) c.args.server.now.state c.args.sockets.now c.read.new.self c.feed-in-Ok-Bytes.new.self.state c.read.new.self
+    (asks_read c.args.c c.in-Ok.room c.args.server.now.state c.in-Ok.ensures c.if-room-eq0.false) refl refl (omega (arith, length-take {A = ℕ} c.in-Ok-Bytes.n c.read.new.into, length-take {A = ℕ} c.in-Ok.room (replicate HELD_LIMIT 0)))
     (rw c.in-Ok-Bytes.field-0-is at c.in-Ok-Bytes.ensures.told) c.in-Ok-Bytes.ensures.count
-    (does_quietly g.S.Sockets.calls g.S.Sockets.failures (Feed c.args.c (take c.in-Ok-Bytes.n c.read.new.into)) (fed c.feed-in-Ok-Bytes.result) c.args.server.now c.read.new.self c.feed-in-Ok-Bytes.new.self refl c.feed-in-Ok-Bytes.ensures.step)
+    (does_quietly g.S.Sockets.calls g.S.Sockets.failures (Feed c.args.c (take c.in-Ok-Bytes.n c.read.new.into)) (fed c.feed-in-Ok-Bytes.result) c.args.server.now.state c.read.new.self c.feed-in-Ok-Bytes.new.self.state refl c.feed-in-Ok-Bytes.ensures.served.step)
 
 pub returns-in-Ok-Later : goal.returns-in-Ok-Later
 returns-in-Ok-Later g c =
-    row_of g.S.Sockets.calls g.S.Sockets.failures (Read (Client c.args.c)) later (reads (Client c.args.c) c.in-Ok.room) [] c.args.server.now c.args.sockets.now c.read.new.self c.args.server.now c.read.new.self
-    (asks_read c.args.c c.in-Ok.room c.args.server.now c.in-Ok.ensures c.if-room-eq0.false) refl refl tt
+    row_of g.S.Sockets.calls g.S.Sockets.failures (Read (Client c.args.c)) later (reads (Client c.args.c) c.in-Ok.room) [] c.args.server.now.state c.args.sockets.now c.read.new.self c.args.server.now.state c.read.new.self
+    (asks_read c.args.c c.in-Ok.room c.args.server.now.state c.in-Ok.ensures c.if-room-eq0.false) refl refl tt
     (rw c.in-Ok-Later.field-0-is at c.in-Ok-Later.ensures.told) c.in-Ok-Later.ensures.count
-    (does_nothing g.S.Sockets.calls g.S.Sockets.failures c.args.server.now c.read.new.self c.args.server.now refl)
+    (does_nothing g.S.Sockets.calls g.S.Sockets.failures c.args.server.now.state c.read.new.self c.args.server.now.state refl)
 
 pub returns-in-Ok-End : goal.returns-in-Ok-End
 returns-in-Ok-End g c =
-    row_of g.S.Sockets.calls g.S.Sockets.failures (Read (Client c.args.c)) ended (reads (Client c.args.c) c.in-Ok.room) (Close c.args.c ∷ []) c.args.server.now c.args.sockets.now c.read.new.self c.close.new.server c.close.new.sockets
-    (asks_read c.args.c c.in-Ok.room c.args.server.now c.in-Ok.ensures c.if-room-eq0.false) refl refl tt
+    row_of g.S.Sockets.calls g.S.Sockets.failures (Read (Client c.args.c)) ended (reads (Client c.args.c) c.in-Ok.room) (Close c.args.c ∷ []) c.args.server.now.state c.args.sockets.now c.read.new.self c.close.new.server.state c.close.new.sockets
+    (asks_read c.args.c c.in-Ok.room c.args.server.now.state c.in-Ok.ensures c.if-room-eq0.false) refl refl tt
     (rw c.in-Ok-End.field-0-is at c.in-Ok-End.ensures.told) c.in-Ok-End.ensures.count c.close.ensures
 
 pub returns-in-Err : goal.returns-in-Err
 returns-in-Err g c =
-    row_of g.S.Sockets.calls g.S.Sockets.failures (Read (Client c.args.c)) failed (reads (Client c.args.c) c.in-Ok.room) (Close c.args.c ∷ []) c.args.server.now c.args.sockets.now c.read.new.self c.close-in-Err.new.server c.close-in-Err.new.sockets
-    (asks_read c.args.c c.in-Ok.room c.args.server.now c.in-Ok.ensures c.if-room-eq0.false) refl refl tt c.in-Err.ensures.told c.in-Err.ensures.count c.close-in-Err.ensures
+    row_of g.S.Sockets.calls g.S.Sockets.failures (Read (Client c.args.c)) failed (reads (Client c.args.c) c.in-Ok.room) (Close c.args.c ∷ []) c.args.server.now.state c.args.sockets.now c.read.new.self c.close-in-Err.new.server.state c.close-in-Err.new.sockets
+    (asks_read c.args.c c.in-Ok.room c.args.server.now.state c.in-Ok.ensures c.if-room-eq0.false) refl refl tt c.in-Err.ensures.told c.in-Err.ensures.count c.close-in-Err.ensures

@@ -11,34 +11,34 @@ use Rattle.nutloop.proofs.turns.read_driver.Goals as goal
 
 pub returns-then-is_err : goal.returns-then-is_err
 returns-then-is_err g c =
-    row_of g.S.Sockets.calls g.S.Sockets.failures (Read (Driver c.args.u)) unasked nobody (DriverTook c.args.u 0 ∷ []) c.args.server.now c.args.sockets.now c.args.sockets.now c.driver_took.new.self c.args.sockets.now
-    (asks_no_driver c.args.u c.driver_took.result c.args.server.now c.driver_took.new.self c.driver_took.ensures.served.step (sym c.is_err.ensures.value ∙ c.if-is_err.true)) refl refl tt (grows_nothing (g.S.Sockets.calls c.args.sockets.now)) refl
-    (does_quietly g.S.Sockets.calls g.S.Sockets.failures (DriverTook c.args.u 0) (done c.driver_took.result) c.args.server.now c.args.sockets.now c.driver_took.new.self refl c.driver_took.ensures.served.step)
+    row_of g.S.Sockets.calls g.S.Sockets.failures (Read (Driver c.args.u)) unasked nobody (DriverTook c.args.u 0 ∷ []) c.args.server.now.state c.args.sockets.now c.args.sockets.now c.driver_took.new.self.state c.args.sockets.now
+    (asks_no_driver c.args.u c.driver_took.result c.args.server.now.state c.driver_took.new.self.state c.driver_took.ensures.served.step (sym c.is_err.ensures.value ∙ c.if-is_err.true)) refl refl tt (grows_nothing (g.S.Sockets.calls c.args.sockets.now)) refl
+    (does_quietly g.S.Sockets.calls g.S.Sockets.failures (DriverTook c.args.u 0) (done c.driver_took.result) c.args.server.now.state c.args.sockets.now c.driver_took.new.self.state refl c.driver_took.ensures.served.step)
 
 pub returns-in-Ok-Bytes : goal.returns-in-Ok-Bytes
 returns-in-Ok-Bytes g c =
     let bound : c.in-Ok-Bytes.n ≤ length c.read.new.into = rw c.in-Ok-Bytes.field-0-is at c.in-Ok-Bytes.ensures.bound in
-    row_of g.S.Sockets.calls g.S.Sockets.failures (Read (Driver c.args.u)) (gave (take c.in-Ok-Bytes.n c.read.new.into)) (reads (Driver c.args.u) DRIVER_READ_LIMIT) (DriverTook c.args.u 0 ∷ DriverBytes c.args.u (take c.in-Ok-Bytes.n c.read.new.into) ∷ []) c.args.server.now c.args.sockets.now c.read.new.self c.feed_driver.new.server c.feed_driver.new.sockets
-    (asks_driver c.args.u c.driver_took.result c.args.server.now c.driver_took.new.self c.driver_took.ensures.served.step (sym c.is_err.ensures.value ∙ c.if-is_err.false)) refl refl (omega (arith, length-take c.in-Ok-Bytes.n c.read.new.into, c.read.auto.into))
+    row_of g.S.Sockets.calls g.S.Sockets.failures (Read (Driver c.args.u)) (gave (take c.in-Ok-Bytes.n c.read.new.into)) (reads (Driver c.args.u) DRIVER_READ_LIMIT) (DriverTook c.args.u 0 ∷ DriverBytes c.args.u (take c.in-Ok-Bytes.n c.read.new.into) ∷ []) c.args.server.now.state c.args.sockets.now c.read.new.self c.feed_driver.new.server.state c.feed_driver.new.sockets
+    (asks_driver c.args.u c.driver_took.result c.args.server.now.state c.driver_took.new.self.state c.driver_took.ensures.served.step (sym c.is_err.ensures.value ∙ c.if-is_err.false)) refl refl (omega (arith, length-take c.in-Ok-Bytes.n c.read.new.into, c.read.auto.into))
     (rw c.in-Ok-Bytes.field-0-is at c.in-Ok-Bytes.ensures.told) c.in-Ok-Bytes.ensures.count
-    (does_behind_asking g.S.Sockets.calls g.S.Sockets.failures c.args.u (done c.driver_took.result) (DriverBytes c.args.u (take c.in-Ok-Bytes.n c.read.new.into) ∷ []) c.args.server.now c.driver_took.new.self c.read.new.self c.feed_driver.new.server c.feed_driver.new.sockets c.driver_took.ensures.served.step c.feed_driver.ensures)
+    (does_behind_asking g.S.Sockets.calls g.S.Sockets.failures c.args.u (done c.driver_took.result) (DriverBytes c.args.u (take c.in-Ok-Bytes.n c.read.new.into) ∷ []) c.args.server.now.state c.driver_took.new.self.state c.read.new.self c.feed_driver.new.server.state c.feed_driver.new.sockets c.driver_took.ensures.served.step c.feed_driver.ensures)
 
 pub returns-in-Ok-Later : goal.returns-in-Ok-Later
 returns-in-Ok-Later g c =
-    row_of g.S.Sockets.calls g.S.Sockets.failures (Read (Driver c.args.u)) later (reads (Driver c.args.u) DRIVER_READ_LIMIT) (DriverTook c.args.u 0 ∷ []) c.args.server.now c.args.sockets.now c.read.new.self c.driver_took.new.self c.read.new.self
-    (asks_driver c.args.u c.driver_took.result c.args.server.now c.driver_took.new.self c.driver_took.ensures.served.step (sym c.is_err.ensures.value ∙ c.if-is_err.false)) refl refl tt
+    row_of g.S.Sockets.calls g.S.Sockets.failures (Read (Driver c.args.u)) later (reads (Driver c.args.u) DRIVER_READ_LIMIT) (DriverTook c.args.u 0 ∷ []) c.args.server.now.state c.args.sockets.now c.read.new.self c.driver_took.new.self.state c.read.new.self
+    (asks_driver c.args.u c.driver_took.result c.args.server.now.state c.driver_took.new.self.state c.driver_took.ensures.served.step (sym c.is_err.ensures.value ∙ c.if-is_err.false)) refl refl tt
     (rw c.in-Ok-Later.field-0-is at c.in-Ok-Later.ensures.told) c.in-Ok-Later.ensures.count
-    (does_quietly g.S.Sockets.calls g.S.Sockets.failures (DriverTook c.args.u 0) (done c.driver_took.result) c.args.server.now c.read.new.self c.driver_took.new.self refl c.driver_took.ensures.served.step)
+    (does_quietly g.S.Sockets.calls g.S.Sockets.failures (DriverTook c.args.u 0) (done c.driver_took.result) c.args.server.now.state c.read.new.self c.driver_took.new.self.state refl c.driver_took.ensures.served.step)
 
 pub returns-in-Ok-End : goal.returns-in-Ok-End
 returns-in-Ok-End g c =
-    row_of g.S.Sockets.calls g.S.Sockets.failures (Read (Driver c.args.u)) ended (reads (Driver c.args.u) DRIVER_READ_LIMIT) (DriverTook c.args.u 0 ∷ DriverDown c.args.u ∷ []) c.args.server.now c.args.sockets.now c.read.new.self c.lose.new.server c.lose.new.sockets
-    (asks_driver c.args.u c.driver_took.result c.args.server.now c.driver_took.new.self c.driver_took.ensures.served.step (sym c.is_err.ensures.value ∙ c.if-is_err.false)) refl refl tt
+    row_of g.S.Sockets.calls g.S.Sockets.failures (Read (Driver c.args.u)) ended (reads (Driver c.args.u) DRIVER_READ_LIMIT) (DriverTook c.args.u 0 ∷ DriverDown c.args.u ∷ []) c.args.server.now.state c.args.sockets.now c.read.new.self c.lose.new.server.state c.lose.new.sockets
+    (asks_driver c.args.u c.driver_took.result c.args.server.now.state c.driver_took.new.self.state c.driver_took.ensures.served.step (sym c.is_err.ensures.value ∙ c.if-is_err.false)) refl refl tt
     (rw c.in-Ok-End.field-0-is at c.in-Ok-End.ensures.told) c.in-Ok-End.ensures.count
-    (does_behind_asking g.S.Sockets.calls g.S.Sockets.failures c.args.u (done c.driver_took.result) (DriverDown c.args.u ∷ []) c.args.server.now c.driver_took.new.self c.read.new.self c.lose.new.server c.lose.new.sockets c.driver_took.ensures.served.step c.lose.ensures)
+    (does_behind_asking g.S.Sockets.calls g.S.Sockets.failures c.args.u (done c.driver_took.result) (DriverDown c.args.u ∷ []) c.args.server.now.state c.driver_took.new.self.state c.read.new.self c.lose.new.server.state c.lose.new.sockets c.driver_took.ensures.served.step c.lose.ensures)
 
 pub returns-in-Err : goal.returns-in-Err
 returns-in-Err g c =
-    row_of g.S.Sockets.calls g.S.Sockets.failures (Read (Driver c.args.u)) failed (reads (Driver c.args.u) DRIVER_READ_LIMIT) (DriverTook c.args.u 0 ∷ DriverDown c.args.u ∷ []) c.args.server.now c.args.sockets.now c.read.new.self c.lose-in-Err.new.server c.lose-in-Err.new.sockets
-    (asks_driver c.args.u c.driver_took.result c.args.server.now c.driver_took.new.self c.driver_took.ensures.served.step (sym c.is_err.ensures.value ∙ c.if-is_err.false)) refl refl tt c.in-Err.ensures.told c.in-Err.ensures.count
-    (does_behind_asking g.S.Sockets.calls g.S.Sockets.failures c.args.u (done c.driver_took.result) (DriverDown c.args.u ∷ []) c.args.server.now c.driver_took.new.self c.read.new.self c.lose-in-Err.new.server c.lose-in-Err.new.sockets c.driver_took.ensures.served.step c.lose-in-Err.ensures)
+    row_of g.S.Sockets.calls g.S.Sockets.failures (Read (Driver c.args.u)) failed (reads (Driver c.args.u) DRIVER_READ_LIMIT) (DriverTook c.args.u 0 ∷ DriverDown c.args.u ∷ []) c.args.server.now.state c.args.sockets.now c.read.new.self c.lose-in-Err.new.server.state c.lose-in-Err.new.sockets
+    (asks_driver c.args.u c.driver_took.result c.args.server.now.state c.driver_took.new.self.state c.driver_took.ensures.served.step (sym c.is_err.ensures.value ∙ c.if-is_err.false)) refl refl tt c.in-Err.ensures.told c.in-Err.ensures.count
+    (does_behind_asking g.S.Sockets.calls g.S.Sockets.failures c.args.u (done c.driver_took.result) (DriverDown c.args.u ∷ []) c.args.server.now.state c.driver_took.new.self.state c.read.new.self c.lose-in-Err.new.server.state c.lose-in-Err.new.sockets c.driver_took.ensures.served.step c.lose-in-Err.ensures)

@@ -10,35 +10,35 @@ use Rattle.nutloop.proofs.turns.turn.Goals as goal
 pub returns-in-Nothing : goal.returns-in-Nothing
 returns-in-Nothing g c = (
   Nothing,
-  row_behind g.S.Sockets.calls g.S.Sockets.failures (Nothing) c.args.server.now c.args.sockets.now c.ready.new.self c.args.server.now c.ready.new.self (rw c.in-Nothing.is at c.in-Ok.ensures.told) c.in-Ok.ensures.count
-      (row_of g.S.Sockets.calls g.S.Sockets.failures Nothing unasked nobody [] c.args.server.now c.ready.new.self c.ready.new.self c.args.server.now c.ready.new.self refl refl refl tt (grows_nothing (g.S.Sockets.calls c.ready.new.self)) refl
-      (does_nothing g.S.Sockets.calls g.S.Sockets.failures c.args.server.now c.ready.new.self c.args.server.now refl)),
+  row_behind g.S.Sockets.calls g.S.Sockets.failures (Nothing) c.args.server.now.state c.args.sockets.now c.ready.new.self c.args.server.now.state c.ready.new.self (rw c.in-Nothing.is at c.in-Ok.ensures.told) c.in-Ok.ensures.count
+      (row_of g.S.Sockets.calls g.S.Sockets.failures Nothing unasked nobody [] c.args.server.now.state c.ready.new.self c.ready.new.self c.args.server.now.state c.ready.new.self refl refl refl tt (grows_nothing (g.S.Sockets.calls c.ready.new.self)) refl
+      (does_nothing g.S.Sockets.calls g.S.Sockets.failures c.args.server.now.state c.ready.new.self c.args.server.now.state refl)),
 )
 
 pub returns-in-Tick : goal.returns-in-Tick
 returns-in-Tick g c = (
   Tick c.in-Tick.seconds,
-  row_behind g.S.Sockets.calls g.S.Sockets.failures (Tick c.in-Tick.seconds) c.args.server.now c.args.sockets.now c.ready.new.self c.tick.new.self c.ready.new.self (rw c.in-Tick.is at c.in-Ok.ensures.told) c.in-Ok.ensures.count
-      (row_of g.S.Sockets.calls g.S.Sockets.failures (Tick c.in-Tick.seconds) unasked nobody (event.Tick c.in-Tick.seconds ∷ []) c.args.server.now c.ready.new.self c.ready.new.self c.tick.new.self c.ready.new.self refl refl refl tt (grows_nothing (g.S.Sockets.calls c.ready.new.self)) refl
-      (does_quietly g.S.Sockets.calls g.S.Sockets.failures (event.Tick c.in-Tick.seconds) Done c.args.server.now c.ready.new.self c.tick.new.self refl c.tick.ensures.step)),
+  row_behind g.S.Sockets.calls g.S.Sockets.failures (Tick c.in-Tick.seconds) c.args.server.now.state c.args.sockets.now c.ready.new.self c.tick.new.self.state c.ready.new.self (rw c.in-Tick.is at c.in-Ok.ensures.told) c.in-Ok.ensures.count
+      (row_of g.S.Sockets.calls g.S.Sockets.failures (Tick c.in-Tick.seconds) unasked nobody (event.Tick c.in-Tick.seconds ∷ []) c.args.server.now.state c.ready.new.self c.ready.new.self c.tick.new.self.state c.ready.new.self refl refl refl tt (grows_nothing (g.S.Sockets.calls c.ready.new.self)) refl
+      (does_quietly g.S.Sockets.calls g.S.Sockets.failures (event.Tick c.in-Tick.seconds) Done c.args.server.now.state c.ready.new.self c.tick.new.self.state refl c.tick.ensures.served.step)),
 )
 
 pub returns-in-DriverUp : goal.returns-in-DriverUp
 returns-in-DriverUp g c = (
   DriverUp c.in-DriverUp.u,
-  row_behind g.S.Sockets.calls g.S.Sockets.failures (DriverUp c.in-DriverUp.u) c.args.server.now c.args.sockets.now c.ready.new.self c.driver_up.new.self c.ready.new.self (rw c.in-DriverUp.is at c.in-Ok.ensures.told) c.in-Ok.ensures.count
-      (row_of g.S.Sockets.calls g.S.Sockets.failures (DriverUp c.in-DriverUp.u) unasked nobody (event.DriverUp c.in-DriverUp.u ∷ []) c.args.server.now c.ready.new.self c.ready.new.self c.driver_up.new.self c.ready.new.self refl refl refl tt (grows_nothing (g.S.Sockets.calls c.ready.new.self)) refl
-      (does_quietly g.S.Sockets.calls g.S.Sockets.failures (event.DriverUp c.in-DriverUp.u) (done c.driver_up.result) c.args.server.now c.ready.new.self c.driver_up.new.self refl c.driver_up.ensures.served.step)),
+  row_behind g.S.Sockets.calls g.S.Sockets.failures (DriverUp c.in-DriverUp.u) c.args.server.now.state c.args.sockets.now c.ready.new.self c.driver_up.new.self.state c.ready.new.self (rw c.in-DriverUp.is at c.in-Ok.ensures.told) c.in-Ok.ensures.count
+      (row_of g.S.Sockets.calls g.S.Sockets.failures (DriverUp c.in-DriverUp.u) unasked nobody (event.DriverUp c.in-DriverUp.u ∷ []) c.args.server.now.state c.ready.new.self c.ready.new.self c.driver_up.new.self.state c.ready.new.self refl refl refl tt (grows_nothing (g.S.Sockets.calls c.ready.new.self)) refl
+      (does_quietly g.S.Sockets.calls g.S.Sockets.failures (event.DriverUp c.in-DriverUp.u) (done c.driver_up.result) c.args.server.now.state c.ready.new.self c.driver_up.new.self.state refl c.driver_up.ensures.served.step)),
 )
 
 pub returns-in-Read : goal.returns-in-Read
 returns-in-Read g c = (
   Read c.in-Read.p,
-  row_behind g.S.Sockets.calls g.S.Sockets.failures (Read c.in-Read.p) c.args.server.now c.args.sockets.now c.ready.new.self c.read.new.server c.read.new.sockets (rw c.in-Read.is at c.in-Ok.ensures.told) c.in-Ok.ensures.count c.read.ensures,
+  row_behind g.S.Sockets.calls g.S.Sockets.failures (Read c.in-Read.p) c.args.server.now.state c.args.sockets.now c.ready.new.self c.read.new.server.state c.read.new.sockets (rw c.in-Read.is at c.in-Ok.ensures.told) c.in-Ok.ensures.count c.read.ensures,
 )
 
 pub returns-in-Write : goal.returns-in-Write
 returns-in-Write g c = (
   Write c.in-Write.p,
-  row_behind g.S.Sockets.calls g.S.Sockets.failures (Write c.in-Write.p) c.args.server.now c.args.sockets.now c.ready.new.self c.write.new.server c.write.new.sockets (rw c.in-Write.is at c.in-Ok.ensures.told) c.in-Ok.ensures.count c.write.ensures,
+  row_behind g.S.Sockets.calls g.S.Sockets.failures (Write c.in-Write.p) c.args.server.now.state c.args.sockets.now c.ready.new.self c.write.new.server.state c.write.new.sockets (rw c.in-Write.is at c.in-Ok.ensures.told) c.in-Ok.ensures.count c.write.ensures,
 )

@@ -11,35 +11,51 @@ use Rattle.nutcore.specs.Reply.{seen_client}
 use Rattle.nutcore.specs.Pump.{answered, next_line_for}
 use Rattle.nutanswer.specs.declared.reply.Change.TheVariants.{Nothing}
 use Rattle.nutcore.proofs.KeptSound.{session_kept, answered_kept}
+use Rattle.nutcore.proofs.Runs.{state_is}
+use Rattle.nutcore.specs.Cost.{RunningServer}
+use Rattle.nutcore.specs.History.{owed}
+use Rattle.nutcore.specs.Serving.{KeepsCount}
+use Rattle.nutcore.proofs.Costs.{cost_kept}
 use Rattle.nutcore.proofs.server.Server.answer_clients.Goals as goal
 
 pub answer_clients-requires : goal.answer_clients-requires
 answer_clients-requires c =
     let x : SessionState = c.index_mut-session.result.now in
-    let found : session c.args.c c.args.self.now ≡ Some x = found_in c.args.c c.args.place (the_view c.self.inside) c.args.self.now x c.self.view_is c.requires.at c.index_mut-session.ensures.value in
-    goes c.args.self.now c.args.c x found c.requires.next
+    let found : session c.args.c c.args.self.now.state ≡ Some x = found_in c.args.c c.args.place (the_view c.self.inside).state c.args.self.now.state x (state_is c.self.view_is) c.requires.at c.index_mut-session.ensures.value in
+    goes c.args.self.now.state c.args.c x found c.requires.next
 
 pub invariant_of-self : goal.invariant_of-self
 invariant_of-self c =
-    let v : ServerState = the_view c.self.inside in
+    let v : ServerState = (the_view c.self.inside).state in
     let x : SessionState = c.index_mut-session.result.now in
-    let at : IsAt c.args.c c.args.place v.sessions = subst (λ (z : ServerState). IsAt c.args.c c.args.place z.sessions) (sym c.self.view_is) c.requires.at in
-    let found : session c.args.c v ≡ Some x = ap (session c.args.c) c.self.view_is ∙ found_in c.args.c c.args.place v c.args.self.now x c.self.view_is c.requires.at c.index_mut-session.ensures.value in
+    let at : IsAt c.args.c c.args.place v.sessions = subst (λ (z : ServerState). IsAt c.args.c c.args.place z.sessions) (sym (state_is c.self.view_is)) c.requires.at in
+    let found : session c.args.c v ≡ Some x = ap (session c.args.c) (state_is c.self.view_is) ∙ found_in c.args.c c.args.place v c.args.self.now.state x (state_is c.self.view_is) c.requires.at c.index_mut-session.ensures.value in
     let y : SessionState = c.answer_clients.new.self in
     let text : List ℕ = text_of (client_listing c.args.name.now c.list_clients.new.clients) in
     record {
-      sound = session_kept v c.args.c c.args.place x y at found c.answer_clients.ensures.id (answered_kept Nothing text x y (goes v c.args.c x found (subst (λ (z : ServerState). is_some (next_line_for z c.args.c) ≡ true) (sym c.self.view_is) c.requires.next)) c.answer_clients.ensures.answered) c.self.invariant.sound;
+      sound = session_kept v c.args.c c.args.place x y at found c.answer_clients.ensures.id (answered_kept Nothing text x y (goes v c.args.c x found (subst (λ (z : ServerState). is_some (next_line_for z c.args.c) ≡ true) (sym (state_is c.self.view_is)) c.requires.next)) c.answer_clients.ensures.answered) c.self.invariant.sound;
       room = c.self.invariant.room;
     }
 
-pub returns : goal.returns
-returns c =
-    let v : ServerState = the_view c.self.inside in
+pub returns-clause-answered : goal.returns-clause-answered
+returns-clause-answered c =
+    let v : ServerState = (the_view c.self.inside).state in
     let x : SessionState = c.index_mut-session.result.now in
     let y : SessionState = c.answer_clients.new.self in
-    let at : IsAt c.args.c c.args.place v.sessions = subst (λ (z : ServerState). IsAt c.args.c c.args.place z.sessions) (sym c.self.view_is) c.requires.at in
-    let found : session c.args.c v ≡ Some x = ap (session c.args.c) c.self.view_is ∙ found_in c.args.c c.args.place v c.args.self.now x c.self.view_is c.requires.at c.index_mut-session.ensures.value in
+    let at : IsAt c.args.c c.args.place v.sessions = subst (λ (z : ServerState). IsAt c.args.c c.args.place z.sessions) (sym (state_is c.self.view_is)) c.requires.at in
+    let found : session c.args.c v ≡ Some x = ap (session c.args.c) (state_is c.self.view_is) ∙ found_in c.args.c c.args.place v c.args.self.now.state x (state_is c.self.view_is) c.requires.at c.index_mut-session.ensures.value in
     let text : List ℕ = text_of (client_listing c.args.name.now (addresses_at c.args.u (map seen_client v.sessions))) in
     let listed = ap (λ (addresses : List (List ℕ)). text_of (client_listing c.args.name.now addresses)) c.list_clients.ensures in
-    subst (λ (z : ServerState). let code : ServerState = record v { sessions = set v.sessions c.args.place y } in IsAnswered z c.args.c (text_of (client_listing c.args.name.now (addresses_at c.args.u (map seen_client z.sessions)))) Nothing code) c.self.view_is
+    subst (λ (z : ServerState). let code : ServerState = record v { sessions = set v.sessions c.args.place y } in IsAnswered z c.args.c (text_of (client_listing c.args.name.now (addresses_at c.args.u (map seen_client z.sessions)))) Nothing code) (state_is c.self.view_is)
     (answered_is v c.args.c c.args.place text Nothing x y at found c.answer_clients.ensures.id (λ line h. c.answer_clients.ensures.answered line h ∙ ap (λ (t : List ℕ). answered line t x) listed))
+
+pub returns-clause-keeps : goal.returns-clause-keeps
+returns-clause-keeps c =
+    let v : ServerState = (the_view c.self.inside).state in
+    let x : SessionState = c.index_mut-session.result.now in
+    let y : SessionState = c.answer_clients.new.self in
+    let at : IsAt c.args.c c.args.place v.sessions = subst (λ (z : ServerState). IsAt c.args.c c.args.place z.sessions) (sym (state_is c.self.view_is)) c.requires.at in
+    let found : session c.args.c v ≡ Some x = ap (session c.args.c) (state_is c.self.view_is) ∙ found_in c.args.c c.args.place v c.args.self.now.state x (state_is c.self.view_is) c.requires.at c.index_mut-session.ensures.value in
+    let t : ServerState = record v { sessions = set v.sessions c.args.place y } in
+    subst (λ (z : RunningServer). KeepsCount (owed c.args.c z.state) z.cost.rendered (owed c.args.c t) c.answer_clients.new.scratch.renders) c.self.view_is
+    (cost_kept v c.args.c c.args.place x y _ _ at found c.answer_clients.ensures.id c.answer_clients.ensures.keeps)

@@ -10,17 +10,18 @@ use Rattle.nutcore.specs.declared.event.Event.TheVariants.{Close}
 use Rattle.nutcore.specs.declared.event.Outcome.TheVariants.{Done}
 use Rattle.nutcore.proofs.Serving.{at_found, left_out}
 use Rattle.nutcore.proofs.EventSteps.{close_absent, close_present, step_from}
-use Rattle.nutcore.proofs.Runs.{served}
+use Rattle.nutcore.proofs.Runs.{served_from}
+use Rattle.nutcore.proofs.Runs.{state_is}
 use Rattle.nutcore.proofs.server.Server.close.Goals as goal
 
 pub returns-in_default-clause-served : goal.returns-in_default-clause-served
 returns-in_default-clause-served c =
-    served _ _ _ _ c.place_of.ensures.lawful (close_absent c.args.self.now c.args.c c.in_default.ensures.place)
+    served_from _ _ _ _ _ c.forget_cost.ensures.state c.place_of.ensures.lawful (close_absent c.forget_cost.new.self.state c.args.c c.in_default.ensures.place)
 
 pub invariant_of-self : goal.invariant_of-self
 invariant_of-self c =
-    let v : ServerState = the_view c.self.inside in
-    let at : IsAt c.args.c c.in-Some.place v.sessions = subst (λ (z : ServerState). IsAt c.args.c c.in-Some.place z.sessions) (sym c.self.view_is) c.in-Some.ensures.place in
+    let v : ServerState = (the_view c.self.inside).state in
+    let at : IsAt c.args.c c.in-Some.place v.sessions = subst (λ (z : ServerState). IsAt c.args.c c.in-Some.place z.sessions) (sym (state_is c.self.view_is)) c.in-Some.ensures.place in
     let left : c.remove-session.new.self.items ≡ without c.args.c v.sessions = c.remove-session.ensures.by_index.2 ∙ sym (left_out v.next_id c.args.c c.in-Some.place v.sessions c.self.invariant.sound.apart at) in
     record {
       sound = subst (λ (xs : List SessionState). let z : ServerState = record v { sessions = xs } in IsSound z) (sym left) (sound_closed v c.args.c c.self.invariant.sound);
@@ -29,8 +30,8 @@ invariant_of-self c =
 
 pub returns-clause-served : goal.returns-clause-served
 returns-clause-served c =
-    let v : ServerState = the_view c.self.inside in
-    let at : IsAt c.args.c c.in-Some.place v.sessions = subst (λ (z : ServerState). IsAt c.args.c c.in-Some.place z.sessions) (sym c.self.view_is) c.in-Some.ensures.place in
+    let v : ServerState = (the_view c.self.inside).state in
+    let at : IsAt c.args.c c.in-Some.place v.sessions = subst (λ (z : ServerState). IsAt c.args.c c.in-Some.place z.sessions) (sym (state_is c.self.view_is)) c.in-Some.ensures.place in
     let left : c.remove-session.new.self.items ≡ without c.args.c v.sessions = c.remove-session.ensures.by_index.2 ∙ sym (left_out v.next_id c.args.c c.in-Some.place v.sessions c.self.invariant.sound.apart at) in
     let t : ServerState = record v { sessions = c.remove-session.new.self.items } in
-    served _ _ _ _ c.place_of.ensures.lawful (step_from v c.args.self.now t t (Close c.args.c) Done c.self.view_is refl (close_present v c.args.c _ c.remove-session.new.self.items (at_found c.args.c c.in-Some.place v.sessions at) left))
+    served_from _ _ _ _ _ c.forget_cost.ensures.state c.place_of.ensures.lawful (step_from v c.forget_cost.new.self.state t t (Close c.args.c) Done (state_is c.self.view_is) refl (close_present v c.args.c _ c.remove-session.new.self.items (at_found c.args.c c.in-Some.place v.sessions at) left))

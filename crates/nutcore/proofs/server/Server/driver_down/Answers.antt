@@ -1,19 +1,19 @@
 use Rattle.std.proofs.Common.{◌∙◌, sym, ap, Some, Bool, true, false}
 use Rattle.nutcore.proofs.DriverSteps.{is_there, not_there, there_within, down_absent, down_again, down_done}
-use Rattle.nutcore.proofs.Runs.{served}
+use Rattle.nutcore.proofs.Runs.{served_from}
 use Rattle.nutcore.proofs.server.Server.driver_down.Goals as goal
 
 pub returns-in-None-clause-served : goal.returns-in-None-clause-served
 returns-in-None-clause-served c =
-    served _ _ _ _ c.connection.ensures.lawful (down_absent c.args.self.now c.args.u (not_there c.args.self.now c.args.u (sym c.in-None.ensures.connected)))
+    served_from _ _ _ _ _ c.forget_cost.ensures.state c.connection.ensures.lawful (down_absent c.forget_cost.new.self.state c.args.u (not_there c.forget_cost.new.self.state c.args.u (sym c.in-None.ensures.connected)))
 
 pub returns-in-Some-false-clause-served : goal.returns-in-Some-false-clause-served
 returns-in-Some-false-clause-served c =
-    served _ _ _ _ c.connection.ensures.lawful (down_again c.args.self.now c.args.u (is_there c.args.self.now c.args.u false (sym c.in-Some-false.ensures.connected ∙ ap (λ (b : Bool). Some b) c.in-Some-false.field-0-test)))
+    served_from _ _ _ _ _ c.forget_cost.ensures.state c.connection.ensures.lawful (down_again c.forget_cost.new.self.state c.args.u (is_there c.forget_cost.new.self.state c.args.u false (sym c.in-Some-false.ensures.connected ∙ ap (λ (b : Bool). Some b) c.in-Some-false.field-0-test)))
 
 pub disconnect-requires : goal.disconnect-requires
-disconnect-requires c = there_within c.args.self.now c.args.u true (is_there c.args.self.now c.args.u true (sym c.in-Some-true.ensures.connected ∙ ap (λ (b : Bool). Some b) c.in-Some-true.field-0-test))
+disconnect-requires c = there_within c.forget_cost.new.self.state c.args.u true (is_there c.forget_cost.new.self.state c.args.u true (sym c.in-Some-true.ensures.connected ∙ ap (λ (b : Bool). Some b) c.in-Some-true.field-0-test))
 
 pub returns-in-Some-true-clause-served : goal.returns-in-Some-true-clause-served
 returns-in-Some-true-clause-served c =
-    served _ _ _ _ c.connection.ensures.lawful (down_done c.args.self.now c.disconnect.new.self c.args.u (is_there c.args.self.now c.args.u true (sym c.in-Some-true.ensures.connected ∙ ap (λ (b : Bool). Some b) c.in-Some-true.field-0-test)) c.disconnect.ensures)
+    served_from _ _ _ _ _ c.forget_cost.ensures.state c.connection.ensures.lawful (down_done c.forget_cost.new.self.state c.disconnect.new.self.state c.args.u (is_there c.forget_cost.new.self.state c.args.u true (sym c.in-Some-true.ensures.connected ∙ ap (λ (b : Bool). Some b) c.in-Some-true.field-0-test)) c.disconnect.ensures.loses)

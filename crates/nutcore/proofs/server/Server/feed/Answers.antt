@@ -1,16 +1,27 @@
 use Rattle.nutcore.proofs.Serving.{at_found}
 use Rattle.nutcore.proofs.EventSteps.{feed_absent, feed_ok, feed_err}
-use Rattle.nutcore.proofs.Runs.{served}
+use Rattle.nutcore.proofs.Runs.{served_from}
+use Rattle.std.proofs.Common.{◌∙◌}
+use Rattle.nutcore.proofs.Costs.{refused_feed_costs, feed_costs}
 use Rattle.nutcore.proofs.server.Server.feed.Goals as goal
 
-pub returns-in_default : goal.returns-in_default
-returns-in_default c =
-    served _ _ _ _ c.place_of.ensures.lawful (feed_absent c.args.self.now c.args.c c.args.piece.now c.in_default.ensures.place)
+pub returns-in_default-clause-served : goal.returns-in_default-clause-served
+returns-in_default-clause-served c =
+    served_from _ _ _ _ _ c.forget_cost.ensures.state c.place_of.ensures.lawful (feed_absent c.forget_cost.new.self.state c.args.c c.args.piece.now c.in_default.ensures.place)
 
-pub returns-in-Ok : goal.returns-in-Ok
-returns-in-Ok c =
-    served _ _ _ _ c.place_of.ensures.lawful (feed_ok c.args.self.now c.join-count.new.self c.pump.new.self c.args.c c.args.piece.now _ c.join-count.result (at_found c.args.c c.in-Some.place c.args.self.now.sessions c.in-Some.ensures.place) c.join-count.ensures.joined c.join-count.ensures.count c.in-Ok.ensures)
+pub returns-in-Ok-clause-served : goal.returns-in-Ok-clause-served
+returns-in-Ok-clause-served c =
+    served_from _ _ _ _ _ c.forget_cost.ensures.state c.place_of.ensures.lawful (feed_ok c.forget_cost.new.self.state c.join-count.new.self.state c.serve.new.self.state c.args.c c.args.piece.now _ c.join-count.result (at_found c.args.c c.in-Some.place c.forget_cost.new.self.state.sessions c.in-Some.ensures.place) c.join-count.ensures.joined c.join-count.ensures.count c.in-Ok.ensures.gives)
 
-pub returns-in-Err : goal.returns-in-Err
-returns-in-Err c =
-    served _ _ _ _ c.place_of.ensures.lawful (feed_err c.args.self.now c.join-count.new.self c.pump.new.self c.args.c c.args.piece.now _ c.in-Err.fault (at_found c.args.c c.in-Some.place c.args.self.now.sessions c.in-Some.ensures.place) c.join-count.ensures.joined c.in-Err.ensures)
+pub returns-in-Err-clause-served : goal.returns-in-Err-clause-served
+returns-in-Err-clause-served c =
+    served_from _ _ _ _ _ c.forget_cost.ensures.state c.place_of.ensures.lawful (feed_err c.forget_cost.new.self.state c.join-count.new.self.state c.serve.new.self.state c.args.c c.args.piece.now _ c.in-Err.fault (at_found c.args.c c.in-Some.place c.forget_cost.new.self.state.sessions c.in-Some.ensures.place) c.join-count.ensures.joined c.in-Err.ensures.gives)
+
+pub returns-in_default-clause-cost : goal.returns-in_default-clause-cost
+returns-in_default-clause-cost c = c.forget_cost.ensures.none ∙ refused_feed_costs c.args.self.now.state c.forget_cost.new.self.state c.args.c c.args.piece.now c.forget_cost.ensures.state
+
+pub returns-in-Ok-clause-cost : goal.returns-in-Ok-clause-cost
+returns-in-Ok-clause-cost c = c.in-Ok.ensures.cost ∙ feed_costs c.args.self.now.state c.forget_cost.new.self.state c.serve.new.self.state c.args.c c.offered_at-kept.result c.args.piece.now c.forget_cost.ensures.state c.offered_at-kept.ensures c.in-Ok.ensures.within
+
+pub returns-in-Err-clause-cost : goal.returns-in-Err-clause-cost
+returns-in-Err-clause-cost c = c.in-Err.ensures.cost ∙ feed_costs c.args.self.now.state c.forget_cost.new.self.state c.serve.new.self.state c.args.c c.offered_at-kept.result c.args.piece.now c.forget_cost.ensures.state c.offered_at-kept.ensures c.in-Err.ensures.within

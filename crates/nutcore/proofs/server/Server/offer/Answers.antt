@@ -4,18 +4,20 @@ use Rattle.std.proofs.lemmas.List.{set-get_or}
 use Rattle.nutcore.specs.Session.{SessionState}
 use Rattle.nutcore.specs.Server.{ServerState, session}
 use Rattle.nutcore.specs.Pump.{owed_of}
+use Rattle.nutcore.specs.Cost.{RunningServer}
 use Rattle.nutcore.specs.contracts.server.Server.{the_view}
 use Rattle.nutcore.proofs.Places.{found_at}
+use Rattle.nutcore.proofs.Runs.{state_is}
 use Rattle.nutcore.proofs.server.Server.offer.Goals as goal
 
 pub returns : goal.returns
 returns c =
-    let v : ServerState = the_view c.self.inside in
+    let v : ServerState = (the_view c.self.inside).state in
     let x : SessionState = c.index_mut-session.result.now in
     let found : session c.args.c v ≡ Some x = found_at c.args.c c.in-Some.place v.sessions x c.in-Some.ensures.place c.index_mut-session.ensures.value in (
-      (refl, λ x. tt, ap (λ (xs : List SessionState). let s : ServerState = record v { sessions = xs } in s) (ap (set v.sessions c.in-Some.place) (c.offer.follows.holds-at-none ∙ c.index_mut-session.ensures.value) ∙ set-get_or v.sessions c.in-Some.place x) ∙ c.self.view_is),
+      (refl, λ x. tt, ap (λ (xs : List SessionState). let r : RunningServer = record { state = record v { sessions = xs }; cost = (the_view c.self.inside).cost } in r) (ap (set v.sessions c.in-Some.place) (c.offer.follows.holds-at-none ∙ c.index_mut-session.ensures.value) ∙ set-get_or v.sessions c.in-Some.place x) ∙ c.self.view_is),
       record {
-        bytes = (ap (λ (s : ServerState). is_some (session c.args.c s)) (sym c.self.view_is) ∙ ap is_some found, c.offer.ensures.value ∙ sym (ap (λ (o : Option SessionState). take 4096 (owed_of o)) found) ∙ ap (λ (s : ServerState). take 4096 (owed_of (session c.args.c s))) c.self.view_is);
+        bytes = (ap (λ (s : ServerState). is_some (session c.args.c s)) (sym (state_is c.self.view_is)) ∙ ap is_some found, c.offer.ensures.value ∙ sym (ap (λ (o : Option SessionState). take 4096 (owed_of o)) found) ∙ ap (λ (s : ServerState). take 4096 (owed_of (session c.args.c s))) (state_is c.self.view_is));
         same = tt;
       },
     )

@@ -5,9 +5,10 @@ use Rattle.nutcore.specs.contracts.server.Server.{the_view}
 use Rattle.nutcore.specs.Calls.{Reads}
 use Rattle.nutcore.specs.Step.{offered}
 use Rattle.nutcore.proofs.Serving.{found_in}
+use Rattle.nutcore.proofs.Runs.{state_is}
 use Rattle.nutcore.proofs.server.Server.offered.Goals as goal
 
 pub returns : goal.returns
 returns c =
-    let found : session c.args.c c.args.self.now ≡ Some c.index-session.result.now = found_in c.args.c c.in-Some.place (the_view c.self.inside) c.args.self.now c.index-session.result.now c.self.view_is c.in-Some.ensures.place c.index-session.ensures in
+    let found : session c.args.c c.args.self.now.state ≡ Some c.index-session.result.now = found_in c.args.c c.in-Some.place (the_view c.self.inside).state c.args.self.now.state c.index-session.result.now (state_is c.self.view_is) c.in-Some.ensures.place c.index-session.ensures in
     subst (λ (o : Option SessionState). Reads (λ (x : SessionState). length (offered (Some x))) o (Ok c.offered.result)) (sym found) (ap Ok c.offered.ensures)

@@ -4,9 +4,10 @@ use Rattle.nutcore.specs.Server.{session}
 use Rattle.nutcore.specs.contracts.server.Server.{the_view}
 use Rattle.nutcore.specs.Step.{offered}
 use Rattle.nutcore.proofs.Serving.{found_in}
+use Rattle.nutcore.proofs.Runs.{state_is}
 use Rattle.nutcore.proofs.server.Server.offered_at.Goals as goal
 
 pub returns : goal.returns
 returns c =
-    let found : session c.args.c c.args.self.now ≡ Some c.index-session.result.now = found_in c.args.c c.args.place (the_view c.self.inside) c.args.self.now c.index-session.result.now c.self.view_is c.requires c.index-session.ensures in
+    let found : session c.args.c c.args.self.now.state ≡ Some c.index-session.result.now = found_in c.args.c c.args.place (the_view c.self.inside).state c.args.self.now.state c.index-session.result.now (state_is c.self.view_is) c.requires c.index-session.ensures in
     c.offered.ensures ∙ sym (ap (λ (o : Option SessionState). length (offered o)) found)

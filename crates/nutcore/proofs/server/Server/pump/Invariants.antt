@@ -1,16 +1,17 @@
 use Rattle.std.proofs.Common.{◌≡◌, ◌+◌, ◌≤◌, length}
 use Rattle.nutcore.specs.Server.{session}
-use Rattle.nutcore.specs.Serving.{IsAt}
+use Rattle.nutcore.specs.Serving.{IsAt, KeepsCost}
 use Rattle.nutcore.specs.Pump.{after_lines, held_of}
 use Rattle.nutcore.proofs.server.Server.pump.Given as goal
 
--- so many lines are done, and the session still stands at its place
+-- so many lines are done, what they placed is counted, and the session still stands at its place
 abbrev pub invariant-loop-self : goal.invariant-loop-self
 invariant-loop-self l = record {
-  at : IsAt l.c l.place l.self.sessions;
-  done : l.self ≡ after_lines l.done l.fn.self l.c;
-  rest : l.done + length (held_of (session l.c l.self)) ≤ length (held_of (session l.c l.fn.self));
+  at : IsAt l.c l.place l.self.state.sessions;
+  keeps : KeepsCost l.c l.fn.self l.self;
+  done : l.self.state ≡ after_lines l.done l.fn.self.state l.c;
+  rest : l.done + length (held_of (session l.c l.self.state)) ≤ length (held_of (session l.c l.fn.self.state));
 }
 
 abbrev pub decreases-loop-self : goal.decreases-loop-self
-decreases-loop-self l = length (held_of (session l.c l.self))
+decreases-loop-self l = length (held_of (session l.c l.self.state))

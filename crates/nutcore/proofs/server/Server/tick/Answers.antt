@@ -9,22 +9,23 @@ use Rattle.nutcore.proofs.DriverSteps.{ticked_is, tick_done}
 use Rattle.nutcore.proofs.EventSteps.{step_from}
 use Rattle.nutcore.specs.Sound.{IsSound}
 use Rattle.nutcore.proofs.Sound.{sound_ticked}
-use Rattle.nutcore.proofs.Runs.{served, lawful}
+use Rattle.nutcore.proofs.Runs.{served_from, lawful}
+use Rattle.nutcore.proofs.Runs.{state_is}
 use Rattle.nutcore.proofs.server.Server.tick.Goals as goal
 
-pub returns : goal.returns
-returns c =
-    let v : ServerState = the_view c.self.inside in
+pub returns-clause-served : goal.returns-clause-served
+returns-clause-served c =
+    let v : ServerState = (the_view c.self.inside).state in
     let xs : List UpsState = c.ping_upses.new.upses.items in
     let moment : ℕ = c.max-self-inside.result in
     let t : ServerState = record v { moment = moment; upses = xs } in
     let pinged : xs ≡ map (after_tick v.max_age moment) v.upses = c.ping_upses.ensures.pinged ∙ ap (λ (age : ℕ). map (after_tick age moment) v.upses) c.seconds.ensures in
-    served _ _ _ _ (lawful c.args.self.now (subst (λ (z : ServerState). AreApart z.next_id z.sessions) c.self.view_is c.self.invariant.sound.apart))
-    (step_from v c.args.self.now t t (Tick c.args.seconds) Done c.self.view_is refl (tick_done v t c.args.seconds (ticked_is v c.args.seconds moment xs c.max-self-inside.ensures pinged)))
+    served_from _ _ _ _ _ c.forget_cost.ensures.state (lawful c.forget_cost.new.self.state (subst (λ (z : ServerState). AreApart z.next_id z.sessions) (state_is c.self.view_is) c.self.invariant.sound.apart))
+    (step_from v c.forget_cost.new.self.state t t (Tick c.args.seconds) Done (state_is c.self.view_is) refl (tick_done v t c.args.seconds (ticked_is v c.args.seconds moment xs c.max-self-inside.ensures pinged)))
 
 pub invariant_of-self : goal.invariant_of-self
 invariant_of-self c =
-    let v : ServerState = the_view c.self.inside in
+    let v : ServerState = (the_view c.self.inside).state in
     let xs : List UpsState = c.ping_upses.new.upses.items in
     let moment : ℕ = c.max-self-inside.result in
     let pinged : xs ≡ map (after_tick v.max_age moment) v.upses = c.ping_upses.ensures.pinged ∙ ap (λ (age : ℕ). map (after_tick age moment) v.upses) c.seconds.ensures in

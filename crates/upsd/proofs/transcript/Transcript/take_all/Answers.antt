@@ -1,4 +1,5 @@
-use Rattle.std.proofs.Common.{arith}
+use Rattle.std.proofs.Common.{ap, arith}
+use Rattle.nutcore.specs.Cost.{RunningServer}
 use Rattle.upsd.specs.Transcript.{told}
 use Rattle.upsd.specs.Transcript.TakesAgain.{all_taken}
 use Rattle.upsd.proofs.Taking.{taken_longer, takes_again, first_time}
@@ -16,4 +17,4 @@ loop-left-preserved c = record {
 }
 
 pub returns : goal.returns
-returns c = (told c.take.new.self, first_time c.args.line c.args.c _ _ _ _ c.count_offered-n.ensures.same c.count_offered-n.ensures.count c.in_ok-left.ensures.happens, c.loop-left.invariant.ends _ (all_taken _ (omega (arith, c.loop-left.invariant.count, c.loop-left-test.false))))
+returns c = (told c.take.new.self, first_time c.args.line c.args.c _ _ _ _ (ap (λ (r : RunningServer). r.state) c.count_offered-n.ensures.same) c.count_offered-n.ensures.count c.in_ok-left.ensures.happens, c.loop-left.invariant.ends _ (all_taken _ (omega (arith, c.loop-left.invariant.count, c.loop-left-test.false))))
