@@ -1,10 +1,12 @@
 -- What the calls of a server answer, as outcomes.
-use Rattle.std.specs.Prelude.{◌≡◌, ℕ, Bool, List, Result, Ok, Err, Option, Some, None, ◌-◌, ◌&&◌, ◌==◌, if◌then◌else◌, length}
+use Rattle.std.specs.Prelude.{◌≡◌, ℕ, Bool, List, Result, Ok, Err, Option, Some, None, ◌-◌, ◌&&◌, ◌==◌, if◌then◌else◌, length, take}
 use Rattle.nutcore.specs.declared.TheConstants.{HELD_LIMIT}
 use Rattle.nutcore.specs.declared.event.Outcome.{Outcome}
 use Rattle.nutcore.specs.declared.event.Outcome.TheVariants.{Done, Fed, Opened, Refused}
 use Rattle.nutcore.specs.declared.event.Fault.{Fault}
 use Rattle.nutcore.specs.declared.event.Fault.TheVariants.{NoSuchUps, NoSuchClient}
+use Rattle.nutlisting.specs.Owed.{Owes, owed, IsOutbox}
+use Rattle.nutlisting.specs.declared.ring.TheConstants.{RING_LIMIT}
 use Rattle.nutcore.specs.Session.{SessionState}
 use Rattle.nutcore.specs.Ups.{UpsState}
 
@@ -37,6 +39,12 @@ Reads read (Some x) answer = answer ≡ Ok (read x)
 abbrev pub ReadsUps : {A : Type 0} → (UpsState → A) → Option UpsState → Result A Fault → Type 0
 ReadsUps read None answer = answer ≡ Err NoSuchUps
 ReadsUps read (Some x) answer = answer ≡ Ok (read x)
+
+-- The outbox owes these bytes, and no others: its ring is those that are offered, and a cursor is there only while something rests.
+pub record IsOutboxOf (bytes : List ℕ) (o : Owes) : Type 0 where
+  pub owed_is : owed o ≡ bytes
+  pub ring_is : o.ring ≡ take RING_LIMIT bytes
+  pub resting : IsOutbox o.ring o.cursor
 
 -- A driver is connected to the UPS.
 abbrev pub is_connected : UpsState → Bool

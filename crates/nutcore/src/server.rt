@@ -10,7 +10,7 @@ ghost use Rattle.nutcore.specs.Run.{Run};
 ghost use Rattle.nutcore.specs.Sound.{IsSound};
 ghost use Rattle.nutcore.specs.History.{owed};
 ghost use Rattle.nutcore.specs.Headline.{SentAndOwed, TakenUp, Serves};
-ghost use Rattle.nutcore.specs.Calls.{is_connected, fed, done, opened_as, is_finished, room_of, owed_to, Reads, ReadsUps};
+ghost use Rattle.nutcore.specs.Calls.{is_connected, fed, done, opened_as, is_finished, room_of, owed_to, IsOutboxOf, Reads, ReadsUps};
 ghost use Rattle.nutlisting.specs.declared.listing.clients.TheConstants.{SESSION_LIMIT};
 ghost use Rattle.nutlisting.specs.declared.ring.TheConstants.{RING_LIMIT};
 ghost use Rattle.nutcore.specs.contracts.server.Server.{the_row};
@@ -28,7 +28,7 @@ use crate::scratch::Scratch;
 use crate::session::Session;
 use crate::ups::Ups;
 use nutdriver::laws::{each_line_keeps_the_tree_sound, lawful_lines_keep_trees_sound};
-use nutlisting::SESSION_LIMIT;
+use nutlisting::{Outbox, SESSION_LIMIT};
 use nutusers::{Descriptions, UpsId, UpsList, Users};
 use nutwords::Address;
 use std::alloc::{AllocError, Global};
@@ -322,6 +322,25 @@ impl Server {
         };
         let session = &mut self.sessions[place];
         Ok(session.offer())
+    }
+
+    /// What the session owes its client, as it is kept: the bytes that are offered in a ring, and a cursor while something
+    /// rests.
+    ///
+    /// # Errors
+    ///
+    /// `NoSuchClient`.
+    pub fn outbox(&self, c: ClientId) -> Result<&Outbox, Fault>
+        ensures { MatchResult result
+            (λ outbox. (is_some (session c self.now) ≡ true)
+            × IsOutboxOf (owed c self.now) outbox.now)
+            (λ fault. (fault ≡ Fault.NoSuchClient) × (session c self.now ≡ None)) }
+    {
+        let Some(place) = self.place_of(c) else {
+            return Err(Fault::NoSuchClient);
+        };
+        let session = &self.sessions[place];
+        Ok(session.outbox())
     }
 
     /// How many bytes are offered to the client.

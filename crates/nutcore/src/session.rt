@@ -13,7 +13,7 @@ ghost use Rattle.nutlisting.specs.Owed.{owed as owed_in, IsOutbox};
 ghost use Rattle.nutlisting.specs.declared.outbox.TheConstants.{OWED_LIMIT};
 ghost use Rattle.nutlisting.specs.declared.ring.TheConstants.{RING_LIMIT};
 ghost use Rattle.nutwords.specs.declared.limits.TheConstants.{LINE_LIMIT};
-ghost use Rattle.nutcore.specs.Calls.{is_finished, room_of};
+ghost use Rattle.nutcore.specs.Calls.{is_finished, room_of, IsOutboxOf};
 ghost use Rattle.nutcore.specs.Reply.{asker_of, seen_client, changed_session};
 ghost use Rattle.nutanswer.specs.View.{asker_seen, is_logged_in, addresses_at};
 
@@ -164,11 +164,11 @@ impl Session {
 
     /// Takes the next line, joins its answer of one line to what is owed, and does what it changes
     /// of the session. Takes no memory.
-    pub(crate) fn answer(&mut self, text: &[u8], change: Change, scratch: &mut Scratch)
+    pub(crate) fn answer(&mut self, text: &[u8], change: Change<'_>, scratch: &mut Scratch)
         requires going { is_some (next_line self.old) ≡ true }
         requires short { length text.now ≤ OWED_LIMIT }
         ensures answered { (line : List ℕ) → next_line self.old ≡ Some line
-            → self.new ≡ changed_session change (answered line text.now self.old) }
+            → self.new ≡ changed_session change.entry (answered line text.now self.old) }
         ensures id { self.new.id ≡ self.old.id }
     {
         self.owe(text, scratch);
@@ -275,8 +275,8 @@ impl Session {
     }
 
     /// Does what an answer changes of it.
-    fn change(&mut self, change: Change)
-        ensures changed { self.new ≡ changed_session change self.old }
+    fn change(&mut self, change: Change<'_>)
+        ensures changed { self.new ≡ changed_session change.entry self.old }
         ensures id { self.new.id ≡ self.old.id }
     {
         match change {
@@ -295,6 +295,14 @@ impl Session {
         ensures* same { sem 𝓛 (Rests the_row self.entry (λ new. new ≡ self.old)) }
     {
         self.outbox.offer()
+    }
+
+    /// What it owes, as a ring and a cursor.
+    pub(crate) fn outbox(&self) -> &Outbox
+        ensures { IsOutboxOf self.now.owed result.now }
+    {
+        let _ = self.outbox.offered();
+        &self.outbox
     }
 
     /// How many bytes are offered.

@@ -1,5 +1,5 @@
 -- How many lines a text has.
-use Rattle.std.proofs.Common.{◌≡◌, ℕ, ◌+◌, ◌<◌, Bool, true, false, cond, List, [], ◌∷◌, ◌++◌, length, take, drop, refl, ap, ◌∙◌, arith, zero, suc}
+use Rattle.std.proofs.Common.{◌≡◌, ℕ, ◌+◌, ◌<◌, Bool, true, false, cond, List, [], ◌∷◌, ◌++◌, ◌≤◌, length, take, drop, refl, ap, ◌∙◌, arith, zero, suc}
 use Rattle.std.specs.Prelude.{not, count_by}
 use Rattle.std.proofs.lemmas.Bool.{and_parts, and_from, not-true}
 use Rattle.std.proofs.lemmas.List.Sums.{sum_by-append, sum_by-cons}
@@ -58,3 +58,16 @@ pub no_lf-drop : (n : ℕ) (text : List ℕ) → has_no_lf text ≡ true → has
 no_lf-drop zero text h = h
 no_lf-drop (suc n) [] h = refl
 no_lf-drop (suc n) (b ∷ text) h = no_lf-drop n text (and_parts (not (is_lf b)) (has_no_lf text) h).1
+
+-- a text has no more lines than bytes
+few_within : (o : Bool) (text : List ℕ) → count_by is_lf text + cond (leaves_open o text) 1 0 ≤ length text + cond o 1 0
+few_within true [] = omega arith
+few_within false [] = omega arith
+few_within o (b ∷ text) = cases (is_lf b) refl (few_within (not (is_lf b)) text)
+  where
+    cases : (f : Bool) → is_lf b ≡ f → count_by is_lf text + cond (leaves_open (not (is_lf b)) text) 1 0 ≤ length text + cond (not (is_lf b)) 1 0 → count_by is_lf (b ∷ text) + cond (leaves_open (not (is_lf b)) text) 1 0 ≤ suc (length text) + cond o 1 0
+    cases true e h = let one : count_by is_lf (b ∷ text) ≡ 1 + count_by is_lf text = sum_by-cons (λ x. cond (is_lf x) 1 0) b text ∙ rw e refl in let h' = rw e at h in rw (one, e) (omega (arith, h'))
+    cases false e h = let one : count_by is_lf (b ∷ text) ≡ 0 + count_by is_lf text = sum_by-cons (λ x. cond (is_lf x) 1 0) b text ∙ rw e refl in let h' = rw e at h in rw (one, e) (omega (arith, h'))
+
+pub lines_few : (text : List ℕ) → lines text ≤ length text
+lines_few text = omega (arith, few_within false text)

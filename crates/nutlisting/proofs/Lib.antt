@@ -11,3 +11,5 @@ mod Filling
 mod Positions
 mod Owing
 mod Ended
+mod AddingUp
+pub mod PublicLaws

@@ -1,0 +1,22 @@
+-- The laws of this crate that a proof in a crate above may cite: each is what a function of src/laws.rt ensures.
+use Rattle.nutlisting.specs.Laws.{LinesAreTheText, BegunLinesAreEnded, LinesAddUp, WhatIsOfferedIsTheRing}
+use Rattle.nutlisting.proofs.Writing as writing
+use Rattle.nutlisting.proofs.Ended as ended
+use Rattle.nutlisting.proofs.AddingUp as adding
+use Rattle.nutlisting.proofs.Owing as owing
+
+-- lines_are_the_text
+pub lines_are_the_text : LinesAreTheText
+lines_are_the_text = writing.lines_are_text
+
+-- begun_lines_are_ended
+pub begun_lines_are_ended : BegunLinesAreEnded
+begun_lines_are_ended = ended.begun_lines_are_ended
+
+-- lines_add_up
+pub lines_add_up : LinesAddUp
+lines_add_up = adding.lines_add_up
+
+-- what_is_offered_is_the_ring
+pub what_is_offered_is_the_ring : WhatIsOfferedIsTheRing
+what_is_offered_is_the_ring = owing.offered_is
