@@ -6,6 +6,8 @@ use Rattle.nutusers.specs.declared.ups_list.UpsId.{UpsId}
 use Rattle.nutanswer.specs.declared.command.Command.{Command}
 use Rattle.nutanswer.specs.declared.err_word.ErrWord.{ErrWord}
 use Rattle.nutanswer.specs.declared.reply.Change.TheVariants.{Nothing, Order}
+use Rattle.nutlisting.specs.Lines.{IsWholeLine}
+use Rattle.nutanswer.specs.ErrWord.{error_line}
 use Rattle.nutanswer.specs.View.{Seen, AskerSeen, UpsSeen}
 use Rattle.nutanswer.specs.Answer.{Answer, one_line, listing, listing_of_clients, answer_to, change_of_answer}
 
@@ -44,3 +46,7 @@ OrdersFit =
     (s : Seen) (asker : AskerSeen) (command : Command) (u : UpsId) (line : ArrayVec ℕ) (x : UpsSeen)
     → change_of_answer (answer_to s asker command) ≡ Order u line
     → slice_get s.upses u.place ≡ Some x → TakesOrder line.items x
+
+-- The line of an error is one whole line.
+abbrev pub ErrorLinesAreWhole : Type 0
+ErrorLinesAreWhole = (word : ErrWord) → IsWholeLine (error_line word)
