@@ -53,7 +53,7 @@ error_short PasswordRequired = refl
 error_short UnknownCommand = refl
 error_short InvalidValue = refl
 
-pub error_answer : (word : ErrWord) → IsAnswerLine (join_with_byte 32 (codes "ERR" ∷ spelling_of word ∷ []))
+error_answer : (word : ErrWord) → IsAnswerLine (join_with_byte 32 (codes "ERR" ∷ spelling_of word ∷ []))
 error_answer word = record { fits = leb-true _ _ (error_short word); lawful = error_lawful word }
 
 pub error_lines_are_whole : ErrorLinesAreWhole

@@ -167,6 +167,6 @@ pub record IsOneLine (answer : Result Answer ErrWord) (line : List ℕ) (change 
 
 -- The reply gives this answer. The clients of a UPS are those that are seen.
 abbrev pub IsReply : Seen → Result Answer ErrWord → Reply → Type 0
-IsReply s answer (One line change) = IsOneLine answer line.items change
+IsReply s answer (One line change) = IsOneLine answer line.now change
 IsReply s answer (Many l) = answer ≡ Ok (listing l)
 IsReply s answer (Clients name u) = answer ≡ Ok (listing_of_clients (client_listing name (addresses_at u s.clients)))

@@ -1,7 +1,6 @@
 -- What the private parts of the code promise one another. A reader of the public contracts needs none of it.
 use Rattle.std.specs.Prelude.{◌≡◌, ℕ, List, Option, None, Result, Ok, Err}
 use Rattle.std.specs.Option.{option_copied}
-use Rattle.arrayvec.specs.ArrayVec.{ArrayVec}
 use Rattle.nutdriver.specs.Variable.{VariableState}
 use Rattle.nutusers.specs.UpsList.{new_ups}
 use Rattle.nutanswer.specs.declared.err_word.ErrWord.{ErrWord}
@@ -67,7 +66,7 @@ settable x word = do
 
 -- The reply carries the whole answer, as each does but that of a listing of clients.
 abbrev pub CarriesAnswer : Result Answer ErrWord → Reply → Type 0
-CarriesAnswer answer (One line change) = IsOneLine answer line.items change
+CarriesAnswer answer (One line change) = IsOneLine answer line.now change
 CarriesAnswer answer (Many l) = answer ≡ Ok (listing l)
 CarriesAnswer answer (Clients name u) = ⊥
 
@@ -84,7 +83,7 @@ nobody = record { username = None; password = None; login = None }
 abbrev pub row : Seen → Command → Result Answer ErrWord
 row s command = answer_to s nobody command
 
--- The line gives this answer, which changes nothing.
-abbrev pub IsLineOf : Result Answer ErrWord → Result (ArrayVec ℕ) ErrWord → Type 0
-IsLineOf answer (Ok line) = IsOneLine answer line.items Nothing
-IsLineOf answer (Err word) = answer ≡ Err word
+-- The line that was made gives this answer, which changes nothing; or this is the word of its error.
+abbrev pub IsLineOf : Result Answer ErrWord → List ℕ → Result (Unit {0}) ErrWord → Type 0
+IsLineOf answer line (Ok u) = IsOneLine answer line Nothing
+IsLineOf answer line (Err word) = answer ≡ Err word

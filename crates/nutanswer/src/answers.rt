@@ -11,18 +11,25 @@ mod orders;
 mod session;
 
 use crate::checks::{known_ups, live_ups, live_variable};
-use crate::lines::error_line;
 use crate::{Asker, Change, Command, ErrWord, Listing, Reply, View};
-use nutlisting::{desc_line, plain_line, type_line, ups_line, variable_line};
+use nutlisting::{
+    desc_line_into, plain_line_into, type_line_into, ups_line_into, variable_line_into,
+};
 use nutwords::{Line, Name, UpsName};
 use std::alloc::AllocError;
 
-/// The answer to a command of this session, on the server as the view shows it.
+/// The answer to a command of this session, on the server as the view shows it. The line that it needs is made in
+/// `line`, in place of what that held.
 ///
 /// # Errors
 ///
 /// `AllocError` where a listing is due that shares a version, and memory is refused.
-pub fn answer<V: View>(view: &V, asker: Asker<'_>, command: &Command) -> Result<Reply, AllocError>
+pub fn answer<'a, V: View>(
+    view: &V,
+    asker: Asker<'_>,
+    command: &Command,
+    line: &'a mut Line,
+) -> Result<Reply<'a>, AllocError>
     ensures ok { IfOk result
         (IsReply (V.seen view.now)
         (answer_to (V.seen view.now) (asker_seen asker.entry) command.now)) }
@@ -30,24 +37,24 @@ pub fn answer<V: View>(view: &V, asker: Asker<'_>, command: &Command) -> Result<
         (IsTrue (shares_version (answer_to (V.seen view.now) (asker_seen asker.entry) command.now))) }
 {
     match command {
-        Command::Username(name) => Ok(given(session::username(asker, name))),
-        Command::Password(password) => Ok(given(session::password(asker, password))),
-        Command::Login(ups) => Ok(given(session::login(view, asker, ups))),
-        Command::Logout => Ok(session::logout()),
-        Command::Primary(ups) => Ok(given(session::primary(view, asker, ups))),
-        Command::Fsd(ups) => Ok(given(session::fsd(view, asker, ups))),
+        Command::Username(name) => Ok(given(session::username(asker, name, line))),
+        Command::Password(password) => Ok(given(session::password(asker, password, line))),
+        Command::Login(ups) => Ok(given(session::login(view, asker, ups, line))),
+        Command::Logout => Ok(session::logout(line)),
+        Command::Primary(ups) => Ok(given(session::primary(view, asker, ups, line))),
+        Command::Fsd(ups) => Ok(given(session::fsd(view, asker, ups, line))),
         Command::SetVar(ups, name, value) => {
-            Ok(given(orders::set_var(view, asker, ups, name, value)))
+            Ok(given(orders::set_var(view, asker, ups, name, value, line)))
         }
         Command::InstCmd(ups, name, value) => {
-            Ok(given(orders::inst_cmd(view, asker, ups, name, value)))
+            Ok(given(orders::inst_cmd(view, asker, ups, name, value, line)))
         }
-        Command::GetVar(ups, name) => Ok(one(get_var(view, ups, name))),
-        Command::GetType(ups, name) => Ok(one(get_type(view, ups, name))),
-        Command::GetDesc(ups, name) => Ok(one(get_desc(view, ups, name))),
-        Command::GetCmdDesc(ups, name) => Ok(one(get_cmd_desc(view, ups, name))),
-        Command::GetUpsDesc(ups) => Ok(one(get_ups_desc(view, ups))),
-        Command::GetNumLogins(ups) => Ok(one(session::get_num_logins(view, ups))),
+        Command::GetVar(ups, name) => Ok(one(get_var(view, ups, name, line), line)),
+        Command::GetType(ups, name) => Ok(one(get_type(view, ups, name, line), line)),
+        Command::GetDesc(ups, name) => Ok(one(get_desc(view, ups, name, line), line)),
+        Command::GetCmdDesc(ups, name) => Ok(one(get_cmd_desc(view, ups, name, line), line)),
+        Command::GetUpsDesc(ups) => Ok(one(get_ups_desc(view, ups, line), line)),
+        Command::GetNumLogins(ups) => Ok(one(session::get_num_logins(view, ups, line), line)),
         Command::ListUps => Ok(Reply::Many(Listing::of_upses(view.list())?)),
         Command::ListVar(ups) => list_var(view, ups),
         Command::ListRw(ups) => list_rw(view, ups),
@@ -57,9 +64,10 @@ pub fn answer<V: View>(view: &V, asker: Asker<'_>, command: &Command) -> Result<
         Command::ListClient(ups) => Ok(session::list_client(view, ups)),
         Command::Help => Ok(plain(
             b"Commands: HELP VER NETVER PROTVER GET LIST SET INSTCMD LOGIN LOGOUT PRIMARY FSD USERNAME PASSWORD STARTTLS",
+            line,
         )),
-        Command::Ver => Ok(plain(b"Network UPS Tools upsd, profile 1")),
-        Command::NetVer | Command::ProtVer => Ok(plain(b"1.3")),
+        Command::Ver => Ok(plain(b"Network UPS Tools upsd, profile 1", line)),
+        Command::NetVer | Command::ProtVer => Ok(plain(b"1.3", line)),
         Command::StartTls => Ok(refused(ErrWord::FeatureNotConfigured)),
     }
 }
@@ -69,39 +77,58 @@ pub fn answer<V: View>(view: &V, asker: Asker<'_>, command: &Command) -> Result<
 
 /// GET VAR.
 #[inline(never)]
-fn get_var<V: View>(view: &V, ups: &Option<UpsName>, name: &Option<Name>) -> Result<Line, ErrWord>
-    ensures { IsLineOf (row (V.seen view.now) (GetVar ups.now name.now)) result }
+fn get_var<V: View>(
+    view: &V,
+    ups: &Option<UpsName>,
+    name: &Option<Name>,
+    line: &mut Line,
+) -> Result<(), ErrWord>
+    ensures { IsLineOf (row (V.seen view.now) (GetVar ups.now name.now)) line.new.items result }
 {
     let found = live_variable(view, ups, name)?;
-    Ok(variable_line(
+    variable_line_into(
         b"VAR",
         found.ups.name,
         found.ups.state.fsd,
         found.name,
         found.variable,
-    ))
+        line,
+    );
+    Ok(())
 }
 
 /// GET TYPE.
 #[inline(never)]
-fn get_type<V: View>(view: &V, ups: &Option<UpsName>, name: &Option<Name>) -> Result<Line, ErrWord>
-    ensures { IsLineOf (row (V.seen view.now) (GetType ups.now name.now)) result }
+fn get_type<V: View>(
+    view: &V,
+    ups: &Option<UpsName>,
+    name: &Option<Name>,
+    line: &mut Line,
+) -> Result<(), ErrWord>
+    ensures { IsLineOf (row (V.seen view.now) (GetType ups.now name.now)) line.new.items result }
 {
     let found = live_variable(view, ups, name)?;
-    Ok(type_line(found.ups.name, found.name, found.variable))
+    type_line_into(found.ups.name, found.name, found.variable, line);
+    Ok(())
 }
 
 /// GET DESC.
 #[inline(never)]
-fn get_desc<V: View>(view: &V, ups: &Option<UpsName>, name: &Option<Name>) -> Result<Line, ErrWord>
-    ensures { IsLineOf (row (V.seen view.now) (GetDesc ups.now name.now)) result }
+fn get_desc<V: View>(
+    view: &V,
+    ups: &Option<UpsName>,
+    name: &Option<Name>,
+    line: &mut Line,
+) -> Result<(), ErrWord>
+    ensures { IsLineOf (row (V.seen view.now) (GetDesc ups.now name.now)) line.new.items result }
 {
     let ups = known_ups(view, ups)?;
     let Some(name) = name else {
         return Err(ErrWord::VarNotSupported);
     };
     let text = view.descriptions().var(name);
-    Ok(desc_line(b"DESC", ups.name, name, text))
+    desc_line_into(b"DESC", ups.name, name, text, line);
+    Ok(())
 }
 
 /// GET CMDDESC.
@@ -110,41 +137,44 @@ fn get_cmd_desc<V: View>(
     view: &V,
     ups: &Option<UpsName>,
     name: &Option<Name>,
-) -> Result<Line, ErrWord>
-    ensures { IsLineOf (row (V.seen view.now) (GetCmdDesc ups.now name.now)) result }
+    line: &mut Line,
+) -> Result<(), ErrWord>
+    ensures { IsLineOf (row (V.seen view.now) (GetCmdDesc ups.now name.now)) line.new.items result }
 {
     let ups = known_ups(view, ups)?;
     let Some(name) = name else {
         return Err(ErrWord::CmdNotSupported);
     };
     let text = view.descriptions().cmd(name);
-    Ok(desc_line(b"CMDDESC", ups.name, name, text))
+    desc_line_into(b"CMDDESC", ups.name, name, text, line);
+    Ok(())
 }
 
 /// GET UPSDESC.
 #[inline(never)]
-fn get_ups_desc<V: View>(view: &V, ups: &Option<UpsName>) -> Result<Line, ErrWord>
-    ensures { IsLineOf (row (V.seen view.now) (GetUpsDesc ups.now)) result }
+fn get_ups_desc<V: View>(view: &V, ups: &Option<UpsName>, line: &mut Line) -> Result<(), ErrWord>
+    ensures { IsLineOf (row (V.seen view.now) (GetUpsDesc ups.now)) line.new.items result }
 {
     let ups = known_ups(view, ups)?;
-    Ok(ups_line(b"UPSDESC", ups.name, ups.desc))
+    ups_line_into(b"UPSDESC", ups.name, ups.desc, line);
+    Ok(())
 }
 
-/// A line that was found, or the line of the error.
-fn one(found: Result<Line, ErrWord>) -> Reply
+/// The line that was made, or that of the error.
+fn one<'a>(found: Result<(), ErrWord>, line: &'a Line) -> Reply<'a>
     ensures { (answer : Result Answer ErrWord)
-        → IsLineOf answer found → CarriesAnswer answer result }
+        → IsLineOf answer line.now.items found → CarriesAnswer answer result }
 {
     match found {
-        Ok(line) => Reply::One(line, Change::Nothing),
+        Ok(()) => Reply::One(line.as_slice(), Change::Nothing),
         Err(word) => refused(word),
     }
 }
 
 /// A reply, or the line of the error.
-fn given(found: Result<Reply, ErrWord>) -> Reply
+fn given<'a>(found: Result<Reply<'a>, ErrWord>) -> Reply<'a>
     ensures { (answer : Result Answer ErrWord)
-        → Gives answer found → CarriesAnswer answer result }
+        → Gives answer found.entry → CarriesAnswer answer result }
 {
     match found {
         Ok(reply) => reply,
@@ -153,27 +183,26 @@ fn given(found: Result<Reply, ErrWord>) -> Reply
 }
 
 /// The line of an error.
-#[inline(never)]
-fn refused(word: ErrWord) -> Reply
+fn refused<'a>(word: ErrWord) -> Reply<'a>
     ensures { (answer : Result Answer ErrWord)
         → answer ≡ Err word → CarriesAnswer answer result }
 {
-    Reply::One(error_line(word), Change::Nothing)
+    Reply::One(word.line(), Change::Nothing)
 }
 
 /// A text without its LF, as it stands.
-#[inline(never)]
-fn plain(text: &[u8]) -> Reply
+fn plain<'a>(text: &[u8], line: &'a mut Line) -> Reply<'a>
     requires short { length text.now ≤ 128 }
     requires lawful { IsTrue (list_all is_lawful text.now) }
     ensures { CarriesAnswer (told (text.now ∷ [])) result }
 {
-    Reply::One(plain_line(text), Change::Nothing)
+    plain_line_into(text, line);
+    Reply::One(line.as_slice(), Change::Nothing)
 }
 
 /// LIST VAR.
 #[inline(never)]
-fn list_var<V: View>(view: &V, ups: &Option<UpsName>) -> Result<Reply, AllocError>
+fn list_var<'a, V: View>(view: &V, ups: &Option<UpsName>) -> Result<Reply<'a>, AllocError>
     ensures ok { IfOk result (CarriesAnswer
         (row (V.seen view.now) (ListVar ups.now))) }
     ensures memory { OnErr result
@@ -190,7 +219,7 @@ fn list_var<V: View>(view: &V, ups: &Option<UpsName>) -> Result<Reply, AllocErro
 
 /// LIST RW.
 #[inline(never)]
-fn list_rw<V: View>(view: &V, ups: &Option<UpsName>) -> Result<Reply, AllocError>
+fn list_rw<'a, V: View>(view: &V, ups: &Option<UpsName>) -> Result<Reply<'a>, AllocError>
     ensures ok { IfOk result (CarriesAnswer
         (row (V.seen view.now) (ListRw ups.now))) }
     ensures memory { OnErr result
@@ -207,7 +236,7 @@ fn list_rw<V: View>(view: &V, ups: &Option<UpsName>) -> Result<Reply, AllocError
 
 /// LIST CMD.
 #[inline(never)]
-fn list_cmd<V: View>(view: &V, ups: &Option<UpsName>) -> Result<Reply, AllocError>
+fn list_cmd<'a, V: View>(view: &V, ups: &Option<UpsName>) -> Result<Reply<'a>, AllocError>
     ensures ok { IfOk result (CarriesAnswer
         (row (V.seen view.now) (ListCmd ups.now))) }
     ensures memory { OnErr result
@@ -223,11 +252,11 @@ fn list_cmd<V: View>(view: &V, ups: &Option<UpsName>) -> Result<Reply, AllocErro
 
 /// LIST ENUM.
 #[inline(never)]
-fn list_enum<V: View>(
+fn list_enum<'a, V: View>(
     view: &V,
     ups: &Option<UpsName>,
     name: &Option<Name>,
-) -> Result<Reply, AllocError>
+) -> Result<Reply<'a>, AllocError>
     ensures ok { IfOk result (CarriesAnswer
         (row (V.seen view.now) (ListEnum ups.now name.now))) }
     ensures memory { OnErr result
@@ -244,11 +273,11 @@ fn list_enum<V: View>(
 
 /// LIST RANGE.
 #[inline(never)]
-fn list_range<V: View>(
+fn list_range<'a, V: View>(
     view: &V,
     ups: &Option<UpsName>,
     name: &Option<Name>,
-) -> Result<Reply, AllocError>
+) -> Result<Reply<'a>, AllocError>
     ensures ok { IfOk result (CarriesAnswer
         (row (V.seen view.now) (ListRange ups.now name.now))) }
     ensures memory { OnErr result

@@ -1,24 +1,10 @@
-//! The line of an error (RFC 9271: error responses), and that of an order to a driver.
+//! The line of an order to a driver.
 ghost use Rattle.std.specs.Prelude.{◌≡◌, ◌≤◌, ◌∷◌, ◌++◌, length};
 ghost use Rattle.std.specs.Option.{option_copied};
 ghost use Rattle.nutwords.specs.Spelling.{quoted};
-ghost use Rattle.nutlisting.specs.Lines.{IsWholeLine};
-ghost use Rattle.nutanswer.specs.ErrWord.{error_line};
 ghost use Rattle.nutanswer.specs.Orders.{order_line};
 
-use crate::ErrWord;
-use arrayvec::ArrayVec;
 use nutwords::{Line, Name, Value, quote_into};
-
-/// The line of an error.
-pub(crate) fn error_line(word: ErrWord) -> Line
-    ensures text { result.items ≡ error_line word }
-    ensures whole { IsWholeLine result.items }
-{
-    let mut line = ArrayVec::new();
-    line.try_extend_from_slice(word.line()).unwrap();
-    line
-}
 
 /// The most bytes of an order's verb: `INSTCMD`.
 const VERB_LIMIT: usize = 7;
@@ -29,20 +15,19 @@ const ORDER_FRONT_LIMIT: usize = 72;
 /// The most bytes of an order without its LF: each byte of its value may stand behind a backslash.
 const ORDER_LIMIT: usize = 587;
 
-/// The line of an order: its verb, the name of a variable or a command, and the value, if there is one.
-pub(crate) fn order_line(verb: &[u8], name: &Name, value: Option<&Value>) -> Line
+/// Makes the line of an order: its verb, the name of a variable or a command, and the value, if there is one.
+pub(crate) fn order_line_into(verb: &[u8], name: &Name, value: Option<&Value>, line: &mut Line)
     requires { length verb.now ≤ VERB_LIMIT }
-    ensures { result.items ≡ order_line verb.now name.now (option_copied value.entry) }
+    ensures { line.new.items ≡ order_line verb.now name.now (option_copied value.entry) }
 {
-    let mut line = ArrayVec::new();
+    line.clear();
     line.try_extend_from_slice(verb).unwrap();
     line.push(b' ');
     line.try_extend_from_slice(name.as_bytes()).unwrap();
     if let Some(value) = value {
-        push_value(&mut line, value);
+        push_value(line, value);
     }
     line.push(b'\n');
-    line
 }
 
 /// Appends a value in quotes.

@@ -1,11 +1,45 @@
 //! The answer to a command.
+ghost use Rattle.std.specs.Prelude.{◌≡◌};
+
 use crate::Listing;
 use nutusers::{Password, UpsId, UserName};
-use nutwords::{Line, UpsName};
+use nutwords::UpsName;
+use std::marker::Model;
+
+/// The line of an order to a driver, with its LF, where it was made. Contracts see the line.
+#[derive(Debug, Drop)]
+pub struct OrderLine<'a> {
+    bytes: &'a [u8],
+}
+
+impl<'a> Model for OrderLine<'a> {
+    ghost use Rattle.std.specs.Prelude.{ℕ};
+    ghost use Rattle.arrayvec.specs.ArrayVec.{ArrayVec};
+
+    ghost Value = { ArrayVec ℕ };
+
+    ghost view = { λ line. record { items = line.bytes.now } };
+}
+
+impl<'a> OrderLine<'a> {
+    /// The line that these bytes are.
+    pub(crate) fn of(bytes: &'a [u8]) -> OrderLine<'a>
+        ensures { result.items ≡ bytes.now }
+    {
+        OrderLine { bytes }
+    }
+
+    /// Its bytes.
+    pub fn as_bytes(&self) -> &'a [u8]
+        ensures { result.now ≡ self.now.items }
+    {
+        self.bytes
+    }
+}
 
 /// What a command changes.
-#[derive(Debug, PartialEq, Eq, Drop)]
-pub enum Change {
+#[derive(Drop)]
+pub enum Change<'a> {
     /// Nothing.
     Nothing,
     /// The session has given this user name (RFC 9271: USERNAME).
@@ -19,14 +53,14 @@ pub enum Change {
     /// The forced shutdown of this UPS is set (RFC 9271: FSD).
     Fsd(UpsId),
     /// The driver of this UPS is owed this line, with its LF (RFC 9271: SET, INSTCMD).
-    Order(UpsId, Line),
+    Order(UpsId, OrderLine<'a>),
 }
 
-/// The answer to a command.
+/// The answer to a command. Its line, and that of an order, stand where they were made.
 #[derive(Drop)]
-pub enum Reply {
+pub enum Reply<'a> {
     /// One line with its LF, and what the command changes.
-    One(Line, Change),
+    One(&'a [u8], Change<'a>),
     /// A listing (RFC 9271: LIST). No command that is answered so changes anything.
     Many(Listing),
     /// The listing of the clients that are logged in to this UPS, of this name (RFC 9271: LIST CLIENT). It isn't

@@ -53,7 +53,7 @@ IsLineOrNone text = IsWholeLine text ⊎ (text ≡ [])
 
 -- the answer is that to the line: one line at most, which takes no memory, with what it changes, or the listing
 abbrev pub Replies : ServerState → ℕ → List ℕ → Answer → Type 0
-Replies s c line (One text change) = (shares_version_read s c (read_command line) ≡ false) × (text_to s c (read_command line) ≡ text.items) × (change_by s c (read_command line) ≡ change) × (length text.items ≤ OWED_LIMIT) × IsLineOrNone text.items
+Replies s c line (One text change) = (shares_version_read s c (read_command line) ≡ false) × (text_to s c (read_command line) ≡ text.now) × (change_by s c (read_command line) ≡ change) × (length text.now ≤ OWED_LIMIT) × IsLineOrNone text.now
 Replies s c line (Clients name u) =
     (shares_version_read s c (read_command line) ≡ false) × (text_to s c (read_command line) ≡ text_of (client_listing name (addresses_at u (map seen_client s.sessions)))) × (change_by s c (read_command line) ≡ Nothing)
 Replies s c line (Many listing) = (shares_version_read s c (read_command line) ≡ true) × (text_to s c (read_command line) ≡ text_of listing) × (change_by s c (read_command line) ≡ Nothing)
@@ -70,7 +70,7 @@ OrderFits change upses =
 
 -- it is this text, and changes nothing
 abbrev pub IsText : List ℕ → Answer → Type 0
-IsText text (One line change) = (line.items ≡ text) × (change ≡ Nothing)
+IsText text (One line change) = (line.now ≡ text) × (change ≡ Nothing)
 IsText text (Many listing) = ⊥
 IsText text (Clients name u) = ⊥
 

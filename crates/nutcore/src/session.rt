@@ -165,12 +165,12 @@ impl Session {
 
     /// Takes the next line, joins its answer of one line to what is owed, and does what it changes
     /// of the session. Takes no memory.
-    pub(crate) fn answer(&mut self, text: &[u8], change: Change, scratch: &mut Scratch)
+    pub(crate) fn answer(&mut self, text: &[u8], change: Change<'_>, scratch: &mut Scratch)
         requires going { is_some (next_line self.old) ≡ true }
         requires short { length text.now ≤ OWED_LIMIT }
         requires line { IsLineOrNone text.now }
         ensures answered { (line : List ℕ) → next_line self.old ≡ Some line
-            → self.new ≡ changed_session change (answered line text.now self.old) }
+            → self.new ≡ changed_session change.entry (answered line text.now self.old) }
         ensures id { self.new.id ≡ self.old.id }
         ensures keeps { KeepsCount self.old.owed scratch.old.renders
             self.new.owed scratch.new.renders }
@@ -295,8 +295,8 @@ impl Session {
     }
 
     /// Does what an answer changes of it.
-    fn change(&mut self, change: Change)
-        ensures changed { self.new ≡ changed_session change self.old }
+    fn change(&mut self, change: Change<'_>)
+        ensures changed { self.new ≡ changed_session change.entry self.old }
         ensures id { self.new.id ≡ self.old.id }
     {
         match change {

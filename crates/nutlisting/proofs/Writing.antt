@@ -1,10 +1,9 @@
 -- The text of a listing is its lines, one after another.
-use Rattle.std.proofs.Common.{◌≡◌, ℕ, ◌+◌, ◌<◌, ◌≤◌, List, [], ◌∷◌, ◌++◌, length, refl, sym, ap, ◌∙◌, append_assoc, append-nil, length-append, arith, map}
+use Rattle.std.proofs.Common.{◌≡◌, ℕ, List, [], ◌∷◌, ◌++◌, refl, sym, ap, subst, ◌∙◌, append_assoc, append-nil, map}
 use Rattle.std.specs.List.{concat, flat_map}
 use Rattle.nutwords.specs.Frame.{line_of}
 use Rattle.nutlisting.specs.Items.{ListingState, text_of, lines_of}
-use Rattle.nutlisting.specs.Lines.{IsWholeLine}
-use Rattle.nutlisting.specs.Written.{IsWrittenSoFar}
+use Rattle.nutlisting.specs.Lines.{IsWholeLine, AreLines}
 use Rattle.nutlisting.proofs.Joined.{no_lines, joined_with}
 
 pub concat_lines : (items : List (List (List ℕ))) (last : List ℕ) → concat (map line_of items ++ last ∷ []) ≡ flat_map line_of items ++ last
@@ -14,23 +13,24 @@ concat_lines (item ∷ items) last = ap (λ text. line_of item ++ text) (concat_
 pub lines_are_text : (l : ListingState) → concat (lines_of l) ≡ text_of l
 lines_are_text l = refl
 
--- nothing is written yet
-pub none_written : (before text left : List ℕ) → left ≡ text → IsWrittenSoFar before text left before
-none_written before text left e = record { written = []; joined = sym (append-nil before); whole = sym e; are_lines = no_lines }
+-- lines of the text are made, and `left` isn't
+pub record AreMade (text left : List ℕ) : Type 0 where
+  pub made : List ℕ
+  pub whole : text ≡ made ++ left
+  pub are_lines : AreLines made
 
--- a line more is written
-pub line_written : (before text now now' line : List ℕ) (left others : List (List ℕ)) → left ≡ line ∷ others → IsWholeLine line → now' ≡ now ++ line → IsWrittenSoFar before text (concat left) now → IsWrittenSoFar before text (concat others) now'
-line_written before text now now' line left others e w j h = record {
-  written = h.written ++ line;
-  joined = j ∙ ap (λ z. z ++ line) h.joined ∙ append_assoc before h.written line;
-  whole = h.whole ∙ ap (λ (z : List (List ℕ)). h.written ++ concat z) e ∙ sym (append_assoc h.written line (concat others));
-  are_lines = joined_with h.written line (h.written ++ line) refl h.are_lines w;
+-- none is made yet
+pub none_made : (text left : List ℕ) → left ≡ text → AreMade text left
+none_made text left e = record { made = []; whole = sym e; are_lines = no_lines }
+
+-- a line more is made
+pub line_made : (text line : List ℕ) (left others : List (List ℕ)) → left ≡ line ∷ others → IsWholeLine line → AreMade text (concat left) → AreMade text (concat others)
+line_made text line left others e w h = record {
+  made = h.made ++ line;
+  whole = h.whole ∙ ap (λ (z : List (List ℕ)). h.made ++ concat z) e ∙ sym (append_assoc h.made line (concat others));
+  are_lines = joined_with h.made line (h.made ++ line) refl h.are_lines w;
 }
 
--- how long what is written and what is left are
-pub length_left : (n m : ℕ) (line : List ℕ) (left others : List (List ℕ)) → left ≡ line ∷ others → n + length (concat left) ≡ m → (n + length line) + length (concat others) ≡ m
-length_left n m line left others e h = omega (arith, h, ap (λ (z : List (List ℕ)). length (concat z)) e, length-append line (concat others))
-
--- where a line doesn't fit, neither does the text
-pub text_too_long : (least room n m : ℕ) (line : List ℕ) (left others : List (List ℕ)) → left ≡ line ∷ others → n + length (concat left) ≡ m → least ≤ room → room < n + length line → least < m
-text_too_long least room n m line left others e h l f = omega (arith, h, l, f, ap (λ (z : List (List ℕ)). length (concat z)) e, length-append line (concat others))
+-- all are
+pub all_made : (text : List ℕ) (left : List (List ℕ)) → left ≡ [] → AreMade text (concat left) → AreLines text
+all_made text left e h = subst AreLines (sym (h.whole ∙ ap (λ (z : List (List ℕ)). h.made ++ concat z) e ∙ append-nil h.made)) h.are_lines

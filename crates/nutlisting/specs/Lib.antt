@@ -9,6 +9,5 @@ pub mod Filled
 pub mod Rest
 pub mod Places
 pub mod Ahead
-pub mod Written
 pub mod Owed
 pub mod Laws

@@ -1,5 +1,12 @@
 //! Laws of the definitions that the contracts of this crate cite. No program calls them.
+ghost use Rattle.nutlisting.specs.Content.{listing_of};
+ghost use Rattle.nutlisting.specs.Items.{text_of};
 ghost use Rattle.nutlisting.specs.Laws.{LinesAreTheText, BegunLinesAreEnded, LinesAddUp, WhatIsOfferedIsTheRing};
+ghost use Rattle.nutlisting.specs.Lines.{AreLines};
+
+use crate::listing::{Ahead, Content, Listing, Place};
+use crate::renders::Renders;
+use nutwords::Line;
 
 /// The text of a listing is its lines, one after another: BEGIN, a line an item, END.
 pub fn lines_are_the_text()
@@ -21,3 +28,22 @@ pub fn lines_add_up()
 pub fn what_is_offered_is_the_ring()
     ensures { WhatIsOfferedIsTheRing }
 {}
+
+/// Each line of a listing has at most 1,023 bytes before its LF, and they are lawful. It makes them all, one by one.
+pub fn lines_are_lawful(listing: Listing)
+    ensures { AreLines (text_of listing) }
+{
+    let content = listing.into_content();
+    make_lines(&content);
+}
+
+/// Makes all lines.
+fn make_lines(content: &Content)
+    ensures { AreLines (text_of (listing_of content.now)) }
+{
+    let (mut line, mut renders) = (Line::new(), Renders::new());
+    let (mut place, mut ahead) = (Place::Start, Ahead::new());
+    while let Some(after) = content.next(&place, &mut ahead, &mut line, &mut renders) {
+        place = after;
+    }
+}

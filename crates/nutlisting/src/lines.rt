@@ -13,14 +13,13 @@ ghost use Rattle.nutlisting.specs.Lines.{IsWholeLine};
 ghost use Rattle.nutlisting.specs.Types.{type_words};
 ghost use Rattle.nutlisting.specs.declared.lines.shown.TheConstants.{SHOWN_LIMIT};
 
-mod owned;
 mod shown;
 mod types;
 
+use arrayvec::ArrayVec;
 use itoa::Buffer;
 use nutdriver::{Range, Variable};
 use nutwords::{Address, Line, Name, UpsName, Value, quote_into};
-pub use owned::{count_line, desc_line, plain_line, type_line, ups_line, variable_line};
 
 /// The most bytes of a line's kind: `UPSDESC`, `CMDDESC`.
 pub(crate) const KIND_LIMIT: usize = 7;
@@ -145,6 +144,24 @@ pub fn plain_line_into(text: &[u8], line: &mut Line)
 {
     begin(line, text);
     finish(line);
+}
+
+/// The most bytes of the line of a count: `NUMLOGINS`, a UPS's name, a number, two blanks.
+const COUNT_LINE_LIMIT: usize = 128;
+
+/// Makes the line of how many sessions are logged in to a UPS.
+pub fn count_line_into(ups: &UpsName, count: usize, line: &mut Line)
+    ensures text { line.new.items ≡ line_of (codes "NUMLOGINS" ∷ ups.now ∷ decimal count ∷ []) }
+    ensures whole { IsWholeLine line.new.items }
+{
+    let mut text: ArrayVec<u8, COUNT_LINE_LIMIT> = ArrayVec::new();
+    let mut digits = Buffer::new();
+    text.try_extend_from_slice(b"NUMLOGINS ").unwrap();
+    text.try_extend_from_slice(ups.as_bytes()).unwrap();
+    text.push(b' ');
+    text.try_extend_from_slice(digits.format(count).as_bytes())
+        .unwrap();
+    plain_line_into(text.as_slice(), line);
 }
 
 /// Begins a line: its kind, and the names of a UPS and of a variable or a command.

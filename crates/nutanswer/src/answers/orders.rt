@@ -1,27 +1,28 @@
 //! Orders to drivers: SET VAR and INSTCMD (RFC 9271).
-ghost use Rattle.std.specs.Prelude.{◌≡◌};
+ghost use Rattle.std.specs.Prelude.{Ok};
 ghost use Rattle.nutanswer.specs.View.{asker_seen};
-ghost use Rattle.nutanswer.specs.Answer.{answer_to};
-ghost use Rattle.nutanswer.specs.Leaf.{Gives};
+ghost use Rattle.nutanswer.specs.Answer.{answer_to, one_line, ok};
+ghost use Rattle.nutanswer.specs.Orders.{order};
+ghost use Rattle.nutanswer.specs.Leaf.{CarriesAnswer, Gives};
 ghost use Rattle.nutanswer.specs.declared.command.Command.TheVariants.{SetVar, InstCmd};
 
-use super::session::ok;
 use crate::checks::{command_value, live_command, live_variable, settable, user, user_of_command};
 use crate::known::KnownCommand;
-use crate::lines::order_line;
-use crate::{Asker, Change, ErrWord, Reply, View};
-use nutusers::Right;
-use nutwords::{Name, UpsName, Value};
+use crate::lines::order_line_into;
+use crate::{Asker, Change, ErrWord, OrderLine, Reply, View};
+use nutusers::{Right, UpsId};
+use nutwords::{Line, Name, UpsName, Value};
 
 /// SET VAR.
 #[inline(never)]
-pub(crate) fn set_var<V: View>(
+pub(crate) fn set_var<'a, V: View>(
     view: &V,
     asker: Asker<'_>,
     ups: &Option<UpsName>,
     name: &Option<Name>,
     value: &Option<Value>,
-) -> Result<Reply, ErrWord>
+    line: &'a mut Line,
+) -> Result<Reply<'a>, ErrWord>
     ensures { Gives
         (answer_to (V.seen view.now) (asker_seen asker.entry) (SetVar ups.now name.now value.now))
         result }
@@ -29,22 +30,23 @@ pub(crate) fn set_var<V: View>(
     user(view, asker, Right::Set)?;
     let found = live_variable(view, ups, name)?;
     let value = settable(found.variable, value)?;
-    let line = order_line(b"SET", found.name, Some(value));
+    order_line_into(b"SET", found.name, Some(value), line);
     if line.len() > found.ups.state.free {
         return Err(ErrWord::SetFailed);
     }
-    Ok(ok(Change::Order(found.ups.id, line)))
+    Ok(ordered(found.ups.id, line))
 }
 
 /// INSTCMD.
 #[inline(never)]
-pub(crate) fn inst_cmd<V: View>(
+pub(crate) fn inst_cmd<'a, V: View>(
     view: &V,
     asker: Asker<'_>,
     ups: &Option<UpsName>,
     name: &Option<Name>,
     value: &Option<Option<Value>>,
-) -> Result<Reply, ErrWord>
+    line: &'a mut Line,
+) -> Result<Reply<'a>, ErrWord>
     ensures { Gives
         (answer_to (V.seen view.now) (asker_seen asker.entry) (InstCmd ups.now name.now value.now))
         result }
@@ -52,9 +54,16 @@ pub(crate) fn inst_cmd<V: View>(
     user_of_command(view, asker, name)?;
     let KnownCommand { ups, name } = live_command(view, ups, name)?;
     let value = command_value(value)?;
-    let line = order_line(b"INSTCMD", name, value);
+    order_line_into(b"INSTCMD", name, value, line);
     if line.len() > ups.state.free {
         return Err(ErrWord::InstcmdFailed);
     }
-    Ok(ok(Change::Order(ups.id, line)))
+    Ok(ordered(ups.id, line))
+}
+
+/// The bare OK, of a command by which the driver of this UPS is owed this line.
+fn ordered<'a>(u: UpsId, line: &'a Line) -> Reply<'a>
+    ensures { CarriesAnswer (Ok (one_line ok (order u line.now.items))) result }
+{
+    Reply::One(b"OK\n", Change::Order(u, OrderLine::of(line.as_slice())))
 }

@@ -8,13 +8,17 @@ ghost use Rattle.nutanswer.specs.declared.command.Command.TheVariants.{Username,
 use super::refused;
 use crate::checks::{known_ups, user};
 use crate::{Asker, Change, ErrWord, Reply, View};
-use nutlisting::{count_line, plain_line};
+use nutlisting::{count_line_into, plain_line_into};
 use nutusers::{Right, UserName};
 use nutwords::{Line, UpsName};
 
 /// USERNAME.
 #[inline(never)]
-pub(crate) fn username(asker: Asker<'_>, name: &Option<UserName>) -> Result<Reply, ErrWord>
+pub(crate) fn username<'a>(
+    asker: Asker<'_>,
+    name: &Option<UserName>,
+    line: &'a mut Line,
+) -> Result<Reply<'a>, ErrWord>
     ensures { (s : Seen) → Gives
         (answer_to s (asker_seen asker.entry) (Username name.now)) result }
 {
@@ -22,17 +26,18 @@ pub(crate) fn username(asker: Asker<'_>, name: &Option<UserName>) -> Result<Repl
         return Err(ErrWord::AlreadySetUsername);
     }
     match name {
-        Some(name) => Ok(ok(Change::Username(name.copied()))),
+        Some(name) => Ok(ok(Change::Username(name.copied()), line)),
         None => Err(ErrWord::InvalidArgument),
     }
 }
 
 /// PASSWORD.
 #[inline(never)]
-pub(crate) fn password(
+pub(crate) fn password<'a>(
     asker: Asker<'_>,
     password: &Option<nutusers::Password>,
-) -> Result<Reply, ErrWord>
+    line: &'a mut Line,
+) -> Result<Reply<'a>, ErrWord>
     ensures { (s : Seen) → Gives
         (answer_to s (asker_seen asker.entry) (Password password.now)) result }
 {
@@ -40,18 +45,19 @@ pub(crate) fn password(
         return Err(ErrWord::AlreadySetPassword);
     }
     match password {
-        Some(password) => Ok(ok(Change::Password(password.copied()))),
+        Some(password) => Ok(ok(Change::Password(password.copied()), line)),
         None => Err(ErrWord::InvalidArgument),
     }
 }
 
 /// LOGIN.
 #[inline(never)]
-pub(crate) fn login<V: View>(
+pub(crate) fn login<'a, V: View>(
     view: &V,
     asker: Asker<'_>,
     ups: &Option<UpsName>,
-) -> Result<Reply, ErrWord>
+    line: &'a mut Line,
+) -> Result<Reply<'a>, ErrWord>
     ensures { Gives
         (answer_to (V.seen view.now) (asker_seen asker.entry) (Login ups.now)) result }
 {
@@ -60,58 +66,67 @@ pub(crate) fn login<V: View>(
     if asker.login.is_some() {
         return Err(ErrWord::AlreadyLoggedIn);
     }
-    Ok(ok(Change::Login(ups.id)))
+    Ok(ok(Change::Login(ups.id), line))
 }
 
 /// LOGOUT.
-pub(crate) fn logout() -> Reply
+pub(crate) fn logout<'a>(line: &'a mut Line) -> Reply<'a>
     ensures { (s : Seen) (a : AskerSeen) → CarriesAnswer (answer_to s a Logout) result }
 {
-    Reply::One(plain_line(b"OK Goodbye"), Change::Ending)
+    plain_line_into(b"OK Goodbye", line);
+    Reply::One(line.as_slice(), Change::Ending)
 }
 
 /// PRIMARY.
 #[inline(never)]
-pub(crate) fn primary<V: View>(
+pub(crate) fn primary<'a, V: View>(
     view: &V,
     asker: Asker<'_>,
     ups: &Option<UpsName>,
-) -> Result<Reply, ErrWord>
+    line: &'a mut Line,
+) -> Result<Reply<'a>, ErrWord>
     ensures { Gives
         (answer_to (V.seen view.now) (asker_seen asker.entry) (Primary ups.now)) result }
 {
     user(view, asker, Right::Primary)?;
     known_ups(view, ups)?;
-    Ok(ok(Change::Nothing))
+    Ok(ok(Change::Nothing, line))
 }
 
 /// FSD.
 #[inline(never)]
-pub(crate) fn fsd<V: View>(
+pub(crate) fn fsd<'a, V: View>(
     view: &V,
     asker: Asker<'_>,
     ups: &Option<UpsName>,
-) -> Result<Reply, ErrWord>
+    line: &'a mut Line,
+) -> Result<Reply<'a>, ErrWord>
     ensures { Gives
         (answer_to (V.seen view.now) (asker_seen asker.entry) (Fsd ups.now)) result }
 {
     user(view, asker, Right::Fsd)?;
     let ups = known_ups(view, ups)?;
-    Ok(Reply::One(plain_line(b"OK FSD-SET"), Change::Fsd(ups.id)))
+    plain_line_into(b"OK FSD-SET", line);
+    Ok(Reply::One(line.as_slice(), Change::Fsd(ups.id)))
 }
 
 /// GET NUMLOGINS.
 #[inline(never)]
-pub(crate) fn get_num_logins<V: View>(view: &V, ups: &Option<UpsName>) -> Result<Line, ErrWord>
-    ensures { IsLineOf (row (V.seen view.now) (GetNumLogins ups.now)) result }
+pub(crate) fn get_num_logins<V: View>(
+    view: &V,
+    ups: &Option<UpsName>,
+    line: &mut Line,
+) -> Result<(), ErrWord>
+    ensures { IsLineOf (row (V.seen view.now) (GetNumLogins ups.now)) line.new.items result }
 {
     let ups = known_ups(view, ups)?;
-    Ok(count_line(ups.name, view.login_count(ups.id)))
+    count_line_into(ups.name, view.login_count(ups.id), line);
+    Ok(())
 }
 
 /// LIST CLIENT.
 #[inline(never)]
-pub(crate) fn list_client<V: View>(view: &V, ups: &Option<UpsName>) -> Reply
+pub(crate) fn list_client<'a, V: View>(view: &V, ups: &Option<UpsName>) -> Reply<'a>
     ensures { IsReply (V.seen view.now) (row (V.seen view.now) (ListClient ups.now)) result }
 {
     match known_ups(view, ups) {
@@ -121,8 +136,9 @@ pub(crate) fn list_client<V: View>(view: &V, ups: &Option<UpsName>) -> Reply
 }
 
 /// The bare OK, of a command that changes this.
-pub(crate) fn ok(change: Change) -> Reply
-    ensures { CarriesAnswer (Ok (one_line ok change)) result }
+fn ok<'a>(change: Change<'a>, line: &'a mut Line) -> Reply<'a>
+    ensures { CarriesAnswer (Ok (one_line ok change.entry)) result }
 {
-    Reply::One(plain_line(b"OK"), change)
+    plain_line_into(b"OK", line);
+    Reply::One(line.as_slice(), change)
 }

@@ -3,20 +3,25 @@
 use super::answer;
 use super::sample::{Sample, SampleAsker};
 use crate::{Change, Command, Reply};
-use nutwords::LINE_LIMIT;
+use nutwords::{LINE_LIMIT, Line};
 use std::test::Fail;
 
 /// What the line is answered, where it is a command and memory is there.
-fn reply(sample: &Sample, asker: &SampleAsker, line: &[u8]) -> Option<Reply> {
+fn reply<'a>(
+    sample: &Sample,
+    asker: &SampleAsker,
+    line: &[u8],
+    lent: &'a mut Line,
+) -> Option<Reply<'a>> {
     if line.len() > LINE_LIMIT {
         return None;
     }
     let command = Command::read(line).ok()??;
-    answer(sample, asker.view(), &command).ok()
+    answer(sample, asker.view(), &command, lent).ok()
 }
 
 /// The kind of the change.
-fn kind(change: &Change) -> &'static [u8] {
+fn kind(change: &Change<'_>) -> &'static [u8] {
     match change {
         Change::Nothing => b"",
         Change::Username(_) => b"username",
@@ -29,9 +34,9 @@ fn kind(change: &Change) -> &'static [u8] {
 }
 
 /// The line without its LF, and the kind of what is changed; or the kind of the listing.
-fn told(reply: &Option<Reply>) -> (&[u8], &'static [u8]) {
+fn told<'a>(reply: &Option<Reply<'a>>) -> (&'a [u8], &'static [u8]) {
     match reply {
-        Some(Reply::One(line, change)) => (line.as_slice().trim_ascii_end(), kind(change)),
+        Some(Reply::One(line, change)) => (line.trim_ascii_end(), kind(change)),
         Some(Reply::Many(_)) => (b"", b"listing"),
         Some(Reply::Clients(_, _)) => (b"", b"clients"),
         None => (b"", b"none"),
@@ -44,7 +49,8 @@ fn is_so(sample: &Sample, asker: &SampleAsker, row: &[u8]) -> bool {
     let (Some(line), Some(want), Some(changed)) = (parts.next(), parts.next(), parts.next()) else {
         return false;
     };
-    let reply = reply(sample, asker, line);
+    let mut lent = Line::new();
+    let reply = reply(sample, asker, line, &mut lent);
     told(&reply) == (want, changed)
 }
 

@@ -14,7 +14,7 @@ ghost use Rattle.nutlisting.specs.declared.listing.clients.TheConstants.{SESSION
 ghost use Rattle.nutanswer.specs.declared.reply.Change.TheVariants.{Nothing};
 ghost use Rattle.nutcore.specs.declared.TheConstants.{HELD_LIMIT};
 ghost use Rattle.nutlisting.specs.declared.outbox.TheConstants.{OWED_LIMIT};
-ghost use Rattle.nutwords.specs.declared.limits.TheConstants.{LINE_LIMIT, LINE_ROOM};
+ghost use Rattle.nutwords.specs.declared.limits.TheConstants.{LINE_LIMIT};
 ghost use Rattle.nutlisting.specs.Items.{text_of, client_listing};
 
 use super::Server;
@@ -28,14 +28,15 @@ use nutwords::{Line, UpsName};
 use std::alloc::AllocError;
 
 impl Server {
-    /// What answers a line of the client, as the server is now. Memory is asked for by a listing
-    /// alone.
-    pub(super) fn reply(
+    /// What answers a line of the client, as the server is now. The answer's line is made in the one that is lent. Memory
+    /// is asked for by a listing alone.
+    pub(super) fn reply<'a>(
         &self,
         c: ClientId,
         who: Asker<'_>,
         line: &[u8],
-    ) -> Result<Reply, AllocError>
+        lent: &'a mut Line,
+    ) -> Result<Reply<'a>, AllocError>
         requires asks { asker_seen who ≡ asker c self.now.state }
         requires short { length line.now ≤ LINE_LIMIT }
         ensures { RepliesOrLacks self.now.state c line.now result }
@@ -43,7 +44,7 @@ impl Server {
         match Command::read(line) {
             Err(word) => Ok(one_line(word.line())),
             Ok(None) => Ok(one_line(b"")),
-            Ok(Some(command)) => answer(self, who, &command),
+            Ok(Some(command)) => answer(self, who, &command, lent),
         }
     }
 
@@ -57,7 +58,12 @@ impl Server {
     }
 
     /// What answers the session's next line, which is there.
-    pub(super) fn next_reply(&self, c: ClientId, place: usize) -> Result<Reply, AllocError>
+    pub(super) fn next_reply<'a>(
+        &self,
+        c: ClientId,
+        place: usize,
+        lent: &'a mut Line,
+    ) -> Result<Reply<'a>, AllocError>
         requires at { IsAt c place self.now.state.sessions }
         requires next { is_some (next_line_for self.now.state c) ≡ true }
         ensures next { NextIs self.now.state c
@@ -65,17 +71,17 @@ impl Server {
     {
         let session = &self.sessions[place];
         let line = session.next_line().unwrap();
-        self.reply(c, session.asker(), line)
+        self.reply(c, session.asker(), line, lent)
     }
 
     /// Takes the next line, joins the text that answers it, and does what it changes of the
     /// session. Takes no memory.
-    pub(super) fn answer_text(&mut self, c: ClientId, place: usize, text: &[u8], change: Change)
+    pub(super) fn answer_text(&mut self, c: ClientId, place: usize, text: &[u8], change: Change<'_>)
         requires at { IsAt c place self.old.state.sessions }
         requires next { is_some (next_line_for self.old.state c) ≡ true }
         requires short { length text.now ≤ OWED_LIMIT }
         requires line { IsLineOrNone text.now }
-        ensures answered { IsAnswered self.old.state c text.now change self.new.state }
+        ensures answered { IsAnswered self.old.state c text.now change.entry self.new.state }
         ensures keeps { KeepsCost c self.old self.new }
     {
         let session = &mut self.sessions[place];
@@ -83,7 +89,7 @@ impl Server {
     }
 
     /// Does what an answer changes of the UPSs.
-    pub(super) fn change_upses(&mut self, change: &Change)
+    pub(super) fn change_upses(&mut self, change: &Change<'_>)
         requires fits { OrderFits change.now self.old.state.upses }
         ensures changed { self.new.state ≡ record self.old.state
             { upses = changed_upses change.now self.old.state.upses } }
@@ -91,7 +97,7 @@ impl Server {
     {
         match change {
             Change::Fsd(u) => set_fsd(&mut self.upses, *u),
-            Change::Order(u, line) => order(&mut self.upses, *u, line.as_slice()),
+            Change::Order(u, line) => order(&mut self.upses, *u, line.as_bytes()),
             _ => {}
         }
     }
@@ -123,8 +129,8 @@ impl Server {
         session.answer_clients(name, &mut self.scratch);
     }
 
-    /// Executes the next line, which is there. Without memory nothing changes. It alone has large locals, which are
-    /// cleared where a function begins: so it is a call of its own, and a session without a line pays for none.
+    /// Executes the next line, which is there. Without memory nothing changes. It alone has a line of an answer, which is
+    /// cleared where the function begins: so it is a call of its own, and a session without a line pays for none.
     #[inline(never)]
     pub(super) fn execute(&mut self, c: ClientId, place: usize) -> Result<(), AllocError>
         requires at { IsAt c place self.old.state.sessions }
@@ -134,10 +140,11 @@ impl Server {
         ensures memory { OnErr result (IsTrue (wants_memory self.old.state c)) }
         ensures keeps { KeepsCost c self.old self.new }
     {
-        match self.next_reply(c, place)? {
+        let mut line = Line::new();
+        match self.next_reply(c, place, &mut line)? {
             Reply::One(text, change) => {
                 self.change_upses(&change);
-                self.answer_text(c, place, text.as_slice(), change);
+                self.answer_text(c, place, text, change);
                 Ok(())
             }
             Reply::Many(listing) => {
@@ -236,11 +243,8 @@ fn order(upses: &mut Vec<Ups>, u: UpsId, line: &[u8])
 }
 
 /// A reply of at most one line, which changes nothing.
-fn one_line(text: &[u8]) -> Reply
-    requires { length text.now ≤ LINE_ROOM }
+fn one_line<'a>(text: &'a [u8]) -> Reply<'a>
     ensures { IsText text.now result }
 {
-    let mut line = Line::new();
-    line.try_extend_from_slice(text).unwrap();
-    Reply::One(line, Change::Nothing)
+    Reply::One(text, Change::Nothing)
 }

@@ -12,8 +12,8 @@ returns g c =
     let k = known_variable c.in_ok-found.found in
     let row = with_variable s c.args.ups.now c.args.name.now (λ u v x. told (codes "TYPE" ∷ u.name ∷ v ∷ type_words x)) k c.in_ok-found.ensures in
     record {
-      text = c.type_line.ensures.text ∙ ap text_of_answer (sym row);
+      text = c.type_line_into.ensures.text ∙ ap text_of_answer (sym row);
       changes = ap change_of_answer (sym row);
       one = ap shares_version row;
-      whole_line = c.type_line.ensures.whole;
+      whole_line = c.type_line_into.ensures.whole;
     }

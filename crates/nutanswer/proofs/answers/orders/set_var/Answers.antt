@@ -1,10 +1,9 @@
 use Rattle.std.proofs.Common.{ℕ, List, Result, Ok, Err, sym, ◌∙◌, ap, subst, length, arith}
 use Rattle.std.proofs.lemmas.Result.{err_from_is_err_and}
-use Rattle.arrayvec.specs.ArrayVec.{ArrayVec}
 use Rattle.nutanswer.specs.View.{asker_seen}
 use Rattle.nutanswer.specs.Answer.{Answer, one_line, ok}
 use Rattle.nutanswer.specs.declared.err_word.ErrWord.{ErrWord}
-use Rattle.nutanswer.specs.declared.reply.Change.TheVariants as changes
+use Rattle.nutanswer.specs.Orders.{order}
 use Rattle.nutanswer.specs.Leaf.{CarriesAnswer, known_variable}
 use Rattle.nutanswer.proofs.Rows.{set_refused, set_full, set_done}
 use Rattle.nutanswer.proofs.answers.orders.set_var.Goals as goal
@@ -20,13 +19,12 @@ pub returns-then-len-found : goal.returns-then-len-found
 returns-then-len-found g c =
     let s = g.V.View.seen c.args.view.now in
     set_full s (asker_seen c.args.asker) c.args.ups.now c.args.name.now c.args.value.now (known_variable c.in_ok-found.found) c.in_ok-user.ensures c.in_ok-found.ensures
-    c.in_ok-value.value.now c.in_ok-value.ensures (omega (arith, c.if-len-found.true, c.len.ensures.value, ap length c.order_line-line.ensures))
+    c.in_ok-value.value.now c.in_ok-value.ensures (omega (arith, c.if-len-found.true, c.len.ensures.value, ap length c.order_line_into.ensures))
 
 pub returns : goal.returns
 returns g c =
     let s = g.V.View.seen c.args.view.now in
     let done = set_done s (asker_seen c.args.asker) c.args.ups.now c.args.name.now c.args.value.now (known_variable c.in_ok-found.found) c.in_ok-user.ensures c.in_ok-found.ensures
-    c.in_ok-value.value.now c.in_ok-value.ensures (omega (arith, c.if-len-found.false, c.len.ensures.value, ap length c.order_line-line.ensures)) in
-    let line = ap (λ (items : List ℕ). let v : ArrayVec ℕ = record { items = items } in v) c.order_line-line.ensures in
-    subst (λ (answer : Result Answer ErrWord). CarriesAnswer answer c.ok.result)
-    (ap (λ (line : ArrayVec ℕ). let a : Result Answer ErrWord = Ok (one_line ok (changes.Order c.in_ok-found.found.ups.id line)) in a) line ∙ sym done) c.ok.ensures
+    c.in_ok-value.value.now c.in_ok-value.ensures (omega (arith, c.if-len-found.false, c.len.ensures.value, ap length c.order_line_into.ensures)) in
+    subst (λ (answer : Result Answer ErrWord). CarriesAnswer answer c.ordered.result)
+    (ap (λ (line : List ℕ). let a : Result Answer ErrWord = Ok (one_line ok (order c.in_ok-found.found.ups.id line)) in a) c.order_line_into.ensures ∙ sym done) c.ordered.ensures

@@ -21,7 +21,7 @@ invariant_of-self-in-Order c =
     let change : Change = Order c.in-Order.u c.in-Order.line in
     let fits : OrderFits change v.upses = subst (λ (z : ServerState). OrderFits change z.upses) (sym (state_is c.self.view_is)) (subst (λ (z : Change). OrderFits z c.args.self.now.state.upses) c.in-Order.is c.requires.fits) in
     record {
-      sound = upses_kept v change c.order.new.upses.items (c.order.ensures.owed ∙ ap (λ (line : List ℕ). changed_at (with_order line) c.in-Order.u.place v.upses) c.as_slice.ensures.value) fits c.self.invariant.sound;
+      sound = upses_kept v change c.order.new.upses.items (c.order.ensures.owed ∙ ap (λ (line : List ℕ). changed_at (with_order line) c.in-Order.u.place v.upses) c.as_bytes.ensures) fits c.self.invariant.sound;
       room = c.self.invariant.room;
     }
 
@@ -30,4 +30,4 @@ order-requires c =
     let v : ServerState = (the_view c.self.inside).state in
     let change : Change = Order c.in-Order.u c.in-Order.line in
     let fits : OrderFits change v.upses = subst (λ (z : ServerState). OrderFits change z.upses) (sym (state_is c.self.view_is)) (subst (λ (z : Change). OrderFits z c.args.self.now.state.upses) c.in-Order.is c.requires.fits) in
-    record { fits = λ x at. subst (λ (line : List ℕ). TakesLine line x) (sym c.as_slice.ensures.value) (fits c.in-Order.u c.in-Order.line x refl at) }
+    record { fits = λ x at. subst (λ (line : List ℕ). TakesLine line x) (sym c.as_bytes.ensures) (fits c.in-Order.u c.in-Order.line x refl at) }

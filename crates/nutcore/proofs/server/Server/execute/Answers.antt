@@ -24,7 +24,7 @@ returns-in-One-clause-ok c =
     let line : List ℕ = c.next_reply.ensures.next.0 in
     let e : c.next_reply.result ≡ Ok (One c.in-One.text c.in-One.change) = c.in_ok-text.was ∙ ap (λ (r : Reply). Ok r) c.in-One.is in
     let told : Replies c.args.self.now.state c.args.c line (One c.in-One.text c.in-One.change) = subst (λ (r : Result Reply AllocError). RepliesOrLacks c.args.self.now.state c.args.c line r) e c.next_reply.ensures.next.2 in
-    line_is c.args.self.now.state c.change_upses.new.self.state c.answer_text.new.self.state c.args.c line c.as_slice.result.now c.in-One.change c.next_reply.ensures.next.1 (told.1 ∙ sym c.as_slice.ensures.value) told.2 c.change_upses.ensures.changed c.answer_text.ensures.answered
+    line_is c.args.self.now.state c.change_upses.new.self.state c.answer_text.new.self.state c.args.c line c.in-One.text.now c.in-One.change c.next_reply.ensures.next.1 told.1 told.2 c.change_upses.ensures.changed c.answer_text.ensures.answered
 
 pub returns-in-Many-clause-ok : goal.returns-in-Many-clause-ok
 returns-in-Many-clause-ok c =
