@@ -3,9 +3,9 @@ use Rattle.std.proofs.Common.{refl}
 use Rattle.nutcore.specs.Server.{with_session_changed_of, with_session_changed}
 use Rattle.nutcore.specs.Lines.{ended_lines, whole_lines, unfinished_after}
 use Rattle.nutcore.specs.Pump.{after_reply_of, after_reply, after_line_of, after_line, after_lines, after_all_lines, after_notice_of, after_notice, pumped}
-use Rattle.nutcore.specs.Step.{with_input_of, with_input, without_output_of, without_output, opened, after_driver_line, after_driver_text, after_driver_bytes_of, after_driver_bytes, pumped_until, after_by, outcome_of}
+use Rattle.nutcore.specs.Step.{with_input_of, with_input, without_output_of, without_output, opened, after_driver_line, after_driver_text, after_driver_bytes_of, after_driver_bytes, pumped_until, after_by, outcome_of, wants_driver_memory}
 use Rattle.nutcore.specs.History.{taken_in_event}
-use Rattle.nutcore.specs.Examples.{TwoVariables, EmptyListing, TakenInFour, LongestLine, ThreeLines, EscapedValue, FaultyLines, CasesAndFaults, NotConnected, Described, PipelinedGet}
+use Rattle.nutcore.specs.Examples.{TwoVariables, EmptyListing, TakenInFour, LongestLine, ThreeLines, EscapedValue, FaultyLines, CasesAndFaults, NotConnected, Described, PipelinedGet, CutLines, ToldInPieces}
 
 pub two_variables : TwoVariables
 unfolding with_session_changed_of with_session_changed ended_lines whole_lines unfinished_after after_driver_line after_driver_text after_driver_bytes_of after_reply_of after_reply after_line_of after_line after_lines after_all_lines after_notice_of after_notice pumped with_input_of with_input without_output_of without_output opened after_driver_bytes pumped_until after_by outcome_of taken_in_event
@@ -50,3 +50,11 @@ described = record { upses = refl; variable = refl }
 pub pipelined_get : PipelinedGet
 unfolding with_session_changed_of with_session_changed ended_lines whole_lines unfinished_after after_driver_line after_driver_text after_driver_bytes_of after_reply_of after_reply after_line_of after_line after_lines after_all_lines after_notice_of after_notice pumped with_input_of with_input without_output_of without_output opened after_driver_bytes pumped_until after_by outcome_of taken_in_event
 pipelined_get = record { listed = refl; held_back = refl; told_behind = refl }
+
+pub cut_lines : CutLines
+unfolding ended_lines whole_lines unfinished_after
+cut_lines = record { lines = refl; rest = refl; empty_line = refl; longest = refl; too_late = refl; still_open = refl; too_long = refl }
+
+pub told_in_pieces : ToldInPieces
+unfolding with_session_changed_of with_session_changed ended_lines whole_lines unfinished_after after_driver_line after_driver_text after_driver_bytes_of after_reply_of after_reply after_line_of after_line after_lines after_all_lines after_notice_of after_notice pumped with_input_of with_input without_output_of without_output opened after_driver_bytes pumped_until after_by outcome_of taken_in_event wants_driver_memory
+told_in_pieces = record { first = refl; second = refl; refused = refl; lost = refl; out_of_memory = refl; may_lack = refl; changes_nothing = refl; no_line = refl }
