@@ -3,14 +3,16 @@ use Rattle.std.proofs.Common.{◌≡◌, ℕ, zero, suc, ◌+◌, ◌<◌, Bool,
 use Rattle.std.specs.Prelude.{take_while}
 use Rattle.std.specs.List.{prefix_len}
 use Rattle.std.specs.Option.{option_map}
-use Rattle.std.proofs.lemmas.Bool.{cond-true, cond-false, eqb-true, lt-ltb, ltb-true}
+use Rattle.std.proofs.lemmas.Bool.{cond-true, cond-false, eqb-true, lt-ltb, ltb-true, le-leb, lt-leb}
 use Rattle.std.proofs.lemmas.Grind.{flat_map-append}
 use Rattle.std.proofs.lemmas.List.{take-append-drop}
 use Rattle.std.proofs.lemmas.List.Sums.{take_while-cons}
 use Rattle.std.proofs.Math.Seq.{drop-append_seam, drop-append-add}
 use Rattle.nutwords.specs.SplitLine.{split_line}
+use Rattle.nutwords.specs.Lines.{Tail, Unfinished, Overlong, IsCutInto, line as one_line, unfinished, overlong}
+use Rattle.nutwords.proofs.PublicLaws.{each_text_is_cut}
 use Rattle.nutwords.specs.declared.limits.TheConstants.{LINE_ROOM}
-use Rattle.nutcore.specs.Lines.{first_line, with_lf, joined, in_first, ended_lines, is_short, whole_lines, unfinished_after}
+use Rattle.nutcore.specs.Lines.{first_line, with_lf, joined, in_first, ended_lines, is_short, whole_lines, unfinished_after, is_too_long, tail_after, WholeLinesAreTheCut}
 use Rattle.nutcore.specs.Sound.{Each}
 use Rattle.nutcore.proofs.FirstLine.{with_byte, parts, split_is}
 
@@ -161,3 +163,24 @@ each_short (line ∷ lines) all = subst (Each IsWhole) (sym (take_while-cons is_
 pub each_is_whole : (text : List ℕ) → Each IsWhole (whole_lines text)
 unfolding whole_lines
 each_is_whole text = each_short (ended_lines text) (each_ended text)
+
+-- the lines and the tail of a text
+abbrev tail_is : List ℕ → Tail
+tail_is rest = cond (is_too_long rest) Overlong (Unfinished rest)
+
+cut_is : (text : List ℕ) (lines : List (List ℕ)) (tail : Tail) → IsCutInto text lines tail → (whole_lines text ≡ lines) × (tail_after text ≡ tail)
+cut_is text _ tail (one_line {rest = rest} {first = first} {lines = lines} split short more) =
+    let r = cut_is rest lines tail more in
+    (whole_first text first rest split short ∙ ap (λ (z : List (List ℕ)). first ∷ z) r.0, ap tail_is (unfinished_first text first rest split short) ∙ r.1)
+cut_is text _ _ (unfinished none short) =
+    let lines = whole_none text none in
+    (lines, ap tail_is (unfinished_all text lines) ∙ cond-false _ _ _ (lt-leb LINE_ROOM (length text) short))
+cut_is text _ _ (overlong none long) =
+    let lines = whole_too_long text none in
+    (lines, ap tail_is (unfinished_all text lines) ∙ cond-true _ _ _ (le-leb LINE_ROOM (length text) long))
+
+pub whole_lines_are_the_cut : WholeLinesAreTheCut
+whole_lines_are_the_cut text =
+    let cut = each_text_is_cut text in
+    let is = cut_is text cut.0 cut.1 cut.2 in
+    subst (λ (tail : Tail). IsCutInto text (whole_lines text) tail) (sym is.1) (subst (λ (lines : List (List ℕ)). IsCutInto text lines cut.1) (sym is.0) cut.2)

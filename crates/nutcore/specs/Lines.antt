@@ -3,6 +3,7 @@ use Rattle.std.specs.Prelude.{ℕ, Bool, List, [], ◌∷◌, ◌++◌, ◌+◌,
 use Rattle.std.specs.List.{flat_map}
 use Rattle.std.specs.Option.{option_map}
 use Rattle.nutwords.specs.SplitLine.{split_line}
+use Rattle.nutwords.specs.Lines.{Tail, Unfinished, Overlong, IsCutInto}
 use Rattle.nutwords.specs.declared.limits.TheConstants.{LINE_ROOM}
 
 -- The first whole line, without its LF.
@@ -46,3 +47,11 @@ unfinished_after bytes = drop (length (joined (whole_lines bytes))) bytes
 -- It can't become a line: 1,024 bytes stand without an LF.
 abbrev pub is_too_long : List ℕ → Bool
 is_too_long rest = nat_le LINE_ROOM (length rest)
+
+-- What stands behind the whole lines: what is unfinished, or what is too long.
+abbrev pub tail_after : List ℕ → Tail
+tail_after bytes = if is_too_long (unfinished_after bytes) then Overlong else Unfinished (unfinished_after bytes)
+
+-- These are the lines and the tail into which each text is cut, and which it has alone.
+abbrev pub WholeLinesAreTheCut : Type 0
+WholeLinesAreTheCut = (bytes : List ℕ) → IsCutInto bytes (whole_lines bytes) (tail_after bytes)

@@ -57,14 +57,14 @@ unfoldable pub opened : ServerState → List ℕ → Option ℕ → ServerState
 opened s address None = if may_open s then record s { sessions = s.sessions ++ new_session s.next_id address ∷ []; next_id = s.next_id + 1 } else s
 opened s address (Some k) = s
 
--- Drivers. An event of a driver changes its UPS alone, and nothing where it is refused.
+-- Drivers come and are lost. A refused event changes nothing.
 abbrev pub connected : ℕ → UpsState → UpsState
 connected moment x = if x.report.connected then x else after_connecting moment x
 
 abbrev pub disconnected : UpsState → UpsState
 disconnected x = if x.report.connected then after_loss x else x
 
--- A whole line of a driver is a step of the server.
+-- Drivers tell. A whole line of a driver is a step of the server, at its moment: it changes the driver's UPS.
 unfoldable pub after_driver_line : UpsId → List ℕ → ServerState → ServerState
 after_driver_line u line s = with_ups_changed (λ x. after_text s.moment x line) u s
 
@@ -76,7 +76,7 @@ after_driver_lines u lines s = fold (λ t line. after_driver_line u line t) s li
 abbrev pub with_rest : List ℕ → UpsState → UpsState
 with_rest rest x = if is_too_long rest then after_loss x else with_unfinished rest x
 
--- The server after what a driver told: its whole lines, and the rest. Where memory was refused after k of these lines, the driver is lost behind them.
+-- What a driver told is whole lines and a rest: the server after these lines, with the rest; or, where memory was refused after k of them, after these k, the driver lost.
 unfoldable pub after_driver_text : UpsId → List ℕ → Option ℕ → ServerState → ServerState
 after_driver_text u text None s = with_ups_changed (with_rest (unfinished_after text)) u (after_driver_lines u (whole_lines text) s)
 after_driver_text u text (Some k) s = with_ups_changed after_loss u (after_driver_lines u (take k (whole_lines text)) s)
@@ -85,7 +85,7 @@ unfoldable pub after_driver_bytes_of : UpsId → List ℕ → Option ℕ → Opt
 after_driver_bytes_of u piece m None s = s
 after_driver_bytes_of u piece m (Some x) s = if x.report.connected then after_driver_text u (x.unfinished ++ piece) m s else s
 
--- A piece belongs to what is unfinished.
+-- A piece is told behind what was unfinished. Where no driver is connected, nothing changes.
 unfoldable pub after_driver_bytes : UpsId → List ℕ → Option ℕ → ServerState → ServerState
 after_driver_bytes u piece m s = after_driver_bytes_of u piece m (ups_at u.place s) s
 
