@@ -13,10 +13,11 @@ use Rattle.nutcore.specs.Ups.{UpsState, after_tick}
 use Rattle.nutcore.specs.Server.{ServerState, session, with_session, changed_at}
 use Rattle.nutcore.specs.Reply.{reply, changed_session, changed_upses}
 use Rattle.nutcore.specs.Pump.{answered, next_line_for, after_line, after_line_of, after_lines, after_all_lines, after_notice, after_notice_of, is_overlong_of, notified, pumped, held_of}
-use Rattle.nutcore.specs.Step.{accepted_bytes, with_input, with_input_of, without_output, without_output_of, may_take, may_open, opened, connected, disconnected, after_driver_bytes, after_driver_took, ticked, pumped_until, after_by, refused_after}
+use Rattle.nutcore.specs.Step.{accepted_bytes, with_input, with_input_of, without_output, without_output_of, may_take, may_open, opened, connected, disconnected, after_driver_took, ticked, pumped_until, after_by, refused_after}
 use Rattle.nutcore.specs.Run.{Run}
 use Rattle.nutcore.specs.ReadsBack.{HasLawfulAddress}
 use Rattle.nutcore.specs.Addresses.{opened_from, ANewServerHasLawfulAddresses, EveryRunKeepsAddressesLawful, EveryRunKeepsTheList}
+use Rattle.nutcore.proofs.DriverText.{ups_after_bytes, bytes_change}
 use Rattle.nutcore.proofs.Pumping.{is_next, after_line_is, change_at, session_after}
 
 -- a change keeps a session's address
@@ -90,7 +91,7 @@ module _ (P : ServerState → Type 0) (Opens : List ℕ → Type 0) (kept : IsKe
   by_event : (s : ServerState) (e : Event) (m : Option ℕ) → OpensFrom e → P s → P (after_by s e m)
   unfolding after_by with_input without_output ticked
   by_event s (DriverUp u) m own h = kept.changes s (changed_at (connected s.moment) u.place s.upses) h
-  by_event s (DriverBytes u piece) m own h = kept.changes s (changed_at (after_driver_bytes s.moment piece m) u.place s.upses) h
+  by_event s (DriverBytes u piece) m own h = subst P (sym (bytes_change u piece m s)) (kept.changes s (changed_at (ups_after_bytes s.moment piece m) u.place s.upses) h)
   by_event s (DriverTook u n) m own h = kept.changes s (changed_at (after_driver_took n) u.place s.upses) h
   by_event s (DriverDown u) m own h = kept.changes s (changed_at disconnected u.place s.upses) h
   by_event s (Tick seconds) m own h =

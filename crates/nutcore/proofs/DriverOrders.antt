@@ -15,13 +15,13 @@ use Rattle.nutanswer.specs.declared.reply.Change.TheVariants as changes
 use Rattle.nutcore.specs.declared.event.Event.{Event}
 use Rattle.nutcore.specs.declared.event.Event.TheVariants.{DriverUp, DriverBytes, DriverTook, DriverDown, Tick, Open, Feed, Took, Close}
 use Rattle.nutcore.specs.declared.event.Outcome.{Outcome}
-use Rattle.nutcore.specs.Lines.{behind}
+use Rattle.nutcore.specs.Lines.{whole_lines, unfinished_after, is_too_long}
 use Rattle.nutcore.specs.Session.{SessionState}
-use Rattle.nutcore.specs.Ups.{UpsState, after_loss, with_fsd, with_order, after_tick, ping_is_due, ping_line, after_outcome, after_driver_line, after_driver_line_of, after_driver_lines, after_all_driver_lines, next_driver_line, is_driver_overlong, with_bytes}
+use Rattle.nutcore.specs.Ups.{UpsState, after_loss, with_fsd, with_order, after_tick, ping_is_due, ping_line, after_outcome, after_text, after_texts, with_unfinished}
 use Rattle.nutcore.specs.Server.{ServerState, session, with_session, ups_at, changed_at, with_ups_changed}
 use Rattle.nutcore.specs.Reply.{changed_upses}
 use Rattle.nutcore.specs.Pump.{next_line_for, after_line, after_line_of, after_lines, after_all_lines, after_notice, after_notice_of, is_overlong, is_overlong_of, notified, pumped, held_of}
-use Rattle.nutcore.specs.Step.{with_input, with_input_of, without_output, without_output_of, may_take, may_open, opened, connected, disconnected, after_driver_pump, after_driver_bytes, driver_may_take, after_driver_took, ticked, pumped_until, after_by, after, refused_after}
+use Rattle.nutcore.specs.Step.{with_input, with_input_of, without_output, without_output_of, may_take, may_open, opened, connected, disconnected, driver_may_take, after_driver_took, ticked, pumped_until, after_by, after, refused_after}
 use Rattle.nutcore.specs.Run.{Run}
 use Rattle.nutcore.specs.History.{of_notice, next_execution, lines_executed, notice, pump_executions, executions_until, executions_by}
 use Rattle.nutcore.specs.Headline.{IsBeginning}
@@ -30,7 +30,9 @@ use Rattle.nutcore.specs.DriverHistory.{has_driver}
 use Rattle.nutcore.specs.DriverOrders.{Telling, dump_all, ping, order, texts_of, told_by_change, told_by_line, told_beside_lines, told_in_event, owed_to_driver, taken_in_event, is_lost_by, Connections, last, lost, with_front, in_front, connections, IsSentAndOwed, WhatADriverWasSentAndIsOwedIsWhatItWasTold}
 use Rattle.nutcore.proofs.Pumping.{is_next, after_line_is, change_at}
 use Rattle.nutcore.proofs.Isolation.{other_ups}
-use Rattle.nutcore.proofs.DriverHistory.{at_changed, at_mapped}
+use Rattle.nutcore.proofs.DriverSteps.{at_changed}
+use Rattle.nutcore.proofs.DriverText.{ups_after_text, ups_after_bytes, bytes_change}
+use Rattle.nutcore.proofs.DriverHistory.{at_mapped}
 use Rattle.nutcore.proofs.SoundUps.{each_get}
 
 -- texts of joined lists
@@ -181,42 +183,29 @@ outcome_owed : (x : UpsState) (r : Report × LineOutcome) → (after_outcome x r
 outcome_owed x (report, Accepted) = refl
 outcome_owed x (report, Refused fault) = refl
 
-line_owed : (m : ℕ) (x : UpsState) (o : Option (List ℕ)) → (after_driver_line_of m x o).owed ≡ x.owed
-unfolding after_driver_line_of
-line_owed m x None = refl
-line_owed m x (Some line) = outcome_owed (record x { unfinished = behind line x.unfinished }) (report_after m x.report line)
-
-lines_owed : (k m : ℕ) (x : UpsState) → (after_driver_lines k m x).owed ≡ x.owed
-unfolding after_driver_lines after_driver_line
-lines_owed zero m x = refl
-lines_owed (suc k) m x = lines_owed k m (after_driver_line m x) ∙ line_owed m x (next_driver_line x)
+texts_owed : (m : ℕ) (lines : List (List ℕ)) (x : UpsState) → (after_texts m lines x).owed ≡ x.owed
+texts_owed m [] x = refl
+texts_owed m (line ∷ lines) x = texts_owed m lines (after_text m x line) ∙ outcome_owed x (report_after m x.report line)
 
 -- where the driver isn't lost
 not_lost : {A : Type 0} (b : Bool) → b ≡ true → (b && true) ≡ false → A
 not_lost true e h = cc h
 not_lost false e h = cc e
 
-pump_owed : (m : ℕ) (x : UpsState) → x.report.connected ≡ true → (x.report.connected && not (after_driver_pump m x).report.connected) ≡ false → (after_driver_pump m x).owed ≡ x.owed
-unfolding after_all_driver_lines
-pump_owed m x is h = by_length (is_driver_overlong (after_all_driver_lines m x)) h
+bytes_owed : (m : ℕ) (piece : List ℕ) (refused : Option ℕ) (x : UpsState) → (x.report.connected && not (ups_after_bytes m piece refused x).report.connected) ≡ false → (ups_after_bytes m piece refused x).owed ≡ x.owed
+bytes_owed m piece refused x h = by_connection x.report.connected refl refused h
   where
-    z : UpsState
-    z = after_driver_lines (length x.unfinished) m x
+    text : List ℕ
+    text = x.unfinished ++ piece
 
-    by_length : (b : Bool) → (x.report.connected && not (cond b (after_loss z) z).report.connected) ≡ false → (cond b (after_loss z) z).owed ≡ x.owed
-    by_length true k = not_lost x.report.connected is k
-    by_length false k = lines_owed (length x.unfinished) m x
+    by_length : (b : Bool) (y : UpsState) → x.report.connected ≡ true → y.owed ≡ x.owed → (x.report.connected && not (cond b (after_loss y) (with_unfinished (unfinished_after text) y)).report.connected) ≡ false → (cond b (after_loss y) (with_unfinished (unfinished_after text) y)).owed ≡ x.owed
+    by_length true y is e k = not_lost x.report.connected is k
+    by_length false y is e k = e
 
-bytes_owed : (m : ℕ) (piece : List ℕ) (refused : Option ℕ) (x : UpsState) (b : Bool) → x.report.connected ≡ b → (x.report.connected && not (after_driver_bytes m piece refused x).report.connected) ≡ false → (after_driver_bytes m piece refused x).owed ≡ x.owed
-unfolding after_driver_bytes
-bytes_owed m piece None x true e h =
-    let is : after_driver_bytes m piece None x ≡ after_driver_pump m (with_bytes piece x) = cond-true _ _ _ e in
-    ap (λ (y : UpsState). y.owed) is ∙ pump_owed m (with_bytes piece x) e (ap (λ (y : UpsState). x.report.connected && not y.report.connected) (sym is) ∙ h)
-bytes_owed m piece (Some k) x true e h =
-    let is : after_driver_bytes m piece (Some k) x ≡ after_loss (after_driver_lines k m (with_bytes piece x)) = cond-true _ _ _ e in
-    not_lost x.report.connected e (ap (λ (y : UpsState). x.report.connected && not y.report.connected) (sym is) ∙ h)
-bytes_owed m piece None x false e h = ap (λ (y : UpsState). y.owed) (cond-false _ _ _ e)
-bytes_owed m piece (Some k) x false e h = ap (λ (y : UpsState). y.owed) (cond-false _ _ _ e)
+    by_connection : (b : Bool) → x.report.connected ≡ b → (r : Option ℕ) → (x.report.connected && not (cond b (ups_after_text m text r x) x).report.connected) ≡ false → (cond b (ups_after_text m text r x) x).owed ≡ x.owed
+    by_connection true is None k = by_length (is_too_long (unfinished_after text)) (after_texts m (whole_lines text) x) is (texts_owed m (whole_lines text) x) k
+    by_connection true is (Some n) k = not_lost x.report.connected is k
+    by_connection false is r k = refl
 
 quiet : (x y : UpsState) → ((x.report.connected && not y.report.connected) ≡ false → y.owed ≡ x.owed) → Goes x [] [] y
 quiet x y keeps = record { begins = (x.owed ++ [], refl); goes = λ k. append-nil x.owed ∙ sym (keeps k) }
@@ -288,7 +277,8 @@ event_leaves : (u : UpsId) (s : ServerState) (e : Event) (m : Option ℕ) (x : U
 unfolding after_by executions_by with_input
 event_leaves u s (DriverUp v) m x there nothing = plain u x _ [] _ (up_leaves u v s x there nothing)
 event_leaves u s (DriverBytes v piece) m x there nothing =
-    of_driver u v s x (after_driver_bytes s.moment piece m) (λ b. []) (λ b. []) (eqb v.place u.place) refl there refl refl (quiet x (after_driver_bytes s.moment piece m x) (bytes_owed s.moment piece m x x.report.connected refl))
+    subst (Leaves u x [] []) (sym (bytes_change v piece m s))
+    (of_driver u v s x (ups_after_bytes s.moment piece m) (λ b. []) (λ b. []) (eqb v.place u.place) refl there refl refl (quiet x (ups_after_bytes s.moment piece m x) (bytes_owed s.moment piece m x)))
 event_leaves u s (DriverTook v n) m x there nothing = took_leaves u v s n x there
 event_leaves u s (DriverDown v) m x there nothing =
     of_driver u v s x disconnected (λ b. []) (λ b. []) (eqb v.place u.place) refl there refl refl (quiet x (disconnected x) (down_owed x x.report.connected refl))

@@ -9,12 +9,12 @@ use Rattle.nutcore.specs.declared.event.Event.TheVariants.{DriverUp, DriverBytes
 use Rattle.nutcore.specs.declared.event.Outcome.TheVariants.{Done, Refused}
 use Rattle.nutcore.specs.declared.event.Fault.{Fault}
 use Rattle.nutcore.specs.declared.event.Fault.TheVariants.{NoSuchUps, NoSuchClient, TooManyClients, TookTooMuch, NotConnected, AlreadyConnected, LineTooLong, Memory}
-use Rattle.nutcore.specs.Ups.{UpsState, after_connecting, after_loss, after_tick, with_bytes}
-use Rattle.nutcore.specs.Leaf.{IsFed, IsTaken}
+use Rattle.nutcore.specs.Ups.{UpsState, after_connecting, after_loss, after_tick}
+use Rattle.nutcore.specs.Leaf.{IsTaken}
 use Rattle.nutcore.specs.Server.{ServerState, ups_at, changed_at, with_ups_changed}
-use Rattle.nutcore.specs.Step.{Step, connected, disconnected, after_driver_bytes, after_driver_took, ticked, connected_by, disconnected_by, driver_took_by, driver_bytes_by, driver_may_lack_memory, outcome_of, after_by, MayLackMemory}
+use Rattle.nutcore.specs.Step.{Step, connected, disconnected, after_driver_text, after_driver_bytes_of, after_driver_bytes, after_driver_took, ticked, connected_by, disconnected_by, driver_took_by, driver_bytes_by, driver_may_lack_memory, outcome_of, after_by, MayLackMemory}
 use Rattle.nutcore.specs.Calls.{is_connected, done}
-use Rattle.nutcore.specs.Serving.{DriverFeedGives, DriverTakes}
+use Rattle.nutcore.specs.Serving.{IsTold, DriverFeedGives, DriverTakes}
 
 -- changes at a place that agree there are one
 pub changed_agree : (f g : UpsState → UpsState) (i : ℕ) (xs : List UpsState) (x : UpsState) → slice_get xs i ≡ Some x → f x ≡ g x → changed_at f i xs ≡ changed_at g i xs
@@ -43,6 +43,12 @@ set_changed f zero (z ∷ xs) x y there e =
     let same : z ≡ x = cc there in
     ap (λ (w : UpsState). w ∷ xs) (e ∙ ap f (sym same))
 set_changed f (suc i) (z ∷ xs) x y there e = ap (λ (zs : List UpsState). z ∷ zs) (set_changed f i xs x y there e)
+
+-- what stands there then
+pub at_changed : (f : UpsState → UpsState) (p : ℕ) (xs : List UpsState) (x : UpsState) → slice_get xs p ≡ Some x → slice_get (changed_at f p xs) p ≡ Some (f x)
+at_changed f p [] x e = cc e
+at_changed f zero (y ∷ xs) x e = let same : y ≡ x = cc e in ap (λ (z : UpsState). Some (f z)) same
+at_changed f (suc p) (y ∷ xs) x e = at_changed f p xs x e
 
 -- the same of the server
 pub server_same : (s : ServerState) (u : UpsId) (f : UpsState → UpsState) (x : UpsState) → ups_at u.place s ≡ Some x → f x ≡ x → s ≡ with_ups_changed f u s
@@ -135,45 +141,50 @@ down_done s t u h e = record {
 
 -- bytes of a driver
 pub bytes_absent : (s : ServerState) (u : UpsId) (piece : List ℕ) → ups_at u.place s ≡ None → Step s (DriverBytes u piece) (Refused NoSuchUps) s
-unfolding outcome_of after_by
+unfolding outcome_of after_by after_driver_bytes after_driver_bytes_of
 bytes_absent s u piece none = record {
-  allowed = inl (sym (ap (driver_bytes_by s.moment piece) none));
-  leaves = server_none s u (after_driver_bytes s.moment piece None) none;
+  allowed = inl (sym (ap (driver_bytes_by piece) none));
+  leaves = sym (ap (λ (o : Option UpsState). after_driver_bytes_of u piece None o s) none);
 }
 
 pub bytes_unconnected : (s : ServerState) (u : UpsId) (piece : List ℕ) → IsThere s u false → Step s (DriverBytes u piece) (Refused NotConnected) s
-unfolding outcome_of after_by after_driver_bytes
+unfolding outcome_of after_by after_driver_bytes after_driver_bytes_of
 bytes_unconnected s u piece h = record {
-  allowed = inl (sym (ap (driver_bytes_by s.moment piece) h.there ∙ cond-false _ _ _ h.is));
-  leaves = server_same s u (after_driver_bytes s.moment piece None) h.ups h.there (cond-false _ _ _ h.is);
+  allowed = inl (sym (ap (driver_bytes_by piece) h.there ∙ cond-false _ _ _ h.is));
+  leaves = sym (ap (λ (o : Option UpsState). after_driver_bytes_of u piece None o s) h.there ∙ cond-false _ _ _ h.is);
 }
 
 pub connected_as : (s : ServerState) (u : UpsId) (x : UpsState) → IsThere s u true → ups_at u.place s ≡ Some x → x.report.connected ≡ true
 connected_as s u x h there = let same : Some h.ups ≡ Some x = sym h.there ∙ there in let e : h.ups ≡ x = cc same in ap (λ (z : UpsState). z.report.connected) (sym e) ∙ h.is
 
-fed_by : (s t : ServerState) (u : UpsId) (piece : List ℕ) (x y : UpsState) (r : Result (Unit {0}) Fault) → ups_at u.place s ≡ Some x → x.report.connected ≡ true → IsFed s.moment (with_bytes piece x) r y → t ≡ with_ups_changed (λ z. y) u s → Step s (DriverBytes u piece) (done r) t
-unfolding outcome_of after_by after_driver_bytes MayLackMemory
-fed_by s t u piece x y (Ok v) there is (short, e) leaves = record {
-  allowed = inl (sym (ap (driver_bytes_by s.moment piece) there ∙ cond-true _ _ _ is ∙ cond-false _ _ _ short));
-  leaves = leaves ∙ server_agree s u (λ z. y) (after_driver_bytes s.moment piece None) x there (e ∙ sym (cond-true _ _ _ is ∙ cond-false _ _ _ short));
+-- a piece is behind what was unfinished
+bytes_told : (s : ServerState) (u : UpsId) (piece : List ℕ) (m : Option ℕ) (x : UpsState) → ups_at u.place s ≡ Some x → x.report.connected ≡ true → after_driver_text u (x.unfinished ++ piece) m s ≡ after_driver_bytes u piece m s
+unfolding after_driver_bytes after_driver_bytes_of
+bytes_told s u piece m x there is = sym (ap (λ (o : Option UpsState). after_driver_bytes_of u piece m o s) there ∙ cond-true _ _ _ is)
+
+fed_by : (s t : ServerState) (u : UpsId) (piece : List ℕ) (x : UpsState) (r : Result (Unit {0}) Fault) → ups_at u.place s ≡ Some x → x.report.connected ≡ true → IsTold u (x.unfinished ++ piece) s r t → Step s (DriverBytes u piece) (done r) t
+unfolding outcome_of after_by MayLackMemory
+fed_by s t u piece x (Ok v) there is (short, e) = record {
+  allowed = inl (sym (ap (driver_bytes_by piece) there ∙ cond-true _ _ _ is ∙ cond-false _ _ _ short));
+  leaves = e ∙ bytes_told s u piece None x there is;
 }
-fed_by s t u piece x y (Err LineTooLong) there is (long, e) leaves = record {
-  allowed = inl (sym (ap (driver_bytes_by s.moment piece) there ∙ cond-true _ _ _ is ∙ cond-true _ _ _ long));
-  leaves = leaves ∙ server_agree s u (λ z. y) (after_driver_bytes s.moment piece None) x there (e ∙ sym (cond-true _ _ _ is ∙ cond-true _ _ _ long));
+fed_by s t u piece x (Err LineTooLong) there is (long, e) = record {
+  allowed = inl (sym (ap (driver_bytes_by piece) there ∙ cond-true _ _ _ is ∙ cond-true _ _ _ long));
+  leaves = e ∙ bytes_told s u piece None x there is;
 }
-fed_by s t u piece x y (Err (Memory k)) there is (wants, e) leaves = record {
-  allowed = inr (k, refl, (let may : driver_may_lack_memory s.moment piece k (ups_at u.place s) ≡ true = ap (driver_may_lack_memory s.moment piece k) there ∙ and_from _ _ is wants in may));
-  leaves = leaves ∙ server_agree s u (λ z. y) (after_driver_bytes s.moment piece (Some k)) x there (e ∙ sym (cond-true _ _ _ is));
+fed_by s t u piece x (Err (Memory k)) there is (wants, e) = record {
+  allowed = inr (k, refl, (let may : driver_may_lack_memory u piece k (ups_at u.place s) s ≡ true = ap (λ (o : Option UpsState). driver_may_lack_memory u piece k o s) there ∙ and_from _ _ is wants in may));
+  leaves = e ∙ bytes_told s u piece (Some k) x there is;
 }
-fed_by s t u piece x y (Err NoSuchUps) there is never leaves = absurd never
-fed_by s t u piece x y (Err NoSuchClient) there is never leaves = absurd never
-fed_by s t u piece x y (Err TooManyClients) there is never leaves = absurd never
-fed_by s t u piece x y (Err TookTooMuch) there is never leaves = absurd never
-fed_by s t u piece x y (Err NotConnected) there is never leaves = absurd never
-fed_by s t u piece x y (Err AlreadyConnected) there is never leaves = absurd never
+fed_by s t u piece x (Err NoSuchUps) there is never = absurd never
+fed_by s t u piece x (Err NoSuchClient) there is never = absurd never
+fed_by s t u piece x (Err TooManyClients) there is never = absurd never
+fed_by s t u piece x (Err TookTooMuch) there is never = absurd never
+fed_by s t u piece x (Err NotConnected) there is never = absurd never
+fed_by s t u piece x (Err AlreadyConnected) there is never = absurd never
 
 pub bytes_fed : (s t : ServerState) (u : UpsId) (piece : List ℕ) (r : Result (Unit {0}) Fault) → IsThere s u true → DriverFeedGives u piece s r t → Step s (DriverBytes u piece) (done r) t
-bytes_fed s t u piece r h g = fed_by s t u piece g.before g.after r g.there (connected_as s u g.before h g.there) g.fed g.leaves
+bytes_fed s t u piece r h gives = fed_by s t u piece h.ups r h.there h.is (gives h.ups h.there)
 
 -- a driver took of what it is owed
 pub took_absent : (s : ServerState) (u : UpsId) (n : ℕ) → ups_at u.place s ≡ None → Step s (DriverTook u n) (Refused NoSuchUps) s

@@ -1,5 +1,5 @@
 -- What an event doesn't touch.
-use Rattle.std.proofs.Common.{◌≡◌, ◌≢◌, ◌≤◌, ℕ, zero, suc, Bool, true, false, not, ◌&&◌, inl, inr, List, [], ◌∷◌, Option, Some, None, refl, sym, ◌∙◌, ap, subst, cond, map, length, arith}
+use Rattle.std.proofs.Common.{◌≡◌, ◌≢◌, ◌≤◌, ℕ, zero, suc, Bool, true, false, not, ◌&&◌, inl, inr, List, [], ◌∷◌, ◌++◌, Option, Some, None, refl, sym, ◌∙◌, ap, subst, cond, map, length, arith}
 use Rattle.std.specs.Prelude.{slice_get, nat_le}
 use Rattle.std.proofs.lemmas.Bool.{cond-true, cond-false}
 use Rattle.nutusers.specs.declared.ups_list.UpsId.{UpsId}
@@ -13,15 +13,17 @@ use Rattle.nutcore.specs.declared.event.Fault.{Fault}
 use Rattle.nutcore.specs.declared.event.Fault.TheVariants.{NoSuchUps, NoSuchClient, TooManyClients, TookTooMuch, NotConnected, AlreadyConnected, LineTooLong, Memory}
 use Rattle.nutcore.specs.Numbers.{number_of_fault}
 use Rattle.nutcore.specs.Session.{SessionState, without}
-use Rattle.nutcore.specs.Ups.{UpsState, with_fsd, with_order, with_bytes, after_all_driver_lines, is_driver_overlong}
+use Rattle.nutcore.specs.Lines.{unfinished_after, is_too_long}
+use Rattle.nutcore.specs.Ups.{UpsState, with_fsd, with_order}
 use Rattle.nutcore.specs.Server.{ServerState, session, with_session, with_session_changed, with_session_changed_of, ups_at, changed_at, with_ups_changed}
 use Rattle.nutcore.specs.Reply.{Reply, reply, changed_session, changed_upses, changed, change_by}
 use Rattle.nutanswer.specs.Command.{read_command}
 use Rattle.nutcore.specs.Pump.{next_line_for, after_line, after_line_of, after_reply, after_reply_of, after_lines, after_all_lines, after_notice, after_notice_of, is_overlong, is_overlong_of, notified, pumped, held_of}
-use Rattle.nutcore.specs.Step.{with_input, with_input_of, without_output, without_output_of, may_take, may_open, opened, pumped_until, after_by, refused_after, outcome_of, connected, disconnected, after_driver_bytes, after_driver_took, connected_by, driver_bytes_by, driver_pump_outcome, driver_took_by, disconnected_by, fed_by, took_by, closed_by, accepted}
+use Rattle.nutcore.specs.Step.{with_input, with_input_of, without_output, without_output_of, may_take, may_open, opened, pumped_until, after_by, refused_after, outcome_of, connected, disconnected, after_driver_text, after_driver_bytes_of, after_driver_bytes, after_driver_took, connected_by, driver_bytes_by, driver_text_outcome, driver_took_by, disconnected_by, fed_by, took_by, closed_by, accepted}
 use Rattle.nutcore.specs.Isolation.{client_of, ups_of, without_commands, kept_from_clients, LeavesOtherClients, LeavesOtherUpses, AClientTouchesNoOther, ADriverTouchesNoOther, ARefusedEventChangesNothing, ARefusedEventCostsNothing}
 use Rattle.nutcore.specs.Cost.{cost_of, no_cost}
 use Rattle.nutcore.proofs.Costs.{refused_feed_costs, refused_take_costs}
+use Rattle.nutcore.proofs.DriverText.{ups_after_bytes, bytes_change}
 use Rattle.nutcore.proofs.Progress.{Presence}
 use Rattle.nutcore.proofs.Found.{find_without_other}
 use Rattle.nutcore.proofs.Places.{without_none}
@@ -145,7 +147,7 @@ of_ups f s u v e = subst (λ (z : UpsId). LeavesOtherUpses z s (with_ups_changed
 own_ups : (s : ServerState) (e : Event) (m : Option ℕ) (u : UpsId) → ups_of e ≡ Some u → LeavesOtherUpses u s (after_by s e m)
 unfolding after_by
 own_ups s (DriverUp v) m u h = let e : v ≡ u = cc in of_ups (connected s.moment) s v u e
-own_ups s (DriverBytes v piece) m u h = let e : v ≡ u = cc in of_ups (after_driver_bytes s.moment piece m) s v u e
+own_ups s (DriverBytes v piece) m u h = let e : v ≡ u = cc in subst (LeavesOtherUpses u s) (sym (bytes_change v piece m s)) (of_ups (ups_after_bytes s.moment piece m) s v u e)
 own_ups s (DriverTook v n) m u h = let e : v ≡ u = cc in of_ups (after_driver_took n) s v u e
 own_ups s (DriverDown v) m u h = let e : v ≡ u = cc in of_ups disconnected s v u e
 own_ups s (Tick seconds) m u h = cc
@@ -207,15 +209,14 @@ pump_by : (b : Bool) → refusal (cond b (Refused LineTooLong) Done) ≤ 6 → �
 pump_by true h = absurd (omega arith)
 pump_by false h = absurd (omega arith)
 
-bytes_by : (s : ServerState) (u : UpsId) (piece : List ℕ) (x : UpsState) (b : Bool) → x.report.connected ≡ b → ups_at u.place s ≡ Some x → refusal (cond b (driver_pump_outcome s.moment (with_bytes piece x)) (Refused NotConnected)) ≤ 6 →
-    with_ups_changed (after_driver_bytes s.moment piece None) u s ≡ s
-unfolding after_driver_bytes
-bytes_by s u piece x true eb e h = absurd (pump_by (is_driver_overlong (after_all_driver_lines s.moment (with_bytes piece x))) h)
-bytes_by s u piece x false eb e h = same_upses (after_driver_bytes s.moment piece None) u s (same_at (after_driver_bytes s.moment piece None) u.place s.upses x e (cond-false _ _ _ eb))
+bytes_by : (s : ServerState) (u : UpsId) (text : List ℕ) (b : Bool) → refusal (cond b (driver_text_outcome text) (Refused NotConnected)) ≤ 6 → cond b (after_driver_text u text None s) s ≡ s
+bytes_by s u text true h = absurd (pump_by (is_too_long (unfinished_after text)) h)
+bytes_by s u text false h = refl
 
-bytes_of : (s : ServerState) (u : UpsId) (piece : List ℕ) (o : Option UpsState) → ups_at u.place s ≡ o → refusal (driver_bytes_by s.moment piece o) ≤ 6 → with_ups_changed (after_driver_bytes s.moment piece None) u s ≡ s
-bytes_of s u piece None e h = same_upses (after_driver_bytes s.moment piece None) u s (missing (after_driver_bytes s.moment piece None) u.place s.upses e)
-bytes_of s u piece (Some x) e h = bytes_by s u piece x x.report.connected refl e h
+bytes_of : (s : ServerState) (u : UpsId) (piece : List ℕ) (o : Option UpsState) → refusal (driver_bytes_by piece o) ≤ 6 → after_driver_bytes_of u piece None o s ≡ s
+unfolding after_driver_bytes_of
+bytes_of s u piece None h = refl
+bytes_of s u piece (Some x) h = bytes_by s u (x.unfinished ++ piece) x.report.connected h
 
 took_at : (s : ServerState) (u : UpsId) (n : ℕ) (x : UpsState) (b d : Bool) → x.report.connected ≡ b → nat_le n (length x.owed) ≡ d → ups_at u.place s ≡ Some x → refusal (cond (not b) (Refused NotConnected) (cond d Done (Refused TookTooMuch))) ≤ 6 →
     with_ups_changed (after_driver_took n) u s ≡ s
@@ -255,9 +256,9 @@ close_of s c None e h = ap (λ (xs : List SessionState). let t : ServerState = r
 close_of s c (Some x) e h = absurd (omega arith)
 
 quiet : (s : ServerState) (e : Event) → refusal (outcome_of s e) ≤ 6 → after_by s e None ≡ s
-unfolding outcome_of after_by pumped_until
+unfolding outcome_of after_by pumped_until after_driver_bytes
 quiet s (DriverUp u) h = up_of s u (ups_at u.place s) refl h
-quiet s (DriverBytes u piece) h = bytes_of s u piece (ups_at u.place s) refl h
+quiet s (DriverBytes u piece) h = bytes_of s u piece (ups_at u.place s) h
 quiet s (DriverTook u n) h = took_of s u n (ups_at u.place s) refl h
 quiet s (DriverDown u) h = down_of s u (ups_at u.place s) refl h
 quiet s (Tick seconds) h = absurd (omega arith)

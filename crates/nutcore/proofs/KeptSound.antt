@@ -1,5 +1,5 @@
 -- What a method puts in place of one session or of one UPS keeps the server sound.
-use Rattle.std.proofs.Common.{◌≡◌, ℕ, zero, suc, Bool, true, false, ◌||◌, List, [], ◌∷◌, ◌++◌, Option, Some, None, Result, Ok, Err, refl, sym, ◌∙◌, ap, subst, cond, set, drop, length, length-set, arith}
+use Rattle.std.proofs.Common.{◌≡◌, ℕ, zero, suc, Bool, true, false, ◌||◌, List, [], ◌∷◌, ◌++◌, Option, Some, None, Result, Ok, Err, refl, sym, ◌∙◌, ap, subst, cond, set, take, drop, length, length-set, arith}
 use Rattle.std.specs.Prelude.{is_some, nat_lt}
 use Rattle.nutdriver.specs.Tree.{empty_tree}
 use Rattle.nutdriver.specs.Sound.{IsSoundTree, EachLineKeepsTheTreeSound}
@@ -8,9 +8,9 @@ use Rattle.nutlisting.specs.declared.outbox.TheConstants.{OWED_LIMIT}
 use Rattle.nutanswer.specs.declared.reply.Change.{Change}
 use Rattle.nutcore.specs.declared.event.Fault.{Fault}
 use Rattle.nutcore.specs.declared.event.Fault.TheVariants.{NoSuchUps, NoSuchClient, TooManyClients, TookTooMuch, NotConnected, AlreadyConnected, LineTooLong, Memory}
-use Rattle.nutcore.specs.Lines.{first_line}
+use Rattle.nutcore.specs.Lines.{first_line, whole_lines}
 use Rattle.nutcore.specs.Session.{SessionState}
-use Rattle.nutcore.specs.Ups.{UpsState, after_driver_lines, after_all_driver_lines, with_bytes}
+use Rattle.nutcore.specs.Ups.{UpsState, after_texts}
 use Rattle.nutcore.specs.Server.{ServerState, session, ups_at}
 use Rattle.nutcore.specs.Reply.{changed_session, changed_upses}
 use Rattle.nutcore.specs.Pump.{next_line, answered, notified}
@@ -20,7 +20,7 @@ use Rattle.nutcore.specs.Serving.{IsAt, OrderFits}
 use Rattle.nutcore.specs.Sound.{Each, IsSoundSession, IsSoundUps, IsSound}
 use Rattle.nutcore.proofs.Found.{find_id}
 use Rattle.nutcore.proofs.Serving.{set_is}
-use Rattle.nutcore.proofs.SoundUps.{each_get, sound_changes, length-changes, sound_fewer, sound_connected_lines, sound_loss}
+use Rattle.nutcore.proofs.SoundUps.{each_get, sound_changes, length-changes, sound_fewer, sound_connected_text, sound_loss}
 use Rattle.nutcore.proofs.Sound.{each_found, sound_with, sound_answered, sound_input}
 
 -- lists
@@ -95,11 +95,10 @@ driver_taken_kept m n x y (Err fault) taken h = subst (IsSoundUps m) (sym taken.
 
 -- bytes come from its driver
 module _ (empty : IsSoundTree empty_tree) (line_keeps : EachLineKeepsTheTreeSound) where
-  pub driver_fed_kept : (m : ℕ) (piece : List ℕ) (x y : UpsState) (r : Result (Unit {0}) Fault) → x.report.connected ≡ true → IsFed m (with_bytes piece x) r y → IsSoundUps m x → IsSoundUps m y
-  unfolding after_all_driver_lines
-  driver_fed_kept m piece x y (Ok u) is fed h = subst (IsSoundUps m) (sym fed.1) (sound_connected_lines empty line_keeps (length (with_bytes piece x).unfinished) m piece x is h)
-  driver_fed_kept m piece x y (Err LineTooLong) is fed h = subst (IsSoundUps m) (sym fed.1) (sound_loss empty line_keeps m (after_all_driver_lines m (with_bytes piece x)))
-  driver_fed_kept m piece x y (Err (Memory k)) is fed h = subst (IsSoundUps m) (sym fed.1) (sound_loss empty line_keeps m (after_driver_lines k m (with_bytes piece x)))
+  pub driver_fed_kept : (m : ℕ) (piece : List ℕ) (x y : UpsState) (r : Result (Unit {0}) Fault) → x.report.connected ≡ true → IsFed m (x.unfinished ++ piece) x r y → IsSoundUps m x → IsSoundUps m y
+  driver_fed_kept m piece x y (Ok u) is fed h = subst (IsSoundUps m) (sym fed.1) (sound_connected_text empty line_keeps m (x.unfinished ++ piece) x is h)
+  driver_fed_kept m piece x y (Err LineTooLong) is fed h = subst (IsSoundUps m) (sym fed.1) (sound_loss empty line_keeps m (after_texts m (whole_lines (x.unfinished ++ piece)) x))
+  driver_fed_kept m piece x y (Err (Memory k)) is fed h = subst (IsSoundUps m) (sym fed.1) (sound_loss empty line_keeps m (after_texts m (take k (whole_lines (x.unfinished ++ piece))) x))
   driver_fed_kept m piece x y (Err NoSuchUps) is fed h = absurd fed
   driver_fed_kept m piece x y (Err NoSuchClient) is fed h = absurd fed
   driver_fed_kept m piece x y (Err TooManyClients) is fed h = absurd fed

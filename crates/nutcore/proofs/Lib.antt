@@ -9,6 +9,8 @@ mod Executions
 mod Timely
 mod Refusals
 mod DriverLoops
+mod WholeLines
+mod DriverText
 mod Places
 mod Serving
 mod EventSteps

@@ -11,6 +11,7 @@ use Rattle.nutcore.specs.Reply.{reply, changed_session}
 use Rattle.nutcore.specs.Pump.{next_line_for, answered, after_line, after_notice, after_notice_of, is_overlong_of, notified}
 use Rattle.nutcore.specs.Step.{after_by, accepted_bytes, with_input, with_input_of, without_output, without_output_of, opened, may_open, ticked}
 use Rattle.nutcore.specs.History.{Execution, of_line, of_notice}
+use Rattle.nutcore.proofs.DriverText.{bytes_change}
 use Rattle.nutcore.proofs.Found.{find_id, find_put, find_put_other, find_without, find_without_other}
 use Rattle.nutcore.proofs.Pumping.{is_next, after_line_is, change_at, session_after, session_after_id}
 use Rattle.nutcore.proofs.Marks.{IsSetByLines, IsPlain, no_mark}
@@ -106,7 +107,7 @@ module _ (mark : SessionState → Bool) (IsSet : Change → Type 0) (is : IsSess
   by_plain : (c : ℕ) (s : ServerState) (e : Event) (m : Option ℕ) → IsPlain e → is_marked c s ≡ false → is_marked c (after_by s e m) ≡ false
   unfolding after_by ticked
   by_plain c s (DriverUp v) m plain h = h
-  by_plain c s (DriverBytes v piece) m plain h = h
+  by_plain c s (DriverBytes v piece) m plain h = ap (is_marked c) (bytes_change v piece m s) ∙ h
   by_plain c s (DriverTook v n) m plain h = h
   by_plain c s (DriverDown v) m plain h = h
   by_plain c s (Tick seconds) m plain h = h

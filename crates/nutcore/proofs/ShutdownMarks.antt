@@ -1,5 +1,5 @@
 -- A forced shutdown is set by lines alone, and by those that have the right.
-use Rattle.std.proofs.Common.{◌≡◌, ◌≢◌, ℕ, zero, suc, Bool, true, false, List, [], ◌∷◌, Option, Some, None, Result, Ok, Err, refl, sym, ◌∙◌, ap, cond, eqb, map, length}
+use Rattle.std.proofs.Common.{◌≡◌, ◌≢◌, ℕ, zero, suc, Bool, true, false, List, [], ◌∷◌, ◌++◌, Option, Some, None, Result, Ok, Err, refl, sym, ◌∙◌, ap, cond, eqb, map, take}
 use Rattle.std.specs.Prelude.{slice_get, codes}
 use Rattle.std.specs.Option.{option_map_or}
 use Rattle.std.proofs.lemmas.Bool.{eqb-true, eqb-false}
@@ -17,15 +17,16 @@ use Rattle.nutanswer.specs.declared.reply.Change.TheVariants as changes
 use Rattle.nutanswer.specs.Command.{read_command}
 use Rattle.nutcore.specs.declared.event.Event.{Event}
 use Rattle.nutcore.specs.declared.event.Event.TheVariants.{DriverUp, DriverBytes, DriverTook, DriverDown, Tick, Open, Feed, Took, Close}
-use Rattle.nutcore.specs.Lines.{behind}
+use Rattle.nutcore.specs.Lines.{whole_lines, unfinished_after, is_too_long}
 use Rattle.nutcore.specs.Session.{SessionState}
-use Rattle.nutcore.specs.Ups.{UpsState, with_fsd, with_order, after_connecting, after_loss, after_outcome, after_driver_line, after_driver_line_of, after_driver_lines, after_all_driver_lines, next_driver_line, ping_is_due, with_bytes, is_driver_overlong}
+use Rattle.nutcore.specs.Ups.{UpsState, with_fsd, with_order, after_connecting, after_loss, after_outcome, after_text, after_texts, with_unfinished, ping_is_due}
 use Rattle.nutcore.specs.Server.{ServerState, session, with_session, changed_at}
 use Rattle.nutcore.specs.Reply.{seen, asker, changed_upses, change_by, text_to}
 use Rattle.nutcore.specs.Pump.{next_line_for, after_line, after_notice, after_notice_of, is_overlong_of, notified}
-use Rattle.nutcore.specs.Step.{after_by, with_input, with_input_of, without_output, without_output_of, opened, may_open, ticked, connected, disconnected, after_driver_bytes, after_driver_took, driver_may_take}
+use Rattle.nutcore.specs.Step.{after_by, with_input, with_input_of, without_output, without_output_of, opened, may_open, ticked, connected, disconnected, after_driver_took, driver_may_take}
 use Rattle.nutcore.specs.History.{of_line}
 use Rattle.nutcore.specs.ByRight.{IsByRight, SetsShutdownByRight, is_shut_down, AForcedShutdownIsSetByRight}
+use Rattle.nutcore.proofs.DriverText.{ups_after_text, ups_after_bytes, bytes_change}
 use Rattle.nutcore.proofs.Pumping.{is_next, after_line_is, change_at}
 use Rattle.nutcore.proofs.TableRows.{shutdown_row}
 use Rattle.nutcore.proofs.Marks.{IsPlain, run_sets, no_mark}
@@ -61,31 +62,23 @@ outcome_fsd : (x : UpsState) (r : Report × LineOutcome) → (after_outcome x r)
 outcome_fsd x (report, Accepted) = refl
 outcome_fsd x (report, Refused fault) = refl
 
-driver_line_fsd : (moment : ℕ) (x : UpsState) (o : Option (List ℕ)) → (after_driver_line_of moment x o).fsd ≡ x.fsd
-unfolding after_driver_line_of
-driver_line_fsd moment x None = refl
-driver_line_fsd moment x (Some line) = outcome_fsd (record x { unfinished = behind line x.unfinished }) (report_after moment x.report line)
-
-driver_lines_fsd : (k moment : ℕ) (x : UpsState) → (after_driver_lines k moment x).fsd ≡ x.fsd
-unfolding after_driver_lines after_driver_line
-driver_lines_fsd zero moment x = refl
-driver_lines_fsd (suc k) moment x = driver_lines_fsd k moment (after_driver_line moment x) ∙ driver_line_fsd moment x (next_driver_line x)
+texts_fsd : (moment : ℕ) (lines : List (List ℕ)) (x : UpsState) → (after_texts moment lines x).fsd ≡ x.fsd
+texts_fsd moment [] x = refl
+texts_fsd moment (line ∷ lines) x = texts_fsd moment lines (after_text moment x line) ∙ outcome_fsd x (report_after moment x.report line)
 
 cond_fsd : (b : Bool) (x y z : UpsState) → x.fsd ≡ z.fsd → y.fsd ≡ z.fsd → (cond b x y).fsd ≡ z.fsd
 cond_fsd true x y z e f = e
 cond_fsd false x y z e f = f
 
-all_lines_fsd : (moment : ℕ) (x : UpsState) → (after_all_driver_lines moment x).fsd ≡ x.fsd
-unfolding after_all_driver_lines
-all_lines_fsd moment x = driver_lines_fsd (length x.unfinished) moment x
+text_fsd : (moment : ℕ) (text : List ℕ) (refused : Option ℕ) → Keeps (ups_after_text moment text refused)
+text_fsd moment text None x =
+    let y : UpsState = after_texts moment (whole_lines text) x in
+    let e : y.fsd ≡ x.fsd = texts_fsd moment (whole_lines text) x in
+    cond_fsd (is_too_long (unfinished_after text)) (after_loss y) (with_unfinished (unfinished_after text) y) x e e
+text_fsd moment text (Some k) x = texts_fsd moment (take k (whole_lines text)) x
 
-driver_bytes_fsd : (moment : ℕ) (piece : List ℕ) (m : Option ℕ) → Keeps (after_driver_bytes moment piece m)
-unfolding after_driver_bytes
-driver_bytes_fsd moment piece None x =
-    let y : UpsState = after_all_driver_lines moment (with_bytes piece x) in
-    let e : y.fsd ≡ x.fsd = all_lines_fsd moment (with_bytes piece x) in
-    cond_fsd x.report.connected (cond (is_driver_overlong y) (after_loss y) y) x x (cond_fsd (is_driver_overlong y) (after_loss y) y x e e) refl
-driver_bytes_fsd moment piece (Some k) x = cond_fsd x.report.connected (after_loss (after_driver_lines k moment (with_bytes piece x))) x x (driver_lines_fsd k moment (with_bytes piece x)) refl
+bytes_fsd : (moment : ℕ) (piece : List ℕ) (refused : Option ℕ) → Keeps (ups_after_bytes moment piece refused)
+bytes_fsd moment piece refused x = cond_fsd x.report.connected (ups_after_text moment (x.unfinished ++ piece) refused x) x x (text_fsd moment (x.unfinished ++ piece) refused x) refl
 
 -- what isn't the line of a client sets no forced shutdown
 of_upses : (q : ℕ) (xs ys : List UpsState) → fsd_at q ys ≡ fsd_at q xs → fsd_at q xs ≡ false → fsd_at q ys ≡ false
@@ -103,7 +96,7 @@ opened_by u s address (Some k) h = h
 by_plain : (u : UpsId) (s : ServerState) (e : Event) (m : Option ℕ) → IsPlain e → is_shut_down u s ≡ false → is_shut_down u (after_by s e m) ≡ false
 unfolding after_by ticked
 by_plain u s (DriverUp v) m plain h = changed_keeps (connected s.moment) (λ x. cond_fsd x.report.connected x (after_connecting s.moment x) x refl refl) v.place u.place s.upses ∙ h
-by_plain u s (DriverBytes v piece) m plain h = changed_keeps (after_driver_bytes s.moment piece m) (driver_bytes_fsd s.moment piece m) v.place u.place s.upses ∙ h
+by_plain u s (DriverBytes v piece) m plain h = ap (is_shut_down u) (bytes_change v piece m s) ∙ changed_keeps (ups_after_bytes s.moment piece m) (bytes_fsd s.moment piece m) v.place u.place s.upses ∙ h
 by_plain u s (DriverTook v n) m plain h = changed_keeps (after_driver_took n) (λ x. cond_fsd (driver_may_take n x) _ x x refl refl) v.place u.place s.upses ∙ h
 by_plain u s (DriverDown v) m plain h = changed_keeps disconnected (λ x. cond_fsd x.report.connected (after_loss x) x x refl refl) v.place u.place s.upses ∙ h
 by_plain u s (Tick seconds) m plain h = map_keeps _ (λ x. cond_fsd (ping_is_due s.max_age _ x) _ x x refl refl) u.place s.upses ∙ h

@@ -18,11 +18,12 @@ use Rattle.nutcore.specs.Ups.{UpsState, new_ups, after_connecting, after_loss, a
 use Rattle.nutcore.specs.Server.{ServerState, session, with_session, with_ups_changed}
 use Rattle.nutcore.specs.Reply.{reply, changed_session}
 use Rattle.nutcore.specs.Pump.{answered, next_line_for, after_line, after_line_of, after_lines, after_all_lines, after_notice, after_notice_of, is_overlong_of, notified, pumped, held_of}
-use Rattle.nutcore.specs.Step.{Step, accepted_bytes, with_input, with_input_of, without_output, without_output_of, may_take, may_open, opened, connected, disconnected, after_driver_bytes, after_driver_took, ticked, pumped_until, after_by, refused_after}
+use Rattle.nutcore.specs.Step.{Step, accepted_bytes, with_input, with_input_of, without_output, without_output_of, may_take, may_open, opened, connected, disconnected, after_driver_took, ticked, pumped_until, after_by, refused_after}
 use Rattle.nutcore.specs.Sound.{Each, IsSoundSession, IsSoundUps, IsSound, ANewServerIsSound, EachEventKeepsTheServerSound, EveryRunKeepsTheServerSound, ASoundServerIsLawful}
 use Rattle.nutcore.proofs.OrderFits.{order_fits}
 use Rattle.nutcore.proofs.Places.{apart_put, apart_push, apart_without, apart_lawful, length-put}
 use Rattle.nutcore.proofs.Pumping.{is_next, after_line_is, line_done, change_at, session_after}
+use Rattle.nutcore.proofs.DriverText.{ups_after_bytes, bytes_change}
 use Rattle.nutcore.proofs.SoundUps.{and_true, each_map, each_last, each_same, length-changed, length-same, length-mapped, each_changed, no_loss, length-changes, sound_new, sound_loss, sound_connecting, sound_either, sound_driver_bytes, sound_took, sound_tick, sound_changes}
 
 each_put : (P : SessionState → Type 0) (y : SessionState) → P y → (xs : List SessionState) → Each P xs → Each P (put y xs)
@@ -212,7 +213,7 @@ module _ (empty : IsSoundTree empty_tree) (line_keeps : EachLineKeepsTheTreeSoun
   sound_event : (s : ServerState) (e : Event) (m : Option ℕ) → IsSound s → IsSound (after_by s e m)
   unfolding after_by with_input without_output
   sound_event s (DriverUp u) m h = sound_upses (connected s.moment) u s (λ x k. sound_either s.moment x.report.connected x (after_connecting s.moment x) k (sound_connecting empty line_keeps s.moment x)) h
-  sound_event s (DriverBytes u piece) m h = sound_upses (after_driver_bytes s.moment piece m) u s (sound_driver_bytes empty line_keeps s.moment piece m) h
+  sound_event s (DriverBytes u piece) m h = subst IsSound (sym (bytes_change u piece m s)) (sound_upses (ups_after_bytes s.moment piece m) u s (sound_driver_bytes empty line_keeps s.moment piece m) h)
   sound_event s (DriverTook u n) m h = sound_upses (after_driver_took n) u s (sound_took s.moment n) h
   sound_event s (DriverDown u) m h = sound_upses disconnected u s (λ x k. sound_either s.moment x.report.connected (after_loss x) x (sound_loss empty line_keeps s.moment x) k) h
   sound_event s (Tick seconds) m h = sound_ticked s seconds h

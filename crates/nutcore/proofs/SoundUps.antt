@@ -1,5 +1,5 @@
 -- Sound UPSs, and what keeps them so.
-use Rattle.std.proofs.Common.{◌≡◌, ◌≤◌, ◌+◌, ◌-◌, ◌/◌, ℕ, zero, suc, Bool, true, false, ◌&&◌, List, [], ◌∷◌, ◌++◌, Option, Some, None, Result, Ok, Err, refl, ◌∙◌, ap, subst, cond, map, length, replicate, drop, length-append, length-drop, arith}
+use Rattle.std.proofs.Common.{◌≡◌, ◌≤◌, ◌+◌, ◌-◌, ◌/◌, ℕ, zero, suc, Bool, true, false, ◌&&◌, List, [], ◌∷◌, ◌++◌, Option, Some, None, Result, Ok, Err, refl, ◌∙◌, ap, subst, cond, map, length, replicate, take, drop, length-append, length-drop, arith}
 use Rattle.std.proofs.Math.Seq.{drop-nil}
 use Rattle.std.specs.Prelude.{slice_get, nat_le}
 use Rattle.std.proofs.lemmas.Bool.{leb-true}
@@ -18,12 +18,13 @@ use Rattle.nutdriver.specs.Sound.{IsSoundTree, EachLineKeepsTheTreeSound}
 use Rattle.nutanswer.specs.declared.reply.Change.{Change}
 use Rattle.nutanswer.specs.declared.reply.Change.TheVariants as changes
 use Rattle.nutcore.specs.declared.TheConstants.{DRIVER_OWED_LIMIT}
-use Rattle.nutcore.specs.Lines.{behind}
-use Rattle.nutcore.specs.Ups.{UpsState, new_ups, after_connecting, after_loss, with_fsd, with_order, ping_is_due, ping_line, after_tick, after_outcome, after_text, next_driver_line, after_driver_line, after_driver_line_of, after_driver_lines, after_all_driver_lines, is_driver_overlong, with_bytes}
+use Rattle.nutcore.specs.Lines.{whole_lines, unfinished_after, is_too_long}
+use Rattle.nutcore.specs.Ups.{UpsState, new_ups, after_connecting, after_loss, with_fsd, with_order, ping_is_due, ping_line, after_tick, after_outcome, after_text, after_texts, with_unfinished}
 use Rattle.nutcore.specs.Server.{changed_at}
 use Rattle.nutcore.specs.Reply.{changed_upses}
 use Rattle.nutcore.specs.Serving.{TakesLine, OrderFits}
-use Rattle.nutcore.specs.Step.{connected, after_driver_pump, after_driver_bytes, driver_may_take, after_driver_took}
+use Rattle.nutcore.specs.Step.{driver_may_take, after_driver_took}
+use Rattle.nutcore.proofs.DriverText.{ups_after_text, ups_after_bytes}
 use Rattle.nutcore.specs.Sound.{Each, IsSoundUps}
 
 pub and_true : (a b : Bool) → (a && b) ≡ true → (a ≡ true) × (b ≡ true)
@@ -204,31 +205,23 @@ module _ (empty : IsSoundTree empty_tree) (line_keeps : EachLineKeepsTheTreeSoun
       let r = report_after_line m x.report line in
       sound_outcome m x r.0 r.1 h (line_keeps m x.report line h.is.tree) (heard_line m x.report line)
 
-  sound_driver_line_of : (m : ℕ) (x : UpsState) (o : Option (List ℕ)) → IsSoundConnected m x → IsSoundConnected m (after_driver_line_of m x o)
-  unfolding after_driver_line_of
-  sound_driver_line_of m x None h = h
-  sound_driver_line_of m x (Some line) h = sound_text m (record x { unfinished = behind line x.unfinished }) line (sound_bytes m (behind line x.unfinished) x h)
+  -- whole lines of a connected driver
+  sound_texts : (lines : List (List ℕ)) (m : ℕ) (x : UpsState) → IsSoundConnected m x → IsSoundConnected m (after_texts m lines x)
+  sound_texts [] m x h = h
+  sound_texts (line ∷ lines) m x h = sound_texts lines m (after_text m x line) (sound_text m x line h)
 
-  sound_driver_lines : (k m : ℕ) (x : UpsState) → IsSoundConnected m x → IsSoundConnected m (after_driver_lines k m x)
-  unfolding after_driver_lines after_driver_line
-  sound_driver_lines zero m x h = h
-  sound_driver_lines (suc k) m x h = sound_driver_lines k m (after_driver_line m x) (sound_driver_line_of m x (next_driver_line x) h)
+  pub sound_connected_text : (m : ℕ) (text : List ℕ) (x : UpsState) → x.report.connected ≡ true → IsSoundUps m x → IsSoundUps m (with_unfinished (unfinished_after text) (after_texts m (whole_lines text) x))
+  sound_connected_text m text x e h = (sound_bytes m (unfinished_after text) (after_texts m (whole_lines text) x) (sound_texts (whole_lines text) m x (record { is = h; connected = e }))).is
 
-  -- all lines that a connected driver's bytes complete
-  pub sound_connected_lines : (k m : ℕ) (piece : List ℕ) (x : UpsState) → x.report.connected ≡ true → IsSoundUps m x → IsSoundUps m (after_driver_lines k m (with_bytes piece x))
-  sound_connected_lines k m piece x e h = (sound_driver_lines k m (with_bytes piece x) (sound_bytes m (x.unfinished ++ piece) x (record { is = h; connected = e }))).is
-
-  sound_pump : (m : ℕ) (x : UpsState) → IsSoundConnected m x → IsSoundUps m (after_driver_pump m x)
-  unfolding after_all_driver_lines
-  sound_pump m x h =
-      let y : UpsState = after_all_driver_lines m x in
-      sound_either m (is_driver_overlong y) (after_loss y) y (sound_loss m y) (sound_driver_lines (length x.unfinished) m x h).is
-
-  pub sound_driver_bytes : (m : ℕ) (piece : List ℕ) (refused : Option ℕ) (x : UpsState) → IsSoundUps m x → IsSoundUps m (after_driver_bytes m piece refused x)
-  unfolding after_driver_bytes
-  sound_driver_bytes m piece None x h = by_connection x.report.connected refl
+  pub sound_driver_bytes : (m : ℕ) (piece : List ℕ) (refused : Option ℕ) (x : UpsState) → IsSoundUps m x → IsSoundUps m (ups_after_bytes m piece refused x)
+  sound_driver_bytes m piece refused x h = by_connection x.report.connected refl refused
     where
-      by_connection : (b : Bool) → x.report.connected ≡ b → IsSoundUps m (cond b (after_driver_pump m (with_bytes piece x)) x)
-      by_connection true e = sound_pump m (with_bytes piece x) (sound_bytes m (x.unfinished ++ piece) x (record { is = h; connected = e }))
-      by_connection false e = h
-  sound_driver_bytes m piece (Some k) x h = sound_either m x.report.connected (after_loss (after_driver_lines k m (with_bytes piece x))) x (sound_loss m (after_driver_lines k m (with_bytes piece x))) h
+      text : List ℕ
+      text = x.unfinished ++ piece
+
+      by_connection : (b : Bool) → x.report.connected ≡ b → (r : Option ℕ) → IsSoundUps m (cond b (ups_after_text m text r x) x)
+      by_connection true e None =
+          let y : UpsState = after_texts m (whole_lines text) x in
+          sound_either m (is_too_long (unfinished_after text)) (after_loss y) (with_unfinished (unfinished_after text) y) (sound_loss m y) (sound_connected_text m text x e h)
+      by_connection true e (Some k) = sound_loss m (after_texts m (take k (whole_lines text)) x)
+      by_connection false e r = h

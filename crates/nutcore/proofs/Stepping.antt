@@ -17,6 +17,7 @@ use Rattle.nutcore.specs.Step.{accepted_bytes, with_input, with_input_of, withou
 use Rattle.nutcore.specs.Run.{Run}
 use Rattle.nutcore.specs.History.{Execution, client_of, executions_until, executions_in_event, executions, of_client, taken_in_event, asked_in_event, answers, taken, asked, executed, texts_of, lines_of, text_of, line_of}
 use Rattle.nutcore.specs.Headline.{IsLawful, SentAndOwed, TakenUp}
+use Rattle.nutcore.proofs.DriverText.{bytes_change}
 use Rattle.nutcore.proofs.Progress.{Presence, presence, Progress, IsKept, joins, stays, moves, closes, opens}
 use Rattle.nutcore.proofs.Executions.{given_by, given_is}
 use Rattle.nutcore.proofs.Found.{find_id, find_without, find_without_other, find_last, find_last_other}
@@ -204,7 +205,7 @@ given_goes : (c : ℕ) (s : ServerState) (e : Event) (m : Option ℕ) → IsKept
     Progress (presence c s) (texts_of (given_by c s e m)) (taken_in_event c s e) (asked_in_event c s e) (lines_of (given_by c s e m)) (presence c (after_by s e m))
 unfolding given_by taken_in_event asked_in_event after_by ticked
 given_goes c s (DriverUp u) m kept = stays (presence c s)
-given_goes c s (DriverBytes u piece) m kept = stays (presence c s)
+given_goes c s (DriverBytes u piece) m kept = subst (λ (t : ServerState). Progress (presence c s) [] [] [] [] (presence c t)) (sym (bytes_change u piece m s)) (stays (presence c s))
 given_goes c s (DriverTook u n) m kept = stays (presence c s)
 given_goes c s (DriverDown u) m kept = stays (presence c s)
 given_goes c s (Tick seconds) m kept = stays (presence c s)

@@ -1,5 +1,5 @@
 -- What a driver told in a run, from the events alone: the other half of the headline.
-use Rattle.std.specs.Prelude.{◌≡◌, ◌≤◌, ℕ, Bool, true, false, List, [], ◌∷◌, ◌++◌, Option, Some, None, ◌==◌, if◌then◌else◌, length}
+use Rattle.std.specs.Prelude.{◌≡◌, ◌≤◌, ℕ, Bool, true, false, List, [], ◌∷◌, ◌++◌, Some, None, ◌==◌, if◌then◌else◌, length, map}
 use Rattle.std.specs.List.{flat_map}
 use Rattle.std.specs.Option.{option_map_or}
 use Rattle.nutwords.specs.SplitLine.{split_line}
@@ -10,7 +10,7 @@ use Rattle.nutdriver.specs.Report.{after_line}
 use Rattle.nutcore.specs.declared.event.Event.{Event}
 use Rattle.nutcore.specs.declared.event.Event.TheVariants.{DriverUp, DriverBytes, DriverTook, DriverDown, Tick, Open, Feed, Took, Close}
 use Rattle.nutcore.specs.declared.event.Outcome.{Outcome}
-use Rattle.nutcore.specs.Lines.{with_lf}
+use Rattle.nutcore.specs.Lines.{with_lf, whole_lines}
 use Rattle.nutcore.specs.Ups.{UpsState}
 use Rattle.nutcore.specs.Server.{ServerState, ups_at}
 use Rattle.nutcore.specs.Step.{after}
@@ -62,21 +62,37 @@ StaysConnected u s [] os = has_driver u s ≡ true
 StaysConnected u s (e ∷ es) [] = has_driver u s ≡ true
 StaysConnected u s (e ∷ es) (o ∷ os) = (has_driver u s ≡ true) × StaysConnected u (after s e o) es os
 
+-- What is unfinished of what came from it.
+abbrev pub unfinished_of : UpsId → ServerState → List ℕ
+unfinished_of u s = option_map_or (λ x. x.unfinished) (ups_at u.place s) []
+
+-- The lines that are executed in an event, where this UPS's driver isn't lost, and in a run: the whole lines of what was unfinished and of what came, at the event's moment.
+abbrev pub heard_at : ℕ → List ℕ → Heard
+heard_at moment line = record { moment = moment; line = line }
+
+abbrev pub heard_in_event : UpsId → ServerState → Event → List Heard
+heard_in_event u s (DriverBytes v piece) = if v.place == u.place then map (heard_at s.moment) (whole_lines (unfinished_of u s ++ piece)) else []
+heard_in_event u s _ = []
+
+abbrev pub heard : UpsId → ServerState → List Event → List Outcome → List Heard
+heard u s [] os = []
+heard u s (e ∷ es) [] = []
+heard u s (e ∷ es) (o ∷ os) = heard_in_event u s e ++ heard u (after s e o) es os
+
 -- From one state of a UPS to another: what was unfinished, followed by what came, is the executed lines, followed by what is unfinished; and the report is what these lines made of it, in order.
-pub record IsHeard (before : UpsState) (came : List ℕ) (after : UpsState) : Type 0 where
-  pub lines : List Heard
+pub record IsHeard (before : UpsState) (came : List ℕ) (lines : List Heard) (after : UpsState) : Type 0 where
   pub whole : Each IsWholeLine lines
   pub all : before.unfinished ++ came ≡ bytes_heard lines ++ after.unfinished
   pub report : after.report ≡ after_heard before.report lines
 
-pub record DriverIsHeard (u : UpsId) (old : ServerState) (came : List ℕ) (new : ServerState) : Type 0 where
+pub record DriverIsHeard (u : UpsId) (old : ServerState) (came : List ℕ) (lines : List Heard) (new : ServerState) : Type 0 where
   pub before : UpsState
   pub after : UpsState
   pub there_before : ups_at u.place old ≡ Some before
   pub there_after : ups_at u.place new ≡ Some after
-  pub heard : IsHeard before came after
+  pub is_heard : IsHeard before came lines after
 
 -- While a driver isn't lost, all that came from it is its executed lines, followed by what is unfinished, and its report is what these lines made of it.
 abbrev pub WhatADriverToldIsExecuted : Type 0
 WhatADriverToldIsExecuted =
-    (old new : ServerState) (events : List Event) (outcomes : List Outcome) (u : UpsId) → Run old events outcomes new → StaysConnected u old events outcomes → DriverIsHeard u old (came u events) new
+    (old new : ServerState) (events : List Event) (outcomes : List Outcome) (u : UpsId) → Run old events outcomes new → StaysConnected u old events outcomes → DriverIsHeard u old (came u events) (heard u old events outcomes) new

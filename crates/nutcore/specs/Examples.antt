@@ -1,5 +1,5 @@
 -- Sessions worked out by hand, to be computed from the definitions.
-use Rattle.std.specs.Prelude.{◌≡◌, ℕ, List, [], ◌∷◌, ◌++◌, Some, None, true, codes, replicate, length, drop}
+use Rattle.std.specs.Prelude.{◌≡◌, ℕ, List, [], ◌∷◌, ◌++◌, Some, None, true, false, codes, replicate, length, drop}
 use Rattle.nutcore.specs.declared.event.Event.{Event}
 use Rattle.nutcore.specs.declared.event.Event.TheVariants.{DriverUp, DriverBytes, Open, Feed, Took}
 use Rattle.nutcore.specs.declared.event.Outcome.TheVariants.{Fed, Refused}
@@ -10,7 +10,9 @@ use Rattle.nutcore.specs.Server.{ServerState, new_server, ups_at}
 use Rattle.nutcore.specs.Reply.{reply}
 use Rattle.nutusers.specs.UpsList.{Ups, new_ups, id_at}
 use Rattle.nutusers.specs.Descriptions.{Descriptions, no_descriptions}
-use Rattle.nutcore.specs.Step.{after_by, outcome_of}
+use Rattle.nutcore.specs.Lines.{whole_lines, unfinished_after, is_too_long}
+use Rattle.nutcore.specs.Ups.{new_ups as no_driver}
+use Rattle.nutcore.specs.Step.{after_by, outcome_of, wants_driver_memory}
 use Rattle.nutcore.specs.History.{owed, held, taken_in_event, is_over}
 
 -- What events leave, where memory is there.
@@ -54,6 +56,34 @@ pub record TakenInFour : Type 0 where
   pub too_much : outcome_of listed (Took 1 86) ≡ Refused TookTooMuch
   pub still_owed : owed 1 (after_events listed (Took 1 86 ∷ [])) ≡ two_variables
 
+-- What client 1 is answered to a line.
+abbrev pub told : ServerState → List ℕ → List ℕ
+told s line = (reply s 1 line).text
+
+-- What a driver tells is whole lines, of which one may be empty, and a rest. A line has at most 1,023 bytes: where an LF is byte 1,025, it is too late.
+pub record CutLines : Type 0 where
+  pub lines : whole_lines (codes "PONG\nDATAOK\nSETIN") ≡ codes "PONG" ∷ codes "DATAOK" ∷ []
+  pub rest : unfinished_after (codes "PONG\nDATAOK\nSETIN") ≡ codes "SETIN"
+  pub empty_line : whole_lines (codes "\nPONG\n") ≡ [] ∷ codes "PONG" ∷ []
+  pub longest : whole_lines (replicate 1023 120 ++ 10 ∷ []) ≡ replicate 1023 120 ∷ []
+  pub too_late : whole_lines (codes "PONG\n" ++ replicate 1024 120 ++ codes "\nPONG\n") ≡ codes "PONG" ∷ []
+  pub still_open : is_too_long (unfinished_after (codes "PONG\n" ++ replicate 1023 120)) ≡ false
+  pub too_long : is_too_long (unfinished_after (codes "PONG\n" ++ replicate 1024 120)) ≡ true
+
+abbrev pub from_driver : List ℕ → Event
+from_driver piece = DriverBytes (id_at 0) piece
+
+-- A piece ends in the middle of a line, and the next one goes on there. A driver is lost behind the lines before one that is too long, and behind those before one for which memory was refused; that may be the one that would change the tree, and no other.
+pub record ToldInPieces : Type 0 where
+  pub first : told (after_events with_two_variables (from_driver (codes "SETINFO a 1\nSETINFO b") ∷ [])) (codes "GET VAR su b") ≡ codes "ERR VAR-NOT-SUPPORTED\n"
+  pub second : told (after_events with_two_variables (from_driver (codes "SETINFO a 1\nSETINFO b") ∷ from_driver (codes " 2\n") ∷ [])) (codes "GET VAR su b") ≡ codes "VAR su b \"2\"\n"
+  pub refused : outcome_of with_two_variables (from_driver (codes "HELLO\n" ++ replicate 1024 120)) ≡ Refused LineTooLong
+  pub lost : ups_at 0 (after_events with_two_variables (from_driver (codes "HELLO\n" ++ replicate 1024 120) ∷ [])) ≡ Some (record no_driver { faulty = 1 })
+  pub out_of_memory : ups_at 0 (after_by with_two_variables (from_driver (codes "HELLO\nSETINFO a 1\nHELLO\n")) (Some 1)) ≡ Some (record no_driver { faulty = 1 })
+  pub may_lack : wants_driver_memory (id_at 0) (codes "HELLO\nSETINFO a 1\nHELLO") 1 with_two_variables ≡ true
+  pub changes_nothing : wants_driver_memory (id_at 0) (codes "HELLO\nSETINFO a 1\nHELLO") 0 with_two_variables ≡ false
+  pub no_line : wants_driver_memory (id_at 0) (codes "HELLO\nSETINFO a 1\nHELLO") 2 with_two_variables ≡ false
+
 -- A line of 1,023 bytes is a line. 1,024 bytes without an LF are refused, and the session is told so and ends.
 pub record LongestLine : Type 0 where
   pub line : owed 1 (after_events with_two_variables (ask (replicate 1023 120) ∷ [])) ≡ codes "ERR UNKNOWN-COMMAND\n"
@@ -67,10 +97,6 @@ pub record LongestLine : Type 0 where
 pub record ThreeLines : Type 0 where
   pub answers : owed 1 (after_events with_two_variables (ask (codes "LIST VAR su\n \nVER") ∷ [])) ≡ two_variables ++ codes "Network UPS Tools upsd, profile 1\n"
   pub nothing_held : held 1 (after_events with_two_variables (ask (codes "LIST VAR su\n \nVER") ∷ [])) ≡ []
-
--- What client 1 is answered to a line.
-abbrev pub told : ServerState → List ℕ → List ℕ
-told s line = (reply s 1 line).text
 
 -- A value with a quote and a backslash is told with a backslash before each.
 abbrev pub EscapedValue : Type 0

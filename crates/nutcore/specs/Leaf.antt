@@ -1,32 +1,35 @@
 -- What the parts of the server answer, where the server's own definitions need no name for it.
-use Rattle.std.specs.Prelude.{◌≡◌, ℕ, true, false, List, ◌++◌, Some, None, Result, Ok, Err, length, drop, ◌<◌, ◌≤◌}
+use Rattle.std.specs.Prelude.{◌≡◌, ℕ, Bool, true, false, List, Result, Ok, Err, length, take, drop, slice_get, ◌<◌, ◌≤◌}
+use Rattle.arrayvec.specs.ArrayVec.{ArrayVec}
+use Rattle.nutwords.specs.Cut.{Cuts}
 use Rattle.nutwords.specs.declared.cut.Cut.{Cut}
-use Rattle.nutwords.specs.declared.cut.Cut.TheVariants.{Line, More, TooLong}
+use Rattle.nutwords.specs.declared.cut.Cut.TheVariants.{Line}
 use Rattle.nutcore.specs.declared.event.Fault.{Fault}
 use Rattle.nutcore.specs.declared.event.Fault.TheVariants.{TookTooMuch, LineTooLong, Memory}
-use Rattle.nutcore.specs.Lines.{behind}
-use Rattle.nutcore.specs.Ups.{UpsState, next_driver_line, with_bytes, is_driver_overlong, after_loss, after_driver_lines, after_all_driver_lines, wants_driver_memory}
+use Rattle.nutcore.specs.Lines.{whole_lines, unfinished_after, is_too_long}
+use Rattle.nutcore.specs.Ups.{UpsState, after_loss, after_texts, with_unfinished, wants_memory_for}
 
--- What a driver's piece gives, and what its UPS keeps of it: the next line, and the bytes behind it; all of it, where they aren't too many; or nothing, where they are.
-abbrev pub CutsLine : List ℕ → UpsState → Cut → UpsState → Type 0
-CutsLine piece old (Line line used) new =
-    (next_driver_line (with_bytes piece old) ≡ Some line.items) × (0 < used) × (used ≤ length piece) × (with_bytes (drop used piece) new ≡ record old { unfinished = behind line.items (old.unfinished ++ piece) })
-CutsLine piece old More new = (next_driver_line (with_bytes piece old) ≡ None) × (is_driver_overlong (with_bytes piece old) ≡ false) × (new ≡ with_bytes piece old)
-CutsLine piece old TooLong new = (next_driver_line (with_bytes piece old) ≡ None) × (is_driver_overlong (with_bytes piece old) ≡ true) × (after_loss new ≡ after_loss old)
+-- Of what a driver told there is a whole line behind the first k, and it would change the tree.
+abbrev pub lacks_memory_behind : ℕ → ℕ → List ℕ → UpsState → Bool
+lacks_memory_behind moment k text old = wants_memory_for (slice_get (whole_lines text) k) (after_texts moment (take k (whole_lines text)) old)
 
--- Where the reading of a driver's lines stops, and what the UPS is there, or is once the driver is lost: all lines are done; the same, and 1,024 bytes stand without an LF; k lines are done, and the next wants memory.
-abbrev pub IsStopped : ℕ → UpsState → Result (Unit {0}) Fault → UpsState → Type 0
-IsStopped moment start (Ok u) new = (is_driver_overlong (after_all_driver_lines moment start) ≡ false) × (new ≡ after_all_driver_lines moment start)
-IsStopped moment start (Err LineTooLong) new = (is_driver_overlong (after_all_driver_lines moment start) ≡ true) × (after_loss new ≡ after_loss (after_all_driver_lines moment start))
-IsStopped moment start (Err (Memory k)) new = (wants_driver_memory (after_driver_lines k moment start) ≡ true) × (after_loss new ≡ after_loss (after_driver_lines k moment start))
-IsStopped moment start (Err fault) new = ⊥
+-- What a driver's piece gives, and what its UPS keeps of it: what the cutter of its lines says, and nothing else.
+pub record CutsLine (piece : List ℕ) (old : UpsState) (found : Cut) (new : UpsState) : Type 0 where
+  pub cut : Cuts old.unfinished piece found new.unfinished
+  pub same : new ≡ with_unfinished new.unfinished old
+  pub taken : (line : ArrayVec ℕ) (used : ℕ) → found ≡ Line line used → 0 < used
 
--- What a driver's bytes leave, where its UPS with them is `start`: all lines done; the driver lost behind them, where 1,024 bytes stand without an LF; or lost behind k lines, where the next wants memory that is refused.
-abbrev pub IsFed : ℕ → UpsState → Result (Unit {0}) Fault → UpsState → Type 0
-IsFed moment start (Ok u) new = (is_driver_overlong (after_all_driver_lines moment start) ≡ false) × (new ≡ after_all_driver_lines moment start)
-IsFed moment start (Err LineTooLong) new = (is_driver_overlong (after_all_driver_lines moment start) ≡ true) × (new ≡ after_loss (after_all_driver_lines moment start))
-IsFed moment start (Err (Memory k)) new = (wants_driver_memory (after_driver_lines k moment start) ≡ true) × (new ≡ after_loss (after_driver_lines k moment start))
-IsFed moment start (Err fault) new = ⊥
+-- What a driver told, and its UPS is left with: all whole lines are done, and the rest is unfinished; the driver is lost behind them, where the rest is too long; or it is lost behind k lines, where the next wants memory that is refused.
+abbrev pub IsFed : ℕ → List ℕ → UpsState → Result (Unit {0}) Fault → UpsState → Type 0
+IsFed moment text old (Ok u) new = (is_too_long (unfinished_after text) ≡ false) × (new ≡ with_unfinished (unfinished_after text) (after_texts moment (whole_lines text) old))
+IsFed moment text old (Err LineTooLong) new = (is_too_long (unfinished_after text) ≡ true) × (new ≡ after_loss (after_texts moment (whole_lines text) old))
+IsFed moment text old (Err (Memory k)) new = (lacks_memory_behind moment k text old ≡ true) × (new ≡ after_loss (after_texts moment (take k (whole_lines text)) old))
+IsFed moment text old (Err fault) new = ⊥
+
+-- The same before the driver is taken as lost, by what it would be then.
+abbrev pub IsStopped : ℕ → List ℕ → UpsState → Result (Unit {0}) Fault → UpsState → Type 0
+IsStopped moment text old (Ok u) new = IsFed moment text old (Ok u) new
+IsStopped moment text old (Err fault) new = IsFed moment text old (Err fault) (after_loss new)
 
 -- What a driver's taking of n bytes leaves of its UPS: it took no more than it is owed, or nothing changed.
 abbrev pub IsTaken : ℕ → UpsState → Result (Unit {0}) Fault → UpsState → Type 0

@@ -1,5 +1,5 @@
 -- What the private parts of a server promise one another.
-use Rattle.std.specs.Prelude.{◌≡◌, ◌<◌, ◌≤◌, ◌-◌, ◌⊎◌, ◌==◌, ℕ, Bool, true, false, List, [], Some, Result, Ok, Err, IsTrue, length, drop, take, map, slice_get}
+use Rattle.std.specs.Prelude.{◌≡◌, ◌<◌, ◌≤◌, ◌-◌, ◌⊎◌, ◌==◌, ◌++◌, ℕ, Bool, true, false, List, [], Some, None, Result, Ok, Err, IsTrue, length, drop, take, map, slice_get}
 use Rattle.std.specs.List.{position_or_len}
 use Rattle.nutcore.specs.declared.event.Fault.{Fault}
 use Rattle.nutcore.specs.declared.event.Fault.TheVariants.{NoSuchUps, NoSuchClient, TooManyClients, TookTooMuch, NotConnected, AlreadyConnected, LineTooLong, Memory}
@@ -17,8 +17,10 @@ use Rattle.nutlisting.specs.Lines.{IsWholeLine}
 use Rattle.nutlisting.specs.Items.{text_of, client_listing}
 use Rattle.nutanswer.specs.View.{addresses_at}
 use Rattle.nutcore.specs.Session.{SessionState}
-use Rattle.nutcore.specs.Ups.{UpsState, with_bytes, free_room}
-use Rattle.nutcore.specs.Leaf.{IsFed, IsTaken}
+use Rattle.nutcore.specs.Lines.{unfinished_after, is_too_long}
+use Rattle.nutcore.specs.Ups.{UpsState, free_room}
+use Rattle.nutcore.specs.Step.{after_driver_text, wants_driver_memory}
+use Rattle.nutcore.specs.Leaf.{IsTaken}
 use Rattle.nutusers.specs.declared.ups_list.UpsId.{UpsId}
 use Rattle.nutcore.specs.Server.{ServerState, session, with_session, ups_at, with_ups_changed}
 use Rattle.nutcore.specs.Reply.{text_to, change_by, changed_session, seen_client}
@@ -87,13 +89,16 @@ IsAnswered old c text change new = (line : List ℕ) (x : SessionState) → next
 abbrev pub NextIs : ServerState → ℕ → (List ℕ → Type 0) → Type 0
 NextIs s c P = (line : List ℕ) × (next_line_for s c ≡ Some line) × P line
 
--- what the bytes of a driver leave of its UPS, and of nothing else
-pub record DriverFeedGives (u : UpsId) (piece : List ℕ) (old : ServerState) (result : Result (Unit {0}) Fault) (new : ServerState) : Type 0 where
-  pub before : UpsState
-  pub after : UpsState
-  pub there : ups_at u.place old ≡ Some before
-  pub fed : IsFed old.moment (with_bytes piece before) result after
-  pub leaves : new ≡ with_ups_changed (λ x. after) u old
+-- what a driver told leaves of the server: all its whole lines and the rest, or what its first k lines leave, where the next wants memory that is refused
+abbrev pub IsTold : UpsId → List ℕ → ServerState → Result (Unit {0}) Fault → ServerState → Type 0
+IsTold u text old (Ok t) new = (is_too_long (unfinished_after text) ≡ false) × (new ≡ after_driver_text u text None old)
+IsTold u text old (Err LineTooLong) new = (is_too_long (unfinished_after text) ≡ true) × (new ≡ after_driver_text u text None old)
+IsTold u text old (Err (Memory k)) new = (wants_driver_memory u text k old ≡ true) × (new ≡ after_driver_text u text (Some k) old)
+IsTold u text old (Err fault) new = ⊥
+
+-- the piece is told behind what was unfinished
+abbrev pub DriverFeedGives : UpsId → List ℕ → ServerState → Result (Unit {0}) Fault → ServerState → Type 0
+DriverFeedGives u piece old result new = (x : UpsState) → ups_at u.place old ≡ Some x → IsTold u (x.unfinished ++ piece) old result new
 
 -- what a driver's taking leaves of its UPS, and of nothing else
 pub record DriverTakes (u : UpsId) (n : ℕ) (old : ServerState) (result : Result (Unit {0}) Fault) (new : ServerState) : Type 0 where

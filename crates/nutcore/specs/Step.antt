@@ -1,5 +1,7 @@
 -- What each event does, and what may be answered to it.
-use Rattle.std.specs.Prelude.{◌≡◌, ℕ, ◌+◌, ◌-◌, ◌^◌, Bool, false, List, [], ◌∷◌, ◌++◌, Option, Some, None, nat_lt, nat_le, ◌&&◌, if◌then◌else◌, length, take, drop, min, max, map, not, ◌⊎◌, IsTrue}
+use Rattle.std.specs.Prelude.{◌≡◌, ℕ, ◌+◌, ◌-◌, ◌^◌, Bool, false, List, [], ◌∷◌, ◌++◌, Option, Some, None, nat_lt, nat_le, ◌&&◌, if◌then◌else◌, length, take, drop, min, max, map, fold, slice_get, not, ◌⊎◌, IsTrue}
+use Rattle.std.specs.Option.{option_map_or}
+use Rattle.nutusers.specs.declared.ups_list.UpsId.{UpsId}
 use Rattle.nutcore.specs.declared.TheConstants.{HELD_LIMIT}
 use Rattle.nutlisting.specs.declared.ring.TheConstants.{RING_LIMIT}
 use Rattle.nutlisting.specs.declared.listing.clients.TheConstants.{SESSION_LIMIT}
@@ -9,7 +11,8 @@ use Rattle.nutcore.specs.declared.event.Outcome.{Outcome}
 use Rattle.nutcore.specs.declared.event.Outcome.TheVariants.{Done, Fed, Opened, Refused}
 use Rattle.nutcore.specs.declared.event.Fault.TheVariants.{NoSuchUps, NoSuchClient, TooManyClients, TookTooMuch, NotConnected, AlreadyConnected, LineTooLong, Memory}
 use Rattle.nutcore.specs.Session.{SessionState, new_session, without}
-use Rattle.nutcore.specs.Ups.{UpsState, after_connecting, after_loss, after_tick, with_bytes, after_driver_lines, after_all_driver_lines, is_driver_overlong, wants_driver_memory}
+use Rattle.nutcore.specs.Lines.{whole_lines, unfinished_after, is_too_long}
+use Rattle.nutcore.specs.Ups.{UpsState, after_connecting, after_loss, after_tick, after_text, with_unfinished, wants_memory_for}
 use Rattle.nutcore.specs.Server.{ServerState, session, with_session, ups_at, with_ups_changed}
 use Rattle.nutcore.specs.Pump.{pumped, after_all_lines, after_lines, is_overlong, wants_memory, owed_of}
 
@@ -54,21 +57,37 @@ unfoldable pub opened : ServerState → List ℕ → Option ℕ → ServerState
 opened s address None = if may_open s then record s { sessions = s.sessions ++ new_session s.next_id address ∷ []; next_id = s.next_id + 1 } else s
 opened s address (Some k) = s
 
--- Drivers. An event of a driver changes its UPS alone, and nothing where it is refused.
+-- Drivers come and are lost. A refused event changes nothing.
 abbrev pub connected : ℕ → UpsState → UpsState
 connected moment x = if x.report.connected then x else after_connecting moment x
 
 abbrev pub disconnected : UpsState → UpsState
 disconnected x = if x.report.connected then after_loss x else x
 
--- All whole lines are executed, and the driver is lost where 1,024 bytes stand without an LF.
-abbrev pub after_driver_pump : ℕ → UpsState → UpsState
-after_driver_pump moment x = let y = after_all_driver_lines moment x in if is_driver_overlong y then after_loss y else y
+-- Drivers tell. A whole line of a driver is a step of the server, at its moment: it changes the driver's UPS.
+unfoldable pub after_driver_line : UpsId → List ℕ → ServerState → ServerState
+after_driver_line u line s = with_ups_changed (λ x. after_text s.moment x line) u s
 
--- Where memory was refused after k lines the driver is lost.
-unfoldable pub after_driver_bytes : ℕ → List ℕ → Option ℕ → UpsState → UpsState
-after_driver_bytes moment piece None x = if x.report.connected then after_driver_pump moment (with_bytes piece x) else x
-after_driver_bytes moment piece (Some k) x = if x.report.connected then after_loss (after_driver_lines k moment (with_bytes piece x)) else x
+-- The server after these lines, one by one.
+abbrev pub after_driver_lines : UpsId → List (List ℕ) → ServerState → ServerState
+after_driver_lines u lines s = fold (λ t line. after_driver_line u line t) s lines
+
+-- The rest stays unfinished, or the driver is lost where that is too long.
+abbrev pub with_rest : List ℕ → UpsState → UpsState
+with_rest rest x = if is_too_long rest then after_loss x else with_unfinished rest x
+
+-- What a driver told is whole lines and a rest: the server after these lines, with the rest; or, where memory was refused after k of them, after these k, the driver lost.
+unfoldable pub after_driver_text : UpsId → List ℕ → Option ℕ → ServerState → ServerState
+after_driver_text u text None s = with_ups_changed (with_rest (unfinished_after text)) u (after_driver_lines u (whole_lines text) s)
+after_driver_text u text (Some k) s = with_ups_changed after_loss u (after_driver_lines u (take k (whole_lines text)) s)
+
+unfoldable pub after_driver_bytes_of : UpsId → List ℕ → Option ℕ → Option UpsState → ServerState → ServerState
+after_driver_bytes_of u piece m None s = s
+after_driver_bytes_of u piece m (Some x) s = if x.report.connected then after_driver_text u (x.unfinished ++ piece) m s else s
+
+-- A piece is told behind what was unfinished. Where no driver is connected, nothing changes.
+unfoldable pub after_driver_bytes : UpsId → List ℕ → Option ℕ → ServerState → ServerState
+after_driver_bytes u piece m s = after_driver_bytes_of u piece m (ups_at u.place s) s
 
 -- The driver took n bytes of what it is owed.
 abbrev pub driver_may_take : ℕ → UpsState → Bool
@@ -96,7 +115,7 @@ pumped_until s c (Some k) = after_lines k s c
 -- What an event leaves, where memory was there or was refused after k lines.
 unfoldable pub after_by : ServerState → Event → Option ℕ → ServerState
 after_by s (DriverUp u) m = with_ups_changed (connected s.moment) u s
-after_by s (DriverBytes u piece) m = with_ups_changed (after_driver_bytes s.moment piece m) u s
+after_by s (DriverBytes u piece) m = after_driver_bytes u piece m s
 after_by s (DriverTook u n) m = with_ups_changed (after_driver_took n) u s
 after_by s (DriverDown u) m = with_ups_changed disconnected u s
 after_by s (Tick seconds) m = ticked seconds s
@@ -115,12 +134,12 @@ abbrev pub connected_by : Option UpsState → Outcome
 connected_by None = Refused NoSuchUps
 connected_by (Some x) = if x.report.connected then Refused AlreadyConnected else Done
 
-abbrev pub driver_pump_outcome : ℕ → UpsState → Outcome
-driver_pump_outcome moment x = if is_driver_overlong (after_all_driver_lines moment x) then Refused LineTooLong else Done
+abbrev pub driver_text_outcome : List ℕ → Outcome
+driver_text_outcome text = if is_too_long (unfinished_after text) then Refused LineTooLong else Done
 
-abbrev pub driver_bytes_by : ℕ → List ℕ → Option UpsState → Outcome
-driver_bytes_by moment piece None = Refused NoSuchUps
-driver_bytes_by moment piece (Some x) = if x.report.connected then driver_pump_outcome moment (with_bytes piece x) else Refused NotConnected
+abbrev pub driver_bytes_by : List ℕ → Option UpsState → Outcome
+driver_bytes_by piece None = Refused NoSuchUps
+driver_bytes_by piece (Some x) = if x.report.connected then driver_text_outcome (x.unfinished ++ piece) else Refused NotConnected
 
 abbrev pub driver_took_by : ℕ → Option UpsState → Outcome
 driver_took_by n None = Refused NoSuchUps
@@ -148,7 +167,7 @@ closed_by (Some x) = Done
 
 unfoldable pub outcome_of : ServerState → Event → Outcome
 outcome_of s (DriverUp u) = connected_by (ups_at u.place s)
-outcome_of s (DriverBytes u piece) = driver_bytes_by s.moment piece (ups_at u.place s)
+outcome_of s (DriverBytes u piece) = driver_bytes_by piece (ups_at u.place s)
 outcome_of s (DriverTook u n) = driver_took_by n (ups_at u.place s)
 outcome_of s (DriverDown u) = disconnected_by (ups_at u.place s)
 outcome_of s (Tick seconds) = Done
@@ -157,15 +176,18 @@ outcome_of s (Feed c piece) = fed_by (session c s) piece (is_overlong (after_all
 outcome_of s (Took c n) = took_by (session c s) n (is_overlong (after_all_lines (without_output s c n) c) c)
 outcome_of s (Close c) = closed_by (session c s)
 
--- The k whole lines of the driver are done, and the next one would change the tree.
-abbrev pub driver_may_lack_memory : ℕ → List ℕ → ℕ → Option UpsState → Bool
-driver_may_lack_memory moment piece k None = false
-driver_may_lack_memory moment piece k (Some x) = x.report.connected && wants_driver_memory (after_driver_lines k moment (with_bytes piece x))
+-- There is a whole line behind the first k of what a driver told, and it would change the tree.
+unfoldable pub wants_driver_memory : UpsId → List ℕ → ℕ → ServerState → Bool
+wants_driver_memory u text k s = option_map_or (wants_memory_for (slice_get (whole_lines text) k)) (ups_at u.place (after_driver_lines u (take k (whole_lines text)) s)) false
+
+abbrev pub driver_may_lack_memory : UpsId → List ℕ → ℕ → Option UpsState → ServerState → Bool
+driver_may_lack_memory u piece k None s = false
+driver_may_lack_memory u piece k (Some x) s = x.report.connected && wants_driver_memory u (x.unfinished ++ piece) k s
 
 -- Memory may be refused after k lines of the event. The next line of a client stays held, to be tried again.
 unfoldable pub MayLackMemory : ServerState → Event → ℕ → Type 0
 MayLackMemory s (DriverUp u) k = ⊥
-MayLackMemory s (DriverBytes u piece) k = IsTrue (driver_may_lack_memory s.moment piece k (ups_at u.place s))
+MayLackMemory s (DriverBytes u piece) k = IsTrue (driver_may_lack_memory u piece k (ups_at u.place s) s)
 MayLackMemory s (DriverTook u n) k = ⊥
 MayLackMemory s (DriverDown u) k = ⊥
 MayLackMemory s (Tick seconds) k = ⊥

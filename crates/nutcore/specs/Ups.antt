@@ -1,7 +1,5 @@
 -- A UPS as the server keeps it: its driver's connection, and what the driver reported.
-use Rattle.std.specs.Prelude.{ℕ, zero, suc, ◌+◌, ◌-◌, ◌^◌, Bool, true, false, List, [], ◌∷◌, ◌++◌, Option, Some, None, Result, Ok, Err, codes, length, take, min, nat_le, ◌&&◌, ◌/◌, if◌then◌else◌}
-use Rattle.nutcore.specs.Lines.{first_line, behind}
-use Rattle.nutwords.specs.declared.limits.TheConstants.{LINE_ROOM}
+use Rattle.std.specs.Prelude.{ℕ, ◌+◌, ◌-◌, ◌^◌, Bool, true, false, List, [], ◌∷◌, ◌++◌, Option, Some, None, codes, length, fold, min, nat_le, ◌&&◌, ◌/◌, if◌then◌else◌}
 use Rattle.nutcore.specs.declared.TheConstants.{DRIVER_OWED_LIMIT}
 use Rattle.nutdriver.specs.declared.report.Report.{Report}
 use Rattle.nutdriver.specs.declared.report.LineOutcome.{LineOutcome}
@@ -66,39 +64,15 @@ after_outcome x (report, Refused fault) = with_faulty_line (record x { report = 
 abbrev pub after_text : ℕ → UpsState → List ℕ → UpsState
 after_text moment x line = after_outcome x (after_line moment x.report line)
 
--- The next whole line of the driver, of at most 1,023 bytes.
-abbrev pub next_driver_line : UpsState → Option (List ℕ)
-next_driver_line x = first_line (take LINE_ROOM x.unfinished)
+-- The UPS after these lines of its driver, one by one.
+abbrev pub after_texts : ℕ → List (List ℕ) → UpsState → UpsState
+after_texts moment lines x = fold (after_text moment) x lines
 
-unfoldable pub after_driver_line_of : ℕ → UpsState → Option (List ℕ) → UpsState
-after_driver_line_of moment x None = x
-after_driver_line_of moment x (Some line) = after_text moment (record x { unfinished = behind line x.unfinished }) line
+-- These bytes of its driver's next line have come.
+abbrev pub with_unfinished : List ℕ → UpsState → UpsState
+with_unfinished bytes x = record x { unfinished = bytes }
 
--- The UPS after the next whole line, where there is one.
-unfoldable pub after_driver_line : ℕ → UpsState → UpsState
-after_driver_line moment x = after_driver_line_of moment x (next_driver_line x)
-
--- The UPS after the next k whole lines, as far as they go.
-unfoldable pub after_driver_lines : ℕ → ℕ → UpsState → UpsState
-after_driver_lines zero moment x = x
-after_driver_lines (suc k) moment x = after_driver_lines k moment (after_driver_line moment x)
-
--- All whole lines are executed: there are no more of them than bytes.
-unfoldable pub after_all_driver_lines : ℕ → UpsState → UpsState
-after_all_driver_lines moment x = after_driver_lines (length x.unfinished) moment x
-
--- 1,024 bytes stand without an LF.
-abbrev pub is_driver_overlong : UpsState → Bool
-is_driver_overlong x = nat_le LINE_ROOM (length x.unfinished)
-
--- More bytes have come.
-abbrev pub with_bytes : List ℕ → UpsState → UpsState
-with_bytes piece x = record x { unfinished = x.unfinished ++ piece }
-
-abbrev pub wants_memory_for : Report → Option (List ℕ) → Bool
-wants_memory_for report None = false
-wants_memory_for report (Some line) = line_changes report.tree line
-
--- The next line would change the tree, for which memory may be refused.
-abbrev pub wants_driver_memory : UpsState → Bool
-wants_driver_memory x = wants_memory_for x.report (next_driver_line x)
+-- The line, if there is one, would change the tree, for which memory may be refused.
+abbrev pub wants_memory_for : Option (List ℕ) → UpsState → Bool
+wants_memory_for None x = false
+wants_memory_for (Some line) x = line_changes x.report.tree line

@@ -3,11 +3,12 @@ ghost use Rattle.nutcore.specs.Headline.{WhatWasSentAndIsOwedIsTheAnswers, WhatW
 ghost use Rattle.nutcore.specs.ByRight.{AForcedShutdownIsSetByRight, ALoginIsByRight, CredentialsAreGivenByLines, WhatIsCountedIsWhoIsThere};
 ghost use Rattle.nutcore.specs.OrdersByRight.{EachOrderIsByRight};
 ghost use Rattle.nutcore.specs.TellingLines.{EachTellingIsAWholeLine};
-ghost use Rattle.nutcore.specs.Examples.{TwoVariables, EmptyListing, TakenInFour, LongestLine, ThreeLines, EscapedValue, FaultyLines, CasesAndFaults, NotConnected, Described, PipelinedGet};
+ghost use Rattle.nutcore.specs.Examples.{TwoVariables, EmptyListing, TakenInFour, LongestLine, ThreeLines, EscapedValue, FaultyLines, CasesAndFaults, NotConnected, Described, PipelinedGet, CutLines, ToldInPieces};
 ghost use Rattle.nutcore.specs.Isolation.{AClientTouchesNoOther, ADriverTouchesNoOther, ARefusedEventChangesNothing, ARefusedEventCostsNothing};
 ghost use Rattle.nutcore.specs.Limits.{Limits};
 ghost use Rattle.nutcore.specs.Bounded.{EachEventIsBounded};
 ghost use Rattle.nutcore.specs.Taking.{WhoTakesGetsEverything};
+ghost use Rattle.nutcore.specs.Lines.{WholeLinesAreTheCut};
 ghost use Rattle.nutcore.specs.DriverHistory.{WhatADriverToldIsExecuted};
 ghost use Rattle.nutcore.specs.DriverOrders.{WhatADriverWasSentAndIsOwedIsWhatItWasTold};
 ghost use Rattle.nutcore.specs.Listed.{EachIsListedOnce, WhatIsListedIsWhatIsHeld};
@@ -127,6 +128,12 @@ pub fn addresses_are_lawful()
     ensures list { EveryRunKeepsTheList }
 {}
 
+/// The whole lines of what a driver told, and what is behind them, are those into which each text is cut, and of which it
+/// has one list alone.
+pub fn whole_lines_are_the_cut()
+    ensures { WholeLinesAreTheCut }
+{}
+
 /// The drivers' half: while a driver isn't lost, what was unfinished of it, followed by all that came from it in a run, is
 /// its executed lines, followed by what is unfinished; and its report is what these lines made of it, in order, each at
 /// its moment.
@@ -208,7 +215,7 @@ pub fn a_refused_event_costs_nothing()
     ensures { ARefusedEventCostsNothing }
 {}
 
-/// Sessions worked out by hand are what the definitions give.
+/// Sessions worked out by hand, and what drivers tell in pieces, are what the definitions give.
 pub fn sessions_worked_by_hand()
     ensures two_variables { TwoVariables }
     ensures empty_listing { EmptyListing }
@@ -221,4 +228,6 @@ pub fn sessions_worked_by_hand()
     ensures not_connected { NotConnected }
     ensures described { Described }
     ensures pipelined_get { PipelinedGet }
+    ensures cut_lines { CutLines }
+    ensures told_in_pieces { ToldInPieces }
 {}

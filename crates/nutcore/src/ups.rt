@@ -1,8 +1,8 @@
 //! A UPS as the server keeps it: its driver's connection, and what the driver told.
-ghost use Rattle.std.specs.Prelude.{◌≡◌, ◌≢◌, ◌≤◌, length, drop, true, IfOk, IfErr, IsTrue, OnOk, OnErr, Ok, Err};
+ghost use Rattle.std.specs.Prelude.{◌≡◌, ◌≢◌, ◌≤◌, length, drop, ◌++◌, true, IfOk, IfErr, IsTrue, OnOk, OnErr, Ok, Err};
 ghost use Rattle.nutdriver.specs.Report.{line_changes};
 ghost use Rattle.nutwords.specs.declared.limits.TheConstants.{LINE_LIMIT};
-ghost use Rattle.nutcore.specs.Ups.{new_ups, after_connecting, after_loss, after_tick, with_fsd, free_room, with_order, after_text, with_faulty_line, with_bytes};
+ghost use Rattle.nutcore.specs.Ups.{new_ups, after_connecting, after_loss, after_tick, with_fsd, free_room, with_order, after_text, with_faulty_line};
 ghost use Rattle.nutanswer.specs.View.{ups_seen};
 ghost use Rattle.nutcore.specs.Reply.{seen_ups};
 ghost use Rattle.nutcore.specs.Leaf.{CutsLine, IsStopped, IsFed, IsTaken};
@@ -13,7 +13,7 @@ use arrayvec::ArrayVec;
 use nutanswer::UpsView;
 use nutdriver::{LineOutcome, Report};
 use nutmap::Meter;
-use nutwords::laws::first_line_is_cut_off;
+use nutwords::laws::each_call_takes_a_line;
 use nutwords::{Cut, LineCut};
 use std::alloc::{AllocError, Global};
 use std::marker::Model;
@@ -177,7 +177,7 @@ impl Ups {
     /// `LineTooLong`, and `Memory` with how many lines of the call were done.
     pub(crate) fn feed(&mut self, moment: u64, piece: &[u8]) -> Result<(), Fault>
         requires connected { self.old.report.connected ≡ true }
-        ensures fed { IsFed moment (with_bytes piece.now self.old) result self.new }
+        ensures fed { IsFed moment (self.old.unfinished ++ piece.now) self.old result self.new }
     {
         let result = self.read_lines(moment, piece);
         if result.is_err() {
@@ -188,7 +188,7 @@ impl Ups {
 
     /// Does what the whole lines say, until all of the piece was used.
     fn read_lines(&mut self, moment: u64, piece: &[u8]) -> Result<(), Fault>
-        ensures { IsStopped moment (with_bytes piece.now self.old) result self.new }
+        ensures { IsStopped moment (self.old.unfinished ++ piece.now) self.old result self.new }
     {
         let mut rest = piece;
         let mut done = 0;
@@ -211,7 +211,7 @@ impl Ups {
     fn cut_line(&mut self, piece: &[u8]) -> Cut
         ensures { CutsLine piece.now self.old result self.new }
     {
-        first_line_is_cut_off();
+        each_call_takes_a_line();
         self.cut.next(piece)
     }
 

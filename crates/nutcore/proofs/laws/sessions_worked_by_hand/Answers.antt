@@ -1,4 +1,4 @@
-use Rattle.nutcore.proofs.Examples.{two_variables, empty_listing, taken_in_four, longest_line, three_lines, escaped_value, faulty_lines, cases_and_faults, not_connected, described, pipelined_get}
+use Rattle.nutcore.proofs.Examples.{two_variables, empty_listing, taken_in_four, longest_line, three_lines, escaped_value, faulty_lines, cases_and_faults, not_connected, described, pipelined_get, cut_lines, told_in_pieces}
 use Rattle.nutcore.proofs.laws.sessions_worked_by_hand.Goals as goal
 
 pub returns-clause-two_variables : goal.returns-clause-two_variables
@@ -33,3 +33,9 @@ returns-clause-described c = described
 
 pub returns-clause-pipelined_get : goal.returns-clause-pipelined_get
 returns-clause-pipelined_get c = pipelined_get
+
+pub returns-clause-cut_lines : goal.returns-clause-cut_lines
+returns-clause-cut_lines c = cut_lines
+
+pub returns-clause-told_in_pieces : goal.returns-clause-told_in_pieces
+returns-clause-told_in_pieces c = told_in_pieces

@@ -1,11 +1,12 @@
-use Rattle.std.proofs.Common.{◌≡◌, Some, refl, sym, subst, true, set}
+use Rattle.std.proofs.Common.{◌≡◌, ◌∙◌, ◌++◌, Some, refl, sym, subst, true, set}
 use Rattle.std.specs.Option.{option_map}
 use Rattle.nutcore.specs.Ups.{UpsState}
 use Rattle.nutcore.specs.Server.{ServerState, ups_at}
-use Rattle.nutcore.specs.Serving.{DriverFeedGives}
+use Rattle.nutcore.specs.Serving.{IsTold, DriverFeedGives}
 use Rattle.nutcore.specs.Calls.{is_connected}
 use Rattle.nutcore.specs.contracts.server.Server.{the_view}
 use Rattle.nutcore.proofs.DriverSteps.{IsThere, is_there, there_within, there_is, connected_as, server_set}
+use Rattle.nutcore.proofs.DriverText.{told_by}
 use Rattle.nutcore.proofs.KeptSound.{ups_kept, driver_fed_kept}
 use Rattle.nutcore.proofs.Runs.{state_is}
 use Rattle.nutcore.proofs.server.Server.feed_driver.Goals as goal
@@ -17,9 +18,9 @@ returns-clause-gives c =
     let is : IsThere v c.args.u true = is_there v c.args.u true (subst (λ (z : ServerState). option_map is_connected (ups_at c.args.u.place z) ≡ Some true) (sym (state_is c.self.view_is)) c.requires) in
     let there : ups_at c.args.u.place v ≡ Some x = there_is v.upses c.args.u.place x (there_within v c.args.u true is) c.index_mut-ups.ensures.value in
     let y : UpsState = c.feed.new.self in
-    let leaves = server_set v c.args.u (λ z. y) x y there refl in
+    let told = told_by v _ c.args.u (x.unfinished ++ c.args.piece.now) x y c.feed.result there c.feed.ensures.fed (server_set v c.args.u (λ z. y) x y there refl) in
     subst (λ (z : ServerState). let code : ServerState = record v { upses = set v.upses c.args.u.place y } in DriverFeedGives c.args.u c.args.piece.now z c.feed.result code) (state_is c.self.view_is)
-    (record { before = x; after = y; there = there; fed = c.feed.ensures.fed; leaves = leaves })
+    (λ w at. (let code : ServerState = record v { upses = set v.upses c.args.u.place y } in let same : x ≡ w = cc (sym there ∙ at) in subst (λ (z : UpsState). IsTold c.args.u (z.unfinished ++ c.args.piece.now) v c.feed.result code) same told))
 
 pub invariant_of-self : goal.invariant_of-self
 invariant_of-self c =

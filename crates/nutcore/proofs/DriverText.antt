@@ -1,0 +1,88 @@
+-- What a driver tells changes its UPS alone.
+use Rattle.std.proofs.Common.{◌≡◌, ℕ, zero, suc, Bool, true, false, List, [], ◌∷◌, ◌++◌, Option, Some, None, Result, Ok, Err, refl, sym, ◌∙◌, ap, cond, take}
+use Rattle.std.specs.Prelude.{slice_get}
+use Rattle.std.specs.Option.{option_map_or}
+use Rattle.std.proofs.lemmas.Bool.{cond-true, cond-false}
+use Rattle.nutusers.specs.declared.ups_list.UpsId.{UpsId}
+use Rattle.nutcore.specs.declared.event.Fault.{Fault}
+use Rattle.nutcore.specs.declared.event.Fault.TheVariants.{NoSuchUps, NoSuchClient, TooManyClients, TookTooMuch, NotConnected, AlreadyConnected, LineTooLong, Memory}
+use Rattle.nutcore.specs.Lines.{whole_lines, unfinished_after}
+use Rattle.nutcore.specs.Ups.{UpsState, after_loss, after_text, after_texts, wants_memory_for}
+use Rattle.nutcore.specs.Leaf.{IsFed}
+use Rattle.nutcore.specs.Server.{ServerState, ups_at, changed_at, with_ups_changed}
+use Rattle.nutcore.specs.Step.{after_driver_line, after_driver_lines, with_rest, after_driver_text, after_driver_bytes_of, after_driver_bytes, wants_driver_memory}
+use Rattle.nutcore.specs.Serving.{IsTold}
+use Rattle.nutcore.proofs.DriverSteps.{at_changed, server_none, server_same, server_agree}
+
+-- one change after another, and none
+changed_twice : (f g : UpsState → UpsState) (i : ℕ) (xs : List UpsState) → changed_at g i (changed_at f i xs) ≡ changed_at (λ x. g (f x)) i xs
+changed_twice f g i [] = refl
+changed_twice f g zero (x ∷ xs) = refl
+changed_twice f g (suc i) (x ∷ xs) = ap (λ (ys : List UpsState). x ∷ ys) (changed_twice f g i xs)
+
+unchanged : (i : ℕ) (xs : List UpsState) → changed_at (λ x. x) i xs ≡ xs
+unchanged i [] = refl
+unchanged zero (x ∷ xs) = refl
+unchanged (suc i) (x ∷ xs) = ap (λ (ys : List UpsState). x ∷ ys) (unchanged i xs)
+
+server_twice : (f g : UpsState → UpsState) (u : UpsId) (s : ServerState) → with_ups_changed g u (with_ups_changed f u s) ≡ with_ups_changed (λ x. g (f x)) u s
+server_twice f g u s = ap (λ (xs : List UpsState). let t : ServerState = record s { upses = xs } in t) (changed_twice f g u.place s.upses)
+
+-- whole lines
+lines_change : (u : UpsId) (lines : List (List ℕ)) (s : ServerState) → after_driver_lines u lines s ≡ with_ups_changed (after_texts s.moment lines) u s
+unfolding after_driver_line
+lines_change u [] s = ap (λ (xs : List UpsState). let t : ServerState = record s { upses = xs } in t) (sym (unchanged u.place s.upses))
+lines_change u (line ∷ lines) s =
+    let does : UpsState → UpsState = λ x. after_text s.moment x line in
+    lines_change u lines (with_ups_changed does u s) ∙ server_twice does (after_texts s.moment lines) u s
+
+-- what the UPS is after what its driver told
+abbrev pub ups_after_text : ℕ → List ℕ → Option ℕ → UpsState → UpsState
+ups_after_text m text None x = with_rest (unfinished_after text) (after_texts m (whole_lines text) x)
+ups_after_text m text (Some k) x = after_loss (after_texts m (take k (whole_lines text)) x)
+
+abbrev pub ups_after_bytes : ℕ → List ℕ → Option ℕ → UpsState → UpsState
+ups_after_bytes m piece refused x = cond x.report.connected (ups_after_text m (x.unfinished ++ piece) refused x) x
+
+text_changes : (u : UpsId) (text : List ℕ) (refused : Option ℕ) (s : ServerState) → after_driver_text u text refused s ≡ with_ups_changed (ups_after_text s.moment text refused) u s
+unfolding after_driver_text
+text_changes u text None s =
+    ap (with_ups_changed (with_rest (unfinished_after text)) u) (lines_change u (whole_lines text) s) ∙ server_twice (after_texts s.moment (whole_lines text)) (with_rest (unfinished_after text)) u s
+text_changes u text (Some k) s =
+    ap (with_ups_changed after_loss u) (lines_change u (take k (whole_lines text)) s) ∙ server_twice (after_texts s.moment (take k (whole_lines text))) after_loss u s
+
+pub bytes_change : (u : UpsId) (piece : List ℕ) (refused : Option ℕ) (s : ServerState) → after_driver_bytes u piece refused s ≡ with_ups_changed (ups_after_bytes s.moment piece refused) u s
+unfolding after_driver_bytes after_driver_bytes_of
+bytes_change u piece refused s = by_ups (ups_at u.place s) refl
+  where
+    f : UpsState → UpsState
+    f = ups_after_bytes s.moment piece refused
+
+    by_connection : (x : UpsState) → ups_at u.place s ≡ Some x → (b : Bool) → x.report.connected ≡ b → cond b (after_driver_text u (x.unfinished ++ piece) refused s) s ≡ with_ups_changed f u s
+    by_connection x there true is =
+        text_changes u (x.unfinished ++ piece) refused s ∙ server_agree s u (ups_after_text s.moment (x.unfinished ++ piece) refused) f x there (sym (cond-true _ _ _ is))
+    by_connection x there false is = server_same s u f x there (cond-false _ _ _ is)
+
+    by_ups : (o : Option UpsState) → ups_at u.place s ≡ o → after_driver_bytes_of u piece refused o s ≡ with_ups_changed f u s
+    by_ups None there = server_none s u f there
+    by_ups (Some x) there = by_connection x there x.report.connected refl
+
+-- what the UPS is left with, said of the server
+pub told_by : (s t : ServerState) (u : UpsId) (text : List ℕ) (x y : UpsState) (r : Result (Unit {0}) Fault) → ups_at u.place s ≡ Some x → IsFed s.moment text x r y → t ≡ with_ups_changed (λ z. y) u s → IsTold u text s r t
+unfolding wants_driver_memory
+told_by s t u text x y (Ok v) there (short, e) leaves =
+    (short, leaves ∙ server_agree s u (λ z. y) (ups_after_text s.moment text None) x there (e ∙ sym (cond-false _ _ _ short)) ∙ sym (text_changes u text None s))
+told_by s t u text x y (Err LineTooLong) there (long, e) leaves =
+    (long, leaves ∙ server_agree s u (λ z. y) (ups_after_text s.moment text None) x there (e ∙ sym (cond-true _ _ _ long)) ∙ sym (text_changes u text None s))
+told_by s t u text x y (Err (Memory k)) there (wants, e) leaves =
+    let lines : List (List ℕ) = take k (whole_lines text) in
+    let at : ups_at u.place (after_driver_lines u lines s) ≡ Some (after_texts s.moment lines x) = ap (ups_at u.place) (lines_change u lines s) ∙ at_changed (after_texts s.moment lines) u.place s.upses x there in (
+      ap (λ (o : Option UpsState). option_map_or (wants_memory_for (slice_get (whole_lines text) k)) o false) at ∙ wants,
+      leaves ∙ server_agree s u (λ z. y) (ups_after_text s.moment text (Some k)) x there e ∙ sym (text_changes u text (Some k) s),
+    )
+told_by s t u text x y (Err NoSuchUps) there never leaves = absurd never
+told_by s t u text x y (Err NoSuchClient) there never leaves = absurd never
+told_by s t u text x y (Err TooManyClients) there never leaves = absurd never
+told_by s t u text x y (Err TookTooMuch) there never leaves = absurd never
+told_by s t u text x y (Err NotConnected) there never leaves = absurd never
+told_by s t u text x y (Err AlreadyConnected) there never leaves = absurd never
