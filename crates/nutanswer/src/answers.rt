@@ -73,7 +73,7 @@ pub fn answer<'a, V: View>(
 }
 
 // The rows stay calls of their own: what is inlined here is cleared for each command, also where another one was asked
-// for, and lines are long.
+// for.
 
 /// GET VAR.
 #[inline(never)]
