@@ -87,7 +87,7 @@ fn server_that_lists(alloc: Global, told: &[u8]) -> Result<(Server, ClientId), F
 
 #[test]
 fn short_listing_costs_its_lines(rt: HostRuntime) -> Result<(), Fail> {
-    let told = b"SETINFO ups.status \"OL\"\nSETINFO battery.charge \"100\"\nDUMPDONE\n";
+    let told = b"SETINFO ups.status \"OL\"\nSETINFO battery.charge \"100\"\nDUMPDONE\nDATAOK\n";
     let (mut server, client) = server_that_lists(rt.alloc(), told)?;
     let (rendered, placed) = (4, 85);
     assert_eq!(rt; server.cost(), Cost { rendered, placed });
@@ -116,7 +116,7 @@ fn long_listing_costs_what_fits(rt: HostRuntime) -> Result<(), Fail> {
     for number in 1..=100 {
         tell_variable(number, &mut told)?;
     }
-    told.extend_from_slice(b"DUMPDONE\n")?;
+    told.extend_from_slice(b"DUMPDONE\nDATAOK\n")?;
     let (mut server, client) = server_that_lists(rt.alloc(), told.as_slice())?;
     let (rendered, placed) = (17, 4096);
     assert_eq!(rt; server.cost(), Cost { rendered, placed });
