@@ -1,5 +1,5 @@
 -- What events cost.
-use Rattle.std.proofs.Common.{◌≡◌, ◌∙◌, ℕ, ◌+◌, ◌-◌, ◌≤◌, Bool, true, false, List, [], ◌∷◌, ◌++◌, Option, Some, None, ◌⊎◌, inl, inr, refl, sym, ap, subst, arith, length, take, drop, set, min, eqb, cond, length-take, length-drop, length-append}
+use Rattle.std.proofs.Common.{◌≡◌, ◌∙◌, ℕ, ◌+◌, ◌-◌, ◌≤◌, true, false, List, [], ◌++◌, Option, Some, None, inl, inr, refl, sym, ap, subst, arith, length, take, drop, set, eqb, length-take, length-drop, length-append}
 use Rattle.std.proofs.lemmas.List.{take_all, drop_all, drop_at, drop-append-le}
 use Rattle.std.proofs.Math.Seq.{take-append-add}
 use Rattle.std.proofs.lemmas.Bool.{cond-true, cond-false, eq-eqb}
@@ -20,7 +20,7 @@ use Rattle.nutcore.specs.Server.{ServerState, session}
 use Rattle.nutcore.specs.Pump.{owed_of}
 use Rattle.nutcore.specs.Step.{offered, may_take}
 use Rattle.nutcore.specs.History.{owed, taken_in_event}
-use Rattle.nutcore.specs.Cost.{RunningServer, no_cost, cost_between, client_cost}
+use Rattle.nutcore.specs.Cost.{no_cost, cost_between, client_cost}
 use Rattle.nutcore.specs.Serving.{IsAt, IsLineOrNone, IsCounted, KeepsCount, cost_beyond}
 use Rattle.nutcore.proofs.Found.{find_id}
 use Rattle.nutcore.proofs.Serving.{session_set}

@@ -1,9 +1,7 @@
 -- What the server's methods do, over plain states.
-use Rattle.std.proofs.Common.{◌≡◌, ℕ, ◌+◌, ◌<◌, ◌≤◌, Bool, true, false, List, [], ◌∷◌, ◌++◌, Option, Some, None, Result, Ok, Err, refl, sym, ◌∙◌, ap, subst, arith, length, get_or, set, take, drop, length-take}
+use Rattle.std.proofs.Common.{◌≡◌, ℕ, ◌+◌, ◌<◌, ◌≤◌, Bool, true, false, List, [], ◌++◌, Option, Some, None, Result, Ok, Err, refl, sym, ◌∙◌, ap, subst, arith, length, get_or, set, take, drop}
 use Rattle.std.specs.Prelude.{IsTrue, OnOk, OnErr, MatchOption, is_err, is_some, is_none}
 use Rattle.std.proofs.lemmas.Bool.{le-leb, lt-leb, leb-true, cond-true, cond-false}
-use Rattle.std.proofs.lemmas.Bool.Decides.{nat_tests}
-use Rattle.nutlisting.specs.declared.ring.TheConstants.{RING_LIMIT}
 use Rattle.nutcore.specs.Session.{SessionState, find, put, without, AreApart, new_session}
 use Rattle.nutcore.specs.Server.{ServerState, session, with_session}
 use Rattle.nutanswer.specs.declared.reply.Change.{Change}

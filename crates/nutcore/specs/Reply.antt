@@ -8,7 +8,7 @@ use Rattle.nutanswer.specs.Command.{read_command}
 use Rattle.nutanswer.specs.declared.reply.Change.{Change}
 use Rattle.nutanswer.specs.declared.reply.Change.TheVariants.{Nothing, Username, Password, Login, Ending, Fsd, Order}
 use Rattle.nutanswer.specs.View.{Seen, UpsSeen, ClientSeen, AskerSeen}
-use Rattle.nutanswer.specs.Answer.{Answer, answer_to, text_of_answer, change_of_answer}
+use Rattle.nutanswer.specs.Answer.{answer_to, text_of_answer, change_of_answer}
 use Rattle.nutcore.specs.Session.{SessionState, begin_ending}
 use Rattle.nutcore.specs.Ups.{UpsState, with_fsd, free_room, with_order}
 use Rattle.nutcore.specs.Server.{ServerState, session, changed_at, with_session_changed}

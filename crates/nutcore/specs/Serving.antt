@@ -1,5 +1,5 @@
 -- What the private parts of a server promise one another.
-use Rattle.std.specs.Prelude.{◌≡◌, ◌<◌, ◌≤◌, ◌-◌, ◌⊎◌, ◌==◌, ◌++◌, ℕ, Bool, true, false, List, [], Some, None, Result, Ok, Err, IsTrue, length, drop, take, map, slice_get}
+use Rattle.std.specs.Prelude.{◌≡◌, ◌<◌, ◌≤◌, ◌-◌, ◌⊎◌, ◌==◌, ◌++◌, ℕ, true, false, List, [], Some, None, Result, Ok, Err, IsTrue, length, drop, take, map, slice_get}
 use Rattle.std.specs.List.{position_or_len}
 use Rattle.nutcore.specs.declared.event.Fault.{Fault}
 use Rattle.nutcore.specs.declared.event.Fault.TheVariants.{NoSuchUps, NoSuchClient, TooManyClients, TookTooMuch, NotConnected, AlreadyConnected, LineTooLong, Memory}

@@ -1,4 +1,4 @@
-use Rattle.std.proofs.Common.{◌∙◌, ◌≤◌, inl, refl, sym, subst, arith, length, List, ℕ}
+use Rattle.std.proofs.Common.{◌∙◌, ◌≤◌, inl, refl, sym, subst, arith, length}
 use Rattle.nutcore.specs.Serving.{IsLineOrNone}
 use Rattle.nutanswer.proofs.PublicLaws.{error_lines_are_whole}
 use Rattle.nutcore.proofs.Serving.{replies_text}

@@ -1,7 +1,5 @@
-use Rattle.std.proofs.Common.{◌∙◌, List, ℕ, ap}
-use Rattle.nutlisting.specs.Counts.{lines, count_more}
-use Rattle.nutlisting.specs.Filled.{what_fits}
-use Rattle.nutlisting.specs.Items.{text_of, client_listing}
+use Rattle.std.proofs.Common.{ap}
+use Rattle.nutlisting.specs.Items.{client_listing}
 use Rattle.nutcore.specs.Session.{SessionState}
 use Rattle.nutcore.proofs.Costs.{outbox_listing_counted}
 use Rattle.nutcore.proofs.session.Session.owe_clients.Goals as goal
