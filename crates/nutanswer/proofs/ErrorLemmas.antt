@@ -1,5 +1,5 @@
 -- The lines of errors are lawful bytes.
-use Rattle.std.proofs.Common.{◌≡◌, ◌≤◌, true, refl, [], ◌∷◌, length, leb}
+use Rattle.std.proofs.Common.{◌≡◌, true, refl, [], ◌∷◌, length, leb}
 use Rattle.std.proofs.lemmas.Bool.{leb-true}
 use Rattle.std.specs.Prelude.{codes}
 use Rattle.std.specs.List.{list_all, join_with_byte}
