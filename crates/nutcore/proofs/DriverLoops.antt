@@ -4,12 +4,8 @@ use Rattle.std.proofs.lemmas.Bool.{le-leb, lt-leb}
 use Rattle.std.proofs.lemmas.List.{take-append-drop}
 use Rattle.std.proofs.lemmas.List.Sums.{fold-append}
 use Rattle.std.specs.Prelude.{OnOk, OnErr, is_err, slice_get}
-use Rattle.arrayvec.specs.ArrayVec.{ArrayVec}
-use Rattle.nutwords.specs.SplitLine.{split_line}
-use Rattle.nutwords.specs.Cut.{Cuts}
-use Rattle.nutwords.specs.Found.{EachCutIsFound}
-use Rattle.nutwords.specs.declared.cut.Cut.{Cut}
-use Rattle.nutwords.specs.declared.cut.Cut.TheVariants.{Line, More, TooLong}
+use Rattle.nutwords.specs.Found.{FindsLine, Finds}
+use Rattle.nutwords.specs.declared.cut.Found.TheVariants.{NeedsMore, TooLong}
 use Rattle.nutwords.specs.declared.limits.TheConstants.{LINE_ROOM}
 use Rattle.nutdriver.specs.declared.report.Report.{Report}
 use Rattle.nutdriver.specs.declared.report.LineOutcome.{LineOutcome}
@@ -19,16 +15,6 @@ use Rattle.nutcore.specs.Lines.{whole_lines, unfinished_after, is_too_long}
 use Rattle.nutcore.specs.Ups.{UpsState, after_loss, after_outcome, after_text, after_texts, with_unfinished, wants_memory_for}
 use Rattle.nutcore.specs.Leaf.{lacks_memory_behind}
 use Rattle.nutcore.proofs.WholeLines.{whole_first, whole_none, whole_too_long, unfinished_all, unfinished_first}
-
--- what is kept has no LF
-pub cuts_none : (held piece after : List ℕ) (cut : Cut) → Cuts held piece cut after → split_line after ≡ None
-cuts_none held piece after (Line line used) h = ap split_line h.3
-cuts_none held piece after More h = ap split_line h.2 ∙ h.0
-cuts_none held piece after TooLong h = ap split_line h.2
-
--- a line that is cut off takes some of the piece
-pub takes_some : EachCutIsFound → (held piece after : List ℕ) (cut : Cut) → split_line held ≡ None → Cuts held piece cut after → (line : ArrayVec ℕ) (used : ℕ) → cut ≡ Line line used → 0 < used
-takes_some found held piece after cut none cuts line used is = (found held piece after line used none (subst (λ (z : Cut). Cuts held piece z after) is cuts)).1
 
 -- one more of some lines
 pub one_more : {A : Type 0} (k : ℕ) (lines : List A) (line : A) (more : List A) → drop k lines ≡ line ∷ more → (take (k + 1) lines ≡ take k lines ++ line ∷ []) × (drop (k + 1) lines ≡ more) × (slice_get lines k ≡ Some line)
@@ -68,21 +54,21 @@ pub record IsAtLine (moment k : ℕ) (text : List ℕ) (old now : UpsState) (res
 pub begins : (moment : ℕ) (x : UpsState) (piece : List ℕ) → IsAtLine moment 0 (x.unfinished ++ piece) x x piece
 begins moment x piece = record { ahead = refl; unfinished = refl; told = refl }
 
--- one line more was done: x had the line next, y is without it, z has done what it says
-pub goes_on : (moment k used : ℕ) (text : List ℕ) (old x y z : UpsState) (rest line : List ℕ) → IsAtLine moment k text old x rest → split_line (x.unfinished ++ rest) ≡ Some (line, drop used rest) → length line < LINE_ROOM
-    → y.unfinished ≡ [] → y ≡ with_unfinished y.unfinished x → z ≡ after_text moment y line → IsAtLine moment (k + 1) text old z (drop used rest)
-goes_on moment k used text old x y z rest line at split short empty same does =
+-- one line more was done
+pub goes_on : (moment k used : ℕ) (text : List ℕ) (old x z : UpsState) (rest line : List ℕ) → IsAtLine moment k text old x rest → FindsLine x.unfinished rest line used → z ≡ after_text moment (with_unfinished [] x) line → IsAtLine moment (k + 1) text old z (drop used rest)
+goes_on moment k used text old x z rest line at found does =
     let left : List ℕ = drop used rest in
     let lines : List (List ℕ) = whole_lines text in
-    let next = one_more k lines line (whole_lines left) (at.ahead ∙ whole_first (x.unfinished ++ rest) line left split short) in
-    let held : z.unfinished ++ left ≡ left = ap (λ (b : List ℕ). b ++ left) (ap (λ (w : UpsState). w.unfinished) does ∙ text_unfinished moment y line ∙ empty) in
+    let y : UpsState = with_unfinished [] x in
+    let next = one_more k lines line (whole_lines left) (at.ahead ∙ whole_first (x.unfinished ++ rest) line left found.0 found.3) in
+    let held : z.unfinished ++ left ≡ left = ap (λ (b : List ℕ). b ++ left) (ap (λ (w : UpsState). w.unfinished) does ∙ text_unfinished moment y line) in
     record {
       ahead = next.1 ∙ ap whole_lines (sym held);
-      unfinished = at.unfinished ∙ unfinished_first (x.unfinished ++ rest) line left split short ∙ ap unfinished_after (sym held);
+      unfinished = at.unfinished ∙ unfinished_first (x.unfinished ++ rest) line left found.0 found.3 ∙ ap unfinished_after (sym held);
       told =
           ap (with_unfinished []) does
           ∙ text_beside [] moment y line
-          ∙ ap (λ (w : UpsState). after_text moment w line) (ap (with_unfinished []) same ∙ at.told)
+          ∙ ap (λ (w : UpsState). after_text moment w line) at.told
           ∙ sym (text_beside [] moment (after_texts moment (take k lines) old) line)
           ∙ ap (with_unfinished []) (sym (fold-append (after_text moment) old (take k lines) (line ∷ [])) ∙ ap (λ (ls : List (List ℕ)). after_texts moment ls old) (sym next.0));
     }
@@ -98,7 +84,7 @@ ends moment k text old x rest at none = record {
   told = at.told ∙ ap (λ (ls : List (List ℕ)). with_unfinished [] (after_texts moment ls old)) (no_more k (whole_lines text) (at.ahead ∙ none));
 }
 
-pub ends_unfinished : (moment k : ℕ) (text : List ℕ) (old x y : UpsState) (rest : List ℕ) → IsAtLine moment k text old x rest → Cuts x.unfinished rest More y.unfinished → y ≡ with_unfinished y.unfinished x
+pub ends_unfinished : (moment k : ℕ) (text : List ℕ) (old x y : UpsState) (rest : List ℕ) → IsAtLine moment k text old x rest → Finds x.unfinished rest NeedsMore y.unfinished → y ≡ with_unfinished y.unfinished x
     → (is_too_long (unfinished_after text) ≡ false) × (y ≡ with_unfinished (unfinished_after text) (after_texts moment (whole_lines text) old))
 ends_unfinished moment k text old x y rest at cut same =
     let end = ends moment k text old x rest at (whole_none (x.unfinished ++ rest) cut.0) in (
@@ -106,29 +92,17 @@ ends_unfinished moment k text old x y rest at cut same =
       same ∙ ap (λ (bytes : List ℕ). with_unfinished bytes x) (cut.2 ∙ sym end.rest_is) ∙ ap (with_unfinished (unfinished_after text)) end.told,
     )
 
-pub ends_too_long : (moment k : ℕ) (text : List ℕ) (old x y : UpsState) (rest : List ℕ) → IsAtLine moment k text old x rest → Cuts x.unfinished rest TooLong y.unfinished → y ≡ with_unfinished y.unfinished x
+pub ends_too_long : (moment k : ℕ) (text : List ℕ) (old x y : UpsState) (rest : List ℕ) → IsAtLine moment k text old x rest → Finds x.unfinished rest TooLong y.unfinished → y ≡ with_unfinished y.unfinished x
     → (is_too_long (unfinished_after text) ≡ true) × (after_loss y ≡ after_loss (after_texts moment (whole_lines text) old))
 ends_too_long moment k text old x y rest at cut same =
     let end = ends moment k text old x rest at (whole_too_long (x.unfinished ++ rest) cut.0) in
     (ap is_too_long end.rest_is ∙ le-leb LINE_ROOM (length (x.unfinished ++ rest)) cut.1, ap after_loss same ∙ ap after_loss end.told)
 
 -- the next line wants memory that is refused
-pub ends_lacking : (moment k used : ℕ) (text : List ℕ) (old x y z : UpsState) (rest line : List ℕ) → IsAtLine moment k text old x rest → split_line (x.unfinished ++ rest) ≡ Some (line, drop used rest) → length line < LINE_ROOM
-    → y ≡ with_unfinished y.unfinished x → line_changes y.report.tree line ≡ true → after_loss z ≡ after_loss y
+pub ends_lacking : (moment k used : ℕ) (text : List ℕ) (old x z : UpsState) (rest line : List ℕ) → IsAtLine moment k text old x rest → FindsLine x.unfinished rest line used → line_changes x.report.tree line ≡ true → after_loss z ≡ after_loss x
     → (lacks_memory_behind moment k text old ≡ true) × (after_loss z ≡ after_loss (after_texts moment (take k (whole_lines text)) old))
-ends_lacking moment k used text old x y z rest line at split short same changes lost =
+ends_lacking moment k used text old x z rest line at found changes lost =
     let lines : List (List ℕ) = whole_lines text in
     let before : UpsState = after_texts moment (take k lines) old in
-    let next = one_more k lines line (whole_lines (drop used rest)) (at.ahead ∙ whole_first (x.unfinished ++ rest) line (drop used rest) split short) in
-    let told : with_unfinished [] y ≡ with_unfinished [] before = ap (with_unfinished []) same ∙ at.told in
-    (ap (λ (o : Option (List ℕ)). wants_memory_for o before) next.2 ∙ ap (λ (w : UpsState). line_changes w.report.tree line) (sym told) ∙ changes, lost ∙ ap after_loss told)
-
--- what holds of a call that went well
-pub ok_when : {T E : Type 0} (r : Result T E) (P : Type 0) → is_err r ≡ false → OnOk r P → P
-ok_when (Ok v) P h p = p
-ok_when (Err e) P h p = cc
-
--- and of one that was refused
-pub err_when : {T E : Type 0} (r : Result T E) (P : Type 0) → is_err r ≡ true → OnErr r P → P
-err_when (Ok v) P h p = cc h
-err_when (Err e) P h p = p
+    let next = one_more k lines line (whole_lines (drop used rest)) (at.ahead ∙ whole_first (x.unfinished ++ rest) line (drop used rest) found.0 found.3) in
+    (ap (λ (o : Option (List ℕ)). wants_memory_for o before) next.2 ∙ ap (λ (w : UpsState). line_changes w.report.tree line) (sym at.told) ∙ changes, lost ∙ ap after_loss at.told)

@@ -50,7 +50,7 @@ answered_kept change text x y going is h = by_line (next_line x) refl going
 
 -- it is told that its line is too long, or stays
 pub noticed_kept : (x y : SessionState) (b : Bool) → (b ≡ true → y ≡ notified x) → (b ≡ false → y ≡ x) → IsSoundSession x → IsSoundSession y
-noticed_kept x y true ends same h = subst IsSoundSession (sym (ends refl)) (record { id = h.id; held = omega arith; ending = λ k. (refl, refl) })
+noticed_kept x y true ends same h = subst IsSoundSession (sym (ends refl)) (record { held = omega arith; ending = λ k. (refl, refl) })
 noticed_kept x y false ends same h = subst IsSoundSession (sym (same refl)) h
 
 -- bytes join what it holds
@@ -59,7 +59,7 @@ joined_kept piece x y e h = subst IsSoundSession (sym e) (sound_input piece x h)
 
 -- bytes are taken from what it owes
 pub taken_kept : (n : ℕ) (x y : SessionState) → y ≡ record x { owed = drop n x.owed } → IsSoundSession x → IsSoundSession y
-taken_kept n x y e h = subst IsSoundSession (sym e) (record { id = h.id; held = h.held; ending = h.ending })
+taken_kept n x y e h = subst IsSoundSession (sym e) (record { held = h.held; ending = h.ending })
 
 -- a UPS in place of the one that stands there
 pub ups_kept : (v : ServerState) (u : UpsId) (x y : UpsState) → ups_at u.place v ≡ Some x → (IsSoundUps v.moment x → IsSoundUps v.moment y) → IsSound v →
@@ -68,8 +68,7 @@ ups_kept v u x y there keeps h = record {
   list = h.list;
   named = length-set v.upses u.place y ∙ h.named;
   few = h.few;
-  apart = h.apart;
-  first = h.first;
+  ids = h.ids;
   sessions = h.sessions;
   upses = each_set (IsSoundUps v.moment) y (keeps (each_get (IsSoundUps v.moment) v.upses u.place x there h.upses)) u.place v.upses h.upses;
 }
@@ -81,8 +80,7 @@ upses_kept v change xs e fits h = record {
   list = h.list;
   named = ap length e ∙ length-changes change v.upses ∙ h.named;
   few = h.few;
-  apart = h.apart;
-  first = h.first;
+  ids = h.ids;
   sessions = h.sessions;
   upses = subst (Each (IsSoundUps v.moment)) (sym e) (sound_changes v.moment change v.upses fits h.upses);
 }

@@ -1,12 +1,16 @@
 -- Where sessions stand, after a change.
-use Rattle.std.proofs.Common.{◌≡◌, ℕ, ◌+◌, ◌<◌, ◌≤◌, Bool, true, false, List, [], ◌∷◌, ◌++◌, Some, None, refl, sym, ◌∙◌, ap, cond, eqb, arith, length, get_or, set, take, drop}
+use Rattle.std.proofs.Common.{◌≡◌, ℕ, zero, suc, ◌+◌, ◌<◌, ◌≤◌, Bool, true, false, List, [], ◌∷◌, ◌++◌, Option, Some, None, Result, Ok, Err, refl, sym, ◌∙◌, ap, subst, cond, eqb, ltb, arith, length, get_or, set, take, drop}
+use Rattle.std.specs.Prelude.{MatchResult, MatchOption}
+use Rattle.std.specs.Result.{result_ok}
+use Rattle.std.specs.List.Sorted.{IsSearchInRange, IsBinarySearchResult, IsNonDecreasingBy}
+use Rattle.std.specs.Ordering.{nat_cmp, ordering_index}
+use Rattle.std.proofs.lemmas.Cmp.{ranked}
 use Rattle.std.proofs.lemmas.Bool.{eq-eqb}
 use Rattle.std.proofs.lemmas.List.Sums.{position_or_len_is}
 use Rattle.std.proofs.lemmas.Bool.Decides.{nat_tests}
 use Rattle.std.proofs.lemmas.Grind.{common_steps}
-use Rattle.nutcore.specs.Session.{SessionState, find, put, without, AreApart, new_session}
+use Rattle.nutcore.specs.Session.{SessionState, find, put, without, IdsRise, new_session}
 use Rattle.nutcore.specs.Serving.{place, IsAt}
-use Rattle.nutcore.proofs.Found.{find_last_other}
 
 pub find_at : (c : ℕ) (xs : List SessionState) (d : SessionState) → place c xs < length xs → find c xs ≡ Some (get_or xs (place c xs) d)
 find_at c [] d lt = absurd (omega arith)
@@ -34,82 +38,112 @@ at_put c i y xs h = record {
   within = let e = length-put y xs in omega (arith, e, h.within);
 }
 
-find_put_none : (c : ℕ) (y : SessionState) (xs : List SessionState) → find c xs ≡ None → find c (put y xs) ≡ None
-find_put_none c y [] e = refl
-find_put_none c y (x ∷ xs) e = grind (arith, nat_tests, find_put_none c y xs)
-
-pub apart_put : (n : ℕ) (y : SessionState) (xs : List SessionState) → AreApart n xs → AreApart n (put y xs)
-apart_put n y [] h = tt
-apart_put n y (x ∷ xs) h = apart_by (apart_put n y xs h.2) (eqb x.id y.id) refl
+pub rise_put : (l n : ℕ) (y : SessionState) (xs : List SessionState) → IdsRise l n xs → IdsRise l n (put y xs)
+rise_put l n y [] h = h
+rise_put l n y (x ∷ xs) h = rise_by (rise_put (x.id + 1) n y xs h.1) (eqb x.id y.id) refl
   where
-    apart_by : AreApart n (put y xs) → (b : Bool) → eqb x.id y.id ≡ b → AreApart n (cond b (y ∷ xs) (x ∷ put y xs))
-    apart_by rest true e = let same : x.id ≡ y.id = grind (arith, nat_tests) in (let low : y.id < n = omega (arith, h.0) in low, ap (λ d. find d xs) (sym same) ∙ h.1, h.2)
-    apart_by rest false e = (h.0, find_put_none x.id y xs h.1, rest)
+    rise_by : IdsRise (x.id + 1) n (put y xs) → (b : Bool) → eqb x.id y.id ≡ b → IdsRise l n (cond b (y ∷ xs) (x ∷ put y xs))
+    rise_by rest true e = let same : x.id ≡ y.id = grind (arith, nat_tests) in subst (λ (i : ℕ). (l ≤ i) × IdsRise (i + 1) n xs) same h
+    rise_by rest false e = (h.0, rest)
 
-pub apart_more : (n : ℕ) (xs : List SessionState) → AreApart n xs → AreApart (n + 1) xs
-apart_more n [] h = tt
-apart_more n (x ∷ xs) h = (let low : x.id < n + 1 = omega (arith, h.0) in low, h.1, apart_more n xs h.2)
+rise_from : (k l n : ℕ) (xs : List SessionState) → k ≤ l → IdsRise l n xs → IdsRise k n xs
+rise_from k l n [] low h = omega (arith, low, h)
+rise_from k l n (x ∷ xs) low h = (omega (arith, low, h.0), h.1)
 
-pub apart_push : (n : ℕ) (y : SessionState) (xs : List SessionState) → y.id ≡ n → AreApart n xs → AreApart (n + 1) (xs ++ y ∷ [])
-apart_push n y [] e h = (let low : y.id < n + 1 = omega (arith, e) in low, refl, tt)
-apart_push n y (x ∷ xs) e h = (
-  let low : x.id < n + 1 = omega (arith, h.0) in low,
-  find_last_other x.id y xs (λ (k : x.id ≡ y.id). let no : ⊥ = omega (arith, h.0, k, e) in no) ∙ h.1,
-  apart_push n y xs e h.2,
-)
+rise_reach : (l n : ℕ) (xs : List SessionState) → IdsRise l n xs → l ≤ n
+rise_reach l n [] h = h
+rise_reach l n (x ∷ xs) h = let rest = rise_reach (x.id + 1) n xs h.1 in omega (arith, h.0, rest)
 
-pub apart_lawful : (n c : ℕ) (xs : List SessionState) → AreApart n xs → (x : SessionState) → find c xs ≡ Some x → c < n
-apart_lawful n c [] h x e = cc
-apart_lawful n c (z ∷ xs) h x e = lawful_by (apart_lawful n c xs h.2 x) (eqb z.id c) refl e
+pub rise_push : (l n : ℕ) (y : SessionState) (xs : List SessionState) → y.id ≡ n → IdsRise l n xs → IdsRise l (n + 1) (xs ++ y ∷ [])
+rise_push l n y [] e h = (let low : l ≤ y.id = omega (arith, e, h) in low, let last : y.id + 1 ≤ n + 1 = omega (arith, e) in last)
+rise_push l n y (x ∷ xs) e h = (h.0, rise_push (x.id + 1) n y xs e h.1)
+
+-- what is found lies where the ids do
+pub rise_lawful : (l n c : ℕ) (xs : List SessionState) → IdsRise l n xs → (x : SessionState) → find c xs ≡ Some x → (l ≤ c) × (c < n)
+rise_lawful l n c [] h x e = cc e
+rise_lawful l n c (z ∷ xs) h x e = lawful_by (rise_lawful (z.id + 1) n c xs h.1 x) (eqb z.id c) refl e
   where
-    lawful_by : (find c xs ≡ Some x → c < n) → (b : Bool) → eqb z.id c ≡ b → cond b (Some z) (find c xs) ≡ Some x → c < n
-    lawful_by rest true same e = let k : z.id ≡ c = grind (arith, nat_tests) in omega (arith, h.0)
-    lawful_by rest false same e = rest e
+    lawful_by : (find c xs ≡ Some x → (z.id + 1 ≤ c) × (c < n)) → (b : Bool) → eqb z.id c ≡ b → cond b (Some z) (find c xs) ≡ Some x → (l ≤ c) × (c < n)
+    lawful_by rest true same e =
+        let k : z.id ≡ c = grind (arith, nat_tests) in
+        let reach = rise_reach (z.id + 1) n xs h.1 in (let low : l ≤ c = omega (arith, h.0, k) in low, let high : c < n = omega (arith, k, reach) in high)
+    lawful_by rest false same e = let inside = rest e in (let low : l ≤ c = omega (arith, h.0, inside.0) in low, inside.1)
 
-pub apart_none : (n : ℕ) (xs : List SessionState) → AreApart n xs → find n xs ≡ None
-apart_none n [] h = refl
-apart_none n (x ∷ xs) h = none_by (apart_none n xs h.2) (eqb x.id n) refl
+-- so an id below the first one is none's
+pub rise_none : (l n c : ℕ) (xs : List SessionState) → IdsRise l n xs → c < l → find c xs ≡ None
+rise_none l n c xs h below = none_by (find c xs) refl
   where
-    none_by : find n xs ≡ None → (b : Bool) → eqb x.id n ≡ b → cond b (Some x) (find n xs) ≡ None
-    none_by rest true same = let k : x.id ≡ n = grind (arith, nat_tests) in absurd (let no : ⊥ = omega (arith, h.0) in no)
-    none_by rest false same = rest
+    none_by : (o : Option SessionState) → find c xs ≡ o → o ≡ None
+    none_by None e = refl
+    none_by (Some x) e = absurd (let inside = rise_lawful l n c xs h x e in let no : ⊥ = omega (arith, inside.0, below) in no)
 
-find_without_none : (c d : ℕ) (xs : List SessionState) → find c xs ≡ None → find c (without d xs) ≡ None
-find_without_none c d [] e = refl
-find_without_none c d (x ∷ xs) e = grind (arith, nat_tests, find_without_none c d xs)
-
-pub apart_without : (n c : ℕ) (xs : List SessionState) → AreApart n xs → AreApart n (without c xs)
-apart_without n c [] h = tt
-apart_without n c (x ∷ xs) h = apart_by (apart_without n c xs h.2) (eqb x.id c)
+pub rise_without : (l n c : ℕ) (xs : List SessionState) → IdsRise l n xs → IdsRise l n (without c xs)
+rise_without l n c [] h = h
+rise_without l n c (x ∷ xs) h = rise_by (rise_without (x.id + 1) n c xs h.1) (eqb x.id c)
   where
-    apart_by : AreApart n (without c xs) → (b : Bool) → AreApart n (cond b (without c xs) (x ∷ without c xs))
-    apart_by rest true = rest
-    apart_by rest false = (h.0, find_without_none x.id c xs h.1, rest)
+    rise_by : IdsRise (x.id + 1) n (without c xs) → (b : Bool) → IdsRise l n (cond b (without c xs) (x ∷ without c xs))
+    rise_by rest true = rise_from l (x.id + 1) n (without c xs) (omega (arith, h.0)) rest
+    rise_by rest false = (h.0, rest)
 
 -- a session that isn't there is left out by nothing
 pub without_none : (c : ℕ) (xs : List SessionState) → find c xs ≡ None → without c xs ≡ xs
 without_none c [] e = refl
 without_none c (x ∷ xs) e = grind (arith, nat_tests, without_none c xs)
 
-pub without_at : (n c : ℕ) (xs : List SessionState) → AreApart n xs → place c xs < length xs → without c xs ≡ take (place c xs) xs ++ drop (place c xs + 1) xs
-without_at n c [] h lt = absurd (omega arith)
-without_at n c (x ∷ xs) h lt = without_by (without_at n c xs h.2) (eqb x.id c) refl
+pub without_at : (l n c : ℕ) (xs : List SessionState) → IdsRise l n xs → place c xs < length xs → without c xs ≡ take (place c xs) xs ++ drop (place c xs + 1) xs
+without_at l n c [] h lt = absurd (omega arith)
+without_at l n c (x ∷ xs) h lt = without_by (without_at (x.id + 1) n c xs h.1) (eqb x.id c) refl
   where
     without_by : (place c xs < length xs → without c xs ≡ take (place c xs) xs ++ drop (place c xs + 1) xs) → (b : Bool) → eqb x.id c ≡ b → without c (x ∷ xs) ≡ take (place c (x ∷ xs)) (x ∷ xs) ++ drop (place c (x ∷ xs) + 1) (x ∷ xs)
-    without_by above true e = let same : x.id ≡ c = grind (arith, nat_tests) in let rest : without c xs ≡ xs = without_none c xs (ap (λ d. find d xs) (sym same) ∙ h.1) in grind (arith, nat_tests, common_steps)
+    without_by above true e = let same : x.id ≡ c = grind (arith, nat_tests) in let rest : without c xs ≡ xs = without_none c xs (rise_none (x.id + 1) n c xs h.1 (omega (arith, same))) in grind (arith, nat_tests, common_steps)
     without_by above false e = let more : place c xs < length xs = grind (arith, nat_tests, common_steps) in let rest = above more in grind (arith, nat_tests, common_steps)
 
--- the place of a session that was looked for from the front
-pub place_is : (c i : ℕ) (xs : List SessionState) (x : SessionState) → i < length xs → ((k : ℕ) (d : SessionState) → k < i → eqb (get_or xs k d).id c ≡ false) → x ≡ get_or xs i x → x.id ≡ c → IsAt c i xs
-place_is c i xs x lt before at e = record {
-  first = position_or_len_is (λ (y : SessionState). eqb y.id c) xs i x (omega arith) (λ k below. before k x below) (λ h. eq-eqb _ _ (ap (λ (y : SessionState). y.id) (sym at) ∙ e));
-  within = lt;
-}
+-- ids rise along the places
+ids_above : (l n : ℕ) (xs : List SessionState) (d : SessionState) (i : ℕ) → IdsRise l n xs → i < length xs → l ≤ (get_or xs i d).id
+ids_above l n [] d i h lt = absurd (omega arith)
+ids_above l n (x ∷ xs) d zero h lt = h.0
+ids_above l n (x ∷ xs) d (suc i) h lt = let rest = ids_above (x.id + 1) n xs d i h.1 (omega (arith, lt)) in omega (arith, h.0, rest)
 
-pub absent : (c : ℕ) (xs : List SessionState) → ((k : ℕ) (d : SessionState) → k < length xs → eqb (get_or xs k d).id c ≡ false) → find c xs ≡ None
-absent c xs before =
-    let e : place c xs ≡ length xs = position_or_len_is (λ (y : SessionState). eqb y.id c) xs (length xs) (new_session 0 []) (omega arith) (λ k below. before k (new_session 0 []) below) (λ (h : length xs < length xs). absurd (omega arith)) in
-    find_none c xs (omega (arith, e))
+ids_in_order : (l n : ℕ) (xs : List SessionState) (d : SessionState) (i j : ℕ) → IdsRise l n xs → i < j → j < length xs → (get_or xs i d).id < (get_or xs j d).id
+ids_in_order l n [] d i j h lt within = absurd (omega arith)
+ids_in_order l n (x ∷ xs) d i zero h lt within = absurd (omega arith)
+ids_in_order l n (x ∷ xs) d zero (suc j) h lt within = let rest = ids_above (x.id + 1) n xs d j h.1 (omega (arith, within)) in omega (arith, rest)
+ids_in_order l n (x ∷ xs) d (suc i) (suc j) h lt within = ids_in_order (x.id + 1) n xs d i j h.1 (omega (arith, lt)) (omega (arith, within))
+
+-- what a binary search by the ids answers: where the session of this id stands, or that there is none
+module _ (l n c : ℕ) (xs : List SessionState) (rise : IdsRise l n xs) where
+  answers_rise : IsNonDecreasingBy (λ (y : SessionState). ordering_index (nat_cmp y.id c)) xs
+  answers_rise i j d le within =
+      let no_less : (get_or xs i d).id ≤ (get_or xs j d).id = grind (arith, ids_in_order l n xs d i j rise, λ (same : i ≡ j). ap (λ (k : ℕ). (get_or xs k d).id) same) in
+      grind (arith, nat_tests)
+
+  pub searched : (r : Result ℕ ℕ) → IsSearchInRange r (length xs) → IsBinarySearchResult (λ (y : SessionState). nat_cmp y.id c) xs r → MatchResult r (λ i. IsAt c i xs) (λ i. find c xs ≡ None)
+  searched (Ok i) within at =
+      let d = new_session 0 [] in
+      let here : (get_or xs i d).id ≡ c = ranked _ c _ (sym (at d)) in
+      record {
+        first = position_or_len_is (λ (y : SessionState). eqb y.id c) xs i d (omega (arith, within)) (λ k below. let less = ids_in_order l n xs d k i rise below within in grind (arith, nat_tests)) (λ h. eq-eqb _ _ here);
+        within = within;
+      }
+  searched (Err i) within parted =
+      let d = new_session 0 [] in
+      let differs : (k : ℕ) → k < length xs → eqb (get_or xs k d).id c ≡ false = λ k lt. differ_by k lt (ltb k i) refl in
+      find_none c xs (let e : place c xs ≡ length xs = position_or_len_is (λ (y : SessionState). eqb y.id c) xs (length xs) d (omega arith) differs (λ (h : length xs < length xs). absurd (omega arith)) in omega (arith, e))
+    where
+      differ_by : (k : ℕ) → k < length xs → (b : Bool) → ltb k i ≡ b → eqb (get_or xs k (new_session 0 [])).id c ≡ false
+      differ_by k lt true e =
+          let below : k < i = grind (arith, nat_tests) in
+          let less : (get_or xs k (new_session 0 [])).id < c = ranked _ c _ (sym ((parted answers_rise).0 k (new_session 0 []) (omega arith) below)) in
+          grind (arith, nat_tests)
+      differ_by k lt false e =
+          let above : i ≤ k = grind (arith, nat_tests) in
+          let more : c < (get_or xs k (new_session 0 [])).id = ranked _ c _ (sym ((parted answers_rise).1 k (new_session 0 []) above lt)) in
+          grind (arith, nat_tests)
+
+-- and as an option
+pub place_found : (c : ℕ) (xs : List SessionState) (r : Result ℕ ℕ) → MatchResult r (λ i. IsAt c i xs) (λ i. find c xs ≡ None) → MatchOption (result_ok r) (find c xs ≡ None) (λ i. IsAt c i xs)
+place_found c xs (Ok i) h = h
+place_found c xs (Err i) h = h
 
 pub found_at : (c i : ℕ) (xs : List SessionState) (x : SessionState) → IsAt c i xs → x ≡ get_or xs i x → find c xs ≡ Some x
 found_at c i xs x h at =

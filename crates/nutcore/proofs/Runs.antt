@@ -3,14 +3,14 @@ use Rattle.std.proofs.Common.{◌≡◌, ℕ, ◌<◌, List, [], ◌∷◌, ◌+
 use Rattle.std.specs.Prelude.{is_some}
 use Rattle.nutcore.specs.declared.event.Event.{Event}
 use Rattle.nutcore.specs.declared.event.Outcome.{Outcome}
-use Rattle.nutcore.specs.Session.{SessionState, AreApart}
+use Rattle.nutcore.specs.Session.{SessionState, IdsRise}
 use Rattle.nutcore.specs.Server.{ServerState, session}
 use Rattle.nutcore.specs.Headline.{IsLawful, Serves}
 use Rattle.nutcore.specs.Step.{Step, after}
 use Rattle.nutcore.specs.Run.{Run}
 use Rattle.nutcore.specs.declared.cost.Cost.{Cost}
 use Rattle.nutcore.specs.Cost.{RunningServer, cost_of, last_cost}
-use Rattle.nutcore.proofs.Places.{apart_lawful}
+use Rattle.nutcore.proofs.Places.{rise_lawful}
 use Rattle.nutcore.proofs.Stepping.{run_sent, run_taken_up}
 
 -- a run goes on by one event
@@ -28,13 +28,13 @@ cost_push before s m t (d ∷ es) [] e o r step = absurd r
 cost_push before s m t (d ∷ es) (p ∷ os) e o (mid, first, r) step =
     cost_push (cost_of s d (after s d p)) mid m t es os e o r step ∙ ap (λ (z : ServerState). last_cost (cost_of s d (after s d p)) z (es ++ e ∷ []) (os ++ o ∷ [])) first.leaves
 
--- sessions that stand apart are lawful
-lawful_by : (s : ServerState) (c : ℕ) (o : Option SessionState) → session c s ≡ o → AreApart s.next_id s.sessions → is_some o ≡ true → c < s.next_id
-lawful_by s c None e apart some = cc some
-lawful_by s c (Some x) e apart some = apart_lawful s.next_id c s.sessions apart x e
+-- where ids rise, they are below the next one
+lawful_by : (s : ServerState) (c : ℕ) (o : Option SessionState) → session c s ≡ o → IdsRise 1 s.next_id s.sessions → is_some o ≡ true → c < s.next_id
+lawful_by s c None e ids some = cc some
+lawful_by s c (Some x) e ids some = (rise_lawful 1 s.next_id c s.sessions ids x e).1
 
-pub lawful : (s : ServerState) → AreApart s.next_id s.sessions → IsLawful s
-lawful s apart = λ c some. lawful_by s c (session c s) refl apart some
+pub lawful : (s : ServerState) → IdsRise 1 s.next_id s.sessions → IsLawful s
+lawful s ids = λ c some. lawful_by s c (session c s) refl ids some
 
 -- one event, as a run of its own
 pub served : (s t : ServerState) (e : Event) (o : Outcome) → IsLawful s → Step s e o t → Serves s e o t

@@ -2,7 +2,7 @@
 use Rattle.std.proofs.Common.{◌≡◌, ℕ, ◌+◌, ◌<◌, ◌≤◌, Bool, true, false, List, [], ◌++◌, Option, Some, None, Result, Ok, Err, refl, sym, ◌∙◌, ap, subst, arith, length, get_or, set, take, drop}
 use Rattle.std.specs.Prelude.{IsTrue, OnOk, OnErr, MatchOption, is_err, is_some, is_none}
 use Rattle.std.proofs.lemmas.Bool.{le-leb, lt-leb, leb-true, cond-true, cond-false}
-use Rattle.nutcore.specs.Session.{SessionState, find, put, without, AreApart, new_session}
+use Rattle.nutcore.specs.Session.{SessionState, find, put, without, IdsRise, new_session}
 use Rattle.nutcore.specs.Server.{ServerState, session, with_session}
 use Rattle.nutanswer.specs.declared.reply.Change.{Change}
 use Rattle.nutanswer.specs.Command.{read_command}
@@ -18,7 +18,7 @@ use Rattle.nutlisting.specs.declared.outbox.TheConstants.{OWED_LIMIT}
 use Rattle.nutcore.specs.Serving.{place, IsAt, IsAnswered, IsText, IsLineOrNone, Replies}
 use Rattle.nutcore.proofs.Found.{find_id, find_put, put_found}
 use Rattle.nutcore.proofs.Pumping.{after_line_is, is_next, change_at, session_after}
-use Rattle.nutcore.proofs.Places.{at_put, apart_put, found_at, find_at, put_is, without_at}
+use Rattle.nutcore.proofs.Places.{at_put, found_at, find_at, put_is, without_at}
 use Rattle.nutcore.proofs.Loops.{after_lines-suc, all_lines_are}
 
 pub on_ok_weaker : {T E : Type 0} (r : Result T E) (P Q : Type 0) → (P → Q) → OnOk r P → OnOk r Q
@@ -43,9 +43,6 @@ found_in c i s t x e h at = found_at c i t.sessions x h (at ∙ ap (λ (z : Serv
 
 pub at_found : (c i : ℕ) (xs : List SessionState) → IsAt c i xs → find c xs ≡ Some (get_or xs (place c xs) (new_session 0 []))
 at_found c i xs h = let lt : place c xs < length xs = omega (arith, h.first, h.within) in find_at c xs (new_session 0 []) lt
-
-pub apart_set : (n c i : ℕ) (xs : List SessionState) (y : SessionState) → IsAt c i xs → y.id ≡ c → AreApart n xs → AreApart n (set xs i y)
-apart_set n c i xs y h e apart = subst (λ (z : List SessionState). AreApart n z) (sym (put_is c i xs y h e)) (apart_put n y xs apart)
 
 -- a session in place of the one that stands there
 pub set_is : (s : ServerState) (c i : ℕ) (y : SessionState) → IsAt c i s.sessions → y.id ≡ c → (let code : ServerState = record s { sessions = set s.sessions i y } in code ≡ with_session s y)
@@ -177,10 +174,10 @@ pub within_offered : (o : Option SessionState) (x : SessionState) (n : ℕ) → 
 within_offered o x n e may = leb-true _ _ (ap (λ (z : Option SessionState). may_take z n) (sym e) ∙ may)
 
 -- what is left of the sessions where one is removed at its place
-pub left_out : (n c i : ℕ) (xs : List SessionState) → AreApart n xs → IsAt c i xs → without c xs ≡ take i xs ++ drop (i + 1) xs
-left_out n c i xs apart h =
+pub left_out : (l n c i : ℕ) (xs : List SessionState) → IdsRise l n xs → IsAt c i xs → without c xs ≡ take i xs ++ drop (i + 1) xs
+left_out l n c i xs rise h =
     let lt : place c xs < length xs = omega (arith, h.first, h.within) in
-    without_at n c xs apart lt ∙ ap (λ j. take j xs ++ drop (j + 1) xs) h.first
+    without_at l n c xs rise lt ∙ ap (λ j. take j xs ++ drop (j + 1) xs) h.first
 
 -- the answer of one line at most that changes nothing is this text
 pub replies_text : (s : ServerState) (c : ℕ) (line text : List ℕ) (r : Result (Option Command) ErrWord) (answer : Answer) → read_command line ≡ r → shares_version_read s c r ≡ false → text_to s c r ≡ text → change_by s c r ≡ Nothing → length text ≤ OWED_LIMIT →

@@ -21,7 +21,7 @@ use Rattle.nutcore.specs.Pump.{answered, next_line_for, after_line, after_line_o
 use Rattle.nutcore.specs.Step.{Step, accepted_bytes, with_input, with_input_of, without_output, without_output_of, may_take, may_open, opened, connected, disconnected, after_driver_took, ticked, pumped_until, after_by, refused_after}
 use Rattle.nutcore.specs.Sound.{Each, IsSoundSession, IsSoundUps, IsSound, ANewServerIsSound, EachEventKeepsTheServerSound, EveryRunKeepsTheServerSound, ASoundServerIsLawful}
 use Rattle.nutcore.proofs.OrderFits.{order_fits}
-use Rattle.nutcore.proofs.Places.{apart_put, apart_push, apart_without, apart_lawful, length-put}
+use Rattle.nutcore.proofs.Places.{rise_put, rise_push, rise_without, rise_lawful, length-put}
 use Rattle.nutcore.proofs.Pumping.{is_next, after_line_is, line_done, change_at, session_after}
 use Rattle.nutcore.proofs.DriverText.{ups_after_bytes, bytes_change}
 use Rattle.nutcore.proofs.SoundUps.{and_true, each_map, each_last, each_same, length-changed, length-same, length-mapped, each_changed, no_loss, length-changes, sound_new, sound_loss, sound_connecting, sound_either, sound_driver_bytes, sound_took, sound_tick, sound_changes}
@@ -60,25 +60,23 @@ each_found P c (z ∷ xs) x e all = by_id (eqb z.id c) e (λ k. each_found P c x
 
 -- sessions
 pub sound_answered : (change : Change) (line text : List ℕ) (x : SessionState) → x.ending ≡ false → IsSoundSession x → IsSoundSession (changed_session change (answered line text x))
-sound_answered changes.Nothing line text x going h = record { id = h.id; held = (let few = h.held in omega (arith, few, length-drop (length line + 1) x.held)); ending = λ e. no_loss x.ending e going }
-sound_answered (changes.Username name) line text x going h = record { id = h.id; held = (let few = h.held in omega (arith, few, length-drop (length line + 1) x.held)); ending = λ e. no_loss x.ending e going }
-sound_answered (changes.Password password) line text x going h = record { id = h.id; held = (let few = h.held in omega (arith, few, length-drop (length line + 1) x.held)); ending = λ e. no_loss x.ending e going }
-sound_answered (changes.Login u) line text x going h = record { id = h.id; held = (let few = h.held in omega (arith, few, length-drop (length line + 1) x.held)); ending = λ e. no_loss x.ending e going }
-sound_answered changes.Ending line text x going h = record { id = h.id; held = omega arith; ending = λ e. (refl, refl) }
-sound_answered (changes.Fsd u) line text x going h = record { id = h.id; held = (let few = h.held in omega (arith, few, length-drop (length line + 1) x.held)); ending = λ e. no_loss x.ending e going }
-sound_answered (changes.Order u order) line text x going h = record { id = h.id; held = (let few = h.held in omega (arith, few, length-drop (length line + 1) x.held)); ending = λ e. no_loss x.ending e going }
+sound_answered changes.Nothing line text x going h = record { held = (let few = h.held in omega (arith, few, length-drop (length line + 1) x.held)); ending = λ e. no_loss x.ending e going }
+sound_answered (changes.Username name) line text x going h = record { held = (let few = h.held in omega (arith, few, length-drop (length line + 1) x.held)); ending = λ e. no_loss x.ending e going }
+sound_answered (changes.Password password) line text x going h = record { held = (let few = h.held in omega (arith, few, length-drop (length line + 1) x.held)); ending = λ e. no_loss x.ending e going }
+sound_answered (changes.Login u) line text x going h = record { held = (let few = h.held in omega (arith, few, length-drop (length line + 1) x.held)); ending = λ e. no_loss x.ending e going }
+sound_answered changes.Ending line text x going h = record { held = omega arith; ending = λ e. (refl, refl) }
+sound_answered (changes.Fsd u) line text x going h = record { held = (let few = h.held in omega (arith, few, length-drop (length line + 1) x.held)); ending = λ e. no_loss x.ending e going }
+sound_answered (changes.Order u order) line text x going h = record { held = (let few = h.held in omega (arith, few, length-drop (length line + 1) x.held)); ending = λ e. no_loss x.ending e going }
 
 pub sound_input : (piece : List ℕ) (x : SessionState) → IsSoundSession x → IsSoundSession (record x { held = x.held ++ accepted_bytes (Some x) piece })
 sound_input piece x h = by_ending x.ending refl
   where
     by_ending : (b : Bool) → x.ending ≡ b → IsSoundSession (record x { held = x.held ++ cond b [] (take (HELD_LIMIT - length x.held) piece) })
     by_ending true e = record {
-      id = h.id;
       held = (let few = h.held in omega (arith, few, length-append x.held []));
       ending = λ k. (ap (λ (bytes : List ℕ). bytes ++ []) (h.ending k).0, (h.ending k).1);
     }
     by_ending false e = record {
-      id = h.id;
       held = (let few = h.held in omega (arith, few, length-append x.held (take (HELD_LIMIT - length x.held) piece), length-take (HELD_LIMIT - length x.held) piece));
       ending = λ k. no_loss x.ending k e;
     }
@@ -88,8 +86,7 @@ sound_with s y p h = record {
   list = h.list;
   named = h.named;
   few = (let few = h.few in omega (arith, few, length-put y s.sessions));
-  apart = apart_put s.next_id y s.sessions h.apart;
-  first = h.first;
+  ids = rise_put 1 s.next_id y s.sessions h.ids;
   sessions = each_put IsSoundSession y p s.sessions h.sessions;
   upses = h.upses;
 }
@@ -112,8 +109,7 @@ sound_line_of s c (Some line) e h =
       list = h.list;
       named = length-changes change s.upses ∙ h.named;
       few = there.few;
-      apart = there.apart;
-      first = h.first;
+      ids = there.ids;
       sessions = there.sessions;
       upses = sound_changes s.moment change s.upses (order_fits s c (read_command line) change refl) h.upses;
     } in
@@ -129,7 +125,7 @@ unfolding after_notice_of
 sound_notice_of s c None e h = h
 sound_notice_of s c (Some x) e h =
     let own = each_found IsSoundSession c s.sessions x e h.sessions in
-    sound_server (is_overlong_of (Some x)) (with_session s (notified x)) s (sound_with s (notified x) (record { id = own.id; held = omega arith; ending = λ k. (refl, refl) }) h) h
+    sound_server (is_overlong_of (Some x)) (with_session s (notified x)) s (sound_with s (notified x) (record { held = omega arith; ending = λ k. (refl, refl) }) h) h
 
 sound_until : (c : ℕ) (s : ServerState) (m : Option ℕ) → IsSound s → IsSound (pumped_until s c m)
 unfolding pumped_until pumped after_all_lines after_notice
@@ -148,15 +144,14 @@ unfolding without_output_of
 sound_output_of s c n None e h = h
 sound_output_of s c n (Some x) e h =
     let own = each_found IsSoundSession c s.sessions x e h.sessions in
-    sound_with s (record x { owed = drop n x.owed }) (record { id = own.id; held = own.held; ending = own.ending }) h
+    sound_with s (record x { owed = drop n x.owed }) (record { held = own.held; ending = own.ending }) h
 
 sound_upses : (f : UpsState → UpsState) (u : UpsId) (s : ServerState) → ((x : UpsState) → IsSoundUps s.moment x → IsSoundUps s.moment (f x)) → IsSound s → IsSound (with_ups_changed f u s)
 sound_upses f u s keeps h = record {
   list = h.list;
   named = length-changed f u.place s.upses ∙ h.named;
   few = h.few;
-  apart = h.apart;
-  first = h.first;
+  ids = h.ids;
   sessions = h.sessions;
   upses = each_changed (IsSoundUps s.moment) f keeps u.place s.upses h.upses;
 }
@@ -172,9 +167,8 @@ sound_opened s address None h = by_room (may_open s) refl
           list = h.list;
           named = h.named;
           few = omega (arith, room, length-append s.sessions (new_session s.next_id address ∷ []));
-          apart = apart_push s.next_id (new_session s.next_id address) s.sessions refl h.apart;
-          first = omega arith;
-          sessions = each_last IsSoundSession (new_session s.next_id address) (record { id = h.first; held = omega arith; ending = λ k. cc k }) s.sessions h.sessions;
+          ids = rise_push 1 s.next_id (new_session s.next_id address) s.sessions refl h.ids;
+          sessions = each_last IsSoundSession (new_session s.next_id address) (record { held = omega arith; ending = λ k. cc k }) s.sessions h.sessions;
           upses = h.upses;
         }
     by_room false e = h
@@ -188,8 +182,7 @@ sound_ticked s seconds h =
       list = h.list;
       named = length-mapped (after_tick s.max_age now) s.upses ∙ h.named;
       few = h.few;
-      apart = h.apart;
-      first = h.first;
+      ids = h.ids;
       sessions = h.sessions;
       upses = each_map (IsSoundUps s.moment) (IsSoundUps now) (after_tick s.max_age now) (λ x k. sound_tick s.max_age s.moment now x (omega arith) k) s.upses h.upses;
     }
@@ -199,8 +192,7 @@ sound_closed s c h = record {
   list = h.list;
   named = h.named;
   few = (let few = h.few in omega (arith, few, fewer c s.sessions));
-  apart = apart_without s.next_id c s.sessions h.apart;
-  first = h.first;
+  ids = rise_without 1 s.next_id c s.sessions h.ids;
   sessions = each_without IsSoundSession c s.sessions h.sessions;
   upses = h.upses;
 }
@@ -236,8 +228,7 @@ module _ (empty : IsSoundTree empty_tree) (line_keeps : EachLineKeepsTheTreeSoun
     list = lawful;
     named = length-same (length list) new_ups;
     few = omega arith;
-    apart = tt;
-    first = omega arith;
+    ids = omega arith;
     sessions = tt;
     upses = each_same (IsSoundUps 0) new_ups (sound_new empty line_keeps 0) (length list);
   }
@@ -247,4 +238,4 @@ sound_lawful s h c there = by_session (session c s) refl there
   where
     by_session : (o : Option SessionState) → session c s ≡ o → is_some o ≡ true → c < s.next_id
     by_session None e k = cc k
-    by_session (Some x) e k = apart_lawful s.next_id c s.sessions h.apart x e
+    by_session (Some x) e k = (rise_lawful 1 s.next_id c s.sessions h.ids x e).1

@@ -1,23 +1,25 @@
 -- What the parts of the server answer, where the server's own definitions need no name for it.
-use Rattle.std.specs.Prelude.{◌≡◌, ℕ, Bool, true, false, List, Result, Ok, Err, length, take, drop, slice_get, ◌<◌, ◌≤◌}
-use Rattle.arrayvec.specs.ArrayVec.{ArrayVec}
-use Rattle.nutwords.specs.Cut.{Cuts}
-use Rattle.nutwords.specs.declared.cut.Cut.{Cut}
-use Rattle.nutwords.specs.declared.cut.Cut.TheVariants.{Line}
+use Rattle.std.specs.Prelude.{◌≡◌, ℕ, Bool, true, false, List, [], Result, Ok, Err, length, take, drop, slice_get, ◌<◌, ◌≤◌}
+use Rattle.nutwords.specs.Found.{FindsLine, Finds}
+use Rattle.nutwords.specs.declared.cut.Found.TheVariants as found
+use Rattle.nutcore.specs.declared.ups.Reading.{Reading}
+use Rattle.nutcore.specs.declared.ups.Reading.TheVariants.{Done, Unfinished, TooLong, OutOfMemory}
+use Rattle.nutdriver.specs.Report.{line_changes}
 use Rattle.nutcore.specs.declared.event.Fault.{Fault}
 use Rattle.nutcore.specs.declared.event.Fault.TheVariants.{TookTooMuch, LineTooLong, Memory}
 use Rattle.nutcore.specs.Lines.{whole_lines, unfinished_after, is_too_long}
-use Rattle.nutcore.specs.Ups.{UpsState, after_loss, after_texts, with_unfinished, wants_memory_for}
+use Rattle.nutcore.specs.Ups.{UpsState, after_loss, after_text, after_texts, with_unfinished, wants_memory_for}
 
 -- Of what a driver told there is a whole line behind the first k, and it would change the tree.
 abbrev pub lacks_memory_behind : ℕ → ℕ → List ℕ → UpsState → Bool
 lacks_memory_behind moment k text old = wants_memory_for (slice_get (whole_lines text) k) (after_texts moment (take k (whole_lines text)) old)
 
--- What a driver's piece gives, and what its UPS keeps of it: what the cutter of its lines says, and nothing else.
-pub record CutsLine (piece : List ℕ) (old : UpsState) (found : Cut) (new : UpsState) : Type 0 where
-  pub cut : Cuts old.unfinished piece found new.unfinished
-  pub same : new ≡ with_unfinished new.unfinished old
-  pub taken : (line : ArrayVec ℕ) (used : ℕ) → found ≡ Line line used → 0 < used
+-- A UPS's reading of a driver's piece, up to its next line: the line was done, and takes so many bytes of the piece; or none is whole, and all of the piece is kept; or it is too long; or it would change the tree, and memory was refused.
+abbrev pub ReadsLine : ℕ → List ℕ → UpsState → Reading → UpsState → Type 0
+ReadsLine moment piece old (Done used) new = (line : List ℕ) × FindsLine old.unfinished piece line used × (new ≡ after_text moment (with_unfinished [] old) line)
+ReadsLine moment piece old Unfinished new = Finds old.unfinished piece found.NeedsMore new.unfinished × (new ≡ with_unfinished new.unfinished old)
+ReadsLine moment piece old TooLong new = Finds old.unfinished piece found.TooLong new.unfinished × (new ≡ with_unfinished new.unfinished old)
+ReadsLine moment piece old OutOfMemory new = (line : List ℕ) × (used : ℕ) × FindsLine old.unfinished piece line used × (line_changes old.report.tree line ≡ true) × (after_loss new ≡ after_loss old)
 
 -- What a driver told, and its UPS is left with: all whole lines are done, and the rest is unfinished; the driver is lost behind them, where the rest is too long; or it is lost behind k lines, where the next wants memory that is refused.
 abbrev pub IsFed : ℕ → List ℕ → UpsState → Result (Unit {0}) Fault → UpsState → Type 0

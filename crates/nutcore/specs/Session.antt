@@ -1,5 +1,5 @@
 -- The sessions of clients.
-use Rattle.std.specs.Prelude.{◌≡◌, ◌<◌, ℕ, Bool, true, false, List, [], ◌∷◌, Option, Some, None, ◌==◌, if◌then◌else◌}
+use Rattle.std.specs.Prelude.{◌≤◌, ◌+◌, ℕ, Bool, true, false, List, [], ◌∷◌, Option, Some, None, ◌==◌, if◌then◌else◌}
 use Rattle.nutusers.specs.declared.ups_list.UpsId.{UpsId}
 
 -- held: what came of its input and isn't executed yet. owed: what it is still to be sent. username, password: what it gave. login: the UPS that it is logged in to. ending: it takes no more input, and ends when nothing is owed.
@@ -36,7 +36,7 @@ abbrev pub without : ℕ → List SessionState → List SessionState
 without c [] = []
 without c (x ∷ xs) = if x.id == c then without c xs else x ∷ without c xs
 
--- No two sessions have one id, and each id is below the next one.
-abbrev pub AreApart : ℕ → List SessionState → Type 0
-AreApart next [] = Unit {0}
-AreApart next (x ∷ xs) = (x.id < next) × (find x.id xs ≡ None) × AreApart next xs
+-- The ids of the sessions rise: the first is at least this one, each other one is above the one before it, and all are below the next one.
+abbrev pub IdsRise : ℕ → ℕ → List SessionState → Type 0
+IdsRise least next [] = least ≤ next
+IdsRise least next (x ∷ xs) = (least ≤ x.id) × IdsRise (x.id + 1) next xs

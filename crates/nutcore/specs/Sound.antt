@@ -8,7 +8,7 @@ use Rattle.nutusers.specs.Descriptions.{Descriptions}
 use Rattle.nutcore.specs.declared.TheConstants.{HELD_LIMIT, DRIVER_OWED_LIMIT}
 use Rattle.nutcore.specs.declared.event.Event.{Event}
 use Rattle.nutcore.specs.declared.event.Outcome.{Outcome}
-use Rattle.nutcore.specs.Session.{SessionState, AreApart}
+use Rattle.nutcore.specs.Session.{SessionState, IdsRise}
 use Rattle.nutcore.specs.Ups.{UpsState, new_ups}
 use Rattle.nutcore.specs.Server.{ServerState, new_server}
 use Rattle.nutcore.specs.Step.{Step}
@@ -20,9 +20,8 @@ abbrev pub Each : {A : Type 0} → (A → Type 0) → List A → Type 0
 Each P [] = Unit {0}
 Each P (x ∷ xs) = P x × Each P xs
 
--- A session: its id is at least 1, and it holds no more than it may; one that is ending holds nothing, and is logged in to nothing.
+-- A session: it holds no more than it may; one that is ending holds nothing, and is logged in to nothing.
 pub record IsSoundSession (x : SessionState) : Type 0 where
-  pub id : 1 ≤ x.id
   pub held : length x.held ≤ HELD_LIMIT
   pub ending : x.ending ≡ true → (x.held ≡ []) × (x.login ≡ None)
 
@@ -34,13 +33,12 @@ pub record IsSoundUps (moment : ℕ) (x : UpsState) : Type 0 where
   pub owed : length x.owed ≤ DRIVER_OWED_LIMIT
   pub lost : x.report.connected ≡ false → x ≡ record new_ups { fsd = x.fsd; faulty = x.faulty }
 
--- A server: the names of the UPSs of its list rise, and there are no more than there may be; a state for each UPS of the list; at most 64 sessions, of whom no two have one id, each below the next one, which is at least 1; and all of them sound.
+-- A server: the names of the UPSs of its list rise, and there are no more than there may be; a state for each UPS of the list; at most 64 sessions, whose ids rise from 1; and all of them sound.
 pub record IsSound (s : ServerState) : Type 0 where
   pub list : IsList s.list
   pub named : length s.upses ≡ length s.list
   pub few : length s.sessions ≤ SESSION_LIMIT
-  pub apart : AreApart s.next_id s.sessions
-  pub first : 1 ≤ s.next_id
+  pub ids : IdsRise 1 s.next_id s.sessions
   pub sessions : Each IsSoundSession s.sessions
   pub upses : Each (IsSoundUps s.moment) s.upses
 

@@ -85,7 +85,7 @@ pub fn what_is_counted_is_who_is_there()
 
 /// Every server is sound: a new one is, and each event and each run keeps it so. The tree of each UPS is sound (names
 /// strictly rise, and all that was reported is lawful and within its limits), nothing was heard later than now, what is
-/// held and owed is within its limits, and the ids of sessions are apart. So the premise of the laws of every run holds.
+/// held and owed is within its limits, and the ids of sessions rise. So the premise of the laws of every run holds.
 pub fn every_server_is_sound()
     ensures opening { ANewServerIsSound }
     ensures event { EachEventKeepsTheServerSound }

@@ -1,11 +1,11 @@
 //! A UPS as the server keeps it: its driver's connection, and what the driver told.
-ghost use Rattle.std.specs.Prelude.{◌≡◌, ◌≢◌, ◌≤◌, length, drop, ◌++◌, true, IfOk, IfErr, IsTrue, OnOk, OnErr, Ok, Err};
+ghost use Rattle.std.specs.Prelude.{◌≡◌, ◌≢◌, ◌≤◌, length, drop, ◌++◌, [], true, IfOk, IfErr, IsTrue, OnOk, OnErr, Ok, Err};
 ghost use Rattle.nutdriver.specs.Report.{line_changes};
 ghost use Rattle.nutwords.specs.declared.limits.TheConstants.{LINE_LIMIT};
-ghost use Rattle.nutcore.specs.Ups.{new_ups, after_connecting, after_loss, after_tick, with_fsd, free_room, with_order, after_text, with_faulty_line};
+ghost use Rattle.nutcore.specs.Ups.{new_ups, after_connecting, after_loss, after_tick, with_fsd, free_room, with_order, after_text, after_outcome, with_unfinished};
 ghost use Rattle.nutanswer.specs.View.{ups_seen};
 ghost use Rattle.nutcore.specs.Reply.{seen_ups};
-ghost use Rattle.nutcore.specs.Leaf.{CutsLine, IsStopped, IsFed, IsTaken};
+ghost use Rattle.nutcore.specs.Leaf.{ReadsLine, IsStopped, IsFed, IsTaken};
 
 use crate::DRIVER_OWED_LIMIT;
 use crate::event::Fault;
@@ -13,13 +13,25 @@ use arrayvec::ArrayVec;
 use nutanswer::UpsView;
 use nutdriver::{LineOutcome, Report};
 use nutmap::Meter;
-use nutwords::laws::each_call_takes_a_line;
-use nutwords::{Cut, LineCut};
+use nutwords::{Found, LineCut};
 use std::alloc::{AllocError, Global};
 use std::marker::Model;
 
 /// The line by which a driver is asked whether it is there.
 const PING_LINE: &[u8] = b"PING\n";
+
+/// What came of reading a driver's next line.
+#[derive(Clone, Copy)]
+pub(crate) enum Reading {
+    /// It was done, and takes so many bytes of the piece.
+    Done(usize),
+    /// It isn't whole. All of the piece is kept.
+    Unfinished,
+    /// It is too long.
+    TooLong,
+    /// It would change what the driver reported, and memory was refused.
+    OutOfMemory,
+}
 
 /// A UPS. Moments are in seconds.
 #[derive(Drop)]
@@ -34,15 +46,11 @@ pub(crate) struct Ups {
 }
 
 impl Model for Ups {
-    ghost use Rattle.std.specs.Prelude.{◌≡◌, None};
-    ghost use Rattle.nutwords.specs.SplitLine.{split_line};
     ghost use Rattle.nutcore.specs.Ups.{UpsState};
 
     ghost Value = { UpsState };
 
     ghost view = { λ u. record { report = u.report; pinged = u.pinged; fsd = u.fsd; owed = u.owed.items; unfinished = u.cut; faulty = u.faulty } };
-
-    ghost invariant = { λ u. split_line u.cut ≡ None };
 }
 
 impl Ups {
@@ -193,26 +201,34 @@ impl Ups {
         let mut rest = piece;
         let mut done = 0;
         loop {
-            match self.cut_line(rest) {
-                Cut::Line(line, used) => {
-                    if self.execute(moment, line.as_slice()).is_err() {
-                        return Err(Fault::Memory(done));
-                    }
+            match self.read_line(moment, rest) {
+                Reading::Done(used) => {
                     rest = behind(rest, used);
                     done += 1;
                 }
-                Cut::More => return Ok(()),
-                Cut::TooLong => return Err(Fault::LineTooLong),
+                Reading::Unfinished => return Ok(()),
+                Reading::TooLong => return Err(Fault::LineTooLong),
+                Reading::OutOfMemory => return Err(Fault::Memory(done)),
             }
         }
     }
 
-    /// The next line of what came, with how much of the piece it takes.
-    fn cut_line(&mut self, piece: &[u8]) -> Cut
-        ensures { CutsLine piece.now self.old result self.new }
+    /// Does what the next line says, which isn't copied where it stands in the piece.
+    fn read_line(&mut self, moment: u64, piece: &[u8]) -> Reading
+        ensures { ReadsLine moment piece.now self.old result self.new }
     {
-        each_call_takes_a_line();
-        self.cut.next(piece)
+        match self.cut.find(piece) {
+            Found::InPiece(length) => match self.execute(moment, &piece[..length]) {
+                Ok(()) => Reading::Done(length + 1),
+                Err(_) => Reading::OutOfMemory,
+            },
+            Found::Joined(used) => match self.execute_held(moment) {
+                Ok(()) => Reading::Done(used),
+                Err(_) => Reading::OutOfMemory,
+            },
+            Found::NeedsMore => Reading::Unfinished,
+            Found::TooLong => Reading::TooLong,
+        }
     }
 
     /// Does what a whole line says. A refused one is counted.
@@ -222,18 +238,35 @@ impl Ups {
         ensures memory { OnErr result (IsTrue (line_changes self.old.report.tree line.now)) }
         ensures err { OnErr result (after_loss self.new ≡ after_loss self.old) }
     {
-        match self.report.execute(moment, line, &mut Meter::new())? {
-            LineOutcome::Accepted => {}
-            LineOutcome::Refused(_) => self.count_faulty_line(),
-        }
+        let outcome = self.report.execute(moment, line, &mut Meter::new())?;
+        self.count(outcome);
         Ok(())
     }
 
-    /// One more line was refused. The count stops at its greatest number.
-    fn count_faulty_line(&mut self)
-        ensures { self.new ≡ with_faulty_line self.old }
+    /// Does what the line says that is held, and holds nothing any more. A refused one is counted.
+    fn execute_held(&mut self, moment: u64) -> Result<(), AllocError>
+        ensures ok { OnOk result (self.new
+            ≡ after_text moment (with_unfinished [] self.old) self.old.unfinished) }
+        ensures memory { OnErr result
+            (IsTrue (line_changes self.old.report.tree self.old.unfinished)) }
+        ensures err { OnErr result (after_loss self.new ≡ after_loss self.old) }
     {
-        self.faulty = self.faulty.saturating_add(1);
+        let outcome = self
+            .report
+            .execute(moment, self.cut.held(), &mut Meter::new())?;
+        self.cut.clear();
+        self.count(outcome);
+        Ok(())
+    }
+
+    /// A line was done so: a refused one is counted. The count stops at its greatest number.
+    fn count(&mut self, outcome: LineOutcome)
+        ensures { self.new ≡ after_outcome self.old (self.old.report, outcome) }
+    {
+        match outcome {
+            LineOutcome::Accepted => {}
+            LineOutcome::Refused(_) => self.faulty = self.faulty.saturating_add(1),
+        }
     }
 }
 

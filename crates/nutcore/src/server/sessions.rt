@@ -20,12 +20,9 @@ impl Server {
             (λ i. IsAt c i self.now.state.sessions) }
         ensures lawful { IsLawful self.now.state }
     {
-        for (i, session) in self.sessions.iter().enumerate() {
-            if session.id() == c {
-                return Some(i);
-            }
-        }
-        None
+        self.sessions
+            .binary_search_by_key(&c, |session| session.id())
+            .ok()
     }
 
     /// Joins a piece to what the session holds.

@@ -22,7 +22,7 @@ pub invariant_of-self : goal.invariant_of-self
 invariant_of-self c =
     let v : ServerState = (the_view c.self.inside).state in
     let at : IsAt c.args.c c.in-Some.place v.sessions = subst (λ (z : ServerState). IsAt c.args.c c.in-Some.place z.sessions) (sym (state_is c.self.view_is)) c.in-Some.ensures.place in
-    let left : c.remove-session.new.self.items ≡ without c.args.c v.sessions = c.remove-session.ensures.by_index.2 ∙ sym (left_out v.next_id c.args.c c.in-Some.place v.sessions c.self.invariant.sound.apart at) in
+    let left : c.remove-session.new.self.items ≡ without c.args.c v.sessions = c.remove-session.ensures.by_index.2 ∙ sym (left_out 1 v.next_id c.args.c c.in-Some.place v.sessions c.self.invariant.sound.ids at) in
     record {
       sound = subst (λ (xs : List SessionState). let z : ServerState = record v { sessions = xs } in IsSound z) (sym left) (sound_closed v c.args.c c.self.invariant.sound);
       room = omega (arith, c.remove-session.ensures.capacity, c.self.invariant.room);
@@ -32,6 +32,6 @@ pub returns-clause-served : goal.returns-clause-served
 returns-clause-served c =
     let v : ServerState = (the_view c.self.inside).state in
     let at : IsAt c.args.c c.in-Some.place v.sessions = subst (λ (z : ServerState). IsAt c.args.c c.in-Some.place z.sessions) (sym (state_is c.self.view_is)) c.in-Some.ensures.place in
-    let left : c.remove-session.new.self.items ≡ without c.args.c v.sessions = c.remove-session.ensures.by_index.2 ∙ sym (left_out v.next_id c.args.c c.in-Some.place v.sessions c.self.invariant.sound.apart at) in
+    let left : c.remove-session.new.self.items ≡ without c.args.c v.sessions = c.remove-session.ensures.by_index.2 ∙ sym (left_out 1 v.next_id c.args.c c.in-Some.place v.sessions c.self.invariant.sound.ids at) in
     let t : ServerState = record v { sessions = c.remove-session.new.self.items } in
     served_from _ _ _ _ _ c.forget_cost.ensures.state c.place_of.ensures.lawful (step_from v c.forget_cost.new.self.state t t (Close c.args.c) Done (state_is c.self.view_is) refl (close_present v c.args.c _ c.remove-session.new.self.items (at_found c.args.c c.in-Some.place v.sessions at) left))

@@ -7,7 +7,7 @@ use Rattle.nutcore.specs.declared.event.Outcome.TheVariants.{Opened, Refused}
 use Rattle.nutcore.specs.declared.event.Fault.TheVariants.{Memory, TooManyClients}
 use Rattle.nutcore.specs.Step.{may_open}
 use Rattle.std.proofs.lemmas.Bool.{lt-ltb, le-ltb, and_left, and_right, and_from}
-use Rattle.nutcore.specs.Session.{AreApart}
+use Rattle.nutcore.specs.Session.{IdsRise}
 use Rattle.nutcore.proofs.Runs.{served_from, lawful}
 use Rattle.nutcore.proofs.server.Server.open.Goals.{then-len-ge-SESSION_LIMIT-via-then-len-ge-SESSION_LIMIT, then-len-ge-SESSION_LIMIT-via-else-len-ge-SESSION_LIMIT+then-self}
 use Rattle.nutcore.proofs.Sound.{sound_opening}
@@ -22,7 +22,7 @@ returns-then-len-ge-SESSION_LIMIT-clause-served c =
       | then-len-ge-SESSION_LIMIT-via-then-len-ge-SESSION_LIMIT w ↦ and_left _ _ (le-ltb _ _ (let le : 64 ≤ length v.sessions = omega arith in le))
       | then-len-ge-SESSION_LIMIT-via-else-len-ge-SESSION_LIMIT+then-self w ↦ and_right _ _ (le-ltb _ _ (let le : 18446744073709551616 ≤ v.next_id = omega arith in le))
     ] in
-    served_from _ _ _ _ _ c.forget_cost.ensures.state (lawful c.forget_cost.new.self.state (subst (λ (z : ServerState). AreApart z.next_id z.sessions) (state_is c.self.view_is) c.self.invariant.sound.apart)) (step_from v c.forget_cost.new.self.state v c.forget_cost.new.self.state (Open c.args.address) (Refused TooManyClients) (state_is c.self.view_is) (state_is c.self.view_is) (open_full v c.args.address full))
+    served_from _ _ _ _ _ c.forget_cost.ensures.state (lawful c.forget_cost.new.self.state (subst (λ (z : ServerState). IdsRise 1 z.next_id z.sessions) (state_is c.self.view_is) c.self.invariant.sound.ids)) (step_from v c.forget_cost.new.self.state v c.forget_cost.new.self.state (Open c.args.address) (Refused TooManyClients) (state_is c.self.view_is) (state_is c.self.view_is) (open_full v c.args.address full))
 
 pub returns-in_default-clause-served : goal.returns-in_default-clause-served
 returns-in_default-clause-served c =
@@ -30,7 +30,7 @@ returns-in_default-clause-served c =
     let some : length v.sessions < 64 = omega arith in
     let low : v.next_id < 18446744073709551616 = omega arith in
     let may : may_open v ≡ true = and_from _ _ (lt-ltb _ _ some) (lt-ltb _ _ low) in
-    served_from _ _ _ _ _ c.forget_cost.ensures.state (lawful c.forget_cost.new.self.state (subst (λ (z : ServerState). AreApart z.next_id z.sessions) (state_is c.self.view_is) c.self.invariant.sound.apart)) (step_from v c.forget_cost.new.self.state v c.forget_cost.new.self.state (Open c.args.address) (Refused (Memory 0)) (state_is c.self.view_is) (state_is c.self.view_is) (open_refused v c.args.address may))
+    served_from _ _ _ _ _ c.forget_cost.ensures.state (lawful c.forget_cost.new.self.state (subst (λ (z : ServerState). IdsRise 1 z.next_id z.sessions) (state_is c.self.view_is) c.self.invariant.sound.ids)) (step_from v c.forget_cost.new.self.state v c.forget_cost.new.self.state (Open c.args.address) (Refused (Memory 0)) (state_is c.self.view_is) (state_is c.self.view_is) (open_refused v c.args.address may))
 
 pub invariant_of-self : goal.invariant_of-self
 invariant_of-self c =
@@ -52,5 +52,5 @@ returns-clause-served c =
     let may : may_open v ≡ true = and_from _ _ (lt-ltb _ _ some) (lt-ltb _ _ low) in
     let more : c.push.new.self.items ≡ c.self.inside.sessions.items ++ c.in-Ok.session ∷ [] = rw c.unwrap.ensures at c.push.ensures.items in
     let t : ServerState = record v { sessions = c.push.new.self.items; next_id = v.next_id + 1 } in
-    served_from _ _ _ _ _ c.forget_cost.ensures.state (lawful c.forget_cost.new.self.state (subst (λ (z : ServerState). AreApart z.next_id z.sessions) (state_is c.self.view_is) c.self.invariant.sound.apart)) (step_from v c.forget_cost.new.self.state t t (Open c.args.address) (Opened v.next_id) (state_is c.self.view_is) refl
+    served_from _ _ _ _ _ c.forget_cost.ensures.state (lawful c.forget_cost.new.self.state (subst (λ (z : ServerState). IdsRise 1 z.next_id z.sessions) (state_is c.self.view_is) c.self.invariant.sound.ids)) (step_from v c.forget_cost.new.self.state t t (Open c.args.address) (Opened v.next_id) (state_is c.self.view_is) refl
     (open_done v c.args.address c.push.new.self.items may (more ∙ ap (λ (x : SessionState). c.self.inside.sessions.items ++ x ∷ []) c.in-Ok.ensures)))

@@ -1,26 +1,25 @@
-use Rattle.std.proofs.Common.{◌≡◌, ◌<◌, ◌∙◌, List, sym, ap, length, get_or, arith, subst}
-use Rattle.nutcore.specs.Session.{SessionState}
+use Rattle.std.proofs.Common.{◌≡◌, ◌∙◌, ℕ, List, Option, None, sym, ap, subst, length, rules}
+use Rattle.std.specs.List.Sorted.{IsSearchInRange, IsBinarySearchResult}
+use Rattle.std.specs.Ordering.{nat_cmp}
+use Rattle.std.specs.Prelude.{MatchOption}
+use Rattle.nutcore.specs.Session.{SessionState, IdsRise, find}
 use Rattle.nutcore.specs.Server.{ServerState}
-use Rattle.nutcore.specs.Session.{AreApart}
-use Rattle.nutcore.proofs.Runs.{lawful}
-use Rattle.nutcore.proofs.Places.{place_is, absent}
-use Rattle.nutcore.proofs.Runs.{state_is}
+use Rattle.nutcore.specs.Serving.{IsAt}
+use Rattle.nutcore.proofs.Runs.{lawful, state_is}
+use Rattle.nutcore.proofs.Places.{searched, place_found}
+use Rattle.std.proofs.lemmas.List.Sorted.{answers_always}
 use Rattle.nutcore.proofs.server.Server.place_of.Goals as goal
-
-pub returns-then-id-c-clause-place : goal.returns-then-id-c-clause-place
-returns-then-id-c-clause-place c =
-    let same : c.deref-session-items.result.now ≡ c.args.self.now.state.sessions = c.deref-session-items.ensures.value ∙ ap (λ (s : ServerState). s.sessions) (state_is c.self.view_is) in
-    let lt : c.loop-i.i < length c.args.self.now.state.sessions = omega (arith, ap length same) in
-    let at : c.session-item.result ≡ get_or c.args.self.now.state.sessions c.loop-i.i c.session-item.result = c.session-item.is ∙ ap (λ (xs : List SessionState). get_or xs c.loop-i.i c.session-item.result) same in
-    place_is c.args.c c.loop-i.i c.args.self.now.state.sessions c.session-item.result lt c.loop-i.invariant at (sym c.id.ensures ∙ c.if-id-c.true)
 
 pub returns-clause-place : goal.returns-clause-place
 returns-clause-place c =
-    let same : c.deref-session-items.result.now ≡ c.args.self.now.state.sessions = c.deref-session-items.ensures.value ∙ ap (λ (s : ServerState). s.sessions) (state_is c.self.view_is) in
-    absent c.args.c c.args.self.now.state.sessions (λ k d lt. c.loop-i.invariant k d (let below : k < c.loop-i.i = omega (arith, ap length same) in below))
-
-pub returns-then-id-c-clause-lawful : goal.returns-then-id-c-clause-lawful
-returns-then-id-c-clause-lawful c = lawful c.args.self.now.state (subst (λ (z : ServerState). AreApart z.next_id z.sessions) (state_is c.self.view_is) c.self.invariant.sound.apart)
+    let xs : List SessionState = c.args.self.now.state.sessions in
+    let same : c.deref.result.now ≡ xs = c.deref.ensures.value ∙ ap (λ (s : ServerState). s.sessions) (state_is c.self.view_is) in
+    let facts = c.binary_search_by_key.ensures in
+    let by_id = facts.position (λ (x : SessionState). x.id) (answers_always _ _ _ (λ f a r g called. search rules)) in
+    subst (λ (o : Option ℕ). MatchOption o (find c.args.c xs ≡ None) (λ i. IsAt c.args.c i xs)) (sym c.ok.ensures.value)
+    (place_found c.args.c xs c.binary_search_by_key.result
+    (searched 1 c.args.self.now.state.next_id c.args.c xs (subst (λ (z : ServerState). IdsRise 1 z.next_id z.sessions) (state_is c.self.view_is) c.self.invariant.sound.ids) c.binary_search_by_key.result
+    (subst (λ (ys : List SessionState). IsSearchInRange c.binary_search_by_key.result (length ys)) same facts.bound) (subst (λ (ys : List SessionState). IsBinarySearchResult (λ (x : SessionState). nat_cmp x.id c.args.c) ys c.binary_search_by_key.result) same by_id)))
 
 pub returns-clause-lawful : goal.returns-clause-lawful
-returns-clause-lawful c = lawful c.args.self.now.state (subst (λ (z : ServerState). AreApart z.next_id z.sessions) (state_is c.self.view_is) c.self.invariant.sound.apart)
+returns-clause-lawful c = lawful c.args.self.now.state (subst (λ (z : ServerState). IdsRise 1 z.next_id z.sessions) (state_is c.self.view_is) c.self.invariant.sound.ids)

@@ -2,7 +2,7 @@ use Rattle.std.proofs.Common.{◌≡◌, ◌+◌, ◌<◌, ◌∙◌, ◌++◌, 
 use Rattle.std.proofs.lemmas.List.{take_more, take_all}
 use Rattle.nutcore.specs.declared.event.Event.{Event}
 use Rattle.nutcore.specs.declared.event.Outcome.{Outcome}
-use Rattle.nutcore.specs.Session.{AreApart}
+use Rattle.nutcore.specs.Session.{IdsRise}
 use Rattle.nutcore.specs.Server.{ServerState}
 use Rattle.nutcore.specs.Run.{Run}
 use Rattle.nutcore.specs.Cost.{last_cost}
@@ -33,12 +33,12 @@ pub returns-clause-sent_and_owed : goal.returns-clause-sent_and_owed
 returns-clause-sent_and_owed c =
     let all : take c.loop-event.event-index c.args.events.now ≡ c.args.events.now = take_all _ _ (omega arith) in
     run_sent c.args.self.now.state c.loop-event.self.state c.args.events.now c.loop-event.outcomes.items
-    (lawful c.args.self.now.state (subst (λ (z : ServerState). AreApart z.next_id z.sessions) (state_is c.self.view_is) c.self.invariant.sound.apart))
+    (lawful c.args.self.now.state (subst (λ (z : ServerState). IdsRise 1 z.next_id z.sessions) (state_is c.self.view_is) c.self.invariant.sound.ids))
     (subst (λ (es : List Event). Run c.args.self.now.state es c.loop-event.outcomes.items c.loop-event.self.state) all c.loop-event.invariant.run)
 
 pub returns-clause-taken_up : goal.returns-clause-taken_up
 returns-clause-taken_up c =
     let all : take c.loop-event.event-index c.args.events.now ≡ c.args.events.now = take_all _ _ (omega arith) in
     run_taken_up c.args.self.now.state c.loop-event.self.state c.args.events.now c.loop-event.outcomes.items
-    (lawful c.args.self.now.state (subst (λ (z : ServerState). AreApart z.next_id z.sessions) (state_is c.self.view_is) c.self.invariant.sound.apart))
+    (lawful c.args.self.now.state (subst (λ (z : ServerState). IdsRise 1 z.next_id z.sessions) (state_is c.self.view_is) c.self.invariant.sound.ids))
     (subst (λ (es : List Event). Run c.args.self.now.state es c.loop-event.outcomes.items c.loop-event.self.state) all c.loop-event.invariant.run)

@@ -1,7 +1,7 @@
 use Rattle.std.proofs.Common.{◌≡◌, ◌∙◌, ℕ, List, refl, sym, ap, subst, map}
 use Rattle.nutcore.specs.declared.event.Event.TheVariants.{Tick}
 use Rattle.nutcore.specs.declared.event.Outcome.TheVariants.{Done}
-use Rattle.nutcore.specs.Session.{AreApart}
+use Rattle.nutcore.specs.Session.{IdsRise}
 use Rattle.nutcore.specs.Ups.{UpsState, after_tick}
 use Rattle.nutcore.specs.Server.{ServerState}
 use Rattle.nutcore.specs.contracts.server.Server.{the_view}
@@ -20,7 +20,7 @@ returns-clause-served c =
     let moment : ℕ = c.max-self-inside.result in
     let t : ServerState = record v { moment = moment; upses = xs } in
     let pinged : xs ≡ map (after_tick v.max_age moment) v.upses = c.ping_upses.ensures.pinged ∙ ap (λ (age : ℕ). map (after_tick age moment) v.upses) c.seconds.ensures in
-    served_from _ _ _ _ _ c.forget_cost.ensures.state (lawful c.forget_cost.new.self.state (subst (λ (z : ServerState). AreApart z.next_id z.sessions) (state_is c.self.view_is) c.self.invariant.sound.apart))
+    served_from _ _ _ _ _ c.forget_cost.ensures.state (lawful c.forget_cost.new.self.state (subst (λ (z : ServerState). IdsRise 1 z.next_id z.sessions) (state_is c.self.view_is) c.self.invariant.sound.ids))
     (step_from v c.forget_cost.new.self.state t t (Tick c.args.seconds) Done (state_is c.self.view_is) refl (tick_done v t c.args.seconds (ticked_is v c.args.seconds moment xs c.max-self-inside.ensures pinged)))
 
 pub invariant_of-self : goal.invariant_of-self
