@@ -34,6 +34,8 @@ pub(crate) struct Session {
     id: u64,
     address: Address,
     held: Vec<u8>,
+    /// How many of the held bytes are lines that were executed. They go when the next piece comes.
+    executed: usize,
     outbox: Outbox,
     username: Option<UserName>,
     password: Option<Password>,
@@ -42,16 +44,16 @@ pub(crate) struct Session {
 }
 
 impl Model for Session {
-    ghost use Rattle.std.specs.Prelude.{◌≤◌, vec_capacity, vec_len};
+    ghost use Rattle.std.specs.Prelude.{◌≤◌, drop, vec_capacity, vec_len};
     ghost use Rattle.nutcore.specs.declared.TheConstants.{HELD_LIMIT};
     ghost use Rattle.nutlisting.specs.Owed.{owed};
     ghost use Rattle.nutcore.specs.Session.{SessionState};
 
     ghost Value = { SessionState };
 
-    ghost view = { λ s. record { id = s.id; address = s.address; held = s.held.items; owed = owed s.outbox; username = s.username; password = s.password; login = s.login; ending = s.ending } };
+    ghost view = { λ s. record { id = s.id; address = s.address; held = drop s.executed s.held.items; owed = owed s.outbox; username = s.username; password = s.password; login = s.login; ending = s.ending } };
 
-    ghost invariant = { λ s. (HELD_LIMIT ≤ vec_capacity s.held) × (vec_len s.held ≤ HELD_LIMIT) };
+    ghost invariant = { λ s. (HELD_LIMIT ≤ vec_capacity s.held) × (vec_len s.held ≤ HELD_LIMIT) × (s.executed ≤ vec_len s.held) };
 }
 
 impl Session {
@@ -67,6 +69,7 @@ impl Session {
             id,
             address,
             held,
+            executed: 0,
             outbox,
             username: None,
             password: None,
@@ -127,8 +130,15 @@ impl Session {
         if self.ending {
             HELD_LIMIT
         } else {
-            HELD_LIMIT - self.held.len()
+            HELD_LIMIT - self.waiting().len()
         }
+    }
+
+    /// What came of its input and isn't executed yet.
+    fn waiting(&self) -> &[u8]
+        ensures { result.now ≡ self.now.held }
+    {
+        &self.held[self.executed..]
     }
 
     /// Joins as much of a piece as there is room for. An ending session drops it.
@@ -144,6 +154,8 @@ impl Session {
         if self.ending {
             return piece.len();
         }
+        drop_front(&mut self.held, self.executed);
+        self.executed = 0;
         let count = piece.len().min(HELD_LIMIT - self.held.len());
         self.held.extend_from_slice(&piece[..count]).unwrap();
         count
@@ -159,8 +171,9 @@ impl Session {
         if self.ending || !self.outbox.is_ready() {
             return None;
         }
-        let end = line_end(&self.held)?;
-        Some(&self.held[..end])
+        let waiting = self.waiting();
+        let end = line_end(waiting)?;
+        Some(&waiting[..end])
     }
 
     /// Takes the next line, joins its answer of one line to what is owed, and does what it changes
@@ -260,8 +273,8 @@ impl Session {
         ensures id { self.new.id ≡ self.old.id }
         ensures owed { self.new.owed ≡ self.old.owed }
     {
-        let end = line_end(&self.held).unwrap();
-        drop_front(&mut self.held, end + 1);
+        let end = line_end(self.waiting()).unwrap();
+        self.executed += end + 1;
     }
 
     /// A session that holds 1,024 bytes without an LF is told so, and begins to end.
@@ -275,8 +288,8 @@ impl Session {
     {
         if self.ending
             || !self.outbox.is_ready()
-            || self.held.len() < HELD_LIMIT
-            || line_end(&self.held).is_some()
+            || self.waiting().len() < HELD_LIMIT
+            || line_end(self.waiting()).is_some()
         {
             return false;
         }
@@ -290,6 +303,7 @@ impl Session {
         ensures { self.new ≡ begin_ending self.old }
     {
         self.held.clear();
+        self.executed = 0;
         self.login = None;
         self.ending = true;
     }
