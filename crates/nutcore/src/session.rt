@@ -2,8 +2,8 @@
 ghost use Rattle.std.specs.Prelude.{◌≡◌, ◌≤◌, ◌<◌, ◌-◌, ◌++◌, ℕ, List, length, drop, take, IfOk, OnOk, OnErr, MatchOption, true, false, Some, None, [], ◌∷◌, is_some, if◌then◌else◌};
 ghost use Rattle.nutcore.specs.Session.{new_session, begin_ending};
 ghost use Rattle.nutcore.specs.Lines.{first_line, behind};
-ghost use Rattle.nutcore.specs.Pump.{next_line, answered, is_overlong_of, notified};
-ghost use Rattle.nutcore.specs.Step.{accepted_bytes, accepted};
+ghost use Rattle.nutcore.specs.Pump.{next_line, answered, holds_overlong, with_notice};
+ghost use Rattle.nutcore.specs.Step.{joined, accepted, taken_from};
 ghost use Rattle.nutlisting.specs.Items.{text_of, client_listing};
 ghost use Rattle.nutlisting.specs.declared.listing.clients.TheConstants.{SESSION_LIMIT};
 ghost use Rattle.std.specs.Borrow.{sem};
@@ -134,10 +134,7 @@ impl Session {
     /// Joins as much of a piece as there is room for. An ending session drops it.
     pub(crate) fn join(&mut self, piece: &[u8]) -> usize
         ensures id { self.new.id ≡ self.old.id }
-        ensures joins { self.new ≡ record self.old {
-          held = self.old.held ++ accepted_bytes
-              (Some self.old) piece.now;
-        } }
+        ensures joins { self.new ≡ joined piece.now self.old }
         ensures short { length self.new.held ≤ HELD_LIMIT }
         ensures count { result ≡ accepted self.old piece.now }
     {
@@ -266,9 +263,8 @@ impl Session {
 
     /// A session that holds 1,024 bytes without an LF is told so, and begins to end.
     pub(crate) fn end_if_overlong(&mut self, scratch: &mut Scratch) -> bool
-        ensures overlong { result ≡ is_overlong_of (Some self.old) }
-        ensures ends { result ≡ true → self.new ≡ notified self.old }
-        ensures same { result ≡ false → self.new ≡ self.old }
+        ensures overlong { result ≡ holds_overlong self.old }
+        ensures noticed { self.new ≡ with_notice self.old }
         ensures id { self.new.id ≡ self.old.id }
         ensures keeps { KeepsCount self.old.owed scratch.old.renders
             self.new.owed scratch.new.renders }
@@ -338,7 +334,7 @@ impl Session {
         requires none { scratch.old.renders ≡ 0 }
         ensures short { length self.new.held ≤ HELD_LIMIT }
         ensures id { self.new.id ≡ self.old.id }
-        ensures takes { self.new ≡ record self.old { owed = drop n self.old.owed } }
+        ensures takes { self.new ≡ taken_from n self.old }
         ensures counted { IsCounted (length (take RING_LIMIT self.old.owed) - n)
             self.new.owed scratch.new.renders }
     {
