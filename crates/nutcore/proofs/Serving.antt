@@ -15,11 +15,12 @@ use Rattle.nutanswer.specs.declared.err_word.ErrWord.{ErrWord}
 use Rattle.nutanswer.specs.declared.reply.Reply.{Reply as Answer}
 use Rattle.nutanswer.specs.declared.reply.Reply.TheVariants.{One, Many, Clients}
 use Rattle.nutanswer.specs.declared.reply.Change.TheVariants.{Nothing}
+use Rattle.nutlisting.specs.Items.{text_of, client_listing}
 use Rattle.nutlisting.specs.declared.outbox.TheConstants.{OWED_LIMIT}
-use Rattle.nutcore.specs.Serving.{place, IsAt, IsAnswered, IsText, IsLineOrNone, Replies}
+use Rattle.nutcore.specs.Serving.{place, IsAt, IsText, IsLineOrNone, Replies, text_with, change_in, ListsClients}
 use Rattle.nutcore.proofs.Found.{find_id, put_found}
 use Rattle.nutcore.proofs.Changed.{by_change, change_is, session_put, notice_id}
-use Rattle.nutcore.proofs.Pumping.{after_line_is, is_next, change_at, session_after}
+use Rattle.nutcore.proofs.Pumping.{after_line_is, is_next, session_after, session_after_id, line_done}
 use Rattle.nutcore.proofs.Places.{at_put, apart_put, found_at, find_at, put_is, without_at}
 use Rattle.nutcore.proofs.Loops.{after_lines-suc, all_lines_are}
 
@@ -42,6 +43,17 @@ err_when (Err x) P e p = p
 -- the session that stands at the place, where a view of the server is known
 pub found_in : (c i : ℕ) (s t : ServerState) (x : SessionState) → s ≡ t → IsAt c i t.sessions → x ≡ get_or s.sessions i x → session c t ≡ Some x
 found_in c i s t x e h at = found_at c i t.sessions x h (at ∙ ap (λ (z : ServerState). get_or z.sessions i x) e)
+
+-- so stands the session at its place
+pub record StandsAt (s : ServerState) (c i : ℕ) (x : SessionState) : Type 0 where
+  pub at : IsAt c i s.sessions
+  pub found : session c s ≡ Some x
+
+pub stands : (c i : ℕ) (s t : ServerState) (x : SessionState) → s ≡ t → IsAt c i t.sessions → x ≡ get_or s.sessions i x → StandsAt s c i x
+stands c i s t x e h is = record {
+  at = subst (λ (z : ServerState). IsAt c i z.sessions) (sym e) h;
+  found = ap (session c) e ∙ found_in c i s t x e h is;
+}
 
 pub at_found : (c i : ℕ) (xs : List SessionState) → IsAt c i xs → find c xs ≡ Some (get_or xs (place c xs) (new_session 0 []))
 at_found c i xs h = let lt : place c xs < length xs = omega (arith, h.first, h.within) in find_at c xs (new_session 0 []) lt
@@ -85,33 +97,32 @@ pub none_there : {A : Type 0} (o : Option A) → is_some o ≡ false → o ≡ N
 none_there None h = refl
 none_there (Some a) h = cc h
 
--- what the code leaves is what the session's next line leaves of the sessions
-pub answered_is : (s : ServerState) (c i : ℕ) (text : List ℕ) (change : Change) (x y : SessionState) → IsAt c i s.sessions → session c s ≡ Some x → y.id ≡ x.id →
-    ((line : List ℕ) → next_line x ≡ Some line → y ≡ changed_session change (answered line text x)) →
-    let code : ServerState = record s { sessions = set s.sessions i y } in IsAnswered s c text change code
-answered_is s c i text change x y h e id gives = λ line z next found.
-    let same : x ≡ z = some_is x z (sym e ∙ found) in
-    set_is s c i y h (id ∙ find_id c s.sessions x e)
-    ∙ ap (with_session s) (gives line (next_of_found s c x line e next) ∙ ap (λ (w : SessionState). changed_session change (answered line text w)) same)
-  where
-    some_is : (x z : SessionState) → Some x ≡ Some z → x ≡ z
-    some_is x z k = cc k
+-- what an answer says, and what it changes
+answers_as : (s : ServerState) (c : ℕ) (line : List ℕ) (reply : Answer) (clients : List (List ℕ)) → Replies s c line reply → ListsClients s.sessions reply clients →
+    (text_to s c (read_command line) ≡ text_with clients reply) × (change_by s c (read_command line) ≡ change_in reply)
+answers_as s c line (One text change) clients told lists = (told.1, told.2)
+answers_as s c line (Many listing) clients told lists = (told.1, told.2)
+answers_as s c line (Clients name u) clients told lists = (told.1 ∙ ap (λ (addresses : List (List ℕ)). text_of (client_listing name addresses)) (sym lists), told.2)
 
--- with what it leaves of the UPSs, it is the server after the line
-done_by : (s u : ServerState) (c : ℕ) (line : List ℕ) → next_line_for s c ≡ Some line →
-    (let t : ServerState = record s { upses = changed_upses (change_at s c line) s.upses } in IsAnswered t c (reply s c line).text (change_at s c line) u) → u ≡ after_line s c
-done_by s u c line h answers =
-    let n = is_next s c line h in
-    answers line n.asking h n.found ∙ sym (after_line_is s c line n.asking n.found h)
+pub change_told : (s : ServerState) (c : ℕ) (line : List ℕ) (reply : Answer) → Replies s c line reply → change_by s c (read_command line) ≡ change_in reply
+change_told s c line (One text change) told = told.2
+change_told s c line (Many listing) told = told.2
+change_told s c line (Clients name u) told = told.2
 
-pub line_is : (s t u : ServerState) (c : ℕ) (line text : List ℕ) (change : Change) → next_line_for s c ≡ Some line → text_to s c (read_command line) ≡ text → change_by s c (read_command line) ≡ change →
-    (let code : ServerState = record s { upses = changed_upses change s.upses } in t ≡ code) → IsAnswered t c text change u → u ≡ after_line s c
-line_is s t u c line text change h et ec es answers =
-    let at : Change → ServerState = λ (z : Change). record s { upses = changed_upses z s.upses } in
-    done_by s u c line h
-    (subst (λ (z : Change). IsAnswered (at z) c (text_to s c (read_command line)) z u) (sym ec)
-    (subst (λ (z : List ℕ). IsAnswered (at change) c z change u) (sym et)
-    (subst (λ (z : ServerState). IsAnswered z c text change u) es answers)))
+-- the UPSs are changed, and the session in its place is answered: this is the server after the line
+pub line_is : (s v : ServerState) (c i : ℕ) (line : List ℕ) (reply : Answer) (clients : List (List ℕ)) (x y : SessionState) → next_line_for s c ≡ Some line → Replies s c line reply → ListsClients v.sessions reply clients →
+    (let t : ServerState = record s { upses = changed_upses (change_in reply) s.upses } in v ≡ t) → StandsAt v c i x → y ≡ changed_session (change_in reply) (answered line (text_with clients reply) x) →
+    let code : ServerState = record v { sessions = set v.sessions i y } in code ≡ after_line s c
+line_is s v c i line reply clients x y h told lists is stands gives =
+    let said = answers_as s c line reply clients told (subst (λ (z : ServerState). ListsClients z.sessions reply clients) is lists) in
+    let found : session c s ≡ Some x = ap (session c) (sym is) ∙ stands.found in
+    let own : SessionState = session_after s c line x in
+    let same : y ≡ own = gives ∙ ap (λ (z : List ℕ). changed_session (change_in reply) (answered line z x)) (sym said.0) ∙ ap (λ (z : Change). changed_session z (answered line (text_to s c (read_command line)) x)) (sym said.1) in
+    set_is v c i y stands.at (ap (λ (z : SessionState). z.id) same ∙ session_after_id s c line x found)
+    ∙ ap (with_session v) same
+    ∙ ap (λ (z : ServerState). with_session z own) is
+    ∙ ap (λ (z : Change). line_done s z own) (sym said.1)
+    ∙ sym (after_line_is s c line x found h)
 
 pub at_line : (s : ServerState) (c i : ℕ) (line : List ℕ) → IsAt c i s.sessions → next_line_for s c ≡ Some line → IsAt c i (after_line s c).sessions
 at_line s c i line h next =
