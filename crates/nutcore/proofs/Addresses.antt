@@ -10,15 +10,16 @@ use Rattle.nutcore.specs.declared.event.Event.TheVariants.{DriverUp, DriverBytes
 use Rattle.nutcore.specs.declared.event.Outcome.{Outcome}
 use Rattle.nutcore.specs.Session.{SessionState, find, put, without, new_session}
 use Rattle.nutcore.specs.Ups.{UpsState, after_tick}
-use Rattle.nutcore.specs.Server.{ServerState, session, with_session, changed_at}
+use Rattle.nutcore.specs.Server.{ServerState, session, with_session, with_session_changed, changed_at}
 use Rattle.nutcore.specs.Reply.{reply, changed_session, changed_upses}
-use Rattle.nutcore.specs.Pump.{answered, next_line_for, after_line, after_line_of, after_lines, after_all_lines, after_notice, after_notice_of, is_overlong_of, notified, pumped, held_of}
-use Rattle.nutcore.specs.Step.{accepted_bytes, with_input, with_input_of, without_output, without_output_of, may_take, may_open, opened, connected, disconnected, after_driver_took, ticked, pumped_until, after_by, refused_after}
+use Rattle.nutcore.specs.Pump.{answered, next_line_for, after_line, after_lines, after_all_lines, after_notice, with_notice, pumped, held_of}
+use Rattle.nutcore.specs.Step.{joined, with_input, taken_from, without_output, may_take, may_open, opened, connected, disconnected, after_driver_took, ticked, pumped_until, after_by, refused_after}
 use Rattle.nutcore.specs.Run.{Run}
 use Rattle.nutcore.specs.ReadsBack.{HasLawfulAddress}
 use Rattle.nutcore.specs.Addresses.{opened_from, ANewServerHasLawfulAddresses, EveryRunKeepsAddressesLawful, EveryRunKeepsTheList}
 use Rattle.nutcore.proofs.DriverText.{ups_after_bytes, bytes_change}
-use Rattle.nutcore.proofs.Pumping.{is_next, after_line_is, change_at, session_after}
+use Rattle.nutcore.proofs.Changed.{by_change, either_notice}
+use Rattle.nutcore.proofs.Pumping.{is_next, stopped_none, after_line_is, change_at, session_after}
 
 -- a change keeps a session's address
 changed_address : (change : Change) (x : SessionState) → (changed_session change x).address ≡ x.address
@@ -45,8 +46,7 @@ module _ (P : ServerState → Type 0) (Opens : List ℕ → Type 0) (kept : IsKe
   either false s t h k = k
 
   by_line_of : (s : ServerState) (c : ℕ) (o : Option (List ℕ)) → next_line_for s c ≡ o → P s → P (after_line s c)
-  unfolding after_line after_line_of
-  by_line_of s c None e h = subst P (sym (ap (after_line_of s c) e)) h
+  by_line_of s c None e h = subst P (sym (stopped_none s c e)) h
   by_line_of s c (Some line) e h =
       let n = is_next s c line e in
       let y : SessionState = session_after s c line n.asking in
@@ -58,27 +58,15 @@ module _ (P : ServerState → Type 0) (Opens : List ℕ → Type 0) (kept : IsKe
   by_lines zero c s h = h
   by_lines (suc k) c s h = by_lines k c (after_line s c) (by_line_of s c (next_line_for s c) refl h)
 
-  by_notice_of : (s : ServerState) (c : ℕ) (o : Option SessionState) → session c s ≡ o → P s → P (after_notice_of s o)
-  unfolding after_notice_of
-  by_notice_of s c None e h = h
-  by_notice_of s c (Some x) e h = either (is_overlong_of (Some x)) (with_session s (notified x)) s (kept.put_back s c x (notified x) e refl h) h
+  by_session : (f : SessionState → SessionState) → ((x : SessionState) → (f x).address ≡ x.address) → (s : ServerState) (c : ℕ) → P s → P (with_session_changed f c s)
+  by_session f keeps s c h = by_change P f c s (λ x e. kept.put_back s c x (f x) e (keeps x) h) (λ e. h)
 
   by_pump : (c : ℕ) (s : ServerState) (m : Option ℕ) → P s → P (pumped_until s c m)
   unfolding pumped_until pumped after_all_lines after_notice
   by_pump c s None h =
       let k : ℕ = length (held_of (session c s)) in
-      by_notice_of (after_lines k s c) c (session c (after_lines k s c)) refl (by_lines k c s h)
+      by_session with_notice (λ x. either_notice (λ y. y.address ≡ x.address) x refl refl) (after_lines k s c) c (by_lines k c s h)
   by_pump c s (Some k) h = by_lines k c s h
-
-  by_input_of : (s : ServerState) (c : ℕ) (o : Option SessionState) (piece : List ℕ) → session c s ≡ o → P s → P (with_input_of s o piece)
-  unfolding with_input_of
-  by_input_of s c None piece e h = h
-  by_input_of s c (Some x) piece e h = kept.put_back s c x (record x { held = x.held ++ accepted_bytes (Some x) piece }) e refl h
-
-  by_output_of : (s : ServerState) (c n : ℕ) (o : Option SessionState) → session c s ≡ o → P s → P (without_output_of s o n)
-  unfolding without_output_of
-  by_output_of s c n None e h = h
-  by_output_of s c n (Some x) e h = kept.put_back s c x (record x { owed = drop n x.owed }) e refl h
 
   by_opening : (s : ServerState) (address : List ℕ) (m : Option ℕ) → Opens address → P s → P (opened s address m)
   unfolding opened
@@ -98,8 +86,8 @@ module _ (P : ServerState → Type 0) (Opens : List ℕ → Type 0) (kept : IsKe
       let now : ℕ = max seconds s.moment in
       kept.changes (record s { moment = now }) (map (after_tick s.max_age now) s.upses) (kept.goes_on s now h)
   by_event s (Open address) m own h = by_opening s address m own h
-  by_event s (Feed c piece) m own h = by_pump c (with_input s c piece) m (by_input_of s c (session c s) piece refl h)
-  by_event s (Took c n) m own h = either (may_take (session c s) n) (pumped_until (without_output s c n) c m) s (by_pump c (without_output s c n) m (by_output_of s c n (session c s) refl h)) h
+  by_event s (Feed c piece) m own h = by_pump c (with_input s c piece) m (by_session (joined piece) (λ x. refl) s c h)
+  by_event s (Took c n) m own h = either (may_take (session c s) n) (pumped_until (without_output s c n) c m) s (by_pump c (without_output s c n) m (by_session (taken_from n) (λ x. refl) s c h)) h
   by_event s (Close c) m own h = kept.closes s c h
 
   by_run : (s t : ServerState) (es : List Event) (os : List Outcome) → Run s es os t → All OpensFrom es → P s → P t

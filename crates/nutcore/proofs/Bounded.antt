@@ -1,6 +1,7 @@
 -- How much one event makes a server do for its clients.
-use Rattle.std.proofs.Common.{◌≡◌, ℕ, zero, suc, ◌+◌, ◌-◌, ◌≤◌, Bool, true, false, List, [], ◌∷◌, ◌++◌, Option, Some, None, refl, ap, subst, cond, eqb, leb, not, ◌&&◌, arith, length, take, drop, length-append, length-take, length-drop}
-use Rattle.std.specs.Prelude.{is_none}
+use Rattle.std.proofs.Common.{◌≡◌, ℕ, zero, suc, ◌+◌, ◌-◌, ◌≤◌, Bool, true, false, List, [], ◌∷◌, ◌++◌, Option, Some, None, refl, ◌∙◌, ap, subst, cond, eqb, leb, not, ◌&&◌, arith, length, take, drop, length-append, length-take, length-drop}
+use Rattle.std.specs.Prelude.{is_none, option_map}
+use Rattle.std.specs.Option.{option_map_or}
 use Rattle.std.proofs.lemmas.Bool.{eqb-true, leb-true}
 use Rattle.nutlisting.specs.declared.outbox.TheConstants.{OWED_LIMIT}
 use Rattle.nutlisting.specs.declared.ring.TheConstants.{RING_LIMIT}
@@ -10,8 +11,8 @@ use Rattle.nutcore.specs.declared.event.Event.TheVariants.{DriverUp, DriverBytes
 use Rattle.nutcore.specs.Lines.{first_line}
 use Rattle.nutcore.specs.Session.{SessionState}
 use Rattle.nutcore.specs.Server.{ServerState, session}
-use Rattle.nutcore.specs.Pump.{next_line_for, after_line, after_lines, after_all_lines, held_of, owed_of, is_overlong_of}
-use Rattle.nutcore.specs.Step.{accepted_bytes, with_input, with_input_of, without_output, without_output_of, may_take, offered, refused_after}
+use Rattle.nutcore.specs.Pump.{next_line_for, after_line, after_lines, after_all_lines, held_of, owed_of, holds_overlong}
+use Rattle.nutcore.specs.Step.{accepted_bytes, joined, with_input, taken_from, without_output, may_take, offered, refused_after}
 use Rattle.nutcore.specs.History.{Execution, of_notice, next_execution, lines_executed, notice, pump_executions, executions_until, executions_by, held, taken_in_event, asked_in_event}
 use Rattle.nutlisting.proofs.PublicLaws.{lines_add_up}
 use Rattle.nutcore.specs.declared.cost.Cost.{Cost}
@@ -19,9 +20,9 @@ use Rattle.nutcore.specs.Cost.{no_cost, cost_between, cost_of}
 use Rattle.nutcore.specs.Sound.{IsSound, IsSoundSession}
 use Rattle.nutcore.specs.Bounded.{EachEventIsBounded}
 use Rattle.nutcore.proofs.Executions.{given_by, given_is}
-use Rattle.nutcore.proofs.Found.{find_id}
-use Rattle.nutcore.proofs.Loops.{stopped_none, line_shortens}
-use Rattle.nutcore.proofs.Serving.{session_put}
+use Rattle.nutcore.proofs.Changed.{session_changed}
+use Rattle.nutcore.proofs.Pumping.{stopped_none}
+use Rattle.nutcore.proofs.Loops.{line_shortens}
 use Rattle.nutcore.proofs.Sound.{each_found}
 
 -- each line that is executed takes a byte at least of what is held
@@ -45,20 +46,20 @@ long_by false false none n h = cc h
 long_by false true false n h = cc h
 long_by false true true n h = leb-true _ _ h
 
-pub overlong_holds : (x : SessionState) → is_overlong_of (Some x) ≡ true → HELD_LIMIT ≤ length x.held
+pub overlong_holds : (x : SessionState) → holds_overlong x ≡ true → HELD_LIMIT ≤ length x.held
 overlong_holds x h = long_by x.ending (leb (length x.owed) OWED_LIMIT) (is_none (first_line x.held)) (length x.held) h
 
 -- the notice comes where bytes are held
 notice_few : (s : ServerState) (c : ℕ) → length (notice s c) ≤ length (held_of (session c s))
 notice_few s c = few_of (session c s)
   where
-    few_by : (x : SessionState) (b : Bool) → is_overlong_of (Some x) ≡ b → length (cond b (of_notice c ∷ []) []) ≤ length x.held
+    few_by : (x : SessionState) (b : Bool) → holds_overlong x ≡ b → length (cond b (of_notice c ∷ []) []) ≤ length x.held
     few_by x true long = let full = overlong_holds x long in omega (arith, full)
     few_by x false short = omega arith
 
-    few_of : (o : Option SessionState) → length (cond (is_overlong_of o) (of_notice c ∷ []) []) ≤ length (held_of o)
+    few_of : (o : Option SessionState) → length (cond (option_map_or holds_overlong o false) (of_notice c ∷ []) []) ≤ length (held_of o)
     few_of None = omega arith
-    few_of (Some x) = few_by x (is_overlong_of (Some x)) refl
+    few_of (Some x) = few_by x (holds_overlong x) refl
 
 -- all that a pump executes
 until_few : (s : ServerState) (c : ℕ) (m : Option ℕ) → length (executions_until s c m) ≤ length (held_of (session c s))
@@ -71,27 +72,24 @@ until_few s c None =
 until_few s c (Some k) = let lines = lines_few k s c in omega (arith, lines)
 
 -- what is held where the pump begins
-input_held_of : (c : ℕ) (s : ServerState) (piece : List ℕ) (o : Option SessionState) → session c s ≡ o → length (held_of (session c (with_input_of s o piece))) ≤ length (held_of o) + length (accepted_bytes o piece)
-unfolding with_input_of
-input_held_of c s piece None e = let same : length (held_of (session c s)) ≡ 0 = ap (λ (o : Option SessionState). length (held_of o)) e in omega (arith, same)
-input_held_of c s piece (Some x) e =
-    let more : List ℕ = accepted_bytes (Some x) piece in
-    let y : SessionState = record x { held = x.held ++ more } in
-    let now = ap (λ (o : Option SessionState). length (held_of o)) (session_put s c x y e (find_id c s.sessions x e)) in
-    omega (arith, now, length-append x.held more)
-
 input_held : (c : ℕ) (s : ServerState) (piece : List ℕ) → length (held_of (session c (with_input s c piece))) ≤ length (held c s) + length (accepted_bytes (session c s) piece)
 unfolding with_input
-input_held c s piece = input_held_of c s piece (session c s) refl
-
-output_held_of : (c : ℕ) (s : ServerState) (n : ℕ) (o : Option SessionState) → session c s ≡ o → held_of (session c (without_output_of s o n)) ≡ held_of o
-unfolding without_output_of
-output_held_of c s n None e = ap held_of e
-output_held_of c s n (Some x) e = ap held_of (session_put s c x (record x { owed = drop n x.owed }) e (find_id c s.sessions x e))
+input_held c s piece =
+    let now = ap (λ (o : Option SessionState). length (held_of o)) (session_changed (joined piece) (λ x. refl) c s) in
+    let more = held_by (session c s) in
+    omega (arith, now, more)
+  where
+    held_by : (o : Option SessionState) → length (held_of (option_map (joined piece) o)) ≤ length (held_of o) + length (accepted_bytes o piece)
+    held_by None = omega arith
+    held_by (Some x) = omega (arith, length-append x.held (accepted_bytes (Some x) piece))
 
 pub output_held : (c : ℕ) (s : ServerState) (n : ℕ) → held_of (session c (without_output s c n)) ≡ held c s
 unfolding without_output
-output_held c s n = output_held_of c s n (session c s) refl
+output_held c s n = ap held_of (session_changed (taken_from n) (λ x. refl) c s) ∙ held_by (session c s)
+  where
+    held_by : (o : Option SessionState) → held_of (option_map (taken_from n) o) ≡ held_of o
+    held_by None = refl
+    held_by (Some x) = refl
 
 -- what the event of a client executes
 feed_few : (c : ℕ) (s : ServerState) (piece : List ℕ) (m : Option ℕ) → length (executions_until (with_input s c piece) c m) ≤ length (held c s) + length (accepted_bytes (session c s) piece)

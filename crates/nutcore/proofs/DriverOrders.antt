@@ -18,17 +18,19 @@ use Rattle.nutcore.specs.declared.event.Outcome.{Outcome}
 use Rattle.nutcore.specs.Lines.{whole_lines, unfinished_after, is_too_long}
 use Rattle.nutcore.specs.Session.{SessionState}
 use Rattle.nutcore.specs.Ups.{UpsState, after_loss, with_fsd, with_order, after_tick, ping_is_due, ping_line, after_outcome, after_text, after_texts, with_unfinished}
-use Rattle.nutcore.specs.Server.{ServerState, session, with_session, ups_at, changed_at, with_ups_changed}
+use Rattle.nutcore.specs.Server.{ServerState, session, with_session_changed, ups_at, changed_at, with_ups_changed}
 use Rattle.nutcore.specs.Reply.{changed_upses}
-use Rattle.nutcore.specs.Pump.{next_line_for, after_line, after_line_of, after_lines, after_all_lines, after_notice, after_notice_of, is_overlong, is_overlong_of, notified, pumped, held_of}
-use Rattle.nutcore.specs.Step.{with_input, with_input_of, without_output, without_output_of, may_take, may_open, opened, connected, disconnected, driver_may_take, after_driver_took, ticked, pumped_until, after_by, after, refused_after}
+use Rattle.nutcore.specs.Pump.{next_line_for, after_line, after_lines, after_all_lines, after_notice, is_overlong, with_notice, pumped, held_of}
+use Rattle.nutcore.specs.Step as step
+use Rattle.nutcore.specs.Step.{with_input, taken_from, without_output, may_take, may_open, opened, connected, disconnected, driver_may_take, after_driver_took, ticked, pumped_until, after_by, after, refused_after}
 use Rattle.nutcore.specs.Run.{Run}
 use Rattle.nutcore.specs.History.{of_notice, next_execution, lines_executed, notice, pump_executions, executions_until, executions_by}
 use Rattle.nutcore.specs.Headline.{IsBeginning}
 use Rattle.nutcore.specs.Sound.{IsSoundUps, IsSound, EachEventKeepsTheServerSound}
 use Rattle.nutcore.specs.DriverHistory.{has_driver}
 use Rattle.nutcore.specs.DriverOrders.{Telling, dump_all, ping, order, texts_of, told_by_change, told_by_line, told_beside_lines, told_in_event, owed_to_driver, taken_in_event, is_lost_by, Connections, last, lost, with_front, in_front, connections, IsSentAndOwed, WhatADriverWasSentAndIsOwedIsWhatItWasTold}
-use Rattle.nutcore.proofs.Pumping.{is_next, after_line_is, change_at}
+use Rattle.nutcore.proofs.Changed.{by_change}
+use Rattle.nutcore.proofs.Pumping.{is_next, stopped_none, after_line_is, change_at}
 use Rattle.nutcore.proofs.Isolation.{other_ups}
 use Rattle.nutcore.proofs.DriverSteps.{at_changed}
 use Rattle.nutcore.proofs.DriverText.{ups_after_text, ups_after_bytes, bytes_change}
@@ -89,8 +91,7 @@ changes_add u (changes.Order v line) xs x e = by_place (eqb v.place u.place) ref
     by_place false k = nothing_told u x (changed_at f v.place xs) (other_ups f v.place u.place xs (λ (d : u.place ≡ v.place). eqb-false v.place u.place k (sym d)) ∙ e)
 
 line_adds : (u : UpsId) (s : ServerState) (c : ℕ) (x : UpsState) (o : Option (List ℕ)) → next_line_for s c ≡ o → ups_at u.place s ≡ Some x → Adds u x (flat_map (told_by_line u) (next_execution s c o)) (after_line s c)
-unfolding after_line after_line_of
-line_adds u s c x None next e = subst (Adds u x []) (sym (ap (after_line_of s c) next)) (adds_none u x s e)
+line_adds u s c x None next e = subst (Adds u x []) (sym (stopped_none s c next)) (adds_none u x s e)
 line_adds u s c x (Some line) next e =
     let n = is_next s c line next in
     let a = changes_add u (change_at s c line) s.upses x e in
@@ -116,20 +117,8 @@ either_ups : (u : UpsId) (b : Bool) (s t : ServerState) (x : UpsState) → ups_a
 either_ups u true s t x e f = e
 either_ups u false s t x e f = f
 
-notice_keeps : (u : UpsId) (s : ServerState) (o : Option SessionState) (x : UpsState) → ups_at u.place s ≡ Some x → ups_at u.place (after_notice_of s o) ≡ Some x
-unfolding after_notice_of
-notice_keeps u s None x e = e
-notice_keeps u s (Some y) x e = either_ups u (is_overlong_of (Some y)) (with_session s (notified y)) s x e e
-
-input_keeps : (u : UpsId) (s : ServerState) (piece : List ℕ) (o : Option SessionState) (x : UpsState) → ups_at u.place s ≡ Some x → ups_at u.place (with_input_of s o piece) ≡ Some x
-unfolding with_input_of
-input_keeps u s piece None x e = e
-input_keeps u s piece (Some y) x e = e
-
-output_keeps : (u : UpsId) (s : ServerState) (n : ℕ) (o : Option SessionState) (x : UpsState) → ups_at u.place s ≡ Some x → ups_at u.place (without_output_of s o n) ≡ Some x
-unfolding without_output_of
-output_keeps u s n None x e = e
-output_keeps u s n (Some y) x e = e
+session_keeps : (u : UpsId) (f : SessionState → SessionState) (s : ServerState) (c : ℕ) (x : UpsState) → ups_at u.place s ≡ Some x → ups_at u.place (with_session_changed f c s) ≡ Some x
+session_keeps u f s c x e = by_change (λ t. ups_at u.place t ≡ Some x) f c s (λ y there. e) (λ absent. e)
 
 no_order : (u : UpsId) (b : Bool) (c : ℕ) → flat_map (told_by_line u) (cond b (of_notice c ∷ []) []) ≡ []
 no_order u true c = refl
@@ -143,7 +132,7 @@ pump_adds u s c None x e =
     let a = lines_add k u s c x e in
     let told : List Telling = flat_map (told_by_line u) (lines_executed k s c) in
     let is : flat_map (told_by_line u) (lines_executed k s c ++ notice t c) ≡ told = flat_both (told_by_line u) (lines_executed k s c) (notice t c) ∙ ap (λ (z : List Telling). told ++ z) (no_order u (is_overlong t c) c) ∙ append-nil told in
-    subst (λ (z : List Telling). Adds u x z (after_notice_of t (session c t))) (sym is) (record { left = a.left; there = notice_keeps u t (session c t) a.left a.there; owed = a.owed; same = a.same })
+    subst (λ (z : List Telling). Adds u x z (after_notice t c)) (sym is) (record { left = a.left; there = session_keeps u with_notice t c a.left a.there; owed = a.owed; same = a.same })
 pump_adds u s c (Some k) x e = lines_add k u s c x e
 
 -- one event, of one UPS: what was owed and told is what was taken and is owed, as long as its driver isn't lost
@@ -269,7 +258,7 @@ opened_keeps u s address (Some k) x e = e
 took_by_client : (u : UpsId) (s : ServerState) (c n : ℕ) (m : Option ℕ) (x : UpsState) (b : Bool) → ups_at u.place s ≡ Some x
     → Adds u x (flat_map (told_by_line u) (cond b (executions_until (without_output s c n) c m) [])) (cond b (pumped_until (without_output s c n) c m) s)
 unfolding without_output
-took_by_client u s c n m x true e = pump_adds u (without_output s c n) c m x (output_keeps u s n (session c s) x e)
+took_by_client u s c n m x true e = pump_adds u (without_output s c n) c m x (session_keeps u (taken_from n) s c x e)
 took_by_client u s c n m x false e = adds_none u x s e
 
 event_leaves : (u : UpsId) (s : ServerState) (e : Event) (m : Option ℕ) (x : UpsState) → ups_at u.place s ≡ Some x → (x.report.connected ≡ false → x.owed ≡ [])
@@ -284,7 +273,7 @@ event_leaves u s (DriverDown v) m x there nothing =
     of_driver u v s x disconnected (λ b. []) (λ b. []) (eqb v.place u.place) refl there refl refl (quiet x (disconnected x) (down_owed x x.report.connected refl))
 event_leaves u s (Tick seconds) m x there nothing = plain u x _ [] _ (tick_leaves u s seconds x there)
 event_leaves u s (Open address) m x there nothing = same_leaves u x (opened s address m) (opened_keeps u s address m x there)
-event_leaves u s (Feed c piece) m x there nothing = of_adds u x _ _ (pump_adds u (with_input s c piece) c m x (input_keeps u s piece (session c s) x there))
+event_leaves u s (Feed c piece) m x there nothing = of_adds u x _ _ (pump_adds u (with_input s c piece) c m x (session_keeps u (step.joined piece) s c x there))
 event_leaves u s (Took c n) m x there nothing = of_adds u x _ _ (took_by_client u s c n m x (may_take (session c s) n) there)
 event_leaves u s (Close c) m x there nothing = same_leaves u x _ there
 

@@ -1,7 +1,8 @@
 -- Each event of a driver, over plain states.
-use Rattle.std.proofs.Common.{◌≡◌, ℕ, zero, suc, ◌<◌, Bool, true, false, not, ◌&&◌, leb, List, [], ◌∷◌, Option, Some, None, Result, Ok, Err, refl, sym, ◌∙◌, ap, arith, length, max, map, take, drop, ◌++◌, set, get_or, inl, inr}
+use Rattle.std.proofs.Common.{◌≡◌, ℕ, zero, suc, ◌<◌, Bool, true, false, not, ◌&&◌, leb, List, [], ◌∷◌, Option, Some, None, Result, Ok, Err, refl, sym, ◌∙◌, ap, arith, length, max, map, take, drop, ◌++◌, set, get_or, inl, inr, cond}
 use Rattle.std.specs.Prelude.{slice_get}
 use Rattle.std.specs.Option.{option_map}
+use Rattle.std.specs.Option.{option_map_or}
 use Rattle.std.proofs.lemmas.Bool.{cond-true, cond-false, and_from, le-leb, lt-leb}
 use Rattle.std.proofs.lemmas.Option.{slice_get-get_or}
 use Rattle.nutusers.specs.declared.ups_list.UpsId.{UpsId}
@@ -12,7 +13,7 @@ use Rattle.nutcore.specs.declared.event.Fault.TheVariants.{NoSuchUps, NoSuchClie
 use Rattle.nutcore.specs.Ups.{UpsState, after_connecting, after_loss, after_tick}
 use Rattle.nutcore.specs.Leaf.{IsTaken}
 use Rattle.nutcore.specs.Server.{ServerState, ups_at, changed_at, with_ups_changed}
-use Rattle.nutcore.specs.Step.{Step, connected, disconnected, after_driver_text, after_driver_bytes_of, after_driver_bytes, after_driver_took, ticked, connected_by, disconnected_by, driver_took_by, driver_bytes_by, driver_may_lack_memory, outcome_of, after_by, MayLackMemory}
+use Rattle.nutcore.specs.Step.{Step, connected, disconnected, after_driver_text, after_driver_bytes, after_driver_took, ticked, connected_by, disconnected_by, driver_took_by, driver_bytes_by, driver_may_lack_memory, outcome_of, after_by, MayLackMemory, wants_driver_memory}
 use Rattle.nutcore.specs.Calls.{is_connected, done}
 use Rattle.nutcore.specs.Serving.{IsTold, DriverFeedGives, DriverTakes}
 
@@ -141,17 +142,17 @@ down_done s t u h e = record {
 
 -- bytes of a driver
 pub bytes_absent : (s : ServerState) (u : UpsId) (piece : List ℕ) → ups_at u.place s ≡ None → Step s (DriverBytes u piece) (Refused NoSuchUps) s
-unfolding outcome_of after_by after_driver_bytes after_driver_bytes_of
+unfolding outcome_of after_by after_driver_bytes
 bytes_absent s u piece none = record {
   allowed = inl (sym (ap (driver_bytes_by piece) none));
-  leaves = sym (ap (λ (o : Option UpsState). after_driver_bytes_of u piece None o s) none);
+  leaves = sym (ap (λ (o : Option UpsState). option_map_or (λ x. cond x.report.connected (after_driver_text u (x.unfinished ++ piece) None s) s) o s) none);
 }
 
 pub bytes_unconnected : (s : ServerState) (u : UpsId) (piece : List ℕ) → IsThere s u false → Step s (DriverBytes u piece) (Refused NotConnected) s
-unfolding outcome_of after_by after_driver_bytes after_driver_bytes_of
+unfolding outcome_of after_by after_driver_bytes
 bytes_unconnected s u piece h = record {
   allowed = inl (sym (ap (driver_bytes_by piece) h.there ∙ cond-false _ _ _ h.is));
-  leaves = sym (ap (λ (o : Option UpsState). after_driver_bytes_of u piece None o s) h.there ∙ cond-false _ _ _ h.is);
+  leaves = sym (ap (λ (o : Option UpsState). option_map_or (λ x. cond x.report.connected (after_driver_text u (x.unfinished ++ piece) None s) s) o s) h.there ∙ cond-false _ _ _ h.is);
 }
 
 pub connected_as : (s : ServerState) (u : UpsId) (x : UpsState) → IsThere s u true → ups_at u.place s ≡ Some x → x.report.connected ≡ true
@@ -159,8 +160,8 @@ connected_as s u x h there = let same : Some h.ups ≡ Some x = sym h.there ∙ 
 
 -- a piece is behind what was unfinished
 bytes_told : (s : ServerState) (u : UpsId) (piece : List ℕ) (m : Option ℕ) (x : UpsState) → ups_at u.place s ≡ Some x → x.report.connected ≡ true → after_driver_text u (x.unfinished ++ piece) m s ≡ after_driver_bytes u piece m s
-unfolding after_driver_bytes after_driver_bytes_of
-bytes_told s u piece m x there is = sym (ap (λ (o : Option UpsState). after_driver_bytes_of u piece m o s) there ∙ cond-true _ _ _ is)
+unfolding after_driver_bytes
+bytes_told s u piece m x there is = sym (ap (λ (o : Option UpsState). option_map_or (λ x. cond x.report.connected (after_driver_text u (x.unfinished ++ piece) m s) s) o s) there ∙ cond-true _ _ _ is)
 
 fed_by : (s t : ServerState) (u : UpsId) (piece : List ℕ) (x : UpsState) (r : Result (Unit {0}) Fault) → ups_at u.place s ≡ Some x → x.report.connected ≡ true → IsTold u (x.unfinished ++ piece) s r t → Step s (DriverBytes u piece) (done r) t
 unfolding outcome_of after_by MayLackMemory
@@ -173,7 +174,7 @@ fed_by s t u piece x (Err LineTooLong) there is (long, e) = record {
   leaves = e ∙ bytes_told s u piece None x there is;
 }
 fed_by s t u piece x (Err (Memory k)) there is (wants, e) = record {
-  allowed = inr (k, refl, (let may : driver_may_lack_memory u piece k (ups_at u.place s) s ≡ true = ap (λ (o : Option UpsState). driver_may_lack_memory u piece k o s) there ∙ and_from _ _ is wants in may));
+  allowed = inr (k, refl, (let may : driver_may_lack_memory u piece k s ≡ true = ap (λ (o : Option UpsState). option_map_or (λ x. x.report.connected && wants_driver_memory u (x.unfinished ++ piece) k s) o false) there ∙ and_from _ _ is wants in may));
   leaves = e ∙ bytes_told s u piece (Some k) x there is;
 }
 fed_by s t u piece x (Err NoSuchUps) there is never = absurd never

@@ -10,7 +10,7 @@ use Rattle.nutcore.specs.Lines.{whole_lines, unfinished_after}
 use Rattle.nutcore.specs.Ups.{UpsState, after_loss, after_text, after_texts, wants_memory_for}
 use Rattle.nutcore.specs.Leaf.{IsFed}
 use Rattle.nutcore.specs.Server.{ServerState, ups_at, changed_at, with_ups_changed}
-use Rattle.nutcore.specs.Step.{after_driver_line, after_driver_lines, with_rest, after_driver_text, after_driver_bytes_of, after_driver_bytes, wants_driver_memory}
+use Rattle.nutcore.specs.Step.{after_driver_line, after_driver_lines, with_rest, after_driver_text, after_driver_bytes, wants_driver_memory}
 use Rattle.nutcore.specs.Serving.{IsTold}
 use Rattle.nutcore.proofs.DriverSteps.{at_changed, server_none, server_same, server_agree}
 
@@ -52,7 +52,7 @@ text_changes u text (Some k) s =
     ap (with_ups_changed after_loss u) (lines_change u (take k (whole_lines text)) s) ∙ server_twice (after_texts s.moment (take k (whole_lines text))) after_loss u s
 
 pub bytes_change : (u : UpsId) (piece : List ℕ) (refused : Option ℕ) (s : ServerState) → after_driver_bytes u piece refused s ≡ with_ups_changed (ups_after_bytes s.moment piece refused) u s
-unfolding after_driver_bytes after_driver_bytes_of
+unfolding after_driver_bytes
 bytes_change u piece refused s = by_ups (ups_at u.place s) refl
   where
     f : UpsState → UpsState
@@ -63,7 +63,7 @@ bytes_change u piece refused s = by_ups (ups_at u.place s) refl
         text_changes u (x.unfinished ++ piece) refused s ∙ server_agree s u (ups_after_text s.moment (x.unfinished ++ piece) refused) f x there (sym (cond-true _ _ _ is))
     by_connection x there false is = server_same s u f x there (cond-false _ _ _ is)
 
-    by_ups : (o : Option UpsState) → ups_at u.place s ≡ o → after_driver_bytes_of u piece refused o s ≡ with_ups_changed f u s
+    by_ups : (o : Option UpsState) → ups_at u.place s ≡ o → option_map_or (λ x. cond x.report.connected (after_driver_text u (x.unfinished ++ piece) refused s) s) o s ≡ with_ups_changed f u s
     by_ups None there = server_none s u f there
     by_ups (Some x) there = by_connection x there x.report.connected refl
 

@@ -1,6 +1,7 @@
 -- Each event of a client, over plain states.
 use Rattle.std.proofs.Common.{◌≡◌, ℕ, ◌+◌, Bool, true, false, List, [], ◌∷◌, ◌++◌, Option, Some, None, Result, Ok, Err, refl, sym, ◌∙◌, ap, subst, length, set, drop, inl, inr}
-use Rattle.std.specs.Prelude.{IsTrue, is_none}
+use Rattle.std.specs.Prelude.{IsTrue, is_none, option_and_then}
+use Rattle.std.specs.Option.{option_map_or}
 use Rattle.std.proofs.lemmas.Bool.{cond-true, cond-false}
 use Rattle.nutcore.specs.declared.event.Event.{Event}
 use Rattle.nutcore.specs.declared.event.Event.TheVariants.{Open, Feed, Took, Close}
@@ -9,38 +10,36 @@ use Rattle.nutcore.specs.declared.event.Outcome.TheVariants.{Done, Fed, Opened, 
 use Rattle.nutcore.specs.declared.event.Fault.{Fault}
 use Rattle.nutcore.specs.declared.event.Fault.TheVariants.{NoSuchUps, NoSuchClient, TooManyClients, TookTooMuch, NotConnected, AlreadyConnected, LineTooLong, Memory}
 use Rattle.nutcore.specs.Session.{SessionState, without, new_session}
-use Rattle.nutcore.specs.Server.{ServerState, session, with_session}
-use Rattle.nutcore.specs.Pump.{next_line_of, pump_stops, held_of, after_all_lines, after_lines, pumped, after_notice, is_overlong, is_overlong_of, wants_memory}
-use Rattle.nutcore.specs.Step.{accepted_bytes, with_input, with_input_of, without_output, without_output_of, may_take, may_open, pumped_until, opened, after_by, fed_by, took_by, closed_by, outcome_of, MayLackMemory, Step}
+use Rattle.nutcore.specs.Server.{ServerState, session}
+use Rattle.nutcore.specs.Pump.{next_line, pump_stops, held_of, after_all_lines, after_lines, pumped, after_notice, is_overlong, holds_overlong, wants_memory}
+use Rattle.nutcore.specs.Step.{joined, with_input, taken_from, without_output, may_take, may_open, pumped_until, opened, after_by, fed_by, took_by, closed_by, outcome_of, MayLackMemory, Step}
 use Rattle.nutcore.specs.Calls.{done}
 use Rattle.nutcore.specs.Serving.{IsAt, PumpGives}
-use Rattle.nutcore.proofs.Found.{find_id}
+use Rattle.nutcore.proofs.Changed.{change_absent}
 use Rattle.nutcore.proofs.Places.{without_none}
 use Rattle.nutcore.proofs.Loops.{stopped_lines}
-use Rattle.nutcore.proofs.Serving.{set_is, no_notice}
+use Rattle.nutcore.proofs.Serving.{change_set, no_notice}
 
-pub with_input_is : (s : ServerState) (c i : ℕ) (piece : List ℕ) (x y : SessionState) → IsAt c i s.sessions → session c s ≡ Some x → y ≡ record x { held = x.held ++ accepted_bytes (Some x) piece } → (let code : ServerState = record s { sessions = set s.sessions i y } in code ≡ with_input s c piece)
-unfolding with_input with_input_of
-with_input_is s c i piece x y h e ey =
-    set_is s c i y h (ap (λ (z : SessionState). z.id) ey ∙ find_id c s.sessions x e) ∙ ap (with_session s) ey ∙ sym (ap (λ (o : Option SessionState). with_input_of s o piece) e)
+pub with_input_is : (s : ServerState) (c i : ℕ) (piece : List ℕ) (x y : SessionState) → IsAt c i s.sessions → session c s ≡ Some x → y ≡ joined piece x → (let code : ServerState = record s { sessions = set s.sessions i y } in code ≡ with_input s c piece)
+unfolding with_input
+with_input_is s c i piece x y h e ey = change_set (joined piece) s c i x y h e refl ey
 
-pub without_output_is : (s : ServerState) (c i n : ℕ) (x y : SessionState) → IsAt c i s.sessions → session c s ≡ Some x → y ≡ record x { owed = drop n x.owed } → (let code : ServerState = record s { sessions = set s.sessions i y } in code ≡ without_output s c n)
-unfolding without_output without_output_of
-without_output_is s c i n x y h e ey =
-    set_is s c i y h (ap (λ (z : SessionState). z.id) ey ∙ find_id c s.sessions x e) ∙ ap (with_session s) ey ∙ sym (ap (λ (o : Option SessionState). without_output_of s o n) e)
+pub without_output_is : (s : ServerState) (c i n : ℕ) (x y : SessionState) → IsAt c i s.sessions → session c s ≡ Some x → y ≡ taken_from n x → (let code : ServerState = record s { sessions = set s.sessions i y } in code ≡ without_output s c n)
+unfolding without_output
+without_output_is s c i n x y h e ey = change_set (taken_from n) s c i x y h e refl ey
 
 -- where the client isn't open, the pump does nothing
 pub pump_absent : (s : ServerState) (c : ℕ) → session c s ≡ None → s ≡ pumped s c
 unfolding pumped after_all_lines
 pump_absent s c e =
-    let none : is_overlong s c ≡ false = ap is_overlong_of e in
-    let stop : pump_stops s c ≡ true = ap (λ (o : Option SessionState). is_none (next_line_of o)) e in
+    let none : is_overlong s c ≡ false = ap (λ (o : Option SessionState). option_map_or holds_overlong o false) e in
+    let stop : pump_stops s c ≡ true = ap (λ (o : Option SessionState). is_none (option_and_then next_line o)) e in
     let lines = stopped_lines (length (held_of (session c s))) s c stop in
     sym (ap (λ (z : ServerState). after_notice z c) lines ∙ no_notice s c none)
 
 pub input_absent : (s : ServerState) (c : ℕ) (piece : List ℕ) → session c s ≡ None → with_input s c piece ≡ s
-unfolding with_input with_input_of
-input_absent s c piece e = ap (λ (o : Option SessionState). with_input_of s o piece) e
+unfolding with_input
+input_absent s c piece e = change_absent (joined piece) c s e
 
 -- a piece for no client
 pub feed_absent : (s : ServerState) (c : ℕ) (piece : List ℕ) → session c s ≡ None → Step s (Feed c piece) (Refused NoSuchClient) s

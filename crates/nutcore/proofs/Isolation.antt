@@ -1,6 +1,7 @@
 -- What an event doesn't touch.
 use Rattle.std.proofs.Common.{◌≡◌, ◌≢◌, ◌≤◌, ℕ, zero, suc, Bool, true, false, not, ◌&&◌, inl, inr, List, [], ◌∷◌, ◌++◌, Option, Some, None, refl, sym, ◌∙◌, ap, subst, cond, map, length, arith}
 use Rattle.std.specs.Prelude.{slice_get, nat_le}
+use Rattle.std.specs.Option.{option_map_or}
 use Rattle.std.proofs.lemmas.Bool.{cond-true, cond-false}
 use Rattle.nutusers.specs.declared.ups_list.UpsId.{UpsId}
 use Rattle.nutanswer.specs.declared.reply.Change.{Change}
@@ -15,29 +16,28 @@ use Rattle.nutcore.specs.Numbers.{number_of_fault}
 use Rattle.nutcore.specs.Session.{SessionState, without}
 use Rattle.nutcore.specs.Lines.{unfinished_after, is_too_long}
 use Rattle.nutcore.specs.Ups.{UpsState, with_fsd, with_order}
-use Rattle.nutcore.specs.Server.{ServerState, session, with_session, with_session_changed, with_session_changed_of, ups_at, changed_at, with_ups_changed}
+use Rattle.nutcore.specs.Server.{ServerState, session, with_session_changed, ups_at, changed_at, with_ups_changed}
 use Rattle.nutcore.specs.Reply.{Reply, reply, changed_session, changed_upses, changed, change_by}
 use Rattle.nutanswer.specs.Command.{read_command}
-use Rattle.nutcore.specs.Pump.{next_line_for, after_line, after_line_of, after_reply, after_reply_of, after_lines, after_all_lines, after_notice, after_notice_of, is_overlong, is_overlong_of, notified, pumped, held_of}
-use Rattle.nutcore.specs.Step.{with_input, with_input_of, without_output, without_output_of, may_take, may_open, opened, pumped_until, after_by, refused_after, outcome_of, connected, disconnected, after_driver_text, after_driver_bytes_of, after_driver_bytes, after_driver_took, connected_by, driver_bytes_by, driver_text_outcome, driver_took_by, disconnected_by, fed_by, took_by, closed_by, accepted}
+use Rattle.nutcore.specs.Pump.{next_line_for, answered, after_line, after_reply, after_lines, after_all_lines, after_notice, is_overlong, with_notice, pumped, held_of}
+use Rattle.nutcore.specs.Step.{joined, with_input, taken_from, without_output, may_take, may_open, opened, pumped_until, after_by, refused_after, outcome_of, connected, disconnected, after_driver_text, after_driver_bytes, after_driver_took, connected_by, driver_bytes_by, driver_text_outcome, driver_took_by, disconnected_by, fed_by, took_by, closed_by, accepted}
 use Rattle.nutcore.specs.Isolation.{client_of, ups_of, without_commands, kept_from_clients, LeavesOtherClients, LeavesOtherUpses, AClientTouchesNoOther, ADriverTouchesNoOther, ARefusedEventChangesNothing, ARefusedEventCostsNothing}
 use Rattle.nutcore.specs.Cost.{cost_of, no_cost}
+use Rattle.nutcore.proofs.Changed.{by_change}
 use Rattle.nutcore.proofs.Costs.{refused_feed_costs, refused_take_costs}
 use Rattle.nutcore.proofs.DriverText.{ups_after_bytes, bytes_change}
 use Rattle.nutcore.proofs.Progress.{Presence}
 use Rattle.nutcore.proofs.Found.{find_without_other}
 use Rattle.nutcore.proofs.Places.{without_none}
-use Rattle.nutcore.proofs.Stepping.{until_other, input_other_of, output_other_of}
+use Rattle.nutcore.proofs.Stepping.{until_other, input_other, output_other}
 use Rattle.nutcore.proofs.EventSteps.{pump_absent, input_absent}
 
 -- a client's event: the other sessions
 fed_other : (c d : ℕ) (s : ServerState) (piece : List ℕ) (m : Option ℕ) → d ≢ c → session d (pumped_until (with_input s c piece) c m) ≡ session d s
-unfolding with_input
-fed_other c d s piece m differ = ap (λ (p : Presence). p.session) (until_other d c (with_input s c piece) m differ ∙ input_other_of d c s piece (session c s) refl differ)
+fed_other c d s piece m differ = ap (λ (p : Presence). p.session) (until_other d c (with_input s c piece) m differ ∙ input_other d c s piece differ)
 
 took_other : (c d : ℕ) (s : ServerState) (n : ℕ) (m : Option ℕ) (b : Bool) → d ≢ c → session d (cond b (pumped_until (without_output s c n) c m) s) ≡ session d s
-unfolding without_output
-took_other c d s n m true differ = ap (λ (p : Presence). p.session) (until_other d c (without_output s c n) m differ ∙ output_other_of d c s n (session c s) refl differ)
+took_other c d s n m true differ = ap (λ (p : Presence). p.session) (until_other d c (without_output s c n) m differ ∙ output_other d c s n differ)
 took_other c d s n m false differ = refl
 
 -- what no command changes of the UPSs
@@ -59,55 +59,35 @@ kept_either : (b : Bool) (s t r : ServerState) → kept_from_clients s ≡ kept_
 kept_either true s t r h k = h
 kept_either false s t r h k = k
 
-kept_session_of : (f : SessionState → SessionState) (o : Option SessionState) (s : ServerState) → kept_from_clients (with_session_changed_of f o s) ≡ kept_from_clients s
-unfolding with_session_changed_of
-kept_session_of f None s = refl
-kept_session_of f (Some x) s = refl
+kept_session : (f : SessionState → SessionState) (c : ℕ) (s : ServerState) → kept_from_clients (with_session_changed f c s) ≡ kept_from_clients s
+kept_session f c s = by_change (λ t. kept_from_clients t ≡ kept_from_clients s) f c s (λ x e. refl) (λ e. refl)
 
 kept_changed : (change : Change) (c : ℕ) (s : ServerState) → kept_from_clients (changed change c s) ≡ kept_from_clients s
-unfolding with_session_changed
 kept_changed change c s =
     let t : ServerState = record s { upses = changed_upses change s.upses } in
-    kept_session_of (changed_session change) (session c t) t ∙ ap (λ (xs : List UpsState). let r : ServerState = record s { sessions = []; upses = xs } in r) (masked change s.upses)
+    kept_session (changed_session change) c t ∙ ap (λ (xs : List UpsState). let r : ServerState = record s { sessions = []; upses = xs } in r) (masked change s.upses)
 
-kept_reply_of : (r : Reply) (line : List ℕ) (o : Option SessionState) → kept_from_clients (after_reply_of r line o) ≡ kept_from_clients r.server
-unfolding after_reply_of
-kept_reply_of r line None = refl
-kept_reply_of r line (Some x) = refl
-
-kept_line_of : (s : ServerState) (c : ℕ) (o : Option (List ℕ)) → kept_from_clients (after_line_of s c o) ≡ kept_from_clients s
-unfolding after_line_of after_reply
-kept_line_of s c None = refl
-kept_line_of s c (Some line) =
-    let r : Reply = reply s c line in
-    kept_reply_of r line (session c r.server) ∙ kept_changed (change_by s c (read_command line)) c s
+kept_line : (s : ServerState) (c : ℕ) → kept_from_clients (after_line s c) ≡ kept_from_clients s
+unfolding after_line after_reply
+kept_line s c = by_line (next_line_for s c)
+  where
+    by_line : (o : Option (List ℕ)) → kept_from_clients (option_map_or (λ line. after_reply (reply s c line) c line) o s) ≡ kept_from_clients s
+    by_line None = refl
+    by_line (Some line) =
+        let r : Reply = reply s c line in
+        kept_session (answered line r.text) c r.server ∙ kept_changed (change_by s c (read_command line)) c s
 
 kept_lines : (k c : ℕ) (s : ServerState) → kept_from_clients (after_lines k s c) ≡ kept_from_clients s
-unfolding after_lines after_line
+unfolding after_lines
 kept_lines zero c s = refl
-kept_lines (suc k) c s = kept_lines k c (after_line s c) ∙ kept_line_of s c (next_line_for s c)
-
-kept_notice_of : (s : ServerState) (o : Option SessionState) → kept_from_clients (after_notice_of s o) ≡ kept_from_clients s
-unfolding after_notice_of
-kept_notice_of s None = refl
-kept_notice_of s (Some x) = kept_either (is_overlong_of (Some x)) (with_session s (notified x)) s s refl refl
+kept_lines (suc k) c s = kept_lines k c (after_line s c) ∙ kept_line s c
 
 kept_until : (c : ℕ) (s : ServerState) (m : Option ℕ) → kept_from_clients (pumped_until s c m) ≡ kept_from_clients s
 unfolding pumped_until pumped after_all_lines after_notice
 kept_until c s None =
     let k : ℕ = length (held_of (session c s)) in
-    kept_notice_of (after_lines k s c) (session c (after_lines k s c)) ∙ kept_lines k c s
+    kept_session with_notice c (after_lines k s c) ∙ kept_lines k c s
 kept_until c s (Some k) = kept_lines k c s
-
-kept_input_of : (s : ServerState) (o : Option SessionState) (piece : List ℕ) → kept_from_clients (with_input_of s o piece) ≡ kept_from_clients s
-unfolding with_input_of
-kept_input_of s None piece = refl
-kept_input_of s (Some x) piece = refl
-
-kept_output_of : (s : ServerState) (o : Option SessionState) (n : ℕ) → kept_from_clients (without_output_of s o n) ≡ kept_from_clients s
-unfolding without_output_of
-kept_output_of s None n = refl
-kept_output_of s (Some x) n = refl
 
 pub own : (s : ServerState) (e : Event) (m : Option ℕ) (c : ℕ) → client_of e ≡ Some c → LeavesOtherClients c s (after_by s e m)
 unfolding after_by with_input without_output
@@ -120,11 +100,11 @@ own s (Open address) m c h = cc
 own s (Feed d piece) m c h =
     let e : d ≡ c = cc in
     subst (λ (z : ℕ). LeavesOtherClients z s (pumped_until (with_input s d piece) d m)) e
-    (record { sessions = λ b differ. fed_other d b s piece m differ; server = kept_until d (with_input s d piece) m ∙ kept_input_of s (session d s) piece })
+    (record { sessions = λ b differ. fed_other d b s piece m differ; server = kept_until d (with_input s d piece) m ∙ kept_session (joined piece) d s })
 own s (Took d n) m c h =
     let e : d ≡ c = cc in
     subst (λ (z : ℕ). LeavesOtherClients z s (cond (may_take (session d s) n) (pumped_until (without_output s d n) d m) s)) e
-    (record { sessions = λ b differ. took_other d b s n m (may_take (session d s) n) differ; server = kept_either (may_take (session d s) n) (pumped_until (without_output s d n) d m) s s (kept_until d (without_output s d n) m ∙ kept_output_of s (session d s) n) refl })
+    (record { sessions = λ b differ. took_other d b s n m (may_take (session d s) n) differ; server = kept_either (may_take (session d s) n) (pumped_until (without_output s d n) d m) s s (kept_until d (without_output s d n) m ∙ kept_session (taken_from n) d s) refl })
 own s (Close d) m c h =
     let e : d ≡ c = cc in
     subst (λ (z : ℕ). let t : ServerState = record s { sessions = without d s.sessions } in LeavesOtherClients z s t) e
@@ -213,8 +193,7 @@ bytes_by : (s : ServerState) (u : UpsId) (text : List ℕ) (b : Bool) → refusa
 bytes_by s u text true h = absurd (pump_by (is_too_long (unfinished_after text)) h)
 bytes_by s u text false h = refl
 
-bytes_of : (s : ServerState) (u : UpsId) (piece : List ℕ) (o : Option UpsState) → refusal (driver_bytes_by piece o) ≤ 6 → after_driver_bytes_of u piece None o s ≡ s
-unfolding after_driver_bytes_of
+bytes_of : (s : ServerState) (u : UpsId) (piece : List ℕ) (o : Option UpsState) → refusal (driver_bytes_by piece o) ≤ 6 → option_map_or (λ x. cond x.report.connected (after_driver_text u (x.unfinished ++ piece) None s) s) o s ≡ s
 bytes_of s u piece None h = refl
 bytes_of s u piece (Some x) h = bytes_by s u (x.unfinished ++ piece) x.report.connected h
 

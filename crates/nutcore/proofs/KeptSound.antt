@@ -13,15 +13,15 @@ use Rattle.nutcore.specs.Session.{SessionState}
 use Rattle.nutcore.specs.Ups.{UpsState, after_texts}
 use Rattle.nutcore.specs.Server.{ServerState, session, ups_at}
 use Rattle.nutcore.specs.Reply.{changed_session, changed_upses}
-use Rattle.nutcore.specs.Pump.{next_line, answered, notified}
-use Rattle.nutcore.specs.Step.{accepted_bytes}
+use Rattle.nutcore.specs.Pump.{next_line, answered, with_notice}
+use Rattle.nutcore.specs.Step.{joined, taken_from}
 use Rattle.nutcore.specs.Leaf.{IsFed, IsTaken}
 use Rattle.nutcore.specs.Serving.{IsAt, OrderFits}
 use Rattle.nutcore.specs.Sound.{Each, IsSoundSession, IsSoundUps, IsSound}
 use Rattle.nutcore.proofs.Found.{find_id}
 use Rattle.nutcore.proofs.Serving.{set_is}
 use Rattle.nutcore.proofs.SoundUps.{each_get, sound_changes, length-changes, sound_fewer, sound_connected_text, sound_loss}
-use Rattle.nutcore.proofs.Sound.{each_found, sound_with, sound_answered, sound_input}
+use Rattle.nutcore.proofs.Sound.{each_found, sound_with, sound_answered, sound_notice, sound_input, sound_output}
 
 -- lists
 each_set : {A : Type 0} (P : A → Type 0) (y : A) → P y → (i : ℕ) (xs : List A) → Each P xs → Each P (set xs i y)
@@ -49,17 +49,16 @@ answered_kept change text x y going is h = by_line (next_line x) refl going
     by_line (Some line) e some = subst IsSoundSession (sym (is line e)) (sound_answered change line text x (going_of x.ending (nat_lt OWED_LIMIT (length x.owed)) (first_line x.held) line e) h)
 
 -- it is told that its line is too long, or stays
-pub noticed_kept : (x y : SessionState) (b : Bool) → (b ≡ true → y ≡ notified x) → (b ≡ false → y ≡ x) → IsSoundSession x → IsSoundSession y
-noticed_kept x y true ends same h = subst IsSoundSession (sym (ends refl)) (record { held = omega arith; ending = λ k. (refl, refl) })
-noticed_kept x y false ends same h = subst IsSoundSession (sym (same refl)) h
+pub noticed_kept : (x y : SessionState) → y ≡ with_notice x → IsSoundSession x → IsSoundSession y
+noticed_kept x y e h = subst IsSoundSession (sym e) (sound_notice x h)
 
 -- bytes join what it holds
-pub joined_kept : (piece : List ℕ) (x y : SessionState) → y ≡ record x { held = x.held ++ accepted_bytes (Some x) piece } → IsSoundSession x → IsSoundSession y
+pub joined_kept : (piece : List ℕ) (x y : SessionState) → y ≡ joined piece x → IsSoundSession x → IsSoundSession y
 joined_kept piece x y e h = subst IsSoundSession (sym e) (sound_input piece x h)
 
 -- bytes are taken from what it owes
-pub taken_kept : (n : ℕ) (x y : SessionState) → y ≡ record x { owed = drop n x.owed } → IsSoundSession x → IsSoundSession y
-taken_kept n x y e h = subst IsSoundSession (sym e) (record { held = h.held; ending = h.ending })
+pub taken_kept : (n : ℕ) (x y : SessionState) → y ≡ taken_from n x → IsSoundSession x → IsSoundSession y
+taken_kept n x y e h = subst IsSoundSession (sym e) (sound_output n x h)
 
 -- a UPS in place of the one that stands there
 pub ups_kept : (v : ServerState) (u : UpsId) (x y : UpsState) → ups_at u.place v ≡ Some x → (IsSoundUps v.moment x → IsSoundUps v.moment y) → IsSound v →

@@ -1,6 +1,6 @@
 -- The pump executes the least number of lines after which it stops.
 use Rattle.std.proofs.Common.{◌≡◌, ℕ, zero, suc, ◌<◌, ◌≤◌, Bool, true, false, List, [], ◌∷◌, Option, Some, None, refl, sym, ◌∙◌, ap, subst, cond, arith, length, inl, inr, ltb, ◌||◌, ◌++◌}
-use Rattle.std.specs.Prelude.{is_none}
+use Rattle.std.specs.Prelude.{is_none, option_and_then}
 use Rattle.nutcore.specs.Lines.{first_line}
 use Rattle.nutcore.specs.Session.{SessionState, find, put}
 use Rattle.nutcore.specs.Server.{ServerState, session}
@@ -9,7 +9,7 @@ use Rattle.nutcore.specs.declared.event.Event.TheVariants.{Feed, Took}
 use Rattle.nutcore.specs.declared.event.Outcome.TheVariants.{Done, Fed, Refused}
 use Rattle.nutcore.specs.declared.event.Fault.TheVariants.{TookTooMuch, LineTooLong, Memory}
 use Rattle.nutcore.specs.Step.{Step, with_input, without_output, may_take, fed_by, took_by, outcome_of, after_by, pumped_until}
-use Rattle.nutcore.specs.Pump.{next_line_of, next_line_for, after_line, after_lines, pump_stops, held_of, pumped, after_notice, after_all_lines, is_overlong, answered, owed_of}
+use Rattle.nutcore.specs.Pump.{next_line, next_line_for, after_line, after_lines, pump_stops, held_of, pumped, after_notice, after_all_lines, is_overlong, answered, owed_of}
 use Rattle.nutcore.specs.Headline.{IsLeast, NothingIsLeftToExecute, OneAnswerAtMostIsOwedAbove}
 use Rattle.nutcore.specs.Reply.{reply}
 use Rattle.nutlisting.specs.declared.outbox.TheConstants.{OWED_LIMIT}
@@ -35,7 +35,7 @@ empty : (bytes : List ℕ) → length bytes ≤ 0 → bytes ≡ []
 empty [] le = refl
 empty (b ∷ bytes) le = absurd (omega arith)
 
-empty_stops : (o : Option SessionState) → length (held_of o) ≤ 0 → is_none (next_line_of o) ≡ true
+empty_stops : (o : Option SessionState) → length (held_of o) ≤ 0 → is_none (option_and_then next_line o) ≡ true
 empty_stops None le = refl
 empty_stops (Some x) le = none_by _ x.held (empty x.held le)
 
@@ -124,7 +124,7 @@ little_by owed false bytes line h = by_length (ltb OWED_LIMIT (length owed)) ref
     by_length true e k = cc k
     by_length false e k = grind (arith, nat_tests)
 
-little_of : (o : Option SessionState) (line : List ℕ) → next_line_of o ≡ Some line → length (owed_of o) ≤ OWED_LIMIT
+little_of : (o : Option SessionState) (line : List ℕ) → option_and_then next_line o ≡ Some line → length (owed_of o) ≤ OWED_LIMIT
 little_of None line h = cc h
 little_of (Some x) line h = little_by x.owed x.ending x.held line h
 

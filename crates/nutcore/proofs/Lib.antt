@@ -1,6 +1,7 @@
 mod FirstLine
 mod Found
 mod Progress
+mod Changed
 mod Pumping
 mod Stepping
 mod Loops

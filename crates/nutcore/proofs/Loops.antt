@@ -6,10 +6,10 @@ use Rattle.nutcore.specs.Server.{ServerState, session}
 use Rattle.nutanswer.specs.declared.reply.Change.{Change}
 use Rattle.nutanswer.specs.declared.reply.Change.TheVariants.{Nothing, Username, Password, Login, Ending, Fsd, Order}
 use Rattle.nutcore.specs.Reply.{reply, changed_session}
-use Rattle.nutcore.specs.Pump.{next_line_for, answered, after_line, after_line_of, after_lines, pump_stops, held_of, after_all_lines}
+use Rattle.nutcore.specs.Pump.{next_line_for, answered, after_line, after_lines, pump_stops, held_of, after_all_lines}
 use Rattle.nutcore.proofs.FirstLine.{behind_shorter}
 use Rattle.nutcore.proofs.Found.{find_put}
-use Rattle.nutcore.proofs.Pumping.{is_next, after_line_is, change_at, session_after, session_after_id}
+use Rattle.nutcore.proofs.Pumping.{is_next, stopped_none, after_line_is, change_at, session_after, session_after_id}
 
 -- the lines done, and one more
 pub after_lines-suc : (k : ℕ) (s : ServerState) (c : ℕ) → after_lines (k + 1) s c ≡ after_line (after_lines k s c) c
@@ -18,10 +18,6 @@ after_lines-suc zero s c = refl
 after_lines-suc (suc k) s c = let e : suc k + 1 ≡ suc (k + 1) = omega arith in ap (λ n. after_lines n s c) e ∙ after_lines-suc k (after_line s c) c
 
 -- where the pump stops, nothing happens
-pub stopped_none : (s : ServerState) (c : ℕ) → next_line_for s c ≡ None → after_line s c ≡ s
-unfolding after_line after_line_of
-stopped_none s c h = ap (after_line_of s c) h
-
 none_of : (o : Option (List ℕ)) → is_none o ≡ true → o ≡ None
 none_of None h = refl
 none_of (Some line) h = cc

@@ -4,11 +4,12 @@ use Rattle.nutcore.specs.declared.event.Event.{Event}
 use Rattle.nutcore.specs.declared.event.Event.TheVariants.{DriverUp, DriverBytes, DriverTook, DriverDown, Tick, Open, Feed, Took, Close}
 use Rattle.nutcore.specs.declared.event.Outcome.{Outcome}
 use Rattle.nutcore.specs.Server.{ServerState, session}
-use Rattle.nutcore.specs.Pump.{next_line_for, after_line, after_line_of, after_lines, after_all_lines, after_notice, is_overlong, pumped, held_of}
+use Rattle.nutcore.specs.Pump.{next_line_for, after_line, after_lines, after_all_lines, after_notice, is_overlong, pumped, held_of}
 use Rattle.nutcore.specs.Step.{after, after_by, refused_after, may_take, with_input, without_output, pumped_until}
 use Rattle.nutcore.specs.Run.{Run}
 use Rattle.nutcore.specs.History.{Execution, of_line, of_notice, next_execution, lines_executed, notice, pump_executions, executions_until, executions_by, executions_in_event, executions}
 use Rattle.nutcore.specs.ByRight.{IsAmong}
+use Rattle.nutcore.proofs.Pumping.{stopped_none}
 
 -- an event that executes no line
 abbrev pub IsPlain : Event → Type 0
@@ -110,8 +111,7 @@ module _ (mark : ServerState → Bool) (P : Execution → Type 0) (h : IsSetByLi
       by_mark before told now false e = last_one P before (of_line s c line ∷ []) (of_line s c line, ([], [], refl), h.by_line s c line next e now)
 
   next_leads : (s : ServerState) (c : ℕ) (o : Option (List ℕ)) → next_line_for s c ≡ o → Leads s (next_execution s c o) (after_line s c)
-  unfolding after_line after_line_of
-  next_leads s c None e = quiet s (after_line s c) (λ k. ap (λ (o : Option (List ℕ)). mark (after_line_of s c o)) e ∙ k)
+  next_leads s c None e = quiet s (after_line s c) (λ k. ap mark (stopped_none s c e) ∙ k)
   next_leads s c (Some line) e = line_leads s c line e
 
   lines_lead : (k : ℕ) (s : ServerState) (c : ℕ) → Leads s (lines_executed k s c) (after_lines k s c)

@@ -1,10 +1,10 @@
 -- What one client's part of a run says, and how two runs join.
 use Rattle.std.proofs.Common.{◌≡◌, ℕ, Bool, true, false, List, [], ◌++◌, Option, Some, None, refl, sym, ◌∙◌, ap, append_assoc, append-nil, ltb}
 use Rattle.std.specs.Prelude.{is_some}
+use Rattle.std.specs.Option.{option_map_or}
 use Rattle.nutcore.specs.Session.{SessionState}
 use Rattle.nutcore.specs.Server.{ServerState, session}
 use Rattle.nutcore.specs.Pump.{owed_of, held_of}
-use Rattle.nutcore.specs.History.{is_closed_of, is_over_of}
 use Rattle.nutcore.specs.Headline.{IsBeginning}
 
 -- a client as its history needs it: its session, and whether its id was handed out
@@ -16,10 +16,10 @@ abbrev pub presence : ℕ → ServerState → Presence
 presence c s = record { session = session c s; used = ltb c s.next_id }
 
 abbrev pub is_closed : Presence → Bool
-is_closed p = is_closed_of p.session p.used
+is_closed p = option_map_or (λ x. false) p.session p.used
 
 abbrev pub is_over : Presence → Bool
-is_over p = is_over_of p.session p.used
+is_over p = option_map_or (λ x. x.ending) p.session p.used
 
 -- a session that is open has an id that was handed out
 abbrev pub IsKept : Presence → Type 0

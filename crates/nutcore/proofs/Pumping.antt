@@ -1,5 +1,7 @@
 -- What the pump does to each client's presence.
 use Rattle.std.proofs.Common.{◌≡◌, ◌≢◌, ℕ, zero, suc, ◌+◌, Bool, true, false, List, [], ◌∷◌, ◌++◌, Option, Some, None, refl, sym, ◌∙◌, ap, subst, cond, ltb, length, append-nil}
+use Rattle.std.specs.Prelude.{option_map, option_and_then}
+use Rattle.std.specs.Option.{option_map_or}
 use Rattle.std.proofs.Math.Seq.{drop-nil}
 use Rattle.std.proofs.lemmas.Bool.{or_left}
 use Rattle.std.proofs.lemmas.Grind.{flat_map-append}
@@ -7,14 +9,15 @@ use Rattle.nutanswer.specs.declared.reply.Change.{Change}
 use Rattle.nutanswer.specs.declared.reply.Change.TheVariants.{Nothing, Username, Password, Login, Ending, Fsd, Order}
 use Rattle.nutcore.specs.Lines.{first_line, behind, with_lf}
 use Rattle.nutcore.specs.Session.{SessionState, find, put}
-use Rattle.nutcore.specs.Server.{ServerState, session, with_session, with_session_changed, with_session_changed_of}
+use Rattle.nutcore.specs.Server.{ServerState, session, with_session, with_session_changed}
 use Rattle.nutanswer.specs.Command.{read_command}
-use Rattle.nutcore.specs.Reply.{Reply, reply, change_by, changed, changed_session, changed_upses, too_long_notice}
-use Rattle.nutcore.specs.Pump.{next_line_of, next_line_for, answered, after_reply, after_reply_of, after_line, after_line_of, after_lines, held_of, after_notice, after_notice_of, is_overlong_of, notified, after_all_lines, pumped}
+use Rattle.nutcore.specs.Reply.{reply, change_by, changed, changed_session, changed_upses, too_long_notice}
+use Rattle.nutcore.specs.Pump.{next_line, next_line_for, answered, after_reply, after_line, after_lines, held_of, after_notice, holds_overlong, notified, with_notice, after_all_lines, pumped}
 use Rattle.nutcore.specs.History.{of_notice, next_execution, lines_executed, notice, pump_executions, texts_of, lines_of, text_of, line_of}
 use Rattle.nutcore.proofs.FirstLine.{first_line_splits}
 use Rattle.nutcore.proofs.Progress.{Presence, presence, Progress, joins, stays, moves}
 use Rattle.nutcore.proofs.Found.{find_id, find_put, find_put_other, put_put}
+use Rattle.nutcore.proofs.Changed.{at_client, change_is, presence_changed, presence_other, notice_id}
 
 -- along equal presences
 pub progress_at : (p p' q q' : Presence) (a t k l : List ℕ) → p ≡ p' → q ≡ q' → Progress p' a t k l q' → Progress p a t k l q
@@ -68,10 +71,7 @@ abbrev pub line_done : ServerState → Change → SessionState → ServerState
 line_done s change y = record s { sessions = put y s.sessions; upses = changed_upses change s.upses }
 
 pub changed_is : (change : Change) (c : ℕ) (s : ServerState) (x : SessionState) → session c s ≡ Some x → changed change c s ≡ line_done s change (changed_session change x)
-unfolding with_session_changed with_session_changed_of
-changed_is change c s x found =
-    let t : ServerState = record s { upses = changed_upses change s.upses } in
-    ap (λ (o : Option SessionState). with_session_changed_of (changed_session change) o t) found
+changed_is change c s x found = change_is (changed_session change) c (record s { upses = changed_upses change s.upses }) x found
 
 -- the presence of a client whose session was put
 pub presence_put : (c : ℕ) (s : ServerState) (x y : SessionState) → y.id ≡ c → session c s ≡ Some x → presence c (with_session s y) ≡ record { session = Some y; used = ltb c s.next_id }
@@ -97,12 +97,17 @@ next_by s c line x false found over h = record { asking = x; found = found; goin
     not_ending true e = let k : false ≡ true = over e in cc k
     not_ending false e = e
 
-next_of : (s : ServerState) (c : ℕ) (line : List ℕ) (o : Option SessionState) → session c s ≡ o → next_line_of o ≡ Some line → IsNext s c line
+next_of : (s : ServerState) (c : ℕ) (line : List ℕ) (o : Option SessionState) → session c s ≡ o → option_and_then next_line o ≡ Some line → IsNext s c line
 next_of s c line None found h = cc
 next_of s c line (Some x) found h = next_by s c line x _ found (λ e. or_left x.ending _ e) h
 
 pub is_next : (s : ServerState) (c : ℕ) (line : List ℕ) → next_line_for s c ≡ Some line → IsNext s c line
 is_next s c line h = next_of s c line (session c s) refl h
+
+-- where there is no next line, nothing happens
+pub stopped_none : (s : ServerState) (c : ℕ) → next_line_for s c ≡ None → after_line s c ≡ s
+unfolding after_line
+stopped_none s c h = ap (λ (o : Option (List ℕ)). option_map_or (λ line. after_reply (reply s c line) c line) o s) h
 
 -- what the client's next line changes
 abbrev pub change_at : ServerState → ℕ → List ℕ → Change
@@ -117,7 +122,7 @@ session_after_id s c line x found = changed_id (change_at s c line) (answered li
 
 -- what the next line leaves: its answer is joined, it is taken, and what it changes is changed
 pub after_line_is : (s : ServerState) (c : ℕ) (line : List ℕ) (x : SessionState) → session c s ≡ Some x → next_line_for s c ≡ Some line → after_line s c ≡ line_done s (change_at s c line) (session_after s c line x)
-unfolding after_line after_line_of after_reply after_reply_of
+unfolding after_line after_reply
 after_line_is s c line x found h =
     let change : Change = change_at s c line in
     let text : List ℕ = (reply s c line).text in
@@ -125,10 +130,9 @@ after_line_is s c line x found h =
     let t : ServerState = line_done s change y in
     let id : y.id ≡ c = changed_id change x ∙ find_id c s.sessions x found in
     let there : session c t ≡ Some y = ap (λ d. find d (put y s.sessions)) (sym id) ∙ find_put y s.sessions x (ap (λ d. find d s.sessions) id ∙ found) in
-    let is : changed change c s ≡ t = changed_is change c s x found in
-    ap (after_line_of s c) h
-    ∙ ap (λ (z : ServerState). let r : Reply = record { text = text; server = z } in after_reply_of r line (session c z)) is
-    ∙ ap (λ (o : Option SessionState). let r : Reply = record { text = text; server = t } in after_reply_of r line o) there
+    ap (λ (o : Option (List ℕ)). option_map_or (λ line. after_reply (reply s c line) c line) o s) h
+    ∙ ap (with_session_changed (answered line text) c) (changed_is change c s x found)
+    ∙ change_is (answered line text) c t y there
     ∙ ap (λ (xs : List SessionState). let z : ServerState = record t { sessions = xs } in z) (put_put y (answered line text y) s.sessions refl)
     ∙ ap (λ (z : SessionState). line_done s change z) (changed_answered change line text x)
 
@@ -145,9 +149,8 @@ line_moves x u line text change going first =
 
 line_goes_by : (c : ℕ) (s : ServerState) (o : Option (List ℕ)) → next_line_for s c ≡ o →
     Progress (presence c s) (texts_of (next_execution s c o)) [] [] (lines_of (next_execution s c o)) (presence c (after_line s c))
-unfolding after_line after_line_of
 line_goes_by c s None h =
-    progress_at (presence c s) (presence c s) (presence c (after_line s c)) (presence c s) [] [] [] [] refl (ap (λ (o : Option (List ℕ)). presence c (after_line_of s c o)) h) (stays (presence c s))
+    progress_at (presence c s) (presence c s) (presence c (after_line s c)) (presence c s) [] [] [] [] refl (ap (presence c) (stopped_none s c h)) (stays (presence c s))
 line_goes_by c s (Some line) h =
     let n = is_next s c line h in
     let x : SessionState = n.asking in
@@ -166,8 +169,7 @@ line_goes : (c : ℕ) (s : ServerState) → Progress (presence c s) (texts_of (n
 line_goes c s = line_goes_by c s (next_line_for s c) refl
 
 line_other_by : (c d : ℕ) (s : ServerState) (o : Option (List ℕ)) → next_line_for s d ≡ o → c ≢ d → presence c (after_line s d) ≡ presence c s
-unfolding after_line after_line_of
-line_other_by c d s None h differ = ap (λ (o : Option (List ℕ)). presence c (after_line_of s d o)) h
+line_other_by c d s None h differ = ap (presence c) (stopped_none s d h)
 line_other_by c d s (Some line) h differ =
     let n = is_next s d line h in
     let y : SessionState = session_after s d line n.asking in
@@ -195,39 +197,27 @@ lines_other zero c d s differ = refl
 lines_other (suc k) c d s differ = lines_other k c d (after_line s d) differ ∙ line_other c d s differ
 
 -- the notice to a session whose line is too long
-notice_by : (c : ℕ) (s : ServerState) (x : SessionState) (b : Bool) → is_overlong_of (Some x) ≡ b → session c s ≡ Some x →
-    Progress (presence c s) (texts_of (cond b (of_notice c ∷ []) [])) [] [] (lines_of (cond b (of_notice c ∷ []) [])) (presence c (cond b (with_session s (notified x)) s))
-notice_by c s x false over e = stays (presence c s)
-notice_by c s x true over e =
-    let y : SessionState = notified x in
-    let before : Presence = record { session = Some x; used = ltb c s.next_id } in
-    let next : Presence = record { session = Some y; used = ltb c s.next_id } in
-    progress_at (presence c s) before (presence c (with_session s y)) next too_long_notice [] [] []
-    (ap (λ (o : Option SessionState). let p : Presence = record { session = o; used = ltb c s.next_id } in p) e)
-    (presence_put c s x y (find_id c s.sessions x e) e)
-    (moves x y (ltb c s.next_id) too_long_notice [] [] [] refl
+notice_by : (c : ℕ) (s : ServerState) (x : SessionState) (b : Bool) →
+    Progress (at_client s c (Some x)) (texts_of (cond b (of_notice c ∷ []) [])) [] [] (lines_of (cond b (of_notice c ∷ []) [])) (at_client s c (Some (cond b (notified x) x)))
+notice_by c s x false = stays (at_client s c (Some x))
+notice_by c s x true =
+    moves x (notified x) (ltb c s.next_id) too_long_notice [] [] [] refl
     (λ (h : true ≡ false). cc h)
     (λ h. (x.held, sym (append-nil x.held)))
-    (λ h. (refl, refl, refl)))
+    (λ h. (refl, refl, refl))
 
-notice_of : (c : ℕ) (s : ServerState) (o : Option SessionState) → session c s ≡ o →
-    Progress (presence c s) (texts_of (cond (is_overlong_of o) (of_notice c ∷ []) [])) [] [] (lines_of (cond (is_overlong_of o) (of_notice c ∷ []) [])) (presence c (after_notice_of s o))
-unfolding after_notice_of
-notice_of c s None e = stays (presence c s)
-notice_of c s (Some x) e = notice_by c s x (is_overlong_of (Some x)) refl e
+notice_of : (c : ℕ) (s : ServerState) (o : Option SessionState) →
+    Progress (at_client s c o) (texts_of (cond (option_map_or holds_overlong o false) (of_notice c ∷ []) [])) [] [] (lines_of (cond (option_map_or holds_overlong o false) (of_notice c ∷ []) [])) (at_client s c (option_map with_notice o))
+notice_of c s None = stays (at_client s c None)
+notice_of c s (Some x) = notice_by c s x (holds_overlong x)
 
 notice_goes : (c : ℕ) (s : ServerState) → Progress (presence c s) (texts_of (notice s c)) [] [] (lines_of (notice s c)) (presence c (after_notice s c))
 unfolding after_notice
-notice_goes c s = notice_of c s (session c s) refl
+notice_goes c s = progress_at (presence c s) (presence c s) (presence c (after_notice s c)) (at_client s c (option_map with_notice (session c s))) (texts_of (notice s c)) [] [] (lines_of (notice s c)) refl (presence_changed with_notice notice_id c s) (notice_of c s (session c s))
 
-notice_other_by : (c d : ℕ) (s : ServerState) (x : SessionState) (b : Bool) → session d s ≡ Some x → c ≢ d → presence c (cond b (with_session s (notified x)) s) ≡ presence c s
-notice_other_by c d s x false e differ = refl
-notice_other_by c d s x true e differ = presence_put_other c s (notified x) (λ (h : c ≡ x.id). differ (h ∙ find_id d s.sessions x e))
-
-notice_other_of : (c d : ℕ) (s : ServerState) (o : Option SessionState) → session d s ≡ o → c ≢ d → presence c (after_notice_of s o) ≡ presence c s
-unfolding after_notice_of
-notice_other_of c d s None e differ = refl
-notice_other_of c d s (Some x) e differ = notice_other_by c d s x (is_overlong_of (Some x)) e differ
+notice_other : (c d : ℕ) (s : ServerState) → c ≢ d → presence c (after_notice s d) ≡ presence c s
+unfolding after_notice
+notice_other c d s differ = presence_other with_notice notice_id c d s differ
 
 -- the whole pump
 pub pump_goes : (c : ℕ) (s : ServerState) → Progress (presence c s) (texts_of (pump_executions s c)) [] [] (lines_of (pump_executions s c)) (presence c (pumped s c))
@@ -244,7 +234,7 @@ pump_goes c s =
     (joins p (presence c m) q (texts_of lines) [] [] (lines_of lines) (texts_of last) [] [] (lines_of last) (lines_go k c s) (notice_goes c m))
 
 pub pump_other : (c d : ℕ) (s : ServerState) → c ≢ d → presence c (pumped s d) ≡ presence c s
-unfolding pumped after_all_lines after_notice
+unfolding pumped after_all_lines
 pump_other c d s differ =
     let m = after_lines (length (held_of (session d s))) s d in
-    notice_other_of c d m (session d m) refl differ ∙ lines_other (length (held_of (session d s))) c d s differ
+    notice_other c d m differ ∙ lines_other (length (held_of (session d s))) c d s differ

@@ -1,23 +1,26 @@
 -- What the server's methods do, over plain states.
 use Rattle.std.proofs.Common.{◌≡◌, ℕ, ◌+◌, ◌<◌, ◌≤◌, Bool, true, false, List, [], ◌++◌, Option, Some, None, Result, Ok, Err, refl, sym, ◌∙◌, ap, subst, arith, length, get_or, set, take, drop}
-use Rattle.std.specs.Prelude.{IsTrue, OnOk, OnErr, MatchOption, is_err, is_some, is_none}
+use Rattle.std.specs.Prelude.{IsTrue, OnOk, OnErr, MatchOption, is_err, is_some, is_none, option_and_then}
+use Rattle.std.specs.Option.{option_map_or}
 use Rattle.std.proofs.lemmas.Bool.{le-leb, lt-leb, leb-true, cond-true, cond-false}
 use Rattle.nutcore.specs.Session.{SessionState, find, put, without, IdsRise, new_session}
-use Rattle.nutcore.specs.Server.{ServerState, session, with_session}
+use Rattle.nutcore.specs.Server.{ServerState, session, with_session, with_session_changed}
 use Rattle.nutanswer.specs.declared.reply.Change.{Change}
 use Rattle.nutanswer.specs.Command.{read_command}
 use Rattle.nutcore.specs.Reply.{reply, text_to, change_by, changed_session, changed_upses}
-use Rattle.nutcore.specs.Pump.{next_line, next_line_of, next_line_for, answered, after_line, after_lines, pump_stops, held_of, after_all_lines, pumped, after_notice, after_notice_of, is_overlong, is_overlong_of, notified, wants_memory, shares_version_line, shares_version_read}
+use Rattle.nutcore.specs.Pump.{next_line, next_line_for, answered, after_line, after_lines, pump_stops, held_of, after_all_lines, pumped, after_notice, is_overlong, holds_overlong, notified, with_notice, wants_memory, shares_version_read}
 use Rattle.nutcore.specs.Step.{offered, may_take}
 use Rattle.nutanswer.specs.declared.command.Command.{Command}
 use Rattle.nutanswer.specs.declared.err_word.ErrWord.{ErrWord}
 use Rattle.nutanswer.specs.declared.reply.Reply.{Reply as Answer}
 use Rattle.nutanswer.specs.declared.reply.Reply.TheVariants.{One, Many, Clients}
 use Rattle.nutanswer.specs.declared.reply.Change.TheVariants.{Nothing}
+use Rattle.nutlisting.specs.Items.{text_of, client_listing}
 use Rattle.nutlisting.specs.declared.outbox.TheConstants.{OWED_LIMIT}
-use Rattle.nutcore.specs.Serving.{place, IsAt, IsAnswered, IsText, IsLineOrNone, Replies}
-use Rattle.nutcore.proofs.Found.{find_id, find_put, put_found}
-use Rattle.nutcore.proofs.Pumping.{after_line_is, is_next, change_at, session_after}
+use Rattle.nutcore.specs.Serving.{place, IsAt, IsText, IsLineOrNone, Replies, text_with, change_in, ListsClients}
+use Rattle.nutcore.proofs.Found.{find_id, put_found}
+use Rattle.nutcore.proofs.Changed.{by_change, change_is, session_put, notice_id}
+use Rattle.nutcore.proofs.Pumping.{after_line_is, is_next, session_after, session_after_id, line_done}
 use Rattle.nutcore.proofs.Places.{at_put, found_at, find_at, put_is, without_at}
 use Rattle.nutcore.proofs.Loops.{after_lines-suc, all_lines_are}
 
@@ -41,6 +44,17 @@ err_when (Err x) P e p = p
 pub found_in : (c i : ℕ) (s t : ServerState) (x : SessionState) → s ≡ t → IsAt c i t.sessions → x ≡ get_or s.sessions i x → session c t ≡ Some x
 found_in c i s t x e h at = found_at c i t.sessions x h (at ∙ ap (λ (z : ServerState). get_or z.sessions i x) e)
 
+-- so stands the session at its place
+pub record StandsAt (s : ServerState) (c i : ℕ) (x : SessionState) : Type 0 where
+  pub at : IsAt c i s.sessions
+  pub found : session c s ≡ Some x
+
+pub stands : (c i : ℕ) (s t : ServerState) (x : SessionState) → s ≡ t → IsAt c i t.sessions → x ≡ get_or s.sessions i x → StandsAt s c i x
+stands c i s t x e h is = record {
+  at = subst (λ (z : ServerState). IsAt c i z.sessions) (sym e) h;
+  found = ap (session c) e ∙ found_in c i s t x e h is;
+}
+
 pub at_found : (c i : ℕ) (xs : List SessionState) → IsAt c i xs → find c xs ≡ Some (get_or xs (place c xs) (new_session 0 []))
 at_found c i xs h = let lt : place c xs < length xs = omega (arith, h.first, h.within) in find_at c xs (new_session 0 []) lt
 
@@ -48,18 +62,21 @@ at_found c i xs h = let lt : place c xs < length xs = omega (arith, h.first, h.w
 pub set_is : (s : ServerState) (c i : ℕ) (y : SessionState) → IsAt c i s.sessions → y.id ≡ c → (let code : ServerState = record s { sessions = set s.sessions i y } in code ≡ with_session s y)
 set_is s c i y h e = ap (λ (xs : List SessionState). let z : ServerState = record s { sessions = xs } in z) (put_is c i s.sessions y h e)
 
-pub session_put : (s : ServerState) (c : ℕ) (x y : SessionState) → session c s ≡ Some x → y.id ≡ c → session c (with_session s y) ≡ Some y
-session_put s c x y e id = ap (λ d. find d (put y s.sessions)) (sym id) ∙ find_put y s.sessions x (ap (λ d. find d s.sessions) id ∙ e)
+-- so is one that is changed, and keeps its id
+pub change_set : (f : SessionState → SessionState) (s : ServerState) (c i : ℕ) (x y : SessionState) → IsAt c i s.sessions → session c s ≡ Some x → (f x).id ≡ x.id → y ≡ f x →
+    (let code : ServerState = record s { sessions = set s.sessions i y } in code ≡ with_session_changed f c s)
+change_set f s c i x y h e id is =
+    set_is s c i y h (ap (λ (z : SessionState). z.id) is ∙ id ∙ find_id c s.sessions x e) ∙ ap (with_session s) is ∙ sym (change_is f c s x e)
 
 pub session_set : (s : ServerState) (c i : ℕ) (x y : SessionState) → IsAt c i s.sessions → session c s ≡ Some x → y.id ≡ c → session c (let code : ServerState = record s { sessions = set s.sessions i y } in code) ≡ Some y
 session_set s c i x y h e id = ap (session c) (set_is s c i y h id) ∙ session_put s c x y e id
 
 -- the next line of the client is that of its session
 pub next_of_found : (s : ServerState) (c : ℕ) (x : SessionState) (line : List ℕ) → session c s ≡ Some x → next_line_for s c ≡ Some line → next_line x ≡ Some line
-next_of_found s c x line found h = ap next_line_of (sym found) ∙ h
+next_of_found s c x line found h = ap (option_and_then next_line) (sym found) ∙ h
 
 pub goes : (s : ServerState) (c : ℕ) (x : SessionState) → session c s ≡ Some x → is_some (next_line_for s c) ≡ true → is_some (next_line x) ≡ true
-goes s c x found h = ap (λ (o : Option SessionState). is_some (next_line_of o)) (sym found) ∙ h
+goes s c x found h = ap (λ (o : Option SessionState). is_some (option_and_then next_line o)) (sym found) ∙ h
 
 -- one is there where the other is
 pub some_alike : {A B : Type 0} (r : Option A) (o : Option B) (read : A → B) → MatchOption r (o ≡ None) (λ a. o ≡ Some (read a)) → is_some r ≡ is_some o
@@ -77,62 +94,56 @@ pub none_there : {A : Type 0} (o : Option A) → is_some o ≡ false → o ≡ N
 none_there None h = refl
 none_there (Some a) h = cc h
 
--- what the code leaves is what the session's next line leaves of the sessions
-pub answered_is : (s : ServerState) (c i : ℕ) (text : List ℕ) (change : Change) (x y : SessionState) → IsAt c i s.sessions → session c s ≡ Some x → y.id ≡ x.id →
-    ((line : List ℕ) → next_line x ≡ Some line → y ≡ changed_session change (answered line text x)) →
-    let code : ServerState = record s { sessions = set s.sessions i y } in IsAnswered s c text change code
-answered_is s c i text change x y h e id gives = λ line z next found.
-    let same : x ≡ z = some_is x z (sym e ∙ found) in
-    set_is s c i y h (id ∙ find_id c s.sessions x e)
-    ∙ ap (with_session s) (gives line (next_of_found s c x line e next) ∙ ap (λ (w : SessionState). changed_session change (answered line text w)) same)
-  where
-    some_is : (x z : SessionState) → Some x ≡ Some z → x ≡ z
-    some_is x z k = cc k
+-- what an answer says, and what it changes
+answers_as : (s : ServerState) (c : ℕ) (line : List ℕ) (reply : Answer) (clients : List (List ℕ)) → Replies s c line reply → ListsClients s.sessions reply clients →
+    (text_to s c (read_command line) ≡ text_with clients reply) × (change_by s c (read_command line) ≡ change_in reply)
+answers_as s c line (One text change) clients told lists = (told.1, told.2)
+answers_as s c line (Many listing) clients told lists = (told.1, told.2)
+answers_as s c line (Clients name u) clients told lists = (told.1 ∙ ap (λ (addresses : List (List ℕ)). text_of (client_listing name addresses)) (sym lists), told.2)
 
--- with what it leaves of the UPSs, it is the server after the line
-done_by : (s u : ServerState) (c : ℕ) (line : List ℕ) → next_line_for s c ≡ Some line →
-    (let t : ServerState = record s { upses = changed_upses (change_at s c line) s.upses } in IsAnswered t c (reply s c line).text (change_at s c line) u) → u ≡ after_line s c
-done_by s u c line h answers =
-    let n = is_next s c line h in
-    answers line n.asking h n.found ∙ sym (after_line_is s c line n.asking n.found h)
+pub change_told : (s : ServerState) (c : ℕ) (line : List ℕ) (reply : Answer) → Replies s c line reply → change_by s c (read_command line) ≡ change_in reply
+change_told s c line (One text change) told = told.2
+change_told s c line (Many listing) told = told.2
+change_told s c line (Clients name u) told = told.2
 
-pub line_is : (s t u : ServerState) (c : ℕ) (line text : List ℕ) (change : Change) → next_line_for s c ≡ Some line → text_to s c (read_command line) ≡ text → change_by s c (read_command line) ≡ change →
-    (let code : ServerState = record s { upses = changed_upses change s.upses } in t ≡ code) → IsAnswered t c text change u → u ≡ after_line s c
-line_is s t u c line text change h et ec es answers =
-    let at : Change → ServerState = λ (z : Change). record s { upses = changed_upses z s.upses } in
-    done_by s u c line h
-    (subst (λ (z : Change). IsAnswered (at z) c (text_to s c (read_command line)) z u) (sym ec)
-    (subst (λ (z : List ℕ). IsAnswered (at change) c z change u) (sym et)
-    (subst (λ (z : ServerState). IsAnswered z c text change u) es answers)))
+-- the UPSs are changed, and the session in its place is answered: this is the server after the line
+pub line_is : (s v : ServerState) (c i : ℕ) (line : List ℕ) (reply : Answer) (clients : List (List ℕ)) (x y : SessionState) → next_line_for s c ≡ Some line → Replies s c line reply → ListsClients v.sessions reply clients →
+    (let t : ServerState = record s { upses = changed_upses (change_in reply) s.upses } in v ≡ t) → StandsAt v c i x → y ≡ changed_session (change_in reply) (answered line (text_with clients reply) x) →
+    let code : ServerState = record v { sessions = set v.sessions i y } in code ≡ after_line s c
+line_is s v c i line reply clients x y h told lists is stands gives =
+    let said = answers_as s c line reply clients told (subst (λ (z : ServerState). ListsClients z.sessions reply clients) is lists) in
+    let found : session c s ≡ Some x = ap (session c) (sym is) ∙ stands.found in
+    let own : SessionState = session_after s c line x in
+    let same : y ≡ own = gives ∙ ap (λ (z : List ℕ). changed_session (change_in reply) (answered line z x)) (sym said.0) ∙ ap (λ (z : Change). changed_session z (answered line (text_to s c (read_command line)) x)) (sym said.1) in
+    set_is v c i y stands.at (ap (λ (z : SessionState). z.id) same ∙ session_after_id s c line x found)
+    ∙ ap (with_session v) same
+    ∙ ap (λ (z : ServerState). with_session z own) is
+    ∙ ap (λ (z : Change). line_done s z own) (sym said.1)
+    ∙ sym (after_line_is s c line x found h)
 
 pub at_line : (s : ServerState) (c i : ℕ) (line : List ℕ) → IsAt c i s.sessions → next_line_for s c ≡ Some line → IsAt c i (after_line s c).sessions
 at_line s c i line h next =
     let n = is_next s c line next in
     subst (λ (z : ServerState). IsAt c i z.sessions) (sym (after_line_is s c line n.asking n.found next)) (at_put c i (session_after s c line n.asking) s.sessions h)
 
+-- the session that stands there is put
+put_same : (s : ServerState) (c : ℕ) (x : SessionState) → session c s ≡ Some x → with_session s x ≡ s
+put_same s c x e = ap (λ (xs : List SessionState). let z : ServerState = record s { sessions = xs } in z) (put_found x s.sessions (ap (λ d. find d s.sessions) (find_id c s.sessions x e) ∙ e))
+
 -- the notice, as the code writes it
-pub notice_there : (s : ServerState) (c : ℕ) (x : SessionState) → session c s ≡ Some x → is_overlong_of (Some x) ≡ true → after_notice s c ≡ with_session s (notified x)
-unfolding after_notice after_notice_of
-notice_there s c x e over = ap (after_notice_of s) e ∙ cond-true _ _ _ over
+pub notice_there : (s : ServerState) (c : ℕ) (x : SessionState) → session c s ≡ Some x → holds_overlong x ≡ true → after_notice s c ≡ with_session s (notified x)
+unfolding after_notice
+notice_there s c x e over = change_is with_notice c s x e ∙ ap (with_session s) (cond-true _ _ _ over)
 
 pub no_notice : (s : ServerState) (c : ℕ) → is_overlong s c ≡ false → after_notice s c ≡ s
-unfolding after_notice after_notice_of
-no_notice s c over = not_of (session c s) refl
-  where
-    not_of : (o : Option SessionState) → session c s ≡ o → after_notice_of s o ≡ s
-    not_of None e = refl
-    not_of (Some x) e = cond-false _ _ _ (ap is_overlong_of (sym e) ∙ over)
+unfolding after_notice
+no_notice s c over = by_change (λ t. t ≡ s) with_notice c s
+    (λ x e. ap (with_session s) (cond-false _ _ _ (ap (λ (o : Option SessionState). option_map_or holds_overlong o false) (sym e) ∙ over)) ∙ put_same s c x e)
+    (λ e. refl)
 
-pub notice_is : (s : ServerState) (c i : ℕ) (x y : SessionState) (b : Bool) → IsAt c i s.sessions → session c s ≡ Some x → b ≡ is_overlong_of (Some x) → (b ≡ true → y ≡ notified x) → (b ≡ false → y ≡ x) →
-    let code : ServerState = record s { sessions = set s.sessions i y } in code ≡ after_notice s c
-notice_is s c i x y true h e over ends same =
-    let id : y.id ≡ c = ap (λ (z : SessionState). z.id) (ends refl) ∙ find_id c s.sessions x e in
-    set_is s c i y h id ∙ ap (with_session s) (ends refl) ∙ sym (notice_there s c x e (sym over))
-notice_is s c i x y false h e over ends same =
-    let id : y.id ≡ c = ap (λ (z : SessionState). z.id) (same refl) ∙ find_id c s.sessions x e in
-    set_is s c i y h id ∙ ap (with_session s) (same refl)
-    ∙ ap (λ (xs : List SessionState). let z : ServerState = record s { sessions = xs } in z) (put_found x s.sessions (ap (λ d. find d s.sessions) (find_id c s.sessions x e) ∙ e))
-    ∙ sym (no_notice s c (ap is_overlong_of e ∙ sym over))
+pub notice_is : (s : ServerState) (c i : ℕ) (x y : SessionState) → IsAt c i s.sessions → session c s ≡ Some x → y ≡ with_notice x → let code : ServerState = record s { sessions = set s.sessions i y } in code ≡ after_notice s c
+unfolding after_notice
+notice_is s c i x y h e is = change_set with_notice s c i x y h e (notice_id x) is
 
 -- the loop begins
 pub begins : (s : ServerState) (c : ℕ) → s ≡ after_lines 0 s c
@@ -154,7 +165,7 @@ pump_ends s t u c k e le none f = let all = done_is s t c k e le none in (all, f
 
 -- memory was refused for a listing
 pub wants_is : (s : ServerState) (c : ℕ) (line : List ℕ) → next_line_for s c ≡ Some line → shares_version_read s c (read_command line) ≡ true → IsTrue (wants_memory s c)
-wants_is s c line next listing = let e : wants_memory s c ≡ true = ap (shares_version_line s c) next ∙ listing in e
+wants_is s c line next listing = let e : wants_memory s c ≡ true = ap (λ (o : Option (List ℕ)). option_map_or (λ line. shares_version_read s c (read_command line)) o false) next ∙ listing in e
 
 pub refused : (s t u : ServerState) (c k : ℕ) → t ≡ after_lines k s c → IsTrue (wants_memory t c) → u ≡ t → IsTrue (wants_memory (after_lines k s c) c) × (u ≡ after_lines k s c)
 refused s t u c k e wants same = (subst (λ (z : ServerState). IsTrue (wants_memory z c)) e wants, same ∙ e)

@@ -6,11 +6,12 @@ use Rattle.nutanswer.specs.declared.reply.Change.{Change}
 use Rattle.nutcore.specs.declared.event.Event.{Event}
 use Rattle.nutcore.specs.declared.event.Event.TheVariants.{DriverUp, DriverBytes, DriverTook, DriverDown, Tick, Open, Feed, Took, Close}
 use Rattle.nutcore.specs.Session.{SessionState, find, put, without, new_session}
-use Rattle.nutcore.specs.Server.{ServerState, session, with_session}
+use Rattle.nutcore.specs.Server.{ServerState, session, with_session_changed}
 use Rattle.nutcore.specs.Reply.{reply, changed_session}
-use Rattle.nutcore.specs.Pump.{next_line_for, answered, after_line, after_notice, after_notice_of, is_overlong_of, notified}
-use Rattle.nutcore.specs.Step.{after_by, accepted_bytes, with_input, with_input_of, without_output, without_output_of, opened, may_open, ticked}
+use Rattle.nutcore.specs.Pump.{next_line_for, answered, after_line, after_notice, notified, with_notice}
+use Rattle.nutcore.specs.Step.{after_by, accepted_bytes, joined, with_input, taken_from, without_output, opened, may_open, ticked}
 use Rattle.nutcore.specs.History.{Execution, of_line, of_notice}
+use Rattle.nutcore.proofs.Changed.{by_change, either_notice, notice_id}
 use Rattle.nutcore.proofs.DriverText.{bytes_change}
 use Rattle.nutcore.proofs.Found.{find_id, find_put, find_put_other, find_without, find_without_other}
 use Rattle.nutcore.proofs.Pumping.{is_next, after_line_is, change_at, session_after, session_after_id}
@@ -49,38 +50,30 @@ module _ (mark : SessionState → Bool) (IsSet : Change → Type 0) (is : IsSess
   in_some : (c : ℕ) (s : ServerState) (o : Option SessionState) → session c s ≡ o → is_marked c s ≡ false → marked_of o ≡ false
   in_some c s o e h = ap (marked_of) (sym e) ∙ h
 
-  -- bytes that come or are taken
-  by_input_of : (c : ℕ) (s : ServerState) (d : ℕ) (piece : List ℕ) (o : Option SessionState) → session d s ≡ o → is_marked c s ≡ false → is_marked c (with_input_of s o piece) ≡ false
-  unfolding with_input_of
-  by_input_of c s d piece None e h = h
-  by_input_of c s d piece (Some x) e h = put_in c x (record x { held = x.held ++ accepted_bytes (Some x) piece }) s.sessions (ap (λ k. find k s.sessions) (find_id d s.sessions x e) ∙ e) (inl (is.held x (x.held ++ accepted_bytes (Some x) piece))) h
+  -- a session that is changed, and has the mark no more than before
+  by_changing : (f : SessionState → SessionState) → ((x : SessionState) → (f x).id ≡ x.id) → ((x : SessionState) → mark (f x) ≡ mark x ⊎ mark (f x) ≡ false) →
+      (c : ℕ) (s : ServerState) (d : ℕ) → is_marked c s ≡ false → is_marked c (with_session_changed f d s) ≡ false
+  by_changing f id keeps c s d h = by_change (λ t. is_marked c t ≡ false) f d s
+      (λ x e. put_in c x (f x) s.sessions (ap (λ k. find k s.sessions) (id x ∙ find_id d s.sessions x e) ∙ e) (keeps x) h)
+      (λ e. h)
 
+  -- bytes that come or are taken
   by_input : (c : ℕ) (s : ServerState) (d : ℕ) (piece : List ℕ) → is_marked c s ≡ false → is_marked c (with_input s d piece) ≡ false
   unfolding with_input
-  by_input c s d piece h = by_input_of c s d piece (session d s) refl h
-
-  by_output_of : (c : ℕ) (s : ServerState) (d n : ℕ) (o : Option SessionState) → session d s ≡ o → is_marked c s ≡ false → is_marked c (without_output_of s o n) ≡ false
-  unfolding without_output_of
-  by_output_of c s d n None e h = h
-  by_output_of c s d n (Some x) e h = put_in c x (record x { owed = drop n x.owed }) s.sessions (ap (λ k. find k s.sessions) (find_id d s.sessions x e) ∙ e) (inl (is.owed x (drop n x.owed))) h
+  by_input c s d piece h = by_changing (joined piece) (λ x. refl) (λ x. inl (is.held x (x.held ++ accepted_bytes (Some x) piece))) c s d h
 
   by_output : (c : ℕ) (s : ServerState) (d n : ℕ) → is_marked c s ≡ false → is_marked c (without_output s d n) ≡ false
   unfolding without_output
-  by_output c s d n h = by_output_of c s d n (session d s) refl h
+  by_output c s d n h = by_changing (taken_from n) (λ x. refl) (λ x. inl (is.owed x (drop n x.owed))) c s d h
 
   -- the notice
+  by_notice : (c : ℕ) (s : ServerState) (d : ℕ) → is_marked c s ≡ false → is_marked c (after_notice s d) ≡ false
+  unfolding after_notice
+  by_notice c s d h = by_changing with_notice notice_id (λ x. either_notice (λ y. mark y ≡ mark x ⊎ mark y ≡ false) x (is.noticed x) (inl refl)) c s d h
+
   either_of : (c : ℕ) (s t : ServerState) (b : Bool) → is_marked c s ≡ false → is_marked c t ≡ false → is_marked c (cond b s t) ≡ false
   either_of c s t true e f = e
   either_of c s t false e f = f
-
-  by_notice_of : (c : ℕ) (s : ServerState) (d : ℕ) (o : Option SessionState) → session d s ≡ o → is_marked c s ≡ false → is_marked c (after_notice_of s o) ≡ false
-  unfolding after_notice_of
-  by_notice_of c s d None e h = h
-  by_notice_of c s d (Some x) e h = either_of c (with_session s (notified x)) s (is_overlong_of (Some x)) (put_in c x (notified x) s.sessions (ap (λ k. find k s.sessions) (find_id d s.sessions x e) ∙ e) (is.noticed x) h) h
-
-  by_notice : (c : ℕ) (s : ServerState) (d : ℕ) → is_marked c s ≡ false → is_marked c (after_notice s d) ≡ false
-  unfolding after_notice
-  by_notice c s d h = by_notice_of c s d (session d s) refl h
 
   -- a session that is opened hasn't it
   open_in : (c : ℕ) (y : SessionState) (xs : List SessionState) → mark y ≡ false → marked_of (find c xs) ≡ false → marked_of (find c (xs ++ y ∷ [])) ≡ false

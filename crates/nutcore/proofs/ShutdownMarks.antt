@@ -20,12 +20,13 @@ use Rattle.nutcore.specs.declared.event.Event.TheVariants.{DriverUp, DriverBytes
 use Rattle.nutcore.specs.Lines.{whole_lines, unfinished_after, is_too_long}
 use Rattle.nutcore.specs.Session.{SessionState}
 use Rattle.nutcore.specs.Ups.{UpsState, with_fsd, with_order, after_connecting, after_loss, after_outcome, after_text, after_texts, with_unfinished, ping_is_due}
-use Rattle.nutcore.specs.Server.{ServerState, session, with_session, changed_at}
+use Rattle.nutcore.specs.Server.{ServerState, with_session_changed, changed_at}
 use Rattle.nutcore.specs.Reply.{seen, asker, changed_upses, change_by, text_to}
-use Rattle.nutcore.specs.Pump.{next_line_for, after_line, after_notice, after_notice_of, is_overlong_of, notified}
-use Rattle.nutcore.specs.Step.{after_by, with_input, with_input_of, without_output, without_output_of, opened, may_open, ticked, connected, disconnected, after_driver_took, driver_may_take}
+use Rattle.nutcore.specs.Pump.{next_line_for, after_line, after_notice, with_notice}
+use Rattle.nutcore.specs.Step.{after_by, joined, with_input, taken_from, without_output, opened, may_open, ticked, connected, disconnected, after_driver_took, driver_may_take}
 use Rattle.nutcore.specs.History.{of_line}
 use Rattle.nutcore.specs.ByRight.{IsByRight, SetsShutdownByRight, is_shut_down, AForcedShutdownIsSetByRight}
+use Rattle.nutcore.proofs.Changed.{by_change}
 use Rattle.nutcore.proofs.DriverText.{ups_after_text, ups_after_bytes, bytes_change}
 use Rattle.nutcore.proofs.Pumping.{is_next, after_line_is, change_at}
 use Rattle.nutcore.proofs.TableRows.{shutdown_row}
@@ -105,10 +106,9 @@ by_plain u s (Feed c piece) m plain h = absurd plain
 by_plain u s (Took c n) m plain h = absurd plain
 by_plain u s (Close c) m plain h = h
 
-by_notice_of : (u : UpsId) (s : ServerState) (o : Option SessionState) → is_shut_down u s ≡ false → is_shut_down u (after_notice_of s o) ≡ false
-unfolding after_notice_of
-by_notice_of u s None h = h
-by_notice_of u s (Some x) h = either_of u (with_session s (notified x)) s (is_overlong_of (Some x)) h h
+-- a session that is changed
+by_session : (u : UpsId) (f : SessionState → SessionState) (s : ServerState) (c : ℕ) → is_shut_down u s ≡ false → is_shut_down u (with_session_changed f c s) ≡ false
+by_session u f s c h = by_change (λ t. is_shut_down u t ≡ false) f c s (λ x e. h) (λ e. h)
 
 -- a line that sets it has the row of FSD
 change_sets : (u : UpsId) (change : Change) (xs : List UpsState) → fsd_at u.place xs ≡ false → fsd_at u.place (changed_upses change xs) ≡ true → change ≡ changes.Fsd u
@@ -151,25 +151,15 @@ by_line u s c line next before after =
 
 by_notice : (u : UpsId) (s : ServerState) (c : ℕ) → is_shut_down u s ≡ false → is_shut_down u (after_notice s c) ≡ false
 unfolding after_notice
-by_notice u s c h = by_notice_of u s (session c s) h
-
-by_input_of : (u : UpsId) (s : ServerState) (piece : List ℕ) (o : Option SessionState) → is_shut_down u s ≡ false → is_shut_down u (with_input_of s o piece) ≡ false
-unfolding with_input_of
-by_input_of u s piece None h = h
-by_input_of u s piece (Some x) h = h
+by_notice u s c h = by_session u with_notice s c h
 
 by_input : (u : UpsId) (s : ServerState) (c : ℕ) (piece : List ℕ) → is_shut_down u s ≡ false → is_shut_down u (with_input s c piece) ≡ false
 unfolding with_input
-by_input u s c piece h = by_input_of u s piece (session c s) h
-
-by_output_of : (u : UpsId) (s : ServerState) (n : ℕ) (o : Option SessionState) → is_shut_down u s ≡ false → is_shut_down u (without_output_of s o n) ≡ false
-unfolding without_output_of
-by_output_of u s n None h = h
-by_output_of u s n (Some x) h = h
+by_input u s c piece h = by_session u (joined piece) s c h
 
 by_output : (u : UpsId) (s : ServerState) (c n : ℕ) → is_shut_down u s ≡ false → is_shut_down u (without_output s c n) ≡ false
 unfolding without_output
-by_output u s c n h = by_output_of u s n (session c s) h
+by_output u s c n h = by_session u (taken_from n) s c h
 
 pub shutdowns : AForcedShutdownIsSetByRight
 shutdowns = λ old new events outcomes u run before after.

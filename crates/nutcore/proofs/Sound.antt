@@ -15,14 +15,15 @@ use Rattle.nutcore.specs.declared.event.Event.TheVariants.{DriverUp, DriverBytes
 use Rattle.nutcore.specs.declared.event.Outcome.TheVariants.{Opened}
 use Rattle.nutcore.specs.Session.{SessionState, find, put, without, new_session}
 use Rattle.nutcore.specs.Ups.{UpsState, new_ups, after_connecting, after_loss, after_tick}
-use Rattle.nutcore.specs.Server.{ServerState, session, with_session, with_ups_changed}
+use Rattle.nutcore.specs.Server.{ServerState, session, with_session, with_session_changed, with_ups_changed}
 use Rattle.nutcore.specs.Reply.{reply, changed_session}
-use Rattle.nutcore.specs.Pump.{answered, next_line_for, after_line, after_line_of, after_lines, after_all_lines, after_notice, after_notice_of, is_overlong_of, notified, pumped, held_of}
-use Rattle.nutcore.specs.Step.{Step, accepted_bytes, with_input, with_input_of, without_output, without_output_of, may_take, may_open, opened, connected, disconnected, after_driver_took, ticked, pumped_until, after_by, refused_after}
+use Rattle.nutcore.specs.Pump.{answered, next_line_for, after_line, after_lines, after_all_lines, after_notice, with_notice, pumped, held_of}
+use Rattle.nutcore.specs.Step.{Step, joined, with_input, taken_from, without_output, may_take, may_open, opened, connected, disconnected, after_driver_took, ticked, pumped_until, after_by, refused_after}
 use Rattle.nutcore.specs.Sound.{Each, IsSoundSession, IsSoundUps, IsSound, ANewServerIsSound, EachEventKeepsTheServerSound, EveryRunKeepsTheServerSound, ASoundServerIsLawful}
 use Rattle.nutcore.proofs.OrderFits.{order_fits}
 use Rattle.nutcore.proofs.Places.{rise_put, rise_push, rise_without, rise_lawful, length-put}
-use Rattle.nutcore.proofs.Pumping.{is_next, after_line_is, line_done, change_at, session_after}
+use Rattle.nutcore.proofs.Changed.{by_change, either_notice}
+use Rattle.nutcore.proofs.Pumping.{is_next, stopped_none, after_line_is, line_done, change_at, session_after}
 use Rattle.nutcore.proofs.DriverText.{ups_after_bytes, bytes_change}
 use Rattle.nutcore.proofs.SoundUps.{and_true, each_map, each_last, each_same, length-changed, length-same, length-mapped, each_changed, no_loss, length-changes, sound_new, sound_loss, sound_connecting, sound_either, sound_driver_bytes, sound_took, sound_tick, sound_changes}
 
@@ -68,7 +69,7 @@ sound_answered changes.Ending line text x going h = record { held = omega arith;
 sound_answered (changes.Fsd u) line text x going h = record { held = (let few = h.held in omega (arith, few, length-drop (length line + 1) x.held)); ending = λ e. no_loss x.ending e going }
 sound_answered (changes.Order u order) line text x going h = record { held = (let few = h.held in omega (arith, few, length-drop (length line + 1) x.held)); ending = λ e. no_loss x.ending e going }
 
-pub sound_input : (piece : List ℕ) (x : SessionState) → IsSoundSession x → IsSoundSession (record x { held = x.held ++ accepted_bytes (Some x) piece })
+pub sound_input : (piece : List ℕ) (x : SessionState) → IsSoundSession x → IsSoundSession (joined piece x)
 sound_input piece x h = by_ending x.ending refl
   where
     by_ending : (b : Bool) → x.ending ≡ b → IsSoundSession (record x { held = x.held ++ cond b [] (take (HELD_LIMIT - length x.held) piece) })
@@ -96,8 +97,7 @@ sound_server true s t h k = h
 sound_server false s t h k = k
 
 sound_line_of : (s : ServerState) (c : ℕ) (o : Option (List ℕ)) → next_line_for s c ≡ o → IsSound s → IsSound (after_line s c)
-unfolding after_line after_line_of
-sound_line_of s c None e h = subst IsSound (sym (ap (after_line_of s c) e)) h
+sound_line_of s c None e h = subst IsSound (sym (stopped_none s c e)) h
 sound_line_of s c (Some line) e h =
     let n = is_next s c line e in
     let change : Change = change_at s c line in
@@ -120,31 +120,22 @@ unfolding after_lines
 sound_lines zero c s h = h
 sound_lines (suc k) c s h = sound_lines k c (after_line s c) (sound_line_of s c (next_line_for s c) refl h)
 
-sound_notice_of : (s : ServerState) (c : ℕ) (o : Option SessionState) → session c s ≡ o → IsSound s → IsSound (after_notice_of s o)
-unfolding after_notice_of
-sound_notice_of s c None e h = h
-sound_notice_of s c (Some x) e h =
-    let own = each_found IsSoundSession c s.sessions x e h.sessions in
-    sound_server (is_overlong_of (Some x)) (with_session s (notified x)) s (sound_with s (notified x) (record { held = omega arith; ending = λ k. (refl, refl) }) h) h
+-- a session that is changed, and stays sound
+sound_session : (f : SessionState → SessionState) → ((x : SessionState) → IsSoundSession x → IsSoundSession (f x)) → (s : ServerState) (c : ℕ) → IsSound s → IsSound (with_session_changed f c s)
+sound_session f keeps s c h = by_change IsSound f c s (λ x e. sound_with s (f x) (keeps x (each_found IsSoundSession c s.sessions x e h.sessions)) h) (λ e. h)
+
+pub sound_notice : (x : SessionState) → IsSoundSession x → IsSoundSession (with_notice x)
+sound_notice x h = either_notice IsSoundSession x (record { held = omega arith; ending = λ k. (refl, refl) }) h
+
+pub sound_output : (n : ℕ) (x : SessionState) → IsSoundSession x → IsSoundSession (taken_from n x)
+sound_output n x h = record { held = h.held; ending = h.ending }
 
 sound_until : (c : ℕ) (s : ServerState) (m : Option ℕ) → IsSound s → IsSound (pumped_until s c m)
 unfolding pumped_until pumped after_all_lines after_notice
 sound_until c s None h =
     let k : ℕ = length (held_of (session c s)) in
-    sound_notice_of (after_lines k s c) c (session c (after_lines k s c)) refl (sound_lines k c s h)
+    sound_session with_notice sound_notice (after_lines k s c) c (sound_lines k c s h)
 sound_until c s (Some k) h = sound_lines k c s h
-
-sound_input_of : (s : ServerState) (c : ℕ) (o : Option SessionState) (piece : List ℕ) → session c s ≡ o → IsSound s → IsSound (with_input_of s o piece)
-unfolding with_input_of
-sound_input_of s c None piece e h = h
-sound_input_of s c (Some x) piece e h = sound_with s (record x { held = x.held ++ accepted_bytes (Some x) piece }) (sound_input piece x (each_found IsSoundSession c s.sessions x e h.sessions)) h
-
-sound_output_of : (s : ServerState) (c n : ℕ) (o : Option SessionState) → session c s ≡ o → IsSound s → IsSound (without_output_of s o n)
-unfolding without_output_of
-sound_output_of s c n None e h = h
-sound_output_of s c n (Some x) e h =
-    let own = each_found IsSoundSession c s.sessions x e h.sessions in
-    sound_with s (record x { owed = drop n x.owed }) (record { held = own.held; ending = own.ending }) h
 
 sound_upses : (f : UpsState → UpsState) (u : UpsId) (s : ServerState) → ((x : UpsState) → IsSoundUps s.moment x → IsSoundUps s.moment (f x)) → IsSound s → IsSound (with_ups_changed f u s)
 sound_upses f u s keeps h = record {
@@ -210,8 +201,8 @@ module _ (empty : IsSoundTree empty_tree) (line_keeps : EachLineKeepsTheTreeSoun
   sound_event s (DriverDown u) m h = sound_upses disconnected u s (λ x k. sound_either s.moment x.report.connected (after_loss x) x (sound_loss empty line_keeps s.moment x) k) h
   sound_event s (Tick seconds) m h = sound_ticked s seconds h
   sound_event s (Open address) m h = sound_opened s address m h
-  sound_event s (Feed c piece) m h = sound_until c (with_input s c piece) m (sound_input_of s c (session c s) piece refl h)
-  sound_event s (Took c n) m h = sound_server (may_take (session c s) n) (pumped_until (without_output s c n) c m) s (sound_until c (without_output s c n) m (sound_output_of s c n (session c s) refl h)) h
+  sound_event s (Feed c piece) m h = sound_until c (with_input s c piece) m (sound_session (joined piece) (sound_input piece) s c h)
+  sound_event s (Took c n) m h = sound_server (may_take (session c s) n) (pumped_until (without_output s c n) c m) s (sound_until c (without_output s c n) m (sound_session (taken_from n) (sound_output n) s c h)) h
   sound_event s (Close c) m h = sound_closed s c h
 
   pub each_event_sound : EachEventKeepsTheServerSound

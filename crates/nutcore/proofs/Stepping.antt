@@ -1,6 +1,6 @@
 -- What each event, and a run of them, does to each client's presence.
 use Rattle.std.proofs.Common.{◌≡◌, ◌≢◌, ℕ, ◌+◌, Bool, true, false, List, [], ◌∷◌, ◌++◌, Option, Some, None, refl, sym, ◌∙◌, ap, subst, cond, eqb, ltb, arith, take, drop, append-nil}
-use Rattle.std.specs.Prelude.{is_some}
+use Rattle.std.specs.Prelude.{is_some, option_map}
 use Rattle.std.proofs.lemmas.Bool.{cond-true, eqb-true, eqb-false, ltb-true, lt-ltb}
 use Rattle.std.proofs.lemmas.Bool.Decides.{nat_tests}
 use Rattle.std.proofs.lemmas.List.{take-append-drop}
@@ -11,20 +11,18 @@ use Rattle.nutcore.specs.declared.event.Event.{Event}
 use Rattle.nutcore.specs.declared.event.Event.TheVariants.{DriverUp, DriverBytes, DriverTook, DriverDown, Tick, Open, Feed, Took, Close}
 use Rattle.nutcore.specs.declared.event.Outcome.{Outcome}
 use Rattle.nutcore.specs.Session.{SessionState, find, without, new_session}
-use Rattle.nutcore.specs.Server.{ServerState, session, with_session}
+use Rattle.nutcore.specs.Server.{ServerState, session}
 use Rattle.nutcore.specs.Pump.{owed_of}
-use Rattle.nutcore.specs.Step.{accepted_bytes, with_input, with_input_of, without_output, without_output_of, may_take, may_open, pumped_until, opened, ticked, after_by, after, refused_after}
+use Rattle.nutcore.specs.Step.{accepted_bytes, joined, with_input, taken_from, without_output, may_take, may_open, pumped_until, opened, ticked, after_by, after, refused_after}
 use Rattle.nutcore.specs.Run.{Run}
 use Rattle.nutcore.specs.History.{Execution, client_of, executions_until, executions_in_event, executions, of_client, taken_in_event, asked_in_event, answers, taken, asked, executed, texts_of, lines_of, text_of, line_of}
 use Rattle.nutcore.specs.Headline.{IsLawful, SentAndOwed, TakenUp}
 use Rattle.nutcore.proofs.DriverText.{bytes_change}
+use Rattle.nutcore.proofs.Changed.{at_client, presence_changed, presence_other}
 use Rattle.nutcore.proofs.Progress.{Presence, presence, Progress, IsKept, joins, stays, moves, closes, opens}
 use Rattle.nutcore.proofs.Executions.{given_by, given_is}
-use Rattle.nutcore.proofs.Found.{find_id, find_without, find_without_other, find_last, find_last_other}
-use Rattle.nutcore.proofs.Pumping.{progress_at, progress_with, presence_put, presence_put_other, lines_go, lines_other, pump_goes, pump_other}
-
-abbrev at_client : ServerState → ℕ → Option SessionState → Presence
-at_client s c o = record { session = o; used = ltb c s.next_id }
+use Rattle.nutcore.proofs.Found.{find_without, find_without_other, find_last, find_last_other}
+use Rattle.nutcore.proofs.Pumping.{progress_at, progress_with, lines_go, lines_other, pump_goes, pump_other}
 
 standing_is : (c : ℕ) (s : ServerState) (o : Option SessionState) → session c s ≡ o → presence c s ≡ at_client s c o
 standing_is c s o e = ap (at_client s c) e
@@ -41,82 +39,80 @@ until_other c d s None differ = pump_other c d s differ
 until_other c d s (Some k) differ = lines_other k c d s differ
 
 -- bytes join
-input_goes_of : (c : ℕ) (s : ServerState) (piece : List ℕ) (o : Option SessionState) → session c s ≡ o → Progress (presence c s) [] [] (accepted_bytes o piece) [] (presence c (with_input_of s o piece))
-unfolding with_input_of
-input_goes_of c s piece None e = stays (presence c s)
-input_goes_of c s piece (Some x) e =
+input_of : (c : ℕ) (s : ServerState) (piece : List ℕ) (o : Option SessionState) → Progress (at_client s c o) [] [] (accepted_bytes o piece) [] (at_client s c (option_map (joined piece) o))
+input_of c s piece None = stays (at_client s c None)
+input_of c s piece (Some x) =
     let more : List ℕ = accepted_bytes (Some x) piece in
-    let y : SessionState = record x { held = x.held ++ more } in
-    progress_at (presence c s) (at_client s c (Some x)) (presence c (with_session s y)) (at_client s c (Some y)) [] [] more []
-    (standing_is c s (Some x) e)
-    (presence_put c s x y (find_id c s.sessions x e) e)
-    (moves x y (ltb c s.next_id) [] [] more [] (append-nil x.owed) (λ h. refl) (λ h. (x.held ++ more, refl)) (λ h. (h, cond-true _ _ _ h, refl)))
+    moves x (joined piece x) (ltb c s.next_id) [] [] more [] (append-nil x.owed) (λ h. refl) (λ h. (x.held ++ more, refl)) (λ h. (h, cond-true _ _ _ h, refl))
 
-pub input_other_of : (c d : ℕ) (s : ServerState) (piece : List ℕ) (o : Option SessionState) → session d s ≡ o → c ≢ d → presence c (with_input_of s o piece) ≡ presence c s
-unfolding with_input_of
-input_other_of c d s piece None e differ = refl
-input_other_of c d s piece (Some x) e differ = presence_put_other c s (record x { held = x.held ++ accepted_bytes (Some x) piece }) (λ (h : c ≡ x.id). differ (h ∙ find_id d s.sessions x e))
+input_goes : (c : ℕ) (s : ServerState) (piece : List ℕ) → Progress (presence c s) [] [] (accepted_bytes (session c s) piece) [] (presence c (with_input s c piece))
+unfolding with_input
+input_goes c s piece =
+    progress_at (presence c s) (presence c s) (presence c (with_input s c piece)) (at_client s c (option_map (joined piece) (session c s))) [] [] (accepted_bytes (session c s) piece) [] refl
+    (presence_changed (joined piece) (λ x. refl) c s)
+    (input_of c s piece (session c s))
+
+pub input_other : (c d : ℕ) (s : ServerState) (piece : List ℕ) → c ≢ d → presence c (with_input s d piece) ≡ presence c s
+unfolding with_input
+input_other c d s piece differ = presence_other (joined piece) (λ x. refl) c d s differ
 
 feed_same : (c : ℕ) (s : ServerState) (piece : List ℕ) (m : Option ℕ) →
     Progress (presence c s) (texts_of (executions_until (with_input s c piece) c m)) [] (accepted_bytes (session c s) piece) (lines_of (executions_until (with_input s c piece) c m)) (presence c (pumped_until (with_input s c piece) c m))
-unfolding with_input
 feed_same c s piece m =
     let j = with_input s c piece in
     let ds = executions_until j c m in
     let k = accepted_bytes (session c s) piece in
     let q = presence c (pumped_until j c m) in
     progress_with (presence c s) q (texts_of ds) (texts_of ds) [] [] k (k ++ []) (lines_of ds) (lines_of ds) refl refl (sym (append-nil k)) refl
-    (joins (presence c s) (presence c j) q [] [] k [] (texts_of ds) [] [] (lines_of ds) (input_goes_of c s piece (session c s) refl) (until_goes c j m))
+    (joins (presence c s) (presence c j) q [] [] k [] (texts_of ds) [] [] (lines_of ds) (input_goes c s piece) (until_goes c j m))
 
 feed_by : (c d : ℕ) (s : ServerState) (piece : List ℕ) (m : Option ℕ) (b : Bool) → eqb d c ≡ b →
     Progress (presence c s) (texts_of (cond b (executions_until (with_input s d piece) d m) [])) [] (cond b (accepted_bytes (session d s) piece) []) (lines_of (cond b (executions_until (with_input s d piece) d m) [])) (presence c (pumped_until (with_input s d piece) d m))
-unfolding with_input
 feed_by c d s piece m true same =
     let ds = executions_until (with_input s d piece) d m in
     subst (λ (z : ℕ). Progress (presence z s) (texts_of ds) [] (accepted_bytes (session d s) piece) (lines_of ds) (presence z (pumped_until (with_input s d piece) d m))) (eqb-true d c same) (feed_same d s piece m)
 feed_by c d s piece m false other =
     let differ : c ≢ d = λ (h : c ≡ d). eqb-false d c other (sym h) in
     progress_at (presence c s) (presence c s) (presence c (pumped_until (with_input s d piece) d m)) (presence c s) [] [] [] [] refl
-    (until_other c d (with_input s d piece) m differ ∙ input_other_of c d s piece (session d s) refl differ)
+    (until_other c d (with_input s d piece) m differ ∙ input_other c d s piece differ)
     (stays (presence c s))
 
 -- bytes are taken
-output_goes_of : (c : ℕ) (s : ServerState) (n : ℕ) (o : Option SessionState) → session c s ≡ o → may_take o n ≡ true → Progress (presence c s) [] (take n (owed_of o)) [] [] (presence c (without_output_of s o n))
-unfolding without_output_of
-output_goes_of c s n None e may = cc
-output_goes_of c s n (Some x) e may =
-    let y : SessionState = record x { owed = drop n x.owed } in
-    progress_at (presence c s) (at_client s c (Some x)) (presence c (with_session s y)) (at_client s c (Some y)) [] (take n x.owed) [] []
-    (standing_is c s (Some x) e)
-    (presence_put c s x y (find_id c s.sessions x e) e)
-    (moves x y (ltb c s.next_id) [] (take n x.owed) [] [] (append-nil x.owed ∙ sym (take-append-drop n x.owed)) (λ h. append-nil x.held) (λ h. (x.held, sym (append-nil x.held))) (λ h. (h, refl, refl)))
+output_of : (c : ℕ) (s : ServerState) (n : ℕ) (o : Option SessionState) → may_take o n ≡ true → Progress (at_client s c o) [] (take n (owed_of o)) [] [] (at_client s c (option_map (taken_from n) o))
+output_of c s n None may = cc
+output_of c s n (Some x) may =
+    moves x (taken_from n x) (ltb c s.next_id) [] (take n x.owed) [] [] (append-nil x.owed ∙ sym (take-append-drop n x.owed)) (λ h. append-nil x.held) (λ h. (x.held, sym (append-nil x.held))) (λ h. (h, refl, refl))
 
-pub output_other_of : (c d : ℕ) (s : ServerState) (n : ℕ) (o : Option SessionState) → session d s ≡ o → c ≢ d → presence c (without_output_of s o n) ≡ presence c s
-unfolding without_output_of
-output_other_of c d s n None e differ = refl
-output_other_of c d s n (Some x) e differ = presence_put_other c s (record x { owed = drop n x.owed }) (λ (h : c ≡ x.id). differ (h ∙ find_id d s.sessions x e))
+output_goes : (c : ℕ) (s : ServerState) (n : ℕ) → may_take (session c s) n ≡ true → Progress (presence c s) [] (take n (owed_of (session c s))) [] [] (presence c (without_output s c n))
+unfolding without_output
+output_goes c s n may =
+    progress_at (presence c s) (presence c s) (presence c (without_output s c n)) (at_client s c (option_map (taken_from n) (session c s))) [] (take n (owed_of (session c s))) [] [] refl
+    (presence_changed (taken_from n) (λ x. refl) c s)
+    (output_of c s n (session c s) may)
+
+pub output_other : (c d : ℕ) (s : ServerState) (n : ℕ) → c ≢ d → presence c (without_output s d n) ≡ presence c s
+unfolding without_output
+output_other c d s n differ = presence_other (taken_from n) (λ x. refl) c d s differ
 
 took_same : (c : ℕ) (s : ServerState) (n : ℕ) (m : Option ℕ) → may_take (session c s) n ≡ true →
     Progress (presence c s) (texts_of (executions_until (without_output s c n) c m)) (take n (owed_of (session c s))) [] (lines_of (executions_until (without_output s c n) c m)) (presence c (pumped_until (without_output s c n) c m))
-unfolding without_output
 took_same c s n m may =
     let j = without_output s c n in
     let ds = executions_until j c m in
     let t = take n (owed_of (session c s)) in
     let q = presence c (pumped_until j c m) in
     progress_with (presence c s) q (texts_of ds) (texts_of ds) t (t ++ []) [] [] (lines_of ds) (lines_of ds) refl (sym (append-nil t)) refl refl
-    (joins (presence c s) (presence c j) q [] t [] [] (texts_of ds) [] [] (lines_of ds) (output_goes_of c s n (session c s) refl may) (until_goes c j m))
+    (joins (presence c s) (presence c j) q [] t [] [] (texts_of ds) [] [] (lines_of ds) (output_goes c s n may) (until_goes c j m))
 
 took_by : (c d : ℕ) (s : ServerState) (n : ℕ) (m : Option ℕ) (b : Bool) → eqb d c ≡ b → may_take (session d s) n ≡ true →
     Progress (presence c s) (texts_of (cond b (executions_until (without_output s d n) d m) [])) (cond b (take n (owed_of (session d s))) []) [] (lines_of (cond b (executions_until (without_output s d n) d m) [])) (presence c (pumped_until (without_output s d n) d m))
-unfolding without_output
 took_by c d s n m true same may =
     let ds = executions_until (without_output s d n) d m in
     subst (λ (z : ℕ). Progress (presence z s) (texts_of ds) (take n (owed_of (session d s))) [] (lines_of ds) (presence z (pumped_until (without_output s d n) d m))) (eqb-true d c same) (took_same d s n m may)
 took_by c d s n m false other may =
     let differ : c ≢ d = λ (h : c ≡ d). eqb-false d c other (sym h) in
     progress_at (presence c s) (presence c s) (presence c (pumped_until (without_output s d n) d m)) (presence c s) [] [] [] [] refl
-    (until_other c d (without_output s d n) m differ ∙ output_other_of c d s n (session d s) refl differ)
+    (until_other c d (without_output s d n) m differ ∙ output_other c d s n differ)
     (stays (presence c s))
 
 took_may : (c d : ℕ) (s : ServerState) (n : ℕ) (m : Option ℕ) (b : Bool) → may_take (session d s) n ≡ b →

@@ -1,6 +1,7 @@
 -- A client that takes what it is offered, again and again, gets everything.
 use Rattle.std.proofs.Common.{◌≡◌, ◌⊎◌, ℕ, zero, suc, ◌+◌, ◌<◌, ◌≤◌, Bool, true, false, List, [], ◌∷◌, Option, Some, None, refl, sym, ◌∙◌, ap, subst, cond, inl, inr, arith, length, drop, length-take, length-drop}
-use Rattle.std.specs.Prelude.{is_none}
+use Rattle.std.specs.Prelude.{is_none, option_map, option_and_then}
+use Rattle.std.specs.Option.{option_map_or}
 use Rattle.std.proofs.lemmas.Bool.{cond-true, le-leb}
 use Rattle.nutlisting.specs.declared.ring.TheConstants.{RING_LIMIT}
 use Rattle.nutcore.specs.declared.event.Event.{Event}
@@ -10,15 +11,16 @@ use Rattle.nutcore.specs.declared.event.Outcome.TheVariants.{Done, Refused}
 use Rattle.nutcore.specs.declared.event.Fault.TheVariants.{LineTooLong, TookTooMuch}
 use Rattle.nutcore.specs.Session.{SessionState}
 use Rattle.nutcore.specs.Server.{ServerState, session}
-use Rattle.nutcore.specs.Pump.{next_line_of, after_line, after_lines, after_all_lines, after_notice, pump_stops, pumped, held_of, owed_of, is_overlong_of, notified}
-use Rattle.nutcore.specs.Step.{without_output, without_output_of, may_take, offered, pumped_until, after_by, after, refused_after, took_by, outcome_of}
+use Rattle.nutcore.specs.Pump.{next_line, after_line, after_lines, after_all_lines, after_notice, pump_stops, pumped, held_of, owed_of, holds_overlong, notified}
+use Rattle.nutcore.specs.Step.{taken_from, without_output, may_take, offered, pumped_until, after_by, after, refused_after, took_by, outcome_of}
 use Rattle.nutcore.specs.History.{owed, held}
 use Rattle.nutcore.specs.Taking.{GetsEverything, WhoTakesGetsEverything}
 use Rattle.nutcore.proofs.Bounded.{lines_few, overlong_holds, output_held}
 use Rattle.nutcore.proofs.Found.{find_id}
+use Rattle.nutcore.proofs.Changed.{session_put, session_changed}
 use Rattle.nutcore.proofs.Least.{shortens, pump_stopped}
 use Rattle.nutcore.proofs.Loops.{stopped_lines}
-use Rattle.nutcore.proofs.Serving.{session_put, no_notice, notice_there}
+use Rattle.nutcore.proofs.Serving.{no_notice, notice_there}
 
 -- so many lines, and nothing is executed, or less is held
 lines_less : (k : ℕ) (s : ServerState) (c : ℕ) → (after_lines k s c ≡ s) ⊎ (length (held c (after_lines k s c)) < length (held c s))
@@ -34,23 +36,23 @@ lines_less (suc k) s c = less_by (pump_stops s c) refl
         inr (let lower : length (held c (after_lines k (after_line s c) c)) < length (held c s) = omega (arith, less, few) in lower)
 
 -- the notice, and then nothing is held
-noticed : (s : ServerState) (c : ℕ) (x : SessionState) → session c s ≡ Some x → is_overlong_of (Some x) ≡ true → session c (after_notice s c) ≡ Some (notified x)
+noticed : (s : ServerState) (c : ℕ) (x : SessionState) → session c s ≡ Some x → holds_overlong x ≡ true → session c (after_notice s c) ≡ Some (notified x)
 noticed s c x e long = ap (session c) (notice_there s c x e long) ∙ session_put s c x (notified x) e (find_id c s.sessions x e)
 
 notice_less : (s : ServerState) (c : ℕ) → (after_notice s c ≡ s) ⊎ (length (held c (after_notice s c)) < length (held c s))
 notice_less s c = less_of (session c s) refl
   where
-    less_by : (x : SessionState) (b : Bool) → session c s ≡ Some x → is_overlong_of (Some x) ≡ b → (after_notice s c ≡ s) ⊎ (length (held c (after_notice s c)) < length (held c s))
+    less_by : (x : SessionState) (b : Bool) → session c s ≡ Some x → holds_overlong x ≡ b → (after_notice s c ≡ s) ⊎ (length (held c (after_notice s c)) < length (held c s))
     less_by x true e long =
         let full = overlong_holds x long in
         let before = ap (λ (o : Option SessionState). length (held_of o)) e in
         let after = ap (λ (o : Option SessionState). length (held_of o)) (noticed s c x e long) in
         inr (let lower : length (held c (after_notice s c)) < length (held c s) = omega (arith, full, before, after) in lower)
-    less_by x false e short = inl (no_notice s c (ap is_overlong_of e ∙ short))
+    less_by x false e short = inl (no_notice s c (ap (λ (o : Option SessionState). option_map_or holds_overlong o false) e ∙ short))
 
     less_of : (o : Option SessionState) → session c s ≡ o → (after_notice s c ≡ s) ⊎ (length (held c (after_notice s c)) < length (held c s))
-    less_of None e = inl (no_notice s c (ap is_overlong_of e))
-    less_of (Some x) e = less_by x (is_overlong_of (Some x)) e refl
+    less_of None e = inl (no_notice s c (ap (λ (o : Option SessionState). option_map_or holds_overlong o false) e))
+    less_of (Some x) e = less_by x (holds_overlong x) e refl
 
 -- the pump leaves the server as it is, or less is held
 pump_less : (s : ServerState) (c : ℕ) → (pumped s c ≡ s) ⊎ (length (held c (pumped s c)) < length (held c s))
@@ -75,13 +77,13 @@ pump_ended s c = ended_of (session c t) refl
     t : ServerState
     t = after_all_lines s c
 
-    ended_by : (x : SessionState) (b : Bool) → session c t ≡ Some x → is_overlong_of (Some x) ≡ b → pump_stops (after_notice t c) c ≡ true
-    ended_by x true e long = ap (λ (o : Option SessionState). is_none (next_line_of o)) (noticed t c x e long)
-    ended_by x false e short = pump_stopped s c (ap is_overlong_of e ∙ short)
+    ended_by : (x : SessionState) (b : Bool) → session c t ≡ Some x → holds_overlong x ≡ b → pump_stops (after_notice t c) c ≡ true
+    ended_by x true e long = ap (λ (o : Option SessionState). is_none (option_and_then next_line o)) (noticed t c x e long)
+    ended_by x false e short = pump_stopped s c (ap (λ (o : Option SessionState). option_map_or holds_overlong o false) e ∙ short)
 
     ended_of : (o : Option SessionState) → session c t ≡ o → pump_stops (after_notice t c) c ≡ true
-    ended_of None e = pump_stopped s c (ap is_overlong_of e)
-    ended_of (Some x) e = ended_by x (is_overlong_of (Some x)) e refl
+    ended_of None e = pump_stopped s c (ap (λ (o : Option SessionState). option_map_or holds_overlong o false) e)
+    ended_of (Some x) e = ended_by x (holds_overlong x) e refl
 
 -- the client takes all that it is offered
 abbrev all_taken : ServerState → ℕ → Event
@@ -118,9 +120,8 @@ taken_pumped s c x e =
     ap (λ (m : Option ℕ). after_by s (Took c n) m) (there_is_memory (session c s) n _) ∙ cond-true _ _ _ may
 
 output_owed : (s : ServerState) (c n : ℕ) (x : SessionState) → session c s ≡ Some x → owed c (without_output s c n) ≡ drop n x.owed
-unfolding without_output without_output_of
-output_owed s c n x e =
-    ap (λ (o : Option SessionState). owed_of (session c (without_output_of s o n))) e ∙ ap owed_of (session_put s c x (record x { owed = drop n x.owed }) e (find_id c s.sessions x e))
+unfolding without_output
+output_owed s c n x e = ap owed_of (session_changed (taken_from n) (λ x. refl) c s) ∙ ap (λ (o : Option SessionState). owed_of (option_map (taken_from n) o)) e
 
 nearer_open : (s : ServerState) (c : ℕ) (x : SessionState) → session c s ≡ Some x → IsNearer s c (server_then s c)
 nearer_open s c x e = subst (IsNearer s c) (sym (taken_pumped s c x e)) (record { stopped = pump_ended j c; nearer = nearer_by (pump_less j c) })
@@ -157,7 +158,7 @@ nearer s c = nearer_of (session c s) refl
     nearer_of : (o : Option SessionState) → session c s ≡ o → IsNearer s c (server_then s c)
     nearer_of None e =
         let shown = ap (λ (o : Option SessionState). length (offered o)) e in
-        subst (IsNearer s c) (sym (taken_nothing s c e)) (record { stopped = ap (λ (o : Option SessionState). is_none (next_line_of o)) e; nearer = inr (omega arith, omega (arith, shown, length-take RING_LIMIT (owed_of None))) })
+        subst (IsNearer s c) (sym (taken_nothing s c e)) (record { stopped = ap (λ (o : Option SessionState). is_none (option_and_then next_line o)) e; nearer = inr (omega arith, omega (arith, shown, length-take RING_LIMIT (owed_of None))) })
     nearer_of (Some x) e = nearer_open s c x e
 
 -- one take, and then the others

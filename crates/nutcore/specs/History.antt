@@ -1,6 +1,7 @@
 -- What a run did, told from the lists of events and outcomes. The server stores none of it.
 use Rattle.std.specs.Prelude.{ℕ, zero, suc, Bool, false, List, [], ◌∷◌, ◌++◌, Option, Some, None, ◌==◌, nat_lt, if◌then◌else◌, length, take}
 use Rattle.std.specs.List.{filter, flat_map}
+use Rattle.std.specs.Option.{option_map_or}
 use Rattle.nutcore.specs.declared.event.Event.{Event}
 use Rattle.nutcore.specs.declared.event.Event.TheVariants.{DriverUp, DriverBytes, DriverTook, DriverDown, Tick, Open, Feed, Took, Close}
 use Rattle.nutcore.specs.declared.event.Outcome.{Outcome}
@@ -134,18 +135,10 @@ owed c s = owed_of (session c s)
 abbrev pub held : ℕ → ServerState → List ℕ
 held c s = held_of (session c s)
 
-abbrev pub is_closed_of : Option SessionState → Bool → Bool
-is_closed_of None used = used
-is_closed_of (Some x) used = false
-
 -- The client was open, and is no more.
 abbrev pub is_closed : ℕ → ServerState → Bool
-is_closed c s = is_closed_of (session c s) (nat_lt c s.next_id)
-
-abbrev pub is_over_of : Option SessionState → Bool → Bool
-is_over_of None used = used
-is_over_of (Some x) used = x.ending
+is_closed c s = option_map_or (λ x. false) (session c s) (nat_lt c s.next_id)
 
 -- The client is closed, or is ending.
 abbrev pub is_over : ℕ → ServerState → Bool
-is_over c s = is_over_of (session c s) (nat_lt c s.next_id)
+is_over c s = option_map_or (λ x. x.ending) (session c s) (nat_lt c s.next_id)

@@ -1,5 +1,6 @@
 -- Which held lines of a session are executed, and what that leaves.
-use Rattle.std.specs.Prelude.{ℕ, zero, suc, Bool, false, List, [], ◌++◌, Option, Some, None, is_none, nat_lt, nat_le, not, ◌||◌, ◌&&◌, if◌then◌else◌, length, Result, Ok, Err}
+use Rattle.std.specs.Prelude.{ℕ, zero, suc, Bool, false, List, [], ◌++◌, Option, Some, None, is_none, option_and_then, nat_lt, nat_le, not, ◌||◌, ◌&&◌, if◌then◌else◌, length, Result, Ok, Err}
+use Rattle.std.specs.Option.{option_map_or}
 use Rattle.nutcore.specs.declared.TheConstants.{HELD_LIMIT}
 use Rattle.nutlisting.specs.declared.outbox.TheConstants.{OWED_LIMIT}
 use Rattle.nutanswer.specs.declared.command.Command.{Command}
@@ -8,19 +9,15 @@ use Rattle.nutanswer.specs.Command.{read_command}
 use Rattle.nutanswer.specs.Answer.{answer_to, shares_version}
 use Rattle.nutcore.specs.Lines.{first_line, behind}
 use Rattle.nutcore.specs.Session.{SessionState, begin_ending}
-use Rattle.nutcore.specs.Server.{ServerState, session, with_session}
+use Rattle.nutcore.specs.Server.{ServerState, session, with_session_changed}
 use Rattle.nutcore.specs.Reply.{Reply, seen, asker, reply, too_long_notice}
 
 -- The session's next line, if it may be executed: the session isn't ending, and at most 2,048 bytes are owed.
 abbrev pub next_line : SessionState → Option (List ℕ)
 next_line x = if x.ending || nat_lt OWED_LIMIT (length x.owed) then None else first_line x.held
 
-abbrev pub next_line_of : Option SessionState → Option (List ℕ)
-next_line_of None = None
-next_line_of (Some x) = next_line x
-
 abbrev pub next_line_for : ServerState → ℕ → Option (List ℕ)
-next_line_for s c = next_line_of (session c s)
+next_line_for s c = option_and_then next_line (session c s)
 
 -- The pump stops here: the session has no line that may be executed.
 abbrev pub pump_stops : ServerState → ℕ → Bool
@@ -30,21 +27,13 @@ pump_stops s c = is_none (next_line_for s c)
 abbrev pub answered : List ℕ → List ℕ → SessionState → SessionState
 answered line text x = record x { held = behind line x.held; owed = x.owed ++ text }
 
-unfoldable pub after_reply_of : Reply → List ℕ → Option SessionState → ServerState
-after_reply_of r line None = r.server
-after_reply_of r line (Some x) = with_session r.server (answered line r.text x)
-
 -- The server once the line of the client c is answered.
 unfoldable pub after_reply : Reply → ℕ → List ℕ → ServerState
-after_reply r c line = after_reply_of r line (session c r.server)
-
-unfoldable pub after_line_of : ServerState → ℕ → Option (List ℕ) → ServerState
-after_line_of s c None = s
-after_line_of s c (Some line) = after_reply (reply s c line) c line
+after_reply r c line = with_session_changed (answered line r.text) c r.server
 
 -- The server after the session's next line, if it may be executed.
 unfoldable pub after_line : ServerState → ℕ → ServerState
-after_line s c = after_line_of s c (next_line_for s c)
+after_line s c = option_map_or (λ line. after_reply (reply s c line) c line) (next_line_for s c) s
 
 -- The server after the session's next k lines, as far as they may be executed.
 unfoldable pub after_lines : ℕ → ServerState → ℕ → ServerState
@@ -63,24 +52,23 @@ owed_of (Some x) = x.owed
 unfoldable pub after_all_lines : ServerState → ℕ → ServerState
 after_all_lines s c = after_lines (length (held_of (session c s))) s c
 
-abbrev pub is_overlong_of : Option SessionState → Bool
-is_overlong_of None = false
-is_overlong_of (Some x) = not x.ending && (nat_le (length x.owed) OWED_LIMIT && (is_none (first_line x.held) && nat_le HELD_LIMIT (length x.held)))
-
 -- The session may go on, but holds 1,024 bytes without an LF.
+abbrev pub holds_overlong : SessionState → Bool
+holds_overlong x = not x.ending && (nat_le (length x.owed) OWED_LIMIT && (is_none (first_line x.held) && nat_le HELD_LIMIT (length x.held)))
+
 abbrev pub is_overlong : ServerState → ℕ → Bool
-is_overlong s c = is_overlong_of (session c s)
+is_overlong s c = option_map_or holds_overlong (session c s) false
 
 -- The session is told that its line is too long, and begins to end.
 abbrev pub notified : SessionState → SessionState
 notified x = begin_ending (record x { owed = x.owed ++ too_long_notice })
 
-unfoldable pub after_notice_of : ServerState → Option SessionState → ServerState
-after_notice_of s None = s
-after_notice_of s (Some x) = if is_overlong_of (Some x) then with_session s (notified x) else s
+-- It is told where that is due.
+abbrev pub with_notice : SessionState → SessionState
+with_notice x = if holds_overlong x then notified x else x
 
 unfoldable pub after_notice : ServerState → ℕ → ServerState
-after_notice s c = after_notice_of s (session c s)
+after_notice s c = with_session_changed with_notice c s
 
 -- The pump: all lines that may be executed, and the notice where it is due.
 unfoldable pub pumped : ServerState → ℕ → ServerState
@@ -92,10 +80,6 @@ shares_version_read s c (Err word) = false
 shares_version_read s c (Ok None) = false
 shares_version_read s c (Ok (Some command)) = shares_version (answer_to (seen s) (asker c s) command)
 
-abbrev pub shares_version_line : ServerState → ℕ → Option (List ℕ) → Bool
-shares_version_line s c None = false
-shares_version_line s c (Some line) = shares_version_read s c (read_command line)
-
 -- The session's next line may be executed, and its answer shares a version.
 abbrev pub wants_memory : ServerState → ℕ → Bool
-wants_memory s c = shares_version_line s c (next_line_for s c)
+wants_memory s c = option_map_or (λ line. shares_version_read s c (read_command line)) (next_line_for s c) false

@@ -1,5 +1,6 @@
 -- The server as its callers see it.
 use Rattle.std.specs.Prelude.{ℕ, zero, suc, List, [], ◌∷◌, Option, Some, None, slice_get, replicate, length, nat_le, ◌&&◌, if◌then◌else◌}
+use Rattle.std.specs.Option.{option_map_or}
 use Rattle.nutusers.specs.UpsList.{Ups}
 use Rattle.nutusers.specs.Users.{User}
 use Rattle.nutusers.specs.Descriptions.{Descriptions}
@@ -31,13 +32,9 @@ session c s = find c s.sessions
 abbrev pub with_session : ServerState → SessionState → ServerState
 with_session s y = record s { sessions = put y s.sessions }
 
-unfoldable pub with_session_changed_of : (SessionState → SessionState) → Option SessionState → ServerState → ServerState
-with_session_changed_of f None s = s
-with_session_changed_of f (Some x) s = with_session s (f x)
-
 -- The server in which f, which keeps its id, changes the session of this id, if there is one.
 unfoldable pub with_session_changed : (SessionState → SessionState) → ℕ → ServerState → ServerState
-with_session_changed f c s = with_session_changed_of f (session c s) s
+with_session_changed f c s = option_map_or (λ x. with_session s (f x)) (session c s) s
 
 -- The greatest age of what a driver told is from 3 to 86,400 seconds (`MAXAGE` of upsd.conf(5)).
 abbrev pub read_max_age : ℕ → Option ℕ

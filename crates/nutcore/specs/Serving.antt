@@ -60,6 +60,30 @@ Replies s c line (Clients name u) =
     (shares_version_read s c (read_command line) ≡ false) × (text_to s c (read_command line) ≡ text_of (client_listing name (addresses_at u (map seen_client s.sessions)))) × (change_by s c (read_command line) ≡ Nothing)
 Replies s c line (Many listing) = (shares_version_read s c (read_command line) ≡ true) × (text_to s c (read_command line) ≡ text_of listing) × (change_by s c (read_command line) ≡ Nothing)
 
+-- the text of an answer, where these are the clients of a UPS that it lists
+abbrev pub text_with : List (List ℕ) → Answer → List ℕ
+text_with clients (One text change) = text.now
+text_with clients (Many listing) = text_of listing
+text_with clients (Clients name u) = text_of (client_listing name clients)
+
+-- what it changes
+abbrev pub change_in : Answer → Change
+change_in (One text change) = change
+change_in (Many listing) = Nothing
+change_in (Clients name u) = Nothing
+
+-- if it is a line, it is a whole one, and may be joined to what is owed
+abbrev pub IsShort : Answer → Type 0
+IsShort (One text change) = (length text.now ≤ OWED_LIMIT) × IsLineOrNone text.now
+IsShort (Many listing) = Unit {0}
+IsShort (Clients name u) = Unit {0}
+
+-- if it lists the clients of a UPS, these are the addresses of the sessions that are logged in to it
+abbrev pub ListsClients : List SessionState → Answer → List (List ℕ) → Type 0
+ListsClients sessions (One text change) clients = Unit {0}
+ListsClients sessions (Many listing) clients = Unit {0}
+ListsClients sessions (Clients name u) clients = clients ≡ addresses_at u (map seen_client sessions)
+
 -- an order is for a driver that is connected, and fits in what it may still be owed
 pub record TakesLine (line : List ℕ) (x : UpsState) : Type 0 where
   pub connected : x.report.connected ≡ true
@@ -80,10 +104,6 @@ IsText text (Clients name u) = ⊥
 abbrev pub RepliesOrLacks : ServerState → ℕ → List ℕ → Result Answer AllocError → Type 0
 RepliesOrLacks s c line (Ok answer) = Replies s c line answer
 RepliesOrLacks s c line (Err e) = shares_version_read s c (read_command line) ≡ true
-
--- the next line of the client's session is answered by this text, and its session is changed
-abbrev pub IsAnswered : ServerState → ℕ → List ℕ → Change → ServerState → Type 0
-IsAnswered old c text change new = (line : List ℕ) (x : SessionState) → next_line_for old c ≡ Some line → session c old ≡ Some x → new ≡ with_session old (changed_session change (answered line text x))
 
 -- the client's next line may be executed, and this holds of it
 abbrev pub NextIs : ServerState → ℕ → (List ℕ → Type 0) → Type 0

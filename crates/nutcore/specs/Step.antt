@@ -13,7 +13,7 @@ use Rattle.nutcore.specs.declared.event.Fault.TheVariants.{NoSuchUps, NoSuchClie
 use Rattle.nutcore.specs.Session.{SessionState, new_session, without}
 use Rattle.nutcore.specs.Lines.{whole_lines, unfinished_after, is_too_long}
 use Rattle.nutcore.specs.Ups.{UpsState, after_connecting, after_loss, after_tick, after_text, with_unfinished, wants_memory_for}
-use Rattle.nutcore.specs.Server.{ServerState, session, with_session, ups_at, with_ups_changed}
+use Rattle.nutcore.specs.Server.{ServerState, session, with_session_changed, ups_at, with_ups_changed}
 use Rattle.nutcore.specs.Pump.{pumped, after_all_lines, after_lines, is_overlong, wants_memory, owed_of}
 
 -- Clients: bytes come.
@@ -23,13 +23,12 @@ abbrev pub accepted_bytes : Option SessionState → List ℕ → List ℕ
 accepted_bytes None piece = []
 accepted_bytes (Some x) piece = if x.ending then [] else take (HELD_LIMIT - length x.held) piece
 
-unfoldable pub with_input_of : ServerState → Option SessionState → List ℕ → ServerState
-with_input_of s None piece = s
-with_input_of s (Some x) piece = with_session s (record x { held = x.held ++ accepted_bytes (Some x) piece })
+abbrev pub joined : List ℕ → SessionState → SessionState
+joined piece x = record x { held = x.held ++ accepted_bytes (Some x) piece }
 
 -- The server once the piece has come.
 unfoldable pub with_input : ServerState → ℕ → List ℕ → ServerState
-with_input s c piece = with_input_of s (session c s) piece
+with_input s c piece = with_session_changed (joined piece) c s
 
 -- Clients: bytes are taken.
 
@@ -41,13 +40,12 @@ abbrev pub may_take : Option SessionState → ℕ → Bool
 may_take None n = false
 may_take (Some x) n = nat_le n (length (offered (Some x)))
 
-unfoldable pub without_output_of : ServerState → Option SessionState → ℕ → ServerState
-without_output_of s None n = s
-without_output_of s (Some x) n = with_session s (record x { owed = drop n x.owed })
+abbrev pub taken_from : ℕ → SessionState → SessionState
+taken_from n x = record x { owed = drop n x.owed }
 
 -- The server once the client has taken n bytes.
 unfoldable pub without_output : ServerState → ℕ → ℕ → ServerState
-without_output s c n = without_output_of s (session c s) n
+without_output s c n = with_session_changed (taken_from n) c s
 
 -- Clients come: at most 64 at once, and an id is never used again.
 abbrev pub may_open : ServerState → Bool
@@ -81,13 +79,9 @@ unfoldable pub after_driver_text : UpsId → List ℕ → Option ℕ → ServerS
 after_driver_text u text None s = with_ups_changed (with_rest (unfinished_after text)) u (after_driver_lines u (whole_lines text) s)
 after_driver_text u text (Some k) s = with_ups_changed after_loss u (after_driver_lines u (take k (whole_lines text)) s)
 
-unfoldable pub after_driver_bytes_of : UpsId → List ℕ → Option ℕ → Option UpsState → ServerState → ServerState
-after_driver_bytes_of u piece m None s = s
-after_driver_bytes_of u piece m (Some x) s = if x.report.connected then after_driver_text u (x.unfinished ++ piece) m s else s
-
 -- A piece is told behind what was unfinished. Where no driver is connected, nothing changes.
 unfoldable pub after_driver_bytes : UpsId → List ℕ → Option ℕ → ServerState → ServerState
-after_driver_bytes u piece m s = after_driver_bytes_of u piece m (ups_at u.place s) s
+after_driver_bytes u piece m s = option_map_or (λ x. if x.report.connected then after_driver_text u (x.unfinished ++ piece) m s else s) (ups_at u.place s) s
 
 -- The driver took n bytes of what it is owed.
 abbrev pub driver_may_take : ℕ → UpsState → Bool
@@ -180,14 +174,13 @@ outcome_of s (Close c) = closed_by (session c s)
 unfoldable pub wants_driver_memory : UpsId → List ℕ → ℕ → ServerState → Bool
 wants_driver_memory u text k s = option_map_or (wants_memory_for (slice_get (whole_lines text) k)) (ups_at u.place (after_driver_lines u (take k (whole_lines text)) s)) false
 
-abbrev pub driver_may_lack_memory : UpsId → List ℕ → ℕ → Option UpsState → ServerState → Bool
-driver_may_lack_memory u piece k None s = false
-driver_may_lack_memory u piece k (Some x) s = x.report.connected && wants_driver_memory u (x.unfinished ++ piece) k s
+abbrev pub driver_may_lack_memory : UpsId → List ℕ → ℕ → ServerState → Bool
+driver_may_lack_memory u piece k s = option_map_or (λ x. x.report.connected && wants_driver_memory u (x.unfinished ++ piece) k s) (ups_at u.place s) false
 
 -- Memory may be refused after k lines of the event. The next line of a client stays held, to be tried again.
 unfoldable pub MayLackMemory : ServerState → Event → ℕ → Type 0
 MayLackMemory s (DriverUp u) k = ⊥
-MayLackMemory s (DriverBytes u piece) k = IsTrue (driver_may_lack_memory u piece k (ups_at u.place s) s)
+MayLackMemory s (DriverBytes u piece) k = IsTrue (driver_may_lack_memory u piece k s)
 MayLackMemory s (DriverTook u n) k = ⊥
 MayLackMemory s (DriverDown u) k = ⊥
 MayLackMemory s (Tick seconds) k = ⊥

@@ -2,8 +2,8 @@
 ghost use Rattle.std.specs.Prelude.{◌≡◌, ◌≤◌, ◌<◌, ◌-◌, ◌++◌, ℕ, List, length, drop, take, IfOk, OnOk, OnErr, MatchOption, true, false, Some, None, [], ◌∷◌, is_some, if◌then◌else◌};
 ghost use Rattle.nutcore.specs.Session.{new_session, begin_ending};
 ghost use Rattle.nutcore.specs.Lines.{first_line, behind};
-ghost use Rattle.nutcore.specs.Pump.{next_line, answered, is_overlong_of, notified};
-ghost use Rattle.nutcore.specs.Step.{accepted_bytes, accepted};
+ghost use Rattle.nutcore.specs.Pump.{next_line, answered, holds_overlong, with_notice};
+ghost use Rattle.nutcore.specs.Step.{joined, accepted, taken_from};
 ghost use Rattle.nutlisting.specs.Items.{text_of, client_listing};
 ghost use Rattle.nutlisting.specs.declared.listing.clients.TheConstants.{SESSION_LIMIT};
 ghost use Rattle.std.specs.Borrow.{sem};
@@ -14,14 +14,14 @@ ghost use Rattle.nutlisting.specs.declared.outbox.TheConstants.{OWED_LIMIT};
 ghost use Rattle.nutlisting.specs.declared.ring.TheConstants.{RING_LIMIT};
 ghost use Rattle.nutwords.specs.declared.limits.TheConstants.{LINE_LIMIT};
 ghost use Rattle.nutcore.specs.Calls.{is_finished, room_of, IsOutboxOf};
-ghost use Rattle.nutcore.specs.Serving.{IsLineOrNone, IsCounted, KeepsCount};
+ghost use Rattle.nutcore.specs.Serving.{IsLineOrNone, IsShort, text_with, change_in, IsCounted, KeepsCount};
 ghost use Rattle.nutcore.specs.Reply.{asker_of, seen_client, changed_session};
 ghost use Rattle.nutanswer.specs.View.{asker_seen, is_logged_in, addresses_at};
 
 use crate::HELD_LIMIT;
 use crate::lines::{drop_front, line_end};
 use crate::scratch::Scratch;
-use nutanswer::{Asker, Change};
+use nutanswer::{Asker, Change, Reply};
 use nutlisting::{Clients, Listing, Outbox};
 use nutusers::{Password, UpsId, UserName};
 use nutwords::{Address, UpsName};
@@ -144,10 +144,7 @@ impl Session {
     /// Joins as much of a piece as there is room for. An ending session drops it.
     pub(crate) fn join(&mut self, piece: &[u8]) -> usize
         ensures id { self.new.id ≡ self.old.id }
-        ensures joins { self.new ≡ record self.old {
-          held = self.old.held ++ accepted_bytes
-              (Some self.old) piece.now;
-        } }
+        ensures joins { self.new ≡ joined piece.now self.old }
         ensures short { length self.new.held ≤ HELD_LIMIT }
         ensures count { result ≡ accepted self.old piece.now }
     {
@@ -176,48 +173,33 @@ impl Session {
         Some(&waiting[..end])
     }
 
-    /// Takes the next line, joins its answer of one line to what is owed, and does what it changes
-    /// of the session. Takes no memory.
-    pub(crate) fn answer(&mut self, text: &[u8], change: Change<'_>, scratch: &mut Scratch)
+    /// Takes the next line, joins its answer to what is owed, and does what that changes of the session. The clients in
+    /// the scratch are those that the answer lists. Takes no memory.
+    pub(crate) fn answer(&mut self, reply: Reply<'_>, scratch: &mut Scratch)
         requires going { is_some (next_line self.old) ≡ true }
-        requires short { length text.now ≤ OWED_LIMIT }
-        requires line { IsLineOrNone text.now }
+        requires short { IsShort reply }
         ensures answered { (line : List ℕ) → next_line self.old ≡ Some line
-            → self.new ≡ changed_session change.entry (answered line text.now self.old) }
+            → self.new ≡ changed_session (change_in reply.entry)
+            (answered line (text_with scratch.old.clients reply.entry) self.old) }
         ensures id { self.new.id ≡ self.old.id }
         ensures keeps { KeepsCount self.old.owed scratch.old.renders
             self.new.owed scratch.new.renders }
     {
-        self.owe(text, scratch);
-        self.take_line();
-        self.change(change);
-    }
-
-    /// Takes the next line, and joins the listing that answers it to what is owed. Takes no memory.
-    pub(crate) fn answer_listing(&mut self, listing: Listing, scratch: &mut Scratch)
-        requires { is_some (next_line self.old) ≡ true }
-        ensures answered { (line : List ℕ) → next_line self.old ≡ Some line
-            → self.new ≡ answered line (text_of listing) self.old }
-        ensures id { self.new.id ≡ self.old.id }
-        ensures keeps { KeepsCount self.old.owed scratch.old.renders
-            self.new.owed scratch.new.renders }
-    {
-        self.owe_listing(listing, scratch);
-        self.take_line();
-    }
-
-    /// Takes the next line, and joins the listing of the clients in the scratch, who are those of this UPS, to what is
-    /// owed. Takes no memory.
-    pub(crate) fn answer_clients(&mut self, ups: &UpsName, scratch: &mut Scratch)
-        requires { is_some (next_line self.old) ≡ true }
-        ensures answered { (line : List ℕ) → next_line self.old ≡ Some line
-            → self.new ≡ answered line (text_of (client_listing ups.now scratch.old.clients)) self.old }
-        ensures id { self.new.id ≡ self.old.id }
-        ensures keeps { KeepsCount self.old.owed scratch.old.renders
-            self.new.owed scratch.new.renders }
-    {
-        self.owe_clients(ups, scratch);
-        self.take_line();
+        match reply {
+            Reply::One(text, change) => {
+                self.owe(text, scratch);
+                self.take_line();
+                self.change(change);
+            }
+            Reply::Many(listing) => {
+                self.owe_listing(listing, scratch);
+                self.take_line();
+            }
+            Reply::Clients(ups, _) => {
+                self.owe_clients(&ups, scratch);
+                self.take_line();
+            }
+        }
     }
 
     /// Joins the listing of these clients to what is owed.
@@ -279,9 +261,8 @@ impl Session {
 
     /// A session that holds 1,024 bytes without an LF is told so, and begins to end.
     pub(crate) fn end_if_overlong(&mut self, scratch: &mut Scratch) -> bool
-        ensures overlong { result ≡ is_overlong_of (Some self.old) }
-        ensures ends { result ≡ true → self.new ≡ notified self.old }
-        ensures same { result ≡ false → self.new ≡ self.old }
+        ensures overlong { result ≡ holds_overlong self.old }
+        ensures noticed { self.new ≡ with_notice self.old }
         ensures id { self.new.id ≡ self.old.id }
         ensures keeps { KeepsCount self.old.owed scratch.old.renders
             self.new.owed scratch.new.renders }
@@ -352,7 +333,7 @@ impl Session {
         requires none { scratch.old.renders ≡ 0 }
         ensures short { length self.new.held ≤ HELD_LIMIT }
         ensures id { self.new.id ≡ self.old.id }
-        ensures takes { self.new ≡ record self.old { owed = drop n self.old.owed } }
+        ensures takes { self.new ≡ taken_from n self.old }
         ensures counted { IsCounted (length (take RING_LIMIT self.old.owed) - n)
             self.new.owed scratch.new.renders }
     {

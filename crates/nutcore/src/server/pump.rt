@@ -7,7 +7,7 @@ ghost use Rattle.nutcore.specs.Ups.{with_fsd, with_order};
 ghost use Rattle.nutcore.specs.Ups.{UpsState};
 ghost use Rattle.nutcore.specs.Calls.{done};
 ghost use Rattle.nutcore.specs.Step.{offered};
-ghost use Rattle.nutcore.specs.Serving.{IsAt, TakesLine, OrderFits, PumpGives, RepliesOrLacks, IsText, NextIs, IsAnswered, IsLineOrNone, IsCounted, KeepsCost, cost_beyond};
+ghost use Rattle.nutcore.specs.Serving.{IsAt, TakesLine, OrderFits, PumpGives, RepliesOrLacks, ListsClients, change_in, IsText, NextIs, IsCounted, KeepsCost, cost_beyond};
 ghost use Rattle.nutcore.specs.Reply.{asker, changed_upses, seen_client};
 ghost use Rattle.nutanswer.specs.View.{asker_seen, addresses_at};
 ghost use Rattle.nutlisting.specs.declared.listing.clients.TheConstants.{SESSION_LIMIT};
@@ -21,10 +21,10 @@ use super::Server;
 use crate::event::{ClientId, Fault};
 use crate::session::Session;
 use crate::ups::Ups;
-use nutanswer::{Asker, Change, Command, Listing, Reply, answer};
+use nutanswer::{Asker, Change, Command, Reply, answer};
 use nutlisting::Clients;
 use nutusers::UpsId;
-use nutwords::{Line, UpsName};
+use nutwords::Line;
 use std::alloc::AllocError;
 
 impl Server {
@@ -74,59 +74,21 @@ impl Server {
         self.reply(c, session.asker(), line, lent)
     }
 
-    /// Takes the next line, joins the text that answers it, and does what it changes of the
-    /// session. Takes no memory.
-    pub(super) fn answer_text(&mut self, c: ClientId, place: usize, text: &[u8], change: Change<'_>)
-        requires at { IsAt c place self.old.state.sessions }
-        requires next { is_some (next_line_for self.old.state c) ≡ true }
-        requires short { length text.now ≤ OWED_LIMIT }
-        requires line { IsLineOrNone text.now }
-        ensures answered { IsAnswered self.old.state c text.now change.entry self.new.state }
-        ensures keeps { KeepsCost c self.old self.new }
-    {
-        let session = &mut self.sessions[place];
-        session.answer(text, change, &mut self.scratch);
-    }
-
     /// Does what an answer changes of the UPSs.
-    pub(super) fn change_upses(&mut self, change: &Change<'_>)
-        requires fits { OrderFits change.now self.old.state.upses }
+    pub(super) fn change_upses(&mut self, reply: &Reply<'_>)
+        requires fits { OrderFits (change_in reply.now) self.old.state.upses }
         ensures changed { self.new.state ≡ record self.old.state
-            { upses = changed_upses change.now self.old.state.upses } }
+            { upses = changed_upses (change_in reply.now) self.old.state.upses } }
         ensures cost { self.new.cost ≡ self.old.cost }
     {
+        let Reply::One(_, change) = reply else {
+            return;
+        };
         match change {
             Change::Fsd(u) => set_fsd(&mut self.upses, *u),
             Change::Order(u, line) => order(&mut self.upses, *u, line.as_bytes()),
             _ => {}
         }
-    }
-
-    /// Executes the next line, whose answer is this listing. Takes no memory.
-    pub(super) fn answer_listing(&mut self, c: ClientId, place: usize, listing: Listing)
-        requires at { IsAt c place self.old.state.sessions }
-        requires next { is_some (next_line_for self.old.state c) ≡ true }
-        ensures answered { IsAnswered self.old.state c (text_of listing) Nothing self.new.state }
-        ensures keeps { KeepsCost c self.old self.new }
-    {
-        let session = &mut self.sessions[place];
-        session.answer_listing(listing, &mut self.scratch);
-    }
-
-    /// Executes the next line, which is answered by the listing of the clients that are logged in to this UPS. Takes no
-    /// memory.
-    pub(super) fn answer_clients(&mut self, c: ClientId, place: usize, name: &UpsName, u: UpsId)
-        requires at { IsAt c place self.old.state.sessions }
-        requires next { is_some (next_line_for self.old.state c) ≡ true }
-        ensures answered { IsAnswered self.old.state c
-            (text_of (client_listing name.now
-            (addresses_at u (map seen_client self.old.state.sessions))))
-            Nothing self.new.state }
-        ensures keeps { KeepsCost c self.old self.new }
-    {
-        list_clients(&self.sessions, u, &mut self.scratch.clients);
-        let session = &mut self.sessions[place];
-        session.answer_clients(name, &mut self.scratch);
     }
 
     /// Executes the next line, which is there. Without memory nothing changes. It alone has a line of an answer, which is
@@ -141,21 +103,12 @@ impl Server {
         ensures keeps { KeepsCost c self.old self.new }
     {
         let mut line = Line::new();
-        match self.next_reply(c, place, &mut line)? {
-            Reply::One(text, change) => {
-                self.change_upses(&change);
-                self.answer_text(c, place, text, change);
-                Ok(())
-            }
-            Reply::Many(listing) => {
-                self.answer_listing(c, place, listing);
-                Ok(())
-            }
-            Reply::Clients(name, u) => {
-                self.answer_clients(c, place, &name, u);
-                Ok(())
-            }
-        }
+        let reply = self.next_reply(c, place, &mut line)?;
+        self.change_upses(&reply);
+        list_clients(&self.sessions, &reply, &mut self.scratch.clients);
+        let session = &mut self.sessions[place];
+        session.answer(reply, &mut self.scratch);
+        Ok(())
     }
 
     /// A session that holds too long a line is told so, and begins to end.
@@ -207,14 +160,18 @@ impl Server {
     }
 }
 
-/// Puts together the addresses of the sessions that are logged in to the UPS, in the order of opening.
-fn list_clients(sessions: &Vec<Session>, u: UpsId, clients: &mut Clients)
+/// Where the reply lists the clients of a UPS, puts together the addresses of the sessions that are logged in to it, in
+/// the order of opening.
+fn list_clients(sessions: &Vec<Session>, reply: &Reply<'_>, clients: &mut Clients)
     requires { length sessions.now.items ≤ SESSION_LIMIT }
-    ensures { clients.new ≡ addresses_at u (map seen_client sessions.now.items) }
+    ensures { ListsClients sessions.now.items reply.now clients.new }
 {
+    let Reply::Clients(_, u) = reply else {
+        return;
+    };
     clients.clear();
     for session in sessions.iter() {
-        session.list(u, clients);
+        session.list(*u, clients);
     }
 }
 

@@ -1,8 +1,9 @@
-use Rattle.std.proofs.Common.{◌≡◌, ◌∙◌, Some, sym, ap, subst, set}
+use Rattle.std.proofs.Common.{◌≡◌, ◌∙◌, Option, Some, false, sym, ap, subst, set}
+use Rattle.std.specs.Option.{option_map_or}
 use Rattle.nutcore.specs.Session.{SessionState}
 use Rattle.nutcore.specs.Server.{ServerState, session}
 use Rattle.nutcore.specs.Serving.{IsAt}
-use Rattle.nutcore.specs.Pump.{after_notice, is_overlong_of}
+use Rattle.nutcore.specs.Pump.{after_notice, holds_overlong}
 use Rattle.nutcore.specs.contracts.server.Server.{the_view}
 use Rattle.nutcore.proofs.Serving.{found_in, notice_is}
 use Rattle.nutcore.proofs.KeptSound.{session_kept, noticed_kept}
@@ -21,14 +22,14 @@ invariant_of-self c =
     let at : IsAt c.args.c c.args.place v.sessions = subst (λ (z : ServerState). IsAt c.args.c c.args.place z.sessions) (sym (state_is c.self.view_is)) c.requires in
     let found : session c.args.c v ≡ Some x = ap (session c.args.c) (state_is c.self.view_is) ∙ found_in c.args.c c.args.place v c.args.self.now.state x (state_is c.self.view_is) c.requires c.index_mut-session.ensures.value in
     record {
-      sound = session_kept v c.args.c c.args.place x y at found c.end_if_overlong.ensures.id (noticed_kept x y c.end_if_overlong.result c.end_if_overlong.ensures.ends c.end_if_overlong.ensures.same) c.self.invariant.sound;
+      sound = session_kept v c.args.c c.args.place x y at found c.end_if_overlong.ensures.id (noticed_kept x y c.end_if_overlong.ensures.noticed) c.self.invariant.sound;
       room = c.self.invariant.room;
     }
 
 pub returns-clause-overlong : goal.returns-clause-overlong
 returns-clause-overlong c =
     let found : session c.args.c c.args.self.now.state ≡ Some c.index_mut-session.result.now = found_in c.args.c c.args.place (the_view c.self.inside).state c.args.self.now.state c.index_mut-session.result.now (state_is c.self.view_is) c.requires c.index_mut-session.ensures.value in
-    c.end_if_overlong.ensures.overlong ∙ sym (ap is_overlong_of found)
+    c.end_if_overlong.ensures.overlong ∙ sym (ap (λ (o : Option SessionState). option_map_or holds_overlong o false) found)
 
 pub returns-clause-notified : goal.returns-clause-notified
 returns-clause-notified c =
@@ -36,7 +37,7 @@ returns-clause-notified c =
     let x : SessionState = c.index_mut-session.result.now in
     let at : IsAt c.args.c c.args.place v.sessions = subst (λ (z : ServerState). IsAt c.args.c c.args.place z.sessions) (sym (state_is c.self.view_is)) c.requires in
     let found : session c.args.c v ≡ Some x = ap (session c.args.c) (state_is c.self.view_is) ∙ found_in c.args.c c.args.place v c.args.self.now.state x (state_is c.self.view_is) c.requires c.index_mut-session.ensures.value in
-    notice_is v c.args.c c.args.place x c.end_if_overlong.new.self c.end_if_overlong.result at found c.end_if_overlong.ensures.overlong c.end_if_overlong.ensures.ends c.end_if_overlong.ensures.same
+    notice_is v c.args.c c.args.place x c.end_if_overlong.new.self at found c.end_if_overlong.ensures.noticed
     ∙ ap (λ (z : ServerState). after_notice z c.args.c) (state_is c.self.view_is)
 
 pub returns-clause-keeps : goal.returns-clause-keeps

@@ -1,41 +1,69 @@
-use Rattle.std.proofs.Common.{◌≡◌, ◌∙◌, Result, Ok, ap, subst, refl, List, ℕ, map}
-use Rattle.std.specs.declared.alloc.AllocError.{AllocError}
-use Rattle.nutanswer.specs.declared.reply.Reply.{Reply}
-use Rattle.nutanswer.specs.declared.reply.Reply.TheVariants.{One, Many, Clients}
-use Rattle.nutanswer.specs.declared.reply.Change.TheVariants.{Nothing}
-use Rattle.nutlisting.specs.Items.{text_of, client_listing}
-use Rattle.nutanswer.specs.View.{addresses_at}
-use Rattle.nutcore.specs.Reply.{seen_client}
-use Rattle.nutcore.specs.Serving.{Replies, RepliesOrLacks}
-use Rattle.nutcore.proofs.Serving.{line_is}
+use Rattle.std.specs.Prelude.{is_some}
+use Rattle.std.proofs.Common.{◌≡◌, ◌∙◌, List, ℕ, Some, true, ap, sym, subst, set}
 use Rattle.nutanswer.specs.Command.{read_command}
+use Rattle.nutcore.specs.declared.cost.Cost.{Cost}
+use Rattle.nutcore.specs.Session.{SessionState}
+use Rattle.nutcore.specs.Server.{ServerState, session}
+use Rattle.nutcore.specs.Reply.{changed_upses}
+use Rattle.nutcore.specs.Pump.{next_line}
+use Rattle.nutcore.specs.History.{owed}
+use Rattle.nutcore.specs.Cost.{RunningServer}
+use Rattle.nutcore.specs.Serving.{KeepsCount, change_in, text_with}
+use Rattle.nutcore.specs.contracts.server.Server.{the_view}
+use Rattle.nutcore.proofs.Runs.{state_is}
+use Rattle.nutcore.proofs.Serving.{StandsAt, stands, goes, next_of_found, change_told, line_is}
+use Rattle.nutcore.proofs.KeptSound.{session_kept, answered_kept}
 use Rattle.nutcore.proofs.OrderFits.{order_fits}
+use Rattle.nutcore.proofs.Costs.{cost_kept}
 use Rattle.nutcore.proofs.server.Server.execute.Goals as goal
+
+-- the UPSs are changed, and nothing else yet
+changed : (c : goal.After-self-1) → (let t : ServerState = record c.args.self.now.state { upses = changed_upses (change_in c.in_ok-reply.reply) c.args.self.now.state.upses } in (the_view c.self.inside).state ≡ t)
+changed c = state_is c.self.view_is ∙ c.change_upses.ensures.changed
+
+asking : (c : goal.After-self-1) → StandsAt (the_view c.self.inside).state c.args.c c.args.place c.index_mut-session.result.now
+asking c = stands c.args.c c.args.place (the_view c.self.inside).state (record c.args.self.now.state { upses = changed_upses (change_in c.in_ok-reply.reply) c.args.self.now.state.upses }) c.index_mut-session.result.now (changed c) c.requires.at c.index_mut-session.ensures.value
 
 pub change_upses-requires : goal.change_upses-requires
 change_upses-requires c =
-    let line : List ℕ = c.next_reply.ensures.next.0 in
-    let e : c.next_reply.result ≡ Ok (One c.in-One.text c.in-One.change) = c.in_ok-text.was ∙ ap (λ (r : Reply). Ok r) c.in-One.is in
-    let told : Replies c.args.self.now.state c.args.c line (One c.in-One.text c.in-One.change) = subst (λ (r : Result Reply AllocError). RepliesOrLacks c.args.self.now.state c.args.c line r) e c.next_reply.ensures.next.2 in
-    record { fits = order_fits c.args.self.now.state c.args.c (read_command line) c.in-One.change told.2 }
+    let line : List ℕ = c.in_ok-reply.ensures.next.0 in
+    record { fits = order_fits c.args.self.now.state c.args.c (read_command line) (change_in c.in_ok-reply.reply) (change_told c.args.self.now.state c.args.c line c.in_ok-reply.reply c.in_ok-reply.ensures.next.2) }
 
-pub returns-in-One-clause-ok : goal.returns-in-One-clause-ok
-returns-in-One-clause-ok c =
-    let line : List ℕ = c.next_reply.ensures.next.0 in
-    let e : c.next_reply.result ≡ Ok (One c.in-One.text c.in-One.change) = c.in_ok-text.was ∙ ap (λ (r : Reply). Ok r) c.in-One.is in
-    let told : Replies c.args.self.now.state c.args.c line (One c.in-One.text c.in-One.change) = subst (λ (r : Result Reply AllocError). RepliesOrLacks c.args.self.now.state c.args.c line r) e c.next_reply.ensures.next.2 in
-    line_is c.args.self.now.state c.change_upses.new.self.state c.answer_text.new.self.state c.args.c line c.in-One.text.now c.in-One.change c.next_reply.ensures.next.1 told.1 told.2 c.change_upses.ensures.changed c.answer_text.ensures.answered
+pub answer-requires-clause-going : goal.answer-requires-clause-going
+answer-requires-clause-going c =
+    let s : ServerState = c.args.self.now.state in
+    let t : ServerState = record s { upses = changed_upses (change_in c.in_ok-reply.reply) s.upses } in
+    let v : ServerState = (the_view c.self.inside).state in
+    let x : SessionState = c.index_mut-session.result.now in
+    let is : v ≡ t = state_is c.self.view_is ∙ c.change_upses.ensures.changed in
+    goes s c.args.c x (ap (session c.args.c) (sym is) ∙ (stands c.args.c c.args.place v t x is c.requires.at c.index_mut-session.ensures.value).found) c.requires.next
 
-pub returns-in-Many-clause-ok : goal.returns-in-Many-clause-ok
-returns-in-Many-clause-ok c =
-    let line : List ℕ = c.next_reply.ensures.next.0 in
-    let e : c.next_reply.result ≡ Ok (Many c.in-Many.listing) = c.in_ok-text.was ∙ ap (λ (r : Reply). Ok r) c.in-Many.is in
-    let told : Replies c.args.self.now.state c.args.c line (Many c.in-Many.listing) = subst (λ (r : Result Reply AllocError). RepliesOrLacks c.args.self.now.state c.args.c line r) e c.next_reply.ensures.next.2 in
-    line_is c.args.self.now.state c.args.self.now.state c.answer_listing.new.self.state c.args.c line (text_of c.in-Many.listing) Nothing c.next_reply.ensures.next.1 told.1 told.2 refl c.answer_listing.ensures.answered
+pub invariant_of-self : goal.invariant_of-self
+invariant_of-self c =
+    let x : SessionState = c.index_mut-session.result.now in
+    let going : is_some (next_line x) ≡ true = goes c.args.self.now.state c.args.c x (ap (session c.args.c) (sym (changed c)) ∙ (asking c).found) c.requires.next in
+    record {
+      sound = session_kept (the_view c.self.inside).state c.args.c c.args.place x c.answer.new.self (asking c).at (asking c).found c.answer.ensures.id
+          (answered_kept (change_in c.in_ok-reply.reply) (text_with c.list_clients.new.clients c.in_ok-reply.reply) x c.answer.new.self going c.answer.ensures.answered)
+          c.self.invariant.sound;
+      room = c.self.invariant.room;
+    }
 
-pub returns-in-Clients-clause-ok : goal.returns-in-Clients-clause-ok
-returns-in-Clients-clause-ok c =
-    let line : List ℕ = c.next_reply.ensures.next.0 in
-    let e : c.next_reply.result ≡ Ok (Clients c.in-Clients.name c.in-Clients.u) = c.in_ok-text.was ∙ ap (λ (r : Reply). Ok r) c.in-Clients.is in
-    let told : Replies c.args.self.now.state c.args.c line (Clients c.in-Clients.name c.in-Clients.u) = subst (λ (r : Result Reply AllocError). RepliesOrLacks c.args.self.now.state c.args.c line r) e c.next_reply.ensures.next.2 in
-    line_is c.args.self.now.state c.args.self.now.state c.answer_clients.new.self.state c.args.c line (text_of (client_listing c.in-Clients.name (addresses_at c.in-Clients.u (map seen_client c.args.self.now.state.sessions)))) Nothing c.next_reply.ensures.next.1 told.1 told.2 refl c.answer_clients.ensures.answered
+pub returns-clause-ok : goal.returns-clause-ok
+returns-clause-ok c =
+    let s : ServerState = c.args.self.now.state in
+    let x : SessionState = c.index_mut-session.result.now in
+    let line : List ℕ = c.in_ok-reply.ensures.next.0 in
+    let next : next_line x ≡ Some line = next_of_found s c.args.c x line (ap (session c.args.c) (sym (changed c)) ∙ (asking c).found) c.in_ok-reply.ensures.next.1 in
+    line_is s (the_view c.self.inside).state c.args.c c.args.place line c.in_ok-reply.reply c.list_clients.new.clients x c.answer.new.self
+    c.in_ok-reply.ensures.next.1 c.in_ok-reply.ensures.next.2 c.list_clients.ensures (changed c) (asking c) (c.answer.ensures.answered line next)
+
+pub returns-clause-keeps : goal.returns-clause-keeps
+returns-clause-keeps c =
+    let v : ServerState = (the_view c.self.inside).state in
+    let t : ServerState = record v { sessions = set v.sessions c.args.place c.answer.new.self } in
+    let made = c.answer.new.scratch.renders in
+    subst (λ (k : Cost). KeepsCount (owed c.args.c c.args.self.now.state) k.rendered (owed c.args.c t) made) c.change_upses.ensures.cost
+    (subst (λ (z : ServerState). KeepsCount (owed c.args.c z) c.change_upses.new.self.cost.rendered (owed c.args.c t) made) c.change_upses.ensures.changed
+    (subst (λ (z : RunningServer). KeepsCount (owed c.args.c z.state) z.cost.rendered (owed c.args.c t) made) c.self.view_is
+    (cost_kept v c.args.c c.args.place c.index_mut-session.result.now c.answer.new.self _ _ (asking c).at (asking c).found c.answer.ensures.id c.answer.ensures.keeps)))

@@ -1,11 +1,7 @@
-use Rattle.std.proofs.Common.{◌∙◌, inl, ap}
+use Rattle.std.proofs.Common.{inl}
 use Rattle.nutanswer.specs.declared.err_word.ErrWord.TheVariants.{TooLong}
 use Rattle.nutanswer.proofs.PublicLaws.{error_lines_are_whole}
-use Rattle.nutcore.specs.Session.{begin_ending}
 use Rattle.nutcore.proofs.session.Session.end_if_overlong.Goals as goal
 
 pub owe-requires-clause-line : goal.owe-requires-clause-line
 owe-requires-clause-line c = inl (error_lines_are_whole TooLong)
-
-pub returns-clause-ends : goal.returns-clause-ends
-returns-clause-ends c = λ over. c.begin_ending.ensures ∙ ap begin_ending c.owe.ensures.owes
