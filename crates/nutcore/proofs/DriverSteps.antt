@@ -1,11 +1,12 @@
 -- Each event of a driver, over plain states.
-use Rattle.std.proofs.Common.{◌≡◌, ℕ, zero, suc, ◌<◌, Bool, true, false, not, ◌&&◌, leb, List, [], ◌∷◌, Option, Some, None, Result, Ok, Err, refl, sym, ◌∙◌, ap, arith, length, max, map, take, drop, ◌++◌, set, get_or, inl, inr, cond}
+use Rattle.std.proofs.Common.{◌≡◌, subst, ℕ, zero, suc, ◌<◌, Bool, true, false, not, ◌&&◌, leb, List, [], ◌∷◌, Option, Some, None, Result, Ok, Err, refl, sym, ◌∙◌, ap, arith, length, max, map, take, drop, ◌++◌, set, get_or, inl, inr, cond}
 use Rattle.std.specs.Prelude.{slice_get}
 use Rattle.std.specs.Option.{option_map}
 use Rattle.std.specs.Option.{option_map_or}
 use Rattle.std.proofs.lemmas.Bool.{cond-true, cond-false, and_from, le-leb, lt-leb}
 use Rattle.std.proofs.lemmas.Option.{slice_get-get_or}
 use Rattle.nutusers.specs.declared.ups_list.UpsId.{UpsId}
+use Rattle.nutcore.specs.declared.event.Event.{Event}
 use Rattle.nutcore.specs.declared.event.Event.TheVariants.{DriverUp, DriverBytes, DriverTook, DriverDown, Tick}
 use Rattle.nutcore.specs.declared.event.Outcome.TheVariants.{Done, Refused}
 use Rattle.nutcore.specs.declared.event.Fault.{Fault}
@@ -15,7 +16,7 @@ use Rattle.nutcore.specs.Leaf.{IsTaken}
 use Rattle.nutcore.specs.Server.{ServerState, ups_at, changed_at, with_ups_changed}
 use Rattle.nutcore.specs.Step.{Step, connected, disconnected, after_driver_text, after_driver_bytes, after_driver_took, ticked, connected_by, disconnected_by, driver_took_by, driver_bytes_by, driver_may_lack_memory, outcome_of, after_by, MayLackMemory, wants_driver_memory}
 use Rattle.nutcore.specs.Calls.{is_connected, done}
-use Rattle.nutcore.specs.Serving.{IsTold, DriverFeedGives, DriverTakes}
+use Rattle.nutcore.specs.Serving.{IsTold, DriverFeedGives, DriverTakes, IsNotConnected}
 
 -- changes at a place that agree there are one
 pub changed_agree : (f g : UpsState → UpsState) (i : ℕ) (xs : List UpsState) (x : UpsState) → slice_get xs i ≡ Some x → f x ≡ g x → changed_at f i xs ≡ changed_at g i xs
@@ -81,12 +82,10 @@ there_by s u b (Some x) e h = let is : x.report.connected ≡ b = cc h in record
 pub is_there : (s : ServerState) (u : UpsId) (b : Bool) → option_map is_connected (ups_at u.place s) ≡ Some b → IsThere s u b
 is_there s u b h = there_by s u b (ups_at u.place s) refl h
 
-none_by : (o : Option UpsState) → option_map is_connected o ≡ None → o ≡ None
-none_by None h = refl
-none_by (Some x) h = cc
-
-pub not_there : (s : ServerState) (u : UpsId) → option_map is_connected (ups_at u.place s) ≡ None → ups_at u.place s ≡ None
-not_there s u h = none_by (ups_at u.place s) h
+-- where no driver is connected, an event of the driver is refused
+pub refused_as : (s : ServerState) (u : UpsId) (event : Event) (fault : Fault) → (ups_at u.place s ≡ None → Step s event (Refused NoSuchUps) s) → (IsThere s u false → Step s event (Refused NotConnected) s) → IsNotConnected u fault s → Step s event (Refused fault) s
+refused_as s u event fault absent lost (inl (is, none)) = subst (λ (f : Fault). Step s event (Refused f) s) (sym is) (absent none)
+refused_as s u event fault absent lost (inr (is, unconnected)) = subst (λ (f : Fault). Step s event (Refused f) s) (sym is) (lost (is_there s u false unconnected))
 
 within_by : (xs : List UpsState) (i : ℕ) (x : UpsState) → slice_get xs i ≡ Some x → i < length xs
 within_by [] i x e = cc

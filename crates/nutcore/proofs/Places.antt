@@ -1,7 +1,7 @@
 -- Where sessions stand, after a change.
 use Rattle.std.proofs.Common.{◌≡◌, ℕ, zero, suc, ◌+◌, ◌<◌, ◌≤◌, Bool, true, false, List, [], ◌∷◌, ◌++◌, Option, Some, None, Result, Ok, Err, refl, sym, ◌∙◌, ap, subst, cond, eqb, ltb, arith, length, get_or, set, take, drop}
-use Rattle.std.specs.Prelude.{MatchResult, MatchOption}
-use Rattle.std.specs.Result.{result_ok}
+use Rattle.std.specs.Prelude.{MatchResult}
+use Rattle.std.specs.Result.{result_or}
 use Rattle.std.specs.List.Sorted.{IsSearchInRange, IsBinarySearchResult, IsNonDecreasingBy}
 use Rattle.std.specs.Ordering.{nat_cmp, ordering_index}
 use Rattle.std.proofs.lemmas.Cmp.{ranked}
@@ -11,6 +11,7 @@ use Rattle.std.proofs.lemmas.Bool.Decides.{nat_tests}
 use Rattle.std.proofs.lemmas.Grind.{common_steps}
 use Rattle.nutcore.specs.Session.{SessionState, find, put, without, IdsRise, new_session}
 use Rattle.nutcore.specs.Serving.{place, IsAt}
+use Rattle.nutcore.specs.declared.event.Fault.TheVariants.{NoSuchClient}
 
 pub find_at : (c : ℕ) (xs : List SessionState) (d : SessionState) → place c xs < length xs → find c xs ≡ Some (get_or xs (place c xs) d)
 find_at c [] d lt = absurd (omega arith)
@@ -140,10 +141,10 @@ module _ (l n c : ℕ) (xs : List SessionState) (rise : IdsRise l n xs) where
           let more : c < (get_or xs k (new_session 0 [])).id = ranked _ c _ (sym ((parted answers_rise).1 k (new_session 0 []) above lt)) in
           grind (arith, nat_tests)
 
--- and as an option
-pub place_found : (c : ℕ) (xs : List SessionState) (r : Result ℕ ℕ) → MatchResult r (λ i. IsAt c i xs) (λ i. find c xs ≡ None) → MatchOption (result_ok r) (find c xs ≡ None) (λ i. IsAt c i xs)
+-- and as the server answers it
+pub place_found : (c : ℕ) (xs : List SessionState) (r : Result ℕ ℕ) → MatchResult r (λ i. IsAt c i xs) (λ i. find c xs ≡ None) → MatchResult (result_or r (Err NoSuchClient)) (λ i. IsAt c i xs) (λ fault. (fault ≡ NoSuchClient) × (find c xs ≡ None))
 place_found c xs (Ok i) h = h
-place_found c xs (Err i) h = h
+place_found c xs (Err i) h = (refl, h)
 
 pub found_at : (c i : ℕ) (xs : List SessionState) (x : SessionState) → IsAt c i xs → x ≡ get_or xs i x → find c xs ≡ Some x
 found_at c i xs x h at =

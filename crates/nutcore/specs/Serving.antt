@@ -22,6 +22,8 @@ use Rattle.nutcore.specs.Ups.{UpsState, free_room}
 use Rattle.nutcore.specs.Step.{after_driver_text, wants_driver_memory}
 use Rattle.nutcore.specs.Leaf.{IsTaken}
 use Rattle.nutusers.specs.declared.ups_list.UpsId.{UpsId}
+use Rattle.std.specs.Option.{option_map}
+use Rattle.nutcore.specs.Calls.{is_connected}
 use Rattle.nutcore.specs.Server.{ServerState, session, with_session, ups_at, with_ups_changed}
 use Rattle.nutcore.specs.Reply.{text_to, change_by, changed_session, seen_client}
 use Rattle.nutcore.specs.declared.cost.Cost.{Cost}
@@ -119,6 +121,10 @@ IsTold u text old (Err fault) new = ⊥
 -- the piece is told behind what was unfinished
 abbrev pub DriverFeedGives : UpsId → List ℕ → ServerState → Result (Unit {0}) Fault → ServerState → Type 0
 DriverFeedGives u piece old result new = (x : UpsState) → ups_at u.place old ≡ Some x → IsTold u (x.unfinished ++ piece) old result new
+
+-- an event of a UPS's driver is refused so: there is no such UPS, or no driver is connected to it
+abbrev pub IsNotConnected : UpsId → Fault → ServerState → Type 0
+IsNotConnected u fault s = ((fault ≡ NoSuchUps) × (ups_at u.place s ≡ None)) ⊎ ((fault ≡ NotConnected) × (option_map is_connected (ups_at u.place s) ≡ Some false))
 
 -- what a driver's taking leaves of its UPS, and of nothing else
 pub record DriverTakes (u : UpsId) (n : ℕ) (old : ServerState) (result : Result (Unit {0}) Fault) (new : ServerState) : Type 0 where

@@ -150,14 +150,11 @@ impl Server {
         ensures no_memory { (k : ℕ) → result ≢ Err (Fault.Memory k) }
     {
         self.forget_cost();
-        match self.connection(u) {
-            None => Err(Fault::NoSuchUps),
-            Some(true) => Err(Fault::AlreadyConnected),
-            Some(false) => {
-                self.connect(u);
-                Ok(())
-            }
+        if self.ups_of(u)?.is_connected() {
+            return Err(Fault::AlreadyConnected);
         }
+        self.connect(u);
+        Ok(())
     }
 
     /// Bytes come from a driver. Each whole line is done, a refused one counted; where 1,024 bytes
@@ -173,11 +170,8 @@ impl Server {
         ensures cost { Costs self.old (Event.DriverBytes u piece.now) self.new }
     {
         self.forget_cost();
-        match self.connection(u) {
-            None => Err(Fault::NoSuchUps),
-            Some(false) => Err(Fault::NotConnected),
-            Some(true) => self.feed_driver(u, piece),
-        }
+        self.connected(u)?;
+        self.feed_driver(u, piece)
     }
 
     /// What is offered to the driver: all that it is owed, at most 2,048 bytes, and nothing where it isn't connected. It
@@ -209,10 +203,7 @@ impl Server {
     pub fn driver_offered(&self, u: UpsId) -> Result<usize, Fault>
         ensures { ReadsUps (λ x. length x.owed) (ups_at u.place self.now.state) result }
     {
-        match self.upses.get(u.place as usize) {
-            Some(ups) => Ok(ups.offer().len()),
-            None => Err(Fault::NoSuchUps),
-        }
+        Ok(self.ups_of(u)?.offer().len())
     }
 
     /// The driver took n bytes of what it is offered. Takes no memory.
@@ -226,11 +217,8 @@ impl Server {
         ensures no_memory { (k : ℕ) → result ≢ Err (Fault.Memory k) }
     {
         self.forget_cost();
-        match self.connection(u) {
-            None => Err(Fault::NoSuchUps),
-            Some(false) => Err(Fault::NotConnected),
-            Some(true) => self.take_from_driver(u, n),
-        }
+        self.connected(u)?;
+        self.take_from_driver(u, n)
     }
 
     /// A driver is lost, and what it told with it. Takes no memory.
@@ -244,14 +232,9 @@ impl Server {
         ensures no_memory { (k : ℕ) → result ≢ Err (Fault.Memory k) }
     {
         self.forget_cost();
-        match self.connection(u) {
-            None => Err(Fault::NoSuchUps),
-            Some(false) => Err(Fault::NotConnected),
-            Some(true) => {
-                self.disconnect(u);
-                Ok(())
-            }
-        }
+        self.connected(u)?;
+        self.disconnect(u);
+        Ok(())
     }
 
     /// The clock is at so many seconds. The moment never goes back. Each driver from which nothing was heard for a third
@@ -274,10 +257,7 @@ impl Server {
     pub fn driver_faults(&self, u: UpsId) -> Result<u64, Fault>
         ensures { ReadsUps (λ x. x.faulty) (ups_at u.place self.now.state) result }
     {
-        match self.upses.get(u.place as usize) {
-            Some(ups) => Ok(ups.faulty()),
-            None => Err(Fault::NoSuchUps),
-        }
+        Ok(self.ups_of(u)?.faulty())
     }
 
     /// A client connects. It makes room for what the session may hold, and for any answer of one
@@ -313,11 +293,7 @@ impl Server {
     pub fn room(&self, c: ClientId) -> Result<usize, Fault>
         ensures { Reads room_of (session c self.now.state) result }
     {
-        let Some(place) = self.place_of(c) else {
-            return Err(Fault::NoSuchClient);
-        };
-        let session = &self.sessions[place];
-        Ok(session.room())
+        Ok(self.session(c)?.room())
     }
 
     /// A client sent a piece. The answer is how many of its bytes were taken in: as many as there
@@ -335,9 +311,7 @@ impl Server {
         ensures cost { Costs self.old (Event.Feed c piece.now) self.new }
     {
         self.forget_cost();
-        let Some(place) = self.place_of(c) else {
-            return Err(Fault::NoSuchClient);
-        };
+        let place = self.place_of(c)?;
         let kept = self.offered_at(c, place);
         let count = self.join(c, place, piece);
         match self.serve(c, place, kept) {
@@ -359,9 +333,7 @@ impl Server {
             (λ fault. (fault ≡ Fault.NoSuchClient) × (session c self.old.state ≡ None)) }
         ensures* same { sem 𝓛 (Rests the_row self.entry (λ new. new ≡ self.old)) }
     {
-        let Some(place) = self.place_of(c) else {
-            return Err(Fault::NoSuchClient);
-        };
+        let place = self.place_of(c)?;
         let session = &mut self.sessions[place];
         Ok(session.offer())
     }
@@ -378,11 +350,7 @@ impl Server {
             × IsOutboxOf (owed c self.now.state) outbox.now)
             (λ fault. (fault ≡ Fault.NoSuchClient) × (session c self.now.state ≡ None)) }
     {
-        let Some(place) = self.place_of(c) else {
-            return Err(Fault::NoSuchClient);
-        };
-        let session = &self.sessions[place];
-        Ok(session.outbox())
+        Ok(self.session(c)?.outbox())
     }
 
     /// How many bytes are offered to the client.
@@ -393,11 +361,7 @@ impl Server {
     pub fn offered(&self, c: ClientId) -> Result<usize, Fault>
         ensures { Reads (λ x. length (offered (Some x))) (session c self.now.state) result }
     {
-        let Some(place) = self.place_of(c) else {
-            return Err(Fault::NoSuchClient);
-        };
-        let session = &self.sessions[place];
-        Ok(session.offered())
+        Ok(self.session(c)?.offered())
     }
 
     /// The client took n bytes of what it is offered. Then its lines are executed, as long as they
@@ -412,9 +376,7 @@ impl Server {
         ensures cost { Costs self.old (Event.Took c n) self.new }
     {
         self.forget_cost();
-        let Some(place) = self.place_of(c) else {
-            return Err(Fault::NoSuchClient);
-        };
+        let place = self.place_of(c)?;
         let offered = self.offered_at(c, place);
         if n > offered {
             return Err(Fault::TookTooMuch);
@@ -431,11 +393,7 @@ impl Server {
     pub fn finished(&self, c: ClientId) -> Result<bool, Fault>
         ensures { Reads is_finished (session c self.now.state) result }
     {
-        let Some(place) = self.place_of(c) else {
-            return Err(Fault::NoSuchClient);
-        };
-        let session = &self.sessions[place];
-        Ok(session.is_finished())
+        Ok(self.session(c)?.is_finished())
     }
 
     /// The client's connection is gone: its session ends at once, and what it is owed is dropped.
@@ -449,9 +407,7 @@ impl Server {
         ensures no_memory { (k : ℕ) → result ≢ Err (Fault.Memory k) }
     {
         self.forget_cost();
-        let Some(place) = self.place_of(c) else {
-            return Err(Fault::NoSuchClient);
-        };
+        let place = self.place_of(c)?;
         let _session = self.sessions.remove(place);
         Ok(())
     }

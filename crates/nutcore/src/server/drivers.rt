@@ -1,12 +1,13 @@
 //! The UPSs: what their drivers do to them.
-ghost use Rattle.std.specs.Prelude.{◌≡◌, ◌<◌, length, map, Some, None, true};
+ghost use Rattle.std.specs.Prelude.{◌≡◌, ◌<◌, length, map, MatchResult, OnOk, IfErr, Some, None, true};
 ghost use Rattle.std.specs.Option.{option_map};
 ghost use Rattle.nutcore.specs.Server.{ups_at, with_ups_changed};
 ghost use Rattle.nutcore.specs.History.{owed};
 ghost use Rattle.nutcore.specs.Headline.{IsLawful};
 ghost use Rattle.nutcore.specs.Ups.{after_connecting, after_loss, after_tick};
-ghost use Rattle.nutcore.specs.Serving.{DriverFeedGives, DriverTakes};
+ghost use Rattle.nutcore.specs.Serving.{DriverFeedGives, DriverTakes, IsNotConnected};
 ghost use Rattle.nutcore.specs.Calls.{is_connected};
+ghost use Rattle.nutcore.specs.declared.event.Fault.TheVariants.{NoSuchUps};
 
 use super::Server;
 use crate::event::Fault;
@@ -15,14 +16,34 @@ use nutdriver::laws::{each_line_keeps_the_tree_sound, lawful_lines_keep_trees_so
 use nutusers::UpsId;
 
 impl Server {
-    /// Whether a driver is connected to the UPS, if there is such a UPS.
-    pub(super) fn connection(&self, u: UpsId) -> Option<bool>
-        ensures connected { result ≡ option_map is_connected (ups_at u.place self.now.state) }
+    /// The UPS of this id.
+    ///
+    /// # Errors
+    ///
+    /// `NoSuchUps`.
+    pub(super) fn ups_of(&self, u: UpsId) -> Result<&Ups, Fault>
+        ensures ups { MatchResult result (λ ups. ups_at u.place self.now.state ≡ Some ups.now)
+            (λ fault. (fault ≡ NoSuchUps) × (ups_at u.place self.now.state ≡ None)) }
         ensures lawful { IsLawful self.now.state }
     {
-        match self.upses.get(u.place as usize) {
-            Some(ups) => Some(ups.is_connected()),
-            None => None,
+        self.upses.get(u.place as usize).ok_or(Fault::NoSuchUps)
+    }
+
+    /// Nothing, where a driver is connected to the UPS.
+    ///
+    /// # Errors
+    ///
+    /// `NoSuchUps` and `NotConnected`.
+    pub(super) fn connected(&self, u: UpsId) -> Result<(), Fault>
+        ensures connected { OnOk result
+            (option_map is_connected (ups_at u.place self.now.state) ≡ Some true) }
+        ensures refused { IfErr result (λ fault. IsNotConnected u fault self.now.state) }
+        ensures lawful { IsLawful self.now.state }
+    {
+        if self.ups_of(u)?.is_connected() {
+            Ok(())
+        } else {
+            Err(Fault::NotConnected)
         }
     }
 

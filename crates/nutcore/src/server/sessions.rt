@@ -1,5 +1,5 @@
 //! The table of sessions: where each stands, and what comes to it and is taken from it.
-ghost use Rattle.std.specs.Prelude.{◌≡◌, ◌≤◌, ◌<◌, ◌-◌, length, MatchOption, Some, None, true, false};
+ghost use Rattle.std.specs.Prelude.{◌≡◌, ◌≤◌, ◌<◌, ◌-◌, length, MatchResult, Some, None, true, false};
 ghost use Rattle.nutcore.specs.Server.{session};
 ghost use Rattle.nutcore.specs.Pump.{held_of};
 ghost use Rattle.nutcore.specs.Step.{with_input, without_output, offered, may_take, fed_by};
@@ -9,20 +9,39 @@ ghost use Rattle.nutcore.specs.Cost.{no_cost};
 ghost use Rattle.nutcore.specs.History.{owed};
 ghost use Rattle.nutcore.specs.declared.TheConstants.{HELD_LIMIT};
 ghost use Rattle.nutcore.specs.declared.event.Outcome.TheVariants.{Fed};
+ghost use Rattle.nutcore.specs.declared.event.Fault.TheVariants.{NoSuchClient};
 
 use super::Server;
-use crate::event::ClientId;
+use crate::event::{ClientId, Fault};
+use crate::session::Session;
 
 impl Server {
-    /// Where the session of this id stands.
-    pub(super) fn place_of(&self, c: ClientId) -> Option<usize>
-        ensures place { MatchOption result (session c self.now.state ≡ None)
-            (λ i. IsAt c i self.now.state.sessions) }
+    /// Where the client's session stands.
+    ///
+    /// # Errors
+    ///
+    /// `NoSuchClient`.
+    pub(super) fn place_of(&self, c: ClientId) -> Result<usize, Fault>
+        ensures place { MatchResult result (λ i. IsAt c i self.now.state.sessions)
+            (λ fault. (fault ≡ NoSuchClient) × (session c self.now.state ≡ None)) }
         ensures lawful { IsLawful self.now.state }
     {
         self.sessions
             .binary_search_by_key(&c, |session| session.id())
-            .ok()
+            .or(Err(Fault::NoSuchClient))
+    }
+
+    /// The client's session.
+    ///
+    /// # Errors
+    ///
+    /// `NoSuchClient`.
+    pub(super) fn session(&self, c: ClientId) -> Result<&Session, Fault>
+        ensures { MatchResult result (λ x. session c self.now.state ≡ Some x.now)
+            (λ fault. (fault ≡ NoSuchClient) × (session c self.now.state ≡ None)) }
+    {
+        let place = self.place_of(c)?;
+        Ok(&self.sessions[place])
     }
 
     /// Joins a piece to what the session holds.

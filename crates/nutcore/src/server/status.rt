@@ -15,10 +15,7 @@ impl Server {
     pub fn driver_connected(&self, u: UpsId) -> Result<bool, Fault>
         ensures { ReadsUps (λ x. x.report.connected) (ups_at u.place self.now.state) result }
     {
-        match self.upses.get(u.place as usize) {
-            Some(ups) => Ok(ups.is_connected()),
-            None => Err(Fault::NoSuchUps),
-        }
+        Ok(self.ups_of(u)?.is_connected())
     }
 
     /// Whether a forced shutdown of the UPS is set.
@@ -29,9 +26,6 @@ impl Server {
     pub fn forced_shutdown(&self, u: UpsId) -> Result<bool, Fault>
         ensures { ReadsUps (λ x. x.fsd) (ups_at u.place self.now.state) result }
     {
-        match self.upses.get(u.place as usize) {
-            Some(ups) => Ok(ups.fsd()),
-            None => Err(Fault::NoSuchUps),
-        }
+        Ok(self.ups_of(u)?.fsd())
     }
 }

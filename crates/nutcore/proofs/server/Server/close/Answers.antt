@@ -1,4 +1,8 @@
-use Rattle.std.proofs.Common.{◌≡◌, ◌∙◌, refl, sym, List, subst, arith}
+use Rattle.std.proofs.lemmas.Result.{err_from_is_err_and}
+use Rattle.nutcore.specs.declared.event.Fault.{Fault}
+use Rattle.nutcore.specs.Calls.{done}
+use Rattle.nutcore.specs.Headline.{Serves}
+use Rattle.std.proofs.Common.{◌≡◌, ◌∙◌, ap, Result, Err, refl, sym, List, subst, arith}
 use Rattle.nutcore.specs.Session.{SessionState}
 use Rattle.nutcore.specs.Server.{ServerState}
 use Rattle.nutcore.specs.Serving.{IsAt}
@@ -14,15 +18,19 @@ use Rattle.nutcore.proofs.Runs.{served_from}
 use Rattle.nutcore.proofs.Runs.{state_is}
 use Rattle.nutcore.proofs.server.Server.close.Goals as goal
 
-pub returns-in_default-clause-served : goal.returns-in_default-clause-served
-returns-in_default-clause-served c =
-    served_from _ _ _ _ _ c.forget_cost.ensures.state c.place_of.ensures.lawful (close_absent c.forget_cost.new.self.state c.args.c c.in_default.ensures.place)
+pub returns-in_err-place-clause-served : goal.returns-in_err-place-clause-served
+returns-in_err-place-clause-served c =
+    let s = c.forget_cost.new.self.state in
+    let p = err_from_is_err_and c.from_residual.result c.from_residual.ensures.1 in
+    let found = c.in_err-place.ensures.place in
+    subst (λ (r : Result (Unit {0}) Fault). Serves c.args.self.now.state (Close c.args.c) (done r) s) (sym (p.1 ∙ ap Err (p.2 ∙ found.0)))
+    (served_from _ _ _ _ _ c.forget_cost.ensures.state c.place_of.ensures.lawful (close_absent s c.args.c found.1))
 
 pub invariant_of-self : goal.invariant_of-self
 invariant_of-self c =
     let v : ServerState = (the_view c.self.inside).state in
-    let at : IsAt c.args.c c.in-Some.place v.sessions = subst (λ (z : ServerState). IsAt c.args.c c.in-Some.place z.sessions) (sym (state_is c.self.view_is)) c.in-Some.ensures.place in
-    let left : c.remove-session.new.self.items ≡ without c.args.c v.sessions = c.remove-session.ensures.by_index.2 ∙ sym (left_out 1 v.next_id c.args.c c.in-Some.place v.sessions c.self.invariant.sound.ids at) in
+    let at : IsAt c.args.c c.in_ok-place.place v.sessions = subst (λ (z : ServerState). IsAt c.args.c c.in_ok-place.place z.sessions) (sym (state_is c.self.view_is)) c.in_ok-place.ensures.place in
+    let left : c.remove-session.new.self.items ≡ without c.args.c v.sessions = c.remove-session.ensures.by_index.2 ∙ sym (left_out 1 v.next_id c.args.c c.in_ok-place.place v.sessions c.self.invariant.sound.ids at) in
     record {
       sound = subst (λ (xs : List SessionState). let z : ServerState = record v { sessions = xs } in IsSound z) (sym left) (sound_closed v c.args.c c.self.invariant.sound);
       room = omega (arith, c.remove-session.ensures.capacity, c.self.invariant.room);
@@ -31,7 +39,7 @@ invariant_of-self c =
 pub returns-clause-served : goal.returns-clause-served
 returns-clause-served c =
     let v : ServerState = (the_view c.self.inside).state in
-    let at : IsAt c.args.c c.in-Some.place v.sessions = subst (λ (z : ServerState). IsAt c.args.c c.in-Some.place z.sessions) (sym (state_is c.self.view_is)) c.in-Some.ensures.place in
-    let left : c.remove-session.new.self.items ≡ without c.args.c v.sessions = c.remove-session.ensures.by_index.2 ∙ sym (left_out 1 v.next_id c.args.c c.in-Some.place v.sessions c.self.invariant.sound.ids at) in
+    let at : IsAt c.args.c c.in_ok-place.place v.sessions = subst (λ (z : ServerState). IsAt c.args.c c.in_ok-place.place z.sessions) (sym (state_is c.self.view_is)) c.in_ok-place.ensures.place in
+    let left : c.remove-session.new.self.items ≡ without c.args.c v.sessions = c.remove-session.ensures.by_index.2 ∙ sym (left_out 1 v.next_id c.args.c c.in_ok-place.place v.sessions c.self.invariant.sound.ids at) in
     let t : ServerState = record v { sessions = c.remove-session.new.self.items } in
-    served_from _ _ _ _ _ c.forget_cost.ensures.state c.place_of.ensures.lawful (step_from v c.forget_cost.new.self.state t t (Close c.args.c) Done (state_is c.self.view_is) refl (close_present v c.args.c _ c.remove-session.new.self.items (at_found c.args.c c.in-Some.place v.sessions at) left))
+    served_from _ _ _ _ _ c.forget_cost.ensures.state c.place_of.ensures.lawful (step_from v c.forget_cost.new.self.state t t (Close c.args.c) Done (state_is c.self.view_is) refl (close_present v c.args.c _ c.remove-session.new.self.items (at_found c.args.c c.in_ok-place.place v.sessions at) left))

@@ -1,16 +1,20 @@
-use Rattle.std.proofs.Common.{◌∙◌, sym, ap, Some, Bool, true, false}
-use Rattle.nutcore.proofs.DriverSteps.{is_there, not_there, took_absent, took_unconnected, took_taken}
+use Rattle.std.proofs.Common.{Result, Err, true, sym, ◌∙◌, ap, subst}
+use Rattle.std.proofs.lemmas.Result.{err_from_is_err_and}
+use Rattle.nutcore.proofs.DriverSteps.{is_there, refused_as, took_absent, took_unconnected, took_taken}
+use Rattle.nutcore.specs.declared.event.Event.TheVariants.{DriverTook}
+use Rattle.nutcore.specs.declared.event.Fault.{Fault}
+use Rattle.nutcore.specs.Calls.{done}
+use Rattle.nutcore.specs.Headline.{Serves}
 use Rattle.nutcore.proofs.Runs.{served_from}
 use Rattle.nutcore.proofs.server.Server.driver_took.Goals as goal
 
-pub returns-in-None-clause-served : goal.returns-in-None-clause-served
-returns-in-None-clause-served c =
-    served_from _ _ _ _ _ c.forget_cost.ensures.state c.connection.ensures.lawful (took_absent c.forget_cost.new.self.state c.args.u c.args.n (not_there c.forget_cost.new.self.state c.args.u (sym c.in-None.ensures.connected)))
+pub returns-in_err-connected-clause-served : goal.returns-in_err-connected-clause-served
+returns-in_err-connected-clause-served c =
+    let s = c.forget_cost.new.self.state in
+    let p = err_from_is_err_and c.from_residual.result c.from_residual.ensures.1 in
+    subst (λ (r : Result (Unit {0}) Fault). Serves c.args.self.now.state (DriverTook c.args.u c.args.n) (done r) s) (sym (p.1 ∙ ap Err p.2))
+    (served_from _ _ _ _ _ c.forget_cost.ensures.state c.connected.ensures.lawful (refused_as s c.args.u (DriverTook c.args.u c.args.n) c.in_err-connected.field-0.0 (took_absent s c.args.u c.args.n) (took_unconnected s c.args.u c.args.n) c.in_err-connected.ensures.refused))
 
-pub returns-in-Some-false-clause-served : goal.returns-in-Some-false-clause-served
-returns-in-Some-false-clause-served c =
-    served_from _ _ _ _ _ c.forget_cost.ensures.state c.connection.ensures.lawful (took_unconnected c.forget_cost.new.self.state c.args.u c.args.n (is_there c.forget_cost.new.self.state c.args.u false (sym c.in-Some-false.ensures.connected ∙ ap (λ (b : Bool). Some b) c.in-Some-false.field-0-test)))
-
-pub returns-in-Some-true-clause-served : goal.returns-in-Some-true-clause-served
-returns-in-Some-true-clause-served c =
-    served_from _ _ _ _ _ c.forget_cost.ensures.state c.connection.ensures.lawful (took_taken c.forget_cost.new.self.state c.take_from_driver.new.self.state c.args.u c.args.n c.take_from_driver.result (is_there c.forget_cost.new.self.state c.args.u true (sym c.in-Some-true.ensures.connected ∙ ap (λ (b : Bool). Some b) c.in-Some-true.field-0-test)) c.take_from_driver.ensures.takes)
+pub returns-clause-served : goal.returns-clause-served
+returns-clause-served c =
+    served_from _ _ _ _ _ c.forget_cost.ensures.state c.connected.ensures.lawful (took_taken c.forget_cost.new.self.state c.take_from_driver.new.self.state c.args.u c.args.n c.take_from_driver.result (is_there c.forget_cost.new.self.state c.args.u true c.in_ok-connected.ensures.connected) c.take_from_driver.ensures.takes)
