@@ -154,6 +154,12 @@ cost_kept v c i x y made made' at found id keeps kept counted =
     subst (λ (o : Option SessionState). IsCounted kept (owed_of o) made') (sym now)
     (keeps kept (subst (λ (o : Option SessionState). IsCounted kept (owed_of o) made) found counted))
 
+-- the cost of what is placed behind so many bytes
+pub placed_behind : (after : List ℕ) (kept made n : ℕ) → made ≡ lines (drop kept after) → n ≡ length after → (let cost : Cost = record { rendered = made; placed = n - kept } in cost ≡ cost_beyond kept after)
+placed_behind after kept made n counted all =
+    ap (λ (k : ℕ). let z : Cost = record { rendered = k; placed = n - kept } in z) counted
+    ∙ ap (λ (k : ℕ). let z : Cost = record { rendered = lines (drop kept after); placed = k - kept } in z) all
+
 -- nothing is counted yet
 pub counts_none : (owed : List ℕ) (made : ℕ) → made ≡ 0 → IsCounted (length (take RING_LIMIT owed)) owed made
 counts_none owed made none = record {
