@@ -338,8 +338,9 @@ impl Server {
         let Some(place) = self.place_of(c) else {
             return Err(Fault::NoSuchClient);
         };
-        let kept = self.offered_at(c, place);
-        let count = self.join(c, place, piece);
+        let session = &mut self.sessions[place];
+        let kept = session.offered();
+        let count = session.join(piece);
         match self.serve(c, place, kept) {
             Ok(()) => Ok(count),
             Err(fault) => Err(fault),
@@ -415,11 +416,12 @@ impl Server {
         let Some(place) = self.place_of(c) else {
             return Err(Fault::NoSuchClient);
         };
-        let offered = self.offered_at(c, place);
+        let offered = self.sessions[place].offered();
         if n > offered {
             return Err(Fault::TookTooMuch);
         }
-        self.give(c, place, n);
+        let session = &mut self.sessions[place];
+        session.take(n, &mut self.scratch);
         self.serve(c, place, offered - n)
     }
 
