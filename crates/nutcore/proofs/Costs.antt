@@ -17,7 +17,8 @@ use Rattle.nutcore.specs.declared.event.Event.{Event}
 use Rattle.nutcore.specs.declared.event.Event.TheVariants.{Feed, Took}
 use Rattle.nutcore.specs.Session.{SessionState}
 use Rattle.nutcore.specs.Server.{ServerState, session}
-use Rattle.nutcore.specs.Pump.{owed_of}
+use Rattle.nutcore.specs.declared.TheConstants.{HELD_LIMIT}
+use Rattle.nutcore.specs.Pump.{held_of, owed_of}
 use Rattle.nutcore.specs.Step.{offered, may_take}
 use Rattle.nutcore.specs.History.{owed, taken_in_event}
 use Rattle.nutcore.specs.Cost.{no_cost, cost_between, client_cost}
@@ -153,6 +154,23 @@ cost_kept v c i x y made made' at found id keeps kept counted =
     let now = session_set v c i x y at found (id ∙ find_id c v.sessions x found) in
     subst (λ (o : Option SessionState). IsCounted kept (owed_of o) made') (sym now)
     (keeps kept (subst (λ (o : Option SessionState). IsCounted kept (owed_of o) made) found counted))
+
+-- the cost of what is placed behind so many bytes
+pub placed_behind : (after : List ℕ) (kept made n : ℕ) → made ≡ lines (drop kept after) → n ≡ length after → (let cost : Cost = record { rendered = made; placed = n - kept } in cost ≡ cost_beyond kept after)
+placed_behind after kept made n counted all =
+    ap (λ (k : ℕ). let z : Cost = record { rendered = k; placed = n - kept } in z) counted
+    ∙ ap (λ (k : ℕ). let z : Cost = record { rendered = lines (drop kept after); placed = k - kept } in z) all
+
+-- a session in its place: what is counted of it, and how much it holds
+pub counted_set : (v : ServerState) (c i : ℕ) (x y : SessionState) (kept made : ℕ) → IsAt c i v.sessions → session c v ≡ Some x → y.id ≡ x.id → IsCounted kept y.owed made →
+    let code : ServerState = record v { sessions = set v.sessions i y } in IsCounted kept (owed c code) made
+counted_set v c i x y kept made at found id counted =
+    subst (λ (o : Option SessionState). IsCounted kept (owed_of o) made) (sym (session_set v c i x y at found (id ∙ find_id c v.sessions x found))) counted
+
+pub held_set : (v : ServerState) (c i : ℕ) (x y : SessionState) → IsAt c i v.sessions → session c v ≡ Some x → y.id ≡ x.id → length y.held ≤ HELD_LIMIT →
+    let code : ServerState = record v { sessions = set v.sessions i y } in length (held_of (session c code)) ≤ HELD_LIMIT
+held_set v c i x y at found id short =
+    subst (λ (o : Option SessionState). length (held_of o) ≤ HELD_LIMIT) (sym (session_set v c i x y at found (id ∙ find_id c v.sessions x found))) short
 
 -- nothing is counted yet
 pub counts_none : (owed : List ℕ) (made : ℕ) → made ≡ 0 → IsCounted (length (take RING_LIMIT owed)) owed made

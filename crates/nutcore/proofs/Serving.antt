@@ -9,6 +9,7 @@ use Rattle.nutanswer.specs.declared.reply.Change.{Change}
 use Rattle.nutanswer.specs.Command.{read_command}
 use Rattle.nutcore.specs.Reply.{reply, text_to, change_by, changed_session, changed_upses}
 use Rattle.nutcore.specs.Pump.{next_line, next_line_for, answered, after_line, after_lines, pump_stops, held_of, after_all_lines, pumped, after_notice, is_overlong, holds_overlong, notified, with_notice, wants_memory, shares_version_read}
+use Rattle.nutcore.specs.declared.event.Fault.{Fault}
 use Rattle.nutcore.specs.Step.{offered, may_take}
 use Rattle.nutanswer.specs.declared.command.Command.{Command}
 use Rattle.nutanswer.specs.declared.err_word.ErrWord.{ErrWord}
@@ -17,7 +18,7 @@ use Rattle.nutanswer.specs.declared.reply.Reply.TheVariants.{One, Many, Clients}
 use Rattle.nutanswer.specs.declared.reply.Change.TheVariants.{Nothing}
 use Rattle.nutlisting.specs.Items.{text_of, client_listing}
 use Rattle.nutlisting.specs.declared.outbox.TheConstants.{OWED_LIMIT}
-use Rattle.nutcore.specs.Serving.{place, IsAt, IsText, IsLineOrNone, Replies, text_with, change_in, ListsClients}
+use Rattle.nutcore.specs.Serving.{place, IsAt, PumpGives, refused_overlong, IsText, IsLineOrNone, Replies, text_with, change_in, ListsClients}
 use Rattle.nutcore.proofs.Found.{find_id, put_found}
 use Rattle.nutcore.proofs.Changed.{by_change, change_is, session_put, notice_id}
 use Rattle.nutcore.proofs.Pumping.{after_line_is, is_next, session_after, session_after_id, line_done}
@@ -85,6 +86,10 @@ some_alike (Some a) o read h = ap is_some (sym h)
 
 pub some_read : {A B : Type 0} (r : Option A) (a : A) (o : Option B) (read : A → B) → r ≡ Some a → MatchOption r (o ≡ None) (λ x. o ≡ Some (read x)) → o ≡ Some (read a)
 some_read {A = A} r a o read e h = subst (λ (z : Option A). MatchOption z (o ≡ None) (λ x. o ≡ Some (read x))) e h
+
+-- whether the session has a next line
+pub has_next : (s : ServerState) (c : ℕ) (x : SessionState) → session c s ≡ Some x → is_some (next_line x) ≡ is_some (next_line_for s c)
+has_next s c x found = ap (λ (o : Option SessionState). is_some (option_and_then next_line o)) (sym found)
 
 pub some_there : {A : Type 0} (o : Option A) → is_some o ≡ true → (a : A) × (o ≡ Some a)
 some_there None h = cc h
@@ -162,6 +167,17 @@ done_is s t c k e le none =
 pub pump_ends : (s t u : ServerState) (c k : ℕ) → t ≡ after_lines k s c → k ≤ length (held_of (session c s)) → next_line_for t c ≡ None → u ≡ after_notice t c → (after_all_lines s c ≡ t) × (u ≡ pumped s c)
 unfolding pumped
 pump_ends s t u c k e le none f = let all = done_is s t c k e le none in (all, f ∙ ap (λ (z : ServerState). after_notice z c) (sym all))
+
+-- and whether the session was told that its line is too long is what the pump answers
+pub pump_gives : (s t u : ServerState) (c k : ℕ) (r : Result (Unit {0}) Fault) → t ≡ after_lines k s c → k ≤ length (held_of (session c s)) → next_line_for t c ≡ None → u ≡ after_notice t c → r ≡ refused_overlong (is_overlong t c) → PumpGives s c r u
+pump_gives s t u c k r e le none f told = by_length (is_overlong t c) refl told
+  where
+    ends : (after_all_lines s c ≡ t) × (u ≡ pumped s c)
+    ends = pump_ends s t u c k e le none f
+
+    by_length : (b : Bool) → is_overlong t c ≡ b → r ≡ refused_overlong b → PumpGives s c r u
+    by_length true long is = subst (λ (z : Result (Unit {0}) Fault). PumpGives s c z u) (sym is) (ap (λ (z : ServerState). is_overlong z c) ends.0 ∙ long, ends.1)
+    by_length false short is = subst (λ (z : Result (Unit {0}) Fault). PumpGives s c z u) (sym is) (ap (λ (z : ServerState). is_overlong z c) ends.0 ∙ short, ends.1)
 
 -- memory was refused for a listing
 pub wants_is : (s : ServerState) (c : ℕ) (line : List ℕ) → next_line_for s c ≡ Some line → shares_version_read s c (read_command line) ≡ true → IsTrue (wants_memory s c)

@@ -1,5 +1,5 @@
 -- What the private parts of a server promise one another.
-use Rattle.std.specs.Prelude.{◌≡◌, ◌<◌, ◌≤◌, ◌-◌, ◌⊎◌, ◌==◌, ◌++◌, ℕ, true, false, List, [], Some, None, Result, Ok, Err, IsTrue, length, drop, take, map, slice_get}
+use Rattle.std.specs.Prelude.{◌≡◌, ◌<◌, ◌≤◌, ◌-◌, ◌⊎◌, ◌==◌, ◌++◌, ℕ, Bool, true, false, if◌then◌else◌, List, [], Some, None, Result, Ok, Err, IsTrue, length, drop, take, map, slice_get}
 use Rattle.std.specs.List.{position_or_len}
 use Rattle.nutcore.specs.declared.event.Fault.{Fault}
 use Rattle.nutcore.specs.declared.event.Fault.TheVariants.{NoSuchUps, NoSuchClient, TooManyClients, TookTooMuch, NotConnected, AlreadyConnected, LineTooLong, Memory}
@@ -50,6 +50,10 @@ PumpGives old c (Err TooManyClients) new = ⊥
 PumpGives old c (Err TookTooMuch) new = ⊥
 PumpGives old c (Err NotConnected) new = ⊥
 PumpGives old c (Err AlreadyConnected) new = ⊥
+
+-- whether the session was told that its line is too long
+abbrev pub refused_overlong : Bool → Result (Unit {0}) Fault
+refused_overlong b = if b then Err LineTooLong else Ok tt
 
 -- a whole line, or nothing where a line without words is answered
 abbrev pub IsLineOrNone : List ℕ → Type 0

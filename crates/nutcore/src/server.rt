@@ -312,12 +312,11 @@ impl Server {
     {
         self.forget_cost();
         let place = self.place_of(c)?;
-        let kept = self.offered_at(c, place);
-        let count = self.join(c, place, piece);
-        match self.serve(c, place, kept) {
-            Ok(()) => Ok(count),
-            Err(fault) => Err(fault),
-        }
+        let session = &mut self.sessions[place];
+        let kept = session.offered();
+        let count = session.join(piece);
+        self.serve(c, place, kept)?;
+        Ok(count)
     }
 
     /// What is offered to the client: the first 4,096 bytes of what it is owed, or all. It changes
@@ -377,11 +376,12 @@ impl Server {
     {
         self.forget_cost();
         let place = self.place_of(c)?;
-        let offered = self.offered_at(c, place);
+        let offered = self.sessions[place].offered();
         if n > offered {
             return Err(Fault::TookTooMuch);
         }
-        self.give(c, place, n);
+        let session = &mut self.sessions[place];
+        session.take(n, &mut self.scratch);
         self.serve(c, place, offered - n)
     }
 

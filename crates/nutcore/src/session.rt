@@ -14,11 +14,12 @@ ghost use Rattle.nutlisting.specs.declared.outbox.TheConstants.{OWED_LIMIT};
 ghost use Rattle.nutlisting.specs.declared.ring.TheConstants.{RING_LIMIT};
 ghost use Rattle.nutwords.specs.declared.limits.TheConstants.{LINE_LIMIT};
 ghost use Rattle.nutcore.specs.Calls.{is_finished, room_of, IsOutboxOf};
-ghost use Rattle.nutcore.specs.Serving.{IsLineOrNone, IsShort, text_with, change_in, IsCounted, KeepsCount};
+ghost use Rattle.nutcore.specs.Serving.{IsLineOrNone, IsShort, text_with, change_in, refused_overlong, IsCounted, KeepsCount};
 ghost use Rattle.nutcore.specs.Reply.{asker_of, seen_client, changed_session};
 ghost use Rattle.nutanswer.specs.View.{asker_seen, is_logged_in, addresses_at};
 
 use crate::HELD_LIMIT;
+use crate::event::Fault;
 use crate::lines::{drop_front, line_end};
 use crate::scratch::Scratch;
 use nutanswer::{Asker, Change, Reply};
@@ -260,8 +261,12 @@ impl Session {
     }
 
     /// A session that holds 1,024 bytes without an LF is told so, and begins to end.
-    pub(crate) fn end_if_overlong(&mut self, scratch: &mut Scratch) -> bool
-        ensures overlong { result ≡ holds_overlong self.old }
+    ///
+    /// # Errors
+    ///
+    /// `LineTooLong`, where it is told so.
+    pub(crate) fn refuse_overlong(&mut self, scratch: &mut Scratch) -> Result<(), Fault>
+        ensures overlong { result ≡ refused_overlong (holds_overlong self.old) }
         ensures noticed { self.new ≡ with_notice self.old }
         ensures id { self.new.id ≡ self.old.id }
         ensures keeps { KeepsCount self.old.owed scratch.old.renders
@@ -272,11 +277,11 @@ impl Session {
             || self.waiting().len() < HELD_LIMIT
             || line_end(self.waiting()).is_some()
         {
-            return false;
+            return Ok(());
         }
         self.owe(b"ERR TOO-LONG\n", scratch);
         self.begin_ending();
-        true
+        Err(Fault::LineTooLong)
     }
 
     /// It begins to end: what it holds is dropped, and its login given up.

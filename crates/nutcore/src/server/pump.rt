@@ -48,15 +48,6 @@ impl Server {
         }
     }
 
-    /// Whether the session's next line may be executed.
-    pub(super) fn has_line(&self, c: ClientId, place: usize) -> bool
-        requires { IsAt c place self.now.state.sessions }
-        ensures { result ≡ is_some (next_line_for self.now.state c) }
-    {
-        let session = &self.sessions[place];
-        session.next_line().is_some()
-    }
-
     /// What answers the session's next line, which is there.
     pub(super) fn next_reply<'a>(
         &self,
@@ -111,19 +102,8 @@ impl Server {
         Ok(())
     }
 
-    /// A session that holds too long a line is told so, and begins to end.
-    pub(super) fn end_if_overlong(&mut self, c: ClientId, place: usize) -> bool
-        requires { IsAt c place self.old.state.sessions }
-        ensures overlong { result ≡ is_overlong self.old.state c }
-        ensures notified { self.new.state ≡ after_notice self.old.state c }
-        ensures keeps { KeepsCost c self.old self.new }
-        ensures at { IsAt c place self.new.state.sessions }
-    {
-        let session = &mut self.sessions[place];
-        session.end_if_overlong(&mut self.scratch)
-    }
-
-    /// Executes the session's lines, as long as they may be executed.
+    /// Executes the session's lines, as long as they may be executed. A session that holds too long a line then is told
+    /// so, and begins to end.
     pub(super) fn pump(&mut self, c: ClientId, place: usize) -> Result<(), Fault>
         requires at { IsAt c place self.old.state.sessions }
         requires short { length (held_of (session c self.old.state)) ≤ HELD_LIMIT }
@@ -132,16 +112,14 @@ impl Server {
         ensures at { IsAt c place self.new.state.sessions }
     {
         let mut done = 0;
-        while self.has_line(c, place) {
+        while self.sessions[place].next_line().is_some() {
             if self.execute(c, place).is_err() {
                 return Err(Fault::Memory(done));
             }
             done += 1;
         }
-        if self.end_if_overlong(c, place) {
-            return Err(Fault::LineTooLong);
-        }
-        Ok(())
+        let session = &mut self.sessions[place];
+        session.refuse_overlong(&mut self.scratch)
     }
 
     /// Executes the session's lines, and counts as placed what is offered then behind so many bytes, which were offered
@@ -155,7 +133,8 @@ impl Server {
         ensures cost { self.new.cost ≡ cost_beyond kept (offered (session c self.new.state)) }
     {
         let pumped = self.pump(c, place);
-        self.placed = self.offered_at(c, place) - kept;
+        let session = &self.sessions[place];
+        self.placed = session.offered() - kept;
         pumped
     }
 }

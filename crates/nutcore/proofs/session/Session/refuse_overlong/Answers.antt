@@ -1,7 +1,7 @@
 use Rattle.std.proofs.Common.{inl}
 use Rattle.nutanswer.specs.declared.err_word.ErrWord.TheVariants.{TooLong}
 use Rattle.nutanswer.proofs.PublicLaws.{error_lines_are_whole}
-use Rattle.nutcore.proofs.session.Session.end_if_overlong.Goals as goal
+use Rattle.nutcore.proofs.session.Session.refuse_overlong.Goals as goal
 
 pub owe-requires-clause-line : goal.owe-requires-clause-line
 owe-requires-clause-line c = inl (error_lines_are_whole TooLong)

@@ -1,0 +1,30 @@
+use Rattle.std.proofs.Common.{◌≡◌, ◌≤◌, ◌∙◌, Option, Some, ap, sym, arith, length, drop}
+use Rattle.nutlisting.specs.Counts.{lines}
+use Rattle.nutcore.specs.Session.{SessionState}
+use Rattle.nutcore.specs.Server.{ServerState, session}
+use Rattle.nutcore.specs.Step.{offered}
+use Rattle.nutcore.specs.Cost.{RunningServer}
+use Rattle.nutcore.specs.contracts.server.Server.{the_view}
+use Rattle.nutcore.proofs.Runs.{state_is}
+use Rattle.nutcore.proofs.Serving.{found_in, stands}
+use Rattle.nutcore.proofs.Costs.{placed_behind}
+use Rattle.nutcore.proofs.server.Server.serve.Goals as goal
+
+pub overflow_sub-self : goal.overflow_sub-self
+overflow_sub-self c =
+    let s : ServerState = c.pump-pumped.new.self.state in
+    let x : SessionState = c.index-session.result.now in
+    let found : session c.args.c s ≡ Some x = found_in c.args.c c.args.place (the_view c.self.inside).state s x (state_is c.self.view_is) c.pump-pumped.ensures.at c.index-session.ensures in
+    let within : c.args.kept ≤ length (offered (session c.args.c s)) = (c.pump-pumped.ensures.keeps c.args.kept c.requires.counted).within in
+    let all : c.offered.result ≡ length (offered (session c.args.c s)) = c.offered.ensures ∙ sym (ap (λ (o : Option SessionState). length (offered o)) found) in
+    omega (arith, within, all)
+
+pub returns-clause-cost : goal.returns-clause-cost
+returns-clause-cost c =
+    let v : ServerState = (the_view c.self.inside).state in
+    let s : ServerState = c.pump-pumped.new.self.state in
+    let x : SessionState = c.index-session.result.now in
+    let here = stands c.args.c c.args.place v s x (state_is c.self.view_is) c.pump-pumped.ensures.at c.index-session.ensures in
+    placed_behind (offered (session c.args.c v)) c.args.kept c.self.inside.scratch.renders c.offered.result
+    (ap (λ (r : RunningServer). r.cost.rendered) c.self.view_is ∙ (c.pump-pumped.ensures.keeps c.args.kept c.requires.counted).counted ∙ ap (λ (z : ServerState). lines (drop c.args.kept (offered (session c.args.c z)))) (sym (state_is c.self.view_is)))
+    (c.offered.ensures ∙ sym (ap (λ (o : Option SessionState). length (offered o)) here.found))
