@@ -2,7 +2,7 @@ use Rattle.std.proofs.Common.{Result, Err, ◌≡◌, ◌∙◌, Option, Some, L
 use Rattle.std.proofs.lemmas.Result.{err_from_is_err_and}
 use Rattle.nutcore.specs.declared.event.Event.TheVariants.{Feed}
 use Rattle.nutcore.specs.declared.event.Fault.{Fault}
-use Rattle.nutcore.specs.Calls.{fed}
+use Rattle.nutcore.specs.Calls.{fed as outcome_of_feed}
 use Rattle.nutcore.specs.Headline.{Serves}
 use Rattle.nutlisting.specs.declared.ring.TheConstants.{RING_LIMIT}
 use Rattle.nutcore.specs.declared.cost.Cost.{Cost}
@@ -23,9 +23,9 @@ use Rattle.nutcore.proofs.server.Server.feed.Goals as goal
 pub returns-in_err-place-clause-served : goal.returns-in_err-place-clause-served
 returns-in_err-place-clause-served c =
     let s = c.forget_cost.new.self.state in
-    let p = err_from_is_err_and c.from_residual-in_err-place.result c.from_residual-in_err-place.ensures.1 in
+    let p = err_from_is_err_and c.from_residual.result c.from_residual.ensures.1 in
     let found = c.in_err-place.ensures.place in
-    subst (λ (r : Result ℕ Fault). Serves c.args.self.now.state (Feed c.args.c c.args.piece.now) (fed r) s) (sym (p.1 ∙ ap Err (p.2 ∙ found.0)))
+    subst (λ (r : Result ℕ Fault). Serves c.args.self.now.state (Feed c.args.c c.args.piece.now) (outcome_of_feed r) s) (sym (p.1 ∙ ap Err (p.2 ∙ found.0)))
     (served_from _ _ _ _ _ c.forget_cost.ensures.state c.place_of.ensures.lawful (feed_absent s c.args.c c.args.piece.now found.1))
 
 pub returns-in_err-place-clause-cost : goal.returns-in_err-place-clause-cost
@@ -79,7 +79,9 @@ returns-in_err-serve-clause-served c =
     let here : StandsAt v c.args.c c.in_ok-place.place x = stands c.args.c c.in_ok-place.place v s x (state_is c.self.view_is) c.in_ok-place.ensures.place c.index_mut-session.ensures.value in
     let found : session c.args.c s ≡ Some x = ap (session c.args.c) (sym (state_is c.self.view_is)) ∙ here.found in
     let fed = with_input_is v c.args.c c.in_ok-place.place c.args.piece.now x c.join-count.new.self here.at here.found c.join-count.ensures.joins ∙ ap (λ (z : ServerState). with_input z c.args.c c.args.piece.now) (state_is c.self.view_is) in
-    served_from _ _ _ _ _ c.forget_cost.ensures.state c.place_of.ensures.lawful (feed_err s _ c.serve.new.self.state c.args.c c.args.piece.now x c.in_err-serve.field-0.0 found fed c.in_err-serve.ensures.gives)
+    let p = err_from_is_err_and c.from_residual-in_err-serve.result c.from_residual-in_err-serve.ensures.1 in
+    subst (λ (r : Result ℕ Fault). Serves c.args.self.now.state (Feed c.args.c c.args.piece.now) (outcome_of_feed r) c.serve.new.self.state) (sym (p.1 ∙ ap Err p.2))
+    (served_from _ _ _ _ _ c.forget_cost.ensures.state c.place_of.ensures.lawful (feed_err s _ c.serve.new.self.state c.args.c c.args.piece.now x c.in_err-serve.field-0.0 found fed c.in_err-serve.ensures.gives))
 
 pub returns-clause-cost : goal.returns-clause-cost
 returns-clause-cost c =
