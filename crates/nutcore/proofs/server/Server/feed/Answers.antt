@@ -1,5 +1,4 @@
-use Rattle.std.proofs.Common.{◌≡◌, ◌∙◌, Option, Some, List, ℕ, false, ap, sym, subst, length, take}
-use Rattle.nutlisting.specs.declared.ring.TheConstants.{RING_LIMIT}
+use Rattle.std.proofs.Common.{◌≡◌, ◌∙◌, Option, Some, ℕ, false, ap, sym, subst, length}
 use Rattle.nutcore.specs.declared.cost.Cost.{Cost}
 use Rattle.nutcore.specs.declared.event.Outcome.TheVariants.{Fed}
 use Rattle.nutcore.specs.Session.{SessionState}
