@@ -1,5 +1,5 @@
 -- The addresses of sessions stay lawful, and the list of UPSs is never changed.
-use Rattle.std.proofs.Common.{◌≡◌, ◌+◌, ℕ, zero, suc, Bool, true, false, List, [], ◌∷◌, ◌++◌, Option, Some, None, refl, sym, subst, ap, cond, eqb, map, max, length, drop, All, IfSome, IsTrue}
+use Rattle.std.proofs.Common.{◌≡◌, ◌+◌, ℕ, zero, suc, Bool, true, false, List, [], ◌∷◌, ◌++◌, Option, Some, None, refl, sym, subst, cond, eqb, map, max, length, All, IfSome, IsTrue}
 use Rattle.std.proofs.lemmas.List.Elements.{All-nil, All-cons, All-head, All-tail, All-append}
 use Rattle.nutwords.specs.Reading.{is_address}
 use Rattle.nutusers.specs.UpsList.{Ups}

@@ -1,13 +1,18 @@
 -- What the server's methods do, over plain states.
-use Rattle.std.proofs.Common.{◌≡◌, ℕ, ◌+◌, ◌<◌, ◌≤◌, Bool, true, false, List, [], ◌++◌, Option, Some, None, Result, Ok, Err, refl, sym, ◌∙◌, ap, subst, arith, length, get_or, set, take, drop}
-use Rattle.std.specs.Prelude.{IsTrue, OnOk, OnErr, MatchOption, is_err, is_some, is_none, option_and_then}
+use Rattle.std.proofs.Common.{◌≡◌, ℕ, ◌+◌, ◌<◌, ◌≤◌, Bool, true, false, List, [], ◌++◌, Option, Some, None, Result, Ok, Err, refl, sym, ◌∙◌, ap, subst, arith, length, get_or, set, take, drop, inl, length-append, ◌∷◌}
+use Rattle.std.specs.Prelude.{IsTrue, IfOk, OnOk, OnErr, MatchOption, is_err, is_some, is_none, option_and_then}
 use Rattle.std.specs.Option.{option_map_or}
 use Rattle.std.proofs.lemmas.Bool.{le-leb, lt-leb, leb-true, cond-true, cond-false}
 use Rattle.nutcore.specs.Session.{SessionState, find, put, without, IdsRise, new_session}
 use Rattle.nutcore.specs.Server.{ServerState, session, with_session, with_session_changed}
 use Rattle.nutanswer.specs.declared.reply.Change.{Change}
+use Rattle.std.specs.declared.alloc.AllocError.{AllocError}
+use Rattle.nutwords.specs.declared.limits.TheConstants.{LINE_LIMIT}
+use Rattle.nutlisting.specs.Lines.{IsWholeLine}
+use Rattle.nutanswer.specs.View.{AskerSeen}
+use Rattle.nutanswer.specs.Answer.{answer_to, IsReply, shares_version, text_of_answer, change_of_answer}
 use Rattle.nutanswer.specs.Command.{read_command}
-use Rattle.nutcore.specs.Reply.{reply, text_to, change_by, changed_session, changed_upses}
+use Rattle.nutcore.specs.Reply.{seen, asker, reply, text_to, change_by, changed_session, changed_upses}
 use Rattle.nutcore.specs.Pump.{next_line, next_line_for, answered, after_line, after_lines, pump_stops, held_of, after_all_lines, pumped, after_notice, is_overlong, holds_overlong, notified, with_notice, wants_memory, shares_version_read}
 use Rattle.nutcore.specs.declared.event.Fault.{Fault}
 use Rattle.nutcore.specs.Step.{offered, may_take}
@@ -18,7 +23,7 @@ use Rattle.nutanswer.specs.declared.reply.Reply.TheVariants.{One, Many, Clients}
 use Rattle.nutanswer.specs.declared.reply.Change.TheVariants.{Nothing}
 use Rattle.nutlisting.specs.Items.{text_of, client_listing}
 use Rattle.nutlisting.specs.declared.outbox.TheConstants.{OWED_LIMIT}
-use Rattle.nutcore.specs.Serving.{place, IsAt, PumpGives, refused_overlong, IsText, IsLineOrNone, Replies, text_with, change_in, ListsClients}
+use Rattle.nutcore.specs.Serving.{place, IsAt, PumpGives, refused_overlong, IsText, IsLineOrNone, Replies, RepliesOrLacks, text_with, change_in, ListsClients}
 use Rattle.nutcore.proofs.Found.{find_id, put_found}
 use Rattle.nutcore.proofs.Changed.{by_change, change_is, session_put, notice_id}
 use Rattle.nutcore.proofs.Pumping.{after_line_is, is_next, session_after, session_after_id, line_done}
@@ -213,3 +218,22 @@ replies_text s c line text r (One given change) e shares is none short one (same
     (ap (shares_version_read s c) e ∙ shares, ap (text_to s c) e ∙ is ∙ sym same, ap (change_by s c) e ∙ none ∙ sym nothing, subst (λ (t : List ℕ). length t ≤ OWED_LIMIT) (sym same) short, subst IsLineOrNone (sym same) one)
 replies_text s c line text r (Many listing) e shares is none short one never = absurd never
 replies_text s c line text r (Clients name u) e shares is none short one never = absurd never
+
+-- so is the answer to a command
+whole_short : (text : List ℕ) → IsWholeLine text → length text ≤ OWED_LIMIT
+whole_short text whole =
+    let few : length whole.line ≤ LINE_LIMIT = whole.answer.fits in
+    omega (arith, few, ap length whole.whole, length-append whole.line (10 ∷ []))
+
+answer_replies : (s : ServerState) (c : ℕ) (line : List ℕ) (command : Command) (r : Result Answer AllocError) → read_command line ≡ Ok (Some command) → IfOk r (IsReply (seen s) (answer_to (seen s) (asker c s) command)) →
+    OnErr r (IsTrue (shares_version (answer_to (seen s) (asker c s) command))) → RepliesOrLacks s c line r
+answer_replies s c line command (Ok (One text change)) e is lacks =
+    (ap (shares_version_read s c) e ∙ is.one, ap (text_to s c) e ∙ sym is.text, ap (change_by s c) e ∙ sym is.changes, whole_short text.now is.whole_line, inl is.whole_line)
+answer_replies s c line command (Ok (Many listing)) e is lacks = (ap (shares_version_read s c) e ∙ ap shares_version is, ap (text_to s c) e ∙ ap text_of_answer is, ap (change_by s c) e ∙ ap change_of_answer is)
+answer_replies s c line command (Ok (Clients name u)) e is lacks = (ap (shares_version_read s c) e ∙ ap shares_version is, ap (text_to s c) e ∙ ap text_of_answer is, ap (change_by s c) e ∙ ap change_of_answer is)
+answer_replies s c line command (Err refused) e is lacks = ap (shares_version_read s c) e ∙ lacks
+
+pub replies_as : (s : ServerState) (c : ℕ) (line : List ℕ) (command : Command) (who : AskerSeen) (r : Result Answer AllocError) → who ≡ asker c s → read_command line ≡ Ok (Some command) → IfOk r (IsReply (seen s) (answer_to (seen s) who command)) →
+    OnErr r (IsTrue (shares_version (answer_to (seen s) who command))) → RepliesOrLacks s c line r
+replies_as s c line command who r asks e is lacks =
+    answer_replies s c line command r e (subst (λ (z : AskerSeen). IfOk r (IsReply (seen s) (answer_to (seen s) z command))) asks is) (subst (λ (z : AskerSeen). OnErr r (IsTrue (shares_version (answer_to (seen s) z command)))) asks lacks)

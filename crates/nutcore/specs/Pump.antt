@@ -63,7 +63,7 @@ is_overlong s c = option_map_or holds_overlong (session c s) false
 abbrev pub notified : SessionState → SessionState
 notified x = begin_ending (record x { owed = x.owed ++ too_long_notice })
 
--- It is told where that is due.
+-- The notice, where it is due.
 abbrev pub with_notice : SessionState → SessionState
 with_notice x = if holds_overlong x then notified x else x
 

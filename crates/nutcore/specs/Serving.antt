@@ -24,8 +24,8 @@ use Rattle.nutcore.specs.Leaf.{IsTaken}
 use Rattle.nutusers.specs.declared.ups_list.UpsId.{UpsId}
 use Rattle.std.specs.Option.{option_map}
 use Rattle.nutcore.specs.Calls.{is_connected}
-use Rattle.nutcore.specs.Server.{ServerState, session, with_session, ups_at, with_ups_changed}
-use Rattle.nutcore.specs.Reply.{text_to, change_by, changed_session, seen_client}
+use Rattle.nutcore.specs.Server.{ServerState, session, ups_at, with_ups_changed}
+use Rattle.nutcore.specs.Reply.{text_to, change_by, seen_client}
 use Rattle.nutcore.specs.declared.cost.Cost.{Cost}
 use Rattle.nutcore.specs.History.{owed}
 use Rattle.nutcore.specs.Cost.{RunningServer}

@@ -23,6 +23,7 @@ abbrev pub accepted_bytes : Option SessionState → List ℕ → List ℕ
 accepted_bytes None piece = []
 accepted_bytes (Some x) piece = if x.ending then [] else take (HELD_LIMIT - length x.held) piece
 
+-- The session once they have joined.
 abbrev pub joined : List ℕ → SessionState → SessionState
 joined piece x = record x { held = x.held ++ accepted_bytes (Some x) piece }
 
@@ -40,6 +41,7 @@ abbrev pub may_take : Option SessionState → ℕ → Bool
 may_take None n = false
 may_take (Some x) n = nat_le n (length (offered (Some x)))
 
+-- The session of which n of the bytes that it owes are taken.
 abbrev pub taken_from : ℕ → SessionState → SessionState
 taken_from n x = record x { owed = drop n x.owed }
 

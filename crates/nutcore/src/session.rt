@@ -1,7 +1,7 @@
 //! One session: what it holds of its client's input, and what it owes.
-ghost use Rattle.std.specs.Prelude.{◌≡◌, ◌≤◌, ◌<◌, ◌-◌, ◌++◌, ℕ, List, length, drop, take, IfOk, OnOk, OnErr, MatchOption, true, false, Some, None, [], ◌∷◌, is_some, if◌then◌else◌};
+ghost use Rattle.std.specs.Prelude.{◌≡◌, ◌≤◌, ◌<◌, ◌-◌, ◌++◌, ℕ, List, length, take, IfOk, MatchOption, true, false, Some, None, [], ◌∷◌, is_some, if◌then◌else◌};
 ghost use Rattle.nutcore.specs.Session.{new_session, begin_ending};
-ghost use Rattle.nutcore.specs.Lines.{first_line, behind};
+ghost use Rattle.nutcore.specs.Lines.{first_line};
 ghost use Rattle.nutcore.specs.Pump.{next_line, answered, holds_overlong, with_notice};
 ghost use Rattle.nutcore.specs.Step.{joined, accepted, taken_from};
 ghost use Rattle.nutlisting.specs.Items.{text_of, client_listing};
@@ -9,7 +9,6 @@ ghost use Rattle.nutlisting.specs.declared.listing.clients.TheConstants.{SESSION
 ghost use Rattle.std.specs.Borrow.{sem};
 ghost use Rattle.std.specs.Io.BufRead.{Rests};
 ghost use Rattle.nutcore.specs.declared.TheConstants.{HELD_LIMIT};
-ghost use Rattle.nutlisting.specs.Owed.{owed as owed_in, IsOutbox};
 ghost use Rattle.nutlisting.specs.declared.outbox.TheConstants.{OWED_LIMIT};
 ghost use Rattle.nutlisting.specs.declared.ring.TheConstants.{RING_LIMIT};
 ghost use Rattle.nutwords.specs.declared.limits.TheConstants.{LINE_LIMIT};

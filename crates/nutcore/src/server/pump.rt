@@ -1,54 +1,30 @@
 //! The pump: which of a session's lines are executed, and what each does.
-ghost use Rattle.std.specs.Prelude.{◌≡◌, ◌≤◌, ◌<◌, length, map, slice_get, OnOk, OnErr, MatchOption, IsTrue, is_some, Some, None, true};
+ghost use Rattle.std.specs.Prelude.{◌≡◌, ◌≤◌, ◌<◌, length, slice_get, OnOk, OnErr, IsTrue, is_some, Some, None, true};
 ghost use Rattle.nutcore.specs.Server.{session, changed_at};
-ghost use Rattle.nutcore.specs.Pump.{next_line_for, after_line, held_of, is_overlong, after_notice, wants_memory};
+ghost use Rattle.nutcore.specs.Pump.{next_line_for, after_line, held_of, wants_memory};
 ghost use Rattle.nutcore.specs.History.{owed};
 ghost use Rattle.nutcore.specs.Ups.{with_fsd, with_order};
 ghost use Rattle.nutcore.specs.Ups.{UpsState};
 ghost use Rattle.nutcore.specs.Calls.{done};
 ghost use Rattle.nutcore.specs.Step.{offered};
 ghost use Rattle.nutcore.specs.Serving.{IsAt, TakesLine, OrderFits, PumpGives, RepliesOrLacks, ListsClients, change_in, IsText, NextIs, IsCounted, KeepsCost, cost_beyond};
-ghost use Rattle.nutcore.specs.Reply.{asker, changed_upses, seen_client};
-ghost use Rattle.nutanswer.specs.View.{asker_seen, addresses_at};
+ghost use Rattle.nutcore.specs.Reply.{changed_upses};
 ghost use Rattle.nutlisting.specs.declared.listing.clients.TheConstants.{SESSION_LIMIT};
-ghost use Rattle.nutanswer.specs.declared.reply.Change.TheVariants.{Nothing};
 ghost use Rattle.nutcore.specs.declared.TheConstants.{HELD_LIMIT};
-ghost use Rattle.nutlisting.specs.declared.outbox.TheConstants.{OWED_LIMIT};
-ghost use Rattle.nutwords.specs.declared.limits.TheConstants.{LINE_LIMIT};
-ghost use Rattle.nutlisting.specs.Items.{text_of, client_listing};
 
 use super::Server;
 use crate::event::{ClientId, Fault};
 use crate::session::Session;
 use crate::ups::Ups;
-use nutanswer::{Asker, Change, Command, Reply, answer};
+use nutanswer::{Change, Command, Reply, answer};
 use nutlisting::Clients;
 use nutusers::UpsId;
 use nutwords::Line;
 use std::alloc::AllocError;
 
 impl Server {
-    /// What answers a line of the client, as the server is now. The answer's line is made in the one that is lent. Memory
-    /// is asked for by a listing alone.
-    pub(super) fn reply<'a>(
-        &self,
-        c: ClientId,
-        who: Asker<'_>,
-        line: &[u8],
-        lent: &'a mut Line,
-    ) -> Result<Reply<'a>, AllocError>
-        requires asks { asker_seen who ≡ asker c self.now.state }
-        requires short { length line.now ≤ LINE_LIMIT }
-        ensures { RepliesOrLacks self.now.state c line.now result }
-    {
-        match Command::read(line) {
-            Err(word) => Ok(one_line(word.line())),
-            Ok(None) => Ok(one_line(b"")),
-            Ok(Some(command)) => answer(self, who, &command, lent),
-        }
-    }
-
-    /// What answers the session's next line, which is there.
+    /// What answers the session's next line, which is there, as the server is now. The answer's line is made in the one
+    /// that is lent. Memory is asked for by a listing alone.
     pub(super) fn next_reply<'a>(
         &self,
         c: ClientId,
@@ -62,7 +38,11 @@ impl Server {
     {
         let session = &self.sessions[place];
         let line = session.next_line().unwrap();
-        self.reply(c, session.asker(), line, lent)
+        match Command::read(line) {
+            Err(word) => Ok(one_line(word.line())),
+            Ok(None) => Ok(one_line(b"")),
+            Ok(Some(command)) => answer(self, session.asker(), &command, lent),
+        }
     }
 
     /// Does what an answer changes of the UPSs.

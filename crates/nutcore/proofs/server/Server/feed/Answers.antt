@@ -1,10 +1,9 @@
-use Rattle.std.proofs.Common.{Result, Err, ◌≡◌, ◌∙◌, Option, Some, List, ℕ, false, ap, sym, subst, length, take}
+use Rattle.std.proofs.Common.{Result, Err, ◌≡◌, ◌∙◌, Option, Some, ℕ, false, ap, sym, subst, length}
 use Rattle.std.proofs.lemmas.Result.{err_from_is_err_and}
 use Rattle.nutcore.specs.declared.event.Event.TheVariants.{Feed}
 use Rattle.nutcore.specs.declared.event.Fault.{Fault}
 use Rattle.nutcore.specs.Calls.{fed as outcome_of_feed}
 use Rattle.nutcore.specs.Headline.{Serves}
-use Rattle.nutlisting.specs.declared.ring.TheConstants.{RING_LIMIT}
 use Rattle.nutcore.specs.declared.cost.Cost.{Cost}
 use Rattle.nutcore.specs.declared.event.Outcome.TheVariants.{Fed}
 use Rattle.nutcore.specs.Session.{SessionState}
