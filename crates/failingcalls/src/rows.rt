@@ -13,6 +13,9 @@ const FIRST: Peer = Peer::Client(1);
 
 const SECOND: Peer = Peer::Client(2);
 
+/// As many bytes as a peer is owed.
+const ALL: usize = usize::MAX;
+
 /// What the driver tells when it is asked for all.
 const REPORT: &str =
     "SETINFO ups.status \"OL\"\nSETINFO battery.charge \"100\"\nDUMPDONE\nDATAOK\n";
@@ -55,7 +58,7 @@ fn connecting() -> [Row; 6] {
     [
         (Ready::DriverUp(SU), Reply::Unasked),
         (Ready::Write(DRIVER), Reply::Takes(3)),
-        (Ready::Write(DRIVER), Reply::Takes(4096)),
+        (Ready::Write(DRIVER), Reply::Takes(ALL)),
         (Ready::Read(DRIVER), Reply::Gives(REPORT)),
         (Ready::Newcomer, Reply::Comes("192.0.2.1")),
         (Ready::Newcomer, Reply::Comes("192.0.2.2")),
@@ -70,8 +73,8 @@ fn asking() -> [Row; 7] {
         (Ready::Write(FIRST), Reply::Takes(17)),
         (Ready::Write(SECOND), Reply::Takes(5)),
         (Ready::Nothing, Reply::Unasked),
-        (Ready::Write(FIRST), Reply::Takes(4096)),
-        (Ready::Write(SECOND), Reply::Takes(4096)),
+        (Ready::Write(FIRST), Reply::Takes(ALL)),
+        (Ready::Write(SECOND), Reply::Takes(ALL)),
     ]
 }
 
@@ -79,11 +82,11 @@ fn asking() -> [Row; 7] {
 fn going_on() -> [Row; 6] {
     [
         (Ready::Tick(5), Reply::Unasked),
-        (Ready::Write(DRIVER), Reply::Takes(4096)),
+        (Ready::Write(DRIVER), Reply::Takes(ALL)),
         (Ready::Read(FIRST), Reply::Gives("AR su battery.charge\n")),
         (Ready::Read(SECOND), Reply::Waits),
         (Ready::Read(DRIVER), Reply::Gives(LAST_WORDS)),
-        (Ready::Write(FIRST), Reply::Takes(4096)),
+        (Ready::Write(FIRST), Reply::Takes(ALL)),
     ]
 }
 
@@ -92,7 +95,7 @@ fn ending() -> [Row; 5] {
     [
         (Ready::Read(SECOND), Reply::Gives("LOGOUT\n")),
         (Ready::Read(DRIVER), Reply::Ends),
-        (Ready::Write(SECOND), Reply::Takes(4096)),
+        (Ready::Write(SECOND), Reply::Takes(ALL)),
         (Ready::Read(FIRST), Reply::Waits),
         (Ready::Read(FIRST), Reply::Ends),
     ]

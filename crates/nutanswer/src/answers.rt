@@ -34,7 +34,8 @@ pub fn answer<'a, V: View>(
         (IsReply (V.seen view.now)
         (answer_to (V.seen view.now) (asker_seen asker.entry) command.now)) }
     ensures memory { OnErr result
-        (IsTrue (shares_version (answer_to (V.seen view.now) (asker_seen asker.entry) command.now))) }
+        (IsTrue (shares_version
+        (answer_to (V.seen view.now) (asker_seen asker.entry) command.now))) }
 {
     match command {
         Command::Username(name) => Ok(given(session::username(asker, name, line))),

@@ -9,12 +9,12 @@ mod given;
 mod host;
 mod job;
 mod limits;
+#[cfg(test)]
+mod peer;
 mod printed;
 mod program;
 mod requests;
 mod target;
-#[cfg(test)]
-mod tests;
 
 pub use connection::connect;
 pub use engine::run;

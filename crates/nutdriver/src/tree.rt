@@ -9,6 +9,9 @@ ghost use Rattle.nutdriver.specs.DriverStep.{driver_step, changes_tree, entries_
 ghost use Rattle.nutdriver.specs.Answers.{AnswersStep, CountsChange, variable_step};
 ghost use Rattle.nutdriver.specs.declared.line.DriverLine.TheVariants.{SetInfo, DelInfo, AddEnum, DelEnum, AddRange, DelRange, SetAux, SetFlags, AddCmd, DelCmd};
 
+#[cfg(test)]
+mod tests;
+
 use crate::variable::{Change, Variable};
 use crate::{COMMAND_LIMIT, DriverFault, DriverLine, Effect, Flags, Range, VARIABLE_LIMIT};
 use nutmap::laws::changes_count_one_entry;

@@ -44,9 +44,12 @@ variable_listing ups fsd variables = record { kind = codes "VAR"; names = ups �
 abbrev pub is_rw : List ℕ × VariableState → Bool
 is_rw entry = entry.1.flags.rw
 
+abbrev pub rw_items : List ℕ → Bool → List (List ℕ × VariableState) → List (List (List ℕ))
+rw_items ups fsd variables = map (variable_item (codes "RW") ups fsd) (filter is_rw variables)
+
 -- LIST RW: of the variables those with the flag RW.
 abbrev pub rw_listing : List ℕ → Bool → List (List ℕ × VariableState) → ListingState
-rw_listing ups fsd variables = record { kind = codes "RW"; names = ups ∷ []; items = map (variable_item (codes "RW") ups fsd) (filter is_rw variables) }
+rw_listing ups fsd variables = record { kind = codes "RW"; names = ups ∷ []; items = rw_items ups fsd variables }
 
 abbrev pub command_item : List ℕ → List ℕ → List (List ℕ)
 command_item ups name = codes "CMD" ∷ ups ∷ name ∷ []

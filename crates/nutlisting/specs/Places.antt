@@ -9,7 +9,7 @@ use Rattle.nutlisting.specs.declared.listing.Content.TheVariants.{Upses, Variabl
 use Rattle.nutlisting.specs.declared.listing.place.Place.{Place}
 use Rattle.nutlisting.specs.declared.listing.place.Place.TheVariants.{Start, After, Items, Done}
 use Rattle.nutlisting.specs.Content.{listing_of}
-use Rattle.nutlisting.specs.Items.{lines_of, edge_line, ups_item, variable_item, is_rw, command_item, enum_item, enum_values_of, range_item, ranges_of, client_item}
+use Rattle.nutlisting.specs.Items.{lines_of, edge_line, ups_item, variable_item, rw_items, command_item, enum_item, enum_values_of, range_item, ranges_of, client_item}
 use Rattle.nutlisting.specs.Lines.{IsWholeLine}
 use Rattle.nutlisting.specs.Rest.{Position, rest}
 
@@ -22,7 +22,7 @@ names_after names (Some name) = filter (λ other. is_lt (byte_order name other))
 abbrev pub items_past : Content → Place → List (List (List ℕ))
 items_past (Upses list) (Items n) = map ups_item (drop n list)
 items_past (Variables ups fsd tree) (After last) = map (variable_item (codes "VAR") ups fsd) (entries_after byte_order tree.variables last)
-items_past (Rw ups fsd tree) (After last) = map (variable_item (codes "RW") ups fsd) (filter is_rw (entries_after byte_order tree.variables last))
+items_past (Rw ups fsd tree) (After last) = rw_items ups fsd (entries_after byte_order tree.variables last)
 items_past (Commands ups tree) (After last) = map (command_item ups) (names_after tree.commands last)
 items_past (EnumValues ups name tree) (Items n) = map (enum_item ups name) (drop n (enum_values_of (variable_at tree name)))
 items_past (Ranges ups name tree) (Items n) = map (range_item ups name) (drop n (ranges_of (variable_at tree name)))

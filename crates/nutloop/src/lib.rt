@@ -6,8 +6,6 @@ pub mod laws;
 mod over_mio;
 mod scripted;
 mod sockets;
-#[cfg(test)]
-mod tests;
 mod turns;
 
 pub use fault::LoopFault;

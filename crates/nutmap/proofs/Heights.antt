@@ -58,3 +58,36 @@ height_small R es h t small = small_cases (nat_lt h 130) refl
 -- three nodes a level, and one more, are within the bound
 pub cost_fits : {K V : Type 0} (R : K → K → Ordering) (es : List (K × V)) (h old new : ℕ) → IsTree R es h → new ≤ old + 3 * h + 1 → new ≤ old + most_nodes (length es)
 cost_fits R es h old new t le = omega (arith, height_digits R es h t)
+
+-- what an insert on one side makes, its balancing with it, is within three nodes a level and one more
+pub left_fits : (l r h old new : ℕ) → h ≡ max l r + 1 → new ≤ old + 3 * l + 1 → new ≤ old + 3 * h + 1
+left_fits l r h old new high most = omega arith
+
+pub right_fits : (l r h old new : ℕ) → h ≡ max l r + 1 → new ≤ old + 3 * r + 1 → new ≤ old + 3 * h + 1
+right_fits l r h old new high most = omega arith
+
+pub left_fits_balanced : (l r h old mid new : ℕ) → h ≡ max l r + 1 → mid ≤ old + 3 * l + 1 → new ≤ mid + 3 → new ≤ old + 3 * h + 1
+left_fits_balanced l r h old mid new high most more = omega arith
+
+pub right_fits_balanced : (l r h old mid new : ℕ) → h ≡ max l r + 1 → mid ≤ old + 3 * r + 1 → new ≤ mid + 3 → new ≤ old + 3 * h + 1
+right_fits_balanced l r h old mid new high most more = omega arith
+
+-- and what a removal on one side makes, its balancing with it, is within three nodes a level
+pub left_falls : (l r h old new : ℕ) → h ≡ max l r + 1 → new ≤ old + 3 * l → new ≤ old + 3 * h
+left_falls l r h old new high most = omega arith
+
+pub right_falls : (l r h old new : ℕ) → h ≡ max l r + 1 → new ≤ old + 3 * r → new ≤ old + 3 * h
+right_falls l r h old new high most = omega arith
+
+pub left_falls_balanced : (l r h old mid new : ℕ) → h ≡ max l r + 1 → mid ≤ old + 3 * l → new ≤ mid + 3 → new ≤ old + 3 * h
+left_falls_balanced l r h old mid new high most more = omega arith
+
+pub right_falls_balanced : (l r h old mid new : ℕ) → h ≡ max l r + 1 → mid ≤ old + 3 * r → new ≤ mid + 3 → new ≤ old + 3 * h
+right_falls_balanced l r h old mid new high most more = omega arith
+
+pub right_joins : (l r h old new : ℕ) → h ≡ max l r + 1 → new ≤ old + 3 * r + 3 → new ≤ old + 3 * h
+right_joins l r h old new high most = omega arith
+
+-- and what taking out the first entry of a side makes, its balancing with it, is within three nodes a level and three more
+pub level_joins_balanced : (l h old mid new : ℕ) → l ≡ h → mid ≤ old + 3 * l → new ≤ mid + 3 → new ≤ old + 3 * h + 3
+level_joins_balanced l h old mid new is most more = omega arith

@@ -96,7 +96,8 @@ impl<K: Ord + Drop, V: Drop> Map<K, V> {
         out: &mut ArrayVec<Option<(&'a K, &'a V)>, N>,
     )
         ensures entries { map (option_map {U = K × V} (λ e. (e.0.now, e.1.now))) out.new.items
-            ≡ map Some (take N (entries_after K.cmp self.now (option_map (λ k. k.now) above.entry))) }
+            ≡ map Some (take N (entries_after K.cmp self.now
+            (option_map (λ k. k.now) above.entry))) }
         ensures rising { HasRisingKeys K.cmp self.now }
     {
         // What the root says of the entries: their keys rise.

@@ -3,6 +3,9 @@ ghost use Rattle.std.specs.Prelude.{◌≡◌, ◌+◌, ◌-◌, ◌*◌, true};
 ghost use Rattle.std.specs.List.{list_all};
 ghost use Rattle.nutwords.specs.Natural.{is_digit, has_no_leading_zero, is_natural, up_to, read_natural};
 
+#[cfg(test)]
+mod tests;
+
 /// Reads a natural number of at most this: `0`, or digits that don't begin with 0.
 pub fn read_natural(digits: &[u8], most: u64) -> Option<u64>
     ensures { result ≡ read_natural most digits.now }

@@ -6,6 +6,9 @@ ghost use Rattle.nutwords.specs.Grammar.{Reads, ReadsToBoundary};
 ghost use Rattle.arrayvec.specs.ArrayVec.{array_vec_len};
 ghost use Rattle.nutwords.specs.Spelling.{quoted, with_backslashes, IsFirstSpelled};
 
+#[cfg(test)]
+mod tests;
+
 use crate::LINE_ROOM;
 use arrayvec::ArrayVec;
 use memchr::memchr2;

@@ -5,6 +5,9 @@ ghost use Rattle.nutwords.specs.Keyword.{is_word};
 ghost use Rattle.nutwords.specs.NameOrder.{byte_order};
 ghost use Rattle.nutwords.specs.Text.{is_silent, lines_of};
 
+#[cfg(test)]
+mod tests;
+
 use bstr::ByteSlice;
 use std::cmp::Ordering;
 use std::marker::Model;

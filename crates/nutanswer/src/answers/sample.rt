@@ -11,6 +11,9 @@ use std::alloc::Global;
 use std::marker::Model;
 use std::test::Fail;
 
+/// How many bytes of orders a driver of a sample can still be owed.
+const FREE: usize = 2048;
+
 /// A UPS of a sample.
 #[derive(Drop)]
 struct SampleUps {
@@ -45,7 +48,7 @@ impl SampleUps {
         Ok(SampleUps {
             report,
             fsd: false,
-            free: 2048,
+            free: FREE,
         })
     }
 }

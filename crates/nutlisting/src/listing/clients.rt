@@ -67,9 +67,9 @@ impl Clients {
         requires { length addresses.now ≤ SESSION_LIMIT }
         ensures { self.new ≡ addresses.now }
     {
-        self.addresses.clear();
+        self.clear();
         for address in addresses {
-            self.addresses.push(address.copied()).unwrap();
+            self.push(address);
         }
     }
 }

@@ -1,6 +1,7 @@
 use Rattle.std.proofs.Common.{◌≡◌, ◌+◌, ◌<◌, max, sym, ◌∙◌, rules, arith}
 use Rattle.nutmap.specs.Tree.{height_of, greatest_height}
-use Rattle.nutmap.proofs.Ordered.{lookup_left, lookup_middle, lookup_right, insert_left, insert_middle, insert_right, one_rises, keys_stay_rising, other_value_rises}
+use Rattle.nutmap.proofs.Heights.{left_fits, right_fits, left_fits_balanced, right_fits_balanced}
+use Rattle.nutmap.proofs.Ordered.{lookup_left, lookup_middle, lookup_right, insert_left, insert_middle, insert_right, one_rises, keys_stay_rising}
 use Rattle.nutmap.proofs.insert.+insert.Goals as goal
 
 pub make_node-requires-clause-rising : goal.make_node-requires-clause-rising
@@ -37,19 +38,6 @@ balance-requires-clause-height_fits g t c =
     let high : height_of c.args.link.now ≡ max (height_of c.node.inside.left) (height_of c.node.inside.right) + 1 = rw (c.in-Some.is, ← c.deref-node.ensures, ← c.node.view_is) c.node.invariant.height in
     omega (arith, high, c.requires.height_fits, c.in_ok-left-in-Less.ensures.not_higher, c.in_ok-right-in-Less.ensures.height)
 
-pub make_node-requires-in-Equal-clause-rising : goal.make_node-requires-in-Equal-clause-rising
-make_node-requires-in-Equal-clause-rising g t c =
-    rw (c.in_ok-left-in-Equal.ensures.entries, c.in_ok-right-in-Equal.ensures.entries, c.in_ok-key-in-Equal.ensures.cases) (record { rising = other_value_rises g.K.Ord.cmp _ _ _ _ _ c.node.invariant.tree.rising })
-
-pub make_node-requires-in-Equal-clause-balanced : goal.make_node-requires-in-Equal-clause-balanced
-make_node-requires-in-Equal-clause-balanced g t c =
-    rw (c.in_ok-left-in-Equal.ensures.height, c.in_ok-right-in-Equal.ensures.height) c.node.invariant.balanced
-
-pub make_node-requires-in-Equal-clause-height_fits : goal.make_node-requires-in-Equal-clause-height_fits
-make_node-requires-in-Equal-clause-height_fits g t c =
-    let high : height_of c.args.link.now ≡ max (height_of c.node.inside.left) (height_of c.node.inside.right) + 1 = rw (c.in-Some.is, ← c.deref-node.ensures, ← c.node.view_is) c.node.invariant.height in
-    omega (arith, high, c.requires.height_fits, c.in_ok-left-in-Equal.ensures.height, c.in_ok-right-in-Equal.ensures.height)
-
 pub balance-requires-in-Greater-clause-rising : goal.balance-requires-in-Greater-clause-rising
 balance-requires-in-Greater-clause-rising g t c =
     let cut = insert_right g.met.K.Ord.total c.args.key.value _ _ _ _ c.node.invariant.tree.rising c.args.value.value (sym (rw (c.deref.ensures, c.deref-2.ensures) at c.cmp.ensures) ∙ c.in-Greater.is) in
@@ -75,14 +63,25 @@ pub returns-in_ok-root-in-Less-clause-before : goal.returns-in_ok-root-in-Less-c
 returns-in_ok-root-in-Less-clause-before g t c =
     rw (c.in-Some.is, ← c.deref-node.ensures, ← c.node.view_is) (c.in_ok-left-in-Less.ensures.before ∙ sym (lookup_left g.met.K.Ord.total c.args.key.value _ _ _ _ c.node.invariant.tree.rising (sym (rw (c.deref.ensures, c.deref-2.ensures) at c.cmp.ensures) ∙ c.in-Less.is)))
 
-pub returns-in_ok-root-in-Equal-clause-entries : goal.returns-in_ok-root-in-Equal-clause-entries
-returns-in_ok-root-in-Equal-clause-entries g t c =
-    let cut = insert_middle g.met.K.Ord.total c.args.key.value _ _ _ _ c.node.invariant.tree.rising c.args.value.value (sym (rw (c.deref.ensures, c.deref-2.ensures) at c.cmp.ensures) ∙ c.in-Equal.is) in
-    rw (c.in-Some.is, ← c.deref-node.ensures, ← c.node.view_is, c.in_ok-root-in-Equal.ensures.entries, c.in_ok-left-in-Equal.ensures.entries, c.in_ok-right-in-Equal.ensures.entries, c.in_ok-key-in-Equal.ensures.cases) (sym cut)
+pub replace-requires-clause-rising : goal.replace-requires-clause-rising
+replace-requires-clause-rising g t c = record { rising = c.node.invariant.tree.rising }
 
-pub returns-in_ok-root-in-Equal-clause-before : goal.returns-in_ok-root-in-Equal-clause-before
-returns-in_ok-root-in-Equal-clause-before g t c =
-    rw (c.in-Some.is, ← c.deref-node.ensures, ← c.node.view_is, c.in_ok-before-in-Equal.ensures.cases) (sym (lookup_middle g.met.K.Ord.total c.args.key.value _ _ _ _ c.node.invariant.tree.rising (sym (rw (c.deref.ensures, c.deref-2.ensures) at c.cmp.ensures) ∙ c.in-Equal.is)))
+pub replace-requires-clause-balanced : goal.replace-requires-clause-balanced
+replace-requires-clause-balanced g t c = c.node.invariant.balanced
+
+pub replace-requires-clause-height_fits : goal.replace-requires-clause-height_fits
+replace-requires-clause-height_fits g t c =
+    let high : height_of c.args.link.now ≡ max (height_of c.node.inside.left) (height_of c.node.inside.right) + 1 = rw (c.in-Some.is, ← c.deref-node.ensures, ← c.node.view_is) c.node.invariant.height in
+    omega (arith, high, c.requires.height_fits)
+
+pub returns-in_ok-replaced-in-Equal-clause-entries : goal.returns-in_ok-replaced-in-Equal-clause-entries
+returns-in_ok-replaced-in-Equal-clause-entries g t c =
+    let cut = insert_middle g.met.K.Ord.total c.args.key.value _ _ _ _ c.node.invariant.tree.rising c.args.value.value (sym (rw (c.deref.ensures, c.deref-2.ensures) at c.cmp.ensures) ∙ c.in-Equal.is) in
+    rw (c.in-Some.is, ← c.deref-node.ensures, ← c.node.view_is, c.in_ok-replaced-in-Equal.ensures.entries) (sym cut)
+
+pub returns-in_ok-replaced-in-Equal-clause-before : goal.returns-in_ok-replaced-in-Equal-clause-before
+returns-in_ok-replaced-in-Equal-clause-before g t c =
+    rw (c.in-Some.is, ← c.deref-node.ensures, ← c.node.view_is, c.in_ok-replaced-in-Equal.ensures.before) (sym (lookup_middle g.met.K.Ord.total c.args.key.value _ _ _ _ c.node.invariant.tree.rising (sym (rw (c.deref.ensures, c.deref-2.ensures) at c.cmp.ensures) ∙ c.in-Equal.is)))
 
 pub returns-in_ok-root-in-Greater-clause-entries : goal.returns-in_ok-root-in-Greater-clause-entries
 returns-in_ok-root-in-Greater-clause-entries g t c =
@@ -92,3 +91,43 @@ returns-in_ok-root-in-Greater-clause-entries g t c =
 pub returns-in_ok-root-in-Greater-clause-before : goal.returns-in_ok-root-in-Greater-clause-before
 returns-in_ok-root-in-Greater-clause-before g t c =
     rw (c.in-Some.is, ← c.deref-node.ensures, ← c.node.view_is) (c.in_ok-right-in-Greater.ensures.before ∙ sym (lookup_right g.met.K.Ord.total c.args.key.value _ _ _ _ c.node.invariant.tree.rising (sym (rw (c.deref.ensures, c.deref-2.ensures) at c.cmp.ensures) ∙ c.in-Greater.is)))
+
+pub returns-in_err-left-in-Less-clause-most : goal.returns-in_err-left-in-Less-clause-most
+returns-in_err-left-in-Less-clause-most g t c =
+    let high : height_of c.args.link.now ≡ max (height_of c.node.inside.left) (height_of c.node.inside.right) + 1 = rw (c.in-Some.is, ← c.deref-node.ensures, ← c.node.view_is) c.node.invariant.height in
+    left_fits _ _ _ _ _ high c.in_err-left-in-Less.ensures.most
+
+pub returns-in_err-right-in-Less-clause-most : goal.returns-in_err-right-in-Less-clause-most
+returns-in_err-right-in-Less-clause-most g t c =
+    let high : height_of c.args.link.now ≡ max (height_of c.node.inside.left) (height_of c.node.inside.right) + 1 = rw (c.in-Some.is, ← c.deref-node.ensures, ← c.node.view_is) c.node.invariant.height in
+    left_fits _ _ _ _ _ high c.in_ok-left-in-Less.ensures.most
+
+pub returns-in_err-root-in-Less-clause-most : goal.returns-in_err-root-in-Less-clause-most
+returns-in_err-root-in-Less-clause-most g t c =
+    let high : height_of c.args.link.now ≡ max (height_of c.node.inside.left) (height_of c.node.inside.right) + 1 = rw (c.in-Some.is, ← c.deref-node.ensures, ← c.node.view_is) c.node.invariant.height in
+    left_fits_balanced _ _ _ _ _ _ high c.in_ok-left-in-Less.ensures.most c.in_err-root-in-Less.ensures.most
+
+pub returns-in_ok-root-in-Less-clause-most : goal.returns-in_ok-root-in-Less-clause-most
+returns-in_ok-root-in-Less-clause-most g t c =
+    let high : height_of c.args.link.now ≡ max (height_of c.node.inside.left) (height_of c.node.inside.right) + 1 = rw (c.in-Some.is, ← c.deref-node.ensures, ← c.node.view_is) c.node.invariant.height in
+    left_fits_balanced _ _ _ _ _ _ high c.in_ok-left-in-Less.ensures.most c.in_ok-root-in-Less.ensures.most
+
+pub returns-in_err-right-in-Greater-clause-most : goal.returns-in_err-right-in-Greater-clause-most
+returns-in_err-right-in-Greater-clause-most g t c =
+    let high : height_of c.args.link.now ≡ max (height_of c.node.inside.left) (height_of c.node.inside.right) + 1 = rw (c.in-Some.is, ← c.deref-node.ensures, ← c.node.view_is) c.node.invariant.height in
+    right_fits _ _ _ _ _ high c.in_err-right-in-Greater.ensures.most
+
+pub returns-in_err-left-in-Greater-clause-most : goal.returns-in_err-left-in-Greater-clause-most
+returns-in_err-left-in-Greater-clause-most g t c =
+    let high : height_of c.args.link.now ≡ max (height_of c.node.inside.left) (height_of c.node.inside.right) + 1 = rw (c.in-Some.is, ← c.deref-node.ensures, ← c.node.view_is) c.node.invariant.height in
+    right_fits _ _ _ _ _ high c.in_ok-right-in-Greater.ensures.most
+
+pub returns-in_err-root-in-Greater-clause-most : goal.returns-in_err-root-in-Greater-clause-most
+returns-in_err-root-in-Greater-clause-most g t c =
+    let high : height_of c.args.link.now ≡ max (height_of c.node.inside.left) (height_of c.node.inside.right) + 1 = rw (c.in-Some.is, ← c.deref-node.ensures, ← c.node.view_is) c.node.invariant.height in
+    right_fits_balanced _ _ _ _ _ _ high c.in_ok-right-in-Greater.ensures.most c.in_err-root-in-Greater.ensures.most
+
+pub returns-in_ok-root-in-Greater-clause-most : goal.returns-in_ok-root-in-Greater-clause-most
+returns-in_ok-root-in-Greater-clause-most g t c =
+    let high : height_of c.args.link.now ≡ max (height_of c.node.inside.left) (height_of c.node.inside.right) + 1 = rw (c.in-Some.is, ← c.deref-node.ensures, ← c.node.view_is) c.node.invariant.height in
+    right_fits_balanced _ _ _ _ _ _ high c.in_ok-right-in-Greater.ensures.most c.in_ok-root-in-Greater.ensures.most

@@ -1,5 +1,6 @@
 use Rattle.std.proofs.Common.{◌≡◌, ◌+◌, ◌<◌, max, sym, ◌∙◌, rules, arith}
 use Rattle.nutmap.specs.Tree.{height_of, greatest_height}
+use Rattle.nutmap.proofs.Heights.{left_falls, right_falls, left_falls_balanced, right_falls_balanced, right_joins}
 use Rattle.nutmap.proofs.Ordered.{lookup_left, lookup_middle, lookup_right, remove_left, remove_middle, remove_right, rest_stays_rising}
 use Rattle.nutmap.proofs.remove.+remove.Goals as goal
 
@@ -115,3 +116,63 @@ returns-in_ok-root-in-Greater-clause-entries g t c =
     let cut = remove_right g.met.K.Ord.total c.args.key.now _ _ _ _ c.node.invariant.tree.rising (sym (rw c.deref.ensures at c.cmp.ensures) ∙ c.in-Greater.is) in
     let rest = rw c.in-Some-3.is at c.in_ok-rest-in-Greater.ensures.entries in
     rw (c.in-Some.is, ← c.deref-node.ensures, ← c.node.view_is, c.in_ok-root-in-Greater.ensures.entries, rest, c.in_ok-left-in-Greater.ensures.entries) (sym cut)
+
+pub returns-in_err-rest-in-Less-clause-most : goal.returns-in_err-rest-in-Less-clause-most
+returns-in_err-rest-in-Less-clause-most g t c =
+    let high : height_of c.args.link.now ≡ max (height_of c.node.inside.left) (height_of c.node.inside.right) + 1 = rw (c.in-Some.is, ← c.deref-node.ensures, ← c.node.view_is) c.node.invariant.height in
+    left_falls _ _ _ _ _ high c.in_err-rest-in-Less.ensures.most
+
+pub returns-in_default-2-clause-most : goal.returns-in_default-2-clause-most
+returns-in_default-2-clause-most g t c =
+    let high : height_of c.args.link.now ≡ max (height_of c.node.inside.left) (height_of c.node.inside.right) + 1 = rw (c.in-Some.is, ← c.deref-node.ensures, ← c.node.view_is) c.node.invariant.height in
+    left_falls _ _ _ _ _ high c.in_ok-rest-in-Less.ensures.most
+
+pub returns-in_err-right-in-Less-clause-most : goal.returns-in_err-right-in-Less-clause-most
+returns-in_err-right-in-Less-clause-most g t c =
+    let high : height_of c.args.link.now ≡ max (height_of c.node.inside.left) (height_of c.node.inside.right) + 1 = rw (c.in-Some.is, ← c.deref-node.ensures, ← c.node.view_is) c.node.invariant.height in
+    left_falls _ _ _ _ _ high c.in_ok-rest-in-Less.ensures.most
+
+pub returns-in_err-root-in-Less-clause-most : goal.returns-in_err-root-in-Less-clause-most
+returns-in_err-root-in-Less-clause-most g t c =
+    let high : height_of c.args.link.now ≡ max (height_of c.node.inside.left) (height_of c.node.inside.right) + 1 = rw (c.in-Some.is, ← c.deref-node.ensures, ← c.node.view_is) c.node.invariant.height in
+    left_falls_balanced _ _ _ _ _ _ high c.in_ok-rest-in-Less.ensures.most c.in_err-root-in-Less.ensures.most
+
+pub returns-in_ok-root-in-Less-clause-most : goal.returns-in_ok-root-in-Less-clause-most
+returns-in_ok-root-in-Less-clause-most g t c =
+    let high : height_of c.args.link.now ≡ max (height_of c.node.inside.left) (height_of c.node.inside.right) + 1 = rw (c.in-Some.is, ← c.deref-node.ensures, ← c.node.view_is) c.node.invariant.height in
+    left_falls_balanced _ _ _ _ _ _ high c.in_ok-rest-in-Less.ensures.most c.in_ok-root-in-Less.ensures.most
+
+pub returns-in_err-rest-in-Greater-clause-most : goal.returns-in_err-rest-in-Greater-clause-most
+returns-in_err-rest-in-Greater-clause-most g t c =
+    let high : height_of c.args.link.now ≡ max (height_of c.node.inside.left) (height_of c.node.inside.right) + 1 = rw (c.in-Some.is, ← c.deref-node.ensures, ← c.node.view_is) c.node.invariant.height in
+    right_falls _ _ _ _ _ high c.in_err-rest-in-Greater.ensures.most
+
+pub returns-in_default-3-clause-most : goal.returns-in_default-3-clause-most
+returns-in_default-3-clause-most g t c =
+    let high : height_of c.args.link.now ≡ max (height_of c.node.inside.left) (height_of c.node.inside.right) + 1 = rw (c.in-Some.is, ← c.deref-node.ensures, ← c.node.view_is) c.node.invariant.height in
+    right_falls _ _ _ _ _ high c.in_ok-rest-in-Greater.ensures.most
+
+pub returns-in_err-left-in-Greater-clause-most : goal.returns-in_err-left-in-Greater-clause-most
+returns-in_err-left-in-Greater-clause-most g t c =
+    let high : height_of c.args.link.now ≡ max (height_of c.node.inside.left) (height_of c.node.inside.right) + 1 = rw (c.in-Some.is, ← c.deref-node.ensures, ← c.node.view_is) c.node.invariant.height in
+    right_falls _ _ _ _ _ high c.in_ok-rest-in-Greater.ensures.most
+
+pub returns-in_err-root-in-Greater-clause-most : goal.returns-in_err-root-in-Greater-clause-most
+returns-in_err-root-in-Greater-clause-most g t c =
+    let high : height_of c.args.link.now ≡ max (height_of c.node.inside.left) (height_of c.node.inside.right) + 1 = rw (c.in-Some.is, ← c.deref-node.ensures, ← c.node.view_is) c.node.invariant.height in
+    right_falls_balanced _ _ _ _ _ _ high c.in_ok-rest-in-Greater.ensures.most c.in_err-root-in-Greater.ensures.most
+
+pub returns-in_ok-root-in-Greater-clause-most : goal.returns-in_ok-root-in-Greater-clause-most
+returns-in_ok-root-in-Greater-clause-most g t c =
+    let high : height_of c.args.link.now ≡ max (height_of c.node.inside.left) (height_of c.node.inside.right) + 1 = rw (c.in-Some.is, ← c.deref-node.ensures, ← c.node.view_is) c.node.invariant.height in
+    right_falls_balanced _ _ _ _ _ _ high c.in_ok-rest-in-Greater.ensures.most c.in_ok-root-in-Greater.ensures.most
+
+pub returns-in_err-rest-in-Equal-clause-most : goal.returns-in_err-rest-in-Equal-clause-most
+returns-in_err-rest-in-Equal-clause-most g t c =
+    let high : height_of c.args.link.now ≡ max (height_of c.node.inside.left) (height_of c.node.inside.right) + 1 = rw (c.in-Some.is, ← c.deref-node.ensures, ← c.node.view_is) c.node.invariant.height in
+    right_joins _ _ _ _ _ high c.in_err-rest-in-Equal.ensures.most
+
+pub returns-in_ok-rest-in-Equal-clause-most : goal.returns-in_ok-rest-in-Equal-clause-most
+returns-in_ok-rest-in-Equal-clause-most g t c =
+    let high : height_of c.args.link.now ≡ max (height_of c.node.inside.left) (height_of c.node.inside.right) + 1 = rw (c.in-Some.is, ← c.deref-node.ensures, ← c.node.view_is) c.node.invariant.height in
+    right_joins _ _ _ _ _ high c.in_ok-rest-in-Equal.ensures.most

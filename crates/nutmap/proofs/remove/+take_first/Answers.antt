@@ -1,5 +1,6 @@
 use Rattle.std.proofs.Common.{◌≡◌, ◌+◌, ◌<◌, max, refl, rules, arith}
 use Rattle.nutmap.specs.Tree.{height_of, greatest_height}
+use Rattle.nutmap.proofs.Heights.{left_falls, left_falls_balanced}
 use Rattle.nutmap.proofs.Regroup.{tail_rises}
 use Rattle.nutmap.proofs.remove.+take_first.Goals as goal
 
@@ -31,3 +32,21 @@ balance-requires-clause-height_fits g t c =
     let high : c.args.node.now.1 ≡ max (height_of c.node.inside.left) (height_of c.node.inside.right) + 1 = rw (← c.node.view_is) c.node.invariant.height in
     let left : c.deref.result.now.1 ≡ height_of c.node.inside.left = rw (c.in-Some.is, c.deref.ensures) refl in
     omega (arith, high, left, c.requires.height_fits, c.in_ok-entry.ensures.not_higher, c.in_ok-right.ensures.height)
+
+pub returns-in_err-entry-clause-most : goal.returns-in_err-entry-clause-most
+returns-in_err-entry-clause-most g t c =
+    let left : c.deref.result.now.1 ≡ height_of c.node.inside.left = rw (c.in-Some.is, c.deref.ensures) refl in
+    let high : c.args.node.now.1 ≡ max c.deref.result.now.1 (height_of c.node.inside.right) + 1 = rw (left, ← c.node.view_is) c.node.invariant.height in
+    left_falls _ _ _ _ _ high c.in_err-entry.ensures.most
+
+pub returns-in_err-root-clause-most : goal.returns-in_err-root-clause-most
+returns-in_err-root-clause-most g t c =
+    let left : c.deref.result.now.1 ≡ height_of c.node.inside.left = rw (c.in-Some.is, c.deref.ensures) refl in
+    let high : c.args.node.now.1 ≡ max c.deref.result.now.1 (height_of c.node.inside.right) + 1 = rw (left, ← c.node.view_is) c.node.invariant.height in
+    left_falls_balanced _ _ _ _ _ _ high c.in_ok-entry.ensures.most c.in_err-root.ensures.most
+
+pub returns-clause-most : goal.returns-clause-most
+returns-clause-most g t c =
+    let left : c.deref.result.now.1 ≡ height_of c.node.inside.left = rw (c.in-Some.is, c.deref.ensures) refl in
+    let high : c.args.node.now.1 ≡ max c.deref.result.now.1 (height_of c.node.inside.right) + 1 = rw (left, ← c.node.view_is) c.node.invariant.height in
+    left_falls_balanced _ _ _ _ _ _ high c.in_ok-entry.ensures.most c.in_ok-root.ensures.most

@@ -1,6 +1,5 @@
 //! Turns over scripted sockets.
-
-use super::*;
+use crate::{Act, Call, LoopFault, Ready, Scripted, turn};
 use nutcore::{Descriptions, MaxAge, Peer, Server, UpsId, UpsList, Users};
 use nutwords::{Address, UpsName};
 use std::alloc::{AllocError, Global};
@@ -35,7 +34,7 @@ fn two_writes(alloc: Global, p: Peer, n: usize) -> Result<Scripted, AllocError> 
         Act::Ready(Ready::Write(p)),
         Act::Takes(n),
         Act::Ready(Ready::Write(p)),
-        Act::Takes(4096),
+        Act::Takes(usize::MAX),
     ]?;
     Ok(Scripted::new(alloc, script))
 }
@@ -46,19 +45,6 @@ fn written(sockets: &Scripted) -> &[u8] {
         Some(Call::Wrote(_, bytes)) => bytes.as_slice(),
         _ => b"",
     }
-}
-
-#[test]
-fn faults_have_their_texts(rt: HostRuntime) -> Result<(), Fail> {
-    assert_eq!(rt;
-        format!(in rt.alloc(); "{}", LoopFault::Ready)?.as_str(),
-        "ready failed"
-    );
-    assert_eq!(rt;
-        format!(in rt.alloc(); "{}", LoopFault::Accept)?.as_str(),
-        "accept failed"
-    );
-    Ok(())
 }
 
 #[test]
