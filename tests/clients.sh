@@ -63,14 +63,6 @@ begin() {
     ends help 0 "*Usage: $1 *" "" --help
 }
 
-# The program, given these words, tells that its output is full.
-fails_at_a_full_output() {
-    local status=0 got
-    got=$("$top/crates/$program/out/$program" "$@" 2>&1 >/dev/full) || status=$?
-    cases=$((cases + 1))
-    is 'full output' "$program: write failed \[1\]" "$got [$status]"
-}
-
 begin upsc
 refuses_words three_words su ups.status more
 refuses_words clients_without_a_ups -c

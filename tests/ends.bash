@@ -28,6 +28,14 @@ is() {
     fi
 }
 
+# The program, given these words, tells that its output is full.
+fails_at_a_full_output() {
+    local status=0 got
+    got=$("$top/crates/$program/out/$program" "$@" 2>&1 >/dev/full) || status=$?
+    cases=$((cases + 1))
+    is 'full output' "$program: write failed \[1\]" "$got [$status]"
+}
+
 refuses_words() { ends "$1" 2 "" "error: *" "${@:2}"; }
 
 # The program replays the script NAME of a folder, and prints what NAME.stdout beside it holds, byte for byte. Behind the

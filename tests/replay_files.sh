@@ -310,6 +310,8 @@ faults key_outside_of_a_section 'upsd: early.conf:1: cause 2' --ups early.conf s
 faults bad_name 'upsd: name.conf:1: cause 3' --ups name.conf script
 faults list_of_thirty_three 'upsd: thirty-three.conf:33: cause 6' --ups thirty-three.conf script
 
+fails_at_a_full_output replay "$folder/files/script"
+
 refuses_words no_words
 refuses_words no_script replay --ups two.conf
 refuses_words unknown_option replay --maxage 15 script

@@ -6,8 +6,8 @@ use Rattle.nutusers.specs.declared.fault.Cause.TheVariants as causes
 use Rattle.nutusers.specs.declared.fault.ConfFault.{ConfFault}
 use Rattle.upsd.specs.declared.ending.Ending.{Ending}
 use Rattle.upsd.specs.declared.ending.Ending.TheVariants as endings
-use Rattle.upsd.specs.declared.replay.ReplayFault.{ReplayFault}
-use Rattle.upsd.specs.declared.replay.ReplayFault.TheVariants as faults
+use Rattle.nutreplay.specs.declared.replaying.ReplayFault.{ReplayFault}
+use Rattle.nutreplay.specs.declared.replaying.ReplayFault.TheVariants as faults
 
 -- The ending tells of this refusal of the file: no memory where memory was refused, and nowhere else; else the file's path, and the line and the cause's number of the refusal.
 pub record IsToldOf (path : Bor (List ℕ)) (fault : ConfFault) (ending : Ending) : Type 0 where

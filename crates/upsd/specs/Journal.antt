@@ -1,4 +1,4 @@
--- What is new of a UPS, by what was told of it and what is.
+-- What is new of a UPS, by how it stood and how it stands.
 use Rattle.std.specs.Prelude.{Bool, true, false, Option, Some, None}
 use Rattle.upsd.specs.declared.journal.News.{News}
 use Rattle.upsd.specs.declared.journal.News.TheVariants.{DriverConnected, DriverLost, ForcedShutdown}

@@ -1,10 +1,9 @@
 //! Why the program ends, and with which status.
-ghost use Rattle.std.specs.Prelude.{◌≡◌, ◌≢◌, MatchResult, Ok, Err};
-ghost use Rattle.nutusers.specs.File.{number_of_cause};
+ghost use Rattle.std.specs.Prelude.{◌≡◌, MatchResult, Ok, Err};
 ghost use Rattle.upsd.specs.Ending.{IsToldOf, ending_of_replay};
 
-use crate::replay::ReplayFault;
 use nutloop::LoopFault;
+use nutreplay::ReplayFault;
 use nutusers::{Cause, ConfFault};
 use thiserror::Error;
 

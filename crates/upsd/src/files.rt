@@ -11,9 +11,9 @@ ghost use Rattle.upsd.specs.Ending.{TellsRefusal};
 ghost use Rattle.upsd.specs.Files.{AreNamedIn};
 
 use crate::ending::{Ending, ended, ending_of_file};
-use crate::replay::replay;
 use clap::ArgMatches;
 use nutcore::{Descriptions, UpsList, Users};
+use nutreplay::replay;
 use nutreply::CountedWriter;
 use nutwords::UpsName;
 use std::alloc::{AllocError, Global};

@@ -1,4 +1,4 @@
-//! What is told of the UPSs while they are served: a line for each change.
+//! The journal of the UPSs while they are served: a line for each change.
 ghost use Rattle.std.specs.Prelude.{◌≡◌};
 ghost use Rattle.upsd.specs.Journal.{driver_news, shutdown_news};
 
@@ -24,62 +24,60 @@ impl fmt::Display for News {
     }
 }
 
-/// What is told of a UPS.
+/// How a UPS stands.
 #[derive(Clone, Copy, PartialEq, Eq)]
-struct Told {
+struct Standing {
     is_connected: bool,
     is_forced: bool,
 }
 
-/// That of a UPS of which nothing was told.
-const UNTOLD: Told = Told {
+/// How a UPS stands of which nothing was written.
+const UNWRITTEN: Standing = Standing {
     is_connected: false,
     is_forced: false,
 };
 
-/// What was told of each UPS, by its place.
+/// How each UPS stands by what was written of it, by its place.
 #[derive(Drop)]
 pub struct Journal {
-    told: [Told; UPS_LIMIT],
+    written: [Standing; UPS_LIMIT],
 }
 
 impl Journal {
-    /// Nothing was told yet.
+    /// Nothing was written yet.
     pub fn new() -> Journal {
         Journal {
-            told: [UNTOLD; UPS_LIMIT],
+            written: [UNWRITTEN; UPS_LIMIT],
         }
     }
 
-    /// Tells what is new on standard error. Where that fails it isn't told again.
-    pub fn tell(&mut self, rt: &HostRuntime, server: &Server) {
+    /// Writes what is new to standard error. Where that fails it isn't written again.
+    pub fn write(&mut self, rt: &HostRuntime, server: &Server) {
         let count = server.ups().len();
-        for (place, told) in self.told.iter_mut().take(count).enumerate() {
+        for (place, written) in self.written.iter_mut().take(count).enumerate() {
             let u = UpsId { place: place as u8 };
-            let now = told_now(server, u);
-            if now != *told {
-                tell_news(
-                    rt,
-                    server,
-                    u,
-                    driver_news(told.is_connected, now.is_connected),
-                );
-                tell_news(rt, server, u, shutdown_news(told.is_forced, now.is_forced));
-                *told = now;
+            let now = standing_of(server, u);
+            if now != *written {
+                let driver = driver_news(written.is_connected, now.is_connected);
+                write_news(rt, server, u, driver);
+                let shutdown = shutdown_news(written.is_forced, now.is_forced);
+                write_news(rt, server, u, shutdown);
+                *written = now;
             }
         }
     }
 }
 
-/// What is to be told of the UPS now.
-fn told_now(server: &Server, u: UpsId) -> Told {
-    Told {
+/// How the UPS stands now.
+fn standing_of(server: &Server, u: UpsId) -> Standing {
+    Standing {
         is_connected: server.driver_connected(u) == Ok(true),
         is_forced: server.forced_shutdown(u) == Ok(true),
     }
 }
 
-fn tell_news(rt: &HostRuntime, server: &Server, u: UpsId, news: Option<News>) {
+/// Writes a line of what is new of the UPS, if anything is.
+fn write_news(rt: &HostRuntime, server: &Server, u: UpsId, news: Option<News>) {
     let (Some(name), Some(news)) = (server.ups().name(u), news) else {
         return;
     };

@@ -9,12 +9,7 @@ mod ending;
 mod files;
 mod journal;
 mod laws;
-mod replay;
-mod script;
 mod serve;
-#[cfg(test)]
-mod tests;
-mod transcript;
 
 use crate::ending::{DONE, Ending, FAULT, WORD_FAULT, status_of};
 use crate::files::{files_named, replay_files};

@@ -64,7 +64,7 @@ fn serve<'a>(rt: &HostRuntime, mut server: Server, address: SocketAddr) -> Resul
         if let Err(fault) = turn(&mut server, &mut sockets) {
             return Err(Ending::Loop(fault));
         }
-        journal.tell(rt, &server);
+        journal.write(rt, &server);
     }
     Ok(())
 }

@@ -1,0 +1,115 @@
+-- What clients and drivers take of what they are offered.
+use Rattle.std.proofs.Common.{refl, ◌≡◌, ◌≢◌, ℕ, ◌+◌, ◌<◌, ◌∙◌, List, [], sym, ap, subst, length, length-append, arith}
+use Rattle.std.proofs.Common.{Option, Some, None, Bool, true, false, ◌&&◌, eqb, take, if◌then◌else◌, ◌≤◌}
+use Rattle.std.proofs.lemmas.Grind.{common_steps}
+use Rattle.std.proofs.lemmas.Bool.Decides.{nat_tests}
+use Rattle.std.specs.Prelude.{is_some}
+use Rattle.std.proofs.lemmas.Bool.{le-leb, lt-leb, and_from, and_left, and_right, eq-eqb}
+use Rattle.std.proofs.Math.Seq.{take-nil}
+use Rattle.std.specs.Option.{option_map, option_map_or}
+use Rattle.std.proofs.lemmas.List.{take-take, length-take}
+use Rattle.nutcore.specs.Session.{SessionState}
+use Rattle.nutusers.specs.declared.ups_list.UpsId.{UpsId}
+use Rattle.nutcore.specs.Ups.{UpsState}
+use Rattle.nutcore.specs.Server.{ServerState, session, ups_at}
+use Rattle.nutcore.specs.Pump.{owed_of}
+use Rattle.nutcore.specs.Step.{may_take, driver_may_take}
+use Rattle.nutcore.specs.Calls.{is_connected, owed_to}
+use Rattle.nutcore.specs.DriverOrders.{taken_in_event as driver_taken_in_event, owed_to_driver}
+use Rattle.nutcore.specs.History.{owed, taken_in_event}
+use Rattle.nutcore.specs.declared.event.Event.TheVariants.{Took, DriverTook}
+use Rattle.nutreplay.specs.declared.transcript.Taken.{Taken}
+use Rattle.nutreplay.specs.Transcript.{TranscriptState, Happens, TakesAgain, count_offered}
+use Rattle.nutreplay.specs.Transcript.TakesAgain.{again}
+
+-- each taking is kept
+pub taken_longer : (line c n : ℕ) (old new : TranscriptState) → Happens line (Took c n) old new → length new.taken ≡ length old.taken + 1
+taken_longer line c n old new h = ap (λ (ts : List Taken). length ts) h.taken ∙ length-append old.taken _
+
+pub takes_again : (line c n : ℕ) (old mid new : TranscriptState) → n ≡ count_offered c old → 0 < n → Happens line (Took c n) old mid → TakesAgain line c mid new → TakesAgain line c old new
+takes_again line c n old mid new e some h rest =
+    let more : count_offered c old ≢ 0 = omega (arith, e, some) in
+    again old mid new more (subst (λ (m : ℕ). Happens line (Took c m) old mid) e h) rest
+
+-- the first taking, of the transcript as its fields say
+pub first_time : (line c n : ℕ) (t fields : TranscriptState) (s : ServerState) (mid : TranscriptState) → fields ≡ t → s ≡ fields.server → n ≡ count_offered c fields → Happens line (Took c n) (record fields { server = s }) mid → Happens line (Took c (count_offered c t)) t mid
+first_time line c n t fields s mid is same count h =
+    let first : Happens line (Took c (count_offered c fields)) fields mid = subst (λ (m : ℕ). Happens line (Took c m) fields mid) count (subst (λ (z : ServerState). Happens line (Took c n) (record fields { server = z }) mid) same h) in
+    subst (λ (z : TranscriptState). Happens line (Took c (count_offered c z)) z mid) is first
+
+-- what is taken, by the session
+pub client_taken_of : (c n : ℕ) (s : ServerState) (o : Option SessionState) → session c s ≡ o → taken_in_event c s (Took c n) ≡ (if may_take o n then take n (owed_of o) else [])
+unfolding taken_in_event
+client_taken_of c n s o e = grind (arith, nat_tests, common_steps, e)
+
+pub taken_none : (c n : ℕ) (s : ServerState) → session c s ≡ None → taken_in_event c s (Took c n) ≡ []
+taken_none c n s e = client_taken_of c n s None e
+
+pub when_true : (b : Bool) (xs : List ℕ) → b ≡ true → (if b then xs else []) ≡ xs
+when_true true xs e = refl
+when_true false xs e = cc e
+
+pub when_false : (b : Bool) (xs : List ℕ) → b ≡ false → (if b then xs else []) ≡ []
+when_false true xs e = cc e
+when_false false xs e = refl
+
+within_offer : (n : ℕ) (owed : List ℕ) → n ≤ length (take 4096 owed) → n ≤ 4096
+within_offer n owed h = omega (arith, h, length-take 4096 owed)
+
+taken_open : (c n : ℕ) (s : ServerState) (o : Option SessionState) (bytes : List ℕ) → session c s ≡ o → is_some o ≡ true → bytes ≡ take 4096 (owed_of o) → n ≤ length bytes → taken_in_event c s (Took c n) ≡ take n bytes
+taken_open c n s None bytes e is_open b h = cc is_open
+taken_open c n s (Some x) bytes e is_open b h =
+    let few : n ≤ length (take 4096 x.owed) = subst (λ (xs : List ℕ). n ≤ length xs) b h in
+    client_taken_of c n s (Some x) e ∙ when_true (may_take (Some x) n) (take n x.owed) (le-leb _ _ few) ∙ sym (take-take n 4096 x.owed (within_offer n x.owed few)) ∙ sym (ap (λ (xs : List ℕ). take n xs) b)
+
+pub taken_some : (c n : ℕ) (s : ServerState) (bytes : List ℕ) → is_some (session c s) ≡ true → bytes ≡ take 4096 (owed c s) → n ≤ length bytes → taken_in_event c s (Took c n) ≡ take n bytes
+taken_some c n s bytes is_open b h = taken_open c n s (session c s) bytes refl is_open b h
+
+taken_fewer : (c n : ℕ) (s : ServerState) (o : Option SessionState) (bytes : List ℕ) → session c s ≡ o → is_some o ≡ true → bytes ≡ take 4096 (owed_of o) → length bytes < n → taken_in_event c s (Took c n) ≡ []
+taken_fewer c n s None bytes e is_open b h = cc is_open
+taken_fewer c n s (Some x) bytes e is_open b h =
+    let more : length (take 4096 x.owed) < n = subst (λ (xs : List ℕ). length xs < n) b h in
+    client_taken_of c n s (Some x) e ∙ when_false (may_take (Some x) n) (take n x.owed) (lt-leb _ _ more)
+
+pub taken_too_few : (c n : ℕ) (s : ServerState) (bytes : List ℕ) → is_some (session c s) ≡ true → bytes ≡ take 4096 (owed c s) → length bytes < n → taken_in_event c s (Took c n) ≡ []
+taken_too_few c n s bytes is_open b h = taken_fewer c n s (session c s) bytes refl is_open b h
+
+-- what a driver takes, by its UPS
+driver_taken_of : (u : UpsId) (n : ℕ) (s : ServerState) (o : Option UpsState) (bytes : List ℕ) → ups_at u.place s ≡ o → option_map_or (driver_may_take n) o false ≡ true → option_map_or (λ x. x.owed) o [] ≡ bytes
+    → driver_taken_in_event u s (DriverTook u n) ≡ take n bytes
+driver_taken_of u n s o bytes e may owed =
+    when_true (eqb u.place u.place && option_map_or (driver_may_take n) (ups_at u.place s) false) (take n (owed_to_driver u s))
+    (and_from _ _ (eq-eqb u.place u.place refl) (ap (λ (z : Option UpsState). option_map_or (driver_may_take n) z false) e ∙ may))
+    ∙ ap (λ (z : Option UpsState). take n (option_map_or (λ x. x.owed) z [])) e ∙ ap (take n) owed
+
+nothing_taken : (u : UpsId) (n : ℕ) (s : ServerState) (o : Option UpsState) → ups_at u.place s ≡ o → option_map_or (driver_may_take n) o false ≡ false → driver_taken_in_event u s (DriverTook u n) ≡ []
+nothing_taken u n s o e may =
+    when_false (eqb u.place u.place && option_map_or (driver_may_take n) (ups_at u.place s) false) (take n (owed_to_driver u s))
+    (and_right _ _ (ap (λ (z : Option UpsState). option_map_or (driver_may_take n) z false) e ∙ may))
+
+pub driver_taken_none : (u : UpsId) (n : ℕ) (s : ServerState) → ups_at u.place s ≡ None → driver_taken_in_event u s (DriverTook u n) ≡ []
+driver_taken_none u n s e = nothing_taken u n s None e refl
+
+driver_open : (u : UpsId) (n : ℕ) (s : ServerState) (x : UpsState) (bytes : List ℕ) (b : Bool) → ups_at u.place s ≡ Some x → x.report.connected ≡ b → x.owed ≡ bytes → (b ≡ false → bytes ≡ []) → n ≤ length bytes
+    → driver_taken_in_event u s (DriverTook u n) ≡ take n bytes
+driver_open u n s x bytes true e is owed idle few =
+    driver_taken_of u n s (Some x) bytes e (and_from _ _ is (le-leb n (length x.owed) (subst (λ (xs : List ℕ). n ≤ length xs) (sym owed) few))) owed
+driver_open u n s x bytes false e is owed idle few = nothing_taken u n s (Some x) e (and_left _ _ is) ∙ sym (ap (take n) (idle refl) ∙ take-nil n)
+
+by_state : (u : UpsId) (n : ℕ) (s : ServerState) (o : Option UpsState) (bytes : List ℕ) → ups_at u.place s ≡ o → option_map owed_to o ≡ Some bytes → (option_map is_connected o ≡ Some false → bytes ≡ []) → n ≤ length bytes
+    → driver_taken_in_event u s (DriverTook u n) ≡ take n bytes
+by_state u n s None bytes e owed idle few = cc owed
+by_state u n s (Some x) bytes e owed idle few = let same : x.owed ≡ bytes = cc owed in driver_open u n s x bytes x.report.connected e refl same (λ k. idle (ap (λ (b : Bool). Some b) k)) few
+
+pub driver_taken_some : (u : UpsId) (n : ℕ) (s : ServerState) (bytes : List ℕ) → option_map owed_to (ups_at u.place s) ≡ Some bytes → (option_map is_connected (ups_at u.place s) ≡ Some false → bytes ≡ []) → n ≤ length bytes
+    → driver_taken_in_event u s (DriverTook u n) ≡ take n bytes
+driver_taken_some u n s bytes owed idle few = by_state u n s (ups_at u.place s) bytes refl owed idle few
+
+driver_fewer : (u : UpsId) (n : ℕ) (s : ServerState) (o : Option UpsState) (bytes : List ℕ) → ups_at u.place s ≡ o → option_map owed_to o ≡ Some bytes → length bytes < n → driver_taken_in_event u s (DriverTook u n) ≡ []
+driver_fewer u n s None bytes e owed more = cc owed
+driver_fewer u n s (Some x) bytes e owed more =
+    let same : x.owed ≡ bytes = cc owed in
+    nothing_taken u n s (Some x) e (and_right _ _ (lt-leb _ _ (subst (λ (xs : List ℕ). length xs < n) (sym same) more)))
+
+pub driver_taken_too_few : (u : UpsId) (n : ℕ) (s : ServerState) (bytes : List ℕ) → option_map owed_to (ups_at u.place s) ≡ Some bytes → length bytes < n → driver_taken_in_event u s (DriverTook u n) ≡ []
+driver_taken_too_few u n s bytes owed more = driver_fewer u n s (ups_at u.place s) bytes refl owed more

@@ -1,0 +1,4 @@
+pub mod Script
+pub mod Transcript
+pub mod ReplayFault
+pub mod OneRun

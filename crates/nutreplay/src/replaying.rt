@@ -1,0 +1,126 @@
+//! Replaying a script over a server.
+ghost use Rattle.std.specs.Prelude.{◌≡◌, ◌⊎◌, ℕ, List, OnOk, IfOk, IfErr, Some, None};
+ghost use Rattle.nutreply.specs.Ends.{Written, WriteFailed};
+ghost use Rattle.nutreplay.specs.Script.{first_bad_line};
+ghost use Rattle.nutreplay.specs.Transcript.{IsOutput};
+
+#[cfg(test)]
+mod tests;
+
+use crate::script::read_script;
+use crate::transcript::Transcript;
+use nutcore::{Descriptions, MaxAge, UpsList, Users};
+use nutreply::{Sink, send};
+use std::alloc::{AllocError, AllocFailed, Global};
+use thiserror::Error;
+
+/// After how many seconds without a line of its driver a UPS of a replayed script is stale.
+pub const REPLAY_MAX_AGE: u32 = 15;
+
+/// Why a script isn't replayed.
+#[derive(Clone, Copy, Debug, PartialEq, Eq, Error)]
+pub enum ReplayFault {
+    /// The line of this number is none of a script's lines.
+    #[error("bad event in line {0}")]
+    BadEvent(usize),
+    /// Memory was refused.
+    #[error("no memory")]
+    Memory,
+    /// The output failed.
+    #[error("write failed")]
+    Write,
+}
+
+impl ReplayFault {
+    ghost use Rattle.std.specs.Prelude.{◌≡◌};
+    ghost use Rattle.nutreplay.specs.ReplayFault.{number_of_replay_fault};
+
+    /// The fault's number, from 1.
+    pub fn number(self) -> u8
+        ensures { result ≡ number_of_replay_fault self }
+    {
+        match self {
+            ReplayFault::BadEvent(_) => 1,
+            ReplayFault::Memory => 2,
+            ReplayFault::Write => 3,
+        }
+    }
+}
+
+impl<T: Drop> From<AllocFailed<T>> for ReplayFault {
+    ghost use Rattle.std.specs.Prelude.{◌≡◌};
+    ghost use Rattle.nutreplay.specs.declared.replaying.ReplayFault.TheVariants.{Memory};
+
+    ghost from_gives = { λ _ fault. fault ≡ Memory };
+
+    fn from(_error: AllocFailed<T>) -> ReplayFault {
+        ReplayFault::Memory
+    }
+}
+
+impl From<AllocError> for ReplayFault {
+    ghost use Rattle.std.specs.Prelude.{◌≡◌};
+    ghost use Rattle.nutreplay.specs.declared.replaying.ReplayFault.TheVariants.{Memory};
+
+    ghost from_gives = { λ _ fault. fault ≡ Memory };
+
+    fn from(_error: AllocError) -> ReplayFault {
+        ReplayFault::Memory
+    }
+}
+
+/// Replays a script over a new server, and writes the transcript. The whole script is read before
+/// its first event.
+///
+/// # Errors
+///
+/// `BadEvent` with the number of the first line that is none of a script's lines, and `Memory`:
+/// nothing is written then. `Write`, where a write of this call failed: a beginning of the transcript is written.
+pub fn replay<W: Sink>(
+    alloc: Global,
+    list: UpsList,
+    users: Users,
+    descriptions: Descriptions,
+    script: &[u8],
+    out: &mut W,
+) -> Result<(), ReplayFault>
+    ensures output { OnOk result ((output : List ℕ)
+        × IsOutput list users descriptions REPLAY_MAX_AGE script.now output
+        × Written W.contents W.failures out.old output out.new) }
+    ensures good { OnOk result (first_bad_line script.now ≡ None) }
+    ensures bad { IfErr result (λ fault. (n : ℕ) → fault ≡ ReplayFault.BadEvent n
+        → first_bad_line script.now ≡ Some n) }
+    ensures failed { IfErr result (λ fault. fault ≡ ReplayFault.Write
+        → first_bad_line script.now ≡ None) }
+    ensures written { IfErr result (λ fault. fault ≡ ReplayFault.Write → (output : List ℕ)
+        × IsOutput list users descriptions REPLAY_MAX_AGE script.now output
+        × WriteFailed W.contents W.failures out.old output out.new) }
+    ensures unwritten { IfErr result (λ fault.
+        (fault ≡ ReplayFault.Write) ⊎ (out.new ≡ out.old)) }
+{
+    let text = transcript(alloc, list, users, descriptions, script)?;
+    match send(out, &text) {
+        Ok(()) => Ok(()),
+        Err(_) => Err(ReplayFault::Write),
+    }
+}
+
+/// The transcript of a script.
+fn transcript(
+    alloc: Global,
+    list: UpsList,
+    users: Users,
+    descriptions: Descriptions,
+    script: &[u8],
+) -> Result<Vec<u8>, ReplayFault>
+    ensures ok { IfOk result (λ text. (first_bad_line script.now ≡ None)
+        × IsOutput list users descriptions REPLAY_MAX_AGE script.now text.items) }
+    ensures err { IfErr result (λ fault. (fault ≡ ReplayFault.Memory)
+        ⊎ ((n : ℕ) × (fault ≡ ReplayFault.BadEvent n) × (first_bad_line script.now ≡ Some n))) }
+{
+    let lines = read_script(alloc, script)?;
+    let max_age = MaxAge::read(REPLAY_MAX_AGE).unwrap();
+    let mut transcript = Transcript::new(alloc, list, users, descriptions, max_age)?;
+    transcript.run(lines)?;
+    Ok(transcript.finish()?)
+}

@@ -1,0 +1,432 @@
+//! The server of a replayed script, and the transcript of its events.
+ghost use Rattle.std.specs.Prelude.{◌≡◌, ◌++◌, ◌-◌, ◌<◌, ◌^◌, [], length, slice_get, nat_lt, if◌then◌else◌, IfOk, OnOk};
+ghost use Rattle.std.specs.List.{flat_map};
+ghost use Rattle.nutcore.specs.Step.{Step, offered};
+ghost use Rattle.nutcore.specs.Server.{session, ups_at};
+ghost use Rattle.nutcore.specs.History.{taken_in_event};
+ghost use Rattle.nutcore.specs.DriverOrders.{taken_in_event as driver_taken_in_event};
+ghost use Rattle.nutreplay.specs.Transcript.{new_transcript, note_of_refusal, note_of_held, held_count, held_total, note_of, opened_by, taken_by, taken_of, Happens, TakesAll, IsDone, AreDone, count_offered, count_owed, owed_of, is_same, sent_to, ending_of, sent_part, client_part, driver_part, drivers_part, whole_text};
+
+use crate::script::{Action, ScriptLine};
+use nutcore::{
+    Bytes, ClientId, Descriptions, Event, Fault, MaxAge, Outcome, Peer, Server, UpsId, UpsList,
+    Users,
+};
+use std::alloc::{AllocError, Global};
+use std::marker::Model;
+use std::slice;
+
+/// What a client or a driver took by one event.
+#[derive(Debug, Drop)]
+pub struct Taken {
+    pub peer: Peer,
+    pub bytes: Bytes,
+}
+
+/// The server, and what is noted of the events so far.
+#[derive(Drop)]
+pub struct Transcript {
+    alloc: Global,
+    server: Server,
+    text: Vec<u8>,
+    clients: Vec<ClientId>,
+    taken: Vec<Taken>,
+}
+
+impl Model for Transcript {
+    ghost use Rattle.nutreplay.specs.Transcript.{TranscriptState};
+
+    ghost Value = { TranscriptState };
+
+    ghost view = { λ t. record { server = t.server.state; text = t.text.items; clients = t.clients.items; taken = t.taken.items } };
+}
+
+impl Transcript {
+    /// A new server over these UPSs, of which nothing is noted yet.
+    pub fn new(
+        alloc: Global,
+        list: UpsList,
+        users: Users,
+        descriptions: Descriptions,
+        max_age: MaxAge,
+    ) -> Result<Transcript, AllocError>
+        ensures { IfOk result (λ t. t ≡ new_transcript list users descriptions max_age) }
+    {
+        Ok(Transcript {
+            alloc,
+            server: Server::new(alloc, list, users, descriptions, max_age)?,
+            text: Vec::new(alloc),
+            clients: Vec::new(alloc),
+            taken: Vec::new(alloc),
+        })
+    }
+
+    /// Does what the lines ask for, one after another.
+    pub fn run(&mut self, lines: Vec<ScriptLine>) -> Result<(), AllocError>
+        ensures { OnOk result (AreDone lines.items self.old self.new) }
+    {
+        for line in lines {
+            self.act(line.number, line.action)?;
+        }
+        Ok(())
+    }
+
+    /// Does what one line asks for.
+    #[tactic(auto, unfolding(crate::specs::Transcript::IsDone))]
+    fn act(&mut self, line: usize, action: Action) -> Result<(), AllocError>
+        ensures { OnOk result (IsDone line action self.old self.new) }
+    {
+        match action {
+            Action::DriverUp(ups) => match self.server.find(ups.as_bytes()) {
+                Some(u) => self.event(line, &Event::DriverUp(u)),
+                None => self.note_refusal(line, Fault::NoSuchUps),
+            },
+            Action::DriverBytes(ups, piece) => match self.server.find(ups.as_bytes()) {
+                Some(u) => self.event(line, &Event::DriverBytes(u, piece)),
+                None => self.note_refusal(line, Fault::NoSuchUps),
+            },
+            Action::DriverTook(ups, n) => match self.server.find(ups.as_bytes()) {
+                Some(u) => self.event(line, &Event::DriverTook(u, n)),
+                None => self.note_refusal(line, Fault::NoSuchUps),
+            },
+            Action::DriverTookAll(ups) => match self.server.find(ups.as_bytes()) {
+                Some(u) => self.driver_take_all(line, u),
+                None => self.note_refusal(line, Fault::NoSuchUps),
+            },
+            Action::DriverDown(ups) => match self.server.find(ups.as_bytes()) {
+                Some(u) => self.event(line, &Event::DriverDown(u)),
+                None => self.note_refusal(line, Fault::NoSuchUps),
+            },
+            Action::Tick(seconds) => self.event(line, &Event::Tick(seconds)),
+            Action::Open(address) => self.event(line, &Event::Open(address)),
+            Action::Feed(c, piece) => self.event(line, &Event::Feed(c, piece)),
+            Action::Took(c, n) => self.event(line, &Event::Took(c, n)),
+            Action::TookAll(c) => self.take_all(line, c),
+            Action::Close(c) => self.event(line, &Event::Close(c)),
+        }
+    }
+
+    /// One event of a line.
+    fn event(&mut self, line: usize, event: &Event) -> Result<(), AllocError>
+        ensures { OnOk result (Happens line event.now self.old self.new) }
+    {
+        self.keep_taken(event)?;
+        let outcome = self.step(event)?;
+        self.note(line, event, outcome)
+    }
+
+    /// What a client or a driver takes by the event is kept.
+    fn keep_taken(&mut self, event: &Event) -> Result<(), AllocError>
+        ensures { OnOk result (self.new ≡ record self.old
+            { taken = self.old.taken ++ taken_by self.old.server event.now }) }
+    {
+        match event {
+            Event::Took(c, n) => {
+                let bytes = bytes_taken(self.alloc, &mut self.server, *c, *n)?;
+                self.keep(Peer::Client(*c), bytes)
+            }
+            Event::DriverTook(u, n) => {
+                let bytes = driver_bytes_taken(self.alloc, &mut self.server, *u, *n)?;
+                self.keep(Peer::Driver(*u), bytes)
+            }
+            _ => Ok(()),
+        }
+    }
+
+    /// Keeps what a peer took.
+    fn keep(&mut self, peer: Peer, bytes: Vec<u8>) -> Result<(), AllocError>
+        ensures { OnOk result (self.new ≡ record self.old
+            { taken = self.old.taken ++ taken_of peer bytes.items }) }
+    {
+        let bytes = Bytes::new(bytes);
+        Ok(self.taken.push(Taken { peer, bytes })?)
+    }
+
+    /// The event happens to the server.
+    fn step(&mut self, event: &Event) -> Result<Outcome, AllocError>
+        ensures steps { IfOk result
+            (λ outcome. Step self.old.server event.now outcome self.new.server) }
+        ensures same { OnOk result (self.new
+            ≡ record self.old { server = self.new.server }) }
+    {
+        let outcomes = self.server.run(slice::from_ref(event))?;
+        Ok(outcomes[0])
+    }
+
+    /// Notes the event, and the client that it opened.
+    fn note(&mut self, line: usize, event: &Event, outcome: Outcome) -> Result<(), AllocError>
+        ensures { OnOk result (self.new
+            ≡ record self.old {
+              text = self.old.text ++ note_of line event.now outcome;
+              clients = self.old.clients ++ opened_by outcome;
+            }) }
+    {
+        match outcome {
+            Outcome::Done => Ok(()),
+            Outcome::Opened(c) => Ok(self.clients.push(c)?),
+            Outcome::Refused(fault) => self.note_refusal(line, fault),
+            Outcome::Fed(n) => match event {
+                Event::Feed(_, piece) => self.note_feed(line, n, piece.as_slice().len()),
+                _ => Ok(()),
+            },
+        }
+    }
+
+    /// Notes that a feed took so many of its bytes, where it had more.
+    fn note_feed(&mut self, line: usize, n: usize, all: usize) -> Result<(), AllocError>
+        ensures { OnOk result (self.new
+            ≡ record self.old {
+              text = self.old.text ++ (if nat_lt n all then note_of_held line n all else []);
+            }) }
+    {
+        if n < all {
+            self.note_held(line, n, all)?;
+        }
+        Ok(())
+    }
+
+    /// Notes that only n bytes of a feed were taken.
+    fn note_held(&mut self, line: usize, n: usize, all: usize) -> Result<(), AllocError>
+        ensures { OnOk result (self.new
+            ≡ record self.old { text = self.old.text ++ note_of_held line n all }) }
+    {
+        self.note_held_count(line, n)?;
+        self.note_held_total(all)
+    }
+
+    fn note_held_count(&mut self, line: usize, n: usize) -> Result<(), AllocError>
+        ensures { OnOk result (self.new
+            ≡ record self.old { text = self.old.text ++ held_count line n }) }
+    {
+        let text = format!(in self.alloc; "line {line}: {n}")?;
+        self.text.extend_from_slice(text.as_bytes())
+    }
+
+    fn note_held_total(&mut self, all: usize) -> Result<(), AllocError>
+        ensures { OnOk result (self.new
+            ≡ record self.old { text = self.old.text ++ held_total all }) }
+    {
+        let text = format!(in self.alloc; " of {all} bytes held\n")?;
+        self.text.extend_from_slice(text.as_bytes())
+    }
+
+    /// Notes that the line's event is refused.
+    fn note_refusal(&mut self, line: usize, fault: Fault) -> Result<(), AllocError>
+        ensures { OnOk result (self.new
+            ≡ record self.old { text = self.old.text ++ note_of_refusal line fault }) }
+    {
+        let number = fault.number();
+        let text = format!(in self.alloc; "line {line}: refused {number}\n")?;
+        self.text.extend_from_slice(text.as_bytes())
+    }
+
+    /// A client takes what it is offered, once, and again while something is offered.
+    fn take_all(&mut self, line: usize, c: ClientId) -> Result<(), AllocError>
+        ensures { OnOk result (TakesAll line c self.old self.new) }
+    {
+        let n = count_offered(&mut self.server, c);
+        let mut left = self.take(line, c, n)?;
+        while left > 0 {
+            left = self.take(line, c, left)?;
+        }
+        Ok(())
+    }
+
+    /// A driver takes all that it is offered.
+    fn driver_take_all(&mut self, line: usize, u: UpsId) -> Result<(), AllocError>
+        ensures { OnOk result (Happens line (Event.DriverTook u (count_owed u self.old))
+            self.old self.new) }
+    {
+        let n = count_owed(&self.server, u);
+        self.event(line, &Event::DriverTook(u, n))
+    }
+
+    /// A client takes n bytes. The answer is how many it is offered then.
+    fn take(&mut self, line: usize, c: ClientId, n: usize) -> Result<usize, AllocError>
+        ensures happens { OnOk result (Happens line (Event.Took c n) self.old self.new) }
+        ensures left { IfOk result (λ left. left ≡ count_offered c self.new) }
+        ensures few { OnOk result (length self.new.taken < 2 ^ 64) }
+    {
+        self.event(line, &Event::Took(c, n))?;
+        Ok(count_offered(&mut self.server, c))
+    }
+
+    /// The whole text.
+    #[tactic(auto, unfolding(crate::specs::Transcript::whole_text))]
+    pub fn finish(self) -> Result<Vec<u8>, AllocError>
+        ensures { IfOk result (λ text. text.items ≡ whole_text self) }
+    {
+        let Transcript {
+            alloc,
+            server,
+            mut text,
+            clients,
+            taken,
+        } = self;
+        write_clients(alloc, &clients, &taken, &mut text)?;
+        write_drivers(alloc, server.ups(), &taken, &mut text)?;
+        Ok(text)
+    }
+}
+
+/// How many bytes the client is offered: none where it isn't open.
+fn count_offered(server: &mut Server, c: ClientId) -> usize
+    ensures count { result ≡ length (offered (session c server.old.state)) }
+    ensures same { server.new ≡ server.old }
+{
+    match server.offer(c) {
+        Ok(bytes) => bytes.len(),
+        Err(_) => 0,
+    }
+}
+
+/// The bytes that the client takes, if it may take so many.
+fn bytes_taken(
+    alloc: Global,
+    server: &mut Server,
+    c: ClientId,
+    n: usize,
+) -> Result<Vec<u8>, AllocError>
+    ensures bytes { IfOk result (λ bytes. bytes.items
+        ≡ taken_in_event c server.old.state (Event.Took c n)) }
+    ensures same { server.new ≡ server.old }
+{
+    let mut taken = Vec::new(alloc);
+    if let Ok(bytes) = server.offer(c) {
+        if n <= bytes.len() {
+            taken.extend_from_slice(&bytes[..n])?;
+        }
+    }
+    Ok(taken)
+}
+
+/// How many bytes the driver is offered: none where there is no such UPS.
+fn count_owed(server: &Server, u: UpsId) -> usize
+    ensures { result ≡ length (owed_of (ups_at u.place server.now.state)) }
+{
+    match server.driver_offered(u) {
+        Ok(n) => n,
+        Err(_) => 0,
+    }
+}
+
+/// The bytes that the driver takes, if it may take so many.
+fn driver_bytes_taken(
+    alloc: Global,
+    server: &mut Server,
+    u: UpsId,
+    n: usize,
+) -> Result<Vec<u8>, AllocError>
+    ensures bytes { IfOk result (λ bytes.
+        bytes.items ≡ driver_taken_in_event u server.old.state (Event.DriverTook u n)) }
+    ensures same { server.new ≡ server.old }
+{
+    let mut taken = Vec::new(alloc);
+    if let Ok(bytes) = server.driver_offer(u) {
+        if n <= bytes.len() {
+            taken.extend_from_slice(&bytes[..n])?;
+        }
+    }
+    Ok(taken)
+}
+
+/// What was sent to each client, in the order of opening.
+fn write_clients(
+    alloc: Global,
+    clients: &[ClientId],
+    taken: &[Taken],
+    text: &mut Vec<u8>,
+) -> Result<(), AllocError>
+    ensures { OnOk result (text.new.items
+        ≡ text.old.items ++ flat_map (client_part taken.now) clients.now) }
+{
+    for c in clients {
+        let sent = sent_to(alloc, Peer::Client(*c), taken)?;
+        let peer = format!(in alloc; "client {c}")?;
+        write_part(alloc, peer.as_bytes(), &sent, text)?;
+    }
+    Ok(())
+}
+
+/// The bytes that the client or the driver took, in order.
+fn sent_to(alloc: Global, peer: Peer, taken: &[Taken]) -> Result<Vec<u8>, AllocError>
+    ensures { IfOk result (λ sent. sent.items ≡ sent_to peer taken.now) }
+{
+    let mut sent = Vec::new(alloc);
+    for t in taken {
+        if is_same(t.peer, peer) {
+            sent.extend_from_slice(t.bytes.as_slice())?;
+        }
+    }
+    Ok(sent)
+}
+
+fn is_same(one: Peer, other: Peer) -> bool
+    ensures { result ≡ is_same one other }
+{
+    match (one, other) {
+        (Peer::Client(c), Peer::Client(d)) => c == d,
+        (Peer::Driver(u), Peer::Driver(v)) => u.place == v.place,
+        (Peer::Client(_), Peer::Driver(_)) => false,
+        (Peer::Driver(_), Peer::Client(_)) => false,
+    }
+}
+
+/// What was sent to the driver of each UPS of the list.
+fn write_drivers(
+    alloc: Global,
+    list: &UpsList,
+    taken: &[Taken],
+    text: &mut Vec<u8>,
+) -> Result<(), AllocError>
+    ensures { OnOk result (text.new.items ≡ text.old.items ++ drivers_part taken.now 0 list.now) }
+{
+    for place in 0..list.len() {
+        let u = UpsId { place: place as u8 };
+        let Some(name) = list.name(u) else {
+            unreachable!()
+        };
+        write_driver(alloc, u, name.as_bytes(), taken, text)?;
+    }
+    Ok(())
+}
+
+/// What was sent to the driver of the UPS of this name.
+fn write_driver(
+    alloc: Global,
+    u: UpsId,
+    name: &[u8],
+    taken: &[Taken],
+    text: &mut Vec<u8>,
+) -> Result<(), AllocError>
+    ensures { OnOk result (text.new.items
+        ≡ text.old.items ++ driver_part taken.now u.place name.now) }
+{
+    let mut peer = Vec::new(alloc);
+    peer.extend_from_slice(b"driver ")?;
+    peer.extend_from_slice(name)?;
+    let sent = sent_to(alloc, Peer::Driver(u), taken)?;
+    write_part(alloc, &peer, &sent, text)
+}
+
+/// What was sent to one peer: how many bytes, these, and an LF more unless they end with one.
+fn write_part(alloc: Global, peer: &[u8], sent: &[u8], text: &mut Vec<u8>) -> Result<(), AllocError>
+    ensures { OnOk result (text.new.items ≡ text.old.items ++ sent_part peer.now sent.now) }
+{
+    let count = sent.len();
+    let counted = format!(in alloc; " sent {count} bytes\n")?;
+    text.extend_from_slice(peer)?;
+    text.extend_from_slice(counted.as_bytes())?;
+    text.extend_from_slice(sent)?;
+    text.extend_from_slice(ending_of(sent))
+}
+
+/// An LF, unless there is nothing to end or it ends with one.
+fn ending_of(sent: &[u8]) -> &'static [u8]
+    ensures { result.now ≡ ending_of (slice_get sent.now (length sent.now - 1)) }
+{
+    match sent.last() {
+        Some(b) if *b != b'\n' => b"\n",
+        _ => b"",
+    }
+}
