@@ -112,7 +112,7 @@ prints_variables held = λ s client ups line known more n u e.
     let items = variables_known query fsd entries (λ name h. h) refl lawful in
     let whole = frame_read query (map (variable_item (codes "VAR") ups fsd) entries) (map (variable_of fsd) entries) more
     ((as_it_is (omega arith) refl, (ups_name_written ups n, tt)), listing_written (codes "VAR") ups (omega arith) n, written) items few in
-    printed_whole (requests.List query) forms.Colon ((server.reply s client line).text ++ more) (map (variable_of fsd) entries) more
+    printed_whole (requests.List query) forms.Colon ((server.reply s client line) ++ more) (map (variable_of fsd) entries) more
     (ap (λ t. reply (requests.List query) (t ++ more)) (text ∙ ap (λ x. frame (codes "VAR") (x ∷ []) (map (variable_item (codes "VAR") x fsd) entries)) same) ∙ whole)
     ∙ ap Prints (variables_text forms.Colon fsd (variable_line fsd) entries (λ entry. refl))
 
@@ -140,7 +140,7 @@ prints_settings = λ s client ups line known more n u e.
     let items = variables_known query fsd entries (λ name h. h) refl lawful in
     let whole = frame_read query (map (variable_item (codes "RW") ups fsd) entries) (map (variable_of fsd) entries) more
     ((as_it_is (omega arith) refl, (ups_name_written ups n, tt)), listing_written (codes "RW") ups (omega arith) n, written) items few in
-    printed_whole (requests.List query) forms.Equals ((server.reply s client line).text ++ more) (map (variable_of fsd) entries) more
+    printed_whole (requests.List query) forms.Equals ((server.reply s client line) ++ more) (map (variable_of fsd) entries) more
     (ap (λ t. reply (requests.List query) (t ++ more)) (text ∙ ap (λ x. frame (codes "RW") (x ∷ []) (map (variable_item (codes "RW") x fsd) entries)) same) ∙ whole)
     ∙ ap Prints (variables_text forms.Equals fsd (setting_line fsd) entries (λ entry. refl))
 
@@ -181,7 +181,7 @@ prints_commands = λ s client ups line known more n u e.
     let few : length (map command_of commands) ≤ 65536 = omega (arith, u.sound.commands_few, length-map commands command_of) in
     let whole = frame_read query (map (command_item ups) commands) (map command_of commands) more
     ((as_it_is (omega arith) refl, (ups_name_written ups n, tt)), listing_written (codes "CMD") ups (omega arith) n, commands_written ups commands n u.sound.commands) (commands_known ups commands u.sound.commands) few in
-    printed_whole (requests.List query) forms.Name ((server.reply s client line).text ++ more) (map command_of commands) more
+    printed_whole (requests.List query) forms.Name ((server.reply s client line) ++ more) (map command_of commands) more
     (ap (λ t. reply (requests.List query) (t ++ more)) (text ∙ ap (λ x. frame (codes "CMD") (x ∷ []) (map (command_item x) commands)) same) ∙ whole)
     ∙ ap Prints (commands_text commands)
 
@@ -202,7 +202,7 @@ prints_variable = λ s client ups name line known variable more n m u has e.
       written = (as_it_is (omega arith) refl, (ups_name_written ups n, (name_written name m, (quoted_written value lawful.0, tt))));
       fits = omega (arith, text_short is_name_byte false 32 ups n, text_short is_name_byte false 64 name m, lawful.1, quoted_short value, line_of_four (codes "VAR") ups name (quoted value));
     } in
-    printed_whole (requests.GetVar ups name) forms.Value ((server.reply s client line).text ++ more) (one_item value) more
+    printed_whole (requests.GetVar ups name) forms.Value ((server.reply s client line) ++ more) (one_item value) more
     (ap (λ t. reply (requests.GetVar ups name) (t ++ more)) (text ∙ ap (λ x. line_of (codes "VAR" ∷ x ∷ name ∷ quoted value ∷ [])) same) ∙ value_read ups name value texts more written)
     ∙ ap Prints (append-nil (with_lf value))
 
@@ -247,7 +247,7 @@ prints_upses = λ s client line more lawful e.
     ((as_it_is (omega arith) refl, tt), omega arith, upses_written list lawful.each)
     (upses_known list lawful.each) few in
     let read = ap (λ t. reply (requests.List queries.Ups) (t ++ more)) text ∙ whole in
-    let bytes = (server.reply s client line).text ++ more in
+    let bytes = (server.reply s client line) ++ more in
     record {
       names = printed_whole (requests.List queries.Ups) forms.Name bytes (map ups_of_list list) more read ∙ ap Prints (names_text list);
       descriptions = printed_whole (requests.List queries.Ups) forms.Colon bytes (map ups_of_list list) more read ∙ ap Prints (descriptions_text list);

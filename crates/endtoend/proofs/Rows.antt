@@ -49,7 +49,7 @@ name_kept s ups k h = named_at (place_of ups s.list) h
 pub variable_answered : (s : ServerState) (client : ℕ) (ups name line : List ℕ) (k : KnownUps) (variable : VariableState)
     → ups_named (seen s) (Some ups) ≡ Some k → readiness s.moment s.max_age k.state.report ≡ usable → variable_at k.state.report.tree name ≡ Some variable
     → read_command line ≡ Ok (Some (GetVar (Some ups) (Some name)))
-    → (reply s client line).text ≡ line_of (codes "VAR" ∷ k.name ∷ name ∷ quoted (shown k.state.fsd name variable) ∷ [])
+    → (reply s client line) ≡ line_of (codes "VAR" ∷ k.name ∷ name ∷ quoted (shown k.state.fsd name variable) ∷ [])
 variable_answered s client ups name line k variable named ready there read =
     ap (text_to s client) read ∙ ap text_of_answer answered
   where
@@ -72,17 +72,17 @@ listing_answered s ups k l named ready =
 -- LIST RW
 pub settings_answered : (s : ServerState) (client : ℕ) (ups line : List ℕ) (k : KnownUps) → ups_named (seen s) (Some ups) ≡ Some k → readiness s.moment s.max_age k.state.report ≡ usable
     → read_command line ≡ Ok (Some (ListRw (Some ups)))
-    → (reply s client line).text ≡ frame (codes "RW") (k.name ∷ []) (map (variable_item (codes "RW") k.name k.state.fsd) (filter is_rw k.state.report.tree.variables))
+    → (reply s client line) ≡ frame (codes "RW") (k.name ∷ []) (map (variable_item (codes "RW") k.name k.state.fsd) (filter is_rw k.state.report.tree.variables))
 settings_answered s client ups line k named ready read =
     ap (text_to s client) read ∙ ap text_of_answer (listing_answered (seen s) ups k (λ u. rw_listing u.name u.state.fsd u.state.report.tree.variables) named ready)
 
 -- LIST CMD
 pub commands_answered : (s : ServerState) (client : ℕ) (ups line : List ℕ) (k : KnownUps) → ups_named (seen s) (Some ups) ≡ Some k → readiness s.moment s.max_age k.state.report ≡ usable
     → read_command line ≡ Ok (Some (ListCmd (Some ups)))
-    → (reply s client line).text ≡ frame (codes "CMD") (k.name ∷ []) (map (command_item k.name) k.state.report.tree.commands)
+    → (reply s client line) ≡ frame (codes "CMD") (k.name ∷ []) (map (command_item k.name) k.state.report.tree.commands)
 commands_answered s client ups line k named ready read =
     ap (text_to s client) read ∙ ap text_of_answer (listing_answered (seen s) ups k (λ u. command_listing u.name u.state.report.tree.commands) named ready)
 
 -- LIST UPS
-pub upses_answered : (s : ServerState) (client : ℕ) (line : List ℕ) → read_command line ≡ Ok (Some ListUps) → (reply s client line).text ≡ frame (codes "UPS") [] (map ups_item s.list)
+pub upses_answered : (s : ServerState) (client : ℕ) (line : List ℕ) → read_command line ≡ Ok (Some ListUps) → (reply s client line) ≡ frame (codes "UPS") [] (map ups_item s.list)
 upses_answered s client line read = ap (text_to s client) read

@@ -6,7 +6,7 @@ use Rattle.nutanswer.specs.declared.reply.Reply.{Reply}
 use Rattle.nutanswer.specs.declared.reply.Reply.TheVariants.{One, Many, Clients}
 use Rattle.nutanswer.specs.View.{Seen}
 use Rattle.nutanswer.specs.Answer.{Answer, IsReply}
-use Rattle.nutanswer.specs.Leaf.{CarriesAnswer}
+use Rattle.nutanswer.specs.Promises.{CarriesAnswer}
 
 pub carried : (s : Seen) (answer : Result Answer ErrWord) (reply : Reply) → CarriesAnswer answer reply → IsReply s answer reply
 carried s answer (One line change) h = h

@@ -8,7 +8,7 @@ use Rattle.nutanswer.specs.declared.command.Command.TheVariants.{SetVar, InstCmd
 use Rattle.nutanswer.specs.Answer.{Answer, answer_to, one_line, ok}
 use Rattle.nutanswer.specs.Checks.{◌>>=◌, ◌>>◌, KnownUps, user, unknown_ups, live, var_not_supported, cmd_not_supported, readonly, too_long, too_long_of_command, invalid_value, set_failed, instcmd_failed}
 use Rattle.nutanswer.specs.Orders.{set_line, instcmd_line, instcmd_right, order}
-use Rattle.nutanswer.specs.Leaf.{live_ups, live_variable, live_command, settable, Gives}
+use Rattle.nutanswer.specs.Promises.{live_ups, live_variable, live_command, settable, Gives}
 use Rattle.nutanswer.specs.declared.reply.Reply.{Reply}
 use Rattle.nutanswer.specs.declared.err_word.ErrWord.TheVariants.{SetFailed}
 use Rattle.std.specs.Prelude.{◌≤◌, ◌<◌, Bool, true, false, nat_le, length}

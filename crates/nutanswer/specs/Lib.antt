@@ -5,4 +5,4 @@ pub mod Orders
 pub mod Checks
 pub mod Answer
 pub mod Laws
-pub mod Leaf
+pub mod Promises

@@ -4,7 +4,7 @@ ghost use Rattle.std.specs.List.{list_all};
 ghost use Rattle.nutwords.specs.Bytes.{is_lawful};
 ghost use Rattle.nutanswer.specs.View.{asker_seen};
 ghost use Rattle.nutanswer.specs.Answer.{answer_to, shares_version, told, Answer, IsReply};
-ghost use Rattle.nutanswer.specs.Leaf.{CarriesAnswer, Gives, IsLineOf, row};
+ghost use Rattle.nutanswer.specs.Promises.{CarriesAnswer, Gives, IsLineOf, row};
 ghost use Rattle.nutanswer.specs.declared.command.Command.TheVariants.{GetVar, GetType, GetDesc, GetCmdDesc, GetUpsDesc, ListVar, ListRw, ListCmd, ListEnum, ListRange};
 
 mod orders;

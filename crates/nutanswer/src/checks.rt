@@ -4,7 +4,7 @@ ghost use Rattle.std.specs.Option.{option_copied};
 ghost use Rattle.nutanswer.specs.View.{asker_seen};
 ghost use Rattle.nutanswer.specs.Checks.{unknown_ups, user, too_long_of_command};
 ghost use Rattle.nutanswer.specs.Orders.{instcmd_right, is_short_enough, is_listed, is_in_ranges, is_within_one, is_within};
-ghost use Rattle.nutanswer.specs.Leaf.{known_ups, known_variable, known_command, found, live_ups, live_variable, live_command, settable};
+ghost use Rattle.nutanswer.specs.Promises.{known_ups, known_variable, known_command, found, live_ups, live_variable, live_command, settable};
 
 use crate::known::{Known, KnownCommand, KnownVariable};
 use crate::{Asker, ErrWord, View};

@@ -50,7 +50,7 @@ module _ (P : ServerState → Type 0) (Opens : List ℕ → Type 0) (kept : IsKe
   by_line_of s c (Some line) e h =
       let n = is_next s c line e in
       let y : SessionState = session_after s c line n.asking in
-      let put_in = kept.put_back s c n.asking y n.found (changed_address (change_at s c line) (answered line (reply s c line).text n.asking)) h in
+      let put_in = kept.put_back s c n.asking y n.found (changed_address (change_at s c line) (answered line (reply s c line) n.asking)) h in
       subst P (sym (after_line_is s c line n.asking n.found e)) (kept.changes (with_session s y) (changed_upses (change_at s c line) s.upses) put_in)
 
   by_lines : (k c : ℕ) (s : ServerState) → P s → P (after_lines k s c)

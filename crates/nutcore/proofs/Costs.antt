@@ -22,7 +22,7 @@ use Rattle.nutcore.specs.Pump.{held_of, owed_of}
 use Rattle.nutcore.specs.Step.{offered, may_take}
 use Rattle.nutcore.specs.History.{owed, taken_in_event}
 use Rattle.nutcore.specs.Cost.{no_cost, cost_between, client_cost}
-use Rattle.nutcore.specs.Serving.{IsAt, IsLineOrNone, IsCounted, KeepsCount, cost_beyond}
+use Rattle.nutcore.specs.Promises.{IsAt, IsLineOrNone, IsCounted, KeepsCount, cost_beyond}
 use Rattle.nutcore.proofs.Found.{find_id}
 use Rattle.nutcore.proofs.Serving.{session_set}
 

@@ -52,7 +52,7 @@ module _ (name : List ℕ) where
   is_name_mark = record { held = λ x bytes. refl; owed = λ x bytes. refl; noticed = λ x. inl refl; fresh = λ c address. refl; set = names }
 
   by_name : (s : ServerState) (c : ℕ) (line : List ℕ) (r : Result (Option Command) ErrWord) → read_command line ≡ r → change_by s c r ≡ changes.Username name
-      → (read_command line ≡ Ok (Some (Username (Some name)))) × ((reply s c line).text ≡ text_line (codes "OK" ∷ []))
+      → (read_command line ≡ Ok (Some (Username (Some name)))) × ((reply s c line) ≡ text_line (codes "OK" ∷ []))
   by_name s c line (Err word) e h = cc h
   by_name s c line (Ok None) e h = cc h
   by_name s c line (Ok (Some command)) e h =
@@ -84,7 +84,7 @@ module _ (word : List ℕ) where
   is_word_mark = record { held = λ x bytes. refl; owed = λ x bytes. refl; noticed = λ x. inl refl; fresh = λ c address. refl; set = words }
 
   by_word : (s : ServerState) (c : ℕ) (line : List ℕ) (r : Result (Option Command) ErrWord) → read_command line ≡ r → change_by s c r ≡ changes.Password word
-      → (read_command line ≡ Ok (Some (Password (Some word)))) × ((reply s c line).text ≡ text_line (codes "OK" ∷ []))
+      → (read_command line ≡ Ok (Some (Password (Some word)))) × ((reply s c line) ≡ text_line (codes "OK" ∷ []))
   by_word s c line (Err w) e h = cc h
   by_word s c line (Ok None) e h = cc h
   by_word s c line (Ok (Some command)) e h =

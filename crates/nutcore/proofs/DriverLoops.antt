@@ -13,7 +13,7 @@ use Rattle.nutdriver.specs.declared.report.LineOutcome.TheVariants.{Accepted, Re
 use Rattle.nutdriver.specs.Report.{after_line, line_changes}
 use Rattle.nutcore.specs.Lines.{whole_lines, unfinished_after, is_too_long}
 use Rattle.nutcore.specs.Ups.{UpsState, after_loss, after_outcome, after_text, after_texts, with_unfinished, wants_memory_for}
-use Rattle.nutcore.specs.Leaf.{lacks_memory_behind}
+use Rattle.nutcore.specs.Promises.{lacks_memory_behind}
 use Rattle.nutcore.proofs.WholeLines.{whole_first, whole_none, whole_too_long, unfinished_all, unfinished_first}
 
 -- one more of some lines

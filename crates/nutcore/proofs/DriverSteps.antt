@@ -12,11 +12,11 @@ use Rattle.nutcore.specs.declared.event.Outcome.TheVariants.{Done, Refused}
 use Rattle.nutcore.specs.declared.event.Fault.{Fault}
 use Rattle.nutcore.specs.declared.event.Fault.TheVariants.{NoSuchUps, NoSuchClient, TooManyClients, TookTooMuch, NotConnected, AlreadyConnected, LineTooLong, Memory}
 use Rattle.nutcore.specs.Ups.{UpsState, after_connecting, after_loss, after_tick}
-use Rattle.nutcore.specs.Leaf.{IsTaken}
+use Rattle.nutcore.specs.Promises.{IsTaken}
 use Rattle.nutcore.specs.Server.{ServerState, ups_at, changed_at, with_ups_changed}
 use Rattle.nutcore.specs.Step.{Step, connected, disconnected, after_driver_text, after_driver_bytes, after_driver_took, ticked, connected_by, disconnected_by, driver_took_by, driver_bytes_by, driver_may_lack_memory, outcome_of, after_by, MayLackMemory, wants_driver_memory}
 use Rattle.nutcore.specs.Calls.{is_connected, done}
-use Rattle.nutcore.specs.Serving.{IsTold, DriverFeedGives, DriverTakes, IsNotConnected}
+use Rattle.nutcore.specs.Promises.{IsTold, DriverFeedGives, DriverTakes, IsNotConnected}
 
 -- changes at a place that agree there are one
 pub changed_agree : (f g : UpsState → UpsState) (i : ℕ) (xs : List UpsState) (x : UpsState) → slice_get xs i ≡ Some x → f x ≡ g x → changed_at f i xs ≡ changed_at g i xs

@@ -8,10 +8,10 @@ use Rattle.nutcore.specs.declared.event.Fault.{Fault}
 use Rattle.nutcore.specs.declared.event.Fault.TheVariants.{NoSuchUps, NoSuchClient, TooManyClients, TookTooMuch, NotConnected, AlreadyConnected, LineTooLong, Memory}
 use Rattle.nutcore.specs.Lines.{whole_lines, unfinished_after}
 use Rattle.nutcore.specs.Ups.{UpsState, after_loss, after_text, after_texts, wants_memory_for}
-use Rattle.nutcore.specs.Leaf.{IsFed}
+use Rattle.nutcore.specs.Promises.{IsFed}
 use Rattle.nutcore.specs.Server.{ServerState, ups_at, changed_at, with_ups_changed}
 use Rattle.nutcore.specs.Step.{after_driver_line, after_driver_lines, with_rest, after_driver_text, after_driver_bytes, wants_driver_memory}
-use Rattle.nutcore.specs.Serving.{IsTold}
+use Rattle.nutcore.specs.Promises.{IsTold}
 use Rattle.nutcore.proofs.DriverSteps.{at_changed, server_none, server_same, server_agree}
 
 -- one change after another, and none

@@ -14,7 +14,7 @@ use Rattle.nutcore.specs.Server.{ServerState, session}
 use Rattle.nutcore.specs.Pump.{next_line, pump_stops, held_of, after_all_lines, after_lines, pumped, after_notice, is_overlong, holds_overlong, wants_memory}
 use Rattle.nutcore.specs.Step.{joined, with_input, taken_from, without_output, may_take, may_open, pumped_until, opened, after_by, fed_by, took_by, closed_by, outcome_of, MayLackMemory, Step}
 use Rattle.nutcore.specs.Calls.{done}
-use Rattle.nutcore.specs.Serving.{IsAt, PumpGives}
+use Rattle.nutcore.specs.Promises.{IsAt, PumpGives}
 use Rattle.nutcore.proofs.Changed.{change_absent}
 use Rattle.nutcore.proofs.Places.{without_none}
 use Rattle.nutcore.proofs.Loops.{stopped_lines}

@@ -17,7 +17,7 @@ use Rattle.nutcore.specs.Session.{SessionState, without}
 use Rattle.nutcore.specs.Lines.{unfinished_after, is_too_long}
 use Rattle.nutcore.specs.Ups.{UpsState, with_fsd, with_order}
 use Rattle.nutcore.specs.Server.{ServerState, session, with_session_changed, ups_at, changed_at, with_ups_changed}
-use Rattle.nutcore.specs.Reply.{Reply, reply, changed_session, changed_upses, changed, change_by}
+use Rattle.nutcore.specs.Reply.{reply, changed_session, changed_upses, changed, change_by, after_change}
 use Rattle.nutanswer.specs.Command.{read_command}
 use Rattle.nutcore.specs.Pump.{next_line_for, answered, after_line, after_reply, after_lines, after_all_lines, after_notice, is_overlong, with_notice, pumped, held_of}
 use Rattle.nutcore.specs.Step.{joined, with_input, taken_from, without_output, may_take, may_open, opened, pumped_until, after_by, refused_after, outcome_of, connected, disconnected, after_driver_text, after_driver_bytes, after_driver_took, connected_by, driver_bytes_by, driver_text_outcome, driver_took_by, disconnected_by, fed_by, took_by, closed_by, accepted}
@@ -71,11 +71,10 @@ kept_line : (s : ServerState) (c : ℕ) → kept_from_clients (after_line s c) �
 unfolding after_line after_reply
 kept_line s c = by_line (next_line_for s c)
   where
-    by_line : (o : Option (List ℕ)) → kept_from_clients (option_map_or (λ line. after_reply (reply s c line) c line) o s) ≡ kept_from_clients s
+    by_line : (o : Option (List ℕ)) → kept_from_clients (option_map_or (λ line. after_reply s c line) o s) ≡ kept_from_clients s
     by_line None = refl
     by_line (Some line) =
-        let r : Reply = reply s c line in
-        kept_session (answered line r.text) c r.server ∙ kept_changed (change_by s c (read_command line)) c s
+        kept_session (answered line (reply s c line)) c (after_change s c line) ∙ kept_changed (change_by s c (read_command line)) c s
 
 kept_lines : (k c : ℕ) (s : ServerState) → kept_from_clients (after_lines k s c) ≡ kept_from_clients s
 unfolding after_lines

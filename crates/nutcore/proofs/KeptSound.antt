@@ -15,8 +15,8 @@ use Rattle.nutcore.specs.Server.{ServerState, session, ups_at}
 use Rattle.nutcore.specs.Reply.{changed_session, changed_upses}
 use Rattle.nutcore.specs.Pump.{next_line, answered, with_notice}
 use Rattle.nutcore.specs.Step.{joined, taken_from}
-use Rattle.nutcore.specs.Leaf.{IsFed, IsTaken}
-use Rattle.nutcore.specs.Serving.{IsAt, OrderFits}
+use Rattle.nutcore.specs.Promises.{IsFed, IsTaken}
+use Rattle.nutcore.specs.Promises.{IsAt, OrderFits}
 use Rattle.nutcore.specs.Sound.{Each, IsSoundSession, IsSoundUps, IsSound}
 use Rattle.nutcore.proofs.Found.{find_id}
 use Rattle.nutcore.proofs.Serving.{set_is}

@@ -137,6 +137,6 @@ one_answer_above s c line next =
     let there : session c (line_done s (change_at s c line) y) ≡ Some y = ap (λ (k : ℕ). find k (put y s.sessions)) (sym id) ∙ find_put y s.sessions n.asking found in (
       little_of (session c s) line next,
       ap (λ (z : ServerState). owed_of (session c z)) (after_line_is s c line n.asking n.found next) ∙ ap owed_of there
-          ∙ changed_owed (change_at s c line) (answered line (reply s c line).text n.asking)
-          ∙ ap (λ (o : Option SessionState). owed_of o ++ (reply s c line).text) (sym n.found),
+          ∙ changed_owed (change_at s c line) (answered line (reply s c line) n.asking)
+          ∙ ap (λ (o : Option SessionState). owed_of o ++ (reply s c line)) (sym n.found),
     )

@@ -8,7 +8,7 @@ mod Loops
 mod Least
 mod Executions
 mod Timely
-mod Refusals
+mod HeldFrames
 mod DriverLoops
 mod WholeLines
 mod DriverText

@@ -67,6 +67,6 @@ changed_shorter (Order u line) x = omega arith
 pub line_shortens : (s : ServerState) (c : ℕ) (line : List ℕ) → next_line_for s c ≡ Some line → length (held_of (session c (after_line s c))) < length (held_of (session c s))
 line_shortens s c line h =
     let n = is_next s c line h in
-    let y : SessionState = answered line (reply s c line).text n.asking in
+    let y : SessionState = answered line (reply s c line) n.asking in
     let less : length (session_after s c line n.asking).held < length n.asking.held = let e = behind_shorter n.asking.held line n.first in omega (arith, e, changed_shorter (change_at s c line) y) in
     rw (found_after_line s c line n.asking n.found h, n.found) less

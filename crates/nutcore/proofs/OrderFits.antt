@@ -13,7 +13,7 @@ use Rattle.nutanswer.proofs.PublicLaws.{orders_fit}
 use Rattle.nutcore.specs.Ups.{UpsState}
 use Rattle.nutcore.specs.Server.{ServerState}
 use Rattle.nutcore.specs.Reply.{seen, seen_ups, asker, change_by}
-use Rattle.nutcore.specs.Serving.{TakesLine, OrderFits}
+use Rattle.nutcore.specs.Promises.{TakesLine, OrderFits}
 
 by_read : (s : ServerState) (c : ℕ) (r : Result (Option Command) ErrWord) (u : UpsId) (line : ArrayVec ℕ) (x : UpsState) → change_by s c r ≡ Order u line
     → slice_get s.upses u.place ≡ Some x → TakesLine line.items x

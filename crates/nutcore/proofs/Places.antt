@@ -10,7 +10,7 @@ use Rattle.std.proofs.lemmas.List.Sums.{position_or_len_is}
 use Rattle.std.proofs.lemmas.Bool.Decides.{nat_tests}
 use Rattle.std.proofs.lemmas.Grind.{common_steps}
 use Rattle.nutcore.specs.Session.{SessionState, find, put, without, IdsRise, new_session}
-use Rattle.nutcore.specs.Serving.{place, IsAt}
+use Rattle.nutcore.specs.Promises.{place, IsAt}
 use Rattle.nutcore.specs.declared.event.Fault.TheVariants.{NoSuchClient}
 
 pub find_at : (c : ℕ) (xs : List SessionState) (d : SessionState) → place c xs < length xs → find c xs ≡ Some (get_or xs (place c xs) d)

@@ -107,7 +107,7 @@ is_next s c line h = next_of s c line (session c s) refl h
 -- where there is no next line, nothing happens
 pub stopped_none : (s : ServerState) (c : ℕ) → next_line_for s c ≡ None → after_line s c ≡ s
 unfolding after_line
-stopped_none s c h = ap (λ (o : Option (List ℕ)). option_map_or (λ line. after_reply (reply s c line) c line) o s) h
+stopped_none s c h = ap (λ (o : Option (List ℕ)). option_map_or (λ line. after_reply s c line) o s) h
 
 -- what the client's next line changes
 abbrev pub change_at : ServerState → ℕ → List ℕ → Change
@@ -115,22 +115,22 @@ change_at s c line = change_by s c (read_command line)
 
 -- its session after the line
 abbrev pub session_after : ServerState → ℕ → List ℕ → SessionState → SessionState
-session_after s c line x = changed_session (change_at s c line) (answered line (reply s c line).text x)
+session_after s c line x = changed_session (change_at s c line) (answered line (reply s c line) x)
 
 pub session_after_id : (s : ServerState) (c : ℕ) (line : List ℕ) (x : SessionState) → session c s ≡ Some x → (session_after s c line x).id ≡ c
-session_after_id s c line x found = changed_id (change_at s c line) (answered line (reply s c line).text x) ∙ find_id c s.sessions x found
+session_after_id s c line x found = changed_id (change_at s c line) (answered line (reply s c line) x) ∙ find_id c s.sessions x found
 
 -- what the next line leaves: its answer is joined, it is taken, and what it changes is changed
 pub after_line_is : (s : ServerState) (c : ℕ) (line : List ℕ) (x : SessionState) → session c s ≡ Some x → next_line_for s c ≡ Some line → after_line s c ≡ line_done s (change_at s c line) (session_after s c line x)
 unfolding after_line after_reply
 after_line_is s c line x found h =
     let change : Change = change_at s c line in
-    let text : List ℕ = (reply s c line).text in
+    let text : List ℕ = (reply s c line) in
     let y : SessionState = changed_session change x in
     let t : ServerState = line_done s change y in
     let id : y.id ≡ c = changed_id change x ∙ find_id c s.sessions x found in
     let there : session c t ≡ Some y = ap (λ d. find d (put y s.sessions)) (sym id) ∙ find_put y s.sessions x (ap (λ d. find d s.sessions) id ∙ found) in
-    ap (λ (o : Option (List ℕ)). option_map_or (λ line. after_reply (reply s c line) c line) o s) h
+    ap (λ (o : Option (List ℕ)). option_map_or (λ line. after_reply s c line) o s) h
     ∙ ap (with_session_changed (answered line text) c) (changed_is change c s x found)
     ∙ change_is (answered line text) c t y there
     ∙ ap (λ (xs : List SessionState). let z : ServerState = record t { sessions = xs } in z) (put_put y (answered line text y) s.sessions refl)
@@ -154,7 +154,7 @@ line_goes_by c s None h =
 line_goes_by c s (Some line) h =
     let n = is_next s c line h in
     let x : SessionState = n.asking in
-    let text : List ℕ = (reply s c line).text in
+    let text : List ℕ = (reply s c line) in
     let y : SessionState = session_after s c line x in
     let before : Presence = record { session = Some x; used = ltb c s.next_id } in
     let next : Presence = record { session = Some y; used = ltb c s.next_id } in

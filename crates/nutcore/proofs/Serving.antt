@@ -18,12 +18,12 @@ use Rattle.nutcore.specs.declared.event.Fault.{Fault}
 use Rattle.nutcore.specs.Step.{offered, may_take}
 use Rattle.nutanswer.specs.declared.command.Command.{Command}
 use Rattle.nutanswer.specs.declared.err_word.ErrWord.{ErrWord}
-use Rattle.nutanswer.specs.declared.reply.Reply.{Reply as Answer}
+use Rattle.nutanswer.specs.declared.reply.Reply.{Reply}
 use Rattle.nutanswer.specs.declared.reply.Reply.TheVariants.{One, Many, Clients}
 use Rattle.nutanswer.specs.declared.reply.Change.TheVariants.{Nothing}
 use Rattle.nutlisting.specs.Items.{text_of, client_listing}
 use Rattle.nutlisting.specs.declared.outbox.TheConstants.{OWED_LIMIT}
-use Rattle.nutcore.specs.Serving.{place, IsAt, PumpGives, refused_overlong, IsText, IsLineOrNone, Replies, RepliesOrLacks, text_with, change_in, ListsClients}
+use Rattle.nutcore.specs.Promises.{place, IsAt, PumpGives, refused_overlong, IsText, IsLineOrNone, Replies, RepliesOrLacks, text_with, change_in, ListsClients}
 use Rattle.nutcore.proofs.Found.{find_id, put_found}
 use Rattle.nutcore.proofs.Changed.{by_change, change_is, session_put, notice_id}
 use Rattle.nutcore.proofs.Pumping.{after_line_is, is_next, session_after, session_after_id, line_done}

@@ -123,7 +123,7 @@ module _ (mark : SessionState → Bool) (IsSet : Change → Type 0) (is : IsSess
       let same : d ≡ c = eqb-true d c e in
       let own : find c (put y s.sessions) ≡ Some y = ap (λ k. find k (put y s.sessions)) (sym same ∙ sym id) ∙ find_put y s.sessions x (ap (λ k. find k s.sessions) id ∙ found) in
       let x_before : mark x ≡ false = ap (marked_of) (sym found) ∙ ap (λ k. marked_of (find k s.sessions)) same ∙ before in
-      (same, is.set (change_at s d line) line (reply s d line).text x x_before (ap (marked_of) (sym own) ∙ there))
+      (same, is.set (change_at s d line) line (reply s d line) x x_before (ap (marked_of) (sym own) ∙ there))
   by_session c s d line x false e found next before after =
       let y : SessionState = session_after s d line x in
       let id : y.id ≡ d = session_after_id s d line x found in

@@ -22,7 +22,7 @@ use Rattle.nutcore.specs.Lines.{whole_lines, unfinished_after, is_too_long}
 use Rattle.nutcore.specs.Ups.{UpsState, new_ups, after_connecting, after_loss, with_fsd, with_order, ping_is_due, ping_line, after_tick, after_outcome, after_text, after_texts, with_unfinished}
 use Rattle.nutcore.specs.Server.{changed_at}
 use Rattle.nutcore.specs.Reply.{changed_upses}
-use Rattle.nutcore.specs.Serving.{TakesLine, OrderFits}
+use Rattle.nutcore.specs.Promises.{TakesLine, OrderFits}
 use Rattle.nutcore.specs.Step.{driver_may_take, after_driver_took}
 use Rattle.nutcore.proofs.DriverText.{ups_after_text, ups_after_bytes}
 use Rattle.nutcore.specs.Sound.{Each, IsSoundUps}

@@ -99,20 +99,20 @@ pub record NothingIsLeftToExecute : Type 0 where
 
 -- A line is executed only while at most 2,048 bytes are owed to its client, and its answer is joined behind them: so what is owed is at most that, and one answer.
 abbrev pub OneAnswerAtMostIsOwedAbove : Type 0
-OneAnswerAtMostIsOwedAbove = (s : ServerState) (c : ℕ) (line : List ℕ) → next_line_for s c ≡ Some line → (length (owed c s) ≤ OWED_LIMIT) × (owed c (after_line s c) ≡ owed c s ++ (reply s c line).text)
+OneAnswerAtMostIsOwedAbove = (s : ServerState) (c : ℕ) (line : List ℕ) → next_line_for s c ≡ Some line → (length (owed c s) ≤ OWED_LIMIT) × (owed c (after_line s c) ≡ owed c s ++ (reply s c line))
 
 -- The text that answers a listing's line is BEGIN, exactly the items that the server has then, and END. Of LIST VAR, of a UPS that is usable, they are the variables that it holds.
 pub record AListingIsWhatIsHeld : Type 0 where
   pub framed : (s : ServerState) (c : ℕ) (line : List ℕ) (command : Command) (l : ListingState) → read_command line ≡ Ok (Some command) → answer_to (seen s) (asker c s) command ≡ Ok (listing l)
-      → (reply s c line).text ≡ frame l.kind l.names l.items
+      → (reply s c line) ≡ frame l.kind l.names l.items
   pub variables : (s : ServerState) (c : ℕ) (line ups : List ℕ) (known : KnownUps) → read_command line ≡ Ok (Some (ListVar (Some ups))) → ups_named (seen s) (Some ups) ≡ Some known → readiness s.moment s.max_age known.state.report ≡ usable
-      → (reply s c line).text ≡ frame (codes "VAR") (known.name ∷ []) (map (variable_item (codes "VAR") known.name known.state.fsd) known.state.report.tree.variables)
+      → (reply s c line) ≡ frame (codes "VAR") (known.name ∷ []) (map (variable_item (codes "VAR") known.name known.state.fsd) known.state.report.tree.variables)
 
 -- A whole line that is refused, by an answer that begins with ERR, changes nothing but its own session's held and owed bytes.
 abbrev pub ARefusedLineChangesNothing : Type 0
 ARefusedLineChangesNothing =
-    (s : ServerState) (c : ℕ) (line : List ℕ) (x : SessionState) → session c s ≡ Some x → next_line_for s c ≡ Some line → starts_with nat_eq (reply s c line).text (codes "ERR") ≡ true
-    → after_line s c ≡ with_session s (answered line (reply s c line).text x)
+    (s : ServerState) (c : ℕ) (line : List ℕ) (x : SessionState) → session c s ≡ Some x → next_line_for s c ≡ Some line → starts_with nat_eq (reply s c line) (codes "ERR") ≡ true
+    → after_line s c ≡ with_session s (answered line (reply s c line) x)
 
 -- The pump executes the least number of lines after which it stops.
 pub record IsLeast (s : ServerState) (c k : ℕ) : Type 0 where

@@ -1,7 +1,6 @@
 pub mod Numbers
 pub mod Lines
 pub mod Ups
-pub mod Leaf
 pub mod Session
 pub mod Server
 pub mod Reply
@@ -25,5 +24,5 @@ pub mod Addresses
 pub mod TellingLines
 pub mod Limits
 pub mod Calls
-pub mod Serving
+pub mod Promises
 pub mod Examples

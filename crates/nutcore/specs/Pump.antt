@@ -10,7 +10,7 @@ use Rattle.nutanswer.specs.Answer.{answer_to, shares_version}
 use Rattle.nutcore.specs.Lines.{first_line, behind}
 use Rattle.nutcore.specs.Session.{SessionState, begin_ending}
 use Rattle.nutcore.specs.Server.{ServerState, session, with_session_changed}
-use Rattle.nutcore.specs.Reply.{Reply, seen, asker, reply, too_long_notice}
+use Rattle.nutcore.specs.Reply.{seen, asker, reply, after_change, too_long_notice}
 
 -- The session's next line, if it may be executed: the session isn't ending, and at most 2,048 bytes are owed.
 abbrev pub next_line : SessionState → Option (List ℕ)
@@ -28,12 +28,12 @@ abbrev pub answered : List ℕ → List ℕ → SessionState → SessionState
 answered line text x = record x { held = behind line x.held; owed = x.owed ++ text }
 
 -- The server once the line of the client c is answered.
-unfoldable pub after_reply : Reply → ℕ → List ℕ → ServerState
-after_reply r c line = with_session_changed (answered line r.text) c r.server
+unfoldable pub after_reply : ServerState → ℕ → List ℕ → ServerState
+after_reply s c line = with_session_changed (answered line (reply s c line)) c (after_change s c line)
 
 -- The server after the session's next line, if it may be executed.
 unfoldable pub after_line : ServerState → ℕ → ServerState
-after_line s c = option_map_or (λ line. after_reply (reply s c line) c line) (next_line_for s c) s
+after_line s c = option_map_or (λ line. after_reply s c line) (next_line_for s c) s
 
 -- The server after the session's next k lines, as far as they may be executed.
 unfoldable pub after_lines : ℕ → ServerState → ℕ → ServerState

@@ -44,20 +44,20 @@ HasLawfulAddress x = IsTrue (is_address x.address)
 -- Of a sound server, what is answered to a line that asks for a listing, and isn't refused, is read back as the listing's items.
 pub record EachListingReadsBack : Type 0 where
   pub variables : (s : ServerState) (c : ℕ) (line : List ℕ) (ups : Option (List ℕ)) (known : KnownUps) → IsSound s → read_command line ≡ Ok (Some (ListVar ups)) → AsksOf s ups known
-      → ReadsBack (reply s c line).text (codes "VAR" ∷ known.name ∷ []) (map (variable_words (codes "VAR") known.name known.state.fsd) known.state.report.tree.variables)
+      → ReadsBack (reply s c line) (codes "VAR" ∷ known.name ∷ []) (map (variable_words (codes "VAR") known.name known.state.fsd) known.state.report.tree.variables)
   pub rw : (s : ServerState) (c : ℕ) (line : List ℕ) (ups : Option (List ℕ)) (known : KnownUps) → IsSound s → read_command line ≡ Ok (Some (ListRw ups)) → AsksOf s ups known
-      → ReadsBack (reply s c line).text (codes "RW" ∷ known.name ∷ []) (map (variable_words (codes "RW") known.name known.state.fsd) (filter is_rw known.state.report.tree.variables))
+      → ReadsBack (reply s c line) (codes "RW" ∷ known.name ∷ []) (map (variable_words (codes "RW") known.name known.state.fsd) (filter is_rw known.state.report.tree.variables))
   pub commands : (s : ServerState) (c : ℕ) (line : List ℕ) (ups : Option (List ℕ)) (known : KnownUps) → IsSound s → read_command line ≡ Ok (Some (ListCmd ups)) → AsksOf s ups known
-      → ReadsBack (reply s c line).text (codes "CMD" ∷ known.name ∷ []) (map (command_item known.name) known.state.report.tree.commands)
+      → ReadsBack (reply s c line) (codes "CMD" ∷ known.name ∷ []) (map (command_item known.name) known.state.report.tree.commands)
   pub enum_values : (s : ServerState) (c : ℕ) (line : List ℕ) (ups : Option (List ℕ)) (name : List ℕ) (known : KnownUps) (variable : VariableState) → IsSound s → read_command line ≡ Ok (Some (ListEnum ups (Some name))) → AsksOf s ups known
       → variable_at known.state.report.tree name ≡ Some variable
-      → ReadsBack (reply s c line).text (codes "ENUM" ∷ known.name ∷ name ∷ []) (map (enum_words known.name name) variable.enum_values)
+      → ReadsBack (reply s c line) (codes "ENUM" ∷ known.name ∷ name ∷ []) (map (enum_words known.name name) variable.enum_values)
   pub ranges : (s : ServerState) (c : ℕ) (line : List ℕ) (ups : Option (List ℕ)) (name : List ℕ) (known : KnownUps) (variable : VariableState) → IsSound s → read_command line ≡ Ok (Some (ListRange ups (Some name))) → AsksOf s ups known
       → variable_at known.state.report.tree name ≡ Some variable
-      → ReadsBack (reply s c line).text (codes "RANGE" ∷ known.name ∷ name ∷ []) (map (range_words known.name name) variable.ranges)
+      → ReadsBack (reply s c line) (codes "RANGE" ∷ known.name ∷ name ∷ []) (map (range_words known.name name) variable.ranges)
   -- Where the UPSs of the list are lawful.
   pub upses : (s : ServerState) (c : ℕ) (line : List ℕ) → IsSound s → read_command line ≡ Ok (Some ListUps) → All IsLawfulUps s.list
-      → ReadsBack (reply s c line).text (codes "UPS" ∷ []) (map ups_words s.list)
+      → ReadsBack (reply s c line) (codes "UPS" ∷ []) (map ups_words s.list)
   -- Where the addresses of the clients are lawful: those that are logged in to the UPS, usable or not.
   pub clients : (s : ServerState) (c : ℕ) (line : List ℕ) (ups : Option (List ℕ)) (known : KnownUps) → IsSound s → read_command line ≡ Ok (Some (ListClient ups)) → ups_named (seen s) ups ≡ Some known → All HasLawfulAddress s.sessions
-      → ReadsBack (reply s c line).text (codes "CLIENT" ∷ known.name ∷ []) (map (λ x. client_item known.name x.address) (logged_in known.id s))
+      → ReadsBack (reply s c line) (codes "CLIENT" ∷ known.name ∷ []) (map (λ x. client_item known.name x.address) (logged_in known.id s))

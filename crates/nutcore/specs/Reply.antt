@@ -69,17 +69,13 @@ change_by s c (Err word) = Nothing
 change_by s c (Ok None) = Nothing
 change_by s c (Ok (Some command)) = change_of_answer (answer_to (seen s) (asker c s) command)
 
--- The whole text of an answer, and the server that the line leaves beside its own session's held input and owed text.
-pub record Reply : Type 0 where
-  pub text : List ℕ
-  pub server : ServerState
+-- The reply to a line of the client c: the whole text that answers it.
+abbrev pub reply : ServerState → ℕ → List ℕ → List ℕ
+reply s c line = text_to s c (read_command line)
 
-abbrev pub reply_to : ServerState → ℕ → Result (Option Command) ErrWord → Reply
-reply_to s c r = record { text = text_to s c r; server = changed (change_by s c r) c s }
-
--- The reply to a line of the client c.
-abbrev pub reply : ServerState → ℕ → List ℕ → Reply
-reply s c line = reply_to s c (read_command line)
+-- The server that the line leaves, beside its own session's held input and owed text.
+abbrev pub after_change : ServerState → ℕ → List ℕ → ServerState
+after_change s c line = changed (change_by s c (read_command line)) c s
 
 -- The notice to a client of which 1,024 bytes came without an LF.
 abbrev pub too_long_notice : List ℕ

@@ -5,7 +5,7 @@ ghost use Rattle.nutwords.specs.declared.limits.TheConstants.{LINE_LIMIT};
 ghost use Rattle.nutcore.specs.Ups.{new_ups, after_connecting, after_loss, after_tick, with_fsd, free_room, with_order, after_text, after_outcome, with_unfinished};
 ghost use Rattle.nutanswer.specs.View.{ups_seen};
 ghost use Rattle.nutcore.specs.Reply.{seen_ups};
-ghost use Rattle.nutcore.specs.Leaf.{ReadsLine, IsStopped, IsFed, IsTaken};
+ghost use Rattle.nutcore.specs.Promises.{ReadsLine, IsStopped, IsFed, IsTaken};
 
 use crate::DRIVER_OWED_LIMIT;
 use crate::event::Fault;

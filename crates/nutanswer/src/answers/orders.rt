@@ -3,7 +3,7 @@ ghost use Rattle.std.specs.Prelude.{Ok};
 ghost use Rattle.nutanswer.specs.View.{asker_seen};
 ghost use Rattle.nutanswer.specs.Answer.{answer_to, one_line, ok};
 ghost use Rattle.nutanswer.specs.Orders.{order};
-ghost use Rattle.nutanswer.specs.Leaf.{CarriesAnswer, Gives};
+ghost use Rattle.nutanswer.specs.Promises.{CarriesAnswer, Gives};
 ghost use Rattle.nutanswer.specs.declared.command.Command.TheVariants.{SetVar, InstCmd};
 
 use crate::checks::{command_value, live_command, live_variable, settable, user, user_of_command};

@@ -2,7 +2,7 @@
 ghost use Rattle.std.specs.Prelude.{◌≡◌, ◌∷◌, [], Ok, codes};
 ghost use Rattle.nutanswer.specs.View.{Seen, AskerSeen, asker_seen};
 ghost use Rattle.nutanswer.specs.Answer.{answer_to, one_line, ok, IsReply};
-ghost use Rattle.nutanswer.specs.Leaf.{CarriesAnswer, Gives, IsLineOf, row};
+ghost use Rattle.nutanswer.specs.Promises.{CarriesAnswer, Gives, IsLineOf, row};
 ghost use Rattle.nutanswer.specs.declared.command.Command.TheVariants.{Username, Password, Login, Logout, Primary, Fsd, GetNumLogins, ListClient};
 
 use super::refused;

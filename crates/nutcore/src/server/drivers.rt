@@ -5,7 +5,7 @@ ghost use Rattle.nutcore.specs.Server.{ups_at, with_ups_changed};
 ghost use Rattle.nutcore.specs.History.{owed};
 ghost use Rattle.nutcore.specs.Headline.{IsLawful};
 ghost use Rattle.nutcore.specs.Ups.{after_connecting, after_loss, after_tick};
-ghost use Rattle.nutcore.specs.Serving.{DriverFeedGives, DriverTakes, IsNotConnected};
+ghost use Rattle.nutcore.specs.Promises.{DriverFeedGives, DriverTakes, IsNotConnected};
 ghost use Rattle.nutcore.specs.Calls.{is_connected};
 ghost use Rattle.nutcore.specs.declared.event.Fault.TheVariants.{NoSuchUps};
 

@@ -7,7 +7,7 @@ ghost use Rattle.nutcore.specs.Ups.{with_fsd, with_order};
 ghost use Rattle.nutcore.specs.Ups.{UpsState};
 ghost use Rattle.nutcore.specs.Calls.{done};
 ghost use Rattle.nutcore.specs.Step.{offered};
-ghost use Rattle.nutcore.specs.Serving.{IsAt, TakesLine, OrderFits, PumpGives, RepliesOrLacks, ListsClients, change_in, IsText, NextIs, IsCounted, KeepsCost, cost_beyond};
+ghost use Rattle.nutcore.specs.Promises.{IsAt, TakesLine, OrderFits, PumpGives, RepliesOrLacks, ListsClients, change_in, IsText, NextIs, IsCounted, KeepsCost, cost_beyond};
 ghost use Rattle.nutcore.specs.Reply.{changed_upses};
 ghost use Rattle.nutlisting.specs.declared.listing.clients.TheConstants.{SESSION_LIMIT};
 ghost use Rattle.nutcore.specs.declared.TheConstants.{HELD_LIMIT};

@@ -2,7 +2,7 @@
 ghost use Rattle.std.specs.Prelude.{◌≡◌, MatchResult, Some, None};
 ghost use Rattle.nutcore.specs.Server.{session};
 ghost use Rattle.nutcore.specs.Headline.{IsLawful};
-ghost use Rattle.nutcore.specs.Serving.{IsAt};
+ghost use Rattle.nutcore.specs.Promises.{IsAt};
 ghost use Rattle.nutcore.specs.declared.event.Fault.TheVariants.{NoSuchClient};
 
 use super::Server;

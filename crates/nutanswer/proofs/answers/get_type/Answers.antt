@@ -2,7 +2,7 @@ use Rattle.std.proofs.Common.{◌∷◌, sym, ◌∙◌, ap}
 use Rattle.std.specs.Prelude.{codes}
 use Rattle.nutanswer.specs.Answer.{told, shares_version, text_of_answer, change_of_answer}
 use Rattle.nutlisting.specs.Types.{type_words}
-use Rattle.nutanswer.specs.Leaf.{known_variable}
+use Rattle.nutanswer.specs.Promises.{known_variable}
 use Rattle.nutanswer.proofs.Rows.{with_variable}
 use Rattle.nutanswer.proofs.answers.get_type.Goals as goal
 

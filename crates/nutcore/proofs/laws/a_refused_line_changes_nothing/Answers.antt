@@ -1,4 +1,4 @@
-use Rattle.nutcore.proofs.Refusals.{refused_line}
+use Rattle.nutcore.proofs.HeldFrames.{refused_line}
 use Rattle.nutcore.proofs.laws.a_refused_line_changes_nothing.Goals as goal
 
 pub returns : goal.returns

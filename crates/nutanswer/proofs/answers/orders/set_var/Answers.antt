@@ -4,7 +4,7 @@ use Rattle.nutanswer.specs.View.{asker_seen}
 use Rattle.nutanswer.specs.Answer.{Answer, one_line, ok}
 use Rattle.nutanswer.specs.declared.err_word.ErrWord.{ErrWord}
 use Rattle.nutanswer.specs.Orders.{order}
-use Rattle.nutanswer.specs.Leaf.{CarriesAnswer, known_variable}
+use Rattle.nutanswer.specs.Promises.{CarriesAnswer, known_variable}
 use Rattle.nutanswer.proofs.Rows.{set_refused, set_full, set_done}
 use Rattle.nutanswer.proofs.answers.orders.set_var.Goals as goal
 

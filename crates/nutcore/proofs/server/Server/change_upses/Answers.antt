@@ -3,7 +3,7 @@ use Rattle.nutanswer.specs.declared.reply.Change.{Change}
 use Rattle.nutanswer.specs.declared.reply.Change.TheVariants.{Fsd, Order}
 use Rattle.nutcore.specs.Ups.{with_order}
 use Rattle.nutcore.specs.Server.{ServerState, changed_at}
-use Rattle.nutcore.specs.Serving.{TakesLine, OrderFits, change_in}
+use Rattle.nutcore.specs.Promises.{TakesLine, OrderFits, change_in}
 use Rattle.nutcore.specs.contracts.server.Server.{the_view}
 use Rattle.nutcore.proofs.KeptSound.{upses_kept}
 use Rattle.nutcore.proofs.Runs.{state_is}

@@ -5,7 +5,7 @@ use Rattle.nutcore.specs.Headline.{Serves}
 use Rattle.std.proofs.Common.{◌≡◌, ◌∙◌, ap, Result, Err, refl, sym, List, subst, arith}
 use Rattle.nutcore.specs.Session.{SessionState}
 use Rattle.nutcore.specs.Server.{ServerState}
-use Rattle.nutcore.specs.Serving.{IsAt}
+use Rattle.nutcore.specs.Promises.{IsAt}
 use Rattle.nutcore.specs.contracts.server.Server.{the_view}
 use Rattle.nutcore.specs.Session.{without}
 use Rattle.nutcore.proofs.Sound.{sound_closed}

@@ -8,7 +8,7 @@ use Rattle.nutcore.specs.Reply.{changed_upses}
 use Rattle.nutcore.specs.Pump.{next_line}
 use Rattle.nutcore.specs.History.{owed}
 use Rattle.nutcore.specs.Cost.{RunningServer}
-use Rattle.nutcore.specs.Serving.{KeepsCount, change_in, text_with}
+use Rattle.nutcore.specs.Promises.{KeepsCount, change_in, text_with}
 use Rattle.nutcore.specs.contracts.server.Server.{the_view}
 use Rattle.nutcore.proofs.Runs.{state_is}
 use Rattle.nutcore.proofs.Serving.{StandsAt, stands, goes, next_of_found, change_told, line_is}

@@ -10,7 +10,7 @@ use Rattle.nutcore.specs.Session.{SessionState}
 use Rattle.nutcore.specs.Server.{ServerState, session}
 use Rattle.nutcore.specs.Step.{with_input, offered, fed_by}
 use Rattle.nutcore.specs.Cost.{RunningServer}
-use Rattle.nutcore.specs.Serving.{IsCounted}
+use Rattle.nutcore.specs.Promises.{IsCounted}
 use Rattle.nutcore.specs.contracts.server.Server.{the_view}
 use Rattle.nutcore.proofs.Runs.{state_is, served_from}
 use Rattle.nutcore.proofs.Serving.{StandsAt, stands, found_in}

@@ -2,7 +2,7 @@ use Rattle.std.proofs.Common.{◌≡◌, ◌∙◌, ◌++◌, Some, refl, sym, s
 use Rattle.std.specs.Option.{option_map}
 use Rattle.nutcore.specs.Ups.{UpsState}
 use Rattle.nutcore.specs.Server.{ServerState, ups_at}
-use Rattle.nutcore.specs.Serving.{IsTold, DriverFeedGives}
+use Rattle.nutcore.specs.Promises.{IsTold, DriverFeedGives}
 use Rattle.nutcore.specs.Calls.{is_connected}
 use Rattle.nutcore.specs.contracts.server.Server.{the_view}
 use Rattle.nutcore.proofs.DriverSteps.{IsThere, is_there, there_within, there_is, connected_as, server_set}

@@ -5,7 +5,7 @@ use Rattle.nutanswer.specs.declared.command.Command.{Command}
 use Rattle.nutanswer.specs.Command.{read_command}
 use Rattle.nutanswer.proofs.PublicLaws.{error_lines_are_whole}
 use Rattle.nutcore.specs.Server.{ServerState, session}
-use Rattle.nutcore.specs.Serving.{IsLineOrNone}
+use Rattle.nutcore.specs.Promises.{IsLineOrNone}
 use Rattle.nutcore.specs.Pump.{next_line}
 use Rattle.nutcore.specs.Reply.{asker_of}
 use Rattle.nutcore.specs.contracts.server.Server.{the_view}

@@ -6,7 +6,7 @@ use Rattle.nutcore.specs.declared.event.Fault.{Fault}
 use Rattle.nutcore.specs.declared.event.Fault.TheVariants.{NoSuchClient}
 use Rattle.nutcore.specs.Session.{SessionState, IdsRise, find}
 use Rattle.nutcore.specs.Server.{ServerState}
-use Rattle.nutcore.specs.Serving.{IsAt}
+use Rattle.nutcore.specs.Promises.{IsAt}
 use Rattle.nutcore.proofs.Runs.{lawful, state_is}
 use Rattle.nutcore.proofs.Places.{searched, place_found}
 use Rattle.std.proofs.lemmas.List.Sorted.{answers_always}

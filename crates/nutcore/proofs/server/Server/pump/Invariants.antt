@@ -1,6 +1,6 @@
 use Rattle.std.proofs.Common.{◌≡◌, ◌+◌, ◌≤◌, length}
 use Rattle.nutcore.specs.Server.{session}
-use Rattle.nutcore.specs.Serving.{IsAt, KeepsCost}
+use Rattle.nutcore.specs.Promises.{IsAt, KeepsCost}
 use Rattle.nutcore.specs.Pump.{after_lines, held_of}
 use Rattle.nutcore.proofs.server.Server.pump.Given as goal
 

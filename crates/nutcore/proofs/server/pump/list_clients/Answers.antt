@@ -2,7 +2,7 @@ use Rattle.std.proofs.Common.{◌≡◌, ◌<◌, ◌≤◌, ◌∙◌, ◌++◌
 use Rattle.std.proofs.lemmas.List.{take_all}
 use Rattle.nutanswer.specs.declared.reply.Reply.{Reply}
 use Rattle.nutanswer.specs.View.{addresses_at}
-use Rattle.nutcore.specs.Serving.{ListsClients}
+use Rattle.nutcore.specs.Promises.{ListsClients}
 use Rattle.nutcore.specs.Session.{SessionState}
 use Rattle.nutcore.specs.Reply.{seen_client}
 use Rattle.nutcore.proofs.LoginCount.{list_more, one_address}

@@ -2,7 +2,7 @@ use Rattle.std.proofs.Common.{◌≡◌, ◌≤◌, ◌-◌, ◌∙◌, List, �
 use Rattle.nutlisting.specs.declared.ring.TheConstants.{RING_LIMIT}
 use Rattle.nutlisting.specs.Owed.{owed}
 use Rattle.nutcore.specs.Session.{SessionState}
-use Rattle.nutcore.specs.Serving.{IsCounted}
+use Rattle.nutcore.specs.Promises.{IsCounted}
 use Rattle.nutcore.proofs.Costs.{taken_counted}
 use Rattle.nutcore.proofs.session.Session.take.Goals as goal
 

@@ -1,10 +1,10 @@
--- What the private parts of a server promise one another.
+-- What the private parts of the server promise one another. A reader of the public contracts needs none of it.
 use Rattle.std.specs.Prelude.{◌≡◌, ◌<◌, ◌≤◌, ◌-◌, ◌⊎◌, ◌==◌, ◌++◌, ℕ, Bool, true, false, if◌then◌else◌, List, [], Some, None, Result, Ok, Err, IsTrue, length, drop, take, map, slice_get}
 use Rattle.std.specs.List.{position_or_len}
 use Rattle.nutcore.specs.declared.event.Fault.{Fault}
 use Rattle.nutcore.specs.declared.event.Fault.TheVariants.{NoSuchUps, NoSuchClient, TooManyClients, TookTooMuch, NotConnected, AlreadyConnected, LineTooLong, Memory}
 use Rattle.std.specs.declared.alloc.AllocError.{AllocError}
-use Rattle.nutanswer.specs.declared.reply.Reply.{Reply as Answer}
+use Rattle.nutanswer.specs.declared.reply.Reply.{Reply}
 use Rattle.nutanswer.specs.declared.reply.Reply.TheVariants.{One, Many, Clients}
 use Rattle.nutanswer.specs.declared.reply.Change.{Change}
 use Rattle.nutanswer.specs.declared.reply.Change.TheVariants.{Nothing, Order}
@@ -17,10 +17,9 @@ use Rattle.nutlisting.specs.Lines.{IsWholeLine}
 use Rattle.nutlisting.specs.Items.{text_of, client_listing}
 use Rattle.nutanswer.specs.View.{addresses_at}
 use Rattle.nutcore.specs.Session.{SessionState}
-use Rattle.nutcore.specs.Lines.{unfinished_after, is_too_long}
-use Rattle.nutcore.specs.Ups.{UpsState, free_room}
+use Rattle.nutcore.specs.Lines.{unfinished_after, is_too_long, whole_lines}
+use Rattle.nutcore.specs.Ups.{UpsState, free_room, after_loss, after_text, after_texts, with_unfinished, wants_memory_for}
 use Rattle.nutcore.specs.Step.{after_driver_text, wants_driver_memory}
-use Rattle.nutcore.specs.Leaf.{IsTaken}
 use Rattle.nutusers.specs.declared.ups_list.UpsId.{UpsId}
 use Rattle.std.specs.Option.{option_map}
 use Rattle.nutcore.specs.Calls.{is_connected}
@@ -30,6 +29,39 @@ use Rattle.nutcore.specs.declared.cost.Cost.{Cost}
 use Rattle.nutcore.specs.History.{owed}
 use Rattle.nutcore.specs.Cost.{RunningServer}
 use Rattle.nutcore.specs.Pump.{pumped, after_all_lines, after_lines, is_overlong, wants_memory, shares_version_read, next_line_for, answered}
+use Rattle.nutwords.specs.Found.{FindsLine, Finds}
+use Rattle.nutcore.specs.declared.ups.Reading.{Reading}
+use Rattle.nutcore.specs.declared.ups.Reading.TheVariants.{Done, Unfinished, TooLong, OutOfMemory}
+use Rattle.nutdriver.specs.Report.{line_changes}
+use Rattle.nutwords.specs.declared.cut.Found.TheVariants as found
+
+-- Of what a driver told there is a whole line behind the first k, and it would change the tree.
+abbrev pub lacks_memory_behind : ℕ → ℕ → List ℕ → UpsState → Bool
+lacks_memory_behind moment k text old = wants_memory_for (slice_get (whole_lines text) k) (after_texts moment (take k (whole_lines text)) old)
+
+-- A UPS's reading of a driver's piece, up to its next line: the line was done, and takes so many bytes of the piece; or none is whole, and all of the piece is kept; or it is too long; or it would change the tree, and memory was refused.
+abbrev pub ReadsLine : ℕ → List ℕ → UpsState → Reading → UpsState → Type 0
+ReadsLine moment piece old (Done used) new = (line : List ℕ) × FindsLine old.unfinished piece line used × (new ≡ after_text moment (with_unfinished [] old) line)
+ReadsLine moment piece old Unfinished new = Finds old.unfinished piece found.NeedsMore new.unfinished × (new ≡ with_unfinished new.unfinished old)
+ReadsLine moment piece old TooLong new = Finds old.unfinished piece found.TooLong new.unfinished × (new ≡ with_unfinished new.unfinished old)
+ReadsLine moment piece old OutOfMemory new = (line : List ℕ) × (used : ℕ) × FindsLine old.unfinished piece line used × (line_changes old.report.tree line ≡ true) × (after_loss new ≡ after_loss old)
+
+-- What a driver told, and its UPS is left with: all whole lines are done, and the rest is unfinished; the driver is lost behind them, where the rest is too long; or it is lost behind k lines, where the next wants memory that is refused.
+abbrev pub IsFed : ℕ → List ℕ → UpsState → Result (Unit {0}) Fault → UpsState → Type 0
+IsFed moment text old (Ok u) new = (is_too_long (unfinished_after text) ≡ false) × (new ≡ with_unfinished (unfinished_after text) (after_texts moment (whole_lines text) old))
+IsFed moment text old (Err LineTooLong) new = (is_too_long (unfinished_after text) ≡ true) × (new ≡ after_loss (after_texts moment (whole_lines text) old))
+IsFed moment text old (Err (Memory k)) new = (lacks_memory_behind moment k text old ≡ true) × (new ≡ after_loss (after_texts moment (take k (whole_lines text)) old))
+IsFed moment text old (Err fault) new = ⊥
+
+-- The same before the driver is taken as lost, by what it would be then.
+abbrev pub IsStopped : ℕ → List ℕ → UpsState → Result (Unit {0}) Fault → UpsState → Type 0
+IsStopped moment text old (Ok u) new = IsFed moment text old (Ok u) new
+IsStopped moment text old (Err fault) new = IsFed moment text old (Err fault) (after_loss new)
+
+-- What a driver's taking of n bytes leaves of its UPS: it took no more than it is owed, or nothing changed.
+abbrev pub IsTaken : ℕ → UpsState → Result (Unit {0}) Fault → UpsState → Type 0
+IsTaken n old (Ok u) new = (n ≤ length old.owed) × (new ≡ record old { owed = drop n old.owed })
+IsTaken n old (Err fault) new = (fault ≡ TookTooMuch) × (length old.owed < n) × (new ≡ old)
 
 -- where the session of this id stands
 abbrev pub place : ℕ → List SessionState → ℕ
@@ -60,14 +92,14 @@ abbrev pub IsLineOrNone : List ℕ → Type 0
 IsLineOrNone text = IsWholeLine text ⊎ (text ≡ [])
 
 -- the answer is that to the line: one line at most, which takes no memory, with what it changes, or the listing
-abbrev pub Replies : ServerState → ℕ → List ℕ → Answer → Type 0
+abbrev pub Replies : ServerState → ℕ → List ℕ → Reply → Type 0
 Replies s c line (One text change) = (shares_version_read s c (read_command line) ≡ false) × (text_to s c (read_command line) ≡ text.now) × (change_by s c (read_command line) ≡ change) × (length text.now ≤ OWED_LIMIT) × IsLineOrNone text.now
 Replies s c line (Clients name u) =
     (shares_version_read s c (read_command line) ≡ false) × (text_to s c (read_command line) ≡ text_of (client_listing name (addresses_at u (map seen_client s.sessions)))) × (change_by s c (read_command line) ≡ Nothing)
 Replies s c line (Many listing) = (shares_version_read s c (read_command line) ≡ true) × (text_to s c (read_command line) ≡ text_of listing) × (change_by s c (read_command line) ≡ Nothing)
 
 -- the text of an answer, where these are the clients of a UPS that it lists
-abbrev pub text_with : List (List ℕ) → Answer → List ℕ
+abbrev pub text_with : List (List ℕ) → Reply → List ℕ
 text_with clients (One text change) = text.now
 text_with clients (Many listing) = text_of listing
 text_with clients (Clients name u) = text_of (client_listing name clients)
@@ -85,7 +117,7 @@ IsShort (Many listing) = Unit {0}
 IsShort (Clients name u) = Unit {0}
 
 -- if it lists the clients of a UPS, these are the addresses of the sessions that are logged in to it
-abbrev pub ListsClients : List SessionState → Answer → List (List ℕ) → Type 0
+abbrev pub ListsClients : List SessionState → Reply → List (List ℕ) → Type 0
 ListsClients sessions (One text change) clients = Unit {0}
 ListsClients sessions (Many listing) clients = Unit {0}
 ListsClients sessions (Clients name u) clients = clients ≡ addresses_at u (map seen_client sessions)
@@ -101,13 +133,13 @@ OrderFits change upses =
     → slice_get upses u.place ≡ Some x → TakesLine line.items x
 
 -- it is this text, and changes nothing
-abbrev pub IsText : List ℕ → Answer → Type 0
+abbrev pub IsText : List ℕ → Reply → Type 0
 IsText text (One line change) = (line.now ≡ text) × (change ≡ Nothing)
 IsText text (Many listing) = ⊥
 IsText text (Clients name u) = ⊥
 
 -- or memory was refused for a listing
-abbrev pub RepliesOrLacks : ServerState → ℕ → List ℕ → Result Answer AllocError → Type 0
+abbrev pub RepliesOrLacks : ServerState → ℕ → List ℕ → Result Reply AllocError → Type 0
 RepliesOrLacks s c line (Ok answer) = Replies s c line answer
 RepliesOrLacks s c line (Err e) = shares_version_read s c (read_command line) ≡ true
 

@@ -27,7 +27,7 @@ use Rattle.nutanswer.specs.declared.reply.Change.TheVariants.{Nothing}
 use Rattle.nutanswer.specs.Laws.{is_ok_line, OnlyOkChanges}
 use Rattle.nutcore.specs.Headline.{AListingIsWhatIsHeld}
 
-framed : (s : ServerState) (c : ℕ) (line : List ℕ) (command : Command) (l : ListingState) → read_command line ≡ Ok (Some command) → answer_to (seen s) (asker c s) command ≡ Ok (listing l) → (reply s c line).text ≡ frame l.kind l.names l.items
+framed : (s : ServerState) (c : ℕ) (line : List ℕ) (command : Command) (l : ListingState) → read_command line ≡ Ok (Some command) → answer_to (seen s) (asker c s) command ≡ Ok (listing l) → (reply s c line) ≡ frame l.kind l.names l.items
 framed s c line command l read answer = ap (text_to s c) read ∙ ap text_of_answer answer
 
 -- the listing of the variables of a UPS that is known
@@ -69,7 +69,7 @@ refused_change only_ok s c (Ok (Some command)) e = by_ok (is_ok_line (answer_to 
     by_ok true ok = absurd (ok_text (answer_to (seen s) (asker c s) command) ok e)
     by_ok false not_ok = only_ok (seen s) (asker c s) command not_ok
 
-pub refused_line : OnlyOkChanges → (s : ServerState) (c : ℕ) (line : List ℕ) (x : SessionState) → session c s ≡ Some x → next_line_for s c ≡ Some line → starts_with nat_eq (reply s c line).text (codes "ERR") ≡ true → after_line s c ≡ with_session s (answered_line line (reply s c line).text x)
+pub refused_line : OnlyOkChanges → (s : ServerState) (c : ℕ) (line : List ℕ) (x : SessionState) → session c s ≡ Some x → next_line_for s c ≡ Some line → starts_with nat_eq (reply s c line) (codes "ERR") ≡ true → after_line s c ≡ with_session s (answered_line line (reply s c line) x)
 refused_line only_ok s c line x found next refused =
     after_line_is s c line x found next
-    ∙ ap (λ (change : Change). line_done s change (changed_session change (answered_line line (reply s c line).text x))) (refused_change only_ok s c (read_command line) refused)
+    ∙ ap (λ (change : Change). line_done s change (changed_session change (answered_line line (reply s c line) x))) (refused_change only_ok s c (read_command line) refused)
