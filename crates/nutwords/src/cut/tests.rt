@@ -1,5 +1,5 @@
 use crate::shown::show;
-use crate::{Cut, Found, LINE_LIMIT, LineCut};
+use crate::{Cut, Found, LINE_LIMIT, LINE_ROOM, LineCut};
 use std::alloc::AllocError;
 use std::test::Fail;
 
@@ -48,22 +48,30 @@ fn cuts_lines_whatever_the_pieces(rt: HostRuntime) -> Result<(), Fail> {
     Ok(())
 }
 
+/// Whether the piece ends a line of this length behind so many of its bytes.
+fn ends_line(cutter: &mut LineCut, piece: &[u8], len: usize, used: usize) -> bool {
+    match cutter.next(piece) {
+        Cut::Line(line, n) => line.len() == len && n == used,
+        _ => false,
+    }
+}
+
 #[test]
 fn cuts_lines_at_their_limit(rt: HostRuntime) -> Result<(), Fail> {
     let mut cutter = LineCut::new();
-    assert_eq!(rt; cutter.next(&[b'x'; 1023]), Cut::More);
+    assert_eq!(rt; cutter.next(&[b'x'; LINE_LIMIT]), Cut::More);
     assert_eq!(rt; cutter.next(b""), Cut::More);
-    match cutter.next(b"\nVER\n") {
-        Cut::Line(line, used) => {
-            assert_eq!(rt; line.as_slice(), [b'x'; 1023].as_slice());
-            assert_eq!(rt; used, 1);
-        }
-        _ => return Err("no line".into()),
-    }
-    assert_eq!(rt; cutter.next(&[b'x'; 1023]), Cut::More);
+    assert!(rt; ends_line(&mut cutter, b"\nVER\n", LINE_LIMIT, 1));
+    assert_eq!(rt; cutter.next(&[b'x'; LINE_LIMIT]), Cut::More);
     assert_eq!(rt; cutter.next(b"x\nVER\n"), Cut::TooLong);
-    assert_eq!(rt; cutter.next(&[b'x'; 1024]), Cut::TooLong);
-    assert!(rt; matches!(cutter.next(b"\n"), Cut::Line(_, 1)));
+    Ok(())
+}
+
+#[test]
+fn begins_anew_behind_a_line_that_is_too_long(rt: HostRuntime) -> Result<(), Fail> {
+    let mut cutter = LineCut::new();
+    assert_eq!(rt; cutter.next(&[b'x'; LINE_ROOM]), Cut::TooLong);
+    assert!(rt; ends_line(&mut cutter, b"\n", 0, 1));
     Ok(())
 }
 

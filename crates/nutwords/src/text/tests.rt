@@ -1,42 +1,53 @@
 use crate::shown::show;
 use crate::{TextLines, byte_order, is_blank, is_silent, is_word};
+use std::alloc::{AllocError, Global};
 use std::cmp::Ordering;
 use std::test::Fail;
 
+/// Texts, each with its lines and a bar behind each.
+fn texts() -> [(&'static [u8], &'static str); 5] {
+    [
+        (b"", ""),
+        (b"\n", "|"),
+        (b"a", "a|"),
+        (b"a\n", "a|"),
+        (b"\na \r\n\nb", "|a \r||b|"),
+    ]
+}
+
+/// The lines of the text with a bar behind each.
+fn shown_lines(alloc: Global, text: &[u8]) -> Result<String, AllocError> {
+    let mut shown = String::new(alloc);
+    for line in TextLines::of(text) {
+        show(&mut shown, line)?;
+    }
+    Ok(shown)
+}
+
 #[test]
 fn reads_lines_of_a_text(rt: HostRuntime) -> Result<(), Fail> {
-    for (text, want) in [
-        (b"".as_slice(), ""),
-        (b"\n".as_slice(), "|"),
-        (b"a".as_slice(), "a|"),
-        (b"a\n".as_slice(), "a|"),
-        (b"\na \r\n\nb".as_slice(), "|a \r||b|"),
-    ] {
-        let mut got = String::new(rt.alloc());
-        for line in TextLines::of(text) {
-            show(&mut got, line)?;
-        }
-        assert_eq!(rt; got.as_str(), want);
+    for (text, want) in texts() {
+        assert_eq!(rt; shown_lines(rt.alloc(), text)?.as_str(), want);
     }
     Ok(())
 }
 
+/// Lines that say nothing.
+fn silent() -> [&'static [u8]; 4] {
+    [b"", b" \t ", b"#", b"\t # a"]
+}
+
+/// Lines that say something.
+fn told() -> [&'static [u8]; 4] {
+    [b"a", b"a # b", b"\r", b" \"#\""]
+}
+
 #[test]
 fn tells_silent_lines(rt: HostRuntime) -> Result<(), Fail> {
-    for line in [
-        b"".as_slice(),
-        b" \t ".as_slice(),
-        b"#".as_slice(),
-        b"\t # a".as_slice(),
-    ] {
+    for line in silent() {
         assert!(rt; is_silent(line), "at {line:?}");
     }
-    for line in [
-        b"a".as_slice(),
-        b"a # b".as_slice(),
-        b"\r".as_slice(),
-        b" \"#\"".as_slice(),
-    ] {
+    for line in told() {
         assert!(rt; !is_silent(line), "at {line:?}");
     }
     assert!(rt; is_blank(b' ') && is_blank(b'\t') && !is_blank(b'\n'));
