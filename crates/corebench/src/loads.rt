@@ -62,7 +62,7 @@ fn pause_listings(sample: &mut Sample, paused: u32) -> Result<()> {
     Ok(())
 }
 
-/// The driver tells its variables again, while so many clients have each asked for all of them and taken nothing.
+/// The driver reports its variables again, while so many clients have each asked for all of them and taken nothing.
 pub fn report_values(alloc: Global, width: usize, paused: u32, count: u32) -> Result<u64> {
     let mut sample = Sample::new(alloc, width)?;
     pause_listings(&mut sample, paused)?;

@@ -17,7 +17,7 @@ password = pw
 actions = SET
 ";
 
-/// A server, its UPS, and what its driver tells of each variable, a line each of the same length.
+/// A server, its UPS, and what its driver reports of each variable, a line each of the same length.
 #[derive(Drop)]
 pub struct Sample {
     server: Server,
@@ -53,7 +53,7 @@ fn push_line(lines: &mut Vec<u8>, name: &[u8], width: usize) -> Result<()> {
     Ok(())
 }
 
-/// What a driver tells of each variable.
+/// What a driver reports of each variable.
 fn all_lines(alloc: Global, width: usize) -> Result<Vec<u8>> {
     let mut lines = Vec::new(alloc);
     let mut name = String::new(alloc);
@@ -88,19 +88,19 @@ impl Sample {
         Ok(())
     }
 
-    /// The driver tells these lines.
+    /// The driver reports these lines.
     fn tell(&mut self, lines: &[u8]) -> Result<()> {
         self.server.driver_bytes(self.su, lines)?;
         Ok(())
     }
 
-    /// The driver tells of each variable.
+    /// The driver reports of each variable.
     fn tell_all(&mut self) -> Result<()> {
         self.server.driver_bytes(self.su, &self.lines)?;
         Ok(())
     }
 
-    /// A driver tells so many variables again, one a call.
+    /// A driver reports so many variables again, one a call.
     pub fn report(&mut self, count: u32) -> Result<()> {
         for line in self
             .lines

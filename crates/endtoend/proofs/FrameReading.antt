@@ -24,7 +24,7 @@ use Rattle.endtoend.proofs.LineReading.{first_found, words_read, written_line, l
 pub bytes_eq-same : (xs : List ℕ) → bytes_eq xs xs ≡ true
 bytes_eq-same xs = (bytes_eq-Decides xs xs).1 refl
 
--- words are behind themselves with nothing left
+-- words are after themselves with nothing left
 pub behind-same : (front rest : List (List ℕ)) → behind front (front ++ rest) ≡ Some rest
 behind-same [] rest = refl
 behind-same (word ∷ front) rest = rw (bytes_eq-same word) (behind-same front rest)

@@ -13,7 +13,7 @@ use Rattle.nutwords.specs.Scan.{words_of}
 use Rattle.nutwords.proofs.PublicLaws.{first_line_is_cut_off, lines_are_read_back, read_line_is_the_grammar}
 use Rattle.nutreply.specs.Lines.{lines, lines_from, Line}
 
--- A line that is short enough is found, and the lines behind it are those of what stands behind it.
+-- A line that is short enough is found, and the lines after it are those of what stands after it.
 line_found : (held line rest : List ℕ) → has_lf line ≡ false → length held + length line ≤ 1023 → lines_from held (line ++ 10 ∷ rest) ≡ Line (held ++ line) rest ∷ lines_from [] rest
 line_found held [] rest none fits = rw append-nil refl
 line_found held (b ∷ line) rest none fits =
@@ -25,7 +25,7 @@ line_found held (b ∷ line) rest none fits =
     step : eqb b 10 ≡ false → leb 1023 (length held) ≡ false → lines_from held (b ∷ (line ++ 10 ∷ rest)) ≡ lines_from (held ++ b ∷ []) (line ++ 10 ∷ rest)
     step e room = rw (e, room) refl
 
--- The first line of a text, whatever stands behind the text.
+-- The first line of a text, whatever stands after the text.
 pub first_found : (text line rest more : List ℕ) → split_line text ≡ Some (line, rest) → length line < 1024 → lines (text ++ more) ≡ Line line (rest ++ more) ∷ lines (rest ++ more)
 first_found text line rest more h few =
     let p = (first_line_is_cut_off text line rest).0 h in
@@ -57,6 +57,6 @@ written_line texts words h = by (lines_are_read_back (codes "VAR") [] (codes "VA
       reads = q;
     }
 
--- Such a line is found before whatever stands behind it.
+-- Such a line is found before whatever stands after it.
 pub line_before : (texts words : List (List ℕ)) (more : List ℕ) (r : IsReadLine texts words) → lines (line_of texts ++ more) ≡ Line r.line more ∷ lines more
 line_before texts words more r = ap (λ t. lines (t ++ more)) r.whole ∙ ap lines (append_assoc r.line (10 ∷ []) more) ∙ line_found [] r.line more r.no_lf (omega (arith, r.fits))

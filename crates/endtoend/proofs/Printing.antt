@@ -61,7 +61,7 @@ entries_lawful (entry ∷ entries) names values =
     (All-head (λ name. IsTrue (is_name name)) entry.0 (keys_of entries) names, (All-head IsSoundVariable entry.1 (values_of entries) values).value)
     (entries_lawful entries (All-tail (λ name. IsTrue (is_name name)) entry.0 (keys_of entries) names) (All-tail IsSoundVariable entry.1 (values_of entries) values))
 
--- the line of a variable, behind the word of its listing
+-- the line of a variable, after the word of its listing
 variable_written : (word ups : List ℕ) (fsd : Bool) (entry : List ℕ × VariableState) → IsWritten word word → length word ≤ 64 → is_ups_name ups ≡ true → IsLawfulEntry entry
     → IsWrittenLine (variable_item word ups fsd entry) (word ∷ ups ∷ entry.0 ∷ shown fsd entry.0 entry.1 ∷ [])
 variable_written word ups fsd entry w few h lawful =

@@ -49,7 +49,7 @@ module _ {R W O : Type 0} (remaining : R → Option (List ℕ)) (failures : R �
     pub done : r.result ≡ Ok tt
     pub output : Appends (contents r.out) (contents r.out_after) text
 
-  -- `upsc ups`, handed the answer to LIST VAR and whatever comes behind it, prints a line for each variable that the UPS holds.
+  -- `upsc ups`, handed the answer to LIST VAR and whatever comes after it, prints a line for each variable that the UPS holds.
   abbrev pub PrintsTheVariables : Job → ProgramRun R W O → Type 0
   PrintsTheVariables job r =
       (s : ServerState) (client : ℕ) (words : Bor (List ℕ)) (place : UpsPlace) (line : List ℕ) (known : KnownUps) (more : List ℕ)

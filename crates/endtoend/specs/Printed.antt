@@ -24,7 +24,7 @@ variable_line fsd entry = with_lf (entry.0 ++ codes ": " ++ shown fsd entry.0 en
 abbrev pub variable_lines : KnownUps → List ℕ
 variable_lines known = flat_map (variable_line known.state.fsd) known.state.report.tree.variables
 
--- `upsc ups`: whatever comes behind the server's answer, what is printed is a line for each variable that the UPS holds.
+-- `upsc ups`: whatever comes after the server's answer, what is printed is a line for each variable that the UPS holds.
 abbrev pub UpscPrintsTheVariables : Type 0
 UpscPrintsTheVariables =
     (s : ServerState) (client : ℕ) (ups line : List ℕ) (known : KnownUps) (more : List ℕ)

@@ -4,7 +4,7 @@ ghost use Rattle.endtoend.specs.Printed.{UpscPrintsTheVariables, UpscPrintsTheVa
 
 use nutcore::laws::a_listing_is_what_is_held;
 
-/// What is written as a listing is read as the reply of its items, in their order, whatever stands behind it.
+/// What is written as a listing is read as the reply of its items, in their order, whatever stands after it.
 pub fn a_frame_is_read_as_its_items()
     ensures { AFrameIsReadAsItsItems }
 {}

@@ -24,7 +24,7 @@ fn main(rt: HostRuntime) -> Result<()> {
     Ok(())
 }
 
-/// The run in which nothing fails. Its driver ends in the middle of a line, behind one line that is refused.
+/// The run in which nothing fails. Its driver ends in the middle of a line, after one line that is refused.
 fn tell_as_ever(rt: &HostRuntime, ran: &Ran) -> Result<()> {
     let failed = ran.sockets.failures();
     println!(rt; "nothing fails: {failed} failed calls")?;
@@ -48,7 +48,7 @@ fn fail_ready(rt: &HostRuntime, rows: &[Row], turn: usize, as_ever: &Ran) -> Res
     tell_fault(rt, &ran, as_ever)
 }
 
-/// What the turn asks behind `ready` fails, if it asks anything.
+/// What the turn asks after `ready` fails, if it asks anything.
 fn fail_answer(rt: &HostRuntime, rows: &[Row], turn: usize, as_ever: &Ran) -> Result<()> {
     let Some((ready, reply)) = rows.get(turn) else {
         return Ok(());

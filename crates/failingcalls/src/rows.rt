@@ -16,14 +16,14 @@ const SECOND: Peer = Peer::Client(2);
 /// As many bytes as a peer is owed.
 const ALL: usize = usize::MAX;
 
-/// What the driver tells when it is asked for all.
+/// What the driver reports when it is asked for all.
 const REPORT: &str =
     "SETINFO ups.status \"OL\"\nSETINFO battery.charge \"100\"\nDUMPDONE\nDATAOK\n";
 
 /// What it tells last.
 const LAST_WORDS: &str = "PONG\nNO SUCH LINE\nSETINFO ups";
 
-/// What is answered to the call behind `ready`.
+/// What is answered to the call after `ready`.
 #[derive(Clone, Copy)]
 pub enum Reply {
     /// There is no such call.
@@ -53,7 +53,7 @@ pub fn rows(alloc: Global) -> Result<Vec<Row>, AllocError> {
     Ok(rows)
 }
 
-/// The driver tells all, and two clients come.
+/// The driver reports all, and two clients come.
 fn connecting() -> [Row; 6] {
     [
         (Ready::DriverUp(SU), Reply::Unasked),
@@ -115,7 +115,7 @@ impl Reply {
         !matches!(self, Reply::Unasked)
     }
 
-    /// What a script says for it. Behind an unasked call nothing is.
+    /// What a script says for it. After an unasked call nothing is.
     pub fn act(self, alloc: Global) -> anyhow::Result<Option<Act>> {
         Ok(match self {
             Reply::Unasked => None,

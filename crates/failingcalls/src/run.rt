@@ -11,7 +11,7 @@ use std::alloc::Global;
 pub enum Part {
     /// `ready`.
     Ready,
-    /// The call behind it.
+    /// The call after it.
     Answer,
 }
 

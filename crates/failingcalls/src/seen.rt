@@ -26,7 +26,7 @@ pub fn bytes_taken(alloc: Global, sockets: &Scripted, p: Peer) -> Result<Vec<u8>
     Ok(taken)
 }
 
-/// The calls behind each `ready`, in text.
+/// The calls after each `ready`, in text.
 pub fn other_calls(alloc: Global, sockets: &Scripted) -> Result<String> {
     let mut text = String::new(alloc);
     for call in sockets.calls() {

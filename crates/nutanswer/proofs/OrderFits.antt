@@ -55,7 +55,7 @@ module _ (s : Seen) where
   behind (Err word) next h = none refl
   behind (Ok n) next h = h
 
-  -- behind a check, which passed
+  -- after a check, which passed
   behind_it : (m : Result (Unit {0}) ErrWord) (next : Result Answer ErrWord) → (m ≡ Ok tt → Fits next) → Fits (m >> next)
   behind_it (Err word) next h = none refl
   behind_it (Ok tt) next h = h refl
@@ -102,7 +102,7 @@ module _ (s : Seen) where
   known_is : (ups : Option (List ℕ)) (u : KnownUps) → unknown_ups s ups ≡ Ok u → IsKnown u
   known_is ups u h = named ups u (found (ups_named s ups) u h)
 
-  -- an order behind the check that it fits
+  -- an order after the check that it fits
   order_fits : (u : KnownUps) (line : List ℕ) (word : ErrWord) (b : Bool) → IsKnown u → live s u ≡ Ok tt → nat_le (length line) u.state.free ≡ b
       → Fits (unless b word >> Ok (one_line ok (order u.id line)))
   order_fits u line word true at going e =

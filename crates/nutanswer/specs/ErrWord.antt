@@ -4,7 +4,7 @@ use Rattle.nutwords.specs.Frame.{line_of}
 use Rattle.nutanswer.specs.declared.err_word.ErrWord.{ErrWord}
 use Rattle.nutanswer.specs.declared.err_word.ErrWord.TheVariants.{AccessDenied, UnknownUps, VarNotSupported, CmdNotSupported, InvalidArgument, InstcmdFailed, SetFailed, Readonly, TooLong, FeatureNotConfigured, DriverNotConnected, DataStale, AlreadyLoggedIn, AlreadySetPassword, AlreadySetUsername, UsernameRequired, PasswordRequired, UnknownCommand, InvalidValue}
 
--- The word that stands behind ERR.
+-- The word that stands after ERR.
 abbrev pub spelling_of : ErrWord → List ℕ
 spelling_of AccessDenied = codes "ACCESS-DENIED"
 spelling_of UnknownUps = codes "UNKNOWN-UPS"

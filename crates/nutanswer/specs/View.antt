@@ -36,11 +36,11 @@ pub record AskerSeen : Type 0 where
   pub password : Option (List ℕ)
   pub login : Option UpsId
 
--- The UPS behind a view of it.
+-- The UPS that a view shows.
 abbrev pub ups_seen : UpsView → UpsSeen
 ups_seen u = record { report = u.report.now; fsd = u.fsd; free = u.free }
 
--- The session behind a view of it.
+-- The session that a view shows.
 abbrev pub asker_seen : Asker → AskerSeen
 asker_seen a = record { username = option_copied a.username; password = option_copied a.password; login = a.login }
 

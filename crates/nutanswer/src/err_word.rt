@@ -2,7 +2,7 @@
 ghost use Rattle.std.specs.Prelude.{◌≡◌, ◌≤◌, length};
 ghost use Rattle.nutwords.specs.declared.limits.TheConstants.{LINE_ROOM};
 
-/// Why a line is refused, by the word behind `ERR` (RFC 9271: error responses).
+/// Why a line is refused, by the word after `ERR` (RFC 9271: error responses).
 #[derive(Clone, Copy, Debug, PartialEq, Eq)]
 pub enum ErrWord {
     /// `ACCESS-DENIED`: the user may not do it.

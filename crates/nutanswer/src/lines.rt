@@ -12,7 +12,7 @@ const VERB_LIMIT: usize = 7;
 /// The most bytes of an order before its value: its verb, the name of a variable or a command, a blank.
 const ORDER_FRONT_LIMIT: usize = 72;
 
-/// The most bytes of an order without its LF: each byte of its value may stand behind a backslash.
+/// The most bytes of an order without its LF: each byte of its value may stand after a backslash.
 const ORDER_LIMIT: usize = 587;
 
 /// Makes the line of an order: its verb, the name of a variable or a command, and the value, if there is one.

@@ -59,7 +59,7 @@ abbrev pub value_of : Option (Bor (List ℕ)) → Option (Option (List ℕ))
 value_of None = Some None
 value_of (Some text) = option_map (λ value. Some value) (lawful (read_value text.now))
 
--- An order behind the login.
+-- An order after the login.
 abbrev pub ordered : Option (List Request) → Option (Target × Request) → Option JobParts
 ordered login order = both (λ requests o. (o.0, requests ++ o.1 ∷ [], Value)) login order
 

@@ -48,7 +48,7 @@ abbrev pub PrintGives : {O : Type 0} → (O → Option (List ℕ)) → (O → �
 PrintGives contents failures text out (Err Memory) after = after ≡ out
 PrintGives contents failures text out result after = SendGives contents failures text out result after
 
--- These bytes came, each line that they ask for was sent, and they print this, whatever stands behind.
+-- These bytes came, each line that they ask for was sent, and they print this, whatever stands after.
 abbrev pub CameAndSent : {R W : Type 0} → (R → Option (List ℕ)) → (R → ℕ) → (W → Option (List ℕ)) → (W → ℕ) → List Request → Form → List ℕ → R → W → Printed → R → W → Type 0
 CameAndSent remaining failures contents write_failures requests form old reader writer print after sent =
     (came : List ℕ) × (text : List ℕ) × Received remaining failures reader came after × Written contents write_failures writer text sent

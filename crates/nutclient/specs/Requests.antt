@@ -16,7 +16,7 @@ abbrev pub requests_in : Requests → List Request
 requests_in (Alone requests) = requests
 requests_in (BehindLogin requests) = requests
 
--- The lines behind a reply that is whole; behind another none.
+-- The lines after a reply that is whole; after another none.
 abbrev pub lines_behind : Reply → (List ℕ → List ℕ) → List ℕ
 lines_behind (Whole items rest) lines = lines rest
 lines_behind (Refused word) lines = []
@@ -43,7 +43,7 @@ last_reply_after items (request ∷ requests) bytes = reply_behind (reply reques
 abbrev pub last_reply : List Request → List ℕ → Reply
 last_reply requests bytes = last_reply_after [] requests bytes
 
--- What was sent, and what came, for each result of the requests in turn. What came decides them, whatever stands behind; at an end and at a failed read it is unfinished. No other fault comes.
+-- What was sent, and what came, for each result of the requests in turn. What came decides them, whatever stands after; at an end and at a failed read it is unfinished. No other fault comes.
 abbrev pub RequestsGive : {R W : Type 0} → (R → Option (List ℕ)) → (R → ℕ) → (W → Option (List ℕ)) → (W → ℕ) → List Request → List ℕ → R → W → Result (List Item) ClientFault → List ℕ → R → W → Type 0
 RequestsGive remaining failures contents write_failures requests old reader writer (Ok items) new after sent =
     (came : List ℕ) × (text : List ℕ) × Received remaining failures reader came after × Written contents write_failures writer text sent

@@ -24,7 +24,7 @@ pub struct Job {
 /// A user's name and password, as requests.
 type Login = (Request, Request);
 
-/// A server, and what is asked of it behind a login.
+/// A server, and what is asked of it after a login.
 type Order = (Target, Request);
 
 /// A UPS, and its server.
@@ -126,7 +126,7 @@ fn upses_job(server: Option<&str>, form: Form) -> Option<Job>
     Some(single(target, Request::List(Query::Ups), form))
 }
 
-/// The order behind the user's name and the password.
+/// The order after the user's name and the password.
 fn ordered(login: Option<Login>, order: Option<Order>) -> Option<Job>
     ensures { option_map parts_of result
         ≡ ordered (option_map (λ l. l.0 ∷ l.1 ∷ []) login) order }

@@ -7,7 +7,7 @@ use std::io::{Read, Write};
 use std::process::Abort;
 use std::test::Fail;
 
-/// A reader that gives a few bytes at a time, and fails behind the last one where it is told to.
+/// A reader that gives a few bytes at a time, and fails after the last one where it is told to.
 #[derive(Drop)]
 struct Pieces<'a> {
     rest: &'a [u8],
@@ -65,7 +65,7 @@ pub(crate) struct Server<'a> {
     pub(crate) reply: &'a [u8],
     /// How many of them a read gives at most.
     pub(crate) step: usize,
-    /// Whether a read behind them fails.
+    /// Whether a read after them fails.
     pub(crate) fails: bool,
     /// How many bytes it takes.
     pub(crate) takes: usize,

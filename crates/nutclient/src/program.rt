@@ -74,7 +74,7 @@ fn print_given(rt: &HostRuntime, given: &Given<'_>) -> Result<(), ClientFault>
     run(&mut session, &mut out, &job)
 }
 
-/// Tells a fault on standard error, behind the program's name.
+/// Tells a fault on standard error, after the program's name.
 pub fn tell(rt: &HostRuntime, program: &str, fault: &ClientFault) -> ExitCode
     ensures { exit_status result ≡ status_of fault.now }
 {

@@ -4,7 +4,7 @@ ghost use Rattle.nutclient.specs.Requests.{requests_in};
 
 use nutreply::Request;
 
-/// The requests of a job: one, or one behind the user's name and the password.
+/// The requests of a job: one, or one after the user's name and the password.
 #[derive(Debug, Drop)]
 pub enum Requests {
     Alone([Request; 1]),

@@ -105,19 +105,19 @@ none_there None h = refl
 none_there (Some a) h = cc h
 
 -- what an answer says, and what it changes
-answers_as : (s : ServerState) (c : ℕ) (line : List ℕ) (reply : Answer) (clients : List (List ℕ)) → Replies s c line reply → ListsClients s.sessions reply clients →
+answers_as : (s : ServerState) (c : ℕ) (line : List ℕ) (reply : Reply) (clients : List (List ℕ)) → Replies s c line reply → ListsClients s.sessions reply clients →
     (text_to s c (read_command line) ≡ text_with clients reply) × (change_by s c (read_command line) ≡ change_in reply)
 answers_as s c line (One text change) clients told lists = (told.1, told.2)
 answers_as s c line (Many listing) clients told lists = (told.1, told.2)
 answers_as s c line (Clients name u) clients told lists = (told.1 ∙ ap (λ (addresses : List (List ℕ)). text_of (client_listing name addresses)) (sym lists), told.2)
 
-pub change_told : (s : ServerState) (c : ℕ) (line : List ℕ) (reply : Answer) → Replies s c line reply → change_by s c (read_command line) ≡ change_in reply
+pub change_told : (s : ServerState) (c : ℕ) (line : List ℕ) (reply : Reply) → Replies s c line reply → change_by s c (read_command line) ≡ change_in reply
 change_told s c line (One text change) told = told.2
 change_told s c line (Many listing) told = told.2
 change_told s c line (Clients name u) told = told.2
 
 -- the UPSs are changed, and the session in its place is answered: this is the server after the line
-pub line_is : (s v : ServerState) (c i : ℕ) (line : List ℕ) (reply : Answer) (clients : List (List ℕ)) (x y : SessionState) → next_line_for s c ≡ Some line → Replies s c line reply → ListsClients v.sessions reply clients →
+pub line_is : (s v : ServerState) (c i : ℕ) (line : List ℕ) (reply : Reply) (clients : List (List ℕ)) (x y : SessionState) → next_line_for s c ≡ Some line → Replies s c line reply → ListsClients v.sessions reply clients →
     (let t : ServerState = record s { upses = changed_upses (change_in reply) s.upses } in v ≡ t) → StandsAt v c i x → y ≡ changed_session (change_in reply) (answered line (text_with clients reply) x) →
     let code : ServerState = record v { sessions = set v.sessions i y } in code ≡ after_line s c
 line_is s v c i line reply clients x y h told lists is stands gives =
@@ -212,7 +212,7 @@ left_out l n c i xs rise h =
     without_at l n c xs rise lt ∙ ap (λ j. take j xs ++ drop (j + 1) xs) h.first
 
 -- the answer of one line at most that changes nothing is this text
-pub replies_text : (s : ServerState) (c : ℕ) (line text : List ℕ) (r : Result (Option Command) ErrWord) (answer : Answer) → read_command line ≡ r → shares_version_read s c r ≡ false → text_to s c r ≡ text → change_by s c r ≡ Nothing → length text ≤ OWED_LIMIT →
+pub replies_text : (s : ServerState) (c : ℕ) (line text : List ℕ) (r : Result (Option Command) ErrWord) (answer : Reply) → read_command line ≡ r → shares_version_read s c r ≡ false → text_to s c r ≡ text → change_by s c r ≡ Nothing → length text ≤ OWED_LIMIT →
     IsLineOrNone text → IsText text answer → Replies s c line answer
 replies_text s c line text r (One given change) e shares is none short one (same, nothing) =
     (ap (shares_version_read s c) e ∙ shares, ap (text_to s c) e ∙ is ∙ sym same, ap (change_by s c) e ∙ none ∙ sym nothing, subst (λ (t : List ℕ). length t ≤ OWED_LIMIT) (sym same) short, subst IsLineOrNone (sym same) one)
@@ -225,7 +225,7 @@ whole_short text whole =
     let few : length whole.line ≤ LINE_LIMIT = whole.answer.fits in
     omega (arith, few, ap length whole.whole, length-append whole.line (10 ∷ []))
 
-answer_replies : (s : ServerState) (c : ℕ) (line : List ℕ) (command : Command) (r : Result Answer AllocError) → read_command line ≡ Ok (Some command) → IfOk r (IsReply (seen s) (answer_to (seen s) (asker c s) command)) →
+answer_replies : (s : ServerState) (c : ℕ) (line : List ℕ) (command : Command) (r : Result Reply AllocError) → read_command line ≡ Ok (Some command) → IfOk r (IsReply (seen s) (answer_to (seen s) (asker c s) command)) →
     OnErr r (IsTrue (shares_version (answer_to (seen s) (asker c s) command))) → RepliesOrLacks s c line r
 answer_replies s c line command (Ok (One text change)) e is lacks =
     (ap (shares_version_read s c) e ∙ is.one, ap (text_to s c) e ∙ sym is.text, ap (change_by s c) e ∙ sym is.changes, whole_short text.now is.whole_line, inl is.whole_line)
@@ -233,7 +233,7 @@ answer_replies s c line command (Ok (Many listing)) e is lacks = (ap (shares_ver
 answer_replies s c line command (Ok (Clients name u)) e is lacks = (ap (shares_version_read s c) e ∙ ap shares_version is, ap (text_to s c) e ∙ ap text_of_answer is, ap (change_by s c) e ∙ ap change_of_answer is)
 answer_replies s c line command (Err refused) e is lacks = ap (shares_version_read s c) e ∙ lacks
 
-pub replies_as : (s : ServerState) (c : ℕ) (line : List ℕ) (command : Command) (who : AskerSeen) (r : Result Answer AllocError) → who ≡ asker c s → read_command line ≡ Ok (Some command) → IfOk r (IsReply (seen s) (answer_to (seen s) who command)) →
+pub replies_as : (s : ServerState) (c : ℕ) (line : List ℕ) (command : Command) (who : AskerSeen) (r : Result Reply AllocError) → who ≡ asker c s → read_command line ≡ Ok (Some command) → IfOk r (IsReply (seen s) (answer_to (seen s) who command)) →
     OnErr r (IsTrue (shares_version (answer_to (seen s) who command))) → RepliesOrLacks s c line r
 replies_as s c line command who r asks e is lacks =
     answer_replies s c line command r e (subst (λ (z : AskerSeen). IfOk r (IsReply (seen s) (answer_to (seen s) z command))) asks is) (subst (λ (z : AskerSeen). OnErr r (IsTrue (shares_version (answer_to (seen s) z command)))) asks lacks)

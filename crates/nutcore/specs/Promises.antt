@@ -105,13 +105,13 @@ text_with clients (Many listing) = text_of listing
 text_with clients (Clients name u) = text_of (client_listing name clients)
 
 -- what it changes
-abbrev pub change_in : Answer → Change
+abbrev pub change_in : Reply → Change
 change_in (One text change) = change
 change_in (Many listing) = Nothing
 change_in (Clients name u) = Nothing
 
 -- if it is a line, it is a whole one, and may be joined to what is owed
-abbrev pub IsShort : Answer → Type 0
+abbrev pub IsShort : Reply → Type 0
 IsShort (One text change) = (length text.now ≤ OWED_LIMIT) × IsLineOrNone text.now
 IsShort (Many listing) = Unit {0}
 IsShort (Clients name u) = Unit {0}

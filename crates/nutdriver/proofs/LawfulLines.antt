@@ -104,7 +104,7 @@ range_ok None greatest low high = tt
 range_ok (Some least) None low high = tt
 range_ok (Some least) (Some greatest) low high = range_cases (int_le least greatest) least greatest refl low high
 
--- ---- what stands behind the first word
+-- ---- what stands after the first word
 beside_ok : {X : Type 0} (Q : X → Type 0) (name : Result (List ℕ) DriverFault) (x : Result X DriverFault) → IfOk name IsName → IfOk x Q → IfOk (beside name x) (λ a. IsName a.0 × Q a.1)
 beside_ok Q (Err fault) x h k = tt
 beside_ok Q (Ok name) (Err fault) h k = tt

@@ -1,4 +1,4 @@
--- What stands behind the first word of a driver's line. Their number and the name are looked at before what follows the name.
+-- What stands after the first word of a driver's line. Their number and the name are looked at before what follows the name.
 use Rattle.std.specs.Prelude.{ℕ, ℤ, List, [], ◌∷◌, Option, Some, None, Result, Ok, Err, int_le, if◌then◌else◌}
 use Rattle.nutwords.specs.Natural.{read_natural}
 use Rattle.nutwords.specs.Reading.{read_name, read_value}

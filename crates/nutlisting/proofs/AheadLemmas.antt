@@ -9,7 +9,7 @@ use Rattle.nutdriver.specs.Variable.{VariableState}
 use Rattle.nutlisting.specs.Ahead.{AreFirst, AreNext, front, IsEnd, IsTaken}
 use Rattle.nutlisting.proofs.Firsts.{Walks, walks_on}
 
--- the one at a place, and those behind it
+-- the one at a place, and those after it
 pub from_place : {A B : Type 0} (f : A → B) (xs : List A) (k : ℕ) (d : A) → k < length xs → drop k (map f xs) ≡ f (get_or xs k d) ∷ drop (k + 1) (map f xs)
 from_place f xs k d h =
     drop-map f k xs ∙ ap (map f) (drop_more xs k d h) ∙ ap (λ zs. f (get_or xs k d) ∷ zs) (sym (drop-map f (k + 1) xs))
@@ -22,7 +22,7 @@ module _ {R E : Type 0} (f : R → E) (xs : List (Option R)) (k : ℕ) (d x : Op
   left_here : option_map f x ∷ drop (k + 1) (map (option_map f) xs) ≡ drop k (map (option_map f) xs)
   left_here = ap (λ z. option_map f z ∷ drop (k + 1) (map (option_map f) xs)) here ∙ sym (from_place (option_map f) xs k d within)
 
--- and those behind it are left where it is taken
+-- and those after it are left where it is taken
 pub rest_here : {R E : Type 0} (f : R → E) (xs : List (Option R)) (k : ℕ) (d x : Option R) → k < length xs → x ≡ get_or xs k d → is_some x ≡ true → MatchOption x (drop (k + 1) (map (option_map f) xs) ≡ drop k (map (option_map f) xs)) (λ e. drop k (map (option_map f) xs) ≡ Some (f e) ∷ drop (k + 1) (map (option_map f) xs))
 rest_here f xs k d None within here some = absurd (cc)
 rest_here f xs k d (Some e) within here some = sym (left_here f xs k d (Some e) within here)

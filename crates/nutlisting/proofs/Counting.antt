@@ -35,7 +35,7 @@ lines-piece (b ∷ text) l h =
     let unfinished : is_open (b ∷ text) ≡ true = rw p.0 (open-no_lf text p.1) in
     rw (unfinished, count-no_lf (b ∷ text) h) refl
 
--- a line is one line, and nothing is open behind it
+-- a line is one line, and nothing is open after it
 pub whole-line : (o : Bool) (text : List ℕ) → leaves_open o (text ++ 10 ∷ []) ≡ false
 whole-line o text = leaves_open-append o text (10 ∷ [])
 

@@ -8,7 +8,7 @@ use Rattle.nutlisting.specs.Items.{ListingState, lines_of}
 use Rattle.nutlisting.specs.Laws.{BegunLinesAreEnded}
 use Rattle.nutlisting.proofs.Counting.{leaves_open-append, whole-line}
 
--- no line is unfinished behind the text
+-- no line is unfinished after the text
 abbrev Ends : List ℕ → Type 0
 Ends text = (unfinished : Bool) → leaves_open unfinished text ≡ false
 

@@ -96,7 +96,7 @@ places_piece r p s m h l k = record {
         let some : 0 < length (take (RING_LIMIT - length r) h.body) = omega (arith, body_few, length-take (RING_LIMIT - length r) h.body) in
         ap lines (fits ∙ piece) ∙ lines-piece (take (RING_LIMIT - length r) h.body) some (no_lf-take (RING_LIMIT - length r) h.body h.whole)
 
--- The rest of a cursor in a line: what is left of the line, and the lines behind it.
+-- The rest of a cursor in a line: what is left of the line, and the lines after it.
 rest_in : (after : List (List ℕ)) (line : List ℕ) (offset : ℕ) (behind : List (List ℕ)) → after ≡ line ∷ behind → offset < length line → drop offset (concat after) ≡ drop offset line ++ concat behind
 rest_in after line offset behind e l =
     let few : offset ≤ length line = omega arith in

@@ -50,7 +50,7 @@ lines_past content (After last) = item_lines content (After last)
 lines_past content (Items n) = item_lines content (Items n)
 lines_past content Done = []
 
--- The line is that of the first of the items, and the others are behind it.
+-- The line is that of the first of the items, and the others are after it.
 pub record IsFirst (items : List (List (List ℕ))) (line : List ℕ) (others : List (List (List ℕ))) : Type 0 where
   pub first : map line_of items ≡ line ∷ map line_of others
   pub whole_line : IsWholeLine line

@@ -1,7 +1,7 @@
 -- The words of a line one after another.
 use Rattle.std.specs.Prelude.{ℕ, List, [], ◌∷◌, ◌++◌}
 
--- Words behind others, with a blank before each.
+-- Words after others, with a blank before each.
 abbrev pub spaced : List (List ℕ) → List ℕ
 spaced [] = []
 spaced (word ∷ words) = 32 ∷ (word ++ spaced words)

@@ -50,13 +50,13 @@ one_event : (f : ServerState → Event → List ℕ) (s mid : ServerState) (e : 
 one_event f s mid e [] r = absurd r
 one_event f s mid e (o ∷ os) r = append-nil (f s e)
 
--- An event of no bytes, and one behind it.
+-- An event of no bytes, and one after it.
 event_behind : (f : ServerState → Event → List ℕ) (s mid : ServerState) (a e : Event) (os : List Outcome) (bytes : List ℕ) → f s a ≡ [] → ((t : ServerState) → f t e ≡ bytes) → Run s (a ∷ e ∷ []) os mid → along f s (a ∷ e ∷ []) os ≡ bytes
 event_behind f s mid a e [] bytes h k r = absurd r
 event_behind f s mid a e (o ∷ []) bytes h k r = absurd r.2
 event_behind f s mid a e (o ∷ p ∷ os) bytes h k r = ap (λ v. v ++ (f (after s a o) e ++ [])) h ∙ append-nil (f (after s a o) e) ∙ k (after s a o)
 
--- No bytes are in the calls behind an event.
+-- No bytes are in the calls after an event.
 behind_open : (g : Call → List ℕ) (f : ServerState → Event → List ℕ) → Fit g f → (a : List ℕ) (o : Outcome) → flat_map g (calls_behind (event.Open a) o) ≡ []
 behind_open g f fit a outcome.Done = refl
 behind_open g f fit a (outcome.Fed n) = refl

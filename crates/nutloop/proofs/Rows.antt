@@ -41,7 +41,7 @@ grows_joins (Some xs) None (Some zs) x y h k = absurd k
 grows_joins (Some xs) (Some ys) None x y h k = tt
 grows_joins (Some xs) (Some ys) (Some zs) x y h k = k ∙ ap (λ t. t ++ y) h ∙ append_assoc xs x y
 
--- One event is done, and then the call behind it is made.
+-- One event is done, and then the call after it is made.
 pub does_one : {S : Type 0} (calls : S → Option (List Call)) (failures : S → ℕ) (e : Event) (o : Outcome) (old : ServerState) (sockets : S) (new : ServerState) (after : S)
     → Step old e o new → Grows (calls sockets) (calls after) (calls_behind e o) → failures after ≡ failures sockets
     → Does calls failures (e ∷ []) old sockets new after
@@ -52,7 +52,7 @@ does_one calls failures e o old sockets new after step told count = record {
   count = count;
 }
 
--- One event is done, behind which no call is made.
+-- One event is done, after which no call is made.
 pub does_quietly : {S : Type 0} (calls : S → Option (List Call)) (failures : S → ℕ) (e : Event) (o : Outcome) (old : ServerState) (sockets : S) (new : ServerState)
     → calls_behind e o ≡ [] → Step old e o new
     → Does calls failures (e ∷ []) old sockets new sockets
@@ -110,7 +110,7 @@ pub row_of : {S : Type 0} (calls : S → Option (List Call)) (failures : S → �
 row_of calls failures ready answer a es old sockets middle new after asked rows ends may told count first =
     row calls failures ready answer a es [] old sockets middle new after new after asked rows ends may told count first (does_nothing calls failures new after new refl)
 
--- A row behind the answer of ready.
+-- A row after the answer of ready.
 pub row_behind : {S : Type 0} (calls : S → Option (List Call)) (failures : S → ℕ) (ready : Ready) (old : ServerState) (sockets middle : S) (new : ServerState) (after : S)
     → Grows (calls sockets) (calls middle) (Readied ready ∷ []) → failures middle ≡ failures sockets → IsRow calls failures [] ready old middle new after
     → IsRow calls failures (Readied ready ∷ []) ready old sockets new after

@@ -133,7 +133,7 @@ row_events s (Write (Driver u)) answer = write_to_driver u answer
 abbrev pub end_of : ℕ → ServerState → List Event
 end_of c s = if is_finished_at c s then event.Close c ∷ [] else []
 
--- The last event of a row, on the server behind the others: a client that is finished is closed.
+-- The last event of a row, on the server after the others: a client that is finished is closed.
 abbrev pub last_events : ServerState → Ready → Answer → List Event
 last_events s (Write (Client c)) unasked = end_of c s
 last_events s (Write (Client c)) (took n) = end_of c s
@@ -145,7 +145,7 @@ loses_driver LineTooLong = true
 loses_driver (Memory k) = true
 loses_driver _ = false
 
--- The calls behind an event, which can't fail: a newcomer is named, or refused where no session is opened; who is gone is shut, and so is a driver that is lost by what it sent.
+-- The calls after an event, which can't fail: a newcomer is named, or refused where no session is opened; who is gone is shut, and so is a driver that is lost by what it sent.
 abbrev pub calls_behind : Event → Outcome → List Call
 calls_behind (event.Open address) (outcome.Opened c) = Named c ∷ []
 calls_behind (event.Open address) (outcome.Refused fault) = Refused ∷ []
@@ -159,7 +159,7 @@ calls_behind_all [] os = []
 calls_behind_all (e ∷ es) [] = []
 calls_behind_all (e ∷ es) (o ∷ os) = calls_behind e o ++ calls_behind_all es os
 
--- These events were done, with the calls behind them, and no call failed.
+-- These events were done, with the calls after them, and no call failed.
 pub record Does {S : Type 0} (calls : S → Option (List Call)) (failures : S → ℕ) (events : List Event) (old : ServerState) (sockets : S) (new : ServerState) (after : S) : Type 0 where
   pub outcomes : List Outcome
   pub run : Run old events outcomes new
@@ -170,7 +170,7 @@ abbrev pub failures_by : Answer → ℕ → ℕ
 failures_by failed n = counted n
 failures_by _ n = n
 
--- A row is done, behind what was told before it: its call is answered, then its events are done, with the calls behind them.
+-- A row is done, after what was told before it: its call is answered, then its events are done, with the calls after them.
 pub record IsRow {S : Type 0} (calls : S → Option (List Call)) (failures : S → ℕ) (before : List Call) (ready : Ready) (old : ServerState) (sockets : S) (new : ServerState) (after : S) : Type 0 where
   pub answer : Answer
   pub mid : ServerState
@@ -194,7 +194,7 @@ NewcomerGives calls failures old sockets (Ok u) new after = IsRow calls failures
 NewcomerGives calls failures old sockets (Err fault.Ready) new after = ⊥
 NewcomerGives calls failures old sockets (Err fault.Accept) new after = Fails calls failures [] old sockets new after
 
--- A turn: `ready` is asked once, and then one row is done; or `ready` fails, or `accept` behind it.
+-- A turn: `ready` is asked once, and then one row is done; or `ready` fails, or `accept` after it.
 abbrev pub TurnGives : {S : Type 0} → (S → Option (List Call)) → (S → ℕ) → ServerState → S → Result (Unit {0}) LoopFault → ServerState → S → Type 0
 TurnGives calls failures old sockets (Ok u) new after = (ready : Ready) × IsRow calls failures (Readied ready ∷ []) ready old sockets new after
 TurnGives calls failures old sockets (Err fault.Ready) new after = Fails calls failures [] old sockets new after

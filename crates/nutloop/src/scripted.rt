@@ -40,7 +40,7 @@ pub struct Scripted {
 }
 
 impl Scripted {
-    /// Sockets that answer these, one after another. Behind them every call fails.
+    /// Sockets that answer these, one after another. After them every call fails.
     pub fn new(alloc: Global, script: Vec<Act>) -> Self
         ensures calls { result.calls.items ≡ [] }
         ensures whole { result.is_whole ≡ true }

@@ -1,4 +1,4 @@
--- A writer that failed behind a front of a text.
+-- A writer that failed after a front of a text.
 use Rattle.std.proofs.Common.{◌≡◌, ℕ, List, [], ◌++◌, Option, Some, None, sym, subst, refl, ◌∙◌, append-nil}
 use Rattle.std.specs.Io.KnownBytes.{Appends, Keeps}
 use Rattle.nutreply.specs.Ends.{counted, Written, WriteFailed}

@@ -28,7 +28,7 @@ line_fault remaining failures f kept new reader after (ErrWord w) still bad h = 
 line_fault remaining failures f kept new reader after BadTarget still bad h = absurd h
 line_fault remaining failures f kept new reader after Memory still bad h = absurd h
 
--- a fault behind a front of the bytes is a fault of all
+-- a fault after a front of the bytes is a fault of all
 pub fails_behind : {R : Type 0} (remaining : R → Option (List ℕ)) (failures : R → ℕ) (F H : List ℕ → Reply) (x : List ℕ) (reader mid after : R) (fault : ClientFault)
     → Received remaining failures reader x mid → ((more : List ℕ) → F (x ++ more) ≡ H more) → Fails remaining failures H mid fault after → Fails remaining failures F reader fault after
 fails_behind remaining failures F H x reader mid after (ErrWord w) c h f = (x ++ f.0, received_joins remaining failures reader mid after x f.0 c f.1, λ more. ap F (append_assoc x f.0 more) ∙ h (f.0 ++ more) ∙ f.2 more)
@@ -84,7 +84,7 @@ asked_of_reply remaining failures contents write_failures request old new reader
 asked_of_reply remaining failures contents write_failures request old new reader after writer sent (Err BadTarget) t r = absurd r
 asked_of_reply remaining failures contents write_failures request old new reader after writer sent (Err Memory) t r = (t, r)
 
--- what the items give, behind the first line, is what the reply gives
+-- what the items give, after the first line, is what the reply gives
 pub reply_behind : {R : Type 0} (remaining : R → Option (List ℕ)) (failures : R → ℕ) (request : Request) (query : Query) (value old kept new : List ℕ) (reader mid after : R) (result : Result (List Item) ClientFault)
     → request ≡ ListOf query → FirstGives remaining failures request old reader (Ok value) kept mid
     → ItemsGive remaining failures query kept mid result new after → ReplyGives remaining failures request old reader result new after

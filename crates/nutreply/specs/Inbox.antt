@@ -29,7 +29,7 @@ FillGives remaining failures old reader (Err EarlyEnd) new after = Received rema
 FillGives remaining failures old reader (Err Read) new after = ReadFailed remaining failures reader [] after × (new ≡ old)
 FillGives remaining failures old reader result new after = ⊥
 
--- The next line of what was kept and what came, whatever stands behind; no line can follow; or no line is whole. No other fault comes.
+-- The next line of what was kept and what came, whatever stands after; no line can follow; or no line is whole. No other fault comes.
 abbrev pub LineGives : {R : Type 0} → (R → Option (List ℕ)) → (R → ℕ) → List ℕ → R → Result (ArrayVec ℕ LINE_ROOM (Unit {0})) ClientFault → List ℕ → R → Type 0
 LineGives remaining failures old reader (Ok line) new after = (came : List ℕ) × Received remaining failures reader came after × (length line.items < LINE_ROOM)
     × ((more : List ℕ) → lines (old ++ (came ++ more)) ≡ Line line.items (new ++ more) ∷ lines (new ++ more))

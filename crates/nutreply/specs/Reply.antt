@@ -18,22 +18,22 @@ use Rattle.nutreply.specs.declared.read.LaterLine.TheVariants.{End, Another, Bad
 use Rattle.nutreply.specs.Lines.{lines, FoundLine, Line, TooLong}
 use Rattle.nutreply.specs.Request.{asked_words, has_value}
 
--- The words behind this one, where it is the first.
+-- The words after this one, where it is the first.
 abbrev pub behind_word : List ℕ → List (List ℕ) → Option (List (List ℕ))
 behind_word word [] = None
 behind_word word (first ∷ words) = if bytes_eq first word then Some words else None
 
--- The words behind these, where they come first.
+-- The words after these, where they come first.
 abbrev pub behind : List (List ℕ) → List (List ℕ) → Option (List (List ℕ))
 behind [] words = Some words
 behind (word ∷ front) words = option_and_then (λ rest. behind front rest) (behind_word word words)
 
--- There are words behind, and they are none.
+-- There are words after, and they are none.
 abbrev pub is_nothing : Option (List (List ℕ)) → Bool
 is_nothing (Some []) = true
 is_nothing _ = false
 
--- There are words behind, and they are this one.
+-- There are words after, and they are this one.
 abbrev pub only_word : Option (List (List ℕ)) → Option (List ℕ)
 only_word (Some (word ∷ [])) = Some word
 only_word _ = None
@@ -78,7 +78,7 @@ is_item_name Ups word = is_ups_name word
 is_item_name (Client ups) word = is_address word
 is_item_name _ word = is_name word
 
--- What an item has behind its name: one word where it has a value, else none.
+-- What an item has after its name: one word where it has a value, else none.
 abbrev pub value_in : Bool → List (List ℕ) → Option (List ℕ)
 value_in true (value ∷ []) = Some value
 value_in true _ = None
@@ -94,11 +94,11 @@ abbrev pub item_in : Query → Option (List (List ℕ)) → LaterLine
 item_in query (Some (name ∷ rest)) = item_with (is_item_name query name) name (value_in (has_value query) rest)
 item_in query _ = BadLater
 
--- What a line behind BEGIN is: the END of the same words, an item, or none of them.
+-- What a line after BEGIN is: the END of the same words, an item, or none of them.
 abbrev pub later_of : Query → List (List ℕ) → LaterLine
 later_of query words = if is_frame (codes "END") query words then End else item_in query (behind (asked_words query) words)
 
--- What the bytes that came are: a refusal by an error word; a whole reply, and the bytes behind it; bytes that can't be the beginning of a reply; or the beginning of one.
+-- What the bytes that came are: a refusal by an error word; a whole reply, and the bytes after it; bytes that can't be the beginning of a reply; or the beginning of one.
 pub data Reply : Type 0 where
   Refused : (word : List ℕ) → Reply
   Whole : (items : List Item) (rest : List ℕ) → Reply

@@ -31,7 +31,7 @@ has_value (Rw ups) = true
 has_value (Cmd ups) = false
 has_value (Client ups) = false
 
--- The words behind LIST, BEGIN LIST and END LIST, which each item begins with, too.
+-- The words after LIST, BEGIN LIST and END LIST, which each item begins with, too.
 abbrev pub asked_words : Query → List (List ℕ)
 asked_words query = kind_of query ∷ option_to_list (ups_of query)
 

@@ -14,7 +14,7 @@ use Rattle.nutreply.specs.declared.request.Request.{Request}
 use Rattle.nutreply.specs.declared.faults.ClientFault.{ClientFault}
 use Rattle.nutreply.specs.declared.faults.ClientFault.TheVariants.{Read, Write, EarlyEnd, ErrWord, BadReply, Memory}
 
--- Why no reply is given, the bytes that come being read so: what came decides it, whatever stands behind; or what came is unfinished, and the reader ended or failed; or memory was refused. No other fault comes.
+-- Why no reply is given, the bytes that come being read so: what came decides it, whatever stands after; or what came is unfinished, and the reader ended or failed; or memory was refused. No other fault comes.
 abbrev pub Fails : {R : Type 0} → (R → Option (List ℕ)) → (R → ℕ) → (List ℕ → Reply) → R → ClientFault → R → Type 0
 Fails remaining failures reading reader (ErrWord word) after = (came : List ℕ) × Received remaining failures reader came after × ((more : List ℕ) → reading (came ++ more) ≡ Refused word)
 Fails remaining failures reading reader BadReply after = (came : List ℕ) × Received remaining failures reader came after × ((more : List ℕ) → reading (came ++ more) ≡ Bad)
@@ -23,12 +23,12 @@ Fails remaining failures reading reader Read after = (came : List ℕ) × ReadFa
 Fails remaining failures reading reader Memory after = (came : List ℕ) × Received remaining failures reader came after
 Fails remaining failures reading reader fault after = ⊥
 
--- The first line of a reply tells this, and the rest of the reply stands behind what came.
+-- The first line of a reply tells this, and the rest of the reply stands after what came.
 abbrev pub FirstGives : {R : Type 0} → (R → Option (List ℕ)) → (R → ℕ) → Request → List ℕ → R → Result (List ℕ) ClientFault → List ℕ → R → Type 0
 FirstGives remaining failures request old reader (Ok value) new after = (came : List ℕ) × Received remaining failures reader came after × ((more : List ℕ) → reply request (old ++ (came ++ more)) ≡ after_expected request value (new ++ more))
 FirstGives remaining failures request old reader (Err fault) new after = Fails remaining failures (λ came. reply request (old ++ came)) reader fault after
 
--- What a later line makes of the items before it, whatever stands behind it and however more items are read. No other fault comes.
+-- What a later line makes of the items before it, whatever stands after it and however more items are read. No other fault comes.
 abbrev pub TakeGives : LaterLine → List Item → Result Taken ClientFault → List Item → Type 0
 TakeGives later old (Ok All) new = (rest : List ℕ) (go : List Item → Reply) → after_later later old rest go ≡ Whole new rest
 TakeGives later old (Ok One) new = (has_room old ≡ true) × (length new ≡ length old + 1) × ((rest : List ℕ) (go : List Item → Reply) → after_later later old rest go ≡ go new)
@@ -36,12 +36,12 @@ TakeGives later old (Err BadReply) new = (rest : List ℕ) (go : List Item → R
 TakeGives later old (Err Memory) new = ⊤
 TakeGives later old result new = ⊥
 
--- The items of a listing, from behind its first line.
+-- The items of a listing, from after its first line.
 abbrev pub ItemsGive : {R : Type 0} → (R → Option (List ℕ)) → (R → ℕ) → Query → List ℕ → R → Result (List Item) ClientFault → List ℕ → R → Type 0
 ItemsGive remaining failures query old reader (Ok items) new after = (came : List ℕ) × Received remaining failures reader came after × ((more : List ℕ) → items_from query [] (lines (old ++ (came ++ more))) ≡ Whole items (new ++ more))
 ItemsGive remaining failures query old reader (Err fault) new after = Fails remaining failures (λ came. items_from query [] (lines (old ++ came))) reader fault after
 
--- The reply to the request, from the bytes kept and those that came: it is whole whatever stands behind, and what stands behind it is kept.
+-- The reply to the request, from the bytes kept and those that came: it is whole whatever stands after, and what stands after it is kept.
 abbrev pub ReplyGives : {R : Type 0} → (R → Option (List ℕ)) → (R → ℕ) → Request → List ℕ → R → Result (List Item) ClientFault → List ℕ → R → Type 0
 ReplyGives remaining failures request old reader (Ok items) new after = (came : List ℕ) × Received remaining failures reader came after × ((more : List ℕ) → reply request (old ++ (came ++ more)) ≡ Whole items (new ++ more))
 ReplyGives remaining failures request old reader (Err fault) new after = Fails remaining failures (λ came. reply request (old ++ came)) reader fault after

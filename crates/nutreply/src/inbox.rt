@@ -5,7 +5,7 @@ use crate::{ClientFault, Source};
 use arrayvec::ArrayVec;
 use nutwords::{Cut, LINE_ROOM, Line, LineCut};
 
-/// The bytes that were read and not yet used: what has come of a line, and what stands behind the last cut.
+/// The bytes that were read and not yet used: what has come of a line, and what stands after the last cut.
 #[derive(Drop)]
 pub struct Inbox {
     cut: LineCut,

@@ -49,7 +49,7 @@ pub(crate) fn first_line(
     }
 }
 
-/// What a line of a listing behind the first is.
+/// What a line of a listing after the first is.
 pub(crate) fn later_line(alloc: Global, query: &Query, line: &[u8]) -> Result<LaterLine, AllocError>
     requires { length line.now ≤ LINE_LIMIT }
     ensures { IfOk result (λ later. later ≡ later_of query.now (words_of line.now)) }
@@ -63,7 +63,7 @@ pub(crate) fn later_line(alloc: Global, query: &Query, line: &[u8]) -> Result<La
     }
 }
 
-/// The words behind this one, where it is the first.
+/// The words after this one, where it is the first.
 fn behind_word<'a>(word: &[u8], mut words: Words<'a>) -> Option<Words<'a>>
     ensures { result ≡ behind_word word.now words.entry }
 {
@@ -75,7 +75,7 @@ fn behind_word<'a>(word: &[u8], mut words: Words<'a>) -> Option<Words<'a>>
     }
 }
 
-/// The words behind those that the query asked by, where these come first.
+/// The words after those that the query asked by, where these come first.
 fn behind_asked<'a>(query: &Query, words: Words<'a>) -> Option<Words<'a>>
     ensures { result ≡ behind (asked_words query.now) words.entry }
 {
@@ -172,7 +172,7 @@ fn told_value(
     }
 }
 
-/// The words behind `VAR` and both names.
+/// The words after `VAR` and both names.
 fn behind_names<'a>(ups: &UpsName, name: &Name, words: Words<'a>) -> Option<Words<'a>>
     ensures { result ≡ behind (codes "VAR" ∷ ups.now ∷ name.now ∷ []) words.entry }
 {

@@ -62,7 +62,7 @@ pub enum Request {
     List(Query),
     /// The value of a variable.
     GetVar(UpsName, Name),
-    /// The name of the user, for the requests behind it.
+    /// The name of the user, for the requests after it.
     Username(Value),
     /// The user's password.
     Password(Value),

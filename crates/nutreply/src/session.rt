@@ -173,7 +173,7 @@ enum Taken {
     All,
 }
 
-/// Takes a line of a listing behind the first.
+/// Takes a line of a listing after the first.
 fn take_later(
     alloc: Global,
     query: &Query,

@@ -1,4 +1,4 @@
--- Laws of the grammar: what reads apart, and a line behind it.
+-- Laws of the grammar: what reads apart, and a line after it.
 use Rattle.std.proofs.Common.{ℕ, Bool, List, [], ◌∷◌, ◌++◌, sym, subst, ap, ◌∙◌, append_assoc, append-nil}
 use Rattle.std.specs.Prelude.{IsTrue}
 use Rattle.nutwords.specs.Bytes.{is_blank}
@@ -10,7 +10,7 @@ Units-append p _ more _ v none m = m
 Units-append p _ more _ v (itself {b = b} {text = text} {word = w} h u) m = itself h (Units-append p text more w v u m)
 Units-append p _ more _ v (escaped {b = b} {text = text} {word = w} h u) m = escaped h (Units-append p text more w v u m)
 
--- what stands apart, with more behind it, also stands apart
+-- what stands apart, with more after it, also stands apart
 apart_more : (rest : List ℕ) (b : ℕ) (more : List ℕ) → WordEndsBefore rest → IsTrue (is_blank b) → WordEndsBefore (rest ++ b ∷ more)
 apart_more [] b more s h = h
 apart_more (c ∷ rest) b more s h = s

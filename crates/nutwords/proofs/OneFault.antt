@@ -146,7 +146,7 @@ bare_escape_quoted h = cc
 quoted_escape_quoted : QuotedEscape ≡ Quoted → ⊥
 quoted_escape_quoted h = cc
 
--- a byte behind the same bytes has one fault
+-- a byte after the same bytes has one fault
 IsByteFault-one : (front : List ℕ) (b : ℕ) (e f : BadLine) → IsByteFault front b e → IsByteFault front b f → f ≡ e
 IsByteFault-one front b _ _ (control h) (control k) = refl
 IsByteFault-one front b _ _ (control h) (quote_inside e s) = absurd (h (subst (λ x. is_lawful x ≡ true) (sym e) refl))

@@ -47,7 +47,7 @@ split_line-whole (x ∷ text) first rest h =
           ap (λ t. x ∷ t) (split_line-whole text s.0 rest s.1) ∙ ap (λ f. f ++ 10 ∷ rest) (sym s.2)
     ] refl
 
--- Bytes behind a whole line belong to the rest.
+-- Bytes after a whole line belong to the rest.
 pub split_line-more : (text more first rest : List ℕ) → split_line text ≡ Some (first, rest) → split_line (text ++ more) ≡ Some (first, rest ++ more)
 split_line-more [] more first rest h = absurd (some_none (sym h))
 split_line-more (x ∷ text) more first rest h =
@@ -223,7 +223,7 @@ IsCutInto-some text =
     let o = CutsPieces-ends (suc (weight (text ∷ []))) [] (text ∷ []) (omega arith) refl (omega arith) in
     (o.0, o.1, subst (λ t. IsCutInto t o.0 o.1) (append-nil text) (CutsPieces-cut [] (text ∷ []) o.0 o.1 refl (omega arith) o.2))
 
--- Whole lines with more behind them.
+-- Whole lines with more after them.
 pub IsCutInto-append : (text more : List ℕ) (lines others : List (List ℕ)) (whole tail : Tail) → IsCutInto text lines whole → whole ≡ Unfinished [] → IsCutInto more others tail → IsCutInto (text ++ more) (lines ++ others) tail
 IsCutInto-append text more _ others whole tail (line {rest = rest} {first = first} {lines = lines} s k r) e m =
     line (split_line-more text more first rest s) k (IsCutInto-append rest more lines others whole tail r e m)

@@ -46,7 +46,7 @@ IsWrittenLine-lines (t ∷ items) (w ∷ rows) h =
 IsWrittenLine-lines [] (w ∷ rows) h = absurd h
 IsWrittenLine-lines (t ∷ items) [] h = absurd h
 
--- one more written line behind others
+-- one more written line after others
 AllZip-one_more : (items rows : List (List (List ℕ))) (texts words : List (List ℕ)) → AllZip IsWrittenLine items rows → IsWrittenLine texts words → AllZip IsWrittenLine (items ++ texts ∷ []) (rows ++ words ∷ [])
 AllZip-one_more [] [] texts words h i = (i, tt)
 AllZip-one_more (t ∷ items) (w ∷ rows) texts words h i = (h.0, AllZip-one_more items rows texts words h.1 i)

@@ -41,7 +41,7 @@ line-no_lf (x ∷ text) first rest h =
           subst (λ f. has_lf f ≡ false) (sym s.2) (both (eqb x 10) (has_lf s.0) e (line-no_lf text s.0 rest s.1))
     ] refl
 
--- and what has none is cut off at the LF behind it
+-- and what has none is cut off at the LF after it
 pub line-cut : (text first rest : List ℕ) → text ≡ first ++ 10 ∷ rest → has_lf first ≡ false → split_line text ≡ Some (first, rest)
 line-cut text first rest whole none = ap split_line whole ∙ split_line-append first (10 ∷ rest) (no_lf-none first none) ∙ ap (λ t. Some (t, rest)) (append-nil first)
 

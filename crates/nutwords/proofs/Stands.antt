@@ -21,7 +21,7 @@ Stands Quoted front = EndsInOpenQuote front
 Stands QuotedEscape front = EndsInQuotedBackslash front
 Stands Closed front = EndsInQuotedWord front
 
--- bytes behind a part
+-- bytes after a part
 whole_more : (front before part : List ℕ) (b : ℕ) → front ≡ before ++ part → front ++ b ∷ [] ≡ before ++ (part ++ b ∷ [])
 whole_more front before part b e = ap (λ x. x ++ b ∷ []) e ∙ append_assoc before part (b ∷ [])
 
@@ -43,12 +43,12 @@ Reads-at x y vs us e f r = subst (λ ws. Reads y ws) f (subst (λ z. Reads z vs)
 pub Reads-from_apart : (front : List ℕ) (ws : List (List ℕ)) → ReadsToBoundary front ws → Reads front ws
 Reads-from_apart front ws r = Reads-at (front ++ []) front (ws ++ []) ws (append-nil front) (append-nil ws) (Reads-behind front [] ws [] r end)
 
--- a word behind words
+-- a word after words
 pub Reads-from_word : (front : List ℕ) (P : List ℕ → List ℕ → Type 0) → ((part w : List ℕ) → P part w → Spells part w) → EndsIn P front → (ws : List (List ℕ)) × Reads front ws
 Reads-from_word front P spell s =
     (s.words ++ s.word ∷ [], subst (λ x. Reads x (s.words ++ s.word ∷ [])) (sym s.whole) (Reads-behind s.before s.part s.words (s.word ∷ []) s.apart (Reads-word s.part s.word (spell s.part s.word s.is_part))))
 
--- a blank behind a line
+-- a blank after a line
 blank_behind : (front : List ℕ) (b : ℕ) → (ws : List (List ℕ)) × Reads front ws → is_blank b ≡ true → Stands Between (front ++ b ∷ [])
 blank_behind front b r h = (r.0, before_blank b r.1 h refl)
 

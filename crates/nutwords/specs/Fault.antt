@@ -37,15 +37,15 @@ pub record EndsIn (IsPart : List ℕ → List ℕ → Type 0) (front : List ℕ)
 abbrev pub EndsInBareWord : List ℕ → Type 0
 EndsInBareWord = EndsIn IsBareWord
 
--- Right behind a closing quote.
+-- Right after a closing quote.
 abbrev pub EndsInQuotedWord : List ℕ → Type 0
 EndsInQuotedWord = EndsIn IsQuotedWord
 
--- Behind an opening quote that isn't closed yet.
+-- After an opening quote that isn't closed yet.
 abbrev pub EndsInOpenQuote : List ℕ → Type 0
 EndsInOpenQuote = EndsIn (λ part word. (inside : List ℕ) × Units is_quotable inside word × (part ≡ 34 ∷ inside))
 
--- Right behind a backslash that isn't itself escaped, in a bare word.
+-- Right after a backslash that isn't itself escaped, in a bare word.
 abbrev pub EndsInBareBackslash : List ℕ → Type 0
 EndsInBareBackslash = EndsIn (λ part word. (units : List ℕ) × Units is_bare units word × (part ≡ units ++ 92 ∷ []))
 
@@ -53,7 +53,7 @@ EndsInBareBackslash = EndsIn (λ part word. (units : List ℕ) × Units is_bare 
 abbrev pub EndsInQuotedBackslash : List ℕ → Type 0
 EndsInQuotedBackslash = EndsIn (λ part word. (units : List ℕ) × Units is_quotable units word × (part ≡ 34 ∷ (units ++ 92 ∷ [])))
 
--- The fault of a byte that can't stand behind these bytes.
+-- The fault of a byte that can't stand after these bytes.
 pub data IsByteFault (front : List ℕ) (b : ℕ) : BadLine → Type 0 where
   control : (IsTrue (is_lawful b) → ⊥) → IsByteFault front b ControlByte
   quote_inside : b ≡ 34 → EndsInBareWord front → IsByteFault front b QuoteInside

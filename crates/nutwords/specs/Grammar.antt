@@ -2,7 +2,7 @@
 use Rattle.std.specs.Prelude.{◌≡◌, ℕ, ◌<◌, Bool, List, [], ◌∷◌, ◌++◌, length, IsTrue}
 use Rattle.nutwords.specs.Bytes.{is_lawful, is_blank, is_quotable, is_bare}
 
--- The text spells the bytes of the word, one unit a byte: a byte that may stand for itself, or any lawful byte behind a backslash.
+-- The text spells the bytes of the word, one unit a byte: a byte that may stand for itself, or any lawful byte after a backslash.
 pub data Units (may_stand : ℕ → Bool) : List ℕ → List ℕ → Type 0 where
   none : Units may_stand [] []
   itself : {b : ℕ} {text word : List ℕ} → IsTrue (may_stand b) → Units may_stand text word → Units may_stand (b ∷ text) (b ∷ word)

@@ -7,7 +7,7 @@ use Rattle.nutwords.specs.Cut.{Cuts}
 use Rattle.nutwords.specs.declared.limits.TheConstants.{LINE_ROOM}
 use Rattle.nutwords.specs.declared.cut.Cut.TheVariants.{Line, More, TooLong}
 
--- What stands behind the whole lines of a text: an unfinished line, or bytes that are too long to be a line.
+-- What stands after the whole lines of a text: an unfinished line, or bytes that are too long to be a line.
 pub data Tail : Type 0 where
   Unfinished : List ℕ → Tail
   Overlong : Tail
@@ -45,6 +45,6 @@ OneCutting = (text : List ℕ) (lines others : List (List ℕ)) (tail end : Tail
 abbrev pub NoByteIsLost : Type 0
 NoByteIsLost = (text rest : List ℕ) (lines : List (List ℕ)) → IsCutInto text lines (Unfinished rest) → text ≡ flat_map (λ whole. whole ++ 10 ∷ []) lines ++ rest
 
--- The lines of whole lines with more behind them are these lines and those of what is behind.
+-- The lines of whole lines with more after them are these lines and those of what is after.
 abbrev pub LinesAreJoined : Type 0
 LinesAreJoined = (text more : List ℕ) (lines others : List (List ℕ)) (tail : Tail) → IsCutInto text lines (Unfinished []) → IsCutInto more others tail → IsCutInto (text ++ more) (lines ++ others) tail

@@ -7,11 +7,11 @@ use Rattle.nutwords.specs.Split.{unescaped}
 use Rattle.nutwords.specs.declared.word.Word.{Word}
 use Rattle.nutwords.specs.declared.word.Word.TheVariants.{Plain, Unescaped}
 
--- The word that is spelled so: a backslash is left out, and the byte behind it is taken as it is (NUT's parseconf).
+-- The word that is spelled so: a backslash is left out, and the byte after it is taken as it is (NUT's parseconf).
 abbrev pub spelled : List ℕ → List ℕ
 spelled text = unescaped text false
 
--- A byte of the word stands behind a backslash.
+-- A byte of the word stands after a backslash.
 abbrev pub holds_escapes : List ℕ → Bool
 holds_escapes text = list_any (λ b. b == 92) text
 

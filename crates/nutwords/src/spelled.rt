@@ -39,7 +39,7 @@ impl<'a> Model for SpelledWord<'a> {
 }
 
 impl<'a> SpelledWord<'a> {
-    /// Whether a byte of it stands behind a backslash.
+    /// Whether a byte of it stands after a backslash.
     pub fn holds_escapes(&self) -> bool
         ensures { result ≡ holds_escapes self.now }
     {
@@ -234,7 +234,7 @@ fn first_word(line: &[u8]) -> Option<(SpelledWord<'_>, &[u8])>
     }
 }
 
-/// The line behind its first blanks.
+/// The line after its first blanks.
 fn skip_blanks(line: &[u8]) -> &[u8]
     ensures same { read_line result.now ≡ read_line line.now }
     ensures start { StartsInWord result.now }
@@ -259,7 +259,7 @@ fn bare_word(line: &[u8]) -> (SpelledWord<'_>, &[u8])
     (word_of(&line[..end]), &line[end..])
 }
 
-/// The word at the front of what is behind its opening quote, and the rest of the line.
+/// The word at the front of what is after its opening quote, and the rest of the line.
 fn quoted_word(inside: &[u8]) -> (SpelledWord<'_>, &[u8])
     requires short { length inside.now ≤ LINE_LIMIT }
     requires reads { is_ok (read_from inside.now Quoted) ≡ true }

@@ -3,7 +3,7 @@ use std::io;
 use std::io::{ErrorKind, Read, Write};
 use std::os::unix::net::{UnixListener, UnixStream};
 
-/// What the driver tells when it is asked for all that it knows.
+/// What the driver reports when it is asked for all that it knows.
 const REPORT: &[u8] = b"SETINFO ups.status \"OL\"
 SETINFO battery.charge \"100\"
 DUMPDONE

@@ -27,7 +27,7 @@ fn remove_socket(rt: &HostRuntime) {
     let _ = fs::remove_file(rt, SOCKET);
 }
 
-/// Starts the driver and the server, and asks as upsc does until the server knows what the driver tells.
+/// Starts the driver and the server, and asks as upsc does until the server knows what the driver reports.
 fn run(rt: &HostRuntime) -> Result<()> {
     let driver = Driver::listen(rt, SOCKET)?;
     let mut served = Served::start(rt, driver, SOCKET)?;

@@ -43,7 +43,7 @@ fn told<'a>(reply: &Option<Reply<'a>>) -> (&'a [u8], &'static [u8]) {
     }
 }
 
-/// Whether the line of the row, which stands before its first bar, is answered and changes what stands behind it.
+/// Whether the line of the row, which stands before its first bar, is answered and changes what stands after it.
 fn is_so(sample: &Sample, asker: &SampleAsker, row: &[u8]) -> bool {
     let mut parts = row.split(|b| *b == b'|');
     let (Some(line), Some(want), Some(changed)) = (parts.next(), parts.next(), parts.next()) else {

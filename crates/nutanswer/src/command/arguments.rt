@@ -1,4 +1,4 @@
-//! What stands behind the words that say which command it is.
+//! What stands after the words that say which command it is.
 ghost use Rattle.std.specs.Prelude.{◌≡◌};
 ghost use Rattle.nutanswer.specs.Command.{alone, user_name_alone, password_alone, ups_alone, ups_and_name, ups_name_and_value, ups_name_and_value_if_any};
 
@@ -7,7 +7,7 @@ use crate::ErrWord;
 use nutusers::{Password, UserName};
 use nutwords::{Name, SpelledWords, UpsName, Value};
 
-/// The command, where no further word stands behind it.
+/// The command, where no further word stands after it.
 pub(crate) fn alone(command: Command, mut words: SpelledWords<'_>) -> Result<Command, ErrWord>
     ensures { result ≡ alone command words.entry }
 {

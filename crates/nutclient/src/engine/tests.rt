@@ -166,7 +166,7 @@ fn a_session_goes_on_where_the_reply_ended(rt: HostRuntime) -> Result<(), Fail> 
         let mut out = CountedWriter::new(&mut printed);
         assert!(rt; run(&mut session, &mut out, &job).is_ok());
         assert!(rt; run(&mut session, &mut out, &job).is_ok());
-        // The server has ended, and behind a fault nothing is sent.
+        // The server has ended, and after a fault nothing is sent.
         for _ in 0..2 {
             assert_eq!(rt;
                 run(&mut session, &mut out, &job),

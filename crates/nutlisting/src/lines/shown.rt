@@ -9,7 +9,7 @@ use arrayvec::ArrayVec;
 use nutdriver::Variable;
 use nutwords::{Name, Value};
 
-/// The most bytes of a value as clients see it: a whole value behind `FSD `.
+/// The most bytes of a value as clients see it: a whole value after `FSD `.
 pub const SHOWN_LIMIT: usize = 260;
 
 /// The value as clients see it: `FSD ` stands before the status while a forced shutdown is set.

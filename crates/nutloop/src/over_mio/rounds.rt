@@ -37,7 +37,7 @@ pub(super) struct Rounds<'a, R> {
     start: Instant,
     /// The whole seconds since the start, as they were told last.
     second: u64,
-    /// Whose turn comes next: a place among the clients, and behind them the drivers and the listener.
+    /// Whose turn comes next: a place among the clients, and after them the drivers and the listener.
     at: usize,
     /// How many turns there were since the last poll.
     turns: u32,

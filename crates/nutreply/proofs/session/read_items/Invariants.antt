@@ -5,7 +5,7 @@ use Rattle.nutreply.specs.Lines.{lines}
 use Rattle.nutreply.specs.Reply.{items_from}
 use Rattle.nutreply.proofs.session.read_items.Given as goal
 
--- What came is a front of the reply: with whatever stands behind, it is the items so far and what is left to be read.
+-- What came is a front of the reply: with whatever stands after, it is the items so far and what is left to be read.
 abbrev pub invariant-loop-line : goal.invariant-loop-line
 invariant-loop-line g l = (came : List ℕ) × Received g.R.Source.remaining g.R.Source.failures l.fn.reader came l.reader
     × ((more : List ℕ) → items_from l.query [] (lines (unread l.fn.inbox ++ (came ++ more))) ≡ items_from l.query l.items (lines (unread l.inbox ++ more)))
