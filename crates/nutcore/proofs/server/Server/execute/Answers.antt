@@ -17,13 +17,6 @@ use Rattle.nutcore.proofs.OrderFits.{order_fits}
 use Rattle.nutcore.proofs.Costs.{cost_kept}
 use Rattle.nutcore.proofs.server.Server.execute.Goals as goal
 
--- the UPSs are changed, and nothing else yet
-changed : (c : goal.After-self-1) → (let t : ServerState = record c.args.self.now.state { upses = changed_upses (change_in c.in_ok-reply.reply) c.args.self.now.state.upses } in (the_view c.self.inside).state ≡ t)
-changed c = state_is c.self.view_is ∙ c.change_upses.ensures.changed
-
-asking : (c : goal.After-self-1) → StandsAt (the_view c.self.inside).state c.args.c c.args.place c.index_mut-session.result.now
-asking c = stands c.args.c c.args.place (the_view c.self.inside).state (record c.args.self.now.state { upses = changed_upses (change_in c.in_ok-reply.reply) c.args.self.now.state.upses }) c.index_mut-session.result.now (changed c) c.requires.at c.index_mut-session.ensures.value
-
 pub change_upses-requires : goal.change_upses-requires
 change_upses-requires c =
     let line : List ℕ = c.in_ok-reply.ensures.next.0 in
@@ -36,14 +29,20 @@ answer-requires-clause-going c =
     let v : ServerState = (the_view c.self.inside).state in
     let x : SessionState = c.index_mut-session.result.now in
     let is : v ≡ t = state_is c.self.view_is ∙ c.change_upses.ensures.changed in
-    goes s c.args.c x (ap (session c.args.c) (sym is) ∙ (stands c.args.c c.args.place v t x is c.requires.at c.index_mut-session.ensures.value).found) c.requires.next
+    let here : StandsAt v c.args.c c.args.place x = stands c.args.c c.args.place v t x is c.requires.at c.index_mut-session.ensures.value in
+    goes s c.args.c x (ap (session c.args.c) (sym is) ∙ here.found) c.requires.next
 
 pub invariant_of-self : goal.invariant_of-self
 invariant_of-self c =
+    let s : ServerState = c.args.self.now.state in
+    let t : ServerState = record s { upses = changed_upses (change_in c.in_ok-reply.reply) s.upses } in
+    let v : ServerState = (the_view c.self.inside).state in
     let x : SessionState = c.index_mut-session.result.now in
-    let going : is_some (next_line x) ≡ true = goes c.args.self.now.state c.args.c x (ap (session c.args.c) (sym (changed c)) ∙ (asking c).found) c.requires.next in
+    let is : v ≡ t = state_is c.self.view_is ∙ c.change_upses.ensures.changed in
+    let here : StandsAt v c.args.c c.args.place x = stands c.args.c c.args.place v t x is c.requires.at c.index_mut-session.ensures.value in
+    let going : is_some (next_line x) ≡ true = goes s c.args.c x (ap (session c.args.c) (sym is) ∙ here.found) c.requires.next in
     record {
-      sound = session_kept (the_view c.self.inside).state c.args.c c.args.place x c.answer.new.self (asking c).at (asking c).found c.answer.ensures.id
+      sound = session_kept v c.args.c c.args.place x c.answer.new.self here.at here.found c.answer.ensures.id
           (answered_kept (change_in c.in_ok-reply.reply) (text_with c.list_clients.new.clients c.in_ok-reply.reply) x c.answer.new.self going c.answer.ensures.answered)
           c.self.invariant.sound;
       room = c.self.invariant.room;
@@ -52,18 +51,27 @@ invariant_of-self c =
 pub returns-clause-ok : goal.returns-clause-ok
 returns-clause-ok c =
     let s : ServerState = c.args.self.now.state in
+    let t : ServerState = record s { upses = changed_upses (change_in c.in_ok-reply.reply) s.upses } in
+    let v : ServerState = (the_view c.self.inside).state in
     let x : SessionState = c.index_mut-session.result.now in
+    let is : v ≡ t = state_is c.self.view_is ∙ c.change_upses.ensures.changed in
+    let here : StandsAt v c.args.c c.args.place x = stands c.args.c c.args.place v t x is c.requires.at c.index_mut-session.ensures.value in
     let line : List ℕ = c.in_ok-reply.ensures.next.0 in
-    let next : next_line x ≡ Some line = next_of_found s c.args.c x line (ap (session c.args.c) (sym (changed c)) ∙ (asking c).found) c.in_ok-reply.ensures.next.1 in
-    line_is s (the_view c.self.inside).state c.args.c c.args.place line c.in_ok-reply.reply c.list_clients.new.clients x c.answer.new.self
-    c.in_ok-reply.ensures.next.1 c.in_ok-reply.ensures.next.2 c.list_clients.ensures (changed c) (asking c) (c.answer.ensures.answered line next)
+    let next : next_line x ≡ Some line = next_of_found s c.args.c x line (ap (session c.args.c) (sym is) ∙ here.found) c.in_ok-reply.ensures.next.1 in
+    line_is s v c.args.c c.args.place line c.in_ok-reply.reply c.list_clients.new.clients x c.answer.new.self
+    c.in_ok-reply.ensures.next.1 c.in_ok-reply.ensures.next.2 c.list_clients.ensures is here (c.answer.ensures.answered line next)
 
 pub returns-clause-keeps : goal.returns-clause-keeps
 returns-clause-keeps c =
+    let s : ServerState = c.args.self.now.state in
+    let t : ServerState = record s { upses = changed_upses (change_in c.in_ok-reply.reply) s.upses } in
     let v : ServerState = (the_view c.self.inside).state in
-    let t : ServerState = record v { sessions = set v.sessions c.args.place c.answer.new.self } in
+    let x : SessionState = c.index_mut-session.result.now in
+    let is : v ≡ t = state_is c.self.view_is ∙ c.change_upses.ensures.changed in
+    let here : StandsAt v c.args.c c.args.place x = stands c.args.c c.args.place v t x is c.requires.at c.index_mut-session.ensures.value in
+    let after : ServerState = record v { sessions = set v.sessions c.args.place c.answer.new.self } in
     let made = c.answer.new.scratch.renders in
-    subst (λ (k : Cost). KeepsCount (owed c.args.c c.args.self.now.state) k.rendered (owed c.args.c t) made) c.change_upses.ensures.cost
-    (subst (λ (z : ServerState). KeepsCount (owed c.args.c z) c.change_upses.new.self.cost.rendered (owed c.args.c t) made) c.change_upses.ensures.changed
-    (subst (λ (z : RunningServer). KeepsCount (owed c.args.c z.state) z.cost.rendered (owed c.args.c t) made) c.self.view_is
-    (cost_kept v c.args.c c.args.place c.index_mut-session.result.now c.answer.new.self _ _ (asking c).at (asking c).found c.answer.ensures.id c.answer.ensures.keeps)))
+    subst (λ (k : Cost). KeepsCount (owed c.args.c s) k.rendered (owed c.args.c after) made) c.change_upses.ensures.cost
+    (subst (λ (z : ServerState). KeepsCount (owed c.args.c z) c.change_upses.new.self.cost.rendered (owed c.args.c after) made) c.change_upses.ensures.changed
+    (subst (λ (z : RunningServer). KeepsCount (owed c.args.c z.state) z.cost.rendered (owed c.args.c after) made) c.self.view_is
+    (cost_kept v c.args.c c.args.place x c.answer.new.self _ _ here.at here.found c.answer.ensures.id c.answer.ensures.keeps)))
