@@ -155,7 +155,7 @@ cost_kept v c i x y made made' at found id keeps kept counted =
     subst (λ (o : Option SessionState). IsCounted kept (owed_of o) made') (sym now)
     (keeps kept (subst (λ (o : Option SessionState). IsCounted kept (owed_of o) made) found counted))
 
--- the cost of what is placed behind so many bytes
+-- the cost of what is placed after so many bytes
 pub placed_behind : (after : List ℕ) (kept made n : ℕ) → made ≡ lines (drop kept after) → n ≡ length after → (let cost : Cost = record { rendered = made; placed = n - kept } in cost ≡ cost_beyond kept after)
 placed_behind after kept made n counted all =
     ap (λ (k : ℕ). let z : Cost = record { rendered = k; placed = n - kept } in z) counted
@@ -183,7 +183,7 @@ counts_none owed made none = record {
     past : drop (length (take RING_LIMIT owed)) (take RING_LIMIT owed) ≡ []
     past = drop_all (length (take RING_LIMIT owed)) (take RING_LIMIT owed) (omega arith)
 
--- what was placed behind those that were there before is the cost
+-- what was placed after those that were there before is the cost
 cost_is : (before after : List ℕ) (n kept : ℕ) → n ≤ length before → kept ≡ length before - n → kept ≤ length after → cost_beyond kept after ≡ cost_between before n after
 cost_is before after n kept le e within =
     let placed : length after - kept ≡ length after + n - length before = omega (arith, le, e, within) in

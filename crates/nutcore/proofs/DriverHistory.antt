@@ -1,4 +1,4 @@
--- What a driver told is executed.
+-- What a driver reported is executed.
 use Rattle.std.proofs.Common.{◌≡◌, ◌∙◌, ◌+◌, ℕ, zero, suc, Bool, true, false, List, [], ◌∷◌, ◌++◌, Option, Some, None, refl, sym, ap, subst, cond, eqb, map, max, drop, append_assoc, append-nil, arith}
 use Rattle.std.specs.Prelude.{slice_get}
 use Rattle.std.specs.Option.{option_map_or}
@@ -85,7 +85,7 @@ at_mapped f p [] x e = cc e
 at_mapped f zero (y ∷ xs) x e = let same : y ≡ x = cc e in ap (λ (z : UpsState). Some (f z)) same
 at_mapped f (suc p) (y ∷ xs) x e = at_mapped f p xs x e
 
--- what is there behind a mask
+-- what is there after a mask
 unmasked : (f : UpsState → UpsState) (p : ℕ) (xs : List UpsState) (y : UpsState) → slice_get (map f xs) p ≡ Some y → (x : UpsState) × (slice_get xs p ≡ Some x) × (f x ≡ y)
 unmasked f p [] y e = cc e
 unmasked f zero (x ∷ xs) y e = (x, refl, cc e)

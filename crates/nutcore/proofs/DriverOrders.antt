@@ -42,7 +42,7 @@ pub flat_both : {A B : Type 0} (f : A → List B) (xs ys : List A) → flat_map 
 flat_both f [] ys = refl
 flat_both f (x ∷ xs) ys = ap (λ (zs : List _). f x ++ zs) (flat_both f xs ys) ∙ sym (append_assoc (f x) (flat_map f xs) (flat_map f ys))
 
--- what a client's event leaves of a UPS: its report, and what is owed with this behind it
+-- what a client's event leaves of a UPS: its report, and what is owed with this after it
 record Adds (u : UpsId) (x : UpsState) (told : List Telling) (t : ServerState) : Type 0 where
   left : UpsState
   there : ups_at u.place t ≡ Some left

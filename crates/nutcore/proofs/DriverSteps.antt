@@ -157,7 +157,7 @@ bytes_unconnected s u piece h = record {
 pub connected_as : (s : ServerState) (u : UpsId) (x : UpsState) → IsThere s u true → ups_at u.place s ≡ Some x → x.report.connected ≡ true
 connected_as s u x h there = let same : Some h.ups ≡ Some x = sym h.there ∙ there in let e : h.ups ≡ x = cc same in ap (λ (z : UpsState). z.report.connected) (sym e) ∙ h.is
 
--- a piece is behind what was unfinished
+-- a piece is after what was unfinished
 bytes_told : (s : ServerState) (u : UpsId) (piece : List ℕ) (m : Option ℕ) (x : UpsState) → ups_at u.place s ≡ Some x → x.report.connected ≡ true → after_driver_text u (x.unfinished ++ piece) m s ≡ after_driver_bytes u piece m s
 unfolding after_driver_bytes
 bytes_told s u piece m x there is = sym (ap (λ (o : Option UpsState). option_map_or (λ x. cond x.report.connected (after_driver_text u (x.unfinished ++ piece) m s) s) o s) there ∙ cond-true _ _ _ is)

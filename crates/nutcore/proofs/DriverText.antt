@@ -1,4 +1,4 @@
--- What a driver tells changes its UPS alone.
+-- What a driver reports changes its UPS alone.
 use Rattle.std.proofs.Common.{◌≡◌, ℕ, zero, suc, Bool, true, false, List, [], ◌∷◌, ◌++◌, Option, Some, None, Result, Ok, Err, refl, sym, ◌∙◌, ap, cond, take}
 use Rattle.std.specs.Prelude.{slice_get}
 use Rattle.std.specs.Option.{option_map_or}
@@ -36,7 +36,7 @@ lines_change u (line ∷ lines) s =
     let does : UpsState → UpsState = λ x. after_text s.moment x line in
     lines_change u lines (with_ups_changed does u s) ∙ server_twice does (after_texts s.moment lines) u s
 
--- what the UPS is after what its driver told
+-- what the UPS is after what its driver reported
 abbrev pub ups_after_text : ℕ → List ℕ → Option ℕ → UpsState → UpsState
 ups_after_text m text None x = with_rest (unfinished_after text) (after_texts m (whole_lines text) x)
 ups_after_text m text (Some k) x = after_loss (after_texts m (take k (whole_lines text)) x)

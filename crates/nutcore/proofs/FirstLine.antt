@@ -5,7 +5,7 @@ use Rattle.std.specs.Prelude.{MatchOption}
 use Rattle.bstr.specs.Find.{IsFirstByte, is_byte}
 use Rattle.std.proofs.lemmas.Bool.{eqb-true}
 use Rattle.nutwords.specs.SplitLine.{split_line}
-use Rattle.nutcore.specs.Lines.{first_line, behind, with_lf}
+use Rattle.nutcore.specs.Lines.{first_line, rest_after, with_lf}
 
 -- a byte more before the first line
 abbrev pub with_byte : ℕ → Option (List ℕ × List ℕ) → Option (List ℕ × List ℕ)
@@ -47,27 +47,27 @@ behind_is [] rest = refl
 behind_is (b ∷ line) rest = let e : length (b ∷ line) + 1 ≡ suc (length line + 1) = omega arith in ap (λ n. drop n (b ∷ (line ++ 10 ∷ rest))) e ∙ behind_is line rest
 
 -- where a first line was found, it was split off
-found_by : (bytes line : List ℕ) (o : Option (List ℕ × List ℕ)) → split_line bytes ≡ o → option_map (λ s. s.0) o ≡ Some line → split_line bytes ≡ Some (line, behind line bytes)
+found_by : (bytes line : List ℕ) (o : Option (List ℕ × List ℕ)) → split_line bytes ≡ o → option_map (λ s. s.0) o ≡ Some line → split_line bytes ≡ Some (line, rest_after line bytes)
 found_by bytes line None e h = cc
 found_by bytes line (Some s) e h =
     let first : s.0 ≡ line = cc h in
     let whole : bytes ≡ s.0 ++ 10 ∷ s.1 = split_is bytes s.0 s.1 e in
-    let rest : behind line bytes ≡ s.1 = ap (λ z. drop (length z + 1) bytes) (sym first) ∙ ap (λ z. drop (length s.0 + 1) z) whole ∙ behind_is s.0 s.1 in
+    let rest : rest_after line bytes ≡ s.1 = ap (λ z. drop (length z + 1) bytes) (sym first) ∙ ap (λ z. drop (length s.0 + 1) z) whole ∙ behind_is s.0 s.1 in
     e ∙ ap (λ z. Some (z, s.1)) first ∙ ap (λ z. Some (line, z)) (sym rest)
 
-pub line_found : (bytes line : List ℕ) → first_line bytes ≡ Some line → split_line bytes ≡ Some (line, behind line bytes)
+pub line_found : (bytes line : List ℕ) → first_line bytes ≡ Some line → split_line bytes ≡ Some (line, rest_after line bytes)
 line_found bytes line h = found_by bytes line (split_line bytes) refl h
 
--- the first line with its LF, and what is behind it, are the bytes
-pub first_line_splits : (bytes line : List ℕ) → first_line bytes ≡ Some line → bytes ≡ with_lf line ++ behind line bytes
+-- the first line with its LF, and what is after it, are the bytes
+pub first_line_splits : (bytes line : List ℕ) → first_line bytes ≡ Some line → bytes ≡ with_lf line ++ rest_after line bytes
 first_line_splits bytes line h =
-    split_is bytes line (behind line bytes) (line_found bytes line h) ∙ sym (append_assoc line (10 ∷ []) (behind line bytes))
+    split_is bytes line (rest_after line bytes) (line_found bytes line h) ∙ sym (append_assoc line (10 ∷ []) (rest_after line bytes))
 
--- what is behind a line is shorter by the line and its LF
-pub behind_shorter : (bytes line : List ℕ) → first_line bytes ≡ Some line → length (behind line bytes) + (length line + 1) ≡ length bytes
+-- what is after a line is shorter by the line and its LF
+pub behind_shorter : (bytes line : List ℕ) → first_line bytes ≡ Some line → length (rest_after line bytes) + (length line + 1) ≡ length bytes
 behind_shorter bytes line h =
-    let e = ap length (split_is bytes line (behind line bytes) (line_found bytes line h)) in
-    omega (arith, e, length-append line (10 ∷ behind line bytes))
+    let e = ap length (split_is bytes line (rest_after line bytes) (line_found bytes line h)) in
+    omega (arith, e, length-append line (10 ∷ rest_after line bytes))
 
 -- a byte that isn't LF stands before the first line's end
 other : (b : ℕ) (bytes : List ℕ) → eqb b 10 ≡ false → split_line (b ∷ bytes) ≡ with_byte b (split_line bytes)

@@ -19,7 +19,7 @@ use Rattle.nutanswer.specs.Orders.{is_short_enough, is_listed, is_in_ranges, ins
 use Rattle.nutanswer.specs.Answer.{Answer, one_line, ok, answer_to, change_of_answer}
 use Rattle.nutcore.proofs.TableRows.{HasRight, unless_ok, has_right, every_row}
 
--- what stands behind a check is asked where the check holds
+-- what stands after a check is asked where the check holds
 module _ (Asks : Result Answer ErrWord → Type 0) (none : (word : ErrWord) → Asks (Err word) → ⊥) where
   record Finds {A : Type 0} (r : Result A ErrWord) (next : A → Result Answer ErrWord) : Type 0 where
     found : A

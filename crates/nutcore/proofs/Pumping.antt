@@ -7,7 +7,7 @@ use Rattle.std.proofs.lemmas.Bool.{or_left}
 use Rattle.std.proofs.lemmas.Grind.{flat_map-append}
 use Rattle.nutanswer.specs.declared.reply.Change.{Change}
 use Rattle.nutanswer.specs.declared.reply.Change.TheVariants.{Nothing, Username, Password, Login, Ending, Fsd, Order}
-use Rattle.nutcore.specs.Lines.{first_line, behind, with_lf}
+use Rattle.nutcore.specs.Lines.{first_line, rest_after, with_lf}
 use Rattle.nutcore.specs.Session.{SessionState, find, put}
 use Rattle.nutcore.specs.Server.{ServerState, session, with_session, with_session_changed}
 use Rattle.nutanswer.specs.Command.{read_command}
@@ -144,7 +144,7 @@ line_moves x u line text change going first =
     moves x (changed_session change y) u text [] [] (with_lf line)
     (sym (changed_owed change y))
     (λ e. split ∙ ap (λ held. with_lf line ++ held) (sym (changed_held change y e)))
-    (λ e. (behind line x.held, sym split))
+    (λ e. (rest_after line x.held, sym split))
     (λ e. let never : true ≡ false = sym e ∙ going in cc never)
 
 line_goes_by : (c : ℕ) (s : ServerState) (o : Option (List ℕ)) → next_line_for s c ≡ o →

@@ -1,4 +1,4 @@
--- The whole lines of some bytes, and what is unfinished behind them.
+-- The whole lines of some bytes, and what is unfinished after them.
 use Rattle.std.proofs.Common.{◌≡◌, ℕ, zero, suc, ◌+◌, ◌<◌, Bool, true, false, eqb, cond, List, [], ◌∷◌, ◌++◌, Option, Some, None, refl, sym, ◌∙◌, ap, subst, arith, length, take, drop, append_assoc, length-append}
 use Rattle.std.specs.Prelude.{take_while}
 use Rattle.std.specs.List.{prefix_len}
@@ -90,7 +90,7 @@ whole_too_long text h = by_first (split_line text) refl
     by_first None e = ap (take_while is_short) (ended_none text e)
     by_first (Some s) e = ap (take_while is_short) (ended_first text s.0 s.1 e) ∙ by_length s.0 s.1 e (is_short s.0) refl
 
--- what is unfinished: all of it where there is no whole line, and behind a first line that of the rest
+-- what is unfinished: all of it where there is no whole line, and after a first line that of the rest
 pub unfinished_all : (text : List ℕ) → whole_lines text ≡ [] → unfinished_after text ≡ text
 unfolding unfinished_after
 unfinished_all text h = ap (λ (lines : List (List ℕ)). drop (length (joined lines)) text) h
@@ -129,8 +129,8 @@ no_byte_is_lost text =
     let back : List ℕ = joined (drop n lines) ++ last.0 in
     let both : joined lines ≡ front ++ joined (drop n lines) = sym (ap joined (take-append-drop n lines)) ∙ flat_map-append with_lf (take n lines) (drop n lines) in
     let whole : text ≡ front ++ back = last.1 ∙ ap (λ (z : List ℕ). z ++ last.0) both ∙ append_assoc front (joined (drop n lines)) last.0 in
-    let behind : drop (length front) text ≡ back = ap (drop (length front)) whole ∙ drop-append_seam front back in
-    whole ∙ ap (λ (z : List ℕ). front ++ z) (sym behind)
+    let rest_after : drop (length front) text ≡ back = ap (drop (length front)) whole ∙ drop-append_seam front back in
+    whole ∙ ap (λ (z : List ℕ). front ++ z) (sym rest_after)
 
 -- each line has no LF, and at most 1,023 bytes
 abbrev HasNoLf : List ℕ → Type 0

@@ -1,4 +1,4 @@
--- What a driver told in a run, from the events alone: the other half of the headline.
+-- What a driver reported in a run, from the events alone: the other half of the headline.
 use Rattle.std.specs.Prelude.{◌≡◌, ◌≤◌, ℕ, Bool, true, false, List, [], ◌∷◌, ◌++◌, Some, None, ◌==◌, if◌then◌else◌, length, map}
 use Rattle.std.specs.List.{flat_map}
 use Rattle.std.specs.Option.{option_map_or}

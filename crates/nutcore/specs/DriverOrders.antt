@@ -85,7 +85,7 @@ abbrev pub with_front : List Telling → List ℕ → Connections → Connection
 with_front told taken (last now) = last (record { told = told ++ now.told; taken = taken ++ now.taken })
 with_front told taken (lost first later) = lost (record { told = told ++ first.told; taken = taken ++ first.taken }) later
 
--- A connection that is lost has nothing behind the event that lost it.
+-- A connection that is lost has nothing after the event that lost it.
 abbrev pub in_front : Bool → List Telling → List ℕ → Connections → Connections
 in_front true told taken later = lost (record { told = told; taken = taken }) later
 in_front false told taken later = with_front told taken later

@@ -60,7 +60,7 @@ pub record TakenInFour : Type 0 where
 abbrev pub told : ServerState → List ℕ → List ℕ
 told s line = (reply s 1 line)
 
--- What a driver tells is whole lines, of which one may be empty, and a rest. A line has at most 1,023 bytes: where an LF is byte 1,025, it is too late.
+-- What a driver reports is whole lines, of which one may be empty, and a rest. A line has at most 1,023 bytes: where an LF is byte 1,025, it is too late.
 pub record CutLines : Type 0 where
   pub lines : whole_lines (codes "PONG\nDATAOK\nSETIN") ≡ codes "PONG" ∷ codes "DATAOK" ∷ []
   pub rest : unfinished_after (codes "PONG\nDATAOK\nSETIN") ≡ codes "SETIN"
@@ -73,7 +73,7 @@ pub record CutLines : Type 0 where
 abbrev pub from_driver : List ℕ → Event
 from_driver piece = DriverBytes (id_at 0) piece
 
--- A piece ends in the middle of a line, and the next one goes on there. A driver is lost behind the lines before one that is too long, and behind those before one for which memory was refused; that may be the one that would change the tree, and no other.
+-- A piece ends in the middle of a line, and the next one goes on there. A driver is lost after the lines before one that is too long, and after those before one for which memory was refused; that may be the one that would change the tree, and no other.
 pub record ToldInPieces : Type 0 where
   pub first : told (after_events with_two_variables (from_driver (codes "SETINFO a 1\nSETINFO b") ∷ [])) (codes "GET VAR su b") ≡ codes "ERR VAR-NOT-SUPPORTED\n"
   pub second : told (after_events with_two_variables (from_driver (codes "SETINFO a 1\nSETINFO b") ∷ from_driver (codes " 2\n") ∷ [])) (codes "GET VAR su b") ≡ codes "VAR su b \"2\"\n"
@@ -155,7 +155,7 @@ pipelined =
     (flat_map (λ name. DriverBytes (id_at 0) (codes "SETINFO " ++ name ++ 32 ∷ (replicate 256 120 ++ 10 ∷ [])) ∷ []) (codes "a" ∷ codes "b" ∷ codes "c" ∷ codes "d" ∷ codes "e" ∷ codes "f" ∷ codes "g" ∷ codes "h" ∷ [])
     ++ Feed 1 (codes "LIST VAR su\nGET VAR su ups.status\n") ∷ DriverBytes (id_at 0) (codes "SETINFO ups.status OB\n") ∷ [])
 
--- The line behind a listing is answered behind it, on the server as it is once the line is executed.
+-- The line after a listing is answered after it, on the server as it is once the line is executed.
 pub record PipelinedGet : Type 0 where
   pub listed : length (owed 1 pipelined) ≡ 2201
   pub held_back : held 1 pipelined ≡ codes "GET VAR su ups.status\n"

@@ -97,7 +97,7 @@ pub record NothingIsLeftToExecute : Type 0 where
   pub fed : (old new : ServerState) (c n : ℕ) (piece : List ℕ) → Step old (Feed c piece) (Fed n) new → pump_stops new c ≡ true
   pub took : (old new : ServerState) (c n : ℕ) → Step old (Took c n) Done new → pump_stops new c ≡ true
 
--- A line is executed only while at most 2,048 bytes are owed to its client, and its answer is joined behind them: so what is owed is at most that, and one answer.
+-- A line is executed only while at most 2,048 bytes are owed to its client, and its answer is joined after them: so what is owed is at most that, and one answer.
 abbrev pub OneAnswerAtMostIsOwedAbove : Type 0
 OneAnswerAtMostIsOwedAbove = (s : ServerState) (c : ℕ) (line : List ℕ) → next_line_for s c ≡ Some line → (length (owed c s) ≤ OWED_LIMIT) × (owed c (after_line s c) ≡ owed c s ++ (reply s c line))
 

@@ -11,8 +11,8 @@ abbrev pub first_line : List ℕ → Option (List ℕ)
 first_line bytes = option_map (λ split. split.0) (split_line bytes)
 
 -- What follows the first line and its LF.
-abbrev pub behind : List ℕ → List ℕ → List ℕ
-behind line bytes = drop (length line + 1) bytes
+abbrev pub rest_after : List ℕ → List ℕ → List ℕ
+rest_after line bytes = drop (length line + 1) bytes
 
 -- A line with its LF.
 abbrev pub with_lf : List ℕ → List ℕ
@@ -40,7 +40,7 @@ is_short line = nat_lt (length line) LINE_ROOM
 unfoldable pub whole_lines : List ℕ → List (List ℕ)
 whole_lines bytes = take_while is_short (ended_lines bytes)
 
--- What is unfinished behind them.
+-- What is unfinished after them.
 unfoldable pub unfinished_after : List ℕ → List ℕ
 unfinished_after bytes = drop (length (joined (whole_lines bytes))) bytes
 
@@ -48,7 +48,7 @@ unfinished_after bytes = drop (length (joined (whole_lines bytes))) bytes
 abbrev pub is_too_long : List ℕ → Bool
 is_too_long rest = nat_le LINE_ROOM (length rest)
 
--- What stands behind the whole lines: what is unfinished, or what is too long.
+-- What stands after the whole lines: what is unfinished, or what is too long.
 abbrev pub tail_after : List ℕ → Tail
 tail_after bytes = if is_too_long (unfinished_after bytes) then Overlong else Unfinished (unfinished_after bytes)
 

@@ -34,7 +34,7 @@ abbrev pub value_given : Option (List ℕ) → Option (Option (List ℕ))
 value_given None = None
 value_given (Some value) = Some (Some value)
 
--- The line is `INSTCMD` of this UPS, answered `OK`, of a session that has given the name and the password of a user with the right to this command; its UPS is usable, and has the command. The order is `INSTCMD name`, with the value behind it where the line gives one.
+-- The line is `INSTCMD` of this UPS, answered `OK`, of a session that has given the name and the password of a user with the right to this command; its UPS is usable, and has the command. The order is `INSTCMD name`, with the value after it where the line gives one.
 pub record IsCommandedByRight (u : UpsId) (bytes : List ℕ) (s : ServerState) (c : ℕ) (line : List ℕ) : Type 0 where
   pub name : List ℕ
   pub value : Option (List ℕ)

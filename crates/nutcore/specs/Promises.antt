@@ -35,7 +35,7 @@ use Rattle.nutcore.specs.declared.ups.Reading.TheVariants.{Done, Unfinished, Too
 use Rattle.nutdriver.specs.Report.{line_changes}
 use Rattle.nutwords.specs.declared.cut.Found.TheVariants as found
 
--- Of what a driver told there is a whole line behind the first k, and it would change the tree.
+-- Of what a driver reported there is a whole line after the first k, and it would change the tree.
 abbrev pub lacks_memory_behind : ℕ → ℕ → List ℕ → UpsState → Bool
 lacks_memory_behind moment k text old = wants_memory_for (slice_get (whole_lines text) k) (after_texts moment (take k (whole_lines text)) old)
 
@@ -46,7 +46,7 @@ ReadsLine moment piece old Unfinished new = Finds old.unfinished piece found.Nee
 ReadsLine moment piece old TooLong new = Finds old.unfinished piece found.TooLong new.unfinished × (new ≡ with_unfinished new.unfinished old)
 ReadsLine moment piece old OutOfMemory new = (line : List ℕ) × (used : ℕ) × FindsLine old.unfinished piece line used × (line_changes old.report.tree line ≡ true) × (after_loss new ≡ after_loss old)
 
--- What a driver told, and its UPS is left with: all whole lines are done, and the rest is unfinished; the driver is lost behind them, where the rest is too long; or it is lost behind k lines, where the next wants memory that is refused.
+-- What a driver reported, and its UPS is left with: all whole lines are done, and the rest is unfinished; the driver is lost after them, where the rest is too long; or it is lost after k lines, where the next wants memory that is refused.
 abbrev pub IsFed : ℕ → List ℕ → UpsState → Result (Unit {0}) Fault → UpsState → Type 0
 IsFed moment text old (Ok u) new = (is_too_long (unfinished_after text) ≡ false) × (new ≡ with_unfinished (unfinished_after text) (after_texts moment (whole_lines text) old))
 IsFed moment text old (Err LineTooLong) new = (is_too_long (unfinished_after text) ≡ true) × (new ≡ after_loss (after_texts moment (whole_lines text) old))
@@ -147,14 +147,14 @@ RepliesOrLacks s c line (Err e) = shares_version_read s c (read_command line) �
 abbrev pub NextIs : ServerState → ℕ → (List ℕ → Type 0) → Type 0
 NextIs s c P = (line : List ℕ) × (next_line_for s c ≡ Some line) × P line
 
--- what a driver told leaves of the server: all its whole lines and the rest, or what its first k lines leave, where the next wants memory that is refused
+-- what a driver reported leaves of the server: all its whole lines and the rest, or what its first k lines leave, where the next wants memory that is refused
 abbrev pub IsTold : UpsId → List ℕ → ServerState → Result (Unit {0}) Fault → ServerState → Type 0
 IsTold u text old (Ok t) new = (is_too_long (unfinished_after text) ≡ false) × (new ≡ after_driver_text u text None old)
 IsTold u text old (Err LineTooLong) new = (is_too_long (unfinished_after text) ≡ true) × (new ≡ after_driver_text u text None old)
 IsTold u text old (Err (Memory k)) new = (wants_driver_memory u text k old ≡ true) × (new ≡ after_driver_text u text (Some k) old)
 IsTold u text old (Err fault) new = ⊥
 
--- the piece is told behind what was unfinished
+-- the piece is told after what was unfinished
 abbrev pub DriverFeedGives : UpsId → List ℕ → ServerState → Result (Unit {0}) Fault → ServerState → Type 0
 DriverFeedGives u piece old result new = (x : UpsState) → ups_at u.place old ≡ Some x → IsTold u (x.unfinished ++ piece) old result new
 
@@ -170,7 +170,7 @@ pub record DriverTakes (u : UpsId) (n : ℕ) (old : ServerState) (result : Resul
   pub taken : IsTaken n before result after
   pub leaves : new ≡ with_ups_changed (λ x. after) u old
 
--- of what is offered now, so many bytes were there before; the lines of those behind them are counted, and none of these is unfinished while a line may be executed
+-- of what is offered now, so many bytes were there before; the lines of those after them are counted, and none of these is unfinished while a line may be executed
 pub record IsCounted (kept : ℕ) (owed : List ℕ) (made : ℕ) : Type 0 where
   pub within : kept ≤ length (take RING_LIMIT owed)
   pub counted : made ≡ lines (drop kept (take RING_LIMIT owed))

@@ -7,7 +7,7 @@ use Rattle.nutanswer.specs.declared.command.Command.{Command}
 use Rattle.nutanswer.specs.declared.err_word.ErrWord.{ErrWord}
 use Rattle.nutanswer.specs.Command.{read_command}
 use Rattle.nutanswer.specs.Answer.{answer_to, shares_version}
-use Rattle.nutcore.specs.Lines.{first_line, behind}
+use Rattle.nutcore.specs.Lines.{first_line, rest_after}
 use Rattle.nutcore.specs.Session.{SessionState, begin_ending}
 use Rattle.nutcore.specs.Server.{ServerState, session, with_session_changed}
 use Rattle.nutcore.specs.Reply.{seen, asker, reply, after_change, too_long_notice}
@@ -25,7 +25,7 @@ pump_stops s c = is_none (next_line_for s c)
 
 -- The session once the line and its LF are taken from its held input, and the answer is joined to what it owes.
 abbrev pub answered : List ℕ → List ℕ → SessionState → SessionState
-answered line text x = record x { held = behind line x.held; owed = x.owed ++ text }
+answered line text x = record x { held = rest_after line x.held; owed = x.owed ++ text }
 
 -- The server once the line of the client c is answered.
 unfoldable pub after_reply : ServerState → ℕ → List ℕ → ServerState

@@ -36,7 +36,7 @@ with_session s y = record s { sessions = put y s.sessions }
 unfoldable pub with_session_changed : (SessionState → SessionState) → ℕ → ServerState → ServerState
 with_session_changed f c s = option_map_or (λ x. with_session s (f x)) (session c s) s
 
--- The greatest age of what a driver told is from 3 to 86,400 seconds (`MAXAGE` of upsd.conf(5)).
+-- The greatest age of what a driver reported is from 3 to 86,400 seconds (`MAXAGE` of upsd.conf(5)).
 abbrev pub read_max_age : ℕ → Option ℕ
 read_max_age seconds = if nat_le MAX_AGE_LEAST seconds && nat_le seconds MAX_AGE_MOST then Some seconds else None
 

@@ -64,7 +64,7 @@ connected moment x = if x.report.connected then x else after_connecting moment x
 abbrev pub disconnected : UpsState → UpsState
 disconnected x = if x.report.connected then after_loss x else x
 
--- Drivers tell. A whole line of a driver is a step of the server, at its moment: it changes the driver's UPS.
+-- Drivers report. A whole line of a driver is a step of the server, at its moment: it changes the driver's UPS.
 unfoldable pub after_driver_line : UpsId → List ℕ → ServerState → ServerState
 after_driver_line u line s = with_ups_changed (λ x. after_text s.moment x line) u s
 
@@ -76,12 +76,12 @@ after_driver_lines u lines s = fold (λ t line. after_driver_line u line t) s li
 abbrev pub with_rest : List ℕ → UpsState → UpsState
 with_rest rest x = if is_too_long rest then after_loss x else with_unfinished rest x
 
--- What a driver told is whole lines and a rest: the server after these lines, with the rest; or, where memory was refused after k of them, after these k, the driver lost.
+-- What a driver reported is whole lines and a rest: the server after these lines, with the rest; or, where memory was refused after k of them, after these k, the driver lost.
 unfoldable pub after_driver_text : UpsId → List ℕ → Option ℕ → ServerState → ServerState
 after_driver_text u text None s = with_ups_changed (with_rest (unfinished_after text)) u (after_driver_lines u (whole_lines text) s)
 after_driver_text u text (Some k) s = with_ups_changed after_loss u (after_driver_lines u (take k (whole_lines text)) s)
 
--- A piece is told behind what was unfinished. Where no driver is connected, nothing changes.
+-- A piece is told after what was unfinished. Where no driver is connected, nothing changes.
 unfoldable pub after_driver_bytes : UpsId → List ℕ → Option ℕ → ServerState → ServerState
 after_driver_bytes u piece m s = option_map_or (λ x. if x.report.connected then after_driver_text u (x.unfinished ++ piece) m s else s) (ups_at u.place s) s
 
@@ -172,7 +172,7 @@ outcome_of s (Feed c piece) = fed_by (session c s) piece (is_overlong (after_all
 outcome_of s (Took c n) = took_by (session c s) n (is_overlong (after_all_lines (without_output s c n) c) c)
 outcome_of s (Close c) = closed_by (session c s)
 
--- There is a whole line behind the first k of what a driver told, and it would change the tree.
+-- There is a whole line after the first k of what a driver reported, and it would change the tree.
 unfoldable pub wants_driver_memory : UpsId → List ℕ → ℕ → ServerState → Bool
 wants_driver_memory u text k s = option_map_or (wants_memory_for (slice_get (whole_lines text) k)) (ups_at u.place (after_driver_lines u (take k (whole_lines text)) s)) false
 

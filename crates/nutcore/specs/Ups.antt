@@ -35,7 +35,7 @@ with_fsd x = record x { fsd = true }
 abbrev pub free_room : UpsState → ℕ
 free_room x = DRIVER_OWED_LIMIT - length x.owed
 
--- Its driver is owed this line, behind what it is owed already.
+-- Its driver is owed this line, after what it is owed already.
 abbrev pub with_order : List ℕ → UpsState → UpsState
 with_order line x = record x { owed = x.owed ++ line }
 

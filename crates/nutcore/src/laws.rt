@@ -42,7 +42,7 @@ pub fn nothing_is_left_to_execute()
     ensures { NothingIsLeftToExecute }
 {}
 
-/// A line is executed only while at most 2,048 bytes are owed to its client, and its answer is joined behind them.
+/// A line is executed only while at most 2,048 bytes are owed to its client, and its answer is joined after them.
 pub fn one_answer_at_most_is_owed_above()
     ensures { OneAnswerAtMostIsOwedAbove }
 {}
@@ -128,7 +128,7 @@ pub fn addresses_are_lawful()
     ensures list { EveryRunKeepsTheList }
 {}
 
-/// The whole lines of what a driver told, and what is behind them, are those into which each text is cut, and of which it
+/// The whole lines of what a driver reported, and what is after them, are those into which each text is cut, and of which it
 /// has one list alone.
 pub fn whole_lines_are_the_cut()
     ensures { WholeLinesAreTheCut }
@@ -182,7 +182,7 @@ pub fn who_takes_gets_everything()
     ensures { WhoTakesGetsEverything }
 {}
 
-/// Given a server, an event and its outcome there is one next server, and but for want of memory
+/// Given a server, an event and its outcome there is one next server, and but where memory is refused
 /// there is one outcome.
 pub fn each_event_is_a_function()
     ensures { EachEventIsAFunction }
@@ -190,7 +190,7 @@ pub fn each_event_is_a_function()
 
 /// The limits, in bytes but for the sessions and the seconds: what a session holds of input; what may be owed to it while
 /// a line is executed; what one offer has; how many sessions are open; what a driver is still to be sent; the greatest age
-/// of what a driver told, its least, its greatest and the one that stands unless another is set.
+/// of what a driver reported, its least, its greatest and the one that stands unless another is set.
 pub fn limits()
     ensures { Limits }
 {}
@@ -215,7 +215,7 @@ pub fn a_refused_event_costs_nothing()
     ensures { ARefusedEventCostsNothing }
 {}
 
-/// Sessions worked out by hand, and what drivers tell in pieces, are what the definitions give.
+/// Sessions worked out by hand, and what drivers report in pieces, are what the definitions give.
 pub fn sessions_worked_by_hand()
     ensures two_variables { TwoVariables }
     ensures empty_listing { EmptyListing }

@@ -1,4 +1,4 @@
-//! How old what a driver told may be.
+//! How old what a driver reported may be.
 ghost use Rattle.std.specs.Prelude.{◌≡◌};
 
 use std::marker::Model;

@@ -138,7 +138,7 @@ impl Server {
         self.list.find(name)
     }
 
-    /// A driver connects. It is owed `DUMPALL`, and what an earlier one told is gone. Takes no
+    /// A driver connects. It is owed `DUMPALL`, and what an earlier one reported is gone. Takes no
     /// memory.
     ///
     /// # Errors
@@ -221,7 +221,7 @@ impl Server {
         self.take_from_driver(u, n)
     }
 
-    /// A driver is lost, and what it told with it. Takes no memory.
+    /// A driver is lost, and what it reported with it. Takes no memory.
     ///
     /// # Errors
     ///

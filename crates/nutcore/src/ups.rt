@@ -1,4 +1,4 @@
-//! A UPS as the server keeps it: its driver's connection, and what the driver told.
+//! A UPS as the server keeps it: its driver's connection, and what the driver reported.
 ghost use Rattle.std.specs.Prelude.{◌≡◌, ◌≢◌, ◌≤◌, length, drop, ◌++◌, [], true, IfOk, IfErr, IsTrue, OnOk, OnErr, Ok, Err};
 ghost use Rattle.nutdriver.specs.Report.{line_changes};
 ghost use Rattle.nutwords.specs.declared.limits.TheConstants.{LINE_LIMIT};
@@ -167,7 +167,7 @@ impl Ups {
         self.owed.try_extend_from_slice(b"DUMPALL\n").unwrap();
     }
 
-    /// Its driver is lost, and what it told with it. Takes no memory.
+    /// Its driver is lost, and what it reported with it. Takes no memory.
     pub(crate) fn disconnect(&mut self)
         ensures { self.new ≡ after_loss self.old }
     {
@@ -203,7 +203,7 @@ impl Ups {
         loop {
             match self.read_line(moment, rest) {
                 Reading::Done(used) => {
-                    rest = behind(rest, used);
+                    rest = unused(rest, used);
                     done += 1;
                 }
                 Reading::Unfinished => return Ok(()),
@@ -271,7 +271,7 @@ impl Ups {
 }
 
 /// What a cut leaves of a piece.
-fn behind(piece: &[u8], used: usize) -> &[u8]
+fn unused(piece: &[u8], used: usize) -> &[u8]
     requires { used ≤ length piece.now }
     ensures { result.now ≡ drop used piece.now }
 {

@@ -10,7 +10,7 @@ pub read_more : (n : ℕ) (line : List ℕ) (xs rest : List (List ℕ)) (meaning
 read_more n line xs rest meaning before after all e t a h =
     grind (arith, common_steps, e, t, a, h)
 
--- the first bad line is behind one that isn't bad
+-- the first bad line is after one that isn't bad
 pub bad_more : (n : ℕ) (line : List ℕ) (xs rest : List (List ℕ)) (meaning : Meaning) (first : Option ℕ) → xs ≡ line ∷ rest → meaning ≡ read_line line → is_bad meaning ≡ false → bad_line_from n xs ≡ first → bad_line_from (n + 1) rest ≡ first
 bad_more n line xs rest meaning first e t b h = grind (arith, common_steps, e, t, b, h)
 

@@ -16,7 +16,7 @@ use Rattle.nutreplay.specs.declared.script.Meaning.{Meaning}
 use Rattle.nutreplay.specs.declared.script.Meaning.TheVariants.{Nothing, Does, Bad}
 use Rattle.nutreplay.specs.declared.script.ScriptLine.{ScriptLine}
 
--- The bytes before the first space, and those behind it.
+-- The bytes before the first space, and those after it.
 abbrev pub split_at_space : List ℕ → Option (List ℕ × List ℕ)
 split_at_space line = option_map (λ i. (take i line, drop (i + 1) line)) (position (λ b. b == 32) line)
 
@@ -48,7 +48,7 @@ ups_name text = result_ok (read_ups_name text)
 abbrev pub address : List ℕ → Option (List ℕ)
 address text = result_ok (read_address text)
 
--- The first argument, and the REST: all further bytes behind one space.
+-- The first argument, and the REST: all further bytes after one space.
 abbrev pub with_rest : {A : Type 0} → (List ℕ → Option A) → Option (List ℕ × List ℕ) → Option (A × List ℕ)
 with_rest read None = None
 with_rest read (Some parts) = option_map (λ first. (first, parts.1)) (read parts.0)
@@ -93,7 +93,7 @@ abbrev pub client_hex_by : Option (ℕ × List ℕ) → Option Action
 client_hex_by None = None
 client_hex_by (Some parts) = client_hex parts.0 parts.1
 
--- What a verb asks for, with the bytes behind its space.
+-- What a verb asks for, with the bytes after its space.
 abbrev pub action_of : Verb → List ℕ → Option Action
 action_of Up text = option_map (λ u. DriverUp u) (ups_name text)
 action_of Down text = option_map (λ u. DriverDown u) (ups_name text)

@@ -177,7 +177,7 @@ fn read_action(alloc: Global, line: &[u8]) -> Result<Option<Action>, AllocError>
     }
 }
 
-/// What a verb asks for, with the bytes behind its space.
+/// What a verb asks for, with the bytes after its space.
 fn action_of(alloc: Global, verb: Verb, text: &[u8]) -> Result<Option<Action>, AllocError>
     ensures { IfOk result (λ action. action ≡ action_of verb text.now) }
 {
@@ -278,7 +278,7 @@ fn hex_bytes(alloc: Global, digits: &[u8]) -> Result<Option<Bytes>, AllocError>
     }
 }
 
-/// The name of a UPS and the bytes behind the space that follows it.
+/// The name of a UPS and the bytes after the space that follows it.
 fn ups_and_rest(text: &[u8]) -> Option<(UpsName, &[u8])>
     ensures { MatchOption result (ups_and_rest text.now ≡ None)
         (λ p. ups_and_rest text.now ≡ Some (p.0, p.1.now)) }
@@ -288,7 +288,7 @@ fn ups_and_rest(text: &[u8]) -> Option<(UpsName, &[u8])>
     Some((ups, rest))
 }
 
-/// A client's id and the bytes behind the space that follows it.
+/// A client's id and the bytes after the space that follows it.
 fn client_and_rest(text: &[u8]) -> Option<(ClientId, &[u8])>
     ensures { MatchOption result (client_and_rest text.now ≡ None)
         (λ p. client_and_rest text.now ≡ Some (p.0, p.1.now)) }
@@ -304,7 +304,7 @@ fn ups_name(text: &[u8]) -> Option<UpsName>
     UpsName::read(text).ok()
 }
 
-/// The bytes before the first space and those behind it.
+/// The bytes before the first space and those after it.
 fn split_at_space(line: &[u8]) -> Option<(&[u8], &[u8])>
     ensures { MatchOption result (split_at_space line.now ≡ None)
         (λ p. split_at_space line.now ≡ Some (p.0.now, p.1.now)) }

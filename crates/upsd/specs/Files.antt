@@ -6,7 +6,7 @@ use Rattle.clap.specs.Matches.{found_of}
 use Rattle.clap.specs.declared.parser.matches.ArgMatches.{ArgMatches}
 use Rattle.upsd.specs.declared.files.Files.{Files}
 
--- The files are those that the words name behind --ups, --users and --vars.
+-- The files are those that the words name after --ups, --users and --vars.
 pub record AreNamedIn (found : ArgMatches) (files : Files) : Type 0 where
   pub ups : option_map (λ s. s.now) files.ups ≡ first_value (found_of found) (codes "ups")
   pub users : option_map (λ s. s.now) files.users ≡ first_value (found_of found) (codes "users")

@@ -161,7 +161,7 @@ fn finish(rt: &HostRuntime, ended: &Result<(), Ending<'_>>) -> ExitCode
     ExitCode::from(status_of(ended))
 }
 
-/// Ends the program for want of memory.
+/// Ends the program where memory is refused.
 fn end_without_memory(rt: &HostRuntime) -> ExitCode
     ensures { exit_status result ≡ FAULT }
 {

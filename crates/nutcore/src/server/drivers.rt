@@ -60,7 +60,7 @@ impl Server {
         ups.connect(self.moment);
     }
 
-    /// Takes the driver from the UPS, and what it told.
+    /// Takes the driver from the UPS, and what it reported.
     pub(super) fn disconnect(&mut self, u: UpsId)
         requires { u.place < length self.old.state.upses }
         ensures loses { self.new.state ≡ with_ups_changed after_loss u self.old.state }

@@ -102,7 +102,7 @@ impl Server {
         session.refuse_overlong(&mut self.scratch)
     }
 
-    /// Executes the session's lines, and counts as placed what is offered then behind so many bytes, which were offered
+    /// Executes the session's lines, and counts as placed what is offered then after so many bytes, which were offered
     /// before.
     pub(super) fn serve(&mut self, c: ClientId, place: usize, kept: usize) -> Result<(), Fault>
         requires at { IsAt c place self.old.state.sessions }

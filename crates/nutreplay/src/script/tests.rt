@@ -9,7 +9,7 @@ fn fault_of(alloc: Global, script: &[u8]) -> Option<ReplayFault> {
     read_script(alloc, script).err()
 }
 
-/// The fault of the line behind two good ones.
+/// The fault of the line after two good ones.
 fn fault_behind_two(alloc: Global, line: &[u8]) -> Result<Option<ReplayFault>, AllocError> {
     let mut script = Vec::new(alloc);
     script.extend_from_slice(b"up su\n# fine\n")?;

@@ -14,9 +14,9 @@ loop-used-preserved c =
     let text : List ℕ = c.args.self.now.unfinished ++ c.args.piece.now in
     record {
       at =
-          subst (λ (bytes : List ℕ). IsAtLine c.args.moment (c.loop-used.done + 1) text c.args.self.now c.read_line.new.self bytes) (sym c.behind-rest.ensures)
+          subst (λ (bytes : List ℕ). IsAtLine c.args.moment (c.loop-used.done + 1) text c.args.self.now c.read_line.new.self bytes) (sym c.unused-rest.ensures)
           (goes_on c.args.moment c.loop-used.done c.in-Done.used text c.args.self.now c.loop-used.self c.read_line.new.self c.loop-used.rest.now read.0 c.loop-used.invariant.at read.1 read.2);
-      left = omega (arith, read.1.1, read.1.2, c.loop-used.invariant.left, ap length c.behind-rest.ensures, length-drop c.in-Done.used c.loop-used.rest.now);
+      left = omega (arith, read.1.1, read.1.2, c.loop-used.invariant.left, ap length c.unused-rest.ensures, length-drop c.in-Done.used c.loop-used.rest.now);
     }
 
 pub returns-in-Unfinished : goal.returns-in-Unfinished
