@@ -10,7 +10,7 @@ use Rattle.std.proofs.lemmas.Grind.{common_steps}
 use Rattle.nutreplay.specs.declared.script.ScriptLine.{ScriptLine}
 use Rattle.nutusers.specs.UpsList.{Ups}
 use Rattle.nutreplay.specs.Transcript.{TranscriptState, IsDone, AreDone, driver_part, drivers_part}
-use Rattle.nutreplay.specs.declared.transcript.Taken.{Taken}
+use Rattle.nutreplay.specs.declared.transcript.sent.Taken.{Taken}
 
 -- one more line is done
 pub AreDone-push : (lines : List ScriptLine) (line : ScriptLine) (old mid new : TranscriptState) → AreDone lines old mid → IsDone line.number line.action mid new → AreDone (lines ++ line ∷ []) old new

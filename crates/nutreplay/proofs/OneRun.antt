@@ -20,10 +20,10 @@ use Rattle.nutcore.specs.declared.event.Peer.{Peer}
 use Rattle.nutcore.specs.declared.event.Peer.TheVariants.{Client, Driver}
 use Rattle.nutcore.specs.DriverOrders.{all_taken as driver_taken, taken_in_event as driver_taken_in_event, owed_to_driver}
 use Rattle.nutcore.specs.History.{taken, taken_in_event, owed}
-use Rattle.nutreplay.specs.declared.script.Action.{Action}
-use Rattle.nutreplay.specs.declared.script.Action.TheVariants as asked
+use Rattle.nutreplay.specs.declared.script.action.Action.{Action}
+use Rattle.nutreplay.specs.declared.script.action.Action.TheVariants as asked
 use Rattle.nutreplay.specs.declared.script.ScriptLine.{ScriptLine}
-use Rattle.nutreplay.specs.declared.transcript.Taken.{Taken}
+use Rattle.nutreplay.specs.declared.transcript.sent.Taken.{Taken}
 use Rattle.nutreplay.specs.Script.{actions_of}
 use Rattle.nutreplay.specs.Transcript.{TranscriptState, new_transcript, Happens, HappensTo, TakesAgain, all_taken, again, IsDone, AreDone, IsOutput, ups_named, count_offered, count_owed, sent_to, taken_by, opened_by}
 use Rattle.nutreplay.proofs.Taking.{when_true, when_false}

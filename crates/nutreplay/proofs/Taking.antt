@@ -18,7 +18,7 @@ use Rattle.nutcore.specs.Calls.{is_connected, owed_to}
 use Rattle.nutcore.specs.DriverOrders.{taken_in_event as driver_taken_in_event, owed_to_driver}
 use Rattle.nutcore.specs.History.{owed, taken_in_event}
 use Rattle.nutcore.specs.declared.event.Event.TheVariants.{Took, DriverTook}
-use Rattle.nutreplay.specs.declared.transcript.Taken.{Taken}
+use Rattle.nutreplay.specs.declared.transcript.sent.Taken.{Taken}
 use Rattle.nutreplay.specs.Transcript.{TranscriptState, Happens, TakesAgain, count_offered}
 use Rattle.nutreplay.specs.Transcript.TakesAgain.{again}
 

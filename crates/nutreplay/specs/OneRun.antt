@@ -13,8 +13,8 @@ use Rattle.nutcore.specs.Server.{ServerState, new_server}
 use Rattle.nutcore.specs.Run.{Run}
 use Rattle.nutcore.specs.History.{taken, answers, owed, is_closed}
 use Rattle.nutcore.specs.DriverOrders.{all_taken as driver_taken}
-use Rattle.nutreplay.specs.declared.script.Action.{Action}
-use Rattle.nutreplay.specs.declared.script.Action.TheVariants as asked
+use Rattle.nutreplay.specs.declared.script.action.Action.{Action}
+use Rattle.nutreplay.specs.declared.script.action.Action.TheVariants as asked
 use Rattle.nutreplay.specs.declared.script.ScriptLine.{ScriptLine}
 use Rattle.nutreplay.specs.Script.{actions_of}
 use Rattle.nutreplay.specs.Transcript.{TranscriptState, new_transcript, Happens, HappensTo, TakesAgain, all_taken, again, IsDone, AreDone, IsOutput, ups_named, opened_by, count_offered, count_owed, sent_to}

@@ -8,10 +8,10 @@ use Rattle.nutwords.specs.Natural.{read_natural}
 use Rattle.nutwords.specs.Reading.{read_ups_name, read_address}
 use Rattle.nutwords.specs.Text.{lines_of, is_silent}
 use Rattle.nutcore.specs.Lines.{with_lf}
-use Rattle.nutreplay.specs.declared.script.Action.{Action}
-use Rattle.nutreplay.specs.declared.script.Action.TheVariants.{DriverUp, DriverBytes, DriverTook, DriverTookAll, DriverDown, Tick, Open, Feed, Took, TookAll, Close}
-use Rattle.nutreplay.specs.declared.script.Verb.{Verb}
-use Rattle.nutreplay.specs.declared.script.Verb.TheVariants.{Up, Down, Driver, DriverPart, DriverHex, DriverTookBy, TickTo, OpenFrom, Client, Part, ClientHex, TookBy, CloseOf}
+use Rattle.nutreplay.specs.declared.script.action.Action.{Action}
+use Rattle.nutreplay.specs.declared.script.action.Action.TheVariants.{DriverUp, DriverBytes, DriverTook, DriverTookAll, DriverDown, Tick, Open, Feed, Took, TookAll, Close}
+use Rattle.nutreplay.specs.declared.script.action.Verb.{Verb}
+use Rattle.nutreplay.specs.declared.script.action.Verb.TheVariants.{Up, Down, Driver, DriverPart, DriverHex, DriverTookBy, TickTo, OpenFrom, Client, Part, ClientHex, TookBy, CloseOf}
 use Rattle.nutreplay.specs.declared.script.Meaning.{Meaning}
 use Rattle.nutreplay.specs.declared.script.Meaning.TheVariants.{Nothing, Does, Bad}
 use Rattle.nutreplay.specs.declared.script.ScriptLine.{ScriptLine}

@@ -22,10 +22,10 @@ use Rattle.nutcore.specs.Step.{Step, offered}
 use Rattle.nutcore.specs.History.{taken_in_event}
 use Rattle.nutcore.specs.DriverOrders.{taken_in_event as driver_taken_in_event}
 use Rattle.nutcore.specs.Calls.{owed_to}
-use Rattle.nutreplay.specs.declared.script.Action.{Action}
-use Rattle.nutreplay.specs.declared.script.Action.TheVariants as asked
+use Rattle.nutreplay.specs.declared.script.action.Action.{Action}
+use Rattle.nutreplay.specs.declared.script.action.Action.TheVariants as asked
 use Rattle.nutreplay.specs.declared.script.ScriptLine.{ScriptLine}
-use Rattle.nutreplay.specs.declared.transcript.Taken.{Taken}
+use Rattle.nutreplay.specs.declared.transcript.sent.Taken.{Taken}
 use Rattle.nutreplay.specs.Script.{actions_of}
 
 -- A transcript after the events so far. server: what they left. text: the notes of them. clients: the ids, in the order of opening. taken: what clients and drivers took, in order.

@@ -1,12 +1,14 @@
-//! The server of a replayed script, and the transcript of its events.
-ghost use Rattle.std.specs.Prelude.{◌≡◌, ◌++◌, ◌-◌, ◌<◌, ◌^◌, [], length, slice_get, nat_lt, if◌then◌else◌, IfOk, OnOk};
-ghost use Rattle.std.specs.List.{flat_map};
+//! The server of a replayed script, and the transcript of its events: what is noted of each, and what was sent.
+ghost use Rattle.std.specs.Prelude.{◌≡◌, ◌++◌, ◌-◌, ◌<◌, ◌^◌, [], length, nat_lt, if◌then◌else◌, IfOk, OnOk};
 ghost use Rattle.nutcore.specs.Step.{Step, offered};
 ghost use Rattle.nutcore.specs.Server.{session, ups_at};
 ghost use Rattle.nutcore.specs.History.{taken_in_event};
 ghost use Rattle.nutcore.specs.DriverOrders.{taken_in_event as driver_taken_in_event};
-ghost use Rattle.nutreplay.specs.Transcript.{new_transcript, note_of_refusal, note_of_held, held_count, held_total, note_of, opened_by, taken_by, taken_of, Happens, TakesAll, IsDone, AreDone, count_offered, count_owed, owed_of, is_same, sent_to, ending_of, sent_part, client_part, driver_part, drivers_part, whole_text};
+ghost use Rattle.nutreplay.specs.Transcript.{new_transcript, note_of_refusal, note_of_held, held_count, held_total, note_of, opened_by, taken_by, taken_of, Happens, TakesAll, IsDone, AreDone, count_offered, count_owed, owed_of, whole_text};
 
+mod sent;
+
+use self::sent::{Taken, write_clients, write_drivers};
 use crate::script::{Action, ScriptLine};
 use nutcore::{
     Bytes, ClientId, Descriptions, Event, Fault, MaxAge, Outcome, Peer, Server, UpsId, UpsList,
@@ -15,13 +17,6 @@ use nutcore::{
 use std::alloc::{AllocError, Global};
 use std::marker::Model;
 use std::slice;
-
-/// What a client or a driver took by one event.
-#[derive(Debug, Drop)]
-pub struct Taken {
-    pub peer: Peer,
-    pub bytes: Bytes,
-}
 
 /// The server, and what is noted of the events so far.
 #[derive(Drop)]
@@ -328,105 +323,4 @@ fn driver_bytes_taken(
         }
     }
     Ok(taken)
-}
-
-/// What was sent to each client, in the order of opening.
-fn write_clients(
-    alloc: Global,
-    clients: &[ClientId],
-    taken: &[Taken],
-    text: &mut Vec<u8>,
-) -> Result<(), AllocError>
-    ensures { OnOk result (text.new.items
-        ≡ text.old.items ++ flat_map (client_part taken.now) clients.now) }
-{
-    for c in clients {
-        let sent = sent_to(alloc, Peer::Client(*c), taken)?;
-        let peer = format!(in alloc; "client {c}")?;
-        write_part(alloc, peer.as_bytes(), &sent, text)?;
-    }
-    Ok(())
-}
-
-/// The bytes that the client or the driver took, in order.
-fn sent_to(alloc: Global, peer: Peer, taken: &[Taken]) -> Result<Vec<u8>, AllocError>
-    ensures { IfOk result (λ sent. sent.items ≡ sent_to peer taken.now) }
-{
-    let mut sent = Vec::new(alloc);
-    for t in taken {
-        if is_same(t.peer, peer) {
-            sent.extend_from_slice(t.bytes.as_slice())?;
-        }
-    }
-    Ok(sent)
-}
-
-fn is_same(one: Peer, other: Peer) -> bool
-    ensures { result ≡ is_same one other }
-{
-    match (one, other) {
-        (Peer::Client(c), Peer::Client(d)) => c == d,
-        (Peer::Driver(u), Peer::Driver(v)) => u.place == v.place,
-        (Peer::Client(_), Peer::Driver(_)) => false,
-        (Peer::Driver(_), Peer::Client(_)) => false,
-    }
-}
-
-/// What was sent to the driver of each UPS of the list.
-fn write_drivers(
-    alloc: Global,
-    list: &UpsList,
-    taken: &[Taken],
-    text: &mut Vec<u8>,
-) -> Result<(), AllocError>
-    ensures { OnOk result (text.new.items ≡ text.old.items ++ drivers_part taken.now 0 list.now) }
-{
-    for place in 0..list.len() {
-        let u = UpsId { place: place as u8 };
-        let Some(name) = list.name(u) else {
-            unreachable!()
-        };
-        write_driver(alloc, u, name.as_bytes(), taken, text)?;
-    }
-    Ok(())
-}
-
-/// What was sent to the driver of the UPS of this name.
-fn write_driver(
-    alloc: Global,
-    u: UpsId,
-    name: &[u8],
-    taken: &[Taken],
-    text: &mut Vec<u8>,
-) -> Result<(), AllocError>
-    ensures { OnOk result (text.new.items
-        ≡ text.old.items ++ driver_part taken.now u.place name.now) }
-{
-    let mut peer = Vec::new(alloc);
-    peer.extend_from_slice(b"driver ")?;
-    peer.extend_from_slice(name)?;
-    let sent = sent_to(alloc, Peer::Driver(u), taken)?;
-    write_part(alloc, &peer, &sent, text)
-}
-
-/// What was sent to one peer: how many bytes, these, and an LF more unless they end with one.
-fn write_part(alloc: Global, peer: &[u8], sent: &[u8], text: &mut Vec<u8>) -> Result<(), AllocError>
-    ensures { OnOk result (text.new.items ≡ text.old.items ++ sent_part peer.now sent.now) }
-{
-    let count = sent.len();
-    let counted = format!(in alloc; " sent {count} bytes\n")?;
-    text.extend_from_slice(peer)?;
-    text.extend_from_slice(counted.as_bytes())?;
-    text.extend_from_slice(sent)?;
-    text.extend_from_slice(ending_of(sent))
-}
-
-/// An LF, unless there is nothing to end or it ends with one.
-fn ending_of(sent: &[u8]) -> &'static [u8]
-    ensures { result.now ≡ ending_of (slice_get sent.now (length sent.now - 1)) }
-{
-    match sent.last() {
-        Some(b) if *b != b'\n' => b"\n",
-        _ => b"",
-    }
 }

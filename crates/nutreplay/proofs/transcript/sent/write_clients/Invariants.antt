@@ -1,7 +1,7 @@
 use Rattle.std.proofs.Common.{◌≡◌, ◌++◌, take}
 use Rattle.std.specs.List.{flat_map}
 use Rattle.nutreplay.specs.Transcript.{client_part}
-use Rattle.nutreplay.proofs.transcript.write_clients.Given as goal
+use Rattle.nutreplay.proofs.transcript.sent.write_clients.Given as goal
 
 -- the clients so far are written
 abbrev pub invariant-loop-c : goal.invariant-loop-c

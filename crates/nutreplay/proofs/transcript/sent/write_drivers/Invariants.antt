@@ -1,6 +1,6 @@
 use Rattle.std.proofs.Common.{◌≡◌, ◌++◌, drop}
 use Rattle.nutreplay.specs.Transcript.{drivers_part}
-use Rattle.nutreplay.proofs.transcript.write_drivers.Given as goal
+use Rattle.nutreplay.proofs.transcript.sent.write_drivers.Given as goal
 
 -- what is written, followed by the UPSs that are left, is all
 abbrev pub invariant-loop-place : goal.invariant-loop-place

@@ -1,6 +1,6 @@
 use Rattle.std.proofs.Common.{arith, sym}
 use Rattle.nutreplay.proofs.Doing.{more_drivers, all_drivers}
-use Rattle.nutreplay.proofs.transcript.write_drivers.Goals as goal
+use Rattle.nutreplay.proofs.transcript.sent.write_drivers.Goals as goal
 
 pub loop-place-preserved : goal.loop-place-preserved
 loop-place-preserved c =
