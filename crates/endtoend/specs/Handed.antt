@@ -55,7 +55,7 @@ module _ {R W O : Type 0} (remaining : R → Option (List ℕ)) (failures : R �
       (s : ServerState) (client : ℕ) (words : Bor (List ℕ)) (place : UpsPlace) (line : List ℕ) (known : KnownUps) (more : List ℕ)
       → job_of (Variables words) ≡ Some (parts_of job) → ups_place_of words.now ≡ Some place
       → IsUsable s place.0 known → IsLineOf (ListOf (queries.Var place.0)) line
-      → IsHanded ((reply s client line) ++ more) r → IsPrinted (variable_lines known) r
+      → IsHanded (reply s client line ++ more) r → IsPrinted (variable_lines known) r
 
   -- `upsc ups variable`, handed the answer to GET VAR, prints the variable's value.
   abbrev pub PrintsTheVariable : Job → ProgramRun R W O → Type 0
@@ -63,7 +63,7 @@ module _ {R W O : Type 0} (remaining : R → Option (List ℕ)) (failures : R �
       (s : ServerState) (client : ℕ) (words name : Bor (List ℕ)) (place : UpsPlace) (line : List ℕ) (known : KnownUps) (variable : VariableState) (more : List ℕ)
       → job_of (Variable words name) ≡ Some (parts_of job) → ups_place_of words.now ≡ Some place
       → IsUsable s place.0 known → HasVariable known name.now variable → IsLineOf (GetVar place.0 name.now) line
-      → IsHanded ((reply s client line) ++ more) r → IsPrinted (with_lf (shown known.state.fsd name.now variable)) r
+      → IsHanded (reply s client line ++ more) r → IsPrinted (with_lf (shown known.state.fsd name.now variable)) r
 
   -- `upsrw ups`, handed the answer to LIST RW, prints a line for each variable of the UPS that may be set.
   abbrev pub PrintsTheSettings : Job → ProgramRun R W O → Type 0
@@ -71,7 +71,7 @@ module _ {R W O : Type 0} (remaining : R → Option (List ℕ)) (failures : R �
       (s : ServerState) (client : ℕ) (words : Bor (List ℕ)) (place : UpsPlace) (line : List ℕ) (known : KnownUps) (more : List ℕ)
       → job_of (Writable words) ≡ Some (parts_of job) → ups_place_of words.now ≡ Some place
       → IsUsable s place.0 known → IsLineOf (ListOf (queries.Rw place.0)) line
-      → IsHanded ((reply s client line) ++ more) r → IsPrinted (setting_lines known) r
+      → IsHanded (reply s client line ++ more) r → IsPrinted (setting_lines known) r
 
   -- `upscmd -l ups`, handed the answer to LIST CMD, prints a line for each command of the UPS.
   abbrev pub PrintsTheCommands : Job → ProgramRun R W O → Type 0
@@ -79,7 +79,7 @@ module _ {R W O : Type 0} (remaining : R → Option (List ℕ)) (failures : R �
       (s : ServerState) (client : ℕ) (words : Bor (List ℕ)) (place : UpsPlace) (line : List ℕ) (known : KnownUps) (more : List ℕ)
       → job_of (Commands words) ≡ Some (parts_of job) → ups_place_of words.now ≡ Some place
       → IsUsable s place.0 known → IsLineOf (ListOf (queries.Cmd place.0)) line
-      → IsHanded ((reply s client line) ++ more) r → IsPrinted (command_lines known) r
+      → IsHanded (reply s client line ++ more) r → IsPrinted (command_lines known) r
 
   -- `upsc -l` and `upsc -L`, handed the answer to LIST UPS, print a line for each UPS of the server's list.
   abbrev pub PrintsTheNames : Job → ProgramRun R W O → Type 0
@@ -87,11 +87,11 @@ module _ {R W O : Type 0} (remaining : R → Option (List ℕ)) (failures : R �
       (s : ServerState) (client : ℕ) (server : Option (Bor (List ℕ))) (line more : List ℕ)
       → job_of (Upses server) ≡ Some (parts_of job)
       → IsLawfulList s.list → IsLineOf (ListOf queries.Ups) line
-      → IsHanded ((reply s client line) ++ more) r → IsPrinted (name_lines s.list) r
+      → IsHanded (reply s client line ++ more) r → IsPrinted (name_lines s.list) r
 
   abbrev pub PrintsTheDescriptions : Job → ProgramRun R W O → Type 0
   PrintsTheDescriptions job r =
       (s : ServerState) (client : ℕ) (server : Option (Bor (List ℕ))) (line more : List ℕ)
       → job_of (Descriptions server) ≡ Some (parts_of job)
       → IsLawfulList s.list → IsLineOf (ListOf queries.Ups) line
-      → IsHanded ((reply s client line) ++ more) r → IsPrinted (description_lines s.list) r
+      → IsHanded (reply s client line ++ more) r → IsPrinted (description_lines s.list) r

@@ -37,7 +37,7 @@ pub record IsByRight (s : ServerState) (c : ℕ) (line : List ℕ) (of_ups : Opt
   pub username_given : (asker c s).username ≡ Some name
   pub password_given : (asker c s).password ≡ Some password
   pub granted : may s.users name password right ≡ true
-  pub answered : (reply s c line) ≡ text_line answer
+  pub answered : reply s c line ≡ text_line answer
 
 -- It sets the forced shutdown of this UPS by right: `FSD u`, answered `OK FSD-SET`.
 abbrev pub SetsShutdownByRight : UpsId → Execution → Type 0
@@ -74,12 +74,12 @@ ALoginIsByRight =
 
 -- This line of the client gives this user name: `USERNAME name`, answered `OK`.
 abbrev pub GivesUsername : ℕ → List ℕ → Execution → Type 0
-GivesUsername c name (of_line s d line) = (d ≡ c) × (read_command line ≡ Ok (Some (Username (Some name)))) × ((reply s d line) ≡ text_line (codes "OK" ∷ []))
+GivesUsername c name (of_line s d line) = (d ≡ c) × (read_command line ≡ Ok (Some (Username (Some name)))) × (reply s d line ≡ text_line (codes "OK" ∷ []))
 GivesUsername c name (of_notice d) = ⊥
 
 -- The same of a password.
 abbrev pub GivesPassword : ℕ → List ℕ → Execution → Type 0
-GivesPassword c password (of_line s d line) = (d ≡ c) × (read_command line ≡ Ok (Some (Password (Some password)))) × ((reply s d line) ≡ text_line (codes "OK" ∷ []))
+GivesPassword c password (of_line s d line) = (d ≡ c) × (read_command line ≡ Ok (Some (Password (Some password)))) × (reply s d line ≡ text_line (codes "OK" ∷ []))
 GivesPassword c password (of_notice d) = ⊥
 
 -- The user name and the password with which a line is executed were given by lines of its client, executed before it.
@@ -100,6 +100,6 @@ logged_in u s = filter (is_logged_in_of u) s.sessions
 -- What is counted is who is there: `GET NUMLOGINS` tells the number of the sessions that are logged in to the UPS, and `LIST CLIENT` lists exactly these, by their addresses.
 pub record WhatIsCountedIsWhoIsThere : Type 0 where
   pub counted : (s : ServerState) (c : ℕ) (line : List ℕ) (ups : Option (List ℕ)) (known : KnownUps) → read_command line ≡ Ok (Some (GetNumLogins ups)) → ups_named (seen s) ups ≡ Some known
-      → (reply s c line) ≡ text_line (codes "NUMLOGINS" ∷ known.name ∷ decimal (length (logged_in known.id s)) ∷ [])
+      → reply s c line ≡ text_line (codes "NUMLOGINS" ∷ known.name ∷ decimal (length (logged_in known.id s)) ∷ [])
   pub listed : (s : ServerState) (c : ℕ) (line : List ℕ) (ups : Option (List ℕ)) (known : KnownUps) → read_command line ≡ Ok (Some (ListClient ups)) → ups_named (seen s) ups ≡ Some known
-      → (reply s c line) ≡ frame (codes "CLIENT") (known.name ∷ []) (map (λ x. client_item known.name x.address) (logged_in known.id s))
+      → reply s c line ≡ frame (codes "CLIENT") (known.name ∷ []) (map (λ x. client_item known.name x.address) (logged_in known.id s))

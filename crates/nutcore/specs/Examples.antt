@@ -58,7 +58,7 @@ pub record TakenInFour : Type 0 where
 
 -- What client 1 is answered to a line.
 abbrev pub told : ServerState → List ℕ → List ℕ
-told s line = (reply s 1 line)
+told s line = reply s 1 line
 
 -- What a driver reports is whole lines, of which one may be empty, and a rest. A line has at most 1,023 bytes: where an LF is byte 1,025, it is too late.
 pub record CutLines : Type 0 where

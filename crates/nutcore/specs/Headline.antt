@@ -104,9 +104,9 @@ OneAnswerAtMostIsOwedAbove = (s : ServerState) (c : ℕ) (line : List ℕ) → n
 -- The text that answers a listing's line is BEGIN, exactly the items that the server has then, and END. Of LIST VAR, of a UPS that is usable, they are the variables that it holds.
 pub record AListingIsWhatIsHeld : Type 0 where
   pub framed : (s : ServerState) (c : ℕ) (line : List ℕ) (command : Command) (l : ListingState) → read_command line ≡ Ok (Some command) → answer_to (seen s) (asker c s) command ≡ Ok (listing l)
-      → (reply s c line) ≡ frame l.kind l.names l.items
+      → reply s c line ≡ frame l.kind l.names l.items
   pub variables : (s : ServerState) (c : ℕ) (line ups : List ℕ) (known : KnownUps) → read_command line ≡ Ok (Some (ListVar (Some ups))) → ups_named (seen s) (Some ups) ≡ Some known → readiness s.moment s.max_age known.state.report ≡ usable
-      → (reply s c line) ≡ frame (codes "VAR") (known.name ∷ []) (map (variable_item (codes "VAR") known.name known.state.fsd) known.state.report.tree.variables)
+      → reply s c line ≡ frame (codes "VAR") (known.name ∷ []) (map (variable_item (codes "VAR") known.name known.state.fsd) known.state.report.tree.variables)
 
 -- A whole line that is refused, by an answer that begins with ERR, changes nothing but its own session's held and owed bytes.
 abbrev pub ARefusedLineChangesNothing : Type 0

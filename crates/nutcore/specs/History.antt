@@ -23,7 +23,7 @@ client_of (of_notice c) = c
 
 -- The text that was joined to what the client is owed.
 abbrev pub text_of : Execution → List ℕ
-text_of (of_line s c line) = (reply s c line)
+text_of (of_line s c line) = reply s c line
 text_of (of_notice c) = too_long_notice
 
 -- The executed line, with its LF.
