@@ -81,7 +81,7 @@ unfoldable pub after_driver_text : UpsId → List ℕ → Option ℕ → ServerS
 after_driver_text u text None s = with_ups_changed (with_rest (unfinished_after text)) u (after_driver_lines u (whole_lines text) s)
 after_driver_text u text (Some k) s = with_ups_changed after_loss u (after_driver_lines u (take k (whole_lines text)) s)
 
--- A piece is told after what was unfinished. Where no driver is connected, nothing changes.
+-- A piece is read after what was unfinished. Where no driver is connected, nothing changes.
 unfoldable pub after_driver_bytes : UpsId → List ℕ → Option ℕ → ServerState → ServerState
 after_driver_bytes u piece m s = option_map_or (λ x. if x.report.connected then after_driver_text u (x.unfinished ++ piece) m s else s) (ups_at u.place s) s
 

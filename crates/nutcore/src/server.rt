@@ -418,18 +418,18 @@ impl Server {
         ensures cost { Costs self.old event.now self.new }
     {
         match event {
-            Event::DriverUp(u) => outcome_of(self.driver_up(*u)),
-            Event::DriverBytes(u, bytes) => outcome_of(self.driver_bytes(*u, bytes.as_slice())),
-            Event::DriverTook(u, n) => outcome_of(self.driver_took(*u, *n)),
-            Event::DriverDown(u) => outcome_of(self.driver_down(*u)),
+            Event::DriverUp(u) => done(self.driver_up(*u)),
+            Event::DriverBytes(u, bytes) => done(self.driver_bytes(*u, bytes.as_slice())),
+            Event::DriverTook(u, n) => done(self.driver_took(*u, *n)),
+            Event::DriverDown(u) => done(self.driver_down(*u)),
             Event::Tick(seconds) => self.tick_at(*seconds),
             Event::Open(address) => self.open_at(address),
             Event::Feed(c, bytes) => match self.feed(*c, bytes.as_slice()) {
                 Ok(n) => Outcome::Fed(n),
                 Err(fault) => Outcome::Refused(fault),
             },
-            Event::Took(c, n) => outcome_of(self.took(*c, *n)),
-            Event::Close(c) => outcome_of(self.close(*c)),
+            Event::Took(c, n) => done(self.took(*c, *n)),
+            Event::Close(c) => done(self.close(*c)),
         }
     }
 
@@ -485,7 +485,7 @@ impl Server {
     }
 }
 
-fn outcome_of(answer: Result<(), Fault>) -> Outcome
+fn done(answer: Result<(), Fault>) -> Outcome
     ensures { result ≡ done answer }
 {
     match answer {

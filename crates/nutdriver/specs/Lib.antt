@@ -7,6 +7,6 @@ pub mod DriverLine
 pub mod Variable
 pub mod Tree
 pub mod DriverStep
-pub mod Answers
+pub mod Promises
 pub mod Report
 pub mod Sound

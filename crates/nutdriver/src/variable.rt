@@ -1,7 +1,7 @@
 //! A variable of a UPS.
 ghost use Rattle.std.specs.Prelude.{◌≡◌, ◌≤◌, length, IfOk};
 ghost use Rattle.nutdriver.specs.Variable.{VariableState, new_variable, with_value, with_aux, with_flags, add_enum, delete_enum, add_range, delete_range, has_value, has_range};
-ghost use Rattle.nutdriver.specs.Answers.{AnswersChange, variable_step};
+ghost use Rattle.nutdriver.specs.Promises.{AnswersChange, variable_step};
 
 use crate::lists::{copied, has_range, has_value, take_range_out, take_value_out};
 use crate::{DriverFault, DriverLine, ENUM_LIMIT, Flags, RANGE_LIMIT, Range};

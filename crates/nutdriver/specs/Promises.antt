@@ -1,4 +1,4 @@
--- What the parts of a tree answer: what the definitions say, or out of memory where there would be a change.
+-- What the private parts of a tree promise one another: what the definitions say, or out of memory where there would be a change. A reader of the public contracts needs none of it.
 use Rattle.std.specs.Prelude.{◌≡◌, ◌≤◌, ℕ, Bool, true, false, Option, Some, None, Result, Ok, Err, IfOk}
 use Rattle.nutmap.specs.Meter.{counted_up}
 use Rattle.nutdriver.specs.declared.fault.DriverFault.{DriverFault}
