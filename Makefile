@@ -10,11 +10,15 @@ UNIT = $(ROOT)/lib/systemd/system/upsd.service
 
 # Proves and builds: a program that isn't proved isn't built. It stands as crates/NAME/out/NAME then.
 all:
-	for program in $(PROGRAMS); do (cd crates/$$program && rt run -- --help >/dev/null) || exit 1; done
+	python3 tests/build.py $(PROGRAMS)
 
 # Every proof from nothing, the edits that must fail, the tests, and the scripts of tests/.
 test:
 	bash .ci/run
+
+# Every edit of crates/*/edits judged, also those that stand as they were judged.
+edits:
+	python3 tests/edits.py --all
 
 # Installs what stands built, and builds nothing.
 install:
@@ -36,4 +40,4 @@ uninstall:
 	for page in $(notdir $(wildcard man/*.8)); do rm -f $(ROOT)/share/man/man8/$$page; done
 	rm -rf $(ROOT)/share/voqarchay
 
-.PHONY: all test install uninstall
+.PHONY: all test edits install uninstall

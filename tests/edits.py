@@ -1,0 +1,349 @@
+#!/usr/bin/env python3
+"""Judges the edits that the proofs must refuse and that stand in crates/NAME/edits, many in one check.
+
+usage: edits.py [--all] [--beside FILE] [NAME ..]      at the top of the repository
+
+An edit is a file as in must-fail/ (`rt help`). Each that changes the body of one function is put into a round: one
+check, with one edit a function, of the edited functions and what they call. Refused is such an edit only where a goal
+of its own function stays open. That a callee isn't proved counts for nothing, since a caller is checked against its
+callee's contract. A round counts only where it reached the prover and no function that nobody edited has an open
+goal; else it is halved. What isn't refused so, and each edit of another kind, is tried alone by the kit's own way,
+which proves the whole crate for it.
+
+crates/NAME/edits/judged holds a sum of all that the judgement of the crate's edits reads; where it is the same, they
+aren't judged again, but with --all. With --beside, FILE is what a running `rt ci` prints: a crate's edits begin once
+the crates below it are proved there, and take their libraries. The last line tells how many were refused."""
+import concurrent.futures as futures
+import hashlib
+import json
+import os
+import re
+import shutil
+import subprocess
+import sys
+import tempfile
+import threading
+import time
+
+from kit import KIT, build_library, in_turn, rt, rtlib
+
+FOLDER, STAMP = "edits", "judged"
+
+
+class Edit:
+    """One edit of a crate: the texts that it makes and, where it changes one function's body, which and how."""
+
+    def __init__(self, crate, name):
+        self.name, self.file = f"{crate.name}/{name}", f"{crate.folder}/{FOLDER}/{name}"
+        self.texts, self.why = rt.read_edit(self.file, crate.folder)
+        self.symbol = None
+        if self.why or len(self.texts) != 1:
+            return
+        self.path, after = next(iter(self.texts.items()))
+        if self.path.endswith(".rt"):
+            with open(f"{crate.folder}/{self.path}", encoding="utf-8") as it:
+                before = it.read()
+            self.change(before, after)
+            spans = [it for it in functions(crate, self.path) if it[1] < self.start and self.end <= it[2]]
+            self.symbol = spans[0][0] if len(spans) == 1 else None
+
+    def change(self, before, after):
+        """Notes the bytes that the edit replaces, and by what."""
+        before, after = before.encode(), after.encode()
+        at, most = 0, min(len(before), len(after))
+        while at < most and before[at] == after[at]:
+            at += 1
+        behind = 0
+        while behind < most - at and before[-1 - behind] == after[-1 - behind]:
+            behind += 1
+        self.start, self.end, self.new = at, len(before) - behind, after[at : len(after) - behind]
+
+
+def functions(crate, path, known={}):
+    """Returns of each function of a source the name that a check gives it, and the bytes between which its body stands."""
+    file = f"{crate.folder}/{path}"
+    if file not in known:
+        ran = subprocess.run([rtlib.RATTLE, "fmt", "--tokens", file], capture_output=True, encoding="utf-8")
+        rows = [it.split(" ", 4) for it in ran.stdout.split("\n") if it]
+        rows = [(int(it[1]), json.loads(it[4])) for it in rows if it[3:4] == ["Code"]]
+        module = [crate.name, *path.removeprefix("src/").removesuffix(".rt").split("/")]
+        known[file] = [*items(rows, "::".join(module[: -1 if module[-1] in ("lib", "main", "mod") else None]))]
+    return known[file]
+
+
+def items(rows, module):
+    """Reads the functions of a source from its tokens, from which contracts are left out."""
+    at, owner, ends = 0, module, -1
+    while at < len(rows):
+        word = rows[at][1]
+        if at > ends:
+            owner, ends = module, len(rows)
+        if word in ("fn", "impl", "trait") and (word == "impl" or rows[at + 1][1].isidentifier()):
+            opens = at
+            while rows[opens][1] not in ("{", ";"):
+                opens = past(rows, opens) if rows[opens][1] in ("(", "[") else opens + 1
+            closes = past(rows, opens) - 1
+            head = [it[1] for it in rows[at + 1 : opens]]
+            if word == "fn" and rows[opens][1] == "{":
+                yield f"{owner}::{head[0]}", rows[opens][0], rows[closes][0]
+            if word != "fn":
+                owner, ends = f"{module}::{owner_of(head)}", closes
+            at = opens if word != "fn" else closes
+        at += 1
+
+
+def past(rows, at):
+    """Returns the place behind the token, or behind the brackets that it opens."""
+    depth = 0
+    while True:
+        depth += (rows[at][1] in ("{", "(", "[")) - (rows[at][1] in ("}", ")", "]"))
+        at += 1
+        if depth == 0:
+            return at
+
+
+def owner_of(head):
+    """Returns how a check names what an impl is of: its type, and behind it the trait."""
+    depth, words, parts = 0, [], [[]]
+    for word in head:
+        depth += (word == "<") - (word == ">")
+        if word == "where":
+            break
+        if word == "for" and depth == 0:
+            parts.append([])
+        elif depth == 0 and word.isidentifier():
+            parts[-1].append(word)
+    return "".join(it[-1] for it in reversed(parts) if it)
+
+
+def check(crate, texts, kept, *more):
+    """Checks a copy of the crate with these texts in place of its own, and returns its status and lines."""
+    with tempfile.TemporaryDirectory(prefix="edits-") as room:
+        for part in rtlib.PARTS:
+            if os.path.isdir(f"{crate.folder}/{part}"):
+                shutil.copytree(f"{crate.folder}/{part}", f"{room}/{part}")
+        for path, text in texts.items():
+            with open(f"{room}/{path}", "wb") as it:
+                it.write(text)
+        words = [rtlib.RATTLE, "check", *crate.words(["--jobs", "1"], keeps=False), "--incremental", kept, *more]
+        how = {"stdin": subprocess.DEVNULL, "stdout": subprocess.PIPE, "stderr": subprocess.STDOUT}
+        ran = subprocess.run([*rtlib.guarded(), *words], cwd=room, text=True, errors="replace", **how)
+        return ran.returncode, ran.stdout.rstrip("\n").split("\n")
+
+
+def open_goals(lines, crate):
+    """Returns of each function that has open goals of its own what the check says of them."""
+    found = {}
+    for line in lines:
+        of = re.match(r"fn (\S+): (?:no proof|not proved): .*`search` did not prove (.*)", line)
+        if of:
+            found.setdefault(of[1], of[2])
+        # What names a thing that the edit took away says little of the contract.
+        at = re.match(r"(?:\./)?proofs/(\S+)/(?:Answers|Invariants|Proof)\.antt:\d+:\d+: error: (.*)", line)
+        if at and not re.search(r"is not in scope|has no field|has no `|was not admitted", at[2]):
+            found.setdefault("::".join([crate.name, *at[1].split("/")]), at[2])
+    return found
+
+
+def is_of(function, symbol):
+    """Tells whether a check's function is that of an edit, or a closure in it."""
+    owner, _, name = symbol.rpartition("::")
+    plain = re.sub(r"<[^>]*>", "", function).replace("+", "")
+    return plain == symbol or plain.startswith((f"{symbol}::", f"{owner}::fn::{name}::"))
+
+
+def combined(crate, edits):
+    """Returns the sources with all these edits, each of another function."""
+    texts = {}
+    for path in {it.path for it in edits}:
+        with open(f"{crate.folder}/{path}", "rb") as it:
+            before = it.read()
+        text, at = b"", 0
+        for it in sorted((it for it in edits if it.path == path), key=lambda it: it.start):
+            text, at = text + before[at : it.start] + it.new, it.end
+        texts[path] = text + before[at:]
+    return texts
+
+
+def in_round(crate, edits, kept):
+    """Judges edits in one check. Returns what is said of each that is refused; nothing of those that have to be tried alone."""
+    only = [word for it in edits for word in ("--only", it.symbol.partition("::")[2])]
+    texts = combined(crate, edits)
+    status, lines = check(crate, texts, kept, *only)
+    reached = status in (0, 1) and lines[-1].startswith("only=") and not any(rt.unread(it, texts) for it in lines)
+    goals = open_goals(lines, crate)
+    strangers = [it for it in goals if not any(is_of(it, edit.symbol) for edit in edits)]
+    if reached and not strangers:
+        own = {it: [f"{f}: {said}" for f, said in goals.items() if is_of(f, it.symbol)] for it in edits}
+        return {it: said[0] for it, said in own.items() if said}
+    if len(edits) == 1:
+        return {}
+    half = len(edits) // 2
+    return {**in_round(crate, edits[:half], kept), **in_round(crate, edits[half:], kept)}
+
+
+def rounds_of(edits):
+    """Returns rounds of edits, in each at most one of a function."""
+    rounds = []
+    for edit in edits:
+        fit = next((it for it in rounds if edit.symbol not in {other.symbol for other in it}), None)
+        if fit is None:
+            rounds.append(fit := [])
+        fit.append(edit)
+    return rounds
+
+
+def judge(crate, say):
+    """Judges a crate's edits, and returns how many are refused and the names of those that aren't."""
+    edits = [Edit(crate, it) for it in names_of(crate)]
+    rounds, judged = rounds_of([it for it in edits if it.symbol]), {}
+    with tempfile.TemporaryDirectory(prefix="edits-kept-") as kept:
+        for now in rounds:
+            judged.update(in_round(crate, now, kept))
+        for it, said in judged.items():
+            say(f"edit {it.name}: refused: {said[:160]}")
+        alone = [it for it in edits if it not in judged]
+        failed = tried_alone(crate, alone, kept, say)
+    say(f"{crate.name}: {len(edits)} edits in {len(rounds)} rounds, {len(alone)} of them alone")
+    return len(edits) - len(failed), failed
+
+
+def tried_alone(crate, edits, kept, say):
+    """Tries each edit by the kit's own way, and returns the names of those that aren't refused."""
+    failed = []
+    # By that way an edit says something only where the crate itself is proved.
+    is_sound = not edits or check(crate, {}, kept)[0] == 0
+    for it in edits:
+        is_refused, said = False, f"{crate.name} isn't proved as it stands"
+        if is_sound:
+            is_refused, said = rt.must_fail(crate, it.file, ["--jobs", "1"], kept)
+        say(f"edit {it.name}: tried alone: {said.removeprefix(f'must-fail {it.name}: ')}")
+        failed += [it.name] * (not is_refused)
+    return failed
+
+
+def names_of(crate):
+    folder = f"{crate.folder}/{FOLDER}"
+    return sorted(it for it in os.listdir(folder) if it.endswith(".edit")) if os.path.isdir(folder) else []
+
+
+def sum_of(crate):
+    """Returns a sum of all that the judgement of a crate's edits reads."""
+    here = os.path.dirname(os.path.realpath(__file__))
+    files = [f"{KIT}/KIT-ID", f"{here}/edits.py", f"{here}/kit.py"]
+    for it in [crate, *crate.below()]:
+        parts = (*rtlib.PARTS, FOLDER) if it is crate else rtlib.PARTS
+        for part in parts:
+            for at, folders, names in os.walk(f"{it.folder}/{part}"):
+                folders.sort()
+                files += [f"{at}/{name}" for name in sorted(names) if name != STAMP]
+    uses = [(it.name, it.of_kit, [dep.name for dep in it.deps]) for it in [crate, *crate.below()]]
+    found = hashlib.sha256(repr(uses).encode())
+    for file in files:
+        with open(file, "rb") as it:
+            found.update(repr((os.path.relpath(file), it.read())).encode())
+    return found.hexdigest()
+
+
+class Libraries:
+    """The libraries that edits are checked over: built here, or taken from a run of `rt ci` as it proves them."""
+
+    def __init__(self, crates, beside, room):
+        self.crates, self.beside, self.room = crates, beside, room
+        self.taken, self.has_ended = set(), False
+
+    def take(self):
+        """Builds the libraries, or takes each once it is proved, until the run beside this one has ended."""
+        while self.beside and not self.has_ended:
+            time.sleep(1)
+            text = rtlib.text_of(self.beside) or ""
+            proved = set(re.findall(r"^rt: (\w+) proved$", text, re.M))
+            for it in [it for it in self.crates if it.name in proved and it not in self.taken]:
+                shutil.copytree(it.rlib, f"{self.room}/{it.name}.rlib")
+                it.rlib = f"{self.room}/{it.name}.rlib"
+                self.taken.add(it)
+            self.has_ended = bool(re.search(r"^rt ci ended", text, re.M)) or self.taken >= {*self.crates}
+        if not self.beside:
+            in_turn(self.crates, lanes(), self.build)
+        self.has_ended = True
+
+    def build(self, crate):
+        is_built = build_library(crate, 1)
+        self.taken |= {crate} if is_built else set()
+        return is_built
+
+
+class Judgement:
+    """What is judged in this run: a crate at a time in each lane, the one with the most edits first."""
+
+    def __init__(self, crates, libraries):
+        self.waiting, self.libraries, self.lock = [*crates], libraries, threading.Lock()
+        self.sums = {it: sum_of(it) for it in crates}
+        self.refused, self.failed = 0, []
+
+    def next(self):
+        """Waits for a crate that stands on proved ones alone, and returns it, or None where none is left."""
+        while True:
+            has_ended = self.libraries.has_ended
+            with self.lock:
+                ready = [it for it in self.waiting if self.libraries.taken >= {*it.below()}]
+                if ready:
+                    crate = max(ready, key=lambda it: len(names_of(it)))
+                    self.waiting.remove(crate)
+                    return crate
+                if has_ended or not self.waiting:
+                    return None
+            time.sleep(1)
+
+    def lane(self):
+        while crate := self.next():
+            said, began = [], time.time()
+            refused, failed = judge(crate, said.append)
+            # What changed while it was judged isn't known to be judged.
+            if not failed and sum_of(crate) == self.sums[crate]:
+                with open(f"{crate.folder}/{FOLDER}/{STAMP}", "w", encoding="utf-8") as it:
+                    it.write(f"{self.sums[crate]}\n")
+            with self.lock:
+                self.refused += refused
+                self.failed += failed
+                for line in [*said[:-1], f"{said[-1]}, {time.time() - began:.0f} s"]:
+                    print(f"edits: {line}", flush=True)
+
+
+def lanes():
+    return int(os.environ.get("RT_JOBS", "0")) or len(os.sched_getaffinity(0))
+
+
+def is_judged(crate):
+    return (rtlib.text_of(f"{crate.folder}/{FOLDER}/{STAMP}") or "").strip() == sum_of(crate)
+
+
+def main(words):
+    beside = None
+    if "--beside" in words:
+        at = words.index("--beside")
+        beside = words[at + 1]
+        del words[at : at + 2]
+    names = [it for it in words if it != "--all"]
+    rtlib.guarded()
+    crates = [it for it in rtlib.crates_below(os.getcwd()) if names_of(it) and (not names or it.name in names)]
+    stood = [it for it in crates if "--all" not in words and is_judged(it)]
+    for it in stood:
+        print(f"edits: {it.name}: {len(names_of(it))} stand as they were judged", flush=True)
+    crates = [it for it in crates if it not in stood]
+    below = sorted({dep for it in crates for dep in it.below()}, key=lambda it: len(it.below()))
+    with tempfile.TemporaryDirectory(prefix="edits-libraries-") as room, futures.ThreadPoolExecutor(lanes() + 1) as pool:
+        libraries = Libraries(below, beside, room)
+        now = Judgement(crates, libraries)
+        ran = [pool.submit(it) for it in [libraries.take, *[now.lane] * lanes()]]
+        for it in ran:
+            it.result()
+    failed = now.failed + [f"{it.name} (a library below it isn't proved)" for it in now.waiting]
+    for name in failed:
+        print(f"edits: FAILED: {name}")
+    print(f"edits: {now.refused} refused, {len(failed)} failed, {sum(len(names_of(it)) for it in stood)} stood", flush=True)
+    return 1 if failed else 0
+
+
+if __name__ == "__main__":
+    sys.exit(main(sys.argv[1:]))
