@@ -133,11 +133,17 @@ def check(crate, texts, kept, *more):
 
 def open_goals(lines, crate):
     """Returns of each function that has open goals of its own what the check says of them."""
-    found = {}
+    found, note = {}, ""
     for line in lines:
-        of = re.match(r"fn (\S+): (?:no proof|not proved): .*`search` did not prove (.*)", line)
+        # Notes on a function stand before its line.
+        open_goal = re.match(r"note: src/\S+: (it is not proved that .*)", line)
+        note = note or (open_goal[1] if open_goal else "")
+        of = re.match(r"fn (\S+): (.*)", line)
         if of:
-            found.setdefault(of[1], of[2])
+            by_search = re.match(r"(?:no proof|not proved): .*`search` did not prove (.*)", of[2])
+            if by_search or note and re.match("no proof|not proved", of[2]):
+                found.setdefault(of[1], by_search[1] if by_search else note)
+            note = ""
         # What names a thing that the edit took away says little of the contract.
         at = re.match(r"(?:\./)?proofs/(\S+)/(?:Answers|Invariants|Proof)\.antt:\d+:\d+: error: (.*)", line)
         if at and not re.search(r"is not in scope|has no field|has no `|was not admitted", at[2]):
