@@ -3,8 +3,6 @@ ghost use Rattle.std.specs.Prelude.{◌≡◌, ◌≤◌, length};
 ghost use Rattle.nutwords.specs.declared.limits.TheConstants.{LINE_LIMIT};
 
 mod arguments;
-#[cfg(test)]
-mod tests;
 
 use crate::{DriverFault, Flags, Range};
 use arguments::{name_alone, name_and_aux, name_and_flags, name_and_range, name_and_value};

@@ -8,9 +8,6 @@ ghost use Rattle.nutwords.specs.Split.{unescaped, word_end, TakesWord, StartsInW
 ghost use Rattle.nutwords.specs.Word.{bytes_of};
 ghost use Rattle.nutwords.specs.declared.scan.Place.TheVariants.{Bare, Quoted};
 
-#[cfg(test)]
-mod tests;
-
 use crate::scan::{Place, word_end};
 use crate::{
     ADDRESS_LIMIT, Address, BadName, LINE_LIMIT, LINE_ROOM, NAME_LIMIT, Name, UPS_NAME_LIMIT,
