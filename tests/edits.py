@@ -59,20 +59,42 @@ class Edit:
         self.start, self.end, self.new = at, len(before) - behind, after[at : len(after) - behind]
 
 
+def tokens(file, known={}):
+    """Returns the place and the text of each token of a source's code, without its contracts."""
+    if file not in known:
+        ran = subprocess.run([rtlib.RATTLE, "fmt", "--tokens", file], capture_output=True, encoding="utf-8")
+        rows = [it.split(" ", 4) for it in ran.stdout.split("\n") if it]
+        known[file] = [(int(it[1]), json.loads(it[4])) for it in rows if it[3:4] == ["Code"]]
+    return known[file]
+
+
+def module_of(crate, path):
+    parts = [crate.name, *path.removeprefix("src/").removesuffix(".rt").split("/")]
+    return "::".join(parts[: -1 if parts[-1] in ("lib", "main", "mod") else None])
+
+
+def homes(crate, known={}):
+    """Returns the modules in which the crate's types stand, by the name of the type."""
+    if crate.folder not in known:
+        known[crate.folder] = found = {}
+        for file in [it for it in rtlib.files_of(crate.folder) if it.endswith(".rt")]:
+            rows, module = tokens(file), module_of(crate, os.path.relpath(file, crate.folder))
+            for (_, word), (_, name) in zip(rows, rows[1:]):
+                if word in ("struct", "enum"):
+                    found.setdefault(name, []).append(module)
+    return known[crate.folder]
+
+
 def functions(crate, path, known={}):
     """Returns of each function of a source the name that a check gives it, and the bytes between which its body stands."""
     file = f"{crate.folder}/{path}"
     if file not in known:
-        ran = subprocess.run([rtlib.RATTLE, "fmt", "--tokens", file], capture_output=True, encoding="utf-8")
-        rows = [it.split(" ", 4) for it in ran.stdout.split("\n") if it]
-        rows = [(int(it[1]), json.loads(it[4])) for it in rows if it[3:4] == ["Code"]]
-        module = [crate.name, *path.removeprefix("src/").removesuffix(".rt").split("/")]
-        known[file] = [*items(rows, "::".join(module[: -1 if module[-1] in ("lib", "main", "mod") else None]))]
+        known[file] = [*items(tokens(file), module_of(crate, path), homes(crate))]
     return known[file]
 
 
-def items(rows, module):
-    """Reads the functions of a source from its tokens, from which contracts are left out."""
+def items(rows, module, homes):
+    """Reads the functions of a source from its tokens. Those of a type go by the module of the type, those of a trait by their own."""
     at, owner, ends = 0, module, -1
     while at < len(rows):
         word = rows[at][1]
@@ -87,7 +109,10 @@ def items(rows, module):
             if word == "fn" and rows[opens][1] == "{":
                 yield f"{owner}::{head[0]}", rows[opens][0], rows[closes][0]
             if word != "fn":
-                owner, ends = f"{module}::{owner_of(head)}", closes
+                parts = owner_of(head)
+                of = [it for it in homes.get(parts[0], []) if word == "impl" and len(parts) == 1] or [module]
+                home = max(of, key=lambda it: len(os.path.commonprefix([it.split("::"), module.split("::")])))
+                owner, ends = f"{home}::{''.join(parts)}", closes
             at = opens if word != "fn" else closes
         at += 1
 
@@ -103,7 +128,7 @@ def past(rows, at):
 
 
 def owner_of(head):
-    """Returns how a check names what an impl is of: its type, and behind it the trait."""
+    """Returns the type that an impl is of, and behind it the trait, by which a check names it."""
     depth, words, parts = 0, [], [[]]
     for word in head:
         depth += (word == "<") - (word == ">")
@@ -113,7 +138,7 @@ def owner_of(head):
             parts.append([])
         elif depth == 0 and word.isidentifier():
             parts[-1].append(word)
-    return "".join(it[-1] for it in reversed(parts) if it)
+    return [it[-1] for it in reversed(parts) if it]
 
 
 def check(crate, texts, kept, *more):
@@ -176,6 +201,10 @@ def in_round(crate, edits, kept):
     only = [word for it in edits for word in ("--only", it.symbol.partition("::")[2])]
     texts = combined(crate, edits)
     status, lines = check(crate, texts, kept, *only)
+    unknown = [it for it in edits if any(f"has no function `{it.symbol.partition('::')[2]}`" in line for line in lines)]
+    if unknown:
+        left = [it for it in edits if it not in unknown]
+        return in_round(crate, left, kept) if left else {}
     reached = status in (0, 1) and lines[-1].startswith("only=") and not any(rt.unread(it, texts) for it in lines)
     goals = open_goals(lines, crate)
     strangers = [it for it in goals if not any(is_of(it, edit.symbol) for edit in edits)]
