@@ -1,6 +1,6 @@
 use Rattle.std.proofs.Common.{◌≡◌, ◌+◌, ◌<◌, max, sym, ◌∙◌, rules, arith}
 use Rattle.nutmap.specs.Tree.{height_of, greatest_height}
-use Rattle.nutmap.proofs.Heights.{left_fits, right_fits, left_fits_balanced, right_fits_balanced}
+use Rattle.nutmap.proofs.Heights.{left_grown, right_grown, left_fits, right_fits, left_fits_balanced, right_fits_balanced}
 use Rattle.nutmap.proofs.Ordered.{lookup_left, lookup_middle, lookup_right, insert_left, insert_middle, insert_right, one_rises, keys_stay_rising}
 use Rattle.nutmap.proofs.insert.+insert.Goals as goal
 
@@ -131,3 +131,45 @@ pub returns-in_ok-root-in-Greater-clause-most : goal.returns-in_ok-root-in-Great
 returns-in_ok-root-in-Greater-clause-most g t c =
     let high : height_of c.args.link.now ≡ max (height_of c.node.inside.left) (height_of c.node.inside.right) + 1 = rw (c.in-Some.is, ← c.deref-node.ensures, ← c.node.view_is) c.node.invariant.height in
     right_fits_balanced _ _ _ _ _ _ high c.in_ok-right-in-Greater.ensures.most c.in_ok-root-in-Greater.ensures.most
+
+pub make_node-requires-clause-balanced : goal.make_node-requires-clause-balanced
+make_node-requires-clause-balanced g t c =
+    record { left = omega arith; right = omega arith }
+
+pub make_node-requires-clause-height_fits : goal.make_node-requires-clause-height_fits
+make_node-requires-clause-height_fits g t c =
+    omega arith
+
+pub returns-in_ok-root-in-Less-clause-not_lower : goal.returns-in_ok-root-in-Less-clause-not_lower
+returns-in_ok-root-in-Less-clause-not_lower g t c =
+    let high : height_of c.args.link.now ≡ max (height_of c.node.inside.left) (height_of c.node.inside.right) + 1 = rw (c.in-Some.is, ← c.deref-node.ensures, ← c.node.view_is) c.node.invariant.height in
+    (left_grown _ _ _ _ _ _ c.node.invariant.balanced high c.in_ok-left-in-Less.ensures.not_lower c.in_ok-left-in-Less.ensures.not_higher c.in_ok-right-in-Less.ensures.height c.in_ok-root-in-Less.ensures.height).0
+
+pub returns-in_ok-root-in-Less-clause-not_higher : goal.returns-in_ok-root-in-Less-clause-not_higher
+returns-in_ok-root-in-Less-clause-not_higher g t c =
+    let high : height_of c.args.link.now ≡ max (height_of c.node.inside.left) (height_of c.node.inside.right) + 1 = rw (c.in-Some.is, ← c.deref-node.ensures, ← c.node.view_is) c.node.invariant.height in
+    (left_grown _ _ _ _ _ _ c.node.invariant.balanced high c.in_ok-left-in-Less.ensures.not_lower c.in_ok-left-in-Less.ensures.not_higher c.in_ok-right-in-Less.ensures.height c.in_ok-root-in-Less.ensures.height).1
+
+pub returns-in_ok-root-in-Greater-clause-not_lower : goal.returns-in_ok-root-in-Greater-clause-not_lower
+returns-in_ok-root-in-Greater-clause-not_lower g t c =
+    let high : height_of c.args.link.now ≡ max (height_of c.node.inside.left) (height_of c.node.inside.right) + 1 = rw (c.in-Some.is, ← c.deref-node.ensures, ← c.node.view_is) c.node.invariant.height in
+    (right_grown _ _ _ _ _ _ c.node.invariant.balanced high c.in_ok-right-in-Greater.ensures.not_lower c.in_ok-right-in-Greater.ensures.not_higher c.in_ok-left-in-Greater.ensures.height c.in_ok-root-in-Greater.ensures.height).0
+
+pub returns-in_ok-root-in-Greater-clause-not_higher : goal.returns-in_ok-root-in-Greater-clause-not_higher
+returns-in_ok-root-in-Greater-clause-not_higher g t c =
+    let high : height_of c.args.link.now ≡ max (height_of c.node.inside.left) (height_of c.node.inside.right) + 1 = rw (c.in-Some.is, ← c.deref-node.ensures, ← c.node.view_is) c.node.invariant.height in
+    (right_grown _ _ _ _ _ _ c.node.invariant.balanced high c.in_ok-right-in-Greater.ensures.not_lower c.in_ok-right-in-Greater.ensures.not_higher c.in_ok-left-in-Greater.ensures.height c.in_ok-root-in-Greater.ensures.height).1
+
+pub returns-in_ok-replaced-in-Equal-clause-not_lower : goal.returns-in_ok-replaced-in-Equal-clause-not_lower
+returns-in_ok-replaced-in-Equal-clause-not_lower g t c =
+    let high : height_of c.args.link.now ≡ max (height_of c.node.inside.left) (height_of c.node.inside.right) + 1 = rw (c.in-Some.is, ← c.deref-node.ensures, ← c.node.view_is) c.node.invariant.height in
+    omega (arith, high, c.in_ok-replaced-in-Equal.ensures.height)
+
+pub returns-in_ok-replaced-in-Equal-clause-not_higher : goal.returns-in_ok-replaced-in-Equal-clause-not_higher
+returns-in_ok-replaced-in-Equal-clause-not_higher g t c =
+    let high : height_of c.args.link.now ≡ max (height_of c.node.inside.left) (height_of c.node.inside.right) + 1 = rw (c.in-Some.is, ← c.deref-node.ensures, ← c.node.view_is) c.node.invariant.height in
+    omega (arith, high, c.in_ok-replaced-in-Equal.ensures.height)
+
+pub returns-in_ok-replaced-in-Equal-clause-most : goal.returns-in_ok-replaced-in-Equal-clause-most
+returns-in_ok-replaced-in-Equal-clause-most g t c =
+    omega (arith, c.in_ok-replaced-in-Equal.ensures.most)

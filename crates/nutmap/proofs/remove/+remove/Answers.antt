@@ -1,6 +1,6 @@
 use Rattle.std.proofs.Common.{◌≡◌, ◌+◌, ◌<◌, max, sym, ◌∙◌, rules, arith}
 use Rattle.nutmap.specs.Tree.{height_of, greatest_height}
-use Rattle.nutmap.proofs.Heights.{left_falls, right_falls, left_falls_balanced, right_falls_balanced, right_joins}
+use Rattle.nutmap.proofs.Heights.{left_fallen, right_fallen, left_falls, right_falls, left_falls_balanced, right_falls_balanced, right_joins}
 use Rattle.nutmap.proofs.Ordered.{lookup_left, lookup_middle, lookup_right, remove_left, remove_middle, remove_right, rest_stays_rising}
 use Rattle.nutmap.proofs.remove.+remove.Goals as goal
 
@@ -176,3 +176,37 @@ pub returns-in_ok-rest-in-Equal-clause-most : goal.returns-in_ok-rest-in-Equal-c
 returns-in_ok-rest-in-Equal-clause-most g t c =
     let high : height_of c.args.link.now ≡ max (height_of c.node.inside.left) (height_of c.node.inside.right) + 1 = rw (c.in-Some.is, ← c.deref-node.ensures, ← c.node.view_is) c.node.invariant.height in
     right_joins _ _ _ _ _ high c.in_ok-rest-in-Equal.ensures.most
+
+pub returns-in_ok-root-in-Less-clause-not_higher : goal.returns-in_ok-root-in-Less-clause-not_higher
+returns-in_ok-root-in-Less-clause-not_higher g t c =
+    let high : height_of c.args.link.now ≡ max (height_of c.node.inside.left) (height_of c.node.inside.right) + 1 = rw (c.in-Some.is, ← c.deref-node.ensures, ← c.node.view_is) c.node.invariant.height in
+    let lower = rw c.in-Some-2.is at c.in_ok-rest-in-Less.ensures.not_lower in let higher = rw c.in-Some-2.is at c.in_ok-rest-in-Less.ensures.not_higher in
+    (left_fallen _ _ _ _ _ _ c.node.invariant.balanced high higher lower c.in_ok-right-in-Less.ensures.height c.in_ok-root-in-Less.ensures.height).0
+
+pub returns-in_ok-root-in-Less-clause-not_lower : goal.returns-in_ok-root-in-Less-clause-not_lower
+returns-in_ok-root-in-Less-clause-not_lower g t c =
+    let high : height_of c.args.link.now ≡ max (height_of c.node.inside.left) (height_of c.node.inside.right) + 1 = rw (c.in-Some.is, ← c.deref-node.ensures, ← c.node.view_is) c.node.invariant.height in
+    let lower = rw c.in-Some-2.is at c.in_ok-rest-in-Less.ensures.not_lower in let higher = rw c.in-Some-2.is at c.in_ok-rest-in-Less.ensures.not_higher in
+    (left_fallen _ _ _ _ _ _ c.node.invariant.balanced high higher lower c.in_ok-right-in-Less.ensures.height c.in_ok-root-in-Less.ensures.height).1
+
+pub returns-in_ok-root-in-Greater-clause-not_higher : goal.returns-in_ok-root-in-Greater-clause-not_higher
+returns-in_ok-root-in-Greater-clause-not_higher g t c =
+    let high : height_of c.args.link.now ≡ max (height_of c.node.inside.left) (height_of c.node.inside.right) + 1 = rw (c.in-Some.is, ← c.deref-node.ensures, ← c.node.view_is) c.node.invariant.height in
+    let lower = rw c.in-Some-3.is at c.in_ok-rest-in-Greater.ensures.not_lower in let higher = rw c.in-Some-3.is at c.in_ok-rest-in-Greater.ensures.not_higher in
+    (right_fallen _ _ _ _ _ _ c.node.invariant.balanced high higher lower c.in_ok-left-in-Greater.ensures.height c.in_ok-root-in-Greater.ensures.height).0
+
+pub returns-in_ok-root-in-Greater-clause-not_lower : goal.returns-in_ok-root-in-Greater-clause-not_lower
+returns-in_ok-root-in-Greater-clause-not_lower g t c =
+    let high : height_of c.args.link.now ≡ max (height_of c.node.inside.left) (height_of c.node.inside.right) + 1 = rw (c.in-Some.is, ← c.deref-node.ensures, ← c.node.view_is) c.node.invariant.height in
+    let lower = rw c.in-Some-3.is at c.in_ok-rest-in-Greater.ensures.not_lower in let higher = rw c.in-Some-3.is at c.in_ok-rest-in-Greater.ensures.not_higher in
+    (right_fallen _ _ _ _ _ _ c.node.invariant.balanced high higher lower c.in_ok-left-in-Greater.ensures.height c.in_ok-root-in-Greater.ensures.height).1
+
+pub returns-in_ok-rest-in-Equal-clause-not_higher : goal.returns-in_ok-rest-in-Equal-clause-not_higher
+returns-in_ok-rest-in-Equal-clause-not_higher g t c =
+    let high : height_of c.args.link.now ≡ max (height_of c.node.inside.left) (height_of c.node.inside.right) + 1 = rw (c.in-Some.is, ← c.deref-node.ensures, ← c.node.view_is) c.node.invariant.height in
+    omega (arith, high, c.in_ok-rest-in-Equal.ensures.not_higher)
+
+pub returns-in_ok-rest-in-Equal-clause-not_lower : goal.returns-in_ok-rest-in-Equal-clause-not_lower
+returns-in_ok-rest-in-Equal-clause-not_lower g t c =
+    let high : height_of c.args.link.now ≡ max (height_of c.node.inside.left) (height_of c.node.inside.right) + 1 = rw (c.in-Some.is, ← c.deref-node.ensures, ← c.node.view_is) c.node.invariant.height in
+    omega (arith, high, c.in_ok-rest-in-Equal.ensures.not_lower)

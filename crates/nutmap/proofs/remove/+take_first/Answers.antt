@@ -1,6 +1,6 @@
 use Rattle.std.proofs.Common.{◌≡◌, ◌+◌, ◌<◌, max, refl, rules, arith}
 use Rattle.nutmap.specs.Tree.{height_of, greatest_height}
-use Rattle.nutmap.proofs.Heights.{left_falls, left_falls_balanced}
+use Rattle.nutmap.proofs.Heights.{left_fallen, left_falls, left_falls_balanced}
 use Rattle.nutmap.proofs.Regroup.{tail_rises}
 use Rattle.nutmap.proofs.remove.+take_first.Goals as goal
 
@@ -50,3 +50,17 @@ returns-clause-most g t c =
     let left : c.deref.result.now.1 ≡ height_of c.node.inside.left = rw (c.in-Some.is, c.deref.ensures) refl in
     let high : c.args.node.now.1 ≡ max c.deref.result.now.1 (height_of c.node.inside.right) + 1 = rw (left, ← c.node.view_is) c.node.invariant.height in
     left_falls_balanced _ _ _ _ _ _ high c.in_ok-entry.ensures.most c.in_ok-root.ensures.most
+
+pub returns-clause-not_higher : goal.returns-clause-not_higher
+returns-clause-not_higher g t c =
+    let left : c.deref.result.now.1 ≡ height_of c.node.inside.left = rw (c.in-Some.is, c.deref.ensures) refl in
+    let high : c.args.node.now.1 ≡ max (height_of c.node.inside.left) (height_of c.node.inside.right) + 1 = rw (← c.node.view_is) c.node.invariant.height in
+    let higher = rw left at c.in_ok-entry.ensures.not_higher in let lower = rw left at c.in_ok-entry.ensures.not_lower in
+    (left_fallen _ _ _ _ _ _ c.node.invariant.balanced high higher lower c.in_ok-right.ensures.height c.in_ok-root.ensures.height).0
+
+pub returns-clause-not_lower : goal.returns-clause-not_lower
+returns-clause-not_lower g t c =
+    let left : c.deref.result.now.1 ≡ height_of c.node.inside.left = rw (c.in-Some.is, c.deref.ensures) refl in
+    let high : c.args.node.now.1 ≡ max (height_of c.node.inside.left) (height_of c.node.inside.right) + 1 = rw (← c.node.view_is) c.node.invariant.height in
+    let higher = rw left at c.in_ok-entry.ensures.not_higher in let lower = rw left at c.in_ok-entry.ensures.not_lower in
+    (left_fallen _ _ _ _ _ _ c.node.invariant.balanced high higher lower c.in_ok-right.ensures.height c.in_ok-root.ensures.height).1
