@@ -292,8 +292,3 @@ fn list_range<'a, V: View>(
     let listing = Listing::of_ranges(ups.name, found.name, &ups.state.report.tree)?;
     Ok(Reply::Many(listing))
 }
-
-#[cfg(test)]
-mod sample;
-#[cfg(test)]
-mod tests;

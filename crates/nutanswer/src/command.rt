@@ -3,8 +3,6 @@ ghost use Rattle.std.specs.Prelude.{◌≡◌, ◌≤◌, length};
 ghost use Rattle.nutwords.specs.declared.limits.TheConstants.{LINE_LIMIT};
 
 mod arguments;
-#[cfg(test)]
-mod tests;
 
 use crate::ErrWord;
 use arguments::{

@@ -5,9 +5,6 @@ ghost use Rattle.nutreply.specs.State.{unread_of, reader_of, writer_of, is_over}
 ghost use Rattle.nutclient.specs.Requests.{RequestsGive, requests_in};
 ghost use Rattle.nutclient.specs.Printed.{text_of, printed, PrintGives, RunGives, Answers};
 
-#[cfg(test)]
-mod tests;
-
 use crate::printed::text_of;
 use crate::{Form, Job};
 use nutreply::{ClientFault, Items, Request, Session, Sink, Source, ask, send};

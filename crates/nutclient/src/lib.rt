@@ -9,8 +9,6 @@ mod given;
 mod host;
 mod job;
 mod limits;
-#[cfg(test)]
-mod peer;
 mod printed;
 mod program;
 mod requests;

@@ -1,9 +1,6 @@
 //! Why the loop ends.
 ghost use Rattle.std.specs.Prelude.{◌≡◌};
 
-#[cfg(test)]
-mod tests;
-
 use thiserror::Error;
 
 /// Why the loop can't go on.

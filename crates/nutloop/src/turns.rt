@@ -5,9 +5,6 @@ ghost use Rattle.nutcore.specs.declared.event.Event.TheVariants as event;
 ghost use Rattle.nutcore.specs.declared.event.Peer.TheVariants.{Client, Driver};
 ghost use Rattle.nutloop.specs.declared.sockets.Ready.TheVariants.{Newcomer, Read, Write};
 
-#[cfg(test)]
-mod tests;
-
 use crate::{Got, LoopFault, Ready, Sockets};
 use nutcore::{ClientId, Fault, HELD_LIMIT, Peer, Server, UpsId};
 use nutwords::Address;

@@ -4,9 +4,6 @@ ghost use Rattle.nutreply.specs.Ends.{Written, WriteFailed};
 ghost use Rattle.nutreplay.specs.Script.{first_bad_line};
 ghost use Rattle.nutreplay.specs.Transcript.{IsOutput};
 
-#[cfg(test)]
-mod tests;
-
 use crate::script::read_script;
 use crate::transcript::Transcript;
 use nutcore::{Descriptions, MaxAge, UpsList, Users};

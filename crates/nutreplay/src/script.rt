@@ -3,8 +3,6 @@ ghost use Rattle.std.specs.Prelude.{◌≡◌, ◌⊎◌, ℕ, IfOk, IfErr, None
 ghost use Rattle.nutreplay.specs.Script.{read_line, actions_of, first_bad_line};
 
 mod action;
-#[cfg(test)]
-mod tests;
 
 pub use self::action::Action;
 use self::action::read_action;

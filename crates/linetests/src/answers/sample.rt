@@ -1,12 +1,11 @@
-//! A small view, for the tests.
+//! A small view.
 ghost use Rattle.std.specs.Prelude.{◌≡◌};
 ghost use Rattle.nutanswer.specs.View.{is_logged_in};
 
-use crate::{Asker, UpsView, View};
-use nutdriver::{DriverFault, DriverLine, Report, Tree};
-use nutmap::Meter;
+use crate::told::tree_of;
+use nutanswer::{Asker, UpsView, View};
+use nutdriver::{DriverFault, Report};
 use nutusers::{Descriptions, Password, UpsId, UpsList, UserName, Users};
-use nutwords::LINE_LIMIT;
 use std::alloc::Global;
 use std::marker::Model;
 use std::test::Fail;
@@ -22,28 +21,15 @@ struct SampleUps {
     free: usize,
 }
 
-/// Does what a driver's line says.
-fn tell(tree: &mut Tree, line: &[u8]) -> Result<(), DriverFault> {
-    if line.len() > LINE_LIMIT {
-        return Err(DriverFault::Malformed);
-    }
-    tree.apply(&DriverLine::read(line)?, &mut Meter::new())?;
-    Ok(())
-}
-
 impl SampleUps {
     /// A UPS that is usable, of which a driver has reported these lines.
     fn new(alloc: Global, lines: &[u8]) -> Result<SampleUps, DriverFault> {
-        let mut tree = Tree::new(alloc);
-        for line in lines.split(|b| *b == b'\n') {
-            tell(&mut tree, line)?;
-        }
         let report = Report {
             connected: true,
             dumped: true,
             ok: true,
             heard: 0,
-            tree,
+            tree: tree_of(alloc, lines)?,
         };
         Ok(SampleUps {
             report,

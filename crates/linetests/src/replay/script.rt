@@ -1,12 +1,14 @@
 //! Lines that are none of a script's. What a script's lines mean is shown by the cases of `tests/scripts/` at the top.
-use super::read_script;
-use crate::ReplayFault;
+use super::replay_over_su;
+use nutreplay::ReplayFault;
+use nutreply::CountedWriter;
 use std::alloc::{AllocError, Global};
 use std::test::Fail;
 
 /// The fault of the script, if it has one.
 fn fault_of(alloc: Global, script: &[u8]) -> Option<ReplayFault> {
-    read_script(alloc, script).err()
+    let mut out = CountedWriter::new(Vec::new(alloc));
+    replay_over_su(alloc, script, &mut out).err()
 }
 
 /// The fault of the line after two good ones.

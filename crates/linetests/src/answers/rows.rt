@@ -1,8 +1,7 @@
 //! Each command once, on its way to an answer. What refuses it, and the whole texts, stand in tests/answers of the
 //! repository, byte for byte, for the program to answer.
-use super::answer;
 use super::sample::{Sample, SampleAsker};
-use crate::{Change, Command, Reply};
+use nutanswer::{Change, Command, Reply, answer};
 use nutwords::{LINE_LIMIT, Line};
 use std::test::Fail;
 

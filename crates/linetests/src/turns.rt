@@ -1,6 +1,6 @@
-//! Turns over scripted sockets.
-use crate::{Act, Call, LoopFault, Ready, Scripted, turn};
+//! Turns over scripted sockets, and the texts of the loop's faults.
 use nutcore::{Descriptions, MaxAge, Peer, Server, UpsId, UpsList, Users};
+use nutloop::{Act, Call, LoopFault, Ready, Scripted, turn};
 use nutwords::{Address, UpsName};
 use std::alloc::{AllocError, Global};
 use std::test::Fail;
@@ -91,5 +91,18 @@ fn failed_calls_are_counted(rt: HostRuntime) -> Result<(), Fail> {
     assert_eq!(rt; turn(&mut server, &mut sockets), Err(LoopFault::Ready));
     assert_eq!(rt; turn(&mut server, &mut sockets), Err(LoopFault::Accept));
     assert_eq!(rt; sockets.failures(), 2);
+    Ok(())
+}
+
+#[test]
+fn faults_have_their_texts(rt: HostRuntime) -> Result<(), Fail> {
+    assert_eq!(rt;
+        format!(in rt.alloc(); "{}", LoopFault::Ready)?.as_str(),
+        "ready failed"
+    );
+    assert_eq!(rt;
+        format!(in rt.alloc(); "{}", LoopFault::Accept)?.as_str(),
+        "accept failed"
+    );
     Ok(())
 }

@@ -1,5 +1,5 @@
 //! A server and an output in memory, for the tests: what is sent, printed and refused.
-use crate::{Given, Job, run};
+use nutclient::{Given, Job, run};
 use nutreply::{CountedReader, CountedWriter, Session};
 use std::alloc::Global;
 use std::io;

@@ -1,6 +1,6 @@
 //! What the programs' words ask for: what is sent, and what is printed of the reply.
-use crate::peer::{OF_SU, SET, Server, VARIABLES, check_met, sending};
-use crate::{Given, Job};
+use super::peer::{OF_SU, SET, Server, VARIABLES, check_met, sending};
+use nutclient::{Given, Job};
 use std::alloc::Global;
 use std::process::Abort;
 use std::test::Fail;

@@ -1,8 +1,7 @@
 //! An output that fails, and the texts of faults. What whole scripts print is shown by the cases of `tests/scripts/` at the top.
-use super::{ReplayFault, replay};
-use nutcore::{Descriptions, UpsList, Users};
+use super::replay_over_su;
+use nutreplay::ReplayFault;
 use nutreply::CountedWriter;
-use nutwords::UpsName;
 use std::io;
 use std::io::Write;
 use std::test::Fail;
@@ -38,14 +37,11 @@ impl Write for Failing {
 #[test]
 fn a_failed_output_has_a_beginning(rt: HostRuntime) -> Result<(), Fail> {
     for room in 0..=TRANSCRIPT.len() {
-        let list = UpsList::one(rt.alloc(), UpsName::read(b"su").unwrap())?;
-        let users = Users::none(rt.alloc());
-        let descriptions = Descriptions::none(rt.alloc());
         let mut out = CountedWriter::new(Failing {
             got: Vec::new(rt.alloc()),
             room,
         });
-        let answer = replay(rt.alloc(), list, users, descriptions, SCRIPT, &mut out);
+        let answer = replay_over_su(rt.alloc(), SCRIPT, &mut out);
         let is_whole = room == TRANSCRIPT.len();
         assert_eq!(rt; answer == Ok(()), is_whole, "room {room}");
         assert_eq!(rt; answer == Err(ReplayFault::Write), !is_whole, "room {room}");

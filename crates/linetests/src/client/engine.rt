@@ -1,6 +1,6 @@
 //! Replies and outputs that are cut, refused or full.
-use crate::peer::{OF_SU, SET, Server, VARIABLES, check_met, sending};
-use crate::{Given, Job, run};
+use super::peer::{OF_SU, SET, Server, VARIABLES, check_met, sending};
+use nutclient::{Given, Job, run};
 use nutreply::{ClientFault, CountedReader, CountedWriter, Session};
 use std::fs::File;
 use std::test::Fail;

@@ -1,0 +1,5 @@
+//! Commands, refusals and answers.
+
+mod read;
+mod rows;
+mod sample;

@@ -1,0 +1,5 @@
+//! What clients send, print and refuse.
+
+mod engine;
+mod job;
+mod peer;
