@@ -6,5 +6,5 @@ set -euo pipefail
 source "$(dirname "${BASH_SOURCE[0]}")/built.bash"
 cd "$top/crates"
 
-built upsd upsc
-python3 ../tests/serve_cases.py "$PWD/upsd/out/upsd" "$PWD/upsc/out/upsc"
+built upsd upsc upsrw upscmd
+python3 ../tests/serve_cases.py "$PWD/upsd/out/upsd" "$PWD/upsc/out/upsc" "$PWD/upsrw/out/upsrw" "$PWD/upscmd/out/upscmd"

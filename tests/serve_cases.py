@@ -1,4 +1,4 @@
-"""The cases of tests/serve.sh: the built server on real sockets. Words: the programs upsd and upsc."""
+"""The cases of tests/serve.sh: the built server on real sockets. Words: the programs upsd, upsc, upsrw and upscmd."""
 import contextlib
 import os
 import resource
@@ -13,7 +13,7 @@ import tempfile
 import threading
 import time
 
-UPSD, UPSC = sys.argv[1:3]
+UPSD, UPSC, UPSRW, UPSCMD = sys.argv[1:5]
 FOLDER = tempfile.mkdtemp()
 USERS = """[admin]
 password = "s3 cret"
@@ -258,6 +258,22 @@ def a_driver_and_upsc_meet():
         good.send(b"LIST VAR su\n")
         assert good.listing() == LISTED
         assert good.ask(b"GET UPSDESC su\n") == b'UPSDESC su "Rack 1"\n'
+
+
+@case
+def clients_print_what_the_server_holds():
+    told = TWO + b'SETINFO device.model "Smart \\"X\\" \\\\ 5"\nSETFLAGS battery.charge RW\nADDCMD test.battery.start\nADDCMD load.off\n'
+    with served(told) as (server, _, _):
+        at = f"127.0.0.1:{server.port}"
+        for words, want in [
+                ([UPSC, f"su@{at}"], b'battery.charge: 100\ndevice.model: Smart "X" \\ 5\nups.status: OL\n'),
+                ([UPSC, f"su@{at}", "device.model"], b'Smart "X" \\ 5\n'),
+                ([UPSRW, f"su@{at}"], b"battery.charge=100\n"),
+                ([UPSCMD, "-l", f"su@{at}"], b"load.off\ntest.battery.start\n"),
+                ([UPSC, "-l", at], b"su\n"),
+                ([UPSC, "-L", at], b"su: Rack 1\n")]:
+            got = subprocess.run(words, capture_output=True, timeout=10, check=False)
+            assert (got.returncode, got.stdout, got.stderr) == (0, want, b""), got
 
 
 @case

@@ -4,7 +4,7 @@ use nutcore::{
     ClientId, Cost, Descriptions, Event, Fault, MaxAge, Outcome, Server, UpsId, UpsList, Users,
 };
 use nutwords::{Address, UpsName};
-use std::alloc::Global;
+use std::alloc::{AllocError, Global};
 use std::test::Fail;
 
 const SU: UpsId = UpsId { place: 0 };
@@ -35,96 +35,176 @@ fn each_fault_has_its_text(rt: HostRuntime) -> Result<(), Fail> {
     Ok(())
 }
 
+/// The driver of the UPS `su` connects.
+fn connect(server: &mut Server) -> Result<(), Fail> {
+    Ok(server.driver_up(SU)?)
+}
+
+/// It tells these lines.
+fn tell(server: &mut Server, lines: &[u8]) -> Result<(), Fail> {
+    Ok(server.driver_bytes(SU, lines)?)
+}
+
+/// How many of a driver's lines were refused, once it has told these.
+fn faults_of(server: &mut Server, lines: &[u8]) -> Result<u64, Fail> {
+    connect(server)?;
+    tell(server, lines)?;
+    Ok(server.driver_faults(SU)?)
+}
+
+/// The same of a new server.
+fn faults(alloc: Global, lines: &[u8]) -> Result<u64, Fail> {
+    faults_of(&mut server(alloc)?, lines)
+}
+
 #[test]
 fn faulty_lines_are_counted(rt: HostRuntime) -> Result<(), Fail> {
-    let mut server = server(rt.alloc())?;
-    server.driver_up(SU)?;
-    server.driver_bytes(SU, b"HELLO\nADDENUM nope \"x\"\nDUMPDONE\n")?;
-    assert_eq!(rt; server.driver_faults(SU), Ok(2));
+    let told = b"HELLO\nADDENUM nope \"x\"\nDUMPDONE\n";
+    assert_eq!(rt; faults(rt.alloc(), told)?, 2);
     Ok(())
+}
+
+/// What a line is answered that has no end, and how many lines were refused then.
+fn flood(alloc: Global) -> Result<(Fault, u64), Fail> {
+    flood_of(&mut server(alloc)?)
+}
+
+fn flood_of(server: &mut Server) -> Result<(Fault, u64), Fail> {
+    faults_of(server, b"SETINFO a \"1\"\n")?;
+    let fault = server
+        .driver_bytes(SU, &[b'x'; 1024])
+        .err()
+        .ok_or("a fault")?;
+    Ok((fault, server.driver_faults(SU)?))
 }
 
 /// What doesn't end is no line, and isn't counted as a refused one.
 #[test]
 fn a_flood_is_no_faulty_line(rt: HostRuntime) -> Result<(), Fail> {
-    let mut server = server(rt.alloc())?;
-    server.driver_up(SU)?;
-    server.driver_bytes(SU, b"SETINFO a \"1\"\n")?;
-    let flood = server.driver_bytes(SU, &[b'x'; 1024]);
-    assert_eq!(rt; flood, Err(Fault::LineTooLong));
-    assert_eq!(rt; server.driver_faults(SU), Ok(0));
+    let (fault, refused) = flood(rt.alloc())?;
+    assert!(rt; fault == Fault::LineTooLong);
+    assert_eq!(rt; refused, 0);
     Ok(())
+}
+
+/// So many ticks, a second apart.
+fn ticks(alloc: Global, count: u64) -> Result<Vec<Event>, AllocError> {
+    let mut events = Vec::new(alloc);
+    for second in 0..count {
+        events.push(Event::Tick(second))?;
+    }
+    Ok(events)
+}
+
+/// How many of the events are done.
+fn count_done(server: &mut Server, events: &[Event]) -> Result<usize, Fail> {
+    let outcomes = server.run(events)?;
+    Ok(
+        outcomes
+            .iter()
+            .filter(|outcome| **outcome == Outcome::Done)
+            .count(),
+    )
+}
+
+/// How many of so many ticks are done by a new server.
+fn ticks_done(alloc: Global, count: u64) -> Result<usize, Fail> {
+    let events = ticks(alloc, count)?;
+    count_done(&mut server(alloc)?, &events)
 }
 
 #[test]
 fn a_thousand_events_are_one_run(rt: HostRuntime) -> Result<(), Fail> {
-    let alloc = rt.alloc();
-    let mut server = server(alloc)?;
-    let mut events = Vec::new(alloc);
-    for second in 0..1000u64 {
-        events.push(Event::Tick(second))?;
-    }
-    let outcomes = server.run(events.as_slice())?;
-    assert!(rt; outcomes.len() == 1000);
-    assert!(rt;
-        outcomes
-            .as_slice()
-            .iter()
-            .all(|outcome| *outcome == Outcome::Done)
-    );
+    let done = ticks_done(rt.alloc(), 1000)?;
+    assert_eq!(rt; done, 1000);
     Ok(())
 }
 
-/// A server whose UPS `su` has told these lines, and a client of it that asks for its variables.
-fn server_that_lists(alloc: Global, told: &[u8]) -> Result<(Server, ClientId), Fail> {
-    let mut server = server(alloc)?;
-    server.driver_up(SU)?;
-    server.driver_bytes(SU, told)?;
-    let client = server.open(Address::read(b"::1")?)?;
+/// A new client asks for the variables of the UPS `su`, once its driver has told these lines.
+fn ask_for_variables(server: &mut Server, told: &[u8]) -> Result<ClientId, Fail> {
+    connect(server)?;
+    tell(server, told)?;
+    let client = open(server)?;
     server.feed(client, b"LIST VAR su\n")?;
-    Ok((server, client))
+    Ok(client)
+}
+
+/// A new client.
+fn open(server: &mut Server) -> Result<ClientId, Fail> {
+    Ok(server.open(Address::read(b"::1")?)?)
+}
+
+/// What it costs that a new client asks for the variables, and what, that it takes so many bytes then.
+fn costs_of(server: &mut Server, told: &[u8], taken: usize) -> Result<[Cost; 2], Fail> {
+    let client = ask_for_variables(server, told)?;
+    let asking = server.cost();
+    server.took(client, taken)?;
+    Ok([asking, server.cost()])
+}
+
+/// The same of a server that serves nobody else.
+fn costs(alloc: Global, told: &[u8], taken: usize) -> Result<[Cost; 2], Fail> {
+    costs_of(&mut server(alloc)?, told, taken)
+}
+
+/// So many lines made, and so many bytes of them placed.
+fn cost(rendered: u64, placed: usize) -> Cost {
+    Cost { rendered, placed }
 }
 
 #[test]
 fn short_listing_costs_its_lines(rt: HostRuntime) -> Result<(), Fail> {
     let told = b"SETINFO ups.status \"OL\"\nSETINFO battery.charge \"100\"\nDUMPDONE\nDATAOK\n";
-    let (mut server, client) = server_that_lists(rt.alloc(), told)?;
-    let (rendered, placed) = (4, 85);
-    assert_eq!(rt; server.cost(), Cost { rendered, placed });
-    server.took(client, 17)?;
-    let (rendered, placed) = (0, 0);
-    assert_eq!(rt; server.cost(), Cost { rendered, placed });
+    assert_eq!(rt; costs(rt.alloc(), told, 17)?, [cost(4, 85), cost(0, 0)]);
     Ok(())
 }
 
-/// The line that tells the variable of this number, from 1 to 100, with a value of 256 bytes.
-fn tell_variable(number: u8, told: &mut Vec<u8>) -> Result<(), Fail> {
+/// Joins the line that tells the variable of this number, from 1 to 100, with a value of 256 bytes.
+fn push_variable(number: u8, told: &mut Vec<u8>) -> Result<(), AllocError> {
     told.extend_from_slice(b"SETINFO v")?;
     for digit in [number / 100, number / 10 % 10, number % 10] {
         told.push(b'0' + digit)?;
     }
     told.extend_from_slice(b" \"")?;
     told.extend_from_slice(&[b'x'; 256])?;
-    told.extend_from_slice(b"\"\n")?;
-    Ok(())
+    told.extend_from_slice(b"\"\n")
+}
+
+/// The lines that tell a hundred variables.
+fn hundred_variables(alloc: Global) -> Result<Vec<u8>, AllocError> {
+    let mut told = Vec::new(alloc);
+    for number in 1..=100 {
+        push_variable(number, &mut told)?;
+    }
+    told.extend_from_slice(b"DUMPDONE\nDATAOK\n")?;
+    Ok(told)
 }
 
 /// A listing of 27,134 bytes: only the lines are made that the ring has room for, and a line that is cut is made again.
 #[test]
 fn long_listing_costs_what_fits(rt: HostRuntime) -> Result<(), Fail> {
-    let mut told = Vec::new(rt.alloc());
-    for number in 1..=100 {
-        tell_variable(number, &mut told)?;
-    }
-    told.extend_from_slice(b"DUMPDONE\nDATAOK\n")?;
-    let (mut server, client) = server_that_lists(rt.alloc(), told.as_slice())?;
-    let (rendered, placed) = (17, 4096);
-    assert_eq!(rt; server.cost(), Cost { rendered, placed });
-    server.took(client, 4000)?;
-    let (rendered, placed) = (15, 4000);
-    assert_eq!(rt; server.cost(), Cost { rendered, placed });
+    let told = hundred_variables(rt.alloc())?;
+    assert_eq!(rt;
+        costs(rt.alloc(), &told, 4000)?,
+        [cost(17, 4096), cost(15, 4000)]
+    );
+    Ok(())
+}
+
+/// What it costs that a new client asks for the variables, of which there are none, and what a tick then.
+fn costs_with_a_tick(alloc: Global) -> Result<[Cost; 2], Fail> {
+    costs_with_a_tick_of(&mut server(alloc)?)
+}
+
+fn costs_with_a_tick_of(server: &mut Server) -> Result<[Cost; 2], Fail> {
+    ask_for_variables(server, b"DUMPDONE\nDATAOK\n")?;
+    let asking = server.cost();
     server.tick(1);
-    let (rendered, placed) = (0, 0);
-    assert_eq!(rt; server.cost(), Cost { rendered, placed });
+    Ok([asking, server.cost()])
+}
+
+#[test]
+fn each_event_is_counted_from_nothing(rt: HostRuntime) -> Result<(), Fail> {
+    assert_eq!(rt; costs_with_a_tick(rt.alloc())?, [cost(2, 34), cost(0, 0)]);
     Ok(())
 }
