@@ -7,69 +7,98 @@ use std::alloc::Global;
 /// The length of a short value, in bytes.
 pub const SHORT: usize = 10;
 
-/// Values are asked for by one client, a line and its answer at a time.
-pub fn get_values(alloc: Global, count: u32) -> Result<u64> {
-    let mut sample = Sample::new(alloc, SHORT)?;
-    let client = sample.open()?;
-    let mut taken = 0u64;
-    for _ in 0..count {
-        sample.send(client, b"GET VAR su v2048\n")?;
-        taken = taken.saturating_add(sample.take_offered(client)? as u64);
+/// A load, and how often it is done.
+#[derive(Clone, Copy)]
+pub enum Load {
+    /// A value is asked for.
+    Get(u32),
+    /// A variable is set.
+    Set(u32),
+    /// All variables are listed.
+    List(u32),
+    /// The driver reports a variable again, so often, while so many listings wait.
+    Report { paused: u32, count: u32 },
+}
+
+/// Does the load on a new server whose variables have values of so many bytes.
+pub fn run(alloc: Global, width: usize, load: Load) -> Result<u64> {
+    Sample::new(alloc, width)?.run(load)
+}
+
+impl Sample {
+    fn run(&mut self, load: Load) -> Result<u64> {
+        match load {
+            Load::Get(count) => self.get_values(count),
+            Load::Set(count) => self.set_values(count),
+            Load::List(count) => self.list_variables(count),
+            Load::Report { paused, count } => self.report_values(paused, count),
+        }
     }
-    Ok(taken)
-}
 
-/// A session that may set variables, and a driver that is owed nothing.
-fn open_to_set(sample: &mut Sample) -> Result<ClientId> {
-    let client = sample.open()?;
-    sample.send(client, b"USERNAME admin\nPASSWORD pw\n")?;
-    sample.take(client)?;
-    sample.take_orders()?;
-    Ok(client)
-}
-
-/// A variable is set, and the driver takes the order.
-pub fn set_values(alloc: Global, count: u32) -> Result<u64> {
-    let mut sample = Sample::new(alloc, SHORT)?;
-    let client = open_to_set(&mut sample)?;
-    let mut taken = 0u64;
-    for _ in 0..count {
-        sample.send(client, b"SET VAR su v2048 \"12\"\n")?;
-        taken = taken.saturating_add(sample.take_offered(client)? as u64);
-        sample.take_orders()?;
+    /// Values are asked for by one client, a line and its answer at a time.
+    fn get_values(&mut self, count: u32) -> Result<u64> {
+        let client = self.open()?;
+        let mut taken = 0u64;
+        for _ in 0..count {
+            taken = taken.saturating_add(self.answer(client, b"GET VAR su v2048\n")?);
+        }
+        Ok(taken)
     }
-    Ok(taken)
-}
 
-/// All variables are listed, with values of so many bytes, and the listing is taken.
-pub fn list_variables(alloc: Global, width: usize, count: u32) -> Result<u64> {
-    let mut sample = Sample::new(alloc, width)?;
-    let client = sample.open()?;
-    let mut taken = 0u64;
-    for _ in 0..count {
-        sample.send(client, b"LIST VAR su\n")?;
-        taken = taken.saturating_add(sample.take(client)?);
+    /// How many bytes the client is offered once it has sent this line, all of which it takes.
+    fn answer(&mut self, client: ClientId, line: &[u8]) -> Result<u64> {
+        self.send(client, line)?;
+        Ok(self.take_offered(client)? as u64)
     }
-    Ok(taken)
-}
 
-/// So many clients ask for all variables, and take nothing.
-fn pause_listings(sample: &mut Sample, paused: u32) -> Result<()> {
-    for _ in 0..paused {
-        let client = sample.open()?;
-        sample.send(client, b"LIST VAR su\n")?;
+    /// A session that may set variables, and a driver that is owed nothing.
+    fn open_to_set(&mut self) -> Result<ClientId> {
+        let client = self.open()?;
+        self.send(client, b"USERNAME admin\nPASSWORD pw\n")?;
+        self.take(client)?;
+        self.take_orders()?;
+        Ok(client)
     }
-    Ok(())
-}
 
-/// The driver reports its variables again, while so many clients have each asked for all of them and taken nothing.
-pub fn report_values(alloc: Global, width: usize, paused: u32, count: u32) -> Result<u64> {
-    let mut sample = Sample::new(alloc, width)?;
-    pause_listings(&mut sample, paused)?;
-    sample.report(count)?;
-    let client = match paused {
-        0 => sample.open()?,
-        _ => 1,
-    };
-    sample.take(client)
+    /// A variable is set, and the driver takes the order.
+    fn set_values(&mut self, count: u32) -> Result<u64> {
+        let client = self.open_to_set()?;
+        let mut taken = 0u64;
+        for _ in 0..count {
+            taken = taken.saturating_add(self.answer(client, b"SET VAR su v2048 \"12\"\n")?);
+            self.take_orders()?;
+        }
+        Ok(taken)
+    }
+
+    /// All variables are listed, and the listing is taken.
+    fn list_variables(&mut self, count: u32) -> Result<u64> {
+        let client = self.open()?;
+        let mut taken = 0u64;
+        for _ in 0..count {
+            self.send(client, b"LIST VAR su\n")?;
+            taken = taken.saturating_add(self.take(client)?);
+        }
+        Ok(taken)
+    }
+
+    /// So many clients ask for all variables, and take nothing.
+    fn pause_listings(&mut self, paused: u32) -> Result<()> {
+        for _ in 0..paused {
+            let client = self.open()?;
+            self.send(client, b"LIST VAR su\n")?;
+        }
+        Ok(())
+    }
+
+    /// The driver reports its variables again, while so many clients have each asked for all of them and taken nothing.
+    fn report_values(&mut self, paused: u32, count: u32) -> Result<u64> {
+        self.pause_listings(paused)?;
+        self.report(count)?;
+        let client = match paused {
+            0 => self.open()?,
+            _ => 1,
+        };
+        self.take(client)
+    }
 }

@@ -8,54 +8,67 @@
 mod loads;
 mod sample;
 
-use crate::loads::{SHORT, get_values, list_variables, report_values, set_values};
+use crate::loads::{Load, SHORT, run};
 use anyhow::{Error, Result};
 use std::alloc::Global;
 use std::env;
 
 fn main(rt: HostRuntime) -> Result<()> {
     let words: Vec<String> = env::args(&rt)?.skip(1).collect(rt.alloc())?;
-    match words.first() {
-        None => print_a_little(&rt, rt.alloc()),
-        Some(load) => {
-            let taken = run(rt.alloc(), load.as_str(), &words[1..])?;
-            println!(rt; "{taken} bytes taken")?;
-            Ok(())
-        }
+    if words.is_empty() {
+        return print_a_little(&rt, rt.alloc());
     }
+    print_taken(&rt, rt.alloc(), &words)
 }
 
 /// Does a little of each load.
 fn print_a_little(rt: &impl Print, alloc: Global) -> Result<()> {
-    let taken = get_values(alloc, 10)?;
+    let taken = run(alloc, SHORT, Load::Get(10))?;
     println!(rt; "10 values: {taken} bytes")?;
-    let taken = set_values(alloc, 10)?;
+    let taken = run(alloc, SHORT, Load::Set(10))?;
     println!(rt; "10 values set: {taken} bytes")?;
-    let taken = list_variables(alloc, SHORT, 1)?;
+    let taken = run(alloc, SHORT, Load::List(1))?;
     println!(rt; "a listing: {taken} bytes")?;
-    let taken = report_values(alloc, SHORT, 2, 100)?;
+    let (paused, count) = (2, 100);
+    let taken = run(alloc, SHORT, Load::Report { paused, count })?;
     println!(rt; "a listing that waited for 100 values: {taken} bytes")?;
     Ok(())
 }
 
-/// Does the load of these words.
-fn run(alloc: Global, load: &str, words: &[String]) -> Result<u64> {
-    match load {
-        "get" => get_values(alloc, number(words, 0)?),
-        "set" => set_values(alloc, number(words, 0)?),
-        "list" => list_variables(alloc, number(words, 0)? as usize, number(words, 1)?),
-        "report" => report_values(
-            alloc,
-            number(words, 0)? as usize,
-            number(words, 1)?,
-            number(words, 2)?,
-        ),
+/// Does the load of these words, and tells how many bytes were taken.
+fn print_taken(rt: &impl Print, alloc: Global, words: &[String]) -> Result<()> {
+    let (width, load) = read_load(words)?;
+    let taken = run(alloc, width, load)?;
+    println!(rt; "{taken} bytes taken")?;
+    Ok(())
+}
+
+/// The length of the values, and the load of these words.
+fn read_load(words: &[String]) -> Result<(usize, Load)> {
+    match word(words, 0)? {
+        "get" => Ok((SHORT, Load::Get(number(words, 1)?))),
+        "set" => Ok((SHORT, Load::Set(number(words, 1)?))),
+        "list" => Ok((number(words, 1)? as usize, Load::List(number(words, 2)?))),
+        "report" => Ok((number(words, 1)? as usize, read_report(words)?)),
         _ => Err(Error::msg("get, set, list or report")),
+    }
+}
+
+/// How many listings wait, and how often a variable is reported.
+fn read_report(words: &[String]) -> Result<Load> {
+    let (paused, count) = (number(words, 2)?, number(words, 3)?);
+    Ok(Load::Report { paused, count })
+}
+
+/// The word at a place.
+fn word(words: &[String], place: usize) -> Result<&str> {
+    match words.get(place) {
+        Some(word) => Ok(word.as_str()),
+        None => Err(Error::msg("a count")),
     }
 }
 
 /// The number at a place of the words.
 fn number(words: &[String], place: usize) -> Result<u32> {
-    let word = words.get(place).ok_or(Error::msg("a count"))?;
-    Ok(word.as_str().parse::<u32>()?)
+    Ok(word(words, place)?.parse::<u32>()?)
 }

@@ -5,6 +5,9 @@ use nutwords::{Address, UpsName};
 use std::alloc::Global;
 use std::fmt::Write;
 
+/// The only UPS.
+const SU: UpsId = UpsId { place: 0 };
+
 /// How many variables the UPS has.
 pub const VARIABLES: u32 = 4096;
 
@@ -17,11 +20,10 @@ password = pw
 actions = SET
 ";
 
-/// A server, its UPS, and what its driver reports of each variable, a line each of the same length.
+/// A server of one UPS, and what its driver reports of each variable, a line each of the same length.
 #[derive(Drop)]
 pub struct Sample {
     server: Server,
-    su: UpsId,
     lines: Vec<u8>,
     line_length: usize,
 }
@@ -68,35 +70,38 @@ impl Sample {
     /// A server whose UPS `su` has all variables, `v0000` to `v4095`, with values of so many bytes. Clients may set
     /// `v2048`.
     pub fn new(alloc: Global, width: usize) -> Result<Sample> {
-        let server = new_server(alloc)?;
-        let su = server.find(b"su").ok_or(Error::msg("the UPS"))?;
+        let lines = all_lines(alloc, width)?;
         let mut sample = Sample {
-            server,
-            su,
-            lines: all_lines(alloc, width)?,
+            server: new_server(alloc)?,
+            lines,
             line_length: width.saturating_add(AROUND_A_VALUE),
         };
-        sample.connect()?;
-        sample.tell_all()?;
-        sample.tell(b"SETFLAGS v2048 RW STRING\nDUMPDONE\nDATAOK\n")?;
+        sample.begin()?;
         Ok(sample)
+    }
+
+    /// The driver connects, and reports all.
+    fn begin(&mut self) -> Result<()> {
+        self.connect()?;
+        self.tell_all()?;
+        self.tell(b"SETFLAGS v2048 RW STRING\nDUMPDONE\nDATAOK\n")
     }
 
     /// The driver connects.
     fn connect(&mut self) -> Result<()> {
-        self.server.driver_up(self.su)?;
+        self.server.driver_up(SU)?;
         Ok(())
     }
 
     /// The driver reports these lines.
     fn tell(&mut self, lines: &[u8]) -> Result<()> {
-        self.server.driver_bytes(self.su, lines)?;
+        self.server.driver_bytes(SU, lines)?;
         Ok(())
     }
 
     /// The driver reports of each variable.
     fn tell_all(&mut self) -> Result<()> {
-        self.server.driver_bytes(self.su, &self.lines)?;
+        self.server.driver_bytes(SU, &self.lines)?;
         Ok(())
     }
 
@@ -108,15 +113,15 @@ impl Sample {
             .cycle()
             .take(count as usize)
         {
-            self.server.driver_bytes(self.su, line)?;
+            self.server.driver_bytes(SU, line)?;
         }
         Ok(())
     }
 
     /// The driver takes all that it is owed.
     pub fn take_orders(&mut self) -> Result<()> {
-        let offered = self.server.driver_offered(self.su)?;
-        self.server.driver_took(self.su, offered)?;
+        let offered = self.server.driver_offered(SU)?;
+        self.server.driver_took(SU, offered)?;
         Ok(())
     }
 

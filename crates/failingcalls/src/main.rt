@@ -10,16 +10,29 @@ use crate::rows::{Row, SU, rows};
 use crate::run::{Failing, Part, Ran, run};
 use crate::seen::{bytes_taken, other_calls, shuts};
 use anyhow::Result;
-use nutcore::Peer;
+use nutcore::{ClientId, Peer};
 use nutloop::Ready;
 
 fn main(rt: HostRuntime) -> Result<()> {
     let rows = rows(rt.alloc())?;
-    let as_ever = run(rt.alloc(), &rows, None)?;
-    tell_as_ever(&rt, &as_ever)?;
-    for turn in 0..rows.len() {
-        fail_ready(&rt, &rows, turn, &as_ever)?;
-        fail_answer(&rt, &rows, turn, &as_ever)?;
+    run_all(&rt, &rows)
+}
+
+/// The run in which nothing fails, and then one for each call.
+fn run_all(rt: &HostRuntime, rows: &[Row]) -> Result<()> {
+    let as_ever = run(rt.alloc(), rows, None)?;
+    tell_as_ever(rt, &as_ever)?;
+    fail_each(rt, rows, &as_ever)
+}
+
+/// A run for each call, which fails.
+fn fail_each(rt: &HostRuntime, rows: &[Row], as_ever: &Ran) -> Result<()> {
+    for (turn, row) in rows.iter().enumerate() {
+        let (ready, reply) = *row;
+        fail_ready(rt, rows, turn, as_ever)?;
+        if reply.is_asked() {
+            fail_answer(rt, rows, (turn, ready), as_ever)?;
+        }
     }
     Ok(())
 }
@@ -28,9 +41,19 @@ fn main(rt: HostRuntime) -> Result<()> {
 fn tell_as_ever(rt: &HostRuntime, ran: &Ran) -> Result<()> {
     let failed = ran.sockets.failures();
     println!(rt; "nothing fails: {failed} failed calls")?;
-    let first = bytes_taken(rt.alloc(), &ran.sockets, Peer::Client(1))?.len();
-    let second = bytes_taken(rt.alloc(), &ran.sockets, Peer::Client(2))?.len();
+    let first = count_taken(rt, ran, 1)?;
+    let second = count_taken(rt, ran, 2)?;
     println!(rt; "client 1 takes {first} bytes, and client 2 {second}")?;
+    tell_end_of_driver(rt, ran)
+}
+
+/// How many bytes the client takes.
+fn count_taken(rt: &HostRuntime, ran: &Ran, client: ClientId) -> Result<usize> {
+    Ok(bytes_taken(rt.alloc(), &ran.sockets, Peer::Client(client))?.len())
+}
+
+/// What is known of the driver at the end.
+fn tell_end_of_driver(rt: &HostRuntime, ran: &Ran) -> Result<()> {
     let down = yes(ran.server.driver_connected(SU) == Ok(false));
     let faulty = ran.server.driver_faults(SU)?;
     let shut = shuts(&ran.sockets, Peer::Driver(SU));
@@ -44,33 +67,45 @@ fn tell_as_ever(rt: &HostRuntime, ran: &Ran) -> Result<()> {
 fn fail_ready(rt: &HostRuntime, rows: &[Row], turn: usize, as_ever: &Ran) -> Result<()> {
     let part = Part::Ready;
     let ran = run(rt.alloc(), rows, Some(Failing { turn, part }))?;
-    print!(rt; "turn {turn:>2}: ready fails: ")?;
-    tell_fault(rt, &ran, as_ever)
+    tell_ready(rt, turn, &ran, as_ever)
 }
 
-/// What the turn asks after `ready` fails, if it asks anything.
-fn fail_answer(rt: &HostRuntime, rows: &[Row], turn: usize, as_ever: &Ran) -> Result<()> {
-    let Some((ready, reply)) = rows.get(turn) else {
-        return Ok(());
-    };
-    if !reply.is_asked() {
-        return Ok(());
-    }
+fn tell_ready(rt: &HostRuntime, turn: usize, ran: &Ran, as_ever: &Ran) -> Result<()> {
+    print!(rt; "turn {turn:>2}: ready fails: ")?;
+    tell_fault(rt, ran, as_ever)
+}
+
+/// What the turn asks after `ready` fails.
+fn fail_answer(
+    rt: &HostRuntime,
+    rows: &[Row],
+    (turn, ready): (usize, Ready),
+    as_ever: &Ran,
+) -> Result<()> {
     let part = Part::Answer;
     let ran = run(rt.alloc(), rows, Some(Failing { turn, part }))?;
+    tell_answer(rt, (turn, ready), &ran, as_ever)
+}
+
+fn tell_answer(
+    rt: &HostRuntime,
+    (turn, ready): (usize, Ready),
+    ran: &Ran,
+    as_ever: &Ran,
+) -> Result<()> {
     print!(rt; "turn {turn:>2}: ")?;
-    match *ready {
+    match ready {
         Ready::Read(p) => {
             print!(rt; "a read of ")?;
-            tell_loss(rt, p, &ran, as_ever)
+            tell_loss(rt, p, ran, as_ever)
         }
         Ready::Write(p) => {
             print!(rt; "a write to ")?;
-            tell_loss(rt, p, &ran, as_ever)
+            tell_loss(rt, p, ran, as_ever)
         }
         _ => {
             print!(rt; "accept fails: ")?;
-            tell_fault(rt, &ran, as_ever)
+            tell_fault(rt, ran, as_ever)
         }
     }
 }
