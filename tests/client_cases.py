@@ -173,7 +173,7 @@ def check_unlawful(rows):
     """Each of these words is a bad argument, and no server is looked for."""
     BENCH.file("led", b"")
     for words in rows:
-        printed, told = (child := start(words, {})).communicate(timeout=60)
+        printed, told = (child := start(words, {"LEAD_TO": "1"})).communicate(timeout=60)  # a port that refuses
         got, want = (printed, told, child.returncode), (b"", f"{words[0]}: {ARGUMENT}\n".encode(), 2)
         assert got == want, f"{words}: {got}"
         assert os.path.getsize(LED) == 0, f"{words}: a server was looked for"
