@@ -1,7 +1,8 @@
 #!/usr/bin/env bash
 # The clients as a new user tries them: what upsc, upsrw and upscmd say, and with which status they end, without words,
 # with a wrong word, with --help, with a word that isn't lawful, at a port that refuses, at a server that says nothing
-# and closes, at one that answers, and with an output that is full.
+# and closes, at one that answers, and with an output that is full. Then client_cases.py has them meet a scripted server, which
+# cuts its replies at every byte, refuses, or takes little: a line a case, with its rows. Needs perl, python3 and cc.
 set -euo pipefail
 # shellcheck source=tests/built.bash
 source "$(dirname "${BASH_SOURCE[0]}")/built.bash"
@@ -107,5 +108,8 @@ prints done "OK" -u admin -p "s3 cret" "su@127.0.0.1:$answering" load.off
 fails_at_a_full_output -l "su@localhost:$answering"
 fails_at_a_full_output -u admin -p "s3 cret" "su@localhost:$answering" load.off
 
-((failed == 0)) || exit 1
-echo "clients: ok: $cases cases"
+((failed == 0)) && echo "clients: ok: $cases cases"
+narrow_ends
+export PYTHONDONTWRITEBYTECODE=1
+python3 "$top/tests/client_cases.py" "$folder/narrow.so" "$top"/crates/{upsc/out/upsc,upsrw/out/upsrw,upscmd/out/upscmd} || failed=1
+exit "$failed"

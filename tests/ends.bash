@@ -50,3 +50,6 @@ prints_what_stands_beside() {
         failed=1
     fi
 }
+
+# The library of narrow.c, which makes a program's ends narrow.
+narrow_ends() { cc -O2 -Wall -Wextra -shared -fPIC -o "$folder/narrow.so" "$top/tests/narrow.c"; }

@@ -310,6 +310,36 @@ faults key_outside_of_a_section 'upsd: early.conf:1: cause 2' --ups early.conf s
 faults bad_name 'upsd: name.conf:1: cause 3' --ups name.conf script
 faults list_of_thirty_three 'upsd: thirty-three.conf:33: cause 6' --ups thirty-three.conf script
 
+# Each line of scripts/bad_lines is none of a script's, behind two that are fine. It stands there between bars, as printf
+# reads it for %b.
+while IFS= read -r line; do
+    [[ -n $line && $line != '# '* ]] || continue
+    is 'a row stands between bars' '|*|' "$line"
+    printf 'up su\n# fine\n%b' "${line:1:-1}" >"$folder/files/bad-line"
+    faults "bad line $line" 'upsd: bad-line:3: bad event' bad-line
+done <"$top/tests/scripts/bad_lines"
+printf 'worse' >"$folder/files/first-is-bad"
+printf 'up su\n# fine\n\nup su\nup\nworse\n' >"$folder/files/fifth-is-bad"
+printf 'up su\nup su\nworse' >"$folder/files/last-is-bad"
+faults first_line_is_bad 'upsd: first-is-bad:1: bad event' first-is-bad
+faults first_of_two_bad_lines 'upsd: fifth-is-bad:5: bad event' fifth-is-bad
+faults last_line_is_bad 'upsd: last-is-bad:3: bad event' last-is-bad
+
+# An output that takes three bytes a call, and so many in all, holds so much of what is printed.
+holds_a_beginning() {
+    local room=$1 status=0 full=$(($1 < $2)) told=''
+    cases=$((cases + 1))
+    (cd "$folder/files" && exec env LD_PRELOAD="$folder/narrow.so" STEP=3 WRITE_ROOM="$room" "$top/crates/upsd/out/upsd" replay netver) \
+        </dev/null >"$folder/out" 2>"$folder/err" || status=$?
+    ((full == 0)) || told='upsd: write failed'
+    is "output of $room bytes: status" "$full" "$status"
+    is "output of $room bytes: standard error" "$told" "$(<"$folder/err")"
+    head -c "$room" "$folder/netver.stdout" | cmp -s - "$folder/out" || is "output of $room bytes" same other
+}
+narrow_ends
+file netver 'open 192.0.2.1' 'client 1 NETVER' 'took 1 all'
+printf '%s\n' 'client 1 sent 4 bytes' 1.3 'driver su sent 0 bytes' >"$folder/netver.stdout"
+for room in {0..49}; do holds_a_beginning "$room" "$(stat -c %s "$folder/netver.stdout")"; done
 fails_at_a_full_output replay "$folder/files/script"
 
 refuses_words no_words

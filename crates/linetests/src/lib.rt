@@ -3,14 +3,4 @@
 #![tactic(auto)]
 
 #[cfg(test)]
-mod answers;
-#[cfg(test)]
-mod client;
-#[cfg(test)]
-mod listing;
-#[cfg(test)]
-mod replay;
-#[cfg(test)]
-mod told;
-#[cfg(test)]
-mod turns;
+mod faults;

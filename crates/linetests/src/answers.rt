@@ -1,5 +1,0 @@
-//! Commands, refusals and answers.
-
-mod read;
-mod rows;
-mod sample;

@@ -1,5 +1,0 @@
-//! What clients send, print and refuse.
-
-mod engine;
-mod job;
-mod peer;

@@ -1,0 +1,263 @@
+"""The cases of tests/clients.sh over a scripted server: what a client sends, prints and tells, whatever the pieces in which
+the reply comes, wherever it is cut, and however little the server or the output takes. Words: the library that makes ends
+narrow (narrow.c), and the programs upsc, upsrw and upscmd. A line a case, with its rows.
+"""
+import contextlib
+import os
+import socket
+import struct
+import subprocess
+import sys
+from typing import NamedTuple
+
+from replaying import Bench
+
+NARROW, *PROGRAMS = (os.path.abspath(word) for word in sys.argv[1:5])
+PROGRAMS = {os.path.basename(program): program for program in PROGRAMS}
+BENCH = Bench("clients", PROGRAMS["upsc"])
+LED = BENCH.file("led", b"")
+
+READ, WRITE, EARLY, BAD = "read failed", "write failed", "reply ended early", "bad reply"
+DENIED, STALE, ARGUMENT = "server answered ERR ACCESS-DENIED", "server answered ERR DATA-STALE", "bad argument"
+ENDS, FAILS, STAYS = "the server ends", "its connection is reset", "it waits for more"
+
+LIST = ("upsc", "su")
+LISTED = b'BEGIN LIST VAR su\nVAR su a "1"\nVAR su b "2 \\"x\\\\"\nEND LIST VAR su\n'
+PRINTED = b'a: 1\nb: 2 "x\\\n'
+ASKED = b"LIST VAR su\n"
+SET = ("upsrw", "-s", "ups.delay=30", "-u", "admin", "-p", "s3 cret", "su@localhost:3494")
+USER, PASSWORD = b'USERNAME "admin"\n', b'PASSWORD "s3 cret"\n'
+
+
+class Row(NamedTuple):
+    """The words, what the server sends at once, what it is sent, and what is printed or told."""
+
+    words: tuple
+    reply: bytes
+    sent: bytes
+    printed: bytes = b""
+    fault: str = ""
+    ending: str = ENDS
+    narrow: dict = {}
+
+
+class Peer:
+    """The server that every connection is led to."""
+
+    def __init__(self):
+        self.listener = socket.create_server(("127.0.0.1", 0))
+        self.listener.settimeout(60)
+        self.port = self.listener.getsockname()[1]
+
+    def meet(self, reply, ending):
+        """Sends the reply to the next client, and ends so. The answer is all that the client sent."""
+        with self.listener.accept()[0] as wire:
+            wire.settimeout(60)
+            if ending == FAILS:
+                line = wire.makefile("rb").readline()
+                wire.sendall(reply)
+                wire.setsockopt(socket.SOL_SOCKET, socket.SO_LINGER, struct.pack("ii", 1, 0))
+                return line
+            with contextlib.suppress(OSError):  # a client that sends nothing may have ended
+                wire.sendall(reply)
+                if ending == ENDS:
+                    wire.shutdown(socket.SHUT_WR)
+            return all_of(wire)
+
+
+PEER = Peer()
+
+
+def all_of(wire):
+    """What comes until the client has ended, which resets the connection where it left something unread."""
+    pieces = []
+    with contextlib.suppress(ConnectionResetError):
+        while piece := wire.recv(4096):
+            pieces.append(piece)
+    return b"".join(pieces)
+
+
+def start(words, narrow):
+    program, *rest = words
+    more = {"LD_PRELOAD": NARROW, "LEAD_TO": str(PEER.port), "LED": LED, **narrow}
+    ends = {"stdin": subprocess.DEVNULL, "stdout": subprocess.PIPE, "stderr": subprocess.PIPE}
+    return subprocess.Popen([PROGRAMS[program], *rest], env={**os.environ, **more}, **ends)
+
+
+def meet(row):
+    """What the row's client sent, printed and told, and its status."""
+    child = start(row.words, row.narrow)
+    try:
+        sent = PEER.meet(row.reply, row.ending)
+        printed, told = child.communicate(timeout=60)
+    except (TimeoutError, subprocess.TimeoutExpired) as error:
+        raise AssertionError(f"{row}: {error}") from None
+    finally:
+        child.kill()
+        child.wait()
+    return sent, printed, told, child.returncode
+
+
+def check(rows):
+    """Each row is so."""
+    count = 0
+    for row in rows:
+        told, status = (f"{row.words[0]}: {row.fault}\n".encode(), 1) if row.fault else (b"", 0)
+        got, want = meet(row), (row.sent, row.printed, told, status)
+        assert got == want, f"{row}: {got}"
+        count += 1
+    return f"{count} rows"
+
+
+# What the programs' words ask for.
+
+
+def asked_for():
+    """What each program's words send, and what is printed of the reply."""
+    upses = b'BEGIN LIST UPS\nUPS su "Unavailable"\nEND LIST UPS\n'
+    described = b'BEGIN LIST UPS\nUPS bay-1 "Rack 1"\nUPS su ""\nEND LIST UPS\n'
+    clients = b"BEGIN LIST CLIENT su\nCLIENT su 192.0.2.1\nCLIENT su ::1\nEND LIST CLIENT su\n"
+    writable = b'BEGIN LIST RW su\nRW su ups.delay "30"\nEND LIST RW su\n'
+    commands = b"BEGIN LIST CMD su\nCMD su load.off\nCMD su load.on\nEND LIST CMD su\n"
+    status = b'VAR su ups.status "OL CHRG"\n'
+    yield Row(LIST, LISTED, ASKED, PRINTED)
+    yield Row(("upsc", "su", "ups.status"), status, b"GET VAR su ups.status\n", b"OL CHRG\n")
+    yield Row(("upsc", "-l", "localhost"), upses, b"LIST UPS\n", b"su\n")
+    yield Row(("upsc", "-L"), described, b"LIST UPS\n", b"bay-1: Rack 1\nsu: \n")
+    yield Row(("upsc", "-c", "su"), clients, b"LIST CLIENT su\n", b"192.0.2.1\n::1\n")
+    yield Row(("upsrw", "su"), writable, b"LIST RW su\n", b"ups.delay=30\n")
+    yield Row(("upscmd", "-l", "su"), commands, b"LIST CMD su\n", b"load.off\nload.on\n")
+    yield Row(SET, b"OK\n" * 3, USER + PASSWORD + b'SET VAR su ups.delay "30"\n', b"OK\n")
+
+
+def in_pieces():
+    for row in asked_for():
+        for step in range(1, len(row.reply) + 1):
+            yield row._replace(narrow={"STEP": str(step)})
+
+
+def values():
+    """An order has a value or none; a setting is cut at its first equals sign."""
+    command = ("upscmd", "-u", "admin", "-p", "pw", "su", "a")
+    login = b'USERNAME "admin"\nPASSWORD "pw"\n'
+    yield Row(command, b"OK\n" * 3, login + b"INSTCMD su a\n", b"OK\n")
+    yield Row((*command, "1 0"), b"OK\n" * 3, login + b'INSTCMD su a "1 0"\n', b"OK\n")
+    for setting, line in [("a=", b'SET VAR su a ""\n'), ("a=b=c", b'SET VAR su a "b=c"\n')]:
+        words = ("upsrw", "-s", setting, "-u", "u", "-p", "p", "su")
+        yield Row(words, b"OK\n" * 3, b'USERNAME "u"\nPASSWORD "p"\n' + line, b"OK\n")
+
+
+def check_led(rows):
+    """Lawful words lead to their server, by what is looked up and connected to."""
+    for ups, led in rows:
+        BENCH.file("led", b"")
+        check([Row(("upsc", ups), LISTED, ASKED, PRINTED)])
+        with open(LED, encoding="utf-8") as file:
+            got = file.read().splitlines()
+        assert got == led, f"{ups}: {got}"
+    return f"{len(rows)} rows"
+
+
+SERVERS = [
+    ("su", ["look up localhost", "connect 127.0.0.1:3493"]),
+    ("su@localhost", ["look up localhost", "connect 127.0.0.1:3493"]),
+    ("su@192.0.2.1:65535", ["connect 192.0.2.1:65535"]),
+    ("su@a-b.c:1", ["look up a-b.c", "connect 127.0.0.1:1"]),
+]
+UNLAWFUL_UPSES = ["", "s/u", "su@", "su@ho_st", "su@:3493", "su@a@b", "su@a:1:2", "su@host:", "su@host:0", "su@host:03493"]
+UNLAWFUL_UPSES += ["su@host:65536", "su@host:+1"]
+UNLAWFUL_SETTINGS = ["a", "=1", "a/b=1", "a=\x01"]
+
+
+def check_unlawful(rows):
+    """Each of these words is a bad argument, and no server is looked for."""
+    BENCH.file("led", b"")
+    for words in rows:
+        printed, told = (child := start(words, {"LEAD_TO": "1"})).communicate(timeout=60)  # a port that refuses
+        got, want = (printed, told, child.returncode), (b"", f"{words[0]}: {ARGUMENT}\n".encode(), 2)
+        assert got == want, f"{words}: {got}"
+        assert os.path.getsize(LED) == 0, f"{words}: a server was looked for"
+    return f"{len(rows)} rows"
+
+
+# Replies and outputs that are cut, refused or full.
+
+
+def cut_replies():
+    for count in range(len(LISTED)):
+        yield Row(LIST, LISTED[:count], ASKED, fault=EARLY)
+        yield Row(LIST, LISTED[:count], ASKED, fault=READ, ending=FAILS)
+
+
+def refusals():
+    yield Row(SET, b"OK\nERR ACCESS-DENIED\nOK\n", USER + PASSWORD, fault=DENIED)
+    yield Row(SET, b"OK Goodbye\n", USER, fault=BAD)
+    yield Row(SET, b"OK\n", USER + PASSWORD, fault=EARLY)
+    yield Row(LIST, b"ERR DATA-STALE\n", ASKED, fault=STALE)
+    yield Row(LIST, b"ERR DATA-STALE", ASKED, fault=EARLY)
+
+
+MISFITS = [
+    b"BEGIN LIST VAR other\n",
+    b"begin LIST VAR su\n",
+    b"\n",
+    b"BEGIN LIST VAR su\r\n",
+    b'BEGIN LIST VAR su\nVAR other a "1"\n',
+    b"BEGIN LIST VAR su\nVAR su a\n",
+    b'BEGIN LIST VAR su\nVAR su a/b "1"\n',
+    b"BEGIN LIST VAR su\nEND LIST VAR other\n",
+    b"BEGIN LIST VAR su\nEND LIST RW su\n",
+    b"BEGIN LIST VAR su\nERR DATA-STALE\n",
+    b"ERR A1\n",
+    b"ERR A B\n",
+]
+
+
+def bad_replies():
+    """Each is told at once, though the server could still send more."""
+    for reply in MISFITS:
+        yield Row(LIST, reply, ASKED, fault=BAD)
+        yield Row(LIST, reply, ASKED, fault=BAD, ending=STAYS)
+
+
+def long_lines():
+    yield Row(LIST, b"x" * 1023, ASKED, fault=EARLY)
+    yield Row(LIST, b"x" * 1024, ASKED, fault=BAD, ending=STAYS)
+
+
+def more_behind_a_reply():
+    """It isn't looked at, and not waited for."""
+    yield Row(("upsc", "su", "a"), b'VAR su a "1"\nVAR su a "2"\n', b"GET VAR su a\n", b"1\n")
+    yield Row(LIST, LISTED + b"x", ASKED, PRINTED, ending=STAYS)
+
+
+def servers_that_take_less():
+    for room in range(len(ASKED)):
+        yield Row(LIST, LISTED, ASKED[:room], fault=WRITE, narrow={"STEP": "1", "SEND_ROOM": str(room)})
+
+
+def outputs_that_take_less():
+    for room in range(len(PRINTED)):
+        yield Row(LIST, LISTED, ASKED, PRINTED[:room], fault=WRITE, narrow={"STEP": "1", "WRITE_ROOM": str(room)})
+    # A listing without items prints nothing, which fits.
+    yield Row(LIST, b"BEGIN LIST VAR su\nEND LIST VAR su\n", ASKED, narrow={"WRITE_ROOM": "0"})
+
+
+def main():
+    BENCH.case("words and replies in pieces of every size", check, in_pieces())
+    BENCH.case("values of orders and settings", check, values())
+    BENCH.case("lawful words lead to their server", check_led, SERVERS)
+    unlawful = [("upsc", ups) for ups in UNLAWFUL_UPSES]
+    unlawful += [("upsrw", "-s", setting, "-u", "u", "-p", "p", "su") for setting in UNLAWFUL_SETTINGS]
+    BENCH.case("unlawful words are bad arguments", check_unlawful, unlawful)
+    BENCH.case("a cut reply prints nothing", check, cut_replies())
+    BENCH.case("nothing is sent behind a refusal", check, refusals())
+    BENCH.case("a line that does not fit is a bad reply", check, bad_replies())
+    BENCH.case("a line has at most 1023 bytes", check, long_lines())
+    BENCH.case("what stands behind a reply is left", check, more_behind_a_reply())
+    BENCH.case("a server that takes less is told", check, servers_that_take_less())
+    BENCH.case("a full output holds a beginning", check, outputs_that_take_less())
+    BENCH.end()
+
+
+main()

@@ -1,0 +1,104 @@
+/*
+ * Makes a program's ends narrow, and leads its connections elsewhere. It is loaded before the C library (LD_PRELOAD), and
+ * what it does is said by the environment, by numbers:
+ *
+ * STEP: how many bytes a call of recv gives at most, and one of send or a write to the standard output takes.
+ * SEND_ROOM: how many bytes send takes in all. Then it fails.
+ * WRITE_ROOM: how many bytes the standard output takes in all. Then it takes none.
+ * LEAD_TO: the port of 127.0.0.1 that each connection is led to, and each name is looked up as that address. The names, and
+ * the addresses and ports that were asked for, are added to the file that LED names, on a line each.
+ */
+#define _GNU_SOURCE
+#include <arpa/inet.h>
+#include <dlfcn.h>
+#include <errno.h>
+#include <fcntl.h>
+#include <netdb.h>
+#include <netinet/in.h>
+#include <stdint.h>
+#include <stdio.h>
+#include <stdlib.h>
+#include <sys/socket.h>
+#include <unistd.h>
+
+static size_t number_of(const char *name, size_t otherwise)
+{
+    const char *text = getenv(name);
+    return text ? strtoul(text, NULL, 10) : otherwise;
+}
+
+static size_t least(size_t one, size_t other)
+{
+    return one < other ? one : other;
+}
+
+static size_t step_of(size_t size)
+{
+    return least(size, number_of("STEP", SIZE_MAX));
+}
+
+/* Adds a line of these words to the file that LED names. */
+static void tell(const char *what, const char *name, const char *more)
+{
+    const char *path = getenv("LED");
+    int file = path ? open(path, O_WRONLY | O_APPEND | O_CLOEXEC) : -1;
+    if (file >= 0) {
+        dprintf(file, "%s %s%s\n", what, name, more);
+        close(file);
+    }
+}
+
+ssize_t recv(int wire, void *into, size_t size, int flags)
+{
+    ssize_t (*real)(int, void *, size_t, int) = dlsym(RTLD_NEXT, "recv");
+    return real(wire, into, step_of(size), flags);
+}
+
+ssize_t send(int wire, const void *from, size_t size, int flags)
+{
+    static size_t sent;
+    ssize_t (*real)(int, const void *, size_t, int) = dlsym(RTLD_NEXT, "send");
+    size_t room = number_of("SEND_ROOM", SIZE_MAX) - sent;
+    if (room == 0) {
+        errno = EPIPE;
+        return -1;
+    }
+    ssize_t count = real(wire, from, least(step_of(size), room), flags);
+    sent += count > 0 ? (size_t)count : 0;
+    return count;
+}
+
+ssize_t write(int file, const void *from, size_t size)
+{
+    static size_t written;
+    ssize_t (*real)(int, const void *, size_t) = dlsym(RTLD_NEXT, "write");
+    if (file != STDOUT_FILENO)
+        return real(file, from, size);
+    size_t room = number_of("WRITE_ROOM", SIZE_MAX) - written;
+    ssize_t count = room == 0 ? 0 : real(file, from, least(step_of(size), room));
+    written += count > 0 ? (size_t)count : 0;
+    return count;
+}
+
+int getaddrinfo(const char *host, const char *service, const struct addrinfo *hints, struct addrinfo **found)
+{
+    int (*real)(const char *, const char *, const struct addrinfo *, struct addrinfo **) = dlsym(RTLD_NEXT, "getaddrinfo");
+    if (!getenv("LEAD_TO"))
+        return real(host, service, hints, found);
+    tell("look up", host, "");
+    return real("127.0.0.1", service, hints, found);
+}
+
+int connect(int wire, const struct sockaddr *address, socklen_t length)
+{
+    int (*real)(int, const struct sockaddr *, socklen_t) = dlsym(RTLD_NEXT, "connect");
+    if (!getenv("LEAD_TO") || address->sa_family != AF_INET)
+        return real(wire, address, length);
+    struct sockaddr_in led = *(const struct sockaddr_in *)address;
+    char port[8];
+    snprintf(port, sizeof port, ":%d", ntohs(led.sin_port));
+    tell("connect", inet_ntoa(led.sin_addr), port);
+    led.sin_addr.s_addr = htonl(INADDR_LOOPBACK);
+    led.sin_port = htons((uint16_t)number_of("LEAD_TO", 0));
+    return real(wire, (const struct sockaddr *)&led, sizeof led);
+}
