@@ -1,6 +1,7 @@
-use super::rows::{done, is_so, wrong_row};
+use super::rows::{is_so, wrong_place, wrong_row};
 use crate::texts::lengthened;
 use nutdriver::Tree;
+use nutwords::TextLines;
 use std::alloc::{AllocError, Global};
 use std::test::Fail;
 
@@ -78,36 +79,62 @@ fn wrong_arguments() -> &'static [u8] {
 
 #[test]
 fn refuses_lines_by_their_first_fault(rt: HostRuntime) -> Result<(), Fail> {
-    let mut tree = Tree::new(rt.alloc());
-    for table in [wrong_words(), wrong_counts(), wrong_arguments()] {
-        assert_eq!(rt; wrong_row(rt.alloc(), &mut tree, table)?, None);
-    }
+    let tables = [wrong_words(), wrong_counts(), wrong_arguments()];
+    assert_eq!(rt; wrong_place(rt.alloc(), &tables)?, None);
     Ok(())
 }
 
-/// The first of the fronts whose row, which ends with so many bytes `x`, isn't so.
-fn wrong_front(alloc: Global, fronts: &[u8], length: usize) -> Result<Option<usize>, AllocError> {
-    let mut tree = Tree::new(alloc);
-    let _ = done(&mut tree, b"SETINFO a x");
-    for (number, front) in fronts.split(|b| *b == b',').enumerate() {
+/// The first of the fronts, a line each, whose row, which ends with so many bytes `x`, isn't so.
+fn wrong_front(
+    alloc: Global,
+    tree: &mut Tree,
+    fronts: &[u8],
+    length: usize,
+) -> Result<Option<usize>, AllocError> {
+    for (number, front) in TextLines::of(fronts).enumerate() {
         let row = lengthened(alloc, front, b'x', length)?;
-        if !is_so(alloc, &mut tree, &row)? {
+        if !is_so(alloc, tree, &row)? {
             return Ok(Some(number));
         }
     }
     Ok(None)
 }
 
+/// Values of the greatest length.
+fn long_values() -> &'static [u8] {
+    b"+ SETINFO a \n\
++ ADDENUM a \n\
++ DELENUM a \n\
+4 DELENUM a "
+}
+
+/// Values that are too long.
+fn too_long_values() -> &'static [u8] {
+    b"7 SETINFO a \n\
+7 ADDENUM a \n\
+7 DELENUM b \n\
+1 SETINFO a/b \n\
+2 SET a "
+}
+
 #[test]
 fn takes_values_of_256_bytes(rt: HostRuntime) -> Result<(), Fail> {
-    let fronts = b"+ SETINFO a ,+ ADDENUM a ,+ DELENUM a ,4 DELENUM a ";
-    assert_eq!(rt; wrong_front(rt.alloc(), fronts, 256)?, None);
+    let mut tree = Tree::new(rt.alloc());
+    assert_eq!(rt; wrong_row(rt.alloc(), &mut tree, b"+ SETINFO a x")?, None);
+    assert_eq!(rt;
+        wrong_front(rt.alloc(), &mut tree, long_values(), 256)?,
+        None
+    );
     Ok(())
 }
 
 #[test]
 fn refuses_values_of_257_bytes(rt: HostRuntime) -> Result<(), Fail> {
-    let fronts = b"7 SETINFO a ,7 ADDENUM a ,7 DELENUM b ,1 SETINFO a/b ,2 SET a ";
-    assert_eq!(rt; wrong_front(rt.alloc(), fronts, 257)?, None);
+    let mut tree = Tree::new(rt.alloc());
+    assert_eq!(rt; wrong_row(rt.alloc(), &mut tree, b"+ SETINFO a x")?, None);
+    assert_eq!(rt;
+        wrong_front(rt.alloc(), &mut tree, too_long_values(), 257)?,
+        None
+    );
     Ok(())
 }

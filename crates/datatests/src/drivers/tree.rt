@@ -1,4 +1,4 @@
-use super::rows::{sign, wrong_row};
+use super::rows::{sign, wrong_place, wrong_row};
 use nutdriver::Tree;
 use std::alloc::{AllocError, Global};
 use std::test::Fail;
@@ -17,8 +17,7 @@ fn absent() -> &'static [u8] {
 
 #[test]
 fn refuses_what_is_absent(rt: HostRuntime) -> Result<(), Fail> {
-    let mut tree = Tree::new(rt.alloc());
-    assert_eq!(rt; wrong_row(rt.alloc(), &mut tree, absent())?, None);
+    assert_eq!(rt; wrong_place(rt.alloc(), &[absent()])?, None);
     Ok(())
 }
 
@@ -90,10 +89,8 @@ P \"PONG\"\n\
 
 #[test]
 fn does_each_line(rt: HostRuntime) -> Result<(), Fail> {
-    let mut tree = Tree::new(rt.alloc());
-    for table in [values(), items(), flags()] {
-        assert_eq!(rt; wrong_row(rt.alloc(), &mut tree, table)?, None);
-    }
+    let tables = [values(), items(), flags()];
+    assert_eq!(rt; wrong_place(rt.alloc(), &tables)?, None);
     Ok(())
 }
 
@@ -110,31 +107,41 @@ fn commands() -> &'static [u8] {
 
 #[test]
 fn keeps_commands_apart(rt: HostRuntime) -> Result<(), Fail> {
-    let mut tree = Tree::new(rt.alloc());
-    assert_eq!(rt; wrong_row(rt.alloc(), &mut tree, commands())?, None);
+    assert_eq!(rt; wrong_place(rt.alloc(), &[commands()])?, None);
     Ok(())
 }
 
+/// Does a line for each number below the count, which stands between its front and its end. Answers whether each was a
+/// change.
+fn fills(
+    alloc: Global,
+    tree: &mut Tree,
+    front: &str,
+    count: u32,
+    end: &str,
+) -> Result<bool, AllocError> {
+    for i in 0..count {
+        let line = format!(in alloc; "{front}{i}{end}")?;
+        if sign(tree, line.as_bytes()) != b'+' {
+            return Ok(false);
+        }
+    }
+    Ok(true)
+}
+
 /// Fills a tree to each of its limits, and answers whether each line was a change.
-fn fills(alloc: Global, tree: &mut Tree) -> Result<bool, AllocError> {
-    let mut is_changed = sign(tree, b"SETINFO ups.mode x") == b'+';
-    for i in 0..4095 {
-        let line = format!(in alloc; "SETINFO v{i} a")?;
-        is_changed = is_changed && sign(tree, line.as_bytes()) == b'+';
+fn is_filled(alloc: Global, tree: &mut Tree) -> Result<bool, AllocError> {
+    for (front, count, end) in [
+        ("SETINFO v", 4095, " a"),
+        ("ADDCMD c", 1024, ""),
+        ("ADDENUM ups.mode e", 256, ""),
+        ("ADDRANGE ups.mode ", 32, " 1000000000"),
+    ] {
+        if !fills(alloc, tree, front, count, end)? {
+            return Ok(false);
+        }
     }
-    for i in 0..1024 {
-        let line = format!(in alloc; "ADDCMD c{i}")?;
-        is_changed = is_changed && sign(tree, line.as_bytes()) == b'+';
-    }
-    for i in 0..256 {
-        let line = format!(in alloc; "ADDENUM ups.mode e{i}")?;
-        is_changed = is_changed && sign(tree, line.as_bytes()) == b'+';
-    }
-    for i in 0..32 {
-        let line = format!(in alloc; "ADDRANGE ups.mode {i} 1000000000")?;
-        is_changed = is_changed && sign(tree, line.as_bytes()) == b'+';
-    }
-    Ok(is_changed)
+    Ok(true)
 }
 
 /// What a tree does at its limits of 4,096 variables, 1,024 commands, 256 enum values and 32 ranges.
@@ -164,7 +171,8 @@ fn limits() -> &'static [u8] {
 #[test]
 fn holds_what_its_limits_say(rt: HostRuntime) -> Result<(), Fail> {
     let mut tree = Tree::new(rt.alloc());
-    assert!(rt; fills(rt.alloc(), &mut tree)?);
+    assert!(rt; sign(&mut tree, b"SETINFO ups.mode x") == b'+');
+    assert!(rt; is_filled(rt.alloc(), &mut tree)?);
     assert_eq!(rt; wrong_row(rt.alloc(), &mut tree, limits())?, None);
     Ok(())
 }
@@ -184,12 +192,17 @@ fn kept() -> &'static [u8] {
     b"= old 0 [e,] []\n. ADDCMD c\n+ DELINFO b"
 }
 
+/// Whether a version of the tree keeps what it had while the tree changes.
+fn is_kept(alloc: Global, tree: &mut Tree) -> Result<bool, AllocError> {
+    let mut version = tree.share()?;
+    let wrong = wrong_row(alloc, tree, later())?;
+    Ok(wrong.is_none() && wrong_row(alloc, &mut version, kept())?.is_none())
+}
+
 #[test]
 fn keeps_each_version(rt: HostRuntime) -> Result<(), Fail> {
     let mut tree = Tree::new(rt.alloc());
     assert_eq!(rt; wrong_row(rt.alloc(), &mut tree, before())?, None);
-    let mut version = tree.share()?;
-    assert_eq!(rt; wrong_row(rt.alloc(), &mut tree, later())?, None);
-    assert_eq!(rt; wrong_row(rt.alloc(), &mut version, kept())?, None);
+    assert!(rt; is_kept(rt.alloc(), &mut tree)?);
     Ok(())
 }

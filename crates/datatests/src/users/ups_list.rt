@@ -1,115 +1,127 @@
-use super::refusal;
-use crate::texts::{lengthened, push_bytes};
+use super::files::{Kind, Run, refusal, wrong_row, wrong_run};
 use nutusers::{UpsId, UpsList};
-use nutwords::UpsName;
+use nutwords::{UpsName, Value};
 use std::alloc::{AllocError, Global};
 use std::test::Fail;
 
-/// The bytes of a name, a description and a socket, with bars between them.
-fn shown(alloc: Global, list: &UpsList, place: u8) -> Result<String, AllocError> {
+/// Whether the UPS at the place has this name, description and socket.
+fn is_ups(
+    list: &UpsList,
+    place: u8,
+    name: Option<&[u8]>,
+    desc: Option<&[u8]>,
+    socket: Option<&str>,
+) -> bool {
     let u = UpsId { place };
-    let mut text = String::new(alloc);
-    if let Some(name) = list.name(u) {
-        push_bytes(&mut text, name.as_bytes())?;
+    list.name(u).map(UpsName::as_bytes) == name
+        && list.desc(u).map(Value::as_bytes) == desc
+        && list.socket(u) == socket
+}
+
+/// Whether the list has the three UPSes of the file in the order of their names, and no other.
+fn has_three(list: &UpsList) -> bool {
+    list.len() == 3
+        && is_ups(list, 0, Some(b"Su"), None, None)
+        && is_ups(list, 1, Some(b"su"), Some(b""), Some("/run/nut/su"))
+        && is_ups(list, 2, Some(b"su2"), Some(b"in the hall"), None)
+        && is_ups(list, 3, None, None, None)
+        && is_ups(list, 255, None, None, None)
+}
+
+/// Whether the file is read as a list of those, and what is shared of it is one too.
+fn is_read(alloc: Global, file: &[u8]) -> Result<bool, AllocError> {
+    match UpsList::read(alloc, file) {
+        Ok(list) => Ok(has_three(&list) && has_three(&list.share()?)),
+        Err(_) => Ok(false),
     }
-    text.push('|')?;
-    if let Some(desc) = list.desc(u) {
-        text.push('=')?;
-        push_bytes(&mut text, desc.as_bytes())?;
-    }
-    text.push('|')?;
-    if let Some(socket) = list.socket(u) {
-        text.push_str(socket)?;
-    }
-    Ok(text)
 }
 
 #[test]
 fn reads_upses_in_the_order_of_names(rt: HostRuntime) -> Result<(), Fail> {
     let file =
-        b"# two\n[su2]\ndesc = \"in the hall\"\n[Su]\n[su]\nsocket = /run/nut/su\ndesc = \"\"".as_slice();
-    let list = UpsList::read(rt.alloc(), file).expect(&rt, "a list");
-    let shared = list.share()?;
-    for list in [&list, &shared] {
-        assert_eq!(rt; list.len(), 3);
-        for (place, want) in [
-            (0, "Su||"),
-            (1, "su|=|/run/nut/su"),
-            (2, "su2|=in the hall|"),
-            (3, "||"),
-            (255, "||"),
-        ] {
-            assert_eq!(rt; shown(rt.alloc(), list, place)?.as_str(), want);
-        }
-    }
+        b"# two\n[su2]\ndesc = \"in the hall\"\n[Su]\n[su]\nsocket = /run/nut/su\ndesc = \"\"";
+    assert!(rt; is_read(rt.alloc(), file)?);
     Ok(())
 }
 
 #[test]
 fn makes_a_list_of_one_ups(rt: HostRuntime) -> Result<(), Fail> {
-    let name = UpsName::read(b"su").expect(&rt, "a name");
-    let list = UpsList::one(rt.alloc(), name)?;
-    assert_eq!(rt; list.len(), 1);
-    assert_eq!(rt; shown(rt.alloc(), &list, 0)?.as_str(), "su||");
+    let list = UpsList::one(rt.alloc(), UpsName::read(b"su")?)?;
+    assert!(rt; list.len() == 1 && is_ups(&list, 0, Some(b"su"), None, None));
     Ok(())
 }
 
-/// So many sections, and then the text.
-fn sections(alloc: Global, count: u32, text: &[u8]) -> Result<Vec<u8>, AllocError> {
-    let mut file = Vec::new(alloc);
+/// Writes so many sections.
+fn push_sections(alloc: Global, file: &mut Vec<u8>, count: u32) -> Result<(), AllocError> {
     for n in 1..=count {
         let line = format!(in alloc; "[n{n}]\n")?;
         file.extend_from_slice(line.as_bytes())?;
     }
+    Ok(())
+}
+
+/// The refusal of a file of so many sections, and then the text.
+fn refusal_behind(alloc: Global, count: u32, text: &[u8]) -> Result<(usize, u8), AllocError> {
+    let mut file = Vec::new(alloc);
+    push_sections(alloc, &mut file, count)?;
     file.extend_from_slice(text)?;
-    Ok(file)
+    Ok(refusal(alloc, Kind::Upses, &file))
+}
+
+/// How many sections, what stands behind them, and the refusal of that file.
+fn many_sections() -> [(u32, &'static [u8], (usize, u8)); 5] {
+    [
+        (32, b"", (0, 0)),
+        (33, b"", (33, 6)),
+        (32, b"[n5]\n", (33, 4)),
+        (32, b"[a/b]\n", (33, 3)),
+        (32, b"desc = x\n[x]\n", (34, 6)),
+    ]
 }
 
 #[test]
 fn takes_32_upses(rt: HostRuntime) -> Result<(), Fail> {
-    for (count, text, want) in [
-        (32, b"".as_slice(), (0, 0)),
-        (33, b"".as_slice(), (33, 6)),
-        (32, b"[n5]\n".as_slice(), (33, 4)),
-        (32, b"[a/b]\n".as_slice(), (33, 3)),
-        (32, b"desc = x\n[x]\n".as_slice(), (34, 6)),
-    ] {
-        let file = sections(rt.alloc(), count, text)?;
-        assert_eq!(rt; refusal(UpsList::read(rt.alloc(), &file)), want);
+    for (count, text, want) in many_sections() {
+        assert!(rt;
+            refusal_behind(rt.alloc(), count, text)? == want,
+            "at {text:?}"
+        );
     }
     Ok(())
 }
 
+fn files() -> &'static [u8] {
+    b"00 %\
+11 [su]\r\n%\
+21 [su]\nupsmon primary\n%\
+11 upsmon primary\n%\
+12 desc = x\n%\
+13 [s/u]\n%\
+24 [su]\n[su]\n%\
+34 [su]\ndesc = x\ndesc = y\n%\
+34 [su]\nsocket = x\nsocket = \"\"\n%\
+25 [su]\ndriver = x\n%\
+26 [su]\nsocket = \"\"\n%\
+00 [su]\nsocket = \xc3\xa4\n%\
+26 [su]\nsocket = \xc3\n%\
+26 [su]\nsocket = \xed\xa0\x80\n%\
+26 [su]\nsocket = \xc0\xaf\n%\
+00 [su]\ndesc = \xc3\n[tu]\ndesc = x"
+}
+
+/// Sockets and descriptions of the greatest length and above it.
+fn long_files() -> [Run; 4] {
+    [
+        (b"[su]\nsocket = ", b'x', 100, b"", (0, 0)),
+        (b"[su]\nsocket = ", b'x', 101, b"", (2, 6)),
+        (b"[su]\ndesc = ", b'x', 256, b"", (0, 0)),
+        (b"[su]\ndesc = ", b'x', 257, b"", (2, 6)),
+    ]
+}
+
 #[test]
 fn refuses_the_first_line_of_a_ups_list(rt: HostRuntime) -> Result<(), Fail> {
-    for (file, want) in [
-        (b"".as_slice(), (0, 0)),
-        (b"[su]\r\n".as_slice(), (1, 1)),
-        (b"[su]\nupsmon primary\n".as_slice(), (2, 1)),
-        (b"upsmon primary\n".as_slice(), (1, 1)),
-        (b"desc = x\n".as_slice(), (1, 2)),
-        (b"[s/u]\n".as_slice(), (1, 3)),
-        (b"[su]\n[su]\n".as_slice(), (2, 4)),
-        (b"[su]\ndesc = x\ndesc = y\n".as_slice(), (3, 4)),
-        (b"[su]\nsocket = x\nsocket = \"\"\n".as_slice(), (3, 4)),
-        (b"[su]\ndriver = x\n".as_slice(), (2, 5)),
-        (b"[su]\nsocket = \"\"\n".as_slice(), (2, 6)),
-        (b"[su]\nsocket = \xc3\xa4\n".as_slice(), (0, 0)),
-        (b"[su]\nsocket = \xc3\n".as_slice(), (2, 6)),
-        (b"[su]\nsocket = \xed\xa0\x80\n".as_slice(), (2, 6)),
-        (b"[su]\nsocket = \xc0\xaf\n".as_slice(), (2, 6)),
-        (b"[su]\ndesc = \xc3\n[tu]\ndesc = x".as_slice(), (0, 0)),
-    ] {
-        assert_eq!(rt; refusal(UpsList::read(rt.alloc(), file)), want);
-    }
-    for (front, length, want) in [
-        (b"[su]\nsocket = ".as_slice(), 100, (0, 0)),
-        (b"[su]\nsocket = ".as_slice(), 101, (2, 6)),
-        (b"[su]\ndesc = ".as_slice(), 256, (0, 0)),
-        (b"[su]\ndesc = ".as_slice(), 257, (2, 6)),
-    ] {
-        let file = lengthened(rt.alloc(), front, b'x', length)?;
-        assert_eq!(rt; refusal(UpsList::read(rt.alloc(), &file)), want);
-    }
+    assert_eq!(rt; wrong_row(rt.alloc(), Kind::Upses, files()), None);
+    assert_eq!(rt; wrong_run(rt.alloc(), Kind::Upses, &long_files())?, None);
     Ok(())
 }

@@ -1,10 +1,63 @@
-use super::refusal;
+use super::files::{Kind, Run, refusal, wrong_row, wrong_run};
 use crate::texts::lengthened;
 use nutusers::{Right, Users};
+use nutwords::TextLines;
 use std::alloc::{AllocError, Global};
 use std::test::Fail;
 
-const ADMIN_AND_MON: &[u8] = b"[admin]
+/// The right of this name, or the right to send the command of this name.
+fn right(word: &[u8]) -> Right<'_> {
+    match word {
+        b"LOGIN" => Right::Login,
+        b"PRIMARY" => Right::Primary,
+        b"FSD" => Right::Fsd,
+        b"SET" => Right::Set,
+        _ => Right::Instcmd(word),
+    }
+}
+
+/// The text before the first comma, and that behind it.
+fn parted(text: &[u8]) -> Option<(&[u8], &[u8])> {
+    let comma = text.iter().position(|b| *b == b',')?;
+    Some((text.get(..comma)?, text.get(comma..)?.get(1..)?))
+}
+
+/// Whether a user may, by what a row says: a name, a password, and a right or a command, with commas between them.
+fn may(users: &Users, row: &[u8]) -> Option<bool> {
+    let (name, rest) = parted(row)?;
+    let (password, word) = parted(rest)?;
+    Some(users.may(name, password, right(word)))
+}
+
+fn is_so(users: &Users, row: &[u8]) -> bool {
+    match row {
+        [b'+', b' ', row @ ..] => may(users, row) == Some(true),
+        [b'-', b' ', row @ ..] => may(users, row) == Some(false),
+        _ => false,
+    }
+}
+
+/// The first row of the table that isn't so, counted from 0: `+` or `-` for what a user may or may not, and that.
+fn wrong_right(users: &Users, table: &[u8]) -> Option<usize> {
+    for (number, row) in TextLines::of(table).enumerate() {
+        if !is_so(users, row) {
+            return Some(number);
+        }
+    }
+    None
+}
+
+/// Whether each row is so by the file.
+fn are_rights(alloc: Global, file: &[u8], table: &[u8]) -> bool {
+    match Users::read(alloc, file) {
+        Ok(users) => wrong_right(&users, table).is_none(),
+        Err(_) => false,
+    }
+}
+
+/// An administrator and a monitor.
+fn two_users() -> &'static [u8] {
+    b"[admin]
 password = \"s3 cret\"
 actions = SET
 instcmds = test.battery.start
@@ -12,168 +65,154 @@ upsmon primary
 [mon]
 password = pw
 upsmon secondary
-";
+"
+}
 
-fn may(alloc: Global, file: &[u8], name: &[u8], password: &[u8], right: Right<'_>) -> bool {
-    match Users::read(alloc, file) {
-        Ok(users) => users.may(name, password, right),
-        Err(_) => false,
-    }
+fn rights_of_two_users() -> &'static [u8] {
+    b"+ admin,s3 cret,LOGIN
++ admin,s3 cret,PRIMARY
++ admin,s3 cret,FSD
++ admin,s3 cret,SET
++ admin,s3 cret,test.battery.start
+- admin,s3 cret,load.off
+- admin,s3,SET
+- admin,,SET
++ mon,pw,LOGIN
+- mon,pw,PRIMARY
+- mon,pw,FSD
+- mon,pw,SET
+- mon,pw,test.battery.start
+- mo,pw,LOGIN"
 }
 
 #[test]
 fn gives_the_rights_of_the_file(rt: HostRuntime) -> Result<(), Fail> {
-    let start = Right::Instcmd(b"test.battery.start".as_slice());
-    let other = Right::Instcmd(b"load.off".as_slice());
-    for (name, password, right, want) in [
-        (
-            b"admin".as_slice(),
-            b"s3 cret".as_slice(),
-            Right::Login,
-            true,
-        ),
-        (
-            b"admin".as_slice(),
-            b"s3 cret".as_slice(),
-            Right::Primary,
-            true,
-        ),
-        (b"admin".as_slice(), b"s3 cret".as_slice(), Right::Fsd, true),
-        (b"admin".as_slice(), b"s3 cret".as_slice(), Right::Set, true),
-        (b"admin".as_slice(), b"s3 cret".as_slice(), start, true),
-        (b"admin".as_slice(), b"s3 cret".as_slice(), other, false),
-        (b"admin".as_slice(), b"s3".as_slice(), Right::Set, false),
-        (b"admin".as_slice(), b"".as_slice(), Right::Set, false),
-        (b"mon".as_slice(), b"pw".as_slice(), Right::Login, true),
-        (b"mon".as_slice(), b"pw".as_slice(), Right::Primary, false),
-        (b"mon".as_slice(), b"pw".as_slice(), Right::Fsd, false),
-        (b"mon".as_slice(), b"pw".as_slice(), Right::Set, false),
-        (b"mon".as_slice(), b"pw".as_slice(), start, false),
-        (b"mo".as_slice(), b"pw".as_slice(), Right::Login, false),
-    ] {
-        assert_eq!(rt; may(rt.alloc(), ADMIN_AND_MON, name, password, right), want);
-    }
+    assert!(rt; are_rights(rt.alloc(), two_users(), rights_of_two_users()));
     Ok(())
 }
 
 #[test]
 fn gives_a_user_without_a_password_no_right(rt: HostRuntime) -> Result<(), Fail> {
-    let file = b"[open]\nactions = SET\ninstcmds = ALL\nupsmon primary".as_slice();
-    for password in [b"".as_slice(), b"open".as_slice()] {
-        assert!(rt; !may(rt.alloc(), file, b"open", password, Right::Set));
-        assert!(rt; !may(rt.alloc(), file, b"open", password, Right::Login));
-    }
+    let file = b"[open]\nactions = SET\ninstcmds = ALL\nupsmon primary";
+    let table = b"- open,,SET\n- open,,LOGIN\n- open,open,SET\n- open,open,LOGIN";
+    assert!(rt; are_rights(rt.alloc(), file, table));
     assert!(rt; !Users::none(rt.alloc()).may(b"open", b"", Right::Login));
     Ok(())
 }
 
+/// Files of a user `a`, each with what it may.
+fn commands() -> [(&'static [u8], &'static [u8]); 3] {
+    [
+        (
+            b"[a]\npassword = p\ninstcmds = ALL",
+            b"+ a,p,load.off\n+ a,p,no name\n+ a,p,",
+        ),
+        (
+            b"[a]\npassword = p\ninstcmds = all",
+            b"- a,p,load.off\n+ a,p,all",
+        ),
+        (b"[a]\npassword = p\ninstcmds = load.off", b"- a,p,LOAD.OFF"),
+    ]
+}
+
 #[test]
 fn lets_all_commands_through_for_all_alone(rt: HostRuntime) -> Result<(), Fail> {
-    for (value, command, want) in [
-        (b"ALL".as_slice(), b"load.off".as_slice(), true),
-        (b"ALL".as_slice(), b"no name".as_slice(), true),
-        (b"ALL".as_slice(), b"".as_slice(), true),
-        (b"all".as_slice(), b"load.off".as_slice(), false),
-        (b"all".as_slice(), b"all".as_slice(), true),
-        (b"load.off".as_slice(), b"LOAD.OFF".as_slice(), false),
-    ] {
-        let mut file = Vec::new(rt.alloc());
-        file.extend_from_slice(b"[a]\npassword = p\ninstcmds = ")?;
-        file.extend_from_slice(value)?;
-        let right = Right::Instcmd(command);
-        assert_eq!(rt; may(rt.alloc(), &file, b"a", b"p", right), want);
+    for (file, table) in commands() {
+        assert!(rt; are_rights(rt.alloc(), file, table), "at {file:?}");
     }
     Ok(())
+}
+
+/// Files as NUT has them.
+fn good_files() -> &'static [u8] {
+    b"00 %\
+00 \n\n%\
+00 # Network UPS Tools: example\r\n#\x00\n \t # indented\n%\
+00 [upsadmin]\n\tpassword = mypass\n\tactions = SET\n\tactions = FSD\n\tactions = SET\n\n%\
+00 [monuser]\n\tpassword  =  \"my pass\"\n\tupsmon primary\n\tupsmon primary%\
+00 \"[u 1]\"\npassword = p\n[u\\ 2]\npassword \"=\" p"
 }
 
 #[test]
 fn reads_files_as_nut_has_them(rt: HostRuntime) -> Result<(), Fail> {
-    for file in [
-        b"".as_slice(),
-        b"\n\n".as_slice(),
-        b"# Network UPS Tools: example\r\n#\x00\n \t # indented\n".as_slice(),
-        b"[upsadmin]\n\tpassword = mypass\n\tactions = SET\n\tactions = FSD\n\tactions = SET\n\n".as_slice(),
-        b"[monuser]\n\tpassword  =  \"my pass\"\n\tupsmon primary\n\tupsmon primary".as_slice(),
-        b"\"[u 1]\"\npassword = p\n[u\\ 2]\npassword \"=\" p".as_slice(),
-    ] {
-        assert_eq!(rt; refusal(Users::read(rt.alloc(), file)), (0, 0));
-    }
-    let spaced = b"\"[u 1]\"\npassword = \"p\\\"\"\nupsmon secondary".as_slice();
-    assert!(rt; may(rt.alloc(), spaced, b"u 1", b"p\"", Right::Login));
+    assert_eq!(rt; wrong_row(rt.alloc(), Kind::Users, good_files()), None);
+    let spaced = b"\"[u 1]\"\npassword = \"p\\\"\"\nupsmon secondary";
+    assert!(rt; are_rights(rt.alloc(), spaced, b"+ u 1,p\",LOGIN"));
     Ok(())
+}
+
+/// Comments and lines of blanks of any length, and lines at the limit.
+fn long_files() -> [Run; 6] {
+    [
+        (b"", b'#', 5000, b"", (0, 0)),
+        (b"", b' ', 5000, b"", (0, 0)),
+        (b"", b'x', 1023, b"", (1, 1)),
+        (b"", b'x', 1024, b"", (1, 1)),
+        (b"", b' ', 1019, b"[ab]\n", (0, 0)),
+        (b"", b' ', 1020, b"[ab]\n", (1, 1)),
+    ]
 }
 
 #[test]
 fn reads_comments_of_any_length_and_no_longer_line(rt: HostRuntime) -> Result<(), Fail> {
-    for (first, length, want) in [
-        (b'#', 5000, (0, 0)),
-        (b' ', 5000, (0, 0)),
-        (b'x', 1023, (1, 1)),
-        (b'x', 1024, (1, 1)),
-    ] {
-        let file = lengthened(rt.alloc(), b"", first, length)?;
-        assert_eq!(rt; refusal(Users::read(rt.alloc(), &file)), want);
-    }
-    for (blanks, want) in [(1019, (0, 0)), (1020, (1, 1))] {
-        let mut file = lengthened(rt.alloc(), b"", b' ', blanks)?;
-        file.extend_from_slice(b"[ab]\n")?;
-        assert_eq!(rt; refusal(Users::read(rt.alloc(), &file)), want);
-    }
+    assert_eq!(rt; wrong_run(rt.alloc(), Kind::Users, &long_files())?, None);
     Ok(())
+}
+
+/// Each cause alone.
+fn one_cause() -> &'static [u8] {
+    b"11 [a]\r\n%\
+31 \n[a]\n\"open\n%\
+11 [\n%\
+11 [u 1]\n%\
+21 [a]\npassword=p\n%\
+21 [a]\npassword == p\n%\
+21 [a]\nupsmon\n%\
+21 [a]\nupsmon primary x\n%\
+21 [a]\nother primary\n%\
+12 password = p\n%\
+13 []\n%\
+34 [a]\n[b]\n[a]\n%\
+34 [a]\npassword = p\npassword = q\n%\
+25 [a]\nother = x\n%\
+25 [a]\nupsmon = primary\n%\
+25 [a]\nPassword = p\n%\
+26 [a]\npassword = \"\"\n%\
+26 [a]\nactions = set\n%\
+26 [a]\ninstcmds = a/b\n%\
+26 [a]\nupsmon master\n"
+}
+
+/// Two causes on one line, two refused lines, and what another user may repeat.
+fn two_causes() -> &'static [u8] {
+    b"12 upsmon master\n%\
+12 other = x\n%\
+34 [a]\npassword = p\npassword = \"\"\n%\
+25 [a]\nother = x\n[]\n%\
+24 [a]\n[a]\nactions = set\n%\
+00 [a]\npassword = p\n[b]\npassword = p%\
+00 [x]]\npassword = p"
 }
 
 #[test]
 fn refuses_the_first_line_of_a_users_file(rt: HostRuntime) -> Result<(), Fail> {
-    for (file, want) in [
-        // each cause alone
-        (b"[a]\r\n".as_slice(), (1, 1)),
-        (b"\n[a]\n\"open\n".as_slice(), (3, 1)),
-        (b"[\n".as_slice(), (1, 1)),
-        (b"[u 1]\n".as_slice(), (1, 1)),
-        (b"[a]\npassword=p\n".as_slice(), (2, 1)),
-        (b"[a]\npassword == p\n".as_slice(), (2, 1)),
-        (b"[a]\nupsmon\n".as_slice(), (2, 1)),
-        (b"[a]\nupsmon primary x\n".as_slice(), (2, 1)),
-        (b"[a]\nother primary\n".as_slice(), (2, 1)),
-        (b"password = p\n".as_slice(), (1, 2)),
-        (b"[]\n".as_slice(), (1, 3)),
-        (b"[a]\n[b]\n[a]\n".as_slice(), (3, 4)),
-        (b"[a]\npassword = p\npassword = q\n".as_slice(), (3, 4)),
-        (b"[a]\nother = x\n".as_slice(), (2, 5)),
-        (b"[a]\nupsmon = primary\n".as_slice(), (2, 5)),
-        (b"[a]\nPassword = p\n".as_slice(), (2, 5)),
-        (b"[a]\npassword = \"\"\n".as_slice(), (2, 6)),
-        (b"[a]\nactions = set\n".as_slice(), (2, 6)),
-        (b"[a]\ninstcmds = a/b\n".as_slice(), (2, 6)),
-        (b"[a]\nupsmon master\n".as_slice(), (2, 6)),
-        // two causes on one line
-        (b"upsmon master\n".as_slice(), (1, 2)),
-        (b"other = x\n".as_slice(), (1, 2)),
-        (b"[a]\npassword = p\npassword = \"\"\n".as_slice(), (3, 4)),
-        // two lines
-        (b"[a]\nother = x\n[]\n".as_slice(), (2, 5)),
-        (b"[a]\n[a]\nactions = set\n".as_slice(), (2, 4)),
-        // a second password of another user
-        (b"[a]\npassword = p\n[b]\npassword = p".as_slice(), (0, 0)),
-        (b"[x]]\npassword = p".as_slice(), (0, 0)),
-    ] {
-        assert_eq!(rt; refusal(Users::read(rt.alloc(), file)), want);
-    }
+    assert_eq!(rt; wrong_row(rt.alloc(), Kind::Users, one_cause()), None);
+    assert_eq!(rt; wrong_row(rt.alloc(), Kind::Users, two_causes()), None);
     Ok(())
 }
 
-/// A section line with a name of so many bytes, and `password` with a value of so many.
-fn sized(alloc: Global, name: usize, password: usize) -> Result<Vec<u8>, AllocError> {
+/// The refusal of a file of a name of so many bytes, and a password of so many.
+fn refusal_of(alloc: Global, name: usize, password: usize) -> Result<(usize, u8), AllocError> {
     let mut front = lengthened(alloc, b"[", b'n', name)?;
     front.extend_from_slice(b"]\npassword = ")?;
-    lengthened(alloc, &front, b'p', password)
+    let file = lengthened(alloc, &front, b'p', password)?;
+    Ok(refusal(alloc, Kind::Users, &file))
 }
 
 #[test]
 fn keeps_the_limits_of_names_and_passwords(rt: HostRuntime) -> Result<(), Fail> {
-    for (name, password, want) in [(64, 256, (0, 0)), (65, 256, (1, 3)), (64, 257, (2, 6))] {
-        let file = sized(rt.alloc(), name, password)?;
-        assert_eq!(rt; refusal(Users::read(rt.alloc(), &file)), want);
-    }
+    assert!(rt; refusal_of(rt.alloc(), 64, 256)? == (0, 0));
+    assert!(rt; refusal_of(rt.alloc(), 65, 256)? == (1, 3));
+    assert!(rt; refusal_of(rt.alloc(), 64, 257)? == (2, 6));
     Ok(())
 }

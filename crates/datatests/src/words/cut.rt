@@ -1,6 +1,6 @@
 use super::shown::show;
 use nutwords::{Cut, Found, LINE_LIMIT, LINE_ROOM, LineCut};
-use std::alloc::AllocError;
+use std::alloc::{AllocError, Global};
 use std::test::Fail;
 
 /// Hands the piece to the cutter until it is used up, and shows the lines. A cross stands for what is too long.
@@ -22,28 +22,35 @@ fn cut(text: &mut String, cutter: &mut LineCut, piece: &[u8]) -> Result<(), Allo
     Ok(())
 }
 
+/// Shows the lines of the pieces, then a dot, and then the line that an LF ends.
+fn show_cut(text: &mut String, pieces: &[&[u8]]) -> Result<(), AllocError> {
+    let mut cutter = LineCut::new();
+    for piece in pieces {
+        cut(text, &mut cutter, piece)?;
+    }
+    text.push('.')?;
+    cut(text, &mut cutter, b"\n")
+}
+
+/// Whether the text, cut once more in its rest, at each place there, has the same lines.
+fn is_cut(alloc: Global, front: &[u8], rest: &[u8]) -> Result<bool, AllocError> {
+    for place in 0..=rest.len() {
+        let (middle, end) = rest.split_at(place);
+        let mut text = String::new(alloc);
+        show_cut(&mut text, &[front, middle, end])?;
+        if text.as_str() != "LIST UPS||SET \"a b\"|.rest|" {
+            return Ok(false);
+        }
+    }
+    Ok(true)
+}
+
 #[test]
 fn cuts_lines_whatever_the_pieces(rt: HostRuntime) -> Result<(), Fail> {
     let text = b"LIST UPS\n\nSET \"a b\"\nrest".as_slice();
-    for first in 0..=text.len() {
-        for second in first..=text.len() {
-            let mut got = String::new(rt.alloc());
-            let mut cutter = LineCut::new();
-            cut(&mut got, &mut cutter, &text[..first])?;
-            cut(&mut got, &mut cutter, &text[first..second])?;
-            cut(&mut got, &mut cutter, &text[second..])?;
-            assert_eq!(rt;
-                got.as_str(),
-                "LIST UPS||SET \"a b\"|",
-                "at {first} and {second}"
-            );
-            cut(&mut got, &mut cutter, b"\n")?;
-            assert_eq!(rt;
-                got.as_str(),
-                "LIST UPS||SET \"a b\"|rest|",
-                "at {first} and {second}"
-            );
-        }
+    for place in 0..=text.len() {
+        let (front, rest) = text.split_at(place);
+        assert!(rt; is_cut(rt.alloc(), front, rest)?, "at {place}");
     }
     Ok(())
 }
@@ -56,55 +63,59 @@ fn ends_line(cutter: &mut LineCut, piece: &[u8], len: usize, used: usize) -> boo
     }
 }
 
+fn needs_more(cutter: &mut LineCut, piece: &[u8]) -> bool {
+    match cutter.next(piece) {
+        Cut::More => true,
+        _ => false,
+    }
+}
+
+fn is_too_long(cutter: &mut LineCut, piece: &[u8]) -> bool {
+    match cutter.next(piece) {
+        Cut::TooLong => true,
+        _ => false,
+    }
+}
+
 #[test]
 fn cuts_lines_at_their_limit(rt: HostRuntime) -> Result<(), Fail> {
+    let line = [b'x'; LINE_LIMIT];
     let mut cutter = LineCut::new();
-    assert_eq!(rt; cutter.next(&[b'x'; LINE_LIMIT]), Cut::More);
-    assert_eq!(rt; cutter.next(b""), Cut::More);
+    assert!(rt; needs_more(&mut cutter, &line) && needs_more(&mut cutter, b""));
     assert!(rt; ends_line(&mut cutter, b"\nVER\n", LINE_LIMIT, 1));
-    assert_eq!(rt; cutter.next(&[b'x'; LINE_LIMIT]), Cut::More);
-    assert_eq!(rt; cutter.next(b"x\nVER\n"), Cut::TooLong);
+    assert!(rt; needs_more(&mut cutter, &line) && is_too_long(&mut cutter, b"x\nVER\n"));
     Ok(())
 }
 
 #[test]
 fn begins_anew_behind_a_line_that_is_too_long(rt: HostRuntime) -> Result<(), Fail> {
     let mut cutter = LineCut::new();
-    assert_eq!(rt; cutter.next(&[b'x'; LINE_ROOM]), Cut::TooLong);
+    assert!(rt; is_too_long(&mut cutter, &[b'x'; LINE_ROOM]));
     assert!(rt; ends_line(&mut cutter, b"\n", 0, 1));
     Ok(())
+}
+
+/// Whether the next line is found so, and these bytes are held then.
+fn finds(cutter: &mut LineCut, piece: &[u8], found: Found, held: &[u8]) -> bool {
+    cutter.find(piece) == found && cutter.held() == held
 }
 
 #[test]
 fn finds_lines_where_they_lie(rt: HostRuntime) -> Result<(), Fail> {
     let mut cutter = LineCut::new();
-    for (piece, found, held) in [
-        (b"VER\nGET".as_slice(), Found::InPiece(3), b"".as_slice()),
-        (b"GET".as_slice(), Found::NeedsMore, b"GET".as_slice()),
-        (
-            b" VAR\nX".as_slice(),
-            Found::Joined(5),
-            b"GET VAR".as_slice(),
-        ),
-    ] {
-        assert!(rt; cutter.find(piece) == found);
-        assert!(rt; cutter.held() == held);
-    }
+    assert!(rt; finds(&mut cutter, b"VER\nGET", Found::InPiece(3), b""));
+    assert!(rt; finds(&mut cutter, b"GET", Found::NeedsMore, b"GET"));
+    assert!(rt; finds(&mut cutter, b" VAR\nX", Found::Joined(5), b"GET VAR"));
     cutter.clear();
-    assert!(rt; cutter.held() == b"".as_slice());
+    assert!(rt; cutter.held().is_empty());
     Ok(())
 }
 
 #[test]
 fn finds_no_line_that_is_too_long(rt: HostRuntime) -> Result<(), Fail> {
     let mut cutter = LineCut::new();
-    for (piece, found) in [
-        (b"\n".as_slice(), Found::InPiece(0)),
-        (b"x".as_slice(), Found::NeedsMore),
-        ([b'x'; LINE_LIMIT].as_slice(), Found::TooLong),
-    ] {
-        assert!(rt; cutter.find(piece) == found);
-    }
-    assert!(rt; cutter.held() == b"".as_slice());
+    assert!(rt; finds(&mut cutter, b"\n", Found::InPiece(0), b""));
+    assert!(rt; finds(&mut cutter, b"x", Found::NeedsMore, b"x"));
+    assert!(rt; finds(&mut cutter, &[b'x'; LINE_LIMIT], Found::TooLong, b""));
     Ok(())
 }

@@ -1,5 +1,12 @@
 use nutwords::{BadLine, BadName};
+use std::alloc::{AllocError, Global};
 use std::test::Fail;
+
+/// What is told of the fault of a line, behind its number.
+fn told_of_line(alloc: Global, fault: BadLine) -> Result<String, AllocError> {
+    let n = fault.number();
+    format!(in alloc; "{n} {fault}")
+}
 
 #[test]
 fn tells_faults(rt: HostRuntime) -> Result<(), Fail> {
@@ -10,11 +17,18 @@ fn tells_faults(rt: HostRuntime) -> Result<(), Fail> {
         (BadLine::AfterQuote, "4 byte after a closing quote"),
         (BadLine::LoneBackslash, "5 lone backslash at the end"),
     ] {
-        let n = fault.number();
-        let got = format!(in rt.alloc(); "{n} {fault}")?;
-        assert_eq!(rt; got.as_str(), want);
+        assert!(rt;
+            told_of_line(rt.alloc(), fault)?.as_str() == want,
+            "at {want}"
+        );
     }
     Ok(())
+}
+
+/// What is told of the refusal of a name, behind its number.
+fn told_of_name(alloc: Global, refusal: BadName) -> Result<String, AllocError> {
+    let n = refusal.number();
+    format!(in alloc; "{n} {refusal}")
 }
 
 #[test]
@@ -24,9 +38,10 @@ fn tells_refusals_of_names(rt: HostRuntime) -> Result<(), Fail> {
         (BadName::TooLong, "2 too long"),
         (BadName::AnotherByte, "3 another byte"),
     ] {
-        let n = refusal.number();
-        let got = format!(in rt.alloc(); "{n} {refusal}")?;
-        assert_eq!(rt; got.as_str(), want);
+        assert!(rt;
+            told_of_name(rt.alloc(), refusal)?.as_str() == want,
+            "at {want}"
+        );
     }
     Ok(())
 }

@@ -23,7 +23,7 @@ fn texts() -> [(&'static [u8], u64, Option<u64>); 13] {
 #[test]
 fn reads_natural_numbers(rt: HostRuntime) -> Result<(), Fail> {
     for (text, most, want) in texts() {
-        assert_eq!(rt; read_natural(text, most), want, "at {text:?}");
+        assert!(rt; read_natural(text, most) == want, "at {text:?}");
     }
     Ok(())
 }

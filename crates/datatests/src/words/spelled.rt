@@ -2,13 +2,21 @@ use nutwords::{BadLine, BadName, LINE_LIMIT, SpelledWord, spelled_words};
 use std::test::Fail;
 
 /// The word that is spelled so in the line, which holds it alone.
-fn alone(line: &[u8]) -> Result<SpelledWord<'_>, Fail> {
+fn alone(line: &[u8]) -> Option<SpelledWord<'_>> {
     if line.len() > LINE_LIMIT {
-        return Err("too long a line".into());
+        return None;
     }
-    match spelled_words(line)?.next() {
-        Some(word) => Ok(word),
-        None => Err("no word".into()),
+    match spelled_words(line) {
+        Ok(mut words) => words.next(),
+        Err(_) => None,
+    }
+}
+
+/// Whether the word is held in three bytes, as these.
+fn is_held(word: &SpelledWord<'_>, bytes: &[u8]) -> bool {
+    match word.held::<3>() {
+        Some(held) => held.as_slice() == bytes,
+        None => false,
     }
 }
 
@@ -22,50 +30,82 @@ fn spellings() -> [(&'static [u8], bool, Option<&'static [u8]>, &'static [u8]); 
     ]
 }
 
-#[test]
-fn borrows_spellings_without_escapes(rt: HostRuntime) -> Result<(), Fail> {
-    for (line, escapes, plain, _) in spellings() {
-        let word = alone(line)?;
-        assert!(rt; word.holds_escapes() == escapes && word.as_plain() == plain);
-    }
-    Ok(())
-}
-
-#[test]
-fn reads_the_bytes_of_spellings(rt: HostRuntime) -> Result<(), Fail> {
-    for (line, _, _, bytes) in spellings() {
-        assert!(rt; alone(line)?.to_word().as_bytes() == bytes);
-    }
-    Ok(())
-}
-
-/// Whether the word is held in three bytes, as these.
-fn is_held(word: &SpelledWord<'_>, bytes: &[u8]) -> bool {
-    match word.held::<3>() {
-        Some(held) => held.as_slice() == bytes,
+fn is_so(line: &[u8], escapes: bool, plain: Option<&[u8]>, bytes: &[u8]) -> bool {
+    match alone(line) {
+        Some(word) => {
+            let is_told = word.holds_escapes() == escapes && word.as_plain() == plain;
+            let is_held = is_held(&word, bytes);
+            is_told && is_held && word.to_word().as_bytes() == bytes
+        }
         None => false,
     }
 }
 
 #[test]
-fn holds_spellings_that_have_room(rt: HostRuntime) -> Result<(), Fail> {
-    for (line, _, _, bytes) in spellings() {
-        assert!(rt; is_held(&alone(line)?, bytes));
+fn reads_spellings(rt: HostRuntime) -> Result<(), Fail> {
+    for (line, escapes, plain, bytes) in spellings() {
+        assert!(rt; is_so(line, escapes, plain, bytes), "at {line:?}");
     }
-    assert!(rt; alone(b"\\a\\b")?.held::<1>().is_none());
     Ok(())
+}
+
+/// Whether the word of the line isn't held in one byte.
+fn lacks_room(line: &[u8]) -> bool {
+    match alone(line) {
+        Some(word) => word.held::<1>().is_none(),
+        None => false,
+    }
+}
+
+#[test]
+fn holds_no_spelling_that_lacks_room(rt: HostRuntime) -> Result<(), Fail> {
+    assert!(rt; lacks_room(b"\\a\\b"));
+    Ok(())
+}
+
+/// How many words the line has, or 0 where one of them is empty, or the line is too long to be read.
+fn count(line: &[u8]) -> Result<u8, BadLine> {
+    if line.len() > LINE_LIMIT {
+        return Ok(0);
+    }
+    let mut count = 0u8;
+    for word in spelled_words(line)? {
+        if word.is_word(b"") {
+            return Ok(0);
+        }
+        count = count.wrapping_add(1);
+    }
+    Ok(count)
 }
 
 #[test]
 fn reads_spellings_one_by_one(rt: HostRuntime) -> Result<(), Fail> {
-    let mut count = 0u8;
-    for word in spelled_words(b" a \"b c\"\td\\e \"\\\"\"")? {
-        assert!(rt; !word.is_word(b""));
-        count = count.wrapping_add(1);
-    }
-    assert_eq!(rt; count, 4);
-    assert!(rt; spelled_words(b"a\"").err() == Some(BadLine::QuoteInside));
+    assert!(rt; count(b" a \"b c\"\td\\e \"\\\"\"") == Ok(4));
+    assert!(rt; count(b"a\"") == Err(BadLine::QuoteInside));
     Ok(())
+}
+
+/// Whether the word is read as a name and a UPS's name of these bytes.
+fn is_name(word: &SpelledWord<'_>, bytes: &[u8]) -> Result<bool, BadName> {
+    Ok(word.name()?.as_bytes() == bytes && word.ups_name()?.as_bytes() == bytes)
+}
+
+/// Whether the word is read as an address and a value of these bytes.
+fn is_value(word: &SpelledWord<'_>, bytes: &[u8]) -> Result<bool, BadName> {
+    Ok(word.address()?.as_bytes() == bytes && word.value()?.as_bytes() == bytes)
+}
+
+/// Whether the word of the line is `ups.id`, compared and read.
+fn is_ups_id(line: &[u8]) -> bool {
+    match alone(line) {
+        Some(word) => {
+            let is_it = word.is_word(b"UPS.ID");
+            let is_another = word.is_word(b"ups.i") || word.is_word(b"ups.ids");
+            let is_read = is_name(&word, b"ups.id") == Ok(true);
+            is_it && !is_another && is_read && is_value(&word, b"ups.id") == Ok(true)
+        }
+        None => false,
+    }
 }
 
 /// One word in each spelling.
@@ -74,32 +114,9 @@ fn spellings_of_one() -> [&'static [u8]; 4] {
 }
 
 #[test]
-fn compares_spelled_words(rt: HostRuntime) -> Result<(), Fail> {
+fn compares_and_reads_spelled_words(rt: HostRuntime) -> Result<(), Fail> {
     for line in spellings_of_one() {
-        let word = alone(line)?;
-        assert!(rt; word.is_word(b"UPS.ID"), "at {line:?}");
-        assert!(rt;
-            !word.is_word(b"ups.i") && !word.is_word(b"ups.ids"),
-            "at {line:?}"
-        );
-    }
-    Ok(())
-}
-
-/// Whether the word is read as a name, a UPS's name, an address and a value, each of these bytes.
-fn is_read_as_each(word: &SpelledWord<'_>, bytes: &[u8]) -> Result<bool, BadName> {
-    Ok(
-        word.name()?.as_bytes() == bytes
-            && word.ups_name()?.as_bytes() == bytes
-            && word.address()?.as_bytes() == bytes
-            && word.value()?.as_bytes() == bytes,
-    )
-}
-
-#[test]
-fn reads_spelled_words(rt: HostRuntime) -> Result<(), Fail> {
-    for line in spellings_of_one() {
-        assert!(rt; is_read_as_each(&alone(line)?, b"ups.id")?, "at {line:?}");
+        assert!(rt; is_ups_id(line), "at {line:?}");
     }
     Ok(())
 }
@@ -114,12 +131,20 @@ fn refusals(word: &SpelledWord<'_>) -> [u8; 4] {
     ]
 }
 
+/// Whether the word of the line is refused so.
+fn is_refused(line: &[u8], want: [u8; 4]) -> bool {
+    match alone(line) {
+        Some(word) => refusals(&word) == want,
+        None => false,
+    }
+}
+
 #[test]
 fn refuses_spelled_words(rt: HostRuntime) -> Result<(), Fail> {
-    assert_eq!(rt; refusals(&alone(b"\"\\a \\\"\"")?), [3, 3, 3, 0]);
-    assert_eq!(rt; refusals(&alone(&[b'a'; 300])?), [2, 2, 2, 2]);
+    assert!(rt; is_refused(b"\"\\a \\\"\"", [3, 3, 3, 0]));
     let mut line = [b'a'; 300];
+    assert!(rt; is_refused(&line, [2, 2, 2, 2]));
     line[0] = b'\\';
-    assert_eq!(rt; refusals(&alone(&line)?), [2, 2, 2, 2]);
+    assert!(rt; is_refused(&line, [2, 2, 2, 2]));
     Ok(())
 }

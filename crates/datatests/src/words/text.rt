@@ -27,28 +27,32 @@ fn shown_lines(alloc: Global, text: &[u8]) -> Result<String, AllocError> {
 #[test]
 fn reads_lines_of_a_text(rt: HostRuntime) -> Result<(), Fail> {
     for (text, want) in texts() {
-        assert_eq!(rt; shown_lines(rt.alloc(), text)?.as_str(), want);
+        assert!(rt;
+            shown_lines(rt.alloc(), text)?.as_str() == want,
+            "at {text:?}"
+        );
     }
     Ok(())
 }
 
-/// Lines that say nothing.
-fn silent() -> [&'static [u8]; 4] {
-    [b"", b" \t ", b"#", b"\t # a"]
-}
-
-/// Lines that say something.
-fn told() -> [&'static [u8]; 4] {
-    [b"a", b"a # b", b"\r", b" \"#\""]
+/// Lines, each with whether it says nothing.
+fn lines() -> [(&'static [u8], bool); 8] {
+    [
+        (b"", true),
+        (b" \t ", true),
+        (b"#", true),
+        (b"\t # a", true),
+        (b"a", false),
+        (b"a # b", false),
+        (b"\r", false),
+        (b" \"#\"", false),
+    ]
 }
 
 #[test]
 fn tells_silent_lines(rt: HostRuntime) -> Result<(), Fail> {
-    for line in silent() {
-        assert!(rt; is_silent(line), "at {line:?}");
-    }
-    for line in told() {
-        assert!(rt; !is_silent(line), "at {line:?}");
+    for (line, want) in lines() {
+        assert!(rt; is_silent(line) == want, "at {line:?}");
     }
     assert!(rt; is_blank(b' ') && is_blank(b'\t') && !is_blank(b'\n'));
     Ok(())
@@ -58,8 +62,13 @@ fn tells_silent_lines(rt: HostRuntime) -> Result<(), Fail> {
 fn reads_words_in_capitals_or_not(rt: HostRuntime) -> Result<(), Fail> {
     assert!(rt; is_word(b"GeT", b"GET") && is_word(b"LIST", b"list"));
     assert!(rt; !is_word(b"GETS", b"GET") && !is_word(b"", b"GET") && !is_word(b"@", b"`"));
-    assert_eq!(rt; byte_order(b"Z", b"a"), Ordering::Less);
-    assert_eq!(rt; byte_order(b"a", b"a"), Ordering::Equal);
-    assert_eq!(rt; byte_order(b"a0", b"a"), Ordering::Greater);
+    Ok(())
+}
+
+#[test]
+fn orders_texts_by_their_bytes(rt: HostRuntime) -> Result<(), Fail> {
+    assert!(rt; byte_order(b"Z", b"a") == Ordering::Less);
+    assert!(rt; byte_order(b"a", b"a") == Ordering::Equal);
+    assert!(rt; byte_order(b"a0", b"a") == Ordering::Greater);
     Ok(())
 }
