@@ -27,13 +27,17 @@ fn remove_socket(rt: &HostRuntime) {
     let _ = fs::remove_file(rt, SOCKET);
 }
 
-/// Starts the driver and the server, and asks as upsc does until the server knows what the driver reports.
+/// Starts the driver and the server, and asks.
 fn run(rt: &HostRuntime) -> Result<()> {
     let driver = Driver::listen(rt, SOCKET)?;
-    let mut served = Served::start(rt, driver, SOCKET)?;
+    ask(rt, &mut Served::start(rt, driver, SOCKET)?)
+}
+
+/// Asks as upsc does until the server knows what the driver reports.
+fn ask(rt: &HostRuntime, served: &mut Served<'_>) -> Result<()> {
     for _ in 0..TURN_LIMIT {
-        if print_variables(rt, &mut served)? {
-            return tell_turns(rt, &served);
+        if print_variables(rt, served)? {
+            return tell_turns(rt, served);
         }
     }
     Err(Error::msg("the server refused the client to the end"))

@@ -47,26 +47,43 @@ pub fn serve_files<'a>(
     serve(rt, server.map_err(|_| Ending::Memory)?, service.address)
 }
 
-/// Listens at the address, and goes round the peers from then on.
+/// Listens at the address, and serves from then on.
 fn serve<'a>(rt: &HostRuntime, mut server: Server, address: SocketAddr) -> Result<(), Ending<'a>> {
-    let mut sockets = match MioSockets::new(rt, rt.alloc(), address, &server) {
-        Ok(sockets) => sockets,
-        Err(error) => return Err(ending_of_listening(&error)),
-    };
+    match MioSockets::new(rt, rt.alloc(), address, &server) {
+        Ok(mut sockets) => go_round(rt, &mut server, &mut sockets),
+        Err(error) => Err(ending_of_listening(&error)),
+    }
+}
+
+/// Tells where it listens, and goes round the peers.
+fn go_round<'a>(
+    rt: &HostRuntime,
+    server: &mut Server,
+    sockets: &mut MioSockets<'_, HostRuntime>,
+) -> Result<(), Ending<'a>> {
+    tell_address(rt, sockets)?;
+    let mut journal = Journal::new();
+    for _ in 0..u64::MAX {
+        if let Err(fault) = turn(server, sockets) {
+            return Err(Ending::Loop(fault));
+        }
+        journal.write(rt, server);
+    }
+    Ok(())
+}
+
+/// Tells at which address clients are listened for.
+fn tell_address<'a>(
+    rt: &HostRuntime,
+    sockets: &MioSockets<'_, HostRuntime>,
+) -> Result<(), Ending<'a>> {
     let Ok(bound) = sockets.local_addr() else {
         return Err(Ending::Listen);
     };
-    if println!(rt; "upsd: listening on {bound}").is_err() {
-        return Err(Ending::Write);
+    match println!(rt; "upsd: listening on {bound}") {
+        Ok(()) => Ok(()),
+        Err(_) => Err(Ending::Write),
     }
-    let mut journal = Journal::new();
-    for _ in 0..u64::MAX {
-        if let Err(fault) = turn(&mut server, &mut sockets) {
-            return Err(Ending::Loop(fault));
-        }
-        journal.write(rt, &server);
-    }
-    Ok(())
 }
 
 /// How the program ends where it can't listen.
