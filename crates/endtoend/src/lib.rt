@@ -5,7 +5,5 @@
 
 pub mod laws;
 mod program;
-#[cfg(test)]
-mod tests;
 
 pub use program::print_what_is_held;

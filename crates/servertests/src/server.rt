@@ -1,5 +1,5 @@
-//! The server alone. Whole runs of it, refusals by number among them, are shown on the built program.
-
+//! What no clause says of the server: that with ample memory its calls are done. Whole runs of it are shown on the built
+//! program.
 use nutcore::{
     ClientId, Cost, Descriptions, Event, Fault, MaxAge, Outcome, Server, UpsId, UpsList, Users,
 };
@@ -15,24 +15,6 @@ fn server(alloc: Global) -> Result<Server, Fail> {
     let max_age = MaxAge::read(15).ok_or("the greatest age")?;
     let (users, descriptions) = (Users::none(alloc), Descriptions::none(alloc));
     Ok(Server::new(alloc, list, users, descriptions, max_age)?)
-}
-
-#[test]
-fn each_fault_has_its_text(rt: HostRuntime) -> Result<(), Fail> {
-    for (fault, text) in [
-        (Fault::NoSuchUps, "no such UPS"),
-        (Fault::NoSuchClient, "no such client"),
-        (Fault::TooManyClients, "too many clients"),
-        (Fault::TookTooMuch, "more was taken than offered"),
-        (Fault::NotConnected, "the driver isn't connected"),
-        (Fault::AlreadyConnected, "the driver is connected already"),
-        (Fault::LineTooLong, "line too long"),
-        (Fault::Memory(3), "out of memory after 3 lines"),
-    ] {
-        let told = format!(in rt.alloc(); "{fault}")?;
-        assert_eq!(rt; told.as_str(), text);
-    }
-    Ok(())
 }
 
 /// The driver of the UPS `su` connects.
