@@ -12,7 +12,7 @@ UNIT = lib/systemd/system/upsd.service
 MINE = share/voqarchay
 EXAMPLES = $(addprefix $(MINE)/examples/, upses.conf upsd.users cmdvartab)
 PAGES = $(addprefix share/man/man5/, $(notdir $(wildcard man/*.5))) $(addprefix share/man/man8/, $(notdir $(wildcard man/*.8)))
-FILES = sbin/upsd $(addprefix bin/, $(CLIENTS)) $(PAGES) $(EXAMPLES) $(UNIT)
+FILES = sbin/upsd $(addprefix bin/, $(CLIENTS)) $(PAGES) $(EXAMPLES) $(MINE)/from_nut $(UNIT)
 LIST = $(ROOT)/$(MINE)/installed
 
 # Proves and builds: a program that isn't proved isn't built. It stands as crates/NAME/out/NAME then.
@@ -40,6 +40,7 @@ install:
 	install -m 644 man/*.5 $(ROOT)/share/man/man5
 	install -m 644 man/*.8 $(ROOT)/share/man/man8
 	install -m 644 $(addprefix examples/, $(notdir $(EXAMPLES))) $(ROOT)/$(MINE)/examples
+	install tools/from_nut $(ROOT)/$(MINE)/from_nut
 	sed 's|/usr/local|$(PREFIX)|' examples/upsd.service >$(ROOT)/$(UNIT)
 	chmod 644 $(ROOT)/$(UNIT)
 
