@@ -228,21 +228,6 @@ def rounds_of(edits):
     return rounds
 
 
-def judge(crate, say):
-    """Judges a crate's edits, and returns how many are refused and the names of those that aren't."""
-    edits = [Edit(crate, it) for it in names_of(crate)]
-    rounds, judged = rounds_of([it for it in edits if it.symbol]), {}
-    with tempfile.TemporaryDirectory(prefix="edits-kept-") as kept:
-        for now in rounds:
-            judged.update(in_round(crate, now, kept))
-        for it, said in judged.items():
-            say(f"edit {it.name}: refused: {said[:160]}")
-        alone = [it for it in edits if it not in judged]
-        failed = tried_alone(crate, alone, kept, say)
-    say(f"{crate.name}: {len(edits)} edits in {len(rounds)} rounds, {len(alone)} of them alone")
-    return len(edits) - len(failed), failed
-
-
 def tried_alone(crate, edits, kept, say):
     """Tries each edit by the kit's own way, and returns the names of those that aren't refused."""
     failed = []
@@ -308,41 +293,84 @@ class Libraries:
         return is_built
 
 
+class CrateEdits:
+    """The edits of one crate as they are judged: the rounds that are left, those that lanes are at, and what was said."""
+
+    def __init__(self, crate):
+        self.crate, self.began = crate, time.time()
+        self.edits = [Edit(crate, it) for it in names_of(crate)]
+        self.rounds = rounds_of([it for it in self.edits if it.symbol]) or [[]]
+        self.left, self.going, self.judged = [*self.rounds], 0, {}
+
+    def end(self, kept):
+        """Tries alone what no round refused, and returns what is said and the names of those that aren't refused."""
+        said = [f"edit {it.name}: refused: {why[:160]}" for it, why in self.judged.items()]
+        alone = [it for it in self.edits if it not in self.judged]
+        failed = tried_alone(self.crate, alone, kept, said.append)
+        rounds = f"{len(self.edits)} edits in {len(self.rounds)} rounds, {len(alone)} of them alone"
+        return [*said, f"{self.crate.name}: {rounds}, {time.time() - self.began:.0f} s"], failed
+
+
 class Judgement:
-    """What is judged in this run: a crate at a time in each lane, the one with the most edits first."""
+    """What is judged in this run, a round at a time in each lane."""
 
-    def __init__(self, crates, libraries):
-        self.waiting, self.libraries, self.lock = [*crates], libraries, threading.Lock()
+    def __init__(self, crates, libraries, room):
+        self.waiting, self.libraries, self.room, self.lock = [*crates], libraries, room, threading.Lock()
         self.sums = {it: sum_of(it) for it in crates}
-        self.refused, self.failed = 0, []
+        self.begun, self.refused, self.failed = [], 0, []
 
-    def next(self):
-        """Waits for a crate that stands on proved ones alone, and returns it, or None where none is left."""
+    def next(self, last):
+        """Waits for a round, and returns it with its crate's edits, or None where none is left.
+
+        It is one of the crate that this lane was at last, or of the crate with the most edits that nobody has begun
+        and that stands on proved ones. Once no crate comes any more, lanes share the rounds of one."""
         while True:
             has_ended = self.libraries.has_ended
             with self.lock:
                 ready = [it for it in self.waiting if self.libraries.taken >= {*it.below()}]
-                if ready:
-                    crate = max(ready, key=lambda it: len(names_of(it)))
-                    self.waiting.remove(crate)
-                    return crate
-                if has_ended or not self.waiting:
+                shared = [it for it in self.begun if it.left] if has_ended and not ready else []
+                if not (last and last.left) and (ready or shared):
+                    last = max(shared, key=lambda it: len(it.left)) if shared else self.begin(ready)
+                if last and last.left:
+                    last.going += 1
+                    return last, last.left.pop(0)
+                if has_ended:
                     return None
             time.sleep(1)
 
+    def begin(self, ready):
+        crate = max(ready, key=lambda it: len(names_of(it)))
+        self.waiting.remove(crate)
+        self.begun.append(CrateEdits(crate))
+        return self.begun[-1]
+
     def lane(self):
-        while crate := self.next():
-            said, began = [], time.time()
-            refused, failed = judge(crate, said.append)
-            # What changed while it was judged isn't known to be judged.
-            if not failed and sum_of(crate) == self.sums[crate]:
-                with open(f"{crate.folder}/{FOLDER}/{STAMP}", "w", encoding="utf-8") as it:
-                    it.write(f"{self.sums[crate]}\n")
+        now = None
+        while taken := self.next(now):
+            now, edits = taken
+            # A lane keeps what it checked for its next round of the same crate.
+            kept = f"{self.room}/{now.crate.name}.{threading.get_ident()}"
+            os.makedirs(kept, exist_ok=True)
+            judged = in_round(now.crate, edits, kept) if edits else {}
             with self.lock:
-                self.refused += refused
-                self.failed += failed
-                for line in [*said[:-1], f"{said[-1]}, {time.time() - began:.0f} s"]:
-                    print(f"edits: {line}", flush=True)
+                now.judged.update(judged)
+                now.going -= 1
+                is_last = not now.left and not now.going
+            if is_last:
+                self.end(now, kept)
+
+    def end(self, now, kept):
+        said, failed = now.end(kept)
+        crate = now.crate
+        # What changed while it was judged isn't known to be judged.
+        if not failed and sum_of(crate) == self.sums[crate]:
+            with open(f"{crate.folder}/{FOLDER}/{STAMP}", "w", encoding="utf-8") as it:
+                it.write(f"{self.sums[crate]}\n")
+        with self.lock:
+            self.refused += len(now.edits) - len(failed)
+            self.failed += failed
+            for line in said:
+                print(f"edits: {line}", flush=True)
 
 
 def lanes():
@@ -369,7 +397,7 @@ def main(words):
     below = sorted({dep for it in crates for dep in it.below()}, key=lambda it: len(it.below()))
     with tempfile.TemporaryDirectory(prefix="edits-libraries-") as room, futures.ThreadPoolExecutor(lanes() + 1) as pool:
         libraries = Libraries(below, beside, room)
-        now = Judgement(crates, libraries)
+        now = Judgement(crates, libraries, room)
         ran = [pool.submit(it) for it in [libraries.take, *[now.lane] * lanes()]]
         for it in ran:
             it.result()
