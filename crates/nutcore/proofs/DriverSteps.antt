@@ -16,7 +16,7 @@ use Rattle.nutcore.specs.Promises.{IsTaken}
 use Rattle.nutcore.specs.Server.{ServerState, ups_at, changed_at, with_ups_changed}
 use Rattle.nutcore.specs.Step.{Step, connected, disconnected, after_driver_text, after_driver_bytes, after_driver_took, ticked, connected_by, disconnected_by, driver_took_by, driver_bytes_by, driver_may_lack_memory, outcome_of, after_by, MayLackMemory, wants_driver_memory}
 use Rattle.nutcore.specs.Calls.{is_connected, done}
-use Rattle.nutcore.specs.Promises.{IsTold, DriverFeedGives, DriverTakes, IsNotConnected}
+use Rattle.nutcore.specs.Promises.{IsTold, IsNotConnected}
 
 -- changes at a place that agree there are one
 pub changed_agree : (f g : UpsState → UpsState) (i : ℕ) (xs : List UpsState) (x : UpsState) → slice_get xs i ≡ Some x → f x ≡ g x → changed_at f i xs ≡ changed_at g i xs
@@ -64,6 +64,9 @@ server_agree s u f g x there e = ap (λ (xs : List UpsState). let z : ServerStat
 
 pub server_set : (s : ServerState) (u : UpsId) (f : UpsState → UpsState) (x y : UpsState) → ups_at u.place s ≡ Some x → y ≡ f x → (let code : ServerState = record s { upses = set s.upses u.place y } in code ≡ with_ups_changed f u s)
 server_set s u f x y there e = ap (λ (xs : List UpsState). let z : ServerState = record s { upses = xs } in z) (set_changed f u.place s.upses x y there e)
+
+pub changed_to : (s t : ServerState) (u : UpsId) (f : UpsState → UpsState) (x y : UpsState) → ups_at u.place s ≡ Some x → y ≡ f x → t ≡ with_ups_changed (λ z. y) u s → t ≡ with_ups_changed f u s
+changed_to s t u f x y there e leaves = leaves ∙ server_agree s u (λ z. y) f x there e
 
 -- the UPS that stands at a place
 pub there_is : (xs : List UpsState) (i : ℕ) (x : UpsState) → i < length xs → x ≡ get_or xs i x → slice_get xs i ≡ Some x
@@ -183,8 +186,8 @@ fed_by s t u piece x (Err TookTooMuch) there is never = absurd never
 fed_by s t u piece x (Err NotConnected) there is never = absurd never
 fed_by s t u piece x (Err AlreadyConnected) there is never = absurd never
 
-pub bytes_fed : (s t : ServerState) (u : UpsId) (piece : List ℕ) (r : Result (Unit {0}) Fault) → IsThere s u true → DriverFeedGives u piece s r t → Step s (DriverBytes u piece) (done r) t
-bytes_fed s t u piece r h gives = fed_by s t u piece h.ups r h.there h.is (gives h.ups h.there)
+pub bytes_fed : (s t : ServerState) (u : UpsId) (piece : List ℕ) (x : UpsState) (r : Result (Unit {0}) Fault) → IsThere s u true → ups_at u.place s ≡ Some x → IsTold u (x.unfinished ++ piece) s r t → Step s (DriverBytes u piece) (done r) t
+bytes_fed s t u piece x r h there told = fed_by s t u piece x r there (connected_as s u x h there) told
 
 -- a driver took of what it is owed
 pub took_absent : (s : ServerState) (u : UpsId) (n : ℕ) → ups_at u.place s ≡ None → Step s (DriverTook u n) (Refused NoSuchUps) s
@@ -214,8 +217,8 @@ taken_by s t u n x y (Err fault) there is (much, more, e) leaves =
       leaves = leaves ∙ server_agree s u (λ z. y) (after_driver_took n) x there (e ∙ sym (cond-false _ _ _ (ap (λ b. b && leb n (length x.owed)) is ∙ beyond)));
     }
 
-pub took_taken : (s t : ServerState) (u : UpsId) (n : ℕ) (r : Result (Unit {0}) Fault) → IsThere s u true → DriverTakes u n s r t → Step s (DriverTook u n) (done r) t
-took_taken s t u n r h g = taken_by s t u n g.before g.after r g.there (connected_as s u g.before h g.there) g.taken g.leaves
+pub took_taken : (s t : ServerState) (u : UpsId) (n : ℕ) (x y : UpsState) (r : Result (Unit {0}) Fault) → IsThere s u true → ups_at u.place s ≡ Some x → IsTaken n x r y → t ≡ with_ups_changed (λ z. y) u s → Step s (DriverTook u n) (done r) t
+took_taken s t u n x y r h there taken leaves = taken_by s t u n x y r there (connected_as s u x h there) taken leaves
 
 -- the clock
 pub tick_done : (s t : ServerState) (seconds : ℕ) → t ≡ ticked seconds s → Step s (Tick seconds) Done t

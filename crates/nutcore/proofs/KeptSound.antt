@@ -1,6 +1,8 @@
 -- What a method puts in place of one session or of one UPS keeps the server sound.
 use Rattle.std.proofs.Common.{◌≡◌, ℕ, zero, suc, Bool, true, false, ◌||◌, List, [], ◌∷◌, ◌++◌, Option, Some, None, Result, Ok, Err, refl, sym, ◌∙◌, ap, subst, cond, set, take, length, length-set}
 use Rattle.std.specs.Prelude.{is_some, nat_lt}
+use denote.Ref.{MutBor}
+use Rattle.std.specs.Fn.{Once, FnOnceReturnsAtMut}
 use Rattle.nutdriver.specs.Tree.{empty_tree}
 use Rattle.nutdriver.specs.Sound.{IsSoundTree, EachLineKeepsTheTreeSound}
 use Rattle.nutusers.specs.declared.ups_list.UpsId.{UpsId}
@@ -71,6 +73,10 @@ ups_kept v u x y there keeps h = record {
   sessions = h.sessions;
   upses = each_set (IsSoundUps v.moment) y (keeps (each_get (IsSoundUps v.moment) v.upses u.place x there h.upses)) u.place v.upses h.upses;
 }
+
+-- what a call does to a UPS is said of what it was lent and left
+pub of_call : {F R : Type 0} {g : Once F (MutBor UpsState × Unit {0}) (R × (MutBor UpsState × Unit {0}))} {f : F} {x y : UpsState} {r : R} (P : UpsState → UpsState → Type 0) (called : FnOnceReturnsAtMut g f x r y) → P called.shown.now called.left.now → P x y
+of_call {y = y} P called p = subst (λ (z : UpsState). P z y) called.shows (subst (P called.shown.now) called.leaves p)
 
 -- an answer changes the UPSs
 pub upses_kept : (v : ServerState) (change : Change) (xs : List UpsState) → xs ≡ changed_upses change v.upses → OrderFits change v.upses → IsSound v →

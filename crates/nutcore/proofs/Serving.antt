@@ -3,7 +3,7 @@ use Rattle.std.proofs.Common.{◌≡◌, ℕ, ◌+◌, ◌<◌, ◌≤◌, Bool,
 use Rattle.std.specs.Prelude.{IsTrue, IfOk, OnOk, OnErr, MatchOption, is_err, is_some, is_none, option_and_then}
 use Rattle.std.specs.Option.{option_map_or}
 use Rattle.std.proofs.lemmas.Bool.{le-leb, lt-leb, leb-true, cond-true, cond-false}
-use Rattle.nutcore.specs.Session.{SessionState, find, put, without, IdsRise, new_session}
+use Rattle.nutcore.specs.Session.{SessionState, find, without, IdsRise, new_session}
 use Rattle.nutcore.specs.Server.{ServerState, session, with_session, with_session_changed}
 use Rattle.nutanswer.specs.declared.reply.Change.{Change}
 use Rattle.std.specs.declared.alloc.AllocError.{AllocError}

@@ -1,5 +1,5 @@
 -- What the private parts of the server promise one another. A reader of the public contracts needs none of it.
-use Rattle.std.specs.Prelude.{◌≡◌, ◌<◌, ◌≤◌, ◌-◌, ◌⊎◌, ◌==◌, ◌++◌, ℕ, Bool, true, false, if◌then◌else◌, List, [], Some, None, Result, Ok, Err, IsTrue, length, drop, take, map, slice_get}
+use Rattle.std.specs.Prelude.{◌≡◌, ◌<◌, ◌≤◌, ◌-◌, ◌⊎◌, ◌==◌, ℕ, Bool, true, false, if◌then◌else◌, List, [], Some, None, Result, Ok, Err, IsTrue, length, drop, take, map, slice_get}
 use Rattle.std.specs.List.{position_or_len}
 use Rattle.nutcore.specs.declared.event.Fault.{Fault}
 use Rattle.nutcore.specs.declared.event.Fault.TheVariants.{NoSuchUps, NoSuchClient, TooManyClients, TookTooMuch, NotConnected, AlreadyConnected, LineTooLong, Memory}
@@ -22,13 +22,16 @@ use Rattle.nutcore.specs.Ups.{UpsState, free_room, after_loss, after_text, after
 use Rattle.nutcore.specs.Step.{after_driver_text, wants_driver_memory}
 use Rattle.nutusers.specs.declared.ups_list.UpsId.{UpsId}
 use Rattle.std.specs.Option.{option_map}
+use denote.Ref.{MutBor}
+use Rattle.std.specs.Fn.{Once, FnOnceTakesAtMut, FnOnceReturnsAtMut}
+use Rattle.nutcore.specs.Sound.{IsSoundUps}
 use Rattle.nutcore.specs.Calls.{is_connected}
-use Rattle.nutcore.specs.Server.{ServerState, session, ups_at, with_ups_changed}
+use Rattle.nutcore.specs.Server.{ServerState, ups_at, with_ups_changed}
 use Rattle.nutcore.specs.Reply.{text_to, change_by, seen_client}
 use Rattle.nutcore.specs.declared.cost.Cost.{Cost}
 use Rattle.nutcore.specs.History.{owed}
 use Rattle.nutcore.specs.Cost.{RunningServer}
-use Rattle.nutcore.specs.Pump.{pumped, after_all_lines, after_lines, is_overlong, wants_memory, shares_version_read, next_line_for, answered}
+use Rattle.nutcore.specs.Pump.{pumped, after_all_lines, after_lines, is_overlong, wants_memory, shares_version_read, next_line_for}
 use Rattle.nutwords.specs.Found.{FindsLine, Finds}
 use Rattle.nutcore.specs.declared.ups.Reading.{Reading}
 use Rattle.nutcore.specs.declared.ups.Reading.TheVariants.{Done, Unfinished, TooLong, OutOfMemory}
@@ -154,20 +157,24 @@ IsTold u text old (Err LineTooLong) new = (is_too_long (unfinished_after text) �
 IsTold u text old (Err (Memory k)) new = (wants_driver_memory u text k old ≡ true) × (new ≡ after_driver_text u text (Some k) old)
 IsTold u text old (Err fault) new = ⊥
 
--- the piece is told after what was unfinished
-abbrev pub DriverFeedGives : UpsId → List ℕ → ServerState → Result (Unit {0}) Fault → ServerState → Type 0
-DriverFeedGives u piece old result new = (x : UpsState) → ups_at u.place old ≡ Some x → IsTold u (x.unfinished ++ piece) old result new
-
 -- an event of a UPS's driver is refused so: there is no such UPS, or no driver is connected to it
 abbrev pub IsNotConnected : UpsId → Fault → ServerState → Type 0
 IsNotConnected u fault s = ((fault ≡ NoSuchUps) × (ups_at u.place s ≡ None)) ⊎ ((fault ≡ NotConnected) × (option_map is_connected (ups_at u.place s) ≡ Some false))
 
--- what a driver's taking leaves of its UPS, and of nothing else
-pub record DriverTakes (u : UpsId) (n : ℕ) (old : ServerState) (result : Result (Unit {0}) Fault) (new : ServerState) : Type 0 where
+-- f may be called at a UPS of the server,
+abbrev pub MayChangeUps : {F R : Type 0} → Once F (MutBor UpsState × Unit {0}) R → F → UpsId → ServerState → Type 0
+MayChangeUps g f u s = (x : UpsState) → ups_at u.place s ≡ Some x → FnOnceTakesAtMut g f x
+
+-- keeps it sound,
+abbrev pub KeepsUpsSound : {F R : Type 0} → Once F (MutBor UpsState × Unit {0}) (R × (MutBor UpsState × Unit {0})) → F → UpsId → ServerState → Type 0
+KeepsUpsSound {F} {R} g f u s = (x y : UpsState) (r : R) → ups_at u.place s ≡ Some x → FnOnceReturnsAtMut g f x r y → IsSoundUps s.moment x → IsSoundUps s.moment y
+
+-- and changes it, and nothing else
+pub record ChangesUps {F R : Type 0} (g : Once F (MutBor UpsState × Unit {0}) (R × (MutBor UpsState × Unit {0}))) (f : F) (u : UpsId) (old : ServerState) (result : R) (new : ServerState) : Type 0 where
   pub before : UpsState
   pub after : UpsState
   pub there : ups_at u.place old ≡ Some before
-  pub taken : IsTaken n before result after
+  pub called : FnOnceReturnsAtMut g f before result after
   pub leaves : new ≡ with_ups_changed (λ x. after) u old
 
 -- of what is offered now, so many bytes were there before; the lines of those after them are counted, and none of these is unfinished while a line may be executed

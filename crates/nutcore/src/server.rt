@@ -153,7 +153,10 @@ impl Server {
         if self.ups_of(u)?.is_connected() {
             return Err(Fault::AlreadyConnected);
         }
-        self.connect(u);
+        lawful_lines_keep_trees_sound();
+        each_line_keeps_the_tree_sound();
+        let moment = self.moment;
+        self.with_ups(u, |ups| ups.connect(moment));
         Ok(())
     }
 
@@ -171,7 +174,10 @@ impl Server {
     {
         self.forget_cost();
         self.connected(u)?;
-        self.feed_driver(u, piece)
+        lawful_lines_keep_trees_sound();
+        each_line_keeps_the_tree_sound();
+        let moment = self.moment;
+        self.with_ups(u, |ups| ups.feed(moment, piece))
     }
 
     /// What is offered to the driver: all that it is owed, at most 2,048 bytes, and nothing where it isn't connected. It
@@ -218,7 +224,7 @@ impl Server {
     {
         self.forget_cost();
         self.connected(u)?;
-        self.take_from_driver(u, n)
+        self.with_ups(u, |ups| ups.take(n))
     }
 
     /// A driver is lost, and what it reported with it. Takes no memory.
@@ -233,7 +239,9 @@ impl Server {
     {
         self.forget_cost();
         self.connected(u)?;
-        self.disconnect(u);
+        lawful_lines_keep_trees_sound();
+        each_line_keeps_the_tree_sound();
+        self.with_ups(u, |ups| ups.disconnect());
         Ok(())
     }
 

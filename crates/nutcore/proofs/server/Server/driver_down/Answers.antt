@@ -1,10 +1,14 @@
-use Rattle.std.proofs.Common.{Result, Err, true, sym, ◌∙◌, ap, subst}
+use Rattle.std.proofs.Common.{◌≡◌, Result, Err, true, sym, ◌∙◌, ap, subst, rules}
 use Rattle.std.proofs.lemmas.Result.{err_from_is_err_and}
-use Rattle.nutcore.proofs.DriverSteps.{is_there, there_within, refused_as, down_absent, down_again, down_done}
+use Rattle.nutcore.proofs.DriverSteps.{is_there, there_within, refused_as, down_absent, down_again, down_done, changed_to}
 use Rattle.nutcore.specs.declared.event.Event.TheVariants.{DriverDown}
 use Rattle.nutcore.specs.declared.event.Fault.{Fault}
 use Rattle.nutcore.specs.Calls.{done}
 use Rattle.nutcore.specs.Headline.{Serves}
+use Rattle.nutcore.specs.Ups.{after_loss}
+use Rattle.nutcore.specs.Sound.{IsSoundUps}
+use Rattle.nutcore.proofs.SoundUps.{sound_loss}
+use Rattle.nutcore.proofs.KeptSound.{of_call}
 use Rattle.nutcore.proofs.Runs.{served_from}
 use Rattle.nutcore.proofs.server.Server.driver_down.Goals as goal
 
@@ -15,9 +19,19 @@ returns-in_err-connected-clause-served c =
     subst (λ (r : Result (Unit {0}) Fault). Serves c.args.self.now.state (DriverDown c.args.u) (done r) s) (sym (p.1 ∙ ap Err p.2))
     (served_from _ _ _ _ _ c.forget_cost.ensures.state c.connected.ensures.lawful (refused_as s c.args.u (DriverDown c.args.u) c.in_err-connected.field-0.0 (down_absent s c.args.u) (down_again s c.args.u) c.in_err-connected.ensures.refused))
 
-pub disconnect-requires : goal.disconnect-requires
-disconnect-requires c = there_within c.forget_cost.new.self.state c.args.u true (is_there c.forget_cost.new.self.state c.args.u true c.in_ok-connected.ensures.connected)
+pub with_ups-requires-clause-there : goal.with_ups-requires-clause-there
+with_ups-requires-clause-there c = there_within c.forget_cost.new.self.state c.args.u true (is_there c.forget_cost.new.self.state c.args.u true c.in_ok-connected.ensures.connected)
+
+pub with_ups-requires-clause-sound : goal.with_ups-requires-clause-sound
+with_ups-requires-clause-sound c = λ x y r there called sound. (
+    let s = c.forget_cost.new.self.state in
+    let is : y ≡ after_loss x = of_call (λ x y. y ≡ after_loss x) called (search rules) in
+    subst (IsSoundUps s.moment) (sym is) (sound_loss c.lawful_lines_keep_trees_sound.ensures.empty c.each_line_keeps_the_tree_sound.ensures s.moment x))
 
 pub returns-clause-served : goal.returns-clause-served
 returns-clause-served c =
-    served_from _ _ _ _ _ c.forget_cost.ensures.state c.connected.ensures.lawful (down_done c.forget_cost.new.self.state c.disconnect.new.self.state c.args.u (is_there c.forget_cost.new.self.state c.args.u true c.in_ok-connected.ensures.connected) c.disconnect.ensures.loses)
+    let s = c.forget_cost.new.self.state in
+    let d = c.with_ups.ensures.changes in
+    let is : d.after ≡ after_loss d.before = of_call (λ x y. y ≡ after_loss x) d.called (search rules) in
+    served_from _ _ _ _ _ c.forget_cost.ensures.state c.connected.ensures.lawful
+    (down_done s c.with_ups.new.self.state c.args.u (is_there s c.args.u true c.in_ok-connected.ensures.connected) (changed_to s c.with_ups.new.self.state c.args.u after_loss d.before d.after d.there is d.leaves))

@@ -1,11 +1,16 @@
-use Rattle.std.proofs.Common.{Result, Err, Bool, Some, true, false, sym, ◌∙◌, ap, subst}
+use Rattle.std.proofs.Common.{◌≡◌, Result, Err, true, false, sym, ◌∙◌, ap, subst, rules}
 use Rattle.std.proofs.lemmas.Result.{err_from_is_err_and}
 use Rattle.nutcore.specs.declared.event.Event.TheVariants.{DriverUp}
 use Rattle.nutcore.specs.declared.event.Fault.{Fault}
 use Rattle.nutcore.specs.Calls.{done}
 use Rattle.nutcore.specs.Headline.{Serves}
-use Rattle.nutcore.proofs.DriverSteps.{IsThere, there_within, up_absent, up_again, up_done}
-use Rattle.nutcore.proofs.Runs.{served_from}
+use Rattle.nutcore.proofs.DriverSteps.{IsThere, there_within, up_absent, up_again, up_done, changed_to}
+use Rattle.nutcore.specs.Ups.{after_connecting}
+use Rattle.nutcore.specs.Server.{ServerState}
+use Rattle.nutcore.specs.Sound.{IsSoundUps}
+use Rattle.nutcore.proofs.SoundUps.{sound_connecting}
+use Rattle.nutcore.proofs.KeptSound.{of_call}
+use Rattle.nutcore.proofs.Runs.{served_from, state_is}
 use Rattle.nutcore.proofs.server.Server.driver_up.Goals as goal
 
 pub returns-in_err-ups_of-clause-served : goal.returns-in_err-ups_of-clause-served
@@ -21,12 +26,24 @@ returns-then-is_connected-clause-served c =
     let there : IsThere c.forget_cost.new.self.state c.args.u true = record { ups = _; there = c.in_ok-ups_of.ensures.ups; is = sym c.is_connected.ensures ∙ c.if-is_connected.true } in
     served_from _ _ _ _ _ c.forget_cost.ensures.state c.ups_of.ensures.lawful (up_again c.forget_cost.new.self.state c.args.u there)
 
-pub connect-requires : goal.connect-requires
-connect-requires c =
+pub with_ups-requires-clause-there : goal.with_ups-requires-clause-there
+with_ups-requires-clause-there c =
     let there : IsThere c.forget_cost.new.self.state c.args.u false = record { ups = _; there = c.in_ok-ups_of.ensures.ups; is = sym c.is_connected.ensures ∙ c.if-is_connected.false } in
     there_within c.forget_cost.new.self.state c.args.u false there
 
+pub with_ups-requires-clause-sound : goal.with_ups-requires-clause-sound
+with_ups-requires-clause-sound c = λ x y r there called sound. (
+    let s = c.forget_cost.new.self.state in
+    let moment : c.self.inside.moment ≡ s.moment = ap (λ (z : ServerState). z.moment) (state_is c.self.view_is) in
+    let is : y ≡ after_connecting c.self.inside.moment x = of_call (λ x y. y ≡ after_connecting c.self.inside.moment x) called (search rules) in
+    subst (IsSoundUps s.moment) (sym (is ∙ ap (λ m. after_connecting m x) moment)) (sound_connecting c.lawful_lines_keep_trees_sound.ensures.empty c.each_line_keeps_the_tree_sound.ensures s.moment x))
+
 pub returns-clause-served : goal.returns-clause-served
 returns-clause-served c =
-    let there : IsThere c.forget_cost.new.self.state c.args.u false = record { ups = _; there = c.in_ok-ups_of.ensures.ups; is = sym c.is_connected.ensures ∙ c.if-is_connected.false } in
-    served_from _ _ _ _ _ c.forget_cost.ensures.state c.ups_of.ensures.lawful (up_done c.forget_cost.new.self.state c.connect.new.self.state c.args.u there c.connect.ensures.connects)
+    let s = c.forget_cost.new.self.state in
+    let d = c.with_ups.ensures.changes in
+    let there : IsThere s c.args.u false = record { ups = _; there = c.in_ok-ups_of.ensures.ups; is = sym c.is_connected.ensures ∙ c.if-is_connected.false } in
+    let moment : c.self.inside.moment ≡ s.moment = ap (λ (z : ServerState). z.moment) (state_is c.self.view_is) in
+    let is : d.after ≡ after_connecting c.self.inside.moment d.before = of_call (λ x y. y ≡ after_connecting c.self.inside.moment x) d.called (search rules) in
+    served_from _ _ _ _ _ c.forget_cost.ensures.state c.ups_of.ensures.lawful
+    (up_done s c.with_ups.new.self.state c.args.u there (changed_to s c.with_ups.new.self.state c.args.u (after_connecting s.moment) d.before d.after d.there (is ∙ ap (λ m. after_connecting m d.before) moment) d.leaves))

@@ -1,4 +1,4 @@
-use Rattle.std.proofs.Common.{◌≡◌, ◌∙◌, ◌++◌, ◌+◌, List, ℕ, refl, sym, ap, subst, length, arith, length-drop}
+use Rattle.std.proofs.Common.{◌++◌, ◌+◌, List, ℕ, sym, ap, subst, length, arith, length-drop}
 use Rattle.nutcore.proofs.DriverLoops.{IsAtLine, begins, goes_on, ends_unfinished, ends_too_long, ends_lacking}
 use Rattle.nutcore.proofs.ups.Ups.read_lines.Goals as goal
 
