@@ -11,7 +11,7 @@ use Rattle.nutcore.specs.declared.event.Outcome.TheVariants as outcome
 use Rattle.nutcore.specs.declared.event.Peer.{Peer}
 use Rattle.nutcore.specs.declared.event.Peer.TheVariants.{Client, Driver}
 use Rattle.nutcore.specs.Server.{ServerState, session}
-use Rattle.nutcore.specs.Step.{after, offered}
+use Rattle.nutcore.specs.Step.{offered}
 use Rattle.nutcore.specs.Run.{Run}
 use Rattle.nutcore.specs.DriverHistory.{has_driver}
 use Rattle.nutloop.specs.declared.sockets.Ready.{Ready}
@@ -36,7 +36,6 @@ pub record Fit (g : Call → List ℕ) (f : ServerState → Event → List ℕ) 
   pub opens : (s : ServerState) (a : List ℕ) → f s (event.Open a) ≡ []
   pub closes : (s : ServerState) (c : ℕ) → f s (event.Close c) ≡ []
   pub tries : (s : ServerState) (c : ℕ) → f s (event.Feed c []) ≡ []
-  pub asks : (s : ServerState) (u : UpsId) → f s (event.DriverTook u 0) ≡ []
   pub feeds : (s : ServerState) (c : ℕ) (bytes : List ℕ) → length bytes ≤ room_at c s → g (Gave (Client c) bytes) ≡ f s (event.Feed c bytes)
   pub comes : (s : ServerState) (u : UpsId) (bytes : List ℕ) → g (Gave (Driver u) bytes) ≡ f s (event.DriverBytes u bytes)
   pub takes : (s : ServerState) (c n : ℕ) (xs : List ℕ) → xs ≡ offered (session c s) → n ≤ length xs → g (Wrote (Client c) (take n xs)) ≡ f s (event.Took c n)
@@ -49,12 +48,6 @@ one_call g x bytes h = append-nil (g x) ∙ h
 one_event : (f : ServerState → Event → List ℕ) (s mid : ServerState) (e : Event) (os : List Outcome) → Run s (e ∷ []) os mid → along f s (e ∷ []) os ≡ f s e
 one_event f s mid e [] r = absurd r
 one_event f s mid e (o ∷ os) r = append-nil (f s e)
-
--- An event of no bytes, and one after it.
-event_behind : (f : ServerState → Event → List ℕ) (s mid : ServerState) (a e : Event) (os : List Outcome) (bytes : List ℕ) → f s a ≡ [] → ((t : ServerState) → f t e ≡ bytes) → Run s (a ∷ e ∷ []) os mid → along f s (a ∷ e ∷ []) os ≡ bytes
-event_behind f s mid a e [] bytes h k r = absurd r
-event_behind f s mid a e (o ∷ []) bytes h k r = absurd r.2
-event_behind f s mid a e (o ∷ p ∷ os) bytes h k r = ap (λ v. v ++ (f (after s a o) e ++ [])) h ∙ append-nil (f (after s a o) e) ∙ k (after s a o)
 
 -- No bytes are in the calls after an event.
 behind_open : (g : Call → List ℕ) (f : ServerState → Event → List ℕ) → Fit g f → (a : List ℕ) (o : Outcome) → flat_map g (calls_behind (event.Open a) o) ≡ []
@@ -112,8 +105,8 @@ from_client g f fit s mid c n false (took k) os e may r = absurd may
 from_client g f fit s mid c n false failed os e may r = sym (one_event f s mid (event.Close c) os r ∙ fit.closes s c)
 
 from_driver : (g : Call → List ℕ) (f : ServerState → Event → List ℕ) → Fit g f → (s mid : ServerState) (u : UpsId) (b : Bool) (answer : Answer) (os : List Outcome)
-    → MayAnswer (if b then reads (Driver u) DRIVER_READ_LIMIT else nobody) answer → Run s (event.DriverTook u 0 ∷ read_of_driver u answer) os mid → flat_map g (answered (if b then reads (Driver u) DRIVER_READ_LIMIT else nobody) answer) ≡ along f s (event.DriverTook u 0 ∷ read_of_driver u answer) os
-from_driver g f fit s mid u false unasked os may r = sym (one_event f s mid (event.DriverTook u 0) os r ∙ fit.asks s u)
+    → MayAnswer (if b then reads (Driver u) DRIVER_READ_LIMIT else nobody) answer → Run s (read_of_driver u answer) os mid → flat_map g (answered (if b then reads (Driver u) DRIVER_READ_LIMIT else nobody) answer) ≡ along f s (read_of_driver u answer) os
+from_driver g f fit s mid u false unasked os may r = refl
 from_driver g f fit s mid u false (newcomer a) os may r = absurd may
 from_driver g f fit s mid u false (gave bytes) os may r = absurd may
 from_driver g f fit s mid u false later os may r = absurd may
@@ -122,12 +115,11 @@ from_driver g f fit s mid u false (took k) os may r = absurd may
 from_driver g f fit s mid u false failed os may r = absurd may
 from_driver g f fit s mid u true unasked os may r = absurd may
 from_driver g f fit s mid u true (newcomer a) os may r = absurd may
-from_driver g f fit s mid u true (gave bytes) os may r =
-    append-nil (g (Gave (Driver u) bytes)) ∙ sym (event_behind f s mid (event.DriverTook u 0) (event.DriverBytes u bytes) os (g (Gave (Driver u) bytes)) (fit.asks s u) (λ t. sym (fit.comes t u bytes)) r)
-from_driver g f fit s mid u true later os may r = one_call g (Waits (Driver u)) [] (fit.waits (Driver u)) ∙ sym (one_event f s mid (event.DriverTook u 0) os r ∙ fit.asks s u)
-from_driver g f fit s mid u true ended os may r = one_call g (Ended (Driver u)) [] (fit.ends (Driver u)) ∙ sym (event_behind f s mid (event.DriverTook u 0) (event.DriverDown u) os [] (fit.asks s u) (λ t. fit.downs t u) r)
+from_driver g f fit s mid u true (gave bytes) os may r = one_call g (Gave (Driver u) bytes) (f s (event.DriverBytes u bytes)) (fit.comes s u bytes) ∙ sym (one_event f s mid (event.DriverBytes u bytes) os r)
+from_driver g f fit s mid u true later os may r = one_call g (Waits (Driver u)) [] (fit.waits (Driver u))
+from_driver g f fit s mid u true ended os may r = one_call g (Ended (Driver u)) [] (fit.ends (Driver u)) ∙ sym (one_event f s mid (event.DriverDown u) os r ∙ fit.downs s u)
 from_driver g f fit s mid u true (took k) os may r = absurd may
-from_driver g f fit s mid u true failed os may r = sym (event_behind f s mid (event.DriverTook u 0) (event.DriverDown u) os [] (fit.asks s u) (λ t. fit.downs t u) r)
+from_driver g f fit s mid u true failed os may r = sym (one_event f s mid (event.DriverDown u) os r ∙ fit.downs s u)
 
 to_client : (g : Call → List ℕ) (f : ServerState → Event → List ℕ) → Fit g f → (s mid : ServerState) (c : ℕ) (xs : List ℕ) (answer : Answer) (os : List Outcome) → xs ≡ offered (session c s)
     → MayAnswer (write_of (Client c) xs) answer → Run s (write_to_client c answer) os mid → flat_map g (answered (write_of (Client c) xs) answer) ≡ along f s (write_to_client c answer) os

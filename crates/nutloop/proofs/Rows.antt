@@ -1,24 +1,22 @@
 -- The rows of a turn.
-use Rattle.std.proofs.Common.{◌≡◌, ℕ, suc, Bool, true, false, eqb, List, [], ◌∷◌, ◌++◌, length, Option, Some, None, refl, sym, ap, subst, ◌⊎◌, inl, inr, ◌∙◌, arith, append-nil, append_assoc}
-use Rattle.std.specs.Prelude.{is_some, Result, Ok, Err, is_ok, is_err, not, nat_le, if◌then◌else◌}
+use Rattle.std.proofs.Common.{◌≡◌, ℕ, suc, Bool, true, false, eqb, List, [], ◌∷◌, ◌++◌, length, Option, Some, None, refl, sym, ap, subst, ◌∙◌, arith, append-nil, append_assoc}
+use Rattle.std.specs.Prelude.{is_some, Result, Ok, Err, if◌then◌else◌}
 use Rattle.std.specs.Option.{option_map, option_map_or}
 use Rattle.std.specs.Result.{result_unwrap_or}
 use Rattle.std.proofs.lemmas.Bool.Decides.{nat_tests}
 use Rattle.nutusers.specs.declared.ups_list.UpsId.{UpsId}
 use Rattle.nutcore.specs.declared.event.Event.{Event}
-use Rattle.nutcore.specs.declared.event.Event.TheVariants.{DriverTook, Close}
+use Rattle.nutcore.specs.declared.event.Event.TheVariants.{Close}
 use Rattle.nutcore.specs.declared.event.Outcome.{Outcome}
-use Rattle.nutcore.specs.declared.event.Outcome.TheVariants.{Done, Refused}
 use Rattle.nutcore.specs.declared.event.Fault.{Fault}
-use Rattle.nutcore.specs.declared.event.Fault.TheVariants.{NotConnected, TookTooMuch, Memory}
 use Rattle.nutcore.specs.declared.event.Peer.{Peer}
 use Rattle.nutcore.specs.declared.event.Peer.TheVariants.{Client, Driver}
 use Rattle.nutcore.specs.Session.{SessionState}
 use Rattle.nutcore.specs.Ups.{UpsState}
 use Rattle.nutcore.specs.Server.{ServerState, session, ups_at}
-use Rattle.nutcore.specs.Step.{Step, offered, outcome_of, driver_took_by, MayLackMemory}
+use Rattle.nutcore.specs.Step.{Step, offered}
 use Rattle.nutcore.specs.Run.{Run}
-use Rattle.nutcore.specs.Calls.{room_of, is_finished, owed_to, done, Reads}
+use Rattle.nutcore.specs.Calls.{room_of, is_finished, owed_to, Reads, ReadsUps}
 use Rattle.nutcore.specs.DriverHistory.{has_driver}
 use Rattle.nutloop.specs.declared.sockets.Ready.{Ready}
 use Rattle.nutloop.specs.declared.sockets.Ready.TheVariants.{Read}
@@ -62,17 +60,6 @@ does_quietly calls failures e o old sockets new quiet step =
 pub does_nothing : {S : Type 0} (calls : S → Option (List Call)) (failures : S → ℕ) (old : ServerState) (sockets : S) (new : ServerState)
     → new ≡ old → Does calls failures [] old sockets new sockets
 does_nothing calls failures old sockets new same = record { outcomes = []; run = same; told = grows_nothing (calls sockets); count = refl }
-
--- A driver is asked for, and then these events are done.
-pub does_behind_asking : {S : Type 0} (calls : S → Option (List Call)) (failures : S → ℕ) (u : UpsId) (o : Outcome) (es : List Event) (old mid : ServerState) (sockets : S) (new : ServerState) (after : S)
-    → Step old (DriverTook u 0) o mid → Does calls failures es mid sockets new after
-    → Does calls failures (DriverTook u 0 ∷ es) old sockets new after
-does_behind_asking calls failures u o es old mid sockets new after step rest = record {
-  outcomes = o ∷ rest.outcomes;
-  run = (mid, step, rest.run);
-  told = rest.told;
-  count = rest.count;
-}
 
 -- The same from a server that is the same.
 pub does_from : {S : Type 0} (calls : S → Option (List Call)) (failures : S → ℕ) (es : List Event) (old mid : ServerState) (sockets : S) (new : ServerState) (after : S)
@@ -182,24 +169,11 @@ nobody_ends c s h = ap (λ o. if option_map_or is_finished o false then Close c 
 
 -- Drivers.
 
-asked_of_flag : (b : Bool) (n : ℕ) (r : Result (Unit {0}) Fault) → done r ≡ (if not b then Refused NotConnected else if nat_le 0 n then Done else Refused TookTooMuch) → b ≡ is_ok r
-asked_of_flag true n (Ok u) h = refl
-asked_of_flag true n (Err f) h = let none : nat_le 0 n ≡ true = grind (arith, nat_tests) in cc
-asked_of_flag false n (Ok u) h = cc
-asked_of_flag false n (Err f) h = refl
-
-asked_of : (o : Option UpsState) (r : Result (Unit {0}) Fault) → done r ≡ driver_took_by 0 o → option_map_or (λ x. x.report.connected) o false ≡ is_ok r
-asked_of None (Ok u) h = cc
-asked_of None (Err f) h = refl
-asked_of (Some x) r h = asked_of_flag x.report.connected (length x.owed) r h
-
-pub driver_is_there : (u : UpsId) (r : Result (Unit {0}) Fault) (old new : ServerState) → Step old (DriverTook u 0) (done r) new → has_driver u old ≡ is_ok r
-unfolding outcome_of MayLackMemory
-driver_is_there u r old new step = from step.allowed
-  where
-    from : (done r ≡ outcome_of old (DriverTook u 0)) ⊎ ((k : ℕ) × (done r ≡ Refused (Memory k)) × MayLackMemory old (DriverTook u 0) k) → has_driver u old ≡ is_ok r
-    from (inl h) = asked_of (ups_at u.place old) r h
-    from (inr h) = absurd h.2
+pub driver_is : (r : Result Bool Fault) (o : Option UpsState) → ReadsUps (λ x. x.report.connected) o r → option_map_or (λ x. x.report.connected) o false ≡ result_unwrap_or r false
+driver_is (Ok b) None h = cc
+driver_is (Ok b) (Some x) h = cc
+driver_is (Err f) None h = refl
+driver_is (Err f) (Some x) h = cc
 
 pub finished_is : (r : Result Bool Fault) (o : Option SessionState) → Reads is_finished o r → option_map_or is_finished o false ≡ result_unwrap_or r false
 finished_is (Ok b) None h = cc
@@ -210,14 +184,5 @@ finished_is (Err f) (Some x) h = cc
 pub nobody_ends_from : (c : ℕ) (old new : ServerState) → new ≡ old → session c old ≡ None → end_of c new ≡ []
 nobody_ends_from c old new same h = subst (λ s. end_of c s ≡ []) (sym same) (nobody_ends c old h)
 
-ok_of : {T E : Type 0} (r : Result T E) (b : Bool) → is_err r ≡ b → is_ok r ≡ not b
-ok_of (Ok x) true h = cc
-ok_of (Ok x) false h = refl
-ok_of (Err e) true h = refl
-ok_of (Err e) false h = cc
-
-pub asks_driver : (u : UpsId) (r : Result (Unit {0}) Fault) (old new : ServerState) → Step old (DriverTook u 0) (done r) new → is_err r ≡ false → ask old (Read (Driver u)) ≡ reads (Driver u) DRIVER_READ_LIMIT
-asks_driver u r old new step h = ap (λ b. if b then reads (Driver u) DRIVER_READ_LIMIT else nobody) (driver_is_there u r old new step ∙ ok_of r false h)
-
-pub asks_no_driver : (u : UpsId) (r : Result (Unit {0}) Fault) (old new : ServerState) → Step old (DriverTook u 0) (done r) new → is_err r ≡ true → ask old (Read (Driver u)) ≡ nobody
-asks_no_driver u r old new step h = ap (λ b. if b then reads (Driver u) DRIVER_READ_LIMIT else nobody) (driver_is_there u r old new step ∙ ok_of r true h)
+pub asks_driver : (u : UpsId) (s : ServerState) (b : Bool) → has_driver u s ≡ b → ask s (Read (Driver u)) ≡ (if b then reads (Driver u) DRIVER_READ_LIMIT else nobody)
+asks_driver u s b h = ap (λ b. if b then reads (Driver u) DRIVER_READ_LIMIT else nobody) h

@@ -120,7 +120,6 @@ fed_fits c = record {
   opens = λ s a. refl;
   closes = λ s d. refl;
   tries = λ s d. none (d == c);
-  asks = λ s u. refl;
   feeds = λ s d bytes h. refl;
   comes = λ s u bytes. refl;
   takes = λ s d n xs e h. refl;
@@ -168,7 +167,6 @@ taken_fits c = record {
   opens = λ s a. refl;
   closes = λ s d. refl;
   tries = λ s d. refl;
-  asks = λ s u. refl;
   feeds = λ s d bytes h. refl;
   comes = λ s u bytes. refl;
   takes = λ s d n xs e h. ap (λ ys. if d == c then take n ys else []) e ∙ taken_of (d == c) n (session d s) (subst (λ ys. n ≤ length ys) e h);
@@ -190,7 +188,6 @@ came_fits u = record {
   opens = λ s a. refl;
   closes = λ s d. refl;
   tries = λ s d. refl;
-  asks = λ s v. refl;
   feeds = λ s d bytes h. refl;
   comes = λ s v bytes. refl;
   takes = λ s d n xs e h. refl;
@@ -212,7 +209,6 @@ driver_took_fits u = record {
   opens = λ s a. refl;
   closes = λ s d. refl;
   tries = λ s d. refl;
-  asks = λ s v. none (v.place == u.place);
   feeds = λ s d bytes h. refl;
   comes = λ s v bytes. refl;
   takes = λ s d n xs e h. refl;

@@ -119,14 +119,14 @@ abbrev pub opening : Answer → List Event
 opening (newcomer (Some address)) = event.Open address ∷ []
 opening _ = []
 
--- The events of each row. Whether a driver is there is asked by a taking of no bytes, which changes nothing.
+-- The events of each row.
 abbrev pub row_events : ServerState → Ready → Answer → List Event
 row_events s Nothing answer = []
 row_events s (Tick seconds) answer = event.Tick seconds ∷ []
 row_events s Newcomer answer = opening answer
 row_events s (DriverUp u) answer = event.DriverUp u ∷ []
 row_events s (Read (Client c)) answer = read_of_client s c answer
-row_events s (Read (Driver u)) answer = event.DriverTook u 0 ∷ read_of_driver u answer
+row_events s (Read (Driver u)) answer = read_of_driver u answer
 row_events s (Write (Client c)) answer = write_to_client c answer
 row_events s (Write (Driver u)) answer = write_to_driver u answer
 

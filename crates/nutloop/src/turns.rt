@@ -115,7 +115,7 @@ fn read_driver<S: Sockets>(server: &mut Server, sockets: &mut S, u: UpsId)
     ensures { IsRow S.calls S.failures [] (Read (Driver u))
         server.old.state sockets.old server.new.state sockets.new }
 {
-    if server.driver_took(u, 0).is_err() {
+    if !server.driver_connected(u).unwrap_or(false) {
         return;
     }
     let mut bytes = [0; DRIVER_READ_LIMIT];

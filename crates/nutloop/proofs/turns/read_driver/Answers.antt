@@ -1,44 +1,41 @@
-use Rattle.std.proofs.Common.{◌∙◌, sym, [], ◌∷◌, refl, take, length, arith, length-take}
+use Rattle.std.proofs.Common.{◌∙◌, sym, true, false, [], ◌∷◌, refl, take, length, arith, length-take}
 use Rattle.std.specs.Prelude.{◌≤◌}
-use Rattle.nutcore.specs.declared.event.Event.TheVariants.{DriverTook, DriverBytes, DriverDown}
+use Rattle.nutcore.specs.declared.event.Event.TheVariants.{DriverBytes, DriverDown}
 use Rattle.nutcore.specs.declared.event.Peer.TheVariants.{Driver}
-use Rattle.nutcore.specs.Calls.{done}
+use Rattle.nutcore.specs.Server.{ups_at}
 use Rattle.nutloop.specs.declared.sockets.Ready.TheVariants.{Read}
 use Rattle.nutloop.specs.declared.turns.TheConstants.{DRIVER_READ_LIMIT}
 use Rattle.nutloop.specs.Turn.{nobody, reads, unasked, gave, later, ended, failed}
-use Rattle.nutloop.proofs.Rows.{row_of, does_quietly, does_behind_asking, grows_nothing, asks_driver, asks_no_driver}
+use Rattle.nutloop.proofs.Rows.{row_of, does_nothing, grows_nothing, driver_is, asks_driver}
 use Rattle.nutloop.proofs.turns.read_driver.Goals as goal
 
-pub returns-then-is_err : goal.returns-then-is_err
-returns-then-is_err g c =
-    row_of g.S.Sockets.calls g.S.Sockets.failures (Read (Driver c.args.u)) unasked nobody (DriverTook c.args.u 0 ∷ []) c.args.server.now.state c.args.sockets.now c.args.sockets.now c.driver_took.new.self.state c.args.sockets.now
-    (asks_no_driver c.args.u c.driver_took.result c.args.server.now.state c.driver_took.new.self.state c.driver_took.ensures.served.step (sym c.is_err.ensures.value ∙ c.if-is_err.true)) refl refl tt (grows_nothing (g.S.Sockets.calls c.args.sockets.now)) refl
-    (does_quietly g.S.Sockets.calls g.S.Sockets.failures (DriverTook c.args.u 0) (done c.driver_took.result) c.args.server.now.state c.args.sockets.now c.driver_took.new.self.state refl c.driver_took.ensures.served.step)
+pub returns-then-not-unwrap_or : goal.returns-then-not-unwrap_or
+returns-then-not-unwrap_or g c =
+    row_of g.S.Sockets.calls g.S.Sockets.failures (Read (Driver c.args.u)) unasked nobody [] c.args.server.now.state c.args.sockets.now c.args.sockets.now c.args.server.now.state c.args.sockets.now
+    (asks_driver c.args.u c.args.server.now.state false (driver_is c.driver_connected.result (ups_at c.args.u.place c.args.server.now.state) c.driver_connected.ensures ∙ sym c.unwrap_or.ensures ∙ c.if-not-unwrap_or.true)) refl refl tt (grows_nothing (g.S.Sockets.calls c.args.sockets.now)) refl
+    (does_nothing g.S.Sockets.calls g.S.Sockets.failures c.args.server.now.state c.args.sockets.now c.args.server.now.state refl)
 
 pub returns-in-Ok-Bytes : goal.returns-in-Ok-Bytes
 returns-in-Ok-Bytes g c =
     let bound : c.in-Ok-Bytes.n ≤ length c.read.new.into = rw c.in-Ok-Bytes.field-0-is at c.in-Ok-Bytes.ensures.bound in
-    row_of g.S.Sockets.calls g.S.Sockets.failures (Read (Driver c.args.u)) (gave (take c.in-Ok-Bytes.n c.read.new.into)) (reads (Driver c.args.u) DRIVER_READ_LIMIT) (DriverTook c.args.u 0 ∷ DriverBytes c.args.u (take c.in-Ok-Bytes.n c.read.new.into) ∷ []) c.args.server.now.state c.args.sockets.now c.read.new.self c.feed_driver.new.server.state c.feed_driver.new.sockets
-    (asks_driver c.args.u c.driver_took.result c.args.server.now.state c.driver_took.new.self.state c.driver_took.ensures.served.step (sym c.is_err.ensures.value ∙ c.if-is_err.false)) refl refl (omega (arith, length-take c.in-Ok-Bytes.n c.read.new.into, c.read.auto.into))
-    (rw c.in-Ok-Bytes.field-0-is at c.in-Ok-Bytes.ensures.told) c.in-Ok-Bytes.ensures.count
-    (does_behind_asking g.S.Sockets.calls g.S.Sockets.failures c.args.u (done c.driver_took.result) (DriverBytes c.args.u (take c.in-Ok-Bytes.n c.read.new.into) ∷ []) c.args.server.now.state c.driver_took.new.self.state c.read.new.self c.feed_driver.new.server.state c.feed_driver.new.sockets c.driver_took.ensures.served.step c.feed_driver.ensures)
+    row_of g.S.Sockets.calls g.S.Sockets.failures (Read (Driver c.args.u)) (gave (take c.in-Ok-Bytes.n c.read.new.into)) (reads (Driver c.args.u) DRIVER_READ_LIMIT) (DriverBytes c.args.u (take c.in-Ok-Bytes.n c.read.new.into) ∷ []) c.args.server.now.state c.args.sockets.now c.read.new.self c.feed_driver.new.server.state c.feed_driver.new.sockets
+    (asks_driver c.args.u c.args.server.now.state true (driver_is c.driver_connected.result (ups_at c.args.u.place c.args.server.now.state) c.driver_connected.ensures ∙ sym c.unwrap_or.ensures ∙ c.if-not-unwrap_or.false)) refl refl (omega (arith, length-take c.in-Ok-Bytes.n c.read.new.into, c.read.auto.into))
+    (rw c.in-Ok-Bytes.field-0-is at c.in-Ok-Bytes.ensures.told) c.in-Ok-Bytes.ensures.count c.feed_driver.ensures
 
 pub returns-in-Ok-Later : goal.returns-in-Ok-Later
 returns-in-Ok-Later g c =
-    row_of g.S.Sockets.calls g.S.Sockets.failures (Read (Driver c.args.u)) later (reads (Driver c.args.u) DRIVER_READ_LIMIT) (DriverTook c.args.u 0 ∷ []) c.args.server.now.state c.args.sockets.now c.read.new.self c.driver_took.new.self.state c.read.new.self
-    (asks_driver c.args.u c.driver_took.result c.args.server.now.state c.driver_took.new.self.state c.driver_took.ensures.served.step (sym c.is_err.ensures.value ∙ c.if-is_err.false)) refl refl tt
+    row_of g.S.Sockets.calls g.S.Sockets.failures (Read (Driver c.args.u)) later (reads (Driver c.args.u) DRIVER_READ_LIMIT) [] c.args.server.now.state c.args.sockets.now c.read.new.self c.args.server.now.state c.read.new.self
+    (asks_driver c.args.u c.args.server.now.state true (driver_is c.driver_connected.result (ups_at c.args.u.place c.args.server.now.state) c.driver_connected.ensures ∙ sym c.unwrap_or.ensures ∙ c.if-not-unwrap_or.false)) refl refl tt
     (rw c.in-Ok-Later.field-0-is at c.in-Ok-Later.ensures.told) c.in-Ok-Later.ensures.count
-    (does_quietly g.S.Sockets.calls g.S.Sockets.failures (DriverTook c.args.u 0) (done c.driver_took.result) c.args.server.now.state c.read.new.self c.driver_took.new.self.state refl c.driver_took.ensures.served.step)
+    (does_nothing g.S.Sockets.calls g.S.Sockets.failures c.args.server.now.state c.read.new.self c.args.server.now.state refl)
 
 pub returns-in-Ok-End : goal.returns-in-Ok-End
 returns-in-Ok-End g c =
-    row_of g.S.Sockets.calls g.S.Sockets.failures (Read (Driver c.args.u)) ended (reads (Driver c.args.u) DRIVER_READ_LIMIT) (DriverTook c.args.u 0 ∷ DriverDown c.args.u ∷ []) c.args.server.now.state c.args.sockets.now c.read.new.self c.lose.new.server.state c.lose.new.sockets
-    (asks_driver c.args.u c.driver_took.result c.args.server.now.state c.driver_took.new.self.state c.driver_took.ensures.served.step (sym c.is_err.ensures.value ∙ c.if-is_err.false)) refl refl tt
-    (rw c.in-Ok-End.field-0-is at c.in-Ok-End.ensures.told) c.in-Ok-End.ensures.count
-    (does_behind_asking g.S.Sockets.calls g.S.Sockets.failures c.args.u (done c.driver_took.result) (DriverDown c.args.u ∷ []) c.args.server.now.state c.driver_took.new.self.state c.read.new.self c.lose.new.server.state c.lose.new.sockets c.driver_took.ensures.served.step c.lose.ensures)
+    row_of g.S.Sockets.calls g.S.Sockets.failures (Read (Driver c.args.u)) ended (reads (Driver c.args.u) DRIVER_READ_LIMIT) (DriverDown c.args.u ∷ []) c.args.server.now.state c.args.sockets.now c.read.new.self c.lose.new.server.state c.lose.new.sockets
+    (asks_driver c.args.u c.args.server.now.state true (driver_is c.driver_connected.result (ups_at c.args.u.place c.args.server.now.state) c.driver_connected.ensures ∙ sym c.unwrap_or.ensures ∙ c.if-not-unwrap_or.false)) refl refl tt
+    (rw c.in-Ok-End.field-0-is at c.in-Ok-End.ensures.told) c.in-Ok-End.ensures.count c.lose.ensures
 
 pub returns-in-Err : goal.returns-in-Err
 returns-in-Err g c =
-    row_of g.S.Sockets.calls g.S.Sockets.failures (Read (Driver c.args.u)) failed (reads (Driver c.args.u) DRIVER_READ_LIMIT) (DriverTook c.args.u 0 ∷ DriverDown c.args.u ∷ []) c.args.server.now.state c.args.sockets.now c.read.new.self c.lose-in-Err.new.server.state c.lose-in-Err.new.sockets
-    (asks_driver c.args.u c.driver_took.result c.args.server.now.state c.driver_took.new.self.state c.driver_took.ensures.served.step (sym c.is_err.ensures.value ∙ c.if-is_err.false)) refl refl tt c.in-Err.ensures.told c.in-Err.ensures.count
-    (does_behind_asking g.S.Sockets.calls g.S.Sockets.failures c.args.u (done c.driver_took.result) (DriverDown c.args.u ∷ []) c.args.server.now.state c.driver_took.new.self.state c.read.new.self c.lose-in-Err.new.server.state c.lose-in-Err.new.sockets c.driver_took.ensures.served.step c.lose-in-Err.ensures)
+    row_of g.S.Sockets.calls g.S.Sockets.failures (Read (Driver c.args.u)) failed (reads (Driver c.args.u) DRIVER_READ_LIMIT) (DriverDown c.args.u ∷ []) c.args.server.now.state c.args.sockets.now c.read.new.self c.lose-in-Err.new.server.state c.lose-in-Err.new.sockets
+    (asks_driver c.args.u c.args.server.now.state true (driver_is c.driver_connected.result (ups_at c.args.u.place c.args.server.now.state) c.driver_connected.ensures ∙ sym c.unwrap_or.ensures ∙ c.if-not-unwrap_or.false)) refl refl tt c.in-Err.ensures.told c.in-Err.ensures.count c.lose-in-Err.ensures
