@@ -16,7 +16,7 @@ use Rattle.nutcore.specs.Promises.{IsTaken}
 use Rattle.nutcore.specs.Server.{ServerState, ups_at, changed_at, with_ups_changed}
 use Rattle.nutcore.specs.Step.{Step, connected, disconnected, after_driver_text, after_driver_bytes, after_driver_took, ticked, connected_by, disconnected_by, driver_took_by, driver_bytes_by, driver_may_lack_memory, outcome_of, after_by, MayLackMemory, wants_driver_memory}
 use Rattle.nutcore.specs.Calls.{is_connected, done}
-use Rattle.nutcore.specs.Promises.{IsTold, IsNotConnected}
+use Rattle.nutcore.specs.Promises.{OfUps, IsTold, IsNotConnected}
 
 -- changes at a place that agree there are one
 pub changed_agree : (f g : UpsState → UpsState) (i : ℕ) (xs : List UpsState) (x : UpsState) → slice_get xs i ≡ Some x → f x ≡ g x → changed_at f i xs ≡ changed_at g i xs
@@ -186,8 +186,20 @@ fed_by s t u piece x (Err TookTooMuch) there is never = absurd never
 fed_by s t u piece x (Err NotConnected) there is never = absurd never
 fed_by s t u piece x (Err AlreadyConnected) there is never = absurd never
 
-pub bytes_fed : (s t : ServerState) (u : UpsId) (piece : List ℕ) (x : UpsState) (r : Result (Unit {0}) Fault) → IsThere s u true → ups_at u.place s ≡ Some x → IsTold u (x.unfinished ++ piece) s r t → Step s (DriverBytes u piece) (done r) t
-bytes_fed s t u piece x r h there told = fed_by s t u piece x r there (connected_as s u x h there) told
+pub bytes_fed : (s t : ServerState) (u : UpsId) (piece : List ℕ) (r : Result (Unit {0}) Fault) → IsThere s u true → OfUps u s (λ x. IsTold u (x.unfinished ++ piece) s r t) → Step s (DriverBytes u piece) (done r) t
+bytes_fed s t u piece r h told = fed_by s t u piece h.ups r h.there h.is (told h.ups h.there)
+
+-- a UPS whose driver is connected
+pub connected_at : (s : ServerState) (u : UpsId) (x : UpsState) → ups_at u.place s ≡ Some x → x.report.connected ≡ true → option_map is_connected (ups_at u.place s) ≡ Some true
+connected_at s u x there is = ap (option_map is_connected) there ∙ ap (λ b. Some b) is
+
+-- what holds of the UPS that stands there
+pub of_ups : (s : ServerState) (u : UpsId) (x : UpsState) (P : UpsState → Type 0) → ups_at u.place s ≡ Some x → P x → OfUps u s P
+of_ups s u x P there p y at = let same : Some x ≡ Some y = sym there ∙ at in let e : x ≡ y = cc same in subst P e p
+
+-- the UPS that a change left
+pub left_at : (s t : ServerState) (u : UpsId) (x y : UpsState) → ups_at u.place s ≡ Some x → t ≡ with_ups_changed (λ z. y) u s → ups_at u.place t ≡ Some y
+left_at s t u x y there leaves = ap (ups_at u.place) leaves ∙ at_changed (λ z. y) u.place s.upses x there
 
 -- a driver took of what it is owed
 pub took_absent : (s : ServerState) (u : UpsId) (n : ℕ) → ups_at u.place s ≡ None → Step s (DriverTook u n) (Refused NoSuchUps) s

@@ -1,18 +1,13 @@
 -- What a driver reports changes its UPS alone.
-use Rattle.std.proofs.Common.{◌≡◌, ℕ, zero, suc, Bool, true, false, List, [], ◌∷◌, ◌++◌, Option, Some, None, Result, Ok, Err, refl, sym, ◌∙◌, ap, cond, take}
-use Rattle.std.specs.Prelude.{slice_get}
+use Rattle.std.proofs.Common.{◌≡◌, ℕ, zero, suc, Bool, true, false, List, [], ◌∷◌, ◌++◌, Option, Some, None, refl, sym, ◌∙◌, ap, cond, take}
 use Rattle.std.specs.Option.{option_map_or}
 use Rattle.std.proofs.lemmas.Bool.{cond-true, cond-false}
 use Rattle.nutusers.specs.declared.ups_list.UpsId.{UpsId}
-use Rattle.nutcore.specs.declared.event.Fault.{Fault}
-use Rattle.nutcore.specs.declared.event.Fault.TheVariants.{NoSuchUps, NoSuchClient, TooManyClients, TookTooMuch, NotConnected, AlreadyConnected, LineTooLong, Memory}
 use Rattle.nutcore.specs.Lines.{whole_lines, unfinished_after}
-use Rattle.nutcore.specs.Ups.{UpsState, after_loss, after_text, after_texts, wants_memory_for}
-use Rattle.nutcore.specs.Promises.{IsFed}
+use Rattle.nutcore.specs.Ups.{UpsState, after_loss, after_text, after_texts}
 use Rattle.nutcore.specs.Server.{ServerState, ups_at, changed_at, with_ups_changed}
-use Rattle.nutcore.specs.Step.{after_driver_line, after_driver_lines, with_rest, after_driver_text, after_driver_bytes, wants_driver_memory}
-use Rattle.nutcore.specs.Promises.{IsTold}
-use Rattle.nutcore.proofs.DriverSteps.{at_changed, server_none, server_same, server_agree}
+use Rattle.nutcore.specs.Step.{after_driver_line, after_driver_lines, with_rest, after_driver_text, after_driver_bytes}
+use Rattle.nutcore.proofs.DriverSteps.{server_none, server_same, server_agree}
 
 -- one change after another, and none
 changed_twice : (f g : UpsState → UpsState) (i : ℕ) (xs : List UpsState) → changed_at g i (changed_at f i xs) ≡ changed_at (λ x. g (f x)) i xs
@@ -25,7 +20,7 @@ unchanged i [] = refl
 unchanged zero (x ∷ xs) = refl
 unchanged (suc i) (x ∷ xs) = ap (λ (ys : List UpsState). x ∷ ys) (unchanged i xs)
 
-server_twice : (f g : UpsState → UpsState) (u : UpsId) (s : ServerState) → with_ups_changed g u (with_ups_changed f u s) ≡ with_ups_changed (λ x. g (f x)) u s
+pub server_twice : (f g : UpsState → UpsState) (u : UpsId) (s : ServerState) → with_ups_changed g u (with_ups_changed f u s) ≡ with_ups_changed (λ x. g (f x)) u s
 server_twice f g u s = ap (λ (xs : List UpsState). let t : ServerState = record s { upses = xs } in t) (changed_twice f g u.place s.upses)
 
 -- whole lines
@@ -66,23 +61,3 @@ bytes_change u piece refused s = by_ups (ups_at u.place s) refl
     by_ups : (o : Option UpsState) → ups_at u.place s ≡ o → option_map_or (λ x. cond x.report.connected (after_driver_text u (x.unfinished ++ piece) refused s) s) o s ≡ with_ups_changed f u s
     by_ups None there = server_none s u f there
     by_ups (Some x) there = by_connection x there x.report.connected refl
-
--- what the UPS is left with, said of the server
-pub told_by : (s t : ServerState) (u : UpsId) (text : List ℕ) (x y : UpsState) (r : Result (Unit {0}) Fault) → ups_at u.place s ≡ Some x → IsFed s.moment text x r y → t ≡ with_ups_changed (λ z. y) u s → IsTold u text s r t
-unfolding wants_driver_memory
-told_by s t u text x y (Ok v) there (short, e) leaves =
-    (short, leaves ∙ server_agree s u (λ z. y) (ups_after_text s.moment text None) x there (e ∙ sym (cond-false _ _ _ short)) ∙ sym (text_changes u text None s))
-told_by s t u text x y (Err LineTooLong) there (long, e) leaves =
-    (long, leaves ∙ server_agree s u (λ z. y) (ups_after_text s.moment text None) x there (e ∙ sym (cond-true _ _ _ long)) ∙ sym (text_changes u text None s))
-told_by s t u text x y (Err (Memory k)) there (wants, e) leaves =
-    let lines : List (List ℕ) = take k (whole_lines text) in
-    let at : ups_at u.place (after_driver_lines u lines s) ≡ Some (after_texts s.moment lines x) = ap (ups_at u.place) (lines_change u lines s) ∙ at_changed (after_texts s.moment lines) u.place s.upses x there in (
-      ap (λ (o : Option UpsState). option_map_or (wants_memory_for (slice_get (whole_lines text) k)) o false) at ∙ wants,
-      leaves ∙ server_agree s u (λ z. y) (ups_after_text s.moment text (Some k)) x there e ∙ sym (text_changes u text (Some k) s),
-    )
-told_by s t u text x y (Err NoSuchUps) there never leaves = absurd never
-told_by s t u text x y (Err NoSuchClient) there never leaves = absurd never
-told_by s t u text x y (Err TooManyClients) there never leaves = absurd never
-told_by s t u text x y (Err TookTooMuch) there never leaves = absurd never
-told_by s t u text x y (Err NotConnected) there never leaves = absurd never
-told_by s t u text x y (Err AlreadyConnected) there never leaves = absurd never

@@ -1,5 +1,5 @@
 -- What a method puts in place of one session or of one UPS keeps the server sound.
-use Rattle.std.proofs.Common.{◌≡◌, ℕ, zero, suc, Bool, true, false, ◌||◌, List, [], ◌∷◌, ◌++◌, Option, Some, None, Result, Ok, Err, refl, sym, ◌∙◌, ap, subst, cond, set, take, length, length-set}
+use Rattle.std.proofs.Common.{◌≡◌, ℕ, zero, suc, Bool, true, false, ◌||◌, List, [], ◌∷◌, Option, Some, None, Result, Ok, Err, refl, sym, ◌∙◌, ap, subst, cond, set, length, length-set, arith}
 use Rattle.std.specs.Prelude.{is_some, nat_lt}
 use denote.Ref.{MutBor}
 use Rattle.std.specs.Fn.{Once, FnOnceReturnsAtMut}
@@ -9,20 +9,20 @@ use Rattle.nutusers.specs.declared.ups_list.UpsId.{UpsId}
 use Rattle.nutlisting.specs.declared.outbox.TheConstants.{OWED_LIMIT}
 use Rattle.nutanswer.specs.declared.reply.Change.{Change}
 use Rattle.nutcore.specs.declared.event.Fault.{Fault}
-use Rattle.nutcore.specs.declared.event.Fault.TheVariants.{NoSuchUps, NoSuchClient, TooManyClients, TookTooMuch, NotConnected, AlreadyConnected, LineTooLong, Memory}
-use Rattle.nutcore.specs.Lines.{first_line, whole_lines}
+use Rattle.std.specs.declared.alloc.AllocError.{AllocError}
+use Rattle.nutcore.specs.Lines.{first_line}
 use Rattle.nutcore.specs.Session.{SessionState}
-use Rattle.nutcore.specs.Ups.{UpsState, after_texts}
+use Rattle.nutcore.specs.Ups.{UpsState, with_unfinished}
 use Rattle.nutcore.specs.Server.{ServerState, session, ups_at}
 use Rattle.nutcore.specs.Reply.{changed_session, changed_upses}
 use Rattle.nutcore.specs.Pump.{next_line, answered, with_notice}
 use Rattle.nutcore.specs.Step.{joined, taken_from}
-use Rattle.nutcore.specs.Promises.{IsFed, IsTaken}
+use Rattle.nutcore.specs.Promises.{IsTaken, DoesLine}
 use Rattle.nutcore.specs.Promises.{IsAt, OrderFits}
 use Rattle.nutcore.specs.Sound.{Each, IsSoundSession, IsSoundUps, IsSound}
 use Rattle.nutcore.proofs.Found.{find_id}
 use Rattle.nutcore.proofs.Serving.{set_is}
-use Rattle.nutcore.proofs.SoundUps.{each_get, sound_changes, length-changes, sound_fewer, sound_connected_text, sound_loss}
+use Rattle.nutcore.proofs.SoundUps.{each_get, sound_changes, length-changes, sound_fewer, sound_bytes, sound_text, text_connected, no_loss}
 use Rattle.nutcore.proofs.Sound.{each_found, sound_with, sound_answered, sound_notice, sound_input, sound_output}
 
 -- lists
@@ -96,15 +96,18 @@ driver_taken_kept m n x y (Ok u) taken h =
     subst (IsSoundUps m) (sym taken.1) (sound_fewer m n x h)
 driver_taken_kept m n x y (Err fault) taken h = subst (IsSoundUps m) (sym taken.2) h
 
--- bytes come from its driver
+-- its next line is looked for
+pub driver_cut_kept : (m : ℕ) (x y : UpsState) → y ≡ with_unfinished y.unfinished x → x.report.connected ≡ true → IsSoundUps m x → IsSoundUps m y
+driver_cut_kept m x y cut connected h = subst (IsSoundUps m) (sym cut) (sound_bytes m y.unfinished x (record { is = h; connected = connected })).is
+
+-- a line of its driver is done, or memory is refused
 module _ (empty : IsSoundTree empty_tree) (line_keeps : EachLineKeepsTheTreeSound) where
-  pub driver_fed_kept : (m : ℕ) (piece : List ℕ) (x y : UpsState) (r : Result (Unit {0}) Fault) → x.report.connected ≡ true → IsFed m (x.unfinished ++ piece) x r y → IsSoundUps m x → IsSoundUps m y
-  driver_fed_kept m piece x y (Ok u) is fed h = subst (IsSoundUps m) (sym fed.1) (sound_connected_text empty line_keeps m (x.unfinished ++ piece) x is h)
-  driver_fed_kept m piece x y (Err LineTooLong) is fed h = subst (IsSoundUps m) (sym fed.1) (sound_loss empty line_keeps m (after_texts m (whole_lines (x.unfinished ++ piece)) x))
-  driver_fed_kept m piece x y (Err (Memory k)) is fed h = subst (IsSoundUps m) (sym fed.1) (sound_loss empty line_keeps m (after_texts m (take k (whole_lines (x.unfinished ++ piece))) x))
-  driver_fed_kept m piece x y (Err NoSuchUps) is fed h = absurd fed
-  driver_fed_kept m piece x y (Err NoSuchClient) is fed h = absurd fed
-  driver_fed_kept m piece x y (Err TooManyClients) is fed h = absurd fed
-  driver_fed_kept m piece x y (Err TookTooMuch) is fed h = absurd fed
-  driver_fed_kept m piece x y (Err NotConnected) is fed h = absurd fed
-  driver_fed_kept m piece x y (Err AlreadyConnected) is fed h = absurd fed
+  pub driver_line_kept : (m : ℕ) (line : List ℕ) (x y : UpsState) (r : Result (Unit {0}) AllocError) → DoesLine m line x r y → x.report.connected ≡ true → IsSoundUps m x → IsSoundUps m y
+  driver_line_kept m line x y (Ok v) does connected h =
+      subst (IsSoundUps m) (sym does) (sound_text empty line_keeps m (with_unfinished [] x) line (sound_bytes m [] x (record { is = h; connected = connected }))).is
+  driver_line_kept m line x y (Err e) does connected h =
+      subst (IsSoundUps m) (sym does.1) (record { tree = h.tree; heard = omega arith; pinged = h.pinged; owed = h.owed; lost = λ lost. no_loss x.report.connected connected lost })
+
+pub driver_line_connected : (m : ℕ) (line : List ℕ) (x y : UpsState) (r : Result (Unit {0}) AllocError) → DoesLine m line x r y → y.report.connected ≡ x.report.connected
+driver_line_connected m line x y (Ok v) does = ap (λ (z : UpsState). z.report.connected) does ∙ text_connected m (with_unfinished [] x) line
+driver_line_connected m line x y (Err e) does = ap (λ (z : UpsState). z.report.connected) does.1

@@ -102,15 +102,15 @@ sound_either m true x y h k = h
 sound_either m false x y h k = k
 
 -- a UPS whose driver is connected
-record IsSoundConnected (m : ℕ) (x : UpsState) : Type 0 where
-  is : IsSoundUps m x
-  connected : x.report.connected ≡ true
+pub record IsSoundConnected (m : ℕ) (x : UpsState) : Type 0 where
+  pub is : IsSoundUps m x
+  pub connected : x.report.connected ≡ true
 
 pub no_loss : {A : Type 0} (b : Bool) → b ≡ true → b ≡ false → A
 no_loss true e f = cc f
 no_loss false e f = cc e
 
-sound_bytes : (m : ℕ) (bytes : List ℕ) (x : UpsState) → IsSoundConnected m x → IsSoundConnected m (record x { unfinished = bytes })
+pub sound_bytes : (m : ℕ) (bytes : List ℕ) (x : UpsState) → IsSoundConnected m x → IsSoundConnected m (record x { unfinished = bytes })
 sound_bytes m bytes x h = record {
   is = record { tree = h.is.tree; heard = h.is.heard; pinged = h.is.pinged; owed = h.is.owed; lost = λ e. no_loss x.report.connected h.connected e };
   connected = h.connected;
@@ -125,6 +125,14 @@ sound_outcome m x report (Refused fault) h tree heard = record {
   is = record { tree = tree; heard = omega (arith, heard.heard); pinged = h.is.pinged; owed = h.is.owed; lost = λ e. no_loss report.connected (heard.connected ∙ h.connected) e };
   connected = heard.connected ∙ h.connected;
 }
+
+-- a line loses no driver
+outcome_connected : (x : UpsState) (r : Report × LineOutcome) → (after_outcome x r).report.connected ≡ r.0.connected
+outcome_connected x (report, Accepted) = refl
+outcome_connected x (report, Refused fault) = refl
+
+pub text_connected : (m : ℕ) (x : UpsState) (line : List ℕ) → (after_text m x line).report.connected ≡ x.report.connected
+text_connected m x line = outcome_connected x (report_after_line m x.report line) ∙ (heard_line m x.report line).connected
 
 -- bytes are taken from what is owed
 pub sound_fewer : (m n : ℕ) (x : UpsState) → IsSoundUps m x → IsSoundUps m (record x { owed = drop n x.owed })
@@ -200,7 +208,7 @@ module _ (empty : IsSoundTree empty_tree) (line_keeps : EachLineKeepsTheTreeSoun
   pub sound_connecting : (m : ℕ) (x : UpsState) → IsSoundUps m (after_connecting m x)
   sound_connecting m x = record { tree = empty; heard = omega arith; pinged = omega arith; owed = omega arith; lost = λ e. cc e }
 
-  sound_text : (m : ℕ) (x : UpsState) (line : List ℕ) → IsSoundConnected m x → IsSoundConnected m (after_text m x line)
+  pub sound_text : (m : ℕ) (x : UpsState) (line : List ℕ) → IsSoundConnected m x → IsSoundConnected m (after_text m x line)
   sound_text m x line h =
       let r = report_after_line m x.report line in
       sound_outcome m x r.0 r.1 h (line_keeps m x.report line h.is.tree) (heard_line m x.report line)

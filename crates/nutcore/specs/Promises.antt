@@ -1,5 +1,5 @@
 -- What the private parts of the server promise one another. A reader of the public contracts needs none of it.
-use Rattle.std.specs.Prelude.{◌≡◌, ◌<◌, ◌≤◌, ◌-◌, ◌⊎◌, ◌==◌, ℕ, Bool, true, false, if◌then◌else◌, List, [], Some, None, Result, Ok, Err, IsTrue, length, drop, take, map, slice_get}
+use Rattle.std.specs.Prelude.{◌≡◌, ◌<◌, ◌≤◌, ◌-◌, ◌⊎◌, ◌==◌, ℕ, Bool, true, false, if◌then◌else◌, List, [], Option, Some, None, Result, Ok, Err, IsTrue, length, drop, take, map, slice_get}
 use Rattle.std.specs.List.{position_or_len}
 use Rattle.nutcore.specs.declared.event.Fault.{Fault}
 use Rattle.nutcore.specs.declared.event.Fault.TheVariants.{NoSuchUps, NoSuchClient, TooManyClients, TookTooMuch, NotConnected, AlreadyConnected, LineTooLong, Memory}
@@ -17,9 +17,9 @@ use Rattle.nutlisting.specs.Lines.{IsWholeLine}
 use Rattle.nutlisting.specs.Items.{text_of, client_listing}
 use Rattle.nutanswer.specs.View.{addresses_at}
 use Rattle.nutcore.specs.Session.{SessionState}
-use Rattle.nutcore.specs.Lines.{unfinished_after, is_too_long, whole_lines}
-use Rattle.nutcore.specs.Ups.{UpsState, free_room, after_loss, after_text, after_texts, with_unfinished, wants_memory_for}
-use Rattle.nutcore.specs.Step.{after_driver_text, wants_driver_memory}
+use Rattle.nutcore.specs.Lines.{unfinished_after, is_too_long}
+use Rattle.nutcore.specs.Ups.{UpsState, free_room, after_loss, after_text, with_unfinished}
+use Rattle.nutcore.specs.Step.{after_driver_line, after_driver_text, wants_driver_memory}
 use Rattle.nutusers.specs.declared.ups_list.UpsId.{UpsId}
 use Rattle.std.specs.Option.{option_map}
 use denote.Ref.{MutBor}
@@ -32,34 +32,31 @@ use Rattle.nutcore.specs.declared.cost.Cost.{Cost}
 use Rattle.nutcore.specs.History.{owed}
 use Rattle.nutcore.specs.Cost.{RunningServer}
 use Rattle.nutcore.specs.Pump.{pumped, after_all_lines, after_lines, is_overlong, wants_memory, shares_version_read, next_line_for}
+use Rattle.nutwords.specs.declared.limits.TheConstants.{LINE_LIMIT}
 use Rattle.nutwords.specs.Found.{FindsLine, Finds}
-use Rattle.nutcore.specs.declared.ups.Reading.{Reading}
-use Rattle.nutcore.specs.declared.ups.Reading.TheVariants.{Done, Unfinished, TooLong, OutOfMemory}
+use Rattle.nutwords.specs.declared.cut.Found.{Found}
 use Rattle.nutdriver.specs.Report.{line_changes}
 use Rattle.nutwords.specs.declared.cut.Found.TheVariants as found
 
--- Of what a driver reported there is a whole line after the first k, and it would change the tree.
-abbrev pub lacks_memory_behind : ℕ → ℕ → List ℕ → UpsState → Bool
-lacks_memory_behind moment k text old = wants_memory_for (slice_get (whole_lines text) k) (after_texts moment (take k (whole_lines text)) old)
+-- A line: so many bytes at the front of a piece, or else what is held.
+abbrev pub front_or : Option ℕ → List ℕ → List ℕ → List ℕ
+front_or None piece held = held
+front_or (Some n) piece held = take n piece
 
--- A UPS's reading of a driver's piece, up to its next line: the line was done, and takes so many bytes of the piece; or none is whole, and all of the piece is kept; or it is too long; or it would change the tree, and memory was refused.
-abbrev pub ReadsLine : ℕ → List ℕ → UpsState → Reading → UpsState → Type 0
-ReadsLine moment piece old (Done used) new = (line : List ℕ) × FindsLine old.unfinished piece line used × (new ≡ after_text moment (with_unfinished [] old) line)
-ReadsLine moment piece old Unfinished new = Finds old.unfinished piece found.NeedsMore new.unfinished × (new ≡ with_unfinished new.unfinished old)
-ReadsLine moment piece old TooLong new = Finds old.unfinished piece found.TooLong new.unfinished × (new ≡ with_unfinished new.unfinished old)
-ReadsLine moment piece old OutOfMemory new = (line : List ℕ) × (used : ℕ) × FindsLine old.unfinished piece line used × (line_changes old.report.tree line ≡ true) × (after_loss new ≡ after_loss old)
+-- There are so many, if it is at the front, and no more than a line may have.
+abbrev pub IsFront : Option ℕ → List ℕ → Type 0
+IsFront None piece = Unit {0}
+IsFront (Some n) piece = (n ≤ length piece) × (n ≤ LINE_LIMIT)
 
--- What a driver reported, and its UPS is left with: all whole lines are done, and the rest is unfinished; the driver is lost after them, where the rest is too long; or it is lost after k lines, where the next wants memory that is refused.
-abbrev pub IsFed : ℕ → List ℕ → UpsState → Result (Unit {0}) Fault → UpsState → Type 0
-IsFed moment text old (Ok u) new = (is_too_long (unfinished_after text) ≡ false) × (new ≡ with_unfinished (unfinished_after text) (after_texts moment (whole_lines text) old))
-IsFed moment text old (Err LineTooLong) new = (is_too_long (unfinished_after text) ≡ true) × (new ≡ after_loss (after_texts moment (whole_lines text) old))
-IsFed moment text old (Err (Memory k)) new = (lacks_memory_behind moment k text old ≡ true) × (new ≡ after_loss (after_texts moment (take k (whole_lines text)) old))
-IsFed moment text old (Err fault) new = ⊥
+-- Where the next line of its driver lies, for a UPS that is lent a piece. It changes what the UPS holds alone.
+pub record IsCut (piece : List ℕ) (old : UpsState) (result : Found) (new : UpsState) : Type 0 where
+  pub finds : Finds old.unfinished piece result new.unfinished
+  pub leaves : new ≡ with_unfinished new.unfinished old
 
--- The same before the driver is taken as lost, by what it would be then.
-abbrev pub IsStopped : ℕ → List ℕ → UpsState → Result (Unit {0}) Fault → UpsState → Type 0
-IsStopped moment text old (Ok u) new = IsFed moment text old (Ok u) new
-IsStopped moment text old (Err fault) new = IsFed moment text old (Err fault) (after_loss new)
+-- What a line does to the UPS of its driver: it is done, and nothing is held; or it would change the tree, and memory was refused, and it was heard, no more.
+abbrev pub DoesLine : ℕ → List ℕ → UpsState → Result (Unit {0}) AllocError → UpsState → Type 0
+DoesLine moment line old (Ok t) new = new ≡ after_text moment (with_unfinished [] old) line
+DoesLine moment line old (Err e) new = (line_changes old.report.tree line ≡ true) × (new ≡ record old { report = record old.report { heard = moment } })
 
 -- What a driver's taking of n bytes leaves of its UPS: it took no more than it is owed, or nothing changed.
 abbrev pub IsTaken : ℕ → UpsState → Result (Unit {0}) Fault → UpsState → Type 0
@@ -161,9 +158,36 @@ IsTold u text old (Err fault) new = ⊥
 abbrev pub IsNotConnected : UpsId → Fault → ServerState → Type 0
 IsNotConnected u fault s = ((fault ≡ NoSuchUps) × (ups_at u.place s ≡ None)) ⊎ ((fault ≡ NotConnected) × (option_map is_connected (ups_at u.place s) ≡ Some false))
 
+-- before the driver is taken as lost: the same by what it would be then
+abbrev pub IsStopped : UpsId → List ℕ → ServerState → Result (Unit {0}) Fault → ServerState → Type 0
+IsStopped u text old (Ok t) new = IsTold u text old (Ok t) new
+IsStopped u text old (Err fault) new = IsTold u text old (Err fault) (with_ups_changed after_loss u new)
+
+-- the server on which a UPS holds nothing
+abbrev pub holding_nothing : UpsId → ServerState → ServerState
+holding_nothing u s = with_ups_changed (with_unfinished []) u s
+
+-- what a whole line of a driver does to the server: its step, and nothing of it is held; or it would change the tree, and memory was refused
+abbrev pub ExecutesDriverLine : UpsId → List ℕ → UpsState → ServerState → Result (Unit {0}) AllocError → ServerState → Type 0
+ExecutesDriverLine u line x old (Ok t) new = new ≡ after_driver_line u line (holding_nothing u old)
+ExecutesDriverLine u line x old (Err e) new = (line_changes x.report.tree line ≡ true) × (with_ups_changed after_loss u new ≡ with_ups_changed after_loss u old)
+
+-- what the next line of a driver does, which lies in what its UPS holds and the piece: its step, and it takes so many bytes of the piece; or none is whole, and all of the piece is kept; or it is too long; or it would change the tree, and memory was refused
+abbrev pub ReadsDriverLine : UpsId → List ℕ → ℕ → UpsState → ServerState → Result (Option ℕ) Fault → ServerState → Type 0
+ReadsDriverLine u piece done x old (Ok (Some used)) new = (line : List ℕ) × FindsLine x.unfinished piece line used × (new ≡ after_driver_line u line (holding_nothing u old))
+ReadsDriverLine u piece done x old (Ok None) new = (kept : List ℕ) × Finds x.unfinished piece found.NeedsMore kept × (new ≡ with_ups_changed (with_unfinished kept) u old)
+ReadsDriverLine u piece done x old (Err LineTooLong) new = (kept : List ℕ) × Finds x.unfinished piece found.TooLong kept × (new ≡ with_ups_changed (with_unfinished kept) u old)
+ReadsDriverLine u piece done x old (Err (Memory k)) new =
+    (k ≡ done) × (line : List ℕ) × (used : ℕ) × FindsLine x.unfinished piece line used × (line_changes x.report.tree line ≡ true) × (with_ups_changed after_loss u new ≡ with_ups_changed after_loss u old)
+ReadsDriverLine u piece done x old (Err fault) new = ⊥
+
+-- of the UPS, which is there
+abbrev pub OfUps : UpsId → ServerState → (UpsState → Type 0) → Type 0
+OfUps u s P = (x : UpsState) → ups_at u.place s ≡ Some x → P x
+
 -- f may be called at a UPS of the server,
 abbrev pub MayChangeUps : {F R : Type 0} → Once F (MutBor UpsState × Unit {0}) R → F → UpsId → ServerState → Type 0
-MayChangeUps g f u s = (x : UpsState) → ups_at u.place s ≡ Some x → FnOnceTakesAtMut g f x
+MayChangeUps g f u s = OfUps u s (FnOnceTakesAtMut g f)
 
 -- keeps it sound,
 abbrev pub KeepsUpsSound : {F R : Type 0} → Once F (MutBor UpsState × Unit {0}) (R × (MutBor UpsState × Unit {0})) → F → UpsId → ServerState → Type 0

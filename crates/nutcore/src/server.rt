@@ -174,10 +174,7 @@ impl Server {
     {
         self.forget_cost();
         self.connected(u)?;
-        lawful_lines_keep_trees_sound();
-        each_line_keeps_the_tree_sound();
-        let moment = self.moment;
-        self.with_ups(u, |ups| ups.feed(moment, piece))
+        self.feed_driver(u, piece)
     }
 
     /// What is offered to the driver: all that it is owed, at most 2,048 bytes, and nothing where it isn't connected. It

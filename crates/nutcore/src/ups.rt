@@ -1,11 +1,9 @@
 //! A UPS as the server keeps it: its driver's connection, and what the driver reported.
-ghost use Rattle.std.specs.Prelude.{◌≡◌, ◌≢◌, ◌≤◌, length, drop, ◌++◌, [], true, IfOk, IfErr, IsTrue, OnOk, OnErr, Ok, Err};
-ghost use Rattle.nutdriver.specs.Report.{line_changes};
-ghost use Rattle.nutwords.specs.declared.limits.TheConstants.{LINE_LIMIT};
-ghost use Rattle.nutcore.specs.Ups.{new_ups, after_connecting, after_loss, after_tick, with_fsd, free_room, with_order, after_text, after_outcome, with_unfinished};
+ghost use Rattle.std.specs.Prelude.{◌≡◌, ◌≤◌, length};
+ghost use Rattle.nutcore.specs.Ups.{new_ups, after_connecting, after_loss, after_tick, with_fsd, free_room, with_order, after_outcome};
 ghost use Rattle.nutanswer.specs.View.{ups_seen};
 ghost use Rattle.nutcore.specs.Reply.{seen_ups};
-ghost use Rattle.nutcore.specs.Promises.{ReadsLine, IsStopped, IsFed, IsTaken};
+ghost use Rattle.nutcore.specs.Promises.{IsTaken, IsCut, DoesLine, IsFront, front_or};
 
 use crate::DRIVER_OWED_LIMIT;
 use crate::event::Fault;
@@ -19,19 +17,6 @@ use std::marker::Model;
 
 /// The line by which a driver is asked whether it is there.
 const PING_LINE: &[u8] = b"PING\n";
-
-/// What came of reading a driver's next line.
-#[derive(Clone, Copy)]
-pub(crate) enum Reading {
-    /// It was done, and takes so many bytes of the piece.
-    Done(usize),
-    /// It isn't whole. All of the piece is kept.
-    Unfinished,
-    /// It is too long.
-    TooLong,
-    /// It would change what the driver reported, and memory was refused.
-    OutOfMemory,
-}
 
 /// A UPS. Moments are in seconds.
 #[derive(Drop)]
@@ -177,83 +162,33 @@ impl Ups {
         self.cut = LineCut::new();
     }
 
-    /// Does what the lines of the driver say, as far as they came. Where 1,024 bytes stand
-    /// without an LF, or memory is refused, the driver is lost, and the rest is dropped.
+    /// Tells where the next line of its driver lies, in what it holds and a piece. Where none is whole, all of the piece is
+    /// held.
+    pub(crate) fn find_line(&mut self, piece: &[u8]) -> Found
+        ensures { IsCut piece.now self.old result self.new }
+    {
+        self.cut.find(piece)
+    }
+
+    /// Does what a whole line of its driver says: so many bytes at the front of the piece, or else what it holds. It holds
+    /// nothing any more. A refused line is counted.
     ///
     /// # Errors
     ///
-    /// `LineTooLong`, and `Memory` with how many lines of the call were done.
-    pub(crate) fn feed(&mut self, moment: u64, piece: &[u8]) -> Result<(), Fault>
-        requires connected { self.old.report.connected ≡ true }
-        ensures fed { IsFed moment (self.old.unfinished ++ piece.now) self.old result self.new }
+    /// Memory was refused, for which only a line that would change the tree asks. It was heard then, and changed nothing
+    /// more.
+    pub(crate) fn execute(
+        &mut self,
+        moment: u64,
+        piece: &[u8],
+        length: Option<usize>,
+    ) -> Result<(), AllocError>
+        requires front { IsFront length piece.now }
+        ensures { DoesLine moment (front_or length piece.now self.old.unfinished)
+            self.old result self.new }
     {
-        let result = self.read_lines(moment, piece);
-        if result.is_err() {
-            self.disconnect();
-        }
-        result
-    }
-
-    /// Does what the whole lines say, until all of the piece was used.
-    fn read_lines(&mut self, moment: u64, piece: &[u8]) -> Result<(), Fault>
-        ensures { IsStopped moment (self.old.unfinished ++ piece.now) self.old result self.new }
-    {
-        let mut rest = piece;
-        let mut done = 0;
-        loop {
-            match self.read_line(moment, rest) {
-                Reading::Done(used) => {
-                    rest = unused(rest, used);
-                    done += 1;
-                }
-                Reading::Unfinished => return Ok(()),
-                Reading::TooLong => return Err(Fault::LineTooLong),
-                Reading::OutOfMemory => return Err(Fault::Memory(done)),
-            }
-        }
-    }
-
-    /// Does what the next line says, which isn't copied where it stands in the piece.
-    fn read_line(&mut self, moment: u64, piece: &[u8]) -> Reading
-        ensures { ReadsLine moment piece.now self.old result self.new }
-    {
-        match self.cut.find(piece) {
-            Found::InPiece(length) => match self.execute(moment, &piece[..length]) {
-                Ok(()) => Reading::Done(length + 1),
-                Err(_) => Reading::OutOfMemory,
-            },
-            Found::Joined(used) => match self.execute_held(moment) {
-                Ok(()) => Reading::Done(used),
-                Err(_) => Reading::OutOfMemory,
-            },
-            Found::NeedsMore => Reading::Unfinished,
-            Found::TooLong => Reading::TooLong,
-        }
-    }
-
-    /// Does what a whole line says. A refused one is counted.
-    fn execute(&mut self, moment: u64, line: &[u8]) -> Result<(), AllocError>
-        requires { length line.now ≤ LINE_LIMIT }
-        ensures ok { OnOk result (self.new ≡ after_text moment self.old line.now) }
-        ensures memory { OnErr result (IsTrue (line_changes self.old.report.tree line.now)) }
-        ensures err { OnErr result (after_loss self.new ≡ after_loss self.old) }
-    {
+        let line = front_or(piece, length, self.cut.held());
         let outcome = self.report.execute(moment, line, &mut Meter::new())?;
-        self.count(outcome);
-        Ok(())
-    }
-
-    /// Does what the line says that is held, and holds nothing any more. A refused one is counted.
-    fn execute_held(&mut self, moment: u64) -> Result<(), AllocError>
-        ensures ok { OnOk result (self.new
-            ≡ after_text moment (with_unfinished [] self.old) self.old.unfinished) }
-        ensures memory { OnErr result
-            (IsTrue (line_changes self.old.report.tree self.old.unfinished)) }
-        ensures err { OnErr result (after_loss self.new ≡ after_loss self.old) }
-    {
-        let outcome = self
-            .report
-            .execute(moment, self.cut.held(), &mut Meter::new())?;
         self.cut.clear();
         self.count(outcome);
         Ok(())
@@ -270,10 +205,13 @@ impl Ups {
     }
 }
 
-/// What a cut leaves of a piece.
-fn unused(piece: &[u8], used: usize) -> &[u8]
-    requires { used ≤ length piece.now }
-    ensures { result.now ≡ drop used piece.now }
+/// So many bytes at the front of the piece, or else what is held.
+fn front_or<'a>(piece: &'a [u8], length: Option<usize>, held: &'a [u8]) -> &'a [u8]
+    requires { IsFront length piece.now }
+    ensures { result.now ≡ front_or length piece.now held.now }
 {
-    &piece[used..]
+    match length {
+        Some(length) => &piece[..length],
+        None => held,
+    }
 }
