@@ -1,5 +1,8 @@
 mod Rows
+mod TableRows
+mod Named
 mod Changes
+mod LawfulCommands
 mod ErrorLemmas
 mod Quoted
 mod RightLemmas

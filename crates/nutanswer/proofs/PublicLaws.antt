@@ -1,7 +1,28 @@
 -- The laws of this crate that a proof in a crate above may cite: each is what a function of src/laws.rt ensures.
-use Rattle.nutanswer.specs.Laws.{OrdersFit, ErrorLinesAreWhole}
+use Rattle.nutanswer.specs.Laws.{ANamedUpsIsSeen, OrdersFit, ErrorLinesAreWhole}
+use Rattle.nutanswer.specs.Lawful.{WhatIsReadIsLawful}
+use Rattle.nutanswer.specs.Rows.{EachChangeComesOfItsCommand, EachOrderAnsweredOkIsGiven}
+use Rattle.nutanswer.proofs.Named as named
 use Rattle.nutanswer.proofs.OrderFits as fits
 use Rattle.nutanswer.proofs.ErrorLemmas as errors
+use Rattle.nutanswer.proofs.LawfulCommands as lawful
+use Rattle.nutanswer.proofs.TableRows as rows
+
+-- each_change_comes_of_its_command
+pub each_change_comes_of_its_command : EachChangeComesOfItsCommand
+each_change_comes_of_its_command = rows.each_change
+
+-- each_order_answered_ok_is_given
+pub each_order_answered_ok_is_given : EachOrderAnsweredOkIsGiven
+each_order_answered_ok_is_given = rows.ok_orders
+
+-- what_is_read_is_lawful
+pub what_is_read_is_lawful : WhatIsReadIsLawful
+what_is_read_is_lawful = lawful.reading_is_lawful
+
+-- a_named_ups_is_seen
+pub a_named_ups_is_seen : ANamedUpsIsSeen
+a_named_ups_is_seen = named.named_is_seen
 
 -- orders_fit
 pub orders_fit : OrdersFit

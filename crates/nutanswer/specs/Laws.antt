@@ -1,5 +1,5 @@
 -- What holds of every row of the table.
-use Rattle.std.specs.Prelude.{◌≡◌, ◌≤◌, ℕ, Bool, true, false, List, [], ◌∷◌, codes, length, slice_get, Some, Result, Ok, Err}
+use Rattle.std.specs.Prelude.{◌≡◌, ◌≤◌, ℕ, Bool, true, false, List, [], ◌∷◌, codes, length, slice_get, Option, Some, Result, Ok, Err}
 use Rattle.std.specs.Str.{bytes_eq}
 use Rattle.arrayvec.specs.ArrayVec.{ArrayVec}
 use Rattle.nutusers.specs.declared.ups_list.UpsId.{UpsId}
@@ -9,6 +9,7 @@ use Rattle.nutanswer.specs.declared.reply.Change.TheVariants.{Nothing, Order}
 use Rattle.nutlisting.specs.Lines.{IsWholeLine}
 use Rattle.nutanswer.specs.ErrWord.{error_line}
 use Rattle.nutanswer.specs.View.{Seen, AskerSeen, UpsSeen}
+use Rattle.nutanswer.specs.Checks.{KnownUps, ups_named}
 use Rattle.nutanswer.specs.Answer.{Answer, one_line, listing, listing_of_clients, answer_to, change_of_answer}
 
 -- The first word is OK.
@@ -34,6 +35,16 @@ abbrev pub OnlyOkChanges : Type 0
 OnlyOkChanges =
     (s : Seen) (asker : AskerSeen) (command : Command)
     → is_ok_line (answer_to s asker command) ≡ false → change_of_answer (answer_to s asker command) ≡ Nothing
+
+-- The UPS has this name, and stands at its place among those seen.
+pub record IsSeen (s : Seen) (ups : Option (List ℕ)) (u : KnownUps) : Type 0 where
+  pub name_is : ups ≡ Some u.name
+  pub stands : slice_get s.upses u.id.place ≡ Some u.state
+
+-- A UPS that is named is one of those seen.
+abbrev pub ANamedUpsIsSeen : Type 0
+ANamedUpsIsSeen =
+    (s : Seen) (ups : Option (List ℕ)) (u : KnownUps) → ups_named s ups ≡ Some u → IsSeen s ups u
 
 -- The driver of this UPS is connected, and the line fits in what it may still be owed.
 pub record TakesOrder (line : List ℕ) (x : UpsSeen) : Type 0 where

@@ -4,5 +4,7 @@ pub mod View
 pub mod Orders
 pub mod Checks
 pub mod Answer
+pub mod Rows
+pub mod Lawful
 pub mod Laws
 pub mod Promises

@@ -1,11 +1,34 @@
 //! Laws of the table of answers.
-ghost use Rattle.nutanswer.specs.Laws.{RefusedLinesChangeNothing, OnlyOkChanges, OrdersFit, ErrorLinesAreWhole};
+ghost use Rattle.nutanswer.specs.Laws.{RefusedLinesChangeNothing, OnlyOkChanges, ANamedUpsIsSeen, OrdersFit, ErrorLinesAreWhole};
+ghost use Rattle.nutanswer.specs.Lawful.{WhatIsReadIsLawful};
+ghost use Rattle.nutanswer.specs.Rows.{EachChangeComesOfItsCommand, EachOrderAnsweredOkIsGiven};
+
+/// Each change comes of its own command, where the checks of its row held: a user name of USERNAME, a login of LOGIN by
+/// right, and so on.
+pub fn each_change_comes_of_its_command()
+    ensures { EachChangeComesOfItsCommand }
+{}
+
+/// `SET VAR` or `INSTCMD` that OK answers gives its order to the driver of its UPS.
+pub fn each_order_answered_ok_is_given()
+    ensures { EachOrderAnsweredOkIsGiven }
+{}
+
+/// The names and values that are read from a line are lawful.
+pub fn what_is_read_is_lawful()
+    ensures { WhatIsReadIsLawful }
+{}
 
 /// What a command changes it says: a line that is refused changes nothing, and nor does one whose answer doesn't begin
 /// with `OK`.
 pub fn only_ok_changes()
     ensures refused { RefusedLinesChangeNothing }
     ensures ok { OnlyOkChanges }
+{}
+
+/// A UPS that is named has the name, and stands at its place among those seen.
+pub fn a_named_ups_is_seen()
+    ensures { ANamedUpsIsSeen }
 {}
 
 /// An order is for a driver that is connected, and fits in what it may still be owed.

@@ -1,23 +1,18 @@
 -- A user name and a password are given by lines alone.
-use Rattle.std.proofs.Common.{◌≡◌, ◌∙◌, ℕ, true, false, List, [], ◌∷◌, Option, Some, None, Result, Ok, Err, refl, ap, inl}
-use Rattle.std.specs.Prelude.{Bool, codes}
+use Rattle.std.proofs.Common.{◌≡◌, ◌∙◌, ℕ, true, false, List, [], Option, Some, None, refl, ap, inl}
+use Rattle.std.specs.Prelude.{Bool}
 use Rattle.std.specs.Option.{option_map_or}
 use Rattle.std.specs.Str.{bytes_eq}
 use Rattle.std.proofs.lemmas.Slice.Eq.{bytes_eq-Decides}
-use Rattle.nutanswer.specs.declared.command.Command.{Command}
-use Rattle.nutanswer.specs.declared.command.Command.TheVariants.{Username, Password}
-use Rattle.nutanswer.specs.declared.err_word.ErrWord.{ErrWord}
 use Rattle.nutanswer.specs.declared.reply.Change.{Change}
 use Rattle.nutanswer.specs.declared.reply.Change.TheVariants as changes
-use Rattle.nutanswer.specs.Command.{read_command}
-use Rattle.nutwords.specs.Frame.{line_of as text_line}
 use Rattle.nutcore.specs.Session.{SessionState, find}
 use Rattle.nutcore.specs.Server.{ServerState, session}
-use Rattle.nutcore.specs.Reply.{seen, asker, asker_of, reply, changed_session, change_by, text_to}
+use Rattle.nutcore.specs.Reply.{asker_of, changed_session, text_to}
 use Rattle.nutcore.specs.Pump.{answered}
 use Rattle.nutcore.specs.History.{Execution, of_line, of_notice}
 use Rattle.nutcore.specs.ByRight.{GivesUsername, GivesPassword, CredentialsAreGivenByLines}
-use Rattle.nutcore.proofs.TableRows.{username_row, password_row}
+use Rattle.nutcore.proofs.Rows.{some_command, comes_of_line}
 use Rattle.nutcore.proofs.Marks.{OneIs, run_told, no_mark}
 use Rattle.nutcore.proofs.SessionMarks.{IsSessionMark, SetsMark, is_marked, marks}
 
@@ -51,16 +46,8 @@ module _ (name : List ℕ) where
   pub is_name_mark : IsSessionMark named_so IsName
   is_name_mark = record { held = λ x bytes. refl; owed = λ x bytes. refl; noticed = λ x. inl refl; fresh = λ c address. refl; set = names }
 
-  by_name : (s : ServerState) (c : ℕ) (line : List ℕ) (r : Result (Option Command) ErrWord) → read_command line ≡ r → change_by s c r ≡ changes.Username name
-      → (read_command line ≡ Ok (Some (Username (Some name)))) × ((reply s c line) ≡ text_line (codes "OK" ∷ []))
-  by_name s c line (Err word) e h = cc h
-  by_name s c line (Ok None) e h = cc h
-  by_name s c line (Ok (Some command)) e h =
-      let row = username_row (seen s) (asker c s) name command h in
-      (e ∙ ap (λ (k : Command). let r : Result (Option Command) ErrWord = Ok (Some k) in r) row.is, ap (text_to s c) e ∙ row.text)
-
   gives_name : (c : ℕ) (x : Execution) → SetsMark named_so IsName is_name_mark c x → GivesUsername c name x
-  gives_name c (of_line s d line) h = let given = by_name s d line (read_command line) refl h.1 in (h.0, given.0, given.1)
+  gives_name c (of_line s d line) h = let came = comes_of_line s d line (changes.Username name) refl h.1 in (h.0, came.read ∙ ap some_command came.row.is, ap (text_to s d) came.read ∙ came.row.text)
   gives_name c (of_notice d) h = absurd h
 
 module _ (word : List ℕ) where
@@ -83,16 +70,8 @@ module _ (word : List ℕ) where
   pub is_word_mark : IsSessionMark has_word IsWord
   is_word_mark = record { held = λ x bytes. refl; owed = λ x bytes. refl; noticed = λ x. inl refl; fresh = λ c address. refl; set = words }
 
-  by_word : (s : ServerState) (c : ℕ) (line : List ℕ) (r : Result (Option Command) ErrWord) → read_command line ≡ r → change_by s c r ≡ changes.Password word
-      → (read_command line ≡ Ok (Some (Password (Some word)))) × ((reply s c line) ≡ text_line (codes "OK" ∷ []))
-  by_word s c line (Err w) e h = cc h
-  by_word s c line (Ok None) e h = cc h
-  by_word s c line (Ok (Some command)) e h =
-      let row = password_row (seen s) (asker c s) word command h in
-      (e ∙ ap (λ (k : Command). let r : Result (Option Command) ErrWord = Ok (Some k) in r) row.is, ap (text_to s c) e ∙ row.text)
-
   gives_word : (c : ℕ) (x : Execution) → SetsMark has_word IsWord is_word_mark c x → GivesPassword c word x
-  gives_word c (of_line s d line) h = let given = by_word s d line (read_command line) refl h.1 in (h.0, given.0, given.1)
+  gives_word c (of_line s d line) h = let came = comes_of_line s d line (changes.Password word) refl h.1 in (h.0, came.read ∙ ap some_command came.row.is, ap (text_to s d) came.read ∙ came.row.text)
   gives_word c (of_notice d) h = absurd h
 
 -- what is asked with was given

@@ -5,15 +5,10 @@ use Rattle.std.specs.List.{starts_with}
 use Rattle.std.proofs.lemmas.Slice.Eq.{bytes_eq-Decides}
 use Rattle.nutwords.specs.Frame.{frame, line_of}
 use Rattle.nutanswer.specs.declared.command.Command.{Command}
-use Rattle.nutanswer.specs.declared.command.Command.TheVariants.{ListVar}
 use Rattle.nutanswer.specs.declared.err_word.ErrWord.{ErrWord}
-use Rattle.nutanswer.specs.declared.err_word.ErrWord.TheVariants.{UnknownUps}
 use Rattle.nutanswer.specs.Command.{read_command}
-use Rattle.nutanswer.specs.View.{Readiness, readiness, usable}
-use Rattle.nutlisting.specs.Items.{ListingState, variable_listing}
-use Rattle.nutanswer.specs.Checks.{◌>>=◌, ◌>>◌, KnownUps, ups_named, live, driver_not_connected, data_stale}
+use Rattle.nutlisting.specs.Items.{ListingState}
 use Rattle.nutanswer.specs.Answer.{Answer, one_line, answer_to, listing, listing_of_clients, text_of_answer, change_of_answer}
-use Rattle.std.specs.Option.{ok_or}
 use Rattle.nutcore.specs.Server.{ServerState}
 use Rattle.nutcore.specs.Reply.{seen, asker, reply, text_to}
 use Rattle.nutcore.specs.Session.{SessionState}
@@ -26,23 +21,15 @@ use Rattle.nutanswer.specs.declared.reply.Change.{Change}
 use Rattle.nutanswer.specs.declared.reply.Change.TheVariants.{Nothing}
 use Rattle.nutanswer.specs.Laws.{is_ok_line, OnlyOkChanges}
 use Rattle.nutcore.specs.Headline.{AListingIsWhatIsHeld}
+use Rattle.nutcore.proofs.Listed.{usable_row, lists, variables_of}
 
 framed : (s : ServerState) (c : ℕ) (line : List ℕ) (command : Command) (l : ListingState) → read_command line ≡ Ok (Some command) → answer_to (seen s) (asker c s) command ≡ Ok (listing l) → (reply s c line) ≡ frame l.kind l.names l.items
 framed s c line command l read answer = ap (text_to s c) read ∙ ap text_of_answer answer
 
--- the listing of the variables of a UPS that is known
-abbrev variables_of : KnownUps → ListingState
-variables_of known = variable_listing known.name known.state.fsd known.state.report.tree.variables
-
-answered : (s : ServerState) (c : ℕ) (ups : List ℕ) (known : KnownUps) → ups_named (seen s) (Some ups) ≡ Some known → readiness s.moment s.max_age known.state.report ≡ usable → answer_to (seen s) (asker c s) (ListVar (Some ups)) ≡ Ok (listing (variables_of known))
-answered s c ups known named ready =
-    ap (λ (o : Option KnownUps). ok_or o UnknownUps >>= (λ u. live (seen s) u >> (let r : Result Answer ErrWord = Ok (listing (variables_of u)) in r))) named
-    ∙ ap (λ (r : Readiness). let a : Result Answer ErrWord = Ok (listing (variables_of known)) in (driver_not_connected r >> data_stale r) >> a) ready
-
 pub listing_is_held : AListingIsWhatIsHeld
 listing_is_held = record {
   framed = framed;
-  variables = λ s c line ups known read named ready. framed s c line (ListVar (Some ups)) (variables_of known) read (answered s c ups known named ready);
+  variables = λ s c line ups known read named ready. framed s c line _ (variables_of known) read (usable_row s (Some ups) known (λ k. lists (variables_of k)) (record { named = named; ready = ready }));
 }
 
 -- a line of OK doesn't begin with ERR

@@ -18,9 +18,7 @@ mod EventSteps
 mod Runs
 mod DriverSteps
 mod Examples
-mod TableRows
-mod Named
-mod OrderRows
+mod Rows
 mod Marks
 mod ShutdownMarks
 mod SessionMarks
@@ -38,7 +36,6 @@ mod Listed
 mod DriverHistory
 mod DriverOrders
 mod OrdersByRight
-mod LawfulCommands
 mod Written
 mod TellingLines
 mod ReadsBack

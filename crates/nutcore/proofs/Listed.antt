@@ -28,13 +28,13 @@ use Rattle.nutcore.specs.Server.{ServerState}
 use Rattle.nutcore.specs.Reply.{seen, seen_ups, text_to}
 use Rattle.nutcore.specs.Sound.{Each, IsSoundUps, IsSound}
 use Rattle.nutcore.specs.Listed.{AsksOf, EachIsListedOnce, WhatIsListedIsWhatIsHeld}
-use Rattle.nutcore.proofs.Named.{named_at}
+use Rattle.nutanswer.proofs.PublicLaws.{a_named_ups_is_seen}
 use Rattle.nutcore.proofs.SoundUps.{each_get, each_map}
 
 -- a UPS that is named is one of those seen
 module _ (P : UpsSeen → Type 0) where
   pub of_named : (s : Seen) → Each P s.upses → (ups : Option (List ℕ)) (u : KnownUps) → ups_named s ups ≡ Some u → P u.state
-  of_named s all ups u named = each_get P s.upses u.id.place u.state (named_at s ups u named) all
+  of_named s all ups u named = each_get P s.upses u.id.place u.state (a_named_ups_is_seen s ups u named).stands all
 
 abbrev has_sound_tree : UpsSeen → Type 0
 has_sound_tree x = IsSoundTree x.report.tree
@@ -44,7 +44,7 @@ tree_of s ups u sound named =
     of_named has_sound_tree (seen s) (each_map (IsSoundUps s.moment) has_sound_tree seen_ups (λ x h. h.tree) s.upses sound.upses) ups u named
 
 -- the row of a usable UPS
-usable_row : (s : ServerState) (ups : Option (List ℕ)) (u : KnownUps) (row : KnownUps → Result Answer ErrWord) → AsksOf s ups u → (unknown_ups (seen s) ups >>= (λ k. live (seen s) k >> row k)) ≡ row u
+pub usable_row : (s : ServerState) (ups : Option (List ℕ)) (u : KnownUps) (row : KnownUps → Result Answer ErrWord) → AsksOf s ups u → (unknown_ups (seen s) ups >>= (λ k. live (seen s) k >> row k)) ≡ row u
 usable_row s ups u row asks = ap (λ (o : Option KnownUps). ok_or o UnknownUps >>= (λ k. live (seen s) k >> row k)) asks.named ∙ ap (λ (r : Readiness). (driver_not_connected r >> data_stale r) >> row u) asks.ready
 
 -- of a variable that it has
@@ -53,10 +53,10 @@ variable_row : (s : ServerState) (ups : Option (List ℕ)) (u : KnownUps) (name 
 variable_row s ups u name o row asks e =
     usable_row s ups u (λ k. var_not_supported k (Some name) >>= (λ v. row k v)) asks ∙ ap (λ (x : Option VariableState). ok_or (option_map (λ y. (name, y)) x) VarNotSupported >>= (λ v. row u v)) e
 
-abbrev lists : ListingState → Result Answer ErrWord
+abbrev pub lists : ListingState → Result Answer ErrWord
 lists l = Ok (listing l)
 
-abbrev variables_of : KnownUps → ListingState
+abbrev pub variables_of : KnownUps → ListingState
 variables_of u = variable_listing u.name u.state.fsd u.state.report.tree.variables
 
 abbrev rw_of : KnownUps → ListingState

@@ -1,8 +1,7 @@
 -- What a sound server lists is read back.
-use Rattle.std.proofs.Common.{◌≡◌, ℕ, ◌≤◌, Bool, List, [], ◌∷◌, Option, Some, None, length, refl, sym, ap, subst, arith}
-use Rattle.std.specs.Prelude.{codes, map, filter, All, IsTrue, slice_get}
+use Rattle.std.proofs.Common.{◌≡◌, ℕ, ◌≤◌, Bool, List, [], ◌∷◌, Option, Some, length, refl, sym, subst, arith}
+use Rattle.std.specs.Prelude.{codes, map, filter, All, IsTrue}
 use Rattle.std.specs.List.{AllZip}
-use Rattle.std.specs.Option.{option_map, option_and_then}
 use Rattle.std.specs.Fmt.{signed_decimal}
 use Rattle.std.specs.Map.{keys_of, values_of}
 use Rattle.std.proofs.lemmas.Int.{ints}
@@ -15,15 +14,16 @@ use Rattle.nutwords.specs.declared.limits.TheConstants.{LINE_ROOM}
 use Rattle.nutdriver.specs.declared.range.Range.{Range}
 use Rattle.nutdriver.specs.Sound.{IsSoundRange, IsSoundVariable, IsSoundTree}
 use Rattle.nutdriver.specs.Variable.{VariableState}
-use Rattle.nutusers.specs.UpsList.{Ups, IsLawfulUps, place_of}
+use Rattle.nutusers.specs.UpsList.{Ups, IsLawfulUps}
 use Rattle.nutlisting.specs.Items.{is_rw, variable_item, command_item, enum_item, range_item, ups_item, client_item}
 use Rattle.nutlisting.specs.Shown.{shown, ups_description}
-use Rattle.nutanswer.specs.Checks.{KnownUps, known, ups_at, ups_named}
-use Rattle.nutanswer.specs.View.{Seen, UpsSeen}
+use Rattle.nutanswer.specs.Checks.{KnownUps, ups_named}
+use Rattle.nutanswer.specs.View.{Seen}
 use Rattle.nutcore.specs.ByRight.{logged_in}
 use Rattle.nutcore.specs.ReadsBack.{variable_words, enum_words, range_words, ups_words, ReadsBack, HasLawfulAddress, EachListingReadsBack}
 use Rattle.nutcore.specs.Reply.{seen}
-use Rattle.nutcore.proofs.LawfulCommands.{HasLawfulUpsName, IsLawfulReading, reading_is_lawful}
+use Rattle.nutanswer.specs.Lawful.{HasLawfulUpsName, IsLawfulReading}
+use Rattle.nutanswer.proofs.PublicLaws.{a_named_ups_is_seen, what_is_read_is_lawful}
 use Rattle.nutcore.proofs.Listed.{variable_sound, listed_once}
 use Rattle.nutcore.proofs.LoginCount.{is_in, who_is_there}
 use Rattle.nutcore.proofs.Written.{IsShortText, name_word, ups_word, address_word, value_text, shown_text, description_text, number_text, line_of_one, line_of_more}
@@ -131,24 +131,8 @@ tree_lawful : (u : KnownUps) → IsSoundTree u.state.report.tree → All IsLawfu
 tree_lawful u sound = entries_lawful u.state.report.tree.variables sound.names sound.variables
 
 -- a UPS that is found by a name has the name, which is lawful where the line gave it
-name_kept : (s : Seen) (ups : List ℕ) (u : KnownUps) → ups_named s (Some ups) ≡ Some u → ups ≡ u.name
-name_kept s ups u h = placed (place_of ups s.list) h
-  where
-    state : (place : ℕ) (listed : Ups) (x : Option UpsSeen) → option_map (known ups place listed) x ≡ Some u → ups ≡ u.name
-    state place listed None e = cc e
-    state place listed (Some x) e = let k : known ups place listed x ≡ u = cc e in ap (λ (a : KnownUps). a.name) k
-
-    at_place : (place : ℕ) (o : Option Ups) → option_and_then (λ listed. option_map (known ups place listed) (slice_get s.upses place)) o ≡ Some u → ups ≡ u.name
-    at_place place None e = cc e
-    at_place place (Some listed) e = state place listed (slice_get s.upses place) e
-
-    placed : (o : Option ℕ) → option_and_then (ups_at s ups) o ≡ Some u → ups ≡ u.name
-    placed None e = cc e
-    placed (Some place) e = at_place place (slice_get s.list place) e
-
 named_lawful : (s : Seen) (ups : Option (List ℕ)) (u : KnownUps) → HasLawfulUpsName ups → ups_named s ups ≡ Some u → IsTrue (is_ups_name u.name)
-named_lawful s None u lawful named = cc named
-named_lawful s (Some ups) u lawful named = subst (λ (name : List ℕ). IsTrue (is_ups_name name)) (name_kept s ups u named) (lawful ups refl)
+named_lawful s ups u lawful named = lawful u.name (a_named_ups_is_seen s ups u named).name_is
 
 module _ (back : ListingIsReadBack) (one : OneReading) where
   reads_back : (text kind : List ℕ) (names : List (List ℕ)) (items rows : List (List (List ℕ))) → text ≡ frame kind names items
@@ -170,30 +154,30 @@ module _ (back : ListingIsReadBack) (one : OneReading) where
   pub listings_read_back : EachListingReadsBack
   listings_read_back = record {
     variables = λ s c line ups u sound read asks.
-        let named = named_lawful (seen s) ups u (subst IsLawfulReading read (reading_is_lawful line)) asks.named in
+        let named = named_lawful (seen s) ups u (subst IsLawfulReading read (what_is_read_is_lawful line)) asks.named in
         let tree = listed_once.tree s ups u sound asks.named in
         of_ups _ (codes "VAR") u.name _ _ refl named (listed_once.variables s c line ups u sound read asks).0
         (rows_written IsLawfulEntry (variable_item (codes "VAR") u.name u.state.fsd) (variable_words (codes "VAR") u.name u.state.fsd) (λ entry h. variable_written (codes "VAR") u.name u.state.fsd entry refl named h) u.state.report.tree.variables (tree_lawful u tree));
     rw = λ s c line ups u sound read asks.
-        let named = named_lawful (seen s) ups u (subst IsLawfulReading read (reading_is_lawful line)) asks.named in
+        let named = named_lawful (seen s) ups u (subst IsLawfulReading read (what_is_read_is_lawful line)) asks.named in
         let tree = listed_once.tree s ups u sound asks.named in
         of_ups _ (codes "RW") u.name _ _ refl named (listed_once.rw s c line ups u sound read asks).0
         (rows_written IsLawfulEntry (variable_item (codes "RW") u.name u.state.fsd) (variable_words (codes "RW") u.name u.state.fsd) (λ entry h. variable_written (codes "RW") u.name u.state.fsd entry refl named h) (filter is_rw u.state.report.tree.variables)
         (All-filter is_rw IsLawfulEntry u.state.report.tree.variables (tree_lawful u tree)));
     commands = λ s c line ups u sound read asks.
-        let named = named_lawful (seen s) ups u (subst IsLawfulReading read (reading_is_lawful line)) asks.named in
+        let named = named_lawful (seen s) ups u (subst IsLawfulReading read (what_is_read_is_lawful line)) asks.named in
         let tree = listed_once.tree s ups u sound asks.named in
         of_ups _ (codes "CMD") u.name _ _ refl named (listed_once.commands s c line ups u sound read asks).0
         (rows_written (λ name. IsTrue (is_name name)) (command_item u.name) (command_item u.name) (λ name h. command_written u.name name named h) u.state.report.tree.commands tree.commands);
     enum_values = λ s c line ups name u variable sound read asks there.
-        let lawful = subst IsLawfulReading read (reading_is_lawful line) in
+        let lawful = subst IsLawfulReading read (what_is_read_is_lawful line) in
         let named = named_lawful (seen s) ups u lawful.0 asks.named in
         let n = lawful.1 name refl in
         let x = variable_sound u.state.report.tree name variable (listed_once.tree s ups u sound asks.named) there in
         of_variable _ (codes "ENUM") u.name name _ _ refl named n (listed_once.enum_values s c line ups name u variable sound read asks there).0
         (rows_written (λ value. IsTrue (is_value value)) (enum_item u.name name) (enum_words u.name name) (λ value h. enum_written u.name name value named n h) variable.enum_values x.enum_values);
     ranges = λ s c line ups name u variable sound read asks there.
-        let lawful = subst IsLawfulReading read (reading_is_lawful line) in
+        let lawful = subst IsLawfulReading read (what_is_read_is_lawful line) in
         let named = named_lawful (seen s) ups u lawful.0 asks.named in
         let n = lawful.1 name refl in
         let x = variable_sound u.state.report.tree name variable (listed_once.tree s ups u sound asks.named) there in
@@ -203,7 +187,7 @@ module _ (back : ListingIsReadBack) (one : OneReading) where
         reads_back _ (codes "UPS") [] _ _ (listed_once.upses s c line sound read).0 ((name_word (codes "UPS") refl).written, tt) (omega arith)
         (rows_written IsLawfulUps ups_item ups_words ups_written s.list lawful);
     clients = λ s c line ups u sound read found lawful.
-        let named = named_lawful (seen s) ups u (subst IsLawfulReading read (reading_is_lawful line)) found in
+        let named = named_lawful (seen s) ups u (subst IsLawfulReading read (what_is_read_is_lawful line)) found in
         of_ups _ (codes "CLIENT") u.name _ _ refl named (who_is_there.listed s c line ups u read found)
         (rows_written HasLawfulAddress (λ x. client_item u.name x.address) (λ x. client_item u.name x.address) (λ x h. client_written u.name x.address named h) (logged_in u.id s) (All-filter (is_in u.id) HasLawfulAddress s.sessions lawful));
   }

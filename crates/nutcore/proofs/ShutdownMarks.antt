@@ -1,35 +1,30 @@
 -- A forced shutdown is set by lines alone, and by those that have the right.
-use Rattle.std.proofs.Common.{◌≡◌, ◌≢◌, ℕ, zero, suc, Bool, true, false, List, [], ◌∷◌, ◌++◌, Option, Some, None, Result, Ok, Err, refl, sym, ◌∙◌, ap, cond, eqb, map, take}
-use Rattle.std.specs.Prelude.{slice_get, codes}
+use Rattle.std.proofs.Common.{◌≡◌, ◌≢◌, ℕ, zero, suc, Bool, true, false, List, [], ◌∷◌, ◌++◌, Option, Some, None, refl, sym, ◌∙◌, ap, cond, eqb, map, take}
+use Rattle.std.specs.Prelude.{slice_get}
 use Rattle.std.specs.Option.{option_map_or}
 use Rattle.std.proofs.lemmas.Bool.{eqb-true, eqb-false}
-use Rattle.nutusers.specs.declared.rights.Right.TheVariants as rights
 use Rattle.nutusers.specs.declared.ups_list.UpsId.{UpsId}
 use Rattle.nutdriver.specs.declared.report.Report.{Report}
 use Rattle.nutdriver.specs.declared.report.LineOutcome.{LineOutcome}
 use Rattle.nutdriver.specs.declared.report.LineOutcome.TheVariants.{Accepted, Refused}
 use Rattle.nutdriver.specs.Report.{after_line as report_after}
-use Rattle.nutanswer.specs.declared.command.Command.{Command}
-use Rattle.nutanswer.specs.declared.command.Command.TheVariants.{Fsd}
-use Rattle.nutanswer.specs.declared.err_word.ErrWord.{ErrWord}
 use Rattle.nutanswer.specs.declared.reply.Change.{Change}
 use Rattle.nutanswer.specs.declared.reply.Change.TheVariants as changes
-use Rattle.nutanswer.specs.Command.{read_command}
 use Rattle.nutcore.specs.declared.event.Event.{Event}
 use Rattle.nutcore.specs.declared.event.Event.TheVariants.{DriverUp, DriverBytes, DriverTook, DriverDown, Tick, Open, Feed, Took, Close}
 use Rattle.nutcore.specs.Lines.{whole_lines, unfinished_after, is_too_long}
 use Rattle.nutcore.specs.Session.{SessionState}
 use Rattle.nutcore.specs.Ups.{UpsState, with_fsd, with_order, after_connecting, after_loss, after_outcome, after_text, after_texts, with_unfinished, ping_is_due}
 use Rattle.nutcore.specs.Server.{ServerState, with_session_changed, changed_at}
-use Rattle.nutcore.specs.Reply.{seen, asker, changed_upses, change_by, text_to}
+use Rattle.nutcore.specs.Reply.{changed_upses}
 use Rattle.nutcore.specs.Pump.{next_line_for, after_line, after_notice, with_notice}
 use Rattle.nutcore.specs.Step.{after_by, joined, with_input, taken_from, without_output, opened, may_open, ticked, connected, disconnected, after_driver_took, driver_may_take}
 use Rattle.nutcore.specs.History.{of_line}
-use Rattle.nutcore.specs.ByRight.{IsByRight, SetsShutdownByRight, is_shut_down, AForcedShutdownIsSetByRight}
+use Rattle.nutcore.specs.ByRight.{SetsShutdownByRight, is_shut_down, AForcedShutdownIsSetByRight}
 use Rattle.nutcore.proofs.Changed.{by_change}
 use Rattle.nutcore.proofs.DriverText.{ups_after_text, ups_after_bytes, bytes_change}
 use Rattle.nutcore.proofs.Pumping.{is_next, after_line_is, change_at}
-use Rattle.nutcore.proofs.TableRows.{shutdown_row}
+use Rattle.nutcore.proofs.Rows.{comes_of_line, by_right}
 use Rattle.nutcore.proofs.Marks.{IsPlain, run_sets, no_mark}
 
 -- the forced shutdown of the UPS at a place
@@ -124,30 +119,12 @@ change_sets u (changes.Fsd v) xs before after = by_place (eqb v.place u.place) r
     by_place true e = ap (λ (p : ℕ). let w : UpsId = record { place = p } in changes.Fsd w) (eqb-true v.place u.place e)
     by_place false e = no_mark _ before (sym (other_place with_fsd v.place u.place xs (λ (k : v.place ≡ u.place). eqb-false v.place u.place e k)) ∙ after)
 
-by_read : (s : ServerState) (c : ℕ) (line : List ℕ) (u : UpsId) (r : Result (Option Command) ErrWord) → read_command line ≡ r → change_by s c r ≡ changes.Fsd u → IsByRight s c line Fsd rights.Fsd (codes "OK" ∷ codes "FSD-SET" ∷ []) u
-by_read s c line u (Err word) e h = cc h
-by_read s c line u (Ok None) e h = cc h
-by_read s c line u (Ok (Some command)) e h =
-    let row = shutdown_row (seen s) (asker c s) u command h in
-    record {
-      ups = row.ups;
-      name = row.has.name;
-      password = row.has.password;
-      known = row.known;
-      command = e ∙ ap (λ (k : Command). let r : Result (Option Command) ErrWord = Ok (Some k) in r) row.is;
-      named = row.named;
-      this = row.this;
-      username_given = row.has.username_given;
-      password_given = row.has.password_given;
-      granted = row.has.granted;
-      answered = ap (text_to s c) e ∙ row.text;
-    }
-
 by_line : (u : UpsId) (s : ServerState) (c : ℕ) (line : List ℕ) → next_line_for s c ≡ Some line → is_shut_down u s ≡ false → is_shut_down u (after_line s c) ≡ true → SetsShutdownByRight u (of_line s c line)
 by_line u s c line next before after =
     let n = is_next s c line next in
     let set : fsd_at u.place (changed_upses (change_at s c line) s.upses) ≡ true = ap (is_shut_down u) (sym (after_line_is s c line n.asking n.found next)) ∙ after in
-    by_read s c line u (read_command line) refl (change_sets u (change_at s c line) s.upses before set)
+    let came = comes_of_line s c line (changes.Fsd u) refl (change_sets u (change_at s c line) s.upses before set) in
+    by_right s c line came.command _ _ _ u came.read came.row
 
 by_notice : (u : UpsId) (s : ServerState) (c : ℕ) → is_shut_down u s ≡ false → is_shut_down u (after_notice s c) ≡ false
 unfolding after_notice

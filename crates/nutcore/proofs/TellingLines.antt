@@ -27,11 +27,13 @@ use Rattle.nutcore.specs.History.{Execution, of_line, of_notice, executions_in_e
 use Rattle.nutcore.specs.Sound.{Each}
 use Rattle.nutcore.specs.DriverHistory.{has_driver}
 use Rattle.nutcore.specs.DriverOrders.{Telling, dump_all, ping, order, text_of, told_by_change, told_by_line, told_beside_lines, told_in_event, moment_of, taken_in_event, is_lost_by, connections}
-use Rattle.nutcore.specs.OrdersByRight.{IsOrderByRight, value_given, all_told}
+use Rattle.nutcore.specs.OrdersByRight.{IsOrderByRight, all_told}
 use Rattle.nutcore.specs.TellingLines.{IsSpelled, asks_for_all, asks_whether_there, sets, commands, commands_with, IsLineToDriver, EachTellingIsAWholeLine}
 use Rattle.nutcore.proofs.FirstLine.{with_byte}
 use Rattle.nutcore.proofs.SoundUps.{each_join}
-use Rattle.nutcore.proofs.LawfulCommands.{IsLawfulReading, reading_is_lawful}
+use Rattle.nutanswer.specs.Lawful.{IsLawfulReading}
+use Rattle.nutanswer.specs.Rows.{value_given}
+use Rattle.nutanswer.proofs.PublicLaws.{what_is_read_is_lawful}
 use Rattle.nutcore.proofs.OrdersByRight.{by_read, all_in_front}
 use Rattle.nutcore.proofs.Written.{text_short, text_all, backslashes_short}
 
@@ -125,7 +127,7 @@ spelled_command name (Some value) n v = commands_with name value n (v value refl
 
 by_right_spelled : (u : UpsId) (bytes : List ℕ) (s : ServerState) (c : ℕ) (line : List ℕ) → IsOrderByRight u bytes (of_line s c line) → IsSpelled (order bytes)
 by_right_spelled u bytes s c line h =
-    let read = reading_is_lawful line in
+    let read = what_is_read_is_lawful line in
     elim h [
       | inl set ↦ (let lawful = subst IsLawfulReading set.by_right.command read in subst (λ (b : List ℕ). IsSpelled (order b)) (sym set.order_is) (sets set.name set.value (lawful.0 set.name refl) (lawful.1 set.value refl)))
       | inr command ↦ (let lawful = subst IsLawfulReading command.by_right.command read in subst (λ (b : List ℕ). IsSpelled (order b)) (sym command.order_is) (spelled_command command.name command.value (lawful.0 command.name refl) lawful.1))
@@ -141,7 +143,7 @@ change_tells u s c line (changes.Fsd v) e = tt
 change_tells u s c line (changes.Order v bytes) e = by_place (eqb v.place u.place) refl
   where
     by_place : (b : Bool) → eqb v.place u.place ≡ b → Each IsLineToDriver (cond b (order bytes.items ∷ []) [])
-    by_place true k = (tells (order bytes.items) (by_right_spelled u bytes.items s c line (by_read s c line u v bytes (read_command line) refl (eqb-true v.place u.place k) e)), tt)
+    by_place true k = (tells (order bytes.items) (by_right_spelled u bytes.items s c line (by_read s c line u v bytes (eqb-true v.place u.place k) e)), tt)
     by_place false k = tt
 
 lines_tell : (u : UpsId) (xs : List Execution) → Each IsLineToDriver (flat_map (told_by_line u) xs)

@@ -1,5 +1,5 @@
 -- No order without right (RFC 9271: SET, INSTCMD; upsd.users(5)).
-use Rattle.std.specs.Prelude.{◌≡◌, ℕ, true, List, [], ◌∷◌, ◌++◌, Option, Some, None, codes, ◌⊎◌}
+use Rattle.std.specs.Prelude.{◌≡◌, ℕ, true, List, [], ◌∷◌, ◌++◌, Option, Some, codes, ◌⊎◌}
 use Rattle.std.specs.List.{flat_map}
 use Rattle.nutdriver.specs.Variable.{VariableState}
 use Rattle.nutdriver.specs.Tree.{variable_at, has_command}
@@ -7,6 +7,7 @@ use Rattle.nutusers.specs.declared.rights.Right.TheVariants as rights
 use Rattle.nutusers.specs.declared.ups_list.UpsId.{UpsId}
 use Rattle.nutanswer.specs.declared.command.Command.TheVariants.{SetVar, InstCmd}
 use Rattle.nutanswer.specs.View.{readiness, usable}
+use Rattle.nutanswer.specs.Rows.{value_given}
 use Rattle.nutanswer.specs.Orders.{is_short_enough, is_listed, is_in_ranges, right_to, set_line, instcmd_line}
 use Rattle.nutcore.specs.declared.event.Event.{Event}
 use Rattle.nutcore.specs.declared.event.Outcome.{Outcome}
@@ -28,11 +29,6 @@ pub record IsSetByRight (u : UpsId) (bytes : List ℕ) (s : ServerState) (c : �
   pub listed : is_listed variable.enum_values value ≡ true
   pub in_range : is_in_ranges variable.ranges value ≡ true
   pub order_is : bytes ≡ set_line name value
-
--- A value as a line gives it, if it gives one.
-abbrev pub value_given : Option (List ℕ) → Option (Option (List ℕ))
-value_given None = None
-value_given (Some value) = Some (Some value)
 
 -- The line is `INSTCMD` of this UPS, answered `OK`, of a session that has given the name and the password of a user with the right to this command; its UPS is usable, and has the command. The order is `INSTCMD name`, with the value after it where the line gives one.
 pub record IsCommandedByRight (u : UpsId) (bytes : List ℕ) (s : ServerState) (c : ℕ) (line : List ℕ) : Type 0 where

@@ -8,12 +8,13 @@ use Rattle.nutwords.specs.declared.faults.BadName.TheVariants.{Empty, TooLong, A
 use Rattle.nutwords.specs.declared.faults.BadLine.{BadLine}
 use Rattle.nutwords.specs.Scan.{read_line}
 use Rattle.nutwords.specs.Bytes.{is_name_byte, is_lawful}
-use Rattle.nutwords.specs.Reading.{read_text, is_name, is_ups_name, is_value}
+use Rattle.nutwords.specs.Reading.{read_text, is_value}
 use Rattle.nutanswer.specs.declared.command.Command.{Command}
 use Rattle.nutanswer.specs.declared.command.Command.TheVariants.{Username, Password, Login, Logout, Primary, Fsd, SetVar, InstCmd, GetVar, GetType, GetDesc, GetCmdDesc, GetUpsDesc, GetNumLogins, ListUps, ListVar, ListRw, ListCmd, ListEnum, ListRange, ListClient, Help, Ver, NetVer, ProtVer, StartTls}
 use Rattle.nutanswer.specs.declared.err_word.ErrWord.{ErrWord}
 use Rattle.nutwords.specs.Keyword.{is_word}
-use Rattle.nutanswer.specs.Command.{command_with, alone, user_name_alone, password_alone, ups_alone, ups_and_name, Names, value_of, ups_name_and_value, ups_name_and_value_if_any, read_set, read_instcmd, read_get, read_list, command_named, some_command, command_of, command_from, read_command}
+use Rattle.nutanswer.specs.Command.{command_with, alone, user_name_alone, password_alone, ups_alone, ups_and_name, Names, value_of, ups_name_and_value, ups_name_and_value_if_any, read_set, read_instcmd, read_get, read_list, command_named, some_command, command_of, command_from}
+use Rattle.nutanswer.specs.Lawful.{HasLawfulName, HasLawfulUpsName, HasLawfulValue, HasLawfulValueIfAny, IsLawfulCommand, IsLawfulReading, WhatIsReadIsLawful}
 
 -- a text that is read stands for itself
 read_is : (allowed : ℕ → Bool) (may_be_empty : Bool) (most : ℕ) (bytes text : List ℕ) → result_ok (read_text allowed may_be_empty most bytes) ≡ Some text → is_ok (read_text allowed may_be_empty most text) ≡ true
@@ -32,37 +33,8 @@ read_is allowed may_be_empty most bytes text h =
     by_checks false false true e = cc e
     by_checks false false false e = cc e
 
-abbrev pub HasLawfulName : Option (List ℕ) → Type 0
-HasLawfulName v = (name : List ℕ) → v ≡ Some name → IsTrue (is_name name)
-
-abbrev pub HasLawfulUpsName : Option (List ℕ) → Type 0
-HasLawfulUpsName ups = (name : List ℕ) → ups ≡ Some name → IsTrue (is_ups_name name)
-
-abbrev pub HasLawfulValue : Option (List ℕ) → Type 0
-HasLawfulValue word = (value : List ℕ) → word ≡ Some value → IsTrue (is_value value)
-
-abbrev pub HasLawfulValueIfAny : Option (Option (List ℕ)) → Type 0
-HasLawfulValueIfAny word = (value : List ℕ) → word ≡ Some (Some value) → IsTrue (is_value value)
-
--- of the commands that give orders, and of those that list what is known of a UPS
-abbrev pub IsLawfulCommand : Command → Type 0
-IsLawfulCommand (SetVar ups v word) = HasLawfulName v × HasLawfulValue word
-IsLawfulCommand (InstCmd ups v word) = HasLawfulName v × HasLawfulValueIfAny word
-IsLawfulCommand (ListVar ups) = HasLawfulUpsName ups
-IsLawfulCommand (ListRw ups) = HasLawfulUpsName ups
-IsLawfulCommand (ListCmd ups) = HasLawfulUpsName ups
-IsLawfulCommand (ListEnum ups v) = HasLawfulUpsName ups × HasLawfulName v
-IsLawfulCommand (ListRange ups v) = HasLawfulUpsName ups × HasLawfulName v
-IsLawfulCommand (ListClient ups) = HasLawfulUpsName ups
-IsLawfulCommand _ = Unit {0}
-
 record IsLawfulResult (r : Result Command ErrWord) : Type 0 where
   lawful : (command : Command) → r ≡ Ok command → IsLawfulCommand command
-
-abbrev pub IsLawfulReading : Result (Option Command) ErrWord → Type 0
-IsLawfulReading (Err word) = Unit {0}
-IsLawfulReading (Ok None) = Unit {0}
-IsLawfulReading (Ok (Some command)) = IsLawfulCommand command
 
 none_lawful : (word : ErrWord) → IsLawfulResult (Err word)
 none_lawful word = record { lawful = λ command e. cc e }
@@ -202,5 +174,5 @@ from_lawful : (r : Result (List (List ℕ)) BadLine) → IsLawfulReading (comman
 from_lawful (Err bad) = tt
 from_lawful (Ok words) = command_of_lawful words
 
-pub reading_is_lawful : (line : List ℕ) → IsLawfulReading (read_command line)
+pub reading_is_lawful : WhatIsReadIsLawful
 reading_is_lawful line = from_lawful (read_line line)

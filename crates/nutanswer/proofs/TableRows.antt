@@ -1,0 +1,260 @@
+-- The rows of the table of answers: of each command, what it may be answered, and where which checks held.
+use Rattle.std.proofs.Common.{◌≡◌, ◌≤◌, ℕ, Bool, true, false, List, [], ◌∷◌, Option, Some, None, Result, Ok, Err, refl, sym, ◌∙◌, ap, ◌&&◌, length, inl, inr}
+use Rattle.std.specs.Prelude.{codes, is_none}
+use Rattle.std.specs.Option.{ok_or, option_map}
+use Rattle.std.proofs.lemmas.Bool.{leb-true}
+use Rattle.nutwords.specs.Frame.{line_of}
+use Rattle.nutdriver.specs.Variable.{VariableState}
+use Rattle.nutdriver.specs.Tree.{variable_at, has_command}
+use Rattle.nutlisting.specs.Items.{ListingState}
+use Rattle.nutusers.specs.Users.{may}
+use Rattle.nutusers.specs.declared.rights.Right.{Right}
+use Rattle.nutusers.specs.declared.rights.Right.TheVariants as rights
+use Rattle.nutanswer.specs.declared.command.Command.{Command}
+use Rattle.nutanswer.specs.declared.command.Command.TheVariants.{Username, Password, Login, Logout, Primary, Fsd, SetVar, InstCmd, GetVar, GetType, GetDesc, GetCmdDesc, GetUpsDesc, GetNumLogins, ListUps, ListVar, ListRw, ListCmd, ListEnum, ListRange, ListClient, Help, Ver, NetVer, ProtVer, StartTls}
+use Rattle.nutanswer.specs.declared.err_word.ErrWord.{ErrWord}
+use Rattle.nutanswer.specs.declared.err_word.ErrWord.TheVariants.{AccessDenied, UnknownUps, UsernameRequired, PasswordRequired, AlreadySetUsername, AlreadySetPassword, AlreadyLoggedIn, VarNotSupported, CmdNotSupported, Readonly, TooLong, InvalidValue, SetFailed, InstcmdFailed}
+use Rattle.nutanswer.specs.declared.reply.Change.TheVariants as changes
+use Rattle.nutanswer.specs.View.{Seen, AskerSeen, Readiness, not_connected, stale, usable, readiness}
+use Rattle.nutanswer.specs.Checks.{◌>>=◌, ◌>>◌, unless, KnownUps, ups_named, unknown_ups, ready, live, driver_not_connected, data_stale, user, access_denied, var_not_supported, var_not_lawful, cmd_not_lawful, already_set_username, already_set_password, already_logged_in, readonly, too_long_of_command, invalid_value, set_failed, instcmd_failed}
+use Rattle.nutanswer.specs.Orders.{is_short_enough, is_listed, is_in_ranges, right_to, set_line, instcmd_line, order}
+use Rattle.nutanswer.specs.Answer.{Answer, one_line, listing, listing_of_clients, told, ok, answer_to, change_of_answer, text_of_answer}
+use Rattle.nutanswer.specs.Rows.{HasRight, value_given, ComesOf, EachChangeComesOfItsCommand, EachOrderAnsweredOkIsGiven}
+
+-- what a check that holds says
+unless_ok : (b : Bool) (word : ErrWord) → unless b word ≡ Ok tt → b ≡ true
+unless_ok true word e = refl
+unless_ok false word e = cc e
+
+ok_found : {A : Type 0} (o : Option A) (word : ErrWord) (a : A) → ok_or o word ≡ Ok a → o ≡ Some a
+ok_found None word a h = cc h
+ok_found (Some b) word a h = let same : b ≡ a = cc h in ap Some same
+
+none_given : {A : Type 0} (o : Option A) (word : ErrWord) → unless (is_none o) word ≡ Ok tt → o ≡ None
+none_given None word h = refl
+none_given (Some a) word h = cc h
+
+is_usable : (r : Readiness) → (driver_not_connected r >> data_stale r) ≡ Ok tt → r ≡ usable
+is_usable not_connected h = cc h
+is_usable stale h = cc h
+is_usable usable h = refl
+
+both_true : (a b : Bool) → (a && b) ≡ true → (a ≡ true) × (b ≡ true)
+both_true true b h = (refl, h)
+both_true false b h = cc h
+
+has_right : (s : Seen) (asker : AskerSeen) (right : Right) → user s asker right ≡ Ok tt → HasRight s asker right
+has_right s asker right e = by_given asker.username asker.password refl refl e
+  where
+    by_given : (name password : Option (List ℕ)) → asker.username ≡ name → asker.password ≡ password
+        → (ok_or name UsernameRequired >>= (λ n. ok_or password PasswordRequired >>= (λ p. access_denied s n p right))) ≡ Ok tt → HasRight s asker right
+    by_given None password f g h = cc h
+    by_given (Some n) None f g h = cc h
+    by_given (Some n) (Some p) f g h = record { name = n; password = p; username_given = f; password_given = g; granted = unless_ok (may s.users n p right) AccessDenied h }
+
+-- what holds of each refusal, and of what the checks let through, holds of the row
+module _ (P : Result Answer ErrWord → Type 0) (no : (word : ErrWord) → P (Err word)) where
+  found : {A : Type 0} (r : Result A ErrWord) (next : A → Result Answer ErrWord) → ((a : A) → r ≡ Ok a → P (next a)) → P (r >>= next)
+  found (Err word) next h = no word
+  found (Ok a) next h = h a refl
+
+  held : (r : Result (Unit {0}) ErrWord) (next : Result Answer ErrWord) → (r ≡ Ok tt → P next) → P (r >> next)
+  held (Err word) next h = no word
+  held (Ok none) next h = h refl
+
+  -- of a value that is found only where a test of it holds
+  tested : {A : Type 0} (b : Bool) (word : ErrWord) (a : A) (next : A → Result Answer ErrWord) → (b ≡ true → P (next a)) → P ((unless b word >> Ok a) >>= next)
+  tested true word a next h = h refl
+  tested false word a next h = no word
+
+  module _ (s : Seen) (ups : Option (List ℕ)) where
+    -- of a UPS that is there
+    of_ups : (next : KnownUps → Result Answer ErrWord) → ((u : KnownUps) → ups_named s ups ≡ Some u → P (next u)) → P (unknown_ups s ups >>= next)
+    of_ups next h = found (unknown_ups s ups) next (λ u is. h u (ok_found (ups_named s ups) UnknownUps u is))
+
+    -- and is usable
+    of_usable : (next : KnownUps → Result Answer ErrWord)
+        → ((u : KnownUps) → ups_named s ups ≡ Some u → readiness s.moment s.max_age u.state.report ≡ usable → P (next u)) → P (unknown_ups s ups >>= (λ u. live s u >> next u))
+    of_usable next h = of_ups (λ u. live s u >> next u) (λ u named. held (live s u) (next u) (λ going. h u named (is_usable (ready s u) going)))
+
+    -- and has this variable
+    of_variable : (name : List ℕ) (next : KnownUps → List ℕ × VariableState → Result Answer ErrWord)
+        → ((u : KnownUps) (x : VariableState) → ups_named s ups ≡ Some u → readiness s.moment s.max_age u.state.report ≡ usable → variable_at u.state.report.tree name ≡ Some x → P (next u (name, x)))
+        → P (unknown_ups s ups >>= (λ u. live s u >> (var_not_supported u (Some name) >>= next u)))
+    of_variable name next h =
+        of_usable (λ u. var_not_supported u (Some name) >>= next u) (λ u named going. looked_up u (variable_at u.state.report.tree name) (λ x there. h u x named going there))
+      where
+        looked_up : (u : KnownUps) (o : Option VariableState) → ((x : VariableState) → o ≡ Some x → P (next u (name, x))) → P (ok_or (option_map (λ (x : VariableState). (name, x)) o) VarNotSupported >>= next u)
+        looked_up u None h = no VarNotSupported
+        looked_up u (Some x) h = h x refl
+
+  -- SET VAR, where its checks hold
+  abbrev SetGoes : Seen → AskerSeen → Option (List ℕ) → List ℕ → List ℕ → KnownUps → VariableState → Type 0
+  SetGoes s asker ups name value u x =
+      HasRight s asker rights.Set → ups_named s ups ≡ Some u → readiness s.moment s.max_age u.state.report ≡ usable
+      → variable_at u.state.report.tree name ≡ Some x → x.flags.rw ≡ true → is_short_enough x value ≡ true
+      → (is_listed x.enum_values value && is_in_ranges x.ranges value) ≡ true → length (set_line name value) ≤ u.state.free
+      → P (Ok (one_line ok (order u.id (set_line name value))))
+
+  set_row : (s : Seen) (asker : AskerSeen) (ups : Option (List ℕ)) (name value : List ℕ)
+      → ((u : KnownUps) (x : VariableState) → SetGoes s asker ups name value u x) → P (answer_to s asker (SetVar ups (Some name) (Some value)))
+  set_row s asker ups name value goes =
+      held (user s asker rights.Set) _ (λ right. of_variable s ups name _ (λ u x named going there.
+      held (readonly x) _ (λ writable. tested (is_short_enough x value) TooLong value _ (λ short. held (invalid_value x value) _ (λ may_be.
+      held (set_failed u (set_line name value)) _ (λ fits.
+      goes u x (has_right s asker rights.Set right) named going there (unless_ok x.flags.rw Readonly writable) short (unless_ok _ InvalidValue may_be) (leb-true _ _ (unless_ok _ SetFailed fits))))))))
+
+  -- INSTCMD
+  abbrev CommandGoes : Seen → AskerSeen → Option (List ℕ) → List ℕ → Option (List ℕ) → KnownUps → Type 0
+  CommandGoes s asker ups name value u =
+      HasRight s asker (right_to name) → ups_named s ups ≡ Some u → readiness s.moment s.max_age u.state.report ≡ usable
+      → has_command u.state.report.tree name ≡ true → length (instcmd_line name value) ≤ u.state.free
+      → P (Ok (one_line ok (order u.id (instcmd_line name value))))
+
+  command_row : (s : Seen) (asker : AskerSeen) (ups : Option (List ℕ)) (name : List ℕ) (value : Option (List ℕ))
+      → ((u : KnownUps) → CommandGoes s asker ups name value u) → P (answer_to s asker (InstCmd ups (Some name) (value_given value)))
+  command_row s asker ups name value goes =
+      held (user s asker (right_to name)) _ (λ right. of_usable s ups _ (λ u named going.
+      tested (has_command u.state.report.tree name) CmdNotSupported name _ (λ there. by_value value u (λ fits. goes u (has_right s asker (right_to name) right) named going there fits))))
+    where
+      by_value : (value : Option (List ℕ)) (u : KnownUps) → (length (instcmd_line name value) ≤ u.state.free → P (Ok (one_line ok (order u.id (instcmd_line name value)))))
+          → P (too_long_of_command (value_given value) >>= (λ v. instcmd_failed u (instcmd_line name v) >> Ok (one_line ok (order u.id (instcmd_line name v)))))
+      by_value None u h = held (instcmd_failed u (instcmd_line name None)) _ (λ fits. h (leb-true _ _ (unless_ok _ InstcmdFailed fits)))
+      by_value (Some value) u h = held (instcmd_failed u (instcmd_line name (Some value))) _ (λ fits. h (leb-true _ _ (unless_ok _ InstcmdFailed fits)))
+
+-- of each command, what it may be answered
+pub data IsRow (s : Seen) (asker : AskerSeen) : Command → Result Answer ErrWord → Type 0 where
+  refused : (command : Command) (word : ErrWord) → IsRow s asker command (Err word)
+  tells : (command : Command) (words : List (List ℕ)) → IsRow s asker command (told words)
+  lists : (command : Command) (l : ListingState) → IsRow s asker command (Ok (listing l))
+  lists_clients : (command : Command) (l : ListingState) → IsRow s asker command (Ok (listing_of_clients l))
+  gives_name : (name : List ℕ) → asker.username ≡ None → IsRow s asker (Username (Some name)) (Ok (one_line ok (changes.Username name)))
+  gives_password : (password : List ℕ) → asker.password ≡ None → IsRow s asker (Password (Some password)) (Ok (one_line ok (changes.Password password)))
+  logs_in : (ups : Option (List ℕ)) (u : KnownUps) → HasRight s asker rights.Login → ups_named s ups ≡ Some u → asker.login ≡ None → IsRow s asker (Login ups) (Ok (one_line ok (changes.Login u.id)))
+  ends : IsRow s asker Logout (Ok (one_line (codes "OK" ∷ codes "Goodbye" ∷ []) changes.Ending))
+  shuts_down : (ups : Option (List ℕ)) (u : KnownUps) → HasRight s asker rights.Fsd → ups_named s ups ≡ Some u → IsRow s asker (Fsd ups) (Ok (one_line (codes "OK" ∷ codes "FSD-SET" ∷ []) (changes.Fsd u.id)))
+  sets : (ups : Option (List ℕ)) (name value : List ℕ) (u : KnownUps) (x : VariableState) → HasRight s asker rights.Set → ups_named s ups ≡ Some u → readiness s.moment s.max_age u.state.report ≡ usable
+      → variable_at u.state.report.tree name ≡ Some x → x.flags.rw ≡ true → is_short_enough x value ≡ true → (is_listed x.enum_values value && is_in_ranges x.ranges value) ≡ true → length (set_line name value) ≤ u.state.free
+      → IsRow s asker (SetVar ups (Some name) (Some value)) (Ok (one_line ok (order u.id (set_line name value))))
+  commands : (ups : Option (List ℕ)) (name : List ℕ) (value : Option (List ℕ)) (u : KnownUps) → HasRight s asker (right_to name) → ups_named s ups ≡ Some u → readiness s.moment s.max_age u.state.report ≡ usable
+      → has_command u.state.report.tree name ≡ true → length (instcmd_line name value) ≤ u.state.free
+      → IsRow s asker (InstCmd ups (Some name) (value_given value)) (Ok (one_line ok (order u.id (instcmd_line name value))))
+
+module _ (s : Seen) (asker : AskerSeen) where
+  -- of a variable, whatever it is called
+  row_of_variable : (command : Command) (ups name : Option (List ℕ)) (next : KnownUps → List ℕ × VariableState → Result Answer ErrWord)
+      → ((u : KnownUps) (v : List ℕ × VariableState) → IsRow s asker command (next u v)) → IsRow s asker command (unknown_ups s ups >>= (λ u. live s u >> (var_not_supported u name >>= next u)))
+  row_of_variable command ups name next h =
+      of_usable (IsRow s asker command) (refused command) s ups _ (λ u named going. found (IsRow s asker command) (refused command) (var_not_supported u name) (next u) (λ v is. h u v))
+
+  row_of_usable : (command : Command) (ups : Option (List ℕ)) (l : KnownUps → ListingState) → IsRow s asker command (unknown_ups s ups >>= (λ u. live s u >> Ok (listing (l u))))
+  row_of_usable command ups l = of_usable (IsRow s asker command) (refused command) s ups _ (λ u named going. lists command (l u))
+
+  row_of_name : (command : Command) (ups : Option (List ℕ)) (check : Result (List ℕ) ErrWord) (words : KnownUps → List ℕ → List (List ℕ)) → IsRow s asker command (unknown_ups s ups >>= (λ u. check >>= (λ v. told (words u v))))
+  row_of_name command ups check words =
+      of_ups (IsRow s asker command) (refused command) s ups _ (λ u named. found (IsRow s asker command) (refused command) check _ (λ v is. tells command (words u v)))
+
+  row_of_ups : (command : Command) (ups : Option (List ℕ)) (words : KnownUps → List (List ℕ)) → IsRow s asker command (unknown_ups s ups >>= (λ u. told (words u)))
+  row_of_ups command ups words = of_ups (IsRow s asker command) (refused command) s ups _ (λ u named. tells command (words u))
+
+  -- a case each
+  pub row : (command : Command) → IsRow s asker command (answer_to s asker command)
+  row (Username None) = held (IsRow s asker (Username None)) (refused _) (already_set_username asker) _ (λ free. refused _ _)
+  row (Username (Some name)) = held (IsRow s asker (Username (Some name))) (refused _) (already_set_username asker) _ (λ free. gives_name name (none_given asker.username AlreadySetUsername free))
+  row (Password None) = held (IsRow s asker (Password None)) (refused _) (already_set_password asker) _ (λ free. refused _ _)
+  row (Password (Some password)) = held (IsRow s asker (Password (Some password))) (refused _) (already_set_password asker) _ (λ free. gives_password password (none_given asker.password AlreadySetPassword free))
+  row (Login ups) =
+      held (IsRow s asker (Login ups)) (refused _) (user s asker rights.Login) _ (λ right. of_ups (IsRow s asker (Login ups)) (refused _) s ups _ (λ u named.
+      held (IsRow s asker (Login ups)) (refused _) (already_logged_in asker) _ (λ free. logs_in ups u (has_right s asker rights.Login right) named (none_given asker.login AlreadyLoggedIn free))))
+  row Logout = ends
+  row (Primary ups) = held (IsRow s asker (Primary ups)) (refused _) (user s asker rights.Primary) _ (λ right. row_of_ups (Primary ups) ups (λ u. ok))
+  row (Fsd ups) =
+      held (IsRow s asker (Fsd ups)) (refused _) (user s asker rights.Fsd) _ (λ right. of_ups (IsRow s asker (Fsd ups)) (refused _) s ups _ (λ u named. shuts_down ups u (has_right s asker rights.Fsd right) named))
+  row (SetVar ups None word) = held (IsRow s asker (SetVar ups None word)) (refused _) (user s asker rights.Set) _ (λ right. of_usable (IsRow s asker (SetVar ups None word)) (refused _) s ups _ (λ u named going. refused _ _))
+  row (SetVar ups (Some name) None) =
+      held (IsRow s asker (SetVar ups (Some name) None)) (refused _) (user s asker rights.Set) _ (λ right. row_of_variable (SetVar ups (Some name) None) ups (Some name) _ (λ u v.
+      held (IsRow s asker (SetVar ups (Some name) None)) (refused _) (readonly v.1) _ (λ writable. refused _ _)))
+  row (SetVar ups (Some name) (Some value)) = set_row (IsRow s asker (SetVar ups (Some name) (Some value))) (refused _) s asker ups name value (sets ups name value)
+  row (InstCmd ups None word) = held (IsRow s asker (InstCmd ups None word)) (refused _) (user s asker (right_to [])) _ (λ right. of_usable (IsRow s asker (InstCmd ups None word)) (refused _) s ups _ (λ u named going. refused _ _))
+  row (InstCmd ups (Some name) None) = command_row (IsRow s asker (InstCmd ups (Some name) None)) (refused _) s asker ups name None (commands ups name None)
+  row (InstCmd ups (Some name) (Some None)) =
+      held (IsRow s asker (InstCmd ups (Some name) (Some None))) (refused _) (user s asker (right_to name)) _ (λ right. of_usable (IsRow s asker (InstCmd ups (Some name) (Some None))) (refused _) s ups _ (λ u named going.
+      tested (IsRow s asker (InstCmd ups (Some name) (Some None))) (refused _) (has_command u.state.report.tree name) CmdNotSupported name _ (λ there. refused _ _)))
+  row (InstCmd ups (Some name) (Some (Some value))) = command_row (IsRow s asker (InstCmd ups (Some name) (Some (Some value)))) (refused _) s asker ups name (Some value) (commands ups name (Some value))
+  row (GetVar ups v) = row_of_variable (GetVar ups v) ups v _ (λ u x. tells _ _)
+  row (GetType ups v) = row_of_variable (GetType ups v) ups v _ (λ u x. tells _ _)
+  row (GetDesc ups v) = row_of_name (GetDesc ups v) ups (var_not_lawful v) _
+  row (GetCmdDesc ups v) = row_of_name (GetCmdDesc ups v) ups (cmd_not_lawful v) _
+  row (GetUpsDesc ups) = row_of_ups (GetUpsDesc ups) ups _
+  row (GetNumLogins ups) = row_of_ups (GetNumLogins ups) ups _
+  row ListUps = lists _ _
+  row (ListVar ups) = row_of_usable (ListVar ups) ups _
+  row (ListRw ups) = row_of_usable (ListRw ups) ups _
+  row (ListCmd ups) = row_of_usable (ListCmd ups) ups _
+  row (ListEnum ups v) = row_of_variable (ListEnum ups v) ups v _ (λ u x. lists _ _)
+  row (ListRange ups v) = row_of_variable (ListRange ups v) ups v _ (λ u x. lists _ _)
+  row (ListClient ups) = of_ups (IsRow s asker (ListClient ups)) (refused _) s ups _ (λ u named. lists_clients _ _)
+  row Help = tells _ _
+  row Ver = tells _ _
+  row NetVer = tells _ _
+  row ProtVer = tells _ _
+  row StartTls = refused _ _
+
+  -- what changes by it
+  comes_of : (command : Command) (answer : Result Answer ErrWord) → IsRow s asker command answer → text_of_answer (answer_to s asker command) ≡ text_of_answer answer → ComesOf s asker command (change_of_answer answer)
+  comes_of command _ (refused _ word) e = tt
+  comes_of command _ (tells _ words) e = tt
+  comes_of command _ (lists _ l) e = tt
+  comes_of command _ (lists_clients _ l) e = tt
+  comes_of _ _ (gives_name name free) e = record { is = refl; fresh = free; text = e }
+  comes_of _ _ (gives_password password free) e = record { is = refl; fresh = free; text = e }
+  comes_of _ _ (logs_in ups u right named free) e = record { by_right = record { ups = ups; known = u; is = refl; named = named; this = refl; has = right; text = e }; fresh = free }
+  comes_of _ _ ends e = refl
+  comes_of _ _ (shuts_down ups u right named) e = record { ups = ups; known = u; is = refl; named = named; this = refl; has = right; text = e }
+  comes_of _ _ (sets ups name value u x right named going there writable short may_be fits) e =
+      let both = both_true _ _ may_be in
+      inl (record {
+        name = name;
+        value = value;
+        variable = x;
+        by_right = record { ups = ups; known = u; is = refl; named = named; this = refl; has = right; text = e };
+        ready = going;
+        there = there;
+        writable = writable;
+        short = short;
+        listed = both.0;
+        in_range = both.1;
+        fits = fits;
+        line_is = refl;
+      })
+  comes_of _ _ (commands ups name value u right named going there fits) e =
+      inr (record {
+        name = name;
+        value = value;
+        by_right = record { ups = ups; known = u; is = refl; named = named; this = refl; has = right; text = e };
+        ready = going;
+        there = there;
+        fits = fits;
+        line_is = refl;
+      })
+
+pub each_change : EachChangeComesOfItsCommand
+each_change s asker command = comes_of s asker command (answer_to s asker command) (row s asker command) refl
+
+-- an order that OK answers is given
+abbrev OrdersIfOk : KnownUps → List ℕ → Result Answer ErrWord → Type 0
+OrdersIfOk known line answer = text_of_answer answer ≡ line_of ok → change_of_answer answer ≡ order known.id line
+
+one_ups : (o : Option KnownUps) (k l : KnownUps) → o ≡ Some k → o ≡ Some l → k ≡ l
+one_ups None k l e f = cc e
+one_ups (Some u) k l e f = let same : Some k ≡ Some l = sym e ∙ f in cc same
+
+pub ok_orders : EachOrderAnsweredOkIsGiven
+ok_orders = record {
+  set = λ s asker ups name value known named.
+      set_row (OrdersIfOk known (set_line name value)) (λ word e. cc e) s asker ups name value
+      (λ u x right found going there writable short may_be fits e. ap (λ (k : KnownUps). order k.id (set_line name value)) (one_ups (ups_named s ups) u known found named));
+  command = λ s asker ups name value known named.
+      command_row (OrdersIfOk known (instcmd_line name value)) (λ word e. cc e) s asker ups name value
+      (λ u right found going there fits e. ap (λ (k : KnownUps). order k.id (instcmd_line name value)) (one_ups (ups_named s ups) u known found named));
+}
