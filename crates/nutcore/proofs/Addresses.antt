@@ -4,7 +4,6 @@ use Rattle.std.proofs.lemmas.List.Elements.{All-nil, All-cons, All-head, All-tai
 use Rattle.nutwords.specs.Reading.{is_address}
 use Rattle.nutusers.specs.UpsList.{Ups}
 use Rattle.nutanswer.specs.declared.reply.Change.{Change}
-use Rattle.nutanswer.specs.declared.reply.Change.TheVariants as changes
 use Rattle.nutcore.specs.declared.event.Event.{Event}
 use Rattle.nutcore.specs.declared.event.Event.TheVariants.{DriverUp, DriverBytes, DriverTook, DriverDown, Tick, Open, Feed, Took, Close}
 use Rattle.nutcore.specs.declared.event.Outcome.{Outcome}
@@ -19,17 +18,8 @@ use Rattle.nutcore.specs.ReadsBack.{HasLawfulAddress}
 use Rattle.nutcore.specs.Addresses.{opened_from, ANewServerHasLawfulAddresses, EveryRunKeepsAddressesLawful, EveryRunKeepsTheList}
 use Rattle.nutcore.proofs.DriverText.{ups_after_bytes, bytes_change}
 use Rattle.nutcore.proofs.Changed.{by_change, either_notice}
+use Rattle.nutcore.proofs.Changes.{keeps}
 use Rattle.nutcore.proofs.Pumping.{is_next, stopped_none, after_line_is, change_at, session_after}
-
--- a change keeps a session's address
-changed_address : (change : Change) (x : SessionState) → (changed_session change x).address ≡ x.address
-changed_address changes.Nothing x = refl
-changed_address (changes.Username name) x = refl
-changed_address (changes.Password password) x = refl
-changed_address (changes.Login u) x = refl
-changed_address changes.Ending x = refl
-changed_address (changes.Fsd u) x = refl
-changed_address (changes.Order u line) x = refl
 
 -- what the parts of an event keep: a session is put with its address, the UPSs change, time goes on, a session opens, and one is closed
 record IsKept (P : ServerState → Type 0) (Opens : List ℕ → Type 0) : Type 0 where
@@ -50,7 +40,7 @@ module _ (P : ServerState → Type 0) (Opens : List ℕ → Type 0) (kept : IsKe
   by_line_of s c (Some line) e h =
       let n = is_next s c line e in
       let y : SessionState = session_after s c line n.asking in
-      let put_in = kept.put_back s c n.asking y n.found (changed_address (change_at s c line) (answered line (reply s c line) n.asking)) h in
+      let put_in = kept.put_back s c n.asking y n.found ((keeps (change_at s c line) (answered line (reply s c line) n.asking)).address) h in
       subst P (sym (after_line_is s c line n.asking n.found e)) (kept.changes (with_session s y) (changed_upses (change_at s c line) s.upses) put_in)
 
   by_lines : (k c : ℕ) (s : ServerState) → P s → P (after_lines k s c)

@@ -1,5 +1,5 @@
 -- A user name and a password are given by lines alone.
-use Rattle.std.proofs.Common.{◌≡◌, ◌∙◌, ℕ, true, false, List, [], Option, Some, None, refl, ap, inl}
+use Rattle.std.proofs.Common.{◌≡◌, ◌∙◌, ℕ, true, false, List, [], Option, Some, None, refl, sym, ap, inl, inr}
 use Rattle.std.specs.Prelude.{Bool}
 use Rattle.std.specs.Option.{option_map_or}
 use Rattle.std.specs.Str.{bytes_eq}
@@ -12,6 +12,7 @@ use Rattle.nutcore.specs.Reply.{asker_of, changed_session, text_to}
 use Rattle.nutcore.specs.Pump.{answered}
 use Rattle.nutcore.specs.History.{Execution, of_line, of_notice}
 use Rattle.nutcore.specs.ByRight.{GivesUsername, GivesPassword, CredentialsAreGivenByLines}
+use Rattle.nutcore.proofs.Changes.{keeps}
 use Rattle.nutcore.proofs.Rows.{some_command, comes_of_line}
 use Rattle.nutcore.proofs.Marks.{OneIs, run_told, no_mark}
 use Rattle.nutcore.proofs.SessionMarks.{IsSessionMark, SetsMark, is_marked, marks}
@@ -35,13 +36,11 @@ module _ (name : List ℕ) where
   IsName change = change ≡ changes.Username name
 
   names : (change : Change) (line text : List ℕ) (x : SessionState) → named_so x ≡ false → named_so (changed_session change (answered line text x)) ≡ true → IsName change
-  names changes.Nothing line text x before after = no_mark _ before after
-  names (changes.Username given) line text x before after = ap (λ (w : List ℕ). let c : Change = changes.Username w in c) (same_text given name after)
-  names (changes.Password password) line text x before after = no_mark _ before after
-  names (changes.Login v) line text x before after = no_mark _ before after
-  names changes.Ending line text x before after = no_mark _ before after
-  names (changes.Fsd v) line text x before after = no_mark _ before after
-  names (changes.Order v order) line text x before after = no_mark _ before after
+  names change line text x before after =
+      elim (keeps change (answered line text x)).username [
+        | inl same ↦ no_mark _ before (ap (is_given name) (sym same) ∙ after)
+        | inr (given, is, e) ↦ is ∙ ap (λ (w : List ℕ). let c : Change = changes.Username w in c) (same_text given name (ap (is_given name) (sym e) ∙ after))
+      ]
 
   pub is_name_mark : IsSessionMark named_so IsName
   is_name_mark = record { held = λ x bytes. refl; owed = λ x bytes. refl; noticed = λ x. inl refl; fresh = λ c address. refl; set = names }
@@ -59,13 +58,11 @@ module _ (word : List ℕ) where
   IsWord change = change ≡ changes.Password word
 
   words : (change : Change) (line text : List ℕ) (x : SessionState) → has_word x ≡ false → has_word (changed_session change (answered line text x)) ≡ true → IsWord change
-  words changes.Nothing line text x before after = no_mark _ before after
-  words (changes.Username name) line text x before after = no_mark _ before after
-  words (changes.Password given) line text x before after = ap (λ (w : List ℕ). let c : Change = changes.Password w in c) (same_text given word after)
-  words (changes.Login v) line text x before after = no_mark _ before after
-  words changes.Ending line text x before after = no_mark _ before after
-  words (changes.Fsd v) line text x before after = no_mark _ before after
-  words (changes.Order v order) line text x before after = no_mark _ before after
+  words change line text x before after =
+      elim (keeps change (answered line text x)).password [
+        | inl same ↦ no_mark _ before (ap (is_given word) (sym same) ∙ after)
+        | inr (given, is, e) ↦ is ∙ ap (λ (w : List ℕ). let c : Change = changes.Password w in c) (same_text given word (ap (is_given word) (sym e) ∙ after))
+      ]
 
   pub is_word_mark : IsSessionMark has_word IsWord
   is_word_mark = record { held = λ x bytes. refl; owed = λ x bytes. refl; noticed = λ x. inl refl; fresh = λ c address. refl; set = words }

@@ -5,6 +5,7 @@ use Rattle.std.specs.List.{flat_map}
 use Rattle.std.specs.Option.{option_map_or}
 use Rattle.std.proofs.lemmas.Bool.{cond-true, cond-false, eqb-true, eqb-false}
 use Rattle.std.proofs.lemmas.List.{take-append-drop}
+use Rattle.arrayvec.specs.ArrayVec.{ArrayVec}
 use Rattle.nutusers.specs.declared.ups_list.UpsId.{UpsId}
 use Rattle.nutdriver.specs.declared.report.Report.{Report}
 use Rattle.nutdriver.specs.declared.report.LineOutcome.{LineOutcome}
@@ -30,6 +31,7 @@ use Rattle.nutcore.specs.Sound.{IsSoundUps, IsSound, EachEventKeepsTheServerSoun
 use Rattle.nutcore.specs.DriverHistory.{has_driver}
 use Rattle.nutcore.specs.DriverOrders.{Telling, dump_all, ping, order, texts_of, told_by_change, told_by_line, told_beside_lines, told_in_event, owed_to_driver, taken_in_event, is_lost_by, Connections, last, lost, with_front, in_front, connections, IsSentAndOwed, WhatADriverWasSentAndIsOwedIsWhatItWasTold}
 use Rattle.nutcore.proofs.Changed.{by_change}
+use Rattle.nutcore.proofs.Changes.{of_upses}
 use Rattle.nutcore.proofs.Pumping.{is_next, stopped_none, after_line_is, change_at}
 use Rattle.nutcore.proofs.Isolation.{other_ups}
 use Rattle.nutcore.proofs.DriverSteps.{at_changed}
@@ -71,24 +73,24 @@ nothing_told : (u : UpsId) (x : UpsState) (xs : List UpsState) → slice_get xs 
 nothing_told u x xs e = record { left = x; there = e; owed = sym (append-nil x.owed); same = refl }
 
 changes_add : (u : UpsId) (change : Change) (xs : List UpsState) (x : UpsState) → slice_get xs u.place ≡ Some x → AddsTo u x (told_by_change u change) (changed_upses change xs)
-changes_add u changes.Nothing xs x e = nothing_told u x xs e
-changes_add u (changes.Username name) xs x e = nothing_told u x xs e
-changes_add u (changes.Password password) xs x e = nothing_told u x xs e
-changes_add u (changes.Login v) xs x e = nothing_told u x xs e
-changes_add u changes.Ending xs x e = nothing_told u x xs e
-changes_add u (changes.Fsd v) xs x e = by_place (eqb v.place u.place) refl
+changes_add u change xs x e = of_upses (λ told ys. AddsTo u x (told u) ys) change xs (nothing_told u x xs e) (λ v is. sets v) (λ v line is. tells v line)
   where
-    by_place : (b : Bool) → eqb v.place u.place ≡ b → AddsTo u x [] (changed_at with_fsd v.place xs)
-    by_place true k = record { left = with_fsd x; there = ap (λ (p : ℕ). slice_get (changed_at with_fsd p xs) u.place) (eqb-true v.place u.place k) ∙ at_changed with_fsd u.place xs x e; owed = sym (append-nil x.owed); same = refl }
-    by_place false k = nothing_told u x (changed_at with_fsd v.place xs) (other_ups with_fsd v.place u.place xs (λ (d : u.place ≡ v.place). eqb-false v.place u.place k (sym d)) ∙ e)
-changes_add u (changes.Order v line) xs x e = by_place (eqb v.place u.place) refl
-  where
-    f : UpsState → UpsState
-    f = with_order line.items
+    sets : (v : UpsId) → AddsTo u x [] (changed_at with_fsd v.place xs)
+    sets v = by_place (eqb v.place u.place) refl
+      where
+        by_place : (b : Bool) → eqb v.place u.place ≡ b → AddsTo u x [] (changed_at with_fsd v.place xs)
+        by_place true k = record { left = with_fsd x; there = ap (λ (p : ℕ). slice_get (changed_at with_fsd p xs) u.place) (eqb-true v.place u.place k) ∙ at_changed with_fsd u.place xs x e; owed = sym (append-nil x.owed); same = refl }
+        by_place false k = nothing_told u x (changed_at with_fsd v.place xs) (other_ups with_fsd v.place u.place xs (λ (d : u.place ≡ v.place). eqb-false v.place u.place k (sym d)) ∙ e)
 
-    by_place : (b : Bool) → eqb v.place u.place ≡ b → AddsTo u x (cond b (order line.items ∷ []) []) (changed_at f v.place xs)
-    by_place true k = record { left = f x; there = ap (λ (p : ℕ). slice_get (changed_at f p xs) u.place) (eqb-true v.place u.place k) ∙ at_changed f u.place xs x e; owed = ap (λ (z : List ℕ). x.owed ++ z) (sym (append-nil line.items)); same = refl }
-    by_place false k = nothing_told u x (changed_at f v.place xs) (other_ups f v.place u.place xs (λ (d : u.place ≡ v.place). eqb-false v.place u.place k (sym d)) ∙ e)
+    tells : (v : UpsId) (line : ArrayVec ℕ) → AddsTo u x (told_by_change u (changes.Order v line)) (changed_at (with_order line.items) v.place xs)
+    tells v line = by_place (eqb v.place u.place) refl
+      where
+        f : UpsState → UpsState
+        f = with_order line.items
+
+        by_place : (b : Bool) → eqb v.place u.place ≡ b → AddsTo u x (cond b (order line.items ∷ []) []) (changed_at f v.place xs)
+        by_place true k = record { left = f x; there = ap (λ (p : ℕ). slice_get (changed_at f p xs) u.place) (eqb-true v.place u.place k) ∙ at_changed f u.place xs x e; owed = ap (λ (z : List ℕ). x.owed ++ z) (sym (append-nil line.items)); same = refl }
+        by_place false k = nothing_told u x (changed_at f v.place xs) (other_ups f v.place u.place xs (λ (d : u.place ≡ v.place). eqb-false v.place u.place k (sym d)) ∙ e)
 
 line_adds : (u : UpsId) (s : ServerState) (c : ℕ) (x : UpsState) (o : Option (List ℕ)) → next_line_for s c ≡ o → ups_at u.place s ≡ Some x → Adds u x (flat_map (told_by_line u) (next_execution s c o)) (after_line s c)
 line_adds u s c x None next e = subst (Adds u x []) (sym (stopped_none s c next)) (adds_none u x s e)

@@ -5,7 +5,6 @@ use Rattle.std.specs.Option.{option_map_or}
 use Rattle.std.proofs.lemmas.Bool.{cond-true, cond-false}
 use Rattle.nutusers.specs.declared.ups_list.UpsId.{UpsId}
 use Rattle.nutanswer.specs.declared.reply.Change.{Change}
-use Rattle.nutanswer.specs.declared.reply.Change.TheVariants.{Nothing, Username, Password, Login, Ending, Fsd, Order}
 use Rattle.nutcore.specs.declared.event.Event.{Event}
 use Rattle.nutcore.specs.declared.event.Event.TheVariants.{DriverUp, DriverBytes, DriverTook, DriverDown, Tick, Open, Feed, Took, Close}
 use Rattle.nutcore.specs.declared.event.Outcome.{Outcome}
@@ -27,6 +26,7 @@ use Rattle.nutcore.proofs.Changed.{by_change}
 use Rattle.nutcore.proofs.Costs.{refused_feed_costs, refused_take_costs}
 use Rattle.nutcore.proofs.DriverText.{ups_after_bytes, bytes_change}
 use Rattle.nutcore.proofs.Progress.{Presence}
+use Rattle.nutcore.proofs.Changes.{of_upses}
 use Rattle.nutcore.proofs.Found.{find_without_other}
 use Rattle.nutcore.proofs.Places.{without_none}
 use Rattle.nutcore.proofs.Stepping.{until_other, input_other, output_other}
@@ -47,13 +47,7 @@ masked_at f h zero (x ∷ xs) = ap (λ (y : UpsState). y ∷ map without_command
 masked_at f h (suc p) (x ∷ xs) = ap (λ (ys : List UpsState). without_commands x ∷ ys) (masked_at f h p xs)
 
 masked : (change : Change) (xs : List UpsState) → map without_commands (changed_upses change xs) ≡ map without_commands xs
-masked Nothing xs = refl
-masked (Username name) xs = refl
-masked (Password password) xs = refl
-masked (Login u) xs = refl
-masked Ending xs = refl
-masked (Fsd u) xs = masked_at with_fsd (λ x. refl) u.place xs
-masked (Order u line) xs = masked_at (with_order line.items) (λ x. refl) u.place xs
+masked change xs = of_upses (λ told ys. map without_commands ys ≡ map without_commands xs) change xs refl (λ u is. masked_at with_fsd (λ x. refl) u.place xs) (λ u line is. masked_at (with_order line.items) (λ x. refl) u.place xs)
 
 kept_either : (b : Bool) (s t r : ServerState) → kept_from_clients s ≡ kept_from_clients r → kept_from_clients t ≡ kept_from_clients r → kept_from_clients (cond b s t) ≡ kept_from_clients r
 kept_either true s t r h k = h

@@ -15,7 +15,8 @@ use Rattle.nutcore.specs.Reply.{reply}
 use Rattle.nutlisting.specs.declared.outbox.TheConstants.{OWED_LIMIT}
 use Rattle.std.proofs.lemmas.Bool.Decides.{nat_tests}
 use Rattle.nutcore.proofs.Found.{find_put}
-use Rattle.nutcore.proofs.Pumping.{is_next, after_line_is, session_after, session_after_id, change_at, line_done, changed_owed}
+use Rattle.nutcore.proofs.Changes.{keeps}
+use Rattle.nutcore.proofs.Pumping.{is_next, after_line_is, session_after, session_after_id, change_at, line_done}
 use Rattle.nutcore.proofs.Serving.{no_notice}
 use Rattle.nutcore.proofs.Loops.{stopped_lines, line_shortens, all_lines_are}
 
@@ -137,6 +138,6 @@ one_answer_above s c line next =
     let there : session c (line_done s (change_at s c line) y) ≡ Some y = ap (λ (k : ℕ). find k (put y s.sessions)) (sym id) ∙ find_put y s.sessions n.asking found in (
       little_of (session c s) line next,
       ap (λ (z : ServerState). owed_of (session c z)) (after_line_is s c line n.asking n.found next) ∙ ap owed_of there
-          ∙ changed_owed (change_at s c line) (answered line (reply s c line) n.asking)
+          ∙ (keeps (change_at s c line) (answered line (reply s c line) n.asking)).owed
           ∙ ap (λ (o : Option SessionState). owed_of o ++ (reply s c line)) (sym n.found),
     )

@@ -2,6 +2,7 @@ mod FirstLine
 mod Found
 mod Progress
 mod Changed
+mod Changes
 mod Pumping
 mod Stepping
 mod Loops

@@ -3,12 +3,11 @@ use Rattle.std.proofs.Common.{◌≡◌, ℕ, zero, suc, ◌+◌, ◌-◌, ◌<�
 use Rattle.std.specs.Prelude.{is_none}
 use Rattle.nutcore.specs.Session.{SessionState, find, put}
 use Rattle.nutcore.specs.Server.{ServerState, session}
-use Rattle.nutanswer.specs.declared.reply.Change.{Change}
-use Rattle.nutanswer.specs.declared.reply.Change.TheVariants.{Nothing, Username, Password, Login, Ending, Fsd, Order}
 use Rattle.nutcore.specs.Reply.{reply, changed_session}
 use Rattle.nutcore.specs.Pump.{next_line_for, answered, after_line, after_lines, pump_stops, held_of, after_all_lines}
 use Rattle.nutcore.proofs.FirstLine.{behind_shorter}
 use Rattle.nutcore.proofs.Found.{find_put}
+use Rattle.nutcore.proofs.Changes.{keeps}
 use Rattle.nutcore.proofs.Pumping.{is_next, stopped_none, after_line_is, change_at, session_after, session_after_id}
 
 -- the lines done, and one more
@@ -53,20 +52,10 @@ found_after_line s c line x found h =
     let id : y.id ≡ c = session_after_id s c line x found in
     ap (session c) (after_line_is s c line x found h) ∙ (ap (λ d. find d (put y s.sessions)) (sym id) ∙ find_put y s.sessions x (ap (λ d. find d s.sessions) id ∙ found))
 
--- a change leaves no more held than there was
-changed_shorter : (change : Change) (x : SessionState) → length (changed_session change x).held ≤ length x.held
-changed_shorter Nothing x = omega arith
-changed_shorter (Username name) x = omega arith
-changed_shorter (Password password) x = omega arith
-changed_shorter (Login u) x = omega arith
-changed_shorter Ending x = omega arith
-changed_shorter (Fsd u) x = omega arith
-changed_shorter (Order u line) x = omega arith
-
 -- each line takes bytes from what is held
 pub line_shortens : (s : ServerState) (c : ℕ) (line : List ℕ) → next_line_for s c ≡ Some line → length (held_of (session c (after_line s c))) < length (held_of (session c s))
 line_shortens s c line h =
     let n = is_next s c line h in
     let y : SessionState = answered line (reply s c line) n.asking in
-    let less : length (session_after s c line n.asking).held < length n.asking.held = let e = behind_shorter n.asking.held line n.first in omega (arith, e, changed_shorter (change_at s c line) y) in
+    let less : length (session_after s c line n.asking).held < length n.asking.held = let e = behind_shorter n.asking.held line n.first in let k = (keeps (change_at s c line) y).shorter in omega (arith, e, k) in
     rw (found_after_line s c line n.asking n.found h, n.found) less

@@ -24,6 +24,7 @@ use Rattle.nutcore.specs.History.{Execution, of_line, of_notice, executions_in_e
 use Rattle.nutcore.specs.DriverHistory.{has_driver}
 use Rattle.nutcore.specs.DriverOrders.{Telling, dump_all, ping, order, told_by_change, told_by_line, told_beside_lines, told_in_event, moment_of, taken_in_event, is_lost_by, Connections, last, lost, with_front, in_front, connections}
 use Rattle.nutcore.specs.OrdersByRight.{IsSetByRight, IsCommandedByRight, IsOrderByRight, AreOrdersByRight, none_left, given, passed_over, order_of, all_told, orders_told, EachOrderIsByRight}
+use Rattle.nutcore.proofs.Changes.{of_upses}
 use Rattle.nutcore.proofs.DriverOrders.{flat_both}
 use Rattle.nutanswer.proofs.PublicLaws.{each_order_answered_ok_is_given}
 use Rattle.nutcore.proofs.Rows.{comes_of_line, by_right}
@@ -94,17 +95,14 @@ passes : (u : UpsId) (x : Execution) → told_by_line u x ≡ [] → Joins u x [
 passes u x e xs rest h = passed_over (λ bytes k. silent u bytes x e k) h
 
 line_joins : (u : UpsId) (s : ServerState) (c : ℕ) (line : List ℕ) (change : Change) → change_by s c (read_command line) ≡ change → Joins u (of_line s c line) (told_by_change u change)
-line_joins u s c line changes.Nothing e = passes u (of_line s c line) (ap (told_by_change u) e)
-line_joins u s c line (changes.Username name) e = passes u (of_line s c line) (ap (told_by_change u) e)
-line_joins u s c line (changes.Password password) e = passes u (of_line s c line) (ap (told_by_change u) e)
-line_joins u s c line (changes.Login v) e = passes u (of_line s c line) (ap (told_by_change u) e)
-line_joins u s c line changes.Ending e = passes u (of_line s c line) (ap (told_by_change u) e)
-line_joins u s c line (changes.Fsd v) e = passes u (of_line s c line) (ap (told_by_change u) e)
-line_joins u s c line (changes.Order v bytes) e = by_place (eqb v.place u.place) refl
+line_joins u s c line change e =
+    of_upses (λ told ys. told_by_line u (of_line s c line) ≡ told u → Joins u (of_line s c line) (told u)) change [] (passes u (of_line s c line)) (λ v is. passes u (of_line s c line))
+    (λ v bytes is here. by_place v bytes (e ∙ is) here (eqb v.place u.place) refl) (ap (told_by_change u) e)
   where
-    by_place : (b : Bool) → eqb v.place u.place ≡ b → Joins u (of_line s c line) (cond b (order bytes.items ∷ []) [])
-    by_place true k = λ xs rest h. given (by_read s c line u v bytes (eqb-true v.place u.place k) e) h
-    by_place false k = passes u (of_line s c line) (ap (told_by_change u) e ∙ ap (λ (b : Bool). cond b (order bytes.items ∷ []) []) k)
+    by_place : (v : UpsId) (bytes : ArrayVec ℕ) → change_by s c (read_command line) ≡ changes.Order v bytes → told_by_line u (of_line s c line) ≡ told_by_change u (changes.Order v bytes) → (b : Bool) → eqb v.place u.place ≡ b
+        → Joins u (of_line s c line) (cond b (order bytes.items ∷ []) [])
+    by_place v bytes e here true k = λ xs rest h. given (by_read s c line u v bytes (eqb-true v.place u.place k) e) h
+    by_place v bytes e here false k = passes u (of_line s c line) (here ∙ ap (λ (b : Bool). cond b (order bytes.items ∷ []) []) k)
 
 joins : (u : UpsId) (x : Execution) → Joins u x (told_by_line u x)
 joins u (of_line s c line) = line_joins u s c line (change_by s c (read_command line)) refl

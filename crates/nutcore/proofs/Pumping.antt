@@ -6,7 +6,6 @@ use Rattle.std.proofs.Math.Seq.{drop-nil}
 use Rattle.std.proofs.lemmas.Bool.{or_left}
 use Rattle.std.proofs.lemmas.Grind.{flat_map-append}
 use Rattle.nutanswer.specs.declared.reply.Change.{Change}
-use Rattle.nutanswer.specs.declared.reply.Change.TheVariants.{Nothing, Username, Password, Login, Ending, Fsd, Order}
 use Rattle.nutcore.specs.Lines.{first_line, rest_after, with_lf}
 use Rattle.nutcore.specs.Session.{SessionState, find, put}
 use Rattle.nutcore.specs.Server.{ServerState, session, with_session, with_session_changed}
@@ -15,6 +14,7 @@ use Rattle.nutcore.specs.Reply.{reply, change_by, changed, changed_session, chan
 use Rattle.nutcore.specs.Pump.{next_line, next_line_for, answered, after_reply, after_line, after_lines, held_of, after_notice, holds_overlong, notified, with_notice, after_all_lines, pumped}
 use Rattle.nutcore.specs.History.{of_notice, next_execution, lines_executed, notice, pump_executions, texts_of, lines_of, text_of, line_of}
 use Rattle.nutcore.proofs.FirstLine.{first_line_splits}
+use Rattle.nutcore.proofs.Changes.{keeps}
 use Rattle.nutcore.proofs.Progress.{Presence, presence, Progress, joins, stays, moves}
 use Rattle.nutcore.proofs.Found.{find_id, find_put, find_put_other, put_put}
 use Rattle.nutcore.proofs.Changed.{at_client, change_is, presence_changed, presence_other, notice_id}
@@ -27,44 +27,6 @@ progress_at p p' q q' a t k l e f g = subst (λ (z : Presence). Progress z a t k
 pub progress_with : (p q : Presence) (a a' t t' k k' l l' : List ℕ) → a ≡ a' → t ≡ t' → k ≡ k' → l ≡ l' → Progress p a' t' k' l' q → Progress p a t k l q
 progress_with p q a a' t t' k k' l l' ea et ek el g =
     subst (λ z. Progress p z t k l q) (sym ea) (subst (λ z. Progress p a' z k l q) (sym et) (subst (λ z. Progress p a' t' z l q) (sym ek) (subst (λ z. Progress p a' t' k' z q) (sym el) g)))
-
--- a change keeps a session's id and what it owes, and drops what it holds only where it begins to end
-pub changed_id : (change : Change) (x : SessionState) → (changed_session change x).id ≡ x.id
-changed_id Nothing x = refl
-changed_id (Username name) x = refl
-changed_id (Password password) x = refl
-changed_id (Login u) x = refl
-changed_id Ending x = refl
-changed_id (Fsd u) x = refl
-changed_id (Order u line) x = refl
-
-pub changed_owed : (change : Change) (x : SessionState) → (changed_session change x).owed ≡ x.owed
-changed_owed Nothing x = refl
-changed_owed (Username name) x = refl
-changed_owed (Password password) x = refl
-changed_owed (Login u) x = refl
-changed_owed Ending x = refl
-changed_owed (Fsd u) x = refl
-changed_owed (Order u line) x = refl
-
-changed_held : (change : Change) (x : SessionState) → (changed_session change x).ending ≡ false → (changed_session change x).held ≡ x.held
-changed_held Nothing x going = refl
-changed_held (Username name) x going = refl
-changed_held (Password password) x going = refl
-changed_held (Login u) x going = refl
-changed_held Ending x going = cc
-changed_held (Fsd u) x going = refl
-changed_held (Order u line) x going = refl
-
--- an answer joined after the change is one joined before
-changed_answered : (change : Change) (line text : List ℕ) (x : SessionState) → answered line text (changed_session change x) ≡ changed_session change (answered line text x)
-changed_answered Nothing line text x = refl
-changed_answered (Username name) line text x = refl
-changed_answered (Password password) line text x = refl
-changed_answered (Login u) line text x = refl
-changed_answered Ending line text x = ap (λ (held : List ℕ). let y : SessionState = record x { held = held; owed = x.owed ++ text; login = None; ending = true } in y) (drop-nil (length line + 1))
-changed_answered (Fsd u) line text x = refl
-changed_answered (Order u order) line text x = refl
 
 -- the server in which this session and the UPSs are changed
 abbrev pub line_done : ServerState → Change → SessionState → ServerState
@@ -118,7 +80,7 @@ abbrev pub session_after : ServerState → ℕ → List ℕ → SessionState →
 session_after s c line x = changed_session (change_at s c line) (answered line (reply s c line) x)
 
 pub session_after_id : (s : ServerState) (c : ℕ) (line : List ℕ) (x : SessionState) → session c s ≡ Some x → (session_after s c line x).id ≡ c
-session_after_id s c line x found = changed_id (change_at s c line) (answered line (reply s c line) x) ∙ find_id c s.sessions x found
+session_after_id s c line x found = (keeps (change_at s c line) (answered line (reply s c line) x)).id ∙ find_id c s.sessions x found
 
 -- what the next line leaves: its answer is joined, it is taken, and what it changes is changed
 pub after_line_is : (s : ServerState) (c : ℕ) (line : List ℕ) (x : SessionState) → session c s ≡ Some x → next_line_for s c ≡ Some line → after_line s c ≡ line_done s (change_at s c line) (session_after s c line x)
@@ -128,13 +90,13 @@ after_line_is s c line x found h =
     let text : List ℕ = (reply s c line) in
     let y : SessionState = changed_session change x in
     let t : ServerState = line_done s change y in
-    let id : y.id ≡ c = changed_id change x ∙ find_id c s.sessions x found in
+    let id : y.id ≡ c = (keeps change x).id ∙ find_id c s.sessions x found in
     let there : session c t ≡ Some y = ap (λ d. find d (put y s.sessions)) (sym id) ∙ find_put y s.sessions x (ap (λ d. find d s.sessions) id ∙ found) in
     ap (λ (o : Option (List ℕ)). option_map_or (λ line. after_reply s c line) o s) h
     ∙ ap (with_session_changed (answered line text) c) (changed_is change c s x found)
     ∙ change_is (answered line text) c t y there
     ∙ ap (λ (xs : List SessionState). let z : ServerState = record t { sessions = xs } in z) (put_put y (answered line text y) s.sessions refl)
-    ∙ ap (λ (z : SessionState). line_done s change z) (changed_answered change line text x)
+    ∙ ap (λ (z : SessionState). line_done s change z) ((keeps change x).joined line text)
 
 line_moves : (x : SessionState) (u : Bool) (line text : List ℕ) (change : Change) → x.ending ≡ false → first_line x.held ≡ Some line →
     Progress (record { session = Some x; used = u }) text [] [] (with_lf line) (record { session = Some (changed_session change (answered line text x)); used = u })
@@ -142,8 +104,8 @@ line_moves x u line text change going first =
     let y : SessionState = answered line text x in
     let split = append-nil x.held ∙ first_line_splits x.held line first in
     moves x (changed_session change y) u text [] [] (with_lf line)
-    (sym (changed_owed change y))
-    (λ e. split ∙ ap (λ held. with_lf line ++ held) (sym (changed_held change y e)))
+    (sym ((keeps change y).owed))
+    (λ e. split ∙ ap (λ held. with_lf line ++ held) (sym ((keeps change y).held e)))
     (λ e. (rest_after line x.held, sym split))
     (λ e. let never : true ≡ false = sym e ∙ going in cc never)
 

@@ -22,6 +22,7 @@ use Rattle.nutcore.specs.Step.{after_by, joined, with_input, taken_from, without
 use Rattle.nutcore.specs.History.{of_line}
 use Rattle.nutcore.specs.ByRight.{SetsShutdownByRight, is_shut_down, AForcedShutdownIsSetByRight}
 use Rattle.nutcore.proofs.Changed.{by_change}
+use Rattle.nutcore.proofs.Changes.{of_upses as of_changed_upses}
 use Rattle.nutcore.proofs.DriverText.{ups_after_text, ups_after_bytes, bytes_change}
 use Rattle.nutcore.proofs.Pumping.{is_next, after_line_is, change_at}
 use Rattle.nutcore.proofs.Rows.{comes_of_line, by_right}
@@ -107,17 +108,13 @@ by_session u f s c h = by_change (λ t. is_shut_down u t ≡ false) f c s (λ x 
 
 -- a line that sets it has the row of FSD
 change_sets : (u : UpsId) (change : Change) (xs : List UpsState) → fsd_at u.place xs ≡ false → fsd_at u.place (changed_upses change xs) ≡ true → change ≡ changes.Fsd u
-change_sets u changes.Nothing xs before after = no_mark _ before after
-change_sets u (changes.Username name) xs before after = no_mark _ before after
-change_sets u (changes.Password password) xs before after = no_mark _ before after
-change_sets u (changes.Login v) xs before after = no_mark _ before after
-change_sets u changes.Ending xs before after = no_mark _ before after
-change_sets u (changes.Order v line) xs before after = no_mark _ before (sym (changed_keeps (with_order line.items) (λ x. refl) v.place u.place xs) ∙ after)
-change_sets u (changes.Fsd v) xs before after = by_place (eqb v.place u.place) refl
+change_sets u change xs before after =
+    of_changed_upses (λ told ys. fsd_at u.place ys ≡ true → change ≡ changes.Fsd u) change xs (λ set. no_mark _ before set) (λ v is set. is ∙ by_place v (eqb v.place u.place) refl set)
+    (λ v line is set. no_mark _ before (sym (changed_keeps (with_order line.items) (λ x. refl) v.place u.place xs) ∙ set)) after
   where
-    by_place : (b : Bool) → eqb v.place u.place ≡ b → changes.Fsd v ≡ changes.Fsd u
-    by_place true e = ap (λ (p : ℕ). let w : UpsId = record { place = p } in changes.Fsd w) (eqb-true v.place u.place e)
-    by_place false e = no_mark _ before (sym (other_place with_fsd v.place u.place xs (λ (k : v.place ≡ u.place). eqb-false v.place u.place e k)) ∙ after)
+    by_place : (v : UpsId) (b : Bool) → eqb v.place u.place ≡ b → fsd_at u.place (changed_at with_fsd v.place xs) ≡ true → changes.Fsd v ≡ changes.Fsd u
+    by_place v true e set = ap (λ (p : ℕ). let w : UpsId = record { place = p } in changes.Fsd w) (eqb-true v.place u.place e)
+    by_place v false e set = no_mark _ before (sym (other_place with_fsd v.place u.place xs (λ (k : v.place ≡ u.place). eqb-false v.place u.place e k)) ∙ set)
 
 by_line : (u : UpsId) (s : ServerState) (c : ℕ) (line : List ℕ) → next_line_for s c ≡ Some line → is_shut_down u s ≡ false → is_shut_down u (after_line s c) ≡ true → SetsShutdownByRight u (of_line s c line)
 by_line u s c line next before after =

@@ -1,12 +1,11 @@
 -- Every server is sound.
-use Rattle.std.proofs.Common.{◌≡◌, ◌≤◌, ◌<◌, ◌+◌, ◌-◌, ◌^◌, ℕ, zero, suc, Bool, true, false, List, [], ◌∷◌, ◌++◌, Option, Some, None, refl, sym, ◌∙◌, ap, subst, cond, eqb, max, length, take, length-append, length-take, length-drop, arith}
+use Rattle.std.proofs.Common.{◌≡◌, ◌≤◌, ◌<◌, ◌+◌, ◌-◌, ◌^◌, ℕ, zero, suc, Bool, true, false, List, [], ◌∷◌, ◌++◌, Option, Some, None, refl, sym, ◌∙◌, ap, subst, cond, eqb, max, length, take, length-append, length-take, length-drop, arith, inl, inr}
 use Rattle.std.specs.Prelude.{nat_lt, is_some}
 use Rattle.std.proofs.lemmas.Bool.{ltb-true}
 use Rattle.nutdriver.specs.Tree.{empty_tree}
 use Rattle.nutdriver.specs.Sound.{IsSoundTree, EachLineKeepsTheTreeSound}
 use Rattle.nutusers.specs.declared.ups_list.UpsId.{UpsId}
 use Rattle.nutanswer.specs.declared.reply.Change.{Change}
-use Rattle.nutanswer.specs.declared.reply.Change.TheVariants as changes
 use Rattle.nutanswer.specs.Command.{read_command}
 use Rattle.nutcore.specs.declared.TheConstants.{HELD_LIMIT}
 use Rattle.nutlisting.specs.declared.listing.clients.TheConstants.{SESSION_LIMIT}
@@ -22,6 +21,7 @@ use Rattle.nutcore.specs.Step.{Step, joined, with_input, taken_from, without_out
 use Rattle.nutcore.specs.Sound.{Each, IsSoundSession, IsSoundUps, IsSound, ANewServerIsSound, EachEventKeepsTheServerSound, EveryRunKeepsTheServerSound, ASoundServerIsLawful}
 use Rattle.nutcore.proofs.OrderFits.{order_fits}
 use Rattle.nutcore.proofs.Places.{rise_put, rise_push, rise_without, rise_lawful, length-put}
+use Rattle.nutcore.proofs.Changes.{keeps}
 use Rattle.nutcore.proofs.Changed.{by_change, either_notice}
 use Rattle.nutcore.proofs.Pumping.{is_next, stopped_none, after_line_is, line_done, change_at, session_after}
 use Rattle.nutcore.proofs.DriverText.{ups_after_bytes, bytes_change}
@@ -61,13 +61,13 @@ each_found P c (z ∷ xs) x e all = by_id (eqb z.id c) e (λ k. each_found P c x
 
 -- sessions
 pub sound_answered : (change : Change) (line text : List ℕ) (x : SessionState) → x.ending ≡ false → IsSoundSession x → IsSoundSession (changed_session change (answered line text x))
-sound_answered changes.Nothing line text x going h = record { held = (let few = h.held in omega (arith, few, length-drop (length line + 1) x.held)); ending = λ e. no_loss x.ending e going }
-sound_answered (changes.Username name) line text x going h = record { held = (let few = h.held in omega (arith, few, length-drop (length line + 1) x.held)); ending = λ e. no_loss x.ending e going }
-sound_answered (changes.Password password) line text x going h = record { held = (let few = h.held in omega (arith, few, length-drop (length line + 1) x.held)); ending = λ e. no_loss x.ending e going }
-sound_answered (changes.Login u) line text x going h = record { held = (let few = h.held in omega (arith, few, length-drop (length line + 1) x.held)); ending = λ e. no_loss x.ending e going }
-sound_answered changes.Ending line text x going h = record { held = omega arith; ending = λ e. (refl, refl) }
-sound_answered (changes.Fsd u) line text x going h = record { held = (let few = h.held in omega (arith, few, length-drop (length line + 1) x.held)); ending = λ e. no_loss x.ending e going }
-sound_answered (changes.Order u order) line text x going h = record { held = (let few = h.held in omega (arith, few, length-drop (length line + 1) x.held)); ending = λ e. no_loss x.ending e going }
+sound_answered change line text x going h =
+    let y : SessionState = answered line text x in
+    let kept = keeps change y in
+    record {
+      held = (let few = h.held in let less = kept.shorter in omega (arith, few, less, length-drop (length line + 1) x.held));
+      ending = λ e. elim (kept.ended e) [ inl already ↦ no_loss x.ending already going | inr ends ↦ ends ];
+    }
 
 pub sound_input : (piece : List ℕ) (x : SessionState) → IsSoundSession x → IsSoundSession (joined piece x)
 sound_input piece x h = by_ending x.ending refl

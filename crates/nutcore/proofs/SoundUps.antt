@@ -16,13 +16,13 @@ use Rattle.nutdriver.specs.DriverStep.{driver_step}
 use Rattle.nutdriver.specs.Report.{after_effect, after_step, after_reading, after_line as report_after_line}
 use Rattle.nutdriver.specs.Sound.{IsSoundTree, EachLineKeepsTheTreeSound}
 use Rattle.nutanswer.specs.declared.reply.Change.{Change}
-use Rattle.nutanswer.specs.declared.reply.Change.TheVariants as changes
 use Rattle.nutcore.specs.declared.TheConstants.{DRIVER_OWED_LIMIT}
 use Rattle.nutcore.specs.Lines.{whole_lines, unfinished_after, is_too_long}
 use Rattle.nutcore.specs.Ups.{UpsState, new_ups, after_connecting, after_loss, with_fsd, with_order, ping_is_due, ping_line, after_tick, after_outcome, after_text, after_texts, with_unfinished}
 use Rattle.nutcore.specs.Server.{changed_at}
 use Rattle.nutcore.specs.Reply.{changed_upses}
 use Rattle.nutcore.specs.Promises.{TakesLine, OrderFits}
+use Rattle.nutcore.proofs.Changes.{of_upses}
 use Rattle.nutcore.specs.Step.{driver_may_take, after_driver_took}
 use Rattle.nutcore.proofs.DriverText.{ups_after_text, ups_after_bytes}
 use Rattle.nutcore.specs.Sound.{Each, IsSoundUps}
@@ -181,22 +181,11 @@ sound_order m line zero (x ∷ xs) fits all =
 sound_order m line (suc p) (x ∷ xs) fits all = (all.0, sound_order m line p xs fits all.1)
 
 pub sound_changes : (m : ℕ) (change : Change) (xs : List UpsState) → OrderFits change xs → Each (IsSoundUps m) xs → Each (IsSoundUps m) (changed_upses change xs)
-sound_changes m changes.Nothing xs fits all = all
-sound_changes m (changes.Username name) xs fits all = all
-sound_changes m (changes.Password password) xs fits all = all
-sound_changes m (changes.Login u) xs fits all = all
-sound_changes m changes.Ending xs fits all = all
-sound_changes m (changes.Fsd u) xs fits all = each_changed (IsSoundUps m) with_fsd (sound_fsd m) u.place xs all
-sound_changes m (changes.Order u line) xs fits all = sound_order m line.items u.place xs (λ x at. fits u line x refl at) all
+sound_changes m change xs fits all =
+    of_upses (λ told ys. Each (IsSoundUps m) ys) change xs all (λ u is. each_changed (IsSoundUps m) with_fsd (sound_fsd m) u.place xs all) (λ u line is. sound_order m line.items u.place xs (λ x at. fits u line x is at) all)
 
 pub length-changes : (change : Change) (xs : List UpsState) → length (changed_upses change xs) ≡ length xs
-length-changes changes.Nothing xs = refl
-length-changes (changes.Username name) xs = refl
-length-changes (changes.Password password) xs = refl
-length-changes (changes.Login u) xs = refl
-length-changes changes.Ending xs = refl
-length-changes (changes.Fsd u) xs = length-changed with_fsd u.place xs
-length-changes (changes.Order u line) xs = length-changed (with_order line.items) u.place xs
+length-changes change xs = of_upses (λ told ys. length ys ≡ length xs) change xs refl (λ u is. length-changed with_fsd u.place xs) (λ u line is. length-changed (with_order line.items) u.place xs)
 
 module _ (empty : IsSoundTree empty_tree) (line_keeps : EachLineKeepsTheTreeSound) where
   pub sound_new : (m : ℕ) → IsSoundUps m new_ups

@@ -11,6 +11,7 @@ use Rattle.nutwords.specs.Reading.{is_name, is_value}
 use Rattle.nutwords.specs.Spelling.{with_backslashes, quoted}
 use Rattle.nutwords.specs.SplitLine.{split_line}
 use Rattle.nutlisting.specs.Lines.{IsWholeLine}
+use Rattle.arrayvec.specs.ArrayVec.{ArrayVec}
 use Rattle.nutusers.specs.declared.ups_list.UpsId.{UpsId}
 use Rattle.nutanswer.specs.declared.reply.Change.{Change}
 use Rattle.nutanswer.specs.declared.reply.Change.TheVariants as changes
@@ -29,6 +30,7 @@ use Rattle.nutcore.specs.DriverHistory.{has_driver}
 use Rattle.nutcore.specs.DriverOrders.{Telling, dump_all, ping, order, text_of, told_by_change, told_by_line, told_beside_lines, told_in_event, moment_of, taken_in_event, is_lost_by, connections}
 use Rattle.nutcore.specs.OrdersByRight.{IsOrderByRight, all_told}
 use Rattle.nutcore.specs.TellingLines.{IsSpelled, asks_for_all, asks_whether_there, sets, commands, commands_with, IsLineToDriver, EachTellingIsAWholeLine}
+use Rattle.nutcore.proofs.Changes.{of_upses}
 use Rattle.nutcore.proofs.FirstLine.{with_byte}
 use Rattle.nutcore.proofs.SoundUps.{each_join}
 use Rattle.nutanswer.specs.Lawful.{IsLawfulReading}
@@ -134,17 +136,11 @@ by_right_spelled u bytes s c line h =
     ]
 
 change_tells : (u : UpsId) (s : ServerState) (c : ℕ) (line : List ℕ) (change : Change) → change_by s c (read_command line) ≡ change → Each IsLineToDriver (told_by_change u change)
-change_tells u s c line changes.Nothing e = tt
-change_tells u s c line (changes.Username name) e = tt
-change_tells u s c line (changes.Password password) e = tt
-change_tells u s c line (changes.Login v) e = tt
-change_tells u s c line changes.Ending e = tt
-change_tells u s c line (changes.Fsd v) e = tt
-change_tells u s c line (changes.Order v bytes) e = by_place (eqb v.place u.place) refl
+change_tells u s c line change e = of_upses (λ told ys. Each IsLineToDriver (told u)) change [] tt (λ v is. tt) (λ v bytes is. by_place v bytes (e ∙ is) (eqb v.place u.place) refl)
   where
-    by_place : (b : Bool) → eqb v.place u.place ≡ b → Each IsLineToDriver (cond b (order bytes.items ∷ []) [])
-    by_place true k = (tells (order bytes.items) (by_right_spelled u bytes.items s c line (by_read s c line u v bytes (eqb-true v.place u.place k) e)), tt)
-    by_place false k = tt
+    by_place : (v : UpsId) (bytes : ArrayVec ℕ) → change_by s c (read_command line) ≡ changes.Order v bytes → (b : Bool) → eqb v.place u.place ≡ b → Each IsLineToDriver (cond b (order bytes.items ∷ []) [])
+    by_place v bytes e true k = (tells (order bytes.items) (by_right_spelled u bytes.items s c line (by_read s c line u v bytes (eqb-true v.place u.place k) e)), tt)
+    by_place v bytes e false k = tt
 
 lines_tell : (u : UpsId) (xs : List Execution) → Each IsLineToDriver (flat_map (told_by_line u) xs)
 lines_tell u [] = tt

@@ -35,23 +35,17 @@ asker c s = asker_of (session c s)
 
 -- What a change does to the session that asks,
 abbrev pub changed_session : Change → SessionState → SessionState
-changed_session Nothing x = x
 changed_session (Username name) x = record x { username = Some name }
 changed_session (Password password) x = record x { password = Some password }
 changed_session (Login u) x = record x { login = Some u }
 changed_session Ending x = begin_ending x
-changed_session (Fsd u) x = x
-changed_session (Order u line) x = x
+changed_session _ x = x
 
 -- to the UPSs,
 abbrev pub changed_upses : Change → List UpsState → List UpsState
-changed_upses Nothing upses = upses
-changed_upses (Username name) upses = upses
-changed_upses (Password password) upses = upses
-changed_upses (Login u) upses = upses
-changed_upses Ending upses = upses
 changed_upses (Fsd u) upses = changed_at with_fsd u.place upses
 changed_upses (Order u line) upses = changed_at (with_order line.items) u.place upses
+changed_upses _ upses = upses
 
 -- and so to the server.
 abbrev pub changed : Change → ℕ → ServerState → ServerState

@@ -1,0 +1,62 @@
+-- What a change does to the session that asks, to the UPSs and to what their drivers are told: a case each.
+use Rattle.std.proofs.Common.{◌≡◌, ℕ, ◌+◌, ◌≤◌, false, true, List, [], ◌∷◌, ◌++◌, Option, Some, None, refl, ap, arith, length, inl, inr}
+use Rattle.std.specs.Prelude.{◌⊎◌}
+use Rattle.std.proofs.Math.Seq.{drop-nil}
+use Rattle.arrayvec.specs.ArrayVec.{ArrayVec}
+use Rattle.nutusers.specs.declared.ups_list.UpsId.{UpsId}
+use Rattle.nutanswer.specs.declared.reply.Change.{Change}
+use Rattle.nutanswer.specs.declared.reply.Change.TheVariants.{Nothing, Username, Password, Login, Ending, Fsd, Order}
+use Rattle.nutcore.specs.Session.{SessionState}
+use Rattle.nutcore.specs.Ups.{UpsState, with_fsd, with_order}
+use Rattle.nutcore.specs.Server.{changed_at}
+use Rattle.nutcore.specs.Reply.{changed_session, changed_upses}
+use Rattle.nutcore.specs.Pump.{answered}
+use Rattle.nutcore.specs.DriverOrders.{Telling, told_by_change}
+
+-- what a change keeps of a session, and by which change a user name, a password or a login comes
+pub record Keeps (change : Change) (x : SessionState) : Type 0 where
+  pub id : (changed_session change x).id ≡ x.id
+  pub address : (changed_session change x).address ≡ x.address
+  pub owed : (changed_session change x).owed ≡ x.owed
+  -- what it holds is dropped only where it begins to end
+  pub held : (changed_session change x).ending ≡ false → (changed_session change x).held ≡ x.held
+  pub shorter : length (changed_session change x).held ≤ length x.held
+  pub ended : (changed_session change x).ending ≡ true → (x.ending ≡ true) ⊎ (((changed_session change x).held ≡ []) × ((changed_session change x).login ≡ None))
+  -- an answer joined after the change is one joined before
+  pub joined : (line text : List ℕ) → answered line text (changed_session change x) ≡ changed_session change (answered line text x)
+  pub username : ((changed_session change x).username ≡ x.username) ⊎ ((name : List ℕ) × (change ≡ Username name) × ((changed_session change x).username ≡ Some name))
+  pub password : ((changed_session change x).password ≡ x.password) ⊎ ((password : List ℕ) × (change ≡ Password password) × ((changed_session change x).password ≡ Some password))
+  pub login : ((changed_session change x).login ≡ x.login) ⊎ (((changed_session change x).login ≡ None) ⊎ ((u : UpsId) × (change ≡ Login u) × ((changed_session change x).login ≡ Some u)))
+
+pub keeps : (change : Change) (x : SessionState) → Keeps change x
+keeps Nothing x = record { id = refl; address = refl; owed = refl; held = λ e. refl; shorter = omega arith; ended = λ e. inl e; joined = λ line text. refl; username = inl refl; password = inl refl; login = inl refl }
+keeps (Username name) x = record { id = refl; address = refl; owed = refl; held = λ e. refl; shorter = omega arith; ended = λ e. inl e; joined = λ line text. refl; username = inr (name, refl, refl); password = inl refl; login = inl refl }
+keeps (Password password) x = record { id = refl; address = refl; owed = refl; held = λ e. refl; shorter = omega arith; ended = λ e. inl e; joined = λ line text. refl; username = inl refl; password = inr (password, refl, refl); login = inl refl }
+keeps (Login u) x = record { id = refl; address = refl; owed = refl; held = λ e. refl; shorter = omega arith; ended = λ e. inl e; joined = λ line text. refl; username = inl refl; password = inl refl; login = inr (inr (u, refl, refl)) }
+keeps Ending x = record {
+  id = refl;
+  address = refl;
+  owed = refl;
+  held = λ e. (let never : true ≡ false = e in cc never);
+  shorter = omega arith;
+  ended = λ e. inr (refl, refl);
+  joined = λ line text. ap (λ (held : List ℕ). let y : SessionState = record x { held = held; owed = x.owed ++ text; login = None; ending = true } in y) (drop-nil (length line + 1));
+  username = inl refl;
+  password = inl refl;
+  login = inr (inl refl);
+}
+keeps (Fsd u) x = record { id = refl; address = refl; owed = refl; held = λ e. refl; shorter = omega arith; ended = λ e. inl e; joined = λ line text. refl; username = inl refl; password = inl refl; login = inl refl }
+keeps (Order u line) x = record { id = refl; address = refl; owed = refl; held = λ e. refl; shorter = omega arith; ended = λ e. inl e; joined = λ line text. refl; username = inl refl; password = inl refl; login = inl refl }
+
+-- what holds where nothing of the UPSs changes, where a forced shutdown is set, and where an order is told, holds of each change
+pub of_upses : (P : (UpsId → List Telling) → List UpsState → Type 0) (change : Change) (xs : List UpsState) → P (λ u. []) xs
+    → ((v : UpsId) → change ≡ Fsd v → P (λ u. []) (changed_at with_fsd v.place xs))
+    → ((v : UpsId) (line : ArrayVec ℕ) → change ≡ Order v line → P (λ u. told_by_change u (Order v line)) (changed_at (with_order line.items) v.place xs))
+    → P (λ u. told_by_change u change) (changed_upses change xs)
+of_upses P Nothing xs same fsd order = same
+of_upses P (Username name) xs same fsd order = same
+of_upses P (Password password) xs same fsd order = same
+of_upses P (Login u) xs same fsd order = same
+of_upses P Ending xs same fsd order = same
+of_upses P (Fsd u) xs same fsd order = fsd u refl
+of_upses P (Order u line) xs same fsd order = order u line refl
