@@ -3,14 +3,13 @@ use Rattle.std.proofs.Common.{◌≡◌, ◌+◌, ℕ, zero, suc, Bool, true, fa
 use Rattle.std.proofs.lemmas.List.Elements.{All-nil, All-cons, All-head, All-tail, All-append}
 use Rattle.nutwords.specs.Reading.{is_address}
 use Rattle.nutusers.specs.UpsList.{Ups}
-use Rattle.nutanswer.specs.declared.reply.Change.{Change}
 use Rattle.nutcore.specs.declared.event.Event.{Event}
 use Rattle.nutcore.specs.declared.event.Event.TheVariants.{DriverUp, DriverBytes, DriverTook, DriverDown, Tick, Open, Feed, Took, Close}
 use Rattle.nutcore.specs.declared.event.Outcome.{Outcome}
 use Rattle.nutcore.specs.Session.{SessionState, find, put, without, new_session}
 use Rattle.nutcore.specs.Ups.{UpsState, after_tick}
 use Rattle.nutcore.specs.Server.{ServerState, session, with_session, with_session_changed, changed_at}
-use Rattle.nutcore.specs.Reply.{reply, changed_session, changed_upses}
+use Rattle.nutcore.specs.Reply.{reply, changed_upses}
 use Rattle.nutcore.specs.Pump.{answered, next_line_for, after_line, after_lines, after_all_lines, after_notice, with_notice, pumped, held_of}
 use Rattle.nutcore.specs.Step.{joined, with_input, taken_from, without_output, may_take, may_open, opened, connected, disconnected, after_driver_took, ticked, pumped_until, after_by, refused_after}
 use Rattle.nutcore.specs.Run.{Run}

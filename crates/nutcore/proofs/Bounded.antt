@@ -1,5 +1,5 @@
 -- How much one event makes a server do for its clients.
-use Rattle.std.proofs.Common.{◌≡◌, ℕ, zero, suc, ◌+◌, ◌-◌, ◌≤◌, Bool, true, false, List, [], ◌∷◌, ◌++◌, Option, Some, None, refl, ◌∙◌, ap, subst, cond, eqb, leb, not, ◌&&◌, arith, length, take, drop, length-append, length-take, length-drop}
+use Rattle.std.proofs.Common.{sym, ◌≡◌, ℕ, zero, suc, ◌+◌, ◌-◌, ◌≤◌, Bool, true, false, List, [], ◌∷◌, ◌++◌, Option, Some, None, refl, ◌∙◌, ap, subst, cond, eqb, leb, not, ◌&&◌, arith, length, take, drop, length-append, length-take, length-drop}
 use Rattle.std.specs.Prelude.{is_none, option_map}
 use Rattle.std.specs.Option.{option_map_or}
 use Rattle.std.proofs.lemmas.Bool.{eqb-true, leb-true}
@@ -7,7 +7,7 @@ use Rattle.nutlisting.specs.declared.outbox.TheConstants.{OWED_LIMIT}
 use Rattle.nutlisting.specs.declared.ring.TheConstants.{RING_LIMIT}
 use Rattle.nutcore.specs.declared.TheConstants.{HELD_LIMIT}
 use Rattle.nutcore.specs.declared.event.Event.{Event}
-use Rattle.nutcore.specs.declared.event.Event.TheVariants.{DriverUp, DriverBytes, DriverTook, DriverDown, Tick, Open, Feed, Took, Close}
+use Rattle.nutcore.specs.declared.event.Event.TheVariants.{Feed, Took}
 use Rattle.nutcore.specs.Lines.{first_line}
 use Rattle.nutcore.specs.Session.{SessionState}
 use Rattle.nutcore.specs.Server.{ServerState, session}
@@ -19,7 +19,8 @@ use Rattle.nutcore.specs.declared.cost.Cost.{Cost}
 use Rattle.nutcore.specs.Cost.{no_cost, cost_between, cost_of}
 use Rattle.nutcore.specs.Sound.{IsSound, IsSoundSession}
 use Rattle.nutcore.specs.Bounded.{EachEventIsBounded}
-use Rattle.nutcore.proofs.Executions.{given_by, given_is}
+use Rattle.nutcore.proofs.Events.{given_by, of_event}
+use Rattle.nutcore.proofs.Executions.{given_is}
 use Rattle.nutcore.proofs.Changed.{session_changed}
 use Rattle.nutcore.proofs.Pumping.{stopped_none}
 use Rattle.nutcore.proofs.Loops.{line_shortens}
@@ -113,17 +114,11 @@ may_by xs false n le = omega arith
 
 given_few : (c : ℕ) (s : ServerState) (e : Event) (m : Option ℕ) → length (given_by c s e m) ≤ length (held c s) + length (asked_in_event c s e)
 unfolding given_by asked_in_event
-given_few c s (DriverUp u) m = omega arith
-given_few c s (DriverBytes u piece) m = omega arith
-given_few c s (DriverTook u n) m = omega arith
-given_few c s (DriverDown u) m = omega arith
-given_few c s (Tick seconds) m = omega arith
-given_few c s (Open address) m = omega arith
-given_few c s (Feed d piece) m = fed_by c d s piece m (eqb d c) refl
-given_few c s (Took d n) m =
-    let few = may_by (cond (eqb d c) (executions_until (without_output s d n) d m) []) (may_take (session d s) n) (length (held c s)) (taken_by c d s n m (eqb d c) refl) in
-    omega (arith, few)
-given_few c s (Close d) m = omega arith
+given_few c s e m =
+    of_event (λ e. length (given_by c s e m) ≤ length (held c s) + length (asked_in_event c s e))
+    (λ e silent. subst (λ (xs : List Execution). length xs ≤ length (held c s) + length (asked_in_event c s e)) (sym (silent.gives c s m)) (omega arith))
+    (λ d piece. fed_by c d s piece m (eqb d c) refl)
+    (λ d n. let few = may_by (cond (eqb d c) (executions_until (without_output s d n) d m) []) (may_take (session d s) n) (length (held c s)) (taken_by c d s n m (eqb d c) refl) in omega (arith, few)) e
 
 -- and in all
 held_sound : (s : ServerState) (c : ℕ) → IsSound s → (o : Option SessionState) → session c s ≡ o → length (held_of o) ≤ HELD_LIMIT
@@ -140,21 +135,10 @@ accepted_few (Some x) piece le = few_by x.ending
 
 all_few : (s : ServerState) (e : Event) (m : Option ℕ) → IsSound s → length (executions_by s e m) ≤ HELD_LIMIT
 unfolding executions_by
-all_few s (DriverUp u) m h = omega arith
-all_few s (DriverBytes u piece) m h = omega arith
-all_few s (DriverTook u n) m h = omega arith
-all_few s (DriverDown u) m h = omega arith
-all_few s (Tick seconds) m h = omega arith
-all_few s (Open address) m h = omega arith
-all_few s (Feed c piece) m h =
-    let few = feed_few c s piece m in
-    let held = accepted_few (session c s) piece (held_sound s c h (session c s) refl) in
-    omega (arith, few, held)
-all_few s (Took c n) m h =
-    let few = took_few c s n m in
-    let held = held_sound s c h (session c s) refl in
-    may_by (executions_until (without_output s c n) c m) (may_take (session c s) n) HELD_LIMIT (omega (arith, few, held))
-all_few s (Close c) m h = omega arith
+all_few s e m h =
+    of_event (λ e. length (executions_by s e m) ≤ HELD_LIMIT) (λ e silent. subst (λ (xs : List Execution). length xs ≤ HELD_LIMIT) (sym (silent.executes s m)) (omega arith))
+    (λ c piece. let few = feed_few c s piece m in let held = accepted_few (session c s) piece (held_sound s c h (session c s) refl) in omega (arith, few, held))
+    (λ c n. let few = took_few c s n m in let held = held_sound s c h (session c s) refl in may_by (executions_until (without_output s c n) c m) (may_take (session c s) n) HELD_LIMIT (omega (arith, few, held))) e
 
 -- what a client took was offered
 took_offered : (o : Option SessionState) (n : ℕ) (b : Bool) → may_take o n ≡ b → length (cond b (take n (owed_of o)) []) ≤ length (offered o)
@@ -173,15 +157,9 @@ took_of c d s n false e may other = omega arith
 
 taken_few : (c : ℕ) (s : ServerState) (e : Event) → length (taken_in_event c s e) ≤ length (offered (session c s))
 unfolding taken_in_event
-taken_few c s (DriverUp u) = omega arith
-taken_few c s (DriverBytes u piece) = omega arith
-taken_few c s (DriverTook u n) = omega arith
-taken_few c s (DriverDown u) = omega arith
-taken_few c s (Tick seconds) = omega arith
-taken_few c s (Open address) = omega arith
-taken_few c s (Feed d piece) = omega arith
-taken_few c s (Took d n) = took_of c d s n (may_take (session d s) n) (eqb d c) refl refl
-taken_few c s (Close d) = omega arith
+taken_few c s e =
+    of_event (λ e. length (taken_in_event c s e) ≤ length (offered (session c s))) (λ e silent. subst (λ (bytes : List ℕ). length bytes ≤ length (offered (session c s))) (sym (silent.takes c s)) (omega arith))
+    (λ d piece. omega arith) (λ d n. took_of c d s n (may_take (session d s) n) (eqb d c) refl refl) e
 
 -- a ring's worth of bytes is placed, and each line that is rendered has a byte of it
 record FewIn (cost : Cost) : Type 0 where
@@ -200,15 +178,10 @@ client_few before after taken le few =
     }
 
 cost_few : (old new : ServerState) (e : Event) → FewIn (cost_of old e new)
-cost_few old new (DriverUp u) = none_few
-cost_few old new (DriverBytes u piece) = none_few
-cost_few old new (DriverTook u n) = none_few
-cost_few old new (DriverDown u) = none_few
-cost_few old new (Tick seconds) = none_few
-cost_few old new (Open address) = none_few
-cost_few old new (Feed c piece) = client_few _ _ _ (taken_few c old (Feed c piece)) (omega (arith, length-take RING_LIMIT (owed_of (session c new))))
-cost_few old new (Took c n) = client_few _ _ _ (taken_few c old (Took c n)) (omega (arith, length-take RING_LIMIT (owed_of (session c new))))
-cost_few old new (Close c) = none_few
+cost_few old new e =
+    of_event (λ e. FewIn (cost_of old e new)) (λ e silent. subst FewIn (sym (silent.costs old new)) none_few)
+    (λ c piece. client_few _ _ _ (taken_few c old (Feed c piece)) (omega (arith, length-take RING_LIMIT (owed_of (session c new)))))
+    (λ c n. client_few _ _ _ (taken_few c old (Took c n)) (omega (arith, length-take RING_LIMIT (owed_of (session c new))))) e
 
 pub bounded : EachEventIsBounded
 bounded old new e o step h = record {

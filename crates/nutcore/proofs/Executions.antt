@@ -3,7 +3,6 @@ use Rattle.std.proofs.Common.{◌≡◌, ℕ, zero, suc, ◌+◌, ◌<◌, Bool,
 use Rattle.std.specs.Prelude.{All}
 use Rattle.std.proofs.lemmas.Bool.{cond-true, cond-false, eqb-true, eq-eqb}
 use Rattle.nutcore.specs.declared.event.Event.{Event}
-use Rattle.nutcore.specs.declared.event.Event.TheVariants.{DriverUp, DriverBytes, DriverTook, DriverDown, Tick, Open, Feed, Took, Close}
 use Rattle.nutcore.specs.declared.event.Outcome.{Outcome}
 use Rattle.nutcore.specs.Server.{ServerState, session}
 use Rattle.nutcore.specs.Pump.{next_line_for, after_line, after_lines, is_overlong, after_all_lines}
@@ -11,6 +10,7 @@ use Rattle.nutcore.specs.Step.{Step, after, refused_after, may_take, with_input,
 use Rattle.nutcore.specs.Run.{Run}
 use Rattle.nutcore.specs.History.{Execution, of_line, of_notice, client_of, next_execution, lines_executed, pump_executions, executions_until, executions_by, executions, of_client}
 use Rattle.nutcore.specs.Headline.{IsInPump, IsInEvent, IsTimely, EachAnswerIsTimely}
+use Rattle.nutcore.proofs.Events.{given_by, of_event}
 use Rattle.nutcore.proofs.Loops.{after_lines-suc}
 
 -- this holds of each of them
@@ -69,29 +69,12 @@ of_client_when : (c : ℕ) (xs : List Execution) (ys : List Execution) (b : Bool
 of_client_when c xs ys true e = e
 of_client_when c xs ys false e = refl
 
--- what one client executes in an event
-unfoldable pub given_by : ℕ → ServerState → Event → Option ℕ → List Execution
-given_by c s (DriverUp u) m = []
-given_by c s (DriverBytes u piece) m = []
-given_by c s (DriverTook u n) m = []
-given_by c s (DriverDown u) m = []
-given_by c s (Tick seconds) m = []
-given_by c s (Open address) m = []
-given_by c s (Feed d piece) m = cond (eqb d c) (executions_until (with_input s d piece) d m) []
-given_by c s (Took d n) m = cond (may_take (session d s) n) (cond (eqb d c) (executions_until (without_output s d n) d m) []) []
-given_by c s (Close d) m = []
-
 pub given_is : (c : ℕ) (s : ServerState) (e : Event) (m : Option ℕ) → of_client c (executions_by s e m) ≡ given_by c s e m
 unfolding given_by executions_by
-given_is c s (DriverUp u) m = refl
-given_is c s (DriverBytes u piece) m = refl
-given_is c s (DriverTook u n) m = refl
-given_is c s (DriverDown u) m = refl
-given_is c s (Tick seconds) m = refl
-given_is c s (Open address) m = refl
-given_is c s (Feed d piece) m = of_client_by c d (executions_until (with_input s d piece) d m) (eqb d c) refl (until_of d (with_input s d piece) m)
-given_is c s (Took d n) m = of_client_when c (executions_until (without_output s d n) d m) _ (may_take (session d s) n) (of_client_by c d (executions_until (without_output s d n) d m) (eqb d c) refl (until_of d (without_output s d n) m))
-given_is c s (Close d) m = refl
+given_is c s e m =
+    of_event (λ e. of_client c (executions_by s e m) ≡ given_by c s e m) (λ e silent. ap (of_client c) (silent.executes s m) ∙ sym (silent.gives c s m))
+    (λ d piece. of_client_by c d (executions_until (with_input s d piece) d m) (eqb d c) refl (until_of d (with_input s d piece) m))
+    (λ d n. of_client_when c (executions_until (without_output s d n) d m) _ (may_take (session d s) n) (of_client_by c d (executions_until (without_output s d n) d m) (eqb d c) refl (until_of d (without_output s d n) m))) e
 
 -- each line is executed at its moment
 pump_line : (begun : ServerState) (c k : ℕ) (s : ServerState) (j : ℕ) → s ≡ after_lines j begun c → Each (IsInPump begun c) (lines_executed k s c)
@@ -116,15 +99,9 @@ when_each P xs false each = none_left
 
 event_timely : (s : ServerState) (e : Event) (m : Option ℕ) → Each (IsInEvent s e) (executions_by s e m)
 unfolding executions_by
-event_timely s (DriverUp u) m = none_left
-event_timely s (DriverBytes u piece) m = none_left
-event_timely s (DriverTook u n) m = none_left
-event_timely s (DriverDown u) m = none_left
-event_timely s (Tick seconds) m = none_left
-event_timely s (Open address) m = none_left
-event_timely s (Feed c piece) m = until_timely (with_input s c piece) c m
-event_timely s (Took c n) m = when_each (IsInPump (without_output s c n) c) (executions_until (without_output s c n) c m) (may_take (session c s) n) (until_timely (without_output s c n) c m)
-event_timely s (Close c) m = none_left
+event_timely s e m =
+    of_event (λ e. Each (IsInEvent s e) (executions_by s e m)) (λ e silent. subst (Each (IsInEvent s e)) (sym (silent.executes s m)) none_left) (λ c piece. until_timely (with_input s c piece) c m)
+    (λ c n. when_each (IsInPump (without_output s c n) c) (executions_until (without_output s c n) c m) (may_take (session c s) n) (until_timely (without_output s c n) c m)) e
 
 each_more : (P Q : Execution → Type 0) → ((x : Execution) → P x → Q x) → (xs : List Execution) → Each P xs → Each Q xs
 each_more P Q f _ none_left = none_left

@@ -22,6 +22,7 @@ use Rattle.nutcore.specs.Pump.{next_line_for, answered, after_line, after_reply,
 use Rattle.nutcore.specs.Step.{joined, with_input, taken_from, without_output, may_take, may_open, opened, pumped_until, after_by, refused_after, outcome_of, connected, disconnected, after_driver_text, after_driver_bytes, after_driver_took, connected_by, driver_bytes_by, driver_text_outcome, driver_took_by, disconnected_by, fed_by, took_by, closed_by, accepted}
 use Rattle.nutcore.specs.Isolation.{client_of, ups_of, without_commands, kept_from_clients, LeavesOtherClients, LeavesOtherUpses, AClientTouchesNoOther, ADriverTouchesNoOther, ARefusedEventChangesNothing, ARefusedEventCostsNothing}
 use Rattle.nutcore.specs.Cost.{cost_of, no_cost}
+use Rattle.nutcore.proofs.Events.{of_event}
 use Rattle.nutcore.proofs.Changed.{by_change}
 use Rattle.nutcore.proofs.Costs.{refused_feed_costs, refused_take_costs}
 use Rattle.nutcore.proofs.DriverText.{ups_after_bytes, bytes_change}
@@ -257,15 +258,9 @@ may_of (Some x) n b h = may_none x n b (may_take (Some x) n) refl h
 
 free : (s : ServerState) (e : Event) → refusal (outcome_of s e) ≤ 6 → no_cost ≡ cost_of s e s
 unfolding outcome_of
-free s (DriverUp u) h = refl
-free s (DriverBytes u piece) h = refl
-free s (DriverTook u n) h = refl
-free s (DriverDown u) h = refl
-free s (Tick seconds) h = refl
-free s (Open address) h = refl
-free s (Feed c piece) h = refused_feed_costs s s c piece refl
-free s (Took c n) h = refused_take_costs s s c n refl (may_of (session c s) n (is_overlong (after_all_lines (without_output s c n) c) c) h)
-free s (Close c) h = refl
+free s e =
+    of_event (λ e. refusal (outcome_of s e) ≤ 6 → no_cost ≡ cost_of s e s) (λ e silent h. sym (silent.costs s s)) (λ c piece h. refused_feed_costs s s c piece refl)
+    (λ c n h. refused_take_costs s s c n refl (may_of (session c s) n (is_overlong (after_all_lines (without_output s c n) c) c) h)) e
 
 pub refused_free : ARefusedEventCostsNothing
 refused_free old new e fault step h =

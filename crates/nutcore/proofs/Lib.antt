@@ -7,6 +7,7 @@ mod Pumping
 mod Stepping
 mod Loops
 mod Least
+mod Events
 mod Executions
 mod Timely
 mod HeldFrames

@@ -1,7 +1,6 @@
 -- What was not so before a run and is so after it became so by one of the lines that the run executed.
 use Rattle.std.proofs.Common.{◌≡◌, ℕ, zero, suc, Bool, true, false, List, [], ◌∷◌, ◌++◌, Option, Some, None, refl, sym, ◌∙◌, ap, subst, cond, append_assoc, append-nil, length}
 use Rattle.nutcore.specs.declared.event.Event.{Event}
-use Rattle.nutcore.specs.declared.event.Event.TheVariants.{DriverUp, DriverBytes, DriverTook, DriverDown, Tick, Open, Feed, Took, Close}
 use Rattle.nutcore.specs.declared.event.Outcome.{Outcome}
 use Rattle.nutcore.specs.Server.{ServerState, session}
 use Rattle.nutcore.specs.Pump.{next_line_for, after_line, after_lines, after_all_lines, after_notice, is_overlong, pumped, held_of}
@@ -9,19 +8,8 @@ use Rattle.nutcore.specs.Step.{after, after_by, refused_after, may_take, with_in
 use Rattle.nutcore.specs.Run.{Run}
 use Rattle.nutcore.specs.History.{Execution, of_line, of_notice, next_execution, lines_executed, notice, pump_executions, executions_until, executions_by, executions_in_event, executions}
 use Rattle.nutcore.specs.ByRight.{IsAmong}
+use Rattle.nutcore.proofs.Events.{IsPlain, of_event}
 use Rattle.nutcore.proofs.Pumping.{stopped_none}
-
--- an event that executes no line
-abbrev pub IsPlain : Event → Type 0
-IsPlain (DriverUp u) = Unit {0}
-IsPlain (DriverBytes u piece) = Unit {0}
-IsPlain (DriverTook u n) = Unit {0}
-IsPlain (DriverDown u) = Unit {0}
-IsPlain (Tick seconds) = Unit {0}
-IsPlain (Open address) = Unit {0}
-IsPlain (Feed c piece) = ⊥
-IsPlain (Took c n) = ⊥
-IsPlain (Close c) = Unit {0}
 
 -- a mark that lines alone may set, each line that sets it being so
 pub record IsSetByLines (mark : ServerState → Bool) (P : Execution → Type 0) : Type 0 where
@@ -147,15 +135,9 @@ module _ (mark : ServerState → Bool) (P : Execution → Type 0) (h : IsSetByLi
 
   event_leads : (s : ServerState) (e : Event) (m : Option ℕ) → Leads s (executions_by s e m) (after_by s e m)
   unfolding executions_by after_by
-  event_leads s (DriverUp u) m = quiet s _ (h.by_plain s (DriverUp u) m tt)
-  event_leads s (DriverBytes u piece) m = quiet s _ (h.by_plain s (DriverBytes u piece) m tt)
-  event_leads s (DriverTook u n) m = quiet s _ (h.by_plain s (DriverTook u n) m tt)
-  event_leads s (DriverDown u) m = quiet s _ (h.by_plain s (DriverDown u) m tt)
-  event_leads s (Tick seconds) m = quiet s _ (h.by_plain s (Tick seconds) m tt)
-  event_leads s (Open address) m = quiet s _ (h.by_plain s (Open address) m tt)
-  event_leads s (Feed c piece) m = from s (with_input s c piece) _ _ (h.by_input s c piece) (until_leads (with_input s c piece) c m)
-  event_leads s (Took c n) m = from_output s c n m (may_take (session c s) n)
-  event_leads s (Close c) m = quiet s _ (h.by_plain s (Close c) m tt)
+  event_leads s e m =
+      of_event (λ e. Leads s (executions_by s e m) (after_by s e m)) (λ e silent. subst (λ (xs : List Execution). Leads s xs (after_by s e m)) (sym (silent.executes s m)) (quiet s _ (h.by_plain s e m silent.plain)))
+      (λ c piece. from s (with_input s c piece) _ _ (h.by_input s c piece) (until_leads (with_input s c piece) c m)) (λ c n. from_output s c n m (may_take (session c s) n)) e
 
   run_leads : (s t : ServerState) (es : List Event) (os : List Outcome) → Run s es os t → Leads s (executions s es os) t
   run_leads s t [] [] r = quiet s t (λ e. ap mark r ∙ e)

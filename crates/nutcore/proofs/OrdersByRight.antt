@@ -1,7 +1,6 @@
 -- The orders that a run told are those of its lines that are by right.
-use Rattle.std.proofs.Common.{◌≡◌, ◌∙◌, append_assoc, ℕ, Bool, true, false, not, ◌&&◌, List, [], ◌∷◌, ◌++◌, Option, Some, Result, Ok, refl, sym, ap, subst, cond, eqb, inl, inr}
+use Rattle.std.proofs.Common.{◌≡◌, ◌∙◌, append_assoc, ℕ, Bool, true, false, List, [], ◌∷◌, ◌++◌, Option, Some, Result, Ok, refl, sym, ap, subst, cond, eqb, inl, inr}
 use Rattle.std.specs.List.{flat_map}
-use Rattle.std.specs.Option.{option_map_or}
 use Rattle.std.proofs.lemmas.Bool.{eqb-true, eq-eqb}
 use Rattle.arrayvec.specs.ArrayVec.{ArrayVec}
 use Rattle.nutusers.specs.declared.ups_list.UpsId.{UpsId}
@@ -14,16 +13,14 @@ use Rattle.nutanswer.specs.Checks.{KnownUps}
 use Rattle.nutanswer.specs.Orders.{set_line, instcmd_line, order as order_to}
 use Rattle.nutanswer.specs.Answer.{answer_to, change_of_answer}
 use Rattle.nutcore.specs.declared.event.Event.{Event}
-use Rattle.nutcore.specs.declared.event.Event.TheVariants.{DriverUp, DriverBytes, DriverTook, DriverDown, Tick, Open, Feed, Took, Close}
 use Rattle.nutcore.specs.declared.event.Outcome.{Outcome}
-use Rattle.nutcore.specs.Ups.{ping_is_due}
-use Rattle.nutcore.specs.Server.{ServerState, ups_at}
+use Rattle.nutcore.specs.Server.{ServerState}
 use Rattle.nutcore.specs.Reply.{seen, asker, change_by, text_to}
 use Rattle.nutcore.specs.Step.{after}
 use Rattle.nutcore.specs.History.{Execution, of_line, of_notice, executions_in_event, executions}
-use Rattle.nutcore.specs.DriverHistory.{has_driver}
-use Rattle.nutcore.specs.DriverOrders.{Telling, dump_all, ping, order, told_by_change, told_by_line, told_beside_lines, told_in_event, moment_of, taken_in_event, is_lost_by, Connections, last, lost, with_front, in_front, connections}
+use Rattle.nutcore.specs.DriverOrders.{Telling, dump_all, ping, order, told_by_change, told_by_line, told_beside_lines, told_in_event, taken_in_event, is_lost_by, Connections, last, lost, with_front, in_front, connections}
 use Rattle.nutcore.specs.OrdersByRight.{IsSetByRight, IsCommandedByRight, IsOrderByRight, AreOrdersByRight, none_left, given, passed_over, order_of, all_told, orders_told, EachOrderIsByRight}
+use Rattle.nutcore.proofs.Events.{of_told_beside}
 use Rattle.nutcore.proofs.Changes.{of_upses}
 use Rattle.nutcore.proofs.DriverOrders.{flat_both}
 use Rattle.nutanswer.proofs.PublicLaws.{each_order_answered_ok_is_given}
@@ -118,15 +115,7 @@ if_no_order true t e = ap (λ (z : List (List ℕ)). z ++ []) e
 if_no_order false t e = refl
 
 beside_no_order : (u : UpsId) (s : ServerState) (e : Event) → flat_map order_of (told_beside_lines u s e) ≡ []
-beside_no_order u s (DriverUp v) = if_no_order (eqb v.place u.place && not (has_driver u s)) dump_all refl
-beside_no_order u s (DriverBytes v piece) = refl
-beside_no_order u s (DriverTook v n) = refl
-beside_no_order u s (DriverDown v) = refl
-beside_no_order u s (Tick seconds) = if_no_order (option_map_or (ping_is_due s.max_age (moment_of s seconds)) (ups_at u.place s) false) ping refl
-beside_no_order u s (Open address) = refl
-beside_no_order u s (Feed c piece) = refl
-beside_no_order u s (Took c n) = refl
-beside_no_order u s (Close c) = refl
+beside_no_order u s e = of_told_beside u s (λ told. flat_map order_of told ≡ []) refl (λ b. if_no_order b dump_all refl) (λ b. if_no_order b ping refl) e
 
 front_told : (told : List Telling) (taken : List ℕ) (later : Connections) → all_told (with_front told taken later) ≡ told ++ all_told later
 front_told told taken (last now) = refl

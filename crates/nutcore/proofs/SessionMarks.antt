@@ -4,18 +4,17 @@ use Rattle.std.specs.Option.{option_map_or}
 use Rattle.std.proofs.lemmas.Bool.{eqb-true, eqb-false}
 use Rattle.nutanswer.specs.declared.reply.Change.{Change}
 use Rattle.nutcore.specs.declared.event.Event.{Event}
-use Rattle.nutcore.specs.declared.event.Event.TheVariants.{DriverUp, DriverBytes, DriverTook, DriverDown, Tick, Open, Feed, Took, Close}
 use Rattle.nutcore.specs.Session.{SessionState, find, put, without, new_session}
 use Rattle.nutcore.specs.Server.{ServerState, session, with_session_changed}
 use Rattle.nutcore.specs.Reply.{reply, changed_session}
 use Rattle.nutcore.specs.Pump.{next_line_for, answered, after_line, after_notice, notified, with_notice}
-use Rattle.nutcore.specs.Step.{after_by, accepted_bytes, joined, with_input, taken_from, without_output, opened, may_open, ticked}
+use Rattle.nutcore.specs.Step.{after_by, accepted_bytes, joined, with_input, taken_from, without_output, opened, may_open}
 use Rattle.nutcore.specs.History.{Execution, of_line, of_notice}
 use Rattle.nutcore.proofs.Changed.{by_change, either_notice, notice_id}
-use Rattle.nutcore.proofs.DriverText.{bytes_change}
 use Rattle.nutcore.proofs.Found.{find_id, find_put, find_put_other, find_without, find_without_other}
 use Rattle.nutcore.proofs.Pumping.{is_next, after_line_is, change_at, session_after, session_after_id}
-use Rattle.nutcore.proofs.Marks.{IsSetByLines, IsPlain, no_mark}
+use Rattle.nutcore.proofs.Events.{IsPlain, of_session_event}
+use Rattle.nutcore.proofs.Marks.{IsSetByLines, no_mark}
 
 -- a mark of a session that only a change sets, which this then holds of
 pub record IsSessionMark (mark : SessionState → Bool) (IsSet : Change → Type 0) : Type 0 where
@@ -98,16 +97,10 @@ module _ (mark : SessionState → Bool) (IsSet : Change → Type 0) (is : IsSess
   closed_by c s d false e h = ap (marked_of) (find_without_other c d s.sessions (λ (k : c ≡ d). eqb-false c d e k)) ∙ h
 
   by_plain : (c : ℕ) (s : ServerState) (e : Event) (m : Option ℕ) → IsPlain e → is_marked c s ≡ false → is_marked c (after_by s e m) ≡ false
-  unfolding after_by ticked
-  by_plain c s (DriverUp v) m plain h = h
-  by_plain c s (DriverBytes v piece) m plain h = ap (is_marked c) (bytes_change v piece m s) ∙ h
-  by_plain c s (DriverTook v n) m plain h = h
-  by_plain c s (DriverDown v) m plain h = h
-  by_plain c s (Tick seconds) m plain h = h
-  by_plain c s (Open address) m plain h = opened_by c s address m h
-  by_plain c s (Feed d piece) m plain h = absurd plain
-  by_plain c s (Took d n) m plain h = absurd plain
-  by_plain c s (Close d) m plain h = closed_by c s d (eqb c d) refl h
+  unfolding after_by
+  by_plain c s e m =
+      of_session_event (λ e. IsPlain e → is_marked c s ≡ false → is_marked c (after_by s e m) ≡ false) (λ e apart plain h. ap (λ (xs : List SessionState). marked_of (find c xs)) (apart.sessions s m) ∙ h)
+      (λ address plain h. opened_by c s address m h) (λ d piece plain h. absurd plain) (λ d n plain h. absurd plain) (λ d plain h. closed_by c s d (eqb c d) refl h) e
 
   -- the line of this client changes what sets the mark
   abbrev pub SetsMark : ℕ → Execution → Type 0

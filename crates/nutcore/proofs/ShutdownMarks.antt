@@ -26,7 +26,8 @@ use Rattle.nutcore.proofs.Changes.{of_upses as of_changed_upses}
 use Rattle.nutcore.proofs.DriverText.{ups_after_text, ups_after_bytes, bytes_change}
 use Rattle.nutcore.proofs.Pumping.{is_next, after_line_is, change_at}
 use Rattle.nutcore.proofs.Rows.{comes_of_line, by_right}
-use Rattle.nutcore.proofs.Marks.{IsPlain, run_sets, no_mark}
+use Rattle.nutcore.proofs.Events.{IsPlain}
+use Rattle.nutcore.proofs.Marks.{run_sets, no_mark}
 
 -- the forced shutdown of the UPS at a place
 abbrev fsd_at : ℕ → List UpsState → Bool

@@ -8,19 +8,18 @@ use Rattle.std.specs.List.{flat_map}
 use Rattle.std.proofs.lemmas.Grind.{flat_map-append}
 use Rattle.std.proofs.lemmas.List.Elements.{filter-append}
 use Rattle.nutcore.specs.declared.event.Event.{Event}
-use Rattle.nutcore.specs.declared.event.Event.TheVariants.{DriverUp, DriverBytes, DriverTook, DriverDown, Tick, Open, Feed, Took, Close}
 use Rattle.nutcore.specs.declared.event.Outcome.{Outcome}
 use Rattle.nutcore.specs.Session.{SessionState, find, without, new_session}
 use Rattle.nutcore.specs.Server.{ServerState, session}
 use Rattle.nutcore.specs.Pump.{owed_of}
-use Rattle.nutcore.specs.Step.{accepted_bytes, joined, with_input, taken_from, without_output, may_take, may_open, pumped_until, opened, ticked, after_by, after, refused_after}
+use Rattle.nutcore.specs.Step.{accepted_bytes, joined, with_input, taken_from, without_output, may_take, may_open, pumped_until, opened, after_by, after, refused_after}
 use Rattle.nutcore.specs.Run.{Run}
 use Rattle.nutcore.specs.History.{Execution, client_of, executions_until, executions_in_event, executions, of_client, taken_in_event, asked_in_event, answers, taken, asked, executed, texts_of, lines_of, text_of, line_of}
 use Rattle.nutcore.specs.Headline.{IsLawful, SentAndOwed, TakenUp}
-use Rattle.nutcore.proofs.DriverText.{bytes_change}
 use Rattle.nutcore.proofs.Changed.{at_client, presence_changed, presence_other}
 use Rattle.nutcore.proofs.Progress.{Presence, presence, Progress, IsKept, joins, stays, moves, closes, opens}
-use Rattle.nutcore.proofs.Executions.{given_by, given_is}
+use Rattle.nutcore.proofs.Events.{given_by, IsApart, of_session_event}
+use Rattle.nutcore.proofs.Executions.{given_is}
 use Rattle.nutcore.proofs.Found.{find_without, find_without_other, find_last, find_last_other}
 use Rattle.nutcore.proofs.Pumping.{progress_at, progress_with, lines_go, lines_other, pump_goes, pump_other}
 
@@ -199,16 +198,19 @@ close_by c d s false other kept =
 -- one event
 given_goes : (c : ℕ) (s : ServerState) (e : Event) (m : Option ℕ) → IsKept (presence c s) →
     Progress (presence c s) (texts_of (given_by c s e m)) (taken_in_event c s e) (asked_in_event c s e) (lines_of (given_by c s e m)) (presence c (after_by s e m))
-unfolding given_by taken_in_event asked_in_event after_by ticked
-given_goes c s (DriverUp u) m kept = stays (presence c s)
-given_goes c s (DriverBytes u piece) m kept = subst (λ (t : ServerState). Progress (presence c s) [] [] [] [] (presence c t)) (sym (bytes_change u piece m s)) (stays (presence c s))
-given_goes c s (DriverTook u n) m kept = stays (presence c s)
-given_goes c s (DriverDown u) m kept = stays (presence c s)
-given_goes c s (Tick seconds) m kept = stays (presence c s)
-given_goes c s (Open address) m kept = open_goes c s address m kept
-given_goes c s (Feed d piece) m kept = feed_by c d s piece m (eqb d c) refl
-given_goes c s (Took d n) m kept = took_may c d s n m (may_take (session d s) n) refl
-given_goes c s (Close d) m kept = close_by c d s (eqb d c) refl kept
+unfolding given_by taken_in_event asked_in_event after_by
+given_goes c s e m =
+    of_session_event (λ e. IsKept (presence c s) → Progress (presence c s) (texts_of (given_by c s e m)) (taken_in_event c s e) (asked_in_event c s e) (lines_of (given_by c s e m)) (presence c (after_by s e m)))
+    (λ e apart kept. goes_apart e apart) (λ address. open_goes c s address m) (λ d piece kept. feed_by c d s piece m (eqb d c) refl) (λ d n kept. took_may c d s n m (may_take (session d s) n) refl) (λ d. close_by c d s (eqb d c) refl) e
+  where
+    goes_apart : (e : Event) → IsApart e → Progress (presence c s) (texts_of (given_by c s e m)) (taken_in_event c s e) (asked_in_event c s e) (lines_of (given_by c s e m)) (presence c (after_by s e m))
+    goes_apart e apart =
+        let t : ServerState = after_by s e m in
+        let same : presence c t ≡ presence c s =
+        ap (λ (xs : List SessionState). let p : Presence = record { session = find c xs; used = ltb c t.next_id } in p) (apart.sessions s m)
+        ∙ ap (λ (n : ℕ). let p : Presence = record { session = session c s; used = ltb c n } in p) (apart.next_id s m) in
+        progress_at (presence c s) (presence c s) (presence c t) (presence c s) _ _ _ _ refl same
+        (progress_with (presence c s) (presence c s) _ [] _ [] _ [] _ [] (ap texts_of (apart.silent.gives c s m)) (apart.silent.takes c s) (apart.silent.asks c s) (ap lines_of (apart.silent.gives c s m)) (stays (presence c s)))
 
 event_goes : (c : ℕ) (s : ServerState) (e : Event) (o : Outcome) → IsKept (presence c s) →
     let ds : List Execution = of_client c (executions_in_event s e o) in

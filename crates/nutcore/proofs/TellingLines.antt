@@ -1,8 +1,7 @@
 -- What a driver is told is whole lines.
-use Rattle.std.proofs.Common.{◌≡◌, ◌∙◌, ◌+◌, ◌*◌, ◌≤◌, ℕ, Bool, true, false, not, ◌&&◌, List, [], ◌∷◌, ◌++◌, Option, Some, None, refl, sym, ap, subst, cond, eqb, length, length-append, arith, inl, inr}
+use Rattle.std.proofs.Common.{◌≡◌, ◌∙◌, ◌+◌, ◌*◌, ◌≤◌, ℕ, Bool, true, false, List, [], ◌∷◌, ◌++◌, Option, Some, None, refl, sym, ap, subst, cond, eqb, length, length-append, arith, inl, inr}
 use Rattle.std.specs.Prelude.{IsTrue, codes, ◌||◌}
 use Rattle.std.specs.List.{flat_map, list_all}
-use Rattle.std.specs.Option.{option_map_or}
 use Rattle.std.proofs.lemmas.Bool.{and_from, and_parts, eqb-true}
 use Rattle.std.proofs.lemmas.Bool.Decides.{nat_tests}
 use Rattle.std.proofs.lemmas.List.Folds.{list_all-append}
@@ -18,18 +17,16 @@ use Rattle.nutanswer.specs.declared.reply.Change.TheVariants as changes
 use Rattle.nutanswer.specs.Command.{read_command}
 use Rattle.nutanswer.specs.Orders.{set_line, instcmd_line}
 use Rattle.nutcore.specs.declared.event.Event.{Event}
-use Rattle.nutcore.specs.declared.event.Event.TheVariants.{DriverUp, DriverBytes, DriverTook, DriverDown, Tick, Open, Feed, Took, Close}
 use Rattle.nutcore.specs.declared.event.Outcome.{Outcome}
-use Rattle.nutcore.specs.Ups.{ping_is_due}
-use Rattle.nutcore.specs.Server.{ServerState, ups_at}
+use Rattle.nutcore.specs.Server.{ServerState}
 use Rattle.nutcore.specs.Reply.{change_by}
 use Rattle.nutcore.specs.Step.{after}
 use Rattle.nutcore.specs.History.{Execution, of_line, of_notice, executions_in_event}
 use Rattle.nutcore.specs.Sound.{Each}
-use Rattle.nutcore.specs.DriverHistory.{has_driver}
-use Rattle.nutcore.specs.DriverOrders.{Telling, dump_all, ping, order, text_of, told_by_change, told_by_line, told_beside_lines, told_in_event, moment_of, taken_in_event, is_lost_by, connections}
+use Rattle.nutcore.specs.DriverOrders.{Telling, dump_all, ping, order, text_of, told_by_change, told_by_line, told_beside_lines, told_in_event, taken_in_event, is_lost_by, connections}
 use Rattle.nutcore.specs.OrdersByRight.{IsOrderByRight, all_told}
 use Rattle.nutcore.specs.TellingLines.{IsSpelled, asks_for_all, asks_whether_there, sets, commands, commands_with, IsLineToDriver, EachTellingIsAWholeLine}
+use Rattle.nutcore.proofs.Events.{of_told_beside}
 use Rattle.nutcore.proofs.Changes.{of_upses}
 use Rattle.nutcore.proofs.FirstLine.{with_byte}
 use Rattle.nutcore.proofs.SoundUps.{each_join}
@@ -152,15 +149,7 @@ if_tells true told h = (tells told h, tt)
 if_tells false told h = tt
 
 beside_tells : (u : UpsId) (s : ServerState) (e : Event) → Each IsLineToDriver (told_beside_lines u s e)
-beside_tells u s (DriverUp v) = if_tells (eqb v.place u.place && not (has_driver u s)) dump_all asks_for_all
-beside_tells u s (DriverBytes v piece) = tt
-beside_tells u s (DriverTook v n) = tt
-beside_tells u s (DriverDown v) = tt
-beside_tells u s (Tick seconds) = if_tells (option_map_or (ping_is_due s.max_age (moment_of s seconds)) (ups_at u.place s) false) ping asks_whether_there
-beside_tells u s (Open address) = tt
-beside_tells u s (Feed c piece) = tt
-beside_tells u s (Took c n) = tt
-beside_tells u s (Close c) = tt
+beside_tells u s e = of_told_beside u s (Each IsLineToDriver) tt (λ b. if_tells b dump_all asks_for_all) (λ b. if_tells b ping asks_whether_there) e
 
 event_tells : (u : UpsId) (s : ServerState) (e : Event) (o : Outcome) → Each IsLineToDriver (told_in_event u s e o)
 event_tells u s e o = each_join IsLineToDriver (told_beside_lines u s e) (flat_map (told_by_line u) (executions_in_event s e o)) (beside_tells u s e) (lines_tell u (executions_in_event s e o))

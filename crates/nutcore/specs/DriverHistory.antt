@@ -8,7 +8,7 @@ use Rattle.nutusers.specs.declared.ups_list.UpsId.{UpsId}
 use Rattle.nutdriver.specs.declared.report.Report.{Report}
 use Rattle.nutdriver.specs.Report.{after_line}
 use Rattle.nutcore.specs.declared.event.Event.{Event}
-use Rattle.nutcore.specs.declared.event.Event.TheVariants.{DriverUp, DriverBytes, DriverTook, DriverDown, Tick, Open, Feed, Took, Close}
+use Rattle.nutcore.specs.declared.event.Event.TheVariants.{DriverBytes}
 use Rattle.nutcore.specs.declared.event.Outcome.{Outcome}
 use Rattle.nutcore.specs.Lines.{with_lf, whole_lines}
 use Rattle.nutcore.specs.Ups.{UpsState}
@@ -38,15 +38,8 @@ pub record IsWholeLine (x : Heard) : Type 0 where
 
 -- What came from the driver of this UPS in an event, and in a run.
 abbrev pub came_in_event : UpsId → Event → List ℕ
-came_in_event u (DriverUp v) = []
 came_in_event u (DriverBytes v piece) = if v.place == u.place then piece else []
-came_in_event u (DriverTook v n) = []
-came_in_event u (DriverDown v) = []
-came_in_event u (Tick seconds) = []
-came_in_event u (Open address) = []
-came_in_event u (Feed c piece) = []
-came_in_event u (Took c n) = []
-came_in_event u (Close c) = []
+came_in_event u _ = []
 
 abbrev pub came : UpsId → List Event → List ℕ
 came u [] = []

@@ -3,7 +3,7 @@ use Rattle.std.specs.Prelude.{ℕ, zero, suc, Bool, false, List, [], ◌∷◌, 
 use Rattle.std.specs.List.{filter, flat_map}
 use Rattle.std.specs.Option.{option_map_or}
 use Rattle.nutcore.specs.declared.event.Event.{Event}
-use Rattle.nutcore.specs.declared.event.Event.TheVariants.{DriverUp, DriverBytes, DriverTook, DriverDown, Tick, Open, Feed, Took, Close}
+use Rattle.nutcore.specs.declared.event.Event.TheVariants.{Feed, Took}
 use Rattle.nutcore.specs.declared.event.Outcome.{Outcome}
 use Rattle.nutcore.specs.Lines.{with_lf}
 use Rattle.nutcore.specs.Server.{ServerState, session}
@@ -54,15 +54,9 @@ executions_until s c (Some k) = lines_executed k s c
 
 -- What an event executed.
 unfoldable pub executions_by : ServerState → Event → Option ℕ → List Execution
-executions_by s (DriverUp u) m = []
-executions_by s (DriverBytes u piece) m = []
-executions_by s (DriverTook u n) m = []
-executions_by s (DriverDown u) m = []
-executions_by s (Tick seconds) m = []
-executions_by s (Open address) m = []
 executions_by s (Feed c piece) m = executions_until (with_input s c piece) c m
 executions_by s (Took c n) m = if may_take (session c s) n then executions_until (without_output s c n) c m else []
-executions_by s (Close c) m = []
+executions_by s _ m = []
 
 abbrev pub executions_in_event : ServerState → Event → Outcome → List Execution
 executions_in_event s e outcome = executions_by s e (refused_after outcome)
@@ -79,27 +73,13 @@ of_client c all = filter (λ x. client_of x == c) all
 
 -- What the client took in one event.
 unfoldable pub taken_in_event : ℕ → ServerState → Event → List ℕ
-taken_in_event c s (DriverUp u) = []
-taken_in_event c s (DriverBytes u piece) = []
-taken_in_event c s (DriverTook u n) = []
-taken_in_event c s (DriverDown u) = []
-taken_in_event c s (Tick seconds) = []
-taken_in_event c s (Open address) = []
-taken_in_event c s (Feed d piece) = []
 taken_in_event c s (Took d n) = if may_take (session d s) n then (if d == c then take n (owed_of (session d s)) else []) else []
-taken_in_event c s (Close d) = []
+taken_in_event c s _ = []
 
 -- What joined the client's held input in one event.
 unfoldable pub asked_in_event : ℕ → ServerState → Event → List ℕ
-asked_in_event c s (DriverUp u) = []
-asked_in_event c s (DriverBytes u piece) = []
-asked_in_event c s (DriverTook u n) = []
-asked_in_event c s (DriverDown u) = []
-asked_in_event c s (Tick seconds) = []
-asked_in_event c s (Open address) = []
 asked_in_event c s (Feed d piece) = if d == c then accepted_bytes (session d s) piece else []
-asked_in_event c s (Took d n) = []
-asked_in_event c s (Close d) = []
+asked_in_event c s _ = []
 
 abbrev pub texts_of : List Execution → List ℕ
 texts_of all = flat_map text_of all

@@ -1,0 +1,95 @@
+-- Events by what they do: most execute nothing, and leave the sessions as they are.
+use Rattle.std.proofs.Common.{◌≡◌, ℕ, Bool, false, List, [], ◌∷◌, Option, refl, ap, cond, eqb, ◌&&◌, not}
+use Rattle.std.specs.Option.{option_map_or}
+use Rattle.nutusers.specs.declared.ups_list.UpsId.{UpsId}
+use Rattle.nutcore.specs.declared.event.Event.{Event}
+use Rattle.nutcore.specs.declared.event.Event.TheVariants.{DriverUp, DriverBytes, DriverTook, DriverDown, Tick, Open, Feed, Took, Close}
+use Rattle.nutcore.specs.Ups.{ping_is_due}
+use Rattle.nutcore.specs.Server.{ServerState, session, ups_at}
+use Rattle.nutcore.specs.Step.{with_input, without_output, may_take, after_by, ticked}
+use Rattle.nutcore.specs.History.{Execution, executions_until, executions_by, taken_in_event, asked_in_event}
+use Rattle.nutcore.specs.Cost.{cost_of, no_cost}
+use Rattle.nutcore.specs.DriverHistory.{has_driver}
+use Rattle.nutcore.specs.DriverOrders.{Telling, dump_all, ping, told_beside_lines, moment_of}
+use Rattle.nutcore.proofs.DriverText.{bytes_change}
+
+-- what one client executes in an event
+unfoldable pub given_by : ℕ → ServerState → Event → Option ℕ → List Execution
+given_by c s (Feed d piece) m = cond (eqb d c) (executions_until (with_input s d piece) d m) []
+given_by c s (Took d n) m = cond (may_take (session d s) n) (cond (eqb d c) (executions_until (without_output s d n) d m) []) []
+given_by c s _ m = []
+
+-- no event by which a client sends or takes
+abbrev pub IsPlain : Event → Type 0
+IsPlain (Feed c piece) = ⊥
+IsPlain (Took c n) = ⊥
+IsPlain _ = Unit {0}
+
+-- nothing is executed, asked or taken, and it costs nothing
+pub record IsSilent (e : Event) : Type 0 where
+  pub plain : IsPlain e
+  pub executes : (s : ServerState) (m : Option ℕ) → executions_by s e m ≡ []
+  pub gives : (c : ℕ) (s : ServerState) (m : Option ℕ) → given_by c s e m ≡ []
+  pub takes : (c : ℕ) (s : ServerState) → taken_in_event c s e ≡ []
+  pub asks : (c : ℕ) (s : ServerState) → asked_in_event c s e ≡ []
+  pub costs : (old new : ServerState) → cost_of old e new ≡ no_cost
+
+-- nor is any session changed
+pub record IsApart (e : Event) : Type 0 where
+  pub silent : IsSilent e
+  pub sessions : (s : ServerState) (m : Option ℕ) → (after_by s e m).sessions ≡ s.sessions
+  pub next_id : (s : ServerState) (m : Option ℕ) → (after_by s e m).next_id ≡ s.next_id
+
+silent : (e : Event) → IsPlain e → IsSilent e
+unfolding executions_by given_by taken_in_event asked_in_event
+silent (DriverUp u) plain = record { plain = tt; executes = λ s m. refl; gives = λ c s m. refl; takes = λ c s. refl; asks = λ c s. refl; costs = λ old new. refl }
+silent (DriverBytes u piece) plain = record { plain = tt; executes = λ s m. refl; gives = λ c s m. refl; takes = λ c s. refl; asks = λ c s. refl; costs = λ old new. refl }
+silent (DriverTook u n) plain = record { plain = tt; executes = λ s m. refl; gives = λ c s m. refl; takes = λ c s. refl; asks = λ c s. refl; costs = λ old new. refl }
+silent (DriverDown u) plain = record { plain = tt; executes = λ s m. refl; gives = λ c s m. refl; takes = λ c s. refl; asks = λ c s. refl; costs = λ old new. refl }
+silent (Tick seconds) plain = record { plain = tt; executes = λ s m. refl; gives = λ c s m. refl; takes = λ c s. refl; asks = λ c s. refl; costs = λ old new. refl }
+silent (Open address) plain = record { plain = tt; executes = λ s m. refl; gives = λ c s m. refl; takes = λ c s. refl; asks = λ c s. refl; costs = λ old new. refl }
+silent (Feed c piece) plain = absurd plain
+silent (Took c n) plain = absurd plain
+silent (Close c) plain = record { plain = tt; executes = λ s m. refl; gives = λ c s m. refl; takes = λ c s. refl; asks = λ c s. refl; costs = λ old new. refl }
+
+-- what holds of those, and of what a client sends and takes, holds of each event
+pub of_event : (P : Event → Type 0) → ((e : Event) → IsSilent e → P e) → ((c : ℕ) (piece : List ℕ) → P (Feed c piece)) → ((c n : ℕ) → P (Took c n)) → (e : Event) → P e
+of_event P other feed took (DriverUp u) = other (DriverUp u) (silent (DriverUp u) tt)
+of_event P other feed took (DriverBytes u piece) = other (DriverBytes u piece) (silent (DriverBytes u piece) tt)
+of_event P other feed took (DriverTook u n) = other (DriverTook u n) (silent (DriverTook u n) tt)
+of_event P other feed took (DriverDown u) = other (DriverDown u) (silent (DriverDown u) tt)
+of_event P other feed took (Tick seconds) = other (Tick seconds) (silent (Tick seconds) tt)
+of_event P other feed took (Open address) = other (Open address) (silent (Open address) tt)
+of_event P other feed took (Feed c piece) = feed c piece
+of_event P other feed took (Took c n) = took c n
+of_event P other feed took (Close c) = other (Close c) (silent (Close c) tt)
+
+-- the same, with those apart that open and close a session
+pub of_session_event : (P : Event → Type 0) → ((e : Event) → IsApart e → P e) → ((address : List ℕ) → P (Open address)) → ((c : ℕ) (piece : List ℕ) → P (Feed c piece)) → ((c n : ℕ) → P (Took c n)) → ((c : ℕ) → P (Close c)) → (e : Event) → P e
+unfolding after_by ticked
+of_session_event P other opens feed took closes (DriverUp u) = other (DriverUp u) (record { silent = silent (DriverUp u) tt; sessions = λ s m. refl; next_id = λ s m. refl })
+of_session_event P other opens feed took closes (DriverBytes u piece) =
+    other (DriverBytes u piece) (record {
+      silent = silent (DriverBytes u piece) tt;
+      sessions = λ s m. ap (λ (t : ServerState). t.sessions) (bytes_change u piece m s);
+      next_id = λ s m. ap (λ (t : ServerState). t.next_id) (bytes_change u piece m s);
+    })
+of_session_event P other opens feed took closes (DriverTook u n) = other (DriverTook u n) (record { silent = silent (DriverTook u n) tt; sessions = λ s m. refl; next_id = λ s m. refl })
+of_session_event P other opens feed took closes (DriverDown u) = other (DriverDown u) (record { silent = silent (DriverDown u) tt; sessions = λ s m. refl; next_id = λ s m. refl })
+of_session_event P other opens feed took closes (Tick seconds) = other (Tick seconds) (record { silent = silent (Tick seconds) tt; sessions = λ s m. refl; next_id = λ s m. refl })
+of_session_event P other opens feed took closes (Open address) = opens address
+of_session_event P other opens feed took closes (Feed c piece) = feed c piece
+of_session_event P other opens feed took closes (Took c n) = took c n
+of_session_event P other opens feed took closes (Close c) = closes c
+
+-- what holds of nothing, and of what a driver is told that comes and at its time, holds of what an event tells a driver beside lines
+pub of_told_beside : (u : UpsId) (s : ServerState) (P : List Telling → Type 0) → P [] → ((b : Bool) → P (cond b (dump_all ∷ []) [])) → ((b : Bool) → P (cond b (ping ∷ []) [])) → (e : Event) → P (told_beside_lines u s e)
+of_told_beside u s P none up tick (DriverUp v) = up (eqb v.place u.place && not (has_driver u s))
+of_told_beside u s P none up tick (DriverBytes v piece) = none
+of_told_beside u s P none up tick (DriverTook v n) = none
+of_told_beside u s P none up tick (DriverDown v) = none
+of_told_beside u s P none up tick (Tick seconds) = tick (option_map_or (ping_is_due s.max_age (moment_of s seconds)) (ups_at u.place s) false)
+of_told_beside u s P none up tick (Open address) = none
+of_told_beside u s P none up tick (Feed c piece) = none
+of_told_beside u s P none up tick (Took c n) = none
+of_told_beside u s P none up tick (Close c) = none
