@@ -17,10 +17,12 @@ use Rattle.nutreply.specs.declared.request.Request.TheVariants.{List as ListOf, 
 use Rattle.nutreply.specs.declared.session.Session.{Session}
 use Rattle.nutclient.specs.Job.{UpsPlace, job_of, parts_of}
 use Rattle.nutclient.specs.Target.{ups_place_of}
-use Rattle.nutclient.specs.declared.given.Given.TheVariants.{Variables, Variable, Upses, Descriptions, Writable, Commands}
+use Rattle.nutclient.specs.declared.given.Given.TheVariants.{Variables, Variable, Upses}
+use Rattle.nutclient.specs.declared.given.Given.TheVariants.{Descriptions, Writable, Commands}
 use Rattle.nutclient.specs.declared.job.Job.{Job}
 use Rattle.endtoend.specs.Served.{IsLineOf, IsUsable, HasVariable, IsLawfulList}
-use Rattle.endtoend.specs.Printed.{variable_lines, setting_lines, command_lines, name_lines, description_lines}
+use Rattle.endtoend.specs.Printed.{variable_lines, setting_lines, command_lines, name_lines}
+use Rattle.endtoend.specs.Printed.{description_lines}
 
 -- A run of a program: the session and the output before it and after it, and the result.
 pub record ProgramRun (R W O : Type 0) : Type 0 where
@@ -30,17 +32,23 @@ pub record ProgramRun (R W O : Type 0) : Type 0 where
   pub out_after : O
   pub result : Result (Unit {0}) ClientFault
 
-abbrev pub run_by : {R W O : Type 0} → Session R W → O → Result (Unit {0}) ClientFault → Session R W → O → ProgramRun R W O
-run_by session out result session_after out_after = record { session = session; session_after = session_after; out = out; out_after = out_after; result = result }
+abbrev pub run_by : {R W O : Type 0} → Session R W → O → Result (Unit {0}) ClientFault → Session R W
+    → O → ProgramRun R W O
+run_by session out result session_after out_after =
+    record { session = session; session_after = session_after; out = out; out_after = out_after;
+    result = result }
 
-module _ {R W O : Type 0} (remaining : R → Option (List ℕ)) (failures : R → ℕ) (write_failures : W → ℕ) (contents : O → Option (List ℕ)) (print_failures : O → ℕ) where
-  -- A new session's reader gives these bytes, in whatever pieces. No call of the reader, the writer or the output failed, and memory was there.
+module _ {R W O : Type 0} (remaining : R → Option (List ℕ)) (failures : R → ℕ)
+    (write_failures : W → ℕ) (contents : O → Option (List ℕ)) (print_failures : O → ℕ) where
+  -- A new session's reader gives these bytes, in whatever pieces. No call of the reader, the writer
+  -- or the output failed, and memory was there.
   pub record IsHanded (bytes : List ℕ) (r : ProgramRun R W O) : Type 0 where
     pub going : is_over r.session ≡ false
     pub fresh : unread_of r.session ≡ []
     pub gives : remaining (reader_of r.session) ≡ Some bytes
     pub reads : NoneFailed (failures (reader_of r.session)) (failures (reader_of r.session_after))
-    pub writes : NoneFailed (write_failures (writer_of r.session)) (write_failures (writer_of r.session_after))
+    pub writes : NoneFailed (write_failures (writer_of r.session))
+    (write_failures (writer_of r.session_after))
     pub prints : NoneFailed (print_failures r.out) (print_failures r.out_after)
     pub memory : r.result ≢ Err Memory
 
@@ -49,10 +57,12 @@ module _ {R W O : Type 0} (remaining : R → Option (List ℕ)) (failures : R �
     pub done : r.result ≡ Ok tt
     pub output : Appends (contents r.out) (contents r.out_after) text
 
-  -- `upsc ups`, handed the answer to LIST VAR and whatever comes after it, prints a line for each variable that the UPS holds.
+  -- `upsc ups`, handed the answer to LIST VAR and whatever comes after it, prints a line for each
+  -- variable that the UPS holds.
   abbrev pub PrintsTheVariables : Job → ProgramRun R W O → Type 0
   PrintsTheVariables job r =
-      (s : ServerState) (client : ℕ) (words : Bor (List ℕ)) (place : UpsPlace) (line : List ℕ) (known : KnownUps) (more : List ℕ)
+      (s : ServerState) (client : ℕ) (words : Bor (List ℕ)) (place : UpsPlace) (line : List ℕ)
+      (known : KnownUps) (more : List ℕ)
       → job_of (Variables words) ≡ Some (parts_of job) → ups_place_of words.now ≡ Some place
       → IsUsable s place.0 known → IsLineOf (ListOf (queries.Var place.0)) line
       → IsHanded (reply s client line ++ more) r → IsPrinted (variable_lines known) r
@@ -60,15 +70,20 @@ module _ {R W O : Type 0} (remaining : R → Option (List ℕ)) (failures : R �
   -- `upsc ups variable`, handed the answer to GET VAR, prints the variable's value.
   abbrev pub PrintsTheVariable : Job → ProgramRun R W O → Type 0
   PrintsTheVariable job r =
-      (s : ServerState) (client : ℕ) (words name : Bor (List ℕ)) (place : UpsPlace) (line : List ℕ) (known : KnownUps) (variable : VariableState) (more : List ℕ)
+      (s : ServerState) (client : ℕ) (words name : Bor (List ℕ)) (place : UpsPlace) (line : List ℕ)
+      (known : KnownUps) (variable : VariableState) (more : List ℕ)
       → job_of (Variable words name) ≡ Some (parts_of job) → ups_place_of words.now ≡ Some place
-      → IsUsable s place.0 known → HasVariable known name.now variable → IsLineOf (GetVar place.0 name.now) line
-      → IsHanded (reply s client line ++ more) r → IsPrinted (with_lf (shown known.state.fsd name.now variable)) r
+      → IsUsable s place.0 known → HasVariable known name.now variable
+      → IsLineOf (GetVar place.0 name.now) line
+      → IsHanded (reply s client line ++ more) r
+      → IsPrinted (with_lf (shown known.state.fsd name.now variable)) r
 
-  -- `upsrw ups`, handed the answer to LIST RW, prints a line for each variable of the UPS that may be set.
+  -- `upsrw ups`, handed the answer to LIST RW, prints a line for each variable of the UPS that may
+  -- be set.
   abbrev pub PrintsTheSettings : Job → ProgramRun R W O → Type 0
   PrintsTheSettings job r =
-      (s : ServerState) (client : ℕ) (words : Bor (List ℕ)) (place : UpsPlace) (line : List ℕ) (known : KnownUps) (more : List ℕ)
+      (s : ServerState) (client : ℕ) (words : Bor (List ℕ)) (place : UpsPlace) (line : List ℕ)
+      (known : KnownUps) (more : List ℕ)
       → job_of (Writable words) ≡ Some (parts_of job) → ups_place_of words.now ≡ Some place
       → IsUsable s place.0 known → IsLineOf (ListOf (queries.Rw place.0)) line
       → IsHanded (reply s client line ++ more) r → IsPrinted (setting_lines known) r
@@ -76,12 +91,14 @@ module _ {R W O : Type 0} (remaining : R → Option (List ℕ)) (failures : R �
   -- `upscmd -l ups`, handed the answer to LIST CMD, prints a line for each command of the UPS.
   abbrev pub PrintsTheCommands : Job → ProgramRun R W O → Type 0
   PrintsTheCommands job r =
-      (s : ServerState) (client : ℕ) (words : Bor (List ℕ)) (place : UpsPlace) (line : List ℕ) (known : KnownUps) (more : List ℕ)
+      (s : ServerState) (client : ℕ) (words : Bor (List ℕ)) (place : UpsPlace) (line : List ℕ)
+      (known : KnownUps) (more : List ℕ)
       → job_of (Commands words) ≡ Some (parts_of job) → ups_place_of words.now ≡ Some place
       → IsUsable s place.0 known → IsLineOf (ListOf (queries.Cmd place.0)) line
       → IsHanded (reply s client line ++ more) r → IsPrinted (command_lines known) r
 
-  -- `upsc -l` and `upsc -L`, handed the answer to LIST UPS, print a line for each UPS of the server's list.
+  -- `upsc -l` and `upsc -L`, handed the answer to LIST UPS, print a line for each UPS of the
+  -- server's list.
   abbrev pub PrintsTheNames : Job → ProgramRun R W O → Type 0
   PrintsTheNames job r =
       (s : ServerState) (client : ℕ) (server : Option (Bor (List ℕ))) (line more : List ℕ)

@@ -24,19 +24,24 @@ variable_line fsd entry = with_lf (entry.0 ++ codes ": " ++ shown fsd entry.0 en
 abbrev pub variable_lines : KnownUps → List ℕ
 variable_lines known = flat_map (variable_line known.state.fsd) known.state.report.tree.variables
 
--- `upsc ups`: whatever comes after the server's answer, what is printed is a line for each variable that the UPS holds.
+-- `upsc ups`: whatever comes after the server's answer, what is printed is a line for each variable
+-- that the UPS holds.
 abbrev pub UpscPrintsTheVariables : Type 0
 UpscPrintsTheVariables =
     (s : ServerState) (client : ℕ) (ups line : List ℕ) (known : KnownUps) (more : List ℕ)
     → IsTrue (is_ups_name ups) → IsUsable s ups known → IsLineOf (ListOf (queries.Var ups)) line
-    → printed (ListOf (queries.Var ups) ∷ []) forms.Colon (reply s client line ++ more) ≡ Prints (variable_lines known)
+    → printed (ListOf (queries.Var ups) ∷ []) forms.Colon (reply s client line ++ more)
+    ≡ Prints (variable_lines known)
 
 -- `upsc ups variable`: the variable's value, as clients see it.
 abbrev pub UpscPrintsTheVariable : Type 0
 UpscPrintsTheVariable =
-    (s : ServerState) (client : ℕ) (ups name line : List ℕ) (known : KnownUps) (variable : VariableState) (more : List ℕ)
-    → IsTrue (is_ups_name ups) → IsTrue (is_name name) → IsUsable s ups known → HasVariable known name variable → IsLineOf (GetVar ups name) line
-    → printed (GetVar ups name ∷ []) forms.Value (reply s client line ++ more) ≡ Prints (with_lf (shown known.state.fsd name variable))
+    (s : ServerState) (client : ℕ) (ups name line : List ℕ) (known : KnownUps)
+    (variable : VariableState) (more : List ℕ)
+    → IsTrue (is_ups_name ups) → IsTrue (is_name name) → IsUsable s ups known
+    → HasVariable known name variable → IsLineOf (GetVar ups name) line
+    → printed (GetVar ups name ∷ []) forms.Value (reply s client line ++ more)
+    ≡ Prints (with_lf (shown known.state.fsd name variable))
 
 -- A line `name=value`.
 abbrev pub setting_line : Bool → List ℕ × VariableState → List ℕ
@@ -44,14 +49,16 @@ setting_line fsd entry = with_lf (entry.0 ++ codes "=" ++ shown fsd entry.0 entr
 
 -- Such a line for each variable that may be set, in the order of the names.
 abbrev pub setting_lines : KnownUps → List ℕ
-setting_lines known = flat_map (setting_line known.state.fsd) (filter is_rw known.state.report.tree.variables)
+setting_lines known =
+    flat_map (setting_line known.state.fsd) (filter is_rw known.state.report.tree.variables)
 
 -- `upsrw ups`
 abbrev pub UpsrwPrintsTheVariables : Type 0
 UpsrwPrintsTheVariables =
     (s : ServerState) (client : ℕ) (ups line : List ℕ) (known : KnownUps) (more : List ℕ)
     → IsTrue (is_ups_name ups) → IsUsable s ups known → IsLineOf (ListOf (queries.Rw ups)) line
-    → printed (ListOf (queries.Rw ups) ∷ []) forms.Equals (reply s client line ++ more) ≡ Prints (setting_lines known)
+    → printed (ListOf (queries.Rw ups) ∷ []) forms.Equals (reply s client line ++ more)
+    ≡ Prints (setting_lines known)
 
 -- The name of each command of the UPS, in the order of the names.
 abbrev pub command_lines : KnownUps → List ℕ
@@ -62,7 +69,8 @@ abbrev pub UpscmdPrintsTheCommands : Type 0
 UpscmdPrintsTheCommands =
     (s : ServerState) (client : ℕ) (ups line : List ℕ) (known : KnownUps) (more : List ℕ)
     → IsTrue (is_ups_name ups) → IsUsable s ups known → IsLineOf (ListOf (queries.Cmd ups)) line
-    → printed (ListOf (queries.Cmd ups) ∷ []) forms.Name (reply s client line ++ more) ≡ Prints (command_lines known)
+    → printed (ListOf (queries.Cmd ups) ∷ []) forms.Name (reply s client line ++ more)
+    ≡ Prints (command_lines known)
 
 -- `upsc -l`: a line for each UPS of the server's list, its name.
 abbrev pub name_lines : List Ups → List ℕ
@@ -76,9 +84,12 @@ abbrev pub description_lines : List Ups → List ℕ
 description_lines list = flat_map description_line list
 
 pub record PrintsTheUpses (s : ServerState) (client : ℕ) (line more : List ℕ) : Type 0 where
-  pub names : printed (ListOf queries.Ups ∷ []) forms.Name (reply s client line ++ more) ≡ Prints (name_lines s.list)
-  pub descriptions : printed (ListOf queries.Ups ∷ []) forms.Colon (reply s client line ++ more) ≡ Prints (description_lines s.list)
+  pub names : printed (ListOf queries.Ups ∷ []) forms.Name (reply s client line ++ more)
+      ≡ Prints (name_lines s.list)
+  pub descriptions : printed (ListOf queries.Ups ∷ []) forms.Colon (reply s client line ++ more)
+      ≡ Prints (description_lines s.list)
 
 abbrev pub UpscPrintsTheUpses : Type 0
 UpscPrintsTheUpses =
-    (s : ServerState) (client : ℕ) (line more : List ℕ) → IsLawfulList s.list → IsLineOf (ListOf queries.Ups) line → PrintsTheUpses s client line more
+    (s : ServerState) (client : ℕ) (line more : List ℕ) → IsLawfulList s.list
+    → IsLineOf (ListOf queries.Ups) line → PrintsTheUpses s client line more

@@ -19,7 +19,8 @@ use Rattle.nutreply.specs.declared.request.Request.{Request}
 abbrev pub IsLineOf : Request → List ℕ → Type 0
 IsLineOf request line = with_lf line ≡ request_line request
 
--- Clients are told what the driver of the UPS of this name has reported. It is sound, as whatever a driver's lines have made is.
+-- Clients are told what the driver of the UPS of this name has reported. It is sound, as whatever a
+-- driver's lines have made is.
 pub record IsUsable (s : ServerState) (ups : List ℕ) (known : KnownUps) : Type 0 where
   pub named : ups_named (seen s) (Some ups) ≡ Some known
   pub ready : readiness s.moment s.max_age known.state.report ≡ usable

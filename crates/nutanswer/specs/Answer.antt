@@ -1,12 +1,21 @@
--- What is answered to a command (RFC 9271): one row a command, its checks from left to right, here from above, and then the answer and what it changes.
-use Rattle.std.specs.Prelude.{◌≡◌, ℕ, Bool, true, false, List, [], ◌∷◌, codes, Some, Result, Ok, Err}
+-- What is answered to a command (RFC 9271): one row a command, its checks from left to right, here
+-- from above, and then the answer and what it changes.
+use Rattle.std.specs.Prelude.{◌≡◌, ℕ, Bool, true, false, List, [], ◌∷◌, codes, Some, Result, Ok}
+use Rattle.std.specs.Prelude.{Err}
 use Rattle.std.specs.Fmt.{decimal}
 use Rattle.nutwords.specs.Frame.{line_of}
 use Rattle.nutwords.specs.Spelling.{quoted}
 use Rattle.nutusers.specs.Descriptions.{text_at}
 use Rattle.nutusers.specs.declared.rights.Right.TheVariants as rights
 use Rattle.nutanswer.specs.declared.command.Command.{Command}
-use Rattle.nutanswer.specs.declared.command.Command.TheVariants.{Username, Password, Login, Logout, Primary, Fsd, SetVar, InstCmd, GetVar, GetType, GetDesc, GetCmdDesc, GetUpsDesc, GetNumLogins, ListUps, ListVar, ListRw, ListCmd, ListEnum, ListRange, ListClient, Help, Ver, NetVer, ProtVer, StartTls}
+use Rattle.nutanswer.specs.declared.command.Command.TheVariants.{Username, Password, Login, Logout}
+use Rattle.nutanswer.specs.declared.command.Command.TheVariants.{Primary, Fsd, SetVar, InstCmd}
+use Rattle.nutanswer.specs.declared.command.Command.TheVariants.{GetVar, GetType, GetDesc}
+use Rattle.nutanswer.specs.declared.command.Command.TheVariants.{GetCmdDesc, GetUpsDesc}
+use Rattle.nutanswer.specs.declared.command.Command.TheVariants.{GetNumLogins, ListUps, ListVar}
+use Rattle.nutanswer.specs.declared.command.Command.TheVariants.{ListRw, ListCmd, ListEnum}
+use Rattle.nutanswer.specs.declared.command.Command.TheVariants.{ListRange, ListClient, Help, Ver}
+use Rattle.nutanswer.specs.declared.command.Command.TheVariants.{NetVer, ProtVer, StartTls}
 use Rattle.nutanswer.specs.declared.err_word.ErrWord.{ErrWord}
 use Rattle.nutanswer.specs.declared.err_word.ErrWord.TheVariants.{FeatureNotConfigured}
 use Rattle.nutanswer.specs.declared.reply.Change.{Change}
@@ -18,11 +27,17 @@ use Rattle.nutlisting.specs.Lines.{IsWholeLine}
 use Rattle.nutanswer.specs.View.{Seen, AskerSeen, login_count, addresses_at}
 use Rattle.nutlisting.specs.Shown.{shown, description_of}
 use Rattle.nutlisting.specs.Types.{type_words}
-use Rattle.nutlisting.specs.Items.{ListingState, text_of, ups_listing, variable_listing, rw_listing, command_listing, enum_listing, range_listing, client_listing}
-use Rattle.nutanswer.specs.Checks.{◌>>=◌, ◌>>◌, user, unknown_ups, live, var_not_supported, var_not_lawful, cmd_not_lawful, cmd_not_supported, already_set_username, already_set_password, already_logged_in, invalid_argument, readonly, too_long, too_long_of_command, invalid_value, set_failed, instcmd_failed}
+use Rattle.nutlisting.specs.Items.{ListingState, text_of, ups_listing, variable_listing, rw_listing}
+use Rattle.nutlisting.specs.Items.{command_listing, enum_listing, range_listing, client_listing}
+use Rattle.nutanswer.specs.Checks.{◌>>=◌, ◌>>◌, user, unknown_ups, live, var_not_supported}
+use Rattle.nutanswer.specs.Checks.{var_not_lawful, cmd_not_lawful, cmd_not_supported}
+use Rattle.nutanswer.specs.Checks.{already_set_username, already_set_password, already_logged_in}
+use Rattle.nutanswer.specs.Checks.{invalid_argument, readonly, too_long, too_long_of_command}
+use Rattle.nutanswer.specs.Checks.{invalid_value, set_failed, instcmd_failed}
 use Rattle.nutanswer.specs.Orders.{instcmd_right, set_line, instcmd_line, order}
 
--- The words of a line, as they are spelled, and what the command changes; or a listing, that of clients apart: it copies what it lists.
+-- The words of a line, as they are spelled, and what the command changes; or a listing, that of
+-- clients apart: it copies what it lists.
 pub data Answer : Type 0 where
   one_line : (words : List (List ℕ)) → (change : Change) → Answer
   listing : (l : ListingState) → Answer
@@ -144,7 +159,8 @@ text_of_answer (Ok (one_line words change)) = line_of words
 text_of_answer (Ok (listing l)) = text_of l
 text_of_answer (Ok (listing_of_clients l)) = text_of l
 
--- What a command that is answered so changes: nothing where it is refused, and nothing where it lists.
+-- What a command that is answered so changes: nothing where it is refused, and nothing where it
+-- lists.
 abbrev pub change_of_answer : Result Answer ErrWord → Change
 change_of_answer (Err word) = changes.Nothing
 change_of_answer (Ok (one_line words change)) = change
@@ -159,7 +175,8 @@ shares_version (Ok (listing l)) = true
 shares_version (Ok (listing_of_clients l)) = false
 
 -- A line that answers a command, and what the command changes.
-pub record IsOneLine (answer : Result Answer ErrWord) (line : List ℕ) (change : Change) : Type 0 where
+pub record IsOneLine (answer : Result Answer ErrWord) (line : List ℕ) (change : Change)
+    : Type 0 where
   pub text : line ≡ text_of_answer answer
   pub changes : change ≡ change_of_answer answer
   pub one : shares_version answer ≡ false
@@ -169,4 +186,5 @@ pub record IsOneLine (answer : Result Answer ErrWord) (line : List ℕ) (change 
 abbrev pub IsReply : Seen → Result Answer ErrWord → Reply → Type 0
 IsReply s answer (One line change) = IsOneLine answer line.now change
 IsReply s answer (Many l) = answer ≡ Ok (listing l)
-IsReply s answer (Clients name u) = answer ≡ Ok (listing_of_clients (client_listing name (addresses_at u s.clients)))
+IsReply s answer (Clients name u) =
+    answer ≡ Ok (listing_of_clients (client_listing name (addresses_at u s.clients)))

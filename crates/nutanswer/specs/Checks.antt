@@ -1,5 +1,7 @@
--- The checks of a command, each named for the word of the error that is answered where it fails. A row of the table is a `do` block of them: what stands below a check that fails isn't looked at.
-use Rattle.std.specs.Prelude.{ℕ, Bool, ◌&&◌, nat_le, length, is_none, List, Option, Some, None, Result, Ok, Err, slice_get, if◌then◌else◌}
+-- The checks of a command, each named for the word of the error that is answered where it fails. A
+-- row of the table is a `do` block of them: what stands below a check that fails isn't looked at.
+use Rattle.std.specs.Prelude.{ℕ, Bool, ◌&&◌, nat_le, length, is_none, List, Option, Some, None}
+use Rattle.std.specs.Prelude.{Result, Ok, Err, slice_get, if◌then◌else◌}
 use Rattle.std.specs.Option.{ok_or, option_map, option_and_then}
 use Rattle.nutdriver.specs.Tree.{TreeState, variable_at, has_command}
 use Rattle.nutdriver.specs.Variable.{VariableState}
@@ -8,9 +10,19 @@ use Rattle.nutusers.specs.Users.{may}
 use Rattle.nutusers.specs.declared.rights.Right.{Right}
 use Rattle.nutusers.specs.declared.ups_list.UpsId.{UpsId}
 use Rattle.nutanswer.specs.declared.err_word.ErrWord.{ErrWord}
-use Rattle.nutanswer.specs.declared.err_word.ErrWord.TheVariants.{AccessDenied, UnknownUps, DriverNotConnected, DataStale, VarNotSupported, CmdNotSupported, InvalidArgument, AlreadyLoggedIn, AlreadySetPassword, AlreadySetUsername, UsernameRequired, PasswordRequired, Readonly, TooLong, InvalidValue, SetFailed, InstcmdFailed}
+use Rattle.nutanswer.specs.declared.err_word.ErrWord.TheVariants.{AccessDenied, UnknownUps}
+use Rattle.nutanswer.specs.declared.err_word.ErrWord.TheVariants.{DriverNotConnected, DataStale}
+use Rattle.nutanswer.specs.declared.err_word.ErrWord.TheVariants.{VarNotSupported, CmdNotSupported}
+use Rattle.nutanswer.specs.declared.err_word.ErrWord.TheVariants.{InvalidArgument, AlreadyLoggedIn}
+use Rattle.nutanswer.specs.declared.err_word.ErrWord.TheVariants.{AlreadySetPassword}
+use Rattle.nutanswer.specs.declared.err_word.ErrWord.TheVariants.{AlreadySetUsername}
+use Rattle.nutanswer.specs.declared.err_word.ErrWord.TheVariants.{UsernameRequired}
+use Rattle.nutanswer.specs.declared.err_word.ErrWord.TheVariants.{PasswordRequired, Readonly}
+use Rattle.nutanswer.specs.declared.err_word.ErrWord.TheVariants.{TooLong, InvalidValue, SetFailed}
+use Rattle.nutanswer.specs.declared.err_word.ErrWord.TheVariants.{InstcmdFailed}
 use Rattle.nutlisting.specs.Shown.{ups_description}
-use Rattle.nutanswer.specs.View.{Seen, AskerSeen, UpsSeen, Readiness, not_connected, stale, usable, readiness}
+use Rattle.nutanswer.specs.View.{Seen, AskerSeen, UpsSeen, Readiness, not_connected, stale, usable}
+use Rattle.nutanswer.specs.View.{readiness}
 use Rattle.nutanswer.specs.Orders.{is_short_enough, is_listed, is_in_ranges}
 
 -- What a check finds is handed on, where it doesn't fail.
@@ -29,7 +41,8 @@ abbrev pub ◌>>◌ : {B : Type 0} → Result (Unit {0}) ErrWord → Result B Er
 abbrev pub unless : Bool → ErrWord → Result (Unit {0}) ErrWord
 unless holds word = if holds then Ok tt else Err word
 
--- A UPS that is there: its name, its description as clients are told it, the name that the server has for it, and what is known of it.
+-- A UPS that is there: its name, its description as clients are told it, the name that the server
+-- has for it, and what is known of it.
 pub record KnownUps : Type 0 where
   pub name : List ℕ
   pub description : List ℕ
@@ -37,13 +50,17 @@ pub record KnownUps : Type 0 where
   pub state : UpsSeen
 
 abbrev pub known : List ℕ → ℕ → Ups → UpsSeen → KnownUps
-known name place listed x = record { name = name; description = ups_description listed; id = id_at place; state = x }
+known name place listed x =
+    record { name = name; description = ups_description listed; id = id_at place; state = x }
 
 -- The UPS at this place of the list, where there is one.
 abbrev pub ups_at : Seen → List ℕ → ℕ → Option KnownUps
-ups_at s name place = option_and_then (λ listed. option_map (known name place listed) (slice_get s.upses place)) (slice_get s.list place)
+ups_at s name place =
+    option_and_then (λ listed. option_map (known name place listed) (slice_get s.upses place))
+    (slice_get s.list place)
 
--- The UPS of this name. Where the word is no lawful name, or the list has no such UPS, there is none.
+-- The UPS of this name. Where the word is no lawful name, or the list has no such UPS, there is
+-- none.
 abbrev pub ups_named : Seen → Option (List ℕ) → Option KnownUps
 ups_named s None = None
 ups_named s (Some name) = option_and_then (ups_at s name) (place_of name s.list)
@@ -79,7 +96,8 @@ variable_named tree (Some name) = option_map (λ v. (name, v)) (variable_at tree
 abbrev pub var_not_supported : KnownUps → Option (List ℕ) → Result (List ℕ × VariableState) ErrWord
 var_not_supported u name = ok_or (variable_named u.state.report.tree name) VarNotSupported
 
--- The word is no lawful name, as of GET DESC, which doesn't look for it in what the driver has reported.
+-- The word is no lawful name, as of GET DESC, which doesn't look for it in what the driver has
+-- reported.
 abbrev pub var_not_lawful : Option (List ℕ) → Result (List ℕ) ErrWord
 var_not_lawful name = ok_or name VarNotSupported
 

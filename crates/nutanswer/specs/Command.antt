@@ -1,5 +1,7 @@
--- Reading a line of a client (RFC 9271): the first refusal that fits, from the line's words to its command and the command's words.
-use Rattle.std.specs.Prelude.{ℕ, List, [], ◌∷◌, Option, Some, None, Result, Ok, Err, codes, if◌then◌else◌}
+-- Reading a line of a client (RFC 9271): the first refusal that fits, from the line's words to its
+-- command and the command's words.
+use Rattle.std.specs.Prelude.{ℕ, List, [], ◌∷◌, Option, Some, None, Result, Ok, Err, codes}
+use Rattle.std.specs.Prelude.{if◌then◌else◌}
 use Rattle.std.specs.Result.{result_ok}
 use Rattle.nutwords.specs.Scan.{read_line}
 use Rattle.nutwords.specs.Reading.{read_name, read_ups_name, read_value}
@@ -7,7 +9,14 @@ use Rattle.nutwords.specs.declared.faults.BadLine.{BadLine}
 use Rattle.nutusers.specs.Credentials.{read_user_name, read_password}
 use Rattle.nutdriver.specs.Spelling.{is_word}
 use Rattle.nutanswer.specs.declared.command.Command.{Command}
-use Rattle.nutanswer.specs.declared.command.Command.TheVariants.{Username, Password, Login, Logout, Primary, Fsd, SetVar, InstCmd, GetVar, GetType, GetDesc, GetCmdDesc, GetUpsDesc, GetNumLogins, ListUps, ListVar, ListRw, ListCmd, ListEnum, ListRange, ListClient, Help, Ver, NetVer, ProtVer, StartTls}
+use Rattle.nutanswer.specs.declared.command.Command.TheVariants.{Username, Password, Login, Logout}
+use Rattle.nutanswer.specs.declared.command.Command.TheVariants.{Primary, Fsd, SetVar, InstCmd}
+use Rattle.nutanswer.specs.declared.command.Command.TheVariants.{GetVar, GetType, GetDesc}
+use Rattle.nutanswer.specs.declared.command.Command.TheVariants.{GetCmdDesc, GetUpsDesc}
+use Rattle.nutanswer.specs.declared.command.Command.TheVariants.{GetNumLogins, ListUps, ListVar}
+use Rattle.nutanswer.specs.declared.command.Command.TheVariants.{ListRw, ListCmd, ListEnum}
+use Rattle.nutanswer.specs.declared.command.Command.TheVariants.{ListRange, ListClient, Help, Ver}
+use Rattle.nutanswer.specs.declared.command.Command.TheVariants.{NetVer, ProtVer, StartTls}
 use Rattle.nutanswer.specs.declared.err_word.ErrWord.{ErrWord}
 use Rattle.nutanswer.specs.declared.err_word.ErrWord.TheVariants.{InvalidArgument, UnknownCommand}
 
@@ -41,11 +50,13 @@ abbrev pub ups_and_name : List (List ℕ) → Result (Option (List ℕ) × Optio
 ups_and_name (ups ∷ name ∷ []) = Ok (result_ok (read_ups_name ups), result_ok (read_name name))
 ups_and_name _ = Err InvalidArgument
 
--- The names of a UPS and of a variable or a command, and a value, each none where the word is no such thing.
+-- The names of a UPS and of a variable or a command, and a value, each none where the word is no
+-- such thing.
 abbrev pub Names : Type 0 → Type 0
 Names A = Option (List ℕ) × Option (List ℕ) × A
 
--- The value that a word is. A word of more than 256 bytes is none; its bytes are lawful, as the line's are.
+-- The value that a word is. A word of more than 256 bytes is none; its bytes are lawful, as the
+-- line's are.
 abbrev pub value_of : List ℕ → Option (List ℕ)
 value_of word = result_ok (read_value word)
 
@@ -82,11 +93,16 @@ read_set (kind ∷ words) = set_of kind words
 abbrev pub get_of : List ℕ → List (List ℕ) → Result Command ErrWord
 get_of kind words =
     if is_word kind (codes "VAR") then command_with (λ a. GetVar a.0 a.1) (ups_and_name words)
-    else if is_word kind (codes "TYPE") then command_with (λ a. GetType a.0 a.1) (ups_and_name words)
-    else if is_word kind (codes "DESC") then command_with (λ a. GetDesc a.0 a.1) (ups_and_name words)
-    else if is_word kind (codes "CMDDESC") then command_with (λ a. GetCmdDesc a.0 a.1) (ups_and_name words)
-    else if is_word kind (codes "UPSDESC") then command_with (λ ups. GetUpsDesc ups) (ups_alone words)
-    else if is_word kind (codes "NUMLOGINS") then command_with (λ ups. GetNumLogins ups) (ups_alone words)
+    else if is_word kind (codes "TYPE")
+    then command_with (λ a. GetType a.0 a.1) (ups_and_name words)
+    else if is_word kind (codes "DESC")
+    then command_with (λ a. GetDesc a.0 a.1) (ups_and_name words)
+    else if is_word kind (codes "CMDDESC")
+    then command_with (λ a. GetCmdDesc a.0 a.1) (ups_and_name words)
+    else if is_word kind (codes "UPSDESC")
+    then command_with (λ ups. GetUpsDesc ups) (ups_alone words)
+    else if is_word kind (codes "NUMLOGINS")
+    then command_with (λ ups. GetNumLogins ups) (ups_alone words)
     else Err InvalidArgument
 
 abbrev pub read_get : List (List ℕ) → Result Command ErrWord
@@ -100,9 +116,12 @@ list_of kind words =
     else if is_word kind (codes "VAR") then command_with (λ ups. ListVar ups) (ups_alone words)
     else if is_word kind (codes "RW") then command_with (λ ups. ListRw ups) (ups_alone words)
     else if is_word kind (codes "CMD") then command_with (λ ups. ListCmd ups) (ups_alone words)
-    else if is_word kind (codes "ENUM") then command_with (λ a. ListEnum a.0 a.1) (ups_and_name words)
-    else if is_word kind (codes "RANGE") then command_with (λ a. ListRange a.0 a.1) (ups_and_name words)
-    else if is_word kind (codes "CLIENT") then command_with (λ ups. ListClient ups) (ups_alone words)
+    else if is_word kind (codes "ENUM")
+    then command_with (λ a. ListEnum a.0 a.1) (ups_and_name words)
+    else if is_word kind (codes "RANGE")
+    then command_with (λ a. ListRange a.0 a.1) (ups_and_name words)
+    else if is_word kind (codes "CLIENT")
+    then command_with (λ ups. ListClient ups) (ups_alone words)
     else Err InvalidArgument
 
 abbrev pub read_list : List (List ℕ) → Result Command ErrWord
@@ -114,8 +133,10 @@ abbrev pub command_named : List ℕ → List (List ℕ) → Result Command ErrWo
 command_named first words =
     if is_word first (codes "GET") then read_get words
     else if is_word first (codes "LIST") then read_list words
-    else if is_word first (codes "USERNAME") then command_with (λ name. Username name) (user_name_alone words)
-    else if is_word first (codes "PASSWORD") then command_with (λ password. Password password) (password_alone words)
+    else if is_word first (codes "USERNAME")
+    then command_with (λ name. Username name) (user_name_alone words)
+    else if is_word first (codes "PASSWORD")
+    then command_with (λ password. Password password) (password_alone words)
     else if is_word first (codes "LOGIN") then command_with (λ ups. Login ups) (ups_alone words)
     else if is_word first (codes "LOGOUT") then alone Logout words
     else if is_word first (codes "PRIMARY") then command_with (λ ups. Primary ups) (ups_alone words)

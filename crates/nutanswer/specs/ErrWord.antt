@@ -2,7 +2,18 @@
 use Rattle.std.specs.Prelude.{ℕ, List, [], ◌∷◌, codes}
 use Rattle.nutwords.specs.Frame.{line_of}
 use Rattle.nutanswer.specs.declared.err_word.ErrWord.{ErrWord}
-use Rattle.nutanswer.specs.declared.err_word.ErrWord.TheVariants.{AccessDenied, UnknownUps, VarNotSupported, CmdNotSupported, InvalidArgument, InstcmdFailed, SetFailed, Readonly, TooLong, FeatureNotConfigured, DriverNotConnected, DataStale, AlreadyLoggedIn, AlreadySetPassword, AlreadySetUsername, UsernameRequired, PasswordRequired, UnknownCommand, InvalidValue}
+use Rattle.nutanswer.specs.declared.err_word.ErrWord.TheVariants.{AccessDenied, UnknownUps}
+use Rattle.nutanswer.specs.declared.err_word.ErrWord.TheVariants.{VarNotSupported, CmdNotSupported}
+use Rattle.nutanswer.specs.declared.err_word.ErrWord.TheVariants.{InvalidArgument, InstcmdFailed}
+use Rattle.nutanswer.specs.declared.err_word.ErrWord.TheVariants.{SetFailed, Readonly, TooLong}
+use Rattle.nutanswer.specs.declared.err_word.ErrWord.TheVariants.{FeatureNotConfigured}
+use Rattle.nutanswer.specs.declared.err_word.ErrWord.TheVariants.{DriverNotConnected, DataStale}
+use Rattle.nutanswer.specs.declared.err_word.ErrWord.TheVariants.{AlreadyLoggedIn}
+use Rattle.nutanswer.specs.declared.err_word.ErrWord.TheVariants.{AlreadySetPassword}
+use Rattle.nutanswer.specs.declared.err_word.ErrWord.TheVariants.{AlreadySetUsername}
+use Rattle.nutanswer.specs.declared.err_word.ErrWord.TheVariants.{UsernameRequired}
+use Rattle.nutanswer.specs.declared.err_word.ErrWord.TheVariants.{PasswordRequired, UnknownCommand}
+use Rattle.nutanswer.specs.declared.err_word.ErrWord.TheVariants.{InvalidValue}
 
 -- The word that stands after ERR.
 abbrev pub spelling_of : ErrWord → List ℕ

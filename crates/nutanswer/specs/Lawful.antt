@@ -2,7 +2,9 @@
 use Rattle.std.specs.Prelude.{◌≡◌, ℕ, List, Option, Some, None, Result, Ok, Err, IsTrue}
 use Rattle.nutwords.specs.Reading.{is_name, is_ups_name, is_value}
 use Rattle.nutanswer.specs.declared.command.Command.{Command}
-use Rattle.nutanswer.specs.declared.command.Command.TheVariants.{SetVar, InstCmd, ListVar, ListRw, ListCmd, ListEnum, ListRange, ListClient}
+use Rattle.nutanswer.specs.declared.command.Command.TheVariants.{SetVar, InstCmd, ListVar, ListRw}
+use Rattle.nutanswer.specs.declared.command.Command.TheVariants.{ListCmd, ListEnum, ListRange}
+use Rattle.nutanswer.specs.declared.command.Command.TheVariants.{ListClient}
 use Rattle.nutanswer.specs.declared.err_word.ErrWord.{ErrWord}
 use Rattle.nutanswer.specs.Command.{read_command}
 
@@ -18,7 +20,8 @@ HasLawfulValue word = (value : List ℕ) → word ≡ Some value → IsTrue (is_
 abbrev pub HasLawfulValueIfAny : Option (Option (List ℕ)) → Type 0
 HasLawfulValueIfAny word = (value : List ℕ) → word ≡ Some (Some value) → IsTrue (is_value value)
 
--- The names and values of a command are lawful: of those that give orders, and of those that list what is known of a UPS.
+-- The names and values of a command are lawful: of those that give orders, and of those that list
+-- what is known of a UPS.
 abbrev pub IsLawfulCommand : Command → Type 0
 IsLawfulCommand (SetVar ups v word) = HasLawfulName v × HasLawfulValue word
 IsLawfulCommand (InstCmd ups v word) = HasLawfulName v × HasLawfulValueIfAny word

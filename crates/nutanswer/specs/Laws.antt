@@ -1,5 +1,6 @@
 -- What holds of every row of the table.
-use Rattle.std.specs.Prelude.{◌≡◌, ◌≤◌, ℕ, Bool, true, false, List, [], ◌∷◌, codes, length, slice_get, Option, Some, Result, Ok, Err}
+use Rattle.std.specs.Prelude.{◌≡◌, ◌≤◌, ℕ, Bool, true, false, List, [], ◌∷◌, codes, length}
+use Rattle.std.specs.Prelude.{slice_get, Option, Some, Result, Ok, Err}
 use Rattle.std.specs.Str.{bytes_eq}
 use Rattle.arrayvec.specs.ArrayVec.{ArrayVec}
 use Rattle.nutusers.specs.declared.ups_list.UpsId.{UpsId}
@@ -10,7 +11,8 @@ use Rattle.nutlisting.specs.Lines.{IsWholeLine}
 use Rattle.nutanswer.specs.ErrWord.{error_line}
 use Rattle.nutanswer.specs.View.{Seen, AskerSeen, UpsSeen}
 use Rattle.nutanswer.specs.Checks.{KnownUps, ups_named}
-use Rattle.nutanswer.specs.Answer.{Answer, one_line, listing, listing_of_clients, answer_to, change_of_answer}
+use Rattle.nutanswer.specs.Answer.{Answer, one_line, listing, listing_of_clients, answer_to}
+use Rattle.nutanswer.specs.Answer.{change_of_answer}
 
 -- The first word is OK.
 abbrev pub begins_with_ok : List (List ℕ) → Bool
@@ -34,7 +36,8 @@ RefusedLinesChangeNothing =
 abbrev pub OnlyOkChanges : Type 0
 OnlyOkChanges =
     (s : Seen) (asker : AskerSeen) (command : Command)
-    → is_ok_line (answer_to s asker command) ≡ false → change_of_answer (answer_to s asker command) ≡ Nothing
+    → is_ok_line (answer_to s asker command) ≡ false
+    → change_of_answer (answer_to s asker command) ≡ Nothing
 
 -- The UPS has this name, and stands at its place among those seen.
 pub record IsSeen (s : Seen) (ups : Option (List ℕ)) (u : KnownUps) : Type 0 where

@@ -1,5 +1,7 @@
--- Orders to drivers (RFC 9271: SET, INSTCMD): which values a variable may be set to, and the line that tells the driver.
-use Rattle.std.specs.Prelude.{ℕ, ℤ, ◌==◌, ◌&&◌, ◌||◌, Bool, false, not, nat_le, int_le, List, [], ◌∷◌, codes, length, Option, Some, None}
+-- Orders to drivers (RFC 9271: SET, INSTCMD): which values a variable may be set to, and the line
+-- that tells the driver.
+use Rattle.std.specs.Prelude.{ℕ, ℤ, ◌==◌, ◌&&◌, ◌||◌, Bool, false, not, nat_le, int_le, List, []}
+use Rattle.std.specs.Prelude.{◌∷◌, codes, length, Option, Some, None}
 use Rattle.std.specs.List.{list_any}
 use Rattle.nutwords.specs.Frame.{line_of}
 use Rattle.nutwords.specs.Spelling.{quoted}
@@ -17,7 +19,8 @@ use Rattle.nutanswer.specs.declared.reply.Change.TheVariants as changes
 abbrev pub is_short_enough : VariableState → List ℕ → Bool
 is_short_enough x value = not x.flags.string || (x.aux == 0 || nat_le (length value) x.aux)
 
--- The value is one of those that the variable may have, byte for byte. Where none are listed, any will do.
+-- The value is one of those that the variable may have, byte for byte. Where none are listed, any
+-- will do.
 abbrev pub is_listed : List (List ℕ) → List ℕ → Bool
 is_listed values value = is_empty values || has_value values value
 
@@ -33,7 +36,8 @@ is_within_one ranges (Some n) = list_any (is_within n) ranges
 abbrev pub is_in_ranges : List Range → List ℕ → Bool
 is_in_ranges ranges value = is_empty ranges || is_within_one ranges (read_number value)
 
--- The line of an order with its LF: its verb, the name of a variable or a command, and the value in quotes, if there is one.
+-- The line of an order with its LF: its verb, the name of a variable or a command, and the value in
+-- quotes, if there is one.
 abbrev pub order_line : List ℕ → List ℕ → Option (List ℕ) → List ℕ
 order_line verb name None = line_of (verb ∷ name ∷ [])
 order_line verb name (Some value) = line_of (verb ∷ name ∷ quoted value ∷ [])
@@ -50,11 +54,13 @@ instcmd_line name value = order_line (codes "INSTCMD") name value
 abbrev pub order : UpsId → List ℕ → Change
 order u line = changes.Order u (record { items = line })
 
--- The right to the command that this word names. What is asked of a right is its bytes alone, not where they stand.
+-- The right to the command that this word names. What is asked of a right is its bytes alone, not
+-- where they stand.
 abbrev pub right_to : List ℕ → Right
 right_to command = rights.Instcmd (record { ref_ptr = (0, 0); now = command })
 
--- The right to the command that was asked for. A word that is no lawful name is granted to nobody by name, as the word of no bytes is.
+-- The right to the command that was asked for. A word that is no lawful name is granted to nobody
+-- by name, as the word of no bytes is.
 abbrev pub instcmd_right : Option (List ℕ) → Right
 instcmd_right None = right_to []
 instcmd_right (Some command) = right_to command

@@ -1,4 +1,5 @@
--- What the private parts of the code promise one another. A reader of the public contracts needs none of it.
+-- What the private parts of the code promise one another. A reader of the public contracts needs
+-- none of it.
 use Rattle.std.specs.Prelude.{◌≡◌, ℕ, List, Option, None, Result, Ok, Err}
 use Rattle.std.specs.Option.{option_copied}
 use Rattle.nutdriver.specs.Variable.{VariableState}
@@ -13,12 +14,16 @@ use Rattle.nutanswer.specs.declared.reply.Reply.{Reply}
 use Rattle.nutanswer.specs.declared.reply.Reply.TheVariants.{One, Many, Clients}
 use Rattle.nutlisting.specs.Shown.{ups_description}
 use Rattle.nutanswer.specs.View.{Seen, AskerSeen, ups_seen}
-use Rattle.nutanswer.specs.Checks.{◌>>=◌, ◌>>◌, KnownUps, unknown_ups, live, var_not_supported, cmd_not_supported, readonly, too_long, invalid_value}
+use Rattle.nutanswer.specs.Checks.{◌>>=◌, ◌>>◌, KnownUps, unknown_ups, live, var_not_supported}
+use Rattle.nutanswer.specs.Checks.{cmd_not_supported, readonly, too_long, invalid_value}
 use Rattle.nutanswer.specs.Answer.{Answer, listing, answer_to, IsOneLine}
 
 -- The UPS that was found.
 abbrev pub known_ups : Known → KnownUps
-known_ups k = record { name = k.name.now; description = ups_description (record (new_ups k.name.now) { desc = option_copied k.desc }); id = k.id; state = ups_seen k.state }
+known_ups k =
+    record { name = k.name.now;
+    description = ups_description (record (new_ups k.name.now) { desc = option_copied k.desc });
+    id = k.id; state = ups_seen k.state }
 
 -- The UPS and the variable that were found.
 abbrev pub known_variable : KnownVariable → KnownUps × List ℕ × VariableState
@@ -36,7 +41,8 @@ live_ups s ups = do
   Ok u
 
 -- The variable of this name, of a live UPS.
-abbrev pub live_variable : Seen → Option (List ℕ) → Option (List ℕ) → Result (KnownUps × List ℕ × VariableState) ErrWord
+abbrev pub live_variable : Seen → Option (List ℕ) → Option (List ℕ)
+    → Result (KnownUps × List ℕ × VariableState) ErrWord
 live_variable s ups name = do
   u ← unknown_ups s ups
   live s u
@@ -83,7 +89,8 @@ nobody = record { username = None; password = None; login = None }
 abbrev pub row : Seen → Command → Result Answer ErrWord
 row s command = answer_to s nobody command
 
--- The line that was made gives this answer, which changes nothing; or this is the word of its error.
+-- The line that was made gives this answer, which changes nothing; or this is the word of its
+-- error.
 abbrev pub IsLineOf : Result Answer ErrWord → List ℕ → Result (Unit {0}) ErrWord → Type 0
 IsLineOf answer line (Ok u) = IsOneLine answer line Nothing
 IsLineOf answer line (Err word) = answer ≡ Err word

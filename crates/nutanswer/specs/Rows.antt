@@ -1,5 +1,7 @@
--- What each change comes of: its command, the checks that held, and its answer (RFC 9271; upsd.users(5)).
-use Rattle.std.specs.Prelude.{◌≡◌, ◌≤◌, ℕ, true, List, [], ◌∷◌, codes, length, Option, Some, None, ◌⊎◌}
+-- What each change comes of: its command, the checks that held, and its answer (RFC 9271;
+-- upsd.users(5)).
+use Rattle.std.specs.Prelude.{◌≡◌, ◌≤◌, ℕ, true, List, [], ◌∷◌, codes, length, Option, Some, None}
+use Rattle.std.specs.Prelude.{◌⊎◌}
 use Rattle.nutwords.specs.Frame.{line_of}
 use Rattle.nutdriver.specs.Variable.{VariableState}
 use Rattle.nutdriver.specs.Tree.{variable_at, has_command}
@@ -10,10 +12,12 @@ use Rattle.nutusers.specs.declared.ups_list.UpsId.{UpsId}
 use Rattle.nutanswer.specs.declared.command.Command.{Command}
 use Rattle.nutanswer.specs.declared.command.Command.TheVariants as commands
 use Rattle.nutanswer.specs.declared.reply.Change.{Change}
-use Rattle.nutanswer.specs.declared.reply.Change.TheVariants.{Nothing, Username, Password, Login, Ending, Fsd, Order}
+use Rattle.nutanswer.specs.declared.reply.Change.TheVariants.{Nothing, Username, Password, Login}
+use Rattle.nutanswer.specs.declared.reply.Change.TheVariants.{Ending, Fsd, Order}
 use Rattle.nutanswer.specs.View.{Seen, AskerSeen, readiness, usable}
 use Rattle.nutanswer.specs.Checks.{KnownUps, ups_named}
-use Rattle.nutanswer.specs.Orders.{is_short_enough, is_listed, is_in_ranges, right_to, set_line, instcmd_line, order}
+use Rattle.nutanswer.specs.Orders.{is_short_enough, is_listed, is_in_ranges, right_to, set_line}
+use Rattle.nutanswer.specs.Orders.{instcmd_line, order}
 use Rattle.nutanswer.specs.Answer.{ok, answer_to, text_of_answer, change_of_answer}
 
 -- The session has given the name and the password of a user to whom the right is granted.
@@ -24,7 +28,8 @@ pub record HasRight (s : Seen) (asker : AskerSeen) (right : Right) : Type 0 wher
   pub password_given : asker.password ≡ Some password
   pub granted : may s.users name password right ≡ true
 
--- The command is this one of a UPS that is there, its session has the right, and these words answer it.
+-- The command is this one of a UPS that is there, its session has the right, and these words answer
+-- it.
 pub record IsByRight
     (s : Seen) (asker : AskerSeen) (command : Command) (of_ups : Option (List ℕ) → Command)
     (right : Right) (words : List (List ℕ)) (u : UpsId) : Type 0 where
@@ -54,7 +59,8 @@ abbrev pub IsShutdown : Seen → AskerSeen → Command → UpsId → Type 0
 IsShutdown s asker command u =
     IsByRight s asker command commands.Fsd rights.Fsd (codes "OK" ∷ codes "FSD-SET" ∷ []) u
 
--- SET VAR by right: its UPS is usable, and has the variable, which clients may set, and which may have the value. The line fits in what the driver may still be owed.
+-- SET VAR by right: its UPS is usable, and has the variable, which clients may set, and which may
+-- have the value. The line fits in what the driver may still be owed.
 pub record IsSet
     (s : Seen) (asker : AskerSeen) (command : Command) (u : UpsId) (line : List ℕ) : Type 0 where
   pub name : List ℕ
@@ -76,7 +82,8 @@ abbrev pub value_given : Option (List ℕ) → Option (Option (List ℕ))
 value_given None = None
 value_given (Some value) = Some (Some value)
 
--- INSTCMD by right: its UPS is usable, and has the command. The line fits in what the driver may still be owed.
+-- INSTCMD by right: its UPS is usable, and has the command. The line fits in what the driver may
+-- still be owed.
 pub record IsInstCmd
     (s : Seen) (asker : AskerSeen) (command : Command) (u : UpsId) (line : List ℕ) : Type 0 where
   pub name : List ℕ
@@ -109,9 +116,11 @@ EachChangeComesOfItsCommand =
 
 -- An order that OK answers is given to the driver of its UPS.
 pub record EachOrderAnsweredOkIsGiven : Type 0 where
-  pub set : (s : Seen) (asker : AskerSeen) (ups : Option (List ℕ)) (name value : List ℕ) (known : KnownUps)
+  pub set : (s : Seen) (asker : AskerSeen) (ups : Option (List ℕ)) (name value : List ℕ)
+      (known : KnownUps)
       → ups_named s ups ≡ Some known
-      → text_of_answer (answer_to s asker (commands.SetVar ups (Some name) (Some value))) ≡ line_of ok
+      → text_of_answer (answer_to s asker (commands.SetVar ups (Some name) (Some value)))
+      ≡ line_of ok
       → change_of_answer (answer_to s asker (commands.SetVar ups (Some name) (Some value)))
       ≡ order known.id (set_line name value)
   pub command : (s : Seen) (asker : AskerSeen) (ups : Option (List ℕ)) (name : List ℕ)

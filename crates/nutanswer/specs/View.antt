@@ -1,5 +1,6 @@
 -- What an answer may look at of a server, and of the session that asks.
-use Rattle.std.specs.Prelude.{ℕ, ◌-◌, ◌==◌, Bool, false, not, ◌||◌, nat_lt, count_by, map, filter, List, Option, if◌then◌else◌}
+use Rattle.std.specs.Prelude.{ℕ, ◌-◌, ◌==◌, Bool, false, not, ◌||◌, nat_lt, count_by, map, filter}
+use Rattle.std.specs.Prelude.{List, Option, if◌then◌else◌}
 use Rattle.std.specs.Option.{option_copied, option_map_or}
 use Rattle.nutdriver.specs.declared.report.Report.{Report}
 use Rattle.nutusers.specs.UpsList.{Ups}
@@ -9,7 +10,8 @@ use Rattle.nutusers.specs.declared.ups_list.UpsId.{UpsId}
 use Rattle.nutanswer.specs.declared.view.Asker.{Asker}
 use Rattle.nutanswer.specs.declared.view.UpsView.{UpsView}
 
--- A UPS: what its driver has reported, whether a forced shutdown is set, and how many bytes more its driver may be owed.
+-- A UPS: what its driver has reported, whether a forced shutdown is set, and how many bytes more
+-- its driver may be owed.
 pub record UpsSeen : Type 0 where
   pub report : Report
   pub fsd : Bool
@@ -20,7 +22,9 @@ pub record ClientSeen : Type 0 where
   pub address : List ℕ
   pub login : Option UpsId
 
--- The moment and the greatest age, in seconds; the list of UPSs, and what is known of each, in the order of the list; the users; the descriptions of variables and commands; the open sessions, in the order of opening.
+-- The moment and the greatest age, in seconds; the list of UPSs, and what is known of each, in the
+-- order of the list; the users; the descriptions of variables and commands; the open sessions, in
+-- the order of opening.
 pub record Seen : Type 0 where
   pub moment : ℕ
   pub max_age : ℕ
@@ -30,7 +34,8 @@ pub record Seen : Type 0 where
   pub descriptions : Descriptions
   pub clients : List ClientSeen
 
--- The session that asks: the user name and the password that it has given, and the UPS that it is logged in to.
+-- The session that asks: the user name and the password that it has given, and the UPS that it is
+-- logged in to.
 pub record AskerSeen : Type 0 where
   pub username : Option (List ℕ)
   pub password : Option (List ℕ)
@@ -42,7 +47,9 @@ ups_seen u = record { report = u.report.now; fsd = u.fsd; free = u.free }
 
 -- The session that a view shows.
 abbrev pub asker_seen : Asker → AskerSeen
-asker_seen a = record { username = option_copied a.username; password = option_copied a.password; login = a.login }
+asker_seen a =
+    record { username = option_copied a.username; password = option_copied a.password;
+    login = a.login }
 
 abbrev pub is_logged_in : UpsId → ClientSeen → Bool
 is_logged_in u client = option_map_or (λ v. v.place == u.place) client.login false
@@ -61,7 +68,8 @@ pub data Readiness : Type 0 where
   stale : Readiness
   usable : Readiness
 
--- A connected UPS is stale until all was reported and the driver says that its data are right, and where nothing was heard for more than the greatest age (upsd.conf(5): MAXAGE).
+-- A connected UPS is stale until all was reported and the driver says that its data are right, and
+-- where nothing was heard for more than the greatest age (upsd.conf(5): MAXAGE).
 abbrev pub readiness : ℕ → ℕ → Report → Readiness
 readiness moment max_age x =
     if not x.connected then not_connected

@@ -1,4 +1,5 @@
--- What every run keeps, and listings of clients and of UPSs need beside a sound server: lawful addresses, and the list of UPSs.
+-- What every run keeps, and listings of clients and of UPSs need beside a sound server: lawful
+-- addresses, and the list of UPSs.
 use Rattle.std.specs.Prelude.{◌≡◌, ℕ, List, Option, Some, None, All, IfSome, IsTrue}
 use Rattle.nutwords.specs.Reading.{is_address}
 use Rattle.nutusers.specs.UpsList.{Ups}
@@ -22,11 +23,18 @@ OpensLawfully event = IfSome (opened_from event) (λ address. IsTrue (is_address
 
 -- A new server has no session.
 abbrev pub ANewServerHasLawfulAddresses : Type 0
-ANewServerHasLawfulAddresses = (list : List Ups) (users : List User) (descriptions : Descriptions) (max_age : ℕ) → All HasLawfulAddress (new_server list users descriptions max_age).sessions
+ANewServerHasLawfulAddresses =
+    (list : List Ups) (users : List User) (descriptions : Descriptions) (max_age : ℕ)
+    → All HasLawfulAddress (new_server list users descriptions max_age).sessions
 
 abbrev pub EveryRunKeepsAddressesLawful : Type 0
-EveryRunKeepsAddressesLawful = (old new : ServerState) (events : List Event) (outcomes : List Outcome) → Run old events outcomes new → All OpensLawfully events → All HasLawfulAddress old.sessions → All HasLawfulAddress new.sessions
+EveryRunKeepsAddressesLawful =
+    (old new : ServerState) (events : List Event) (outcomes : List Outcome)
+    → Run old events outcomes new → All OpensLawfully events → All HasLawfulAddress old.sessions
+    → All HasLawfulAddress new.sessions
 
 -- The list of UPSs is never changed, so what holds of each of them holds for ever.
 abbrev pub EveryRunKeepsTheList : Type 0
-EveryRunKeepsTheList = (old new : ServerState) (events : List Event) (outcomes : List Outcome) → Run old events outcomes new → new.list ≡ old.list
+EveryRunKeepsTheList =
+    (old new : ServerState) (events : List Event) (outcomes : List Outcome)
+    → Run old events outcomes new → new.list ≡ old.list

@@ -1,5 +1,7 @@
--- Who may do what: a forced shutdown and a login come of a line whose session has the right (upsd.users(5)).
-use Rattle.std.specs.Prelude.{◌≡◌, ℕ, Bool, false, true, List, [], ◌∷◌, ◌++◌, Option, Some, Ok, codes, ◌==◌, length, map}
+-- Who may do what: a forced shutdown and a login come of a line whose session has the right
+-- (upsd.users(5)).
+use Rattle.std.specs.Prelude.{◌≡◌, ℕ, Bool, false, true, List, [], ◌∷◌, ◌++◌, Option, Some, Ok}
+use Rattle.std.specs.Prelude.{codes, ◌==◌, length, map}
 use Rattle.std.specs.List.{filter}
 use Rattle.std.specs.Fmt.{decimal}
 use Rattle.std.specs.Option.{option_map_or}
@@ -10,7 +12,8 @@ use Rattle.nutusers.specs.declared.rights.Right.{Right}
 use Rattle.nutusers.specs.declared.rights.Right.TheVariants as rights
 use Rattle.nutusers.specs.declared.ups_list.UpsId.{UpsId}
 use Rattle.nutanswer.specs.declared.command.Command.{Command}
-use Rattle.nutanswer.specs.declared.command.Command.TheVariants.{Username, Password, Login, Fsd, GetNumLogins, ListClient}
+use Rattle.nutanswer.specs.declared.command.Command.TheVariants.{Username, Password, Login, Fsd}
+use Rattle.nutanswer.specs.declared.command.Command.TheVariants.{GetNumLogins, ListClient}
 use Rattle.nutanswer.specs.Command.{read_command}
 use Rattle.nutanswer.specs.Checks.{KnownUps, ups_named}
 use Rattle.nutcore.specs.declared.event.Event.{Event}
@@ -25,8 +28,10 @@ use Rattle.nutcore.specs.History.{Execution, of_line, of_notice, executions}
 abbrev pub IsAmong : Execution → List Execution → Type 0
 IsAmong x xs = (before after : List Execution) × (xs ≡ before ++ x ∷ after)
 
--- The line is this command of this UPS, is answered so, and its session has given the name and the password of a user who has the right.
-pub record IsByRight (s : ServerState) (c : ℕ) (line : List ℕ) (of_ups : Option (List ℕ) → Command) (right : Right) (answer : List (List ℕ)) (u : UpsId) : Type 0 where
+-- The line is this command of this UPS, is answered so, and its session has given the name and the
+-- password of a user who has the right.
+pub record IsByRight (s : ServerState) (c : ℕ) (line : List ℕ) (of_ups : Option (List ℕ) → Command)
+    (right : Right) (answer : List (List ℕ)) (u : UpsId) : Type 0 where
   pub ups : Option (List ℕ)
   pub name : List ℕ
   pub password : List ℕ
@@ -41,12 +46,14 @@ pub record IsByRight (s : ServerState) (c : ℕ) (line : List ℕ) (of_ups : Opt
 
 -- It sets the forced shutdown of this UPS by right: `FSD u`, answered `OK FSD-SET`.
 abbrev pub SetsShutdownByRight : UpsId → Execution → Type 0
-SetsShutdownByRight u (of_line s c line) = IsByRight s c line Fsd rights.Fsd (codes "OK" ∷ codes "FSD-SET" ∷ []) u
+SetsShutdownByRight u (of_line s c line) =
+    IsByRight s c line Fsd rights.Fsd (codes "OK" ∷ codes "FSD-SET" ∷ []) u
 SetsShutdownByRight u (of_notice c) = ⊥
 
 -- It logs this client in to this UPS by right: its `LOGIN u`, answered `OK`.
 abbrev pub LogsInByRight : ℕ → UpsId → Execution → Type 0
-LogsInByRight c u (of_line s d line) = (d ≡ c) × IsByRight s d line Login rights.Login (codes "OK" ∷ []) u
+LogsInByRight c u (of_line s d line) =
+    (d ≡ c) × IsByRight s d line Login rights.Login (codes "OK" ∷ []) u
 LogsInByRight c u (of_notice d) = ⊥
 
 -- The forced shutdown of the UPS is set.
@@ -60,46 +67,66 @@ is_logged_in_of u x = option_map_or (λ v. v.place == u.place) x.login false
 abbrev pub is_logged_in : ℕ → UpsId → ServerState → Bool
 is_logged_in c u s = option_map_or (is_logged_in_of u) (session c s) false
 
--- A forced shutdown is set only by right: where it is set after a run and wasn't before, one of the lines that the run executed set it by right.
+-- A forced shutdown is set only by right: where it is set after a run and wasn't before, one of the
+-- lines that the run executed set it by right.
 abbrev pub AForcedShutdownIsSetByRight : Type 0
 AForcedShutdownIsSetByRight =
-    (old new : ServerState) (events : List Event) (outcomes : List Outcome) (u : UpsId) → Run old events outcomes new → is_shut_down u old ≡ false → is_shut_down u new ≡ true
+    (old new : ServerState) (events : List Event) (outcomes : List Outcome) (u : UpsId)
+    → Run old events outcomes new → is_shut_down u old ≡ false → is_shut_down u new ≡ true
     → (x : Execution) × IsAmong x (executions old events outcomes) × SetsShutdownByRight u x
 
 -- The same of a login.
 abbrev pub ALoginIsByRight : Type 0
 ALoginIsByRight =
-    (old new : ServerState) (events : List Event) (outcomes : List Outcome) (c : ℕ) (u : UpsId) → Run old events outcomes new → is_logged_in c u old ≡ false → is_logged_in c u new ≡ true
+    (old new : ServerState) (events : List Event) (outcomes : List Outcome) (c : ℕ) (u : UpsId)
+    → Run old events outcomes new → is_logged_in c u old ≡ false → is_logged_in c u new ≡ true
     → (x : Execution) × IsAmong x (executions old events outcomes) × LogsInByRight c u x
 
 -- This line of the client gives this user name: `USERNAME name`, answered `OK`.
 abbrev pub GivesUsername : ℕ → List ℕ → Execution → Type 0
-GivesUsername c name (of_line s d line) = (d ≡ c) × (read_command line ≡ Ok (Some (Username (Some name)))) × (reply s d line ≡ text_line (codes "OK" ∷ []))
+GivesUsername c name (of_line s d line) =
+    (d ≡ c) × (read_command line ≡ Ok (Some (Username (Some name))))
+    × (reply s d line ≡ text_line (codes "OK" ∷ []))
 GivesUsername c name (of_notice d) = ⊥
 
 -- The same of a password.
 abbrev pub GivesPassword : ℕ → List ℕ → Execution → Type 0
-GivesPassword c password (of_line s d line) = (d ≡ c) × (read_command line ≡ Ok (Some (Password (Some password)))) × (reply s d line ≡ text_line (codes "OK" ∷ []))
+GivesPassword c password (of_line s d line) =
+    (d ≡ c) × (read_command line ≡ Ok (Some (Password (Some password))))
+    × (reply s d line ≡ text_line (codes "OK" ∷ []))
 GivesPassword c password (of_notice d) = ⊥
 
--- The user name and the password with which a line is executed were given by lines of its client, executed before it.
+-- The user name and the password with which a line is executed were given by lines of its client,
+-- executed before it.
 pub record WasGivenBefore (before : List Execution) (s : ServerState) (c : ℕ) : Type 0 where
-  pub username : (name : List ℕ) → (asker c s).username ≡ Some name → (x : Execution) × IsAmong x before × GivesUsername c name x
-  pub password : (word : List ℕ) → (asker c s).password ≡ Some word → (x : Execution) × IsAmong x before × GivesPassword c word x
+  pub username : (name : List ℕ) → (asker c s).username ≡ Some name
+      → (x : Execution) × IsAmong x before × GivesUsername c name x
+  pub password : (word : List ℕ) → (asker c s).password ≡ Some word
+      → (x : Execution) × IsAmong x before × GivesPassword c word x
 
--- What a session has given it gave by lines of the run: of every line that a run from a server without sessions executed, whatever was executed before it.
+-- What a session has given it gave by lines of the run: of every line that a run from a server
+-- without sessions executed, whatever was executed before it.
 abbrev pub CredentialsAreGivenByLines : Type 0
 CredentialsAreGivenByLines =
-    (old new : ServerState) (events : List Event) (outcomes : List Outcome) (before after : List Execution) (s : ServerState) (c : ℕ) (line : List ℕ) → old.sessions ≡ [] → Run old events outcomes new → executions old events outcomes ≡ before ++ of_line s c line ∷ after
+    (old new : ServerState) (events : List Event) (outcomes : List Outcome)
+    (before after : List Execution) (s : ServerState) (c : ℕ) (line : List ℕ) → old.sessions ≡ []
+    → Run old events outcomes new
+    → executions old events outcomes ≡ before ++ of_line s c line ∷ after
     → WasGivenBefore before s c
 
 -- The open sessions that are logged in to the UPS, in the order of opening.
 abbrev pub logged_in : UpsId → ServerState → List SessionState
 logged_in u s = filter (is_logged_in_of u) s.sessions
 
--- What is counted is who is there: `GET NUMLOGINS` tells the number of the sessions that are logged in to the UPS, and `LIST CLIENT` lists exactly these, by their addresses.
+-- What is counted is who is there: `GET NUMLOGINS` tells the number of the sessions that are logged
+-- in to the UPS, and `LIST CLIENT` lists exactly these, by their addresses.
 pub record WhatIsCountedIsWhoIsThere : Type 0 where
-  pub counted : (s : ServerState) (c : ℕ) (line : List ℕ) (ups : Option (List ℕ)) (known : KnownUps) → read_command line ≡ Ok (Some (GetNumLogins ups)) → ups_named (seen s) ups ≡ Some known
-      → reply s c line ≡ text_line (codes "NUMLOGINS" ∷ known.name ∷ decimal (length (logged_in known.id s)) ∷ [])
-  pub listed : (s : ServerState) (c : ℕ) (line : List ℕ) (ups : Option (List ℕ)) (known : KnownUps) → read_command line ≡ Ok (Some (ListClient ups)) → ups_named (seen s) ups ≡ Some known
-      → reply s c line ≡ frame (codes "CLIENT") (known.name ∷ []) (map (λ x. client_item known.name x.address) (logged_in known.id s))
+  pub counted : (s : ServerState) (c : ℕ) (line : List ℕ) (ups : Option (List ℕ)) (known : KnownUps)
+      → read_command line ≡ Ok (Some (GetNumLogins ups)) → ups_named (seen s) ups ≡ Some known
+      → reply s c line
+      ≡ text_line (codes "NUMLOGINS" ∷ known.name ∷ decimal (length (logged_in known.id s)) ∷ [])
+  pub listed : (s : ServerState) (c : ℕ) (line : List ℕ) (ups : Option (List ℕ)) (known : KnownUps)
+      → read_command line ≡ Ok (Some (ListClient ups)) → ups_named (seen s) ups ≡ Some known
+      → reply s c line
+      ≡ frame (codes "CLIENT") (known.name ∷ [])
+      (map (λ x. client_item known.name x.address) (logged_in known.id s))

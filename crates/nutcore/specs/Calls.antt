@@ -1,5 +1,6 @@
 -- What the calls of a server answer, as outcomes.
-use Rattle.std.specs.Prelude.{◌≡◌, ℕ, Bool, List, Result, Ok, Err, Option, Some, None, ◌-◌, ◌&&◌, ◌==◌, if◌then◌else◌, length, take}
+use Rattle.std.specs.Prelude.{◌≡◌, ℕ, Bool, List, Result, Ok, Err, Option, Some, None, ◌-◌, ◌&&◌}
+use Rattle.std.specs.Prelude.{◌==◌, if◌then◌else◌, length, take}
 use Rattle.nutcore.specs.declared.TheConstants.{HELD_LIMIT}
 use Rattle.nutcore.specs.declared.event.Outcome.{Outcome}
 use Rattle.nutcore.specs.declared.event.Outcome.TheVariants.{Done, Fed, Opened, Refused}
@@ -40,7 +41,8 @@ abbrev pub ReadsUps : {A : Type 0} → (UpsState → A) → Option UpsState → 
 ReadsUps read None answer = answer ≡ Err NoSuchUps
 ReadsUps read (Some x) answer = answer ≡ Ok (read x)
 
--- The outbox owes these bytes, and no others: its ring is those that are offered, and a cursor is there only while something rests.
+-- The outbox owes these bytes, and no others: its ring is those that are offered, and a cursor is
+-- there only while something rests.
 pub record IsOutboxOf (bytes : List ℕ) (o : Owes) : Type 0 where
   pub owed_is : owed o ≡ bytes
   pub ring_is : o.ring ≡ take RING_LIMIT bytes

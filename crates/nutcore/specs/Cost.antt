@@ -1,4 +1,5 @@
--- What each event costs: the lines of answers that it renders, and the bytes that it places where they are offered to a client.
+-- What each event costs: the lines of answers that it renders, and the bytes that it places where
+-- they are offered to a client.
 use Rattle.std.specs.Prelude.{◌≡◌, ℕ, ◌+◌, ◌-◌, List, [], ◌∷◌, length, drop}
 use Rattle.nutlisting.specs.Counts.{lines}
 use Rattle.nutcore.specs.declared.cost.Cost.{Cost}
@@ -21,14 +22,21 @@ no_cost = record { rendered = 0; placed = 0 }
 abbrev pub begun : ServerState → RunningServer
 begun s = record { state = s; cost = no_cost }
 
--- What is offered to a client before and after, and how many bytes it took: those that are offered after, and those taken, less those offered before, were placed. They are the last of those offered, and just their lines were rendered, each once.
+-- What is offered to a client before and after, and how many bytes it took: those that are offered
+-- after, and those taken, less those offered before, were placed. They are the last of those
+-- offered, and just their lines were rendered, each once.
 abbrev pub cost_between : List ℕ → ℕ → List ℕ → Cost
-cost_between before taken after = let placed = length after + taken - length before in record { rendered = lines (drop (length after - placed) after); placed = placed }
+cost_between before taken after =
+    let placed = length after + taken - length before in
+    record { rendered = lines (drop (length after - placed) after); placed = placed }
 
 abbrev pub client_cost : ℕ → ServerState → Event → ServerState → Cost
-client_cost c old e new = cost_between (offered (session c old)) (length (taken_in_event c old e)) (offered (session c new))
+client_cost c old e new =
+    cost_between (offered (session c old)) (length (taken_in_event c old e))
+    (offered (session c new))
 
--- What a client sends or takes costs what is rendered and placed for it, and any other event nothing.
+-- What a client sends or takes costs what is rendered and placed for it, and any other event
+-- nothing.
 abbrev pub cost_of : ServerState → Event → ServerState → Cost
 cost_of old (Feed c piece) new = client_cost c old (Feed c piece) new
 cost_of old (Took c n) new = client_cost c old (Took c n) new

@@ -1,5 +1,6 @@
 -- What a driver reported in a run, from the events alone: the other half of the headline.
-use Rattle.std.specs.Prelude.{◌≡◌, ◌≤◌, ℕ, Bool, true, false, List, [], ◌∷◌, ◌++◌, Some, None, ◌==◌, if◌then◌else◌, length, map}
+use Rattle.std.specs.Prelude.{◌≡◌, ◌≤◌, ℕ, Bool, true, false, List, [], ◌∷◌, ◌++◌, Some, None, ◌==◌}
+use Rattle.std.specs.Prelude.{if◌then◌else◌, length, map}
 use Rattle.std.specs.List.{flat_map}
 use Rattle.std.specs.Option.{option_map_or}
 use Rattle.nutwords.specs.SplitLine.{split_line}
@@ -53,18 +54,22 @@ has_driver u s = option_map_or (λ x. x.report.connected) (ups_at u.place s) fal
 abbrev pub StaysConnected : UpsId → ServerState → List Event → List Outcome → Type 0
 StaysConnected u s [] os = has_driver u s ≡ true
 StaysConnected u s (e ∷ es) [] = has_driver u s ≡ true
-StaysConnected u s (e ∷ es) (o ∷ os) = (has_driver u s ≡ true) × StaysConnected u (after s e o) es os
+StaysConnected u s (e ∷ es) (o ∷ os) =
+    (has_driver u s ≡ true) × StaysConnected u (after s e o) es os
 
 -- What is unfinished of what came from it.
 abbrev pub unfinished_of : UpsId → ServerState → List ℕ
 unfinished_of u s = option_map_or (λ x. x.unfinished) (ups_at u.place s) []
 
--- The lines that are executed in an event, where this UPS's driver isn't lost, and in a run: the whole lines of what was unfinished and of what came, at the event's moment.
+-- The lines that are executed in an event, where this UPS's driver isn't lost, and in a run: the
+-- whole lines of what was unfinished and of what came, at the event's moment.
 abbrev pub heard_at : ℕ → List ℕ → Heard
 heard_at moment line = record { moment = moment; line = line }
 
 abbrev pub heard_in_event : UpsId → ServerState → Event → List Heard
-heard_in_event u s (DriverBytes v piece) = if v.place == u.place then map (heard_at s.moment) (whole_lines (unfinished_of u s ++ piece)) else []
+heard_in_event u s (DriverBytes v piece) =
+    if v.place == u.place then map (heard_at s.moment) (whole_lines (unfinished_of u s ++ piece))
+    else []
 heard_in_event u s _ = []
 
 abbrev pub heard : UpsId → ServerState → List Event → List Outcome → List Heard
@@ -72,20 +77,26 @@ heard u s [] os = []
 heard u s (e ∷ es) [] = []
 heard u s (e ∷ es) (o ∷ os) = heard_in_event u s e ++ heard u (after s e o) es os
 
--- From one state of a UPS to another: what was unfinished, followed by what came, is the executed lines, followed by what is unfinished; and the report is what these lines made of it, in order.
-pub record IsHeard (before : UpsState) (came : List ℕ) (lines : List Heard) (after : UpsState) : Type 0 where
+-- From one state of a UPS to another: what was unfinished, followed by what came, is the executed
+-- lines, followed by what is unfinished; and the report is what these lines made of it, in order.
+pub record IsHeard (before : UpsState) (came : List ℕ) (lines : List Heard) (after : UpsState)
+    : Type 0 where
   pub whole : Each IsWholeLine lines
   pub all : before.unfinished ++ came ≡ bytes_heard lines ++ after.unfinished
   pub report : after.report ≡ after_heard before.report lines
 
-pub record DriverIsHeard (u : UpsId) (old : ServerState) (came : List ℕ) (lines : List Heard) (new : ServerState) : Type 0 where
+pub record DriverIsHeard (u : UpsId) (old : ServerState) (came : List ℕ) (lines : List Heard)
+    (new : ServerState) : Type 0 where
   pub before : UpsState
   pub after : UpsState
   pub there_before : ups_at u.place old ≡ Some before
   pub there_after : ups_at u.place new ≡ Some after
   pub is_heard : IsHeard before came lines after
 
--- While a driver isn't lost, all that came from it is its executed lines, followed by what is unfinished, and its report is what these lines made of it.
+-- While a driver isn't lost, all that came from it is its executed lines, followed by what is
+-- unfinished, and its report is what these lines made of it.
 abbrev pub WhatADriverToldIsExecuted : Type 0
 WhatADriverToldIsExecuted =
-    (old new : ServerState) (events : List Event) (outcomes : List Outcome) (u : UpsId) → Run old events outcomes new → StaysConnected u old events outcomes → DriverIsHeard u old (came u events) (heard u old events outcomes) new
+    (old new : ServerState) (events : List Event) (outcomes : List Outcome) (u : UpsId)
+    → Run old events outcomes new → StaysConnected u old events outcomes
+    → DriverIsHeard u old (came u events) (heard u old events outcomes) new

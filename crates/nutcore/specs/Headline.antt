@@ -1,10 +1,13 @@
 -- The laws of every run.
-use Rattle.std.specs.Prelude.{◌≡◌, ◌⊎◌, ℕ, ◌<◌, ◌≤◌, length, true, false, List, [], ◌∷◌, ◌++◌, All, Some, Ok, is_some, codes, map, nat_eq}
+use Rattle.std.specs.Prelude.{◌≡◌, ◌⊎◌, ℕ, ◌<◌, ◌≤◌, length, true, false, List, [], ◌∷◌, ◌++◌, All}
+use Rattle.std.specs.Prelude.{Some, Ok, is_some, codes, map, nat_eq}
 use Rattle.std.specs.List.{starts_with}
 use Rattle.nutwords.specs.Frame.{frame}
 use Rattle.nutlisting.specs.declared.outbox.TheConstants.{OWED_LIMIT}
 use Rattle.nutcore.specs.declared.event.Event.{Event}
-use Rattle.nutcore.specs.declared.event.Event.TheVariants.{DriverUp, DriverBytes, DriverTook, DriverDown, Tick, Open, Feed, Took, Close}
+use Rattle.nutcore.specs.declared.event.Event.TheVariants.{DriverUp, DriverBytes, DriverTook}
+use Rattle.nutcore.specs.declared.event.Event.TheVariants.{DriverDown, Tick, Open, Feed, Took}
+use Rattle.nutcore.specs.declared.event.Event.TheVariants.{Close}
 use Rattle.nutcore.specs.declared.event.Outcome.{Outcome}
 use Rattle.nutcore.specs.declared.event.Outcome.TheVariants.{Done, Fed, Refused}
 use Rattle.nutcore.specs.declared.event.Fault.TheVariants.{Memory}
@@ -18,10 +21,12 @@ use Rattle.nutanswer.specs.Answer.{answer_to, listing}
 use Rattle.nutcore.specs.Session.{SessionState}
 use Rattle.nutcore.specs.Server.{ServerState, session, with_session}
 use Rattle.nutcore.specs.Reply.{seen, asker, reply}
-use Rattle.nutcore.specs.Pump.{next_line_for, pump_stops, after_line, after_lines, after_notice, pumped, answered}
+use Rattle.nutcore.specs.Pump.{next_line_for, pump_stops, after_line, after_lines, after_notice}
+use Rattle.nutcore.specs.Pump.{pumped, answered}
 use Rattle.nutcore.specs.Step.{Step, with_input, without_output, outcome_of}
 use Rattle.nutcore.specs.Run.{Run}
-use Rattle.nutcore.specs.History.{Execution, of_line, of_notice, executions, answers, executed, taken, asked, owed, held, is_closed, is_over}
+use Rattle.nutcore.specs.History.{Execution, of_line, of_notice, executions, answers, executed}
+use Rattle.nutcore.specs.History.{taken, asked, owed, held, is_closed, is_over}
 
 -- The bytes begin the text: they are a front part of it, none and all of it included.
 abbrev pub IsBeginning : List ℕ → List ℕ → Type 0
@@ -31,18 +36,28 @@ IsBeginning bytes text = (rest : List ℕ) × (bytes ++ rest ≡ text)
 abbrev pub IsLawful : ServerState → Type 0
 IsLawful s = (c : ℕ) → is_some (session c s) ≡ true → c < s.next_id
 
--- What was owed before, followed by the answers of the run, is what the client took, followed by what it is owed after. A client that was closed took a beginning of that.
-pub record SentAndOwed (c : ℕ) (old : ServerState) (events : List Event) (outcomes : List Outcome) (new : ServerState) : Type 0 where
-  pub while_open : is_closed c new ≡ false → owed c old ++ answers c old events outcomes ≡ taken c old events outcomes ++ owed c new
-  pub once_closed : is_closed c new ≡ true → IsBeginning (taken c old events outcomes) (owed c old ++ answers c old events outcomes)
+-- What was owed before, followed by the answers of the run, is what the client took, followed by
+-- what it is owed after. A client that was closed took a beginning of that.
+pub record SentAndOwed (c : ℕ) (old : ServerState) (events : List Event) (outcomes : List Outcome)
+    (new : ServerState) : Type 0 where
+  pub while_open : is_closed c new ≡ false
+      → owed c old ++ answers c old events outcomes ≡ taken c old events outcomes ++ owed c new
+  pub once_closed : is_closed c new ≡ true
+      → IsBeginning (taken c old events outcomes) (owed c old ++ answers c old events outcomes)
 
--- What was held before, followed by what was asked in the run, is the executed lines, followed by what is held after. Of a client that is closed or ending, the executed lines are a beginning of that.
-pub record TakenUp (c : ℕ) (old : ServerState) (events : List Event) (outcomes : List Outcome) (new : ServerState) : Type 0 where
-  pub while_going : is_over c new ≡ false → held c old ++ asked c old events outcomes ≡ executed c old events outcomes ++ held c new
-  pub once_over : is_over c new ≡ true → IsBeginning (executed c old events outcomes) (held c old ++ asked c old events outcomes)
+-- What was held before, followed by what was asked in the run, is the executed lines, followed by
+-- what is held after. Of a client that is closed or ending, the executed lines are a beginning of
+-- that.
+pub record TakenUp (c : ℕ) (old : ServerState) (events : List Event) (outcomes : List Outcome)
+    (new : ServerState) : Type 0 where
+  pub while_going : is_over c new ≡ false
+      → held c old ++ asked c old events outcomes ≡ executed c old events outcomes ++ held c new
+  pub once_over : is_over c new ≡ true
+      → IsBeginning (executed c old events outcomes) (held c old ++ asked c old events outcomes)
 
 -- One event: what it leaves by its outcome, and the same of it alone as of a run.
-pub record Serves (old : ServerState) (event : Event) (outcome : Outcome) (new : ServerState) : Type 0 where
+pub record Serves (old : ServerState) (event : Event) (outcome : Outcome) (new : ServerState)
+    : Type 0 where
   pub step : Step old event outcome new
   pub sent_and_owed : (c : ℕ) → SentAndOwed c old (event ∷ []) (outcome ∷ []) new
   pub taken_up : (c : ℕ) → TakenUp c old (event ∷ []) (outcome ∷ []) new
@@ -50,18 +65,23 @@ pub record Serves (old : ServerState) (event : Event) (outcome : Outcome) (new :
 -- In every run, of every client.
 abbrev pub WhatWasSentAndIsOwedIsTheAnswers : Type 0
 WhatWasSentAndIsOwedIsTheAnswers =
-    (old new : ServerState) (events : List Event) (outcomes : List Outcome) → IsLawful old → Run old events outcomes new → (c : ℕ) → SentAndOwed c old events outcomes new
+    (old new : ServerState) (events : List Event) (outcomes : List Outcome) → IsLawful old
+    → Run old events outcomes new → (c : ℕ) → SentAndOwed c old events outcomes new
 
 abbrev pub WhatWasAskedIsExecutedOrHeld : Type 0
 WhatWasAskedIsExecutedOrHeld =
-    (old new : ServerState) (events : List Event) (outcomes : List Outcome) → IsLawful old → Run old events outcomes new → (c : ℕ) → TakenUp c old events outcomes new
+    (old new : ServerState) (events : List Event) (outcomes : List Outcome) → IsLawful old
+    → Run old events outcomes new → (c : ℕ) → TakenUp c old events outcomes new
 
--- It belongs to the pump that began so: the line is its client's next one once so many lines before it are executed.
+-- It belongs to the pump that began so: the line is its client's next one once so many lines before
+-- it are executed.
 abbrev pub IsInPump : ServerState → ℕ → Execution → Type 0
-IsInPump begun c (of_line s d line) = (d ≡ c) × (k : ℕ) × (s ≡ after_lines k begun c) × (next_line_for s c ≡ Some line)
+IsInPump begun c (of_line s d line) =
+    (d ≡ c) × (k : ℕ) × (s ≡ after_lines k begun c) × (next_line_for s c ≡ Some line)
 IsInPump begun c (of_notice d) = d ≡ c
 
--- It belongs to this event on this server: to the pump that begins once the bytes have come, or are taken.
+-- It belongs to this event on this server: to the pump that begins once the bytes have come, or are
+-- taken.
 abbrev pub IsInEvent : ServerState → Event → Execution → Type 0
 IsInEvent s (DriverUp u) x = ⊥
 IsInEvent s (DriverBytes u piece) x = ⊥
@@ -73,8 +93,10 @@ IsInEvent s (Feed c piece) x = IsInPump (with_input s c piece) c x
 IsInEvent s (Took c n) x = IsInPump (without_output s c n) c x
 IsInEvent s (Close c) x = ⊥
 
--- It belongs to an event of the run, on the server to which the run's own beginning before that event leads.
-pub record IsTimely (old : ServerState) (events : List Event) (outcomes : List Outcome) (x : Execution) : Type 0 where
+-- It belongs to an event of the run, on the server to which the run's own beginning before that
+-- event leads.
+pub record IsTimely (old : ServerState) (events : List Event) (outcomes : List Outcome)
+    (x : Execution) : Type 0 where
   pub events_before : List Event
   pub event : Event
   pub events_after : List Event
@@ -87,31 +109,51 @@ pub record IsTimely (old : ServerState) (events : List Event) (outcomes : List O
   pub reached : Run old events_before outcomes_before server
   pub executed : IsInEvent server event x
 
--- Each answer of a run is the reply to its line on the server of that point of that run, at which the line was the next to be executed.
+-- Each answer of a run is the reply to its line on the server of that point of that run, at which
+-- the line was the next to be executed.
 abbrev pub EachAnswerIsTimely : Type 0
 EachAnswerIsTimely =
-    (old new : ServerState) (events : List Event) (outcomes : List Outcome) → Run old events outcomes new → All (IsTimely old events outcomes) (executions old events outcomes)
+    (old new : ServerState) (events : List Event) (outcomes : List Outcome)
+    → Run old events outcomes new
+    → All (IsTimely old events outcomes) (executions old events outcomes)
 
--- After bytes that were taken in, and after bytes that were taken, nothing is left that may be executed.
+-- After bytes that were taken in, and after bytes that were taken, nothing is left that may be
+-- executed.
 pub record NothingIsLeftToExecute : Type 0 where
-  pub fed : (old new : ServerState) (c n : ℕ) (piece : List ℕ) → Step old (Feed c piece) (Fed n) new → pump_stops new c ≡ true
-  pub took : (old new : ServerState) (c n : ℕ) → Step old (Took c n) Done new → pump_stops new c ≡ true
+  pub fed : (old new : ServerState) (c n : ℕ) (piece : List ℕ) → Step old (Feed c piece) (Fed n) new
+      → pump_stops new c ≡ true
+  pub took : (old new : ServerState) (c n : ℕ) → Step old (Took c n) Done new
+      → pump_stops new c ≡ true
 
--- A line is executed only while at most 2,048 bytes are owed to its client, and its answer is joined after them: so what is owed is at most that, and one answer.
+-- A line is executed only while at most 2,048 bytes are owed to its client, and its answer is
+-- joined after them: so what is owed is at most that, and one answer.
 abbrev pub OneAnswerAtMostIsOwedAbove : Type 0
-OneAnswerAtMostIsOwedAbove = (s : ServerState) (c : ℕ) (line : List ℕ) → next_line_for s c ≡ Some line → (length (owed c s) ≤ OWED_LIMIT) × (owed c (after_line s c) ≡ owed c s ++ (reply s c line))
+OneAnswerAtMostIsOwedAbove =
+    (s : ServerState) (c : ℕ) (line : List ℕ) → next_line_for s c ≡ Some line
+    → (length (owed c s) ≤ OWED_LIMIT) × (owed c (after_line s c) ≡ owed c s ++ (reply s c line))
 
--- The text that answers a listing's line is BEGIN, exactly the items that the server has then, and END. Of LIST VAR, of a UPS that is usable, they are the variables that it holds.
+-- The text that answers a listing's line is BEGIN, exactly the items that the server has then, and
+-- END. Of LIST VAR, of a UPS that is usable, they are the variables that it holds.
 pub record AListingIsWhatIsHeld : Type 0 where
-  pub framed : (s : ServerState) (c : ℕ) (line : List ℕ) (command : Command) (l : ListingState) → read_command line ≡ Ok (Some command) → answer_to (seen s) (asker c s) command ≡ Ok (listing l)
+  pub framed : (s : ServerState) (c : ℕ) (line : List ℕ) (command : Command) (l : ListingState)
+      → read_command line ≡ Ok (Some command)
+      → answer_to (seen s) (asker c s) command ≡ Ok (listing l)
       → reply s c line ≡ frame l.kind l.names l.items
-  pub variables : (s : ServerState) (c : ℕ) (line ups : List ℕ) (known : KnownUps) → read_command line ≡ Ok (Some (ListVar (Some ups))) → ups_named (seen s) (Some ups) ≡ Some known → readiness s.moment s.max_age known.state.report ≡ usable
-      → reply s c line ≡ frame (codes "VAR") (known.name ∷ []) (map (variable_item (codes "VAR") known.name known.state.fsd) known.state.report.tree.variables)
+  pub variables : (s : ServerState) (c : ℕ) (line ups : List ℕ) (known : KnownUps)
+      → read_command line ≡ Ok (Some (ListVar (Some ups)))
+      → ups_named (seen s) (Some ups) ≡ Some known
+      → readiness s.moment s.max_age known.state.report ≡ usable
+      → reply s c line
+      ≡ frame (codes "VAR") (known.name ∷ [])
+      (map (variable_item
+      (codes "VAR") known.name known.state.fsd) known.state.report.tree.variables)
 
--- A whole line that is refused, by an answer that begins with ERR, changes nothing but its own session's held and owed bytes.
+-- A whole line that is refused, by an answer that begins with ERR, changes nothing but its own
+-- session's held and owed bytes.
 abbrev pub ARefusedLineChangesNothing : Type 0
 ARefusedLineChangesNothing =
-    (s : ServerState) (c : ℕ) (line : List ℕ) (x : SessionState) → session c s ≡ Some x → next_line_for s c ≡ Some line → starts_with nat_eq (reply s c line) (codes "ERR") ≡ true
+    (s : ServerState) (c : ℕ) (line : List ℕ) (x : SessionState) → session c s ≡ Some x
+    → next_line_for s c ≡ Some line → starts_with nat_eq (reply s c line) (codes "ERR") ≡ true
     → after_line s c ≡ with_session s (answered line (reply s c line) x)
 
 -- The pump executes the least number of lines after which it stops.
@@ -126,10 +168,13 @@ ThePumpExecutesTheLeast = (s : ServerState) (c : ℕ) → (k : ℕ) × IsLeast s
 abbrev pub IsOutOfMemory : Outcome → Type 0
 IsOutOfMemory outcome = (k : ℕ) × (outcome ≡ Refused (Memory k))
 
--- An event is a function of the server: given the outcome there is one next server, and but for being out of memory there is one outcome.
+-- An event is a function of the server: given the outcome there is one next server, and but for
+-- being out of memory there is one outcome.
 pub record IsAFunction (s : ServerState) (event : Event) : Type 0 where
-  pub one_next : (outcome : Outcome) (new other : ServerState) → Step s event outcome new → Step s event outcome other → new ≡ other
-  pub one_outcome : (outcome : Outcome) (new : ServerState) → Step s event outcome new → (outcome ≡ outcome_of s event) ⊎ IsOutOfMemory outcome
+  pub one_next : (outcome : Outcome) (new other : ServerState) → Step s event outcome new
+      → Step s event outcome other → new ≡ other
+  pub one_outcome : (outcome : Outcome) (new : ServerState) → Step s event outcome new
+      → (outcome ≡ outcome_of s event) ⊎ IsOutOfMemory outcome
 
 abbrev pub EachEventIsAFunction : Type 0
 EachEventIsAFunction = (s : ServerState) (event : Event) → IsAFunction s event

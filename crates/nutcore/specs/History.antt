@@ -1,5 +1,6 @@
 -- What a run did, told from the lists of events and outcomes. The server stores none of it.
-use Rattle.std.specs.Prelude.{ℕ, zero, suc, Bool, false, List, [], ◌∷◌, ◌++◌, Option, Some, None, ◌==◌, nat_lt, if◌then◌else◌, length, take}
+use Rattle.std.specs.Prelude.{ℕ, zero, suc, Bool, false, List, [], ◌∷◌, ◌++◌, Option, Some, None}
+use Rattle.std.specs.Prelude.{◌==◌, nat_lt, if◌then◌else◌, length, take}
 use Rattle.std.specs.List.{filter, flat_map}
 use Rattle.std.specs.Option.{option_map_or}
 use Rattle.nutcore.specs.declared.event.Event.{Event}
@@ -8,10 +9,13 @@ use Rattle.nutcore.specs.declared.event.Outcome.{Outcome}
 use Rattle.nutcore.specs.Lines.{with_lf}
 use Rattle.nutcore.specs.Server.{ServerState, session}
 use Rattle.nutcore.specs.Reply.{reply, too_long_notice}
-use Rattle.nutcore.specs.Pump.{next_line_for, after_line, after_all_lines, is_overlong, held_of, owed_of}
-use Rattle.nutcore.specs.Step.{accepted_bytes, with_input, without_output, may_take, after, refused_after}
+use Rattle.nutcore.specs.Pump.{next_line_for, after_line, after_all_lines, is_overlong, held_of}
+use Rattle.nutcore.specs.Pump.{owed_of}
+use Rattle.nutcore.specs.Step.{accepted_bytes, with_input, without_output, may_take, after}
+use Rattle.nutcore.specs.Step.{refused_after}
 
--- What an event executed: a line of a client, on the server as it was at that moment, or the notice to a client that its line is too long.
+-- What an event executed: a line of a client, on the server as it was at that moment, or the notice
+-- to a client that its line is too long.
 pub data Execution : Type 0 where
   of_line : (server : ServerState) → (client : ℕ) → (line : List ℕ) → Execution
   of_notice : (client : ℕ) → Execution
@@ -38,14 +42,16 @@ next_execution s c (Some line) = of_line s c line ∷ []
 -- The next k lines, as far as they may be executed.
 unfoldable pub lines_executed : ℕ → ServerState → ℕ → List Execution
 lines_executed zero s c = []
-lines_executed (suc k) s c = next_execution s c (next_line_for s c) ++ lines_executed k (after_line s c) c
+lines_executed (suc k) s c =
+    next_execution s c (next_line_for s c) ++ lines_executed k (after_line s c) c
 
 abbrev pub notice : ServerState → ℕ → List Execution
 notice s c = if is_overlong s c then of_notice c ∷ [] else []
 
 -- What the pump executes.
 unfoldable pub pump_executions : ServerState → ℕ → List Execution
-pump_executions s c = lines_executed (length (held_of (session c s))) s c ++ notice (after_all_lines s c) c
+pump_executions s c =
+    lines_executed (length (held_of (session c s))) s c ++ notice (after_all_lines s c) c
 
 -- The same, as far as memory let it.
 unfoldable pub executions_until : ServerState → ℕ → Option ℕ → List Execution
@@ -55,7 +61,8 @@ executions_until s c (Some k) = lines_executed k s c
 -- What an event executed.
 unfoldable pub executions_by : ServerState → Event → Option ℕ → List Execution
 executions_by s (Feed c piece) m = executions_until (with_input s c piece) c m
-executions_by s (Took c n) m = if may_take (session c s) n then executions_until (without_output s c n) c m else []
+executions_by s (Took c n) m =
+    if may_take (session c s) n then executions_until (without_output s c n) c m else []
 executions_by s _ m = []
 
 abbrev pub executions_in_event : ServerState → Event → Outcome → List Execution
@@ -73,7 +80,8 @@ of_client c all = filter (λ x. client_of x == c) all
 
 -- What the client took in one event.
 unfoldable pub taken_in_event : ℕ → ServerState → Event → List ℕ
-taken_in_event c s (Took d n) = if may_take (session d s) n then (if d == c then take n (owed_of (session d s)) else []) else []
+taken_in_event c s (Took d n) =
+    if may_take (session d s) n then (if d == c then take n (owed_of (session d s)) else []) else []
 taken_in_event c s _ = []
 
 -- What joined the client's held input in one event.

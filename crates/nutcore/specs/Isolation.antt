@@ -2,7 +2,9 @@
 use Rattle.std.specs.Prelude.{◌≡◌, ◌≢◌, ◌≤◌, ℕ, false, [], Option, Some, None, map}
 use Rattle.nutusers.specs.declared.ups_list.UpsId.{UpsId}
 use Rattle.nutcore.specs.declared.event.Event.{Event}
-use Rattle.nutcore.specs.declared.event.Event.TheVariants.{DriverUp, DriverBytes, DriverTook, DriverDown, Tick, Open, Feed, Took, Close}
+use Rattle.nutcore.specs.declared.event.Event.TheVariants.{DriverUp, DriverBytes, DriverTook}
+use Rattle.nutcore.specs.declared.event.Event.TheVariants.{DriverDown, Tick, Open, Feed, Took}
+use Rattle.nutcore.specs.declared.event.Event.TheVariants.{Close}
 use Rattle.nutcore.specs.declared.event.Outcome.{Outcome}
 use Rattle.nutcore.specs.declared.event.Outcome.TheVariants.{Refused}
 use Rattle.nutcore.specs.declared.event.Fault.{Fault}
@@ -44,13 +46,16 @@ without_commands x = record x { fsd = false; owed = [] }
 abbrev pub kept_from_clients : ServerState → ServerState
 kept_from_clients s = record s { sessions = []; upses = map without_commands s.upses }
 
--- What a client sends or takes, or its end, leaves every other session as it is, and of the server all that no command changes.
+-- What a client sends or takes, or its end, leaves every other session as it is, and of the server
+-- all that no command changes.
 pub record LeavesOtherClients (c : ℕ) (old new : ServerState) : Type 0 where
   pub sessions : (d : ℕ) → d ≢ c → session d new ≡ session d old
   pub server : kept_from_clients new ≡ kept_from_clients old
 
 abbrev pub AClientTouchesNoOther : Type 0
-AClientTouchesNoOther = (old new : ServerState) (event : Event) (outcome : Outcome) (c : ℕ) → Step old event outcome new → client_of event ≡ Some c → LeavesOtherClients c old new
+AClientTouchesNoOther =
+    (old new : ServerState) (event : Event) (outcome : Outcome) (c : ℕ) → Step old event outcome new
+    → client_of event ≡ Some c → LeavesOtherClients c old new
 
 -- What a driver does leaves every session as it is, every other UPS, and the rest of the server.
 pub record LeavesOtherUpses (u : UpsId) (old new : ServerState) : Type 0 where
@@ -58,18 +63,23 @@ pub record LeavesOtherUpses (u : UpsId) (old new : ServerState) : Type 0 where
   pub server : (let but : ServerState = record new { upses = old.upses } in but) ≡ old
 
 abbrev pub ADriverTouchesNoOther : Type 0
-ADriverTouchesNoOther = (old new : ServerState) (event : Event) (outcome : Outcome) (u : UpsId) → Step old event outcome new → ups_of event ≡ Some u → LeavesOtherUpses u old new
+ADriverTouchesNoOther =
+    (old new : ServerState) (event : Event) (outcome : Outcome) (u : UpsId)
+    → Step old event outcome new → ups_of event ≡ Some u → LeavesOtherUpses u old new
 
--- The greatest number of a fault that changes nothing: a line that is too long, and being out of memory, are 7 and 8.
+-- The greatest number of a fault that changes nothing: a line that is too long, and being out of
+-- memory, are 7 and 8.
 abbrev pub greatest_harmless : ℕ
 greatest_harmless = 6
 
 -- An event that is refused by one of the faults 1 to 6 changes nothing.
 abbrev pub ARefusedEventChangesNothing : Type 0
 ARefusedEventChangesNothing =
-    (old new : ServerState) (event : Event) (fault : Fault) → Step old event (Refused fault) new → number_of_fault fault ≤ greatest_harmless → new ≡ old
+    (old new : ServerState) (event : Event) (fault : Fault) → Step old event (Refused fault) new
+    → number_of_fault fault ≤ greatest_harmless → new ≡ old
 
 -- Nor does it cost anything.
 abbrev pub ARefusedEventCostsNothing : Type 0
 ARefusedEventCostsNothing =
-    (old new : ServerState) (event : Event) (fault : Fault) → Step old event (Refused fault) new → number_of_fault fault ≤ greatest_harmless → cost_of old event new ≡ no_cost
+    (old new : ServerState) (event : Event) (fault : Fault) → Step old event (Refused fault) new
+    → number_of_fault fault ≤ greatest_harmless → cost_of old event new ≡ no_cost

@@ -1,5 +1,6 @@
 -- Lines in a run of bytes (RFC 9271: a line is ended by LF).
-use Rattle.std.specs.Prelude.{ℕ, Bool, List, [], ◌∷◌, ◌++◌, ◌+◌, ◌==◌, Option, length, drop, take_while, nat_le, nat_lt, if◌then◌else◌}
+use Rattle.std.specs.Prelude.{ℕ, Bool, List, [], ◌∷◌, ◌++◌, ◌+◌, ◌==◌, Option, length, drop}
+use Rattle.std.specs.Prelude.{take_while, nat_le, nat_lt, if◌then◌else◌}
 use Rattle.std.specs.List.{flat_map}
 use Rattle.std.specs.Option.{option_map}
 use Rattle.nutwords.specs.SplitLine.{split_line}
@@ -50,7 +51,8 @@ is_too_long rest = nat_le LINE_ROOM (length rest)
 
 -- What stands after the whole lines: what is unfinished, or what is too long.
 abbrev pub tail_after : List ℕ → Tail
-tail_after bytes = if is_too_long (unfinished_after bytes) then Overlong else Unfinished (unfinished_after bytes)
+tail_after bytes =
+    if is_too_long (unfinished_after bytes) then Overlong else Unfinished (unfinished_after bytes)
 
 -- These are the lines and the tail into which each text is cut, and which it has alone.
 abbrev pub WholeLinesAreTheCut : Type 0

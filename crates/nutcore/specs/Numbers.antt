@@ -1,9 +1,12 @@
 -- The numbers of refusals.
 use Rattle.std.specs.Prelude.{ℕ}
 use Rattle.nutcore.specs.declared.event.Fault.{Fault}
-use Rattle.nutcore.specs.declared.event.Fault.TheVariants.{NoSuchUps, NoSuchClient, TooManyClients, TookTooMuch, NotConnected, AlreadyConnected, LineTooLong, Memory}
+use Rattle.nutcore.specs.declared.event.Fault.TheVariants.{NoSuchUps, NoSuchClient, TooManyClients}
+use Rattle.nutcore.specs.declared.event.Fault.TheVariants.{TookTooMuch, NotConnected}
+use Rattle.nutcore.specs.declared.event.Fault.TheVariants.{AlreadyConnected, LineTooLong, Memory}
 
--- A refusal's number: 1 no such UPS, 2 no such client, 3 too many clients, 4 more taken than offered, 5 not connected, 6 connected already, 7 a line too long, 8 no memory.
+-- A refusal's number: 1 no such UPS, 2 no such client, 3 too many clients, 4 more taken than
+-- offered, 5 not connected, 6 connected already, 7 a line too long, 8 no memory.
 abbrev pub number_of_fault : Fault → ℕ
 number_of_fault NoSuchUps = 1
 number_of_fault NoSuchClient = 2

@@ -8,20 +8,27 @@ use Rattle.nutusers.specs.declared.ups_list.UpsId.{UpsId}
 use Rattle.nutanswer.specs.declared.command.Command.TheVariants.{SetVar, InstCmd}
 use Rattle.nutanswer.specs.View.{readiness, usable}
 use Rattle.nutanswer.specs.Rows.{value_given}
-use Rattle.nutanswer.specs.Orders.{is_short_enough, is_listed, is_in_ranges, right_to, set_line, instcmd_line}
+use Rattle.nutanswer.specs.Orders.{is_short_enough, is_listed, is_in_ranges, right_to, set_line}
+use Rattle.nutanswer.specs.Orders.{instcmd_line}
 use Rattle.nutcore.specs.declared.event.Event.{Event}
 use Rattle.nutcore.specs.declared.event.Outcome.{Outcome}
 use Rattle.nutcore.specs.Server.{ServerState}
 use Rattle.nutcore.specs.History.{Execution, of_line, of_notice, executions}
 use Rattle.nutcore.specs.ByRight.{IsByRight}
-use Rattle.nutcore.specs.DriverOrders.{Telling, dump_all, ping, order, Connections, last, lost, connections}
+use Rattle.nutcore.specs.DriverOrders.{Telling, dump_all, ping, order, Connections, last, lost}
+use Rattle.nutcore.specs.DriverOrders.{connections}
 
--- The line is `SET VAR` of this UPS, answered `OK`, of a session that has given the name and the password of a user with the right to set variables; its UPS is usable, and has the variable, which clients may set, and which may have this value at that moment. The order is `SET name "value"`.
-pub record IsSetByRight (u : UpsId) (bytes : List ℕ) (s : ServerState) (c : ℕ) (line : List ℕ) : Type 0 where
+-- The line is `SET VAR` of this UPS, answered `OK`, of a session that has given the name and the
+-- password of a user with the right to set variables; its UPS is usable, and has the variable,
+-- which clients may set, and which may have this value at that moment. The order is `SET name
+-- "value"`.
+pub record IsSetByRight (u : UpsId) (bytes : List ℕ) (s : ServerState) (c : ℕ) (line : List ℕ)
+    : Type 0 where
   pub name : List ℕ
   pub value : List ℕ
   pub variable : VariableState
-  pub by_right : IsByRight s c line (λ ups. SetVar ups (Some name) (Some value)) rights.Set (codes "OK" ∷ []) u
+  pub by_right : IsByRight s c line (λ ups. SetVar ups (Some name) (Some value)) rights.Set
+      (codes "OK" ∷ []) u
   pub ready : readiness s.moment s.max_age by_right.known.state.report ≡ usable
   pub there : variable_at by_right.known.state.report.tree name ≡ Some variable
   pub writable : variable.flags.rw ≡ true
@@ -30,25 +37,34 @@ pub record IsSetByRight (u : UpsId) (bytes : List ℕ) (s : ServerState) (c : �
   pub in_range : is_in_ranges variable.ranges value ≡ true
   pub order_is : bytes ≡ set_line name value
 
--- The line is `INSTCMD` of this UPS, answered `OK`, of a session that has given the name and the password of a user with the right to this command; its UPS is usable, and has the command. The order is `INSTCMD name`, with the value after it where the line gives one.
-pub record IsCommandedByRight (u : UpsId) (bytes : List ℕ) (s : ServerState) (c : ℕ) (line : List ℕ) : Type 0 where
+-- The line is `INSTCMD` of this UPS, answered `OK`, of a session that has given the name and the
+-- password of a user with the right to this command; its UPS is usable, and has the command. The
+-- order is `INSTCMD name`, with the value after it where the line gives one.
+pub record IsCommandedByRight (u : UpsId) (bytes : List ℕ) (s : ServerState) (c : ℕ) (line : List ℕ)
+    : Type 0 where
   pub name : List ℕ
   pub value : Option (List ℕ)
-  pub by_right : IsByRight s c line (λ ups. InstCmd ups (Some name) (value_given value)) (right_to name) (codes "OK" ∷ []) u
+  pub by_right : IsByRight s c line (λ ups. InstCmd ups (Some name) (value_given value))
+      (right_to name) (codes "OK" ∷ []) u
   pub ready : readiness s.moment s.max_age by_right.known.state.report ≡ usable
   pub there : has_command by_right.known.state.report.tree name ≡ true
   pub order_is : bytes ≡ instcmd_line name value
 
 -- The execution is by right one of this order to this UPS.
 abbrev pub IsOrderByRight : UpsId → List ℕ → Execution → Type 0
-IsOrderByRight u bytes (of_line s c line) = IsSetByRight u bytes s c line ⊎ IsCommandedByRight u bytes s c line
+IsOrderByRight u bytes (of_line s c line) =
+    IsSetByRight u bytes s c line ⊎ IsCommandedByRight u bytes s c line
 IsOrderByRight u bytes (of_notice c) = ⊥
 
 -- The orders are exactly those of the executions that are by right, one each, in their order.
 pub data AreOrdersByRight (u : UpsId) : List Execution → List (List ℕ) → Type 0 where
   none_left : AreOrdersByRight u [] []
-  given : {x : Execution} {bytes : List ℕ} {xs : List Execution} {orders : List (List ℕ)} → IsOrderByRight u bytes x → AreOrdersByRight u xs orders → AreOrdersByRight u (x ∷ xs) (bytes ∷ orders)
-  passed_over : {x : Execution} {xs : List Execution} {orders : List (List ℕ)} → ((bytes : List ℕ) → IsOrderByRight u bytes x → ⊥) → AreOrdersByRight u xs orders → AreOrdersByRight u (x ∷ xs) orders
+  given : {x : Execution} {bytes : List ℕ} {xs : List Execution} {orders : List (List ℕ)}
+      → IsOrderByRight u bytes x → AreOrdersByRight u xs orders
+      → AreOrdersByRight u (x ∷ xs) (bytes ∷ orders)
+  passed_over : {x : Execution} {xs : List Execution} {orders : List (List ℕ)}
+      → ((bytes : List ℕ) → IsOrderByRight u bytes x → ⊥) → AreOrdersByRight u xs orders
+      → AreOrdersByRight u (x ∷ xs) orders
 
 -- The order of a telling, if it is one.
 abbrev pub order_of : Telling → List (List ℕ)
@@ -65,6 +81,9 @@ all_told (lost first later) = first.told ++ all_told later
 abbrev pub orders_told : UpsId → ServerState → List Event → List Outcome → List (List ℕ)
 orders_told u s es os = flat_map order_of (all_told (connections u s es os))
 
--- The orders that a run told the driver of a UPS are exactly those of the lines that it executed by right, one each, in their order.
+-- The orders that a run told the driver of a UPS are exactly those of the lines that it executed by
+-- right, one each, in their order.
 abbrev pub EachOrderIsByRight : Type 0
-EachOrderIsByRight = (old : ServerState) (events : List Event) (outcomes : List Outcome) (u : UpsId) → AreOrdersByRight u (executions old events outcomes) (orders_told u old events outcomes)
+EachOrderIsByRight =
+    (old : ServerState) (events : List Event) (outcomes : List Outcome) (u : UpsId)
+    → AreOrdersByRight u (executions old events outcomes) (orders_told u old events outcomes)

@@ -1,5 +1,6 @@
 -- What a sound server lists is read back, by the grammar of lines (RFC 9271: LIST).
-use Rattle.std.specs.Prelude.{◌≡◌, ℕ, Bool, List, [], ◌∷◌, Option, Some, Ok, codes, map, filter, All, IsTrue}
+use Rattle.std.specs.Prelude.{◌≡◌, ℕ, Bool, List, [], ◌∷◌, Option, Some, Ok, codes, map, filter}
+use Rattle.std.specs.Prelude.{All, IsTrue}
 use Rattle.std.specs.Fmt.{signed_decimal}
 use Rattle.nutwords.specs.Listing.{ReadsAsLines, listing_words}
 use Rattle.nutwords.specs.Reading.{is_address}
@@ -9,7 +10,8 @@ use Rattle.nutdriver.specs.Tree.{variable_at}
 use Rattle.nutusers.specs.UpsList.{Ups, IsLawfulUps}
 use Rattle.nutlisting.specs.Shown.{shown, ups_description}
 use Rattle.nutlisting.specs.Items.{is_rw, command_item, client_item}
-use Rattle.nutanswer.specs.declared.command.Command.TheVariants.{ListUps, ListVar, ListRw, ListCmd, ListEnum, ListRange, ListClient}
+use Rattle.nutanswer.specs.declared.command.Command.TheVariants.{ListUps, ListVar, ListRw, ListCmd}
+use Rattle.nutanswer.specs.declared.command.Command.TheVariants.{ListEnum, ListRange, ListClient}
 use Rattle.nutanswer.specs.Checks.{KnownUps, ups_named}
 use Rattle.nutanswer.specs.Command.{read_command}
 use Rattle.nutcore.specs.ByRight.{logged_in}
@@ -19,7 +21,9 @@ use Rattle.nutcore.specs.Server.{ServerState}
 use Rattle.nutcore.specs.Session.{SessionState}
 use Rattle.nutcore.specs.Sound.{IsSound}
 
--- The words of an item, as they are meant: of a variable, with the value as clients see it, of an enum value, of a range and of a UPS. Those of a command and of a client are written as they are meant.
+-- The words of an item, as they are meant: of a variable, with the value as clients see it, of an
+-- enum value, of a range and of a UPS. Those of a command and of a client are written as they are
+-- meant.
 abbrev pub variable_words : List ℕ → List ℕ → Bool → List ℕ × VariableState → List (List ℕ)
 variable_words word ups fsd entry = word ∷ ups ∷ entry.0 ∷ shown fsd entry.0 entry.1 ∷ []
 
@@ -27,37 +31,64 @@ abbrev pub enum_words : List ℕ → List ℕ → List ℕ → List (List ℕ)
 enum_words ups name value = codes "ENUM" ∷ ups ∷ name ∷ value ∷ []
 
 abbrev pub range_words : List ℕ → List ℕ → Range → List (List ℕ)
-range_words ups name range = codes "RANGE" ∷ ups ∷ name ∷ signed_decimal range.least ∷ signed_decimal range.greatest ∷ []
+range_words ups name range =
+    codes "RANGE" ∷ ups ∷ name ∷ signed_decimal range.least ∷ signed_decimal range.greatest ∷ []
 
 abbrev pub ups_words : Ups → List (List ℕ)
 ups_words ups = codes "UPS" ∷ ups.name ∷ ups_description ups ∷ []
 
--- The text is whole lines, of which the first reads as BEGIN, LIST and what was asked for, the next ones as the words of these items, in their order, and the last as END, LIST and what was asked for. It reads as nothing else.
-pub record ReadsBack (text : List ℕ) (asked : List (List ℕ)) (items : List (List (List ℕ))) : Type 0 where
+-- The text is whole lines, of which the first reads as BEGIN, LIST and what was asked for, the next
+-- ones as the words of these items, in their order, and the last as END, LIST and what was asked
+-- for. It reads as nothing else.
+pub record ReadsBack (text : List ℕ) (asked : List (List ℕ)) (items : List (List (List ℕ)))
+    : Type 0 where
   pub reads : ReadsAsLines text (listing_words asked items)
-  pub only : (others : List (List (List ℕ))) → ReadsAsLines text others → others ≡ listing_words asked items
+  pub only : (others : List (List (List ℕ))) → ReadsAsLines text others
+      → others ≡ listing_words asked items
 
 -- The address of the client is lawful, as each `Address` is.
 abbrev pub HasLawfulAddress : SessionState → Type 0
 HasLawfulAddress x = IsTrue (is_address x.address)
 
--- Of a sound server, what is answered to a line that asks for a listing, and isn't refused, is read back as the listing's items.
+-- Of a sound server, what is answered to a line that asks for a listing, and isn't refused, is read
+-- back as the listing's items.
 pub record EachListingReadsBack : Type 0 where
-  pub variables : (s : ServerState) (c : ℕ) (line : List ℕ) (ups : Option (List ℕ)) (known : KnownUps) → IsSound s → read_command line ≡ Ok (Some (ListVar ups)) → AsksOf s ups known
-      → ReadsBack (reply s c line) (codes "VAR" ∷ known.name ∷ []) (map (variable_words (codes "VAR") known.name known.state.fsd) known.state.report.tree.variables)
-  pub rw : (s : ServerState) (c : ℕ) (line : List ℕ) (ups : Option (List ℕ)) (known : KnownUps) → IsSound s → read_command line ≡ Ok (Some (ListRw ups)) → AsksOf s ups known
-      → ReadsBack (reply s c line) (codes "RW" ∷ known.name ∷ []) (map (variable_words (codes "RW") known.name known.state.fsd) (filter is_rw known.state.report.tree.variables))
-  pub commands : (s : ServerState) (c : ℕ) (line : List ℕ) (ups : Option (List ℕ)) (known : KnownUps) → IsSound s → read_command line ≡ Ok (Some (ListCmd ups)) → AsksOf s ups known
-      → ReadsBack (reply s c line) (codes "CMD" ∷ known.name ∷ []) (map (command_item known.name) known.state.report.tree.commands)
-  pub enum_values : (s : ServerState) (c : ℕ) (line : List ℕ) (ups : Option (List ℕ)) (name : List ℕ) (known : KnownUps) (variable : VariableState) → IsSound s → read_command line ≡ Ok (Some (ListEnum ups (Some name))) → AsksOf s ups known
+  pub variables : (s : ServerState) (c : ℕ) (line : List ℕ) (ups : Option (List ℕ))
+      (known : KnownUps) → IsSound s → read_command line ≡ Ok (Some (ListVar ups))
+      → AsksOf s ups known
+      → ReadsBack (reply s c line) (codes "VAR" ∷ known.name ∷ [])
+      (map (variable_words
+      (codes "VAR") known.name known.state.fsd) known.state.report.tree.variables)
+  pub rw : (s : ServerState) (c : ℕ) (line : List ℕ) (ups : Option (List ℕ)) (known : KnownUps)
+      → IsSound s → read_command line ≡ Ok (Some (ListRw ups)) → AsksOf s ups known
+      → ReadsBack (reply s c line) (codes "RW" ∷ known.name ∷ [])
+      (map (variable_words (codes "RW") known.name known.state.fsd)
+      (filter is_rw known.state.report.tree.variables))
+  pub commands : (s : ServerState) (c : ℕ) (line : List ℕ) (ups : Option (List ℕ))
+      (known : KnownUps) → IsSound s → read_command line ≡ Ok (Some (ListCmd ups))
+      → AsksOf s ups known
+      → ReadsBack (reply s c line) (codes "CMD" ∷ known.name ∷ [])
+      (map (command_item known.name) known.state.report.tree.commands)
+  pub enum_values : (s : ServerState) (c : ℕ) (line : List ℕ) (ups : Option (List ℕ))
+      (name : List ℕ) (known : KnownUps) (variable : VariableState) → IsSound s
+      → read_command line ≡ Ok (Some (ListEnum ups (Some name))) → AsksOf s ups known
       → variable_at known.state.report.tree name ≡ Some variable
-      → ReadsBack (reply s c line) (codes "ENUM" ∷ known.name ∷ name ∷ []) (map (enum_words known.name name) variable.enum_values)
-  pub ranges : (s : ServerState) (c : ℕ) (line : List ℕ) (ups : Option (List ℕ)) (name : List ℕ) (known : KnownUps) (variable : VariableState) → IsSound s → read_command line ≡ Ok (Some (ListRange ups (Some name))) → AsksOf s ups known
+      → ReadsBack (reply s c line) (codes "ENUM" ∷ known.name ∷ name ∷ [])
+      (map (enum_words known.name name) variable.enum_values)
+  pub ranges : (s : ServerState) (c : ℕ) (line : List ℕ) (ups : Option (List ℕ)) (name : List ℕ)
+      (known : KnownUps) (variable : VariableState) → IsSound s
+      → read_command line ≡ Ok (Some (ListRange ups (Some name))) → AsksOf s ups known
       → variable_at known.state.report.tree name ≡ Some variable
-      → ReadsBack (reply s c line) (codes "RANGE" ∷ known.name ∷ name ∷ []) (map (range_words known.name name) variable.ranges)
+      → ReadsBack (reply s c line) (codes "RANGE" ∷ known.name ∷ name ∷ [])
+      (map (range_words known.name name) variable.ranges)
   -- Where the UPSs of the list are lawful.
-  pub upses : (s : ServerState) (c : ℕ) (line : List ℕ) → IsSound s → read_command line ≡ Ok (Some ListUps) → All IsLawfulUps s.list
+  pub upses : (s : ServerState) (c : ℕ) (line : List ℕ) → IsSound s
+      → read_command line ≡ Ok (Some ListUps) → All IsLawfulUps s.list
       → ReadsBack (reply s c line) (codes "UPS" ∷ []) (map ups_words s.list)
-  -- Where the addresses of the clients are lawful: those that are logged in to the UPS, usable or not.
-  pub clients : (s : ServerState) (c : ℕ) (line : List ℕ) (ups : Option (List ℕ)) (known : KnownUps) → IsSound s → read_command line ≡ Ok (Some (ListClient ups)) → ups_named (seen s) ups ≡ Some known → All HasLawfulAddress s.sessions
-      → ReadsBack (reply s c line) (codes "CLIENT" ∷ known.name ∷ []) (map (λ x. client_item known.name x.address) (logged_in known.id s))
+  -- Where the addresses of the clients are lawful: those that are logged in to the UPS, usable or
+  -- not.
+  pub clients : (s : ServerState) (c : ℕ) (line : List ℕ) (ups : Option (List ℕ)) (known : KnownUps)
+      → IsSound s → read_command line ≡ Ok (Some (ListClient ups))
+      → ups_named (seen s) ups ≡ Some known → All HasLawfulAddress s.sessions
+      → ReadsBack (reply s c line) (codes "CLIENT" ∷ known.name ∷ [])
+      (map (λ x. client_item known.name x.address) (logged_in known.id s))

@@ -6,7 +6,8 @@ use Rattle.nutanswer.specs.declared.err_word.ErrWord.TheVariants.{TooLong}
 use Rattle.nutanswer.specs.ErrWord.{error_line}
 use Rattle.nutanswer.specs.Command.{read_command}
 use Rattle.nutanswer.specs.declared.reply.Change.{Change}
-use Rattle.nutanswer.specs.declared.reply.Change.TheVariants.{Nothing, Username, Password, Login, Ending, Fsd, Order}
+use Rattle.nutanswer.specs.declared.reply.Change.TheVariants.{Nothing, Username, Password, Login}
+use Rattle.nutanswer.specs.declared.reply.Change.TheVariants.{Ending, Fsd, Order}
 use Rattle.nutanswer.specs.View.{Seen, UpsSeen, ClientSeen, AskerSeen}
 use Rattle.nutanswer.specs.Answer.{answer_to, text_of_answer, change_of_answer}
 use Rattle.nutcore.specs.Session.{SessionState, begin_ending}
@@ -23,7 +24,9 @@ seen_client x = record { address = x.address; login = x.login }
 
 -- What an answer may look at.
 abbrev pub seen : ServerState → Seen
-seen s = record { moment = s.moment; max_age = s.max_age; list = s.list; upses = map seen_ups s.upses; descriptions = s.descriptions; users = s.users; clients = map seen_client s.sessions }
+seen s = record { moment = s.moment; max_age = s.max_age; list = s.list;
+    upses = map seen_ups s.upses; descriptions = s.descriptions; users = s.users;
+    clients = map seen_client s.sessions }
 
 -- The session that asks, as answers see it.
 abbrev pub asker_of : Option SessionState → AskerSeen
@@ -49,7 +52,9 @@ changed_upses _ upses = upses
 
 -- and so to the server.
 abbrev pub changed : Change → ℕ → ServerState → ServerState
-changed change c s = with_session_changed (changed_session change) c (record s { upses = changed_upses change s.upses })
+changed change c s =
+    with_session_changed (changed_session change) c
+    (record s { upses = changed_upses change s.upses })
 
 -- The text that answers what was read: none where a line has no words.
 abbrev pub text_to : ServerState → ℕ → Result (Option Command) ErrWord → List ℕ

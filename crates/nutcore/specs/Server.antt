@@ -1,5 +1,6 @@
 -- The server as its callers see it.
-use Rattle.std.specs.Prelude.{ℕ, zero, suc, List, [], ◌∷◌, Option, Some, None, slice_get, replicate, length, nat_le, ◌&&◌, if◌then◌else◌}
+use Rattle.std.specs.Prelude.{ℕ, zero, suc, List, [], ◌∷◌, Option, Some, None, slice_get, replicate}
+use Rattle.std.specs.Prelude.{length, nat_le, ◌&&◌, if◌then◌else◌}
 use Rattle.std.specs.Option.{option_map_or}
 use Rattle.nutusers.specs.UpsList.{Ups}
 use Rattle.nutusers.specs.Users.{User}
@@ -9,7 +10,9 @@ use Rattle.nutcore.specs.declared.max_age.TheConstants.{MAX_AGE_LEAST, MAX_AGE_M
 use Rattle.nutcore.specs.Session.{SessionState, find, put}
 use Rattle.nutcore.specs.Ups.{UpsState, new_ups}
 
--- moment, max_age: in seconds. list, users, descriptions: what the files say; the UPSs in the byte order of their names. upses: a state for each UPS of the list. sessions: in the order of opening. next_id: the id of the next session.
+-- moment, max_age: in seconds. list, users, descriptions: what the files say; the UPSs in the byte
+-- order of their names. upses: a state for each UPS of the list. sessions: in the order of opening.
+-- next_id: the id of the next session.
 pub record ServerState : Type 0 where
   pub moment : ℕ
   pub max_age : ℕ
@@ -22,7 +25,9 @@ pub record ServerState : Type 0 where
 
 -- A new server: no driver is connected, no session is open, and ids begin at 1.
 abbrev pub new_server : List Ups → List User → Descriptions → ℕ → ServerState
-new_server list users descriptions max_age = record { moment = 0; max_age = max_age; list = list; users = users; descriptions = descriptions; upses = replicate (length list) new_ups; sessions = []; next_id = 1 }
+new_server list users descriptions max_age =
+    record { moment = 0; max_age = max_age; list = list; users = users; descriptions = descriptions;
+    upses = replicate (length list) new_ups; sessions = []; next_id = 1 }
 
 -- The session of this id.
 abbrev pub session : ℕ → ServerState → Option SessionState
@@ -36,9 +41,11 @@ with_session s y = record s { sessions = put y s.sessions }
 unfoldable pub with_session_changed : (SessionState → SessionState) → ℕ → ServerState → ServerState
 with_session_changed f c s = option_map_or (λ x. with_session s (f x)) (session c s) s
 
--- The greatest age of what a driver reported is from 3 to 86,400 seconds (`MAXAGE` of upsd.conf(5)).
+-- The greatest age of what a driver reported is from 3 to 86,400 seconds (`MAXAGE` of
+-- upsd.conf(5)).
 abbrev pub read_max_age : ℕ → Option ℕ
-read_max_age seconds = if nat_le MAX_AGE_LEAST seconds && nat_le seconds MAX_AGE_MOST then Some seconds else None
+read_max_age seconds =
+    if nat_le MAX_AGE_LEAST seconds && nat_le seconds MAX_AGE_MOST then Some seconds else None
 
 -- The UPS at a place.
 abbrev pub ups_at : ℕ → ServerState → Option UpsState

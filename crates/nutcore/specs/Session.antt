@@ -1,8 +1,11 @@
 -- The sessions of clients.
-use Rattle.std.specs.Prelude.{◌≤◌, ◌+◌, ℕ, Bool, true, false, List, [], ◌∷◌, Option, Some, None, ◌==◌, if◌then◌else◌}
+use Rattle.std.specs.Prelude.{◌≤◌, ◌+◌, ℕ, Bool, true, false, List, [], ◌∷◌, Option, Some, None}
+use Rattle.std.specs.Prelude.{◌==◌, if◌then◌else◌}
 use Rattle.nutusers.specs.declared.ups_list.UpsId.{UpsId}
 
--- held: what came of its input and isn't executed yet. owed: what it is still to be sent. username, password: what it gave. login: the UPS that it is logged in to. ending: it takes no more input, and ends when nothing is owed.
+-- held: what came of its input and isn't executed yet. owed: what it is still to be sent. username,
+-- password: what it gave. login: the UPS that it is logged in to. ending: it takes no more input,
+-- and ends when nothing is owed.
 pub record SessionState : Type 0 where
   pub id : ℕ
   pub address : List ℕ
@@ -15,7 +18,9 @@ pub record SessionState : Type 0 where
 
 -- A new session holds nothing, owes nothing and gave no name.
 abbrev pub new_session : ℕ → List ℕ → SessionState
-new_session c address = record { id = c; address = address; held = []; owed = []; username = None; password = None; login = None; ending = false }
+new_session c address =
+    record { id = c; address = address; held = []; owed = []; username = None; password = None;
+    login = None; ending = false }
 
 -- A session that begins to end drops its held input and gives up its login.
 abbrev pub begin_ending : SessionState → SessionState
@@ -36,7 +41,8 @@ abbrev pub without : ℕ → List SessionState → List SessionState
 without c [] = []
 without c (x ∷ xs) = if x.id == c then without c xs else x ∷ without c xs
 
--- The ids of the sessions rise: the first is at least this one, each other one is above the one before it, and all are below the next one.
+-- The ids of the sessions rise: the first is at least this one, each other one is above the one
+-- before it, and all are below the next one.
 abbrev pub IdsRise : ℕ → ℕ → List SessionState → Type 0
 IdsRise least next [] = least ≤ next
 IdsRise least next (x ∷ xs) = (least ≤ x.id) × IdsRise (x.id + 1) next xs

@@ -20,12 +20,16 @@ abbrev pub Each : {A : Type 0} → (A → Type 0) → List A → Type 0
 Each P [] = Unit {0}
 Each P (x ∷ xs) = P x × Each P xs
 
--- A session: it holds no more than it may; one that is ending holds nothing, and is logged in to nothing.
+-- A session: it holds no more than it may; one that is ending holds nothing, and is logged in to
+-- nothing.
 pub record IsSoundSession (x : SessionState) : Type 0 where
   pub held : length x.held ≤ HELD_LIMIT
   pub ending : x.ending ≡ true → (x.held ≡ []) × (x.login ≡ None)
 
--- A UPS, at this moment: the tree that its driver reported is sound; nothing was heard or asked later than now; its driver is owed no more than it may be; and where no driver is connected, none has reported or been asked anything, nothing came of a line, and nothing is owed: it is a new one but for a forced shutdown and the count of faults.
+-- A UPS, at this moment: the tree that its driver reported is sound; nothing was heard or asked
+-- later than now; its driver is owed no more than it may be; and where no driver is connected, none
+-- has reported or been asked anything, nothing came of a line, and nothing is owed: it is a new one
+-- but for a forced shutdown and the count of faults.
 pub record IsSoundUps (moment : ℕ) (x : UpsState) : Type 0 where
   pub tree : IsSoundTree x.report.tree
   pub heard : x.report.heard ≤ moment
@@ -33,7 +37,9 @@ pub record IsSoundUps (moment : ℕ) (x : UpsState) : Type 0 where
   pub owed : length x.owed ≤ DRIVER_OWED_LIMIT
   pub lost : x.report.connected ≡ false → x ≡ record new_ups { fsd = x.fsd; faulty = x.faulty }
 
--- A server: the names of the UPSs of its list rise, and there are no more than there may be; a state for each UPS of the list; at most 64 sessions, whose ids rise from 1; and all of them sound.
+-- A server: the names of the UPSs of its list rise, and there are no more than there may be; a
+-- state for each UPS of the list; at most 64 sessions, whose ids rise from 1; and all of them
+-- sound.
 pub record IsSound (s : ServerState) : Type 0 where
   pub list : IsList s.list
   pub named : length s.upses ≡ length s.list
@@ -44,13 +50,19 @@ pub record IsSound (s : ServerState) : Type 0 where
 
 -- Of every list of UPSs, as each that was read is one.
 abbrev pub ANewServerIsSound : Type 0
-ANewServerIsSound = (list : List Ups) (users : List User) (descriptions : Descriptions) (max_age : ℕ) → IsList list → IsSound (new_server list users descriptions max_age)
+ANewServerIsSound =
+    (list : List Ups) (users : List User) (descriptions : Descriptions) (max_age : ℕ) → IsList list
+    → IsSound (new_server list users descriptions max_age)
 
 abbrev pub EachEventKeepsTheServerSound : Type 0
-EachEventKeepsTheServerSound = (old new : ServerState) (event : Event) (outcome : Outcome) → Step old event outcome new → IsSound old → IsSound new
+EachEventKeepsTheServerSound =
+    (old new : ServerState) (event : Event) (outcome : Outcome) → Step old event outcome new
+    → IsSound old → IsSound new
 
 abbrev pub EveryRunKeepsTheServerSound : Type 0
-EveryRunKeepsTheServerSound = (old new : ServerState) (events : List Event) (outcomes : List Outcome) → Run old events outcomes new → IsSound old → IsSound new
+EveryRunKeepsTheServerSound =
+    (old new : ServerState) (events : List Event) (outcomes : List Outcome)
+    → Run old events outcomes new → IsSound old → IsSound new
 
 -- So the premise of the laws of every run holds of it.
 abbrev pub ASoundServerIsLawful : Type 0

@@ -1,24 +1,34 @@
 -- What each event does, and what may be answered to it.
-use Rattle.std.specs.Prelude.{◌≡◌, ℕ, ◌+◌, ◌-◌, ◌^◌, Bool, false, List, [], ◌∷◌, ◌++◌, Option, Some, None, nat_lt, nat_le, ◌&&◌, if◌then◌else◌, length, take, drop, min, max, map, fold, slice_get, not, ◌⊎◌, IsTrue}
+use Rattle.std.specs.Prelude.{◌≡◌, ℕ, ◌+◌, ◌-◌, ◌^◌, Bool, false, List, [], ◌∷◌, ◌++◌, Option, Some}
+use Rattle.std.specs.Prelude.{None, nat_lt, nat_le, ◌&&◌, if◌then◌else◌, length, take, drop, min}
+use Rattle.std.specs.Prelude.{max, map, fold, slice_get, not, ◌⊎◌, IsTrue}
 use Rattle.std.specs.Option.{option_map_or}
 use Rattle.nutusers.specs.declared.ups_list.UpsId.{UpsId}
 use Rattle.nutcore.specs.declared.TheConstants.{HELD_LIMIT}
 use Rattle.nutlisting.specs.declared.ring.TheConstants.{RING_LIMIT}
 use Rattle.nutlisting.specs.declared.listing.clients.TheConstants.{SESSION_LIMIT}
 use Rattle.nutcore.specs.declared.event.Event.{Event}
-use Rattle.nutcore.specs.declared.event.Event.TheVariants.{DriverUp, DriverBytes, DriverTook, DriverDown, Tick, Open, Feed, Took, Close}
+use Rattle.nutcore.specs.declared.event.Event.TheVariants.{DriverUp, DriverBytes, DriverTook}
+use Rattle.nutcore.specs.declared.event.Event.TheVariants.{DriverDown, Tick, Open, Feed, Took}
+use Rattle.nutcore.specs.declared.event.Event.TheVariants.{Close}
 use Rattle.nutcore.specs.declared.event.Outcome.{Outcome}
 use Rattle.nutcore.specs.declared.event.Outcome.TheVariants.{Done, Fed, Opened, Refused}
-use Rattle.nutcore.specs.declared.event.Fault.TheVariants.{NoSuchUps, NoSuchClient, TooManyClients, TookTooMuch, NotConnected, AlreadyConnected, LineTooLong, Memory}
+use Rattle.nutcore.specs.declared.event.Fault.TheVariants.{NoSuchUps, NoSuchClient, TooManyClients}
+use Rattle.nutcore.specs.declared.event.Fault.TheVariants.{TookTooMuch, NotConnected}
+use Rattle.nutcore.specs.declared.event.Fault.TheVariants.{AlreadyConnected, LineTooLong, Memory}
 use Rattle.nutcore.specs.Session.{SessionState, new_session, without}
 use Rattle.nutcore.specs.Lines.{whole_lines, unfinished_after, is_too_long}
-use Rattle.nutcore.specs.Ups.{UpsState, after_connecting, after_loss, after_tick, after_text, with_unfinished, wants_memory_for}
-use Rattle.nutcore.specs.Server.{ServerState, session, with_session_changed, ups_at, with_ups_changed}
-use Rattle.nutcore.specs.Pump.{pumped, after_all_lines, after_lines, is_overlong, wants_memory, owed_of}
+use Rattle.nutcore.specs.Ups.{UpsState, after_connecting, after_loss, after_tick, after_text}
+use Rattle.nutcore.specs.Ups.{with_unfinished, wants_memory_for}
+use Rattle.nutcore.specs.Server.{ServerState, session, with_session_changed, ups_at}
+use Rattle.nutcore.specs.Server.{with_ups_changed}
+use Rattle.nutcore.specs.Pump.{pumped, after_all_lines, after_lines, is_overlong, wants_memory}
+use Rattle.nutcore.specs.Pump.{owed_of}
 
 -- Clients: bytes come.
 
--- The bytes of a piece that join held input: as many as there is room for, and none where the session is ending.
+-- The bytes of a piece that join held input: as many as there is room for, and none where the
+-- session is ending.
 abbrev pub accepted_bytes : Option SessionState → List ℕ → List ℕ
 accepted_bytes None piece = []
 accepted_bytes (Some x) piece = if x.ending then [] else take (HELD_LIMIT - length x.held) piece
@@ -54,7 +64,10 @@ abbrev pub may_open : ServerState → Bool
 may_open s = nat_lt (length s.sessions) SESSION_LIMIT && nat_lt s.next_id (2 ^ 64)
 
 unfoldable pub opened : ServerState → List ℕ → Option ℕ → ServerState
-opened s address None = if may_open s then record s { sessions = s.sessions ++ new_session s.next_id address ∷ []; next_id = s.next_id + 1 } else s
+opened s address None =
+    if may_open s
+    then record s { sessions = s.sessions ++ new_session s.next_id address ∷ [];
+    next_id = s.next_id + 1 } else s
 opened s address (Some k) = s
 
 -- Drivers come and are lost. A refused event changes nothing.
@@ -64,7 +77,8 @@ connected moment x = if x.report.connected then x else after_connecting moment x
 abbrev pub disconnected : UpsState → UpsState
 disconnected x = if x.report.connected then after_loss x else x
 
--- Drivers report. A whole line of a driver is a step of the server, at its moment: it changes the driver's UPS.
+-- Drivers report. A whole line of a driver is a step of the server, at its moment: it changes the
+-- driver's UPS.
 unfoldable pub after_driver_line : UpsId → List ℕ → ServerState → ServerState
 after_driver_line u line s = with_ups_changed (λ x. after_text s.moment x line) u s
 
@@ -76,14 +90,21 @@ after_driver_lines u lines s = fold (λ t line. after_driver_line u line t) s li
 abbrev pub with_rest : List ℕ → UpsState → UpsState
 with_rest rest x = if is_too_long rest then after_loss x else with_unfinished rest x
 
--- What a driver reported is whole lines and a rest: the server after these lines, with the rest; or, where memory was refused after k of them, after these k, the driver lost.
+-- What a driver reported is whole lines and a rest: the server after these lines, with the rest;
+-- or, where memory was refused after k of them, after these k, the driver lost.
 unfoldable pub after_driver_text : UpsId → List ℕ → Option ℕ → ServerState → ServerState
-after_driver_text u text None s = with_ups_changed (with_rest (unfinished_after text)) u (after_driver_lines u (whole_lines text) s)
-after_driver_text u text (Some k) s = with_ups_changed after_loss u (after_driver_lines u (take k (whole_lines text)) s)
+after_driver_text u text None s =
+    with_ups_changed (with_rest (unfinished_after text)) u
+    (after_driver_lines u (whole_lines text) s)
+after_driver_text u text (Some k) s =
+    with_ups_changed after_loss u (after_driver_lines u (take k (whole_lines text)) s)
 
 -- A piece is read after what was unfinished. Where no driver is connected, nothing changes.
 unfoldable pub after_driver_bytes : UpsId → List ℕ → Option ℕ → ServerState → ServerState
-after_driver_bytes u piece m s = option_map_or (λ x. if x.report.connected then after_driver_text u (x.unfinished ++ piece) m s else s) (ups_at u.place s) s
+after_driver_bytes u piece m s =
+    option_map_or
+    (λ x. if x.report.connected then after_driver_text u (x.unfinished ++ piece) m s else s)
+    (ups_at u.place s) s
 
 -- The driver took n bytes of what it is owed.
 abbrev pub driver_may_take : ℕ → UpsState → Bool
@@ -94,7 +115,9 @@ after_driver_took n x = if driver_may_take n x then record x { owed = drop n x.o
 
 -- Time. The moment never goes back, and each UPS whose PING is due gets one.
 unfoldable pub ticked : ℕ → ServerState → ServerState
-ticked seconds s = let moment = max seconds s.moment in record s { moment = moment; upses = map (after_tick s.max_age moment) s.upses }
+ticked seconds s =
+    let moment = max seconds s.moment in
+    record s { moment = moment; upses = map (after_tick s.max_age moment) s.upses }
 
 -- Out of memory.
 
@@ -117,7 +140,8 @@ after_by s (DriverDown u) m = with_ups_changed disconnected u s
 after_by s (Tick seconds) m = ticked seconds s
 after_by s (Open address) m = opened s address m
 after_by s (Feed c piece) m = pumped_until (with_input s c piece) c m
-after_by s (Took c n) m = if may_take (session c s) n then pumped_until (without_output s c n) c m else s
+after_by s (Took c n) m =
+    if may_take (session c s) n then pumped_until (without_output s c n) c m else s
 after_by s (Close c) m = record s { sessions = without c s.sessions }
 
 -- What an event leaves, by its outcome.
@@ -135,11 +159,14 @@ driver_text_outcome text = if is_too_long (unfinished_after text) then Refused L
 
 abbrev pub driver_bytes_by : List ℕ → Option UpsState → Outcome
 driver_bytes_by piece None = Refused NoSuchUps
-driver_bytes_by piece (Some x) = if x.report.connected then driver_text_outcome (x.unfinished ++ piece) else Refused NotConnected
+driver_bytes_by piece (Some x) =
+    if x.report.connected then driver_text_outcome (x.unfinished ++ piece) else Refused NotConnected
 
 abbrev pub driver_took_by : ℕ → Option UpsState → Outcome
 driver_took_by n None = Refused NoSuchUps
-driver_took_by n (Some x) = if not x.report.connected then Refused NotConnected else if nat_le n (length x.owed) then Done else Refused TookTooMuch
+driver_took_by n (Some x) =
+    if not x.report.connected then Refused NotConnected else if nat_le n (length x.owed) then Done
+    else Refused TookTooMuch
 
 abbrev pub disconnected_by : Option UpsState → Outcome
 disconnected_by None = Refused NoSuchUps
@@ -147,7 +174,8 @@ disconnected_by (Some x) = if x.report.connected then Done else Refused NotConne
 
 -- How many bytes of a piece are taken in. An ending session takes and drops all.
 abbrev pub accepted : SessionState → List ℕ → ℕ
-accepted x piece = if x.ending then length piece else min (length piece) (HELD_LIMIT - length x.held)
+accepted x piece =
+    if x.ending then length piece else min (length piece) (HELD_LIMIT - length x.held)
 
 abbrev pub fed_by : Option SessionState → List ℕ → Bool → Outcome
 fed_by None piece overlong = Refused NoSuchClient
@@ -155,7 +183,9 @@ fed_by (Some x) piece overlong = if overlong then Refused LineTooLong else Fed (
 
 abbrev pub took_by : Option SessionState → ℕ → Bool → Outcome
 took_by None n overlong = Refused NoSuchClient
-took_by (Some x) n overlong = if may_take (Some x) n then (if overlong then Refused LineTooLong else Done) else Refused TookTooMuch
+took_by (Some x) n overlong =
+    if may_take (Some x) n then (if overlong then Refused LineTooLong else Done)
+    else Refused TookTooMuch
 
 abbrev pub closed_by : Option SessionState → Outcome
 closed_by None = Refused NoSuchClient
@@ -168,18 +198,25 @@ outcome_of s (DriverTook u n) = driver_took_by n (ups_at u.place s)
 outcome_of s (DriverDown u) = disconnected_by (ups_at u.place s)
 outcome_of s (Tick seconds) = Done
 outcome_of s (Open address) = if may_open s then Opened s.next_id else Refused TooManyClients
-outcome_of s (Feed c piece) = fed_by (session c s) piece (is_overlong (after_all_lines (with_input s c piece) c) c)
-outcome_of s (Took c n) = took_by (session c s) n (is_overlong (after_all_lines (without_output s c n) c) c)
+outcome_of s (Feed c piece) =
+    fed_by (session c s) piece (is_overlong (after_all_lines (with_input s c piece) c) c)
+outcome_of s (Took c n) =
+    took_by (session c s) n (is_overlong (after_all_lines (without_output s c n) c) c)
 outcome_of s (Close c) = closed_by (session c s)
 
 -- There is a whole line after the first k of what a driver reported, and it would change the tree.
 unfoldable pub wants_driver_memory : UpsId → List ℕ → ℕ → ServerState → Bool
-wants_driver_memory u text k s = option_map_or (wants_memory_for (slice_get (whole_lines text) k)) (ups_at u.place (after_driver_lines u (take k (whole_lines text)) s)) false
+wants_driver_memory u text k s =
+    option_map_or (wants_memory_for (slice_get (whole_lines text) k))
+    (ups_at u.place (after_driver_lines u (take k (whole_lines text)) s)) false
 
 abbrev pub driver_may_lack_memory : UpsId → List ℕ → ℕ → ServerState → Bool
-driver_may_lack_memory u piece k s = option_map_or (λ x. x.report.connected && wants_driver_memory u (x.unfinished ++ piece) k s) (ups_at u.place s) false
+driver_may_lack_memory u piece k s =
+    option_map_or (λ x. x.report.connected && wants_driver_memory u (x.unfinished ++ piece) k s)
+    (ups_at u.place s) false
 
--- Memory may be refused after k lines of the event. The next line of a client stays held, to be tried again.
+-- Memory may be refused after k lines of the event. The next line of a client stays held, to be
+-- tried again.
 unfoldable pub MayLackMemory : ServerState → Event → ℕ → Type 0
 MayLackMemory s (DriverUp u) k = ⊥
 MayLackMemory s (DriverBytes u piece) k = IsTrue (driver_may_lack_memory u piece k s)
@@ -188,14 +225,18 @@ MayLackMemory s (DriverDown u) k = ⊥
 MayLackMemory s (Tick seconds) k = ⊥
 MayLackMemory s (Open address) k = (k ≡ 0) × IsTrue (may_open s)
 MayLackMemory s (Feed c piece) k = IsTrue (wants_memory (after_lines k (with_input s c piece) c) c)
-MayLackMemory s (Took c n) k = IsTrue (may_take (session c s) n) × IsTrue (wants_memory (after_lines k (without_output s c n) c) c)
+MayLackMemory s (Took c n) k =
+    IsTrue (may_take (session c s) n)
+    × IsTrue (wants_memory (after_lines k (without_output s c n) c) c)
 MayLackMemory s (Close c) k = ⊥
 
 -- Beside the one outcome there is only being out of memory.
 abbrev pub MayAnswer : ServerState → Event → Outcome → Type 0
-MayAnswer s e outcome = (outcome ≡ outcome_of s e) ⊎ ((k : ℕ) × (outcome ≡ Refused (Memory k)) × MayLackMemory s e k)
+MayAnswer s e outcome =
+    (outcome ≡ outcome_of s e) ⊎ ((k : ℕ) × (outcome ≡ Refused (Memory k)) × MayLackMemory s e k)
 
 -- One event: what was answered may be, and the new server is what that leaves.
-pub record Step (old : ServerState) (event : Event) (outcome : Outcome) (new : ServerState) : Type 0 where
+pub record Step (old : ServerState) (event : Event) (outcome : Outcome) (new : ServerState)
+    : Type 0 where
   pub allowed : MayAnswer old event outcome
   pub leaves : new ≡ after old event outcome

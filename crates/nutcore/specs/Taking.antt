@@ -9,14 +9,18 @@ use Rattle.nutcore.specs.Step.{offered, after, outcome_of}
 use Rattle.nutcore.specs.Run.{Run}
 use Rattle.nutcore.specs.History.{owed}
 
--- Each event is the client's taking of all that it is offered at that moment, and its outcome is the one where memory is there.
+-- Each event is the client's taking of all that it is offered at that moment, and its outcome is
+-- the one where memory is there.
 abbrev pub TakesAll : ℕ → ServerState → List Event → List Outcome → Type 0
 TakesAll c s [] [] = Unit {0}
-TakesAll c s (e ∷ es) (o ∷ os) = (e ≡ Took c (length (offered (session c s)))) × (o ≡ outcome_of s e) × TakesAll c (after s e o) es os
+TakesAll c s (e ∷ es) (o ∷ os) =
+    (e ≡ Took c (length (offered (session c s)))) × (o ≡ outcome_of s e)
+    × TakesAll c (after s e o) es os
 TakesAll c s [] (o ∷ os) = ⊥
 TakesAll c s (e ∷ es) [] = ⊥
 
--- There is a run of so many takes, with no other event between, after which the client is owed nothing, and no line of it is held that may be executed.
+-- There is a run of so many takes, with no other event between, after which the client is owed
+-- nothing, and no line of it is held that may be executed.
 pub record GetsEverything (c : ℕ) (old : ServerState) : Type 0 where
   pub events : List Event
   pub outcomes : List Outcome

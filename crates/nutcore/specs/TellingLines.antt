@@ -12,13 +12,16 @@ use Rattle.nutcore.specs.Sound.{Each}
 use Rattle.nutcore.specs.DriverOrders.{Telling, dump_all, ping, order, text_of, connections}
 use Rattle.nutcore.specs.OrdersByRight.{all_told}
 
--- It is `DUMPALL`, `PING`, `SET name "value"`, `INSTCMD name` or `INSTCMD name "value"`, of a lawful name and a lawful value.
+-- It is `DUMPALL`, `PING`, `SET name "value"`, `INSTCMD name` or `INSTCMD name "value"`, of a
+-- lawful name and a lawful value.
 pub data IsSpelled : Telling → Type 0 where
   asks_for_all : IsSpelled dump_all
   asks_whether_there : IsSpelled ping
-  sets : (name value : List ℕ) → IsTrue (is_name name) → IsTrue (is_value value) → IsSpelled (order (set_line name value))
+  sets : (name value : List ℕ) → IsTrue (is_name name) → IsTrue (is_value value)
+      → IsSpelled (order (set_line name value))
   commands : (name : List ℕ) → IsTrue (is_name name) → IsSpelled (order (instcmd_line name None))
-  commands_with : (name value : List ℕ) → IsTrue (is_name name) → IsTrue (is_value value) → IsSpelled (order (instcmd_line name (Some value)))
+  commands_with : (name value : List ℕ) → IsTrue (is_name name) → IsTrue (is_value value)
+      → IsSpelled (order (instcmd_line name (Some value)))
 
 -- Its text is one line of at most 1,023 lawful bytes, none of them an LF, and its LF.
 pub record IsLineToDriver (told : Telling) : Type 0 where
@@ -28,4 +31,6 @@ pub record IsLineToDriver (told : Telling) : Type 0 where
 
 -- Whatever a run tells the driver of a UPS.
 abbrev pub EachTellingIsAWholeLine : Type 0
-EachTellingIsAWholeLine = (old : ServerState) (events : List Event) (outcomes : List Outcome) (u : UpsId) → Each IsLineToDriver (all_told (connections u old events outcomes))
+EachTellingIsAWholeLine =
+    (old : ServerState) (events : List Event) (outcomes : List Outcome) (u : UpsId)
+    → Each IsLineToDriver (all_told (connections u old events outcomes))

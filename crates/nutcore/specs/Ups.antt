@@ -1,12 +1,16 @@
 -- A UPS as the server keeps it: its driver's connection, and what the driver reported.
-use Rattle.std.specs.Prelude.{ℕ, ◌+◌, ◌-◌, ◌^◌, Bool, true, false, List, [], ◌∷◌, ◌++◌, Option, Some, None, codes, length, fold, min, nat_le, ◌&&◌, ◌/◌, if◌then◌else◌}
+use Rattle.std.specs.Prelude.{ℕ, ◌+◌, ◌-◌, ◌^◌, Bool, true, false, List, [], ◌∷◌, ◌++◌, Option}
+use Rattle.std.specs.Prelude.{Some, None, codes, length, fold, min, nat_le, ◌&&◌, ◌/◌}
+use Rattle.std.specs.Prelude.{if◌then◌else◌}
 use Rattle.nutcore.specs.declared.TheConstants.{DRIVER_OWED_LIMIT}
 use Rattle.nutdriver.specs.declared.report.Report.{Report}
 use Rattle.nutdriver.specs.declared.report.LineOutcome.{LineOutcome}
 use Rattle.nutdriver.specs.declared.report.LineOutcome.TheVariants.{Accepted, Refused}
 use Rattle.nutdriver.specs.Report.{lost_report, connected_report, after_line, line_changes}
 
--- report: what its driver has reported. pinged: the moment of the last PING to it, in seconds. fsd: a forced shutdown is set. owed: what the driver is still to be sent. unfinished: what came of its next line. faulty: how many of its lines were refused.
+-- report: what its driver has reported. pinged: the moment of the last PING to it, in seconds. fsd:
+-- a forced shutdown is set. owed: what the driver is still to be sent. unfinished: what came of its
+-- next line. faulty: how many of its lines were refused.
 pub record UpsState : Type 0 where
   pub report : Report
   pub pinged : ℕ
@@ -17,13 +21,17 @@ pub record UpsState : Type 0 where
 
 -- A UPS of a new server.
 abbrev pub new_ups : UpsState
-new_ups = record { report = lost_report; pinged = 0; fsd = false; owed = []; unfinished = []; faulty = 0 }
+new_ups =
+    record { report = lost_report; pinged = 0; fsd = false; owed = []; unfinished = []; faulty = 0 }
 
 -- Its driver is connected, and is asked for all that it knows.
 abbrev pub after_connecting : ℕ → UpsState → UpsState
-after_connecting moment x = record x { report = connected_report moment; pinged = moment; owed = codes "DUMPALL" ++ 10 ∷ []; unfinished = [] }
+after_connecting moment x =
+    record x { report = connected_report moment; pinged = moment; owed = codes "DUMPALL" ++ 10 ∷ [];
+    unfinished = [] }
 
--- Its driver is lost, and what it reported with it. A forced shutdown and the count of refused lines stay.
+-- Its driver is lost, and what it reported with it. A forced shutdown and the count of refused
+-- lines stay.
 abbrev pub after_loss : UpsState → UpsState
 after_loss x = record x { report = lost_report; pinged = 0; owed = []; unfinished = [] }
 
@@ -43,14 +51,20 @@ with_order line x = record x { owed = x.owed ++ line }
 abbrev pub ping_line : List ℕ
 ping_line = codes "PING" ++ 10 ∷ []
 
--- A PING is due where a driver that is connected told nothing, and wasn't pinged, for a third of the greatest age, and the line fits in what it may be owed.
+-- A PING is due where a driver that is connected told nothing, and wasn't pinged, for a third of
+-- the greatest age, and the line fits in what it may be owed.
 abbrev pub ping_is_due : ℕ → ℕ → UpsState → Bool
 ping_is_due max_age moment x =
-    x.report.connected && (nat_le (max_age / 3) (moment - x.report.heard) && (nat_le (max_age / 3) (moment - x.pinged) && nat_le (length x.owed + length ping_line) DRIVER_OWED_LIMIT))
+    x.report.connected
+    && (nat_le (max_age / 3) (moment - x.report.heard)
+    && (nat_le (max_age / 3) (moment - x.pinged)
+    && nat_le (length x.owed + length ping_line) DRIVER_OWED_LIMIT))
 
 -- The moment is this one now.
 abbrev pub after_tick : ℕ → ℕ → UpsState → UpsState
-after_tick max_age moment x = if ping_is_due max_age moment x then record x { pinged = moment; owed = x.owed ++ ping_line } else x
+after_tick max_age moment x =
+    if ping_is_due max_age moment x then record x { pinged = moment; owed = x.owed ++ ping_line }
+    else x
 
 -- The count of refused lines stops at its greatest number.
 abbrev pub with_faulty_line : UpsState → UpsState

@@ -1,5 +1,6 @@
 -- Which bytes turns move between the sockets and the server: the law of every list of turns.
-use Rattle.std.specs.Prelude.{◌≡◌, ℕ, Bool, false, List, [], ◌∷◌, ◌++◌, Option, Some, Result, ◌==◌, if◌then◌else◌, take}
+use Rattle.std.specs.Prelude.{◌≡◌, ℕ, Bool, false, List, [], ◌∷◌, ◌++◌, Option, Some, Result, ◌==◌}
+use Rattle.std.specs.Prelude.{if◌then◌else◌, take}
 use Rattle.std.specs.List.{flat_map}
 use Rattle.nutusers.specs.declared.ups_list.UpsId.{UpsId}
 use Rattle.nutcore.specs.declared.event.Event.{Event}
@@ -18,9 +19,13 @@ use Rattle.nutloop.specs.declared.fault.LoopFault.{LoopFault}
 use Rattle.nutloop.specs.Turn.{TurnGives, owed_to_driver}
 
 -- Turns, one after another, with the answer of each.
-abbrev pub Turns : {S : Type 0} → (S → Option (List Call)) → (S → ℕ) → ServerState → S → List (Result (Unit {0}) LoopFault) → ServerState → S → Type 0
+abbrev pub Turns : {S : Type 0} → (S → Option (List Call)) → (S → ℕ) → ServerState → S
+    → List (Result (Unit {0}) LoopFault) → ServerState → S → Type 0
 Turns calls failures old sockets [] new after = (new ≡ old) × (after ≡ sockets)
-Turns {S} calls failures old sockets (r ∷ rs) new after = (mid : ServerState) × ((middle : S) × TurnGives calls failures old sockets r mid middle × Turns calls failures mid middle rs new after)
+Turns {S} calls failures old sockets (r ∷ rs) new after =
+    (mid : ServerState)
+    × ((middle : S) × TurnGives calls failures old sockets r mid middle
+    × Turns calls failures mid middle rs new after)
 
 -- It is this client, or this driver.
 abbrev pub is_client : ℕ → Peer → Bool
@@ -59,19 +64,29 @@ fed_in_event c s _ = []
 
 -- What was at the front of the bytes owed to the driver when it took so many of them.
 abbrev pub driver_took_in_event : UpsId → ServerState → Event → List ℕ
-driver_took_in_event u s (DriverTook v n) = if v.place == u.place then take n (owed_to_driver v s) else []
+driver_took_in_event u s (DriverTook v n) =
+    if v.place == u.place then take n (owed_to_driver v s) else []
 driver_took_in_event u s _ = []
 
--- The turns told these calls and made these events of the server: each client's bytes are fed to it and each driver's to it, all of them, once and in order; and what each of them took is what the server counts as taken.
-pub record AreMoved (since : List Call) (old : ServerState) (events : List Event) (outcomes : List Outcome) (new : ServerState) : Type 0 where
+-- The turns told these calls and made these events of the server: each client's bytes are fed to it
+-- and each driver's to it, all of them, once and in order; and what each of them took is what the
+-- server counts as taken.
+pub record AreMoved (since : List Call) (old : ServerState) (events : List Event)
+    (outcomes : List Outcome) (new : ServerState) : Type 0 where
   pub run : Run old events outcomes new
   pub fed : (c : ℕ) → bytes_given (is_client c) since ≡ along (fed_in_event c) old events outcomes
   pub taken_by_client : (c : ℕ) → bytes_taken (is_client c) since ≡ taken c old events outcomes
   pub came_of_driver : (u : UpsId) → bytes_given (is_driver u) since ≡ came u events
-  pub taken_by_driver : (u : UpsId) → bytes_taken (is_driver u) since ≡ along (driver_took_in_event u) old events outcomes
+  pub taken_by_driver : (u : UpsId)
+      → bytes_taken (is_driver u) since ≡ along (driver_took_in_event u) old events outcomes
 
 -- Over any turns of sockets that tell their calls.
 abbrev pub EveryByteIsMovedOnce : {S : Type 0} → (S → Option (List Call)) → (S → ℕ) → Type 0
 EveryByteIsMovedOnce {S} calls failures =
-    (old new : ServerState) (sockets after : S) (results : List (Result (Unit {0}) LoopFault)) (before now : List Call) → Turns calls failures old sockets results new after → calls sockets ≡ Some before → calls after ≡ Some now
-    → (since : List Call) × ((events : List Event) × ((outcomes : List Outcome) × (now ≡ before ++ since) × AreMoved since old events outcomes new))
+    (old new : ServerState) (sockets after : S) (results : List (Result (Unit {0}) LoopFault))
+    (before now : List Call) → Turns calls failures old sockets results new after
+    → calls sockets ≡ Some before → calls after ≡ Some now
+    → (since : List Call)
+    × ((events : List Event)
+    × ((outcomes : List Outcome) × (now ≡ before ++ since)
+    × AreMoved since old events outcomes new))

@@ -1,5 +1,6 @@
 -- What the sockets answer, and what they tell of it.
-use Rattle.std.specs.Prelude.{◌≡◌, ℕ, ◌+◌, ◌-◌, ◌^◌, ◌≤◌, List, [], ◌∷◌, ◌++◌, ⊤, Option, Some, None, Result, Ok, Err, MatchResult, length, take, min}
+use Rattle.std.specs.Prelude.{◌≡◌, ℕ, ◌+◌, ◌-◌, ◌^◌, ◌≤◌, List, [], ◌∷◌, ◌++◌, ⊤, Option, Some}
+use Rattle.std.specs.Prelude.{None, Result, Ok, Err, MatchResult, length, take, min}
 use Rattle.nutloop.specs.declared.sockets.Call.{Call}
 use Rattle.nutloop.specs.declared.sockets.Call.TheVariants.{Gave, Waits, Ended}
 use Rattle.nutloop.specs.declared.sockets.Got.{Got}
@@ -27,7 +28,8 @@ Grows (Some xs) None cs = ⊤
 Grows (Some xs) (Some ys) cs = ys ≡ xs ++ cs
 
 -- A call that is answered is told, and one that fails isn't.
-abbrev pub Logs : {T E : Type 0} → Option (List Call) → Option (List Call) → (T → Call) → Result T E → Type 0
+abbrev pub Logs : {T E : Type 0} → Option (List Call) → Option (List Call) → (T → Call) → Result T E
+    → Type 0
 Logs old new call (Ok x) = Grows old new (call x ∷ [])
 Logs old new call (Err e) = Grows old new []
 

@@ -1,5 +1,6 @@
 -- What one turn does: one row of a table, by what is ready and by what the sockets answer.
-use Rattle.std.specs.Prelude.{◌≡◌, ◌≤◌, ℕ, Bool, true, false, List, [], ◌∷◌, ◌++◌, ⊤, Option, Some, Result, Ok, Err, ◌==◌, if◌then◌else◌, is_some, length, take}
+use Rattle.std.specs.Prelude.{◌≡◌, ◌≤◌, ℕ, Bool, true, false, List, [], ◌∷◌, ◌++◌, ⊤, Option, Some}
+use Rattle.std.specs.Prelude.{Result, Ok, Err, ◌==◌, if◌then◌else◌, is_some, length, take}
 use Rattle.std.specs.Option.{option_map_or}
 use Rattle.nutusers.specs.declared.ups_list.UpsId.{UpsId}
 use Rattle.nutcore.specs.declared.event.Event.{Event}
@@ -16,15 +17,18 @@ use Rattle.nutcore.specs.Run.{Run}
 use Rattle.nutcore.specs.Calls.{room_of, is_finished, owed_to}
 use Rattle.nutcore.specs.DriverHistory.{has_driver}
 use Rattle.nutloop.specs.declared.sockets.Ready.{Ready}
-use Rattle.nutloop.specs.declared.sockets.Ready.TheVariants.{Nothing, Tick, Newcomer, DriverUp, Read, Write}
+use Rattle.nutloop.specs.declared.sockets.Ready.TheVariants.{Nothing, Tick, Newcomer, DriverUp}
+use Rattle.nutloop.specs.declared.sockets.Ready.TheVariants.{Read, Write}
 use Rattle.nutloop.specs.declared.sockets.Call.{Call}
-use Rattle.nutloop.specs.declared.sockets.Call.TheVariants.{Readied, Accepted, Named, Refused, Gave, Waits, Ended, Wrote, Shut}
+use Rattle.nutloop.specs.declared.sockets.Call.TheVariants.{Readied, Accepted, Named, Refused, Gave}
+use Rattle.nutloop.specs.declared.sockets.Call.TheVariants.{Waits, Ended, Wrote, Shut}
 use Rattle.nutloop.specs.declared.fault.LoopFault.{LoopFault}
 use Rattle.nutloop.specs.declared.fault.LoopFault.TheVariants as fault
 use Rattle.nutloop.specs.declared.turns.TheConstants.{DRIVER_READ_LIMIT}
 use Rattle.nutloop.specs.Sockets.{Grows, counted}
 
--- The one call that a row makes of the sockets and that may fail, if it makes one: reads has at most how many bytes, writes which ones.
+-- The one call that a row makes of the sockets and that may fail, if it makes one: reads has at
+-- most how many bytes, writes which ones.
 pub data Ask : Type 0 where
   nobody : Ask
   accepts : Ask
@@ -91,7 +95,8 @@ answered (reads p most) ended = Ended p ∷ []
 answered (writes p bytes) (took n) = Wrote p (take n bytes) ∷ []
 answered _ _ = []
 
--- The events of a row, by the answer. Where nothing is asked of a client that is open, it has no room, and the lines that it holds are tried again.
+-- The events of a row, by the answer. Where nothing is asked of a client that is open, it has no
+-- room, and the lines that it holds are tried again.
 abbrev pub read_of_client : ServerState → ℕ → Answer → List Event
 read_of_client s c unasked = if is_some (session c s) then event.Feed c [] ∷ [] else []
 read_of_client s c (gave bytes) = event.Feed c bytes ∷ []
@@ -145,13 +150,15 @@ loses_driver LineTooLong = true
 loses_driver (Memory k) = true
 loses_driver _ = false
 
--- The calls after an event, which can't fail: a newcomer is named, or refused where no session is opened; who is gone is shut, and so is a driver that is lost by what it sent.
+-- The calls after an event, which can't fail: a newcomer is named, or refused where no session is
+-- opened; who is gone is shut, and so is a driver that is lost by what it sent.
 abbrev pub calls_behind : Event → Outcome → List Call
 calls_behind (event.Open address) (outcome.Opened c) = Named c ∷ []
 calls_behind (event.Open address) (outcome.Refused fault) = Refused ∷ []
 calls_behind (event.Close c) _ = Shut (Client c) ∷ []
 calls_behind (event.DriverDown u) _ = Shut (Driver u) ∷ []
-calls_behind (event.DriverBytes u piece) (outcome.Refused fault) = if loses_driver fault then Shut (Driver u) ∷ [] else []
+calls_behind (event.DriverBytes u piece) (outcome.Refused fault) =
+    if loses_driver fault then Shut (Driver u) ∷ [] else []
 calls_behind _ _ = []
 
 abbrev pub calls_behind_all : List Event → List Outcome → List Call
@@ -160,7 +167,9 @@ calls_behind_all (e ∷ es) [] = []
 calls_behind_all (e ∷ es) (o ∷ os) = calls_behind e o ++ calls_behind_all es os
 
 -- These events were done, with the calls after them, and no call failed.
-pub record Does {S : Type 0} (calls : S → Option (List Call)) (failures : S → ℕ) (events : List Event) (old : ServerState) (sockets : S) (new : ServerState) (after : S) : Type 0 where
+pub record Does {S : Type 0} (calls : S → Option (List Call)) (failures : S → ℕ)
+    (events : List Event) (old : ServerState) (sockets : S) (new : ServerState) (after : S)
+    : Type 0 where
   pub outcomes : List Outcome
   pub run : Run old events outcomes new
   pub told : Grows (calls sockets) (calls after) (calls_behind_all events outcomes)
@@ -170,8 +179,11 @@ abbrev pub failures_by : Answer → ℕ → ℕ
 failures_by failed n = counted n
 failures_by _ n = n
 
--- A row is done, after what was told before it: its call is answered, then its events are done, with the calls after them.
-pub record IsRow {S : Type 0} (calls : S → Option (List Call)) (failures : S → ℕ) (before : List Call) (ready : Ready) (old : ServerState) (sockets : S) (new : ServerState) (after : S) : Type 0 where
+-- A row is done, after what was told before it: its call is answered, then its events are done,
+-- with the calls after them.
+pub record IsRow {S : Type 0} (calls : S → Option (List Call)) (failures : S → ℕ)
+    (before : List Call) (ready : Ready) (old : ServerState) (sockets : S) (new : ServerState)
+    (after : S) : Type 0 where
   pub answer : Answer
   pub mid : ServerState
   pub outcomes : List Outcome
@@ -179,23 +191,35 @@ pub record IsRow {S : Type 0} (calls : S → Option (List Call)) (failures : S �
   pub may : MayAnswer (ask old ready) answer
   pub makes : Run old (row_events old ready answer) outcomes mid
   pub finishes : Run mid (last_events mid ready answer) last new
-  pub told : Grows (calls sockets) (calls after) ((before ++ answered (ask old ready) answer) ++ (calls_behind_all (row_events old ready answer) outcomes ++ calls_behind_all (last_events mid ready answer) last))
+  pub told : Grows (calls sockets) (calls after)
+      ((before ++ answered (ask old ready) answer)
+      ++ (calls_behind_all (row_events old ready answer) outcomes
+      ++ calls_behind_all (last_events mid ready answer) last))
   pub count : failures after ≡ failures_by answer (failures sockets)
 
 -- A call of the loop failed: only what was answered before it is told, and the server is as it was.
-pub record Fails {S : Type 0} (calls : S → Option (List Call)) (failures : S → ℕ) (before : List Call) (old : ServerState) (sockets : S) (new : ServerState) (after : S) : Type 0 where
+pub record Fails {S : Type 0} (calls : S → Option (List Call)) (failures : S → ℕ)
+    (before : List Call) (old : ServerState) (sockets : S) (new : ServerState) (after : S)
+    : Type 0 where
   pub told : Grows (calls sockets) (calls after) before
   pub count : failures after ≡ counted (failures sockets)
   pub same : new ≡ old
 
 -- A newcomer's row, or `accept` fails.
-abbrev pub NewcomerGives : {S : Type 0} → (S → Option (List Call)) → (S → ℕ) → ServerState → S → Result (Unit {0}) LoopFault → ServerState → S → Type 0
-NewcomerGives calls failures old sockets (Ok u) new after = IsRow calls failures [] Newcomer old sockets new after
+abbrev pub NewcomerGives : {S : Type 0} → (S → Option (List Call)) → (S → ℕ) → ServerState → S
+    → Result (Unit {0}) LoopFault → ServerState → S → Type 0
+NewcomerGives calls failures old sockets (Ok u) new after =
+    IsRow calls failures [] Newcomer old sockets new after
 NewcomerGives calls failures old sockets (Err fault.Ready) new after = ⊥
-NewcomerGives calls failures old sockets (Err fault.Accept) new after = Fails calls failures [] old sockets new after
+NewcomerGives calls failures old sockets (Err fault.Accept) new after =
+    Fails calls failures [] old sockets new after
 
 -- A turn: `ready` is asked once, and then one row is done; or `ready` fails, or `accept` after it.
-abbrev pub TurnGives : {S : Type 0} → (S → Option (List Call)) → (S → ℕ) → ServerState → S → Result (Unit {0}) LoopFault → ServerState → S → Type 0
-TurnGives calls failures old sockets (Ok u) new after = (ready : Ready) × IsRow calls failures (Readied ready ∷ []) ready old sockets new after
-TurnGives calls failures old sockets (Err fault.Ready) new after = Fails calls failures [] old sockets new after
-TurnGives calls failures old sockets (Err fault.Accept) new after = Fails calls failures (Readied Newcomer ∷ []) old sockets new after
+abbrev pub TurnGives : {S : Type 0} → (S → Option (List Call)) → (S → ℕ) → ServerState → S
+    → Result (Unit {0}) LoopFault → ServerState → S → Type 0
+TurnGives calls failures old sockets (Ok u) new after =
+    (ready : Ready) × IsRow calls failures (Readied ready ∷ []) ready old sockets new after
+TurnGives calls failures old sockets (Err fault.Ready) new after =
+    Fails calls failures [] old sockets new after
+TurnGives calls failures old sockets (Err fault.Accept) new after =
+    Fails calls failures (Readied Newcomer ∷ []) old sockets new after

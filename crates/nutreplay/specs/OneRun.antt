@@ -6,7 +6,9 @@ use Rattle.nutusers.specs.UpsList.{Ups}
 use Rattle.nutusers.specs.Users.{User}
 use Rattle.nutusers.specs.Descriptions.{Descriptions}
 use Rattle.nutcore.specs.declared.event.Event.{Event}
-use Rattle.nutcore.specs.declared.event.Event.TheVariants.{DriverUp, DriverBytes, DriverTook, DriverDown, Tick, Open, Feed, Took, Close}
+use Rattle.nutcore.specs.declared.event.Event.TheVariants.{DriverUp, DriverBytes, DriverTook}
+use Rattle.nutcore.specs.declared.event.Event.TheVariants.{DriverDown, Tick, Open, Feed, Took}
+use Rattle.nutcore.specs.declared.event.Event.TheVariants.{Close}
 use Rattle.nutcore.specs.declared.event.Peer.TheVariants.{Client, Driver}
 use Rattle.nutcore.specs.declared.event.Outcome.{Outcome}
 use Rattle.nutcore.specs.Server.{ServerState, new_server}
@@ -17,7 +19,9 @@ use Rattle.nutreplay.specs.declared.script.action.Action.{Action}
 use Rattle.nutreplay.specs.declared.script.action.Action.TheVariants as asked
 use Rattle.nutreplay.specs.declared.script.ScriptLine.{ScriptLine}
 use Rattle.nutreplay.specs.Script.{actions_of}
-use Rattle.nutreplay.specs.Transcript.{TranscriptState, new_transcript, Happens, HappensTo, TakesAgain, all_taken, again, IsDone, AreDone, IsOutput, ups_named, opened_by, count_offered, count_owed, sent_to}
+use Rattle.nutreplay.specs.Transcript.{TranscriptState, new_transcript, Happens, HappensTo}
+use Rattle.nutreplay.specs.Transcript.{TakesAgain, all_taken, again, IsDone, AreDone, IsOutput}
+use Rattle.nutreplay.specs.Transcript.{ups_named, opened_by, count_offered, count_owed, sent_to}
 
 pub record Happening : Type 0 where
   pub event : Event
@@ -30,49 +34,71 @@ abbrev pub outcomes_of : List Happening → List Outcome
 outcomes_of hs = map (λ h. h.outcome) hs
 
 -- One event.
-abbrev pub once : (line : ℕ) (event : Event) (old new : TranscriptState) → Happens line event old new → List Happening
+abbrev pub once : (line : ℕ) (event : Event) (old new : TranscriptState)
+    → Happens line event old new → List Happening
 once line event old new h = record { event = event; outcome = h.outcome } ∷ []
 
 -- The event of the UPS of a name. Where the list has no such UPS nothing happens to the server.
-abbrev pub once_to : (o : Option UpsId) (line : ℕ) (event : UpsId → Event) (old new : TranscriptState) → HappensTo o line event old new → List Happening
+abbrev pub once_to : (o : Option UpsId) (line : ℕ) (event : UpsId → Event)
+    (old new : TranscriptState) → HappensTo o line event old new → List Happening
 once_to None line event old new h = []
 once_to (Some u) line event old new h = once line (event u) old new h
 
 -- A client's takings, until nothing is offered.
-abbrev pub takings : (line c : ℕ) (old new : TranscriptState) → TakesAgain line c old new → List Happening
+abbrev pub takings : (line c : ℕ) (old new : TranscriptState) → TakesAgain line c old new
+    → List Happening
 takings line c old new (all_taken t none) = []
-takings line c old new (again first mid last some h rest) = once line (Took c (count_offered c first)) first mid h ++ takings line c mid last rest
+takings line c old new (again first mid last some h rest) =
+    once line (Took c (count_offered c first)) first mid h ++ takings line c mid last rest
 
 -- The events of a line.
-abbrev pub of_line : (line : ℕ) (action : Action) (old new : TranscriptState) → IsDone line action old new → List Happening
+abbrev pub of_line : (line : ℕ) (action : Action) (old new : TranscriptState)
+    → IsDone line action old new → List Happening
 unfolding IsDone
-of_line line (asked.DriverUp name) old new h = once_to (ups_named name old) line (λ u. DriverUp u) old new h
-of_line line (asked.DriverBytes name piece) old new h = once_to (ups_named name old) line (λ u. DriverBytes u piece) old new h
-of_line line (asked.DriverTook name n) old new h = once_to (ups_named name old) line (λ u. DriverTook u n) old new h
-of_line line (asked.DriverTookAll name) old new h = once_to (ups_named name old) line (λ u. DriverTook u (count_owed u old)) old new h
-of_line line (asked.DriverDown name) old new h = once_to (ups_named name old) line (λ u. DriverDown u) old new h
+of_line line (asked.DriverUp name) old new h =
+    once_to (ups_named name old) line (λ u. DriverUp u) old new h
+of_line line (asked.DriverBytes name piece) old new h =
+    once_to (ups_named name old) line (λ u. DriverBytes u piece) old new h
+of_line line (asked.DriverTook name n) old new h =
+    once_to (ups_named name old) line (λ u. DriverTook u n) old new h
+of_line line (asked.DriverTookAll name) old new h =
+    once_to (ups_named name old) line (λ u. DriverTook u (count_owed u old)) old new h
+of_line line (asked.DriverDown name) old new h =
+    once_to (ups_named name old) line (λ u. DriverDown u) old new h
 of_line line (asked.Tick seconds) old new h = once line (Tick seconds) old new h
 of_line line (asked.Open address) old new h = once line (Open address) old new h
 of_line line (asked.Feed c piece) old new h = once line (Feed c piece) old new h
 of_line line (asked.Took c n) old new h = once line (Took c n) old new h
-of_line line (asked.TookAll c) old new h = once line (Took c (count_offered c old)) old h.0 h.1 ++ takings line c h.0 new h.2
+of_line line (asked.TookAll c) old new h =
+    once line (Took c (count_offered c old)) old h.0 h.1 ++ takings line c h.0 new h.2
 of_line line (asked.Close c) old new h = once line (Close c) old new h
 
 -- The events of the lines.
-abbrev pub of_lines : (lines : List ScriptLine) (old new : TranscriptState) → AreDone lines old new → List Happening
+abbrev pub of_lines : (lines : List ScriptLine) (old new : TranscriptState) → AreDone lines old new
+    → List Happening
 of_lines [] old new h = []
-of_lines (line ∷ lines) old new h = of_line line.number line.action old h.0 h.1 ++ of_lines lines h.0 new h.2
+of_lines (line ∷ lines) old new h =
+    of_line line.number line.action old h.0 h.1 ++ of_lines lines h.0 new h.2
 
--- A transcript records the run of these events. The clients listed are those that the run opened, in order. What is listed for a client or a driver is what it took in the run. While it is open, that, followed by what it is still owed, is the answers to its executed lines.
-pub record RecordsRun (start : ServerState) (hs : List Happening) (end : TranscriptState) : Type 0 where
+-- A transcript records the run of these events. The clients listed are those that the run opened,
+-- in order. What is listed for a client or a driver is what it took in the run. While it is open,
+-- that, followed by what it is still owed, is the answers to its executed lines.
+pub record RecordsRun (start : ServerState) (hs : List Happening) (end : TranscriptState)
+    : Type 0 where
   pub run : Run start (events_of hs) (outcomes_of hs) end.server
   pub clients : end.clients ≡ flat_map opened_by (outcomes_of hs)
   pub sent : (c : ℕ) → sent_to (Client c) end.taken ≡ taken c start (events_of hs) (outcomes_of hs)
-  pub sent_to_driver : (u : UpsId) → sent_to (Driver u) end.taken ≡ driver_taken u start (events_of hs) (outcomes_of hs)
-  pub answered : (c : ℕ) → is_closed c end.server ≡ false → sent_to (Client c) end.taken ++ owed c end.server ≡ answers c start (events_of hs) (outcomes_of hs)
+  pub sent_to_driver : (u : UpsId)
+      → sent_to (Driver u) end.taken ≡ driver_taken u start (events_of hs) (outcomes_of hs)
+  pub answered : (c : ℕ) → is_closed c end.server ≡ false
+      → sent_to (Client c) end.taken ++ owed c end.server
+      ≡ answers c start (events_of hs) (outcomes_of hs)
 
 -- The output of a script records the one run of all its events.
 abbrev pub AnOutputRecordsOneRun : Type 0
 AnOutputRecordsOneRun =
-    (list : List Ups) (users : List User) (descriptions : Descriptions) (max_age : ℕ) (script output : List ℕ) (is_output : IsOutput list users descriptions max_age script output)
-    → RecordsRun (new_server list users descriptions max_age) (of_lines (actions_of script) (new_transcript list users descriptions max_age) is_output.end is_output.done) is_output.end
+    (list : List Ups) (users : List User) (descriptions : Descriptions) (max_age : ℕ)
+    (script output : List ℕ) (is_output : IsOutput list users descriptions max_age script output)
+    → RecordsRun (new_server list users descriptions max_age)
+    (of_lines (actions_of script)
+    (new_transcript list users descriptions max_age) is_output.end is_output.done) is_output.end

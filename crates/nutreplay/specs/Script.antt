@@ -1,5 +1,6 @@
 -- The replay script: what each of its lines means.
-use Rattle.std.specs.Prelude.{ℕ, ◌+◌, ◌-◌, ◌^◌, Bool, true, false, List, [], ◌∷◌, ◌++◌, Option, Some, None, ◌==◌, if◌then◌else◌, length, take, drop, position, codes}
+use Rattle.std.specs.Prelude.{ℕ, ◌+◌, ◌-◌, ◌^◌, Bool, true, false, List, [], ◌∷◌, ◌++◌, Option}
+use Rattle.std.specs.Prelude.{Some, None, ◌==◌, if◌then◌else◌, length, take, drop, position, codes}
 use Rattle.std.specs.Option.{option_map}
 use Rattle.std.specs.Result.{result_ok}
 use Rattle.std.specs.Str.{bytes_eq}
@@ -9,16 +10,23 @@ use Rattle.nutwords.specs.Reading.{read_ups_name, read_address}
 use Rattle.nutwords.specs.Text.{lines_of, is_silent}
 use Rattle.nutcore.specs.Lines.{with_lf}
 use Rattle.nutreplay.specs.declared.script.action.Action.{Action}
-use Rattle.nutreplay.specs.declared.script.action.Action.TheVariants.{DriverUp, DriverBytes, DriverTook, DriverTookAll, DriverDown, Tick, Open, Feed, Took, TookAll, Close}
+use Rattle.nutreplay.specs.declared.script.action.Action.TheVariants.{DriverUp, DriverBytes}
+use Rattle.nutreplay.specs.declared.script.action.Action.TheVariants.{DriverTook, DriverTookAll}
+use Rattle.nutreplay.specs.declared.script.action.Action.TheVariants.{DriverDown, Tick, Open, Feed}
+use Rattle.nutreplay.specs.declared.script.action.Action.TheVariants.{Took, TookAll, Close}
 use Rattle.nutreplay.specs.declared.script.action.Verb.{Verb}
-use Rattle.nutreplay.specs.declared.script.action.Verb.TheVariants.{Up, Down, Driver, DriverPart, DriverHex, DriverTookBy, TickTo, OpenFrom, Client, Part, ClientHex, TookBy, CloseOf}
+use Rattle.nutreplay.specs.declared.script.action.Verb.TheVariants.{Up, Down, Driver, DriverPart}
+use Rattle.nutreplay.specs.declared.script.action.Verb.TheVariants.{DriverHex, DriverTookBy, TickTo}
+use Rattle.nutreplay.specs.declared.script.action.Verb.TheVariants.{OpenFrom, Client, Part}
+use Rattle.nutreplay.specs.declared.script.action.Verb.TheVariants.{ClientHex, TookBy, CloseOf}
 use Rattle.nutreplay.specs.declared.script.Meaning.{Meaning}
 use Rattle.nutreplay.specs.declared.script.Meaning.TheVariants.{Nothing, Does, Bad}
 use Rattle.nutreplay.specs.declared.script.ScriptLine.{ScriptLine}
 
 -- The bytes before the first space, and those after it.
 abbrev pub split_at_space : List ℕ → Option (List ℕ × List ℕ)
-split_at_space line = option_map (λ i. (take i line, drop (i + 1) line)) (position (λ b. b == 32) line)
+split_at_space line =
+    option_map (λ i. (take i line, drop (i + 1) line)) (position (λ b. b == 32) line)
 
 -- The words that a line may begin with.
 abbrev pub verb_of : List ℕ → Option Verb
@@ -49,7 +57,8 @@ abbrev pub address : List ℕ → Option (List ℕ)
 address text = result_ok (read_address text)
 
 -- The first argument, and the REST: all further bytes after one space.
-abbrev pub with_rest : {A : Type 0} → (List ℕ → Option A) → Option (List ℕ × List ℕ) → Option (A × List ℕ)
+abbrev pub with_rest : {A : Type 0} → (List ℕ → Option A) → Option (List ℕ × List ℕ)
+    → Option (A × List ℕ)
 with_rest read None = None
 with_rest read (Some parts) = option_map (λ first. (first, parts.1)) (read parts.0)
 
@@ -61,14 +70,18 @@ client_and_rest text = with_rest number (split_at_space text)
 
 -- So many bytes, or `all`.
 abbrev pub taking : ℕ → List ℕ → Option Action
-taking c count = if bytes_eq count (codes "all") then Some (TookAll c) else option_map (λ n. Took c n) (number count)
+taking c count =
+    if bytes_eq count (codes "all") then Some (TookAll c)
+    else option_map (λ n. Took c n) (number count)
 
 abbrev pub taking_by : Option (ℕ × List ℕ) → Option Action
 taking_by None = None
 taking_by (Some parts) = taking parts.0 parts.1
 
 abbrev pub driver_taking : List ℕ → List ℕ → Option Action
-driver_taking ups count = if bytes_eq count (codes "all") then Some (DriverTookAll ups) else option_map (λ n. DriverTook ups n) (number count)
+driver_taking ups count =
+    if bytes_eq count (codes "all") then Some (DriverTookAll ups)
+    else option_map (λ n. DriverTook ups n) (number count)
 
 abbrev pub driver_taking_by : Option (List ℕ × List ℕ) → Option Action
 driver_taking_by None = None
@@ -142,7 +155,8 @@ is_bad (Does action) = false
 
 abbrev pub bad_line_from : ℕ → List (List ℕ) → Option ℕ
 bad_line_from n [] = None
-bad_line_from n (line ∷ lines) = if is_bad (read_line line) then Some n else bad_line_from (n + 1) lines
+bad_line_from n (line ∷ lines) =
+    if is_bad (read_line line) then Some n else bad_line_from (n + 1) lines
 
 -- What a script asks for, and the number of its first bad line. Lines are numbered from 1.
 unfoldable pub actions_of : List ℕ → List ScriptLine

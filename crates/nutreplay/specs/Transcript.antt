@@ -1,5 +1,6 @@
 -- What replaying a script does to the server, and the transcript of it.
-use Rattle.std.specs.Prelude.{◌≡◌, ◌≢◌, ℕ, ◌+◌, ◌-◌, Bool, false, List, [], ◌∷◌, ◌++◌, Option, Some, None, ◌==◌, nat_lt, if◌then◌else◌, length, slice_get, codes}
+use Rattle.std.specs.Prelude.{◌≡◌, ◌≢◌, ℕ, ◌+◌, ◌-◌, Bool, false, List, [], ◌∷◌, ◌++◌, Option, Some}
+use Rattle.std.specs.Prelude.{None, ◌==◌, nat_lt, if◌then◌else◌, length, slice_get, codes}
 use Rattle.std.specs.List.{flat_map}
 use Rattle.std.specs.Option.{option_map}
 use Rattle.std.specs.Fmt.{decimal}
@@ -8,7 +9,9 @@ use Rattle.nutusers.specs.UpsList.{Ups, place_of, id_at}
 use Rattle.nutusers.specs.Users.{User}
 use Rattle.nutusers.specs.Descriptions.{Descriptions}
 use Rattle.nutcore.specs.declared.event.Event.{Event}
-use Rattle.nutcore.specs.declared.event.Event.TheVariants.{DriverUp, DriverBytes, DriverTook, DriverDown, Tick, Open, Feed, Took, Close}
+use Rattle.nutcore.specs.declared.event.Event.TheVariants.{DriverUp, DriverBytes, DriverTook}
+use Rattle.nutcore.specs.declared.event.Event.TheVariants.{DriverDown, Tick, Open, Feed, Took}
+use Rattle.nutcore.specs.declared.event.Event.TheVariants.{Close}
 use Rattle.nutcore.specs.declared.event.Peer.{Peer}
 use Rattle.nutcore.specs.declared.event.Peer.TheVariants.{Client, Driver}
 use Rattle.nutcore.specs.declared.event.Outcome.{Outcome}
@@ -28,7 +31,8 @@ use Rattle.nutreplay.specs.declared.script.ScriptLine.{ScriptLine}
 use Rattle.nutreplay.specs.declared.transcript.sent.Taken.{Taken}
 use Rattle.nutreplay.specs.Script.{actions_of}
 
--- A transcript after the events so far. server: what they left. text: the notes of them. clients: the ids, in the order of opening. taken: what clients and drivers took, in order.
+-- A transcript after the events so far. server: what they left. text: the notes of them. clients:
+-- the ids, in the order of opening. taken: what clients and drivers took, in order.
 pub record TranscriptState : Type 0 where
   pub server : ServerState
   pub text : List ℕ
@@ -37,12 +41,16 @@ pub record TranscriptState : Type 0 where
 
 -- Before the first event.
 abbrev pub new_transcript : List Ups → List User → Descriptions → ℕ → TranscriptState
-new_transcript list users descriptions max_age = record { server = new_server list users descriptions max_age; text = []; clients = []; taken = [] }
+new_transcript list users descriptions max_age =
+    record { server = new_server list users descriptions max_age; text = []; clients = [];
+    taken = [] }
 
 -- What is noted of one event.
 
 abbrev pub note_of_refusal : ℕ → Fault → List ℕ
-note_of_refusal line fault = codes "line " ++ decimal line ++ codes ": refused " ++ decimal (number_of_fault fault) ++ 10 ∷ []
+note_of_refusal line fault =
+    codes "line " ++ decimal line ++ codes ": refused " ++ decimal (number_of_fault fault)
+    ++ 10 ∷ []
 
 abbrev pub held_count : ℕ → ℕ → List ℕ
 held_count line n = codes "line " ++ decimal line ++ codes ": " ++ decimal n
@@ -55,7 +63,8 @@ note_of_held line n all = held_count line n ++ held_total all
 
 -- Of a feed, only that it took fewer bytes than it had.
 abbrev pub note_of_feed : ℕ → Event → ℕ → List ℕ
-note_of_feed line (Feed c piece) n = if nat_lt n (length piece) then note_of_held line n (length piece) else []
+note_of_feed line (Feed c piece) n =
+    if nat_lt n (length piece) then note_of_held line n (length piece) else []
 note_of_feed line _ n = []
 
 abbrev pub note_of : ℕ → Event → Outcome → List ℕ
@@ -72,7 +81,8 @@ opened_by _ = []
 abbrev pub taken_of : Peer → List ℕ → List Taken
 taken_of peer bytes = record { peer = peer; bytes = bytes } ∷ []
 
--- What a client or a driver takes by the event, and which it is. It is what the server counts as taken.
+-- What a client or a driver takes by the event, and which it is. It is what the server counts as
+-- taken.
 abbrev pub taken_by : ServerState → Event → List Taken
 taken_by s (Took c n) = taken_of (Client c) (taken_in_event c s (Took c n))
 taken_by s (DriverTook u n) = taken_of (Driver u) (driver_taken_in_event u s (DriverTook u n))
@@ -93,15 +103,21 @@ count_offered c t = length (offered (session c t.server))
 -- A client takes what it is offered, again and again, while something is offered.
 pub data TakesAgain (line c : ℕ) : TranscriptState → TranscriptState → Type 0 where
   all_taken : (t : TranscriptState) → count_offered c t ≡ 0 → TakesAgain line c t t
-  again : (old mid new : TranscriptState) → count_offered c old ≢ 0 → Happens line (Took c (count_offered c old)) old mid → TakesAgain line c mid new → TakesAgain line c old new
+  again : (old mid new : TranscriptState) → count_offered c old ≢ 0
+      → Happens line (Took c (count_offered c old)) old mid → TakesAgain line c mid new
+      → TakesAgain line c old new
 
 -- A client takes what it is offered: once, and again while something is offered.
 abbrev pub TakesAll : ℕ → ℕ → TranscriptState → TranscriptState → Type 0
-TakesAll line c old new = (mid : TranscriptState) × Happens line (Took c (count_offered c old)) old mid × TakesAgain line c mid new
+TakesAll line c old new =
+    (mid : TranscriptState) × Happens line (Took c (count_offered c old)) old mid
+    × TakesAgain line c mid new
 
 -- The event of the UPS of this name happens. Where the list has no such UPS it is refused.
-abbrev pub HappensTo : Option UpsId → ℕ → (UpsId → Event) → TranscriptState → TranscriptState → Type 0
-HappensTo None line event old new = new ≡ record old { text = old.text ++ note_of_refusal line NoSuchUps }
+abbrev pub HappensTo : Option UpsId → ℕ → (UpsId → Event) → TranscriptState → TranscriptState
+    → Type 0
+HappensTo None line event old new =
+    new ≡ record old { text = old.text ++ note_of_refusal line NoSuchUps }
 HappensTo (Some u) line event old new = Happens line (event u) old new
 
 -- How many bytes the driver is offered.
@@ -117,11 +133,16 @@ ups_named name t = option_map id_at (place_of name t.server.list)
 
 -- What a line asks for is done.
 unfoldable pub IsDone : ℕ → Action → TranscriptState → TranscriptState → Type 0
-IsDone line (asked.DriverUp name) old new = HappensTo (ups_named name old) line (λ u. DriverUp u) old new
-IsDone line (asked.DriverBytes name piece) old new = HappensTo (ups_named name old) line (λ u. DriverBytes u piece) old new
-IsDone line (asked.DriverTook name n) old new = HappensTo (ups_named name old) line (λ u. DriverTook u n) old new
-IsDone line (asked.DriverTookAll name) old new = HappensTo (ups_named name old) line (λ u. DriverTook u (count_owed u old)) old new
-IsDone line (asked.DriverDown name) old new = HappensTo (ups_named name old) line (λ u. DriverDown u) old new
+IsDone line (asked.DriverUp name) old new =
+    HappensTo (ups_named name old) line (λ u. DriverUp u) old new
+IsDone line (asked.DriverBytes name piece) old new =
+    HappensTo (ups_named name old) line (λ u. DriverBytes u piece) old new
+IsDone line (asked.DriverTook name n) old new =
+    HappensTo (ups_named name old) line (λ u. DriverTook u n) old new
+IsDone line (asked.DriverTookAll name) old new =
+    HappensTo (ups_named name old) line (λ u. DriverTook u (count_owed u old)) old new
+IsDone line (asked.DriverDown name) old new =
+    HappensTo (ups_named name old) line (λ u. DriverDown u) old new
 IsDone line (asked.Tick seconds) old new = Happens line (Tick seconds) old new
 IsDone line (asked.Open address) old new = Happens line (Open address) old new
 IsDone line (asked.Feed c piece) old new = Happens line (Feed c piece) old new
@@ -132,7 +153,8 @@ IsDone line (asked.Close c) old new = Happens line (Close c) old new
 -- The lines are done, one after another.
 abbrev pub AreDone : List ScriptLine → TranscriptState → TranscriptState → Type 0
 AreDone [] old new = new ≡ old
-AreDone (line ∷ lines) old new = (mid : TranscriptState) × IsDone line.number line.action old mid × AreDone lines mid new
+AreDone (line ∷ lines) old new =
+    (mid : TranscriptState) × IsDone line.number line.action old mid × AreDone lines mid new
 
 -- The whole text.
 
@@ -154,25 +176,33 @@ ending_of (Some b) = if b == 10 then [] else 10 ∷ []
 
 -- What was sent to a peer: how many bytes, and these.
 abbrev pub sent_part : List ℕ → List ℕ → List ℕ
-sent_part peer sent = peer ++ codes " sent " ++ decimal (length sent) ++ (codes " bytes" ++ 10 ∷ []) ++ sent ++ ending_of (slice_get sent (length sent - 1))
+sent_part peer sent =
+    peer ++ codes " sent " ++ decimal (length sent) ++ (codes " bytes" ++ 10 ∷ []) ++ sent
+    ++ ending_of (slice_get sent (length sent - 1))
 
 abbrev pub client_part : List Taken → ℕ → List ℕ
 client_part taken c = sent_part (codes "client " ++ decimal c) (sent_to (Client c) taken)
 
 abbrev pub driver_part : List Taken → ℕ → List ℕ → List ℕ
-driver_part taken place name = sent_part (codes "driver " ++ name) (sent_to (Driver (id_at place)) taken)
+driver_part taken place name =
+    sent_part (codes "driver " ++ name) (sent_to (Driver (id_at place)) taken)
 
 -- The drivers of the UPSs that stand from this place on.
 abbrev pub drivers_part : List Taken → ℕ → List Ups → List ℕ
 drivers_part taken place [] = []
-drivers_part taken place (ups ∷ list) = driver_part taken place ups.name ++ drivers_part taken (place + 1) list
+drivers_part taken place (ups ∷ list) =
+    driver_part taken place ups.name ++ drivers_part taken (place + 1) list
 
--- The notes of the events, then each client in the order of opening, then each UPS of the list, which is in byte order.
+-- The notes of the events, then each client in the order of opening, then each UPS of the list,
+-- which is in byte order.
 unfoldable pub whole_text : TranscriptState → List ℕ
-whole_text t = t.text ++ flat_map (client_part t.taken) t.clients ++ drivers_part t.taken 0 t.server.list
+whole_text t =
+    t.text ++ flat_map (client_part t.taken) t.clients ++ drivers_part t.taken 0 t.server.list
 
--- The output of a script over these UPSs, users and descriptions: what the actions of its lines, in order, do to a new server.
-pub record IsOutput (list : List Ups) (users : List User) (descriptions : Descriptions) (max_age : ℕ) (script output : List ℕ) : Type 0 where
+-- The output of a script over these UPSs, users and descriptions: what the actions of its lines, in
+-- order, do to a new server.
+pub record IsOutput (list : List Ups) (users : List User) (descriptions : Descriptions)
+    (max_age : ℕ) (script output : List ℕ) : Type 0 where
   pub end : TranscriptState
   pub done : AreDone (actions_of script) (new_transcript list users descriptions max_age) end
   pub text : output ≡ whole_text end

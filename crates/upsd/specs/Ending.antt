@@ -9,14 +9,17 @@ use Rattle.upsd.specs.declared.ending.Ending.TheVariants as endings
 use Rattle.nutreplay.specs.declared.replaying.ReplayFault.{ReplayFault}
 use Rattle.nutreplay.specs.declared.replaying.ReplayFault.TheVariants as faults
 
--- The ending tells of this refusal of the file: no memory where memory was refused, and nowhere else; else the file's path, and the line and the cause's number of the refusal.
+-- The ending tells of this refusal of the file: no memory where memory was refused, and nowhere
+-- else; else the file's path, and the line and the cause's number of the refusal.
 pub record IsToldOf (path : Bor (List ℕ)) (fault : ConfFault) (ending : Ending) : Type 0 where
   pub memory : fault.cause ≡ causes.Memory → ending ≡ endings.Memory
-  pub line : fault.cause ≢ causes.Memory → ending ≡ endings.Refused path fault.line (number_of_cause fault.cause)
+  pub line : fault.cause ≢ causes.Memory
+      → ending ≡ endings.Refused path fault.line (number_of_cause fault.cause)
 
 -- The ending tells of the refusal of a file with these lines.
 abbrev pub TellsRefusal : Format → (List ℕ → Bool) → Bor (List ℕ) → List (List ℕ) → Ending → Type 0
-TellsRefusal format adds path lines ending = (fault : ConfFault) × IsRefused format adds lines fault × IsToldOf path fault ending
+TellsRefusal format adds path lines ending =
+    (fault : ConfFault) × IsRefused format adds lines fault × IsToldOf path fault ending
 
 -- How the program ends where its script isn't replayed.
 abbrev pub ending_of_replay : Bor (List ℕ) → ReplayFault → Ending

@@ -1,7 +1,8 @@
 -- What is new of a UPS, by how it stood and how it stands.
 use Rattle.std.specs.Prelude.{Bool, true, false, Option, Some, None}
 use Rattle.upsd.specs.declared.journal.News.{News}
-use Rattle.upsd.specs.declared.journal.News.TheVariants.{DriverConnected, DriverLost, ForcedShutdown}
+use Rattle.upsd.specs.declared.journal.News.TheVariants.{DriverConnected, DriverLost}
+use Rattle.upsd.specs.declared.journal.News.TheVariants.{ForcedShutdown}
 
 -- A driver was connected or not, and is now.
 abbrev pub driver_news : Bool → Bool → Option News
