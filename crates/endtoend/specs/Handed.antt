@@ -48,7 +48,7 @@ module _ {R W O : Type 0} (remaining : R → Option (List ℕ)) (failures : R �
     pub gives : remaining (reader_of r.session) ≡ Some bytes
     pub reads : NoneFailed (failures (reader_of r.session)) (failures (reader_of r.session_after))
     pub writes : NoneFailed (write_failures (writer_of r.session))
-    (write_failures (writer_of r.session_after))
+        (write_failures (writer_of r.session_after))
     pub prints : NoneFailed (print_failures r.out) (print_failures r.out_after)
     pub memory : r.result ≢ Err Memory
 
