@@ -35,8 +35,13 @@ pub record ProgramRun (R W O : Type 0) : Type 0 where
 abbrev pub run_by : {R W O : Type 0} → Session R W → O → Result (Unit {0}) ClientFault → Session R W
     → O → ProgramRun R W O
 run_by session out result session_after out_after =
-    record { session = session; session_after = session_after; out = out; out_after = out_after;
-    result = result }
+    record {
+      session = session;
+      session_after = session_after;
+      out = out;
+      out_after = out_after;
+      result = result;
+    }
 
 module _ {R W O : Type 0} (remaining : R → Option (List ℕ)) (failures : R → ℕ)
     (write_failures : W → ℕ) (contents : O → Option (List ℕ)) (print_failures : O → ℕ) where

@@ -21,9 +21,12 @@ use Rattle.nutanswer.specs.Answer.{Answer, listing, answer_to, IsOneLine}
 -- The UPS that was found.
 abbrev pub known_ups : Known → KnownUps
 known_ups k =
-    record { name = k.name.now;
-    description = ups_description (record (new_ups k.name.now) { desc = option_copied k.desc });
-    id = k.id; state = ups_seen k.state }
+    record {
+      name = k.name.now;
+      description = ups_description (record (new_ups k.name.now) { desc = option_copied k.desc });
+      id = k.id;
+      state = ups_seen k.state;
+    }
 
 -- The UPS and the variable that were found.
 abbrev pub known_variable : KnownVariable → KnownUps × List ℕ × VariableState

@@ -48,8 +48,11 @@ ups_seen u = record { report = u.report.now; fsd = u.fsd; free = u.free }
 -- The session that a view shows.
 abbrev pub asker_seen : Asker → AskerSeen
 asker_seen a =
-    record { username = option_copied a.username; password = option_copied a.password;
-    login = a.login }
+    record {
+      username = option_copied a.username;
+      password = option_copied a.password;
+      login = a.login;
+    }
 
 abbrev pub is_logged_in : UpsId → ClientSeen → Bool
 is_logged_in u client = option_map_or (λ v. v.place == u.place) client.login false

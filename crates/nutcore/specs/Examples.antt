@@ -185,8 +185,10 @@ pub record NotConnected : Type 0 where
 abbrev pub described : ServerState
 described =
     let su : Ups = record { name = codes "su"; desc = Some (codes "Rack 1"); socket = None } in
-    let descriptions : Descriptions = record { vars = (codes "ups.status", codes "UPS status") ∷ [];
-    cmds = [] } in
+    let descriptions : Descriptions = record {
+      vars = (codes "ups.status", codes "UPS status") ∷ [];
+      cmds = [];
+    } in
     new_server (su ∷ []) [] descriptions 15
 
 pub record Described : Type 0 where

@@ -24,9 +24,15 @@ seen_client x = record { address = x.address; login = x.login }
 
 -- What an answer may look at.
 abbrev pub seen : ServerState → Seen
-seen s = record { moment = s.moment; max_age = s.max_age; list = s.list;
-    upses = map seen_ups s.upses; descriptions = s.descriptions; users = s.users;
-    clients = map seen_client s.sessions }
+seen s = record {
+  moment = s.moment;
+  max_age = s.max_age;
+  list = s.list;
+  upses = map seen_ups s.upses;
+  descriptions = s.descriptions;
+  users = s.users;
+  clients = map seen_client s.sessions;
+}
 
 -- The session that asks, as answers see it.
 abbrev pub asker_of : Option SessionState → AskerSeen

@@ -26,8 +26,16 @@ pub record ServerState : Type 0 where
 -- A new server: no driver is connected, no session is open, and ids begin at 1.
 abbrev pub new_server : List Ups → List User → Descriptions → ℕ → ServerState
 new_server list users descriptions max_age =
-    record { moment = 0; max_age = max_age; list = list; users = users; descriptions = descriptions;
-    upses = replicate (length list) new_ups; sessions = []; next_id = 1 }
+    record {
+      moment = 0;
+      max_age = max_age;
+      list = list;
+      users = users;
+      descriptions = descriptions;
+      upses = replicate (length list) new_ups;
+      sessions = [];
+      next_id = 1;
+    }
 
 -- The session of this id.
 abbrev pub session : ℕ → ServerState → Option SessionState

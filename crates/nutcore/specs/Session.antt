@@ -19,8 +19,16 @@ pub record SessionState : Type 0 where
 -- A new session holds nothing, owes nothing and gave no name.
 abbrev pub new_session : ℕ → List ℕ → SessionState
 new_session c address =
-    record { id = c; address = address; held = []; owed = []; username = None; password = None;
-    login = None; ending = false }
+    record {
+      id = c;
+      address = address;
+      held = [];
+      owed = [];
+      username = None;
+      password = None;
+      login = None;
+      ending = false;
+    }
 
 -- A session that begins to end drops its held input and gives up its login.
 abbrev pub begin_ending : SessionState → SessionState

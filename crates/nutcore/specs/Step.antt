@@ -66,8 +66,10 @@ may_open s = nat_lt (length s.sessions) SESSION_LIMIT && nat_lt s.next_id (2 ^ 6
 unfoldable pub opened : ServerState → List ℕ → Option ℕ → ServerState
 opened s address None =
     if may_open s
-    then record s { sessions = s.sessions ++ new_session s.next_id address ∷ [];
-    next_id = s.next_id + 1 } else s
+    then record s {
+      sessions = s.sessions ++ new_session s.next_id address ∷ [];
+      next_id = s.next_id + 1;
+    } else s
 opened s address (Some k) = s
 
 -- Drivers come and are lost. A refused event changes nothing.

@@ -27,8 +27,12 @@ new_ups =
 -- Its driver is connected, and is asked for all that it knows.
 abbrev pub after_connecting : ℕ → UpsState → UpsState
 after_connecting moment x =
-    record x { report = connected_report moment; pinged = moment; owed = codes "DUMPALL" ++ 10 ∷ [];
-    unfinished = [] }
+    record x {
+      report = connected_report moment;
+      pinged = moment;
+      owed = codes "DUMPALL" ++ 10 ∷ [];
+      unfinished = [];
+    }
 
 -- Its driver is lost, and what it reported with it. A forced shutdown and the count of refused
 -- lines stay.

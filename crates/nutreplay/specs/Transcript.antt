@@ -42,8 +42,12 @@ pub record TranscriptState : Type 0 where
 -- Before the first event.
 abbrev pub new_transcript : List Ups → List User → Descriptions → ℕ → TranscriptState
 new_transcript list users descriptions max_age =
-    record { server = new_server list users descriptions max_age; text = []; clients = [];
-    taken = [] }
+    record {
+      server = new_server list users descriptions max_age;
+      text = [];
+      clients = [];
+      taken = [];
+    }
 
 -- What is noted of one event.
 
