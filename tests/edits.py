@@ -248,20 +248,21 @@ def names_of(crate):
 
 
 def sum_of(crate):
-    """Returns a sum of all that the judgement of a crate's edits reads."""
+    """Returns a sum of all that the judgement of a crate's edits reads, wherever the repository lies."""
     here = os.path.dirname(os.path.realpath(__file__))
-    files = [f"{KIT}/KIT-ID", f"{here}/edits.py", f"{here}/kit.py"]
+    files = [(os.path.basename(it), it) for it in (f"{KIT}/KIT-ID", f"{here}/edits.py", f"{here}/kit.py")]
     for it in [crate, *crate.below()]:
         parts = (*rtlib.PARTS, FOLDER) if it is crate else rtlib.PARTS
         for part in parts:
             for at, folders, names in os.walk(f"{it.folder}/{part}"):
                 folders.sort()
-                files += [f"{at}/{name}" for name in sorted(names) if name != STAMP]
+                of = f"{it.name}/{os.path.relpath(at, it.folder)}"
+                files += [(f"{of}/{name}", f"{at}/{name}") for name in sorted(names) if name != STAMP]
     uses = [(it.name, it.of_kit, [dep.name for dep in it.deps]) for it in [crate, *crate.below()]]
     found = hashlib.sha256(repr(uses).encode())
-    for file in files:
+    for name, file in files:
         with open(file, "rb") as it:
-            found.update(repr((os.path.relpath(file), it.read())).encode())
+            found.update(repr((name, it.read())).encode())
     return found.hexdigest()
 
 
