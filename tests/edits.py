@@ -234,11 +234,12 @@ def tried_alone(crate, edits, kept, say):
     # By that way an edit says something only where the crate itself is proved.
     is_sound = not edits or check(crate, {}, kept)[0] == 0
     for it in edits:
-        is_refused, said = False, f"{crate.name} isn't proved as it stands"
+        kind, said = None, f"{crate.name} isn't proved as it stands"
         if is_sound:
-            is_refused, said = rt.must_fail(crate, it.file, ["--jobs", "1"], kept)
+            kind, said = rt.must_fail(crate, it.file, ["--jobs", "1"], kept)
         say(f"edit {it.name}: tried alone: {said.removeprefix(f'must-fail {it.name}: ')}")
-        failed += [it.name] * (not is_refused)
+        # Of the kinds of answer that the kit has, this one alone says that the contract refuses the edit.
+        failed += [it.name] * (kind != rt.REFUSED)
     return failed
 
 
@@ -278,7 +279,7 @@ class Libraries:
         while self.beside and not self.has_ended:
             time.sleep(1)
             text = rtlib.text_of(self.beside) or ""
-            proved = set(re.findall(r"^rt: (\w+) proved$", text, re.M))
+            proved = set(re.findall(r"^rt: (\w+) (?:proved$|is kept: )", text, re.M))
             for it in [it for it in self.crates if it.name in proved and it not in self.taken]:
                 shutil.copytree(it.rlib, f"{self.room}/{it.name}.rlib")
                 it.rlib = f"{self.room}/{it.name}.rlib"
