@@ -1,12 +1,15 @@
--- What a program's words ask for: the server, the requests, and how the items of the last reply are printed.
-use Rattle.std.specs.Prelude.{ℕ, List, [], ◌∷◌, ◌++◌, ◌==◌, ◌&&◌, nat_le, length, Option, Some, None, option_map, if◌then◌else◌}
+-- What a program's words ask for: the server, the requests, and how the items of the last reply are
+-- printed.
+use Rattle.std.specs.Prelude.{ℕ, List, [], ◌∷◌, ◌++◌, ◌==◌, ◌&&◌, nat_le, length, Option, Some}
+use Rattle.std.specs.Prelude.{None, option_map, if◌then◌else◌}
 use Rattle.std.specs.List.{before_first, after_first}
 use denote.Ref.{Bor}
 use Rattle.nutwords.specs.Reading.{read_name, read_value}
 use Rattle.nutreply.specs.declared.request.Query.{Query}
 use Rattle.nutreply.specs.declared.request.Query.TheVariants.{Ups, Var, Rw, Cmd, Client}
 use Rattle.nutreply.specs.declared.request.Request.{Request}
-use Rattle.nutreply.specs.declared.request.Request.TheVariants.{List as ListOf, GetVar, Username, Password, SetVar, Instcmd}
+use Rattle.nutreply.specs.declared.request.Request.TheVariants.{List as ListOf, GetVar, Username}
+use Rattle.nutreply.specs.declared.request.Request.TheVariants.{Password, SetVar, Instcmd}
 use Rattle.nutclient.specs.Target.{lawful, both, has_byte, server_of, local_server, ups_place_of}
 use Rattle.nutclient.specs.declared.limits.TheConstants.{USER_LIMIT, PASSWORD_LIMIT}
 use Rattle.nutclient.specs.Requests.{requests_in}
@@ -15,7 +18,9 @@ use Rattle.nutclient.specs.declared.target.Target.{Target}
 use Rattle.nutclient.specs.declared.form.Form.{Form}
 use Rattle.nutclient.specs.declared.form.Form.TheVariants.{Name, Value, Colon, Equals}
 use Rattle.nutclient.specs.declared.given.Given.{Given}
-use Rattle.nutclient.specs.declared.given.Given.TheVariants.{Variables, Variable, Upses, Descriptions, Clients, Writable, Set, Commands, Command}
+use Rattle.nutclient.specs.declared.given.Given.TheVariants.{Variables, Variable, Upses}
+use Rattle.nutclient.specs.declared.given.Given.TheVariants.{Descriptions, Clients, Writable, Set}
+use Rattle.nutclient.specs.declared.given.Given.TheVariants.{Commands, Command}
 
 -- A UPS and its server.
 abbrev pub UpsPlace : Type 0
@@ -42,16 +47,21 @@ upses_of form server = option_map (λ target. (target, ListOf Ups ∷ [], form))
 
 -- 1 to so many lawful bytes.
 abbrev pub word_of : ℕ → List ℕ → Option (List ℕ)
-word_of most text = if nat_le 1 (length text) && nat_le (length text) most then lawful (read_value text) else None
+word_of most text =
+    if nat_le 1 (length text) && nat_le (length text) most then lawful (read_value text) else None
 
 -- The user's name, then the password.
 abbrev pub login_of : List ℕ → List ℕ → Option (List Request)
-login_of user password = both (λ u p. Username u ∷ Password p ∷ []) (word_of USER_LIMIT user) (word_of PASSWORD_LIMIT password)
+login_of user password =
+    both (λ u p. Username u ∷ Password p ∷ []) (word_of USER_LIMIT user)
+    (word_of PASSWORD_LIMIT password)
 
 -- The variable and the value of `VAR=VALUE`, cut at the first equals sign.
 abbrev pub setting_of : List ℕ → Option (List ℕ × List ℕ)
 setting_of text =
-    if has_byte 61 text then both (λ name value. (name, value)) (lawful (read_name (before_first (λ b. b == 61) text))) (lawful (read_value (after_first (λ b. b == 61) text)))
+    if has_byte 61 text
+    then both (λ name value. (name, value)) (lawful (read_name (before_first (λ b. b == 61) text)))
+    (lawful (read_value (after_first (λ b. b == 61) text)))
     else None
 
 -- A value for a command, which may have none.
@@ -70,8 +80,10 @@ set_order = both (λ place set. (place.1, SetVar place.0 set.0 set.1))
 abbrev pub named_place : Option UpsPlace → Option (List ℕ) → Option (UpsPlace × List ℕ)
 named_place = both (λ place name. (place, name))
 
-abbrev pub command_order : Option UpsPlace → Option (List ℕ) → Option (Option (List ℕ)) → Option (Target × Request)
-command_order place name value = both (λ named v. (named.0.1, Instcmd named.0.0 named.1 v)) (named_place place name) value
+abbrev pub command_order : Option UpsPlace → Option (List ℕ) → Option (Option (List ℕ))
+    → Option (Target × Request)
+command_order place name value =
+    both (λ named v. (named.0.1, Instcmd named.0.0 named.1 v)) (named_place place name) value
 
 -- The value of a variable.
 abbrev pub variable_of : Option UpsPlace → Option (List ℕ) → Option JobParts
@@ -85,6 +97,10 @@ job_of (Upses server) = upses_of Name (server_or_local server)
 job_of (Descriptions server) = upses_of Colon (server_or_local server)
 job_of (Clients ups) = listing_of Client Name (ups_place_of ups.now)
 job_of (Writable ups) = listing_of Rw Equals (ups_place_of ups.now)
-job_of (Set ups setting user password) = ordered (login_of user.now password.now) (set_order (ups_place_of ups.now) (setting_of setting.now))
+job_of (Set ups setting user password) =
+    ordered (login_of user.now password.now)
+    (set_order (ups_place_of ups.now) (setting_of setting.now))
 job_of (Commands ups) = listing_of Cmd Name (ups_place_of ups.now)
-job_of (Command ups name value user password) = ordered (login_of user.now password.now) (command_order (ups_place_of ups.now) (lawful (read_name name.now)) (value_of value))
+job_of (Command ups name value user password) =
+    ordered (login_of user.now password.now)
+    (command_order (ups_place_of ups.now) (lawful (read_name name.now)) (value_of value))

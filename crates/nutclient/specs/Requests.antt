@@ -9,7 +9,8 @@ use Rattle.nutreply.specs.declared.request.Request.{Request}
 use Rattle.nutclient.specs.declared.requests.Requests.{Requests}
 use Rattle.nutclient.specs.declared.requests.Requests.TheVariants.{Alone, BehindLogin}
 use Rattle.nutreply.specs.declared.faults.ClientFault.{ClientFault}
-use Rattle.nutreply.specs.declared.faults.ClientFault.TheVariants.{Read, Write, EarlyEnd, ErrWord, BadReply, Memory}
+use Rattle.nutreply.specs.declared.faults.ClientFault.TheVariants.{Read, Write, EarlyEnd, ErrWord}
+use Rattle.nutreply.specs.declared.faults.ClientFault.TheVariants.{BadReply, Memory}
 
 -- The requests of a job, in the order in which they are sent.
 abbrev pub requests_in : Requests → List Request
@@ -23,10 +24,12 @@ lines_behind (Refused word) lines = []
 lines_behind Bad lines = []
 lines_behind Unfinished lines = []
 
--- The lines that are sent: those of the requests up to and including the first whose reply isn't whole in these bytes, or of all.
+-- The lines that are sent: those of the requests up to and including the first whose reply isn't
+-- whole in these bytes, or of all.
 abbrev pub sent_lines : List Request → List ℕ → List ℕ
 sent_lines [] bytes = []
-sent_lines (request ∷ requests) bytes = request_line request ++ lines_behind (reply request bytes) (λ rest. sent_lines requests rest)
+sent_lines (request ∷ requests) bytes =
+    request_line request ++ lines_behind (reply request bytes) (λ rest. sent_lines requests rest)
 
 abbrev pub reply_behind : Reply → (List Item → List ℕ → Reply) → Reply
 reply_behind (Whole items rest) later = later items rest
@@ -37,33 +40,56 @@ reply_behind Unfinished later = Unfinished
 -- The last reply, these being the items of the reply before.
 abbrev pub last_reply_after : List Item → List Request → List ℕ → Reply
 last_reply_after items [] bytes = Whole items bytes
-last_reply_after items (request ∷ requests) bytes = reply_behind (reply request bytes) (λ more rest. last_reply_after more requests rest)
+last_reply_after items (request ∷ requests) bytes =
+    reply_behind (reply request bytes) (λ more rest. last_reply_after more requests rest)
 
--- The bytes as the replies to the requests, each on the rest that the one before left: the last one, or the first that isn't whole.
+-- The bytes as the replies to the requests, each on the rest that the one before left: the last
+-- one, or the first that isn't whole.
 abbrev pub last_reply : List Request → List ℕ → Reply
 last_reply requests bytes = last_reply_after [] requests bytes
 
--- What was sent, and what came, for each result of the requests in turn. What came decides them, whatever stands after; at an end and at a failed read it is unfinished. No other fault comes.
-abbrev pub RequestsGive : {R W : Type 0} → (R → Option (List ℕ)) → (R → ℕ) → (W → Option (List ℕ)) → (W → ℕ) → List Request → List ℕ → R → W → Result (List Item) ClientFault → List ℕ → R → W → Type 0
-RequestsGive remaining failures contents write_failures requests old reader writer (Ok items) new after sent =
-    (came : List ℕ) × (text : List ℕ) × Received remaining failures reader came after × Written contents write_failures writer text sent
-    × ((more : List ℕ) → sent_lines requests (old ++ (came ++ more)) ≡ text) × ((more : List ℕ) → last_reply requests (old ++ (came ++ more)) ≡ Whole items (new ++ more))
-RequestsGive remaining failures contents write_failures requests old reader writer (Err Write) new after sent =
-    (came : List ℕ) × (text : List ℕ) × Received remaining failures reader came after × WriteFailed contents write_failures writer text sent
+-- What was sent, and what came, for each result of the requests in turn. What came decides them,
+-- whatever stands after; at an end and at a failed read it is unfinished. No other fault comes.
+abbrev pub RequestsGive : {R W : Type 0} → (R → Option (List ℕ)) → (R → ℕ) → (W → Option (List ℕ))
+    → (W → ℕ) → List Request → List ℕ → R → W → Result (List Item) ClientFault → List ℕ → R → W
+    → Type 0
+RequestsGive remaining failures contents write_failures requests old reader writer
+    (Ok items) new after sent =
+    (came : List ℕ) × (text : List ℕ) × Received remaining failures reader came after
+    × Written contents write_failures writer text sent
+    × ((more : List ℕ) → sent_lines requests (old ++ (came ++ more)) ≡ text)
+    × ((more : List ℕ) → last_reply requests (old ++ (came ++ more)) ≡ Whole items (new ++ more))
+RequestsGive remaining failures contents write_failures requests old reader writer
+    (Err Write) new after sent =
+    (came : List ℕ) × (text : List ℕ) × Received remaining failures reader came after
+    × WriteFailed contents write_failures writer text sent
     × ((more : List ℕ) → IsBeginning text (sent_lines requests (old ++ (came ++ more))))
-RequestsGive remaining failures contents write_failures requests old reader writer (Err (ErrWord word)) new after sent =
-    (came : List ℕ) × (text : List ℕ) × Received remaining failures reader came after × Written contents write_failures writer text sent
-    × ((more : List ℕ) → sent_lines requests (old ++ (came ++ more)) ≡ text) × ((more : List ℕ) → last_reply requests (old ++ (came ++ more)) ≡ Refused word)
-RequestsGive remaining failures contents write_failures requests old reader writer (Err BadReply) new after sent =
-    (came : List ℕ) × (text : List ℕ) × Received remaining failures reader came after × Written contents write_failures writer text sent
-    × ((more : List ℕ) → sent_lines requests (old ++ (came ++ more)) ≡ text) × ((more : List ℕ) → last_reply requests (old ++ (came ++ more)) ≡ Bad)
-RequestsGive remaining failures contents write_failures requests old reader writer (Err EarlyEnd) new after sent =
-    (came : List ℕ) × (text : List ℕ) × Received remaining failures reader came after × Written contents write_failures writer text sent × IsAtEnd (remaining after)
+RequestsGive remaining failures contents write_failures requests old reader writer
+    (Err (ErrWord word)) new after sent =
+    (came : List ℕ) × (text : List ℕ) × Received remaining failures reader came after
+    × Written contents write_failures writer text sent
+    × ((more : List ℕ) → sent_lines requests (old ++ (came ++ more)) ≡ text)
+    × ((more : List ℕ) → last_reply requests (old ++ (came ++ more)) ≡ Refused word)
+RequestsGive remaining failures contents write_failures requests old reader writer
+    (Err BadReply) new after sent =
+    (came : List ℕ) × (text : List ℕ) × Received remaining failures reader came after
+    × Written contents write_failures writer text sent
+    × ((more : List ℕ) → sent_lines requests (old ++ (came ++ more)) ≡ text)
+    × ((more : List ℕ) → last_reply requests (old ++ (came ++ more)) ≡ Bad)
+RequestsGive remaining failures contents write_failures requests old reader writer
+    (Err EarlyEnd) new after sent =
+    (came : List ℕ) × (text : List ℕ) × Received remaining failures reader came after
+    × Written contents write_failures writer text sent × IsAtEnd (remaining after)
     × (sent_lines requests (old ++ came) ≡ text) × (last_reply requests (old ++ came) ≡ Unfinished)
-RequestsGive remaining failures contents write_failures requests old reader writer (Err Read) new after sent =
-    (came : List ℕ) × (text : List ℕ) × ReadFailed remaining failures reader came after × Written contents write_failures writer text sent
+RequestsGive remaining failures contents write_failures requests old reader writer
+    (Err Read) new after sent =
+    (came : List ℕ) × (text : List ℕ) × ReadFailed remaining failures reader came after
+    × Written contents write_failures writer text sent
     × (sent_lines requests (old ++ came) ≡ text) × (last_reply requests (old ++ came) ≡ Unfinished)
-RequestsGive remaining failures contents write_failures requests old reader writer (Err Memory) new after sent =
-    (came : List ℕ) × (text : List ℕ) × Received remaining failures reader came after × Written contents write_failures writer text sent
+RequestsGive remaining failures contents write_failures requests old reader writer
+    (Err Memory) new after sent =
+    (came : List ℕ) × (text : List ℕ) × Received remaining failures reader came after
+    × Written contents write_failures writer text sent
     × ((more : List ℕ) → IsBeginning text (sent_lines requests (old ++ (came ++ more))))
-RequestsGive remaining failures contents write_failures requests old reader writer result new after sent = ⊥
+RequestsGive remaining failures contents write_failures requests old reader writer result new after
+    sent = ⊥

@@ -1,5 +1,7 @@
 -- The UPS and the server that a program's words name (upsc(8)).
-use Rattle.std.specs.Prelude.{ℕ, Bool, not, List, ◌&&◌, ◌||◌, ◌==◌, nat_le, nat_lt, length, slice_index, Option, Some, None, Result, Ok, Err, if◌then◌else◌, codes}
+use Rattle.std.specs.Prelude.{ℕ, Bool, not, List, ◌&&◌, ◌||◌, ◌==◌, nat_le, nat_lt, length}
+use Rattle.std.specs.Prelude.{slice_index, Option, Some, None, Result, Ok, Err, if◌then◌else◌}
+use Rattle.std.specs.Prelude.{codes}
 use Rattle.std.specs.List.{list_all, position_or_len, before_first, after_first}
 use Rattle.std.specs.Str.Parse.{digits_value}
 use Rattle.nutwords.specs.Reading.{read_ups_name}
@@ -20,7 +22,9 @@ both make None b = None
 
 -- ASCII letters, digits, full stop and dash.
 abbrev pub is_host_byte : ℕ → Bool
-is_host_byte b = (nat_le 97 b && nat_le b 122) || (nat_le 65 b && nat_le b 90) || (nat_le 48 b && nat_le b 57) || (b == 46) || (b == 45)
+is_host_byte b =
+    (nat_le 97 b && nat_le b 122) || (nat_le 65 b && nat_le b 90) || (nat_le 48 b && nat_le b 57)
+    || (b == 46) || (b == 45)
 
 -- The name of a host: 1 to 255 of these bytes.
 abbrev pub host_of : List ℕ → Option (List ℕ)
@@ -39,7 +43,10 @@ is_numeral text = not (length text == 0) && list_all is_digit text && not (slice
 
 -- The port that a text writes: 1 to 65,535, without leading zeros.
 abbrev pub port_of : List ℕ → Option ℕ
-port_of text = if is_numeral text then (if nat_le (digits_value 10 text) PORT_LIMIT then Some (digits_value 10 text) else None) else None
+port_of text =
+    if is_numeral text
+    then (if nat_le (digits_value 10 text) PORT_LIMIT then Some (digits_value 10 text) else None)
+    else None
 
 abbrev pub server_at : Option (List ℕ) → Option ℕ → Option Target
 server_at = both (λ host port. record { host = host; port = port })
@@ -51,7 +58,9 @@ has_byte byte text = nat_lt (position_or_len (λ b. b == byte) text) (length tex
 -- `host` or `host:port`; the port is 3493 where none is named.
 abbrev pub server_of : List ℕ → Option Target
 server_of text =
-    if has_byte 58 text then server_at (host_of (before_first (λ b. b == 58) text)) (port_of (after_first (λ b. b == 58) text))
+    if has_byte 58 text
+    then server_at (host_of (before_first (λ b. b == 58) text))
+    (port_of (after_first (λ b. b == 58) text))
     else server_at (host_of text) (Some DEFAULT_PORT)
 
 abbrev pub local_host : List ℕ
@@ -68,5 +77,7 @@ ups_of text = lawful (read_ups_name text)
 -- `ups`, `ups@host` or `ups@host:port`.
 abbrev pub ups_place_of : List ℕ → Option (List ℕ × Target)
 ups_place_of text =
-    if has_byte 64 text then both (λ ups server. (ups, server)) (ups_of (before_first (λ b. b == 64) text)) (server_of (after_first (λ b. b == 64) text))
+    if has_byte 64 text
+    then both (λ ups server. (ups, server)) (ups_of (before_first (λ b. b == 64) text))
+    (server_of (after_first (λ b. b == 64) text))
     else both (λ ups server. (ups, server)) (ups_of text) (Some local_server)

@@ -1,8 +1,13 @@
--- What the private parts of the server promise one another. A reader of the public contracts needs none of it.
-use Rattle.std.specs.Prelude.{◌≡◌, ◌<◌, ◌≤◌, ◌-◌, ◌⊎◌, ◌==◌, ℕ, Bool, true, false, if◌then◌else◌, List, [], Option, Some, None, Result, Ok, Err, IsTrue, length, drop, take, map, slice_get}
+-- What the private parts of the server promise one another. A reader of the public contracts needs
+-- none of it.
+use Rattle.std.specs.Prelude.{◌≡◌, ◌<◌, ◌≤◌, ◌-◌, ◌⊎◌, ◌==◌, ℕ, Bool, true, false, if◌then◌else◌}
+use Rattle.std.specs.Prelude.{List, [], Option, Some, None, Result, Ok, Err, IsTrue, length, drop}
+use Rattle.std.specs.Prelude.{take, map, slice_get}
 use Rattle.std.specs.List.{position_or_len}
 use Rattle.nutcore.specs.declared.event.Fault.{Fault}
-use Rattle.nutcore.specs.declared.event.Fault.TheVariants.{NoSuchUps, NoSuchClient, TooManyClients, TookTooMuch, NotConnected, AlreadyConnected, LineTooLong, Memory}
+use Rattle.nutcore.specs.declared.event.Fault.TheVariants.{NoSuchUps, NoSuchClient, TooManyClients}
+use Rattle.nutcore.specs.declared.event.Fault.TheVariants.{TookTooMuch, NotConnected}
+use Rattle.nutcore.specs.declared.event.Fault.TheVariants.{AlreadyConnected, LineTooLong, Memory}
 use Rattle.std.specs.declared.alloc.AllocError.{AllocError}
 use Rattle.nutanswer.specs.declared.reply.Reply.{Reply}
 use Rattle.nutanswer.specs.declared.reply.Reply.TheVariants.{One, Many, Clients}
@@ -31,7 +36,8 @@ use Rattle.nutcore.specs.Reply.{text_to, change_by, seen_client}
 use Rattle.nutcore.specs.declared.cost.Cost.{Cost}
 use Rattle.nutcore.specs.History.{owed}
 use Rattle.nutcore.specs.Cost.{RunningServer}
-use Rattle.nutcore.specs.Pump.{pumped, after_all_lines, after_lines, is_overlong, wants_memory, shares_version_read, next_line_for}
+use Rattle.nutcore.specs.Pump.{pumped, after_all_lines, after_lines, is_overlong, wants_memory}
+use Rattle.nutcore.specs.Pump.{shares_version_read, next_line_for}
 use Rattle.nutwords.specs.declared.limits.TheConstants.{LINE_LIMIT}
 use Rattle.nutwords.specs.Found.{FindsLine, Finds}
 use Rattle.nutwords.specs.declared.cut.Found.{Found}
@@ -48,17 +54,22 @@ abbrev pub IsFront : Option ℕ → List ℕ → Type 0
 IsFront None piece = Unit {0}
 IsFront (Some n) piece = (n ≤ length piece) × (n ≤ LINE_LIMIT)
 
--- Where the next line of its driver lies, for a UPS that is lent a piece. It changes what the UPS holds alone.
+-- Where the next line of its driver lies, for a UPS that is lent a piece. It changes what the UPS
+-- holds alone.
 pub record IsCut (piece : List ℕ) (old : UpsState) (result : Found) (new : UpsState) : Type 0 where
   pub finds : Finds old.unfinished piece result new.unfinished
   pub leaves : new ≡ with_unfinished new.unfinished old
 
--- What a line does to the UPS of its driver: it is done, and nothing is held; or it would change the tree, and memory was refused, and it was heard, no more.
+-- What a line does to the UPS of its driver: it is done, and nothing is held; or it would change
+-- the tree, and memory was refused, and it was heard, no more.
 abbrev pub DoesLine : ℕ → List ℕ → UpsState → Result (Unit {0}) AllocError → UpsState → Type 0
 DoesLine moment line old (Ok t) new = new ≡ after_text moment (with_unfinished [] old) line
-DoesLine moment line old (Err e) new = (line_changes old.report.tree line ≡ true) × (new ≡ record old { report = record old.report { heard = moment } })
+DoesLine moment line old (Err e) new =
+    (line_changes old.report.tree line ≡ true)
+    × (new ≡ record old { report = record old.report { heard = moment } })
 
--- What a driver's taking of n bytes leaves of its UPS: it took no more than it is owed, or nothing changed.
+-- What a driver's taking of n bytes leaves of its UPS: it took no more than it is owed, or nothing
+-- changed.
 abbrev pub IsTaken : ℕ → UpsState → Result (Unit {0}) Fault → UpsState → Type 0
 IsTaken n old (Ok u) new = (n ≤ length old.owed) × (new ≡ record old { owed = drop n old.owed })
 IsTaken n old (Err fault) new = (fault ≡ TookTooMuch) × (length old.owed < n) × (new ≡ old)
@@ -74,8 +85,10 @@ pub record IsAt (c i : ℕ) (xs : List SessionState) : Type 0 where
 -- what the pump answers, and leaves
 abbrev pub PumpGives : ServerState → ℕ → Result (Unit {0}) Fault → ServerState → Type 0
 PumpGives old c (Ok u) new = (is_overlong (after_all_lines old c) c ≡ false) × (new ≡ pumped old c)
-PumpGives old c (Err LineTooLong) new = (is_overlong (after_all_lines old c) c ≡ true) × (new ≡ pumped old c)
-PumpGives old c (Err (Memory k)) new = IsTrue (wants_memory (after_lines k old c) c) × (new ≡ after_lines k old c)
+PumpGives old c (Err LineTooLong) new =
+    (is_overlong (after_all_lines old c) c ≡ true) × (new ≡ pumped old c)
+PumpGives old c (Err (Memory k)) new =
+    IsTrue (wants_memory (after_lines k old c) c) × (new ≡ after_lines k old c)
 PumpGives old c (Err NoSuchUps) new = ⊥
 PumpGives old c (Err NoSuchClient) new = ⊥
 PumpGives old c (Err TooManyClients) new = ⊥
@@ -91,12 +104,22 @@ refused_overlong b = if b then Err LineTooLong else Ok tt
 abbrev pub IsLineOrNone : List ℕ → Type 0
 IsLineOrNone text = IsWholeLine text ⊎ (text ≡ [])
 
--- the answer is that to the line: one line at most, which takes no memory, with what it changes, or the listing
+-- the answer is that to the line: one line at most, which takes no memory, with what it changes, or
+-- the listing
 abbrev pub Replies : ServerState → ℕ → List ℕ → Reply → Type 0
-Replies s c line (One text change) = (shares_version_read s c (read_command line) ≡ false) × (text_to s c (read_command line) ≡ text.now) × (change_by s c (read_command line) ≡ change) × (length text.now ≤ OWED_LIMIT) × IsLineOrNone text.now
+Replies s c line (One text change) =
+    (shares_version_read s c (read_command line) ≡ false)
+    × (text_to s c (read_command line) ≡ text.now) × (change_by s c (read_command line) ≡ change)
+    × (length text.now ≤ OWED_LIMIT) × IsLineOrNone text.now
 Replies s c line (Clients name u) =
-    (shares_version_read s c (read_command line) ≡ false) × (text_to s c (read_command line) ≡ text_of (client_listing name (addresses_at u (map seen_client s.sessions)))) × (change_by s c (read_command line) ≡ Nothing)
-Replies s c line (Many listing) = (shares_version_read s c (read_command line) ≡ true) × (text_to s c (read_command line) ≡ text_of listing) × (change_by s c (read_command line) ≡ Nothing)
+    (shares_version_read s c (read_command line) ≡ false)
+    × (text_to s c (read_command line)
+    ≡ text_of (client_listing name (addresses_at u (map seen_client s.sessions))))
+    × (change_by s c (read_command line) ≡ Nothing)
+Replies s c line (Many listing) =
+    (shares_version_read s c (read_command line) ≡ true)
+    × (text_to s c (read_command line) ≡ text_of listing)
+    × (change_by s c (read_command line) ≡ Nothing)
 
 -- the text of an answer, where these are the clients of a UPS that it lists
 abbrev pub text_with : List (List ℕ) → Reply → List ℕ
@@ -116,7 +139,8 @@ IsShort (One text change) = (length text.now ≤ OWED_LIMIT) × IsLineOrNone tex
 IsShort (Many listing) = Unit {0}
 IsShort (Clients name u) = Unit {0}
 
--- if it lists the clients of a UPS, these are the addresses of the sessions that are logged in to it
+-- if it lists the clients of a UPS, these are the addresses of the sessions that are logged in to
+-- it
 abbrev pub ListsClients : List SessionState → Reply → List (List ℕ) → Type 0
 ListsClients sessions (One text change) clients = Unit {0}
 ListsClients sessions (Many listing) clients = Unit {0}
@@ -147,38 +171,60 @@ RepliesOrLacks s c line (Err e) = shares_version_read s c (read_command line) �
 abbrev pub NextIs : ServerState → ℕ → (List ℕ → Type 0) → Type 0
 NextIs s c P = (line : List ℕ) × (next_line_for s c ≡ Some line) × P line
 
--- what a driver reported leaves of the server: all its whole lines and the rest, or what its first k lines leave, where the next wants memory that is refused
+-- what a driver reported leaves of the server: all its whole lines and the rest, or what its first
+-- k lines leave, where the next wants memory that is refused
 abbrev pub IsTold : UpsId → List ℕ → ServerState → Result (Unit {0}) Fault → ServerState → Type 0
-IsTold u text old (Ok t) new = (is_too_long (unfinished_after text) ≡ false) × (new ≡ after_driver_text u text None old)
-IsTold u text old (Err LineTooLong) new = (is_too_long (unfinished_after text) ≡ true) × (new ≡ after_driver_text u text None old)
-IsTold u text old (Err (Memory k)) new = (wants_driver_memory u text k old ≡ true) × (new ≡ after_driver_text u text (Some k) old)
+IsTold u text old (Ok t) new =
+    (is_too_long (unfinished_after text) ≡ false) × (new ≡ after_driver_text u text None old)
+IsTold u text old (Err LineTooLong) new =
+    (is_too_long (unfinished_after text) ≡ true) × (new ≡ after_driver_text u text None old)
+IsTold u text old (Err (Memory k)) new =
+    (wants_driver_memory u text k old ≡ true) × (new ≡ after_driver_text u text (Some k) old)
 IsTold u text old (Err fault) new = ⊥
 
 -- an event of a UPS's driver is refused so: there is no such UPS, or no driver is connected to it
 abbrev pub IsNotConnected : UpsId → Fault → ServerState → Type 0
-IsNotConnected u fault s = ((fault ≡ NoSuchUps) × (ups_at u.place s ≡ None)) ⊎ ((fault ≡ NotConnected) × (option_map is_connected (ups_at u.place s) ≡ Some false))
+IsNotConnected u fault s =
+    ((fault ≡ NoSuchUps) × (ups_at u.place s ≡ None))
+    ⊎ ((fault ≡ NotConnected) × (option_map is_connected (ups_at u.place s) ≡ Some false))
 
 -- before the driver is taken as lost: the same by what it would be then
 abbrev pub IsStopped : UpsId → List ℕ → ServerState → Result (Unit {0}) Fault → ServerState → Type 0
 IsStopped u text old (Ok t) new = IsTold u text old (Ok t) new
-IsStopped u text old (Err fault) new = IsTold u text old (Err fault) (with_ups_changed after_loss u new)
+IsStopped u text old (Err fault) new =
+    IsTold u text old (Err fault) (with_ups_changed after_loss u new)
 
 -- the server on which a UPS holds nothing
 abbrev pub holding_nothing : UpsId → ServerState → ServerState
 holding_nothing u s = with_ups_changed (with_unfinished []) u s
 
--- what a whole line of a driver does to the server: its step, and nothing of it is held; or it would change the tree, and memory was refused
-abbrev pub ExecutesDriverLine : UpsId → List ℕ → UpsState → ServerState → Result (Unit {0}) AllocError → ServerState → Type 0
+-- what a whole line of a driver does to the server: its step, and nothing of it is held; or it
+-- would change the tree, and memory was refused
+abbrev pub ExecutesDriverLine : UpsId → List ℕ → UpsState → ServerState
+    → Result (Unit {0}) AllocError → ServerState → Type 0
 ExecutesDriverLine u line x old (Ok t) new = new ≡ after_driver_line u line (holding_nothing u old)
-ExecutesDriverLine u line x old (Err e) new = (line_changes x.report.tree line ≡ true) × (with_ups_changed after_loss u new ≡ with_ups_changed after_loss u old)
+ExecutesDriverLine u line x old (Err e) new =
+    (line_changes x.report.tree line ≡ true)
+    × (with_ups_changed after_loss u new ≡ with_ups_changed after_loss u old)
 
--- what the next line of a driver does, which lies in what its UPS holds and the piece: its step, and it takes so many bytes of the piece; or none is whole, and all of the piece is kept; or it is too long; or it would change the tree, and memory was refused
-abbrev pub ReadsDriverLine : UpsId → List ℕ → ℕ → UpsState → ServerState → Result (Option ℕ) Fault → ServerState → Type 0
-ReadsDriverLine u piece done x old (Ok (Some used)) new = (line : List ℕ) × FindsLine x.unfinished piece line used × (new ≡ after_driver_line u line (holding_nothing u old))
-ReadsDriverLine u piece done x old (Ok None) new = (kept : List ℕ) × Finds x.unfinished piece found.NeedsMore kept × (new ≡ with_ups_changed (with_unfinished kept) u old)
-ReadsDriverLine u piece done x old (Err LineTooLong) new = (kept : List ℕ) × Finds x.unfinished piece found.TooLong kept × (new ≡ with_ups_changed (with_unfinished kept) u old)
+-- what the next line of a driver does, which lies in what its UPS holds and the piece: its step,
+-- and it takes so many bytes of the piece; or none is whole, and all of the piece is kept; or it is
+-- too long; or it would change the tree, and memory was refused
+abbrev pub ReadsDriverLine : UpsId → List ℕ → ℕ → UpsState → ServerState → Result (Option ℕ) Fault
+    → ServerState → Type 0
+ReadsDriverLine u piece done x old (Ok (Some used)) new =
+    (line : List ℕ) × FindsLine x.unfinished piece line used
+    × (new ≡ after_driver_line u line (holding_nothing u old))
+ReadsDriverLine u piece done x old (Ok None) new =
+    (kept : List ℕ) × Finds x.unfinished piece found.NeedsMore kept
+    × (new ≡ with_ups_changed (with_unfinished kept) u old)
+ReadsDriverLine u piece done x old (Err LineTooLong) new =
+    (kept : List ℕ) × Finds x.unfinished piece found.TooLong kept
+    × (new ≡ with_ups_changed (with_unfinished kept) u old)
 ReadsDriverLine u piece done x old (Err (Memory k)) new =
-    (k ≡ done) × (line : List ℕ) × (used : ℕ) × FindsLine x.unfinished piece line used × (line_changes x.report.tree line ≡ true) × (with_ups_changed after_loss u new ≡ with_ups_changed after_loss u old)
+    (k ≡ done) × (line : List ℕ) × (used : ℕ) × FindsLine x.unfinished piece line used
+    × (line_changes x.report.tree line ≡ true)
+    × (with_ups_changed after_loss u new ≡ with_ups_changed after_loss u old)
 ReadsDriverLine u piece done x old (Err fault) new = ⊥
 
 -- of the UPS, which is there
@@ -186,22 +232,30 @@ abbrev pub OfUps : UpsId → ServerState → (UpsState → Type 0) → Type 0
 OfUps u s P = (x : UpsState) → ups_at u.place s ≡ Some x → P x
 
 -- f may be called at a UPS of the server,
-abbrev pub MayChangeUps : {F R : Type 0} → Once F (MutBor UpsState × Unit {0}) R → F → UpsId → ServerState → Type 0
+abbrev pub MayChangeUps : {F R : Type 0} → Once F (MutBor UpsState × Unit {0}) R → F → UpsId
+    → ServerState → Type 0
 MayChangeUps g f u s = OfUps u s (FnOnceTakesAtMut g f)
 
 -- keeps it sound,
-abbrev pub KeepsUpsSound : {F R : Type 0} → Once F (MutBor UpsState × Unit {0}) (R × (MutBor UpsState × Unit {0})) → F → UpsId → ServerState → Type 0
-KeepsUpsSound {F} {R} g f u s = (x y : UpsState) (r : R) → ups_at u.place s ≡ Some x → FnOnceReturnsAtMut g f x r y → IsSoundUps s.moment x → IsSoundUps s.moment y
+abbrev pub KeepsUpsSound : {F R : Type 0}
+    → Once F (MutBor UpsState × Unit {0}) (R × (MutBor UpsState × Unit {0})) → F → UpsId
+    → ServerState → Type 0
+KeepsUpsSound {F} {R} g f u s =
+    (x y : UpsState) (r : R) → ups_at u.place s ≡ Some x → FnOnceReturnsAtMut g f x r y
+    → IsSoundUps s.moment x → IsSoundUps s.moment y
 
 -- and changes it, and nothing else
-pub record ChangesUps {F R : Type 0} (g : Once F (MutBor UpsState × Unit {0}) (R × (MutBor UpsState × Unit {0}))) (f : F) (u : UpsId) (old : ServerState) (result : R) (new : ServerState) : Type 0 where
+pub record ChangesUps {F R : Type 0}
+    (g : Once F (MutBor UpsState × Unit {0}) (R × (MutBor UpsState × Unit {0}))) (f : F) (u : UpsId)
+    (old : ServerState) (result : R) (new : ServerState) : Type 0 where
   pub before : UpsState
   pub after : UpsState
   pub there : ups_at u.place old ≡ Some before
   pub called : FnOnceReturnsAtMut g f before result after
   pub leaves : new ≡ with_ups_changed (λ x. after) u old
 
--- of what is offered now, so many bytes were there before; the lines of those after them are counted, and none of these is unfinished while a line may be executed
+-- of what is offered now, so many bytes were there before; the lines of those after them are
+-- counted, and none of these is unfinished while a line may be executed
 pub record IsCounted (kept : ℕ) (owed : List ℕ) (made : ℕ) : Type 0 where
   pub within : kept ≤ length (take RING_LIMIT owed)
   pub counted : made ≡ lines (drop kept (take RING_LIMIT owed))
@@ -209,11 +263,13 @@ pub record IsCounted (kept : ℕ) (owed : List ℕ) (made : ℕ) : Type 0 where
 
 -- where all were counted, all are
 abbrev pub KeepsCount : List ℕ → ℕ → List ℕ → ℕ → Type 0
-KeepsCount owed made owed' made' = (kept : ℕ) → IsCounted kept owed made → IsCounted kept owed' made'
+KeepsCount owed made owed' made' =
+    (kept : ℕ) → IsCounted kept owed made → IsCounted kept owed' made'
 
 -- of this client
 abbrev pub KeepsCost : ℕ → RunningServer → RunningServer → Type 0
-KeepsCost c old new = KeepsCount (owed c old.state) old.cost.rendered (owed c new.state) new.cost.rendered
+KeepsCost c old new =
+    KeepsCount (owed c old.state) old.cost.rendered (owed c new.state) new.cost.rendered
 
 -- the cost of an event after which these bytes are offered, so many of which were there before
 abbrev pub cost_beyond : ℕ → List ℕ → Cost

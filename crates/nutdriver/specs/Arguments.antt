@@ -1,5 +1,7 @@
--- What stands after the first word of a driver's line. Their number and the name are looked at before what follows the name.
-use Rattle.std.specs.Prelude.{ℕ, ℤ, List, [], ◌∷◌, Option, Some, None, Result, Ok, Err, int_le, if◌then◌else◌}
+-- What stands after the first word of a driver's line. Their number and the name are looked at
+-- before what follows the name.
+use Rattle.std.specs.Prelude.{ℕ, ℤ, List, [], ◌∷◌, Option, Some, None, Result, Ok, Err, int_le}
+use Rattle.std.specs.Prelude.{if◌then◌else◌}
 use Rattle.nutwords.specs.Natural.{read_natural}
 use Rattle.nutwords.specs.Reading.{read_name, read_value}
 use Rattle.nutwords.specs.declared.faults.BadName.{BadName}
@@ -12,7 +14,8 @@ use Rattle.nutdriver.specs.Number.{read_number}
 use Rattle.nutdriver.specs.Flags.{flags_of}
 
 -- A name beside what follows it, each of which may be refused: the name's refusal comes first.
-abbrev pub beside : {X : Type 0} → Result (List ℕ) DriverFault → Result X DriverFault → Result (List ℕ × X) DriverFault
+abbrev pub beside : {X : Type 0} → Result (List ℕ) DriverFault → Result X DriverFault
+    → Result (List ℕ × X) DriverFault
 beside (Err fault) x = Err fault
 beside (Ok name) (Err fault) = Err fault
 beside (Ok name) (Ok x) = Ok (name, x)
@@ -32,7 +35,9 @@ lawful_number (Some n) = Ok n
 
 -- Two numbers of which the first isn't the greater.
 abbrev pub lawful_range : Option ℤ → Option ℤ → Result Range DriverFault
-lawful_range (Some least) (Some greatest) = if int_le least greatest then Ok (record { least = least; greatest = greatest }) else Err BadNumber
+lawful_range (Some least) (Some greatest) =
+    if int_le least greatest then Ok (record { least = least; greatest = greatest })
+    else Err BadNumber
 lawful_range _ _ = Err BadNumber
 
 -- `name`
@@ -42,17 +47,20 @@ name_alone _ = Err Malformed
 
 -- `name value`
 abbrev pub name_and_value : List (List ℕ) → Result (List ℕ × List ℕ) DriverFault
-name_and_value (name ∷ value ∷ []) = beside (lawful_name (read_name name)) (lawful_value (read_value value))
+name_and_value (name ∷ value ∷ []) =
+    beside (lawful_name (read_name name)) (lawful_value (read_value value))
 name_and_value _ = Err Malformed
 
 -- `name least greatest`
 abbrev pub name_and_range : List (List ℕ) → Result (List ℕ × Range) DriverFault
-name_and_range (name ∷ least ∷ greatest ∷ []) = beside (lawful_name (read_name name)) (lawful_range (read_number least) (read_number greatest))
+name_and_range (name ∷ least ∷ greatest ∷ []) =
+    beside (lawful_name (read_name name)) (lawful_range (read_number least) (read_number greatest))
 name_and_range _ = Err Malformed
 
 -- `name number`, of which the number isn't negative
 abbrev pub name_and_aux : List (List ℕ) → Result (List ℕ × ℕ) DriverFault
-name_and_aux (name ∷ aux ∷ []) = beside (lawful_name (read_name name)) (lawful_number (read_natural NUMBER_LIMIT aux))
+name_and_aux (name ∷ aux ∷ []) =
+    beside (lawful_name (read_name name)) (lawful_number (read_natural NUMBER_LIMIT aux))
 name_and_aux _ = Err Malformed
 
 -- `name flag ..`

@@ -1,16 +1,22 @@
--- Reading a line of a driver (NUT's driver socket protocol, in the profile of docs/DRIVER.md): the first refusal that fits, from the line's words to its flags.
+-- Reading a line of a driver (NUT's driver socket protocol, in the profile of docs/DRIVER.md): the
+-- first refusal that fits, from the line's words to its flags.
 use Rattle.std.specs.Prelude.{ℕ, List, [], ◌∷◌, Result, Ok, Err, codes, if◌then◌else◌}
 use Rattle.nutwords.specs.Scan.{read_line}
 use Rattle.nutwords.specs.declared.faults.BadLine.{BadLine}
 use Rattle.nutdriver.specs.declared.line.DriverLine.{DriverLine}
-use Rattle.nutdriver.specs.declared.line.DriverLine.TheVariants.{Blank, SetInfo, DelInfo, AddEnum, DelEnum, AddRange, DelRange, SetAux, SetFlags, AddCmd, DelCmd, DumpDone, DataOk, DataStale, Pong}
+use Rattle.nutdriver.specs.declared.line.DriverLine.TheVariants.{Blank, SetInfo, DelInfo, AddEnum}
+use Rattle.nutdriver.specs.declared.line.DriverLine.TheVariants.{DelEnum, AddRange, DelRange}
+use Rattle.nutdriver.specs.declared.line.DriverLine.TheVariants.{SetAux, SetFlags, AddCmd, DelCmd}
+use Rattle.nutdriver.specs.declared.line.DriverLine.TheVariants.{DumpDone, DataOk, DataStale, Pong}
 use Rattle.nutdriver.specs.declared.fault.DriverFault.{DriverFault}
 use Rattle.nutdriver.specs.declared.fault.DriverFault.TheVariants.{Malformed, Unknown}
 use Rattle.nutwords.specs.Keyword.{is_word}
-use Rattle.nutdriver.specs.Arguments.{name_alone, name_and_value, name_and_range, name_and_aux, name_and_flags}
+use Rattle.nutdriver.specs.Arguments.{name_alone, name_and_value, name_and_range, name_and_aux}
+use Rattle.nutdriver.specs.Arguments.{name_and_flags}
 
 -- The line of these arguments, or their refusal.
-abbrev pub line_of : {X : Type 0} → (X → DriverLine) → Result X DriverFault → Result DriverLine DriverFault
+abbrev pub line_of : {X : Type 0} → (X → DriverLine) → Result X DriverFault
+    → Result DriverLine DriverFault
 line_of line (Err fault) = Err fault
 line_of line (Ok arguments) = Ok (line arguments)
 
@@ -25,12 +31,17 @@ driver_line_of [] = Ok Blank
 driver_line_of (first ∷ words) =
     if is_word first (codes "SETINFO") then line_of (λ a. SetInfo a.0 a.1) (name_and_value words)
     else if is_word first (codes "DELINFO") then line_of (λ name. DelInfo name) (name_alone words)
-    else if is_word first (codes "ADDENUM") then line_of (λ a. AddEnum a.0 a.1) (name_and_value words)
-    else if is_word first (codes "DELENUM") then line_of (λ a. DelEnum a.0 a.1) (name_and_value words)
-    else if is_word first (codes "ADDRANGE") then line_of (λ a. AddRange a.0 a.1) (name_and_range words)
-    else if is_word first (codes "DELRANGE") then line_of (λ a. DelRange a.0 a.1) (name_and_range words)
+    else if is_word first (codes "ADDENUM")
+    then line_of (λ a. AddEnum a.0 a.1) (name_and_value words)
+    else if is_word first (codes "DELENUM")
+    then line_of (λ a. DelEnum a.0 a.1) (name_and_value words)
+    else if is_word first (codes "ADDRANGE")
+    then line_of (λ a. AddRange a.0 a.1) (name_and_range words)
+    else if is_word first (codes "DELRANGE")
+    then line_of (λ a. DelRange a.0 a.1) (name_and_range words)
     else if is_word first (codes "SETAUX") then line_of (λ a. SetAux a.0 a.1) (name_and_aux words)
-    else if is_word first (codes "SETFLAGS") then line_of (λ a. SetFlags a.0 a.1) (name_and_flags words)
+    else if is_word first (codes "SETFLAGS")
+    then line_of (λ a. SetFlags a.0 a.1) (name_and_flags words)
     else if is_word first (codes "ADDCMD") then line_of (λ name. AddCmd name) (name_alone words)
     else if is_word first (codes "DELCMD") then line_of (λ name. DelCmd name) (name_alone words)
     else if is_word first (codes "DUMPDONE") then alone DumpDone words

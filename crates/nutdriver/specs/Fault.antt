@@ -1,9 +1,12 @@
 -- The numbers of a driver's faults.
 use Rattle.std.specs.Prelude.{ℕ}
 use Rattle.nutdriver.specs.declared.fault.DriverFault.{DriverFault}
-use Rattle.nutdriver.specs.declared.fault.DriverFault.TheVariants.{Malformed, Unknown, NoSuchVar, NoSuchItem, BadNumber, BadFlag, TooLong, Full, Memory}
+use Rattle.nutdriver.specs.declared.fault.DriverFault.TheVariants.{Malformed, Unknown, NoSuchVar}
+use Rattle.nutdriver.specs.declared.fault.DriverFault.TheVariants.{NoSuchItem, BadNumber, BadFlag}
+use Rattle.nutdriver.specs.declared.fault.DriverFault.TheVariants.{TooLong, Full, Memory}
 
--- 1 malformed line, 2 unknown first word, 3 no such variable, 4 no such item, 5 bad number, 6 bad flag, 7 value too long, 8 full, 9 no memory.
+-- 1 malformed line, 2 unknown first word, 3 no such variable, 4 no such item, 5 bad number, 6 bad
+-- flag, 7 value too long, 8 full, 9 no memory.
 abbrev pub number_of : DriverFault → ℕ
 number_of Malformed = 1
 number_of Unknown = 2

@@ -29,11 +29,16 @@ flag_named word = record { rw = is_rw word; string = is_string word; number = is
 
 -- The flags of both.
 abbrev pub union : Flags → Flags → Flags
-union a b = record { rw = a.rw || b.rw; string = a.string || b.string; number = a.number || b.number }
+union a b =
+    record { rw = a.rw || b.rw; string = a.string || b.string; number = a.number || b.number }
 
 -- Exactly the flags that the words name, where each names one. None and repeats are lawful.
 abbrev pub flags_of : List (List ℕ) → Result Flags DriverFault
 flags_of words =
     if list_all is_flag words
-    then Ok (record { rw = list_any is_rw words; string = list_any is_string words; number = list_any is_number words })
+    then Ok (record {
+      rw = list_any is_rw words;
+      string = list_any is_string words;
+      number = list_any is_number words;
+    })
     else Err BadFlag

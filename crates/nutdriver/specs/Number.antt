@@ -1,5 +1,6 @@
 -- The numbers of the protocol, as they are written.
-use Rattle.std.specs.Prelude.{ℕ, ℤ, pos, neg_ℤ, ◌==◌, List, [], ◌∷◌, Option, Some, None, if◌then◌else◌}
+use Rattle.std.specs.Prelude.{ℕ, ℤ, pos, neg_ℤ, ◌==◌, List, [], ◌∷◌, Option, Some, None}
+use Rattle.std.specs.Prelude.{if◌then◌else◌}
 use Rattle.nutwords.specs.Natural.{read_natural}
 use Rattle.nutdriver.specs.declared.limits.TheConstants.{NUMBER_LIMIT}
 
@@ -12,7 +13,10 @@ abbrev pub not_below_zero : Option ℕ → Option ℤ
 not_below_zero None = None
 not_below_zero (Some size) = Some (pos size)
 
--- The number that the word writes: `0`, or an optional minus sign and digits that don't begin with 0, within the limits.
+-- The number that the word writes: `0`, or an optional minus sign and digits that don't begin with
+-- 0, within the limits.
 abbrev pub read_number : List ℕ → Option ℤ
 read_number [] = None
-read_number (b ∷ bs) = if b == 45 then below_zero (read_natural NUMBER_LIMIT bs) else not_below_zero (read_natural NUMBER_LIMIT (b ∷ bs))
+read_number (b ∷ bs) =
+    if b == 45 then below_zero (read_natural NUMBER_LIMIT bs)
+    else not_below_zero (read_natural NUMBER_LIMIT (b ∷ bs))

@@ -3,7 +3,8 @@ use Rattle.std.specs.Prelude.{ℕ, Bool, true, false, List, Result, Ok, Err}
 use Rattle.nutdriver.specs.declared.line.DriverLine.{DriverLine}
 use Rattle.nutdriver.specs.declared.fault.DriverFault.{DriverFault}
 use Rattle.nutdriver.specs.declared.effect.Effect.{Effect}
-use Rattle.nutdriver.specs.declared.effect.Effect.TheVariants.{Nothing, Changed, DumpDone, DataOk, DataStale, Pong}
+use Rattle.nutdriver.specs.declared.effect.Effect.TheVariants.{Nothing, Changed, DumpDone, DataOk}
+use Rattle.nutdriver.specs.declared.effect.Effect.TheVariants.{DataStale, Pong}
 use Rattle.nutdriver.specs.declared.report.Report.{Report}
 use Rattle.nutdriver.specs.declared.report.LineOutcome.{LineOutcome}
 use Rattle.nutdriver.specs.declared.report.LineOutcome.TheVariants.{Accepted, Refused}
@@ -17,7 +18,8 @@ lost_report = record { connected = false; dumped = false; ok = false; heard = 0;
 
 -- A driver has connected at this moment, and has reported nothing yet.
 abbrev pub connected_report : ℕ → Report
-connected_report moment = record { connected = true; dumped = false; ok = false; heard = moment; tree = empty_tree }
+connected_report moment =
+    record { connected = true; dumped = false; ok = false; heard = moment; tree = empty_tree }
 
 -- What a line does beside the tree.
 abbrev pub after_effect : Effect → Report → Report
@@ -29,7 +31,8 @@ after_effect DataStale report = record report { ok = false }
 after_effect Pong report = report
 
 abbrev pub after_step : Report → Result (TreeState × Effect) DriverFault → Report × LineOutcome
-after_step report (Ok (tree, effect)) = (after_effect effect (record report { tree = tree }), Accepted)
+after_step report (Ok (tree, effect)) =
+    (after_effect effect (record report { tree = tree }), Accepted)
 after_step report (Err fault) = (report, Refused fault)
 
 abbrev pub after_reading : Report → Result DriverLine DriverFault → Report × LineOutcome
@@ -38,7 +41,8 @@ after_reading report (Err fault) = (report, Refused fault)
 
 -- A whole line is heard at this moment, accepted or refused. A refused one changes nothing more.
 abbrev pub after_line : ℕ → Report → List ℕ → Report × LineOutcome
-after_line moment report line = after_reading (record report { heard = moment }) (read_driver_line line)
+after_line moment report line =
+    after_reading (record report { heard = moment }) (read_driver_line line)
 
 -- The line would change the tree, for which memory may be refused.
 abbrev pub reading_changes : TreeState → Result DriverLine DriverFault → Bool

@@ -1,12 +1,16 @@
 -- What holds of every tree that a driver's lines have made.
-use Rattle.std.specs.Prelude.{◌≢◌, ◌≤◌, ◌≤ℤ◌, ⊤, ℕ, neg_ℤ, pos, List, length, All, AllPairs, IfOk, IsTrue}
+use Rattle.std.specs.Prelude.{◌≢◌, ◌≤◌, ◌≤ℤ◌, ⊤, ℕ, neg_ℤ, pos, List, length, All, AllPairs, IfOk}
+use Rattle.std.specs.Prelude.{IsTrue}
 use Rattle.std.specs.List.Sorted.{IsStrictlySortedBy}
 use Rattle.std.specs.Map.{keys_of, values_of}
 use Rattle.nutwords.specs.Reading.{is_name, is_value}
 use Rattle.nutmap.specs.Entries.{HasRisingKeys}
-use Rattle.nutdriver.specs.declared.limits.TheConstants.{VARIABLE_LIMIT, COMMAND_LIMIT, ENUM_LIMIT, RANGE_LIMIT, NUMBER_LIMIT}
+use Rattle.nutdriver.specs.declared.limits.TheConstants.{VARIABLE_LIMIT, COMMAND_LIMIT, ENUM_LIMIT}
+use Rattle.nutdriver.specs.declared.limits.TheConstants.{RANGE_LIMIT, NUMBER_LIMIT}
 use Rattle.nutdriver.specs.declared.line.DriverLine.{DriverLine}
-use Rattle.nutdriver.specs.declared.line.DriverLine.TheVariants.{SetInfo, DelInfo, AddEnum, DelEnum, AddRange, DelRange, SetAux, SetFlags, AddCmd, DelCmd}
+use Rattle.nutdriver.specs.declared.line.DriverLine.TheVariants.{SetInfo, DelInfo, AddEnum, DelEnum}
+use Rattle.nutdriver.specs.declared.line.DriverLine.TheVariants.{AddRange, DelRange, SetAux}
+use Rattle.nutdriver.specs.declared.line.DriverLine.TheVariants.{SetFlags, AddCmd, DelCmd}
 use Rattle.nutdriver.specs.declared.range.Range.{Range}
 use Rattle.nutdriver.specs.declared.report.Report.{Report}
 use Rattle.nutdriver.specs.Variable.{VariableState}
@@ -35,7 +39,8 @@ pub record IsSoundVariable (v : VariableState) : Type 0 where
   pub ranges_once : HasNoRepeats v.ranges
   pub ranges_few : length v.ranges ≤ RANGE_LIMIT
 
--- The names rise, so that none comes twice; names and variables are lawful, and no more than there may be.
+-- The names rise, so that none comes twice; names and variables are lawful, and no more than there
+-- may be.
 pub record IsSoundTree (tree : TreeState) : Type 0 where
   pub names_rise : HasRisingKeys byte_order tree.variables
   pub names : All (λ name. IsTrue (is_name name)) (keys_of tree.variables)
@@ -63,8 +68,12 @@ abbrev pub ReadLinesAreLawful : Type 0
 ReadLinesAreLawful = (text : List ℕ) → IfOk (read_driver_line text) IsLawfulLine
 
 abbrev pub LawfulLinesKeepTreesSound : Type 0
-LawfulLinesKeepTreesSound = (tree : TreeState) (line : DriverLine) → IsSoundTree tree → IsLawfulLine line → IfOk (driver_step tree line) (λ after. IsSoundTree after.0)
+LawfulLinesKeepTreesSound =
+    (tree : TreeState) (line : DriverLine) → IsSoundTree tree → IsLawfulLine line
+    → IfOk (driver_step tree line) (λ after. IsSoundTree after.0)
 
 -- A whole line keeps the tree sound, whatever it says.
 abbrev pub EachLineKeepsTheTreeSound : Type 0
-EachLineKeepsTheTreeSound = (moment : ℕ) (report : Report) (line : List ℕ) → IsSoundTree report.tree → IsSoundTree (after_line moment report line).0.tree
+EachLineKeepsTheTreeSound =
+    (moment : ℕ) (report : Report) (line : List ℕ) → IsSoundTree report.tree
+    → IsSoundTree (after_line moment report line).0.tree

@@ -9,7 +9,8 @@ pub use Rattle.nutwords.specs.NameOrder.{byte_order}
 use Rattle.nutmap.specs.Entries.{value_at}
 use Rattle.nutdriver.specs.Variable.{VariableState}
 
--- A tree is a finite map from names to variables and a finite set of commands: the entries and the names, each in the order of the names.
+-- A tree is a finite map from names to variables and a finite set of commands: the entries and the
+-- names, each in the order of the names.
 pub record TreeState : Type 0 where
   pub variables : List (List ℕ × VariableState)
   pub commands : List (List ℕ)
@@ -24,11 +25,13 @@ variable_at tree name = value_at byte_order tree.variables name
 
 -- The name has this variable, and each other name what it had.
 abbrev pub with_variable : TreeState → List ℕ → VariableState → TreeState
-with_variable tree name variable = record tree { variables = insert_entry byte_order tree.variables name variable }
+with_variable tree name variable =
+    record tree { variables = insert_entry byte_order tree.variables name variable }
 
 -- The name has no variable, and each other name what it had.
 abbrev pub without_variable : TreeState → List ℕ → TreeState
-without_variable tree name = record tree { variables = remove_entry (is_at (byte_order name)) tree.variables }
+without_variable tree name =
+    record tree { variables = remove_entry (is_at (byte_order name)) tree.variables }
 
 -- The UPS has the command of this name.
 abbrev pub has_command : TreeState → List ℕ → Bool
@@ -40,4 +43,5 @@ with_command tree name = record tree { commands = insert_key byte_order tree.com
 
 -- The commands but this one.
 abbrev pub without_command : TreeState → List ℕ → TreeState
-without_command tree name = record tree { commands = remove_key (is_at (byte_order name)) tree.commands }
+without_command tree name =
+    record tree { commands = remove_key (is_at (byte_order name)) tree.commands }

@@ -1,5 +1,7 @@
--- A variable, and what a driver's lines do to it: `Ok None` where it stays as it is, else the variable afterwards, or the refusal.
-use Rattle.std.specs.Prelude.{ℕ, Bool, not, nat_le, ◌&&◌, List, [], ◌∷◌, ◌++◌, length, filter, Option, Some, None, Result, Ok, Err, if◌then◌else◌}
+-- A variable, and what a driver's lines do to it: `Ok None` where it stays as it is, else the
+-- variable afterwards, or the refusal.
+use Rattle.std.specs.Prelude.{ℕ, Bool, not, nat_le, ◌&&◌, List, [], ◌∷◌, ◌++◌, length, filter}
+use Rattle.std.specs.Prelude.{Option, Some, None, Result, Ok, Err, if◌then◌else◌}
 use Rattle.std.specs.List.{list_any}
 use Rattle.std.specs.Str.{bytes_eq}
 use Rattle.std.specs.Ordering.{int_eq}
@@ -20,7 +22,8 @@ pub record VariableState : Type 0 where
 
 -- A variable that is reported for the first time.
 abbrev pub new_variable : List ℕ → VariableState
-new_variable value = record { value = value; flags = no_flags; aux = 0; enum_values = []; ranges = [] }
+new_variable value =
+    record { value = value; flags = no_flags; aux = 0; enum_values = []; ranges = [] }
 
 -- The value is among these.
 abbrev pub has_value : List (List ℕ) → List ℕ → Bool
@@ -47,7 +50,9 @@ add_enum value v =
 -- DELENUM
 abbrev pub delete_enum : List ℕ → VariableState → Result (Option VariableState) DriverFault
 delete_enum value v =
-    if has_value v.enum_values value then Ok (Some (record v { enum_values = filter (λ other. not (bytes_eq other value)) v.enum_values }))
+    if has_value v.enum_values value
+    then Ok (Some
+    (record v { enum_values = filter (λ other. not (bytes_eq other value)) v.enum_values }))
     else Err NoSuchItem
 
 -- ADDRANGE
@@ -60,7 +65,9 @@ add_range range v =
 -- DELRANGE
 abbrev pub delete_range : Range → VariableState → Result (Option VariableState) DriverFault
 delete_range range v =
-    if has_range v.ranges range then Ok (Some (record v { ranges = filter (λ other. not (is_same_range other range)) v.ranges }))
+    if has_range v.ranges range
+    then Ok (Some
+    (record v { ranges = filter (λ other. not (is_same_range other range)) v.ranges }))
     else Err NoSuchItem
 
 -- SETAUX

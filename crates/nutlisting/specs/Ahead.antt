@@ -24,13 +24,16 @@ module _ {E : Type 0} where
   front (e ∷ ahead) = e
 
 -- No variable comes after the name, and none stands ahead.
-pub record IsEnd (variables : List (List ℕ × VariableState)) (last : Option (List ℕ)) (ahead : List (Option (List ℕ × VariableState))) : Type 0 where
+pub record IsEnd (variables : List (List ℕ × VariableState)) (last : Option (List ℕ))
+    (ahead : List (Option (List ℕ × VariableState))) : Type 0 where
   pub none : entries_after byte_order variables last ≡ []
   pub empty : ahead ≡ []
 
 -- The variable comes after the name, and those after it stand ahead.
-pub record IsTaken (variables : List (List ℕ × VariableState)) (last : Option (List ℕ)) (e : List ℕ × VariableState) (ahead : List (Option (List ℕ × VariableState))) : Type 0 where
-  pub walks : entries_after byte_order variables last ≡ e ∷ entries_after byte_order variables (Some e.0)
+pub record IsTaken (variables : List (List ℕ × VariableState)) (last : Option (List ℕ))
+    (e : List ℕ × VariableState) (ahead : List (Option (List ℕ × VariableState))) : Type 0 where
+  pub walks : entries_after byte_order variables last
+      ≡ e ∷ entries_after byte_order variables (Some e.0)
   pub first : AreFirst (entries_after byte_order variables (Some e.0)) ahead
 
 -- The variables after a place, of a listing that goes by their names.

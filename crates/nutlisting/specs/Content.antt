@@ -1,8 +1,10 @@
 -- What a listing holds, as the listing that it is.
 use Rattle.nutdriver.specs.Tree.{variable_at}
 use Rattle.nutlisting.specs.declared.listing.Content.{Content}
-use Rattle.nutlisting.specs.declared.listing.Content.TheVariants.{Upses, Variables, Rw, Commands, EnumValues, Ranges, Clients}
-use Rattle.nutlisting.specs.Items.{ListingState, ups_listing, variable_listing, rw_listing, command_listing, enum_listing, range_listing, client_listing}
+use Rattle.nutlisting.specs.declared.listing.Content.TheVariants.{Upses, Variables, Rw, Commands}
+use Rattle.nutlisting.specs.declared.listing.Content.TheVariants.{EnumValues, Ranges, Clients}
+use Rattle.nutlisting.specs.Items.{ListingState, ups_listing, variable_listing, rw_listing}
+use Rattle.nutlisting.specs.Items.{command_listing, enum_listing, range_listing, client_listing}
 
 abbrev pub listing_of : Content → ListingState
 listing_of (Upses list) = ups_listing list

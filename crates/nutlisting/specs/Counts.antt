@@ -1,5 +1,6 @@
 -- How many lines a text has, and how they are counted.
-use Rattle.std.specs.Prelude.{ℕ, ◌+◌, ◌-◌, ◌^◌, ◌==◌, Bool, false, not, min, List, [], ◌∷◌, count_by, if◌then◌else◌}
+use Rattle.std.specs.Prelude.{ℕ, ◌+◌, ◌-◌, ◌^◌, ◌==◌, Bool, false, not, min, List, [], ◌∷◌}
+use Rattle.std.specs.Prelude.{count_by, if◌then◌else◌}
 use Rattle.std.specs.List.{list_all}
 
 abbrev pub is_lf : ℕ → Bool
@@ -9,7 +10,8 @@ is_lf b = b == 10
 abbrev pub has_no_lf : List ℕ → Bool
 has_no_lf text = list_all (λ b. not (is_lf b)) text
 
--- Whether a line is unfinished at the end of the text, where `unfinished` says whether one was at its beginning.
+-- Whether a line is unfinished at the end of the text, where `unfinished` says whether one was at
+-- its beginning.
 abbrev pub leaves_open : Bool → List ℕ → Bool
 leaves_open unfinished [] = unfinished
 leaves_open unfinished (b ∷ text) = leaves_open (not (is_lf b)) text

@@ -11,8 +11,11 @@ what_fits ring rest = take (RING_LIMIT - length ring) rest
 abbrev pub what_stays : List ℕ → List ℕ → List ℕ
 what_stays ring rest = drop (RING_LIMIT - length ring) rest
 
--- From one ring, rest and count to another: once all that fits is placed, the ring, the rest and the count are the same.
-pub record PlacesAlike (ring rest : List ℕ) (count : ℕ) (ring' rest' : List ℕ) (count' : ℕ) : Type 0 where
+-- From one ring, rest and count to another: once all that fits is placed, the ring, the rest and
+-- the count are the same.
+pub record PlacesAlike (ring rest : List ℕ) (count : ℕ) (ring' rest' : List ℕ)
+    (count' : ℕ) : Type 0 where
   pub placed : ring' ++ what_fits ring' rest' ≡ ring ++ what_fits ring rest
   pub stays : what_stays ring' rest' ≡ what_stays ring rest
-  pub counted : count_more count' (lines (what_fits ring' rest')) ≡ count_more count (lines (what_fits ring rest))
+  pub counted : count_more count' (lines (what_fits ring' rest'))
+      ≡ count_more count (lines (what_fits ring rest))

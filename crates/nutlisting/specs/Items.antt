@@ -39,7 +39,12 @@ variable_item word ups fsd entry = word ∷ ups ∷ entry.0 ∷ quoted (shown fs
 
 -- LIST VAR: the variables, in the order of their names.
 abbrev pub variable_listing : List ℕ → Bool → List (List ℕ × VariableState) → ListingState
-variable_listing ups fsd variables = record { kind = codes "VAR"; names = ups ∷ []; items = map (variable_item (codes "VAR") ups fsd) variables }
+variable_listing ups fsd variables =
+    record {
+      kind = codes "VAR";
+      names = ups ∷ [];
+      items = map (variable_item (codes "VAR") ups fsd) variables;
+    }
 
 abbrev pub is_rw : List ℕ × VariableState → Bool
 is_rw entry = entry.1.flags.rw
@@ -49,14 +54,16 @@ rw_items ups fsd variables = map (variable_item (codes "RW") ups fsd) (filter is
 
 -- LIST RW: of the variables those with the flag RW.
 abbrev pub rw_listing : List ℕ → Bool → List (List ℕ × VariableState) → ListingState
-rw_listing ups fsd variables = record { kind = codes "RW"; names = ups ∷ []; items = rw_items ups fsd variables }
+rw_listing ups fsd variables =
+    record { kind = codes "RW"; names = ups ∷ []; items = rw_items ups fsd variables }
 
 abbrev pub command_item : List ℕ → List ℕ → List (List ℕ)
 command_item ups name = codes "CMD" ∷ ups ∷ name ∷ []
 
 -- LIST CMD: the commands, in the order of their names.
 abbrev pub command_listing : List ℕ → List (List ℕ) → ListingState
-command_listing ups commands = record { kind = codes "CMD"; names = ups ∷ []; items = map (command_item ups) commands }
+command_listing ups commands =
+    record { kind = codes "CMD"; names = ups ∷ []; items = map (command_item ups) commands }
 
 abbrev pub enum_item : List ℕ → List ℕ → List ℕ → List (List ℕ)
 enum_item ups name value = codes "ENUM" ∷ ups ∷ name ∷ quoted value ∷ []
@@ -68,23 +75,37 @@ enum_values_of (Some variable) = variable.enum_values
 
 -- LIST ENUM: the values that the variable may have, in the order in which they were added.
 abbrev pub enum_listing : List ℕ → List ℕ → Option VariableState → ListingState
-enum_listing ups name variable = record { kind = codes "ENUM"; names = ups ∷ name ∷ []; items = map (enum_item ups name) (enum_values_of variable) }
+enum_listing ups name variable =
+    record {
+      kind = codes "ENUM";
+      names = ups ∷ name ∷ [];
+      items = map (enum_item ups name) (enum_values_of variable);
+    }
 
 abbrev pub range_item : List ℕ → List ℕ → Range → List (List ℕ)
-range_item ups name range = codes "RANGE" ∷ ups ∷ name ∷ quoted (signed_decimal range.least) ∷ quoted (signed_decimal range.greatest) ∷ []
+range_item ups name range =
+    codes "RANGE" ∷ ups ∷ name ∷ quoted (signed_decimal range.least)
+    ∷ quoted (signed_decimal range.greatest) ∷ []
 
 -- The ranges of a variable, none where it isn't there.
 abbrev pub ranges_of : Option VariableState → List Range
 ranges_of None = []
 ranges_of (Some variable) = variable.ranges
 
--- LIST RANGE: the ranges of numbers that the variable may have, in the order in which they were added.
+-- LIST RANGE: the ranges of numbers that the variable may have, in the order in which they were
+-- added.
 abbrev pub range_listing : List ℕ → List ℕ → Option VariableState → ListingState
-range_listing ups name variable = record { kind = codes "RANGE"; names = ups ∷ name ∷ []; items = map (range_item ups name) (ranges_of variable) }
+range_listing ups name variable =
+    record {
+      kind = codes "RANGE";
+      names = ups ∷ name ∷ [];
+      items = map (range_item ups name) (ranges_of variable);
+    }
 
 abbrev pub client_item : List ℕ → List ℕ → List (List ℕ)
 client_item ups address = codes "CLIENT" ∷ ups ∷ address ∷ []
 
 -- LIST CLIENT: the addresses of the clients that are logged in to the UPS, in the order of opening.
 abbrev pub client_listing : List ℕ → List (List ℕ) → ListingState
-client_listing ups addresses = record { kind = codes "CLIENT"; names = ups ∷ []; items = map (client_item ups) addresses }
+client_listing ups addresses =
+    record { kind = codes "CLIENT"; names = ups ∷ []; items = map (client_item ups) addresses }

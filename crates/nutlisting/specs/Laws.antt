@@ -16,7 +16,8 @@ LinesAreTheText = (l : ListingState) → concat (lines_of l) ≡ text_of l
 abbrev pub BegunLinesAreEnded : Type 0
 BegunLinesAreEnded = (p : Position) → is_open (rest p) ≡ false
 
--- Where no line is unfinished after a text, the lines of the text that follows it are counted by themselves. A whole line is one line, and no text has more lines than bytes.
+-- Where no line is unfinished after a text, the lines of the text that follows it are counted by
+-- themselves. A whole line is one line, and no text has more lines than bytes.
 pub record LinesAddUp : Type 0 where
   pub counted : (a b : List ℕ) → is_open a ≡ false → lines (a ++ b) ≡ lines a + lines b
   pub unfinished : (a b : List ℕ) → is_open a ≡ false → is_open (a ++ b) ≡ is_open b
@@ -25,4 +26,6 @@ pub record LinesAddUp : Type 0 where
 
 -- What is offered of what is owed, its first bytes, is the ring.
 abbrev pub WhatIsOfferedIsTheRing : Type 0
-WhatIsOfferedIsTheRing = (ring : List ℕ) (cursor : Option Position) → IsOutbox ring cursor → take RING_LIMIT (ring ++ rest_of cursor) ≡ ring
+WhatIsOfferedIsTheRing =
+    (ring : List ℕ) (cursor : Option Position) → IsOutbox ring cursor
+    → take RING_LIMIT (ring ++ rest_of cursor) ≡ ring

@@ -1,5 +1,6 @@
 -- What a session owes.
-use Rattle.std.specs.Prelude.{◌≡◌, ℕ, ◌<◌, ◌≤◌, ◌||◌, List, [], ◌++◌, length, Option, None, Some, MatchOption, IsTrue, is_some, codes}
+use Rattle.std.specs.Prelude.{◌≡◌, ℕ, ◌<◌, ◌≤◌, ◌||◌, List, [], ◌++◌, length, Option, None, Some}
+use Rattle.std.specs.Prelude.{MatchOption, IsTrue, is_some, codes}
 use Rattle.std.specs.Str.{bytes_eq}
 use Rattle.nutlisting.specs.Rest.{Position, rest}
 use Rattle.nutlisting.specs.declared.ring.TheConstants.{RING_LIMIT}
@@ -29,4 +30,5 @@ pub record IsOutbox (ring : List ℕ) (cursor : Option Position) : Type 0 where
 -- The place for the clients of a listing is there, or a cursor over clients has it.
 abbrev pub HasPlaceForClients : Option Position → Option (List (List ℕ)) → Type 0
 HasPlaceForClients None clients = IsTrue (is_some clients)
-HasPlaceForClients (Some c) clients = IsTrue (is_some clients || bytes_eq c.listing.kind (codes "CLIENT"))
+HasPlaceForClients (Some c) clients =
+    IsTrue (is_some clients || bytes_eq c.listing.kind (codes "CLIENT"))

@@ -4,9 +4,12 @@ use Rattle.std.specs.Str.{bytes_eq}
 use Rattle.nutdriver.specs.Variable.{VariableState}
 use Rattle.nutusers.specs.UpsList.{Ups}
 
--- The value as clients see it: `FSD` stands before the status of a UPS for which a forced shutdown is set.
+-- The value as clients see it: `FSD` stands before the status of a UPS for which a forced shutdown
+-- is set.
 abbrev pub shown : Bool → List ℕ → VariableState → List ℕ
-shown fsd name variable = if fsd && bytes_eq name (codes "ups.status") then codes "FSD " ++ variable.value else variable.value
+shown fsd name variable =
+    if fsd && bytes_eq name (codes "ups.status") then codes "FSD " ++ variable.value
+    else variable.value
 
 -- The description of a variable or of a command.
 abbrev pub description_of : Option (List ℕ) → List ℕ

@@ -15,10 +15,13 @@ abbrev pub else_number : List (List ℕ) → List (List ℕ)
 else_number [] = codes "NUMBER" ∷ []
 else_number (word ∷ words) = word ∷ words
 
--- What a variable's values are (RFC 9271: GET TYPE): one of a list, a number in a range, a text of so many bytes, or else a number.
+-- What a variable's values are (RFC 9271: GET TYPE): one of a list, a number in a range, a text of
+-- so many bytes, or else a number.
 abbrev pub kind_words : VariableState → List (List ℕ)
 kind_words v =
-    word_if (not (is_empty v.enum_values)) (codes "ENUM") ++ (word_if (not (is_empty v.ranges)) (codes "RANGE") ++ word_if v.flags.string (codes "STRING:" ++ decimal v.aux))
+    word_if (not (is_empty v.enum_values)) (codes "ENUM")
+    ++ (word_if (not (is_empty v.ranges)) (codes "RANGE")
+    ++ word_if v.flags.string (codes "STRING:" ++ decimal v.aux))
 
 abbrev pub type_words : VariableState → List (List ℕ)
 type_words v = word_if v.flags.rw (codes "RW") ++ else_number (kind_words v)

@@ -5,7 +5,8 @@ use Rattle.std.specs.declared.cmp.Ordering.TheVariants.{Less, Equal}
 use Rattle.nutmap.specs.Entries.{value_at}
 
 module _ {K V : Type 0} (cmp : K → K → Ordering) where
-  -- the new entries have v at the key, or no value where v is `None`, and at every other key what the old ones have
+  -- the new entries have v at the key, or no value where v is `None`, and at every other key what
+  -- the old ones have
   pub record ChangesOneKey (old new : List (K × V)) (k : K) (v : Option V) : Type 0 where
     pub here : (q : K) → cmp k q ≡ Equal → value_at cmp new q ≡ v
     pub elsewhere : (q : K) → cmp k q ≢ Equal → value_at cmp new q ≡ value_at cmp old q

@@ -1,5 +1,6 @@
 -- What the ends of a connection do.
-use Rattle.std.specs.Prelude.{◌≡◌, ℕ, ◌+◌, ◌-◌, ◌^◌, ◌<◌, List, ◌++◌, length, min, Option, Result, MatchResult, IfOk}
+use Rattle.std.specs.Prelude.{◌≡◌, ℕ, ◌+◌, ◌-◌, ◌^◌, ◌<◌, List, ◌++◌, length, min, Option, Result}
+use Rattle.std.specs.Prelude.{MatchResult, IfOk}
 use Rattle.std.specs.Io.KnownBytes.{Consumes, Appends}
 
 -- A count after one more failure. It stops at its greatest number.
@@ -19,12 +20,14 @@ abbrev pub TakesSome : {E : Type 0} → Result ℕ E → List ℕ → Type 0
 TakesSome result bytes = IfOk result (λ n. 0 < length bytes → 0 < n)
 
 -- What a reader did: these bytes came, and no read failed.
-pub record Received {R : Type 0} (remaining : R → Option (List ℕ)) (failures : R → ℕ) (reader : R) (came : List ℕ) (after : R) : Type 0 where
+pub record Received {R : Type 0} (remaining : R → Option (List ℕ)) (failures : R → ℕ) (reader : R)
+    (came : List ℕ) (after : R) : Type 0 where
   pub bytes : Consumes (remaining reader) (remaining after) came
   pub well : failures after ≡ failures reader
 
 -- These bytes came, and then a read failed.
-pub record ReadFailed {R : Type 0} (remaining : R → Option (List ℕ)) (failures : R → ℕ) (reader : R) (came : List ℕ) (after : R) : Type 0 where
+pub record ReadFailed {R : Type 0} (remaining : R → Option (List ℕ)) (failures : R → ℕ) (reader : R)
+    (came : List ℕ) (after : R) : Type 0 where
   pub bytes : Consumes (remaining reader) (remaining after) came
   pub failed : failures after ≡ counted (failures reader)
 
@@ -33,12 +36,14 @@ abbrev pub IsBeginning : List ℕ → List ℕ → Type 0
 IsBeginning front all = (rest : List ℕ) × (all ≡ front ++ rest)
 
 -- What a writer did: it took these bytes, and no write failed.
-pub record Written {W : Type 0} (contents : W → Option (List ℕ)) (failures : W → ℕ) (writer : W) (bytes : List ℕ) (after : W) : Type 0 where
+pub record Written {W : Type 0} (contents : W → Option (List ℕ)) (failures : W → ℕ) (writer : W)
+    (bytes : List ℕ) (after : W) : Type 0 where
   pub bytes_written : Appends (contents writer) (contents after) bytes
   pub well : failures after ≡ failures writer
 
 -- It took a beginning of these bytes, and then a write failed.
-pub record WriteFailed {W : Type 0} (contents : W → Option (List ℕ)) (failures : W → ℕ) (writer : W) (bytes : List ℕ) (after : W) : Type 0 where
+pub record WriteFailed {W : Type 0} (contents : W → Option (List ℕ)) (failures : W → ℕ) (writer : W)
+    (bytes : List ℕ) (after : W) : Type 0 where
   pub front : List ℕ
   pub begins : IsBeginning front bytes
   pub bytes_written : Appends (contents writer) (contents after) front

@@ -1,9 +1,12 @@
 -- The numbers of a client's faults.
 use Rattle.std.specs.Prelude.{ℕ}
 use Rattle.nutreply.specs.declared.faults.ClientFault.{ClientFault}
-use Rattle.nutreply.specs.declared.faults.ClientFault.TheVariants.{Connect, Read, Write, EarlyEnd, ErrWord, BadReply, BadTarget, Memory}
+use Rattle.nutreply.specs.declared.faults.ClientFault.TheVariants.{Connect, Read, Write, EarlyEnd}
+use Rattle.nutreply.specs.declared.faults.ClientFault.TheVariants.{ErrWord, BadReply, BadTarget}
+use Rattle.nutreply.specs.declared.faults.ClientFault.TheVariants.{Memory}
 
--- 1 cannot connect, 2 read failed, 3 write failed, 4 the reply ended early, 5 the server answered ERR, 6 bad reply, 7 bad argument, 8 no memory.
+-- 1 cannot connect, 2 read failed, 3 write failed, 4 the reply ended early, 5 the server answered
+-- ERR, 6 bad reply, 7 bad argument, 8 no memory.
 abbrev pub number_of : ClientFault → ℕ
 number_of Connect = 1
 number_of Read = 2

@@ -4,7 +4,8 @@ use Rattle.nutreply.specs.Ends.{Received, ReadFailed, Written, WriteFailed}
 
 -- Where nothing was read, nothing came.
 abbrev pub NothingIsReceived : {R : Type 0} → (R → Option (List ℕ)) → (R → ℕ) → Type 0
-NothingIsReceived {R} remaining failures = (reader : R) → Received remaining failures reader [] reader
+NothingIsReceived {R} remaining failures =
+    (reader : R) → Received remaining failures reader [] reader
 
 abbrev pub ReceivedJoins : {R : Type 0} → (R → Option (List ℕ)) → (R → ℕ) → Type 0
 ReceivedJoins {R} remaining failures = (reader middle after : R) (front back : List ℕ)

@@ -15,6 +15,7 @@ lines_from held (b ∷ bytes) =
     else if nat_le LINE_LIMIT (length held) then TooLong ∷ []
     else lines_from (held ++ b ∷ []) bytes
 
--- The lines that are whole. After 1,024 bytes without LF no line is looked for, and an unfinished last line is none.
+-- The lines that are whole. After 1,024 bytes without LF no line is looked for, and an unfinished
+-- last line is none.
 abbrev pub lines : List ℕ → List FoundLine
 lines bytes = lines_from [] bytes

@@ -1,5 +1,7 @@
 -- A reply, as it is read from the bytes that come (RFC 9271).
-use Rattle.std.specs.Prelude.{ℕ, Bool, true, false, List, [], ◌∷◌, ◌++◌, ◌&&◌, ◌||◌, ◌==◌, nat_le, nat_lt, length, Option, Some, None, option_and_then, Result, Ok, Err, if◌then◌else◌, codes}
+use Rattle.std.specs.Prelude.{ℕ, Bool, true, false, List, [], ◌∷◌, ◌++◌, ◌&&◌, ◌||◌, ◌==◌, nat_le}
+use Rattle.std.specs.Prelude.{nat_lt, length, Option, Some, None, option_and_then, Result, Ok, Err}
+use Rattle.std.specs.Prelude.{if◌then◌else◌, codes}
 use Rattle.std.specs.Str.{bytes_eq}
 use Rattle.std.specs.List.{list_all}
 use Rattle.nutwords.specs.Scan.{words_of}
@@ -58,11 +60,13 @@ refusal_of_word None = BadFirst
 abbrev pub refusal_of : List (List ℕ) → FirstLine
 refusal_of words = refusal_of_word (only_word (behind (codes "ERR" ∷ []) words))
 
--- What the first line tells, where it is the one that the request is granted by: BEGIN tells nothing, VAR a value, the others OK.
+-- What the first line tells, where it is the one that the request is granted by: BEGIN tells
+-- nothing, VAR a value, the others OK.
 abbrev pub expected_of : Request → List (List ℕ) → Option (List ℕ)
 expected_of (ListOf query) words = if is_frame (codes "BEGIN") query words then Some [] else None
 expected_of (GetVar ups name) words = only_word (behind (codes "VAR" ∷ ups ∷ name ∷ []) words)
-expected_of _ words = if is_nothing (behind (codes "OK" ∷ []) words) then Some (codes "OK") else None
+expected_of _ words =
+    if is_nothing (behind (codes "OK" ∷ []) words) then Some (codes "OK") else None
 
 abbrev pub first_or : Option (List ℕ) → FirstLine → FirstLine
 first_or (Some value) refusal = Expected value
@@ -91,14 +95,18 @@ item_with true name None = BadLater
 item_with false name value = BadLater
 
 abbrev pub item_in : Query → Option (List (List ℕ)) → LaterLine
-item_in query (Some (name ∷ rest)) = item_with (is_item_name query name) name (value_in (has_value query) rest)
+item_in query (Some (name ∷ rest)) =
+    item_with (is_item_name query name) name (value_in (has_value query) rest)
 item_in query _ = BadLater
 
 -- What a line after BEGIN is: the END of the same words, an item, or none of them.
 abbrev pub later_of : Query → List (List ℕ) → LaterLine
-later_of query words = if is_frame (codes "END") query words then End else item_in query (behind (asked_words query) words)
+later_of query words =
+    if is_frame (codes "END") query words then End
+    else item_in query (behind (asked_words query) words)
 
--- What the bytes that came are: a refusal by an error word; a whole reply, and the bytes after it; bytes that can't be the beginning of a reply; or the beginning of one.
+-- What the bytes that came are: a refusal by an error word; a whole reply, and the bytes after it;
+-- bytes that can't be the beginning of a reply; or the beginning of one.
 pub data Reply : Type 0 where
   Refused : (word : List ℕ) → Reply
   Whole : (items : List Item) (rest : List ℕ) → Reply
@@ -119,7 +127,8 @@ after_later BadLater items rest go = Bad
 abbrev pub items_from : Query → List Item → List FoundLine → Reply
 items_from query items [] = Unfinished
 items_from query items (TooLong ∷ more) = Bad
-items_from query items (Line line rest ∷ more) = after_later (later_of query (words_of line)) items rest (λ all. items_from query all more)
+items_from query items (Line line rest ∷ more) =
+    after_later (later_of query (words_of line)) items rest (λ all. items_from query all more)
 
 -- A reply of one line is seen as one item without a name.
 abbrev pub one_item : List ℕ → List Item
@@ -138,7 +147,8 @@ after_first request BadFirst rest = Bad
 abbrev pub reply_from : Request → List FoundLine → Reply
 reply_from request [] = Unfinished
 reply_from request (TooLong ∷ more) = Bad
-reply_from request (Line line rest ∷ more) = after_first request (first_of request (words_of line)) rest
+reply_from request (Line line rest ∷ more) =
+    after_first request (first_of request (words_of line)) rest
 
 -- The bytes as the reply to the request.
 abbrev pub reply : Request → List ℕ → Reply

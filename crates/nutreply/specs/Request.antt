@@ -1,11 +1,13 @@
 -- What a client asks for, and the line that it sends for it (RFC 9271).
-use Rattle.std.specs.Prelude.{ℕ, Bool, true, false, List, [], ◌∷◌, Option, Some, None, option_map, option_to_list, codes}
+use Rattle.std.specs.Prelude.{ℕ, Bool, true, false, List, [], ◌∷◌, Option, Some, None, option_map}
+use Rattle.std.specs.Prelude.{option_to_list, codes}
 use Rattle.nutwords.specs.Frame.{line_of}
 use Rattle.nutwords.specs.Spelling.{quoted}
 use Rattle.nutreply.specs.declared.request.Query.{Query}
 use Rattle.nutreply.specs.declared.request.Query.TheVariants.{Ups, Var, Rw, Cmd, Client}
 use Rattle.nutreply.specs.declared.request.Request.{Request}
-use Rattle.nutreply.specs.declared.request.Request.TheVariants.{List as ListOf, GetVar, Username, Password, SetVar, Instcmd}
+use Rattle.nutreply.specs.declared.request.Request.TheVariants.{List as ListOf, GetVar, Username}
+use Rattle.nutreply.specs.declared.request.Request.TheVariants.{Password, SetVar, Instcmd}
 
 -- The word of a listing's kind.
 abbrev pub kind_of : Query → List ℕ
@@ -42,7 +44,8 @@ request_words (GetVar ups name) = codes "GET" ∷ codes "VAR" ∷ ups ∷ name �
 request_words (Username user) = codes "USERNAME" ∷ quoted user ∷ []
 request_words (Password password) = codes "PASSWORD" ∷ quoted password ∷ []
 request_words (SetVar ups name value) = codes "SET" ∷ codes "VAR" ∷ ups ∷ name ∷ quoted value ∷ []
-request_words (Instcmd ups name value) = codes "INSTCMD" ∷ ups ∷ name ∷ option_to_list (option_map quoted value)
+request_words (Instcmd ups name value) =
+    codes "INSTCMD" ∷ ups ∷ name ∷ option_to_list (option_map quoted value)
 
 -- The line of a request, with its LF.
 abbrev pub request_line : Request → List ℕ

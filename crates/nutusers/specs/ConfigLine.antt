@@ -1,5 +1,6 @@
 -- A line of a file with sections, as upsd.users(5) and ups.conf(5) have them.
-use Rattle.std.specs.Prelude.{ℕ, Bool, true, false, ◌==◌, List, [], ◌∷◌, codes, Option, None, Some, if◌then◌else◌}
+use Rattle.std.specs.Prelude.{ℕ, Bool, true, false, ◌==◌, List, [], ◌∷◌, codes, Option, None, Some}
+use Rattle.std.specs.Prelude.{if◌then◌else◌}
 use Rattle.std.specs.Option.{option_map, option_map_or}
 use Rattle.std.specs.Str.{bytes_eq}
 use Rattle.nutwords.specs.Text.{is_silent}
@@ -36,14 +37,18 @@ abbrev pub section_or_malformed : Option (List ℕ) → ConfigLine
 section_or_malformed None = malformed
 section_or_malformed (Some name) = section name
 
--- The line that these words are: one word a section, three a setting, two the role of a user's upsmon.
+-- The line that these words are: one word a section, three a setting, two the role of a user's
+-- upsmon.
 abbrev pub config_line_of : List (List ℕ) → ConfigLine
 config_line_of [] = malformed
 config_line_of (word ∷ []) = section_or_malformed (name_in_brackets word)
-config_line_of (first ∷ role ∷ []) = if bytes_eq first (codes "upsmon") then upsmon role else malformed
-config_line_of (key ∷ equals ∷ value ∷ []) = if bytes_eq equals (codes "=") then setting key value else malformed
+config_line_of (first ∷ role ∷ []) =
+    if bytes_eq first (codes "upsmon") then upsmon role else malformed
+config_line_of (key ∷ equals ∷ value ∷ []) =
+    if bytes_eq equals (codes "=") then setting key value else malformed
 config_line_of (first ∷ second ∷ third ∷ fourth ∷ words) = malformed
 
 -- A line of such a file, without its LF.
 abbrev pub read_config_line : List ℕ → ConfigLine
-read_config_line line = if is_silent line then silent else option_map_or config_line_of (words_in line) malformed
+read_config_line line =
+    if is_silent line then silent else option_map_or config_line_of (words_in line) malformed

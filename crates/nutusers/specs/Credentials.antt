@@ -1,4 +1,5 @@
--- The user name and the password that a client gives (RFC 9271: USERNAME, PASSWORD), as they are read.
+-- The user name and the password that a client gives (RFC 9271: USERNAME, PASSWORD), as they are
+-- read.
 use Rattle.std.specs.Prelude.{ℕ, List, Option, Some, None, if◌then◌else◌}
 use Rattle.nutusers.specs.Texts.{is_text_within}
 use Rattle.nutusers.specs.declared.limits.TheConstants.{USER_NAME_LIMIT, PASSWORD_LIMIT}

@@ -1,5 +1,6 @@
 -- The file of descriptions (NUT's cmdvartab).
-use Rattle.std.specs.Prelude.{ℕ, Bool, true, false, not, List, [], ◌∷◌, map, codes, is_some, Option, None, Some, if◌then◌else◌}
+use Rattle.std.specs.Prelude.{ℕ, Bool, true, false, not, List, [], ◌∷◌, map, codes, is_some, Option}
+use Rattle.std.specs.Prelude.{None, Some, if◌then◌else◌}
 use Rattle.std.specs.BTreeMap.{insert_entry}
 use Rattle.std.specs.Option.{option_map_or}
 use Rattle.std.specs.Str.{bytes_eq}
@@ -11,7 +12,8 @@ use Rattle.nutusers.specs.Line.{words_in}
 use Rattle.nutwords.specs.NameOrder.{byte_order}
 use Rattle.nutusers.specs.Texts.{is_description}
 use Rattle.nutusers.specs.declared.fault.Cause.{Cause}
-use Rattle.nutusers.specs.declared.fault.Cause.TheVariants.{Malformed, BadName, Duplicate, UnknownKey}
+use Rattle.nutusers.specs.declared.fault.Cause.TheVariants.{Malformed, BadName, Duplicate}
+use Rattle.nutusers.specs.declared.fault.Cause.TheVariants.{UnknownKey}
 
 -- silent: it says nothing. entry: three words, of which the first says what is described.
 pub data TableLine : Type 0 where
@@ -28,18 +30,26 @@ table_line_of (kind ∷ name ∷ text ∷ fourth ∷ words) = malformed
 
 -- A line of the file, without its LF.
 abbrev pub read_table_line : List ℕ → TableLine
-read_table_line line = if is_silent line then silent else option_map_or table_line_of (words_in line) malformed
+read_table_line line =
+    if is_silent line then silent else option_map_or table_line_of (words_in line) malformed
 
--- What the lines of a kind say: each name has its line's text. The lines are listed from the last to the first.
+-- What the lines of a kind say: each name has its line's text. The lines are listed from the last
+-- to the first.
 abbrev pub texts_of : List ℕ → List TableLine → Texts
 texts_of kind [] = []
 texts_of kind (silent ∷ earlier) = texts_of kind earlier
 texts_of kind (malformed ∷ earlier) = texts_of kind earlier
-texts_of kind (entry word name text ∷ earlier) = if bytes_eq word kind then insert_entry byte_order (texts_of kind earlier) name text else texts_of kind earlier
+texts_of kind (entry word name text ∷ earlier) =
+    if bytes_eq word kind then insert_entry byte_order (texts_of kind earlier) name text
+    else texts_of kind earlier
 
 -- The descriptions that some lines mean. The lines are listed from the last to the first.
 abbrev pub descriptions_of : List (List ℕ) → Descriptions
-descriptions_of lines = record { vars = texts_of (codes "VARDESC") (map read_table_line lines); cmds = texts_of (codes "CMDDESC") (map read_table_line lines) }
+descriptions_of lines =
+    record {
+      vars = texts_of (codes "VARDESC") (map read_table_line lines);
+      cmds = texts_of (codes "CMDDESC") (map read_table_line lines);
+    }
 
 -- Why a text is refused beside the earlier ones of its kind.
 abbrev pub text_fault : Texts → List ℕ → List ℕ → Option Cause

@@ -1,4 +1,5 @@
--- What one more line makes of the descriptions read so far, computed. That they are those of all lines is what `Descriptions::read` ensures.
+-- What one more line makes of the descriptions read so far, computed. That they are those of all
+-- lines is what `Descriptions::read` ensures.
 use Rattle.std.specs.Prelude.{ℕ, List, codes, if◌then◌else◌}
 use Rattle.std.specs.BTreeMap.{insert_entry}
 use Rattle.std.specs.Str.{bytes_eq}
@@ -17,9 +18,14 @@ table_line_given (Entry kind name text) = entry (bytes_of kind) (bytes_of name) 
 
 -- a text more, if the line is of this kind
 abbrev pub texts_with : List ℕ → Texts → List ℕ → List ℕ → List ℕ → Texts
-texts_with wanted texts kind name text = if bytes_eq kind wanted then insert_entry byte_order texts name text else texts
+texts_with wanted texts kind name text =
+    if bytes_eq kind wanted then insert_entry byte_order texts name text else texts
 
 abbrev pub descriptions_with : Descriptions → TableLine → Descriptions
 descriptions_with d silent = d
 descriptions_with d malformed = d
-descriptions_with d (entry kind name text) = record { vars = texts_with (codes "VARDESC") d.vars kind name text; cmds = texts_with (codes "CMDDESC") d.cmds kind name text }
+descriptions_with d (entry kind name text) =
+    record {
+      vars = texts_with (codes "VARDESC") d.vars kind name text;
+      cmds = texts_with (codes "CMDDESC") d.cmds kind name text;
+    }

@@ -1,7 +1,10 @@
--- A file as the list of its lines, and which of them is refused. The lines are those of the whole text.
-use Rattle.std.specs.Prelude.{◌≡◌, ℕ, ◌+◌, Bool, true, List, [], ◌∷◌, ◌++◌, length, reverse, Option, None, Some, if◌then◌else◌}
+-- A file as the list of its lines, and which of them is refused. The lines are those of the whole
+-- text.
+use Rattle.std.specs.Prelude.{◌≡◌, ℕ, ◌+◌, Bool, true, List, [], ◌∷◌, ◌++◌, length, reverse, Option}
+use Rattle.std.specs.Prelude.{None, Some, if◌then◌else◌}
 use Rattle.nutusers.specs.declared.fault.Cause.{Cause}
-use Rattle.nutusers.specs.declared.fault.Cause.TheVariants.{Malformed, OutsideSection, BadName, Duplicate, UnknownKey, BadValue, Memory}
+use Rattle.nutusers.specs.declared.fault.Cause.TheVariants.{Malformed, OutsideSection, BadName}
+use Rattle.nutusers.specs.declared.fault.Cause.TheVariants.{Duplicate, UnknownKey, BadValue, Memory}
 use Rattle.nutusers.specs.declared.fault.ConfFault.{ConfFault}
 
 -- A cause's number.
@@ -14,7 +17,8 @@ number_of_cause UnknownKey = 5
 number_of_cause BadValue = 6
 number_of_cause Memory = 7
 
--- What a format says of a line that stands after earlier ones: why it is refused, if it is. The earlier lines are listed from the last to the first, here and below.
+-- What a format says of a line that stands after earlier ones: why it is refused, if it is. The
+-- earlier lines are listed from the last to the first, here and below.
 abbrev pub Format : Type 0
 Format = List (List ℕ) → List ℕ → Option Cause
 
@@ -23,7 +27,8 @@ abbrev pub AreAccepted : Format → List (List ℕ) → Type 0
 AreAccepted format [] = Unit {0}
 AreAccepted format (line ∷ earlier) = (format earlier line ≡ None) × AreAccepted format earlier
 
--- What the format says of a line that is refused for this cause. Memory is refused at lines that the format accepts.
+-- What the format says of a line that is refused for this cause. Memory is refused at lines that
+-- the format accepts.
 abbrev pub verdict_of : Cause → Option Cause
 verdict_of Memory = None
 verdict_of cause = Some cause
@@ -32,8 +37,10 @@ verdict_of cause = Some cause
 abbrev pub bad_value_unless : Bool → Option Cause
 bad_value_unless lawful = if lawful then None else Some BadValue
 
--- The file is refused at the first line that the format refuses, and for its cause; or out of memory at a line that adds something, which is accepted, as all before it are.
-pub record IsRefused (format : Format) (adds : List ℕ → Bool) (lines : List (List ℕ)) (fault : ConfFault) : Type 0 where
+-- The file is refused at the first line that the format refuses, and for its cause; or out of
+-- memory at a line that adds something, which is accepted, as all before it are.
+pub record IsRefused (format : Format) (adds : List ℕ → Bool) (lines : List (List ℕ))
+    (fault : ConfFault) : Type 0 where
   pub earlier : List (List ℕ)
   pub line : List ℕ
   pub later : List (List ℕ)
@@ -44,6 +51,7 @@ pub record IsRefused (format : Format) (adds : List ℕ → Bool) (lines : List 
   pub memory : fault.cause ≡ Memory → adds line ≡ true
 
 -- The file means this: each of its lines is accepted, and this is the meaning of them all.
-pub record Means (format : Format) {A : Type 0} (meaning : List (List ℕ) → A) (lines : List (List ℕ)) (value : A) : Type 0 where
+pub record Means (format : Format) {A : Type 0} (meaning : List (List ℕ) → A)
+    (lines : List (List ℕ)) (value : A) : Type 0 where
   pub accepted : AreAccepted format (reverse lines)
   pub value_is : value ≡ meaning (reverse lines)

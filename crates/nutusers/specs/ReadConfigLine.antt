@@ -2,7 +2,8 @@
 use Rattle.nutwords.specs.Word.{bytes_of}
 use Rattle.nutusers.specs.ConfigLine.{ConfigLine, silent, malformed, section, setting, upsmon}
 use Rattle.nutusers.specs.declared.config_line.ConfigLine.{ConfigLine as Given}
-use Rattle.nutusers.specs.declared.config_line.ConfigLine.TheVariants.{Silent, Malformed, Section, Setting, Upsmon}
+use Rattle.nutusers.specs.declared.config_line.ConfigLine.TheVariants.{Silent, Malformed, Section}
+use Rattle.nutusers.specs.declared.config_line.ConfigLine.TheVariants.{Setting, Upsmon}
 
 -- The line by the bytes of its words.
 abbrev pub line_given : Given → ConfigLine

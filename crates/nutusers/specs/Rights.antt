@@ -6,9 +6,12 @@ use Rattle.nutusers.specs.ConfigLine.{ConfigLine, silent, malformed, section, se
 use Rattle.nutusers.specs.declared.rights.Right.{Right}
 use Rattle.nutusers.specs.declared.rights.Right.TheVariants.{Login, Primary, Fsd, Set, Instcmd}
 use Rattle.nutusers.specs.declared.rights.Grant.{Grant}
-use Rattle.nutusers.specs.declared.rights.Grant.TheVariants.{UpsmonSecondary, UpsmonPrimary, ActionSet, ActionFsd, Command, EveryCommand}
+use Rattle.nutusers.specs.declared.rights.Grant.TheVariants.{UpsmonSecondary, UpsmonPrimary}
+use Rattle.nutusers.specs.declared.rights.Grant.TheVariants.{ActionSet, ActionFsd, Command}
+use Rattle.nutusers.specs.declared.rights.Grant.TheVariants.{EveryCommand}
 
--- The rights that each grant gives. A command that is granted is this one, byte by byte; every one may be sent under `ALL`, whatever its bytes.
+-- The rights that each grant gives. A command that is granted is this one, byte by byte; every one
+-- may be sent under `ALL`, whatever its bytes.
 abbrev pub gives : Grant → Right → Bool
 gives UpsmonSecondary Login = true
 gives UpsmonSecondary _ = false
@@ -27,20 +30,28 @@ gives EveryCommand _ = false
 
 -- `upsmon primary` and `upsmon secondary`.
 abbrev pub role_grant : List ℕ → Option Grant
-role_grant role = if bytes_eq role (codes "primary") then Some UpsmonPrimary else if bytes_eq role (codes "secondary") then Some UpsmonSecondary else None
+role_grant role =
+    if bytes_eq role (codes "primary") then Some UpsmonPrimary
+    else if bytes_eq role (codes "secondary") then Some UpsmonSecondary else None
 
 -- `actions = SET` and `actions = FSD`.
 abbrev pub action_grant : List ℕ → Option Grant
-action_grant value = if bytes_eq value (codes "SET") then Some ActionSet else if bytes_eq value (codes "FSD") then Some ActionFsd else None
+action_grant value =
+    if bytes_eq value (codes "SET") then Some ActionSet else if bytes_eq value (codes "FSD")
+    then Some ActionFsd else None
 
 -- `instcmds = ALL`, and the name of a command.
 abbrev pub command_grant : List ℕ → Option Grant
-command_grant value = if bytes_eq value (codes "ALL") then Some EveryCommand else if is_name value then Some (Command value) else None
+command_grant value =
+    if bytes_eq value (codes "ALL") then Some EveryCommand else if is_name value
+    then Some (Command value) else None
 
 -- What a line grants to the user of its section.
 abbrev pub grant_of : ConfigLine → Option Grant
 grant_of silent = None
 grant_of malformed = None
 grant_of (section name) = None
-grant_of (setting key value) = if bytes_eq key (codes "actions") then action_grant value else if bytes_eq key (codes "instcmds") then command_grant value else None
+grant_of (setting key value) =
+    if bytes_eq key (codes "actions") then action_grant value
+    else if bytes_eq key (codes "instcmds") then command_grant value else None
 grant_of (upsmon role) = role_grant role

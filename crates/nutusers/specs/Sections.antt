@@ -1,5 +1,6 @@
 -- The sections of a file.
-use Rattle.std.specs.Prelude.{ℕ, ◌-◌, List, [], ◌∷◌, length, slice_get, Option, None, Some, if◌then◌else◌}
+use Rattle.std.specs.Prelude.{ℕ, ◌-◌, List, [], ◌∷◌, length, slice_get, Option, None, Some}
+use Rattle.std.specs.Prelude.{if◌then◌else◌}
 use Rattle.std.specs.Option.{option_or}
 use Rattle.std.specs.Str.{bytes_eq}
 use Rattle.nutusers.specs.ConfigLine.{ConfigLine, silent, malformed, section, setting, upsmon}
@@ -7,11 +8,13 @@ use Rattle.nutusers.specs.declared.fault.Cause.{Cause}
 use Rattle.nutusers.specs.declared.fault.Cause.TheVariants.{OutsideSection}
 
 -- A line more in the last section, if there is one.
-abbrev pub with_last_line : ConfigLine → List (List ℕ × List ConfigLine) → List (List ℕ × List ConfigLine)
+abbrev pub with_last_line : ConfigLine → List (List ℕ × List ConfigLine)
+    → List (List ℕ × List ConfigLine)
 with_last_line line [] = []
 with_last_line line ((name, lines) ∷ before) = (name, line ∷ lines) ∷ before
 
--- The sections of some lines, by name, each with its lines: a line belongs to the last section line before it. All are listed from the last to the first.
+-- The sections of some lines, by name, each with its lines: a line belongs to the last section line
+-- before it. All are listed from the last to the first.
 abbrev pub sections : List ConfigLine → List (List ℕ × List ConfigLine)
 sections [] = []
 sections (section name ∷ earlier) = (name, []) ∷ sections earlier

@@ -1,5 +1,7 @@
--- What one more line makes of the sections read so far, computed. That they are those of all lines is what the readers ensure.
-use Rattle.std.specs.Prelude.{ℕ, List, [], ◌∷◌, ◌++◌, ◌-◌, length, slice_set, Option, None, Some, Result, Ok, Err}
+-- What one more line makes of the sections read so far, computed. That they are those of all lines
+-- is what the readers ensure.
+use Rattle.std.specs.Prelude.{ℕ, List, [], ◌∷◌, ◌++◌, ◌-◌, length, slice_set, Option, None, Some}
+use Rattle.std.specs.Prelude.{Result, Ok, Err}
 use Rattle.nutusers.specs.ConfigLine.{ConfigLine, silent, malformed, section, setting, upsmon}
 use Rattle.nutusers.specs.File.{verdict_of}
 use Rattle.nutusers.specs.Sections.{last_of}

@@ -1,8 +1,10 @@
 -- The list of UPSs (ups.conf(5), of which upsd reads the names, the descriptions and the sockets).
-use Rattle.std.specs.Prelude.{ℕ, Bool, ◌&&◌, not, List, map, reverse, length, codes, nat_le, is_some, All, IsPermutation, Option, None, Some, if◌then◌else◌}
+use Rattle.std.specs.Prelude.{ℕ, Bool, ◌&&◌, not, List, map, reverse, length, codes, nat_le}
+use Rattle.std.specs.Prelude.{is_some, All, IsPermutation, Option, None, Some, if◌then◌else◌}
 use Rattle.std.specs.Str.{bytes_eq, is_utf8}
 use Rattle.nutwords.specs.Reading.{is_ups_name}
-use Rattle.nutusers.specs.ConfigLine.{ConfigLine, silent, malformed, section, setting, upsmon, is_section, read_config_line}
+use Rattle.nutusers.specs.ConfigLine.{ConfigLine, silent, malformed, section, setting, upsmon}
+use Rattle.nutusers.specs.ConfigLine.{is_section, read_config_line}
 use Rattle.nutusers.specs.File.{Format, AreAccepted, bad_value_unless}
 use Rattle.nutusers.specs.Sections.{sections, value_in, last_of, in_section}
 use Rattle.nutusers.specs.Texts.{is_text_within, is_description}
@@ -10,13 +12,20 @@ use Rattle.nutusers.specs.UpsList.{IsLawfulUps, AreByName, ups_named}
 pub use Rattle.nutusers.specs.UpsList.{Ups, new_ups, place_of, id_at}
 use Rattle.nutusers.specs.declared.limits.TheConstants.{UPS_LIMIT, SOCKET_LIMIT}
 use Rattle.nutusers.specs.declared.fault.Cause.{Cause}
-use Rattle.nutusers.specs.declared.fault.Cause.TheVariants.{Malformed, BadName, Duplicate, UnknownKey}
+use Rattle.nutusers.specs.declared.fault.Cause.TheVariants.{Malformed, BadName, Duplicate}
+use Rattle.nutusers.specs.declared.fault.Cause.TheVariants.{UnknownKey}
 
 -- The UPS of a section.
 abbrev pub ups_of : List ℕ × List ConfigLine → Ups
-ups_of (name, lines) = record { name = name; desc = value_in (codes "desc") lines; socket = value_in (codes "socket") lines }
+ups_of (name, lines) =
+    record {
+      name = name;
+      desc = value_in (codes "desc") lines;
+      socket = value_in (codes "socket") lines;
+    }
 
--- The UPSs that some lines mean, in the order of their sections. The lines are listed from the last to the first.
+-- The UPSs that some lines mean, in the order of their sections. The lines are listed from the last
+-- to the first.
 abbrev pub upses_of : List (List ℕ) → List Ups
 upses_of lines = reverse (map ups_of (sections (map read_config_line lines)))
 
@@ -33,10 +42,12 @@ ups_section_fault upses name =
 
 -- Why a description, and why a socket, is refused in the section of this UPS.
 abbrev pub desc_fault : List ℕ → Ups → Option Cause
-desc_fault value ups = if is_some ups.desc then Some Duplicate else bad_value_unless (is_description value)
+desc_fault value ups =
+    if is_some ups.desc then Some Duplicate else bad_value_unless (is_description value)
 
 abbrev pub socket_fault : List ℕ → Ups → Option Cause
-socket_fault value ups = if is_some ups.socket then Some Duplicate else bad_value_unless (is_socket value)
+socket_fault value ups =
+    if is_some ups.socket then Some Duplicate else bad_value_unless (is_socket value)
 
 -- Why `key = value` is refused in the section of this UPS.
 abbrev pub ups_setting_fault : List ℕ → List ℕ → Ups → Option Cause
@@ -60,7 +71,8 @@ ups_format earlier line = ups_line_fault (upses_of earlier) (read_config_line li
 abbrev pub adds_ups : List ℕ → Bool
 adds_ups line = is_section (read_config_line line)
 
--- The file means this list: each of its lines is accepted, and the list has exactly its UPSs, by name.
+-- The file means this list: each of its lines is accepted, and the list has exactly its UPSs, by
+-- name.
 pub record IsUpsList (lines : List (List ℕ)) (list : List Ups) : Type 0 where
   pub accepted : AreAccepted ups_format (reverse lines)
   pub same : IsPermutation (upses_of (reverse lines)) list
@@ -68,4 +80,5 @@ pub record IsUpsList (lines : List (List ℕ)) (list : List Ups) : Type 0 where
 
 -- Each UPS of a list that a file means is lawful.
 abbrev pub EachUpsThatIsReadIsLawful : Type 0
-EachUpsThatIsReadIsLawful = (lines : List (List ℕ)) (list : List Ups) → IsUpsList lines list → All IsLawfulUps list
+EachUpsThatIsReadIsLawful =
+    (lines : List (List ℕ)) (list : List Ups) → IsUpsList lines list → All IsLawfulUps list

@@ -8,7 +8,8 @@ use Rattle.nutusers.specs.Texts.{is_description}
 use Rattle.nutusers.specs.declared.limits.TheConstants.{UPS_LIMIT}
 use Rattle.nutusers.specs.declared.ups_list.UpsId.{UpsId}
 
--- A UPS: its name, its description if the file has one, and the path of its driver's socket if the file has one.
+-- A UPS: its name, its description if the file has one, and the path of its driver's socket if the
+-- file has one.
 pub record Ups : Type 0 where
   pub name : List ℕ
   pub desc : Option (List ℕ)

@@ -8,7 +8,12 @@ use Rattle.nutusers.specs.UpsList.{Ups, new_ups}
 
 -- the UPS with a line more
 abbrev pub with_ups_line : ConfigLine → Ups → Ups
-with_ups_line line ups = record { name = ups.name; desc = option_or (value_of (codes "desc") line) ups.desc; socket = option_or (value_of (codes "socket") line) ups.socket }
+with_ups_line line ups =
+    record {
+      name = ups.name;
+      desc = option_or (value_of (codes "desc") line) ups.desc;
+      socket = option_or (value_of (codes "socket") line) ups.socket;
+    }
 
 abbrev pub upses_with : List Ups → ConfigLine → List Ups
 upses_with = sections_with new_ups with_ups_line

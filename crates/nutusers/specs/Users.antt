@@ -29,4 +29,6 @@ has_password (Some password) given = bytes_eq password given
 -- The user is there, has a password, gives it, and has been granted the right.
 abbrev pub may : List User → List ℕ → List ℕ → Right → Bool
 may users name password right =
-    option_map_or (λ user. has_password user.password password && list_any (λ grant. gives grant right) user.grants) (user_named name users) false
+    option_map_or
+    (λ user. has_password user.password password
+    && list_any (λ grant. gives grant right) user.grants) (user_named name users) false

@@ -1,8 +1,10 @@
 -- The file of users (upsd.users(5)).
-use Rattle.std.specs.Prelude.{ℕ, Bool, ◌||◌, not, List, map, reverse, codes, is_some, Option, None, Some, if◌then◌else◌}
+use Rattle.std.specs.Prelude.{ℕ, Bool, ◌||◌, not, List, map, reverse, codes, is_some, Option, None}
+use Rattle.std.specs.Prelude.{Some, if◌then◌else◌}
 use Rattle.std.specs.List.{filter_map}
 use Rattle.std.specs.Str.{bytes_eq}
-use Rattle.nutusers.specs.ConfigLine.{ConfigLine, silent, malformed, section, setting, upsmon, is_section, read_config_line}
+use Rattle.nutusers.specs.ConfigLine.{ConfigLine, silent, malformed, section, setting, upsmon}
+use Rattle.nutusers.specs.ConfigLine.{is_section, read_config_line}
 use Rattle.nutusers.specs.File.{Format, bad_value_unless}
 use Rattle.nutusers.specs.Rights.{grant_of, role_grant, action_grant, command_grant}
 use Rattle.nutusers.specs.Sections.{sections, value_in, last_of, in_section}
@@ -11,13 +13,20 @@ use Rattle.nutusers.specs.Users.{user_named}
 pub use Rattle.nutusers.specs.Users.{User}
 use Rattle.nutusers.specs.declared.limits.TheConstants.{USER_NAME_LIMIT, PASSWORD_LIMIT}
 use Rattle.nutusers.specs.declared.fault.Cause.{Cause}
-use Rattle.nutusers.specs.declared.fault.Cause.TheVariants.{Malformed, BadName, Duplicate, UnknownKey}
+use Rattle.nutusers.specs.declared.fault.Cause.TheVariants.{Malformed, BadName, Duplicate}
+use Rattle.nutusers.specs.declared.fault.Cause.TheVariants.{UnknownKey}
 
 -- The user of a section.
 abbrev pub user_of : List ℕ × List ConfigLine → User
-user_of (name, lines) = record { name = name; password = value_in (codes "password") lines; grants = reverse (filter_map grant_of lines) }
+user_of (name, lines) =
+    record {
+      name = name;
+      password = value_in (codes "password") lines;
+      grants = reverse (filter_map grant_of lines);
+    }
 
--- The users that some lines mean, in the order of their sections. The lines are listed from the last to the first.
+-- The users that some lines mean, in the order of their sections. The lines are listed from the
+-- last to the first.
 abbrev pub users_of : List (List ℕ) → List User
 users_of lines = reverse (map user_of (sections (map read_config_line lines)))
 
@@ -30,7 +39,9 @@ section_fault users name =
 
 -- Why a password is refused in the section of this user.
 abbrev pub password_fault : List ℕ → User → Option Cause
-password_fault value user = if is_some user.password then Some Duplicate else bad_value_unless (is_text_within PASSWORD_LIMIT value)
+password_fault value user =
+    if is_some user.password then Some Duplicate
+    else bad_value_unless (is_text_within PASSWORD_LIMIT value)
 
 -- Why `key = value` is refused in the section of this user.
 abbrev pub setting_fault : List ℕ → List ℕ → User → Option Cause
@@ -46,7 +57,8 @@ user_line_fault users silent = None
 user_line_fault users malformed = Some Malformed
 user_line_fault users (section name) = section_fault users name
 user_line_fault users (setting key value) = in_section (setting_fault key value) (last_of users)
-user_line_fault users (upsmon role) = in_section (λ user. bad_value_unless (is_some (role_grant role))) (last_of users)
+user_line_fault users (upsmon role) =
+    in_section (λ user. bad_value_unless (is_some (role_grant role))) (last_of users)
 
 abbrev pub users_format : Format
 users_format earlier line = user_line_fault (users_of earlier) (read_config_line line)

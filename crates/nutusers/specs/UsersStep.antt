@@ -17,7 +17,12 @@ with_grant (Some grant) grants = grants ++ grant ∷ []
 
 -- the user with a line more
 abbrev pub with_user_line : ConfigLine → User → User
-with_user_line line user = record { name = user.name; password = option_or (value_of (codes "password") line) user.password; grants = with_grant (grant_of line) user.grants }
+with_user_line line user =
+    record {
+      name = user.name;
+      password = option_or (value_of (codes "password") line) user.password;
+      grants = with_grant (grant_of line) user.grants;
+    }
 
 abbrev pub users_with : List User → ConfigLine → List User
 users_with = sections_with new_user with_user_line

@@ -1,11 +1,14 @@
 -- What is wrong with a line that doesn't read as words (this profile's own).
-use Rattle.std.specs.Prelude.{◌≡◌, ℕ, ◌<◌, ◌+◌, List, [], ◌∷◌, ◌++◌, length, take, slice_index, IsTrue}
+use Rattle.std.specs.Prelude.{◌≡◌, ℕ, ◌<◌, ◌+◌, List, [], ◌∷◌, ◌++◌, length, take, slice_index}
+use Rattle.std.specs.Prelude.{IsTrue}
 use Rattle.nutwords.specs.Bytes.{is_lawful, is_quotable, is_bare}
 use Rattle.nutwords.specs.Grammar.{Units, IsBareWord, IsQuotedWord, Reads, ReadsToBoundary}
 use Rattle.nutwords.specs.declared.faults.BadLine.{BadLine}
-use Rattle.nutwords.specs.declared.faults.BadLine.TheVariants.{ControlByte, OpenQuote, QuoteInside, AfterQuote, LoneBackslash}
+use Rattle.nutwords.specs.declared.faults.BadLine.TheVariants.{ControlByte, OpenQuote, QuoteInside}
+use Rattle.nutwords.specs.declared.faults.BadLine.TheVariants.{AfterQuote, LoneBackslash}
 
--- A fault's number: 1 a byte that isn't lawful, 2 an open quote at the end, 3 a quote inside a bare word, 4 a byte after a closing quote, 5 a lone backslash at the end.
+-- A fault's number: 1 a byte that isn't lawful, 2 an open quote at the end, 3 a quote inside a bare
+-- word, 4 a byte after a closing quote, 5 a lone backslash at the end.
 abbrev pub number_of : BadLine → ℕ
 number_of ControlByte = 1
 number_of OpenQuote = 2
@@ -43,15 +46,19 @@ EndsInQuotedWord = EndsIn IsQuotedWord
 
 -- After an opening quote that isn't closed yet.
 abbrev pub EndsInOpenQuote : List ℕ → Type 0
-EndsInOpenQuote = EndsIn (λ part word. (inside : List ℕ) × Units is_quotable inside word × (part ≡ 34 ∷ inside))
+EndsInOpenQuote =
+    EndsIn (λ part word. (inside : List ℕ) × Units is_quotable inside word × (part ≡ 34 ∷ inside))
 
 -- Right after a backslash that isn't itself escaped, in a bare word.
 abbrev pub EndsInBareBackslash : List ℕ → Type 0
-EndsInBareBackslash = EndsIn (λ part word. (units : List ℕ) × Units is_bare units word × (part ≡ units ++ 92 ∷ []))
+EndsInBareBackslash =
+    EndsIn (λ part word. (units : List ℕ) × Units is_bare units word × (part ≡ units ++ 92 ∷ []))
 
 -- The same in quotes.
 abbrev pub EndsInQuotedBackslash : List ℕ → Type 0
-EndsInQuotedBackslash = EndsIn (λ part word. (units : List ℕ) × Units is_quotable units word × (part ≡ 34 ∷ (units ++ 92 ∷ [])))
+EndsInQuotedBackslash =
+    EndsIn (λ part word. (units : List ℕ) × Units is_quotable units word
+    × (part ≡ 34 ∷ (units ++ 92 ∷ [])))
 
 -- The fault of a byte that can't stand after these bytes.
 pub data IsByteFault (front : List ℕ) (b : ℕ) : BadLine → Type 0 where
@@ -65,7 +72,10 @@ pub data IsEndFault (line : List ℕ) : BadLine → Type 0 where
   quoted_backslash : EndsInQuotedBackslash line → IsEndFault line LoneBackslash
   open_quote : EndsInOpenQuote line → IsEndFault line OpenQuote
 
--- The fault of a line: that of the leftmost byte that can't stand where it is, else that of its end.
+-- The fault of a line: that of the leftmost byte that can't stand where it is, else that of its
+-- end.
 pub data IsFault (line : List ℕ) (fault : BadLine) : Type 0 where
-  at_byte : (place : ℕ) → IsFirstBad line place → IsByteFault (take place line) (slice_index line place) fault → IsFault line fault
-  at_end : Begins line → ((words : List (List ℕ)) → Reads line words → ⊥) → IsEndFault line fault → IsFault line fault
+  at_byte : (place : ℕ) → IsFirstBad line place
+      → IsByteFault (take place line) (slice_index line place) fault → IsFault line fault
+  at_end : Begins line → ((words : List (List ℕ)) → Reads line words → ⊥) → IsEndFault line fault
+      → IsFault line fault

@@ -11,7 +11,8 @@ byte_order = slice_cmp nat_cmp
 
 -- The beginning of a name comes before the name.
 abbrev pub BeginningsComeFirst : Type 0
-BeginningsComeFirst = (name : List ℕ) (next : ℕ) (more : List ℕ) → byte_order name (name ++ next ∷ more) ≡ Less
+BeginningsComeFirst =
+    (name : List ℕ) (next : ℕ) (more : List ℕ) → byte_order name (name ++ next ∷ more) ≡ Less
 
 -- Names are equal in the order only where they have the same bytes.
 abbrev pub EqualsAreSame : Type 0

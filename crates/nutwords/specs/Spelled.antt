@@ -7,7 +7,8 @@ use Rattle.nutwords.specs.Split.{unescaped}
 use Rattle.nutwords.specs.declared.word.Word.{Word}
 use Rattle.nutwords.specs.declared.word.Word.TheVariants.{Plain, Unescaped}
 
--- The word that is spelled so: a backslash is left out, and the byte after it is taken as it is (NUT's parseconf).
+-- The word that is spelled so: a backslash is left out, and the byte after it is taken as it is
+-- (NUT's parseconf).
 abbrev pub spelled : List ℕ → List ℕ
 spelled text = unescaped text false
 

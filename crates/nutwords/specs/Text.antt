@@ -1,5 +1,6 @@
 -- Texts that people write, as files and scripts: their lines, and which of them say nothing.
-use Rattle.std.specs.Prelude.{ℕ, Bool, true, not, find, ◌==◌, List, [], ◌∷◌, ◌++◌, Option, if◌then◌else◌}
+use Rattle.std.specs.Prelude.{ℕ, Bool, true, not, find, ◌==◌, List, [], ◌∷◌, ◌++◌, Option}
+use Rattle.std.specs.Prelude.{if◌then◌else◌}
 use Rattle.std.specs.Option.{option_map_or}
 use Rattle.nutwords.specs.Bytes.{is_blank}
 
@@ -21,6 +22,7 @@ lines_of (b ∷ bytes) = if b == 10 then [] ∷ lines_of bytes else in_first_lin
 abbrev pub first_mark : List ℕ → Option ℕ
 first_mark line = find (λ b. not (is_blank b)) line
 
--- The line says nothing: it is empty or blank, or a comment, whose first byte that isn't a blank is `#`.
+-- The line says nothing: it is empty or blank, or a comment, whose first byte that isn't a blank is
+-- `#`.
 abbrev pub is_silent : List ℕ → Bool
 is_silent line = option_map_or (λ b. b == 35) (first_mark line) true
