@@ -1,4 +1,4 @@
-use Rattle.std.proofs.Common.{◌≡◌, sym, ◌∙◌}
+use Rattle.std.proofs.Common.{sym, ◌∙◌}
 use Rattle.nutmap.proofs.Ordered.{insert_left, insert_middle, insert_right, one_rises, keys_stay_rising}
 use Rattle.nutmap.proofs.insert.+insert.Goals as goal
 

@@ -1,4 +1,4 @@
-use Rattle.std.proofs.Common.{◌≡◌, sym, ◌∙◌}
+use Rattle.std.proofs.Common.{sym, ◌∙◌}
 use Rattle.nutmap.proofs.Ordered.{remove_left, remove_middle, remove_right, rest_stays_rising}
 use Rattle.nutmap.proofs.remove.+remove.Goals as goal
 

@@ -1,4 +1,4 @@
-use Rattle.std.proofs.Common.{◌≡◌, sym, ◌∙◌, arith}
+use Rattle.std.proofs.Common.{sym, ◌∙◌, arith}
 use Rattle.nutmap.proofs.Heights.{cost_fits}
 use Rattle.nutmap.proofs.Lengths.{length-insert_new, length-insert_old}
 use Rattle.nutmap.proofs.map.Map.put.Goals as goal
