@@ -1,5 +1,5 @@
 -- The entries of trees that are joined in another way.
-use Rattle.std.proofs.Common.{◌≡◌, List, ◌∷◌, ◌++◌, sym, subst, append_assoc}
+use Rattle.std.proofs.Common.{◌≡◌, List, [], ◌∷◌, ◌++◌, drop, sym, subst, append_assoc}
 use Rattle.std.specs.declared.cmp.Ordering.{Ordering}
 use Rattle.nutmap.specs.Entries.{HasRisingKeys}
 use Rattle.nutmap.proofs.Ordered.{rising_left, rising_right, rising_tail}
@@ -15,25 +15,13 @@ module _ {K V : Type 0} where
     pub right_rises : (l : List (K × V)) (e : K × V) (r : List (K × V)) → HasRisingKeys R (l ++ e ∷ r) → HasRisingKeys R r
     right_rises l e r s = record { rising = rising_tail R e r (rising_right R l (e ∷ r) s.rising) }
 
+    pub rest_rises : (l m : List (K × V)) → HasRisingKeys R (l ++ m) → HasRisingKeys R (drop 1 l ++ m)
+    rest_rises [] m s = s
+    rest_rises (e ∷ l) m s = record { rising = rising_tail R e (l ++ m) s.rising }
+
     module _ (a : List (K × V)) (x : K × V) (ml : List (K × V)) (m : K × V) (mr : List (K × V)) (y : K × V) (b : List (K × V)) (s : HasRisingKeys R (a ++ x ∷ ((ml ++ m ∷ mr) ++ y ∷ b))) where
-      pub root_rises : HasRisingKeys R ((a ++ x ∷ ml) ++ m ∷ (mr ++ y ∷ b))
+      root_rises : HasRisingKeys R ((a ++ x ∷ ml) ++ m ∷ (mr ++ y ∷ b))
       root_rises = subst (λ (l : List (K × V)). HasRisingKeys R l) (sym (regroup a x ml m mr y b)) s
 
       pub left_node_rises : HasRisingKeys R (a ++ x ∷ ml)
       left_node_rises = left_rises (a ++ x ∷ ml) (m ∷ (mr ++ y ∷ b)) root_rises
-
-      pub right_node_rises : HasRisingKeys R (mr ++ y ∷ b)
-      right_node_rises = right_rises (a ++ x ∷ ml) m (mr ++ y ∷ b) root_rises
-
-  pub entries_stay : (a : List (K × V)) (x : K × V) (ml : List (K × V)) (m : K × V) (mr : List (K × V)) (y : K × V) (b : List (K × V)) → (a ++ x ∷ ml) ++ m ∷ (mr ++ y ∷ b) ≡ a ++ x ∷ ((ml ++ m ∷ mr) ++ y ∷ b)
-  entries_stay = regroup
-
-  module _ (R : K → K → Ordering) where
-    pub lower_right_rises : (x : List (K × V)) (j : K × V) (y : List (K × V)) (k : K × V) (z : List (K × V)) → HasRisingKeys R ((x ++ j ∷ y) ++ k ∷ z) → HasRisingKeys R (y ++ k ∷ z)
-    lower_right_rises x j y k z s = right_rises R x j (y ++ k ∷ z) (subst (λ (l : List (K × V)). HasRisingKeys R l) (append_assoc x (j ∷ y) (k ∷ z)) s)
-
-    pub lower_left_rises : (x : List (K × V)) (j : K × V) (y : List (K × V)) (k : K × V) (z : List (K × V)) → HasRisingKeys R (x ++ j ∷ (y ++ k ∷ z)) → HasRisingKeys R (x ++ j ∷ y)
-    lower_left_rises x j y k z s = left_rises R (x ++ j ∷ y) (k ∷ z) (subst (λ (l : List (K × V)). HasRisingKeys R l) (sym (append_assoc x (j ∷ y) (k ∷ z))) s)
-
-    pub tail_rises : (e : K × V) (m : List (K × V)) → HasRisingKeys R (e ∷ m) → HasRisingKeys R m
-    tail_rises e m s = record { rising = rising_tail R e m s.rising }

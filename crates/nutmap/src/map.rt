@@ -8,10 +8,10 @@ ghost use Rattle.nutmap.specs.Entries.{value_at, entry_after, entries_after, Has
 ghost use Rattle.nutmap.specs.Meter.{counted_up};
 
 use crate::find;
-use crate::insert::{self, Inserted};
+use crate::insert::insert;
 use crate::meter::Meter;
-use crate::remove::{self, Removed};
-use crate::tree::{Link, height, shared};
+use crate::remove::remove;
+use crate::tree::{Entry, Link, height, shared};
 use arrayvec::ArrayVec;
 use std::alloc::{AllocError, Global};
 use std::marker::Model;
@@ -69,7 +69,21 @@ impl<K: Ord + Drop, V: Drop> Map<K, V> {
     pub fn get(&self, key: &K) -> Option<&V>
         ensures { option_copied result ≡ value_at K.cmp self.now key.now }
     {
-        find::value(&self.root, key)
+        match find::value(&self.root, key) {
+            None => None,
+            Some(value) => Some(&**value),
+        }
+    }
+
+    // The same, shared.
+    fn held(&self, key: &K) -> Result<Option<Rc<V>>, AllocError>
+        ensures { IfOk result (λ held. option_map (λ v. v.value) held
+            ≡ value_at K.cmp self.now key.now) }
+    {
+        match find::value(&self.root, key) {
+            None => Ok(None),
+            Some(value) => Ok(Some(value.clone()?)),
+        }
     }
 
     /// The entry with the least key above `above`, or with the least key of all where that is `None`.
@@ -146,15 +160,32 @@ impl<K: Ord + Drop, V: Drop> Map<K, V> {
         ensures most { meter.new ≤ meter.old + most_nodes (length self.old) }
         ensures counted { OnOk result (counted_up meter.old ≤ meter.new) }
     {
-        // What the root says of the entries: their keys rise, and they are enough for its height.
+        // What the root says of the entries: their keys rise.
+        let _ = height(&self.root);
+        let entry = Entry::new(self.alloc, key, value)?;
+        self.put(&entry, meter)
+    }
+
+    // The same of an entry.
+    fn put(&mut self, entry: &Entry<K, V>, meter: &mut Meter) -> Result<Option<Rc<V>>, AllocError>
+        ensures before { IfOk result (λ before. option_map
+            (λ held. held.value) before ≡ value_at K.cmp self.old entry.now.key.value) }
+        ensures ok { OnOk result (self.new
+            ≡ insert_entry K.cmp self.old entry.now.key.value entry.now.value.value) }
+        ensures err { OnErr result (self.new ≡ self.old) }
+        ensures not_less { meter.old ≤ meter.new }
+        ensures most { meter.new ≤ meter.old + most_nodes (length self.old) }
+        ensures counted { OnOk result (counted_up meter.old ≤ meter.new) }
+    {
+        // What the root says of the entries: they are enough for its height.
         let _ = height(&self.root);
         if self.len == usize::MAX {
             return Err(AllocError);
         }
         let alloc = self.alloc;
-        let (key, value) = (Rc::new(alloc, key)?, Rc::new(alloc, value)?);
-        let Inserted { root, before } = insert::insert(alloc, &self.root, key, value, meter)?;
-        self.root = Some(root);
+        let before = self.held(&entry.key)?;
+        let root = insert(alloc, &self.root, entry, meter)?;
+        self.root = root;
         match before {
             None => {
                 self.len += 1;
@@ -186,10 +217,10 @@ impl<K: Ord + Drop, V: Drop> Map<K, V> {
     {
         // What the root says of the entries: their keys rise, and they are enough for its height.
         let _ = height(&self.root);
-        let removed = remove::remove(self.alloc, &self.root, key, meter)?;
-        let Some(Removed { rest, value }) = removed else {
+        let Some(value) = self.held(key)? else {
             return Ok(None);
         };
+        let rest = remove(self.alloc, &self.root, key, meter)?;
         self.root = rest;
         self.len -= 1;
         Ok(Some(value))

@@ -1,9 +1,0 @@
-use Rattle.std.proofs.Common.{◌≡◌, ◌+◌, max, arith}
-use Rattle.nutmap.specs.Tree.{height_of}
-use Rattle.nutmap.proofs.Heights.{node_tree}
-use Rattle.nutmap.proofs.tree.make_node.Goals as goal
-
-pub invariant_of-new : goal.invariant_of-new
-invariant_of-new g c =
-    let is : c.max-height.result + 1 ≡ max (height_of c.args.left) (height_of c.args.right) + 1 = omega (arith, c.max-height.ensures, c.height.ensures.height, c.height-2.ensures.height) in
-    node_tree g.K.Ord.cmp _ _ _ _ _ _ c.height.ensures.tree c.height-2.ensures.tree c.requires.rising c.requires.balanced is
