@@ -25,30 +25,48 @@ abbrev pub alone : DriverLine → List (List ℕ) → Result DriverLine DriverFa
 alone line [] = Ok line
 alone line (word ∷ words) = Err Malformed
 
--- The line that these words are: one case a first word.
-abbrev pub driver_line_of : List (List ℕ) → Result DriverLine DriverFault
-driver_line_of [] = Ok Blank
-driver_line_of (first ∷ words) =
+-- The lines of the driver's state: one case a first word, here and below.
+abbrev pub state_line : List ℕ → List (List ℕ) → Result DriverLine DriverFault
+state_line first words =
+    if is_word first (codes "DUMPDONE") then alone DumpDone words
+    else if is_word first (codes "DATAOK") then alone DataOk words
+    else if is_word first (codes "DATASTALE") then alone DataStale words
+    else if is_word first (codes "PONG") then alone Pong words
+    else Err Unknown
+
+-- Those of a command, and the ones above.
+abbrev pub command_line : List ℕ → List (List ℕ) → Result DriverLine DriverFault
+command_line first words =
+    if is_word first (codes "ADDCMD") then line_of (λ name. AddCmd name) (name_alone words)
+    else if is_word first (codes "DELCMD") then line_of (λ name. DelCmd name) (name_alone words)
+    else state_line first words
+
+-- Those of a variable's ranges, aux and flags, and the ones above.
+abbrev pub limit_line : List ℕ → List (List ℕ) → Result DriverLine DriverFault
+limit_line first words =
+    if is_word first (codes "ADDRANGE") then line_of (λ a. AddRange a.0 a.1) (name_and_range words)
+    else if is_word first (codes "DELRANGE")
+    then line_of (λ a. DelRange a.0 a.1) (name_and_range words)
+    else if is_word first (codes "SETAUX") then line_of (λ a. SetAux a.0 a.1) (name_and_aux words)
+    else if is_word first (codes "SETFLAGS")
+    then line_of (λ a. SetFlags a.0 a.1) (name_and_flags words)
+    else command_line first words
+
+-- Those of a variable's value and enum values, and the ones above: so all that there are.
+abbrev pub value_line : List ℕ → List (List ℕ) → Result DriverLine DriverFault
+value_line first words =
     if is_word first (codes "SETINFO") then line_of (λ a. SetInfo a.0 a.1) (name_and_value words)
     else if is_word first (codes "DELINFO") then line_of (λ name. DelInfo name) (name_alone words)
     else if is_word first (codes "ADDENUM")
     then line_of (λ a. AddEnum a.0 a.1) (name_and_value words)
     else if is_word first (codes "DELENUM")
     then line_of (λ a. DelEnum a.0 a.1) (name_and_value words)
-    else if is_word first (codes "ADDRANGE")
-    then line_of (λ a. AddRange a.0 a.1) (name_and_range words)
-    else if is_word first (codes "DELRANGE")
-    then line_of (λ a. DelRange a.0 a.1) (name_and_range words)
-    else if is_word first (codes "SETAUX") then line_of (λ a. SetAux a.0 a.1) (name_and_aux words)
-    else if is_word first (codes "SETFLAGS")
-    then line_of (λ a. SetFlags a.0 a.1) (name_and_flags words)
-    else if is_word first (codes "ADDCMD") then line_of (λ name. AddCmd name) (name_alone words)
-    else if is_word first (codes "DELCMD") then line_of (λ name. DelCmd name) (name_alone words)
-    else if is_word first (codes "DUMPDONE") then alone DumpDone words
-    else if is_word first (codes "DATAOK") then alone DataOk words
-    else if is_word first (codes "DATASTALE") then alone DataStale words
-    else if is_word first (codes "PONG") then alone Pong words
-    else Err Unknown
+    else limit_line first words
+
+-- The line that these words are.
+abbrev pub driver_line_of : List (List ℕ) → Result DriverLine DriverFault
+driver_line_of [] = Ok Blank
+driver_line_of (first ∷ words) = value_line first words
 
 abbrev pub driver_line_from : Result (List (List ℕ)) BadLine → Result DriverLine DriverFault
 driver_line_from (Err bad) = Err Malformed

@@ -6,10 +6,10 @@ mod arguments;
 
 use crate::{DriverFault, Flags, Range};
 use arguments::{name_alone, name_and_aux, name_and_flags, name_and_range, name_and_value};
-use nutwords::{Name, SpelledWords, Value, spelled_words};
+use nutwords::{Name, SpelledWord, SpelledWords, Value, spelled_words};
 
 /// A line of a driver.
-#[derive(Clone, Debug, PartialEq, Eq, Drop)]
+#[derive(Debug, PartialEq, Eq, Drop)]
 pub enum DriverLine {
     /// A line without words.
     Blank,
@@ -44,7 +44,8 @@ pub enum DriverLine {
 }
 
 impl DriverLine {
-    ghost use Rattle.nutdriver.specs.DriverLine.{read_driver_line, driver_line_of, alone};
+    ghost use Rattle.nutwords.specs.Spelled.{spelled};
+    ghost use Rattle.nutdriver.specs.DriverLine.{read_driver_line, driver_line_of, value_line, limit_line, command_line, state_line, alone};
 
     /// Reads a line without its LF, of at most 1,023 bytes. Takes no memory.
     ///
@@ -65,9 +66,16 @@ impl DriverLine {
     fn of(mut words: SpelledWords<'_>) -> Result<DriverLine, DriverFault>
         ensures { result ≡ driver_line_of words.entry }
     {
-        let Some(first) = words.next() else {
-            return Ok(DriverLine::Blank);
-        };
+        match words.next() {
+            Some(first) => DriverLine::of_value(&first, words),
+            None => Ok(DriverLine::Blank),
+        }
+    }
+
+    /// The line with this first word: one of a variable's value or enum values, or else of another kind.
+    fn of_value(first: &SpelledWord<'_>, words: SpelledWords<'_>) -> Result<DriverLine, DriverFault>
+        ensures { result ≡ value_line (spelled first.now) words.entry }
+    {
         if first.is_word(b"SETINFO") {
             let (name, value) = name_and_value(words)?;
             Ok(DriverLine::SetInfo(name, value))
@@ -80,7 +88,16 @@ impl DriverLine {
         } else if first.is_word(b"DELENUM") {
             let (name, value) = name_and_value(words)?;
             Ok(DriverLine::DelEnum(name, value))
-        } else if first.is_word(b"ADDRANGE") {
+        } else {
+            DriverLine::of_limit(first, words)
+        }
+    }
+
+    /// The line of a variable's ranges, aux or flags, or else of another kind.
+    fn of_limit(first: &SpelledWord<'_>, words: SpelledWords<'_>) -> Result<DriverLine, DriverFault>
+        ensures { result ≡ limit_line (spelled first.now) words.entry }
+    {
+        if first.is_word(b"ADDRANGE") {
             let (name, range) = name_and_range(words)?;
             Ok(DriverLine::AddRange(name, range))
         } else if first.is_word(b"DELRANGE") {
@@ -92,13 +109,34 @@ impl DriverLine {
         } else if first.is_word(b"SETFLAGS") {
             let (name, flags) = name_and_flags(words)?;
             Ok(DriverLine::SetFlags(name, flags))
-        } else if first.is_word(b"ADDCMD") {
+        } else {
+            DriverLine::of_command(first, words)
+        }
+    }
+
+    /// The line of a command, or else of the driver's state.
+    fn of_command(
+        first: &SpelledWord<'_>,
+        words: SpelledWords<'_>,
+    ) -> Result<DriverLine, DriverFault>
+        ensures { result ≡ command_line (spelled first.now) words.entry }
+    {
+        if first.is_word(b"ADDCMD") {
             let name = name_alone(words)?;
             Ok(DriverLine::AddCmd(name))
         } else if first.is_word(b"DELCMD") {
             let name = name_alone(words)?;
             Ok(DriverLine::DelCmd(name))
-        } else if first.is_word(b"DUMPDONE") {
+        } else {
+            DriverLine::of_state(first, words)
+        }
+    }
+
+    /// The line of the driver's state.
+    fn of_state(first: &SpelledWord<'_>, words: SpelledWords<'_>) -> Result<DriverLine, DriverFault>
+        ensures { result ≡ state_line (spelled first.now) words.entry }
+    {
+        if first.is_word(b"DUMPDONE") {
             DriverLine::DumpDone.alone(words)
         } else if first.is_word(b"DATAOK") {
             DriverLine::DataOk.alone(words)
