@@ -17,9 +17,9 @@ pub fn shuts(sockets: &Scripted, p: Peer) -> usize {
 pub fn bytes_taken(alloc: Global, sockets: &Scripted, p: Peer) -> Result<Vec<u8>> {
     let mut taken = Vec::new(alloc);
     for call in sockets.calls() {
-        if let Call::Wrote(q, bytes) = call {
+        if let Call::Wrote(q, offered, n) = call {
             if *q == p {
-                taken.extend_from_slice(bytes.as_slice())?;
+                taken.extend_from_slice(offered.as_slice().get(..*n).unwrap_or(&[]))?;
             }
         }
     }

@@ -1,3 +1,5 @@
 pub mod Rows
 pub mod Moving
+pub mod Opening
 pub mod Turning
+pub mod MoreTurns

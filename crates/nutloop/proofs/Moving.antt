@@ -1,5 +1,5 @@
 -- What the calls that are told and the events of a turn have in common: a reading of the calls, g, and one of the events, f, that fit.
-use Rattle.std.proofs.Common.{◌≡◌, ℕ, Bool, true, false, List, [], ◌∷◌, ◌++◌, length, take, Option, Some, None, refl, sym, ap, subst, ◌∙◌, append-nil}
+use Rattle.std.proofs.Common.{◌≡◌, ℕ, Bool, true, false, List, [], ◌∷◌, ◌++◌, length, Option, Some, None, refl, sym, ap, subst, ◌∙◌, append-nil}
 use Rattle.std.specs.Prelude.{◌≤◌, ◌==◌, if◌then◌else◌, is_some}
 use Rattle.std.specs.List.{flat_map}
 use Rattle.std.proofs.lemmas.Grind.{flat_map-append}
@@ -27,8 +27,8 @@ pub record Fit (g : Call → List ℕ) (f : ServerState → Event → List ℕ) 
   pub accepted : (a : Option (List ℕ)) → g (Accepted a) ≡ []
   pub named : (c : ℕ) → g (Named c) ≡ []
   pub refused : g Refused ≡ []
-  pub waits : (p : Peer) → g (Waits p) ≡ []
-  pub ends : (p : Peer) → g (Ended p) ≡ []
+  pub waits : (p : Peer) (most : ℕ) → g (Waits p most) ≡ []
+  pub ends : (p : Peer) (most : ℕ) → g (Ended p most) ≡ []
   pub shut : (p : Peer) → g (Shut p) ≡ []
   pub ups : (s : ServerState) (u : UpsId) → f s (event.DriverUp u) ≡ []
   pub downs : (s : ServerState) (u : UpsId) → f s (event.DriverDown u) ≡ []
@@ -36,10 +36,10 @@ pub record Fit (g : Call → List ℕ) (f : ServerState → Event → List ℕ) 
   pub opens : (s : ServerState) (a : List ℕ) → f s (event.Open a) ≡ []
   pub closes : (s : ServerState) (c : ℕ) → f s (event.Close c) ≡ []
   pub tries : (s : ServerState) (c : ℕ) → f s (event.Feed c []) ≡ []
-  pub feeds : (s : ServerState) (c : ℕ) (bytes : List ℕ) → length bytes ≤ room_at c s → g (Gave (Client c) bytes) ≡ f s (event.Feed c bytes)
-  pub comes : (s : ServerState) (u : UpsId) (bytes : List ℕ) → g (Gave (Driver u) bytes) ≡ f s (event.DriverBytes u bytes)
-  pub takes : (s : ServerState) (c n : ℕ) (xs : List ℕ) → xs ≡ offered (session c s) → n ≤ length xs → g (Wrote (Client c) (take n xs)) ≡ f s (event.Took c n)
-  pub driver_takes : (s : ServerState) (u : UpsId) (n : ℕ) (xs : List ℕ) → xs ≡ owed_to_driver u s → n ≤ length xs → g (Wrote (Driver u) (take n xs)) ≡ f s (event.DriverTook u n)
+  pub feeds : (s : ServerState) (c most : ℕ) (bytes : List ℕ) → length bytes ≤ room_at c s → g (Gave (Client c) most bytes) ≡ f s (event.Feed c bytes)
+  pub comes : (s : ServerState) (u : UpsId) (most : ℕ) (bytes : List ℕ) → g (Gave (Driver u) most bytes) ≡ f s (event.DriverBytes u bytes)
+  pub takes : (s : ServerState) (c n : ℕ) (xs : List ℕ) → xs ≡ offered (session c s) → n ≤ length xs → g (Wrote (Client c) xs n) ≡ f s (event.Took c n)
+  pub driver_takes : (s : ServerState) (u : UpsId) (n : ℕ) (xs : List ℕ) → xs ≡ owed_to_driver u s → n ≤ length xs → g (Wrote (Driver u) xs n) ≡ f s (event.DriverTook u n)
 
 -- One call, and one event.
 one_call : (g : Call → List ℕ) (x : Call) (bytes : List ℕ) → g x ≡ bytes → flat_map g (x ∷ []) ≡ bytes
@@ -98,9 +98,9 @@ from_client g f fit s mid c n true (took k) os e may r = absurd may
 from_client g f fit s mid c n true failed os e may r = absurd may
 from_client g f fit s mid c n false unasked os e may r = absurd may
 from_client g f fit s mid c n false (newcomer a) os e may r = absurd may
-from_client g f fit s mid c n false (gave bytes) os e may r = one_call g (Gave (Client c) bytes) (f s (event.Feed c bytes)) (fit.feeds s c bytes (subst (λ k. length bytes ≤ k) e may)) ∙ sym (one_event f s mid (event.Feed c bytes) os r)
-from_client g f fit s mid c n false later os e may r = one_call g (Waits (Client c)) [] (fit.waits (Client c))
-from_client g f fit s mid c n false ended os e may r = one_call g (Ended (Client c)) [] (fit.ends (Client c)) ∙ sym (one_event f s mid (event.Close c) os r ∙ fit.closes s c)
+from_client g f fit s mid c n false (gave bytes) os e may r = one_call g (Gave (Client c) n bytes) (f s (event.Feed c bytes)) (fit.feeds s c n bytes (subst (λ k. length bytes ≤ k) e may)) ∙ sym (one_event f s mid (event.Feed c bytes) os r)
+from_client g f fit s mid c n false later os e may r = one_call g (Waits (Client c) n) [] (fit.waits (Client c) n)
+from_client g f fit s mid c n false ended os e may r = one_call g (Ended (Client c) n) [] (fit.ends (Client c) n) ∙ sym (one_event f s mid (event.Close c) os r ∙ fit.closes s c)
 from_client g f fit s mid c n false (took k) os e may r = absurd may
 from_client g f fit s mid c n false failed os e may r = sym (one_event f s mid (event.Close c) os r ∙ fit.closes s c)
 
@@ -115,9 +115,9 @@ from_driver g f fit s mid u false (took k) os may r = absurd may
 from_driver g f fit s mid u false failed os may r = absurd may
 from_driver g f fit s mid u true unasked os may r = absurd may
 from_driver g f fit s mid u true (newcomer a) os may r = absurd may
-from_driver g f fit s mid u true (gave bytes) os may r = one_call g (Gave (Driver u) bytes) (f s (event.DriverBytes u bytes)) (fit.comes s u bytes) ∙ sym (one_event f s mid (event.DriverBytes u bytes) os r)
-from_driver g f fit s mid u true later os may r = one_call g (Waits (Driver u)) [] (fit.waits (Driver u))
-from_driver g f fit s mid u true ended os may r = one_call g (Ended (Driver u)) [] (fit.ends (Driver u)) ∙ sym (one_event f s mid (event.DriverDown u) os r ∙ fit.downs s u)
+from_driver g f fit s mid u true (gave bytes) os may r = one_call g (Gave (Driver u) DRIVER_READ_LIMIT bytes) (f s (event.DriverBytes u bytes)) (fit.comes s u DRIVER_READ_LIMIT bytes) ∙ sym (one_event f s mid (event.DriverBytes u bytes) os r)
+from_driver g f fit s mid u true later os may r = one_call g (Waits (Driver u) DRIVER_READ_LIMIT) [] (fit.waits (Driver u) DRIVER_READ_LIMIT)
+from_driver g f fit s mid u true ended os may r = one_call g (Ended (Driver u) DRIVER_READ_LIMIT) [] (fit.ends (Driver u) DRIVER_READ_LIMIT) ∙ sym (one_event f s mid (event.DriverDown u) os r ∙ fit.downs s u)
 from_driver g f fit s mid u true (took k) os may r = absurd may
 from_driver g f fit s mid u true failed os may r = sym (one_event f s mid (event.DriverDown u) os r ∙ fit.downs s u)
 
@@ -135,7 +135,7 @@ to_client g f fit s mid c (x ∷ xs) (newcomer a) os e may r = absurd may
 to_client g f fit s mid c (x ∷ xs) (gave bytes) os e may r = absurd may
 to_client g f fit s mid c (x ∷ xs) later os e may r = absurd may
 to_client g f fit s mid c (x ∷ xs) ended os e may r = absurd may
-to_client g f fit s mid c (x ∷ xs) (took k) os e may r = one_call g (Wrote (Client c) (take k (x ∷ xs))) (f s (event.Took c k)) (fit.takes s c k (x ∷ xs) e may) ∙ sym (one_event f s mid (event.Took c k) os r)
+to_client g f fit s mid c (x ∷ xs) (took k) os e may r = one_call g (Wrote (Client c) (x ∷ xs) k) (f s (event.Took c k)) (fit.takes s c k (x ∷ xs) e may) ∙ sym (one_event f s mid (event.Took c k) os r)
 to_client g f fit s mid c (x ∷ xs) failed os e may r = sym (one_event f s mid (event.Close c) os r ∙ fit.closes s c)
 
 to_driver : (g : Call → List ℕ) (f : ServerState → Event → List ℕ) → Fit g f → (s mid : ServerState) (u : UpsId) (xs : List ℕ) (answer : Answer) (os : List Outcome) → xs ≡ owed_to_driver u s
@@ -152,7 +152,7 @@ to_driver g f fit s mid u (x ∷ xs) (newcomer a) os e may r = absurd may
 to_driver g f fit s mid u (x ∷ xs) (gave bytes) os e may r = absurd may
 to_driver g f fit s mid u (x ∷ xs) later os e may r = absurd may
 to_driver g f fit s mid u (x ∷ xs) ended os e may r = absurd may
-to_driver g f fit s mid u (x ∷ xs) (took k) os e may r = one_call g (Wrote (Driver u) (take k (x ∷ xs))) (f s (event.DriverTook u k)) (fit.driver_takes s u k (x ∷ xs) e may) ∙ sym (one_event f s mid (event.DriverTook u k) os r)
+to_driver g f fit s mid u (x ∷ xs) (took k) os e may r = one_call g (Wrote (Driver u) (x ∷ xs) k) (f s (event.DriverTook u k)) (fit.driver_takes s u k (x ∷ xs) e may) ∙ sym (one_event f s mid (event.DriverTook u k) os r)
 to_driver g f fit s mid u (x ∷ xs) failed os e may r = sym (one_event f s mid (event.DriverDown u) os r ∙ fit.downs s u)
 
 of_nobody : (g : Call → List ℕ) (answer : Answer) → MayAnswer nobody answer → flat_map g (answered nobody answer) ≡ []

@@ -1,9 +1,10 @@
 -- The rows of a turn.
-use Rattle.std.proofs.Common.{◌≡◌, ℕ, suc, Bool, true, false, eqb, List, [], ◌∷◌, ◌++◌, length, Option, Some, None, refl, sym, ap, subst, ◌∙◌, arith, append-nil, append_assoc}
-use Rattle.std.specs.Prelude.{is_some, Result, Ok, Err, if◌then◌else◌}
+use Rattle.std.proofs.Common.{◌≡◌, ℕ, suc, Bool, true, false, eqb, List, [], ◌∷◌, ◌++◌, length, take, Option, Some, None, refl, sym, ap, subst, ◌∙◌, arith, append-nil, append_assoc, length-take}
+use Rattle.std.specs.Prelude.{◌-◌, ◌≤◌, is_some, Result, Ok, Err, if◌then◌else◌, replicate}
 use Rattle.std.specs.Option.{option_map, option_map_or}
 use Rattle.std.specs.Result.{result_unwrap_or}
 use Rattle.std.proofs.lemmas.Bool.Decides.{nat_tests}
+use Rattle.std.proofs.lemmas.List.{length-replicate}
 use Rattle.nutusers.specs.declared.ups_list.UpsId.{UpsId}
 use Rattle.nutcore.specs.declared.event.Event.{Event}
 use Rattle.nutcore.specs.declared.event.Event.TheVariants.{Close}
@@ -11,6 +12,7 @@ use Rattle.nutcore.specs.declared.event.Outcome.{Outcome}
 use Rattle.nutcore.specs.declared.event.Fault.{Fault}
 use Rattle.nutcore.specs.declared.event.Peer.{Peer}
 use Rattle.nutcore.specs.declared.event.Peer.TheVariants.{Client, Driver}
+use Rattle.nutcore.specs.declared.TheConstants.{HELD_LIMIT}
 use Rattle.nutcore.specs.Session.{SessionState}
 use Rattle.nutcore.specs.Ups.{UpsState}
 use Rattle.nutcore.specs.Server.{ServerState, session, ups_at}
@@ -129,6 +131,24 @@ is_there n (Some x) h = refl
 pub is_absent : (f : Fault) (o : Option SessionState) → Reads room_of o (Err f) → o ≡ None
 is_absent f None h = refl
 is_absent f (Some x) h = cc
+
+-- No client has room for more than is held of it.
+room_of_held : (ending : Bool) (held : ℕ) → (if ending then HELD_LIMIT else HELD_LIMIT - held) ≤ HELD_LIMIT
+room_of_held true held = omega arith
+room_of_held false held = omega arith
+
+room_fits : (n : ℕ) (o : Option SessionState) → Reads room_of o (Ok n) → n ≤ HELD_LIMIT
+room_fits n None h = cc
+room_fits n (Some x) h =
+    let is : room_of x ≡ n = cc in
+    subst (λ k. k ≤ HELD_LIMIT) is (room_of_held x.ending (length x.held))
+
+front_is_full : (n most : ℕ) → n ≤ most → length {A = ℕ} (take n (replicate most 0)) ≡ n
+front_is_full n most h = omega (arith, length-take {A = ℕ} n (replicate most 0), length-replicate {A = ℕ} most 0)
+
+-- The front of the buffer is as long as there is room.
+pub room_is_asked : (n : ℕ) (o : Option SessionState) → Reads room_of o (Ok n) → length {A = ℕ} (take n (replicate HELD_LIMIT 0)) ≡ n
+room_is_asked n o h = front_is_full n HELD_LIMIT (room_fits n o h)
 
 pub asks_read : (c n : ℕ) (s : ServerState) → Reads room_of (session c s) (Ok n) → (n ≡ 0 → ⊥) → ask s (Read (Client c)) ≡ reads (Client c) n
 asks_read c n s h some = rw (room_is n (session c s) h, not_zero n some) refl

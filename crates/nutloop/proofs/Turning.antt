@@ -1,9 +1,10 @@
 -- Turns, one after another, and what they move.
-use Rattle.std.proofs.Common.{◌≡◌, ℕ, zero, suc, Bool, true, false, List, [], ◌∷◌, ◌++◌, length, take, Option, Some, None, refl, sym, ap, subst, ◌∙◌, append-nil, append_assoc, arith, rules}
+use Rattle.std.proofs.Common.{◌≡◌, ℕ, zero, suc, Bool, true, false, List, [], ◌∷◌, ◌++◌, length, take, Option, Some, None, refl, sym, ap, subst, ◌∙◌, append-nil, append_assoc, arith, rules, All}
 use Rattle.std.specs.Prelude.{◌≤◌, ◌==◌, if◌then◌else◌, Result, Ok, Err, nat_le}
 use Rattle.std.specs.List.{flat_map}
 use Rattle.std.proofs.lemmas.Grind.{flat_map-append}
 use Rattle.std.proofs.lemmas.Bool.Decides.{nat_tests}
+use Rattle.std.proofs.lemmas.List.Elements.{All-nil, All-append}
 use Rattle.nutusers.specs.declared.ups_list.UpsId.{UpsId}
 use Rattle.nutcore.specs.declared.event.Event.{Event}
 use Rattle.nutcore.specs.declared.event.Outcome.{Outcome}
@@ -14,6 +15,8 @@ use Rattle.nutcore.specs.Step.{after, offered, may_take}
 use Rattle.nutcore.specs.Run.{Run}
 use Rattle.nutcore.specs.History.{taken, taken_in_event}
 use Rattle.nutcore.specs.DriverHistory.{came, came_in_event}
+use Rattle.nutcore.specs.ReadsBack.{HasLawfulAddress}
+use Rattle.nutcore.specs.Addresses.{OpensLawfully, EveryRunKeepsAddressesLawful}
 use Rattle.nutloop.specs.declared.fault.LoopFault.{LoopFault}
 use Rattle.nutloop.specs.declared.fault.LoopFault.TheVariants as fault
 use Rattle.nutloop.specs.declared.sockets.Ready.{Ready}
@@ -24,7 +27,9 @@ use Rattle.nutloop.specs.Sockets.{Grows}
 use Rattle.nutloop.specs.Turn.{ask, answered, row_events, last_events, calls_behind_all, IsRow, TurnGives}
 use Rattle.nutloop.specs.Moved.{Turns, is_client, is_driver, gave_in, took_in, along, fed_in_event, driver_took_in_event, AreMoved, EveryByteIsMovedOnce}
 use Rattle.nutloop.proofs.Rows.{grows_nothing, grows_joins}
+use Rattle.nutloop.specs.Serving.{IsOneRun, AnyTurnsAreOneRun, AnyTurnsKeepAddressesLawful}
 use Rattle.nutloop.proofs.Moving.{Fit, row_moves, last_moves, behind_all}
+use Rattle.nutloop.proofs.Opening.{row_opens, last_opens}
 
 -- Runs and what is found along them are joined.
 run_joins : (s mid new : ServerState) (es fs : List Event) (os qs : List Outcome) → Run s es os mid → Run mid fs qs new → Run s (es ++ fs) (os ++ qs) new
@@ -48,6 +53,7 @@ record Moves {S : Type 0} (calls : S → Option (List Call)) (old : ServerState)
   pub outcomes : List Outcome
   pub grown : Grows (calls sockets) (calls after) since
   pub run : Run old events outcomes new
+  pub opens : All OpensLawfully events
   pub moves : (g : Call → List ℕ) (f : ServerState → Event → List ℕ) → Fit g f → flat_map g since ≡ along f old events outcomes
 
 -- The calls of a row.
@@ -68,6 +74,7 @@ row_is_moved calls failures ready old sockets new after w = record {
   outcomes = w.outcomes ++ w.last;
   grown = w.told;
   run = run_joins old w.mid new (row_events old ready w.answer) (last_events w.mid ready w.answer) w.outcomes w.last w.makes w.finishes;
+  opens = All-append OpensLawfully (row_events old ready w.answer) (last_events w.mid ready w.answer) (row_opens old ready w.answer w.may) (last_opens w.mid ready w.answer);
   moves = λ g f fit. row_reads g f fit ready (answered (ask old ready) w.answer) (calls_behind_all (row_events old ready w.answer) w.outcomes) (calls_behind_all (last_events w.mid ready w.answer) w.last) (along f old (row_events old ready w.answer) w.outcomes)
       (row_moves g f fit old w.mid ready w.answer w.outcomes w.may w.makes) (behind_all g f fit (row_events old ready w.answer) w.outcomes) (behind_all g f fit (last_events w.mid ready w.answer) w.last)
       ∙ sym (along_joins f old w.mid (row_events old ready w.answer) (last_events w.mid ready w.answer) w.outcomes w.last w.makes
@@ -75,10 +82,10 @@ row_is_moved calls failures ready old sockets new after w = record {
 }
 
 nothing_is_moved : {S : Type 0} (calls : S → Option (List Call)) (old : ServerState) (sockets : S) (new : ServerState) (after : S) → Grows (calls sockets) (calls after) [] → new ≡ old → Moves calls old sockets new after
-nothing_is_moved calls old sockets new after told same = record { since = []; events = []; outcomes = []; grown = told; run = same; moves = λ g f fit. refl }
+nothing_is_moved calls old sockets new after told same = record { since = []; events = []; outcomes = []; grown = told; run = same; opens = All-nil OpensLawfully; moves = λ g f fit. refl }
 
 newcomer_is_moved : {S : Type 0} (calls : S → Option (List Call)) (old : ServerState) (sockets : S) (new : ServerState) (after : S) → Grows (calls sockets) (calls after) (Readied Newcomer ∷ []) → new ≡ old → Moves calls old sockets new after
-newcomer_is_moved calls old sockets new after told same = record { since = Readied Newcomer ∷ []; events = []; outcomes = []; grown = told; run = same; moves = λ g f fit. append-nil (g (Readied Newcomer)) ∙ fit.readied Newcomer }
+newcomer_is_moved calls old sockets new after told same = record { since = Readied Newcomer ∷ []; events = []; outcomes = []; grown = told; run = same; opens = All-nil OpensLawfully; moves = λ g f fit. append-nil (g (Readied Newcomer)) ∙ fit.readied Newcomer }
 
 turn_is_moved : {S : Type 0} (calls : S → Option (List Call)) (failures : S → ℕ) (old : ServerState) (sockets : S) (r : Result (Unit {0}) LoopFault) (new : ServerState) (after : S) → TurnGives calls failures old sockets r new after → Moves calls old sockets new after
 turn_is_moved calls failures old sockets (Ok u) new after t = row_is_moved calls failures t.0 old sockets new after t.1
@@ -92,6 +99,7 @@ both_are_moved calls old sockets mid middle new after x y = record {
   outcomes = x.outcomes ++ y.outcomes;
   grown = grows_joins (calls sockets) (calls middle) (calls after) x.since y.since x.grown y.grown;
   run = run_joins old mid new x.events y.events x.outcomes y.outcomes x.run y.run;
+  opens = All-append OpensLawfully x.events y.events x.opens y.opens;
   moves = λ g f fit. flat_map-append g x.since y.since ∙ ap (λ v. v ++ flat_map g y.since) (x.moves g f fit) ∙ ap (λ v. along f old x.events x.outcomes ++ v) (y.moves g f fit) ∙ sym (along_joins f old mid x.events y.events x.outcomes y.outcomes x.run);
 }
 
@@ -99,6 +107,19 @@ turns_are_moved : {S : Type 0} (calls : S → Option (List Call)) (failures : S 
 turns_are_moved calls failures [] old sockets new after t = nothing_is_moved calls old sockets new after (subst (λ k. Grows (calls sockets) (calls k) []) (sym t.1) (grows_nothing (calls sockets))) t.0
 turns_are_moved calls failures (r ∷ rs) old sockets new after t =
     both_are_moved calls old sockets t.0 t.1.0 new after (turn_is_moved calls failures old sockets r t.0 t.1.0 t.1.1) (turns_are_moved calls failures rs t.0 t.1.0 new after t.1.2)
+
+-- Any turns are one run.
+pub any_turns_are_one_run : {S : Type 0} (calls : S → Option (List Call)) (failures : S → ℕ) → AnyTurnsAreOneRun calls failures
+any_turns_are_one_run {S} calls failures = λ old new sockets after results turns. from old new sockets after (turns_are_moved calls failures results old sockets new after turns)
+  where
+    from : (old new : ServerState) (sockets after : S) → Moves calls old sockets new after → IsOneRun old new
+    from old new sockets after m = (m.events, (m.outcomes, m.run, m.opens))
+
+pub any_turns_keep_addresses_lawful : {S : Type 0} (calls : S → Option (List Call)) (failures : S → ℕ) → EveryRunKeepsAddressesLawful → AnyTurnsKeepAddressesLawful calls failures
+any_turns_keep_addresses_lawful {S} calls failures kept = λ old new sockets after results turns lawful. from old new sockets after (turns_are_moved calls failures results old sockets new after turns) lawful
+  where
+    from : (old new : ServerState) (sockets after : S) → Moves calls old sockets new after → All HasLawfulAddress old.sessions → All HasLawfulAddress new.sessions
+    from old new sockets after m lawful = kept old new m.events m.outcomes m.run m.opens lawful
 
 -- The four readings.
 none : (b : Bool) → if◌then◌else◌ {A = List ℕ} b [] [] ≡ []
@@ -111,8 +132,8 @@ fed_fits c = record {
   accepted = λ a. refl;
   named = λ d. refl;
   refused = refl;
-  waits = λ p. refl;
-  ends = λ p. refl;
+  waits = λ p most. refl;
+  ends = λ p most. refl;
   shut = λ p. refl;
   ups = λ s u. refl;
   downs = λ s u. refl;
@@ -120,8 +141,8 @@ fed_fits c = record {
   opens = λ s a. refl;
   closes = λ s d. refl;
   tries = λ s d. none (d == c);
-  feeds = λ s d bytes h. refl;
-  comes = λ s u bytes. refl;
+  feeds = λ s d most bytes h. refl;
+  comes = λ s u most bytes. refl;
   takes = λ s d n xs e h. refl;
   driver_takes = λ s u n xs e h. refl;
 }
@@ -158,8 +179,8 @@ taken_fits c = record {
   accepted = λ a. refl;
   named = λ d. refl;
   refused = refl;
-  waits = λ p. refl;
-  ends = λ p. refl;
+  waits = λ p most. refl;
+  ends = λ p most. refl;
   shut = λ p. refl;
   ups = λ s u. refl;
   downs = λ s u. refl;
@@ -167,8 +188,8 @@ taken_fits c = record {
   opens = λ s a. refl;
   closes = λ s d. refl;
   tries = λ s d. refl;
-  feeds = λ s d bytes h. refl;
-  comes = λ s u bytes. refl;
+  feeds = λ s d most bytes h. refl;
+  comes = λ s u most bytes. refl;
   takes = λ s d n xs e h. ap (λ ys. if d == c then take n ys else []) e ∙ taken_of (d == c) n (session d s) (subst (λ ys. n ≤ length ys) e h);
   driver_takes = λ s u n xs e h. refl;
 }
@@ -179,8 +200,8 @@ came_fits u = record {
   accepted = λ a. refl;
   named = λ d. refl;
   refused = refl;
-  waits = λ p. refl;
-  ends = λ p. refl;
+  waits = λ p most. refl;
+  ends = λ p most. refl;
   shut = λ p. refl;
   ups = λ s v. refl;
   downs = λ s v. refl;
@@ -188,8 +209,8 @@ came_fits u = record {
   opens = λ s a. refl;
   closes = λ s d. refl;
   tries = λ s d. refl;
-  feeds = λ s d bytes h. refl;
-  comes = λ s v bytes. refl;
+  feeds = λ s d most bytes h. refl;
+  comes = λ s v most bytes. refl;
   takes = λ s d n xs e h. refl;
   driver_takes = λ s v n xs e h. refl;
 }
@@ -200,8 +221,8 @@ driver_took_fits u = record {
   accepted = λ a. refl;
   named = λ d. refl;
   refused = refl;
-  waits = λ p. refl;
-  ends = λ p. refl;
+  waits = λ p most. refl;
+  ends = λ p most. refl;
   shut = λ p. refl;
   ups = λ s v. refl;
   downs = λ s v. refl;
@@ -209,8 +230,8 @@ driver_took_fits u = record {
   opens = λ s a. refl;
   closes = λ s d. refl;
   tries = λ s d. refl;
-  feeds = λ s d bytes h. refl;
-  comes = λ s v bytes. refl;
+  feeds = λ s d most bytes h. refl;
+  comes = λ s v most bytes. refl;
   takes = λ s d n xs e h. refl;
   driver_takes = λ s v n xs e h. ap (λ ys. if v.place == u.place then take n ys else []) e;
 }

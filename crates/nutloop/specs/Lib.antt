@@ -1,5 +1,6 @@
 pub mod Fault
 pub mod Moved
 pub mod Scripted
+pub mod Serving
 pub mod Sockets
 pub mod Turn

@@ -38,11 +38,11 @@ is_driver u (Driver v) = v.place == u.place
 
 -- The bytes that it gave, and those that it took, of the calls that are told.
 abbrev pub gave_in : (Peer → Bool) → Call → List ℕ
-gave_in this (Gave p bytes) = if this p then bytes else []
+gave_in this (Gave p most bytes) = if this p then bytes else []
 gave_in this _ = []
 
 abbrev pub took_in : (Peer → Bool) → Call → List ℕ
-took_in this (Wrote p bytes) = if this p then bytes else []
+took_in this (Wrote p bytes n) = if this p then take n bytes else []
 took_in this _ = []
 
 abbrev pub bytes_given : (Peer → Bool) → List Call → List ℕ

@@ -7,11 +7,12 @@ use Rattle.nutloop.specs.declared.sockets.Got.{Got}
 use Rattle.nutloop.specs.declared.sockets.Got.TheVariants.{Bytes, Later, End}
 use Rattle.nutcore.specs.declared.event.Peer.{Peer}
 
--- What is told of a read.
+-- What is told of a read: how many bytes were asked for, as many as there is room for, and what the
+-- peer gave.
 abbrev pub read_call : Peer → List ℕ → Got → Call
-read_call p into (Bytes n) = Gave p (take n into)
-read_call p into Later = Waits p
-read_call p into End = Ended p
+read_call p into (Bytes n) = Gave p (length into) (take n into)
+read_call p into Later = Waits p (length into)
+read_call p into End = Ended p (length into)
 
 -- A read gives no more than there is room for.
 abbrev pub AtMost : {E : Type 0} → Result Got E → List ℕ → Type 0

@@ -1,7 +1,9 @@
 -- What one turn does: one row of a table, by what is ready and by what the sockets answer.
 use Rattle.std.specs.Prelude.{◌≡◌, ◌≤◌, ℕ, Bool, true, false, List, [], ◌∷◌, ◌++◌, ⊤, Option, Some}
-use Rattle.std.specs.Prelude.{Result, Ok, Err, ◌==◌, if◌then◌else◌, is_some, length, take}
+use Rattle.std.specs.Prelude.{Result, Ok, Err, ◌==◌, if◌then◌else◌, is_some, length, IfSome}
+use Rattle.std.specs.Prelude.{IsTrue}
 use Rattle.std.specs.Option.{option_map_or}
+use Rattle.nutwords.specs.Reading.{is_address}
 use Rattle.nutusers.specs.declared.ups_list.UpsId.{UpsId}
 use Rattle.nutcore.specs.declared.event.Event.{Event}
 use Rattle.nutcore.specs.declared.event.Event.TheVariants as event
@@ -27,8 +29,8 @@ use Rattle.nutloop.specs.declared.fault.LoopFault.TheVariants as fault
 use Rattle.nutloop.specs.declared.turns.TheConstants.{DRIVER_READ_LIMIT}
 use Rattle.nutloop.specs.Sockets.{Grows, counted}
 
--- The one call that a row makes of the sockets and that may fail, if it makes one: reads has at
--- most how many bytes, writes which ones.
+-- The one call that a row makes of the sockets and that may fail, if it makes one: reads has how
+-- many bytes are asked for, writes which ones are offered.
 pub data Ask : Type 0 where
   nobody : Ask
   accepts : Ask
@@ -74,10 +76,11 @@ ask s (Read (Driver u)) = if has_driver u s then reads (Driver u) DRIVER_READ_LI
 ask s (Write (Client c)) = write_of (Client c) (offered (session c s))
 ask s (Write (Driver u)) = write_of (Driver u) (owed_to_driver u s)
 
--- Which answers that call has. An `accept` that fails is no row: the turn fails.
+-- Which answers that call has; a newcomer's address is lawful. An `accept` that fails is no row: the
+-- turn fails.
 abbrev pub MayAnswer : Ask → Answer → Type 0
 MayAnswer nobody unasked = ⊤
-MayAnswer accepts (newcomer address) = ⊤
+MayAnswer accepts (newcomer address) = IfSome address (λ bytes. IsTrue (is_address bytes))
 MayAnswer (reads p most) (gave bytes) = length bytes ≤ most
 MayAnswer (reads p most) later = ⊤
 MayAnswer (reads p most) ended = ⊤
@@ -86,13 +89,13 @@ MayAnswer (writes p bytes) (took n) = n ≤ length bytes
 MayAnswer (writes p bytes) failed = ⊤
 MayAnswer _ _ = ⊥
 
--- What is told of it.
+-- What is told of it: a read asks for so many bytes and no fewer, and a write offers all of them.
 abbrev pub answered : Ask → Answer → List Call
 answered accepts (newcomer address) = Accepted address ∷ []
-answered (reads p most) (gave bytes) = Gave p bytes ∷ []
-answered (reads p most) later = Waits p ∷ []
-answered (reads p most) ended = Ended p ∷ []
-answered (writes p bytes) (took n) = Wrote p (take n bytes) ∷ []
+answered (reads p most) (gave bytes) = Gave p most bytes ∷ []
+answered (reads p most) later = Waits p most ∷ []
+answered (reads p most) ended = Ended p most ∷ []
+answered (writes p bytes) (took n) = Wrote p bytes n ∷ []
 answered _ _ = []
 
 -- The events of a row, by the answer. Where nothing is asked of a client that is open, it has no

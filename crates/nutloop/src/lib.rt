@@ -5,11 +5,13 @@ mod fault;
 pub mod laws;
 mod over_mio;
 mod scripted;
+mod serving;
 mod sockets;
 mod turns;
 
 pub use fault::LoopFault;
 pub use over_mio::MioSockets;
 pub use scripted::{Act, Scripted};
+pub use serving::{TURN_LIMIT, serve};
 pub use sockets::{Broken, Call, Got, Ready, Sockets};
 pub use turns::{DRIVER_READ_LIMIT, turn};

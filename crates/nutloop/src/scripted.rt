@@ -1,8 +1,8 @@
 //! Sockets in memory: they answer from a script, and keep every call that was answered.
-ghost use Rattle.std.specs.Prelude.{◌≡◌, ◌≤◌, ◌∷◌, [], true, IfOk, length, take};
-ghost use Rattle.nutloop.specs.declared.sockets.Call.TheVariants.{Readied, Accepted, Wrote};
+ghost use Rattle.std.specs.Prelude.{◌≡◌, ◌≤◌, ◌∷◌, [], true, IfOk, length};
+ghost use Rattle.nutloop.specs.declared.sockets.Call.TheVariants.{Readied, Accepted, Named, Refused, Wrote, Shut};
 ghost use Rattle.nutloop.specs.Sockets.{Grows, Logs, AtMost, IsCounted, read_call};
-ghost use Rattle.nutloop.specs.Scripted.{told_while};
+ghost use Rattle.nutloop.specs.Scripted.{IsKeptOrNot, told_while};
 
 use crate::{Broken, Call, Got, Ready, Sockets};
 use nutcore::{Bytes, ClientId, Peer, Server};
@@ -77,10 +77,11 @@ impl Scripted {
         self.script.next().ok_or(Broken)
     }
 
-    /// Keeps the call. Without memory it fails, and nothing is kept.
+    /// Keeps the call. Without memory it fails, and nothing is kept; what is told goes on.
     fn keep(&mut self, call: Call) -> Result<(), Broken>
         ensures told { Logs (told_while self.old.is_whole self.old.calls.items)
             (told_while self.new.is_whole self.new.calls.items) (λ _. call) result }
+        ensures whole { self.new.is_whole ≡ self.old.is_whole }
         ensures count { self.new.failures ≡ self.old.failures }
     {
         match self.calls.push(call) {
@@ -93,6 +94,8 @@ impl Scripted {
     fn keep_or_stop(&mut self, call: Call)
         ensures told { Grows (told_while self.old.is_whole self.old.calls.items)
             (told_while self.new.is_whole self.new.calls.items) (call ∷ []) }
+        ensures kept { IsKeptOrNot self.old.is_whole self.old.calls.items
+            self.new.is_whole self.new.calls.items call }
         ensures count { self.new.failures ≡ self.old.failures }
     {
         if self.calls.push(call).is_err() {
@@ -116,6 +119,7 @@ impl Scripted {
     fn next_ready(&mut self) -> Result<Ready, Broken>
         ensures told { Logs (told_while self.old.is_whole self.old.calls.items)
             (told_while self.new.is_whole self.new.calls.items) Readied result }
+        ensures whole { self.new.is_whole ≡ self.old.is_whole }
         ensures count { self.new.failures ≡ self.old.failures }
     {
         let Act::Ready(ready) = self.next()? else {
@@ -128,6 +132,7 @@ impl Scripted {
     fn next_newcomer(&mut self) -> Result<Option<Address>, Broken>
         ensures told { Logs (told_while self.old.is_whole self.old.calls.items)
             (told_while self.new.is_whole self.new.calls.items) Accepted result }
+        ensures whole { self.new.is_whole ≡ self.old.is_whole }
         ensures count { self.new.failures ≡ self.old.failures }
     {
         let Act::Comes(address) = self.next()? else {
@@ -145,6 +150,7 @@ impl Scripted {
         ensures bound { AtMost result into.new }
         ensures told { Logs (told_while self.old.is_whole self.old.calls.items)
             (told_while self.new.is_whole self.new.calls.items) (read_call p into.new) result }
+        ensures whole { self.new.is_whole ≡ self.old.is_whole }
         ensures count { self.new.failures ≡ self.old.failures }
     {
         let n = bytes.as_slice().len();
@@ -152,7 +158,7 @@ impl Scripted {
             return Err(Broken);
         }
         into[..n].copy_from_slice(bytes.as_slice());
-        self.keep(Call::Gave(p, bytes))?;
+        self.keep(Call::Gave(p, into.len(), bytes))?;
         Ok(Got::Bytes(n))
     }
 
@@ -160,16 +166,17 @@ impl Scripted {
         ensures bound { AtMost result into.new }
         ensures told { Logs (told_while self.old.is_whole self.old.calls.items)
             (told_while self.new.is_whole self.new.calls.items) (read_call p into.new) result }
+        ensures whole { self.new.is_whole ≡ self.old.is_whole }
         ensures count { self.new.failures ≡ self.old.failures }
     {
         match self.next()? {
             Act::Gives(bytes) => self.give(p, bytes, into),
             Act::Waits => {
-                self.keep(Call::Waits(p))?;
+                self.keep(Call::Waits(p, into.len()))?;
                 Ok(Got::Later)
             }
             Act::Ends => {
-                self.keep(Call::Ended(p))?;
+                self.keep(Call::Ended(p, into.len()))?;
                 Ok(Got::End)
             }
             _ => Err(Broken),
@@ -179,18 +186,18 @@ impl Scripted {
     fn next_write(&mut self, p: Peer, from: &[u8]) -> Result<usize, Broken>
         ensures bound { IfOk result (λ n. n ≤ length from.now) }
         ensures told { Logs (told_while self.old.is_whole self.old.calls.items)
-            (told_while self.new.is_whole self.new.calls.items)
-            (λ n. Wrote p (take n from.now)) result }
+            (told_while self.new.is_whole self.new.calls.items) (Wrote p from.now) result }
+        ensures whole { self.new.is_whole ≡ self.old.is_whole }
         ensures count { self.new.failures ≡ self.old.failures }
     {
         let Act::Takes(most) = self.next()? else {
             return Err(Broken);
         };
         let n = most.min(from.len());
-        let Ok(taken) = Vec::from_slice(self.alloc, &from[..n]) else {
+        let Ok(offered) = Vec::from_slice(self.alloc, from) else {
             return Err(Broken);
         };
-        self.keep(Call::Wrote(p, Bytes::new(taken)))?;
+        self.keep(Call::Wrote(p, Bytes::new(offered), n))?;
         Ok(n)
     }
 }
@@ -200,35 +207,75 @@ impl Sockets for Scripted {
 
     ghost failures = { λ s. s.failures };
 
-    fn ready(&mut self, _server: &Server) -> Result<Ready, Broken> {
+    fn ready(&mut self, _server: &Server) -> Result<Ready, Broken>
+        ensures told { Logs (told_while self.old.is_whole self.old.calls.items)
+            (told_while self.new.is_whole self.new.calls.items) Readied result }
+        ensures whole { self.new.is_whole ≡ self.old.is_whole }
+        ensures count { IsCounted self.old.failures self.new.failures result }
+    {
         let answer = self.next_ready();
         self.count(answer)
     }
 
-    fn accept(&mut self) -> Result<Option<Address>, Broken> {
+    fn accept(&mut self) -> Result<Option<Address>, Broken>
+        ensures told { Logs (told_while self.old.is_whole self.old.calls.items)
+            (told_while self.new.is_whole self.new.calls.items) Accepted result }
+        ensures whole { self.new.is_whole ≡ self.old.is_whole }
+        ensures count { IsCounted self.old.failures self.new.failures result }
+    {
         let answer = self.next_newcomer();
         self.count(answer)
     }
 
-    fn name(&mut self, c: ClientId) {
+    fn name(&mut self, c: ClientId)
+        ensures told { Grows (told_while self.old.is_whole self.old.calls.items)
+            (told_while self.new.is_whole self.new.calls.items) (Named c ∷ []) }
+        ensures kept { IsKeptOrNot self.old.is_whole self.old.calls.items
+            self.new.is_whole self.new.calls.items (Named c) }
+        ensures count { self.new.failures ≡ self.old.failures }
+    {
         self.keep_or_stop(Call::Named(c));
     }
 
-    fn refuse(&mut self) {
+    fn refuse(&mut self)
+        ensures told { Grows (told_while self.old.is_whole self.old.calls.items)
+            (told_while self.new.is_whole self.new.calls.items) (Refused ∷ []) }
+        ensures kept { IsKeptOrNot self.old.is_whole self.old.calls.items
+            self.new.is_whole self.new.calls.items Refused }
+        ensures count { self.new.failures ≡ self.old.failures }
+    {
         self.keep_or_stop(Call::Refused);
     }
 
-    fn read(&mut self, p: Peer, into: &mut [u8]) -> Result<Got, Broken> {
+    fn read(&mut self, p: Peer, into: &mut [u8]) -> Result<Got, Broken>
+        ensures bound { AtMost result into.new }
+        ensures told { Logs (told_while self.old.is_whole self.old.calls.items)
+            (told_while self.new.is_whole self.new.calls.items) (read_call p into.new) result }
+        ensures whole { self.new.is_whole ≡ self.old.is_whole }
+        ensures count { IsCounted self.old.failures self.new.failures result }
+    {
         let answer = self.next_read(p, into);
         self.count(answer)
     }
 
-    fn write(&mut self, p: Peer, from: &[u8]) -> Result<usize, Broken> {
+    fn write(&mut self, p: Peer, from: &[u8]) -> Result<usize, Broken>
+        ensures bound { IfOk result (λ n. n ≤ length from.now) }
+        ensures told { Logs (told_while self.old.is_whole self.old.calls.items)
+            (told_while self.new.is_whole self.new.calls.items) (Wrote p from.now) result }
+        ensures whole { self.new.is_whole ≡ self.old.is_whole }
+        ensures count { IsCounted self.old.failures self.new.failures result }
+    {
         let answer = self.next_write(p, from);
         self.count(answer)
     }
 
-    fn shut(&mut self, p: Peer) {
+    fn shut(&mut self, p: Peer)
+        ensures told { Grows (told_while self.old.is_whole self.old.calls.items)
+            (told_while self.new.is_whole self.new.calls.items) (Shut p ∷ []) }
+        ensures kept { IsKeptOrNot self.old.is_whole self.old.calls.items
+            self.new.is_whole self.new.calls.items (Shut p) }
+        ensures count { self.new.failures ≡ self.old.failures }
+    {
         self.keep_or_stop(Call::Shut(p));
     }
 }

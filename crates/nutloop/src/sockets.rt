@@ -1,5 +1,5 @@
 //! The sockets of all peers, as a turn sees them.
-ghost use Rattle.std.specs.Prelude.{◌≡◌, ◌≤◌, ◌∷◌, [], ℕ, List, Option, length, take, IfOk};
+ghost use Rattle.std.specs.Prelude.{◌≡◌, ◌≤◌, ◌∷◌, [], ℕ, List, Option, length, IfOk};
 ghost use Rattle.nutloop.specs.declared.sockets.Call.{Call};
 ghost use Rattle.nutloop.specs.declared.sockets.Call.TheVariants.{Readied, Accepted, Named, Refused, Wrote, Shut};
 ghost use Rattle.nutloop.specs.Sockets.{Grows, Logs, AtMost, IsCounted, read_call};
@@ -46,14 +46,14 @@ pub enum Call {
     Named(ClientId),
     /// The newcomer is sent away.
     Refused,
-    /// The peer gave these bytes.
-    Gave(Peer, Bytes),
-    /// The peer gives nothing now.
-    Waits(Peer),
-    /// The peer gives nothing any more.
-    Ended(Peer),
-    /// The peer took these bytes.
-    Wrote(Peer, Bytes),
+    /// The peer was asked for at most so many bytes, and gave these.
+    Gave(Peer, usize, Bytes),
+    /// The peer was asked for at most so many bytes, and gives nothing now.
+    Waits(Peer, usize),
+    /// The peer was asked for at most so many bytes, and gives nothing any more.
+    Ended(Peer, usize),
+    /// The peer was offered these bytes, and took so many of them.
+    Wrote(Peer, Bytes, usize),
     /// The peer's connection is shut.
     Shut(Peer),
 }
@@ -90,17 +90,16 @@ pub trait Sockets {
         ensures told { Grows (calls self.old) (calls self.new) (Refused ∷ []) }
         ensures count { failures self.new ≡ failures self.old };
 
-    /// Reads some bytes of a peer into the front of the buffer.
+    /// Asks a peer for as many bytes as the buffer has room for, and reads what it gives into the front.
     fn read(&mut self, p: Peer, into: &mut [u8]) -> Result<Got, Broken>
         ensures bound { AtMost result into.new }
         ensures told { Logs (calls self.old) (calls self.new) (read_call p into.new) result }
         ensures count { IsCounted (failures self.old) (failures self.new) result };
 
-    /// Writes a beginning of the bytes to a peer, and tells how many. 0 is for later.
+    /// Offers a peer the bytes, and tells how many of them it took. 0 is for later.
     fn write(&mut self, p: Peer, from: &[u8]) -> Result<usize, Broken>
         ensures bound { IfOk result (λ n. n ≤ length from.now) }
-        ensures told { Logs (calls self.old) (calls self.new)
-            (λ n. Wrote p (take n from.now)) result }
+        ensures told { Logs (calls self.old) (calls self.new) (Wrote p from.now) result }
         ensures count { IsCounted (failures self.old) (failures self.new) result };
 
     /// Shuts the connection of a peer. A client's is gone for good.

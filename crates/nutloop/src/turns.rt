@@ -1,5 +1,6 @@
 //! One turn of the loop: one row of its table.
-ghost use Rattle.std.specs.Prelude.{◌≡◌, ◌∷◌, []};
+ghost use Rattle.std.specs.Prelude.{◌≡◌, ◌∷◌, [], IsTrue};
+ghost use Rattle.nutwords.specs.Reading.{is_address};
 ghost use Rattle.nutloop.specs.Turn.{Does, IsRow, NewcomerGives, TurnGives, end_of, loses_driver};
 ghost use Rattle.nutcore.specs.declared.event.Event.TheVariants as event;
 ghost use Rattle.nutcore.specs.declared.event.Peer.TheVariants.{Client, Driver};
@@ -42,8 +43,9 @@ fn close_finished<S: Sockets>(server: &mut Server, sockets: &mut S, c: ClientId)
 
 /// A session is opened for a newcomer, which is named; or the newcomer is refused.
 fn open<S: Sockets>(server: &mut Server, sockets: &mut S, address: Address)
-    ensures { Does S.calls S.failures (event.Open address ∷ [])
+    ensures does { Does S.calls S.failures (event.Open address ∷ [])
         server.old.state sockets.old server.new.state sockets.new }
+    ensures lawful { IsTrue (is_address address) }
 {
     match server.open(address) {
         Ok(c) => sockets.name(c),

@@ -11,7 +11,7 @@ returns-in_default g c = record { told = c.in_default.ensures.told; count = c.in
 pub returns-in-Some : goal.returns-in-Some
 returns-in-Some g c =
     row_of g.S.Sockets.calls g.S.Sockets.failures Newcomer (newcomer (Some c.in-Some.address)) accepts (Open c.in-Some.address ∷ []) c.args.server.now.state c.args.sockets.now c.accept.new.self c.open.new.server.state c.open.new.sockets
-    refl refl refl tt (rw c.in-Some.is at c.in-Ok.ensures.told) c.in-Ok.ensures.count c.open.ensures
+    refl refl refl c.open.ensures.lawful (rw c.in-Some.is at c.in-Ok.ensures.told) c.in-Ok.ensures.count c.open.ensures.does
 
 pub returns-in_default-accepted : goal.returns-in_default-accepted
 returns-in_default-accepted g c =

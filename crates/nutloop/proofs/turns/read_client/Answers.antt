@@ -1,13 +1,14 @@
-use Rattle.std.proofs.Common.{◌≡◌, ℕ, [], ◌∷◌, refl, ap, take, length, arith, length-take}
-use Rattle.std.specs.Prelude.{◌≤◌, replicate, is_some, if◌then◌else◌}
+use Rattle.std.proofs.Common.{◌≡◌, ℕ, [], ◌∷◌, refl, ap, subst, ◌∙◌, take, length, arith, length-take}
+use Rattle.std.specs.Prelude.{◌≤◌, is_some, if◌then◌else◌}
 use Rattle.nutcore.specs.declared.event.Event.TheVariants.{Feed, Close}
 use Rattle.nutcore.specs.declared.event.Peer.TheVariants.{Client}
-use Rattle.nutcore.specs.declared.TheConstants.{HELD_LIMIT}
 use Rattle.nutcore.specs.Server.{session}
 use Rattle.nutcore.specs.Calls.{fed}
 use Rattle.nutloop.specs.declared.sockets.Ready.TheVariants.{Read}
+use Rattle.nutloop.specs.declared.sockets.Call.TheVariants.{Gave, Waits, Ended}
+use Rattle.nutloop.specs.Sockets.{Grows}
 use Rattle.nutloop.specs.Turn.{nobody, reads, unasked, gave, later, ended, failed}
-use Rattle.nutloop.proofs.Rows.{row_of, does_nothing, does_quietly, grows_nothing, is_absent, is_there, asks_read, asks_nobody, asks_nobody_there}
+use Rattle.nutloop.proofs.Rows.{row_of, does_nothing, does_quietly, grows_nothing, is_absent, is_there, room_is_asked, asks_read, asks_nobody, asks_nobody_there}
 use Rattle.nutloop.proofs.turns.read_client.Goals as goal
 
 pub returns-in_default : goal.returns-in_default
@@ -26,24 +27,26 @@ returns-then-room-eq0 g c =
 pub returns-in-Ok-Bytes : goal.returns-in-Ok-Bytes
 returns-in-Ok-Bytes g c =
     let bound : c.in-Ok-Bytes.n ≤ length c.read.new.into = rw c.in-Ok-Bytes.field-0-is at c.in-Ok-Bytes.ensures.bound in
-    let same : length {A = ℕ} c.read.new.into ≡ length {A = ℕ} (take c.in-Ok.room (replicate HELD_LIMIT 0)) = c.read.auto.into in
+    let full : length {A = ℕ} c.read.new.into ≡ c.in-Ok.room = c.read.auto.into ∙ room_is_asked c.in-Ok.room (session c.args.c c.args.server.now.state) c.in-Ok.ensures in
     row_of g.S.Sockets.calls g.S.Sockets.failures (Read (Client c.args.c)) (gave (take c.in-Ok-Bytes.n c.read.new.into)) (reads (Client c.args.c) c.in-Ok.room) (Feed c.args.c (take c.in-Ok-Bytes.n c.read.new.into) ∷ []) c.args.server.now.state c.args.sockets.now c.read.new.self c.feed-in-Ok-Bytes.new.self.state c.read.new.self
-    (asks_read c.args.c c.in-Ok.room c.args.server.now.state c.in-Ok.ensures c.if-room-eq0.false) refl refl (omega (arith, length-take {A = ℕ} c.in-Ok-Bytes.n c.read.new.into, length-take {A = ℕ} c.in-Ok.room (replicate HELD_LIMIT 0)))
-    (rw c.in-Ok-Bytes.field-0-is at c.in-Ok-Bytes.ensures.told) c.in-Ok-Bytes.ensures.count
+    (asks_read c.args.c c.in-Ok.room c.args.server.now.state c.in-Ok.ensures c.if-room-eq0.false) refl refl (omega (arith, length-take {A = ℕ} c.in-Ok-Bytes.n c.read.new.into))
+    (subst (λ k. Grows (g.S.Sockets.calls c.args.sockets.now) (g.S.Sockets.calls c.read.new.self) (Gave (Client c.args.c) k (take c.in-Ok-Bytes.n c.read.new.into) ∷ [])) full (rw c.in-Ok-Bytes.field-0-is at c.in-Ok-Bytes.ensures.told)) c.in-Ok-Bytes.ensures.count
     (does_quietly g.S.Sockets.calls g.S.Sockets.failures (Feed c.args.c (take c.in-Ok-Bytes.n c.read.new.into)) (fed c.feed-in-Ok-Bytes.result) c.args.server.now.state c.read.new.self c.feed-in-Ok-Bytes.new.self.state refl c.feed-in-Ok-Bytes.ensures.served.step)
 
 pub returns-in-Ok-Later : goal.returns-in-Ok-Later
 returns-in-Ok-Later g c =
+    let full : length {A = ℕ} c.read.new.into ≡ c.in-Ok.room = c.read.auto.into ∙ room_is_asked c.in-Ok.room (session c.args.c c.args.server.now.state) c.in-Ok.ensures in
     row_of g.S.Sockets.calls g.S.Sockets.failures (Read (Client c.args.c)) later (reads (Client c.args.c) c.in-Ok.room) [] c.args.server.now.state c.args.sockets.now c.read.new.self c.args.server.now.state c.read.new.self
     (asks_read c.args.c c.in-Ok.room c.args.server.now.state c.in-Ok.ensures c.if-room-eq0.false) refl refl tt
-    (rw c.in-Ok-Later.field-0-is at c.in-Ok-Later.ensures.told) c.in-Ok-Later.ensures.count
+    (subst (λ k. Grows (g.S.Sockets.calls c.args.sockets.now) (g.S.Sockets.calls c.read.new.self) (Waits (Client c.args.c) k ∷ [])) full (rw c.in-Ok-Later.field-0-is at c.in-Ok-Later.ensures.told)) c.in-Ok-Later.ensures.count
     (does_nothing g.S.Sockets.calls g.S.Sockets.failures c.args.server.now.state c.read.new.self c.args.server.now.state refl)
 
 pub returns-in-Ok-End : goal.returns-in-Ok-End
 returns-in-Ok-End g c =
+    let full : length {A = ℕ} c.read.new.into ≡ c.in-Ok.room = c.read.auto.into ∙ room_is_asked c.in-Ok.room (session c.args.c c.args.server.now.state) c.in-Ok.ensures in
     row_of g.S.Sockets.calls g.S.Sockets.failures (Read (Client c.args.c)) ended (reads (Client c.args.c) c.in-Ok.room) (Close c.args.c ∷ []) c.args.server.now.state c.args.sockets.now c.read.new.self c.close.new.server.state c.close.new.sockets
     (asks_read c.args.c c.in-Ok.room c.args.server.now.state c.in-Ok.ensures c.if-room-eq0.false) refl refl tt
-    (rw c.in-Ok-End.field-0-is at c.in-Ok-End.ensures.told) c.in-Ok-End.ensures.count c.close.ensures
+    (subst (λ k. Grows (g.S.Sockets.calls c.args.sockets.now) (g.S.Sockets.calls c.read.new.self) (Ended (Client c.args.c) k ∷ [])) full (rw c.in-Ok-End.field-0-is at c.in-Ok-End.ensures.told)) c.in-Ok-End.ensures.count c.close.ensures
 
 pub returns-in-Err : goal.returns-in-Err
 returns-in-Err g c =
