@@ -4,8 +4,12 @@
 mod fault;
 pub mod laws;
 mod over_mio;
+mod pace;
+mod round;
+pub mod round_laws;
 mod scripted;
 mod sockets;
+mod standing;
 mod turns;
 
 pub use fault::LoopFault;
