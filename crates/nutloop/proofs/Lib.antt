@@ -3,3 +3,5 @@ pub mod Moving
 pub mod Opening
 pub mod Turning
 pub mod MoreTurns
+pub mod NextTurn
+pub mod Fairness

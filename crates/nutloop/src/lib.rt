@@ -4,9 +4,13 @@
 mod fault;
 pub mod laws;
 mod over_mio;
+mod pace;
+mod round;
+pub mod round_laws;
 mod scripted;
 mod serving;
 mod sockets;
+mod standing;
 mod turns;
 
 pub use fault::LoopFault;

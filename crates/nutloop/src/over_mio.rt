@@ -6,6 +6,7 @@ mod clients;
 mod door;
 mod drivers;
 mod partings;
+mod peers;
 mod readiness;
 mod rounds;
 

@@ -1,9 +1,10 @@
 //! The sockets of drivers.
-use super::readiness::{Readiness, both_ways};
-use crate::sockets::Ready;
+use super::readiness::both_ways;
+use crate::round::Flags;
+use crate::standing::{Readiness, driver_flags, is_driver_owed};
 use mio::net::UnixStream;
 use mio::{Registry, Token};
-use nutcore::{Peer, Server, UpsId};
+use nutcore::{Server, UpsId};
 use std::io;
 use std::net::Net;
 
@@ -22,7 +23,7 @@ pub(super) struct DriverSocket {
 
 impl DriverSocket {
     /// Connects to the driver of a UPS, whose socket has this path.
-    fn connect<R: Net>(rt: &R, registry: &Registry, u: UpsId, path: &str) -> io::Result<Self> {
+    pub fn connect<R: Net>(rt: &R, registry: &Registry, u: UpsId, path: &str) -> io::Result<Self> {
         let mut stream = UnixStream::connect(rt, path)?;
         registry.register(&mut stream, token(u), both_ways())?;
         Ok(DriverSocket {
@@ -33,27 +34,9 @@ impl DriverSocket {
         })
     }
 
-    /// What is told of it, if anything. It is read also while it takes nothing.
-    pub fn visit(&mut self, server: &Server) -> Option<Ready> {
-        if !self.is_told {
-            self.is_told = true;
-            return Some(Ready::DriverUp(self.u));
-        }
-        if self.is_owed(server) {
-            return Some(Ready::Write(Peer::Driver(self.u)));
-        }
-        self.readiness
-            .readable
-            .then_some(Ready::Read(Peer::Driver(self.u)))
-    }
-
-    /// Whether something is to be told of it.
-    pub fn is_ready(&self, server: &Server) -> bool {
-        !self.is_told || self.readiness.readable || self.is_owed(server)
-    }
-
-    fn is_owed(&self, server: &Server) -> bool {
-        self.readiness.writable && server.driver_offered(self.u) != Ok(0)
+    /// What may be done with it.
+    pub fn flags(&self, server: &Server) -> Flags {
+        driver_flags(self.readiness, self.is_told, is_driver_owed(server, self.u))
     }
 }
 
@@ -71,25 +54,12 @@ pub(super) fn driver_of(drivers: &mut [DriverSocket], event: Token) -> Option<&m
     drivers.iter_mut().find(|driver| token(driver.u) == event)
 }
 
-/// Connects to the drivers that aren't, where a path is named. One that can't be connected to is passed over.
-pub(super) fn connect_to_drivers<R: Net>(
-    rt: &R,
-    registry: &Registry,
-    server: &Server,
-    drivers: &mut Vec<DriverSocket>,
-) {
-    for place in 0..server.ups().len() {
-        let u = UpsId { place: place as u8 };
-        if let Some(path) = missing(server, drivers, u) {
-            if let Ok(socket) = DriverSocket::connect(rt, registry, u, path) {
-                let _ = drivers.push(socket);
-            }
-        }
-    }
-}
-
 /// The path of the UPS's socket, where its driver isn't connected.
-fn missing<'a>(server: &'a Server, drivers: &mut [DriverSocket], u: UpsId) -> Option<&'a str> {
+pub(super) fn missing<'a>(
+    server: &'a Server,
+    drivers: &mut [DriverSocket],
+    u: UpsId,
+) -> Option<&'a str> {
     match driver(drivers, u) {
         Some(_) => None,
         None => server.ups().socket(u),

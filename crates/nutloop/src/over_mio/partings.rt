@@ -1,5 +1,6 @@
 //! The sockets of clients whose sessions have ended.
 use super::clients::ClientSocket;
+use crate::pace::Pace;
 use mio::Token;
 use mio::net::TcpStream;
 use std::io::{ErrorKind, Read};
@@ -7,9 +8,6 @@ use std::net::Shutdown;
 
 /// The most sockets that are read on after their sessions. Of more the oldest one is closed.
 pub(super) const PARTING_LIMIT: usize = 64;
-
-/// For how many ticks at most they are read on.
-const PARTING_TICKS: u64 = 2;
 
 /// The most bytes that are read of such a socket between two polls.
 const PIECE: usize = 4096;
@@ -40,8 +38,9 @@ impl Parting {
     }
 }
 
-/// Tells the client that nothing more is sent, and reads on up to its end. Where it has ended its socket is closed.
-pub(super) fn part(partings: &mut Vec<Parting>, client: ClientSocket, second: u64) {
+/// Tells the client that nothing more is sent, and reads on up to its end, until this second at the latest. Where it has
+/// ended its socket is closed.
+pub(super) fn part(partings: &mut Vec<Parting>, client: ClientSocket, until: u64) {
     if client.readiness.ended || client.stream.shutdown(Shutdown::Write).is_err() {
         return;
     }
@@ -51,15 +50,15 @@ pub(super) fn part(partings: &mut Vec<Parting>, client: ClientSocket, second: u6
     let _ = partings.push(Parting {
         token: client.token,
         stream: client.stream,
-        until: second.saturating_add(PARTING_TICKS),
+        until,
         readable: true,
     });
 }
 
 /// Reads a piece of each that may be read, and closes those that have ended, or whose time is over.
-pub(super) fn drain_all(partings: &mut Vec<Parting>, second: u64) {
+pub(super) fn drain_all(partings: &mut Vec<Parting>, pace: &Pace) {
     partings.retain_mut(|parting| {
-        let ended = parting.readable && parting.drain();
-        !ended && second < parting.until
+        let has_ended = parting.readable && parting.drain();
+        pace.keeps(parting.until, has_ended)
     });
 }

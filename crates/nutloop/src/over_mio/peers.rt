@@ -1,0 +1,203 @@
+//! The sockets of all peers, and their places in the round.
+ghost use Rattle.std.specs.Prelude.{◌≤◌, length, IfOk};
+ghost use Rattle.nutloop.specs.Sockets.{AtMost};
+
+use super::clients::{ClientSocket, client};
+use super::door::Newcomer;
+use super::drivers::{DriverSocket, driver, driver_of, missing};
+use super::partings::{PARTING_LIMIT, Parting, drain_all, part};
+use super::readiness::{read, told_by, write};
+use crate::pace::Pace;
+use crate::round::{Flags, Round, Seat};
+use crate::sockets::{Broken, Got, Ready};
+use crate::standing::{Readiness, ready_of};
+use mio::Registry;
+use mio::event::Event;
+use nutcore::{ClientId, Peer, SESSION_LIMIT, Server, UpsId};
+use nutusers::UPS_LIMIT;
+use std::alloc::Global;
+use std::io;
+use std::net::Net;
+
+/// The most seats: those of all clients and drivers, and the listener's.
+const SEAT_LIMIT: usize = SESSION_LIMIT + UPS_LIMIT + 1;
+
+/// The sockets of all peers. The round knows what may be done with each of them: of a client it changes by its own turns
+/// and by events, of a driver by any turn.
+#[derive(Drop)]
+pub(super) struct Peers {
+    pub round: Round,
+    clients: Vec<ClientSocket>,
+    drivers: Vec<DriverSocket>,
+    partings: Vec<Parting>,
+}
+
+impl Peers {
+    pub fn new(alloc: Global) -> io::Result<Peers> {
+        let mut round = Round::new(alloc, SEAT_LIMIT)?;
+        round.enter(Seat::Listener)?;
+        Ok(Peers {
+            round,
+            clients: Vec::with_capacity(alloc, SESSION_LIMIT)?,
+            drivers: Vec::with_capacity(alloc, UPS_LIMIT)?,
+            partings: Vec::with_capacity(alloc, PARTING_LIMIT)?,
+        })
+    }
+
+    /// Connects to the drivers that aren't, where a path is named. One that can't be connected to is passed over.
+    pub fn connect<R: Net>(&mut self, rt: &R, registry: &Registry, server: &Server) {
+        for place in 0..server.ups().len() {
+            let u = UpsId { place: place as u8 };
+            let Some(path) = missing(server, &mut self.drivers, u) else {
+                continue;
+            };
+            if let Ok(socket) = DriverSocket::connect(rt, registry, u, path) {
+                self.take_driver(socket, server);
+            }
+        }
+    }
+
+    /// Takes in a driver. There is room, of seats too: no server has more UPSs, or more sessions.
+    fn take_driver(&mut self, socket: DriverSocket, server: &Server) {
+        let (seat, flags) = (Seat::Driver(socket.u), socket.flags(server));
+        if self.drivers.push(socket).is_ok() {
+            let _ = self.round.enter(seat);
+            self.round.note(seat, flags);
+        }
+    }
+
+    /// Takes the newcomer in as the client of this session.
+    pub fn take_client(&mut self, newcomer: Newcomer, c: ClientId) {
+        let socket = ClientSocket {
+            id: c,
+            token: newcomer.token,
+            stream: newcomer.stream,
+            readiness: Readiness::new(),
+            is_owed: false,
+        };
+        if self.clients.push(socket).is_ok() {
+            let _ = self.round.enter(Seat::Client(c));
+        }
+    }
+
+    /// Notes what an event tells of a peer.
+    pub fn hear(&mut self, event: &Event, server: &Server) {
+        let token = event.token();
+        if let Some(driver) = driver_of(&mut self.drivers, token) {
+            driver.readiness.hear(told_by(event));
+            self.round
+                .note(Seat::Driver(driver.u), driver.flags(server));
+        } else if let Some(client) = self.clients.iter_mut().find(|x| x.token == token) {
+            client.readiness.hear(told_by(event));
+            let flags = client.flags(server);
+            self.round.note(Seat::Client(client.id), flags);
+        } else if let Some(parting) = self.partings.iter_mut().find(|x| x.token == token) {
+            parting.readable = true;
+        }
+    }
+
+    /// Notes what may be done now with whoever had the last turn, and with each driver, for which it may have left orders.
+    pub fn refresh(&mut self, server: &Server) {
+        if let Seat::Client(c) = self.round.last() {
+            if let Some(client) = client(&mut self.clients, c) {
+                let flags = client.flags(server);
+                self.round.note(Seat::Client(c), flags);
+            }
+        }
+        for driver in self.drivers.iter() {
+            self.round
+                .note(Seat::Driver(driver.u), driver.flags(server));
+        }
+    }
+
+    /// Notes whether newcomers may be waiting.
+    pub fn note_newcomers(&mut self, is_knocked_at: bool) {
+        let flags = Flags {
+            readable: is_knocked_at,
+            writable: false,
+        };
+        self.round.note(Seat::Listener, flags);
+    }
+
+    /// What the next turn is, if anybody is ready.
+    pub fn take_turn(&mut self, pace: &mut Pace) -> Option<Ready> {
+        let turn = self.round.take_turn()?;
+        pace.count(turn);
+        let is_told = self.is_told(turn.seat);
+        Some(ready_of(turn, is_told))
+    }
+
+    /// Whether it was told before that who has this seat is there. From now on it was.
+    fn is_told(&mut self, seat: Seat) -> bool {
+        let Seat::Driver(u) = seat else {
+            return true;
+        };
+        let Some(driver) = driver(&mut self.drivers, u) else {
+            return true;
+        };
+        let is_told = driver.is_told;
+        driver.is_told = true;
+        is_told
+    }
+
+    /// Reads into the front of the buffer. A peer that isn't there has ended.
+    pub fn read(&mut self, p: Peer, into: &mut [u8]) -> Result<Got, Broken>
+        ensures bound { AtMost result into.new }
+    {
+        match p {
+            Peer::Client(c) => match client(&mut self.clients, c) {
+                Some(x) => read(&mut x.stream, &mut x.readiness, into, x.is_owed),
+                None => Ok(Got::End),
+            },
+            Peer::Driver(u) => match driver(&mut self.drivers, u) {
+                Some(x) => read(&mut x.stream, &mut x.readiness, into, false),
+                None => Ok(Got::End),
+            },
+        }
+    }
+
+    /// Writes a beginning of the bytes.
+    pub fn write(&mut self, p: Peer, from: &[u8]) -> Result<usize, Broken>
+        ensures bound { IfOk result (λ n. n ≤ length from.now) }
+    {
+        match p {
+            Peer::Client(c) => match client(&mut self.clients, c) {
+                Some(x) => write(&mut x.stream, &mut x.readiness, from),
+                None => Err(Broken),
+            },
+            Peer::Driver(u) => match driver(&mut self.drivers, u) {
+                Some(x) => write(&mut x.stream, &mut x.readiness, from),
+                None => Err(Broken),
+            },
+        }
+    }
+
+    /// Lets a peer go.
+    pub fn shut(&mut self, p: Peer, pace: &Pace) {
+        match p {
+            Peer::Client(c) => self.shut_client(c, pace),
+            Peer::Driver(u) => {
+                self.round.leave(Seat::Driver(u));
+                self.drivers.retain(|driver| driver.u != u);
+            }
+        }
+    }
+
+    fn shut_client(&mut self, c: ClientId, pace: &Pace) {
+        self.round.leave(Seat::Client(c));
+        if let Some(place) = self.clients.iter().position(|client| client.id == c) {
+            let client = self.clients.remove(place);
+            part(&mut self.partings, client, pace.parting_end());
+        }
+    }
+
+    /// Whether something that clients sent after their sessions is still to be read and dropped.
+    pub fn is_draining(&self) -> bool {
+        self.partings.iter().any(|parting| parting.readable)
+    }
+
+    /// Reads and drops what such clients sent.
+    pub fn drain(&mut self, pace: &Pace) {
+        drain_all(&mut self.partings, pace);
+    }
+}
