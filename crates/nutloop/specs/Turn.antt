@@ -76,7 +76,8 @@ ask s (Read (Driver u)) = if has_driver u s then reads (Driver u) DRIVER_READ_LI
 ask s (Write (Client c)) = write_of (Client c) (offered (session c s))
 ask s (Write (Driver u)) = write_of (Driver u) (owed_to_driver u s)
 
--- Which answers that call has; a newcomer's address is lawful. An `accept` that fails is no row: the
+-- Which answers that call has; a newcomer's address is lawful. An `accept` that fails is no row:
+-- the
 -- turn fails.
 abbrev pub MayAnswer : Ask → Answer → Type 0
 MayAnswer nobody unasked = ⊤
