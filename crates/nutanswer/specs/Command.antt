@@ -128,27 +128,47 @@ abbrev pub read_list : List (List ℕ) → Result Command ErrWord
 read_list [] = Err InvalidArgument
 read_list (kind ∷ words) = list_of kind words
 
--- The command with this first word and these words after it: one case a first word.
-abbrev pub command_named : List ℕ → List (List ℕ) → Result Command ErrWord
-command_named first words =
-    if is_word first (codes "GET") then read_get words
-    else if is_word first (codes "LIST") then read_list words
-    else if is_word first (codes "USERNAME")
-    then command_with (λ name. Username name) (user_name_alone words)
-    else if is_word first (codes "PASSWORD")
-    then command_with (λ password. Password password) (password_alone words)
-    else if is_word first (codes "LOGIN") then command_with (λ ups. Login ups) (ups_alone words)
-    else if is_word first (codes "LOGOUT") then alone Logout words
-    else if is_word first (codes "PRIMARY") then command_with (λ ups. Primary ups) (ups_alone words)
-    else if is_word first (codes "FSD") then command_with (λ ups. Fsd ups) (ups_alone words)
-    else if is_word first (codes "SET") then read_set words
-    else if is_word first (codes "INSTCMD") then read_instcmd words
-    else if is_word first (codes "HELP") then alone Help words
+-- The commands that ask what the server is: one case a first word, here and below.
+abbrev pub server_command : List ℕ → List (List ℕ) → Result Command ErrWord
+server_command first words =
+    if is_word first (codes "HELP") then alone Help words
     else if is_word first (codes "VER") then alone Ver words
     else if is_word first (codes "NETVER") then alone NetVer words
     else if is_word first (codes "PROTVER") then alone ProtVer words
     else if is_word first (codes "STARTTLS") then alone StartTls words
     else Err UnknownCommand
+
+-- Those of orders to drivers, and the ones above.
+abbrev pub order_command : List ℕ → List (List ℕ) → Result Command ErrWord
+order_command first words =
+    if is_word first (codes "SET") then read_set words
+    else if is_word first (codes "INSTCMD") then read_instcmd words
+    else server_command first words
+
+-- Those of logins and of forced shutdowns, and the ones above.
+abbrev pub login_command : List ℕ → List (List ℕ) → Result Command ErrWord
+login_command first words =
+    if is_word first (codes "LOGIN") then command_with (λ ups. Login ups) (ups_alone words)
+    else if is_word first (codes "LOGOUT") then alone Logout words
+    else if is_word first (codes "PRIMARY") then command_with (λ ups. Primary ups) (ups_alone words)
+    else if is_word first (codes "FSD") then command_with (λ ups. Fsd ups) (ups_alone words)
+    else order_command first words
+
+-- Those of who asks, and the ones above.
+abbrev pub user_command : List ℕ → List (List ℕ) → Result Command ErrWord
+user_command first words =
+    if is_word first (codes "USERNAME")
+    then command_with (λ name. Username name) (user_name_alone words)
+    else if is_word first (codes "PASSWORD")
+    then command_with (λ password. Password password) (password_alone words)
+    else login_command first words
+
+-- The command with this first word and these words after it: GET and LIST, and the ones above.
+abbrev pub command_named : List ℕ → List (List ℕ) → Result Command ErrWord
+command_named first words =
+    if is_word first (codes "GET") then read_get words
+    else if is_word first (codes "LIST") then read_list words
+    else user_command first words
 
 abbrev pub some_command : Result Command ErrWord → Result (Option Command) ErrWord
 some_command (Err word) = Err word

@@ -13,7 +13,7 @@ use nutusers::{Password, UserName};
 use nutwords::{Name, SpelledWord, SpelledWords, UpsName, Value, spelled_words};
 
 /// A command of a client. A word that is no lawful name names nothing.
-#[derive(Clone, Debug, PartialEq, Eq, Drop)]
+#[derive(Debug, PartialEq, Eq, Drop)]
 pub enum Command {
     /// `USERNAME`: the name of the user who asks; `None` where it isn't as long as one may be.
     Username(Option<UserName>),
@@ -72,7 +72,7 @@ pub enum Command {
 
 impl Command {
     ghost use Rattle.nutwords.specs.Spelled.{spelled};
-    ghost use Rattle.nutanswer.specs.Command.{read_command, command_of, command_named, read_set, set_of, read_get, get_of, read_list, list_of};
+    ghost use Rattle.nutanswer.specs.Command.{read_command, command_of, command_named, user_command, login_command, order_command, server_command, read_set, set_of, read_get, get_of, read_list, list_of};
 
     /// Reads a line without its LF, of at most 1,023 bytes. A line without words is no command.
     ///
@@ -100,7 +100,7 @@ impl Command {
         Ok(Some(command))
     }
 
-    /// The command that is called so, with these words after its first.
+    /// The command that is called so, with these words after its first: a GET or a LIST, or else of another kind.
     fn named(first: &SpelledWord<'_>, words: SpelledWords<'_>) -> Result<Command, ErrWord>
         ensures { result ≡ command_named (spelled first.now) words.entry }
     {
@@ -108,24 +108,65 @@ impl Command {
             Command::get(words)
         } else if first.is_word(b"LIST") {
             Command::list(words)
-        } else if first.is_word(b"USERNAME") {
-            Ok(Command::Username(user_name_alone(words)?))
+        } else {
+            Command::of_user(first, words)
+        }
+    }
+
+    /// The command of who asks, or else of another kind.
+    fn of_user(first: &SpelledWord<'_>, words: SpelledWords<'_>) -> Result<Command, ErrWord>
+        ensures { result ≡ user_command (spelled first.now) words.entry }
+    {
+        if first.is_word(b"USERNAME") {
+            let name = user_name_alone(words)?;
+            Ok(Command::Username(name))
         } else if first.is_word(b"PASSWORD") {
-            Ok(Command::Password(password_alone(words)?))
-        } else if first.is_word(b"LOGIN") {
-            Ok(Command::Login(ups_alone(words)?))
+            let password = password_alone(words)?;
+            Ok(Command::Password(password))
+        } else {
+            Command::of_login(first, words)
+        }
+    }
+
+    /// The command of a login or a forced shutdown, or else of another kind.
+    fn of_login(first: &SpelledWord<'_>, words: SpelledWords<'_>) -> Result<Command, ErrWord>
+        ensures { result ≡ login_command (spelled first.now) words.entry }
+    {
+        if first.is_word(b"LOGIN") {
+            let ups = ups_alone(words)?;
+            Ok(Command::Login(ups))
         } else if first.is_word(b"LOGOUT") {
             alone(Command::Logout, words)
         } else if first.is_word(b"PRIMARY") {
-            Ok(Command::Primary(ups_alone(words)?))
+            let ups = ups_alone(words)?;
+            Ok(Command::Primary(ups))
         } else if first.is_word(b"FSD") {
-            Ok(Command::Fsd(ups_alone(words)?))
-        } else if first.is_word(b"SET") {
+            let ups = ups_alone(words)?;
+            Ok(Command::Fsd(ups))
+        } else {
+            Command::of_order(first, words)
+        }
+    }
+
+    /// The command of an order to a driver, or else of another kind.
+    fn of_order(first: &SpelledWord<'_>, words: SpelledWords<'_>) -> Result<Command, ErrWord>
+        ensures { result ≡ order_command (spelled first.now) words.entry }
+    {
+        if first.is_word(b"SET") {
             Command::set(words)
         } else if first.is_word(b"INSTCMD") {
             let (ups, name, value) = ups_name_and_value_if_any(words)?;
             Ok(Command::InstCmd(ups, name, value))
-        } else if first.is_word(b"HELP") {
+        } else {
+            Command::of_server(first, words)
+        }
+    }
+
+    /// The command that asks what the server is.
+    fn of_server(first: &SpelledWord<'_>, words: SpelledWords<'_>) -> Result<Command, ErrWord>
+        ensures { result ≡ server_command (spelled first.now) words.entry }
+    {
+        if first.is_word(b"HELP") {
             alone(Command::Help, words)
         } else if first.is_word(b"VER") {
             alone(Command::Ver, words)
