@@ -549,6 +549,43 @@ def drivers_and_ticks_are_not_late_in_a_flood():
             client.close()
 
 
+def report(driver, seconds):
+    """The driver tells its moment, in the background, a thousand times a second."""
+    begin = time.monotonic()
+
+    def send():
+        while time.monotonic() < begin + seconds:
+            driver.send(b'SETINFO battery.charge "%d"\n' % int(1000 * (time.monotonic() - begin)))
+            time.sleep(0.001)
+    thread = threading.Thread(target=send)
+    thread.start()
+    return begin, thread
+
+
+@case
+def a_driver_with_orders_at_each_moment_is_heard():
+    told = TWO + b'SETINFO ups.delay "20"\nSETFLAGS ups.delay RW\nADDRANGE ups.delay 0 600\n'
+    with served(told, "--maxage", "3") as (server, driver, good):
+        clients = [server.client() for _ in range(2)]
+        assert all(client.ask(ADMIN) == b"OK\n" * 2 for client in clients)
+        orders = drain(driver)
+        begin, reports = report(driver, 5.0)
+        threads = [flood(client, b"SET VAR su ups.delay 30\n" * 200, 4.5) for client in clients]
+        readers = [drain(client) for client in clients]
+        assert comes(lambda: good.ask(b"GET VAR su battery.charge\n") != b'VAR su battery.charge "100"\n')
+        worst = 0.0
+        while time.monotonic() < begin + 4.5:
+            line = good.ask(b"GET VAR su battery.charge\n")
+            assert line.startswith(b"VAR"), line
+            worst = max(worst, time.monotonic() - begin - int(line.split(b'"')[1]) / 1000)
+            time.sleep(0.02)
+        for thread in [*threads, *readers, reports, orders]:
+            thread.join()
+        for client in clients:
+            client.close()
+        assert worst < 1.0, f"what the driver told was {worst:.3f} s old"
+
+
 def drain(client):
     """Reads and drops, in the background, up to the end or a pause."""
     def read():
