@@ -1,13 +1,11 @@
 -- Nobody is passed over.
-use Rattle.std.proofs.Common.{◌≡◌, ◌≢◌, ◌+◌, ◌-◌, ◌<◌, ◌≤◌, ◌⊎◌, ◌∙◌, ℕ, Bool, true, false, List, [], ◌∷◌, Option, Some, None, refl, sym, ap, subst, inl, inr, arith, length, get_or}
+use Rattle.std.proofs.Common.{◌≡◌, ◌≢◌, ◌+◌, ◌<◌, ◌≤◌, ◌⊎◌, ◌∙◌, ℕ, List, [], ◌∷◌, refl, ap, subst, inl, inr, arith, length, get_or}
 use Rattle.std.specs.Prelude.{nat_lt, if◌then◌else◌}
 use Rattle.std.proofs.lemmas.Option.{get_or_from_slice_get, slice_get_within}
 use Rattle.nutloop.specs.declared.round.Seat.{Seat}
 use Rattle.nutloop.specs.declared.round.Seat.TheVariants.{Client, Driver, Listener}
 use Rattle.nutloop.specs.declared.round.Place.{Place}
-use Rattle.nutloop.specs.declared.round.Way.{Way}
-use Rattle.nutloop.specs.declared.round.Way.TheVariants.{Read, Write}
-use Rattle.nutloop.specs.Round.{rank, ahead, SEATS, is_ready, is_read, way_of, IsNext, Given, GoRound, last_of, Has, IsReadyAmong, IsReadyThroughout, NobodyIsPassedOver, EverySecondTurn}
+use Rattle.nutloop.specs.Round.{rank, ahead, SEATS, is_ready, Given, GoRound, last_of, Has, IsReadyThroughout, NobodyIsPassedOver}
 
 rank_fits : (s : Seat) → rank s < SEATS
 rank_fits (Client c) = omega arith

@@ -1,10 +1,10 @@
 -- Finding the next one: the least ahead of those that were looked at so far.
-use Rattle.std.proofs.Common.{◌≡◌, ◌+◌, ◌-◌, ◌^◌, ◌<◌, ◌≤◌, ◌⊎◌, ◌∙◌, ℕ, Bool, true, false, List, Option, Some, None, refl, sym, ap, subst, inl, inr, arith, length, get_or, le_trans, le_refl}
-use Rattle.std.specs.List.{All, HoldsAt}
+use Rattle.std.proofs.Common.{◌≡◌, ◌+◌, ◌-◌, ◌^◌, ◌<◌, ◌≤◌, ◌⊎◌, ◌∙◌, ℕ, Bool, true, false, List, Option, Some, None, refl, sym, subst, inl, inr, arith, length, get_or, le_trans, le_refl}
+use Rattle.std.specs.List.{HoldsAt}
 use Rattle.std.proofs.lemmas.List.{get_or_default}
 use Rattle.nutloop.specs.declared.round.Seat.{Seat}
 use Rattle.nutloop.specs.declared.round.Place.{Place}
-use Rattle.nutloop.specs.Round.{ahead, is_ready, IsNext, IsNextAt, FindsNext}
+use Rattle.nutloop.specs.Round.{ahead, is_ready, FindsNext}
 
 -- It is ready, and so far ahead.
 pub record IsAhead (last : Seat) (least : ℕ) (p : Place) : Type 0 where
