@@ -1,7 +1,6 @@
 -- When the system is asked, and the clock.
 use Rattle.std.specs.Prelude.{◌≡◌, ◌+◌, ◌-◌, ◌*◌, ◌^◌, ◌≤◌, ◌⊎◌, ◌||◌, ℕ, Bool, true, false, List}
-use Rattle.std.specs.Prelude.{Option}
-use Rattle.std.specs.Prelude.{Some, None, if◌then◌else◌, nat_lt, min, max}
+use Rattle.std.specs.Prelude.{Option, Some, None, if◌then◌else◌, nat_lt, min, max}
 use Rattle.nutloop.specs.declared.pace.Pace.{Pace}
 use Rattle.nutloop.specs.declared.pace.TheConstants.{MOST_TURNS, PARTING_TICKS}
 use Rattle.nutloop.specs.declared.round.Place.{Place}

@@ -1,7 +1,6 @@
 -- What may be done with a peer, by its socket and by the server, and what is told of its turn.
-use Rattle.std.specs.Prelude.{◌≡◌, ◌≢◌, ◌⊎◌, ◌||◌, ◌&&◌, ◌==◌, ℕ, zero, suc, Bool, true, false, not}
-use Rattle.std.specs.Prelude.{if◌then◌else◌}
-use Rattle.std.specs.Prelude.{Result, Ok, Err, length}
+use Rattle.std.specs.Prelude.{◌≡◌, ◌≢◌, ◌⊎◌, ◌||◌, ◌&&◌, ◌==◌, ℕ, zero, suc, Bool, true, false}
+use Rattle.std.specs.Prelude.{not, if◌then◌else◌, Result, Ok, Err, length}
 use Rattle.std.specs.declared.io.Error.{Error}
 use Rattle.std.specs.declared.io.ErrorKind.TheVariants as kind
 use Rattle.std.specs.IoError.{error_kind}
@@ -82,8 +81,7 @@ took_by Failed = Err (record {})
 
 -- A client that is owed something may be written to, and read where its session has room, unless it
 -- has ended: the read would tell the end, and it would lose what it is owed. One that is finished
--- is
--- written to, which closes it.
+-- is written to, which closes it.
 abbrev pub client_flags : Readiness → Standing → Flags
 client_flags socket x =
     if x.is_owed

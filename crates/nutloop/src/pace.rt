@@ -42,15 +42,16 @@ impl Pace {
         self.was_driver_read |= matches!((turn.seat, turn.way), (Seat::Driver(_), Way::Read));
     }
 
-    /// Whether the system is asked before the next turn: after so many turns, and after a round in which a driver was read.
+    /// Whether the system is asked before the next turn: after so many turns, and after a round in which a driver was
+    /// read.
     pub fn is_due(&self, round: &Round) -> bool
         ensures { IsTrue result ↔ IsDue self.now round.now.last round.now.places.items }
     {
         self.turns >= MOST_TURNS || (self.was_driver_read && round.is_over())
     }
 
-    /// How long the system may be waited for, so long after the start: up to the next tick, or not at all where there is
-    /// something to read and drop.
+    /// How long the system may be waited for, so long after the start: up to the next tick, or not at all where there
+    /// is something to read and drop.
     pub fn wait(&self, is_draining: bool, elapsed: Duration) -> Duration
         ensures { as_nanos result ≡ until_tick is_draining self.now.second (as_nanos elapsed) }
     {

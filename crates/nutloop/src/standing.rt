@@ -88,8 +88,8 @@ impl Readiness {
         self.ended |= told.ended;
     }
 
-    /// What a read gave, that had room for so many bytes. One that gives less has emptied the socket, unless the peer has
-    /// ended. An end is told once nothing is owed to the peer: it would lose that.
+    /// What a read gave, that had room for so many bytes. One that gives less has emptied the socket, unless the peer
+    /// has ended. An end is told once nothing is owed to the peer: it would lose that.
     pub fn read(&mut self, answer: Answer, room: usize, is_owed: bool) -> Result<Got, Broken>
         ensures socket { self.new ≡ after_read answer room self.old }
         ensures told { result ≡ got_by answer is_owed }
@@ -136,8 +136,8 @@ impl Readiness {
     }
 }
 
-/// What may be done with a client. While it is owed something, it is read where its session has room, unless it has ended.
-/// One that is finished is written to, which closes it.
+/// What may be done with a client. While it is owed something, it is read where its session has room, unless it has
+/// ended. One that is finished is written to, which closes it.
 pub(crate) fn client_flags(socket: Readiness, standing: Standing) -> Flags
     ensures { result ≡ client_flags socket standing }
 {
