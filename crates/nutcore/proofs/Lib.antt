@@ -33,6 +33,7 @@ mod OrderFits
 mod SoundUps
 mod Sound
 mod Bounded
+mod Takes
 mod Taking
 mod Listed
 mod DriverHistory
