@@ -35,6 +35,7 @@ mod Sound
 mod Bounded
 mod Takes
 mod Taking
+mod TakingAmongOthers
 mod Listed
 mod DriverHistory
 mod DriverOrders

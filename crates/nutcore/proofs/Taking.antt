@@ -84,7 +84,7 @@ counted_more s c counts rest =
     let more = take_counts s c rest.events rest.outcomes counts in
     one_more s c rest (omega (arith, few, more))
 
-none_owed : (bytes : List ℕ) → length bytes ≤ 0 → bytes ≡ []
+pub none_owed : (bytes : List ℕ) → length bytes ≤ 0 → bytes ≡ []
 none_owed [] le = refl
 none_owed (b ∷ bytes) le = absurd (omega arith)
 
