@@ -22,8 +22,8 @@ both : (P : Execution → Type 0) (xs ys : List Execution) → Each P xs → Eac
 both P _ ys none_left more = more
 both P _ ys (one_more {rest = rest} first others) more = one_more first (both P rest ys others more)
 
-each_notice : (P : Execution → Type 0) (c : ℕ) (b : Bool) → P (of_notice c) → Each P (cond b (of_notice c ∷ []) [])
-each_notice P c true at_notice = one_more at_notice none_left
+each_notice : (P : Execution → Type 0) (c : ℕ) (b : Bool) → (b ≡ true → P (of_notice c)) → Each P (cond b (of_notice c ∷ []) [])
+each_notice P c true at_notice = one_more (at_notice refl) none_left
 each_notice P c false at_notice = none_left
 
 -- all that a pump executes has what its lines and its notice have
@@ -39,7 +39,7 @@ module _ (P : Execution → Type 0) (c : ℕ) (at_line : (s : ServerState) (line
 
   each_until : (s : ServerState) (m : Option ℕ) → Each P (executions_until s c m)
   unfolding executions_until pump_executions
-  each_until s None = both P _ _ (each_line _ s) (each_notice P c (is_overlong (after_all_lines s c) c) at_notice)
+  each_until s None = both P _ _ (each_line _ s) (each_notice P c (is_overlong (after_all_lines s c) c) (λ due. at_notice))
   each_until s (Some k) = each_line k s
 
 -- it is this client's
@@ -90,7 +90,7 @@ pump_line begun c (suc k) s j e =
 
 until_timely : (begun : ServerState) (c : ℕ) (m : Option ℕ) → Each (IsInPump begun c) (executions_until begun c m)
 unfolding executions_until pump_executions after_lines
-until_timely begun c None = both (IsInPump begun c) _ _ (pump_line begun c _ begun 0 refl) (each_notice (IsInPump begun c) c (is_overlong (after_all_lines begun c) c) refl)
+until_timely begun c None = both (IsInPump begun c) _ _ (pump_line begun c _ begun 0 refl) (each_notice (IsInPump begun c) c (is_overlong (after_all_lines begun c) c) (λ due. (refl, due)))
 until_timely begun c (Some k) = pump_line begun c k begun 0 refl
 
 when_each : (P : Execution → Type 0) (xs : List Execution) (b : Bool) → Each P xs → Each P (cond b xs [])

@@ -66,6 +66,7 @@ taken_kept n x y e h = subst IsSoundSession (sym e) (sound_output n x h)
 pub ups_kept : (v : ServerState) (u : UpsId) (x y : UpsState) → ups_at u.place v ≡ Some x → (IsSoundUps v.moment x → IsSoundUps v.moment y) → IsSound v →
     let code : ServerState = record v { upses = set v.upses u.place y } in IsSound code
 ups_kept v u x y there keeps h = record {
+  max_age = h.max_age;
   list = h.list;
   named = length-set v.upses u.place y ∙ h.named;
   few = h.few;
@@ -82,6 +83,7 @@ of_call {y = y} P called p = subst (λ (z : UpsState). P z y) called.shows (subs
 pub upses_kept : (v : ServerState) (change : Change) (xs : List UpsState) → xs ≡ changed_upses change v.upses → OrderFits change v.upses → IsSound v →
     let code : ServerState = record v { upses = xs } in IsSound code
 upses_kept v change xs e fits h = record {
+  max_age = h.max_age;
   list = h.list;
   named = ap length e ∙ length-changes change v.upses ∙ h.named;
   few = h.few;

@@ -33,7 +33,9 @@ mod OrderFits
 mod SoundUps
 mod Sound
 mod Bounded
+mod Takes
 mod Taking
+mod TakingAmongOthers
 mod Listed
 mod DriverHistory
 mod DriverOrders

@@ -84,6 +84,7 @@ sound_input piece x h = by_ending x.ending refl
 
 pub sound_with : (s : ServerState) (y : SessionState) → IsSoundSession y → IsSound s → IsSound (with_session s y)
 sound_with s y p h = record {
+  max_age = h.max_age;
   list = h.list;
   named = h.named;
   few = (let few = h.few in omega (arith, few, length-put y s.sessions));
@@ -106,6 +107,7 @@ sound_line_of s c (Some line) e h =
     let there = sound_with s y own h in
     let t : ServerState = line_done s change y in
     let is : IsSound t = record {
+      max_age = h.max_age;
       list = h.list;
       named = length-changes change s.upses ∙ h.named;
       few = there.few;
@@ -139,6 +141,7 @@ sound_until c s (Some k) h = sound_lines k c s h
 
 sound_upses : (f : UpsState → UpsState) (u : UpsId) (s : ServerState) → ((x : UpsState) → IsSoundUps s.moment x → IsSoundUps s.moment (f x)) → IsSound s → IsSound (with_ups_changed f u s)
 sound_upses f u s keeps h = record {
+  max_age = h.max_age;
   list = h.list;
   named = length-changed f u.place s.upses ∙ h.named;
   few = h.few;
@@ -155,6 +158,7 @@ sound_opened s address None h = by_room (may_open s) refl
     by_room true e =
         let room : length s.sessions < SESSION_LIMIT = ltb-true _ _ (and_true (nat_lt (length s.sessions) SESSION_LIMIT) (nat_lt s.next_id (2 ^ 64)) e).0 in
         record {
+          max_age = h.max_age;
           list = h.list;
           named = h.named;
           few = omega (arith, room, length-append s.sessions (new_session s.next_id address ∷ []));
@@ -170,6 +174,7 @@ unfolding ticked
 sound_ticked s seconds h =
     let now : ℕ = max seconds s.moment in
     record {
+      max_age = h.max_age;
       list = h.list;
       named = length-mapped (after_tick s.max_age now) s.upses ∙ h.named;
       few = h.few;
@@ -180,6 +185,7 @@ sound_ticked s seconds h =
 
 pub sound_closed : (s : ServerState) (c : ℕ) → IsSound s → (let t : ServerState = record s { sessions = without c s.sessions } in IsSound t)
 sound_closed s c h = record {
+  max_age = h.max_age;
   list = h.list;
   named = h.named;
   few = (let few = h.few in omega (arith, few, fewer c s.sessions));
@@ -215,7 +221,8 @@ module _ (empty : IsSoundTree empty_tree) (line_keeps : EachLineKeepsTheTreeSoun
   every_run_sound old new (e ∷ es) (o ∷ os) (mid, step, r) h = every_run_sound mid new es os r (each_event_sound old mid e o step h)
 
   pub new_sound : ANewServerIsSound
-  new_sound list users descriptions max_age lawful = record {
+  new_sound list users descriptions max_age lawful age = record {
+    max_age = age;
     list = lawful;
     named = length-same (length list) new_ups;
     few = omega arith;

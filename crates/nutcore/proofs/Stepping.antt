@@ -93,7 +93,7 @@ pub output_other : (c d : ℕ) (s : ServerState) (n : ℕ) → c ≢ d → prese
 unfolding without_output
 output_other c d s n differ = presence_other (taken_from n) (λ x. refl) c d s differ
 
-took_same : (c : ℕ) (s : ServerState) (n : ℕ) (m : Option ℕ) → may_take (session c s) n ≡ true →
+pub took_same : (c : ℕ) (s : ServerState) (n : ℕ) (m : Option ℕ) → may_take (session c s) n ≡ true →
     Progress (presence c s) (texts_of (executions_until (without_output s c n) c m)) (take n (owed_of (session c s))) [] (lines_of (executions_until (without_output s c n) c m)) (presence c (pumped_until (without_output s c n) c m))
 took_same c s n m may =
     let j = without_output s c n in
@@ -219,8 +219,11 @@ event_goes c s e o kept =
     subst (λ (ds : List Execution). Progress (presence c s) (texts_of ds) (taken_in_event c s e) (asked_in_event c s e) (lines_of ds) (presence c (after s e o))) (sym (given_is c s e (refused_after o))) (given_goes c s e (refused_after o) kept)
 
 -- what is one client's of two lists
-two_lists : (f : Execution → List ℕ) (c : ℕ) (xs ys : List Execution) → flat_map f (of_client c (xs ++ ys)) ≡ flat_map f (of_client c xs) ++ flat_map f (of_client c ys)
-two_lists f c xs ys = ap (flat_map f) (filter-append (λ x. eqb (client_of x) c) xs ys) ∙ flat_map-append f (of_client c xs) (of_client c ys)
+pub two_clients : (c : ℕ) (xs ys : List Execution) → of_client c (xs ++ ys) ≡ of_client c xs ++ of_client c ys
+two_clients c xs ys = filter-append (λ x. eqb (client_of x) c) xs ys
+
+pub two_lists : (f : Execution → List ℕ) (c : ℕ) (xs ys : List Execution) → flat_map f (of_client c (xs ++ ys)) ≡ flat_map f (of_client c xs) ++ flat_map f (of_client c ys)
+two_lists f c xs ys = ap (flat_map f) (two_clients c xs ys) ∙ flat_map-append f (of_client c xs) (of_client c ys)
 
 -- a run
 run_goes : (c : ℕ) (s t : ServerState) (es : List Event) (os : List Outcome) → Run s es os t → IsKept (presence c s) →

@@ -22,7 +22,7 @@ use Rattle.nutcore.specs.Session.{SessionState}
 use Rattle.nutcore.specs.Server.{ServerState, session, with_session}
 use Rattle.nutcore.specs.Reply.{seen, asker, reply}
 use Rattle.nutcore.specs.Pump.{next_line_for, pump_stops, after_line, after_lines, after_notice}
-use Rattle.nutcore.specs.Pump.{pumped, answered}
+use Rattle.nutcore.specs.Pump.{after_all_lines, is_overlong, pumped, answered}
 use Rattle.nutcore.specs.Step.{Step, with_input, without_output, outcome_of}
 use Rattle.nutcore.specs.Run.{Run}
 use Rattle.nutcore.specs.History.{Execution, of_line, of_notice, executions, answers, executed}
@@ -74,11 +74,12 @@ WhatWasAskedIsExecutedOrHeld =
     → Run old events outcomes new → (c : ℕ) → TakenUp c old events outcomes new
 
 -- It belongs to the pump that began so: the line is its client's next one once so many lines before
--- it are executed.
+-- it are executed; the notice comes once all lines are, where as many bytes are held as may be, and
+-- no LF is among them.
 abbrev pub IsInPump : ServerState → ℕ → Execution → Type 0
 IsInPump begun c (of_line s d line) =
     (d ≡ c) × (k : ℕ) × (s ≡ after_lines k begun c) × (next_line_for s c ≡ Some line)
-IsInPump begun c (of_notice d) = d ≡ c
+IsInPump begun c (of_notice d) = (d ≡ c) × (is_overlong (after_all_lines begun c) c ≡ true)
 
 -- It belongs to this event on this server: to the pump that begins once the bytes have come, or are
 -- taken.
@@ -110,7 +111,7 @@ pub record IsTimely (old : ServerState) (events : List Event) (outcomes : List O
   pub executed : IsInEvent server event x
 
 -- Each answer of a run is the reply to its line on the server of that point of that run, at which
--- the line was the next to be executed.
+-- the line was the next to be executed; each notice came where it was due.
 abbrev pub EachAnswerIsTimely : Type 0
 EachAnswerIsTimely =
     (old new : ServerState) (events : List Event) (outcomes : List Outcome)

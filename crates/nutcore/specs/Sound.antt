@@ -6,6 +6,7 @@ use Rattle.nutusers.specs.UpsList.{Ups, IsList}
 use Rattle.nutusers.specs.Users.{User}
 use Rattle.nutusers.specs.Descriptions.{Descriptions}
 use Rattle.nutcore.specs.declared.TheConstants.{HELD_LIMIT, DRIVER_OWED_LIMIT}
+use Rattle.nutcore.specs.declared.max_age.TheConstants.{MAX_AGE_LEAST, MAX_AGE_MOST}
 use Rattle.nutcore.specs.declared.event.Event.{Event}
 use Rattle.nutcore.specs.declared.event.Outcome.{Outcome}
 use Rattle.nutcore.specs.Session.{SessionState, IdsRise}
@@ -37,10 +38,15 @@ pub record IsSoundUps (moment : ℕ) (x : UpsState) : Type 0 where
   pub owed : length x.owed ≤ DRIVER_OWED_LIMIT
   pub lost : x.report.connected ≡ false → x ≡ record new_ups { fsd = x.fsd; faulty = x.faulty }
 
--- A server: the names of the UPSs of its list rise, and there are no more than there may be; a
--- state for each UPS of the list; at most 64 sessions, whose ids rise from 1; and all of them
--- sound.
+-- The seconds are a greatest age of what a driver reported: from 3 to 86,400.
+abbrev pub IsMaxAge : ℕ → Type 0
+IsMaxAge seconds = (MAX_AGE_LEAST ≤ seconds) × (seconds ≤ MAX_AGE_MOST)
+
+-- A server: its greatest age is one; the names of the UPSs of its list rise, and there are no more
+-- than there may be; a state for each UPS of the list; at most 64 sessions, whose ids rise from 1;
+-- and all of them sound.
 pub record IsSound (s : ServerState) : Type 0 where
+  pub max_age : IsMaxAge s.max_age
   pub list : IsList s.list
   pub named : length s.upses ≡ length s.list
   pub few : length s.sessions ≤ SESSION_LIMIT
@@ -48,11 +54,11 @@ pub record IsSound (s : ServerState) : Type 0 where
   pub sessions : Each IsSoundSession s.sessions
   pub upses : Each (IsSoundUps s.moment) s.upses
 
--- Of every list of UPSs, as each that was read is one.
+-- Of every list of UPSs, as each that was read is one, and every greatest age, as each `MaxAge` is.
 abbrev pub ANewServerIsSound : Type 0
 ANewServerIsSound =
     (list : List Ups) (users : List User) (descriptions : Descriptions) (max_age : ℕ) → IsList list
-    → IsSound (new_server list users descriptions max_age)
+    → IsMaxAge max_age → IsSound (new_server list users descriptions max_age)
 
 abbrev pub EachEventKeepsTheServerSound : Type 0
 EachEventKeepsTheServerSound =

@@ -7,7 +7,7 @@ ghost use Rattle.nutcore.specs.Examples.{TwoVariables, EmptyListing, TakenInFour
 ghost use Rattle.nutcore.specs.Isolation.{AClientTouchesNoOther, ADriverTouchesNoOther, ARefusedEventChangesNothing, ARefusedEventCostsNothing};
 ghost use Rattle.nutcore.specs.Limits.{Limits};
 ghost use Rattle.nutcore.specs.Bounded.{EachEventIsBounded};
-ghost use Rattle.nutcore.specs.Taking.{WhoTakesGetsEverything};
+ghost use Rattle.nutcore.specs.Taking.{WhoTakesGetsEverything, WhoTakesAmongOthersGetsEverything};
 ghost use Rattle.nutcore.specs.Lines.{WholeLinesAreTheCut};
 ghost use Rattle.nutcore.specs.DriverHistory.{WhatADriverToldIsExecuted};
 ghost use Rattle.nutcore.specs.DriverOrders.{WhatADriverWasSentAndIsOwedIsWhatItWasTold};
@@ -32,7 +32,8 @@ pub fn what_was_asked_is_executed_or_held()
 {}
 
 /// Each answer of a run is the reply to its line on the server of that point of that run: the one to which the run's own
-/// beginning leads, and on which the line was the next to be executed.
+/// beginning leads, and on which the line was the next to be executed. Each notice is joined at the end of its pump, where
+/// its client holds as many bytes as it may, no LF among them.
 pub fn each_answer_is_timely()
     ensures { EachAnswerIsTimely }
 {}
@@ -177,9 +178,12 @@ pub fn each_event_is_bounded()
 {}
 
 /// Of every server and every client there is a number of takes of all that is offered, one after another and with memory
-/// there, after which the client is owed nothing, and no line of it is held that may be executed.
+/// there, after which the client is owed nothing, and no line of it is held that may be executed. There are at most one for
+/// each 4,096 bytes of what is owed and is answered, one for each line that is executed, and one more; and no more lines
+/// are executed than bytes were held. So many takes are enough too where drivers and other clients do anything between.
 pub fn who_takes_gets_everything()
-    ensures { WhoTakesGetsEverything }
+    ensures alone { WhoTakesGetsEverything }
+    ensures among_others { WhoTakesAmongOthersGetsEverything }
 {}
 
 /// Given a server, an event and its outcome there is one next server, and but where memory is refused
