@@ -1,23 +1,79 @@
-//! The tests of nutmap.
+//! The map of nutmap, and a version of it.
+use crate::entries::{push_entries, push_pieces};
+use crate::kept::Kept;
+use crate::row::{Row, natural, natural32, parted};
+use crate::shown::{push_number, push_yes};
+use crate::versions;
+use nutmap::{Map, Meter, laws};
+use std::alloc::AllocError;
+use std::rc::Rc;
 
-mod calls;
-mod nodes;
-mod versions;
+/// The answer to a row of maps, if it is one.
+pub fn push_answer(
+    answer: &mut String,
+    kept: &mut Kept,
+    row: &Row<'_>,
+) -> Result<bool, AllocError> {
+    match row.kind {
+        "map" => fill(kept, natural32(row.text))?,
+        "map_set" => push_set(answer, kept, row.text)?,
+        "map_remove" => push_value(answer, removed(kept, natural32(row.text))?)?,
+        "map_get" => push_value(answer, kept.map.get(&(natural32(row.text))).copied())?,
+        "map_made" => push_number(answer, kept.meter.made())?,
+        "map_entries" => push_entries(answer, &kept.map, None)?,
+        "map_pieces" => push_pieces(answer, &kept.map)?,
+        _ => return push_of_versions(answer, kept, row),
+    }
+    Ok(true)
+}
 
-use nutmap::{Map, Meter};
-use std::alloc::{AllocError, Global};
+/// The answer to a row of versions, if it is one.
+fn push_of_versions(
+    answer: &mut String,
+    kept: &mut Kept,
+    row: &Row<'_>,
+) -> Result<bool, AllocError> {
+    match row.kind {
+        "map_share" => kept.map_version = kept.map.share()?,
+        "map_version" => push_entries(answer, &kept.map_version, None)?,
+        "map_version_after" => push_entries(answer, &kept.map_version, Some(natural32(row.text)))?,
+        "map_apart" => set_apart(kept)?,
+        "map_nodes" => push_nodes(answer, &kept.map, row.text)?,
+        "map_take_out" => push_number(answer, versions::take_out(kept.alloc, &mut kept.map)?)?,
+        "map_outlived" => push_outlived(answer, kept, natural32(row.text))?,
+        "map_random" => versions::push_random(answer, kept.alloc)?,
+        "map_laws" => call_laws(),
+        _ => return Ok(false),
+    }
+    Ok(true)
+}
 
 /// A map of the keys from 0 up to a number, each with itself as its value.
-fn counting(alloc: Global, len: u32, meter: &mut Meter) -> Result<Map<u32, u32>, AllocError> {
-    let mut map = Map::new(alloc);
+fn fill(kept: &mut Kept, len: u32) -> Result<(), AllocError> {
+    kept.map = Map::new(kept.alloc);
+    kept.meter = Meter::new();
     for key in 0..len {
-        let _ = map.insert(key, key, meter)?;
+        let _ = kept.map.insert(key, key, &mut kept.meter)?;
     }
-    Ok(map)
+    Ok(())
+}
+
+/// Gives a key the value behind the bar. The answer is what value it had.
+fn push_set(answer: &mut String, kept: &mut Kept, text: &[u8]) -> Result<(), AllocError> {
+    let (key, value) = parted(text);
+    let (key, value) = (natural32(key), natural32(value));
+    push_value(
+        answer,
+        changed(&mut kept.map, key, Some(value), &mut kept.meter)?,
+    )
+}
+
+fn removed(kept: &mut Kept, key: u32) -> Result<Option<u32>, AllocError> {
+    changed(&mut kept.map, key, None, &mut kept.meter)
 }
 
 /// Gives the key this value, or takes it out where there is none. Answers what value it had.
-fn changed(
+pub fn changed(
     map: &mut Map<u32, u32>,
     key: u32,
     value: Option<u32>,
@@ -33,19 +89,68 @@ fn changed(
     }
 }
 
-/// Whether a walk comes from the one key to the next with this value, and a look-up of that one finds the value too.
-fn is_next(map: &Map<u32, u32>, last: Option<&u32>, key: u32, value: u32) -> bool {
-    map.after(last) == Some((&key, &value)) && map.get(&key) == Some(&value)
+fn push_value(answer: &mut String, value: Option<u32>) -> Result<(), AllocError> {
+    match value {
+        Some(value) => push_number(answer, u64::from(value)),
+        None => answer.push_str("none"),
+    }
 }
 
-/// Whether the map has these entries alone, by its length, by look-ups and by a walk.
-fn has(map: &Map<u32, u32>, entries: &[(u32, u32)]) -> bool {
-    let mut last = None;
-    for (key, value) in entries {
-        if !is_next(map, last, *key, *value) {
-            return false;
-        }
-        last = Some(key);
-    }
-    map.len() == entries.len() && map.after(last).is_none()
+/// The value of the key, which outlives the map.
+fn push_outlived(answer: &mut String, kept: &mut Kept, key: u32) -> Result<(), AllocError> {
+    let value = taken_out(&kept.map, key)?;
+    kept.map = Map::new(kept.alloc);
+    push_value(answer, value.as_deref().copied())
+}
+
+/// What a version of the map had at the key that was taken out of it.
+fn taken_out(map: &Map<u32, u32>, key: u32) -> Result<Option<Rc<u32>>, AllocError> {
+    map.share()?.remove(&key, &mut Meter::new())
+}
+
+/// The version that the law of versions gives, of a map into which 5 comes and out of which 1 is taken.
+fn set_apart(kept: &mut Kept) -> Result<(), AllocError> {
+    kept.map_version = laws::versions_are_apart(&mut kept.map, 5, 50, &1, &mut kept.meter)?;
+    Ok(())
+}
+
+/// One entry more behind the last makes at least one node, and at most so many, in a version of the map; one less in the
+/// middle at most so many.
+fn push_nodes(answer: &mut String, map: &Map<u32, u32>, most: &[u8]) -> Result<(), AllocError> {
+    let len = u32::try_from(map.len()).unwrap_or(u32::MAX);
+    let most = natural(most);
+    push_change(answer, nodes_of(map, len, Some(0))?, 1, most)?;
+    push_change(answer, nodes_of(map, len / 2, None)?, 0, most)
+}
+
+/// Whether the key had a value before, and whether the nodes made are as few as they should be.
+fn push_change(
+    answer: &mut String,
+    (had, made): (bool, u64),
+    least: u64,
+    most: u64,
+) -> Result<(), AllocError> {
+    answer.push_str("had a value: ")?;
+    push_yes(answer, had)?;
+    answer.push_str(", few nodes: ")?;
+    push_yes(answer, least <= made && made <= most)?;
+    answer.push_str("; ")
+}
+
+/// Whether the key had a value before a change of a version of the map, and how many nodes the change makes.
+fn nodes_of(map: &Map<u32, u32>, key: u32, value: Option<u32>) -> Result<(bool, u64), AllocError> {
+    let mut meter = Meter::new();
+    let had = changed(&mut map.share()?, key, value, &mut meter)?.is_some();
+    Ok((had, meter.made()))
+}
+
+fn call_laws() {
+    laws::insert_changes_one_key::<u32, u32>();
+    laws::remove_changes_one_key::<u32, u32>();
+    laws::changes_keep_keys_rising::<u32, u32>();
+    laws::changes_count_one_entry::<u32, u32>();
+    laws::after_is_next::<u32, u32>();
+    laws::after_walks_the_entries::<u32, u32>();
+    laws::digits_are_fewest();
+    laws::most_nodes_by_size();
 }

@@ -1,9 +1,0 @@
-//! The tests of nutdriver.
-
-mod fault;
-mod laws;
-mod line;
-mod number;
-mod report;
-mod rows;
-mod tree;
