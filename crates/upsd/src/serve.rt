@@ -1,10 +1,12 @@
 //! Serving clients and drivers.
+ghost use Rattle.nutloop.specs.Serving.{IsOneRun};
+
 use crate::ending::Ending;
 use crate::files::{Configuration, Files, configuration_in};
 use crate::journal::Journal;
 use clap::ArgMatches;
 use nutcore::{MAX_AGE_DEFAULT, MaxAge, Server};
-use nutloop::{MioSockets, turn};
+use nutloop::MioSockets;
 use std::io;
 use std::net::SocketAddr;
 
@@ -47,29 +49,30 @@ pub fn serve_files<'a>(
     serve(rt, server.map_err(|_| Ending::Memory)?, service.address)
 }
 
-/// Listens at the address, and serves from then on.
+/// Listens at the address, tells it, and serves from then on.
 fn serve<'a>(rt: &HostRuntime, mut server: Server, address: SocketAddr) -> Result<(), Ending<'a>> {
     match MioSockets::new(rt, rt.alloc(), address, &server) {
-        Ok(mut sockets) => go_round(rt, &mut server, &mut sockets),
+        Ok(mut sockets) => match tell_address(rt, &sockets) {
+            Ok(()) => go_round(rt, &mut server, &mut sockets),
+            Err(ending) => Err(ending),
+        },
         Err(error) => Err(ending_of_listening(&error)),
     }
 }
 
-/// Tells where it listens, and goes round the peers.
+/// Goes round the peers, and writes what is new. Whatever the sockets do, it is one run of the server.
 fn go_round<'a>(
     rt: &HostRuntime,
     server: &mut Server,
     sockets: &mut MioSockets<'_, HostRuntime>,
-) -> Result<(), Ending<'a>> {
-    tell_address(rt, sockets)?;
+) -> Result<(), Ending<'a>>
+    ensures { IsOneRun server.old.state server.new.state }
+{
     let mut journal = Journal::new();
-    for _ in 0..u64::MAX {
-        if let Err(fault) = turn(server, sockets) {
-            return Err(Ending::Loop(fault));
-        }
-        journal.write(rt, server);
+    match nutloop::serve(server, sockets, |server| journal.write(rt, server)) {
+        Ok(()) => Ok(()),
+        Err(fault) => Err(Ending::Loop(fault)),
     }
-    Ok(())
 }
 
 /// Tells at which address clients are listened for.
