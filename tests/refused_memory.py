@@ -1,6 +1,6 @@
 """The cases of tests/refused_memory.sh: each request for memory refused in turn, over the built programs.
 
-Words: the library that refuses (refuse.c), and the programs upsd, upsc, upsrw, upscmd and maprequests. A run in which the Nth
+Words: the library that refuses (refuse.c), and the programs upsd, upsc, upsrw, upscmd and mapbench. A run in which the Nth
 request is refused, for every N up to a run that makes fewer: of each the whole right output comes, or a fault is told
 and nothing else is said that isn't so. Where a run makes more than 2,000 requests, each of the first 300 is refused,
 and then every 50th.
@@ -22,7 +22,7 @@ import time
 from plain_server import Replay, Server, Ups, User
 from replaying import Bench, lines, ready
 
-LIBRARY, UPSD, UPSC, UPSRW, UPSCMD, MAPREQUESTS = (os.path.abspath(word) for word in sys.argv[1:7])
+LIBRARY, UPSD, UPSC, UPSRW, UPSCMD, MAPBENCH = (os.path.abspath(word) for word in sys.argv[1:7])
 BENCH = Bench("refused_memory", UPSD)
 FOLDER = BENCH.folder.name
 EVERY, EACH, STEP = 2000, 300, 50
@@ -440,13 +440,13 @@ def starting():
 def an_insert_asks_for_the_nodes_that_it_counts():
     """Of 4,095 entries, with a version shared: six at least, and at most four requests more than nodes. A refused one changes neither."""
     CONTROL.refuse(0, 0)
-    plain = run([MAPREQUESTS])
+    plain = run([MAPBENCH, "insert"])
     inserted = re.fullmatch(rb"inserted: \d+ nodes before, (\d+) made, 4096 entries, 4095 in the version\n", plain[1])
     assert inserted and plain[0] == 0, plain
     made, refused = int(inserted[1]), 0
     for request in range(CONTROL.requests, 0, -1):
         CONTROL.refuse(request, request)
-        got = run([MAPREQUESTS])
+        got = run([MAPBENCH, "insert"])
         if got == (0, b"refused before the insert\n", b""):
             break
         assert got == plain or re.fullmatch(rb"refused in the insert: .*, 4095 entries, 4095 in the version\n", got[1]), got

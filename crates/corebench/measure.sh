@@ -2,10 +2,13 @@
 # What requests cost a server, as corebench loads it: instructions as callgrind counts them, by the difference of two runs,
 # and bytes of heap as dhat counts them at their most. Both are the same from run to run.
 #
-# The program is built by `rt run` in this folder; valgrind runs it.
+# The program is built by `rt run` in this folder, and upsd, where the sockets are measured too, in its own; valgrind runs
+# them.
 set -euo pipefail
 cd "$(dirname "${BASH_SOURCE[0]}")"
 program=$(realpath "${1:-out/corebench}")
+upsd=$(realpath "${2:-../upsd/out/upsd}")
+over_sockets=$(realpath over_sockets.py)
 folder=$(mktemp -d)
 trap 'rm -r "$folder"' EXIT
 cd "$folder"
@@ -29,6 +32,8 @@ tell() {
 }
 
 tell 'GET VAR, from line to taken answer' 10000 "$(instructions get 1000)" "$(instructions get 11000)"
+tell 'GET VAR, of 60 that are sent at once' $((60 * 200)) "$(instructions pipeline 100)" "$(instructions pipeline 300)"
+tell "GET VAR and the 1,024 bytes of a driver's read before it" 1000 "$(instructions flood 100)" "$(instructions flood 1100)"
 tell 'SET VAR, from line to taken answer and order' 10000 "$(instructions set 1000)" "$(instructions set 11000)"
 for width in 10 256; do
     tell "an item of LIST VAR, values of $width bytes" $((10 * 4096)) \
@@ -39,3 +44,10 @@ for paused in 0 64; do
         "$(instructions report 10 $paused 1000)" "$(instructions report 10 $paused 11000)"
 done
 tell 'bytes of heap of a session with a paused listing' 63 "$(heap report 256 1 0)" "$(heap report 256 64 0)"
+if [[ -x $upsd ]]; then
+    for connections in 1 64; do
+        tell "GET VAR over sockets, $connections at a time" $((64 * 100)) \
+            "$(python3 "$over_sockets" "$upsd" $connections $((64 / connections * 10)))" \
+            "$(python3 "$over_sockets" "$upsd" $connections $((64 / connections * 110)))"
+    done
+fi

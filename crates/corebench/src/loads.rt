@@ -7,11 +7,21 @@ use std::alloc::Global;
 /// The length of a short value, in bytes.
 pub const SHORT: usize = 10;
 
+/// The line that asks for a value.
+const GET: &[u8] = b"GET VAR su v2048\n";
+
+/// How many such lines are sent at once: 1,020 bytes, of which a session may hold 1,024.
+const AT_ONCE: usize = 60;
+
 /// A load, and how often it is done.
 #[derive(Clone, Copy)]
 pub enum Load {
     /// A value is asked for.
     Get(u32),
+    /// Values are asked for, as many at once as a session may hold.
+    Pipeline(u32),
+    /// A value is asked for after each read of a driver that never pauses.
+    Flood(u32),
     /// A variable is set.
     Set(u32),
     /// All variables are listed.
@@ -22,32 +32,45 @@ pub enum Load {
 
 /// Does the load on a new server whose variables have values of so many bytes.
 pub fn run(alloc: Global, width: usize, load: Load) -> Result<u64> {
-    Sample::new(alloc, width)?.run(load)
+    Sample::new(alloc, width)?.run(alloc, load)
 }
 
 impl Sample {
-    fn run(&mut self, load: Load) -> Result<u64> {
+    fn run(&mut self, alloc: Global, load: Load) -> Result<u64> {
         match load {
-            Load::Get(count) => self.get_values(count),
+            Load::Get(count) => self.get_values(GET, count),
+            Load::Pipeline(count) => self.get_values(&GET.repeat(alloc, AT_ONCE)?, count),
+            Load::Flood(count) => self.get_in_flood(count),
             Load::Set(count) => self.set_values(count),
             Load::List(count) => self.list_variables(count),
             Load::Report { paused, count } => self.report_values(paused, count),
         }
     }
 
-    /// Values are asked for by one client, a line and its answer at a time.
-    fn get_values(&mut self, count: u32) -> Result<u64> {
+    /// These lines are sent by one client, and their answers taken, so often.
+    fn get_values(&mut self, lines: &[u8], count: u32) -> Result<u64> {
         let client = self.open()?;
         let mut taken = 0u64;
         for _ in 0..count {
-            taken = taken.saturating_add(self.answer(client, b"GET VAR su v2048\n")?);
+            taken = taken.saturating_add(self.answer(client, lines)?);
         }
         Ok(taken)
     }
 
-    /// How many bytes the client is offered once it has sent this line, all of which it takes.
-    fn answer(&mut self, client: ClientId, line: &[u8]) -> Result<u64> {
-        self.send(client, line)?;
+    /// After each read of a driver that never pauses a value is asked for, and the answer taken.
+    fn get_in_flood(&mut self, count: u32) -> Result<u64> {
+        let client = self.open()?;
+        let mut taken = 0u64;
+        for read in 0..count {
+            self.report_a_read(read as usize)?;
+            taken = taken.saturating_add(self.answer(client, GET)?);
+        }
+        Ok(taken)
+    }
+
+    /// How many bytes the client is offered once it has sent these lines, all of which it takes.
+    fn answer(&mut self, client: ClientId, lines: &[u8]) -> Result<u64> {
+        self.send(client, lines)?;
         Ok(self.take_offered(client)? as u64)
     }
 

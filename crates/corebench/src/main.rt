@@ -25,6 +25,10 @@ fn main(rt: HostRuntime) -> Result<()> {
 fn print_a_little(rt: &impl Print, alloc: Global) -> Result<()> {
     let taken = run(alloc, SHORT, Load::Get(10))?;
     println!(rt; "10 values: {taken} bytes")?;
+    let taken = run(alloc, SHORT, Load::Pipeline(10))?;
+    println!(rt; "10 times 60 values at once: {taken} bytes")?;
+    let taken = run(alloc, SHORT, Load::Flood(10))?;
+    println!(rt; "10 values, each after a driver's read: {taken} bytes")?;
     let taken = run(alloc, SHORT, Load::Set(10))?;
     println!(rt; "10 values set: {taken} bytes")?;
     let taken = run(alloc, SHORT, Load::List(1))?;
@@ -47,10 +51,12 @@ fn print_taken(rt: &impl Print, alloc: Global, words: &[String]) -> Result<()> {
 fn read_load(words: &[String]) -> Result<(usize, Load)> {
     match word(words, 0)? {
         "get" => Ok((SHORT, Load::Get(number(words, 1)?))),
+        "pipeline" => Ok((SHORT, Load::Pipeline(number(words, 1)?))),
+        "flood" => Ok((SHORT, Load::Flood(number(words, 1)?))),
         "set" => Ok((SHORT, Load::Set(number(words, 1)?))),
         "list" => Ok((number(words, 1)? as usize, Load::List(number(words, 2)?))),
         "report" => Ok((number(words, 1)? as usize, read_report(words)?)),
-        _ => Err(Error::msg("get, set, list or report")),
+        _ => Err(Error::msg("get, pipeline, flood, set, list or report")),
     }
 }
 

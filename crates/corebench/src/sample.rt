@@ -11,6 +11,9 @@ const SU: UpsId = UpsId { place: 0 };
 /// How many variables the UPS has.
 pub const VARIABLES: u32 = 4096;
 
+/// How many bytes a server reads of a driver at a time.
+const DRIVER_READ: usize = 1024;
+
 /// How many bytes a line of a driver has beside its value.
 const AROUND_A_VALUE: usize = 17;
 
@@ -114,6 +117,16 @@ impl Sample {
             .take(count as usize)
         {
             self.server.driver_bytes(SU, line)?;
+        }
+        Ok(())
+    }
+
+    /// A driver reports its variables again, and this is what one read of it gives. Reads go round all lines.
+    pub fn report_a_read(&mut self, number: usize) -> Result<()> {
+        let reads = self.lines.len() / DRIVER_READ;
+        let read = self.lines.chunks(DRIVER_READ).nth(number % reads.max(1));
+        if let Some(piece) = read {
+            self.server.driver_bytes(SU, piece)?;
         }
         Ok(())
     }

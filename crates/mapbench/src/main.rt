@@ -1,8 +1,11 @@
-//! Compares a map with std's `BTreeMap`: the answers, and with the word `time` the processor time of the calls.
+//! Compares a map with std's `BTreeMap`, and counts the nodes of an insert. With the word `time` it tells the processor time
+//! of the calls, with the word `insert` it does that insert alone, whose requests for memory can be refused in turn.
 #![tactic(auto)]
 
 mod calls;
+mod requests;
 
+use crate::requests::print_insert;
 use nutmap::{Map, Meter};
 use std::alloc::Global;
 use std::collections::BTreeMap;
@@ -16,12 +19,24 @@ const SIZES: [u32; 3] = [100, 4096, 32_768];
 const CALLS: u32 = 1_000_000;
 
 fn main(rt: HostRuntime) -> io::Result<()> {
-    let timed = env::args(&rt)?.skip(1).any(|word| word.as_str() == "time");
+    let mut words = env::args(&rt)?.skip(1);
+    match words.next() {
+        Some(word) if word.as_str() == "insert" => print_insert(&rt, rt.alloc()),
+        Some(word) if word.as_str() == "time" => compare_all(&rt, rt.alloc(), true),
+        _ => {
+            compare_all(&rt, rt.alloc(), false)?;
+            print_insert(&rt, rt.alloc())
+        }
+    }
+}
+
+/// Compares the maps at each size.
+fn compare_all(rt: &(impl Print + CpuClock), alloc: Global, timed: bool) -> io::Result<()> {
     if timed {
         println!(rt; "entries  call    Map ns  BTreeMap ns  ratio")?;
     }
     for entries in SIZES {
-        compare(&rt, rt.alloc(), entries, timed)?;
+        compare(rt, alloc, entries, timed)?;
     }
     Ok(())
 }

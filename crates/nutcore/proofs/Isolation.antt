@@ -22,10 +22,9 @@ use Rattle.nutcore.specs.Pump.{next_line_for, answered, after_line, after_reply,
 use Rattle.nutcore.specs.Step.{joined, with_input, taken_from, without_output, may_take, may_open, opened, pumped_until, after_by, refused_after, outcome_of, connected, disconnected, after_driver_text, after_driver_bytes, after_driver_took, connected_by, driver_bytes_by, driver_text_outcome, driver_took_by, disconnected_by, fed_by, took_by, closed_by, accepted}
 use Rattle.nutcore.specs.Isolation.{client_of, ups_of, without_commands, kept_from_clients, LeavesOtherClients, LeavesOtherUpses, AClientTouchesNoOther, ADriverTouchesNoOther, ARefusedEventChangesNothing, ARefusedEventCostsNothing}
 use Rattle.nutcore.specs.Cost.{cost_of, no_cost}
-use Rattle.nutcore.proofs.Events.{of_event}
+use Rattle.nutcore.proofs.Events.{of_event, of_parts, any_driver}
 use Rattle.nutcore.proofs.Changed.{by_change}
 use Rattle.nutcore.proofs.Costs.{refused_feed_costs, refused_take_costs}
-use Rattle.nutcore.proofs.DriverText.{ups_after_bytes, bytes_change}
 use Rattle.nutcore.proofs.Progress.{Presence}
 use Rattle.nutcore.proofs.Changes.{of_upses}
 use Rattle.nutcore.proofs.Found.{find_without_other}
@@ -84,25 +83,22 @@ kept_until c s None =
 kept_until c s (Some k) = kept_lines k c s
 
 pub own : (s : ServerState) (e : Event) (m : Option ℕ) (c : ℕ) → client_of e ≡ Some c → LeavesOtherClients c s (after_by s e m)
-unfolding after_by with_input without_output
-own s (DriverUp u) m c h = cc
-own s (DriverBytes u piece) m c h = cc
-own s (DriverTook u n) m c h = cc
-own s (DriverDown u) m c h = cc
-own s (Tick seconds) m c h = cc
-own s (Open address) m c h = cc
-own s (Feed d piece) m c h =
-    let e : d ≡ c = cc in
-    subst (λ (z : ℕ). LeavesOtherClients z s (pumped_until (with_input s d piece) d m)) e
-    (record { sessions = λ b differ. fed_other d b s piece m differ; server = kept_until d (with_input s d piece) m ∙ kept_session (joined piece) d s })
-own s (Took d n) m c h =
-    let e : d ≡ c = cc in
-    subst (λ (z : ℕ). LeavesOtherClients z s (cond (may_take (session d s) n) (pumped_until (without_output s d n) d m) s)) e
-    (record { sessions = λ b differ. took_other d b s n m (may_take (session d s) n) differ; server = kept_either (may_take (session d s) n) (pumped_until (without_output s d n) d m) s s (kept_until d (without_output s d n) m ∙ kept_session (taken_from n) d s) refl })
-own s (Close d) m c h =
-    let e : d ≡ c = cc in
-    subst (λ (z : ℕ). let t : ServerState = record s { sessions = without d s.sessions } in LeavesOtherClients z s t) e
-    (record { sessions = λ b differ. find_without_other b d s.sessions differ; server = refl })
+unfolding with_input without_output
+own s e m c =
+    of_parts s m (λ f. Unit {0}) (any_driver s.moment m) (λ e t. client_of e ≡ Some c → LeavesOtherClients c s t)
+    (λ e u f its apart any h. cc (sym apart ∙ h)) (λ seconds h. cc h) (λ address h. cc h)
+    (λ d piece h.
+      let e : d ≡ c = cc h in
+      subst (λ (z : ℕ). LeavesOtherClients z s (pumped_until (with_input s d piece) d m)) e
+      (record { sessions = λ b differ. fed_other d b s piece m differ; server = kept_until d (with_input s d piece) m ∙ kept_session (joined piece) d s }))
+    (λ d n h.
+      let e : d ≡ c = cc h in
+      subst (λ (z : ℕ). LeavesOtherClients z s (cond (may_take (session d s) n) (pumped_until (without_output s d n) d m) s)) e
+      (record { sessions = λ b differ. took_other d b s n m (may_take (session d s) n) differ; server = kept_either (may_take (session d s) n) (pumped_until (without_output s d n) d m) s s (kept_until d (without_output s d n) m ∙ kept_session (taken_from n) d s) refl }))
+    (λ d h.
+      let e : d ≡ c = cc h in
+      subst (λ (z : ℕ). let t : ServerState = record s { sessions = without d s.sessions } in LeavesOtherClients z s t) e
+      (record { sessions = λ b differ. find_without_other b d s.sessions differ; server = refl })) e
 
 pub client_alone : AClientTouchesNoOther
 client_alone old new e o c step h = subst (λ (t : ServerState). LeavesOtherClients c old t) (sym step.leaves) (own old e (refused_after o) c h)
@@ -119,16 +115,10 @@ of_ups : (f : UpsState → UpsState) (s : ServerState) (u v : UpsId) → u ≡ v
 of_ups f s u v e = subst (λ (z : UpsId). LeavesOtherUpses z s (with_ups_changed f u s)) e (record { upses = λ q differ. other_ups f u.place q s.upses differ; server = refl })
 
 own_ups : (s : ServerState) (e : Event) (m : Option ℕ) (u : UpsId) → ups_of e ≡ Some u → LeavesOtherUpses u s (after_by s e m)
-unfolding after_by
-own_ups s (DriverUp v) m u h = let e : v ≡ u = cc in of_ups (connected s.moment) s v u e
-own_ups s (DriverBytes v piece) m u h = let e : v ≡ u = cc in subst (LeavesOtherUpses u s) (sym (bytes_change v piece m s)) (of_ups (ups_after_bytes s.moment piece m) s v u e)
-own_ups s (DriverTook v n) m u h = let e : v ≡ u = cc in of_ups (after_driver_took n) s v u e
-own_ups s (DriverDown v) m u h = let e : v ≡ u = cc in of_ups disconnected s v u e
-own_ups s (Tick seconds) m u h = cc
-own_ups s (Open address) m u h = cc
-own_ups s (Feed c piece) m u h = cc
-own_ups s (Took c n) m u h = cc
-own_ups s (Close c) m u h = cc
+own_ups s e m u =
+    of_parts s m (λ f. Unit {0}) (any_driver s.moment m) (λ e t. ups_of e ≡ Some u → LeavesOtherUpses u s t)
+    (λ e v f its apart any h. let same : v ≡ u = cc (sym its ∙ h) in of_ups f s v u same)
+    (λ seconds h. cc h) (λ address h. cc h) (λ c piece h. cc h) (λ c n h. cc h) (λ c h. cc h) e
 
 pub driver_alone : ADriverTouchesNoOther
 driver_alone old new e o u step h = subst (λ (t : ServerState). LeavesOtherUpses u old t) (sym step.leaves) (own_ups old e (refused_after o) u h)

@@ -8,6 +8,7 @@ mod Stepping
 mod Loops
 mod Least
 mod Events
+mod Kept
 mod Executions
 mod Timely
 mod HeldFrames

@@ -11,22 +11,21 @@ use Rattle.nutdriver.specs.Report.{after_line as report_after}
 use Rattle.nutanswer.specs.declared.reply.Change.{Change}
 use Rattle.nutanswer.specs.declared.reply.Change.TheVariants as changes
 use Rattle.nutcore.specs.declared.event.Event.{Event}
-use Rattle.nutcore.specs.declared.event.Event.TheVariants.{DriverUp, DriverBytes, DriverTook, DriverDown, Tick, Open, Feed, Took, Close}
 use Rattle.nutcore.specs.Lines.{whole_lines, unfinished_after, is_too_long}
 use Rattle.nutcore.specs.Session.{SessionState}
 use Rattle.nutcore.specs.Ups.{UpsState, with_fsd, with_order, after_connecting, after_loss, after_outcome, after_text, after_texts, with_unfinished, ping_is_due}
 use Rattle.nutcore.specs.Server.{ServerState, with_session_changed, changed_at}
 use Rattle.nutcore.specs.Reply.{changed_upses}
 use Rattle.nutcore.specs.Pump.{next_line_for, after_line, after_notice, with_notice}
-use Rattle.nutcore.specs.Step.{after_by, joined, with_input, taken_from, without_output, opened, may_open, ticked, connected, disconnected, after_driver_took, driver_may_take}
+use Rattle.nutcore.specs.Step.{after_by, joined, with_input, taken_from, without_output, opened, may_open, ticked, driver_may_take}
 use Rattle.nutcore.specs.History.{of_line}
 use Rattle.nutcore.specs.ByRight.{SetsShutdownByRight, is_shut_down, AForcedShutdownIsSetByRight}
 use Rattle.nutcore.proofs.Changed.{by_change}
 use Rattle.nutcore.proofs.Changes.{of_upses as of_changed_upses}
-use Rattle.nutcore.proofs.DriverText.{ups_after_text, ups_after_bytes, bytes_change}
+use Rattle.nutcore.proofs.DriverText.{ups_after_text, ups_after_bytes}
 use Rattle.nutcore.proofs.Pumping.{is_next, after_line_is, change_at}
 use Rattle.nutcore.proofs.Rows.{comes_of_line, by_right}
-use Rattle.nutcore.proofs.Events.{IsPlain}
+use Rattle.nutcore.proofs.Events.{IsPlain, of_parts}
 use Rattle.nutcore.proofs.Marks.{run_sets, no_mark}
 
 -- the forced shutdown of the UPS at a place
@@ -92,16 +91,19 @@ opened_by u s address None h = either_of u _ s (may_open s) h h
 opened_by u s address (Some k) h = h
 
 by_plain : (u : UpsId) (s : ServerState) (e : Event) (m : Option ℕ) → IsPlain e → is_shut_down u s ≡ false → is_shut_down u (after_by s e m) ≡ false
-unfolding after_by ticked
-by_plain u s (DriverUp v) m plain h = changed_keeps (connected s.moment) (λ x. cond_fsd x.report.connected x (after_connecting s.moment x) x refl refl) v.place u.place s.upses ∙ h
-by_plain u s (DriverBytes v piece) m plain h = ap (is_shut_down u) (bytes_change v piece m s) ∙ changed_keeps (ups_after_bytes s.moment piece m) (bytes_fsd s.moment piece m) v.place u.place s.upses ∙ h
-by_plain u s (DriverTook v n) m plain h = changed_keeps (after_driver_took n) (λ x. cond_fsd (driver_may_take n x) _ x x refl refl) v.place u.place s.upses ∙ h
-by_plain u s (DriverDown v) m plain h = changed_keeps disconnected (λ x. cond_fsd x.report.connected (after_loss x) x x refl refl) v.place u.place s.upses ∙ h
-by_plain u s (Tick seconds) m plain h = map_keeps _ (λ x. cond_fsd (ping_is_due s.max_age _ x) _ x x refl refl) u.place s.upses ∙ h
-by_plain u s (Open address) m plain h = opened_by u s address m h
-by_plain u s (Feed c piece) m plain h = absurd plain
-by_plain u s (Took c n) m plain h = absurd plain
-by_plain u s (Close c) m plain h = h
+unfolding ticked
+by_plain u s e m =
+    of_parts s m Keeps
+    (record {
+      comes = λ x. cond_fsd x.report.connected x (after_connecting s.moment x) x refl refl;
+      tells = λ piece. bytes_fsd s.moment piece m;
+      takes = λ n x. cond_fsd (driver_may_take n x) _ x x refl refl;
+      goes = λ x. cond_fsd x.report.connected (after_loss x) x x refl refl;
+    })
+    (λ e t. IsPlain e → is_shut_down u s ≡ false → is_shut_down u t ≡ false)
+    (λ e v f its apart keeps plain h. changed_keeps f keeps v.place u.place s.upses ∙ h)
+    (λ seconds plain h. map_keeps _ (λ x. cond_fsd (ping_is_due s.max_age _ x) _ x x refl refl) u.place s.upses ∙ h)
+    (λ address plain h. opened_by u s address m h) (λ c piece plain h. absurd plain) (λ c n plain h. absurd plain) (λ c plain h. h) e
 
 -- a session that is changed
 by_session : (u : UpsId) (f : SessionState → SessionState) (s : ServerState) (c : ℕ) → is_shut_down u s ≡ false → is_shut_down u (with_session_changed f c s) ≡ false

@@ -10,24 +10,26 @@ use Rattle.nutanswer.specs.Command.{read_command}
 use Rattle.nutcore.specs.declared.TheConstants.{HELD_LIMIT}
 use Rattle.nutlisting.specs.declared.listing.clients.TheConstants.{SESSION_LIMIT}
 use Rattle.nutcore.specs.declared.event.Event.{Event}
-use Rattle.nutcore.specs.declared.event.Event.TheVariants.{DriverUp, DriverBytes, DriverTook, DriverDown, Tick, Open, Feed, Took, Close}
+use Rattle.nutcore.specs.declared.event.Event.TheVariants.{Open}
 use Rattle.nutcore.specs.declared.event.Outcome.TheVariants.{Opened}
 use Rattle.nutcore.specs.Session.{SessionState, find, put, without, new_session}
 use Rattle.nutcore.specs.Ups.{UpsState, new_ups, after_connecting, after_loss, after_tick}
 use Rattle.nutcore.specs.Server.{ServerState, session, with_session, with_session_changed, with_ups_changed}
 use Rattle.nutcore.specs.Reply.{reply, changed_session}
-use Rattle.nutcore.specs.Pump.{answered, next_line_for, after_line, after_lines, after_all_lines, after_notice, with_notice, pumped, held_of}
-use Rattle.nutcore.specs.Step.{Step, joined, with_input, taken_from, without_output, may_take, may_open, opened, connected, disconnected, after_driver_took, ticked, pumped_until, after_by, refused_after}
+use Rattle.nutcore.specs.Pump.{answered, next_line_for, after_line, with_notice}
+use Rattle.nutcore.specs.Step.{Step, joined, taken_from, may_open, opened, connected, disconnected, after_driver_took, ticked, after_by, refused_after}
+use Rattle.nutcore.specs.Addresses.{opened_from}
 use Rattle.nutcore.specs.Sound.{Each, IsSoundSession, IsSoundUps, IsSound, ANewServerIsSound, EachEventKeepsTheServerSound, EveryRunKeepsTheServerSound, ASoundServerIsLawful}
 use Rattle.nutcore.proofs.OrderFits.{order_fits}
 use Rattle.nutcore.proofs.Places.{rise_put, rise_push, rise_without, rise_lawful, length-put}
 use Rattle.nutcore.proofs.Changes.{keeps}
 use Rattle.nutcore.proofs.Changed.{by_change, either_notice}
-use Rattle.nutcore.proofs.Pumping.{is_next, stopped_none, after_line_is, line_done, change_at, session_after}
-use Rattle.nutcore.proofs.DriverText.{ups_after_bytes, bytes_change}
+use Rattle.nutcore.proofs.Pumping.{is_next, after_line_is, line_done, change_at, session_after}
+use Rattle.nutcore.proofs.DriverText.{ups_after_bytes}
+use Rattle.nutcore.proofs.Kept.{IsKept, IsAny, any_address, any_event, by_event, by_run}
 use Rattle.nutcore.proofs.SoundUps.{and_true, each_map, each_last, each_same, length-changed, length-same, length-mapped, each_changed, no_loss, length-changes, sound_new, sound_loss, sound_connecting, sound_either, sound_driver_bytes, sound_took, sound_tick, sound_changes}
 
-each_put : (P : SessionState → Type 0) (y : SessionState) → P y → (xs : List SessionState) → Each P xs → Each P (put y xs)
+pub each_put : (P : SessionState → Type 0) (y : SessionState) → P y → (xs : List SessionState) → Each P xs → Each P (put y xs)
 each_put P y p [] all = tt
 each_put P y p (x ∷ xs) all = by_id (eqb x.id y.id) (each_put P y p xs all.1)
   where
@@ -93,13 +95,8 @@ sound_with s y p h = record {
   upses = h.upses;
 }
 
-sound_server : (b : Bool) (s t : ServerState) → IsSound s → IsSound t → IsSound (cond b s t)
-sound_server true s t h k = h
-sound_server false s t h k = k
-
-sound_line_of : (s : ServerState) (c : ℕ) (o : Option (List ℕ)) → next_line_for s c ≡ o → IsSound s → IsSound (after_line s c)
-sound_line_of s c None e h = subst IsSound (sym (stopped_none s c e)) h
-sound_line_of s c (Some line) e h =
+sound_line : (s : ServerState) (c : ℕ) (line : List ℕ) → next_line_for s c ≡ Some line → IsSound s → IsSound (after_line s c)
+sound_line s c line e h =
     let n = is_next s c line e in
     let change : Change = change_at s c line in
     let y : SessionState = session_after s c line n.asking in
@@ -117,11 +114,6 @@ sound_line_of s c (Some line) e h =
     } in
     subst IsSound (sym (after_line_is s c line n.asking n.found e)) is
 
-sound_lines : (k c : ℕ) (s : ServerState) → IsSound s → IsSound (after_lines k s c)
-unfolding after_lines
-sound_lines zero c s h = h
-sound_lines (suc k) c s h = sound_lines k c (after_line s c) (sound_line_of s c (next_line_for s c) refl h)
-
 -- a session that is changed, and stays sound
 sound_session : (f : SessionState → SessionState) → ((x : SessionState) → IsSoundSession x → IsSoundSession (f x)) → (s : ServerState) (c : ℕ) → IsSound s → IsSound (with_session_changed f c s)
 sound_session f keeps s c h = by_change IsSound f c s (λ x e. sound_with s (f x) (keeps x (each_found IsSoundSession c s.sessions x e h.sessions)) h) (λ e. h)
@@ -131,13 +123,6 @@ sound_notice x h = either_notice IsSoundSession x (record { held = omega arith; 
 
 pub sound_output : (n : ℕ) (x : SessionState) → IsSoundSession x → IsSoundSession (taken_from n x)
 sound_output n x h = record { held = h.held; ending = h.ending }
-
-sound_until : (c : ℕ) (s : ServerState) (m : Option ℕ) → IsSound s → IsSound (pumped_until s c m)
-unfolding pumped_until pumped after_all_lines after_notice
-sound_until c s None h =
-    let k : ℕ = length (held_of (session c s)) in
-    sound_session with_notice sound_notice (after_lines k s c) c (sound_lines k c s h)
-sound_until c s (Some k) h = sound_lines k c s h
 
 sound_upses : (f : UpsState → UpsState) (u : UpsId) (s : ServerState) → ((x : UpsState) → IsSoundUps s.moment x → IsSoundUps s.moment (f x)) → IsSound s → IsSound (with_ups_changed f u s)
 sound_upses f u s keeps h = record {
@@ -150,24 +135,19 @@ sound_upses f u s keeps h = record {
   upses = each_changed (IsSoundUps s.moment) f keeps u.place s.upses h.upses;
 }
 
-sound_opened : (s : ServerState) (address : List ℕ) (m : Option ℕ) → IsSound s → IsSound (opened s address m)
-unfolding opened
-sound_opened s address None h = by_room (may_open s) refl
-  where
-    by_room : (b : Bool) → may_open s ≡ b → IsSound (cond b (record s { sessions = s.sessions ++ new_session s.next_id address ∷ []; next_id = s.next_id + 1 }) s)
-    by_room true e =
-        let room : length s.sessions < SESSION_LIMIT = ltb-true _ _ (and_true (nat_lt (length s.sessions) SESSION_LIMIT) (nat_lt s.next_id (2 ^ 64)) e).0 in
-        record {
-          max_age = h.max_age;
-          list = h.list;
-          named = h.named;
-          few = omega (arith, room, length-append s.sessions (new_session s.next_id address ∷ []));
-          ids = rise_push 1 s.next_id (new_session s.next_id address) s.sessions refl h.ids;
-          sessions = each_last IsSoundSession (new_session s.next_id address) (record { held = omega arith; ending = λ k. cc k }) s.sessions h.sessions;
-          upses = h.upses;
-        }
-    by_room false e = h
-sound_opened s address (Some k) h = h
+sound_opened : (s : ServerState) (address : List ℕ) → may_open s ≡ true → IsSound s
+    → (let t : ServerState = record s { sessions = s.sessions ++ new_session s.next_id address ∷ []; next_id = s.next_id + 1 } in IsSound t)
+sound_opened s address may h =
+    let room : length s.sessions < SESSION_LIMIT = ltb-true _ _ (and_true (nat_lt (length s.sessions) SESSION_LIMIT) (nat_lt s.next_id (2 ^ 64)) may).0 in
+    record {
+      max_age = h.max_age;
+      list = h.list;
+      named = h.named;
+      few = omega (arith, room, length-append s.sessions (new_session s.next_id address ∷ []));
+      ids = rise_push 1 s.next_id (new_session s.next_id address) s.sessions refl h.ids;
+      sessions = each_last IsSoundSession (new_session s.next_id address) (record { held = omega arith; ending = λ k. cc k }) s.sessions h.sessions;
+      upses = h.upses;
+    }
 
 pub sound_ticked : (s : ServerState) (seconds : ℕ) → IsSound s → IsSound (ticked seconds s)
 unfolding ticked
@@ -195,30 +175,36 @@ sound_closed s c h = record {
 }
 
 pub sound_opening : (s t : ServerState) (address : List ℕ) (c : ℕ) → Step s (Open address) (Opened c) t → IsSound s → IsSound t
-unfolding after_by
-sound_opening s t address c step h = subst IsSound (sym step.leaves) (sound_opened s address None h)
+unfolding after_by opened
+sound_opening s t address c step h = subst IsSound (sym step.leaves) (by_room (may_open s) refl)
+  where
+    by_room : (b : Bool) → may_open s ≡ b → IsSound (cond b (record s { sessions = s.sessions ++ new_session s.next_id address ∷ []; next_id = s.next_id + 1 }) s)
+    by_room true e = sound_opened s address e h
+    by_room false e = h
 
 module _ (empty : IsSoundTree empty_tree) (line_keeps : EachLineKeepsTheTreeSound) where
-  sound_event : (s : ServerState) (e : Event) (m : Option ℕ) → IsSound s → IsSound (after_by s e m)
-  unfolding after_by with_input without_output
-  sound_event s (DriverUp u) m h = sound_upses (connected s.moment) u s (λ x k. sound_either s.moment x.report.connected x (after_connecting s.moment x) k (sound_connecting empty line_keeps s.moment x)) h
-  sound_event s (DriverBytes u piece) m h = subst IsSound (sym (bytes_change u piece m s)) (sound_upses (ups_after_bytes s.moment piece m) u s (sound_driver_bytes empty line_keeps s.moment piece m) h)
-  sound_event s (DriverTook u n) m h = sound_upses (after_driver_took n) u s (sound_took s.moment n) h
-  sound_event s (DriverDown u) m h = sound_upses disconnected u s (λ x k. sound_either s.moment x.report.connected (after_loss x) x (sound_loss empty line_keeps s.moment x) k) h
-  sound_event s (Tick seconds) m h = sound_ticked s seconds h
-  sound_event s (Open address) m h = sound_opened s address m h
-  sound_event s (Feed c piece) m h = sound_until c (with_input s c piece) m (sound_session (joined piece) (sound_input piece) s c h)
-  sound_event s (Took c n) m h = sound_server (may_take (session c s) n) (pumped_until (without_output s c n) c m) s (sound_until c (without_output s c n) m (sound_session (taken_from n) (sound_output n) s c h)) h
-  sound_event s (Close c) m h = sound_closed s c h
+  sound_kept : IsKept IsSound IsAny
+  sound_kept = record {
+    line = sound_line;
+    joins = λ s c piece h. sound_session (joined piece) (sound_input piece) s c h;
+    gives = λ s c n h. sound_session (taken_from n) (sound_output n) s c h;
+    notice = λ s c h. sound_session with_notice sound_notice s c h;
+    driver = λ s m. record {
+      comes = λ u h. sound_upses (connected s.moment) u s (λ x k. sound_either s.moment x.report.connected x (after_connecting s.moment x) k (sound_connecting empty line_keeps s.moment x)) h;
+      tells = λ piece u h. sound_upses (ups_after_bytes s.moment piece m) u s (sound_driver_bytes empty line_keeps s.moment piece m) h;
+      takes = λ n u h. sound_upses (after_driver_took n) u s (sound_took s.moment n) h;
+      goes = λ u h. sound_upses disconnected u s (λ x k. sound_either s.moment x.report.connected (after_loss x) x (sound_loss empty line_keeps s.moment x) k) h;
+    };
+    ticks = sound_ticked;
+    opens = λ s address may own h. sound_opened s address may h;
+    closes = sound_closed;
+  }
 
   pub each_event_sound : EachEventKeepsTheServerSound
-  each_event_sound old new e o step h = subst IsSound (sym step.leaves) (sound_event old e (refused_after o) h)
+  each_event_sound old new e o step h = subst IsSound (sym step.leaves) (by_event IsSound IsAny sound_kept old e (refused_after o) (any_address (opened_from e)) h)
 
   pub every_run_sound : EveryRunKeepsTheServerSound
-  every_run_sound old new [] [] r h = subst IsSound (sym r) h
-  every_run_sound old new [] (o ∷ os) r h = absurd r
-  every_run_sound old new (e ∷ es) [] r h = absurd r
-  every_run_sound old new (e ∷ es) (o ∷ os) (mid, step, r) h = every_run_sound mid new es os r (each_event_sound old mid e o step h)
+  every_run_sound old new es os r h = by_run IsSound IsAny sound_kept old new es os r (any_event es) h
 
   pub new_sound : ANewServerIsSound
   new_sound list users descriptions max_age lawful age = record {
