@@ -2,7 +2,8 @@
 use Rattle.std.specs.Prelude.{◌≡◌, ◌≢◌, ◌+◌, ◌-◌, ◌<◌, ◌≤◌, ◌⊎◌, ◌||◌, ◌&&◌, ℕ, Bool, true, false}
 use Rattle.std.specs.Prelude.{not, List, [], ◌∷◌, Option, Some, None, if◌then◌else◌, nat_lt, min, ⊤}
 use Rattle.std.specs.Prelude.{length, slice_get, slice_set}
-use Rattle.std.specs.List.{All, HoldsAt, remove}
+use Rattle.std.specs.List.{All, HoldsAt, insert, position_or_len, remove}
+use Rattle.std.specs.List.Sorted.{IsNonDecreasingBy}
 use Rattle.nutloop.specs.declared.round.Seat.{Seat}
 use Rattle.nutloop.specs.declared.round.Seat.TheVariants.{Client, Driver, Listener}
 use Rattle.nutloop.specs.declared.round.Place.{Place}
@@ -33,6 +34,18 @@ is_ready p = p.flags.readable || p.flags.writable
 -- It is read, unless it was read last and may be written to.
 abbrev pub way_of : Place → Way
 way_of p = if p.flags.readable && not (p.flags.writable && p.was_read) then Read else Write
+
+-- The places stand in the order of their seats.
+abbrev pub StandInOrder : List Place → Type 0
+StandInOrder places = IsNonDecreasingBy (λ p. rank p.seat) places
+
+-- Its seat is behind this rank.
+abbrev pub is_above : ℕ → Place → Bool
+is_above n p = nat_lt n (rank p.seat)
+
+-- It is ready, and its seat is behind that of the last one that had a turn.
+abbrev pub is_ready_behind : Seat → Place → Bool
+is_ready_behind last p = is_ready p && is_above (rank last) p
 
 abbrev pub is_read : Way → Bool
 is_read Read = true
@@ -82,6 +95,16 @@ abbrev pub fresh : Seat → Place
 fresh seat =
     record
     { seat = seat; flags = record { readable = false; writable = false }; was_read = false }
+
+-- Where the first place stands that is behind this rank, or else the end.
+abbrev pub first_above : ℕ → List Place → ℕ
+first_above n places = position_or_len (is_above n) places
+
+-- Whoever has just come has a place among the others, which stay as they were.
+pub record TakesIn (seat : Seat) (old new : List Place) : Type 0 where
+  pub at : ℕ
+  pub within : at ≤ length old
+  pub leaves : new ≡ insert old at (fresh seat)
 
 -- Nobody has this seat.
 abbrev pub IsFree : Seat → List Place → Type 0

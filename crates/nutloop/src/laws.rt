@@ -1,5 +1,6 @@
 //! Laws of every list of turns. No program calls them.
 ghost use Rattle.nutloop.specs.Moved.{EveryByteIsMovedOnce};
+ghost use Rattle.nutloop.specs.Round.{EverySecondTurn, NobodyIsPassedOver};
 ghost use Rattle.nutloop.specs.Serving.{AnyTurnsAreOneRun, AnyTurnsKeepAddressesLawful};
 
 use crate::Sockets;
@@ -23,3 +24,15 @@ pub fn any_turns_keep_addresses_lawful<S: Sockets>()
 {
     addresses_are_lawful();
 }
+
+/// Over any turns, whoever comes, goes or is ready in between: from one turn of a peer to its next everybody has one who is
+/// ready all the while.
+pub fn nobody_is_passed_over()
+    ensures { NobodyIsPassedOver }
+{}
+
+/// Of two turns in a row of one peer one is a read where it may be read at the second, and one is a write where it may be
+/// written to.
+pub fn every_second_turn()
+    ensures { EverySecondTurn }
+{}

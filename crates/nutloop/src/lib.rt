@@ -6,7 +6,6 @@ pub mod laws;
 mod over_mio;
 mod pace;
 mod round;
-pub mod round_laws;
 mod scripted;
 mod serving;
 mod sockets;

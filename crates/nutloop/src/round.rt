@@ -1,7 +1,8 @@
 //! Whose turn it is: all who may have one go round.
-ghost use Rattle.std.specs.Prelude.{◌≡◌, ◌++◌, ◌∷◌, ◌↔◌, [], IfOk, IsTrue, if◌then◌else◌, is_ok};
-ghost use Rattle.nutloop.specs.Round.{FindsNext, FindsSeat, IsOver, LeavesOut, Notes, TakesTurn};
-ghost use Rattle.nutloop.specs.Round.{ahead, fresh, is_ready, rank, way_of};
+ghost use Rattle.std.specs.Prelude.{◌≡◌, ◌≤◌, ◌↔◌, [], IfOk, IsTrue, MatchResult, length, position};
+ghost use Rattle.nutloop.specs.Round.{FindsNext, FindsSeat, IsOver, LeavesOut, Notes, StandInOrder};
+ghost use Rattle.nutloop.specs.Round.{TakesIn, TakesTurn};
+ghost use Rattle.nutloop.specs.Round.{first_above, is_above, is_ready, is_ready_behind, rank, way_of};
 
 use nutcore::{ClientId, UpsId};
 use std::alloc::{AllocError, Global};
@@ -62,18 +63,6 @@ impl Seat {
             Seat::Listener => LISTENER,
         }
     }
-
-    /// How far ahead it is of the last one, going round.
-    fn ahead_of(self, last: Seat) -> u128
-        ensures { result ≡ ahead last self }
-    {
-        let rank = self.rank();
-        if last.rank() < rank {
-            rank
-        } else {
-            LISTENER + 1 + rank
-        }
-    }
 }
 
 impl Place {
@@ -95,11 +84,13 @@ impl Place {
     }
 }
 
-/// The seats that are taken, and who had the last turn. Each turn is given to the next one that is ready, going round.
+/// The seats that are taken, in their order, and who had the last turn. Each turn is given to the next one that is ready,
+/// going round.
 #[derive(Drop)]
 pub(crate) struct Round {
     last: Seat,
     places: Vec<Place>,
+    ghost ordered: { StandInOrder places.items },
 }
 
 impl Round {
@@ -123,8 +114,9 @@ impl Round {
     /// Somebody takes this seat, and nothing is known of it yet.
     pub fn enter(&mut self, seat: Seat) -> Result<(), AllocError>
         ensures last { self.new.last ≡ self.old.last }
-        ensures places { self.new.places.items
-            ≡ self.old.places.items ++ (if is_ok result then fresh seat ∷ [] else []) }
+        ensures places { MatchResult result
+            (λ _. TakesIn seat self.old.places.items self.new.places.items)
+            (λ _. self.new.places.items ≡ self.old.places.items) }
     {
         let flags = Flags {
             readable: false,
@@ -135,9 +127,30 @@ impl Round {
             flags,
             was_read: false,
         };
-        match self.places.push(place) {
+        let at = self.first_above(seat.rank());
+        match self.places.insert(at, place) {
             Ok(()) => Ok(()),
             Err(_) => Err(AllocError),
+        }
+    }
+
+    /// Where the first one stands whose seat is behind this rank.
+    fn above(&self, rank: u128) -> Option<usize>
+        ensures { result ≡ position (is_above rank) self.now.places.items }
+    {
+        self.places
+            .iter()
+            .position(|place| rank < place.seat.rank())
+    }
+
+    /// The same, or else the end.
+    fn first_above(&self, rank: u128) -> usize
+        ensures place { result ≡ first_above rank self.now.places.items }
+        ensures within { result ≤ length self.now.places.items }
+    {
+        match self.above(rank) {
+            Some(at) => at,
+            None => self.places.len(),
         }
     }
 
@@ -168,31 +181,38 @@ impl Round {
         self.last
     }
 
+    /// Where the first one stands that is ready and behind the last one that had a turn.
+    fn first_behind(&self) -> Option<usize>
+        ensures { result ≡ position (is_ready_behind self.now.last) self.now.places.items }
+    {
+        let last = self.last.rank();
+        self.places
+            .iter()
+            .position(|place| place.is_ready() && last < place.seat.rank())
+    }
+
+    /// Where the first one stands that is ready.
+    fn first_ready(&self) -> Option<usize>
+        ensures { result ≡ position is_ready self.now.places.items }
+    {
+        self.places.iter().position(|place| place.is_ready())
+    }
+
     /// Where the next one stands, if anybody is ready.
     fn next(&self) -> Option<usize>
         ensures { FindsNext self.now.last self.now.places.items result }
     {
-        let mut next = None;
-        let mut least = u128::MAX;
-        for (i, place) in self.places.iter().enumerate() {
-            let ahead = place.seat.ahead_of(self.last);
-            if place.is_ready() && ahead <= least {
-                next = Some(i);
-                least = ahead;
-            }
+        match self.first_behind() {
+            Some(i) => Some(i),
+            None => self.first_ready(),
         }
-        next
     }
 
     /// Whether nobody is ready behind the last one that had a turn: who is ready comes in the next round.
     pub fn is_over(&self) -> bool
         ensures { IsTrue result ↔ IsOver self.now.last self.now.places.items }
     {
-        let last = self.last.rank();
-        !self
-            .places
-            .iter()
-            .any(|place| place.is_ready() && last < place.seat.rank())
+        self.first_behind().is_none()
     }
 
     /// The next turn, if anybody is ready. It is the last one from then on.
