@@ -38,6 +38,7 @@ mod Taking
 mod TakingAmongOthers
 mod Listed
 mod DriverHistory
+mod DriverRuns
 mod DriverOrders
 mod OrdersByRight
 mod Written
