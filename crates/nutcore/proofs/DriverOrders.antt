@@ -1,9 +1,10 @@
 -- What a driver was sent and is owed is what it was told.
-use Rattle.std.proofs.Common.{◌≡◌, ◌∙◌, ◌<◌, ℕ, zero, suc, Bool, true, false, not, ◌&&◌, List, [], ◌∷◌, ◌++◌, Option, Some, None, refl, sym, ap, subst, cond, eqb, max, length, take, drop, append_assoc, append-nil, arith}
+use Rattle.std.proofs.Common.{◌≡◌, ◌∙◌, ℕ, zero, suc, Bool, true, false, not, ◌&&◌, List, [], ◌∷◌, ◌++◌, Option, Some, None, refl, sym, ap, subst, cond, eqb, max, length, take, drop, append_assoc, append-nil}
 use Rattle.std.specs.Prelude.{slice_get}
 use Rattle.std.specs.List.{flat_map}
 use Rattle.std.specs.Option.{option_map_or}
 use Rattle.std.proofs.lemmas.Bool.{cond-true, cond-false, eqb-true, eqb-false}
+use Rattle.std.proofs.lemmas.Grind.{flat_map-append}
 use Rattle.std.proofs.lemmas.List.{take-append-drop}
 use Rattle.arrayvec.specs.ArrayVec.{ArrayVec}
 use Rattle.nutusers.specs.declared.ups_list.UpsId.{UpsId}
@@ -36,13 +37,8 @@ use Rattle.nutcore.proofs.Pumping.{is_next, stopped_none, after_line_is, change_
 use Rattle.nutcore.proofs.Isolation.{other_ups}
 use Rattle.nutcore.proofs.DriverSteps.{at_changed}
 use Rattle.nutcore.proofs.DriverText.{ups_after_text, ups_after_bytes, bytes_change}
-use Rattle.nutcore.proofs.DriverHistory.{at_mapped}
+use Rattle.nutcore.proofs.DriverHistory.{there_is, at_mapped, of_place, opened_same}
 use Rattle.nutcore.proofs.SoundUps.{each_get}
-
--- texts of joined lists
-pub flat_both : {A B : Type 0} (f : A → List B) (xs ys : List A) → flat_map f (xs ++ ys) ≡ flat_map f xs ++ flat_map f ys
-flat_both f [] ys = refl
-flat_both f (x ∷ xs) ys = ap (λ (zs : List _). f x ++ zs) (flat_both f xs ys) ∙ sym (append_assoc (f x) (flat_map f xs) (flat_map f ys))
 
 -- what a client's event leaves of a UPS: its report, and what is owed with this after it
 record Adds (u : UpsId) (x : UpsState) (told : List Telling) (t : ServerState) : Type 0 where
@@ -58,7 +54,7 @@ adds_both : (u : UpsId) (x : UpsState) (told more : List Telling) (t r : ServerS
 adds_both u x told more t r a b = record {
   left = b.left;
   there = b.there;
-  owed = b.owed ∙ ap (λ (z : List ℕ). z ++ texts_of more) a.owed ∙ append_assoc x.owed (texts_of told) (texts_of more) ∙ ap (λ (z : List ℕ). x.owed ++ z) (sym (flat_both _ told more));
+  owed = b.owed ∙ ap (λ (z : List ℕ). z ++ texts_of more) a.owed ∙ append_assoc x.owed (texts_of told) (texts_of more) ∙ ap (λ (z : List ℕ). x.owed ++ z) (sym (flat_map-append _ told more));
   same = b.same ∙ a.same;
 }
 
@@ -112,7 +108,7 @@ lines_add (suc k) u s c x e =
     let more = lines_executed k (after_line s c) c in
     let a = line_adds u s c x (next_line_for s c) refl e in
     let b = lines_add k u (after_line s c) c a.left a.there in
-    subst (λ (told : List Telling). Adds u x told (after_lines k (after_line s c) c)) (sym (flat_both (told_by_line u) one more)) (adds_both u x (flat_map (told_by_line u) one) (flat_map (told_by_line u) more) (after_line s c) _ a b)
+    subst (λ (told : List Telling). Adds u x told (after_lines k (after_line s c) c)) (sym (flat_map-append (told_by_line u) one more)) (adds_both u x (flat_map (told_by_line u) one) (flat_map (told_by_line u) more) (after_line s c) _ a b)
 
 -- what keeps the UPSs
 either_ups : (u : UpsId) (b : Bool) (s t : ServerState) (x : UpsState) → ups_at u.place s ≡ Some x → ups_at u.place t ≡ Some x → ups_at u.place (cond b s t) ≡ Some x
@@ -133,7 +129,7 @@ pump_adds u s c None x e =
     let t : ServerState = after_lines k s c in
     let a = lines_add k u s c x e in
     let told : List Telling = flat_map (told_by_line u) (lines_executed k s c) in
-    let is : flat_map (told_by_line u) (lines_executed k s c ++ notice t c) ≡ told = flat_both (told_by_line u) (lines_executed k s c) (notice t c) ∙ ap (λ (z : List Telling). told ++ z) (no_order u (is_overlong t c) c) ∙ append-nil told in
+    let is : flat_map (told_by_line u) (lines_executed k s c ++ notice t c) ≡ told = flat_map-append (told_by_line u) (lines_executed k s c) (notice t c) ∙ ap (λ (z : List Telling). told ++ z) (no_order u (is_overlong t c) c) ∙ append-nil told in
     subst (λ (z : List Telling). Adds u x z (after_notice t c)) (sym is) (record { left = a.left; there = session_keeps u with_notice t c a.left a.there; owed = a.owed; same = a.same })
 pump_adds u s c (Some k) x e = lines_add k u s c x e
 
@@ -160,14 +156,11 @@ same_leaves : (u : UpsId) (x : UpsState) (t : ServerState) → ups_at u.place t 
 same_leaves u x t e = of_adds u x [] t (adds_none u x t e)
 
 -- an event of a driver is of its UPS alone
-of_driver : (u v : UpsId) (s : ServerState) (x : UpsState) (f : UpsState → UpsState) (told : Bool → List Telling) (taken : Bool → List ℕ) (b : Bool) → eqb v.place u.place ≡ b → ups_at u.place s ≡ Some x
-    → told false ≡ [] → taken false ≡ [] → Goes x (told true) (taken true) (f x) → Leaves u x (told b) (taken b) (with_ups_changed f v s)
-of_driver u v s x f told taken true e there no_telling no_taking h =
-    record { left = f x; there = ap (λ (p : ℕ). slice_get (changed_at f p s.upses) u.place) (eqb-true v.place u.place e) ∙ at_changed f u.place s.upses x there; goes = h }
-of_driver u v s x f told taken false e there no_telling no_taking h =
-    let same : ups_at u.place (with_ups_changed f v s) ≡ Some x = other_ups f v.place u.place s.upses (λ (k : u.place ≡ v.place). eqb-false v.place u.place e (sym k)) ∙ there in
-    subst (λ (z : List Telling). Leaves u x z (taken false) (with_ups_changed f v s)) (sym no_telling)
-    (subst (λ (z : List ℕ). Leaves u x [] z (with_ups_changed f v s)) (sym no_taking) (same_leaves u x (with_ups_changed f v s) same))
+of_driver : (u v : UpsId) (s : ServerState) (x : UpsState) (f : UpsState → UpsState) (told : Bool → List Telling) (taken : Bool → List ℕ) → ups_at u.place s ≡ Some x → Goes x (told true) (taken true) (f x) → Goes x (told false) (taken false) x
+    → Leaves u x (told (eqb v.place u.place)) (taken (eqb v.place u.place)) (with_ups_changed f v s)
+of_driver u v s x f told taken there here other =
+    let y = of_place u v s x f (λ (b : Bool) (y : UpsState). Goes x (told b) (taken b) y) (eqb v.place u.place) refl there (λ same. here) other in
+    record { left = y.0; there = y.1; goes = y.2 }
 
 -- whole lines of the driver change nothing of what it is owed
 outcome_owed : (x : UpsState) (r : Report × LineOutcome) → (after_outcome x r).owed ≡ x.owed
@@ -233,13 +226,13 @@ taken_of n o = cond (option_map_or (driver_may_take n) o false) (take n (option_
 
 took_leaves : (u v : UpsId) (s : ServerState) (n : ℕ) (x : UpsState) → ups_at u.place s ≡ Some x → Leaves u x [] (taken_in_event u s (DriverTook v n)) (with_ups_changed (after_driver_took n) v s)
 took_leaves u v s n x there =
-    of_driver u v s x (after_driver_took n) (λ b. []) (λ b. cond (b && option_map_or (driver_may_take n) (ups_at u.place s) false) (take n (owed_to_driver u s)) []) (eqb v.place u.place) refl there refl refl
-    (subst (λ (z : List ℕ). Goes x [] z (after_driver_took n x)) (sym (ap (taken_of n) there)) (took_goes n x (driver_may_take n x)))
+    of_driver u v s x (after_driver_took n) (λ b. []) (λ b. cond (b && option_map_or (driver_may_take n) (ups_at u.place s) false) (take n (owed_to_driver u s)) []) there
+    (subst (λ (z : List ℕ). Goes x [] z (after_driver_took n x)) (sym (ap (taken_of n) there)) (took_goes n x (driver_may_take n x))) (same_goes x)
 
 up_leaves : (u v : UpsId) (s : ServerState) (x : UpsState) → ups_at u.place s ≡ Some x → (x.report.connected ≡ false → x.owed ≡ []) → Leaves u x (told_beside_lines u s (DriverUp v)) [] (with_ups_changed (connected s.moment) v s)
 up_leaves u v s x there nothing =
-    of_driver u v s x (connected s.moment) (λ b. cond (b && not (has_driver u s)) (dump_all ∷ []) []) (λ b. []) (eqb v.place u.place) refl there refl refl
-    (subst (λ (b : Bool). Goes x (cond (not b) (dump_all ∷ []) []) [] (connected s.moment x)) (sym (ap has_driver_of there)) (up_goes s.moment x x.report.connected refl nothing))
+    of_driver u v s x (connected s.moment) (λ b. cond (b && not (has_driver u s)) (dump_all ∷ []) []) (λ b. []) there
+    (subst (λ (b : Bool). Goes x (cond (not b) (dump_all ∷ []) []) [] (connected s.moment x)) (sym (ap has_driver_of there)) (up_goes s.moment x x.report.connected refl nothing)) (same_goes x)
 
 tick_leaves : (u : UpsId) (s : ServerState) (seconds : ℕ) (x : UpsState) → ups_at u.place s ≡ Some x → Leaves u x (told_beside_lines u s (Tick seconds)) [] (ticked seconds s)
 unfolding ticked
@@ -251,11 +244,6 @@ tick_leaves u s seconds x there =
       there = at_mapped (after_tick s.max_age now) u.place s.upses x there;
       goes = subst (λ (b : Bool). Goes x (cond b (ping ∷ []) []) [] (after_tick s.max_age now x)) (sym (ap due there)) (tick_goes now x (ping_is_due s.max_age now x));
     }
-
-opened_keeps : (u : UpsId) (s : ServerState) (address : List ℕ) (m : Option ℕ) (x : UpsState) → ups_at u.place s ≡ Some x → ups_at u.place (opened s address m) ≡ Some x
-unfolding opened
-opened_keeps u s address None x e = either_ups u (may_open s) _ s x e e
-opened_keeps u s address (Some k) x e = e
 
 took_by_client : (u : UpsId) (s : ServerState) (c n : ℕ) (m : Option ℕ) (x : UpsState) (b : Bool) → ups_at u.place s ≡ Some x
     → Adds u x (flat_map (told_by_line u) (cond b (executions_until (without_output s c n) c m) [])) (cond b (pumped_until (without_output s c n) c m) s)
@@ -269,12 +257,12 @@ unfolding after_by executions_by with_input
 event_leaves u s (DriverUp v) m x there nothing = plain u x _ [] _ (up_leaves u v s x there nothing)
 event_leaves u s (DriverBytes v piece) m x there nothing =
     subst (Leaves u x [] []) (sym (bytes_change v piece m s))
-    (of_driver u v s x (ups_after_bytes s.moment piece m) (λ b. []) (λ b. []) (eqb v.place u.place) refl there refl refl (quiet x (ups_after_bytes s.moment piece m x) (bytes_owed s.moment piece m x)))
+    (of_driver u v s x (ups_after_bytes s.moment piece m) (λ b. []) (λ b. []) there (quiet x (ups_after_bytes s.moment piece m x) (bytes_owed s.moment piece m x)) (same_goes x))
 event_leaves u s (DriverTook v n) m x there nothing = took_leaves u v s n x there
 event_leaves u s (DriverDown v) m x there nothing =
-    of_driver u v s x disconnected (λ b. []) (λ b. []) (eqb v.place u.place) refl there refl refl (quiet x (disconnected x) (down_owed x x.report.connected refl))
+    of_driver u v s x disconnected (λ b. []) (λ b. []) there (quiet x (disconnected x) (down_owed x x.report.connected refl)) (same_goes x)
 event_leaves u s (Tick seconds) m x there nothing = plain u x _ [] _ (tick_leaves u s seconds x there)
-event_leaves u s (Open address) m x there nothing = same_leaves u x (opened s address m) (opened_keeps u s address m x there)
+event_leaves u s (Open address) m x there nothing = same_leaves u x (opened s address m) (opened_same u s address m x there)
 event_leaves u s (Feed c piece) m x there nothing = of_adds u x _ _ (pump_adds u (with_input s c piece) c m x (session_keeps u (step.joined piece) s c x there))
 event_leaves u s (Took c n) m x there nothing = of_adds u x _ _ (took_by_client u s c n m x (may_take (session c s) n) there)
 event_leaves u s (Close c) m x there nothing = same_leaves u x _ there
@@ -290,7 +278,7 @@ lost_is false b e = cc e
 
 joined : (before : List ℕ) (told more : List Telling) (taken between : List ℕ) → before ++ texts_of told ≡ taken ++ between → before ++ texts_of (told ++ more) ≡ taken ++ (between ++ texts_of more)
 joined before told more taken between e =
-    ap (λ (z : List ℕ). before ++ z) (flat_both _ told more) ∙ sym (append_assoc before (texts_of told) (texts_of more)) ∙ ap (λ (z : List ℕ). z ++ texts_of more) e ∙ append_assoc taken between (texts_of more)
+    ap (λ (z : List ℕ). before ++ z) (flat_map-append _ told more) ∙ sym (append_assoc before (texts_of told) (texts_of more)) ∙ ap (λ (z : List ℕ). z ++ texts_of more) e ∙ append_assoc taken between (texts_of more)
 
 in_front_owed : (before after : List ℕ) (told : List Telling) (taken between : List ℕ) (later : Connections) → before ++ texts_of told ≡ taken ++ between → IsSentAndOwed between later after → IsSentAndOwed before (with_front told taken later) after
 in_front_owed before after told taken between (last now) e h = joined before told now.told taken between e ∙ ap (λ (z : List ℕ). taken ++ z) h ∙ sym (append_assoc taken now.taken after)
@@ -321,11 +309,6 @@ run_sent keeps old new (e ∷ es) (o ∷ os) u x sound there (mid, step, r) =
     let l = event_leaves u old e (refused_after o) x there (owed_nothing u old x sound there) in
     let rest = run_sent keeps next new es os u l.left sound_next l.there (subst (λ (z : ServerState). Run z es os new) step.leaves r) in
     event_sent u old e o x (owed_to_driver u new) (connections u next es os) there l (owed_nothing u next l.left sound_next l.there) rest
-
-there_is : (p : ℕ) (xs : List UpsState) → p < length xs → (x : UpsState) × (slice_get xs p ≡ Some x)
-there_is p [] few = absurd (omega (arith, few))
-there_is zero (x ∷ xs) few = (x, refl)
-there_is (suc p) (x ∷ xs) few = there_is p xs (omega (arith, few))
 
 pub sent_to_drivers : EachEventKeepsTheServerSound → WhatADriverWasSentAndIsOwedIsWhatItWasTold
 sent_to_drivers keeps old new es os u sound few r =

@@ -39,6 +39,7 @@ mod Taking
 mod TakingAmongOthers
 mod Listed
 mod DriverHistory
+mod DriverRuns
 mod DriverOrders
 mod OrdersByRight
 mod Written

@@ -1,6 +1,7 @@
 -- The orders that a run told are those of its lines that are by right.
 use Rattle.std.proofs.Common.{◌≡◌, ◌∙◌, append_assoc, ℕ, Bool, true, false, List, [], ◌∷◌, ◌++◌, Option, Some, Result, Ok, refl, sym, ap, subst, cond, eqb, inl, inr}
 use Rattle.std.specs.List.{flat_map}
+use Rattle.std.proofs.lemmas.Grind.{flat_map-append}
 use Rattle.std.proofs.lemmas.Bool.{eqb-true, eq-eqb}
 use Rattle.arrayvec.specs.ArrayVec.{ArrayVec}
 use Rattle.nutusers.specs.declared.ups_list.UpsId.{UpsId}
@@ -22,14 +23,11 @@ use Rattle.nutcore.specs.DriverOrders.{Telling, dump_all, ping, order, told_by_c
 use Rattle.nutcore.specs.OrdersByRight.{IsSetByRight, IsCommandedByRight, IsOrderByRight, AreOrdersByRight, none_left, given, passed_over, order_of, all_told, orders_told, EachOrderIsByRight}
 use Rattle.nutcore.proofs.Events.{of_told_beside}
 use Rattle.nutcore.proofs.Changes.{of_upses}
-use Rattle.nutcore.proofs.DriverOrders.{flat_both}
+use Rattle.nutcore.proofs.DriverHistory.{same_ups}
 use Rattle.nutanswer.proofs.PublicLaws.{each_order_answered_ok_is_given}
 use Rattle.nutcore.proofs.Rows.{comes_of_line, by_right}
 
 -- a line that gives an order is by right
-same_ups : (u v : UpsId) → u.place ≡ v.place → u ≡ v
-same_ups u v e = ap (λ (p : ℕ). let w : UpsId = record { place = p } in w) e
-
 pub by_read : (s : ServerState) (c : ℕ) (line : List ℕ) (u v : UpsId) (bytes : ArrayVec ℕ) → v.place ≡ u.place → change_by s c (read_command line) ≡ changes.Order v bytes → IsOrderByRight u bytes.items (of_line s c line)
 unfolding by_right
 by_read s c line u v bytes place change =
@@ -134,13 +132,13 @@ run_orders u s (e ∷ es) (o ∷ os) =
     let beside : List Telling = told_beside_lines u s e in
     let by_lines : List Telling = flat_map (told_by_line u) here in
     let event : flat_map order_of (told_in_event u s e o) ≡ flat_map order_of by_lines =
-    flat_both order_of beside by_lines ∙ ap (λ (z : List (List ℕ)). z ++ flat_map order_of by_lines) (beside_no_order u s e) in
+    flat_map-append order_of beside by_lines ∙ ap (λ (z : List (List ℕ)). z ++ flat_map order_of by_lines) (beside_no_order u s e) in
     ap (λ (z : List Telling). flat_map order_of z) (all_in_front (is_lost_by u s e o) (told_in_event u s e o) (taken_in_event u s e) (connections u (after s e o) es os))
-    ∙ flat_both order_of (told_in_event u s e o) (all_told (connections u (after s e o) es os))
+    ∙ flat_map-append order_of (told_in_event u s e o) (all_told (connections u (after s e o) es os))
     ∙ ap (λ (z : List (List ℕ)). z ++ orders_told u (after s e o) es os) event
     ∙ ap (λ (z : List (List ℕ)). flat_map order_of by_lines ++ z) (run_orders u (after s e o) es os)
-    ∙ sym (flat_both order_of by_lines (flat_map (told_by_line u) later))
-    ∙ ap (λ (z : List Telling). flat_map order_of z) (sym (flat_both (told_by_line u) here later))
+    ∙ sym (flat_map-append order_of by_lines (flat_map (told_by_line u) later))
+    ∙ ap (λ (z : List Telling). flat_map order_of z) (sym (flat_map-append (told_by_line u) here later))
 
 pub orders_by_right : EachOrderIsByRight
 orders_by_right old es os u = subst (AreOrdersByRight u (executions old es os)) (sym (run_orders u old es os)) (all_join u (executions old es os))

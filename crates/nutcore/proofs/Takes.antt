@@ -21,7 +21,7 @@ use Rattle.nutcore.proofs.Changed.{session_put, session_changed}
 use Rattle.nutcore.proofs.Events.{given_by}
 use Rattle.nutcore.proofs.Executions.{given_is}
 use Rattle.nutcore.proofs.Least.{pump_stopped}
-use Rattle.nutcore.proofs.Loops.{stops_none, stopped_lines}
+use Rattle.nutcore.proofs.Loops.{stopped_lines}
 use Rattle.nutcore.proofs.Progress.{Presence, presence, is_closed, Progress}
 use Rattle.nutcore.proofs.Serving.{no_notice, notice_there}
 use Rattle.nutcore.proofs.Stepping.{took_same}

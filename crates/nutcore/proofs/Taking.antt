@@ -7,8 +7,8 @@ use Rattle.nutcore.specs.declared.event.Outcome.{Outcome}
 use Rattle.nutcore.specs.Server.{ServerState, session}
 use Rattle.nutcore.specs.Pump.{pump_stops}
 use Rattle.nutcore.specs.Step.{offered}
-use Rattle.nutcore.specs.History.{Execution, text_of, texts_of, executions, executions_in_event, of_client, answers, owed, held}
-use Rattle.nutcore.specs.Taking.{lines_done, enough_takes, GetsEverything, WhoTakesGetsEverything}
+use Rattle.nutcore.specs.History.{Execution, text_of, texts_of, executions, executions_in_event, of_client, owed, held}
+use Rattle.nutcore.specs.Taking.{enough_takes, GetsEverything, WhoTakesGetsEverything}
 use Rattle.nutcore.proofs.Stepping.{two_lists, two_clients}
 use Rattle.nutcore.proofs.Takes.{all_taken, outcome_then, server_then, done_then, IsTake, one_take}
 

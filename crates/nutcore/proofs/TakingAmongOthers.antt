@@ -3,19 +3,19 @@ use Rattle.std.proofs.Common.{◌≡◌, ◌≢◌, ◌⊎◌, ℕ, suc, ◌+◌
 use Rattle.std.specs.Prelude.{is_none, option_and_then}
 use Rattle.std.specs.List.{filter}
 use Rattle.std.specs.Option.{option_map_or}
-use Rattle.std.proofs.lemmas.Bool.{cases_lt, eqb-true, eqb-false, eq-eqb}
+use Rattle.std.proofs.lemmas.Bool.{cases_lt, eqb-true, eq-eqb}
 use Rattle.nutlisting.specs.declared.ring.TheConstants.{RING_LIMIT}
 use Rattle.nutcore.specs.declared.event.Event.{Event}
-use Rattle.nutcore.specs.declared.event.Event.TheVariants.{Open, Feed, Took, Close}
+use Rattle.nutcore.specs.declared.event.Event.TheVariants.{Feed, Took, Close}
 use Rattle.nutcore.specs.declared.event.Outcome.{Outcome}
 use Rattle.nutcore.specs.Session.{SessionState, find, new_session}
 use Rattle.nutcore.specs.Server.{ServerState, session}
-use Rattle.nutcore.specs.Pump.{next_line, pump_stops, held_of, owed_of, holds_overlong, is_overlong}
+use Rattle.nutcore.specs.Pump.{next_line, pump_stops, held_of, owed_of, holds_overlong}
 use Rattle.nutcore.specs.Step.{with_input, without_output, may_take, may_open, offered, opened, after_by, after, refused_after, outcome_of}
 use Rattle.nutcore.specs.Run.{Run}
-use Rattle.nutcore.specs.History.{Execution, texts_of, executions_until, executions, executions_in_event, of_client, answers, owed, held}
+use Rattle.nutcore.specs.History.{Execution, texts_of, executions_until, executions, executions_in_event, of_client, owed}
 use Rattle.nutcore.specs.Isolation.{client_of}
-use Rattle.nutcore.specs.Taking.{IsTakeOfAll, lines_done, enough_takes, TakesAmongOthers, is_event_of, events_of, IsServed, WhoTakesAmongOthersGetsEverything}
+use Rattle.nutcore.specs.Taking.{IsTakeOfAll, enough_takes, TakesAmongOthers, is_event_of, events_of, IsServed, WhoTakesAmongOthersGetsEverything}
 use Rattle.nutcore.proofs.Events.{given_by, IsApart, of_session_event}
 use Rattle.nutcore.proofs.Executions.{given_is}
 use Rattle.nutcore.proofs.Isolation.{own}

@@ -1,20 +1,22 @@
 -- What a driver reported in a run, from the events alone: the other half of the headline.
-use Rattle.std.specs.Prelude.{◌≡◌, ◌≤◌, ℕ, Bool, true, false, List, [], ◌∷◌, ◌++◌, Some, None, ◌==◌}
-use Rattle.std.specs.Prelude.{if◌then◌else◌, length, map}
+use Rattle.std.specs.Prelude.{◌≡◌, ◌≤◌, ◌+◌, ℕ, Bool, true, false, List, [], ◌∷◌, ◌++◌, Option}
+use Rattle.std.specs.Prelude.{Some, None, ◌==◌, ◌&&◌, if◌then◌else◌, length, map, take, min}
 use Rattle.std.specs.List.{flat_map}
 use Rattle.std.specs.Option.{option_map_or}
 use Rattle.nutwords.specs.SplitLine.{split_line}
 use Rattle.nutwords.specs.declared.limits.TheConstants.{LINE_LIMIT}
 use Rattle.nutusers.specs.declared.ups_list.UpsId.{UpsId}
 use Rattle.nutdriver.specs.declared.report.Report.{Report}
+use Rattle.nutdriver.specs.declared.report.LineOutcome.{LineOutcome}
+use Rattle.nutdriver.specs.declared.report.LineOutcome.TheVariants.{Accepted, Refused}
 use Rattle.nutdriver.specs.Report.{after_line}
 use Rattle.nutcore.specs.declared.event.Event.{Event}
 use Rattle.nutcore.specs.declared.event.Event.TheVariants.{DriverBytes}
 use Rattle.nutcore.specs.declared.event.Outcome.{Outcome}
 use Rattle.nutcore.specs.Lines.{with_lf, whole_lines}
-use Rattle.nutcore.specs.Ups.{UpsState}
+use Rattle.nutcore.specs.Ups.{UpsState, greatest_count}
 use Rattle.nutcore.specs.Server.{ServerState, ups_at}
-use Rattle.nutcore.specs.Step.{after}
+use Rattle.nutcore.specs.Step.{after, refused_after}
 use Rattle.nutcore.specs.Run.{Run}
 use Rattle.nutcore.specs.Sound.{Each}
 
@@ -31,6 +33,17 @@ bytes_heard lines = flat_map (λ x. with_lf x.line) lines
 abbrev pub after_heard : Report → List Heard → Report
 after_heard report [] = report
 after_heard report (x ∷ lines) = after_heard (after_line x.moment report x.line).0 lines
+
+-- How many of the lines are refused, each on the report that those before it made.
+abbrev pub refusals : LineOutcome → ℕ
+refusals Accepted = 0
+refusals (Refused fault) = 1
+
+abbrev pub refused_among : Report → List Heard → ℕ
+refused_among report [] = 0
+refused_among report (x ∷ lines) =
+    refusals (after_line x.moment report x.line).1
+    + refused_among (after_line x.moment report x.line).0 lines
 
 -- A line has no LF, and at most 1,023 bytes.
 pub record IsWholeLine (x : Heard) : Type 0 where
@@ -61,29 +74,44 @@ StaysConnected u s (e ∷ es) (o ∷ os) =
 abbrev pub unfinished_of : UpsId → ServerState → List ℕ
 unfinished_of u s = option_map_or (λ x. x.unfinished) (ups_at u.place s) []
 
--- The lines that are executed in an event, where this UPS's driver isn't lost, and in a run: the
--- whole lines of what was unfinished and of what came, at the event's moment.
+-- The lines that are executed in an event, and in a run: where the driver is connected, the whole
+-- lines of what was unfinished and of what came, at the event's moment; or as many as memory let.
 abbrev pub heard_at : ℕ → List ℕ → Heard
 heard_at moment line = record { moment = moment; line = line }
 
-abbrev pub heard_in_event : UpsId → ServerState → Event → List Heard
-heard_in_event u s (DriverBytes v piece) =
-    if v.place == u.place then map (heard_at s.moment) (whole_lines (unfinished_of u s ++ piece))
+abbrev pub as_far : Option ℕ → List (List ℕ) → List (List ℕ)
+as_far None lines = lines
+as_far (Some k) lines = take k lines
+
+abbrev pub heard_in_event : UpsId → ServerState → Event → Outcome → List Heard
+heard_in_event u s (DriverBytes v piece) outcome =
+    if v.place == u.place && has_driver u s
+    then map (heard_at s.moment)
+    (as_far (refused_after outcome) (whole_lines (unfinished_of u s ++ piece)))
     else []
-heard_in_event u s _ = []
+heard_in_event u s _ outcome = []
 
 abbrev pub heard : UpsId → ServerState → List Event → List Outcome → List Heard
 heard u s [] os = []
 heard u s (e ∷ es) [] = []
-heard u s (e ∷ es) (o ∷ os) = heard_in_event u s e ++ heard u (after s e o) es os
+heard u s (e ∷ es) (o ∷ os) = heard_in_event u s e o ++ heard u (after s e o) es os
+
+-- The count of refused lines grows by those of these lines that are refused, up to its greatest
+-- number.
+abbrev pub CountsRefused : UpsState → List Heard → UpsState → Type 0
+CountsRefused before lines after =
+    before.faulty ≤ greatest_count
+    → after.faulty ≡ min (before.faulty + refused_among before.report lines) greatest_count
 
 -- From one state of a UPS to another: what was unfinished, followed by what came, is the executed
--- lines, followed by what is unfinished; and the report is what these lines made of it, in order.
+-- lines, followed by what is unfinished; the report is what these lines made of it, in order, and
+-- those that are refused are counted.
 pub record IsHeard (before : UpsState) (came : List ℕ) (lines : List Heard) (after : UpsState)
     : Type 0 where
   pub whole : Each IsWholeLine lines
   pub all : before.unfinished ++ came ≡ bytes_heard lines ++ after.unfinished
   pub report : after.report ≡ after_heard before.report lines
+  pub counted : CountsRefused before lines after
 
 pub record DriverIsHeard (u : UpsId) (old : ServerState) (came : List ℕ) (lines : List Heard)
     (new : ServerState) : Type 0 where
@@ -94,7 +122,7 @@ pub record DriverIsHeard (u : UpsId) (old : ServerState) (came : List ℕ) (line
   pub is_heard : IsHeard before came lines after
 
 -- While a driver isn't lost, all that came from it is its executed lines, followed by what is
--- unfinished, and its report is what these lines made of it.
+-- unfinished, its report is what these lines made of it, and the refused ones are counted.
 abbrev pub WhatADriverToldIsExecuted : Type 0
 WhatADriverToldIsExecuted =
     (old new : ServerState) (events : List Event) (outcomes : List Outcome) (u : UpsId)

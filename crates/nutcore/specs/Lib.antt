@@ -16,6 +16,7 @@ pub mod Bounded
 pub mod Taking
 pub mod Listed
 pub mod DriverHistory
+pub mod DriverRuns
 pub mod DriverOrders
 pub mod ByRight
 pub mod OrdersByRight

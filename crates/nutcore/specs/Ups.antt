@@ -71,8 +71,11 @@ after_tick max_age moment x =
     else x
 
 -- The count of refused lines stops at its greatest number.
+abbrev pub greatest_count : ℕ
+greatest_count = 2 ^ 64 - 1
+
 abbrev pub with_faulty_line : UpsState → UpsState
-with_faulty_line x = record x { faulty = min (x.faulty + 1) (2 ^ 64 - 1) }
+with_faulty_line x = record x { faulty = min (x.faulty + 1) greatest_count }
 
 abbrev pub after_outcome : UpsState → Report × LineOutcome → UpsState
 after_outcome x (report, Accepted) = record x { report = report }

@@ -10,6 +10,7 @@ ghost use Rattle.nutcore.specs.Bounded.{EachEventIsBounded};
 ghost use Rattle.nutcore.specs.Taking.{WhoTakesGetsEverything, WhoTakesAmongOthersGetsEverything};
 ghost use Rattle.nutcore.specs.Lines.{WholeLinesAreTheCut};
 ghost use Rattle.nutcore.specs.DriverHistory.{WhatADriverToldIsExecuted};
+ghost use Rattle.nutcore.specs.DriverRuns.{WhatCameSinceConnectingIsExecuted, ALostDriversLinesAreABeginning, WhichLinesAreRefused, RefusedLinesAreCounted, ANewServerCountsAllRefusedLines};
 ghost use Rattle.nutcore.specs.DriverOrders.{WhatADriverWasSentAndIsOwedIsWhatItWasTold};
 ghost use Rattle.nutcore.specs.Listed.{EachIsListedOnce, WhatIsListedIsWhatIsHeld};
 ghost use Rattle.nutcore.specs.ReadsBack.{EachListingReadsBack};
@@ -136,10 +137,31 @@ pub fn whole_lines_are_the_cut()
 {}
 
 /// The drivers' half: while a driver isn't lost, what was unfinished of it, followed by all that came from it in a run, is
-/// its executed lines, followed by what is unfinished; and its report is what these lines made of it, in order, each at
-/// its moment.
+/// its executed lines, followed by what is unfinished; its report is what these lines made of it, in order, each at its
+/// moment; and its count of refused lines grows by those of them that are refused, up to its greatest number.
 pub fn what_a_driver_told_is_executed()
     ensures { WhatADriverToldIsExecuted }
+{}
+
+/// The same from `Server::new` on, for every UPS and at the end of every run: where a driver is connected, it connected at
+/// an event of the run, and wasn't lost since; what came since is its executed lines, followed by what is unfinished, and
+/// its report is what these lines made of the one with which a connection begins. Where none is, the UPS is a new one but
+/// for a forced shutdown and its count. A driver that is lost had a beginning of what came from it executed.
+pub fn what_came_since_connecting_is_executed()
+    ensures since { WhatCameSinceConnectingIsExecuted }
+    ensures to_loss { ALostDriversLinesAreABeginning }
+{
+    every_server_is_sound();
+}
+
+/// A driver's line is refused exactly where it isn't read, or where what it says can't be done to the tree as it is then;
+/// and then it changes nothing but the moment at which the driver was heard. How many of the lines that a run executed for
+/// a UPS are refused is what its count grows by, over all connections, up to its greatest number: no connection and no
+/// loss begins it anew. From `Server::new` on they are the count.
+pub fn refused_lines_are_counted()
+    ensures which { WhichLinesAreRefused }
+    ensures run { RefusedLinesAreCounted }
+    ensures from_new { ANewServerCountsAllRefusedLines }
 {}
 
 /// The other half: over every run, what the driver of a UPS was owed, followed by what its connections (`DUMPALL`), the
