@@ -1,8 +1,9 @@
 #!/usr/bin/env bash
 # The clients as a new user tries them: what upsc, upsrw and upscmd say, and with which status they end, without words,
-# with a wrong word, with --help, with a word that isn't lawful, at a port that refuses, at a server that says nothing
-# and closes, at one that answers, and with an output that is full. Then client_cases.py has them meet a scripted server, which
-# cuts its replies at every byte, refuses, or takes little: a line a case, with its rows. Needs perl, python3 and cc.
+# with a wrong word, with one that is no text, with --help, with a word that isn't lawful, at a port that refuses, at a
+# server that says nothing and closes, at one that answers, and with an output that is full. Then client_cases.py has them
+# meet a scripted server, which cuts its replies at every byte, refuses, or takes little: a line a case, with its rows.
+# Needs perl, python3 and cc.
 set -euo pipefail
 # shellcheck source=tests/built.bash
 source "$(dirname "${BASH_SOURCE[0]}")/built.bash"
@@ -61,6 +62,7 @@ begin() {
     program=$1
     refuses_words no_words
     refuses_words wrong_word --nope
+    ends no_text 2 "" "$1: bad argument" $'su\xff'
     ends help 0 "*Usage: $1 *" "" --help
 }
 

@@ -11,34 +11,13 @@ use Rattle.nutclient.specs.Requests.{RequestsGive}
 use Rattle.nutclient.specs.Printed.{Printed, Prints, Faults, printed, printed_of, text_of, PrintGives, RunGives, Answers}
 use Rattle.nutclient.specs.declared.form.Form.{Form}
 
--- a fault of the requests is the job's, and nothing is printed
-pub run_refused : {R W O : Type 0} (rem : R → Option (List ℕ)) (rf : R → ℕ) (con : W → Option (List ℕ)) (wf : W → ℕ) (oc : O → Option (List ℕ)) (of : O → ℕ)
-    (requests : List Request) (form : Form) (old new : List ℕ) (reader after : R) (writer sent : W) (out : O) (fault : ClientFault)
-    → RequestsGive rem rf con wf requests old reader writer (Err fault) new after sent → RunGives rem rf con wf oc of requests form old reader writer out (Err fault) after sent out
-run_refused rem rf con wf oc of requests form old new reader after writer sent out Write g = inl (g.0, g.1, g.2, g.3, g.4, refl)
-run_refused rem rf con wf oc of requests form old new reader after writer sent out (ErrWord w) g = ((g.0, g.1, g.2, g.3, g.4, λ more. ap (printed_of form) (g.5 more)), refl)
-run_refused rem rf con wf oc of requests form old new reader after writer sent out BadReply g = ((g.0, g.1, g.2, g.3, g.4, λ more. ap (printed_of form) (g.5 more)), refl)
-run_refused rem rf con wf oc of requests form old new reader after writer sent out EarlyEnd g = (g.0, g.1, g.2, g.3, g.4, g.5, g.6, refl)
-run_refused rem rf con wf oc of requests form old new reader after writer sent out Read g = (g.0, g.1, g.2, g.3, g.4, g.5, refl)
-run_refused rem rf con wf oc of requests form old new reader after writer sent out Memory g = (g.0, g.1, g.2, g.3, g.4, refl)
-run_refused rem rf con wf oc of requests form old new reader after writer sent out Connect g = absurd g
-run_refused rem rf con wf oc of requests form old new reader after writer sent out BadTarget g = absurd g
-
 -- the replies are whole, and the items of the last are printed
 pub run_printed : {R W O : Type 0} (rem : R → Option (List ℕ)) (rf : R → ℕ) (con : W → Option (List ℕ)) (wf : W → ℕ) (oc : O → Option (List ℕ)) (of : O → ℕ)
     (requests : List Request) (form : Form) (old new : List ℕ) (reader after : R) (writer sent : W) (out then : O) (items : List Item) (result : Result (Unit {0}) ClientFault)
     → RequestsGive rem rf con wf requests old reader writer (Ok items) new after sent → PrintGives oc of (text_of form items) out result then
-    → RunGives rem rf con wf oc of requests form old reader writer out result after sent then
-run_printed rem rf con wf oc of requests form old new reader after writer sent out then items (Ok tt) g p = (text_of form items, (g.0, g.1, g.2, g.3, g.4, λ more. ap (printed_of form) (g.5 more)), p)
-run_printed rem rf con wf oc of requests form old new reader after writer sent out then items (Err Write) g p = inr (text_of form items, (g.0, g.1, g.2, g.3, g.4, λ more. ap (printed_of form) (g.5 more)), p)
-run_printed rem rf con wf oc of requests form old new reader after writer sent out then items (Err Memory) g p =
-    (g.0, g.1, g.2, g.3, (λ more. ([], sym (append-nil g.1 ∙ sym (g.4 more)))), p)
-run_printed rem rf con wf oc of requests form old new reader after writer sent out then items (Err (ErrWord w)) g p = absurd p
-run_printed rem rf con wf oc of requests form old new reader after writer sent out then items (Err BadReply) g p = absurd p
-run_printed rem rf con wf oc of requests form old new reader after writer sent out then items (Err EarlyEnd) g p = absurd p
-run_printed rem rf con wf oc of requests form old new reader after writer sent out then items (Err Read) g p = absurd p
-run_printed rem rf con wf oc of requests form old new reader after writer sent out then items (Err Connect) g p = absurd p
-run_printed rem rf con wf oc of requests form old new reader after writer sent out then items (Err BadTarget) g p = absurd p
+    → RunGives rem rf con wf oc of requests form old reader writer out result new after sent then
+run_printed rem rf con wf oc of requests form old new reader after writer sent out then items (Ok tt) g p = (items, g, p)
+run_printed rem rf con wf oc of requests form old new reader after writer sent out then items (Err fault) g p = inr (items, g, p)
 
 -- known bytes are what came and what is left
 came_all : (r a : Option (List ℕ)) (xs came : List ℕ) → r ≡ Some xs → Consumes r a came → (ys : List ℕ) × (xs ≡ came ++ ys) × (a ≡ Some ys)
@@ -64,26 +43,42 @@ all_printed requests form old came ys xs print e h = sym (ap (λ bs. printed req
 
 -- where nothing fails, the bytes that come decide what is printed
 pub run_answers : {R W O : Type 0} (rem : R → Option (List ℕ)) (rf : R → ℕ) (con : W → Option (List ℕ)) (wf : W → ℕ) (oc : O → Option (List ℕ)) (of : O → ℕ)
-    (requests : List Request) (form : Form) (old xs : List ℕ) (reader after : R) (writer sent : W) (out then : O) (result : Result (Unit {0}) ClientFault)
-    → RunGives rem rf con wf oc of requests form old reader writer out result after sent then → rem reader ≡ Some xs → NoneFailed (rf reader) (rf after) → NoneFailed (wf writer) (wf sent) → NoneFailed (of out) (of then)
+    (requests : List Request) (form : Form) (old xs new : List ℕ) (reader after : R) (writer sent : W) (out then : O) (result : Result (Unit {0}) ClientFault)
+    → RunGives rem rf con wf oc of requests form old reader writer out result new after sent then → rem reader ≡ Some xs → NoneFailed (rf reader) (rf after) → NoneFailed (wf writer) (wf sent) → NoneFailed (of out) (of then)
     → (result ≡ Err Memory → ⊥) → Answers oc (printed requests form (old ++ xs)) out result then
-run_answers rem rf con wf oc of requests form old xs reader after writer sent out then (Ok tt) g e r w o m =
+run_answers rem rf con wf oc of requests form old xs new reader after writer sent out then (Ok tt) g e r w o m =
     let k = came_all (rem reader) (rem after) xs g.1.0 e g.1.2.bytes in
-    subst (λ p. Answers oc p out (Ok tt) then) (all_printed requests form old g.1.0 k.0 xs (Prints g.0) k.1 g.1.5) (refl, g.2.bytes_written)
-run_answers rem rf con wf oc of requests form old xs reader after writer sent out then (Err Write) (inl g) e r w o m = absurd (grew (wf writer) (wf sent) w g.3.failed)
-run_answers rem rf con wf oc of requests form old xs reader after writer sent out then (Err Write) (inr g) e r w o m = absurd (grew (of out) (of then) o g.2.failed)
-run_answers rem rf con wf oc of requests form old xs reader after writer sent out then (Err (ErrWord v)) g e r w o m =
+    subst (λ p. Answers oc p out (Ok tt) then) (all_printed requests form old g.1.0 k.0 xs (Prints (text_of form g.0)) k.1 (λ more. ap (printed_of form) (g.1.5 more))) (refl, g.2.bytes_written)
+run_answers rem rf con wf oc of requests form old xs new reader after writer sent out then (Err Write) (inl g) e r w o m = absurd (grew (wf writer) (wf sent) w g.0.3.failed)
+run_answers rem rf con wf oc of requests form old xs new reader after writer sent out then (Err Write) (inr g) e r w o m = absurd (grew (of out) (of then) o g.2.failed)
+run_answers rem rf con wf oc of requests form old xs new reader after writer sent out then (Err (ErrWord v)) (inl g) e r w o m =
     let k = came_all (rem reader) (rem after) xs g.0.0 e g.0.2.bytes in
-    subst (λ p. Answers oc p out (Err (ErrWord v)) then) (all_printed requests form old g.0.0 k.0 xs (Faults (ErrWord v)) k.1 g.0.5) (refl, g.1)
-run_answers rem rf con wf oc of requests form old xs reader after writer sent out then (Err BadReply) g e r w o m =
+    subst (λ p. Answers oc p out (Err (ErrWord v)) then) (all_printed requests form old g.0.0 k.0 xs (Faults (ErrWord v)) k.1 (λ more. ap (printed_of form) (g.0.5 more))) (refl, g.1)
+run_answers rem rf con wf oc of requests form old xs new reader after writer sent out then (Err BadReply) (inl g) e r w o m =
     let k = came_all (rem reader) (rem after) xs g.0.0 e g.0.2.bytes in
-    subst (λ p. Answers oc p out (Err BadReply) then) (all_printed requests form old g.0.0 k.0 xs (Faults BadReply) k.1 g.0.5) (refl, g.1)
-run_answers rem rf con wf oc of requests form old xs reader after writer sent out then (Err EarlyEnd) g e r w o m =
-    let k = came_all (rem reader) (rem after) xs g.0 e g.2.bytes in
-    let none : k.0 ≡ [] = at_end (rem after) k.0 k.2 g.4 in
-    let all : xs ≡ g.0 = k.1 ∙ ap (λ t. g.0 ++ t) none ∙ append-nil g.0 in
-    subst (λ p. Answers oc p out (Err EarlyEnd) then) (sym (ap (λ bs. printed requests form (old ++ bs)) all ∙ ap (printed_of form) g.6)) (refl, g.7)
-run_answers rem rf con wf oc of requests form old xs reader after writer sent out then (Err Read) g e r w o m = absurd (grew (rf reader) (rf after) r g.2.failed)
-run_answers rem rf con wf oc of requests form old xs reader after writer sent out then (Err Memory) g e r w o m = absurd (m refl)
-run_answers rem rf con wf oc of requests form old xs reader after writer sent out then (Err Connect) g e r w o m = absurd g
-run_answers rem rf con wf oc of requests form old xs reader after writer sent out then (Err BadTarget) g e r w o m = absurd g
+    subst (λ p. Answers oc p out (Err BadReply) then) (all_printed requests form old g.0.0 k.0 xs (Faults BadReply) k.1 (λ more. ap (printed_of form) (g.0.5 more))) (refl, g.1)
+run_answers rem rf con wf oc of requests form old xs new reader after writer sent out then (Err EarlyEnd) (inl g) e r w o m =
+    let k = came_all (rem reader) (rem after) xs g.0.0 e g.0.2.bytes in
+    let none : k.0 ≡ [] = at_end (rem after) k.0 k.2 g.0.4 in
+    let all : xs ≡ g.0.0 = k.1 ∙ ap (λ t. g.0.0 ++ t) none ∙ append-nil g.0.0 in
+    subst (λ p. Answers oc p out (Err EarlyEnd) then) (sym (ap (λ bs. printed requests form (old ++ bs)) all ∙ ap (printed_of form) g.0.6)) (refl, g.1)
+run_answers rem rf con wf oc of requests form old xs new reader after writer sent out then (Err Read) (inl g) e r w o m = absurd (grew (rf reader) (rf after) r g.0.2.failed)
+run_answers rem rf con wf oc of requests form old xs new reader after writer sent out then (Err Memory) g e r w o m = absurd (m refl)
+run_answers rem rf con wf oc of requests form old xs new reader after writer sent out then (Err Connect) (inl g) e r w o m = absurd g.0
+run_answers rem rf con wf oc of requests form old xs new reader after writer sent out then (Err BadTarget) (inl g) e r w o m = absurd g.0
+run_answers rem rf con wf oc of requests form old xs new reader after writer sent out then (Err (ErrWord v)) (inr g) e r w o m = absurd g.2
+run_answers rem rf con wf oc of requests form old xs new reader after writer sent out then (Err BadReply) (inr g) e r w o m = absurd g.2
+run_answers rem rf con wf oc of requests form old xs new reader after writer sent out then (Err EarlyEnd) (inr g) e r w o m = absurd g.2
+run_answers rem rf con wf oc of requests form old xs new reader after writer sent out then (Err Read) (inr g) e r w o m = absurd g.2
+run_answers rem rf con wf oc of requests form old xs new reader after writer sent out then (Err Connect) (inr g) e r w o m = absurd g.2
+run_answers rem rf con wf oc of requests form old xs new reader after writer sent out then (Err BadTarget) (inr g) e r w o m = absurd g.2
+
+-- no job ends with a fault of its words
+pub no_word_fault : {R W O : Type 0} (rem : R → Option (List ℕ)) (rf : R → ℕ) (con : W → Option (List ℕ)) (wf : W → ℕ) (oc : O → Option (List ℕ)) (of : O → ℕ)
+    (requests : List Request) (form : Form) (old new : List ℕ) (reader after : R) (writer sent : W) (out then : O) (result : Result (Unit {0}) ClientFault)
+    → RunGives rem rf con wf oc of requests form old reader writer out result new after sent then → result ≡ Err BadTarget → ⊥
+no_word_fault rem rf con wf oc of requests form old new reader after writer sent out then result g e =
+    elim (subst (λ r. RunGives rem rf con wf oc of requests form old reader writer out r new after sent then) e g) [
+      | inl refused ↦ absurd refused.0
+      | inr printed ↦ absurd printed.2
+    ]

@@ -2,3 +2,4 @@ pub mod Requests
 pub mod Printed
 pub mod Target
 pub mod Job
+pub mod Ending

@@ -1,17 +1,15 @@
 -- What is printed of a reply.
 use Rattle.std.specs.Prelude.{◌≡◌, ℕ, List, [], ◌∷◌, ◌++◌, ◌⊎◌, Option, Result, Ok, Err, codes}
 use Rattle.std.specs.List.{flat_map}
-use Rattle.std.specs.Io.KnownBytes.{IsAtEnd, Appends}
-use Rattle.nutreply.specs.Ends.{Received, ReadFailed, Written, WriteFailed, IsBeginning}
+use Rattle.std.specs.Io.KnownBytes.{Appends}
 use Rattle.nutreply.specs.Reply.{Reply, Whole, Bad, Unfinished, Refused}
-use Rattle.nutreply.specs.Fault.{status_of}
 use Rattle.nutreply.specs.Writing.{SendGives}
 use Rattle.nutreply.specs.declared.item.Item.{Item}
 use Rattle.nutreply.specs.declared.request.Request.{Request}
 use Rattle.nutreply.specs.declared.faults.ClientFault.{ClientFault}
-use Rattle.nutreply.specs.declared.faults.ClientFault.TheVariants.{Read, Write, EarlyEnd, ErrWord}
-use Rattle.nutreply.specs.declared.faults.ClientFault.TheVariants.{BadReply, Memory}
-use Rattle.nutclient.specs.Requests.{sent_lines, last_reply}
+use Rattle.nutreply.specs.declared.faults.ClientFault.TheVariants.{EarlyEnd, ErrWord, BadReply}
+use Rattle.nutreply.specs.declared.faults.ClientFault.TheVariants.{Memory}
+use Rattle.nutclient.specs.Requests.{RequestsGive, last_reply}
 use Rattle.nutclient.specs.declared.form.Form.{Form}
 use Rattle.nutclient.specs.declared.form.Form.TheVariants.{Name, Value, Colon, Equals}
 
@@ -51,73 +49,26 @@ PrintGives contents failures text out (Err Memory) after = after ≡ out
 PrintGives contents failures text out result after =
     SendGives contents failures text out result after
 
--- These bytes came, each line that they ask for was sent, and they print this, whatever stands
--- after.
-abbrev pub CameAndSent : {R W : Type 0} → (R → Option (List ℕ)) → (R → ℕ) → (W → Option (List ℕ))
-    → (W → ℕ) → List Request → Form → List ℕ → R → W → Printed → R → W → Type 0
-CameAndSent remaining failures contents write_failures requests form old reader writer print after
-    sent =
-    (came : List ℕ) × (text : List ℕ) × Received remaining failures reader came after
-    × Written contents write_failures writer text sent
-    × ((more : List ℕ) → sent_lines requests (old ++ (came ++ more)) ≡ text)
-    × ((more : List ℕ) → printed requests form (old ++ (came ++ more)) ≡ print)
-
--- What was sent, what came and what was printed, for each result of a job. No other fault comes.
+-- What was sent, what came and what was printed, for each result of a job: the replies are whole,
+-- and what is printed is the text of the last one's items; or the requests end with the fault, and
+-- nothing is printed.
 abbrev pub RunGives : {R W O : Type 0} → (R → Option (List ℕ)) → (R → ℕ) → (W → Option (List ℕ))
-    → (W → ℕ) → (O → Option (List ℕ)) → (O → ℕ)
-    → List Request → Form → List ℕ → R → W → O → Result (Unit {0}) ClientFault → R → W → O → Type 0
--- the replies are whole, and the text of the last is written
+    → (W → ℕ) → (O → Option (List ℕ)) → (O → ℕ) → List Request → Form → List ℕ → R → W → O
+    → Result (Unit {0}) ClientFault → List ℕ → R → W → O → Type 0
 RunGives remaining failures contents write_failures printed_so_far print_failures requests form old
-    reader writer out (Ok done) after sent then =
-    (text : List ℕ)
-    × CameAndSent remaining failures contents write_failures requests form old reader writer
-    (Prints text) after sent × Written printed_so_far print_failures out text then
--- the writer failed, and nothing was printed; or the output failed
+    reader writer out (Ok done) new after sent then =
+    (items : List Item)
+    × RequestsGive remaining failures contents write_failures requests old reader writer
+    (Ok items) new after sent
+    × PrintGives printed_so_far print_failures (text_of form items) out (Ok done) then
 RunGives remaining failures contents write_failures printed_so_far print_failures requests form old
-    reader writer out (Err Write) after sent then =
-    ((came : List ℕ) × (text : List ℕ) × Received remaining failures reader came after
-    × WriteFailed contents write_failures writer text sent
-    × ((more : List ℕ) → IsBeginning text (sent_lines requests (old ++ (came ++ more))))
-    × (then ≡ out))
-    ⊎ ((text : List ℕ)
-    × CameAndSent remaining failures contents write_failures requests form old reader writer
-    (Prints text) after sent × WriteFailed printed_so_far print_failures out text then)
-RunGives remaining failures contents write_failures printed_so_far print_failures requests form old
-    reader writer out (Err (ErrWord word)) after sent then =
-    CameAndSent remaining failures contents write_failures requests form old reader writer
-    (Faults (ErrWord word)) after sent × (then ≡ out)
-RunGives remaining failures contents write_failures printed_so_far print_failures requests form old
-    reader writer out (Err BadReply) after sent then =
-    CameAndSent remaining failures contents write_failures requests form old reader writer
-    (Faults BadReply) after sent × (then ≡ out)
--- the reader ended, and what came is unfinished
-RunGives remaining failures contents write_failures printed_so_far print_failures requests form old
-    reader writer out (Err EarlyEnd) after sent then =
-    (came : List ℕ) × (text : List ℕ) × Received remaining failures reader came after
-    × Written contents write_failures writer text sent × IsAtEnd (remaining after)
-    × (sent_lines requests (old ++ came) ≡ text) × (last_reply requests (old ++ came) ≡ Unfinished)
-    × (then ≡ out)
--- the reader failed, and what came is unfinished
-RunGives remaining failures contents write_failures printed_so_far print_failures requests form old
-    reader writer out (Err Read) after sent then =
-    (came : List ℕ) × (text : List ℕ) × ReadFailed remaining failures reader came after
-    × Written contents write_failures writer text sent
-    × (sent_lines requests (old ++ came) ≡ text) × (last_reply requests (old ++ came) ≡ Unfinished)
-    × (then ≡ out)
--- memory was refused: a beginning of the lines was sent
-RunGives remaining failures contents write_failures printed_so_far print_failures requests form old
-    reader writer out (Err Memory) after sent then =
-    (came : List ℕ) × (text : List ℕ) × Received remaining failures reader came after
-    × Written contents write_failures writer text sent
-    × ((more : List ℕ) → IsBeginning text (sent_lines requests (old ++ (came ++ more))))
-    × (then ≡ out)
-RunGives remaining failures contents write_failures printed_so_far print_failures requests form old
-    reader writer out result after sent then = ⊥
-
--- The status that a program ends with.
-abbrev pub end_status : Result (Unit {0}) ClientFault → ℕ
-end_status (Ok done) = 0
-end_status (Err fault) = status_of fault
+    reader writer out (Err fault) new after sent then =
+    (RequestsGive remaining failures contents write_failures requests old reader writer
+    (Err fault) new after sent × (then ≡ out))
+    ⊎ ((items : List Item)
+    × RequestsGive remaining failures contents write_failures requests old reader writer
+    (Ok items) new after sent
+    × PrintGives printed_so_far print_failures (text_of form items) out (Err fault) then)
 
 -- The result and what the output took, by what is to be printed.
 abbrev pub Answers : {O : Type 0} → (O → Option (List ℕ)) → Printed → O

@@ -15,7 +15,7 @@ pub fn connect(rt: &HostRuntime, target: &Target) -> Result<TcpStream, ClientFau
     ensures { IfErr result
         (λ fault. (fault ≡ ClientFault.Connect) ⊎ (fault ≡ ClientFault.Memory)) }
 {
-    match TcpStream::connect(rt, (target.host.as_str(), target.port)) {
+    match TcpStream::connect(rt, target.address()) {
         Ok(stream) => without_delay(stream),
         Err(error) => Err(fault_of(&error)),
     }

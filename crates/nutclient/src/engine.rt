@@ -25,7 +25,7 @@ pub fn run<R: Source, W: Sink, O: Sink>(
         → RunGives R.remaining R.failures W.contents W.failures O.contents O.failures
         (requests_in job.now.requests) job.now.form
         (unread_of session.old) (reader_of session.old) (writer_of session.old) out.old result
-        (reader_of session.new) (writer_of session.new) out.new }
+        (unread_of session.new) (reader_of session.new) (writer_of session.new) out.new }
     // Where no call failed and memory was there, the bytes decide what is printed, however they are cut.
     ensures printed { is_over session.old ≡ false
         → (bytes : List ℕ) → R.remaining (reader_of session.old) ≡ Some bytes
@@ -37,6 +37,8 @@ pub fn run<R: Source, W: Sink, O: Sink>(
         (printed (requests_in job.now.requests) job.now.form (unread_of session.old ++ bytes))
         out.old result out.new }
     ensures fault { OnErr result (is_over session.new ≡ true) }
+    // A job that is done leaves the session to the next one, with what was read past its replies.
+    ensures goes_on { OnOk result (is_over session.new ≡ false) }
 {
     if session.is_over() {
         return Err(ClientFault::EarlyEnd);
@@ -45,11 +47,13 @@ pub fn run<R: Source, W: Sink, O: Sink>(
         Ok(items) => items,
         Err(fault) => return Err(fault),
     };
-    let printed = print(session.alloc(), job.form, &items, out);
-    if printed.is_err() {
-        session.end();
+    match print(session.alloc(), job.form, &items, out) {
+        Ok(()) => Ok(()),
+        Err(fault) => {
+            session.end();
+            Err(fault)
+        }
     }
-    printed
 }
 
 /// Sends each request once the one before is granted, and gives the items of the last reply.

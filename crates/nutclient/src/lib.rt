@@ -2,25 +2,32 @@
 //! that are sent for it, and what is printed of the replies.
 #![tactic(auto)]
 
+mod client;
 mod connection;
+mod ending;
 mod engine;
 mod form;
 mod given;
 mod host;
 mod job;
+pub mod laws;
 mod limits;
 mod printed;
 mod program;
 mod requests;
+mod start;
 mod target;
 
+pub use client::{Client, with};
 pub use connection::connect;
+pub use ending::finish;
 pub use engine::run;
 pub use form::Form;
 pub use given::Given;
 pub use host::Host;
 pub use job::Job;
 pub use limits::{DEFAULT_PORT, HOST_LIMIT, PASSWORD_LIMIT, PORT_LIMIT, USER_LIMIT};
-pub use program::{end, perform, tell, words_of};
+pub use program::Program;
 pub use requests::Requests;
+pub use start::main_of;
 pub use target::Target;

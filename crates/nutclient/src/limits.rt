@@ -1,4 +1,4 @@
-//! The limits of the words, in bytes, and the port of the protocol.
+//! The limits of the words, in bytes, the port of the protocol, and a status.
 
 /// The longest name of a host.
 pub const HOST_LIMIT: usize = 255;
@@ -14,3 +14,6 @@ pub const PORT_LIMIT: usize = 65_535;
 
 /// The port of the protocol (IANA: nut).
 pub const DEFAULT_PORT: u16 = 3493;
+
+/// The status of a fault of the words.
+pub const WORD_FAULT: u8 = 2;

@@ -34,6 +34,13 @@ impl Target {
         }
     }
 
+    /// What is connected to: the host, to be looked up, and the port.
+    pub fn address(&self) -> (&str, u16)
+        ensures { (result.0.now ≡ self.now.host) × (result.1 ≡ self.now.port) }
+    {
+        (self.host.as_str(), self.port)
+    }
+
     /// Reads `ups`, `ups@host` or `ups@host:port`.
     pub fn read(text: &str) -> Option<(UpsName, Target)>
         ensures { result ≡ ups_place_of text.now }

@@ -1,5 +1,5 @@
--- The numbers of a client's faults.
-use Rattle.std.specs.Prelude.{ℕ}
+-- The numbers, the statuses and the texts of a client's faults.
+use Rattle.std.specs.Prelude.{ℕ, List, ◌++◌, codes}
 use Rattle.nutreply.specs.declared.faults.ClientFault.{ClientFault}
 use Rattle.nutreply.specs.declared.faults.ClientFault.TheVariants.{Connect, Read, Write, EarlyEnd}
 use Rattle.nutreply.specs.declared.faults.ClientFault.TheVariants.{ErrWord, BadReply, BadTarget}
@@ -21,3 +21,14 @@ number_of Memory = 8
 abbrev pub status_of : ClientFault → ℕ
 status_of BadTarget = 2
 status_of _ = 1
+
+-- The text that tells the fault.
+abbrev pub fault_text : ClientFault → List ℕ
+fault_text Connect = codes "cannot connect"
+fault_text Read = codes "read failed"
+fault_text Write = codes "write failed"
+fault_text EarlyEnd = codes "reply ended early"
+fault_text (ErrWord word) = codes "server answered ERR " ++ word
+fault_text BadReply = codes "bad reply"
+fault_text BadTarget = codes "bad argument"
+fault_text Memory = codes "no memory"

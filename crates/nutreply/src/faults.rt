@@ -1,41 +1,36 @@
 //! What a client may meet.
-ghost use Rattle.std.specs.Prelude.{◌≡◌};
+ghost use Rattle.std.specs.Prelude.{◌≡◌, ◌≤◌, ◌+◌, ◌++◌, length};
+ghost use Rattle.nutreply.specs.declared.limits.TheConstants.{FAULT_LIMIT};
 
 use bstr::ByteSlice;
-use nutwords::Name;
-use thiserror::Error;
+use nutwords::{Line, Name};
+use std::error::Error;
+use std::fmt;
+use std::fmt::Formatter;
 
 /// Why a request or a program failed.
-#[derive(Debug, PartialEq, Eq, Drop, Error)]
+#[derive(Debug, PartialEq, Eq, Drop)]
 pub enum ClientFault {
     /// 1: no address of the server took the connection.
-    #[error("cannot connect")]
     Connect,
     /// 2: a read failed.
-    #[error("read failed")]
     Read,
     /// 3: a write failed, to the server or to the output.
-    #[error("write failed")]
     Write,
     /// 4: the reply ended before it was whole, or the session met a fault before.
-    #[error("reply ended early")]
     EarlyEnd,
     /// 5: the server refused the request by this word (RFC 9271: ERR).
-    #[error("server answered ERR {}", .0.as_bytes().as_bstr())]
     ErrWord(Name),
     /// 6: a line that can't follow what stands before it.
-    #[error("bad reply")]
     BadReply,
     /// 7: a word of the command that isn't lawful.
-    #[error("bad argument")]
     BadTarget,
     /// 8: memory was refused.
-    #[error("no memory")]
     Memory,
 }
 
 impl ClientFault {
-    ghost use Rattle.nutreply.specs.Fault.{number_of, status_of};
+    ghost use Rattle.nutreply.specs.Fault.{number_of, status_of, fault_text};
 
     /// The fault's number, 1 to 8.
     pub fn number(&self) -> u8
@@ -62,4 +57,44 @@ impl ClientFault {
             _ => 1,
         }
     }
+    /// Appends the text that tells it.
+    pub fn push_text(&self, line: &mut Line)
+        requires { length line.old.items ≤ FAULT_LIMIT }
+        ensures text { line.new.items ≡ line.old.items ++ fault_text self.now }
+        ensures short { length line.new.items ≤ length line.old.items + FAULT_LIMIT }
+    {
+        match self {
+            ClientFault::Connect => push(line, b"cannot connect"),
+            ClientFault::Read => push(line, b"read failed"),
+            ClientFault::Write => push(line, b"write failed"),
+            ClientFault::EarlyEnd => push(line, b"reply ended early"),
+            ClientFault::ErrWord(word) => {
+                push(line, b"server answered ERR ");
+                push(line, word.as_bytes());
+            }
+            ClientFault::BadReply => push(line, b"bad reply"),
+            ClientFault::BadTarget => push(line, b"bad argument"),
+            ClientFault::Memory => push(line, b"no memory"),
+        }
+    }
 }
+
+/// Appends at most 64 bytes.
+fn push(line: &mut Line, bytes: &[u8])
+    requires room { length line.old.items ≤ 500 }
+    requires bytes { length bytes.now ≤ 64 }
+    ensures text { line.new.items ≡ line.old.items ++ bytes.now }
+    ensures short { length line.new.items ≤ length line.old.items + 64 }
+{
+    line.try_extend_from_slice(bytes).unwrap();
+}
+
+impl fmt::Display for ClientFault {
+    fn fmt<W: fmt::Write>(&self, f: &mut Formatter<W>) -> fmt::Result {
+        let mut text = Line::new();
+        self.push_text(&mut text);
+        write!(f, "{}", text.as_slice().as_bstr())
+    }
+}
+
+impl Error for ClientFault {}

@@ -1,4 +1,6 @@
 //! Laws of the definitions that the contracts of this crate cite. No program calls them.
+ghost use Rattle.std.specs.Prelude.{◌≡◌};
+ghost use Rattle.nutreply.specs.declared.limits.TheConstants.{ITEM_LIMIT};
 ghost use Rattle.nutreply.specs.Joining.{NothingIsReceived, ReceivedJoins, ReadFailedJoins, NothingIsWritten, WrittenJoins, WriteFailedJoins};
 
 use crate::{Sink, Source};
@@ -15,4 +17,9 @@ pub fn writes_are_joined<W: Sink>()
     ensures nothing { NothingIsWritten W.contents W.failures }
     ensures written { WrittenJoins W.contents W.failures }
     ensures failed { WriteFailedJoins W.contents W.failures }
+{}
+
+/// The most items of a listing that a client reads.
+pub fn limits()
+    ensures items { ITEM_LIMIT ≡ 65536 }
 {}

@@ -22,7 +22,7 @@ pub use counted::{CountedReader, CountedWriter};
 pub use ends::{Failed, Sink, Source};
 pub use faults::ClientFault;
 pub use item::{Item, Items};
-pub use limits::ITEM_LIMIT;
+pub use limits::{FAULT_LIMIT, ITEM_LIMIT};
 pub use request::{Query, Request};
 pub use session::{Session, ask};
 pub use writing::send;

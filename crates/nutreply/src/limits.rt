@@ -1,4 +1,7 @@
-//! The limits of a reply.
+//! The limits of a reply, and of the text of a fault.
 
 /// The most items of a listing that a client reads.
 pub const ITEM_LIMIT: usize = 65_536;
+
+/// The most bytes of a fault's text.
+pub const FAULT_LIMIT: usize = 128;

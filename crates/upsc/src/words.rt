@@ -1,20 +1,45 @@
-//! The words of upsc.
-use crate::PROGRAM;
-use clap::{Arg, ArgAction, ArgMatches, Command, Error};
+//! The words of upsc, and what they ask for.
+use clap::{Arg, ArgAction, ArgMatches, Command};
+use nutclient::{Client, Given, Program, with};
 use std::alloc::{AllocError, Global};
 
-/// What the words say.
-pub fn matches_of(alloc: Global, words: &[String]) -> Result<ArgMatches<'_>, Error> {
-    command_of(alloc)?.try_get_matches_from(words)
-}
+/// The program's name.
+const PROGRAM: &str = "upsc";
 
-/// The command with its words.
-fn command_of<'a>(alloc: Global) -> Result<Command<'a>, AllocError> {
-    let command = with(described(alloc), names(alloc));
-    let command = with(command, descriptions(alloc));
-    let command = with(command, clients(alloc));
-    let command = with(command, target(alloc));
-    with(command, Ok(variable(alloc)))
+/// upsc.
+pub struct Upsc;
+
+impl Client for Upsc {
+    fn program() -> Program {
+        Program::Upsc
+    }
+
+    fn command<'a>(alloc: Global) -> Result<Command<'a>, AllocError> {
+        let command = with(described(alloc), names(alloc));
+        let command = with(command, descriptions(alloc));
+        let command = with(command, clients(alloc));
+        let command = with(command, target(alloc));
+        with(command, Ok(variable(alloc)))
+    }
+
+    fn given<'a>(matches: &ArgMatches<'a>) -> Given<'a> {
+        let server = matches.get_str("UPS");
+        if matches.get_flag("l") {
+            return Given::Upses { server };
+        }
+        if matches.get_flag("L") {
+            return Given::Descriptions { server };
+        }
+        // A UPS is there: the parser demands one.
+        let ups = server.unwrap_or("");
+        if matches.get_flag("c") {
+            return Given::Clients { ups };
+        }
+        match matches.get_str("VAR") {
+            Some(name) => Given::Variable { ups, name },
+            None => Given::Variables { ups },
+        }
+    }
 }
 
 /// The command before its words are added.
@@ -23,15 +48,6 @@ fn described<'a>(alloc: Global) -> Result<Command<'a>, AllocError> {
         .about("Prints what a UPS server tells of a UPS (RFC 9271)")
         .after_help("Example: upsc su@localhost ups.status")
         .bin_name(PROGRAM)
-}
-
-/// The command with one more word, where there is memory for both.
-fn with<'a>(
-    command: Result<Command<'a>, AllocError>,
-    word: Result<Arg<'static>, AllocError>,
-) -> Result<Command<'a>, AllocError> {
-    let word = word?;
-    command?.arg(word)
 }
 
 fn names(alloc: Global) -> Result<Arg<'static>, AllocError> {

@@ -1,21 +1,42 @@
-//! The words of upscmd.
-use crate::PROGRAM;
-use clap::{Arg, ArgAction, ArgMatches, Command, Error};
+//! The words of upscmd, and what they ask for.
+use clap::{Arg, ArgAction, ArgMatches, Command};
+use nutclient::{Client, Given, Program, with};
 use std::alloc::{AllocError, Global};
 
-/// What the words say.
-pub fn matches_of(alloc: Global, words: &[String]) -> Result<ArgMatches<'_>, Error> {
-    command_of(alloc)?.try_get_matches_from(words)
-}
+/// The program's name.
+const PROGRAM: &str = "upscmd";
 
-/// The command with its words.
-fn command_of<'a>(alloc: Global) -> Result<Command<'a>, AllocError> {
-    let command = with(described(alloc), list(alloc));
-    let command = with(command, user(alloc));
-    let command = with(command, password(alloc));
-    let command = with(command, Ok(target(alloc)));
-    let command = with(command, name(alloc));
-    with(command, Ok(value(alloc)))
+/// upscmd.
+pub struct Upscmd;
+
+impl Client for Upscmd {
+    fn program() -> Program {
+        Program::Upscmd
+    }
+
+    fn command<'a>(alloc: Global) -> Result<Command<'a>, AllocError> {
+        let command = with(described(alloc), list(alloc));
+        let command = with(command, user(alloc));
+        let command = with(command, password(alloc));
+        let command = with(command, Ok(target(alloc)));
+        let command = with(command, name(alloc));
+        with(command, Ok(value(alloc)))
+    }
+
+    fn given<'a>(matches: &ArgMatches<'a>) -> Given<'a> {
+        // The parser demands a UPS, and a user, a password and a command where none are to be listed.
+        let ups = matches.get_str("UPS").unwrap_or("");
+        if matches.get_flag("l") {
+            return Given::Commands { ups };
+        }
+        Given::Command {
+            ups,
+            name: matches.get_str("CMD").unwrap_or(""),
+            value: matches.get_str("VALUE"),
+            user: matches.get_str("u").unwrap_or(""),
+            password: matches.get_str("p").unwrap_or(""),
+        }
+    }
 }
 
 /// The command before its words are added.
@@ -24,15 +45,6 @@ fn described<'a>(alloc: Global) -> Result<Command<'a>, AllocError> {
         .about("Lists the commands of a UPS, or does one (RFC 9271)")
         .after_help("Example: upscmd -u admin -p change-me su@localhost test.battery.start")
         .bin_name(PROGRAM)
-}
-
-/// The command with one more word, where there is memory for both.
-fn with<'a>(
-    command: Result<Command<'a>, AllocError>,
-    word: Result<Arg<'static>, AllocError>,
-) -> Result<Command<'a>, AllocError> {
-    let word = word?;
-    command?.arg(word)
 }
 
 fn list(alloc: Global) -> Result<Arg<'static>, AllocError> {

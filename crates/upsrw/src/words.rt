@@ -1,19 +1,39 @@
-//! The words of upsrw.
-use crate::PROGRAM;
-use clap::{Arg, ArgMatches, Command, Error};
+//! The words of upsrw, and what they ask for.
+use clap::{Arg, ArgMatches, Command};
+use nutclient::{Client, Given, Program, with};
 use std::alloc::{AllocError, Global};
 
-/// What the words say.
-pub fn matches_of(alloc: Global, words: &[String]) -> Result<ArgMatches<'_>, Error> {
-    command_of(alloc)?.try_get_matches_from(words)
-}
+/// The program's name.
+const PROGRAM: &str = "upsrw";
 
-/// The command with its words.
-fn command_of<'a>(alloc: Global) -> Result<Command<'a>, AllocError> {
-    let command = with(described(alloc), setting(alloc));
-    let command = with(command, user(alloc));
-    let command = with(command, password(alloc));
-    with(command, Ok(target(alloc)))
+/// upsrw.
+pub struct Upsrw;
+
+impl Client for Upsrw {
+    fn program() -> Program {
+        Program::Upsrw
+    }
+
+    fn command<'a>(alloc: Global) -> Result<Command<'a>, AllocError> {
+        let command = with(described(alloc), setting(alloc));
+        let command = with(command, user(alloc));
+        let command = with(command, password(alloc));
+        with(command, Ok(target(alloc)))
+    }
+
+    fn given<'a>(matches: &ArgMatches<'a>) -> Given<'a> {
+        // The parser demands a UPS, and a user and a password where a variable is to be set.
+        let ups = matches.get_str("UPS").unwrap_or("");
+        match matches.get_str("s") {
+            Some(setting) => Given::Set {
+                ups,
+                setting,
+                user: matches.get_str("u").unwrap_or(""),
+                password: matches.get_str("p").unwrap_or(""),
+            },
+            None => Given::Writable { ups },
+        }
+    }
 }
 
 /// The command before its words are added.
@@ -22,15 +42,6 @@ fn described<'a>(alloc: Global) -> Result<Command<'a>, AllocError> {
         .about("Prints the variables of a UPS that may be set, or sets one (RFC 9271)")
         .after_help("Example: upsrw -s ups.delay=30 -u admin -p change-me su@localhost")
         .bin_name(PROGRAM)
-}
-
-/// The command with one more word, where there is memory for both.
-fn with<'a>(
-    command: Result<Command<'a>, AllocError>,
-    word: Result<Arg<'static>, AllocError>,
-) -> Result<Command<'a>, AllocError> {
-    let word = word?;
-    command?.arg(word)
 }
 
 fn setting(alloc: Global) -> Result<Arg<'static>, AllocError> {

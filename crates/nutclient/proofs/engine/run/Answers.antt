@@ -1,12 +1,11 @@
-use Rattle.std.proofs.Common.{Err, subst}
+use Rattle.std.proofs.Common.{Err, refl, subst, inl}
 use Rattle.nutreply.specs.State.{unread_of, reader_of, writer_of}
 use Rattle.nutclient.specs.Requests.{RequestsGive, requests_in}
-use Rattle.nutclient.proofs.Printing.{run_refused}
 use Rattle.nutclient.proofs.engine.run.Goals as goal
 
 pub returns-in-Err-clause-gives : goal.returns-in-Err-clause-gives
-returns-in-Err-clause-gives g c h =
-    run_refused g.R.Source.remaining g.R.Source.failures g.W.Sink.contents g.W.Sink.failures g.O.Sink.contents g.O.Sink.failures (requests_in c.args.job.now.requests) c.args.job.now.form (unread_of c.args.session.now) (unread_of c.ask_all.new.session)
-    (reader_of c.args.session.now) (reader_of c.ask_all.new.session) (writer_of c.args.session.now) (writer_of c.ask_all.new.session) c.args.out.now c.in-Err.fault
-    (subst (λ requests. RequestsGive g.R.Source.remaining g.R.Source.failures g.W.Sink.contents g.W.Sink.failures requests (unread_of c.args.session.now) (reader_of c.args.session.now) (writer_of c.args.session.now)
-    (Err c.in-Err.fault) (unread_of c.ask_all.new.session) (reader_of c.ask_all.new.session) (writer_of c.ask_all.new.session)) c.as_slice.ensures c.in-Err.ensures.gives)
+returns-in-Err-clause-gives g c h = inl (
+  subst (λ requests. RequestsGive g.R.Source.remaining g.R.Source.failures g.W.Sink.contents g.W.Sink.failures requests (unread_of c.args.session.now) (reader_of c.args.session.now) (writer_of c.args.session.now)
+      (Err c.in-Err.fault) (unread_of c.ask_all.new.session) (reader_of c.ask_all.new.session) (writer_of c.ask_all.new.session)) c.as_slice.ensures c.in-Err.ensures.gives,
+  refl,
+)

@@ -1,0 +1,122 @@
+//! What the `main` of each program does: it takes the words, the network and the two outputs from the system, and hands
+//! them on.
+ghost use Rattle.std.specs.Prelude.{◌≡◌, ◌≢◌, ◌≤◌, ◌⊎◌, ◌↔◌, None, Err, IfErr, Result};
+ghost use Rattle.std.specs.Process.{exit_status};
+ghost use Rattle.clap.specs.Words.{kind_of};
+ghost use Rattle.nutreply.specs.Fault.{status_of};
+ghost use Rattle.nutreply.specs.declared.faults.ClientFault.{ClientFault};
+ghost use Rattle.nutclient.specs.Job.{job_of};
+ghost use Rattle.nutclient.specs.Ending.{EndsBy};
+
+use crate::ending::{conclude, finish};
+use crate::limits::WORD_FAULT;
+use crate::{Client, Given, Job, Program, connect};
+use clap::error::ErrorKind;
+use clap::{ArgMatches, Error};
+use nutreply::{ClientFault, CountedReader, CountedWriter, Session, Sink};
+use std::alloc::Global;
+use std::process::ExitCode;
+use std::{env, io};
+
+/// Does what the program's words ask for.
+pub fn main_of<C: Client>(rt: &HostRuntime) -> ExitCode
+    ensures { exit_status result ≤ WORD_FAULT }
+{
+    let words = match words_of(rt) {
+        Ok(words) => words,
+        Err(fault) => return tell(rt, C::program(), fault),
+    };
+    match matches_of::<C>(rt.alloc(), &words) {
+        Ok(matches) => perform(rt, C::program(), &C::given(&matches)),
+        Err(error) => end(rt, C::program(), &error),
+    }
+}
+
+/// The program's words. Words that are no text are bad arguments.
+fn words_of(rt: &HostRuntime) -> Result<Vec<String>, ClientFault>
+    ensures { IfErr result
+        (λ fault. (fault ≡ ClientFault.BadTarget) ⊎ (fault ≡ ClientFault.Memory)) }
+{
+    match env::args(rt) {
+        Ok(args) => args.collect(rt.alloc()).map_err(|_| ClientFault::Memory),
+        Err(error) => {
+            if error.kind() == io::ErrorKind::OutOfMemory {
+                Err(ClientFault::Memory)
+            } else {
+                Err(ClientFault::BadTarget)
+            }
+        }
+    }
+}
+
+/// What the words say.
+fn matches_of<C: Client>(alloc: Global, words: &[String]) -> Result<ArgMatches<'_>, Error> {
+    C::command(alloc)?.try_get_matches_from(words)
+}
+
+/// Does what is asked for: prints on standard output, and tells a fault on standard error.
+fn perform(rt: &HostRuntime, program: Program, given: &Given<'_>) -> ExitCode
+    // Status 2 tells that a word isn't lawful, and nothing else does.
+    ensures unlawful { job_of given.now ≡ None → exit_status result ≡ WORD_FAULT }
+    ensures lawful { job_of given.now ≢ None → exit_status result ≤ 1 }
+{
+    let stderr = rt.stderr();
+    let mut out = CountedWriter::new(io::writer(rt));
+    let mut err = CountedWriter::new(io::writer(&stderr));
+    ExitCode::from(answer(rt, &mut out, &mut err, program, given))
+}
+
+/// Asks the server, and prints on `out` what it answers. A fault is told on `err`. Gives the status.
+fn answer<O: Sink, E: Sink>(
+    rt: &HostRuntime,
+    out: &mut O,
+    err: &mut E,
+    program: Program,
+    given: &Given<'_>,
+) -> u8
+    // The program ends by what came of it: a bad argument where a word isn't lawful, and nowhere else.
+    ensures ends { (outcome : Result (Unit {0}) ClientFault)
+        × ((job_of given.now ≡ None) ↔ (outcome ≡ Err ClientFault.BadTarget))
+        × EndsBy E.contents E.failures program outcome err.old result err.new }
+    ensures unprinted { job_of given.now ≡ None → out.new ≡ out.old }
+{
+    let job = match Job::read(given) {
+        Ok(job) => job,
+        Err(fault) => return conclude(err, program, &Err(fault)),
+    };
+    let stream = match connect(rt, &job.target) {
+        Ok(stream) => stream,
+        Err(fault) => return conclude(err, program, &Err(fault)),
+    };
+    let mut session = Session::new(
+        rt.alloc(),
+        CountedReader::new(&stream),
+        CountedWriter::new(&stream),
+    );
+    finish(&mut session, out, err, program, &job)
+}
+
+/// Tells a fault on standard error.
+fn tell(rt: &HostRuntime, program: Program, fault: ClientFault) -> ExitCode
+    ensures { exit_status result ≡ status_of fault }
+{
+    let stderr = rt.stderr();
+    let mut err = CountedWriter::new(io::writer(&stderr));
+    ExitCode::from(conclude(&mut err, program, &Err(fault)))
+}
+
+/// Prints what the parser of the words says: the help, or a fault of the words.
+fn end(rt: &HostRuntime, program: Program, error: &Error) -> ExitCode
+    ensures memory { kind_of error.now ≡ ErrorKind.OutOfMemory → exit_status result ≡ 1 }
+    ensures help { kind_of error.now ≡ ErrorKind.DisplayHelp → exit_status result ≡ 0 }
+    ensures words { kind_of error.now ≢ ErrorKind.OutOfMemory
+        → kind_of error.now ≢ ErrorKind.DisplayHelp
+        → kind_of error.now ≢ ErrorKind.DisplayVersion → exit_status result ≡ WORD_FAULT }
+    ensures most { exit_status result ≤ WORD_FAULT }
+{
+    if error.kind() == ErrorKind::OutOfMemory {
+        return tell(rt, program, ClientFault::Memory);
+    }
+    let _ = error.print(rt);
+    ExitCode::from(if error.use_stderr() { WORD_FAULT } else { 0 })
+}
