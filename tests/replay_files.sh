@@ -32,6 +32,9 @@ file nobody '[mon]' 'upsmon tertiary'
 file login 'open 192.0.2.1' 'client 1 USERNAME mon' 'client 1 PASSWORD pass' 'client 1 LOGIN su' \
     'client 1 GET NUMLOGINS su' 'tick 7' 'took 1 all'
 
+file login-described 'open 192.0.2.1' 'client 1 USERNAME mon' 'client 1 PASSWORD pass' 'client 1 LOGIN bay-1' \
+    'client 1 GET DESC bay-1 ups.status' 'took 1 all'
+
 file admins '[admin]' 'password = "s3 cret"' 'actions = SET' 'instcmds = test.battery.start' 'upsmon primary' \
     '[mon]' 'password = pw' 'upsmon secondary'
 delay='SET VAR su ups.delay 30'
@@ -137,6 +140,7 @@ of_none=$'line 1: refused 1\nline 2: refused 1\nline 3: refused 1\nline 4: refus
 
 replays both_options "$of_two" --ups two.conf --vars texts script
 of_login=$'client 1 sent 24 bytes\nOK\nOK\nOK\nNUMLOGINS su 1\ndriver su sent 0 bytes'
+of_login_described=$'client 1 sent 44 bytes\nOK\nOK\nOK\nDESC bay-1 ups.status "UPS status"\ndriver bay-1 sent 0 bytes\ndriver su sent 0 bytes'
 of_stranger=$'client 1 sent 39 bytes\nOK\nOK\nERR ACCESS-DENIED\nNUMLOGINS su 0\ndriver su sent 0 bytes'
 
 # What a client or a driver was sent: which it is, and the lines.
@@ -288,6 +292,7 @@ replays listing_survives_driver_loss "$of_lost" lost
 replays pipelined_get_is_answered_behind_the_listing "$of_pipelined" pipelined
 replays line_is_executed_at_2048_bytes_owed "$of_at_the_limit" at-the-limit
 replays a_user_logs_in "$of_login" --users monitors login
+replays three_files "$of_login_described" --ups two.conf --users monitors --vars texts login-described
 replays nobody_logs_in_without_users "$of_stranger" login
 faults bad_user 'upsd: nobody:2: cause 6' --users nobody login
 replays options_in_the_other_order "$of_two" --vars texts --ups two.conf script
@@ -342,6 +347,12 @@ printf '%s\n' 'client 1 sent 4 bytes' 1.3 'driver su sent 0 bytes' >"$folder/net
 for room in {0..49}; do holds_a_beginning "$room" "$(stat -c %s "$folder/netver.stdout")"; done
 fails_at_a_full_output replay "$folder/files/script"
 
+# The help is printed, and names each word.
+ends help 0 '*serve*replay*' '' --help
+ends help_of_serve 0 '*--ups <F>*--users <F>*--vars <F>*--listen <A:P>*127.0.0.1:3493*--maxage <N>*' '' serve --help
+ends help_of_replay 0 '*<SCRIPT>*--ups <F>*--users <F>*--vars <F>*' '' replay --help
+
+ends word_that_is_no_text 2 '' 'upsd: bad argument' replay $'\xff'
 refuses_words no_words
 refuses_words no_script replay --ups two.conf
 refuses_words unknown_option replay --maxage 15 script

@@ -251,6 +251,14 @@ def a_taken_port_is_told():
 
 
 @case
+def a_full_output_is_told():
+    words = ["--ups", file("list", "[su]\n"), "--users", path("users"), "--listen", "127.0.0.1:0"]
+    with open("/dev/full", "wb") as full:
+        ended = subprocess.run([UPSD, "serve", *words], stdout=full, stderr=subprocess.PIPE, timeout=10, check=False)
+    assert (ended.returncode, ended.stderr) == (1, b"upsd: write failed\n"), ended
+
+
+@case
 def a_driver_and_upsc_meet():
     with served() as (server, _, good):
         got = subprocess.run([UPSC, f"su@127.0.0.1:{server.port}"], capture_output=True, timeout=10, check=False)
@@ -258,6 +266,13 @@ def a_driver_and_upsc_meet():
         good.send(b"LIST VAR su\n")
         assert good.listing() == LISTED
         assert good.ask(b"GET UPSDESC su\n") == b'UPSDESC su "Rack 1"\n'
+
+
+@case
+def descriptions_are_those_of_their_file():
+    vars_file = file("vars", 'VARDESC ups.status "UPS status"\n')
+    with served(TWO, "--vars", vars_file) as (_, _, good):
+        assert good.ask(b"GET DESC su ups.status\n") == b'DESC su ups.status "UPS status"\n'
 
 
 @case
@@ -348,6 +363,8 @@ def drivers_that_are_not_there_are_tried_again():
     for driver in drivers:
         driver.accept(b'SETINFO x "1"\n')
     assert comes(lambda: good.ask(b"GET VAR a x\nGET VAR b x\nGET VAR c x\n").count(b'"1"') == 3)
+    told = [f"upsd: {name}: driver connected" for name in "abc"]
+    assert sorted(server.journal().splitlines()) == told, server.journal()
     for driver in drivers:
         driver.close()
     good.close()

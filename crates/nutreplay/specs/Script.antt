@@ -14,11 +14,6 @@ use Rattle.nutreplay.specs.declared.script.action.Action.TheVariants.{DriverUp, 
 use Rattle.nutreplay.specs.declared.script.action.Action.TheVariants.{DriverTook, DriverTookAll}
 use Rattle.nutreplay.specs.declared.script.action.Action.TheVariants.{DriverDown, Tick, Open, Feed}
 use Rattle.nutreplay.specs.declared.script.action.Action.TheVariants.{Took, TookAll, Close}
-use Rattle.nutreplay.specs.declared.script.action.Verb.{Verb}
-use Rattle.nutreplay.specs.declared.script.action.Verb.TheVariants.{Up, Down, Driver, DriverPart}
-use Rattle.nutreplay.specs.declared.script.action.Verb.TheVariants.{DriverHex, DriverTookBy, TickTo}
-use Rattle.nutreplay.specs.declared.script.action.Verb.TheVariants.{OpenFrom, Client, Part}
-use Rattle.nutreplay.specs.declared.script.action.Verb.TheVariants.{ClientHex, TookBy, CloseOf}
 use Rattle.nutreplay.specs.declared.script.Meaning.{Meaning}
 use Rattle.nutreplay.specs.declared.script.Meaning.TheVariants.{Nothing, Does, Bad}
 use Rattle.nutreplay.specs.declared.script.ScriptLine.{ScriptLine}
@@ -27,24 +22,6 @@ use Rattle.nutreplay.specs.declared.script.ScriptLine.{ScriptLine}
 abbrev pub split_at_space : List ℕ → Option (List ℕ × List ℕ)
 split_at_space line =
     option_map (λ i. (take i line, drop (i + 1) line)) (position (λ b. b == 32) line)
-
--- The words that a line may begin with.
-abbrev pub verb_of : List ℕ → Option Verb
-verb_of word =
-    if bytes_eq word (codes "up") then Some Up
-    else if bytes_eq word (codes "down") then Some Down
-    else if bytes_eq word (codes "driver") then Some Driver
-    else if bytes_eq word (codes "driver-part") then Some DriverPart
-    else if bytes_eq word (codes "driver-hex") then Some DriverHex
-    else if bytes_eq word (codes "driver-took") then Some DriverTookBy
-    else if bytes_eq word (codes "tick") then Some TickTo
-    else if bytes_eq word (codes "open") then Some OpenFrom
-    else if bytes_eq word (codes "client") then Some Client
-    else if bytes_eq word (codes "part") then Some Part
-    else if bytes_eq word (codes "client-hex") then Some ClientHex
-    else if bytes_eq word (codes "took") then Some TookBy
-    else if bytes_eq word (codes "close") then Some CloseOf
-    else None
 
 -- A number is `0`, or digits that don't begin with 0, below 2^64.
 abbrev pub number : List ℕ → Option ℕ
@@ -106,29 +83,51 @@ abbrev pub client_hex_by : Option (ℕ × List ℕ) → Option Action
 client_hex_by None = None
 client_hex_by (Some parts) = client_hex parts.0 parts.1
 
--- What a verb asks for, with the bytes after its space.
-abbrev pub action_of : Verb → List ℕ → Option Action
-action_of Up text = option_map (λ u. DriverUp u) (ups_name text)
-action_of Down text = option_map (λ u. DriverDown u) (ups_name text)
-action_of Driver text = option_map (λ p. DriverBytes p.0 (with_lf p.1)) (ups_and_rest text)
-action_of DriverPart text = option_map (λ p. DriverBytes p.0 p.1) (ups_and_rest text)
-action_of DriverHex text = driver_hex_by (ups_and_rest text)
-action_of DriverTookBy text = driver_taking_by (ups_and_rest text)
-action_of TickTo text = option_map (λ n. Tick n) (number text)
-action_of OpenFrom text = option_map (λ a. Open a) (address text)
-action_of Client text = option_map (λ p. Feed p.0 (with_lf p.1)) (client_and_rest text)
-action_of Part text = option_map (λ p. Feed p.0 p.1) (client_and_rest text)
-action_of ClientHex text = client_hex_by (client_and_rest text)
-action_of TookBy text = taking_by (client_and_rest text)
-action_of CloseOf text = option_map (λ c. Close c) (number text)
+-- What a driver or a client sends: a line, or a part of one.
+abbrev pub driver_line : List ℕ → Option Action
+driver_line text = option_map (λ p. DriverBytes p.0 (with_lf p.1)) (ups_and_rest text)
 
-abbrev pub action_with : Option Verb → List ℕ → Option Action
-action_with None text = None
-action_with (Some verb) text = action_of verb text
+abbrev pub driver_part : List ℕ → Option Action
+driver_part text = option_map (λ p. DriverBytes p.0 p.1) (ups_and_rest text)
+
+abbrev pub client_line : List ℕ → Option Action
+client_line text = option_map (λ p. Feed p.0 (with_lf p.1)) (client_and_rest text)
+
+abbrev pub client_part : List ℕ → Option Action
+client_part text = option_map (λ p. Feed p.0 p.1) (client_and_rest text)
+
+-- What a verb asks for, with the bytes after its space: one case a verb, here and below. First the
+-- verbs of clients.
+abbrev pub client_action : List ℕ → List ℕ → Option Action
+client_action verb text =
+    if bytes_eq verb (codes "client") then client_line text
+    else if bytes_eq verb (codes "part") then client_part text
+    else if bytes_eq verb (codes "client-hex") then client_hex_by (client_and_rest text)
+    else if bytes_eq verb (codes "took") then taking_by (client_and_rest text)
+    else if bytes_eq verb (codes "close") then option_map (λ c. Close c) (number text)
+    else None
+
+-- Those of drivers, and the ones above.
+abbrev pub driver_action : List ℕ → List ℕ → Option Action
+driver_action verb text =
+    if bytes_eq verb (codes "up") then option_map (λ u. DriverUp u) (ups_name text)
+    else if bytes_eq verb (codes "down") then option_map (λ u. DriverDown u) (ups_name text)
+    else if bytes_eq verb (codes "driver") then driver_line text
+    else if bytes_eq verb (codes "driver-part") then driver_part text
+    else if bytes_eq verb (codes "driver-hex") then driver_hex_by (ups_and_rest text)
+    else if bytes_eq verb (codes "driver-took") then driver_taking_by (ups_and_rest text)
+    else client_action verb text
+
+-- Those of the clock and of newcomers, and the ones above.
+abbrev pub action_of : List ℕ → List ℕ → Option Action
+action_of verb text =
+    if bytes_eq verb (codes "tick") then option_map (λ n. Tick n) (number text)
+    else if bytes_eq verb (codes "open") then option_map (λ a. Open a) (address text)
+    else driver_action verb text
 
 abbrev pub read_action : Option (List ℕ × List ℕ) → Option Action
 read_action None = None
-read_action (Some parts) = action_with (verb_of parts.0) parts.1
+read_action (Some parts) = action_of parts.0 parts.1
 
 abbrev pub meaning : Option Action → Meaning
 meaning None = Bad

@@ -1,11 +1,12 @@
 -- How the program ends by what it meets.
-use Rattle.std.specs.Prelude.{◌≡◌, ◌≢◌, ℕ, Bool, List}
+use Rattle.std.specs.Prelude.{◌≡◌, ◌≢◌, ℕ, Bool, List, Result, Ok, Err}
 use denote.Ref.{Bor}
 use Rattle.nutusers.specs.File.{Format, IsRefused, number_of_cause}
 use Rattle.nutusers.specs.declared.fault.Cause.TheVariants as causes
 use Rattle.nutusers.specs.declared.fault.ConfFault.{ConfFault}
 use Rattle.upsd.specs.declared.ending.Ending.{Ending}
 use Rattle.upsd.specs.declared.ending.Ending.TheVariants as endings
+use Rattle.upsd.specs.declared.ending.TheConstants.{DONE, FAULT, WORD_FAULT}
 use Rattle.nutreplay.specs.declared.replaying.ReplayFault.{ReplayFault}
 use Rattle.nutreplay.specs.declared.replaying.ReplayFault.TheVariants as faults
 
@@ -26,3 +27,9 @@ abbrev pub ending_of_replay : Bor (List ℕ) → ReplayFault → Ending
 ending_of_replay script (faults.BadEvent line) = endings.BadEvent script line
 ending_of_replay script faults.Memory = endings.Memory
 ending_of_replay script faults.Write = endings.Write
+
+-- The status with which the program ends.
+abbrev pub status_of : Result (Unit {0}) Ending → ℕ
+status_of (Ok u) = DONE
+status_of (Err endings.BadArgument) = WORD_FAULT
+status_of (Err _) = FAULT

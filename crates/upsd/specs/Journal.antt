@@ -1,8 +1,12 @@
--- What is new of a UPS, by how it stood and how it stands.
-use Rattle.std.specs.Prelude.{Bool, true, false, Option, Some, None}
+-- What is new of a UPS, by how it stood and how it stands; and what is written of each.
+use Rattle.std.specs.Prelude.{◌≡◌, ◌<◌, ◌≤◌, ℕ, Bool, true, false, List, Option, Some, None, slice_get}
+use Rattle.std.specs.Option.{option_map_or}
+use Rattle.nutcore.specs.Server.{ServerState, ups_at}
 use Rattle.upsd.specs.declared.journal.News.{News}
 use Rattle.upsd.specs.declared.journal.News.TheVariants.{DriverConnected, DriverLost}
 use Rattle.upsd.specs.declared.journal.News.TheVariants.{ForcedShutdown}
+use Rattle.upsd.specs.declared.journal.Standing.{Standing}
+use Rattle.upsd.specs.declared.journal.UpsNews.{UpsNews}
 
 -- A driver was connected or not, and is now.
 abbrev pub driver_news : Bool → Bool → Option News
@@ -17,3 +21,24 @@ shutdown_news false false = None
 shutdown_news false true = Some ForcedShutdown
 shutdown_news true false = None
 shutdown_news true true = None
+
+-- What is new of a UPS that stood so, and stands so.
+abbrev pub ups_news : Standing → Standing → UpsNews
+ups_news was is =
+    record {
+      driver = driver_news was.is_connected is.is_connected;
+      shutdown = shutdown_news was.is_forced is.is_forced;
+    }
+
+-- How the UPS at a place stands.
+abbrev pub standing_at : ℕ → ServerState → Standing
+standing_at place s =
+    record {
+      is_connected = option_map_or (λ x. x.report.connected) (ups_at place s) false;
+      is_forced = option_map_or (λ x. x.fsd) (ups_at place s) false;
+    }
+
+-- Of so many UPSs, the first ones, it is written how each stands; of no other is anything written.
+pub record IsWrittenUpTo (count : ℕ) (s : ServerState) (before after : List Standing) : Type 0 where
+  pub written : (place : ℕ) → place < count → slice_get after place ≡ Some (standing_at place s)
+  pub others : (place : ℕ) → count ≤ place → slice_get after place ≡ slice_get before place

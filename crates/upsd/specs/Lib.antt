@@ -1,3 +1,7 @@
 pub mod Ending
 pub mod Files
+pub mod Reading
+pub mod Configuration
+pub mod Replaying
+pub mod Task
 pub mod Journal

@@ -1,6 +1,6 @@
 //! Why the program ends, and with which status.
 ghost use Rattle.std.specs.Prelude.{◌≡◌, MatchResult, Ok, Err};
-ghost use Rattle.upsd.specs.Ending.{IsToldOf, ending_of_replay};
+ghost use Rattle.upsd.specs.Ending.{IsToldOf, ending_of_replay, status_of};
 
 use nutloop::LoopFault;
 use nutreplay::ReplayFault;
@@ -16,9 +16,12 @@ pub const FAULT: u8 = 1;
 /// The status of a fault of the command's words.
 pub const WORD_FAULT: u8 = 2;
 
-/// Why the program ends at run time. A path is told as it was typed.
+/// Why the program isn't done. A path is told as it was typed.
 #[derive(Clone, Copy, Debug, PartialEq, Eq, Error)]
 pub enum Ending<'a> {
+    /// One of the words isn't what it has to be.
+    #[error("bad argument")]
+    BadArgument,
     /// Memory was refused.
     #[error("no memory")]
     Memory,
@@ -81,10 +84,11 @@ pub fn ended<'a>(script: &'a str, replayed: Result<(), ReplayFault>) -> Result<(
 
 /// The status with which the program ends: 0 where it is done, and nowhere else.
 pub fn status_of(ended: &Result<(), Ending<'_>>) -> u8
-    ensures { MatchResult ended.now (λ _. result ≡ DONE) (λ _. result ≡ FAULT) }
+    ensures { result ≡ status_of ended.now }
 {
     match ended {
         Ok(()) => DONE,
+        Err(Ending::BadArgument) => WORD_FAULT,
         Err(_) => FAULT,
     }
 }

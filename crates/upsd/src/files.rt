@@ -1,23 +1,19 @@
 //! The files that the program's words name, and what their bytes mean.
-ghost use Rattle.std.specs.Prelude.{◌≡◌, ◌⊎◌, ◌∷◌, [], codes, IfOk, IfErr, IfSome, None, Some, Ok, option_map};
-ghost use Rattle.nutwords.specs.Text.{lines_of};
-ghost use Rattle.nutusers.specs.File.{Means};
-ghost use Rattle.nutusers.specs.UpsFile.{ups_format, adds_ups, IsUpsList};
+ghost use Rattle.std.specs.Prelude.{◌≡◌, ◌⊎◌, IfOk, IfErr, MatchResult, None, Ok, []};
+ghost use Rattle.nutusers.specs.UpsFile.{ups_format, adds_ups};
 ghost use Rattle.nutusers.specs.UpsList.{new_ups};
-ghost use Rattle.nutusers.specs.UsersFile.{users_format, adds_to_users, users_of};
-ghost use Rattle.nutusers.specs.DescriptionFile.{descriptions_format, adds_text, descriptions_of};
+ghost use Rattle.nutusers.specs.UsersFile.{users_format, adds_to_users};
+ghost use Rattle.nutusers.specs.DescriptionFile.{descriptions_format, adds_text};
 ghost use Rattle.nutusers.specs.Descriptions.{no_descriptions};
-ghost use Rattle.upsd.specs.Ending.{TellsRefusal};
 ghost use Rattle.upsd.specs.Files.{AreNamedIn};
+ghost use Rattle.upsd.specs.Configuration.{su_alone, IsListOf, AreUsersOf, AreDescriptionsOf, AreMeant, FailsBy, FirstFails};
 
-use crate::ending::{Ending, ended, ending_of_file};
+use crate::ending::{Ending, ending_of_file};
+use crate::reading::{FileReader, read};
 use clap::ArgMatches;
 use nutcore::{Descriptions, UpsList, Users};
-use nutreplay::replay;
-use nutreply::CountedWriter;
 use nutwords::UpsName;
 use std::alloc::{AllocError, Global};
-use std::{fs, io};
 
 /// The configuration files that the words name, as they were typed.
 #[derive(Clone, Copy)]
@@ -51,129 +47,89 @@ pub struct Configuration {
 /// # Errors
 ///
 /// The first file that can't be read or is refused; `Memory`.
-pub fn configuration_in<'a>(
-    rt: &HostRuntime,
+pub fn configuration_in<'a, R: FileReader>(
+    alloc: Global,
+    reader: &R,
     files: Files<'a>,
-) -> Result<Configuration, Ending<'a>> {
+) -> Result<Configuration, Ending<'a>>
+    ensures means { IfOk result (AreMeant (R.gives reader.now) files.entry) }
+    ensures fails { IfErr result (FirstFails (R.gives reader.now) files.entry) }
+{
+    let list = list_in(alloc, reader, files.ups)?;
+    let users = users_in(alloc, reader, files.users)?;
+    let descriptions = descriptions_in(alloc, reader, files.vars)?;
     Ok(Configuration {
-        list: list_in(rt.alloc(), read_named(rt, files.ups)?)?,
-        users: users_in(rt.alloc(), read_named(rt, files.users)?)?,
-        descriptions: descriptions_in(rt.alloc(), read_named(rt, files.vars)?)?,
-    })
-}
-
-/// A file that was read: its path, as it was typed, and its bytes.
-#[derive(Drop)]
-struct File<'a> {
-    path: &'a str,
-    bytes: Vec<u8>,
-}
-
-/// `upsd replay`: replays the script of the file over the UPSs, users and descriptions of theirs.
-///
-/// # Errors
-///
-/// The first file that can't be read or is refused, the script last; `BadEvent`; `Memory`; `Write`.
-pub fn replay_files<'a>(
-    rt: &HostRuntime,
-    files: Files<'a>,
-    script: &'a str,
-) -> Result<(), Ending<'a>> {
-    let Configuration {
         list,
         users,
         descriptions,
-    } = configuration_in(rt, files)?;
-    let events = read(rt, script)?;
-    let mut out = CountedWriter::new(io::writer(rt));
-    let replayed = replay(rt.alloc(), list, users, descriptions, &events, &mut out);
-    ended(script, replayed)
+    })
 }
 
-/// The UPSs that the file's bytes mean. Without a file `su` alone.
-fn list_in(alloc: Global, file: Option<File<'_>>) -> Result<UpsList, Ending<'_>>
-    ensures alone { file.entry ≡ None → IfOk result (λ list. list ≡ new_ups (codes "su") ∷ []) }
-    ensures memory { file.entry ≡ None → IfErr result (λ ending. ending ≡ Ending.Memory) }
-    ensures means { IfSome file.entry (λ file.
-        IfOk result (λ list. IsUpsList (lines_of file.bytes.items) list)) }
-    ensures refused { IfSome file.entry (λ file. IfErr result (λ ending.
-        TellsRefusal ups_format adds_ups file.path (lines_of file.bytes.items) ending)) }
-{
-    let Some(file) = file else {
-        return su_alone(alloc).map_err(|_| Ending::Memory);
-    };
-    match UpsList::read(alloc, &file.bytes) {
-        Ok(list) => Ok(list),
-        Err(fault) => Err(ending_of_file(file.path, fault)),
-    }
-}
-
-/// The users that the file's bytes mean. Without a file there are none.
-fn users_in(alloc: Global, file: Option<File<'_>>) -> Result<Users, Ending<'_>>
-    ensures none { file.entry ≡ None → result ≡ Ok [] }
-    ensures means { IfSome file.entry (λ file.
-        IfOk result (λ users. Means users_format users_of (lines_of file.bytes.items) users)) }
-    ensures refused { IfSome file.entry (λ file. IfErr result (λ ending.
-        TellsRefusal users_format adds_to_users file.path (lines_of file.bytes.items) ending)) }
-{
-    let Some(file) = file else {
-        return Ok(Users::none(alloc));
-    };
-    match Users::read(alloc, &file.bytes) {
-        Ok(users) => Ok(users),
-        Err(fault) => Err(ending_of_file(file.path, fault)),
-    }
-}
-
-/// The descriptions that the file's bytes mean. Without a file there are none.
-fn descriptions_in(alloc: Global, file: Option<File<'_>>) -> Result<Descriptions, Ending<'_>>
-    ensures none { file.entry ≡ None → result ≡ Ok no_descriptions }
-    ensures means { IfSome file.entry (λ file. IfOk result (λ descriptions.
-        Means descriptions_format descriptions_of (lines_of file.bytes.items) descriptions)) }
-    ensures refused { IfSome file.entry (λ file. IfErr result (λ ending.
-        TellsRefusal descriptions_format adds_text file.path
-        (lines_of file.bytes.items) ending)) }
-{
-    let Some(file) = file else {
-        return Ok(Descriptions::none(alloc));
-    };
-    match Descriptions::read(alloc, &file.bytes) {
-        Ok(descriptions) => Ok(descriptions),
-        Err(fault) => Err(ending_of_file(file.path, fault)),
-    }
-}
-
-/// The file of this path, where one is named.
-fn read_named<'a>(rt: &HostRuntime, path: Option<&'a str>) -> Result<Option<File<'a>>, Ending<'a>>
-    ensures named { IfOk result (λ file. option_map (λ file. file.path) file ≡ path.entry) }
-    ensures unread { IfErr result (λ ending.
-        (ending ≡ Ending.Memory)
-        ⊎ (Some ending ≡ option_map (λ path. Ending.Unread path) path.entry)) }
+/// The UPSs that the file of this path means. Without a file `su` alone.
+fn list_in<'a, R: FileReader>(
+    alloc: Global,
+    reader: &R,
+    path: Option<&'a str>,
+) -> Result<UpsList, Ending<'a>>
+    ensures { MatchResult result
+        (IsListOf (R.gives reader.now) path.entry)
+        (FailsBy (R.gives reader.now) ups_format adds_ups path.entry) }
 {
     let Some(path) = path else {
-        return Ok(None);
+        return su_alone(alloc).map_err(|_| Ending::Memory);
     };
-    let bytes = read(rt, path)?;
-    Ok(Some(File { path, bytes }))
+    let bytes = read(reader, path)?;
+    match UpsList::read(alloc, &bytes) {
+        Ok(list) => Ok(list),
+        Err(fault) => Err(ending_of_file(path, fault)),
+    }
 }
 
-/// The bytes of the file.
-fn read<'a>(rt: &HostRuntime, path: &'a str) -> Result<Vec<u8>, Ending<'a>>
-    ensures { IfErr result (λ ending.
-        (ending ≡ Ending.Memory) ⊎ (ending ≡ Ending.Unread path.entry)) }
+/// The users that the file of this path means. Without a file there are none.
+fn users_in<'a, R: FileReader>(
+    alloc: Global,
+    reader: &R,
+    path: Option<&'a str>,
+) -> Result<Users, Ending<'a>>
+    ensures none { path.entry ≡ None → result ≡ Ok [] }
+    ensures file { MatchResult result
+        (AreUsersOf (R.gives reader.now) path.entry)
+        (FailsBy (R.gives reader.now) users_format adds_to_users path.entry) }
 {
-    match fs::read(rt, path) {
-        Ok(bytes) => Ok(bytes),
-        Err(error) => Err(match error.kind() {
-            io::ErrorKind::OutOfMemory => Ending::Memory,
-            _ => Ending::Unread { path },
-        }),
+    let Some(path) = path else {
+        return Ok(Users::none(alloc));
+    };
+    let bytes = read(reader, path)?;
+    match Users::read(alloc, &bytes) {
+        Ok(users) => Ok(users),
+        Err(fault) => Err(ending_of_file(path, fault)),
+    }
+}
+
+/// The descriptions that the file of this path means. Without a file there are none.
+fn descriptions_in<'a, R: FileReader>(
+    alloc: Global,
+    reader: &R,
+    path: Option<&'a str>,
+) -> Result<Descriptions, Ending<'a>>
+    ensures none { path.entry ≡ None → result ≡ Ok no_descriptions }
+    ensures file { MatchResult result
+        (AreDescriptionsOf (R.gives reader.now) path.entry)
+        (FailsBy (R.gives reader.now) descriptions_format adds_text path.entry) }
+{
+    let Some(path) = path else {
+        return Ok(Descriptions::none(alloc));
+    };
+    let bytes = read(reader, path)?;
+    match Descriptions::read(alloc, &bytes) {
+        Ok(descriptions) => Ok(descriptions),
+        Err(fault) => Err(ending_of_file(path, fault)),
     }
 }
 
 /// The list of the UPS `su` alone.
 pub fn su_alone(alloc: Global) -> Result<UpsList, AllocError>
-    ensures { IfOk result (λ list. list ≡ new_ups (codes "su") ∷ []) }
+    ensures { IfOk result (λ list. list ≡ su_alone) }
 {
     let name = UpsName::read(b"su").unwrap();
     UpsList::one(alloc, name)

@@ -1,6 +1,6 @@
 //! The journal of the UPSs while they are served: a line for each change.
-ghost use Rattle.std.specs.Prelude.{◌≡◌};
-ghost use Rattle.upsd.specs.Journal.{driver_news, shutdown_news};
+ghost use Rattle.std.specs.Prelude.{◌≡◌, ◌<◌, length, slice_get, slice_set, replicate, option_map, Some};
+ghost use Rattle.upsd.specs.Journal.{driver_news, shutdown_news, ups_news, standing_at, IsWrittenUpTo};
 
 use nutcore::{Server, UpsId};
 use nutusers::UPS_LIMIT;
@@ -24,11 +24,18 @@ impl fmt::Display for News {
     }
 }
 
+/// What is new of a UPS: of its driver, and of a forced shutdown.
+#[derive(Clone, Copy)]
+pub struct UpsNews {
+    pub driver: Option<News>,
+    pub shutdown: Option<News>,
+}
+
 /// How a UPS stands.
-#[derive(Clone, Copy, PartialEq, Eq)]
-struct Standing {
-    is_connected: bool,
-    is_forced: bool,
+#[derive(Clone, Copy)]
+pub struct Standing {
+    pub is_connected: bool,
+    pub is_forced: bool,
 }
 
 /// How a UPS stands of which nothing was written.
@@ -40,39 +47,55 @@ const UNWRITTEN: Standing = Standing {
 /// How each UPS stands by what was written of it, by its place.
 #[derive(Drop)]
 pub struct Journal {
-    written: [Standing; UPS_LIMIT],
+    pub written: [Standing; UPS_LIMIT],
 }
 
 impl Journal {
     /// Nothing was written yet.
-    pub fn new() -> Journal {
+    pub fn new() -> Journal
+        ensures { result.written ≡ replicate UPS_LIMIT UNWRITTEN }
+    {
         Journal {
             written: [UNWRITTEN; UPS_LIMIT],
         }
     }
 
-    /// Writes what is new to standard error. Where that fails it isn't written again.
-    pub fn write(&mut self, rt: &HostRuntime, server: &Server) {
-        let count = server.ups().len();
-        for (place, written) in self.written.iter_mut().take(count).enumerate() {
+    /// Writes what is new of each UPS to standard error. Where that fails it isn't written again.
+    pub fn write(&mut self, rt: &HostRuntime, server: &Server)
+        ensures { IsWrittenUpTo (length server.now.state.list) server.now.state
+            self.old.written self.new.written }
+    {
+        for place in 0..server.ups().len() {
             let u = UpsId { place: place as u8 };
-            let now = standing_of(server, u);
-            if now != *written {
-                let driver = driver_news(written.is_connected, now.is_connected);
-                write_news(rt, server, u, driver);
-                let shutdown = shutdown_news(written.is_forced, now.is_forced);
-                write_news(rt, server, u, shutdown);
-                *written = now;
-            }
+            let news = self.take_news(place, standing_of(server, u));
+            write_news(rt, server, u, news.driver);
+            write_news(rt, server, u, news.shutdown);
+        }
+    }
+
+    /// What is new of the UPS at the place, which stands so. From now on that is written.
+    fn take_news(&mut self, place: usize, now: Standing) -> UpsNews
+        requires { place < UPS_LIMIT }
+        ensures news { Some result
+            ≡ option_map (λ was. ups_news was now) (slice_get self.old.written place) }
+        ensures written { self.new.written ≡ slice_set self.old.written place now }
+    {
+        let was = self.written[place];
+        self.written[place] = now;
+        UpsNews {
+            driver: driver_news(was.is_connected, now.is_connected),
+            shutdown: shutdown_news(was.is_forced, now.is_forced),
         }
     }
 }
 
 /// How the UPS stands now.
-fn standing_of(server: &Server, u: UpsId) -> Standing {
+fn standing_of(server: &Server, u: UpsId) -> Standing
+    ensures { result ≡ standing_at u.place server.now.state }
+{
     Standing {
-        is_connected: server.driver_connected(u) == Ok(true),
-        is_forced: server.forced_shutdown(u) == Ok(true),
+        is_connected: server.driver_connected(u).unwrap_or(false),
+        is_forced: server.forced_shutdown(u).unwrap_or(false),
     }
 }
 

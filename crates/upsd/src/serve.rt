@@ -1,34 +1,20 @@
 //! Serving clients and drivers.
-ghost use Rattle.nutloop.specs.Serving.{IsOneRun};
+ghost use Rattle.std.specs.Prelude.{◌≡◌, ◌≢◌, ◌⊎◌, MatchResult, IfOk, IfErr, Ok, Err};
+ghost use Rattle.std.specs.IoError.{error_kind};
+ghost use Rattle.nutloop.specs.declared.fault.LoopFault.{LoopFault};
+ghost use Rattle.nutloop.specs.Serving.{IsOneRun, TurnsUpTo};
+ghost use Rattle.upsd.specs.Configuration.{FirstFails, IsServerOf};
 
 use crate::ending::Ending;
 use crate::files::{Configuration, Files, configuration_in};
 use crate::journal::Journal;
-use clap::ArgMatches;
-use nutcore::{MAX_AGE_DEFAULT, MaxAge, Server};
-use nutloop::MioSockets;
-use std::io;
+use crate::reading::FileReader;
+use crate::task::Service;
+use nutcore::{MaxAge, Server};
+use nutloop::{MioSockets, Sockets};
+use std::alloc::Global;
+use std::io::{Error, ErrorKind};
 use std::net::SocketAddr;
-
-/// Where clients are listened for, unless the words name an address.
-pub const DEFAULT_ADDRESS: &str = "127.0.0.1:3493";
-
-/// How to serve, by the words of `serve`.
-#[derive(Clone, Copy)]
-pub struct Service {
-    pub address: SocketAddr,
-    pub max_age: MaxAge,
-}
-
-/// How the words say to serve, or `None` where they name no address and port.
-pub fn service_named(found: &ArgMatches<'_>) -> Option<Service> {
-    let address = found.get_str("listen").unwrap_or(DEFAULT_ADDRESS);
-    let max_age = found.get_one::<u32>("maxage").unwrap_or(MAX_AGE_DEFAULT);
-    Some(Service {
-        address: address.parse::<SocketAddr>().ok()?,
-        max_age: MaxAge::read(max_age)?,
-    })
-}
 
 /// `upsd serve`: serves until the loop can't go on.
 ///
@@ -40,13 +26,30 @@ pub fn serve_files<'a>(
     files: Files<'a>,
     service: Service,
 ) -> Result<(), Ending<'a>> {
+    let server = server_of(rt.alloc(), rt, files, service.max_age)?;
+    serve(rt, server, service.address)
+}
+
+/// A server of what the files mean, with this greatest age.
+fn server_of<'a, R: FileReader>(
+    alloc: Global,
+    reader: &R,
+    files: Files<'a>,
+    max_age: MaxAge,
+) -> Result<Server, Ending<'a>>
+    ensures serves { IfOk result (IsServerOf (R.gives reader.now) files.entry max_age) }
+    ensures fails { IfErr result (λ ending.
+        FirstFails (R.gives reader.now) files.entry ending ⊎ (ending ≡ Ending.Memory)) }
+{
     let Configuration {
         list,
         users,
         descriptions,
-    } = configuration_in(rt, files)?;
-    let server = Server::new(rt.alloc(), list, users, descriptions, service.max_age);
-    serve(rt, server.map_err(|_| Ending::Memory)?, service.address)
+    } = configuration_in(alloc, reader, files)?;
+    match Server::new(alloc, list, users, descriptions, max_age) {
+        Ok(server) => Ok(server),
+        Err(_) => Err(Ending::Memory),
+    }
 }
 
 /// Listens at the address, tells it, and serves from then on.
@@ -60,13 +63,19 @@ fn serve<'a>(rt: &HostRuntime, mut server: Server, address: SocketAddr) -> Resul
     }
 }
 
-/// Goes round the peers, and writes what is new. Whatever the sockets do, it is one run of the server.
-fn go_round<'a>(
+/// Goes round the peers up to the first fault of the loop, and writes what is new. Whatever the sockets do, it is one run
+/// of the server.
+fn go_round<'a, S: Sockets>(
     rt: &HostRuntime,
     server: &mut Server,
-    sockets: &mut MioSockets<'_, HostRuntime>,
+    sockets: &mut S,
 ) -> Result<(), Ending<'a>>
-    ensures { IsOneRun server.old.state server.new.state }
+    ensures turns { MatchResult result
+        (λ done. TurnsUpTo S.calls S.failures
+        server.old.state sockets.old (Ok done) server.new.state sockets.new)
+        (λ ending. (fault : LoopFault) × (ending ≡ Ending.Loop fault) × TurnsUpTo S.calls S.failures
+        server.old.state sockets.old (Err fault) server.new.state sockets.new) }
+    ensures run { IsOneRun server.old.state server.new.state }
 {
     let mut journal = Journal::new();
     match nutloop::serve(server, sockets, |server| journal.write(rt, server)) {
@@ -90,9 +99,12 @@ fn tell_address<'a>(
 }
 
 /// How the program ends where it can't listen.
-fn ending_of_listening<'a>(error: &io::Error) -> Ending<'a> {
+fn ending_of_listening<'a>(error: &Error) -> Ending<'a>
+    ensures memory { error_kind error.now ≡ ErrorKind.OutOfMemory → result ≡ Ending.Memory }
+    ensures failed { error_kind error.now ≢ ErrorKind.OutOfMemory → result ≡ Ending.Listen }
+{
     match error.kind() {
-        io::ErrorKind::OutOfMemory => Ending::Memory,
+        ErrorKind::OutOfMemory => Ending::Memory,
         _ => Ending::Listen,
     }
 }

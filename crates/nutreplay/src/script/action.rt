@@ -1,7 +1,7 @@
 //! What one line of a script asks for.
 ghost use Rattle.std.specs.Prelude.{◌≡◌, ◌<◌, ◌==◌, ℕ, length, position, IfOk, IfSome, MatchOption, None, Some};
 ghost use Rattle.nutcore.specs.Lines.{with_lf};
-ghost use Rattle.nutreplay.specs.Script.{split_at_space, verb_of, number, ups_name, address, ups_and_rest, client_and_rest, taking, driver_taking, hex_bytes, driver_hex_by, client_hex_by, action_of, read_action};
+ghost use Rattle.nutreplay.specs.Script.{split_at_space, number, ups_name, address, ups_and_rest, client_and_rest, taking_by, driver_taking_by, driver_line, driver_part, client_line, client_part, hex_bytes, driver_hex_by, client_hex_by, action_of, driver_action, client_action, read_action};
 
 use hex::FromHexError;
 use nutcore::{Bytes, ClientId};
@@ -11,173 +11,154 @@ use std::alloc::{AllocError, Global};
 /// What a line of the script asks for.
 #[derive(Debug, Drop)]
 pub enum Action {
-    /// A driver connects to the UPS of this name.
+    /// `up U`: a driver connects to the UPS of this name.
     DriverUp(UpsName),
-    /// Bytes come from the driver of the UPS of this name.
+    /// `driver U REST`, `driver-part U REST`, `driver-hex U DIGITS`: bytes come from the driver of the UPS of this name.
     DriverBytes(UpsName, Bytes),
-    /// The driver of the UPS of this name takes so many of the bytes that it is offered.
+    /// `driver-took U COUNT`: the driver of the UPS of this name takes so many of the bytes that it is offered.
     DriverTook(UpsName, usize),
-    /// The driver of the UPS of this name takes all that it is offered.
+    /// `driver-took U all`: the driver of the UPS of this name takes all that it is offered.
     DriverTookAll(UpsName),
-    /// The driver of the UPS of this name is lost.
+    /// `down U`: the driver of the UPS of this name is lost.
     DriverDown(UpsName),
-    /// The clock is at so many seconds.
+    /// `tick S`: the clock is at so many seconds.
     Tick(u64),
-    /// A client connects from an address.
+    /// `open ADDRESS`: a client connects from an address.
     Open(Address),
-    /// Bytes come from a client.
+    /// `client N REST`, `part N REST`, `client-hex N DIGITS`: bytes come from a client.
     Feed(ClientId, Bytes),
-    /// A client takes so many of the bytes that it is offered.
+    /// `took N COUNT`: a client takes so many of the bytes that it is offered.
     Took(ClientId, usize),
-    /// A client takes what it is offered, as long as something is.
+    /// `took N all`: a client takes what it is offered, as long as something is.
     TookAll(ClientId),
-    /// A client's connection is gone.
+    /// `close N`: a client's connection is gone.
     Close(ClientId),
-}
-
-/// The word that a line begins with.
-#[derive(Clone, Copy, Debug)]
-pub enum Verb {
-    /// `up U`
-    Up,
-    /// `down U`
-    Down,
-    /// `driver U REST`
-    Driver,
-    /// `driver-part U REST`
-    DriverPart,
-    /// `driver-hex U DIGITS`
-    DriverHex,
-    /// `driver-took U COUNT`
-    DriverTookBy,
-    /// `tick S`
-    TickTo,
-    /// `open ADDRESS`
-    OpenFrom,
-    /// `client N REST`
-    Client,
-    /// `part N REST`
-    Part,
-    /// `client-hex N DIGITS`
-    ClientHex,
-    /// `took N COUNT`
-    TookBy,
-    /// `close N`
-    CloseOf,
-}
-
-impl Verb {
-    /// The verb of this spelling. Case matters.
-    fn of(word: &[u8]) -> Option<Verb>
-        ensures { result ≡ verb_of word.now }
-    {
-        if word == b"up".as_slice() {
-            Some(Verb::Up)
-        } else if word == b"down".as_slice() {
-            Some(Verb::Down)
-        } else if word == b"driver".as_slice() {
-            Some(Verb::Driver)
-        } else if word == b"driver-part".as_slice() {
-            Some(Verb::DriverPart)
-        } else if word == b"driver-hex".as_slice() {
-            Some(Verb::DriverHex)
-        } else if word == b"driver-took".as_slice() {
-            Some(Verb::DriverTookBy)
-        } else if word == b"tick".as_slice() {
-            Some(Verb::TickTo)
-        } else if word == b"open".as_slice() {
-            Some(Verb::OpenFrom)
-        } else if word == b"client".as_slice() {
-            Some(Verb::Client)
-        } else if word == b"part".as_slice() {
-            Some(Verb::Part)
-        } else if word == b"client-hex".as_slice() {
-            Some(Verb::ClientHex)
-        } else if word == b"took".as_slice() {
-            Some(Verb::TookBy)
-        } else if word == b"close".as_slice() {
-            Some(Verb::CloseOf)
-        } else {
-            None
-        }
-    }
 }
 
 /// What a line asks for, if it is one of a script's.
 pub(super) fn read_action(alloc: Global, line: &[u8]) -> Result<Option<Action>, AllocError>
     ensures { IfOk result (λ action. action ≡ read_action (split_at_space line.now)) }
 {
-    let Some((word, text)) = split_at_space(line) else {
-        return Ok(None);
-    };
-    match Verb::of(word) {
-        Some(verb) => action_of(alloc, verb, text),
+    match split_at_space(line) {
+        Some((verb, text)) => action_of(alloc, verb, text),
         None => Ok(None),
     }
 }
 
-/// What a verb asks for, with the bytes after its space.
-fn action_of(alloc: Global, verb: Verb, text: &[u8]) -> Result<Option<Action>, AllocError>
-    ensures { IfOk result (λ action. action ≡ action_of verb text.now) }
+/// What a verb asks for, with the bytes after its space: of the clock, a newcomer, or else of a driver. Case matters.
+fn action_of(alloc: Global, verb: &[u8], text: &[u8]) -> Result<Option<Action>, AllocError>
+    ensures { IfOk result (λ action. action ≡ action_of verb.now text.now) }
 {
-    Ok(match verb {
-        Verb::Up => ups_name(text).map(|ups| Action::DriverUp(ups)),
-        Verb::Down => ups_name(text).map(|ups| Action::DriverDown(ups)),
-        Verb::TickTo => read_number(text).map(|seconds| Action::Tick(seconds)),
-        Verb::OpenFrom => Address::read(text).ok().map(|from| Action::Open(from)),
-        Verb::CloseOf => read_number(text).map(|c| Action::Close(c)),
-        Verb::TookBy => match client_and_rest(text) {
-            Some((c, count)) => taking(c, count),
-            None => None,
-        },
-        Verb::DriverTookBy => match ups_and_rest(text) {
-            Some((ups, count)) => driver_taking(ups, count),
-            None => None,
-        },
-        Verb::Driver => match ups_and_rest(text) {
-            Some((ups, rest)) => Some(Action::DriverBytes(ups, whole_line(alloc, rest)?)),
-            None => None,
-        },
-        Verb::DriverPart => match ups_and_rest(text) {
-            Some((ups, rest)) => Some(Action::DriverBytes(ups, piece(alloc, rest)?)),
-            None => None,
-        },
-        Verb::DriverHex => driver_hex(alloc, text)?,
-        Verb::Client => match client_and_rest(text) {
-            Some((c, rest)) => Some(Action::Feed(c, whole_line(alloc, rest)?)),
-            None => None,
-        },
-        Verb::Part => match client_and_rest(text) {
-            Some((c, rest)) => Some(Action::Feed(c, piece(alloc, rest)?)),
-            None => None,
-        },
-        Verb::ClientHex => client_hex(alloc, text)?,
-    })
+    if verb == b"tick".as_slice() {
+        Ok(read_number(text).map(|seconds| Action::Tick(seconds)))
+    } else if verb == b"open".as_slice() {
+        Ok(address(text).map(|from| Action::Open(from)))
+    } else {
+        driver_action(alloc, verb, text)
+    }
 }
 
-/// What is taken: so many bytes, or `all`.
-fn taking(c: ClientId, count: &[u8]) -> Option<Action>
-    ensures { result ≡ taking c count.now }
+/// What a verb asks for of the driver of a UPS, or else of a client.
+fn driver_action(alloc: Global, verb: &[u8], text: &[u8]) -> Result<Option<Action>, AllocError>
+    ensures { IfOk result (λ action. action ≡ driver_action verb.now text.now) }
 {
+    if verb == b"up".as_slice() {
+        Ok(ups_name(text).map(|ups| Action::DriverUp(ups)))
+    } else if verb == b"down".as_slice() {
+        Ok(ups_name(text).map(|ups| Action::DriverDown(ups)))
+    } else if verb == b"driver".as_slice() {
+        driver_line(alloc, text)
+    } else if verb == b"driver-part".as_slice() {
+        driver_part(alloc, text)
+    } else if verb == b"driver-hex".as_slice() {
+        driver_hex(alloc, text)
+    } else if verb == b"driver-took".as_slice() {
+        Ok(driver_taking(text))
+    } else {
+        client_action(alloc, verb, text)
+    }
+}
+
+/// What a verb asks for of a client.
+fn client_action(alloc: Global, verb: &[u8], text: &[u8]) -> Result<Option<Action>, AllocError>
+    ensures { IfOk result (λ action. action ≡ client_action verb.now text.now) }
+{
+    if verb == b"client".as_slice() {
+        client_line(alloc, text)
+    } else if verb == b"part".as_slice() {
+        client_part(alloc, text)
+    } else if verb == b"client-hex".as_slice() {
+        client_hex(alloc, text)
+    } else if verb == b"took".as_slice() {
+        Ok(taking(text))
+    } else if verb == b"close".as_slice() {
+        Ok(read_number(text).map(|c| Action::Close(c)))
+    } else {
+        Ok(None)
+    }
+}
+
+/// What a client takes: so many bytes, or `all`.
+fn taking(text: &[u8]) -> Option<Action>
+    ensures { result ≡ taking_by (client_and_rest text.now) }
+{
+    let (c, count) = client_and_rest(text)?;
     if count == b"all".as_slice() {
         return Some(Action::TookAll(c));
     }
-    match read_number(count) {
-        Some(n) => Some(Action::Took(c, n as usize)),
-        None => None,
-    }
+    let n = read_number(count)?;
+    Some(Action::Took(c, n as usize))
 }
 
 /// What a driver takes: so many bytes, or `all`.
-fn driver_taking(ups: UpsName, count: &[u8]) -> Option<Action>
-    ensures { result ≡ driver_taking ups count.now }
+fn driver_taking(text: &[u8]) -> Option<Action>
+    ensures { result ≡ driver_taking_by (ups_and_rest text.now) }
 {
+    let (ups, count) = ups_and_rest(text)?;
     if count == b"all".as_slice() {
         return Some(Action::DriverTookAll(ups));
     }
-    match read_number(count) {
-        Some(n) => Some(Action::DriverTook(ups, n as usize)),
-        None => None,
+    let n = read_number(count)?;
+    Some(Action::DriverTook(ups, n as usize))
+}
+
+/// The line that the driver of a UPS sends.
+fn driver_line(alloc: Global, text: &[u8]) -> Result<Option<Action>, AllocError>
+    ensures { IfOk result (λ action. action ≡ driver_line text.now) }
+{
+    match ups_and_rest(text) {
+        Some((ups, rest)) => Ok(Some(Action::DriverBytes(ups, whole_line(alloc, rest)?))),
+        None => Ok(None),
+    }
+}
+
+/// What the driver of a UPS sends of a line.
+fn driver_part(alloc: Global, text: &[u8]) -> Result<Option<Action>, AllocError>
+    ensures { IfOk result (λ action. action ≡ driver_part text.now) }
+{
+    match ups_and_rest(text) {
+        Some((ups, rest)) => Ok(Some(Action::DriverBytes(ups, piece(alloc, rest)?))),
+        None => Ok(None),
+    }
+}
+
+/// The line that a client sends.
+fn client_line(alloc: Global, text: &[u8]) -> Result<Option<Action>, AllocError>
+    ensures { IfOk result (λ action. action ≡ client_line text.now) }
+{
+    match client_and_rest(text) {
+        Some((c, rest)) => Ok(Some(Action::Feed(c, whole_line(alloc, rest)?))),
+        None => Ok(None),
+    }
+}
+
+/// What a client sends of a line.
+fn client_part(alloc: Global, text: &[u8]) -> Result<Option<Action>, AllocError>
+    ensures { IfOk result (λ action. action ≡ client_part text.now) }
+{
+    match client_and_rest(text) {
+        Some((c, rest)) => Ok(Some(Action::Feed(c, piece(alloc, rest)?))),
+        None => Ok(None),
     }
 }
 
@@ -241,6 +222,12 @@ fn ups_name(text: &[u8]) -> Option<UpsName>
     ensures { result ≡ ups_name text.now }
 {
     UpsName::read(text).ok()
+}
+
+fn address(text: &[u8]) -> Option<Address>
+    ensures { result ≡ address text.now }
+{
+    Address::read(text).ok()
 }
 
 /// The bytes before the first space and those after it.

@@ -1,0 +1,21 @@
+-- What reading files gives.
+use Rattle.std.specs.Prelude.{◌≡◌, ℕ, List, Result, Err}
+use denote.Ref.{Bor}
+use Rattle.upsd.specs.declared.ending.Ending.{Ending}
+use Rattle.upsd.specs.declared.ending.Ending.TheVariants as endings
+use Rattle.upsd.specs.declared.reading.ReadFault.{ReadFault}
+use Rattle.upsd.specs.declared.reading.ReadFault.TheVariants as faults
+
+-- What reading the file of a path gives: its bytes, or why it can't be read.
+abbrev pub Readings : Type 1
+Readings = List ℕ → Result (List ℕ) ReadFault → Type 0
+
+-- How the program ends where it can't read a file.
+abbrev pub ending_of_unread : Bor (List ℕ) → ReadFault → Ending
+ending_of_unread path faults.Memory = endings.Memory
+ending_of_unread path faults.Failed = endings.Unread path
+
+-- The file of this path can't be read, which the ending tells.
+abbrev pub CantBeRead : Readings → Bor (List ℕ) → Ending → Type 0
+CantBeRead gives path ending =
+    (fault : ReadFault) × gives path.now (Err fault) × (ending ≡ ending_of_unread path fault)

@@ -1,0 +1,46 @@
+-- What the program is to do, by the words that were found after a subcommand.
+use Rattle.std.specs.Prelude.{◌≡◌, ℕ, List, Option, Some, None, codes, unwrap_or}
+use Rattle.std.specs.Str.Parse.{IsNumeral, digits_value, without_leading_plus}
+use Rattle.std.specs.Net.Grammar.{IsSocketText}
+use Rattle.std.specs.declared.net.socket_addr.SocketAddr.{SocketAddr}
+use Rattle.clap.specs.Words.{found_of, first_value, one_text}
+use Rattle.clap.specs.declared.parser.matches.ArgMatches.{ArgMatches}
+use Rattle.nutcore.specs.Server.{read_max_age}
+use Rattle.nutcore.specs.declared.max_age.TheConstants.{MAX_AGE_DEFAULT}
+use Rattle.upsd.specs.declared.task.TheConstants.{DEFAULT_ADDRESS}
+use Rattle.upsd.specs.declared.task.Service.{Service}
+use Rattle.upsd.specs.declared.task.Task.{Task}
+use Rattle.upsd.specs.declared.task.Task.TheVariants.{Serve, Replay}
+use Rattle.upsd.specs.Files.{AreNamedIn}
+
+-- The address is written after --listen; without it, it is the default one.
+abbrev pub IsAddressIn : ArgMatches → SocketAddr → Type 0
+IsAddressIn found address =
+    let text = unwrap_or (first_value (found_of found) (codes "listen")) DEFAULT_ADDRESS.now in
+    IsSocketText text address
+
+-- The text, which may begin with a plus, is digits that write so many seconds as the greatest age
+-- may have; without it these are 15.
+abbrev pub IsMaxAge : Option (List ℕ) → ℕ → Type 0
+IsMaxAge None age = read_max_age MAX_AGE_DEFAULT ≡ Some age
+IsMaxAge (Some text) age = IsNumeral 10 (without_leading_plus text)
+    × (read_max_age (digits_value 10 (without_leading_plus text)) ≡ Some age)
+
+-- The greatest age is that after --maxage.
+abbrev pub IsMaxAgeIn : ArgMatches → ℕ → Type 0
+IsMaxAgeIn found age = IsMaxAge (one_text (found_of found) (codes "maxage")) age
+
+pub record IsServiceIn (found : ArgMatches) (service : Service) : Type 0 where
+  pub address : IsAddressIn found service.address
+  pub max_age : IsMaxAgeIn found service.max_age
+
+-- The task is to serve over the files, at the address and with the greatest age that were found.
+abbrev pub IsServing : ArgMatches → Task → Type 0
+IsServing found (Serve files service) = AreNamedIn found files × IsServiceIn found service
+IsServing found (Replay files script) = ⊥
+
+-- The task is to replay the script that was found, over the files that were.
+abbrev pub IsReplaying : ArgMatches → Task → Type 0
+IsReplaying found (Serve files service) = ⊥
+IsReplaying found (Replay files script) = AreNamedIn found files
+    × (first_value (found_of found) (codes "SCRIPT") ≡ Some script.now)
