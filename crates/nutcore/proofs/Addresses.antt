@@ -1,5 +1,5 @@
 -- The addresses of sessions stay lawful, and the list of UPSs is never changed.
-use Rattle.std.proofs.Common.{◌≡◌, ◌+◌, ℕ, true, List, [], ◌∷◌, ◌++◌, Option, Some, refl, sym, subst, max, All, IsTrue}
+use Rattle.std.proofs.Common.{◌≡◌, ◌+◌, ℕ, true, List, [], ◌∷◌, ◌++◌, Some, refl, sym, subst, max, All, IsTrue}
 use Rattle.std.proofs.lemmas.List.Elements.{All-nil, All-cons, All-head, All-tail}
 use Rattle.nutwords.specs.Reading.{is_address}
 use Rattle.nutusers.specs.UpsList.{Ups}

@@ -88,17 +88,17 @@ own s e m c =
     of_parts s m (λ f. Unit {0}) (any_driver s.moment m) (λ e t. client_of e ≡ Some c → LeavesOtherClients c s t)
     (λ e u f its apart any h. cc (sym apart ∙ h)) (λ seconds h. cc h) (λ address h. cc h)
     (λ d piece h.
-      let e : d ≡ c = cc h in
-      subst (λ (z : ℕ). LeavesOtherClients z s (pumped_until (with_input s d piece) d m)) e
-      (record { sessions = λ b differ. fed_other d b s piece m differ; server = kept_until d (with_input s d piece) m ∙ kept_session (joined piece) d s }))
+    let e : d ≡ c = cc h in
+    subst (λ (z : ℕ). LeavesOtherClients z s (pumped_until (with_input s d piece) d m)) e
+    (record { sessions = λ b differ. fed_other d b s piece m differ; server = kept_until d (with_input s d piece) m ∙ kept_session (joined piece) d s }))
     (λ d n h.
-      let e : d ≡ c = cc h in
-      subst (λ (z : ℕ). LeavesOtherClients z s (cond (may_take (session d s) n) (pumped_until (without_output s d n) d m) s)) e
-      (record { sessions = λ b differ. took_other d b s n m (may_take (session d s) n) differ; server = kept_either (may_take (session d s) n) (pumped_until (without_output s d n) d m) s s (kept_until d (without_output s d n) m ∙ kept_session (taken_from n) d s) refl }))
+    let e : d ≡ c = cc h in
+    subst (λ (z : ℕ). LeavesOtherClients z s (cond (may_take (session d s) n) (pumped_until (without_output s d n) d m) s)) e
+    (record { sessions = λ b differ. took_other d b s n m (may_take (session d s) n) differ; server = kept_either (may_take (session d s) n) (pumped_until (without_output s d n) d m) s s (kept_until d (without_output s d n) m ∙ kept_session (taken_from n) d s) refl }))
     (λ d h.
-      let e : d ≡ c = cc h in
-      subst (λ (z : ℕ). let t : ServerState = record s { sessions = without d s.sessions } in LeavesOtherClients z s t) e
-      (record { sessions = λ b differ. find_without_other b d s.sessions differ; server = refl })) e
+    let e : d ≡ c = cc h in
+    subst (λ (z : ℕ). let t : ServerState = record s { sessions = without d s.sessions } in LeavesOtherClients z s t) e
+    (record { sessions = λ b differ. find_without_other b d s.sessions differ; server = refl })) e
 
 pub client_alone : AClientTouchesNoOther
 client_alone old new e o c step h = subst (λ (t : ServerState). LeavesOtherClients c old t) (sym step.leaves) (own old e (refused_after o) c h)
