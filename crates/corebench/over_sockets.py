@@ -24,7 +24,7 @@ def started(folder):
         pass
     server = subprocess.Popen(
         ["valgrind", "--tool=callgrind", "--callgrind-out-file=/dev/null", UPSD, "serve", "--ups", f"{folder}/ups.conf",
-         "--users", f"{folder}/users", "--listen", "127.0.0.1:0"], stdout=subprocess.PIPE, stderr=subprocess.PIPE)  # fmt: skip
+         "--users", f"{folder}/users", "--listen", "127.0.0.1:0", "--maxage", "86400"], stdout=subprocess.PIPE, stderr=subprocess.PIPE)  # fmt: skip
     return server, int(server.stdout.readline().rsplit(b":", 1)[1])
 
 
