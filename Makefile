@@ -1,6 +1,10 @@
-# Builds, tests and installs the four programs. Each target as plain commands: docs/OPERATING.md.
+# Builds, tests, installs and packs the four programs. Each target as plain commands: docs/OPERATING.md.
 PREFIX = /usr/local
 DESTDIR =
+# The version of all of it, said here alone. Debian sorts what ends in ~dev before the version itself.
+VERSION = 0.1.0~dev
+# Where the Debian package is put.
+PACKAGES = .
 
 PROGRAMS = upsd upsc upsrw upscmd
 CLIENTS = upsc upsrw upscmd
@@ -10,9 +14,12 @@ UNIT = lib/systemd/system/upsd.service
 # What is installed below ROOT, and the list of it that an installation leaves, so that no file of anybody else's is taken
 # for ours.
 MINE = share/voqarchay
-EXAMPLES = $(addprefix $(MINE)/examples/, upses.conf upsd.users cmdvartab)
+DOC = share/doc/voqarchay
+TEXTS = OPERATING.md FROM_NUT.md INTEROP.md FILES.md CLIENTS.md PROTOCOL.md
+EXAMPLES = $(addprefix $(DOC)/examples/, upses.conf upsd.users cmdvartab)
 PAGES = $(addprefix share/man/man5/, $(notdir $(wildcard man/*.5))) $(addprefix share/man/man8/, $(notdir $(wildcard man/*.8)))
-FILES = sbin/upsd $(addprefix bin/, $(CLIENTS)) $(PAGES) $(EXAMPLES) $(MINE)/from_nut $(UNIT)
+COMPLETIONS = $(addprefix share/bash-completion/completions/, $(PROGRAMS))
+FILES = sbin/upsd $(addprefix bin/, $(CLIENTS)) $(PAGES) $(addprefix $(DOC)/, $(TEXTS)) $(EXAMPLES) $(COMPLETIONS) $(MINE)/from_nut $(UNIT)
 LIST = $(ROOT)/$(MINE)/installed
 
 # Proves and builds: a program that isn't proved isn't built. It stands as crates/NAME/out/NAME then.
@@ -39,7 +46,9 @@ install:
 	for program in $(CLIENTS); do install crates/$$program/out/$$program $(ROOT)/bin/$$program || exit 1; done
 	install -m 644 man/*.5 $(ROOT)/share/man/man5
 	install -m 644 man/*.8 $(ROOT)/share/man/man8
-	install -m 644 $(addprefix examples/, $(notdir $(EXAMPLES))) $(ROOT)/$(MINE)/examples
+	install -m 644 $(addprefix docs/, $(TEXTS)) $(ROOT)/$(DOC)
+	install -m 644 $(addprefix examples/, $(notdir $(EXAMPLES))) $(ROOT)/$(DOC)/examples
+	for file in $(COMPLETIONS); do install -m 644 tools/completion.bash $(ROOT)/$$file || exit 1; done
 	install tools/from_nut $(ROOT)/$(MINE)/from_nut
 	sed 's|/usr/local|$(PREFIX)|' examples/upsd.service >$(ROOT)/$(UNIT)
 	chmod 644 $(ROOT)/$(UNIT)
@@ -47,6 +56,11 @@ install:
 # Takes away what install put there, and no file of yours.
 uninstall:
 	test ! -e $(LIST) || while read -r file; do rm -f "$(ROOT)/$$file"; done <$(LIST)
-	rm -rf $(ROOT)/$(MINE)
+	rm -f $(LIST)
+	rmdir $(ROOT)/$(MINE) $(ROOT)/$(DOC)/examples $(ROOT)/$(DOC) 2>/dev/null || true
 
-.PHONY: all test edits install uninstall
+# The Debian package of what stands built; it builds nothing.
+deb:
+	bash tools/deb $(VERSION) $(PACKAGES)
+
+.PHONY: all test edits install uninstall deb

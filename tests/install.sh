@@ -1,36 +1,77 @@
 #!/usr/bin/env bash
 # `make install` and `make uninstall` in a folder of their own: what is put there is taken away again, a second
-# installation goes over the first, and a file of somebody else's is neither overwritten nor deleted.
+# installation goes over the first, and a file of somebody else's is neither overwritten nor deleted. The installed
+# completion has the words of each --help, and the installed unit waits for its port.
 set -euo pipefail
 # shellcheck source=tests/built.bash
 source "$(dirname "${BASH_SOURCE[0]}")/built.bash"
 built upsd upsc upsrw upscmd
 cd "$top"
 folder=$(mktemp -d)
-trap 'rm -r "$folder"' EXIT
+server=
+trap '[[ -z $server ]] || kill "$server"; rm -r "$folder"' EXIT
 
 checks=0
 ok() { checks=$((checks + 1)); }
 in_root() { make -s "$1" DESTDIR="$folder/root" PREFIX=/usr; }
 files() { find "$folder/root" -type f | sort; }
+usr=$folder/root/usr unit=$folder/root/usr/lib/systemd/system/upsd.service
 
 in_root install
 files >"$folder/first"
-[[ $(wc -l <"$folder/first") -gt 12 ]] && ok
-grep -q 'ExecStart=/usr/sbin/upsd serve' "$folder/root/usr/lib/systemd/system/upsd.service" && ok
-"$folder/root/usr/bin/upsc" --help >"$folder/help" && cmp -s "$folder/help" crates/upsc/stdout && ok
+[[ $(wc -l <"$folder/first") -gt 24 ]] && ok
+grep -q 'ExecStart=/usr/sbin/upsd serve' "$unit" && ok
+"$usr/bin/upsc" --help >"$folder/help" && cmp -s "$folder/help" crates/upsc/stdout && ok
 in_root install
 files | cmp -s - "$folder/first" && ok
+
+# The words that bash offers for the last one of a line.
+offered() {
+    # shellcheck disable=SC2034 # the completion reads them
+    COMP_WORDS=("$@") COMP_CWORD=$(($# - 1))
+    _voqarchay "$1" "${@: -1}" "${@: -2:1}"
+    printf '%s\n' "${COMPREPLY[@]}" | sort
+}
+# The options that a --help tells, and the subcommands.
+options_of() { "$usr/$1" "${@:2}" --help | sed -nE 's/^ +(-[A-Za-z]|--[a-z]+)(, (--[a-z]+))? .*/\1 \3/p' | tr ' ' '\n' | grep . | sort; }
+subcommands_of() { "$usr/$1" --help | sed -nE '/^Commands:/,/^$/s/^  ([a-z]+) .*/\1/p' | sort; }
+# shellcheck source=tools/completion.bash
+source "$usr/share/bash-completion/completions/upsd"
+[[ $(offered upsd serve --ma) == --maxage ]] && ok
+for words in upsc upsrw upscmd 'upsd serve' 'upsd replay'; do
+    read -ra words <<<"$words"
+    place=bin
+    [[ ${words[0]} != upsd ]] || place=sbin
+    [[ $(offered "${words[@]}" -) == "$(options_of "$place/${words[0]}" "${words[@]:1}")" ]] && ok
+done
+[[ $(offered upsd '' | grep -v '^-') == "$(subcommands_of sbin/upsd)" ]] && ok
+[[ $(offered voqarchay-upsd serve --ups man/upsd.us) == man/upsd.users.5 ]] && ok
+
+# The unit's command that waits for the port, as systemd reads it, with three tries in place of a hundred.
+waiting=$(sed -n "s|^ExecStartPost=-/bin/bash -c '\(.*\)'\$|\1|p" "$unit" | sed 's/%%/%/g; s/\$\$/$/g; s/1\.\.100/1..3/')
+"$usr/sbin/upsd" serve --ups examples/upses.conf --users examples/upsd.users --listen 127.0.0.1:0 >"$folder/said" 2>&1 &
+server=$!
+for _ in {1..50}; do
+    grep -q listening "$folder/said" && break
+    sleep 0.1
+done
+address=$(sed -n 's/^upsd: listening on //p' "$folder/said")
+LISTEN=$address bash -c "$waiting" && ok
+kill "$server"
+wait "$server" || true
+server=
+LISTEN=$address bash -c "$waiting" || ok
+
 in_root uninstall
 [[ -z $(files) ]] && ok
 
 # NUT's upsc stands there.
-install -d "$folder/root/usr/bin"
-echo NUT >"$folder/root/usr/bin/upsc"
+install -d "$usr/bin"
+echo NUT >"$usr/bin/upsc"
 if in_root install >"$folder/said" 2>&1; then exit 1; fi
 grep -q "usr/bin/upsc isn't of this package" "$folder/said" && ok
-[[ $(files) == "$folder/root/usr/bin/upsc" ]] && ok
+[[ $(files) == "$usr/bin/upsc" ]] && ok
 in_root uninstall
-[[ $(cat "$folder/root/usr/bin/upsc") == NUT ]] && ok
-echo "install: $checks of 8 checks"
-[[ $checks == 8 ]]
+[[ $(cat "$usr/bin/upsc") == NUT ]] && ok
+echo "install: $checks of 18 checks"
+[[ $checks == 18 ]]

@@ -1,0 +1,68 @@
+#!/usr/bin/env bash
+# `make deb`, and the package installed and taken away on a root of its own, by a dpkg that keeps its state there too. What it
+# has is named unlike anything of NUT's packages, and its links, pages and unit lead to what it brought.
+set -euo pipefail
+# shellcheck source=tests/built.bash
+source "$(dirname "${BASH_SOURCE[0]}")/built.bash"
+for tool in dpkg dpkg-deb; do
+    [[ -n $(type -P "$tool") ]] || { echo "deb: skipped: $tool isn't there"; exit 0; }
+done
+# Only root may give files away; fakeroot says that it did.
+as_root=()
+if [[ $(id -u) != 0 ]]; then
+    [[ -n $(type -P fakeroot) ]] || { echo 'deb: skipped: only root installs, and fakeroot is not there'; exit 0; }
+    as_root=(fakeroot)
+fi
+built upsd upsc upsrw upscmd
+cd "$top"
+folder=$(mktemp -d)
+trap 'rm -r "$folder"' EXIT
+root=$folder/root usr=$folder/root/usr
+
+checks=0
+ok() { checks=$((checks + 1)); }
+# Dependencies aren't asked for, and the package's scripts run without a change of root: there is no shell on this one.
+dpkg_there() {
+    PATH=$PATH:/usr/sbin:/sbin "${as_root[@]}" dpkg --root="$root" --log="$folder/log" --force-not-root --force-depends \
+        --force-script-chrootless "$@"
+}
+mine() { cksum /var/lib/dpkg/status 2>/dev/null || true; }
+before=$(mine)
+
+make -s deb VERSION=1.2.3~dev PACKAGES="$folder" >/dev/null
+package=$(echo "$folder"/voqarchay_1.2.3~dev_*.deb)
+[[ $(dpkg-deb -f "$package" Package Version) == $'Package: voqarchay\nVersion: 1.2.3~dev' ]] && ok
+dpkg-deb -c "$package" >"$folder/list"
+! grep -vE ' root/root ' "$folder/list" && ok
+# Below folders that all packages share, each file goes by a name of its own.
+sed -E 's/.* \.(\/[^ ]*)( -> .*)?$/\1/' "$folder/list" | grep -v '/$' >"$folder/paths"
+! grep -vE '^/usr/(lib|share|share/doc)/voqarchay/|/voqarchay-[^/]*$|^/usr/lib/systemd/system/upsd.service$' "$folder/paths" && ok
+
+install -d "$root"/var/lib/dpkg/{info,updates,triggers}
+touch "$root"/var/lib/dpkg/{status,available}
+dpkg_there -i "$package" >"$folder/said" 2>&1 || cat "$folder/said"
+[[ $(dpkg-query --admindir="$root/var/lib/dpkg" -W -f '${Status}' voqarchay) == 'install ok installed' ]] && ok
+for program in upsc upsrw upscmd; do
+    "$usr/bin/voqarchay-$program" --help | cmp -s - "crates/$program/stdout" && ok
+done
+"$usr/sbin/voqarchay-upsd" replay crates/upsd/data/first.txt | cmp -s - crates/upsd/stdout && ok
+[[ -x $root$(sed -n 's/^ExecStart=\([^ ]*\) .*/\1/p' "$usr/lib/systemd/system/upsd.service") ]] && ok
+bash -c 'source "$1/voqarchay-upsc" && complete -p voqarchay-upsc' _ "$usr/share/bash-completion/completions" >/dev/null && ok
+[[ $(zcat "$usr/share/doc/voqarchay/changelog.gz" | head -n 1) == '# Changelog' ]] && ok
+grep -q '^Copyright: 2' "$usr/share/doc/voqarchay/copyright" && ok
+# Each page names itself, and leads to pages of the package, of the same section, and to NUT's upsmon alone.
+cited=$(zcat "$usr"/share/man/man[58]/*.gz | sed -nE 's/^\.BR ([a-z.-]+) \(([58])\).*/\1.\2/p' | sort -u)
+wanted=$(cd "$usr/share/man" && printf '%s\n' man?/*.gz upsmon.8.gz | sed 's|.*/||; s/\.gz$//' | sort)
+[[ $cited == "$wanted" ]] && ok
+named=0
+for page in "$usr"/share/man/man[58]/*.gz; do
+    name=${page##*/} name=${name%.[58].gz}
+    zcat "$page" | grep -q "^$name "'\\- ' && named=$((named + 1))
+done
+[[ $named == 7 ]] && ok
+
+dpkg_there -r voqarchay >"$folder/said" 2>&1 || cat "$folder/said"
+[[ -z $(find "$root" -path "$root/var" -prune -o -not -type d -print) ]] && ok
+[[ $(mine) == "$before" ]] && ok
+echo "deb: $checks of 16 checks"
+[[ $checks == 16 ]]

@@ -1,0 +1,44 @@
+#!/usr/bin/env bash
+# The manual pages: each message of the programs' sources is in the page of its program, and no other; each word after ERR is one
+# that a server answers; and what formats the pages finds nothing amiss, where it is there.
+set -euo pipefail
+cd "$(dirname "${BASH_SOURCE[0]}")/.."
+failed=0
+
+# What is told of a program in its page is what its sources tell.
+alike() {
+    if [[ $2 != "$3" ]]; then
+        printf 'pages: FAILED: %s\n' "$1"
+        diff <(printf '%s\n' "$2") <(printf '%s\n' "$3") || true
+        failed=1
+    fi
+}
+# The messages of a page, without those that stand below.
+messages_of() { sed -nE "s/^\.B \"$1: (.*)\"\$/\1/p" "man/$1.8" | grep -vE '^(server answered ERR|listening on) ' | sort; }
+
+told=$({
+    sed -nE 's/^ *#\[error\("(.*)"\)\]$/\1/p' crates/upsd/src/ending.rt crates/nutloop/src/fault.rt | grep -vxF '{0}' |
+        sed -e 's/{path}/PATH/; s/{line}/LINE/; s/{cause}/N/'
+    sed -nE 's/^ *News::[A-Za-z]+ => "(.*)",$/su: \1/p' crates/upsd/src/journal.rt
+} | sort)
+alike upsd "$told" "$(messages_of upsd)"
+told=$(sed -nE 's/^ *ClientFault::.* => push\(line, b"(.*)"\),$/\1/p' crates/nutreply/src/faults.rt | sort)
+for program in upsc upsrw upscmd; do
+    alike "$program" "$told" "$(messages_of "$program")"
+    unknown=$(sed -nE 's/^\.B ".*: server answered ERR ([A-Z-]+)"$/\1/p' "man/$program.8" |
+        grep -vxFf <(sed -nE 's/.*b"ERR ([A-Z-]+)\\n",$/\1/p' crates/nutanswer/src/err_word.rt) || true)
+    alike "$program: words after ERR" '' "$unknown"
+done
+# The causes of a refused file, by their numbers.
+causes=$(sed -nE 's/^ *#\[error\("(.*)"\)\]$/\1/p' crates/nutusers/src/fault.rt | cat -n | sed -E 's/^ *([0-9]+)\t/cause \1: /')
+for page in man/*.5; do
+    alike "$page" '' "$(sed -nE 's/^\.B "(cause .*)"$/\1/p' "$page" | grep -vxF "$causes" || true)"
+done
+
+for formatter in 'groff -man -ww -z' 'mandoc -Tlint'; do
+    [[ -n $(type -P "${formatter%% *}") ]] || { echo "pages: skipped: ${formatter%% *} isn't there"; continue; }
+    # shellcheck disable=SC2086 # the words of a command
+    alike "$formatter" '' "$($formatter man/* 2>&1)"
+done
+((failed == 0)) && echo 'pages: ok'
+exit "$failed"
