@@ -49,7 +49,7 @@ done
 [[ -x $root$(sed -n 's/^ExecStart=\([^ ]*\) .*/\1/p' "$usr/lib/systemd/system/upsd.service") ]] && ok
 bash -c 'source "$1/voqarchay-upsc" && complete -p voqarchay-upsc' _ "$usr/share/bash-completion/completions" >/dev/null && ok
 [[ $(zcat "$usr/share/doc/voqarchay/changelog.gz" | head -n 1) == '# Changelog' ]] && ok
-grep -q '^Copyright: 2' "$usr/share/doc/voqarchay/copyright" && ok
+grep -q '^MIT License' "$usr/share/doc/voqarchay/copyright" && ok
 # Each page names itself, and leads to pages of the package, of the same section, and to NUT's upsmon alone.
 cited=$(zcat "$usr"/share/man/man[58]/*.gz | sed -nE 's/^\.BR ([a-z.-]+) \(([58])\).*/\1.\2/p' | sort -u)
 wanted=$(cd "$usr/share/man" && printf '%s\n' man?/*.gz upsmon.8.gz | sed 's|.*/||; s/\.gz$//' | sort)
