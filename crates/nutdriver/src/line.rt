@@ -93,7 +93,10 @@ impl DriverLine {
         }
     }
 
+    // Those below stay a call of their own: what is inlined is cleared where a function begins, for each SETINFO too.
+
     /// The line of a variable's ranges, aux or flags, or else of another kind.
+    #[inline(never)]
     fn of_limit(first: &SpelledWord<'_>, words: SpelledWords<'_>) -> Result<DriverLine, DriverFault>
         ensures { result ≡ limit_line (spelled first.now) words.entry }
     {

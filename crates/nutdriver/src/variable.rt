@@ -95,8 +95,15 @@ impl Variable {
     fn copied(&self) -> Result<Variable, AllocError>
         ensures { IfOk result (λ copy. copy ≡ self.now) }
     {
+        self.holding(&self.value)
+    }
+
+    /// The same with another value.
+    fn holding(&self, value: &Value) -> Result<Variable, AllocError>
+        ensures { IfOk result (λ copy. copy ≡ with_value value.now self.now) }
+    {
         Ok(Variable {
-            value: copied(&self.value)?,
+            value: copied(value)?,
             flags: self.flags,
             aux: self.aux,
             enum_values: self.enum_values.clone()?,
@@ -123,13 +130,10 @@ impl Variable {
     pub(crate) fn with_value(&self, value: &Value) -> Change
         ensures { AnswersChange (Ok (Some (with_value value.now self.now))) result }
     {
-        let Ok(value) = copied(value) else {
-            return Err(DriverFault::Memory);
-        };
-        let Ok(copy) = self.copied() else {
-            return Err(DriverFault::Memory);
-        };
-        Ok(Some(Variable { value, ..copy }))
+        match self.holding(value) {
+            Ok(variable) => Ok(Some(variable)),
+            Err(_) => Err(DriverFault::Memory),
+        }
     }
 
     /// The variable with another aux.

@@ -8,7 +8,7 @@ ghost use Rattle.nutmap.specs.Entries.{value_at, entry_after, entries_after, Has
 ghost use Rattle.nutmap.specs.Meter.{counted_up};
 
 use crate::find;
-use crate::insert::insert;
+use crate::insert::{insert, put_in_place};
 use crate::meter::Meter;
 use crate::remove::remove;
 use crate::tree::{Entry, Link, height, shared};
@@ -21,7 +21,8 @@ use std::rc::Rc;
 ///
 /// A version is a map of its own: it keeps its entries whatever is done to the map that it was shared from, and
 /// the other way round. Versions share the nodes of a balanced binary tree and, by `Rc`, the keys and values.
-/// No node is changed once it is made, so a change makes new nodes from the root to the place of the key.
+/// A node that is shared is never changed, so a change makes new nodes from the root to the place of the key. Only where
+/// nobody shares one of these is the value of a key that is there put in place.
 ///
 /// Contracts see a map as the list of its entries, whose keys rise.
 #[derive(Drop)]
@@ -139,12 +140,13 @@ impl<K: Ord + Drop, V: Drop> Map<K, V> {
     /// Sets the value of a key, and answers the earlier value. An equal key that is there stays.
     ///
     /// The nodes that it makes are counted by `meter`: at least one, and at most 8 d + 8, where d is
-    /// how many binary digits write one more than the entries before.
+    /// how many binary digits write one more than the entries before. A value that is put in place makes none, and is
+    /// counted as one.
     ///
     /// # Errors
     ///
-    /// `AllocError` where memory is refused, or the map has `usize::MAX` entries. The map is then as it was, and
-    /// the meter keeps what was made.
+    /// `AllocError` where memory is refused, or the map has `usize::MAX` entries and the value isn't put in place. The map
+    /// is then as it was, and the meter keeps what was made.
     pub fn insert(
         &mut self,
         key: K,
@@ -162,11 +164,20 @@ impl<K: Ord + Drop, V: Drop> Map<K, V> {
     {
         // What the root says of the entries: their keys rise.
         let _ = height(&self.root);
-        let entry = Entry::new(self.alloc, key, value)?;
-        self.put(&entry, meter)
+        let value = Rc::new(self.alloc, value)?;
+        match put_in_place(&mut self.root, &key, value) {
+            Ok(before) => {
+                meter.count();
+                Ok(Some(before))
+            }
+            Err(value) => {
+                let key = Rc::new(self.alloc, key)?;
+                self.put(&Entry { key, value }, meter)
+            }
+        }
     }
 
-    // The same of an entry.
+    // The same of an entry, by a new path to it.
     fn put(&mut self, entry: &Entry<K, V>, meter: &mut Meter) -> Result<Option<Rc<V>>, AllocError>
         ensures before { IfOk result (λ before. option_map
             (λ held. held.value) before ≡ value_at K.cmp self.old entry.now.key.value) }
