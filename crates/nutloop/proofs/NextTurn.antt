@@ -1,55 +1,58 @@
 -- The places stand in the order of their seats. So the next one is the first that is ready behind the last one that had a
 -- turn, or else the first that is ready.
-use Rattle.std.proofs.Common.{◌≡◌, ◌+◌, ◌<◌, ◌≤◌, ◌⊎◌, ◌∙◌, ◌↔◌, ℕ, Bool, true, false, List, Option, Some, None, refl, sym, ap, subst, cond, inl, inr, arith, length, get_or, set, nat_lt, insert, get_or-set_other, get_or-set_same, length-set, position, is_some, not, IsTrue}
+use Rattle.std.proofs.Common.{◌≡◌, ◌≢◌, ◌+◌, ◌<◌, ◌≤◌, ◌⊎◌, ◌∙◌, ◌↔◌, ℕ, Bool, true, false, List, Option, Some, None, refl, sym, ap, subst, cond, inl, inr, arith, length, get_or, set, nat_lt, insert, get_or-set_other, get_or-set_same, length-set, is_some, not, IsTrue}
 use Rattle.std.specs.List.{position_or_len}
-use Rattle.std.proofs.lemmas.Bool.{true≢false, ltb-true, ltb-false, lt-ltb, le-ltb, cases_lt, cases_eq, cond-true, cond-false, and_parts, and_from}
+use Rattle.std.specs.List.Sorted.{IsPartitionPoint}
+use Rattle.std.proofs.lemmas.Bool.{true≢false, ltb-true, ltb-false, lt-ltb, le-ltb, leb-true, leb-false, cases_lt, cases_eq, cond-true, cond-false}
 use Rattle.std.proofs.lemmas.List.{get_or_default}
-use Rattle.std.proofs.lemmas.List.Quantifiers.{position-Some}
 use Rattle.std.proofs.lemmas.List.Sorted.{IsNonDecreasingBy-insert}
-use Rattle.std.proofs.lemmas.List.Sums.{fails_before_first, passes_at_first, prefix_len-le-length}
+use Rattle.std.proofs.lemmas.List.Sums.{fails_before_first, passes_at_first, position_or_len_is, prefix_len-le-length}
+use Rattle.std.proofs.Math.Dec.{leb}
 use Rattle.nutloop.specs.declared.round.Seat.{Seat}
 use Rattle.nutloop.specs.declared.round.Seat.TheVariants.{Client, Driver, Listener}
 use Rattle.nutloop.specs.declared.round.Place.{Place}
-use Rattle.nutloop.specs.Round.{SEATS, rank, ahead, is_ready, is_above, is_ready_behind, fresh, first_above, StandInOrder, IsNextAt, IsOver, FindsNext}
+use Rattle.nutloop.specs.Round.{SEATS, rank, ahead, is_ready, is_above, fresh, first_above, StandInOrder, IsFirstReady, IsFree, IsNextAt, IsOver, FindsNext, FindsReady}
 
 abbrev rank_of : Place → ℕ
 rank_of p = rank p.seat
 
--- where the first one stands that passes, or else the end
-pub first_there : {A : Type 0} (p : A → Bool) (xs : List A) (i : ℕ) → Some i ≡ position p xs → (i ≡ position_or_len p xs) × (i ≤ length xs)
-first_there p xs i = by_end (nat_lt (position_or_len p xs) (length xs)) refl
-  where
-    by_end : (b : Bool) → nat_lt (position_or_len p xs) (length xs) ≡ b → Some i ≡ cond b (Some (position_or_len p xs)) None → (i ≡ position_or_len p xs) × (i ≤ length xs)
-    by_end true e h = let same : i ≡ position_or_len p xs = cc h in (same, omega (arith, same, ltb-true _ _ e))
-    by_end false e h = cc h
+-- Up to the first one that is behind a rank are those of this rank and less, and from there on those behind it.
+pub first_above_is : (n : ℕ) (places : List Place) (at : ℕ) → at ≤ length places → IsPartitionPoint (λ p. leb (rank p.seat) n ≡ true) (λ p. leb (rank p.seat) n ≡ false) places at → at ≡ first_above n places
+first_above_is n places at within point =
+    sym (position_or_len_is (is_above n) places at (fresh Listener) within
+    (λ k before. le-ltb _ _ (leb-true _ _ (point.0 k (fresh Listener) (omega arith) before)))
+    (λ below. lt-ltb _ _ (leb-false _ _ (point.1 at (fresh Listener) (omega arith) below))))
 
-pub end_there : {A : Type 0} (p : A → Bool) (xs : List A) → None ≡ position p xs → length xs ≡ position_or_len p xs
-end_there p xs = by_end (nat_lt (position_or_len p xs) (length xs)) refl
-  where
-    by_end : (b : Bool) → nat_lt (position_or_len p xs) (length xs) ≡ b → None ≡ cond b (Some (position_or_len p xs)) None → length xs ≡ position_or_len p xs
-    by_end true e h = cc h
-    by_end false e h = let most : position_or_len p xs ≤ length xs = prefix_len-le-length _ xs in omega (arith, most, ltb-false _ _ e)
+upto : (n : ℕ) (places : List Place) (k : ℕ) (d : Place) → k < first_above n places → rank_of (get_or places k d) ≤ n
+upto n places k d before = ltb-false _ _ (fails_before_first (is_above n) places k d before)
 
--- none passes
-none_passes : {A : Type 0} (p : A → Bool) (xs : List A) → position p xs ≡ None → (k : ℕ) (d : A) → k < length xs → p (get_or xs k d) ≡ false
-none_passes p xs = by_end (nat_lt (position_or_len p xs) (length xs)) refl
-  where
-    by_end : (b : Bool) → nat_lt (position_or_len p xs) (length xs) ≡ b → cond b (Some (position_or_len p xs)) None ≡ None → (k : ℕ) (d : _) → k < length xs → p (get_or xs k d) ≡ false
-    by_end true e h = cc h
-    by_end false e h = λ k d below. fails_before_first p xs k d (omega (arith, below, ltb-false _ _ e))
+above : (n : ℕ) (places : List Place) (k : ℕ) (d : Place) → StandInOrder places → first_above n places ≤ k → k < length places → n < rank_of (get_or places k d)
+above n places k d old from below =
+    let first : ℕ = first_above n places in
+    let passes : n < rank_of (get_or places first d) = ltb-true _ _ (passes_at_first (is_above n) places d (omega (arith, from, below))) in
+    omega (arith, passes, old first k d from below)
 
 -- Whoever comes is put in front of the first one that is behind.
 pub taken_in : (seat : Seat) (places : List Place) (at : ℕ) → at ≡ first_above (rank seat) places → StandInOrder places → StandInOrder (insert places at (fresh seat))
 taken_in seat places at is old =
-    let behind : Place → Bool = is_above (rank seat) in
-    let first : ℕ = position_or_len behind places in
     subst (λ i. StandInOrder (insert places i (fresh seat))) (sym is)
-    (IsNonDecreasingBy-insert rank_of places first (fresh seat) old (prefix_len-le-length _ places) (λ k d before. ltb-false _ _ (fails_before_first behind places k d before))
-    (λ k d from below.
-    let there : first < length places = omega (arith, from, below) in
-    let above : rank seat < rank_of (get_or places first d) = ltb-true _ _ (passes_at_first behind places d there) in
-    let rises : rank_of (get_or places first d) ≤ rank_of (get_or places k d) = old first k d from below in
-    omega (arith, above, rises)))
+    (IsNonDecreasingBy-insert rank_of places (first_above (rank seat) places) (fresh seat) old (prefix_len-le-length _ places) (λ k d before. upto (rank seat) places k d before)
+    (λ k d from below. omega (arith, above (rank seat) places k d old from below)))
+
+-- Nobody has a seat where nobody is up to its rank, or the last one of these has another rank.
+pub none_upto : (n : ℕ) (seat : Seat) (places : List Place) → n ≡ rank seat → StandInOrder places → first_above n places ≡ 0 → IsFree seat places
+none_upto n seat places is old none = λ k d below has. absurd (omega (arith, above n places k d old (omega (arith, none)) below, is, ap rank has))
+
+pub last_is_another : (n : ℕ) (seat : Seat) (places : List Place) (at : ℕ) → n ≡ rank seat → StandInOrder places → first_above n places ≡ at + 1 → at < length places → ((d : Place) → rank_of (get_or places at d) ≢ n) → IsFree seat places
+last_is_another n seat places at is old next within other = λ k d below has.
+    let same : rank_of (get_or places k d) ≡ n = ap rank has ∙ sym is in
+    elim (cases_lt at k) [
+      | inl behind ↦ absurd (omega (arith, above n places k d old (omega (arith, next, behind)) below, same))
+      | inr before ↦
+          let most : rank_of (get_or places at d) ≤ n = upto n places at d (omega (arith, next)) in
+          let least : rank_of (get_or places k d) ≤ rank_of (get_or places at d) = old k at d before within in
+          absurd (other d (omega (arith, most, least, same)))
+    ]
 
 -- where there is no memory, nobody came
 pub taken_in_or_not : (b : Bool) (places new : List Place) → StandInOrder places → StandInOrder new → StandInOrder (cond b new places)
@@ -69,72 +72,62 @@ ahead_again : (last seat : Seat) → rank seat ≤ rank last → ahead last seat
 ahead_again last seat upto = cond-false _ _ _ (le-ltb _ _ upto)
 
 -- The first one that is ready and behind the last one is the next one;
-pub found_behind : (last : Seat) (places : List Place) (i : ℕ) → StandInOrder places → position (is_ready_behind last) places ≡ Some i → IsNextAt last places i
-found_behind last places i old found =
-    let at = λ (d : Place). position-Some (is_ready_behind last) places i d found in
-    record {
-      within = (at (fresh last)).0;
-      next = λ d.
-          let next : Place = get_or places i d in
-          let passes = and_parts (is_ready next) (is_above (rank last) next) (at d).1 in
-          let behind : rank last < rank_of next = ltb-true _ _ passes.1 in
-          record {
-            ready = passes.0;
-            first = λ k e below.
-                subst (λ (p : Place). is_ready p ≡ true → ahead last next.seat ≤ ahead last p.seat) (get_or_default places k d e below)
-                (by_rank (get_or places k d) next behind (elim (cases_lt k i) [ inl before ↦ inl ((at d).2 k before) | inr from ↦ inr (old i k d from below) ]));
-          };
-    }
-  where
-    by_rank : (p next : Place) → rank last < rank_of next → (is_ready_behind last p ≡ false) ⊎ (rank_of next ≤ rank_of p) → is_ready p ≡ true → ahead last next.seat ≤ ahead last p.seat
-    by_rank p next behind place ready =
-        elim (cases_lt (rank last) (rank_of p)) [
-          | inl over ↦ elim place [
-            | inl not_behind ↦ absurd (true≢false (sym (and_from (is_ready p) (is_above (rank last) p) ready (lt-ltb _ _ over)) ∙ not_behind))
-            | inr rises ↦ omega (arith, rises, ahead_behind last next.seat behind, ahead_behind last p.seat over)
-          ]
-          | inr upto ↦ omega (arith, ahead_behind last next.seat behind, ahead_again last p.seat upto, below_all next.seat)
-        ]
+pub found_behind : (last : Seat) (places : List Place) (i : ℕ) → StandInOrder places → IsFirstReady (first_above (rank last) places) places i → IsNextAt last places i
+found_behind last places i old found = record {
+  within = found.within;
+  next = λ d.
+      let next : Place = get_or places i d in
+      let behind : ahead last next.seat ≡ rank_of next = ahead_behind last next.seat (above (rank last) places i d old found.behind found.within) in
+      record {
+        ready = found.ready d;
+        first = λ k e below.
+            subst (λ (p : Place). is_ready p ≡ true → ahead last next.seat ≤ ahead last p.seat) (get_or_default places k d e below)
+            (λ ready.
+            elim (cases_lt k (first_above (rank last) places)) [
+              | inl before ↦ omega (arith, behind, ahead_again last (get_or places k d).seat (upto (rank last) places k d before), below_all next.seat)
+              | inr here ↦
+                  elim (cases_lt k i) [
+                    | inl before ↦ absurd (true≢false (sym ready ∙ found.first k d here before))
+                    | inr from ↦ omega (arith, old i k d from below, behind, ahead_behind last (get_or places k d).seat (above (rank last) places k d old here below))
+                  ]
+            ]);
+      };
+}
 
 -- where there is none, it is the first one that is ready.
-not_behind : (last : Seat) (p : Place) → is_ready_behind last p ≡ false → is_ready p ≡ true → rank_of p ≤ rank last
-not_behind last p none ready =
-    elim (cases_lt (rank last) (rank_of p)) [
-      | inl over ↦ absurd (true≢false (sym (and_from (is_ready p) (is_above (rank last) p) ready (lt-ltb _ _ over)) ∙ none))
-      | inr upto ↦ upto
+upto_last : (last : Seat) (places : List Place) → FindsReady (first_above (rank last) places) places None → (k : ℕ) (d : Place) → k < length places → is_ready (get_or places k d) ≡ true → rank_of (get_or places k d) ≤ rank last
+upto_last last places none k d below ready =
+    elim (cases_lt k (first_above (rank last) places)) [
+      | inl before ↦ upto (rank last) places k d before
+      | inr here ↦ absurd (true≢false (sym ready ∙ none k d here below))
     ]
 
-pub found_first : (last : Seat) (places : List Place) (o : Option ℕ) → StandInOrder places → position (is_ready_behind last) places ≡ None → o ≡ position is_ready places → FindsNext last places o
-found_first last places None old none is = λ k d below. none_passes is_ready places (sym is) k d below
-found_first last places (Some i) old none is =
-    let at = λ (d : Place). position-Some is_ready places i d (sym is) in
-    let within : i < length places = (at (fresh last)).0 in
-    let over = λ (k : ℕ) (d : Place) (below : k < length places) (ready : is_ready (get_or places k d) ≡ true). not_behind last (get_or places k d) (none_passes (is_ready_behind last) places none k d below) ready in
-    record {
-      within = within;
-      next = λ d.
-          let next : Place = get_or places i d in
-          let ready : is_ready next ≡ true = (at d).1 in
-          record {
-            ready = ready;
-            first = λ k e below.
-                subst (λ (p : Place). is_ready p ≡ true → ahead last next.seat ≤ ahead last p.seat) (get_or_default places k d e below)
-                (λ is_there. elim (cases_lt k i) [
-                  | inl before ↦ absurd (true≢false (sym is_there ∙ (at d).2 k before))
-                  | inr from ↦ omega (arith, old i k d from below, ahead_again last next.seat (over i d within ready), ahead_again last (get_or places k d).seat (over k d below is_there))
-                ]);
-          };
-    }
+pub found_first : (last : Seat) (places : List Place) (o : Option ℕ) → StandInOrder places → FindsReady (first_above (rank last) places) places None → FindsReady 0 places o → FindsNext last places o
+found_first last places None old none found = λ k d below. found k d (omega arith) below
+found_first last places (Some i) old none found = record {
+  within = found.within;
+  next = λ d.
+      let next : Place = get_or places i d in
+      let again : ahead last next.seat ≡ SEATS + rank_of next = ahead_again last next.seat (upto_last last places none i d found.within (found.ready d)) in
+      record {
+        ready = found.ready d;
+        first = λ k e below.
+            subst (λ (p : Place). is_ready p ≡ true → ahead last next.seat ≤ ahead last p.seat) (get_or_default places k d e below)
+            (λ ready. elim (cases_lt k i) [
+              | inl before ↦ absurd (true≢false (sym ready ∙ found.first k d (omega arith) before))
+              | inr from ↦ omega (arith, old i k d from below, again, ahead_again last (get_or places k d).seat (upto_last last places none k d below ready))
+            ]);
+      };
+}
 
 -- Nobody is ready behind the last one exactly where there is no such place.
-pub none_behind : (last : Seat) (places : List Place) (o : Option ℕ) (b : Bool) → o ≡ position (is_ready_behind last) places → not b ≡ is_some o → IsTrue b ↔ IsOver last places
-none_behind last places None true is e = ((λ none k d below ready. not_behind last (get_or places k d) (none_passes (is_ready_behind last) places (sym is) k d below) ready), (λ over. refl))
-none_behind last places None false is e = cc e
-none_behind last places (Some i) true is e = cc e
-none_behind last places (Some i) false is e =
-    let at = position-Some (is_ready_behind last) places i (fresh last) (sym is) in
-    let passes = and_parts (is_ready (get_or places i (fresh last))) _ at.1 in
-    ((λ none. cc none), (λ over. let upto = over i (fresh last) at.0 passes.0 in absurd (omega (arith, upto, ltb-true _ _ passes.1))))
+pub none_behind : (last : Seat) (places : List Place) (o : Option ℕ) (b : Bool) → StandInOrder places → FindsReady (first_above (rank last) places) places o → not b ≡ is_some o → IsTrue b ↔ IsOver last places
+none_behind last places None true old found e = ((λ none k d below ready. upto_last last places found k d below ready), (λ over. refl))
+none_behind last places None false old found e = cc e
+none_behind last places (Some i) true old found e = cc e
+none_behind last places (Some i) false old found e =
+    let d : Place = fresh last in
+    ((λ none. cc none), (λ over. absurd (omega (arith, over i d found.within (found.ready d), above (rank last) places i d old found.behind found.within))))
 
 -- A place of the same seat leaves the order as it is.
 pub kept_in : (places : List Place) (i : ℕ) (p : Place) → i < length places → ((d : Place) → rank_of (get_or places i d) ≡ rank_of p) → StandInOrder places → StandInOrder (set places i p)

@@ -2,7 +2,7 @@
 use Rattle.std.specs.Prelude.{◌≡◌, ◌≢◌, ◌+◌, ◌-◌, ◌<◌, ◌≤◌, ◌⊎◌, ◌||◌, ◌&&◌, ℕ, Bool, true, false}
 use Rattle.std.specs.Prelude.{not, List, [], ◌∷◌, Option, Some, None, if◌then◌else◌, nat_lt, min, ⊤}
 use Rattle.std.specs.Prelude.{length, slice_get, slice_set}
-use Rattle.std.specs.List.{All, HoldsAt, insert, position_or_len, remove}
+use Rattle.std.specs.List.{All, AllWithin, HoldsAt, insert, position_or_len, remove}
 use Rattle.std.specs.List.Sorted.{IsNonDecreasingBy}
 use Rattle.nutloop.specs.declared.round.Seat.{Seat}
 use Rattle.nutloop.specs.declared.round.Seat.TheVariants.{Client, Driver, Listener}
@@ -19,6 +19,13 @@ abbrev pub rank : Seat → ℕ
 rank (Client c) = min c (FIRST_DRIVER - 1)
 rank (Driver u) = FIRST_DRIVER + min u.place 255
 rank Listener = FIRST_DRIVER + 256
+
+-- The seat of a rank.
+abbrev pub seat_at : ℕ → Seat
+seat_at n =
+    if nat_lt n FIRST_DRIVER then Client n
+    else (if nat_lt n (FIRST_DRIVER + 256) then Driver (record { place = n - FIRST_DRIVER })
+    else Listener)
 
 abbrev pub SEATS : ℕ
 SEATS = FIRST_DRIVER + 257
@@ -43,9 +50,20 @@ StandInOrder places = IsNonDecreasingBy (λ p. rank p.seat) places
 abbrev pub is_above : ℕ → Place → Bool
 is_above n p = nat_lt n (rank p.seat)
 
--- It is ready, and its seat is behind that of the last one that had a turn.
-abbrev pub is_ready_behind : Seat → Place → Bool
-is_ready_behind last p = is_ready p && is_above (rank last) p
+-- Nobody is ready from this place on up to that one, which isn't looked at.
+abbrev pub NobodyIsReadyWithin : ℕ → ℕ → List Place → Type 0
+NobodyIsReadyWithin from end places = AllWithin (λ p. is_ready p ≡ false) places from end
+
+-- Where the first one stands, from this place on, that is ready.
+pub record IsFirstReady (from : ℕ) (places : List Place) (i : ℕ) : Type 0 where
+  pub behind : from ≤ i
+  pub within : i < length places
+  pub ready : HoldsAt (λ p. is_ready p ≡ true) places i
+  pub first : NobodyIsReadyWithin from i places
+
+abbrev pub FindsReady : ℕ → List Place → Option ℕ → Type 0
+FindsReady from places None = NobodyIsReadyWithin from (length places) places
+FindsReady from places (Some i) = IsFirstReady from places i
 
 abbrev pub is_read : Way → Bool
 is_read Read = true

@@ -1,8 +1,8 @@
 //! Whose turn it is: all who may have one go round.
-ghost use Rattle.std.specs.Prelude.{◌≡◌, ◌≤◌, ◌↔◌, [], IfOk, IsTrue, MatchResult, length, position};
-ghost use Rattle.nutloop.specs.Round.{FindsNext, FindsSeat, IsOver, LeavesOut, Notes, StandInOrder};
-ghost use Rattle.nutloop.specs.Round.{TakesIn, TakesTurn};
-ghost use Rattle.nutloop.specs.Round.{first_above, is_above, is_ready, is_ready_behind, rank, way_of};
+ghost use Rattle.std.specs.Prelude.{◌≡◌, ◌≤◌, ◌↔◌, [], IfOk, IsTrue, MatchResult, length};
+ghost use Rattle.nutloop.specs.Round.{FindsNext, FindsReady, FindsSeat, IsOver, LeavesOut, Notes};
+ghost use Rattle.nutloop.specs.Round.{StandInOrder, TakesIn, TakesTurn};
+ghost use Rattle.nutloop.specs.Round.{first_above, is_ready, rank, seat_at, way_of};
 
 use nutcore::{ClientId, UpsId};
 use std::alloc::{AllocError, Global};
@@ -24,7 +24,7 @@ pub(crate) enum Way {
 }
 
 /// What may be done at a seat.
-#[derive(Clone, Copy)]
+#[derive(Clone, Copy, PartialEq, Eq)]
 pub(crate) struct Flags {
     pub readable: bool,
     pub writable: bool,
@@ -53,9 +53,10 @@ pub(crate) const FIRST_DRIVER: u128 = 1 << 64;
 const LISTENER: u128 = FIRST_DRIVER + 256;
 
 impl Seat {
-    /// Where it stands in the order of the seats.
+    /// Where it stands in the order of the seats, and no other does.
     fn rank(self) -> u128
-        ensures { result ≡ rank self }
+        ensures order { result ≡ rank self }
+        ensures alone { seat_at result ≡ self }
     {
         match self {
             Seat::Client(c) => c as u128,
@@ -108,7 +109,13 @@ impl Round {
     fn place_of(&self, seat: Seat) -> Option<usize>
         ensures { FindsSeat seat self.now.places.items result }
     {
-        self.places.iter().position(|place| place.seat == seat)
+        let rank = seat.rank();
+        let at = self.first_above(rank).checked_sub(1)?;
+        if self.places[at].seat.rank() == rank {
+            Some(at)
+        } else {
+            None
+        }
     }
 
     /// Somebody takes this seat, and nothing is known of it yet.
@@ -134,24 +141,13 @@ impl Round {
         }
     }
 
-    /// Where the first one stands whose seat is behind this rank.
-    fn above(&self, rank: u128) -> Option<usize>
-        ensures { result ≡ position (is_above rank) self.now.places.items }
-    {
-        self.places
-            .iter()
-            .position(|place| rank < place.seat.rank())
-    }
-
-    /// The same, or else the end.
+    /// Where the first one stands whose seat is behind this rank, or else the end.
     fn first_above(&self, rank: u128) -> usize
         ensures place { result ≡ first_above rank self.now.places.items }
         ensures within { result ≤ length self.now.places.items }
     {
-        match self.above(rank) {
-            Some(at) => at,
-            None => self.places.len(),
-        }
+        self.places
+            .partition_point(|place| place.seat.rank() <= rank)
     }
 
     /// Whoever had this seat is gone. The others keep their turns.
@@ -181,21 +177,24 @@ impl Round {
         self.last
     }
 
-    /// Where the first one stands that is ready and behind the last one that had a turn.
-    fn first_behind(&self) -> Option<usize>
-        ensures { result ≡ position (is_ready_behind self.now.last) self.now.places.items }
+    /// Where the first one stands, from this place on, that is ready.
+    fn first_ready(&self, from: usize) -> Option<usize>
+        ensures { FindsReady from self.now.places.items result }
     {
-        let last = self.last.rank();
-        self.places
-            .iter()
-            .position(|place| place.is_ready() && last < place.seat.rank())
+        for i in from..self.places.len() {
+            if self.places[i].is_ready() {
+                return Some(i);
+            }
+        }
+        None
     }
 
-    /// Where the first one stands that is ready.
-    fn first_ready(&self) -> Option<usize>
-        ensures { result ≡ position is_ready self.now.places.items }
+    /// Where the first one stands that is ready and behind the last one that had a turn.
+    fn first_behind(&self) -> Option<usize>
+        ensures { FindsReady (first_above (rank self.now.last) self.now.places.items)
+            self.now.places.items result }
     {
-        self.places.iter().position(|place| place.is_ready())
+        self.first_ready(self.first_above(self.last.rank()))
     }
 
     /// Where the next one stands, if anybody is ready.
@@ -204,7 +203,7 @@ impl Round {
     {
         match self.first_behind() {
             Some(i) => Some(i),
-            None => self.first_ready(),
+            None => self.first_ready(0),
         }
     }
 

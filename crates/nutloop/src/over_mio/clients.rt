@@ -26,7 +26,8 @@ impl ClientSocket {
     }
 }
 
-/// The socket of this client.
+/// The socket of this client. They stand in the order of their ids.
 pub(super) fn client(clients: &mut [ClientSocket], c: ClientId) -> Option<&mut ClientSocket> {
-    clients.iter_mut().find(|client| client.id == c)
+    let place = clients.binary_search_by_key(&c, |client| client.id).ok()?;
+    clients.get_mut(place)
 }

@@ -19,6 +19,8 @@ pub(super) struct DriverSocket {
     pub readiness: Readiness,
     /// It was told that the driver is there.
     pub is_told: bool,
+    /// What may be done with it, as it was told last.
+    flags: Flags,
 }
 
 impl DriverSocket {
@@ -31,12 +33,21 @@ impl DriverSocket {
             stream,
             readiness: Readiness::new(),
             is_told: false,
+            flags: Flags {
+                readable: false,
+                writable: false,
+            },
         })
     }
 
-    /// What may be done with it.
-    pub fn flags(&self, server: &Server) -> Flags {
-        driver_flags(self.readiness, self.is_told, is_driver_owed(server, self.u))
+    /// What may be done with it, where that is something else than was told last.
+    pub fn new_flags(&mut self, server: &Server) -> Option<Flags> {
+        let flags = driver_flags(self.readiness, self.is_told, is_driver_owed(server, self.u));
+        if flags == self.flags {
+            return None;
+        }
+        self.flags = flags;
+        Some(flags)
     }
 }
 

@@ -27,9 +27,19 @@ const SEAT_LIMIT: usize = SESSION_LIMIT + UPS_LIMIT + 1;
 #[derive(Drop)]
 pub(super) struct Peers {
     pub round: Round,
+    /// Newcomers may be waiting, as the round knows.
+    is_knocked_at: bool,
+    /// In the order of their ids.
     clients: Vec<ClientSocket>,
     drivers: Vec<DriverSocket>,
     partings: Vec<Parting>,
+}
+
+/// Notes what may be done with a driver, where that has changed.
+fn note_driver(round: &mut Round, driver: &mut DriverSocket, server: &Server) {
+    if let Some(flags) = driver.new_flags(server) {
+        round.note(Seat::Driver(driver.u), flags);
+    }
 }
 
 impl Peers {
@@ -38,6 +48,7 @@ impl Peers {
         round.enter(Seat::Listener)?;
         Ok(Peers {
             round,
+            is_knocked_at: false,
             clients: Vec::with_capacity(alloc, SESSION_LIMIT)?,
             drivers: Vec::with_capacity(alloc, UPS_LIMIT)?,
             partings: Vec::with_capacity(alloc, PARTING_LIMIT)?,
@@ -52,17 +63,16 @@ impl Peers {
                 continue;
             };
             if let Ok(socket) = DriverSocket::connect(rt, registry, u, path) {
-                self.take_driver(socket, server);
+                self.take_driver(socket);
             }
         }
     }
 
     /// Takes in a driver. There is room, of seats too: no server has more UPSs, or more sessions.
-    fn take_driver(&mut self, socket: DriverSocket, server: &Server) {
-        let (seat, flags) = (Seat::Driver(socket.u), socket.flags(server));
+    fn take_driver(&mut self, socket: DriverSocket) {
+        let seat = Seat::Driver(socket.u);
         if self.drivers.push(socket).is_ok() {
             let _ = self.round.enter(seat);
-            self.round.note(seat, flags);
         }
     }
 
@@ -75,7 +85,8 @@ impl Peers {
             readiness: Readiness::new(),
             is_owed: false,
         };
-        if self.clients.push(socket).is_ok() {
+        let place = self.clients.partition_point(|client| client.id < c);
+        if self.clients.insert(place, socket).is_ok() {
             let _ = self.round.enter(Seat::Client(c));
         }
     }
@@ -85,8 +96,7 @@ impl Peers {
         let token = event.token();
         if let Some(driver) = driver_of(&mut self.drivers, token) {
             driver.readiness.hear(told_by(event));
-            self.round
-                .note(Seat::Driver(driver.u), driver.flags(server));
+            note_driver(&mut self.round, driver, server);
         } else if let Some(client) = self.clients.iter_mut().find(|x| x.token == token) {
             client.readiness.hear(told_by(event));
             let flags = client.flags(server);
@@ -104,14 +114,17 @@ impl Peers {
                 self.round.note(Seat::Client(c), flags);
             }
         }
-        for driver in self.drivers.iter() {
-            self.round
-                .note(Seat::Driver(driver.u), driver.flags(server));
+        for driver in self.drivers.iter_mut() {
+            note_driver(&mut self.round, driver, server);
         }
     }
 
     /// Notes whether newcomers may be waiting.
     pub fn note_newcomers(&mut self, is_knocked_at: bool) {
+        if is_knocked_at == self.is_knocked_at {
+            return;
+        }
+        self.is_knocked_at = is_knocked_at;
         let flags = Flags {
             readable: is_knocked_at,
             writable: false,

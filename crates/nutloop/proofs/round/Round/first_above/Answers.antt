@@ -1,15 +1,13 @@
-use Rattle.std.proofs.Common.{rules, ◌∙◌, sym}
-use Rattle.nutloop.specs.Round.{is_above}
-use Rattle.nutloop.proofs.NextTurn.{first_there, end_there}
+use Rattle.std.proofs.Common.{leb, rules}
+use Rattle.std.proofs.lemmas.List.Sorted.{IsPartitionPoint-from_clause, IsPartitionedBy-leb}
+use Rattle.nutloop.specs.declared.round.Place.{Place}
+use Rattle.nutloop.specs.Round.{rank}
+use Rattle.nutloop.proofs.NextTurn.{first_above_is}
 use Rattle.nutloop.proofs.round.Round.first_above.Goals as goal
 
-pub returns-in-Some-clause-place : goal.returns-in-Some-clause-place
-returns-in-Some-clause-place c = (first_there (is_above c.args.rank) c.args.self.now.places.items c.in-Some.at (sym c.in-Some.is ∙ c.above.ensures)).0
-
-pub returns-in-Some-clause-within : goal.returns-in-Some-clause-within
-returns-in-Some-clause-within c = (first_there (is_above c.args.rank) c.args.self.now.places.items c.in-Some.at (sym c.in-Some.is ∙ c.above.ensures)).1
-
-pub returns-in-None-clause-place : goal.returns-in-None-clause-place
-returns-in-None-clause-place c =
-    let end = end_there (is_above c.args.rank) c.args.self.now.places.items (sym c.in-None.is ∙ c.above.ensures) in
-    search (rules, end)
+pub returns-clause-place : goal.returns-clause-place
+returns-clause-place c =
+    let facts = rw c.deref.ensures.value at c.partition_point.ensures in
+    let sorted = IsPartitionedBy-leb (λ (p : Place). rank p.seat) c.args.self.now.places.items c.args.rank c.args.self.now.ordered in
+    first_above_is c.args.rank c.args.self.now.places.items c.partition_point.result facts.bound
+    (IsPartitionPoint-from_clause (λ (p : Place). leb (rank p.seat) c.args.rank) _ _ facts.partitioned sorted (λ a r f called. search rules))
