@@ -1,4 +1,4 @@
--- Where the next line lies, for a cutter that is lent a piece and copies nothing that it needn't.
+-- Where the next line lies, for a cutter that is lent a piece.
 use Rattle.std.specs.Prelude.{◌≡◌, ℕ, ◌<◌, ◌≤◌, ◌+◌, List, [], ◌∷◌, ◌++◌, length, take, drop, Some}
 use Rattle.std.specs.Prelude.{None}
 use Rattle.arrayvec.specs.ArrayVec.{ArrayVec}
