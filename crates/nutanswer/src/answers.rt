@@ -11,11 +11,11 @@ mod orders;
 mod session;
 
 use crate::checks::{known_ups, live_ups, live_variable};
-use crate::{Asker, Change, Command, ErrWord, Listing, Reply, View};
+use crate::{Asker, Change, Command, ErrWord, Listing, NameWord, Reply, UpsWord, View};
 use nutlisting::{
     desc_line_into, plain_line_into, type_line_into, ups_line_into, variable_line_into,
 };
-use nutwords::{Line, Name, UpsName};
+use nutwords::Line;
 use std::alloc::AllocError;
 
 /// The answer to a command of this session, on the server as the view shows it. The line that it needs is made in
@@ -27,7 +27,7 @@ use std::alloc::AllocError;
 pub fn answer<'a, V: View>(
     view: &V,
     asker: Asker<'_>,
-    command: &Command,
+    command: &Command<'_>,
     line: &'a mut Line,
 ) -> Result<Reply<'a>, AllocError>
     ensures ok { IfOk result
@@ -74,19 +74,21 @@ pub fn answer<'a, V: View>(
 }
 
 // The rows stay calls of their own: what is inlined here is cleared for each command, also where another one was asked
-// for.
+// for. Each reads its words itself.
 
 /// GET VAR.
 #[inline(never)]
 fn get_var<V: View>(
     view: &V,
-    ups: &Option<UpsName>,
-    name: &Option<Name>,
+    ups: &UpsWord<'_>,
+    name: &NameWord<'_>,
     line: &mut Line,
 ) -> Result<(), ErrWord>
     ensures { IsLineOf (row (V.seen view.now) (GetVar ups.now name.now)) line.new.items result }
 {
-    let found = live_variable(view, ups, name)?;
+    let ups = ups.read();
+    let name = name.read();
+    let found = live_variable(view, &ups, &name)?;
     variable_line_into(
         b"VAR",
         found.ups.name,
@@ -102,13 +104,15 @@ fn get_var<V: View>(
 #[inline(never)]
 fn get_type<V: View>(
     view: &V,
-    ups: &Option<UpsName>,
-    name: &Option<Name>,
+    ups: &UpsWord<'_>,
+    name: &NameWord<'_>,
     line: &mut Line,
 ) -> Result<(), ErrWord>
     ensures { IsLineOf (row (V.seen view.now) (GetType ups.now name.now)) line.new.items result }
 {
-    let found = live_variable(view, ups, name)?;
+    let ups = ups.read();
+    let name = name.read();
+    let found = live_variable(view, &ups, &name)?;
     type_line_into(found.ups.name, found.name, found.variable, line);
     Ok(())
 }
@@ -117,14 +121,16 @@ fn get_type<V: View>(
 #[inline(never)]
 fn get_desc<V: View>(
     view: &V,
-    ups: &Option<UpsName>,
-    name: &Option<Name>,
+    ups: &UpsWord<'_>,
+    name: &NameWord<'_>,
     line: &mut Line,
 ) -> Result<(), ErrWord>
     ensures { IsLineOf (row (V.seen view.now) (GetDesc ups.now name.now)) line.new.items result }
 {
-    let ups = known_ups(view, ups)?;
-    let Some(name) = name else {
+    let ups = ups.read();
+    let name = name.read();
+    let ups = known_ups(view, &ups)?;
+    let Some(name) = &name else {
         return Err(ErrWord::VarNotSupported);
     };
     let text = view.descriptions().var(name);
@@ -136,14 +142,16 @@ fn get_desc<V: View>(
 #[inline(never)]
 fn get_cmd_desc<V: View>(
     view: &V,
-    ups: &Option<UpsName>,
-    name: &Option<Name>,
+    ups: &UpsWord<'_>,
+    name: &NameWord<'_>,
     line: &mut Line,
 ) -> Result<(), ErrWord>
     ensures { IsLineOf (row (V.seen view.now) (GetCmdDesc ups.now name.now)) line.new.items result }
 {
-    let ups = known_ups(view, ups)?;
-    let Some(name) = name else {
+    let ups = ups.read();
+    let name = name.read();
+    let ups = known_ups(view, &ups)?;
+    let Some(name) = &name else {
         return Err(ErrWord::CmdNotSupported);
     };
     let text = view.descriptions().cmd(name);
@@ -153,10 +161,11 @@ fn get_cmd_desc<V: View>(
 
 /// GET UPSDESC.
 #[inline(never)]
-fn get_ups_desc<V: View>(view: &V, ups: &Option<UpsName>, line: &mut Line) -> Result<(), ErrWord>
+fn get_ups_desc<V: View>(view: &V, ups: &UpsWord<'_>, line: &mut Line) -> Result<(), ErrWord>
     ensures { IsLineOf (row (V.seen view.now) (GetUpsDesc ups.now)) line.new.items result }
 {
-    let ups = known_ups(view, ups)?;
+    let ups = ups.read();
+    let ups = known_ups(view, &ups)?;
     ups_line_into(b"UPSDESC", ups.name, ups.desc, line);
     Ok(())
 }
@@ -203,13 +212,14 @@ fn plain<'a>(text: &[u8], line: &'a mut Line) -> Reply<'a>
 
 /// LIST VAR.
 #[inline(never)]
-fn list_var<'a, V: View>(view: &V, ups: &Option<UpsName>) -> Result<Reply<'a>, AllocError>
+fn list_var<'a, V: View>(view: &V, ups: &UpsWord<'_>) -> Result<Reply<'a>, AllocError>
     ensures ok { IfOk result (CarriesAnswer
         (row (V.seen view.now) (ListVar ups.now))) }
     ensures memory { OnErr result
         (IsTrue (shares_version (row (V.seen view.now) (ListVar ups.now)))) }
 {
-    let ups = match live_ups(view, ups) {
+    let ups = ups.read();
+    let ups = match live_ups(view, &ups) {
         Ok(ups) => ups,
         Err(word) => return Ok(refused(word)),
     };
@@ -220,13 +230,14 @@ fn list_var<'a, V: View>(view: &V, ups: &Option<UpsName>) -> Result<Reply<'a>, A
 
 /// LIST RW.
 #[inline(never)]
-fn list_rw<'a, V: View>(view: &V, ups: &Option<UpsName>) -> Result<Reply<'a>, AllocError>
+fn list_rw<'a, V: View>(view: &V, ups: &UpsWord<'_>) -> Result<Reply<'a>, AllocError>
     ensures ok { IfOk result (CarriesAnswer
         (row (V.seen view.now) (ListRw ups.now))) }
     ensures memory { OnErr result
         (IsTrue (shares_version (row (V.seen view.now) (ListRw ups.now)))) }
 {
-    let ups = match live_ups(view, ups) {
+    let ups = ups.read();
+    let ups = match live_ups(view, &ups) {
         Ok(ups) => ups,
         Err(word) => return Ok(refused(word)),
     };
@@ -237,13 +248,14 @@ fn list_rw<'a, V: View>(view: &V, ups: &Option<UpsName>) -> Result<Reply<'a>, Al
 
 /// LIST CMD.
 #[inline(never)]
-fn list_cmd<'a, V: View>(view: &V, ups: &Option<UpsName>) -> Result<Reply<'a>, AllocError>
+fn list_cmd<'a, V: View>(view: &V, ups: &UpsWord<'_>) -> Result<Reply<'a>, AllocError>
     ensures ok { IfOk result (CarriesAnswer
         (row (V.seen view.now) (ListCmd ups.now))) }
     ensures memory { OnErr result
         (IsTrue (shares_version (row (V.seen view.now) (ListCmd ups.now)))) }
 {
-    let ups = match live_ups(view, ups) {
+    let ups = ups.read();
+    let ups = match live_ups(view, &ups) {
         Ok(ups) => ups,
         Err(word) => return Ok(refused(word)),
     };
@@ -255,15 +267,17 @@ fn list_cmd<'a, V: View>(view: &V, ups: &Option<UpsName>) -> Result<Reply<'a>, A
 #[inline(never)]
 fn list_enum<'a, V: View>(
     view: &V,
-    ups: &Option<UpsName>,
-    name: &Option<Name>,
+    ups: &UpsWord<'_>,
+    name: &NameWord<'_>,
 ) -> Result<Reply<'a>, AllocError>
     ensures ok { IfOk result (CarriesAnswer
         (row (V.seen view.now) (ListEnum ups.now name.now))) }
     ensures memory { OnErr result
         (IsTrue (shares_version (row (V.seen view.now) (ListEnum ups.now name.now)))) }
 {
-    let found = match live_variable(view, ups, name) {
+    let ups = ups.read();
+    let name = name.read();
+    let found = match live_variable(view, &ups, &name) {
         Ok(found) => found,
         Err(word) => return Ok(refused(word)),
     };
@@ -276,15 +290,17 @@ fn list_enum<'a, V: View>(
 #[inline(never)]
 fn list_range<'a, V: View>(
     view: &V,
-    ups: &Option<UpsName>,
-    name: &Option<Name>,
+    ups: &UpsWord<'_>,
+    name: &NameWord<'_>,
 ) -> Result<Reply<'a>, AllocError>
     ensures ok { IfOk result (CarriesAnswer
         (row (V.seen view.now) (ListRange ups.now name.now))) }
     ensures memory { OnErr result
         (IsTrue (shares_version (row (V.seen view.now) (ListRange ups.now name.now)))) }
 {
-    let found = match live_variable(view, ups, name) {
+    let ups = ups.read();
+    let name = name.read();
+    let found = match live_variable(view, &ups, &name) {
         Ok(found) => found,
         Err(word) => return Ok(refused(word)),
     };
