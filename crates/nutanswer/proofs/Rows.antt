@@ -16,6 +16,11 @@ use Rattle.std.proofs.Common.{subst}
 use Rattle.std.proofs.lemmas.Bool.{le-leb, lt-leb}
 use Rattle.nutanswer.specs.Checks.{unless}
 
+-- what a row's words are read as is what they are to its checks
+pub as_read : {A : Type 0} (check : Option (List ℕ) → Option (List ℕ) → A) (ups name ups_read name_read : Option (List ℕ))
+    → ups_read ≡ ups → name_read ≡ name → check ups_read name_read ≡ check ups name
+as_read check ups name ups_read name_read e f = ap (λ (ups : Option (List ℕ)). check ups name_read) e ∙ ap (check ups) f
+
 -- what comes after a check, in two parts
 after_check : {A B C : Type 0} (m : Result A ErrWord) (both : A → Result C ErrWord) (first : A → Result B ErrWord) (next : B → Result C ErrWord)
     → ((a : A) → both a ≡ (first a >>= next)) → (m >>= both) ≡ ((m >>= first) >>= next)

@@ -11,7 +11,7 @@ pub(crate) fn alone<'a>(
     command: Command<'a>,
     mut words: SpelledWords<'a>,
 ) -> Result<Command<'a>, ErrWord>
-    ensures { result ≡ alone command words.entry }
+    ensures { result ≡ alone command.entry words.entry }
 {
     match words.next() {
         None => Ok(command),
