@@ -11,7 +11,6 @@ use arguments::{
     user_name_alone,
 };
 use nutwords::{SpelledWord, SpelledWords, spelled_words};
-
 pub use words::{NameWord, PasswordWord, UpsWord, UserWord, ValueWord};
 
 /// A command of a client, whose words are those of its line. A word that is no lawful name names nothing.

@@ -1,11 +1,10 @@
 //! The commands of sessions: who asks, what it is logged in to, and the forced shutdown (RFC 9271).
 ghost use Rattle.std.specs.Prelude.{◌≡◌, ◌∷◌, [], Ok, codes};
 ghost use Rattle.nutanswer.specs.View.{Seen, AskerSeen, asker_seen};
-ghost use Rattle.nutanswer.specs.Answer.{answer_to, one_line, ok, IsReply};
-ghost use Rattle.nutanswer.specs.Promises.{CarriesAnswer, Gives, IsLineOf, row};
+ghost use Rattle.nutanswer.specs.Answer.{answer_to, one_line, ok};
+ghost use Rattle.nutanswer.specs.Promises.{CarriesAnswer, Gives, GivesReply, row};
 ghost use Rattle.nutanswer.specs.declared.command.Command.TheVariants.{Username, Password, Login, Logout, Primary, Fsd, GetNumLogins, ListClient};
 
-use super::refused;
 use crate::checks::{known_ups, user};
 use crate::{Asker, Change, ErrWord, PasswordWord, Reply, UpsWord, UserWord, View};
 use nutlisting::{count_line_into, plain_line_into};
@@ -71,11 +70,11 @@ pub(crate) fn login<'a, V: View>(
 }
 
 /// LOGOUT.
-pub(crate) fn logout<'a>(line: &'a mut Line) -> Reply<'a>
-    ensures { (s : Seen) (a : AskerSeen) → CarriesAnswer (answer_to s a Logout) result }
+pub(crate) fn logout<'a>(line: &'a mut Line) -> Result<Reply<'a>, ErrWord>
+    ensures { (s : Seen) (a : AskerSeen) → Gives (answer_to s a Logout) result }
 {
     plain_line_into(b"OK Goodbye", line);
-    Reply::One(line.as_slice(), Change::Ending)
+    Ok(Reply::One(line.as_slice(), Change::Ending))
 }
 
 /// PRIMARY.
@@ -115,29 +114,27 @@ pub(crate) fn fsd<'a, V: View>(
 
 /// GET NUMLOGINS.
 #[inline(never)]
-pub(crate) fn get_num_logins<V: View>(
+pub(crate) fn get_num_logins<'a, V: View>(
     view: &V,
     ups: &UpsWord<'_>,
-    line: &mut Line,
-) -> Result<(), ErrWord>
-    ensures { IsLineOf (row (V.seen view.now) (GetNumLogins ups.now)) line.new.items result }
+    line: &'a mut Line,
+) -> Result<Reply<'a>, ErrWord>
+    ensures { Gives (row (V.seen view.now) (GetNumLogins ups.now)) result }
 {
     let ups = ups.read();
     let ups = known_ups(view, &ups)?;
     count_line_into(ups.name, view.login_count(ups.id), line);
-    Ok(())
+    Ok(Reply::One(line.as_slice(), Change::Nothing))
 }
 
 /// LIST CLIENT.
 #[inline(never)]
-pub(crate) fn list_client<'a, V: View>(view: &V, ups: &UpsWord<'_>) -> Reply<'a>
-    ensures { IsReply (V.seen view.now) (row (V.seen view.now) (ListClient ups.now)) result }
+pub(crate) fn list_client<'a, V: View>(view: &V, ups: &UpsWord<'_>) -> Result<Reply<'a>, ErrWord>
+    ensures { GivesReply (V.seen view.now) (row (V.seen view.now) (ListClient ups.now)) result }
 {
     let ups = ups.read();
-    match known_ups(view, &ups) {
-        Ok(ups) => Reply::Clients(ups.name.copied(), ups.id),
-        Err(word) => refused(word),
-    }
+    let ups = known_ups(view, &ups)?;
+    Ok(Reply::Clients(ups.name.copied(), ups.id))
 }
 
 /// The bare OK, of a command that changes this.
