@@ -63,18 +63,18 @@ fn right(word: &[u8]) -> Right<'_> {
     }
 }
 
-/// Whether the bytes are read as a user's name, which has the same bytes, as a copy has.
+/// Whether the bytes are read as a user's name, which has the same bytes.
 fn is_user_name(bytes: &[u8]) -> bool {
     match UserName::read(bytes) {
-        Some(name) => name.copied().as_bytes() == bytes,
+        Some(name) => name.as_bytes() == bytes,
         None => false,
     }
 }
 
-/// Whether the bytes are read as a password, which has the same bytes, as a copy has.
+/// Whether the bytes are read as a password, which has the same bytes.
 fn is_password(bytes: &[u8]) -> bool {
     match Password::read(bytes) {
-        Some(password) => password.copied().as_bytes() == bytes,
+        Some(password) => password.as_bytes() == bytes,
         None => false,
     }
 }

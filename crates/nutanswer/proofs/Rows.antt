@@ -16,6 +16,15 @@ use Rattle.std.proofs.Common.{subst}
 use Rattle.std.proofs.lemmas.Bool.{le-leb, lt-leb}
 use Rattle.nutanswer.specs.Checks.{unless}
 
+-- what a row's words are read as is what they are to its checks
+pub as_read : {A : Type 0} (check : Option (List ℕ) → Option (List ℕ) → A) (ups name ups_read name_read : Option (List ℕ))
+    → ups_read ≡ ups → name_read ≡ name → check ups_read name_read ≡ check ups name
+as_read check ups name ups_read name_read e f = ap (λ (ups : Option (List ℕ)). check ups name_read) e ∙ ap (check ups) f
+
+-- a row that is refused by this word is answered so
+pub refused_by : (answer : Result Answer ErrWord) (word : ErrWord) (r : Result Reply ErrWord) → answer ≡ Err word → r ≡ Err word → Gives answer r
+refused_by answer word r h is = subst (λ (r : Result Reply ErrWord). Gives answer r) (sym is) h
+
 -- what comes after a check, in two parts
 after_check : {A B C : Type 0} (m : Result A ErrWord) (both : A → Result C ErrWord) (first : A → Result B ErrWord) (next : B → Result C ErrWord)
     → ((a : A) → both a ≡ (first a >>= next)) → (m >>= both) ≡ ((m >>= first) >>= next)
@@ -88,6 +97,16 @@ module _ (s : Seen) (asker : AskerSeen) (ups name : Option (List ℕ)) where
       ap (λ (m : Result (Unit {0}) ErrWord). m >> (unknown_ups s ups >>= (λ u. live s u >> (var_not_supported u name >>= (λ v. next u v.0 v.1))))) (sym h)
       ∙ with_variable s ups name next k e ∙ row_of_value k.2 word (λ value. set_end k.0 (set_line k.1 value))
 
+  -- a variable that isn't there
+  pub set_without : (word : Option (List ℕ)) → Ok tt ≡ user s asker Set → (why : ErrWord) → Err why ≡ live_variable s ups name
+      → (r : Result Reply ErrWord) → r ≡ Err why → Gives (answer_to s asker (SetVar ups name word)) r
+  set_without word h why e r is =
+      let next : KnownUps → List ℕ → VariableState → Result Answer ErrWord =
+      λ u v x. readonly x >> (too_long x word >>= (λ value. invalid_value x value >> set_end u (set_line v value))) in
+      refused_by (answer_to s asker (SetVar ups name word)) why r
+      (ap (λ (m : Result (Unit {0}) ErrWord). m >> (unknown_ups s ups >>= (λ u. live s u >> (var_not_supported u name >>= (λ v. next u v.0 v.1))))) (sym h)
+      ∙ without_variable s ups name next why e) is
+
   -- INSTCMD, by the user's right and the checks of a command
   pub instcmd_row : (word : Option (Option (List ℕ))) → Ok tt ≡ user s asker (instcmd_right name)
       → answer_to s asker (InstCmd ups name word) ≡ (live_command s ups name >>= (λ k. too_long_of_command word >>= (λ value. instcmd_end k.0 (instcmd_line k.1 value))))
@@ -101,8 +120,8 @@ module _ (s : Seen) (asker : AskerSeen) (ups name : Option (List ℕ)) where
     pub set_refused : (why : ErrWord) → Err why ≡ settable k.2 word → (r : Result Reply ErrWord) → r ≡ Err why
         → Gives (answer_to s asker (SetVar ups name word)) r
     set_refused why f r is =
-        subst (λ (r : Result Reply ErrWord). Gives (answer_to s asker (SetVar ups name word)) r) (sym is)
-        (set_row word k h e ∙ ap (λ (m : Result (List ℕ) ErrWord). m >>= (λ value. set_end k.0 (set_line k.1 value))) (sym f))
+        refused_by (answer_to s asker (SetVar ups name word)) why r
+        (set_row word k h e ∙ ap (λ (m : Result (List ℕ) ErrWord). m >>= (λ value. set_end k.0 (set_line k.1 value))) (sym f)) is
 
     set_checked : (value : List ℕ) → Ok value ≡ settable k.2 word → (fits : Bool) → nat_le (length (set_line k.1 value)) k.0.state.free ≡ fits
         → answer_to s asker (SetVar ups name word) ≡ (unless fits SetFailed >> Ok (one_line ok (order k.0.id (set_line k.1 value))))
@@ -124,5 +143,5 @@ module _ (s : Seen) (asker : AskerSeen) (ups name : Option (List ℕ)) where
   pub instcmd_refused : (word : Option (Option (List ℕ))) → Ok tt ≡ user s asker (instcmd_right name) → (why : ErrWord) → Err why ≡ live_command s ups name
       → (r : Result Reply ErrWord) → r ≡ Err why → Gives (answer_to s asker (InstCmd ups name word)) r
   instcmd_refused word h why f r is =
-      subst (λ (r : Result Reply ErrWord). Gives (answer_to s asker (InstCmd ups name word)) r) (sym is)
-      (instcmd_row word h ∙ ap (λ (m : Result (KnownUps × List ℕ) ErrWord). m >>= (λ k. too_long_of_command word >>= (λ value. instcmd_end k.0 (instcmd_line k.1 value)))) (sym f))
+      refused_by (answer_to s asker (InstCmd ups name word)) why r
+      (instcmd_row word h ∙ ap (λ (m : Result (KnownUps × List ℕ) ErrWord). m >>= (λ k. too_long_of_command word >>= (λ value. instcmd_end k.0 (instcmd_line k.1 value)))) (sym f)) is

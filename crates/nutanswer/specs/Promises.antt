@@ -9,14 +9,13 @@ use Rattle.nutanswer.specs.declared.known.Known.{Known}
 use Rattle.nutanswer.specs.declared.known.KnownVariable.{KnownVariable}
 use Rattle.nutanswer.specs.declared.known.KnownCommand.{KnownCommand}
 use Rattle.nutanswer.specs.declared.command.Command.{Command}
-use Rattle.nutanswer.specs.declared.reply.Change.TheVariants.{Nothing}
 use Rattle.nutanswer.specs.declared.reply.Reply.{Reply}
 use Rattle.nutanswer.specs.declared.reply.Reply.TheVariants.{One, Many, Clients}
 use Rattle.nutlisting.specs.Shown.{ups_description}
 use Rattle.nutanswer.specs.View.{Seen, AskerSeen, ups_seen}
 use Rattle.nutanswer.specs.Checks.{◌>>=◌, ◌>>◌, KnownUps, unknown_ups, live, var_not_supported}
 use Rattle.nutanswer.specs.Checks.{cmd_not_supported, readonly, too_long, invalid_value}
-use Rattle.nutanswer.specs.Answer.{Answer, listing, answer_to, IsOneLine}
+use Rattle.nutanswer.specs.Answer.{Answer, listing, answer_to, IsOneLine, IsReply}
 
 -- The UPS that was found.
 abbrev pub known_ups : Known → KnownUps
@@ -84,6 +83,11 @@ abbrev pub Gives : Result Answer ErrWord → Result Reply ErrWord → Type 0
 Gives answer (Ok reply) = CarriesAnswer answer reply
 Gives answer (Err word) = answer ≡ Err word
 
+-- The same of a reply that may list the clients that are seen.
+abbrev pub GivesReply : Seen → Result Answer ErrWord → Result Reply ErrWord → Type 0
+GivesReply s answer (Ok reply) = IsReply s answer reply
+GivesReply s answer (Err word) = answer ≡ Err word
+
 -- A session that has given nothing.
 abbrev pub nobody : AskerSeen
 nobody = record { username = None; password = None; login = None }
@@ -91,9 +95,3 @@ nobody = record { username = None; password = None; login = None }
 -- The answer to a command that is the same whoever asks.
 abbrev pub row : Seen → Command → Result Answer ErrWord
 row s command = answer_to s nobody command
-
--- The line that was made gives this answer, which changes nothing; or this is the word of its
--- error.
-abbrev pub IsLineOf : Result Answer ErrWord → List ℕ → Result (Unit {0}) ErrWord → Type 0
-IsLineOf answer line (Ok u) = IsOneLine answer line Nothing
-IsLineOf answer line (Err word) = answer ≡ Err word

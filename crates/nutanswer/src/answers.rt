@@ -1,21 +1,21 @@
 //! The answers to commands (RFC 9271).
-ghost use Rattle.std.specs.Prelude.{◌≡◌, ◌≤◌, [], ◌∷◌, length, IfOk, OnErr, Result, Ok, Err, IsTrue};
+ghost use Rattle.std.specs.Prelude.{◌≡◌, ◌≤◌, [], ◌∷◌, length, IfOk, OnErr, Result, Err, IsTrue};
 ghost use Rattle.std.specs.List.{list_all};
 ghost use Rattle.nutwords.specs.Bytes.{is_lawful};
-ghost use Rattle.nutanswer.specs.View.{asker_seen};
+ghost use Rattle.nutanswer.specs.View.{Seen, asker_seen};
 ghost use Rattle.nutanswer.specs.Answer.{answer_to, shares_version, told, Answer, IsReply};
-ghost use Rattle.nutanswer.specs.Promises.{CarriesAnswer, Gives, IsLineOf, row};
-ghost use Rattle.nutanswer.specs.declared.command.Command.TheVariants.{GetVar, GetType, GetDesc, GetCmdDesc, GetUpsDesc, ListVar, ListRw, ListCmd, ListEnum, ListRange};
+ghost use Rattle.nutanswer.specs.Promises.{CarriesAnswer, Gives, GivesReply, row};
+ghost use Rattle.nutanswer.specs.declared.command.Command.TheVariants.{GetVar, GetType, GetDesc, GetCmdDesc, GetUpsDesc, ListUps, ListVar, ListRw, ListCmd, ListEnum, ListRange};
 
 mod orders;
 mod session;
 
 use crate::checks::{known_ups, live_ups, live_variable};
-use crate::{Asker, Change, Command, ErrWord, Listing, Reply, View};
+use crate::{Asker, Change, Command, ErrWord, Listing, NameWord, Reply, UpsWord, View};
 use nutlisting::{
     desc_line_into, plain_line_into, type_line_into, ups_line_into, variable_line_into,
 };
-use nutwords::{Line, Name, UpsName};
+use nutwords::Line;
 use std::alloc::AllocError;
 
 /// The answer to a command of this session, on the server as the view shows it. The line that it needs is made in
@@ -27,7 +27,7 @@ use std::alloc::AllocError;
 pub fn answer<'a, V: View>(
     view: &V,
     asker: Asker<'_>,
-    command: &Command,
+    command: &Command<'_>,
     line: &'a mut Line,
 ) -> Result<Reply<'a>, AllocError>
     ensures ok { IfOk result
@@ -37,56 +37,60 @@ pub fn answer<'a, V: View>(
         (IsTrue (shares_version
         (answer_to (V.seen view.now) (asker_seen asker.entry) command.now))) }
 {
-    match command {
-        Command::Username(name) => Ok(given(session::username(asker, name, line))),
-        Command::Password(password) => Ok(given(session::password(asker, password, line))),
-        Command::Login(ups) => Ok(given(session::login(view, asker, ups, line))),
-        Command::Logout => Ok(session::logout(line)),
-        Command::Primary(ups) => Ok(given(session::primary(view, asker, ups, line))),
-        Command::Fsd(ups) => Ok(given(session::fsd(view, asker, ups, line))),
+    // A listing shares a version, for which memory may be refused; each other row is answered by its line.
+    let row = match command {
+        Command::Username(name) => session::username(asker, name, line),
+        Command::Password(password) => session::password(asker, password, line),
+        Command::Login(ups) => session::login(view, asker, ups, line),
+        Command::Logout => session::logout(line),
+        Command::Primary(ups) => session::primary(view, asker, ups, line),
+        Command::Fsd(ups) => session::fsd(view, asker, ups, line),
         Command::SetVar(ups, name, value) => {
-            Ok(given(orders::set_var(view, asker, ups, name, value, line)))
+            orders::set_var(view, asker, ups, name, value, line)
         }
         Command::InstCmd(ups, name, value) => {
-            Ok(given(orders::inst_cmd(view, asker, ups, name, value, line)))
+            orders::inst_cmd(view, asker, ups, name, value, line)
         }
-        Command::GetVar(ups, name) => Ok(one(get_var(view, ups, name, line), line)),
-        Command::GetType(ups, name) => Ok(one(get_type(view, ups, name, line), line)),
-        Command::GetDesc(ups, name) => Ok(one(get_desc(view, ups, name, line), line)),
-        Command::GetCmdDesc(ups, name) => Ok(one(get_cmd_desc(view, ups, name, line), line)),
-        Command::GetUpsDesc(ups) => Ok(one(get_ups_desc(view, ups, line), line)),
-        Command::GetNumLogins(ups) => Ok(one(session::get_num_logins(view, ups, line), line)),
-        Command::ListUps => Ok(Reply::Many(Listing::of_upses(view.list())?)),
-        Command::ListVar(ups) => list_var(view, ups),
-        Command::ListRw(ups) => list_rw(view, ups),
-        Command::ListCmd(ups) => list_cmd(view, ups),
-        Command::ListEnum(ups, name) => list_enum(view, ups, name),
-        Command::ListRange(ups, name) => list_range(view, ups, name),
-        Command::ListClient(ups) => Ok(session::list_client(view, ups)),
-        Command::Help => Ok(plain(
+        Command::GetVar(ups, name) => get_var(view, ups, name, line),
+        Command::GetType(ups, name) => get_type(view, ups, name, line),
+        Command::GetDesc(ups, name) => get_desc(view, ups, name, line),
+        Command::GetCmdDesc(ups, name) => get_cmd_desc(view, ups, name, line),
+        Command::GetUpsDesc(ups) => get_ups_desc(view, ups, line),
+        Command::GetNumLogins(ups) => session::get_num_logins(view, ups, line),
+        Command::ListUps => return list_ups(view),
+        Command::ListVar(ups) => return list_var(view, ups),
+        Command::ListRw(ups) => return list_rw(view, ups),
+        Command::ListCmd(ups) => return list_cmd(view, ups),
+        Command::ListEnum(ups, name) => return list_enum(view, ups, name),
+        Command::ListRange(ups, name) => return list_range(view, ups, name),
+        Command::ListClient(ups) => session::list_client(view, ups),
+        Command::Help => plain(
             b"Commands: HELP VER NETVER PROTVER GET LIST SET INSTCMD LOGIN LOGOUT PRIMARY FSD USERNAME PASSWORD STARTTLS",
             line,
-        )),
-        Command::Ver => Ok(plain(b"Network UPS Tools upsd, profile 1", line)),
-        Command::NetVer | Command::ProtVer => Ok(plain(b"1.3", line)),
-        Command::StartTls => Ok(refused(ErrWord::FeatureNotConfigured)),
-    }
+        ),
+        Command::Ver => plain(b"Network UPS Tools upsd, profile 1", line),
+        Command::NetVer | Command::ProtVer => plain(b"1.3", line),
+        Command::StartTls => Err(ErrWord::FeatureNotConfigured),
+    };
+    Ok(given(row))
 }
 
 // The rows stay calls of their own: what is inlined here is cleared for each command, also where another one was asked
-// for.
+// for. Each reads its words itself.
 
 /// GET VAR.
 #[inline(never)]
-fn get_var<V: View>(
+fn get_var<'a, V: View>(
     view: &V,
-    ups: &Option<UpsName>,
-    name: &Option<Name>,
-    line: &mut Line,
-) -> Result<(), ErrWord>
-    ensures { IsLineOf (row (V.seen view.now) (GetVar ups.now name.now)) line.new.items result }
+    ups: &UpsWord<'_>,
+    name: &NameWord<'_>,
+    line: &'a mut Line,
+) -> Result<Reply<'a>, ErrWord>
+    ensures { Gives (row (V.seen view.now) (GetVar ups.now name.now)) result }
 {
-    let found = live_variable(view, ups, name)?;
+    let ups = ups.read();
+    let name = name.read();
+    let found = live_variable(view, &ups, &name)?;
     variable_line_into(
         b"VAR",
         found.ups.name,
@@ -95,89 +99,89 @@ fn get_var<V: View>(
         found.variable,
         line,
     );
-    Ok(())
+    Ok(Reply::One(line.as_slice(), Change::Nothing))
 }
 
 /// GET TYPE.
 #[inline(never)]
-fn get_type<V: View>(
+fn get_type<'a, V: View>(
     view: &V,
-    ups: &Option<UpsName>,
-    name: &Option<Name>,
-    line: &mut Line,
-) -> Result<(), ErrWord>
-    ensures { IsLineOf (row (V.seen view.now) (GetType ups.now name.now)) line.new.items result }
+    ups: &UpsWord<'_>,
+    name: &NameWord<'_>,
+    line: &'a mut Line,
+) -> Result<Reply<'a>, ErrWord>
+    ensures { Gives (row (V.seen view.now) (GetType ups.now name.now)) result }
 {
-    let found = live_variable(view, ups, name)?;
+    let ups = ups.read();
+    let name = name.read();
+    let found = live_variable(view, &ups, &name)?;
     type_line_into(found.ups.name, found.name, found.variable, line);
-    Ok(())
+    Ok(Reply::One(line.as_slice(), Change::Nothing))
 }
 
 /// GET DESC.
 #[inline(never)]
-fn get_desc<V: View>(
+fn get_desc<'a, V: View>(
     view: &V,
-    ups: &Option<UpsName>,
-    name: &Option<Name>,
-    line: &mut Line,
-) -> Result<(), ErrWord>
-    ensures { IsLineOf (row (V.seen view.now) (GetDesc ups.now name.now)) line.new.items result }
+    ups: &UpsWord<'_>,
+    name: &NameWord<'_>,
+    line: &'a mut Line,
+) -> Result<Reply<'a>, ErrWord>
+    ensures { Gives (row (V.seen view.now) (GetDesc ups.now name.now)) result }
 {
-    let ups = known_ups(view, ups)?;
-    let Some(name) = name else {
+    let ups = ups.read();
+    let name = name.read();
+    let ups = known_ups(view, &ups)?;
+    let Some(name) = &name else {
         return Err(ErrWord::VarNotSupported);
     };
     let text = view.descriptions().var(name);
     desc_line_into(b"DESC", ups.name, name, text, line);
-    Ok(())
+    Ok(Reply::One(line.as_slice(), Change::Nothing))
 }
 
 /// GET CMDDESC.
 #[inline(never)]
-fn get_cmd_desc<V: View>(
+fn get_cmd_desc<'a, V: View>(
     view: &V,
-    ups: &Option<UpsName>,
-    name: &Option<Name>,
-    line: &mut Line,
-) -> Result<(), ErrWord>
-    ensures { IsLineOf (row (V.seen view.now) (GetCmdDesc ups.now name.now)) line.new.items result }
+    ups: &UpsWord<'_>,
+    name: &NameWord<'_>,
+    line: &'a mut Line,
+) -> Result<Reply<'a>, ErrWord>
+    ensures { Gives (row (V.seen view.now) (GetCmdDesc ups.now name.now)) result }
 {
-    let ups = known_ups(view, ups)?;
-    let Some(name) = name else {
+    let ups = ups.read();
+    let name = name.read();
+    let ups = known_ups(view, &ups)?;
+    let Some(name) = &name else {
         return Err(ErrWord::CmdNotSupported);
     };
     let text = view.descriptions().cmd(name);
     desc_line_into(b"CMDDESC", ups.name, name, text, line);
-    Ok(())
+    Ok(Reply::One(line.as_slice(), Change::Nothing))
 }
 
 /// GET UPSDESC.
 #[inline(never)]
-fn get_ups_desc<V: View>(view: &V, ups: &Option<UpsName>, line: &mut Line) -> Result<(), ErrWord>
-    ensures { IsLineOf (row (V.seen view.now) (GetUpsDesc ups.now)) line.new.items result }
+fn get_ups_desc<'a, V: View>(
+    view: &V,
+    ups: &UpsWord<'_>,
+    line: &'a mut Line,
+) -> Result<Reply<'a>, ErrWord>
+    ensures { Gives (row (V.seen view.now) (GetUpsDesc ups.now)) result }
 {
-    let ups = known_ups(view, ups)?;
+    let ups = ups.read();
+    let ups = known_ups(view, &ups)?;
     ups_line_into(b"UPSDESC", ups.name, ups.desc, line);
-    Ok(())
+    Ok(Reply::One(line.as_slice(), Change::Nothing))
 }
 
-/// The line that was made, or that of the error.
-fn one<'a>(found: Result<(), ErrWord>, line: &'a Line) -> Reply<'a>
-    ensures { (answer : Result Answer ErrWord)
-        → IsLineOf answer line.now.items found → CarriesAnswer answer result }
+/// The reply of a row, or the line of its error.
+fn given<'a>(row: Result<Reply<'a>, ErrWord>) -> Reply<'a>
+    ensures { (s : Seen) (answer : Result Answer ErrWord)
+        → GivesReply s answer row.entry → IsReply s answer result }
 {
-    match found {
-        Ok(()) => Reply::One(line.as_slice(), Change::Nothing),
-        Err(word) => refused(word),
-    }
-}
-
-/// A reply, or the line of the error.
-fn given<'a>(found: Result<Reply<'a>, ErrWord>) -> Reply<'a>
-    ensures { (answer : Result Answer ErrWord)
-        → Gives answer found.entry → CarriesAnswer answer result }
-{
-    match found {
+    match row {
         Ok(reply) => reply,
         Err(word) => refused(word),
     }
@@ -192,24 +196,33 @@ fn refused<'a>(word: ErrWord) -> Reply<'a>
 }
 
 /// A text without its LF, as it stands.
-fn plain<'a>(text: &[u8], line: &'a mut Line) -> Reply<'a>
+fn plain<'a>(text: &[u8], line: &'a mut Line) -> Result<Reply<'a>, ErrWord>
     requires short { length text.now ≤ 128 }
     requires lawful { IsTrue (list_all is_lawful text.now) }
-    ensures { CarriesAnswer (told (text.now ∷ [])) result }
+    ensures { Gives (told (text.now ∷ [])) result }
 {
     plain_line_into(text, line);
-    Reply::One(line.as_slice(), Change::Nothing)
+    Ok(Reply::One(line.as_slice(), Change::Nothing))
+}
+
+/// LIST UPS.
+fn list_ups<'a, V: View>(view: &V) -> Result<Reply<'a>, AllocError>
+    ensures ok { IfOk result (CarriesAnswer (row (V.seen view.now) ListUps)) }
+    ensures memory { OnErr result (IsTrue (shares_version (row (V.seen view.now) ListUps))) }
+{
+    Ok(Reply::Many(Listing::of_upses(view.list())?))
 }
 
 /// LIST VAR.
 #[inline(never)]
-fn list_var<'a, V: View>(view: &V, ups: &Option<UpsName>) -> Result<Reply<'a>, AllocError>
+fn list_var<'a, V: View>(view: &V, ups: &UpsWord<'_>) -> Result<Reply<'a>, AllocError>
     ensures ok { IfOk result (CarriesAnswer
         (row (V.seen view.now) (ListVar ups.now))) }
     ensures memory { OnErr result
         (IsTrue (shares_version (row (V.seen view.now) (ListVar ups.now)))) }
 {
-    let ups = match live_ups(view, ups) {
+    let ups = ups.read();
+    let ups = match live_ups(view, &ups) {
         Ok(ups) => ups,
         Err(word) => return Ok(refused(word)),
     };
@@ -220,13 +233,14 @@ fn list_var<'a, V: View>(view: &V, ups: &Option<UpsName>) -> Result<Reply<'a>, A
 
 /// LIST RW.
 #[inline(never)]
-fn list_rw<'a, V: View>(view: &V, ups: &Option<UpsName>) -> Result<Reply<'a>, AllocError>
+fn list_rw<'a, V: View>(view: &V, ups: &UpsWord<'_>) -> Result<Reply<'a>, AllocError>
     ensures ok { IfOk result (CarriesAnswer
         (row (V.seen view.now) (ListRw ups.now))) }
     ensures memory { OnErr result
         (IsTrue (shares_version (row (V.seen view.now) (ListRw ups.now)))) }
 {
-    let ups = match live_ups(view, ups) {
+    let ups = ups.read();
+    let ups = match live_ups(view, &ups) {
         Ok(ups) => ups,
         Err(word) => return Ok(refused(word)),
     };
@@ -237,13 +251,14 @@ fn list_rw<'a, V: View>(view: &V, ups: &Option<UpsName>) -> Result<Reply<'a>, Al
 
 /// LIST CMD.
 #[inline(never)]
-fn list_cmd<'a, V: View>(view: &V, ups: &Option<UpsName>) -> Result<Reply<'a>, AllocError>
+fn list_cmd<'a, V: View>(view: &V, ups: &UpsWord<'_>) -> Result<Reply<'a>, AllocError>
     ensures ok { IfOk result (CarriesAnswer
         (row (V.seen view.now) (ListCmd ups.now))) }
     ensures memory { OnErr result
         (IsTrue (shares_version (row (V.seen view.now) (ListCmd ups.now)))) }
 {
-    let ups = match live_ups(view, ups) {
+    let ups = ups.read();
+    let ups = match live_ups(view, &ups) {
         Ok(ups) => ups,
         Err(word) => return Ok(refused(word)),
     };
@@ -255,15 +270,17 @@ fn list_cmd<'a, V: View>(view: &V, ups: &Option<UpsName>) -> Result<Reply<'a>, A
 #[inline(never)]
 fn list_enum<'a, V: View>(
     view: &V,
-    ups: &Option<UpsName>,
-    name: &Option<Name>,
+    ups: &UpsWord<'_>,
+    name: &NameWord<'_>,
 ) -> Result<Reply<'a>, AllocError>
     ensures ok { IfOk result (CarriesAnswer
         (row (V.seen view.now) (ListEnum ups.now name.now))) }
     ensures memory { OnErr result
         (IsTrue (shares_version (row (V.seen view.now) (ListEnum ups.now name.now)))) }
 {
-    let found = match live_variable(view, ups, name) {
+    let ups = ups.read();
+    let name = name.read();
+    let found = match live_variable(view, &ups, &name) {
         Ok(found) => found,
         Err(word) => return Ok(refused(word)),
     };
@@ -276,15 +293,17 @@ fn list_enum<'a, V: View>(
 #[inline(never)]
 fn list_range<'a, V: View>(
     view: &V,
-    ups: &Option<UpsName>,
-    name: &Option<Name>,
+    ups: &UpsWord<'_>,
+    name: &NameWord<'_>,
 ) -> Result<Reply<'a>, AllocError>
     ensures ok { IfOk result (CarriesAnswer
         (row (V.seen view.now) (ListRange ups.now name.now))) }
     ensures memory { OnErr result
         (IsTrue (shares_version (row (V.seen view.now) (ListRange ups.now name.now)))) }
 {
-    let found = match live_variable(view, ups, name) {
+    let ups = ups.read();
+    let name = name.read();
+    let found = match live_variable(view, &ups, &name) {
         Ok(found) => found,
         Err(word) => return Ok(refused(word)),
     };

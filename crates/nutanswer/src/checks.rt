@@ -1,13 +1,12 @@
 //! The checks of commands (RFC 9271: error responses), each in the order of the table.
 ghost use Rattle.std.specs.Prelude.{◌≡◌};
-ghost use Rattle.std.specs.Option.{option_copied};
 ghost use Rattle.nutanswer.specs.View.{asker_seen};
 ghost use Rattle.nutanswer.specs.Checks.{unknown_ups, user, too_long_of_command};
 ghost use Rattle.nutanswer.specs.Orders.{instcmd_right, is_short_enough, is_listed, is_in_ranges, is_within_one, is_within};
 ghost use Rattle.nutanswer.specs.Promises.{known_ups, known_variable, known_command, found, live_ups, live_variable, live_command, settable};
 
 use crate::known::{Known, KnownCommand, KnownVariable};
-use crate::{Asker, ErrWord, View};
+use crate::{Asker, ErrWord, ValueWord, View};
 use nutdriver::{Range, Variable, read_number};
 use nutusers::Right;
 use nutwords::{Name, UpsName, Value};
@@ -130,35 +129,34 @@ pub(crate) fn live_command<'a, V: View>(
 }
 
 /// The value that the variable may be set to.
-pub(crate) fn settable<'a>(
-    variable: &Variable,
-    value: &'a Option<Value>,
-) -> Result<&'a Value, ErrWord>
-    ensures { found (λ v. v.now) result ≡ settable variable.now value.now }
+pub(crate) fn settable(variable: &Variable, value: &ValueWord<'_>) -> Result<Value, ErrWord>
+    ensures { result ≡ settable variable.now value.now }
 {
     if !variable.flags().rw {
         return Err(ErrWord::Readonly);
     }
-    let Some(value) = value else {
+    let Some(value) = value.read() else {
         return Err(ErrWord::TooLong);
     };
-    if !is_short_enough(variable, value) {
+    if !is_short_enough(variable, &value) {
         return Err(ErrWord::TooLong);
     }
-    if !is_listed(variable.enum_values(), value) || !is_in_ranges(variable.ranges(), value) {
+    if !is_listed(variable.enum_values(), &value) || !is_in_ranges(variable.ranges(), &value) {
         return Err(ErrWord::InvalidValue);
     }
     Ok(value)
 }
 
 /// The value of a command, which may be left out.
-pub(crate) fn command_value(value: &Option<Option<Value>>) -> Result<Option<&Value>, ErrWord>
-    ensures { found option_copied result ≡ too_long_of_command value.now }
+pub(crate) fn command_value(value: &Option<ValueWord<'_>>) -> Result<Option<Value>, ErrWord>
+    ensures { result ≡ too_long_of_command value.now }
 {
-    match value {
-        None => Ok(None),
-        Some(None) => Err(ErrWord::TooLong),
-        Some(Some(value)) => Ok(Some(value)),
+    let Some(word) = value else {
+        return Ok(None);
+    };
+    match word.read() {
+        Some(value) => Ok(Some(value)),
+        None => Err(ErrWord::TooLong),
     }
 }
 

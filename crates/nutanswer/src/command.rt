@@ -3,61 +3,62 @@ ghost use Rattle.std.specs.Prelude.{◌≡◌, ◌≤◌, length};
 ghost use Rattle.nutwords.specs.declared.limits.TheConstants.{LINE_LIMIT};
 
 mod arguments;
+mod words;
 
 use crate::ErrWord;
 use arguments::{
     alone, password_alone, ups_alone, ups_and_name, ups_name_and_value, ups_name_and_value_if_any,
     user_name_alone,
 };
-use nutusers::{Password, UserName};
-use nutwords::{Name, SpelledWord, SpelledWords, UpsName, Value, spelled_words};
+use nutwords::{SpelledWord, SpelledWords, spelled_words};
+pub use words::{NameWord, PasswordWord, UpsWord, UserWord, ValueWord};
 
-/// A command of a client. A word that is no lawful name names nothing.
-#[derive(Debug, PartialEq, Eq, Drop)]
-pub enum Command {
-    /// `USERNAME`: the name of the user who asks; `None` where it isn't as long as one may be.
-    Username(Option<UserName>),
-    /// `PASSWORD`: the user's password; `None` where it isn't as long as one may be.
-    Password(Option<Password>),
+/// A command of a client, whose words are those of its line. A word that is no lawful name names nothing.
+#[derive(Debug, Drop)]
+pub enum Command<'a> {
+    /// `USERNAME`: the name of the user who asks; none where it isn't as long as one may be.
+    Username(UserWord<'a>),
+    /// `PASSWORD`: the user's password; none where it isn't as long as one may be.
+    Password(PasswordWord<'a>),
     /// `LOGIN`: this machine is fed by the UPS.
-    Login(Option<UpsName>),
+    Login(UpsWord<'a>),
     /// `LOGOUT`: the session ends.
     Logout,
     /// `PRIMARY`: this machine is the primary of the UPS.
-    Primary(Option<UpsName>),
+    Primary(UpsWord<'a>),
     /// `FSD`: the forced shutdown of the UPS is set.
-    Fsd(Option<UpsName>),
-    /// `SET VAR`: a variable is to have this value; `None` where it isn't as short as one may be.
-    SetVar(Option<UpsName>, Option<Name>, Option<Value>),
-    /// `INSTCMD`: the UPS is to do this command, with this value, if one is given; `Some(None)` where it isn't as short as
-    /// one may be.
-    InstCmd(Option<UpsName>, Option<Name>, Option<Option<Value>>),
+    Fsd(UpsWord<'a>),
+    /// `SET VAR`: a variable is to have this value; none where it isn't as short as one may be.
+    SetVar(UpsWord<'a>, NameWord<'a>, ValueWord<'a>),
+    /// `INSTCMD`: the UPS is to do this command, with this value, if one is given; none where it isn't as short as one
+    /// may be.
+    InstCmd(UpsWord<'a>, NameWord<'a>, Option<ValueWord<'a>>),
     /// `GET VAR`: the value of a variable.
-    GetVar(Option<UpsName>, Option<Name>),
+    GetVar(UpsWord<'a>, NameWord<'a>),
     /// `GET TYPE`: what kind of variable it is.
-    GetType(Option<UpsName>, Option<Name>),
+    GetType(UpsWord<'a>, NameWord<'a>),
     /// `GET DESC`: the description of a variable.
-    GetDesc(Option<UpsName>, Option<Name>),
+    GetDesc(UpsWord<'a>, NameWord<'a>),
     /// `GET CMDDESC`: the description of a UPS's command.
-    GetCmdDesc(Option<UpsName>, Option<Name>),
+    GetCmdDesc(UpsWord<'a>, NameWord<'a>),
     /// `GET UPSDESC`: the description of a UPS.
-    GetUpsDesc(Option<UpsName>),
+    GetUpsDesc(UpsWord<'a>),
     /// `GET NUMLOGINS`: how many sessions are logged in to a UPS.
-    GetNumLogins(Option<UpsName>),
+    GetNumLogins(UpsWord<'a>),
     /// `LIST UPS`: the UPSs of the server.
     ListUps,
     /// `LIST VAR`: the variables of a UPS.
-    ListVar(Option<UpsName>),
+    ListVar(UpsWord<'a>),
     /// `LIST RW`: its variables that may be set.
-    ListRw(Option<UpsName>),
+    ListRw(UpsWord<'a>),
     /// `LIST CMD`: its commands.
-    ListCmd(Option<UpsName>),
+    ListCmd(UpsWord<'a>),
     /// `LIST ENUM`: the values that a variable may have.
-    ListEnum(Option<UpsName>, Option<Name>),
+    ListEnum(UpsWord<'a>, NameWord<'a>),
     /// `LIST RANGE`: the ranges of numbers that a variable may have.
-    ListRange(Option<UpsName>, Option<Name>),
+    ListRange(UpsWord<'a>, NameWord<'a>),
     /// `LIST CLIENT`: the clients that are logged in to a UPS.
-    ListClient(Option<UpsName>),
+    ListClient(UpsWord<'a>),
     /// `HELP`: the commands that there are.
     Help,
     /// `VER`: the version of the server.
@@ -70,7 +71,7 @@ pub enum Command {
     StartTls,
 }
 
-impl Command {
+impl<'a> Command<'a> {
     ghost use Rattle.nutwords.specs.Spelled.{spelled};
     ghost use Rattle.nutanswer.specs.Command.{read_command, command_of, command_named, user_command, login_command, order_command, server_command, read_set, set_of, read_get, get_of, read_list, list_of};
 
@@ -79,7 +80,7 @@ impl Command {
     /// The first word, and the second one of GET, LIST and SET, are read in capitals or not; names byte for byte. Refused, in
     /// this order: a line that doesn't read as words (INVALID-ARGUMENT); a first word that is no command
     /// (UNKNOWN-COMMAND); a second word of GET, LIST or SET that isn't known, or another number of words (INVALID-ARGUMENT).
-    pub fn read(line: &[u8]) -> Result<Option<Command>, ErrWord>
+    pub fn read(line: &'a [u8]) -> Result<Option<Command<'a>>, ErrWord>
         requires { length line.now ≤ LINE_LIMIT }
         ensures { result ≡ read_command line.now }
     {
@@ -90,7 +91,7 @@ impl Command {
     }
 
     /// The command that the words are.
-    fn of(mut words: SpelledWords<'_>) -> Result<Option<Command>, ErrWord>
+    fn of(mut words: SpelledWords<'a>) -> Result<Option<Command<'a>>, ErrWord>
         ensures { result ≡ command_of words.entry }
     {
         let Some(first) = words.next() else {
@@ -101,7 +102,7 @@ impl Command {
     }
 
     /// The command that is called so, with these words after its first: a GET or a LIST, or else of another kind.
-    fn named(first: &SpelledWord<'_>, words: SpelledWords<'_>) -> Result<Command, ErrWord>
+    fn named(first: &SpelledWord<'_>, words: SpelledWords<'a>) -> Result<Command<'a>, ErrWord>
         ensures { result ≡ command_named (spelled first.now) words.entry }
     {
         if first.is_word(b"GET") {
@@ -114,7 +115,7 @@ impl Command {
     }
 
     /// The command of who asks, or else of another kind.
-    fn of_user(first: &SpelledWord<'_>, words: SpelledWords<'_>) -> Result<Command, ErrWord>
+    fn of_user(first: &SpelledWord<'_>, words: SpelledWords<'a>) -> Result<Command<'a>, ErrWord>
         ensures { result ≡ user_command (spelled first.now) words.entry }
     {
         if first.is_word(b"USERNAME") {
@@ -129,7 +130,7 @@ impl Command {
     }
 
     /// The command of a login or a forced shutdown, or else of another kind.
-    fn of_login(first: &SpelledWord<'_>, words: SpelledWords<'_>) -> Result<Command, ErrWord>
+    fn of_login(first: &SpelledWord<'_>, words: SpelledWords<'a>) -> Result<Command<'a>, ErrWord>
         ensures { result ≡ login_command (spelled first.now) words.entry }
     {
         if first.is_word(b"LOGIN") {
@@ -149,7 +150,7 @@ impl Command {
     }
 
     /// The command of an order to a driver, or else of another kind.
-    fn of_order(first: &SpelledWord<'_>, words: SpelledWords<'_>) -> Result<Command, ErrWord>
+    fn of_order(first: &SpelledWord<'_>, words: SpelledWords<'a>) -> Result<Command<'a>, ErrWord>
         ensures { result ≡ order_command (spelled first.now) words.entry }
     {
         if first.is_word(b"SET") {
@@ -163,7 +164,7 @@ impl Command {
     }
 
     /// The command that asks what the server is.
-    fn of_server(first: &SpelledWord<'_>, words: SpelledWords<'_>) -> Result<Command, ErrWord>
+    fn of_server(first: &SpelledWord<'_>, words: SpelledWords<'a>) -> Result<Command<'a>, ErrWord>
         ensures { result ≡ server_command (spelled first.now) words.entry }
     {
         if first.is_word(b"HELP") {
@@ -182,7 +183,7 @@ impl Command {
     }
 
     /// What a SET asks for.
-    fn set(mut words: SpelledWords<'_>) -> Result<Command, ErrWord>
+    fn set(mut words: SpelledWords<'a>) -> Result<Command<'a>, ErrWord>
         ensures { result ≡ read_set words.entry }
     {
         match words.next() {
@@ -192,7 +193,7 @@ impl Command {
     }
 
     /// What a SET with this second word asks for.
-    fn set_of(kind: &SpelledWord<'_>, words: SpelledWords<'_>) -> Result<Command, ErrWord>
+    fn set_of(kind: &SpelledWord<'_>, words: SpelledWords<'a>) -> Result<Command<'a>, ErrWord>
         ensures { result ≡ set_of (spelled kind.now) words.entry }
     {
         if kind.is_word(b"VAR") {
@@ -204,7 +205,7 @@ impl Command {
     }
 
     /// What a GET asks for.
-    fn get(mut words: SpelledWords<'_>) -> Result<Command, ErrWord>
+    fn get(mut words: SpelledWords<'a>) -> Result<Command<'a>, ErrWord>
         ensures { result ≡ read_get words.entry }
     {
         match words.next() {
@@ -214,7 +215,7 @@ impl Command {
     }
 
     /// What a GET with this second word asks for.
-    fn get_of(kind: &SpelledWord<'_>, words: SpelledWords<'_>) -> Result<Command, ErrWord>
+    fn get_of(kind: &SpelledWord<'_>, words: SpelledWords<'a>) -> Result<Command<'a>, ErrWord>
         ensures { result ≡ get_of (spelled kind.now) words.entry }
     {
         if kind.is_word(b"VAR") {
@@ -241,7 +242,7 @@ impl Command {
     }
 
     /// What a LIST asks for.
-    fn list(mut words: SpelledWords<'_>) -> Result<Command, ErrWord>
+    fn list(mut words: SpelledWords<'a>) -> Result<Command<'a>, ErrWord>
         ensures { result ≡ read_list words.entry }
     {
         match words.next() {
@@ -251,7 +252,7 @@ impl Command {
     }
 
     /// What a LIST with this second word asks for.
-    fn list_of(kind: &SpelledWord<'_>, words: SpelledWords<'_>) -> Result<Command, ErrWord>
+    fn list_of(kind: &SpelledWord<'_>, words: SpelledWords<'a>) -> Result<Command<'a>, ErrWord>
         ensures { result ≡ list_of (spelled kind.now) words.entry }
     {
         if kind.is_word(b"UPS") {

@@ -12,7 +12,7 @@ mod reply;
 mod view;
 
 pub use answers::answer;
-pub use command::Command;
+pub use command::{Command, NameWord, PasswordWord, UpsWord, UserWord, ValueWord};
 pub use err_word::ErrWord;
 pub use nutlisting::Listing;
 pub use reply::{Change, OrderLine, Reply};

@@ -169,8 +169,12 @@ impl Outbox {
             (lines (what_fits (drop n self.old.ring) (rest_of self.old.cursor))) }
     {
         self.ring.drop_front(n);
-        let cursor = self.cursor.take();
-        self.cursor = resume(cursor, &mut self.ring, &mut self.clients, line, renders);
+        // What the count says of itself: it is a number of 64 bits.
+        let _ = renders.made();
+        if self.cursor.is_some() {
+            let cursor = self.cursor.take();
+            self.cursor = resume(cursor, &mut self.ring, &mut self.clients, line, renders);
+        }
     }
 }
 
@@ -210,7 +214,9 @@ fn drain(
     None
 }
 
-/// Fills the ring from a cursor, where there is one.
+/// Fills the ring from a cursor, where there is one. It is a call of its own: a cursor that is moved here is cleared where
+/// the function begins, and a session without one pays for none.
+#[inline(never)]
 fn resume(
     cursor: Option<Cursor>,
     ring: &mut Ring<RING_LIMIT>,

@@ -9,18 +9,18 @@ ghost use Rattle.nutanswer.specs.declared.command.Command.TheVariants.{SetVar, I
 use crate::checks::{command_value, live_command, live_variable, settable, user, user_of_command};
 use crate::known::KnownCommand;
 use crate::lines::order_line_into;
-use crate::{Asker, Change, ErrWord, OrderLine, Reply, View};
+use crate::{Asker, Change, ErrWord, NameWord, OrderLine, Reply, UpsWord, ValueWord, View};
 use nutusers::{Right, UpsId};
-use nutwords::{Line, Name, UpsName, Value};
+use nutwords::Line;
 
 /// SET VAR.
 #[inline(never)]
 pub(crate) fn set_var<'a, V: View>(
     view: &V,
     asker: Asker<'_>,
-    ups: &Option<UpsName>,
-    name: &Option<Name>,
-    value: &Option<Value>,
+    ups: &UpsWord<'_>,
+    name: &NameWord<'_>,
+    value: &ValueWord<'_>,
     line: &'a mut Line,
 ) -> Result<Reply<'a>, ErrWord>
     ensures { Gives
@@ -28,9 +28,11 @@ pub(crate) fn set_var<'a, V: View>(
         result }
 {
     user(view, asker, Right::Set)?;
-    let found = live_variable(view, ups, name)?;
+    let ups = ups.read();
+    let name = name.read();
+    let found = live_variable(view, &ups, &name)?;
     let value = settable(found.variable, value)?;
-    order_line_into(b"SET", found.name, Some(value), line);
+    order_line_into(b"SET", found.name, Some(&value), line);
     if line.len() > found.ups.state.free {
         return Err(ErrWord::SetFailed);
     }
@@ -42,19 +44,21 @@ pub(crate) fn set_var<'a, V: View>(
 pub(crate) fn inst_cmd<'a, V: View>(
     view: &V,
     asker: Asker<'_>,
-    ups: &Option<UpsName>,
-    name: &Option<Name>,
-    value: &Option<Option<Value>>,
+    ups: &UpsWord<'_>,
+    name: &NameWord<'_>,
+    value: &Option<ValueWord<'_>>,
     line: &'a mut Line,
 ) -> Result<Reply<'a>, ErrWord>
     ensures { Gives
         (answer_to (V.seen view.now) (asker_seen asker.entry) (InstCmd ups.now name.now value.now))
         result }
 {
-    user_of_command(view, asker, name)?;
-    let KnownCommand { ups, name } = live_command(view, ups, name)?;
+    let ups = ups.read();
+    let name = name.read();
+    user_of_command(view, asker, &name)?;
+    let KnownCommand { ups, name } = live_command(view, &ups, &name)?;
     let value = command_value(value)?;
-    order_line_into(b"INSTCMD", name, value, line);
+    order_line_into(b"INSTCMD", name, value.as_ref(), line);
     if line.len() > ups.state.free {
         return Err(ErrWord::InstcmdFailed);
     }

@@ -1,22 +1,21 @@
 //! The commands of sessions: who asks, what it is logged in to, and the forced shutdown (RFC 9271).
 ghost use Rattle.std.specs.Prelude.{◌≡◌, ◌∷◌, [], Ok, codes};
 ghost use Rattle.nutanswer.specs.View.{Seen, AskerSeen, asker_seen};
-ghost use Rattle.nutanswer.specs.Answer.{answer_to, one_line, ok, IsReply};
-ghost use Rattle.nutanswer.specs.Promises.{CarriesAnswer, Gives, IsLineOf, row};
+ghost use Rattle.nutanswer.specs.Answer.{answer_to, one_line, ok};
+ghost use Rattle.nutanswer.specs.Promises.{CarriesAnswer, Gives, GivesReply, row};
 ghost use Rattle.nutanswer.specs.declared.command.Command.TheVariants.{Username, Password, Login, Logout, Primary, Fsd, GetNumLogins, ListClient};
 
-use super::refused;
 use crate::checks::{known_ups, user};
-use crate::{Asker, Change, ErrWord, Reply, View};
+use crate::{Asker, Change, ErrWord, PasswordWord, Reply, UpsWord, UserWord, View};
 use nutlisting::{count_line_into, plain_line_into};
-use nutusers::{Right, UserName};
-use nutwords::{Line, UpsName};
+use nutusers::Right;
+use nutwords::Line;
 
 /// USERNAME.
 #[inline(never)]
 pub(crate) fn username<'a>(
     asker: Asker<'_>,
-    name: &Option<UserName>,
+    name: &UserWord<'_>,
     line: &'a mut Line,
 ) -> Result<Reply<'a>, ErrWord>
     ensures { (s : Seen) → Gives
@@ -25,8 +24,8 @@ pub(crate) fn username<'a>(
     if asker.username.is_some() {
         return Err(ErrWord::AlreadySetUsername);
     }
-    match name {
-        Some(name) => Ok(ok(Change::Username(name.copied()), line)),
+    match name.read() {
+        Some(name) => Ok(ok(Change::Username(name), line)),
         None => Err(ErrWord::InvalidArgument),
     }
 }
@@ -35,7 +34,7 @@ pub(crate) fn username<'a>(
 #[inline(never)]
 pub(crate) fn password<'a>(
     asker: Asker<'_>,
-    password: &Option<nutusers::Password>,
+    password: &PasswordWord<'_>,
     line: &'a mut Line,
 ) -> Result<Reply<'a>, ErrWord>
     ensures { (s : Seen) → Gives
@@ -44,8 +43,8 @@ pub(crate) fn password<'a>(
     if asker.password.is_some() {
         return Err(ErrWord::AlreadySetPassword);
     }
-    match password {
-        Some(password) => Ok(ok(Change::Password(password.copied()), line)),
+    match password.read() {
+        Some(password) => Ok(ok(Change::Password(password), line)),
         None => Err(ErrWord::InvalidArgument),
     }
 }
@@ -55,14 +54,15 @@ pub(crate) fn password<'a>(
 pub(crate) fn login<'a, V: View>(
     view: &V,
     asker: Asker<'_>,
-    ups: &Option<UpsName>,
+    ups: &UpsWord<'_>,
     line: &'a mut Line,
 ) -> Result<Reply<'a>, ErrWord>
     ensures { Gives
         (answer_to (V.seen view.now) (asker_seen asker.entry) (Login ups.now)) result }
 {
     user(view, asker, Right::Login)?;
-    let ups = known_ups(view, ups)?;
+    let ups = ups.read();
+    let ups = known_ups(view, &ups)?;
     if asker.login.is_some() {
         return Err(ErrWord::AlreadyLoggedIn);
     }
@@ -70,11 +70,11 @@ pub(crate) fn login<'a, V: View>(
 }
 
 /// LOGOUT.
-pub(crate) fn logout<'a>(line: &'a mut Line) -> Reply<'a>
-    ensures { (s : Seen) (a : AskerSeen) → CarriesAnswer (answer_to s a Logout) result }
+pub(crate) fn logout<'a>(line: &'a mut Line) -> Result<Reply<'a>, ErrWord>
+    ensures { (s : Seen) (a : AskerSeen) → Gives (answer_to s a Logout) result }
 {
     plain_line_into(b"OK Goodbye", line);
-    Reply::One(line.as_slice(), Change::Ending)
+    Ok(Reply::One(line.as_slice(), Change::Ending))
 }
 
 /// PRIMARY.
@@ -82,14 +82,15 @@ pub(crate) fn logout<'a>(line: &'a mut Line) -> Reply<'a>
 pub(crate) fn primary<'a, V: View>(
     view: &V,
     asker: Asker<'_>,
-    ups: &Option<UpsName>,
+    ups: &UpsWord<'_>,
     line: &'a mut Line,
 ) -> Result<Reply<'a>, ErrWord>
     ensures { Gives
         (answer_to (V.seen view.now) (asker_seen asker.entry) (Primary ups.now)) result }
 {
     user(view, asker, Right::Primary)?;
-    known_ups(view, ups)?;
+    let ups = ups.read();
+    known_ups(view, &ups)?;
     Ok(ok(Change::Nothing, line))
 }
 
@@ -98,41 +99,42 @@ pub(crate) fn primary<'a, V: View>(
 pub(crate) fn fsd<'a, V: View>(
     view: &V,
     asker: Asker<'_>,
-    ups: &Option<UpsName>,
+    ups: &UpsWord<'_>,
     line: &'a mut Line,
 ) -> Result<Reply<'a>, ErrWord>
     ensures { Gives
         (answer_to (V.seen view.now) (asker_seen asker.entry) (Fsd ups.now)) result }
 {
     user(view, asker, Right::Fsd)?;
-    let ups = known_ups(view, ups)?;
+    let ups = ups.read();
+    let ups = known_ups(view, &ups)?;
     plain_line_into(b"OK FSD-SET", line);
     Ok(Reply::One(line.as_slice(), Change::Fsd(ups.id)))
 }
 
 /// GET NUMLOGINS.
 #[inline(never)]
-pub(crate) fn get_num_logins<V: View>(
+pub(crate) fn get_num_logins<'a, V: View>(
     view: &V,
-    ups: &Option<UpsName>,
-    line: &mut Line,
-) -> Result<(), ErrWord>
-    ensures { IsLineOf (row (V.seen view.now) (GetNumLogins ups.now)) line.new.items result }
+    ups: &UpsWord<'_>,
+    line: &'a mut Line,
+) -> Result<Reply<'a>, ErrWord>
+    ensures { Gives (row (V.seen view.now) (GetNumLogins ups.now)) result }
 {
-    let ups = known_ups(view, ups)?;
+    let ups = ups.read();
+    let ups = known_ups(view, &ups)?;
     count_line_into(ups.name, view.login_count(ups.id), line);
-    Ok(())
+    Ok(Reply::One(line.as_slice(), Change::Nothing))
 }
 
 /// LIST CLIENT.
 #[inline(never)]
-pub(crate) fn list_client<'a, V: View>(view: &V, ups: &Option<UpsName>) -> Reply<'a>
-    ensures { IsReply (V.seen view.now) (row (V.seen view.now) (ListClient ups.now)) result }
+pub(crate) fn list_client<'a, V: View>(view: &V, ups: &UpsWord<'_>) -> Result<Reply<'a>, ErrWord>
+    ensures { GivesReply (V.seen view.now) (row (V.seen view.now) (ListClient ups.now)) result }
 {
-    match known_ups(view, ups) {
-        Ok(ups) => Reply::Clients(ups.name.copied(), ups.id),
-        Err(word) => refused(word),
-    }
+    let ups = ups.read();
+    let ups = known_ups(view, &ups)?;
+    Ok(Reply::Clients(ups.name.copied(), ups.id))
 }
 
 /// The bare OK, of a command that changes this.

@@ -2,14 +2,16 @@
 ghost use Rattle.std.specs.Prelude.{◌≡◌};
 ghost use Rattle.nutanswer.specs.Command.{alone, user_name_alone, password_alone, ups_alone, ups_and_name, ups_name_and_value, ups_name_and_value_if_any};
 
-use super::Command;
+use super::{Command, NameWord, PasswordWord, UpsWord, UserWord, ValueWord};
 use crate::ErrWord;
-use nutusers::{Password, UserName};
-use nutwords::{Name, SpelledWords, UpsName, Value};
+use nutwords::SpelledWords;
 
 /// The command, where no further word stands after it.
-pub(crate) fn alone(command: Command, mut words: SpelledWords<'_>) -> Result<Command, ErrWord>
-    ensures { result ≡ alone command words.entry }
+pub(crate) fn alone<'a>(
+    command: Command<'a>,
+    mut words: SpelledWords<'a>,
+) -> Result<Command<'a>, ErrWord>
+    ensures { result ≡ alone command.entry words.entry }
 {
     match words.next() {
         None => Ok(command),
@@ -17,64 +19,63 @@ pub(crate) fn alone(command: Command, mut words: SpelledWords<'_>) -> Result<Com
     }
 }
 
-/// The user name that one word and no other is, if it is as long as one may be.
-pub(crate) fn user_name_alone(mut words: SpelledWords<'_>) -> Result<Option<UserName>, ErrWord>
+/// The word, and no other, that is to be the name of a user.
+pub(crate) fn user_name_alone(mut words: SpelledWords<'_>) -> Result<UserWord<'_>, ErrWord>
     ensures { result ≡ user_name_alone words.entry }
 {
     match (words.next(), words.next()) {
-        (Some(name), None) => Ok(UserName::read(name.to_word().as_bytes())),
+        (Some(name), None) => Ok(UserWord::of(name)),
         _ => Err(ErrWord::InvalidArgument),
     }
 }
 
-/// The password that one word and no other is, if it is as long as one may be.
-pub(crate) fn password_alone(mut words: SpelledWords<'_>) -> Result<Option<Password>, ErrWord>
+/// The word, and no other, that is to be a password.
+pub(crate) fn password_alone(mut words: SpelledWords<'_>) -> Result<PasswordWord<'_>, ErrWord>
     ensures { result ≡ password_alone words.entry }
 {
     match (words.next(), words.next()) {
-        (Some(password), None) => Ok(Password::read(password.to_word().as_bytes())),
+        (Some(password), None) => Ok(PasswordWord::of(password)),
         _ => Err(ErrWord::InvalidArgument),
     }
 }
 
-/// The UPS that one word and no other names, if it names one.
-pub(crate) fn ups_alone(mut words: SpelledWords<'_>) -> Result<Option<UpsName>, ErrWord>
+/// The word, and no other, that is to name a UPS.
+pub(crate) fn ups_alone(mut words: SpelledWords<'_>) -> Result<UpsWord<'_>, ErrWord>
     ensures { result ≡ ups_alone words.entry }
 {
     match (words.next(), words.next()) {
-        (Some(ups), None) => Ok(ups.ups_name().ok()),
+        (Some(ups), None) => Ok(UpsWord::of(ups)),
         _ => Err(ErrWord::InvalidArgument),
     }
 }
 
-/// The UPS and the variable or command that two words name, if they name one.
+/// The two words that are to name a UPS and a variable or command of it.
 pub(crate) fn ups_and_name(
     mut words: SpelledWords<'_>,
-) -> Result<(Option<UpsName>, Option<Name>), ErrWord>
+) -> Result<(UpsWord<'_>, NameWord<'_>), ErrWord>
     ensures { result ≡ ups_and_name words.entry }
 {
     match (words.next(), words.next(), words.next()) {
         (Some(ups), Some(name), None) => {
-            let ups = ups.ups_name().ok();
-            let name = name.name().ok();
+            let ups = UpsWord::of(ups);
+            let name = NameWord::of(name);
             Ok((ups, name))
         }
         _ => Err(ErrWord::InvalidArgument),
     }
 }
 
-/// The UPS and the variable that two words name, if they name one, and the value that a third word is, if it is as short as
-/// one may be.
+/// The three words that are to name a UPS and a variable of it, and to be a value.
 pub(crate) fn ups_name_and_value(
     mut words: SpelledWords<'_>,
-) -> Result<(Option<UpsName>, Option<Name>, Option<Value>), ErrWord>
+) -> Result<(UpsWord<'_>, NameWord<'_>, ValueWord<'_>), ErrWord>
     ensures { result ≡ ups_name_and_value words.entry }
 {
     match (words.next(), words.next(), words.next(), words.next()) {
         (Some(ups), Some(name), Some(value), None) => {
-            let ups = ups.ups_name().ok();
-            let name = name.name().ok();
-            let value = value.value().ok();
+            let ups = UpsWord::of(ups);
+            let name = NameWord::of(name);
+            let value = ValueWord::of(value);
             Ok((ups, name, value))
         }
         _ => Err(ErrWord::InvalidArgument),
@@ -84,19 +85,19 @@ pub(crate) fn ups_name_and_value(
 /// The same of a command, whose value may be left out.
 pub(crate) fn ups_name_and_value_if_any(
     mut words: SpelledWords<'_>,
-) -> Result<(Option<UpsName>, Option<Name>, Option<Option<Value>>), ErrWord>
+) -> Result<(UpsWord<'_>, NameWord<'_>, Option<ValueWord<'_>>), ErrWord>
     ensures { result ≡ ups_name_and_value_if_any words.entry }
 {
     match (words.next(), words.next(), words.next(), words.next()) {
         (Some(ups), Some(name), None, _) => {
-            let ups = ups.ups_name().ok();
-            let name = name.name().ok();
+            let ups = UpsWord::of(ups);
+            let name = NameWord::of(name);
             Ok((ups, name, None))
         }
         (Some(ups), Some(name), Some(value), None) => {
-            let ups = ups.ups_name().ok();
-            let name = name.name().ok();
-            let value = value.value().ok();
+            let ups = UpsWord::of(ups);
+            let name = NameWord::of(name);
+            let value = ValueWord::of(value);
             Ok((ups, name, Some(value)))
         }
         _ => Err(ErrWord::InvalidArgument),

@@ -1,83 +1,35 @@
+use Rattle.std.proofs.Common.{refl, inl, inr}
 use Rattle.nutanswer.specs.View.{asker_seen}
-use Rattle.nutanswer.proofs.Carried.{replied, replied_when, replied_itself}
+use Rattle.nutanswer.specs.Answer.{answer_to}
+use Rattle.nutanswer.proofs.Carried.{given, given_seen}
 use Rattle.nutanswer.proofs.answers.answer.Goals as goal
+use Rattle.nutanswer.proofs.answers.answer.Goals.{in-Username, in-Password, in-Login, in-Logout, in-Primary, in-Fsd, in-SetVar, in-InstCmd, in-GetVar, in-GetType, in-GetDesc, in-GetCmdDesc, in-GetUpsDesc, in-GetNumLogins, in-ListClient, in-Help, in-Ver, in-StartTls, in-NetVer}
 
-pub returns-in-Username-clause-ok : goal.returns-in-Username-clause-ok
-returns-in-Username-clause-ok g c =
-    replied (g.V.View.seen c.args.view.now) (asker_seen c.args.asker) _ _ c.given.result c.in-Username.is (c.given.ensures _ (c.username.ensures (g.V.View.seen c.args.view.now)))
-
-pub returns-in-Password-clause-ok : goal.returns-in-Password-clause-ok
-returns-in-Password-clause-ok g c =
-    replied (g.V.View.seen c.args.view.now) (asker_seen c.args.asker) _ _ c.given-in-Password.result c.in-Password.is (c.given-in-Password.ensures _ (c.password.ensures (g.V.View.seen c.args.view.now)))
-
-pub returns-in-Login-clause-ok : goal.returns-in-Login-clause-ok
-returns-in-Login-clause-ok g c =
-    replied (g.V.View.seen c.args.view.now) (asker_seen c.args.asker) _ _ c.given-in-Login.result c.in-Login.is (c.given-in-Login.ensures _ c.login.ensures)
-
-pub returns-in-Logout-clause-ok : goal.returns-in-Logout-clause-ok
-returns-in-Logout-clause-ok g c =
-    replied (g.V.View.seen c.args.view.now) (asker_seen c.args.asker) _ _ c.logout.result c.in-Logout.is (c.logout.ensures (g.V.View.seen c.args.view.now) (asker_seen c.args.asker))
-
-pub returns-in-Primary-clause-ok : goal.returns-in-Primary-clause-ok
-returns-in-Primary-clause-ok g c =
-    replied (g.V.View.seen c.args.view.now) (asker_seen c.args.asker) _ _ c.given-in-Primary.result c.in-Primary.is (c.given-in-Primary.ensures _ c.primary.ensures)
-
-pub returns-in-Fsd-clause-ok : goal.returns-in-Fsd-clause-ok
-returns-in-Fsd-clause-ok g c =
-    replied (g.V.View.seen c.args.view.now) (asker_seen c.args.asker) _ _ c.given-in-Fsd.result c.in-Fsd.is (c.given-in-Fsd.ensures _ c.fsd.ensures)
-
-pub returns-in-GetVar-clause-ok : goal.returns-in-GetVar-clause-ok
-returns-in-GetVar-clause-ok g c =
-    replied (g.V.View.seen c.args.view.now) (asker_seen c.args.asker) _ _ c.one.result c.in-GetVar.is (c.one.ensures _ c.get_var.ensures)
-
-pub returns-in-GetType-clause-ok : goal.returns-in-GetType-clause-ok
-returns-in-GetType-clause-ok g c =
-    replied (g.V.View.seen c.args.view.now) (asker_seen c.args.asker) _ _ c.one-in-GetType.result c.in-GetType.is (c.one-in-GetType.ensures _ c.get_type.ensures)
-
-pub returns-in-GetDesc-clause-ok : goal.returns-in-GetDesc-clause-ok
-returns-in-GetDesc-clause-ok g c =
-    replied (g.V.View.seen c.args.view.now) (asker_seen c.args.asker) _ _ c.one-in-GetDesc.result c.in-GetDesc.is (c.one-in-GetDesc.ensures _ c.get_desc.ensures)
-
-pub returns-in-GetCmdDesc-clause-ok : goal.returns-in-GetCmdDesc-clause-ok
-returns-in-GetCmdDesc-clause-ok g c =
-    replied (g.V.View.seen c.args.view.now) (asker_seen c.args.asker) _ _ c.one-in-GetCmdDesc.result c.in-GetCmdDesc.is (c.one-in-GetCmdDesc.ensures _ c.get_cmd_desc.ensures)
-
-pub returns-in-GetUpsDesc-clause-ok : goal.returns-in-GetUpsDesc-clause-ok
-returns-in-GetUpsDesc-clause-ok g c =
-    replied (g.V.View.seen c.args.view.now) (asker_seen c.args.asker) _ _ c.one-in-GetUpsDesc.result c.in-GetUpsDesc.is (c.one-in-GetUpsDesc.ensures _ c.get_ups_desc.ensures)
-
-pub returns-in-GetNumLogins-clause-ok : goal.returns-in-GetNumLogins-clause-ok
-returns-in-GetNumLogins-clause-ok g c =
-    replied (g.V.View.seen c.args.view.now) (asker_seen c.args.asker) _ _ c.one-in-GetNumLogins.result c.in-GetNumLogins.is (c.one-in-GetNumLogins.ensures _ c.get_num_logins.ensures)
-
-pub returns-in-SetVar-clause-ok : goal.returns-in-SetVar-clause-ok
-returns-in-SetVar-clause-ok g c =
-    replied (g.V.View.seen c.args.view.now) (asker_seen c.args.asker) _ _ c.given-in-SetVar.result c.in-SetVar.is (c.given-in-SetVar.ensures _ c.set_var.ensures)
-
-pub returns-in-InstCmd-clause-ok : goal.returns-in-InstCmd-clause-ok
-returns-in-InstCmd-clause-ok g c =
-    replied (g.V.View.seen c.args.view.now) (asker_seen c.args.asker) _ _ c.given-in-InstCmd.result c.in-InstCmd.is (c.given-in-InstCmd.ensures _ c.inst_cmd.ensures)
-
-pub returns-in-ListClient-clause-ok : goal.returns-in-ListClient-clause-ok
-returns-in-ListClient-clause-ok g c =
-    replied_itself (g.V.View.seen c.args.view.now) (asker_seen c.args.asker) _ _ c.list_client.result c.in-ListClient.is c.list_client.ensures
-
-pub returns-in-ListVar-clause-ok : goal.returns-in-ListVar-clause-ok
-returns-in-ListVar-clause-ok g c =
-    replied_when (g.V.View.seen c.args.view.now) (asker_seen c.args.asker) _ _ c.list_var.result c.in-ListVar.is c.list_var.ensures.ok
-
-pub returns-in-ListRw-clause-ok : goal.returns-in-ListRw-clause-ok
-returns-in-ListRw-clause-ok g c =
-    replied_when (g.V.View.seen c.args.view.now) (asker_seen c.args.asker) _ _ c.list_rw.result c.in-ListRw.is c.list_rw.ensures.ok
-
-pub returns-in-ListCmd-clause-ok : goal.returns-in-ListCmd-clause-ok
-returns-in-ListCmd-clause-ok g c =
-    replied_when (g.V.View.seen c.args.view.now) (asker_seen c.args.asker) _ _ c.list_cmd.result c.in-ListCmd.is c.list_cmd.ensures.ok
-
-pub returns-in-ListEnum-clause-ok : goal.returns-in-ListEnum-clause-ok
-returns-in-ListEnum-clause-ok g c =
-    replied_when (g.V.View.seen c.args.view.now) (asker_seen c.args.asker) _ _ c.list_enum.result c.in-ListEnum.is c.list_enum.ensures.ok
-
-pub returns-in-ListRange-clause-ok : goal.returns-in-ListRange-clause-ok
-returns-in-ListRange-clause-ok g c =
-    replied_when (g.V.View.seen c.args.view.now) (asker_seen c.args.asker) _ _ c.list_range.result c.in-ListRange.is c.list_range.ensures.ok
+pub returns-clause-ok : goal.returns-clause-ok
+returns-clause-ok g c =
+    let s = g.V.View.seen c.args.view.now in
+    let a = asker_seen c.args.asker in
+    c.given.ensures s (answer_to s a c.args.command.now) (elim c.match-command.branch [
+      | in-Username w ↦ given s a _ _ _ _ w.in-Username.is w.row-is (w.username-row.ensures s)
+      | in-Password w ↦ given s a _ _ _ _ w.in-Password.is w.row-is (w.password-row.ensures s)
+      | in-Login w ↦ given s a _ _ _ _ w.in-Login.is w.row-is w.login-row.ensures
+      | in-Logout w ↦ given s a _ _ _ _ w.in-Logout.is w.row-is (w.logout-row.ensures s a)
+      | in-Primary w ↦ given s a _ _ _ _ w.in-Primary.is w.row-is w.primary-row.ensures
+      | in-Fsd w ↦ given s a _ _ _ _ w.in-Fsd.is w.row-is w.fsd-row.ensures
+      | in-SetVar w ↦ given s a _ _ _ _ w.in-SetVar.is w.row-is w.set_var-row.ensures
+      | in-InstCmd w ↦ given s a _ _ _ _ w.in-InstCmd.is w.row-is w.inst_cmd-row.ensures
+      | in-GetVar w ↦ given s a _ _ _ _ w.in-GetVar.is w.row-is w.get_var-row.ensures
+      | in-GetType w ↦ given s a _ _ _ _ w.in-GetType.is w.row-is w.get_type-row.ensures
+      | in-GetDesc w ↦ given s a _ _ _ _ w.in-GetDesc.is w.row-is w.get_desc-row.ensures
+      | in-GetCmdDesc w ↦ given s a _ _ _ _ w.in-GetCmdDesc.is w.row-is w.get_cmd_desc-row.ensures
+      | in-GetUpsDesc w ↦ given s a _ _ _ _ w.in-GetUpsDesc.is w.row-is w.get_ups_desc-row.ensures
+      | in-GetNumLogins w ↦ given s a _ _ _ _ w.in-GetNumLogins.is w.row-is w.get_num_logins-row.ensures
+      | in-Help w ↦ given s a _ _ _ _ w.in-Help.is w.row-is w.plain-row.ensures
+      | in-Ver w ↦ given s a _ _ _ _ w.in-Ver.is w.row-is w.plain-row-in-Ver.ensures
+      | in-NetVer w ↦ elim w.in-NetVer.is [
+        | inl is ↦ given s a _ _ _ _ is w.row-is w.plain-row-in-NetVer.ensures
+        | inr is ↦ given s a _ _ _ _ is w.row-is w.plain-row-in-NetVer.ensures
+      ]
+      | in-StartTls w ↦ given s a _ _ _ _ w.in-StartTls.is w.row-is refl
+      | in-ListClient w ↦ given_seen s a _ _ _ _ w.in-ListClient.is w.row-is w.list_client-row.ensures
+    ])
