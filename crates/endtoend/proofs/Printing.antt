@@ -16,7 +16,7 @@ use Rattle.nutwords.specs.Text.{with_lf}
 use Rattle.nutdriver.specs.Sound.{IsSoundVariable, IsSoundTree}
 use Rattle.nutdriver.specs.Tree.{byte_order}
 use Rattle.nutdriver.specs.Variable.{VariableState}
-use Rattle.nutusers.specs.UpsList.{Ups}
+use Rattle.nutusers.specs.UpsList.{Ups, IsLawfulUps}
 use Rattle.nutlisting.specs.Items.{variable_item, is_rw, command_item, ups_item}
 use Rattle.nutlisting.specs.Shown.{shown, ups_description}
 use Rattle.nutanswer.specs.Checks.{KnownUps}
@@ -35,7 +35,7 @@ use Rattle.nutclient.specs.Printed.{Prints, printed, printed_of, item_line, text
 use Rattle.nutclient.specs.declared.form.Form.{Form}
 use Rattle.nutclient.specs.declared.form.Form.TheVariants as forms
 use Rattle.endtoend.specs.Frames.{item_words, IsItem}
-use Rattle.endtoend.specs.Served.{HasVariable, IsLawfulUps}
+use Rattle.endtoend.specs.Served.{HasVariable}
 use Rattle.endtoend.specs.Printed.{variable_line, setting_line, UpsrwPrintsTheVariables, UpscmdPrintsTheCommands, name_lines, description_line, description_lines, UpscPrintsTheVariables, UpscPrintsTheVariable, UpscPrintsTheUpses}
 use Rattle.endtoend.proofs.FrameReading.{frame_read, value_read}
 use Rattle.endtoend.proofs.Texts.{text_short, name_written, ups_name_written, quoted_written, quoted_short, shown_lawful, description_lawful}
@@ -239,13 +239,13 @@ descriptions_text [] = refl
 descriptions_text (ups ∷ list) = ap (λ t. description_line ups ++ t) (descriptions_text list)
 
 pub prints_upses : UpscPrintsTheUpses
-prints_upses = λ s client line more lawful e.
+prints_upses = λ s client line more is e.
     let list = s.list in
     let text = upses_answered s client line (list_ups_read line e) in
-    let few : length (map ups_of_list list) ≤ 65536 = omega (arith, lawful.few, length-map list ups_of_list) in
+    let few : length (map ups_of_list list) ≤ 65536 = omega (arith, is.few, length-map list ups_of_list) in
     let whole = frame_read queries.Ups (map ups_item list) (map ups_of_list list) more
-    ((as_it_is (omega arith) refl, tt), omega arith, upses_written list lawful.each)
-    (upses_known list lawful.each) few in
+    ((as_it_is (omega arith) refl, tt), omega arith, upses_written list is.lawful)
+    (upses_known list is.lawful) few in
     let read = ap (λ t. reply (requests.List queries.Ups) (t ++ more)) text ∙ whole in
     let bytes = (server.reply s client line) ++ more in
     record {

@@ -4,6 +4,7 @@ use Rattle.std.specs.Io.KnownBytes.{Appends}
 use denote.Ref.{Bor}
 use Rattle.nutwords.specs.Text.{with_lf}
 use Rattle.nutdriver.specs.Variable.{VariableState}
+use Rattle.nutusers.specs.UpsList.{IsList}
 use Rattle.nutlisting.specs.Shown.{shown}
 use Rattle.nutanswer.specs.Checks.{KnownUps}
 use Rattle.nutcore.specs.Reply.{reply}
@@ -20,7 +21,7 @@ use Rattle.nutclient.specs.Target.{ups_place_of}
 use Rattle.nutclient.specs.declared.given.Given.TheVariants.{Variables, Variable, Upses}
 use Rattle.nutclient.specs.declared.given.Given.TheVariants.{Descriptions, Writable, Commands}
 use Rattle.nutclient.specs.declared.job.Job.{Job}
-use Rattle.endtoend.specs.Served.{IsLineOf, IsUsable, HasVariable, IsLawfulList}
+use Rattle.endtoend.specs.Served.{IsLineOf, IsUsable, HasVariable}
 use Rattle.endtoend.specs.Printed.{variable_lines, setting_lines, command_lines, name_lines}
 use Rattle.endtoend.specs.Printed.{description_lines}
 
@@ -108,12 +109,12 @@ module _ {R W O : Type 0} (remaining : R → Option (List ℕ)) (failures : R �
   PrintsTheNames job r =
       (s : ServerState) (client : ℕ) (server : Option (Bor (List ℕ))) (line more : List ℕ)
       → job_of (Upses server) ≡ Some (parts_of job)
-      → IsLawfulList s.list → IsLineOf (ListOf queries.Ups) line
+      → IsList s.list → IsLineOf (ListOf queries.Ups) line
       → IsHanded (reply s client line ++ more) r → IsPrinted (name_lines s.list) r
 
   abbrev pub PrintsTheDescriptions : Job → ProgramRun R W O → Type 0
   PrintsTheDescriptions job r =
       (s : ServerState) (client : ℕ) (server : Option (Bor (List ℕ))) (line more : List ℕ)
       → job_of (Descriptions server) ≡ Some (parts_of job)
-      → IsLawfulList s.list → IsLineOf (ListOf queries.Ups) line
+      → IsList s.list → IsLineOf (ListOf queries.Ups) line
       → IsHanded (reply s client line ++ more) r → IsPrinted (description_lines s.list) r

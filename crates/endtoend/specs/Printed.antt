@@ -4,7 +4,7 @@ use Rattle.std.specs.List.{flat_map}
 use Rattle.nutwords.specs.Reading.{is_name, is_ups_name}
 use Rattle.nutwords.specs.Text.{with_lf}
 use Rattle.nutdriver.specs.Variable.{VariableState}
-use Rattle.nutusers.specs.UpsList.{Ups}
+use Rattle.nutusers.specs.UpsList.{Ups, IsList}
 use Rattle.nutlisting.specs.Items.{is_rw}
 use Rattle.nutlisting.specs.Shown.{shown, ups_description}
 use Rattle.nutanswer.specs.Checks.{KnownUps}
@@ -14,7 +14,7 @@ use Rattle.nutreply.specs.declared.request.Query.TheVariants as queries
 use Rattle.nutreply.specs.declared.request.Request.TheVariants.{List as ListOf, GetVar}
 use Rattle.nutclient.specs.Printed.{Prints, printed}
 use Rattle.nutclient.specs.declared.form.Form.TheVariants as forms
-use Rattle.endtoend.specs.Served.{IsLineOf, IsUsable, HasVariable, IsLawfulList}
+use Rattle.endtoend.specs.Served.{IsLineOf, IsUsable, HasVariable}
 
 -- A variable's line, `name: value`, with the value as clients see it.
 abbrev pub variable_line : Bool → List ℕ × VariableState → List ℕ
@@ -91,5 +91,5 @@ pub record PrintsTheUpses (s : ServerState) (client : ℕ) (line more : List ℕ
 
 abbrev pub UpscPrintsTheUpses : Type 0
 UpscPrintsTheUpses =
-    (s : ServerState) (client : ℕ) (line more : List ℕ) → IsLawfulList s.list
+    (s : ServerState) (client : ℕ) (line more : List ℕ) → IsList s.list
     → IsLineOf (ListOf queries.Ups) line → PrintsTheUpses s client line more

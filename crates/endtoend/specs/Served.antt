@@ -1,13 +1,9 @@
 -- A client's request at the server: its line, and what of the server it is about.
-use Rattle.std.specs.Prelude.{◌≡◌, ◌≤◌, ℕ, List, All, IfSome, IsTrue, Some, length}
-use Rattle.nutwords.specs.Reading.{is_ups_name}
+use Rattle.std.specs.Prelude.{◌≡◌, ℕ, List, Some}
 use Rattle.nutwords.specs.Text.{with_lf}
 use Rattle.nutdriver.specs.Sound.{IsSoundTree}
 use Rattle.nutdriver.specs.Tree.{variable_at}
 use Rattle.nutdriver.specs.Variable.{VariableState}
-use Rattle.nutusers.specs.Texts.{is_description}
-use Rattle.nutusers.specs.UpsList.{Ups}
-use Rattle.nutusers.specs.declared.limits.TheConstants.{UPS_LIMIT}
 use Rattle.nutanswer.specs.Checks.{KnownUps, ups_named}
 use Rattle.nutanswer.specs.View.{readiness, usable}
 use Rattle.nutcore.specs.Reply.{seen}
@@ -29,13 +25,3 @@ pub record IsUsable (s : ServerState) (ups : List ℕ) (known : KnownUps) : Type
 -- The UPS has this variable of this name.
 abbrev pub HasVariable : KnownUps → List ℕ → VariableState → Type 0
 HasVariable known name variable = variable_at known.state.report.tree name ≡ Some variable
-
--- A UPS as a list of UPSs has it: its name is lawful, and its description, if it has one.
-pub record IsLawfulUps (ups : Ups) : Type 0 where
-  pub name : IsTrue (is_ups_name ups.name)
-  pub description : IfSome ups.desc (λ text. IsTrue (is_description text))
-
--- The server's list of UPSs is lawful, and no longer than a list may be.
-pub record IsLawfulList (list : List Ups) : Type 0 where
-  pub each : All IsLawfulUps list
-  pub few : length list ≤ UPS_LIMIT

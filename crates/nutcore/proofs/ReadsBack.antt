@@ -183,9 +183,9 @@ module _ (back : ListingIsReadBack) (one : OneReading) where
         let x = variable_sound u.state.report.tree name variable (listed_once.tree s ups u sound asks.named) there in
         of_variable _ (codes "RANGE") u.name name _ _ refl named n (listed_once.ranges s c line ups name u variable sound read asks there).0
         (rows_written IsSoundRange (range_item u.name name) (range_words u.name name) (λ range h. range_written u.name name range named n h) variable.ranges x.ranges);
-    upses = λ s c line sound read lawful.
+    upses = λ s c line sound read.
         reads_back _ (codes "UPS") [] _ _ (listed_once.upses s c line sound read).0 ((name_word (codes "UPS") refl).written, tt) (omega arith)
-        (rows_written IsLawfulUps ups_item ups_words ups_written s.list lawful);
+        (rows_written IsLawfulUps ups_item ups_words ups_written s.list sound.list.lawful);
     clients = λ s c line ups u sound read found lawful.
         let named = named_lawful (seen s) ups u (subst IsLawfulReading read (what_is_read_is_lawful line)) found in
         of_ups _ (codes "CLIENT") u.name _ _ refl named (who_is_there.listed s c line ups u read found)

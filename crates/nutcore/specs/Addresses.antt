@@ -1,5 +1,5 @@
--- What every run keeps, and listings of clients and of UPSs need beside a sound server: lawful
--- addresses, and the list of UPSs.
+-- What every run keeps: lawful addresses, which listings of clients need beside a sound server, and
+-- the list of UPSs.
 use Rattle.std.specs.Prelude.{◌≡◌, ℕ, List, Option, Some, None, All, IfSome, IsTrue}
 use Rattle.nutwords.specs.Reading.{is_address}
 use Rattle.nutusers.specs.UpsList.{Ups}

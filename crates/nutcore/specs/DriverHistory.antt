@@ -10,6 +10,7 @@ use Rattle.nutdriver.specs.declared.report.Report.{Report}
 use Rattle.nutdriver.specs.declared.report.LineOutcome.{LineOutcome}
 use Rattle.nutdriver.specs.declared.report.LineOutcome.TheVariants.{Accepted, Refused}
 use Rattle.nutdriver.specs.Report.{after_line}
+pub use Rattle.nutdriver.specs.Report.{Heard, after_heard}
 use Rattle.nutcore.specs.declared.event.Event.{Event}
 use Rattle.nutcore.specs.declared.event.Event.TheVariants.{DriverBytes}
 use Rattle.nutcore.specs.declared.event.Outcome.{Outcome}
@@ -20,19 +21,9 @@ use Rattle.nutcore.specs.Step.{after, refused_after}
 use Rattle.nutcore.specs.Run.{Run}
 use Rattle.nutcore.specs.Sound.{Each}
 
--- A line of a driver, and the moment at which it was executed.
-pub record Heard : Type 0 where
-  pub moment : ℕ
-  pub line : List ℕ
-
 -- The bytes of the lines, each with its LF.
 abbrev pub bytes_heard : List Heard → List ℕ
 bytes_heard lines = flat_map (λ x. with_lf x.line) lines
-
--- The report once the lines are executed, one after another.
-abbrev pub after_heard : Report → List Heard → Report
-after_heard report [] = report
-after_heard report (x ∷ lines) = after_heard (after_line x.moment report x.line).0 lines
 
 -- How many of the lines are refused, each on the report that those before it made.
 abbrev pub refusals : LineOutcome → ℕ

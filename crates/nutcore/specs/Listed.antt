@@ -51,7 +51,7 @@ pub record EachIsListedOnce : Type 0 where
       (map (variable_item (codes "RW") known.name known.state.fsd)
       (filter is_rw known.state.report.tree.variables)))
       × HasRisingKeys byte_order (filter is_rw known.state.report.tree.variables)
-  -- Enum values and ranges stand in the order in which they were added, each once.
+  -- Enum values and ranges stand in the order of the tree's lists, each once.
   pub enum_values : (s : ServerState) (c : ℕ) (line : List ℕ) (ups : Option (List ℕ))
       (name : List ℕ) (known : KnownUps) (variable : VariableState) → IsSound s
       → read_command line ≡ Ok (Some (ListEnum ups (Some name))) → AsksOf s ups known

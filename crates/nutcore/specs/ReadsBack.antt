@@ -7,7 +7,7 @@ use Rattle.nutwords.specs.Reading.{is_address}
 use Rattle.nutdriver.specs.declared.range.Range.{Range}
 use Rattle.nutdriver.specs.Variable.{VariableState}
 use Rattle.nutdriver.specs.Tree.{variable_at}
-use Rattle.nutusers.specs.UpsList.{Ups, IsLawfulUps}
+use Rattle.nutusers.specs.UpsList.{Ups}
 use Rattle.nutlisting.specs.Shown.{shown, ups_description}
 use Rattle.nutlisting.specs.Items.{is_rw, command_item, client_item}
 use Rattle.nutanswer.specs.declared.command.Command.TheVariants.{ListUps, ListVar, ListRw, ListCmd}
@@ -81,9 +81,8 @@ pub record EachListingReadsBack : Type 0 where
       → variable_at known.state.report.tree name ≡ Some variable
       → ReadsBack (reply s c line) (codes "RANGE" ∷ known.name ∷ name ∷ [])
       (map (range_words known.name name) variable.ranges)
-  -- Where the UPSs of the list are lawful.
   pub upses : (s : ServerState) (c : ℕ) (line : List ℕ) → IsSound s
-      → read_command line ≡ Ok (Some ListUps) → All IsLawfulUps s.list
+      → read_command line ≡ Ok (Some ListUps)
       → ReadsBack (reply s c line) (codes "UPS" ∷ []) (map ups_words s.list)
   -- Where the addresses of the clients are lawful: those that are logged in to the UPS, usable or
   -- not.

@@ -42,9 +42,9 @@ pub record IsSoundUps (moment : ℕ) (x : UpsState) : Type 0 where
 abbrev pub IsMaxAge : ℕ → Type 0
 IsMaxAge seconds = (MAX_AGE_LEAST ≤ seconds) × (seconds ≤ MAX_AGE_MOST)
 
--- A server: its greatest age is one; the names of the UPSs of its list rise, and there are no more
--- than there may be; a state for each UPS of the list; at most 64 sessions, whose ids rise from 1;
--- and all of them sound.
+-- A server: its greatest age is one; the UPSs of its list are lawful, their names rise, and there
+-- are no more than there may be; a state for each UPS of the list; at most 64 sessions, whose ids
+-- rise from 1; and all of them sound.
 pub record IsSound (s : ServerState) : Type 0 where
   pub max_age : IsMaxAge s.max_age
   pub list : IsList s.list

@@ -111,10 +111,9 @@ pub fn what_is_listed_is_what_is_held()
     ensures { WhatIsListedIsWhatIsHeld }
 {}
 
-/// What a sound server lists is read back: the text that answers LIST VAR, RW, CMD, ENUM or RANGE reads, by the grammar
-/// of lines, as BEGIN with the words of the listing, then each item's words, in their order, then END with the words of
-/// the listing, and as nothing else. So does LIST UPS where the names and descriptions of the server's list are lawful,
-/// and LIST CLIENT where the addresses of its clients are.
+/// What a sound server lists is read back: the text that answers LIST UPS, VAR, RW, CMD, ENUM or RANGE reads, by the
+/// grammar of lines, as BEGIN with the words of the listing, then each item's words, in their order, then END with the
+/// words of the listing, and as nothing else. So does LIST CLIENT where the addresses of its clients are lawful.
 pub fn each_listing_reads_back()
     ensures { EachListingReadsBack }
 {
@@ -122,8 +121,8 @@ pub fn each_listing_reads_back()
 }
 
 /// Over every run whose sessions are opened from lawful addresses, as each `Address` is, the addresses of a server's
-/// sessions stay lawful; a new server has none. The list of UPSs is never changed. So the premises of the listings of UPSs
-/// and of clients hold of every server that was given a list that was read.
+/// sessions stay lawful; a new server has none. So the premise of the listings of clients holds. The list of UPSs is never
+/// changed.
 pub fn addresses_are_lawful()
     ensures opening { ANewServerHasLawfulAddresses }
     ensures run { EveryRunKeepsAddressesLawful }

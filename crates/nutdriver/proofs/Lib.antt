@@ -3,3 +3,4 @@ pub mod TreeLemmas
 pub mod LawfulLines
 pub mod SoundTrees
 pub mod LineLemmas
+pub mod AddingOrder

@@ -1,15 +1,13 @@
 -- Lawful lines keep a tree sound.
-use Rattle.std.proofs.Common.{◌≡◌, ℕ, zero, suc, ◌<◌, Bool, true, false, List, [], ◌∷◌, ◌++◌, map, length, get_or, Option, Some, None, refl, sym, ap, subst, ◌∙◌, arith, nat_le, true≢false}
-use Rattle.std.specs.Prelude.{◌≢◌, ◌≤◌, ⊤, ◌||◌, not, filter, Result, Ok, Err, IfOk, IfSome, IsNone, IsTrue, All, AllPairs, if◌then◌else◌}
-use Rattle.std.specs.Bool.{Decides}
+use Rattle.std.proofs.Common.{◌≡◌, ℕ, zero, suc, ◌<◌, Bool, true, false, List, [], ◌∷◌, ◌++◌, length, get_or, Option, Some, None, refl, sym, ap, subst, ◌∙◌, arith, nat_le, true≢false}
+use Rattle.std.specs.Prelude.{◌≢◌, ◌≤◌, ⊤, ◌||◌, not, filter, Result, Ok, Err, IfOk, IfSome, IsNone, IsTrue, All, if◌then◌else◌}
 use Rattle.std.specs.List.{list_any}
 use Rattle.std.specs.List.Sorted.{IsStrictlySortedBy}
-use Rattle.std.specs.Map.{keys_of, lookup, remove_entry}
+use Rattle.std.specs.Map.{keys_of, remove_entry}
 use Rattle.std.specs.Set.{remove_key}
 use Rattle.std.specs.BTreeMap.{insert_entry, is_at}
 use Rattle.std.specs.BTreeSet.{insert_key}
 use Rattle.std.specs.Str.{bytes_eq}
-use Rattle.std.specs.Ordering.{int_eq}
 use Rattle.std.proofs.lemmas.Bool.Decides.{nat_tests}
 use Rattle.std.proofs.lemmas.Grind.{common_steps}
 use Rattle.std.proofs.lemmas.Slice.Eq.{bytes_eq-Decides}
@@ -22,7 +20,7 @@ use Rattle.std.proofs.lemmas.List.Quantifiers.{all_pairs_push}
 use Rattle.std.proofs.lemmas.Map.Entries.{length-keys_of}
 use Rattle.std.proofs.lemmas.Map.Views.{All-keys-insert_entry, All-values-insert_entry, All-map-remove_entry, All-insert_key, All-remove_key, IfSome-lookup_from_All}
 use Rattle.nutwords.specs.Reading.{is_name, is_value}
-use Rattle.nutmap.specs.Entries.{HasRisingKeys, value_at}
+use Rattle.nutmap.specs.Entries.{HasRisingKeys}
 use Rattle.nutdriver.specs.declared.limits.TheConstants.{VARIABLE_LIMIT, COMMAND_LIMIT, ENUM_LIMIT, RANGE_LIMIT, NUMBER_LIMIT}
 use Rattle.nutdriver.specs.declared.fault.DriverFault.{DriverFault}
 use Rattle.nutdriver.specs.declared.fault.DriverFault.TheVariants.{NoSuchItem, Full}
@@ -53,7 +51,7 @@ module _ {X : Type 0} (test : X → X → Bool) (same : (x : X) → test x x ≡
   pushed_once : (xs : List X) (y : X) → HasNoRepeats xs → list_any (λ x. test x y) xs ≡ false → HasNoRepeats (xs ++ y ∷ [])
   pushed_once xs y once h = all_pairs_push (λ a b. a ≢ b) xs y once (λ k d inside. apart xs y h k d inside)
 
-none_once : {X : Type 0} → HasNoRepeats {X = X} []
+pub none_once : {X : Type 0} → HasNoRepeats {X = X} []
 none_once i j d before inside = absurd (omega (arith, inside))
 
 filtered_few : {X : Type 0} (p : X → Bool) (xs : List X) (limit : ℕ) → length xs ≤ limit → length (filter p xs) ≤ limit

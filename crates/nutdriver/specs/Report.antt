@@ -1,5 +1,5 @@
 -- What a driver has reported, and what a whole line of it does to that.
-use Rattle.std.specs.Prelude.{ℕ, Bool, true, false, List, Result, Ok, Err}
+use Rattle.std.specs.Prelude.{ℕ, Bool, true, false, List, [], ◌∷◌, Result, Ok, Err}
 use Rattle.nutdriver.specs.declared.line.DriverLine.{DriverLine}
 use Rattle.nutdriver.specs.declared.fault.DriverFault.{DriverFault}
 use Rattle.nutdriver.specs.declared.effect.Effect.{Effect}
@@ -43,6 +43,16 @@ after_reading report (Err fault) = (report, Refused fault)
 abbrev pub after_line : ℕ → Report → List ℕ → Report × LineOutcome
 after_line moment report line =
     after_reading (record report { heard = moment }) (read_driver_line line)
+
+-- A whole line of a driver, and the moment at which it is heard.
+pub record Heard : Type 0 where
+  pub moment : ℕ
+  pub line : List ℕ
+
+-- The report once the lines are heard, one after another.
+abbrev pub after_heard : Report → List Heard → Report
+after_heard report [] = report
+after_heard report (x ∷ lines) = after_heard (after_line x.moment report x.line).0 lines
 
 -- The line would change the tree, for which memory may be refused.
 abbrev pub reading_changes : TreeState → Result DriverLine DriverFault → Bool

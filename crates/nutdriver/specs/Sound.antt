@@ -14,7 +14,7 @@ use Rattle.nutdriver.specs.declared.line.DriverLine.TheVariants.{SetFlags, AddCm
 use Rattle.nutdriver.specs.declared.range.Range.{Range}
 use Rattle.nutdriver.specs.declared.report.Report.{Report}
 use Rattle.nutdriver.specs.Variable.{VariableState}
-use Rattle.nutdriver.specs.Tree.{TreeState, byte_order, empty_tree}
+use Rattle.nutdriver.specs.Tree.{TreeState, byte_order}
 use Rattle.nutdriver.specs.DriverLine.{read_driver_line}
 use Rattle.nutdriver.specs.DriverStep.{driver_step}
 use Rattle.nutdriver.specs.Report.{after_line}

@@ -1,5 +1,6 @@
 -- The UPSs that the server knows, by their places.
 use Rattle.std.specs.Prelude.{ℕ, ◌≤◌, List, find, position, length, Option, None, IfSome, IsTrue}
+use Rattle.std.specs.Prelude.{All}
 use Rattle.std.specs.List.Sorted.{IsStrictlySortedBy}
 use Rattle.std.specs.Str.{bytes_eq}
 use Rattle.nutwords.specs.NameOrder.{byte_order}
@@ -32,6 +33,7 @@ AreByName upses = IsStrictlySortedBy (λ a b. byte_order a.name b.name) upses
 pub record IsList (list : List Ups) : Type 0 where
   pub by_name : AreByName list
   pub few : length list ≤ UPS_LIMIT
+  pub lawful : All IsLawfulUps list
 
 -- The UPS of this name.
 abbrev pub ups_named : List ℕ → List Ups → Option Ups

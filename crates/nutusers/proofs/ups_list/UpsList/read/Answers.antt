@@ -6,6 +6,7 @@ use Rattle.nutwords.specs.Text.{lines_of}
 use Rattle.nutwords.specs.NameOrder.{byte_order}
 use Rattle.nutusers.specs.UpsFile.{IsUpsList, upses_of}
 use Rattle.nutusers.specs.UpsList.{Ups}
+use Rattle.nutusers.proofs.LawfulUpses.{each_ups_lawful}
 use Rattle.nutusers.proofs.NamesApart.{rising_names}
 use Rattle.nutusers.proofs.UpsLemmas.{upses_apart}
 use Rattle.nutusers.proofs.ups_list.UpsList.read.Goals as goal
@@ -20,7 +21,11 @@ is_list c =
     record { accepted = means.accepted; same = same; by_name = rising_names (λ (ups : Ups). ups.name) (upses_of (reverse (lines_of c.args.bytes.now))) c.sort_unstable_by.new.self.items (upses_apart (reverse (lines_of c.args.bytes.now)) means.accepted) same sorted }
 
 pub invariant_of-result : goal.invariant_of-result
-invariant_of-result c = record { by_name = (is_list c).by_name; few = rw (length_permutation _ _ c.sort_unstable_by.ensures.permutation) c.upses.invariant }
+invariant_of-result c = record {
+  by_name = (is_list c).by_name;
+  few = rw (length_permutation _ _ c.sort_unstable_by.ensures.permutation) c.upses.invariant;
+  lawful = each_ups_lawful (lines_of c.args.bytes.now) c.sort_unstable_by.new.self.items (is_list c);
+}
 
 pub returns-clause-ok : goal.returns-clause-ok
 returns-clause-ok c = is_list c
