@@ -1,7 +1,6 @@
 -- The places stand in the order of their seats. So the next one is the first that is ready behind the last one that had a
 -- turn, or else the first that is ready.
-use Rattle.std.proofs.Common.{◌≡◌, ◌≢◌, ◌+◌, ◌<◌, ◌≤◌, ◌⊎◌, ◌∙◌, ◌↔◌, ℕ, Bool, true, false, List, Option, Some, None, refl, sym, ap, subst, cond, inl, inr, arith, length, get_or, set, nat_lt, insert, get_or-set_other, get_or-set_same, length-set, is_some, not, IsTrue}
-use Rattle.std.specs.List.{position_or_len}
+use Rattle.std.proofs.Common.{◌≡◌, ◌≢◌, ◌+◌, ◌<◌, ◌≤◌, ◌∙◌, ◌↔◌, ℕ, Bool, true, false, List, Option, Some, None, refl, sym, ap, subst, cond, inl, inr, arith, length, get_or, set, insert, get_or-set_other, get_or-set_same, length-set, is_some, not, IsTrue}
 use Rattle.std.specs.List.Sorted.{IsPartitionPoint}
 use Rattle.std.proofs.lemmas.Bool.{true≢false, ltb-true, ltb-false, lt-ltb, le-ltb, leb-true, leb-false, cases_lt, cases_eq, cond-true, cond-false}
 use Rattle.std.proofs.lemmas.List.{get_or_default}

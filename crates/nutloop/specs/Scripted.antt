@@ -1,7 +1,11 @@
 -- What scripted sockets tell.
-use Rattle.std.specs.Prelude.{◌≡◌, Bool, true, false, List, [], ◌∷◌, ◌++◌, Option, Some, None, ◌&&◌}
-use Rattle.std.specs.Prelude.{if◌then◌else◌}
+use Rattle.std.specs.Prelude.{◌≡◌, ◌⊎◌, ℕ, Bool, true, false, List, [], ◌∷◌, ◌++◌, Option, Some, None}
+use Rattle.std.specs.Prelude.{◌&&◌, if◌then◌else◌, Result, Ok, Err, length, take, min}
+use Rattle.nutloop.specs.declared.scripted.Act.{Act}
+use Rattle.nutloop.specs.declared.scripted.Act.TheVariants.{Gives, Waits, Ends, Takes}
 use Rattle.nutloop.specs.declared.sockets.Call.{Call}
+use Rattle.nutloop.specs.declared.sockets.Got.{Got}
+use Rattle.nutloop.specs.declared.sockets.Got.TheVariants.{Bytes, Later, End}
 
 -- The calls, as long as all of them are kept.
 abbrev pub told_while : Bool → List Call → Option (List Call)
@@ -12,3 +16,18 @@ told_while false calls = None
 abbrev pub IsKeptOrNot : Bool → List Call → Bool → List Call → Call → Type 0
 IsKeptOrNot was before is now call =
     (kept : Bool) × (now ≡ (if kept then before ++ call ∷ [] else before)) × (is ≡ (was && kept))
+
+-- A call takes the next act, if there is one, and is answered by it. One that fails takes it too.
+abbrev pub Follows : {T E : Type 0} → (T → Act → Type 0) → List Act → Result T E → List Act → Type 0
+Follows answers before (Ok x) after = (next : Act) × (before ≡ next ∷ after) × answers x next
+Follows answers before (Err e) after =
+    ((next : Act) × (before ≡ next ∷ after)) ⊎ ((before ≡ []) × (after ≡ []))
+
+-- The act by which a read is answered so, and a write.
+abbrev pub AnswersRead : List ℕ → Got → Act → Type 0
+AnswersRead into (Bytes n) next = next ≡ Gives (take n into)
+AnswersRead into Later next = next ≡ Waits
+AnswersRead into End next = next ≡ Ends
+
+abbrev pub AnswersWrite : List ℕ → ℕ → Act → Type 0
+AnswersWrite from n next = (most : ℕ) × (next ≡ Takes most) × (n ≡ min most (length from))

@@ -1,17 +1,23 @@
 -- What may be done with a peer, by its socket and by the server, and what is told of its turn.
 use Rattle.std.specs.Prelude.{◌≡◌, ◌≢◌, ◌⊎◌, ◌||◌, ◌&&◌, ◌==◌, ℕ, zero, suc, Bool, true, false}
-use Rattle.std.specs.Prelude.{not, if◌then◌else◌, Result, Ok, Err, length}
+use Rattle.std.specs.Prelude.{not, if◌then◌else◌, List, Option, Some, None, Result, Ok, Err, length}
 use Rattle.std.specs.declared.io.Error.{Error}
 use Rattle.std.specs.declared.io.ErrorKind.TheVariants as kind
 use Rattle.std.specs.IoError.{error_kind}
 use Rattle.nutusers.specs.declared.ups_list.UpsId.{UpsId}
+use Rattle.nutcore.specs.declared.event.Peer.{Peer}
 use Rattle.nutcore.specs.declared.event.Peer.TheVariants as peer
 use Rattle.nutcore.specs.Server.{ServerState, session}
 use Rattle.nutcore.specs.Step.{offered}
+use Rattle.nutloop.specs.Pace.{after_turn}
+use Rattle.nutloop.specs.Round.{TakesTurn}
 use Rattle.nutloop.specs.Turn.{room_at, is_finished_at, owed_to_driver}
+use Rattle.nutloop.specs.declared.pace.Pace.{Pace}
 use Rattle.nutloop.specs.declared.round.Flags.{Flags}
+use Rattle.nutloop.specs.declared.round.Place.{Place}
 use Rattle.nutloop.specs.declared.round.Seat.{Seat}
 use Rattle.nutloop.specs.declared.round.Seat.TheVariants.{Client, Driver, Listener}
+use Rattle.nutloop.specs.declared.round.Turn.{Turn}
 use Rattle.nutloop.specs.declared.round.Way.{Way}
 use Rattle.nutloop.specs.declared.round.Way.TheVariants as way
 use Rattle.nutloop.specs.declared.sockets.Broken.{Broken}
@@ -107,3 +113,17 @@ ready_of (Client c) way.Write is_told = Write (peer.Client c)
 ready_of (Driver u) way false = DriverUp u
 ready_of (Driver u) way.Read true = Read (peer.Driver u)
 ready_of (Driver u) way.Write true = Write (peer.Driver u)
+
+-- The next one has its turn, which is counted and told, or nobody is ready.
+abbrev pub TellsTurn : Seat → List Place → Pace → Option Ready → Seat → List Place → Pace → Type 0
+TellsTurn last places pace None new_last new after =
+    TakesTurn last places None new_last new × (after ≡ pace)
+TellsTurn last places pace (Some ready) new_last new after =
+    (turn : Turn)
+    × ((is_told : Bool) × TakesTurn last places (Some turn) new_last new
+    × (after ≡ after_turn turn pace) × (ready ≡ ready_of turn.seat turn.way is_told))
+
+-- The seat of a peer.
+abbrev pub seat_of : Peer → Seat
+seat_of (peer.Client c) = Client c
+seat_of (peer.Driver u) = Driver u

@@ -1,5 +1,6 @@
 //! Whose turn it is: all who may have one go round.
 ghost use Rattle.std.specs.Prelude.{◌≡◌, ◌≤◌, ◌↔◌, [], IfOk, IsTrue, MatchResult, length};
+ghost use Rattle.nutloop.specs.declared.round.Seat.TheVariants.{Listener};
 ghost use Rattle.nutloop.specs.Round.{FindsNext, FindsReady, FindsSeat, IsOver, LeavesOut, Notes};
 ghost use Rattle.nutloop.specs.Round.{StandInOrder, TakesIn, TakesTurn};
 ghost use Rattle.nutloop.specs.Round.{first_above, is_ready, rank, seat_at, way_of};
@@ -97,7 +98,8 @@ pub(crate) struct Round {
 impl Round {
     /// No seat is taken.
     pub fn new(alloc: Global, capacity: usize) -> Result<Round, AllocError>
-        ensures { IfOk result (λ r. r.places.items ≡ []) }
+        ensures places { IfOk result (λ r. r.places.items ≡ []) }
+        ensures last { IfOk result (λ r. r.last ≡ Listener) }
     {
         Ok(Round {
             last: Seat::Listener,

@@ -1,8 +1,10 @@
 //! Sockets in memory: they answer from a script, and keep every call that was answered.
 ghost use Rattle.std.specs.Prelude.{◌≡◌, ◌≤◌, ◌∷◌, [], true, IfOk, length};
+ghost use Rattle.std.specs.Vec.Iter.{into_iter_items};
+ghost use Rattle.nutloop.specs.declared.scripted.Act.TheVariants as act;
 ghost use Rattle.nutloop.specs.declared.sockets.Call.TheVariants.{Readied, Accepted, Named, Refused, Wrote, Shut};
 ghost use Rattle.nutloop.specs.Sockets.{Grows, Logs, AtMost, IsCounted, read_call};
-ghost use Rattle.nutloop.specs.Scripted.{IsKeptOrNot, told_while};
+ghost use Rattle.nutloop.specs.Scripted.{AnswersRead, AnswersWrite, Follows, IsKeptOrNot, told_while};
 
 use crate::{Broken, Call, Got, Ready, Sockets};
 use nutcore::{Bytes, ClientId, Peer, Server};
@@ -45,6 +47,7 @@ impl Scripted {
         ensures calls { result.calls.items ≡ [] }
         ensures whole { result.is_whole ≡ true }
         ensures failures { result.failures ≡ 0 }
+        ensures script { into_iter_items result.script ≡ script.items }
     {
         Scripted {
             alloc,
@@ -70,6 +73,8 @@ impl Scripted {
     }
 
     fn next(&mut self) -> Result<Act, Broken>
+        ensures script { Follows (λ x next. next ≡ x)
+            (into_iter_items self.old.script) result (into_iter_items self.new.script) }
         ensures calls { self.new.calls.items ≡ self.old.calls.items }
         ensures whole { self.new.is_whole ≡ self.old.is_whole }
         ensures count { self.new.failures ≡ self.old.failures }
@@ -79,6 +84,7 @@ impl Scripted {
 
     /// Keeps the call. Without memory it fails, and nothing is kept; what is told goes on.
     fn keep(&mut self, call: Call) -> Result<(), Broken>
+        ensures script { into_iter_items self.new.script ≡ into_iter_items self.old.script }
         ensures told { Logs (told_while self.old.is_whole self.old.calls.items)
             (told_while self.new.is_whole self.new.calls.items) (λ _. call) result }
         ensures whole { self.new.is_whole ≡ self.old.is_whole }
@@ -92,6 +98,7 @@ impl Scripted {
 
     /// Keeps a call that can't fail. Without memory the calls are known no more.
     fn keep_or_stop(&mut self, call: Call)
+        ensures script { into_iter_items self.new.script ≡ into_iter_items self.old.script }
         ensures told { Grows (told_while self.old.is_whole self.old.calls.items)
             (told_while self.new.is_whole self.new.calls.items) (call ∷ []) }
         ensures kept { IsKeptOrNot self.old.is_whole self.old.calls.items
@@ -106,6 +113,7 @@ impl Scripted {
     /// Counts a call that failed.
     fn count<T>(&mut self, answer: Result<T, Broken>) -> Result<T, Broken>
         ensures same { result ≡ answer }
+        ensures script { into_iter_items self.new.script ≡ into_iter_items self.old.script }
         ensures calls { self.new.calls.items ≡ self.old.calls.items }
         ensures whole { self.new.is_whole ≡ self.old.is_whole }
         ensures count { IsCounted self.old.failures self.new.failures answer }
@@ -117,6 +125,8 @@ impl Scripted {
     }
 
     fn next_ready(&mut self) -> Result<Ready, Broken>
+        ensures script { Follows (λ ready next. next ≡ act.Ready ready)
+            (into_iter_items self.old.script) result (into_iter_items self.new.script) }
         ensures told { Logs (told_while self.old.is_whole self.old.calls.items)
             (told_while self.new.is_whole self.new.calls.items) Readied result }
         ensures whole { self.new.is_whole ≡ self.old.is_whole }
@@ -130,6 +140,8 @@ impl Scripted {
     }
 
     fn next_newcomer(&mut self) -> Result<Option<Address>, Broken>
+        ensures script { Follows (λ address next. next ≡ act.Comes address)
+            (into_iter_items self.old.script) result (into_iter_items self.new.script) }
         ensures told { Logs (told_while self.old.is_whole self.old.calls.items)
             (told_while self.new.is_whole self.new.calls.items) Accepted result }
         ensures whole { self.new.is_whole ≡ self.old.is_whole }
@@ -147,6 +159,8 @@ impl Scripted {
 
     /// The peer gives these bytes, which have to fit.
     fn give(&mut self, p: Peer, bytes: Bytes, into: &mut [u8]) -> Result<Got, Broken>
+        ensures script { into_iter_items self.new.script ≡ into_iter_items self.old.script }
+        ensures given { IfOk result (λ got. AnswersRead into.new got (act.Gives bytes)) }
         ensures bound { AtMost result into.new }
         ensures told { Logs (told_while self.old.is_whole self.old.calls.items)
             (told_while self.new.is_whole self.new.calls.items) (read_call p into.new) result }
@@ -163,6 +177,8 @@ impl Scripted {
     }
 
     fn next_read(&mut self, p: Peer, into: &mut [u8]) -> Result<Got, Broken>
+        ensures script { Follows (AnswersRead into.new)
+            (into_iter_items self.old.script) result (into_iter_items self.new.script) }
         ensures bound { AtMost result into.new }
         ensures told { Logs (told_while self.old.is_whole self.old.calls.items)
             (told_while self.new.is_whole self.new.calls.items) (read_call p into.new) result }
@@ -184,6 +200,8 @@ impl Scripted {
     }
 
     fn next_write(&mut self, p: Peer, from: &[u8]) -> Result<usize, Broken>
+        ensures script { Follows (AnswersWrite from.now)
+            (into_iter_items self.old.script) result (into_iter_items self.new.script) }
         ensures bound { IfOk result (λ n. n ≤ length from.now) }
         ensures told { Logs (told_while self.old.is_whole self.old.calls.items)
             (told_while self.new.is_whole self.new.calls.items) (Wrote p from.now) result }
@@ -208,6 +226,8 @@ impl Sockets for Scripted {
     ghost failures = { λ s. s.failures };
 
     fn ready(&mut self, _server: &Server) -> Result<Ready, Broken>
+        ensures script { Follows (λ ready next. next ≡ act.Ready ready)
+            (into_iter_items self.old.script) result (into_iter_items self.new.script) }
         ensures told { Logs (told_while self.old.is_whole self.old.calls.items)
             (told_while self.new.is_whole self.new.calls.items) Readied result }
         ensures whole { self.new.is_whole ≡ self.old.is_whole }
@@ -218,6 +238,8 @@ impl Sockets for Scripted {
     }
 
     fn accept(&mut self) -> Result<Option<Address>, Broken>
+        ensures script { Follows (λ address next. next ≡ act.Comes address)
+            (into_iter_items self.old.script) result (into_iter_items self.new.script) }
         ensures told { Logs (told_while self.old.is_whole self.old.calls.items)
             (told_while self.new.is_whole self.new.calls.items) Accepted result }
         ensures whole { self.new.is_whole ≡ self.old.is_whole }
@@ -228,6 +250,7 @@ impl Sockets for Scripted {
     }
 
     fn name(&mut self, c: ClientId)
+        ensures script { into_iter_items self.new.script ≡ into_iter_items self.old.script }
         ensures told { Grows (told_while self.old.is_whole self.old.calls.items)
             (told_while self.new.is_whole self.new.calls.items) (Named c ∷ []) }
         ensures kept { IsKeptOrNot self.old.is_whole self.old.calls.items
@@ -238,6 +261,7 @@ impl Sockets for Scripted {
     }
 
     fn refuse(&mut self)
+        ensures script { into_iter_items self.new.script ≡ into_iter_items self.old.script }
         ensures told { Grows (told_while self.old.is_whole self.old.calls.items)
             (told_while self.new.is_whole self.new.calls.items) (Refused ∷ []) }
         ensures kept { IsKeptOrNot self.old.is_whole self.old.calls.items
@@ -248,6 +272,8 @@ impl Sockets for Scripted {
     }
 
     fn read(&mut self, p: Peer, into: &mut [u8]) -> Result<Got, Broken>
+        ensures script { Follows (AnswersRead into.new)
+            (into_iter_items self.old.script) result (into_iter_items self.new.script) }
         ensures bound { AtMost result into.new }
         ensures told { Logs (told_while self.old.is_whole self.old.calls.items)
             (told_while self.new.is_whole self.new.calls.items) (read_call p into.new) result }
@@ -259,6 +285,8 @@ impl Sockets for Scripted {
     }
 
     fn write(&mut self, p: Peer, from: &[u8]) -> Result<usize, Broken>
+        ensures script { Follows (AnswersWrite from.now)
+            (into_iter_items self.old.script) result (into_iter_items self.new.script) }
         ensures bound { IfOk result (λ n. n ≤ length from.now) }
         ensures told { Logs (told_while self.old.is_whole self.old.calls.items)
             (told_while self.new.is_whole self.new.calls.items) (Wrote p from.now) result }
@@ -270,6 +298,7 @@ impl Sockets for Scripted {
     }
 
     fn shut(&mut self, p: Peer)
+        ensures script { into_iter_items self.new.script ≡ into_iter_items self.old.script }
         ensures told { Grows (told_while self.old.is_whole self.old.calls.items)
             (told_while self.new.is_whole self.new.calls.items) (Shut p ∷ []) }
         ensures kept { IsKeptOrNot self.old.is_whole self.old.calls.items

@@ -1,4 +1,6 @@
 //! The sockets of clients.
+ghost use Rattle.std.specs.Prelude.{◌≡◌};
+ghost use Rattle.nutloop.specs.Standing.{client_flags, standing_of};
 
 use crate::round::Flags;
 use crate::standing::{Readiness, Standing, client_flags};
@@ -19,7 +21,13 @@ pub(super) struct ClientSocket {
 
 impl ClientSocket {
     /// What may be done with it.
-    pub fn flags(&mut self, server: &Server) -> Flags {
+    pub fn flags(&mut self, server: &Server) -> Flags
+        ensures flags { result ≡ client_flags self.old.readiness
+            (standing_of self.old.id server.now.state) }
+        ensures owed { self.new.is_owed ≡ (standing_of self.old.id server.now.state).is_owed }
+        ensures readiness { self.new.readiness ≡ self.old.readiness }
+        ensures id { self.new.id ≡ self.old.id }
+    {
         let standing = Standing::of(server, self.id);
         self.is_owed = standing.is_owed;
         client_flags(self.readiness, standing)

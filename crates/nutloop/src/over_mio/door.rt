@@ -1,4 +1,6 @@
 //! The listener, and the newcomer that it took in last.
+ghost use Rattle.std.specs.Prelude.{◌≡◌, None};
+
 use super::readiness::both_ways;
 use crate::sockets::Broken;
 use mio::net::{TcpListener, TcpStream};
@@ -95,7 +97,10 @@ impl Door {
     }
 
     /// The newcomer that was taken in last. There is none from then on.
-    pub fn take_newcomer(&mut self) -> Option<Newcomer> {
+    pub fn take_newcomer(&mut self) -> Option<Newcomer>
+        ensures taken { result ≡ self.old.newcomer }
+        ensures left { self.new.newcomer ≡ None }
+    {
         self.newcomer.take()
     }
 }

@@ -1,4 +1,7 @@
 //! The sockets of drivers.
+ghost use Rattle.std.specs.Prelude.{◌≡◌, MatchOption};
+ghost use Rattle.nutloop.specs.Standing.{driver_flags, is_driver_owed};
+
 use super::readiness::both_ways;
 use crate::round::Flags;
 use crate::standing::{Readiness, driver_flags, is_driver_owed};
@@ -41,7 +44,15 @@ impl DriverSocket {
     }
 
     /// What may be done with it, where that is something else than was told last.
-    pub fn new_flags(&mut self, server: &Server) -> Option<Flags> {
+    pub fn new_flags(&mut self, server: &Server) -> Option<Flags>
+        ensures flags { self.new.flags ≡ driver_flags self.old.readiness self.old.is_told
+            (is_driver_owed self.old.u server.now.state) }
+        ensures told { MatchOption result (self.new.flags ≡ self.old.flags)
+            (λ flags. flags ≡ self.new.flags) }
+        ensures readiness { self.new.readiness ≡ self.old.readiness }
+        ensures is_told { self.new.is_told ≡ self.old.is_told }
+        ensures ups { self.new.u ≡ self.old.u }
+    {
         let flags = driver_flags(self.readiness, self.is_told, is_driver_owed(server, self.u));
         if flags == self.flags {
             return None;

@@ -1,6 +1,9 @@
 //! The sockets of all peers, and their places in the round.
-ghost use Rattle.std.specs.Prelude.{◌≤◌, length, IfOk};
+ghost use Rattle.std.specs.Prelude.{◌≡◌, ◌≢◌, ◌≤◌, false, length, IfOk};
+ghost use Rattle.nutloop.specs.Round.{LeavesOut, Notes};
 ghost use Rattle.nutloop.specs.Sockets.{AtMost};
+ghost use Rattle.nutloop.specs.Standing.{TellsTurn, seat_of};
+ghost use Rattle.nutloop.specs.declared.round.Seat.TheVariants.{Client, Listener};
 
 use super::clients::{ClientSocket, client};
 use super::door::Newcomer;
@@ -120,7 +123,13 @@ impl Peers {
     }
 
     /// Notes whether newcomers may be waiting.
-    pub fn note_newcomers(&mut self, is_knocked_at: bool) {
+    pub fn note_newcomers(&mut self, is_knocked_at: bool)
+        ensures known { self.new.is_knocked_at ≡ is_knocked_at }
+        ensures noted { is_knocked_at ≢ self.old.is_knocked_at
+            → Notes Listener (record { readable = is_knocked_at; writable = false })
+            self.old.round.places.items self.new.round.places.items }
+        ensures last { self.new.round.last ≡ self.old.round.last }
+    {
         if is_knocked_at == self.is_knocked_at {
             return;
         }
@@ -133,7 +142,10 @@ impl Peers {
     }
 
     /// What the next turn is, if anybody is ready.
-    pub fn take_turn(&mut self, pace: &mut Pace) -> Option<Ready> {
+    pub fn take_turn(&mut self, pace: &mut Pace) -> Option<Ready>
+        ensures { TellsTurn self.old.round.last self.old.round.places.items pace.old result
+            self.new.round.last self.new.round.places.items pace.new }
+    {
         let turn = self.round.take_turn()?;
         pace.count(turn);
         let is_told = self.is_told(turn.seat);
@@ -141,7 +153,9 @@ impl Peers {
     }
 
     /// Whether it was told before that who has this seat is there. From now on it was.
-    fn is_told(&mut self, seat: Seat) -> bool {
+    fn is_told(&mut self, seat: Seat) -> bool
+        ensures round { self.new.round ≡ self.old.round }
+    {
         let Seat::Driver(u) = seat else {
             return true;
         };
@@ -186,7 +200,11 @@ impl Peers {
     }
 
     /// Lets a peer go.
-    pub fn shut(&mut self, p: Peer, pace: &Pace) {
+    pub fn shut(&mut self, p: Peer, pace: &Pace)
+        ensures seat { LeavesOut (seat_of p)
+            self.old.round.places.items self.new.round.places.items }
+        ensures last { self.new.round.last ≡ self.old.round.last }
+    {
         match p {
             Peer::Client(c) => self.shut_client(c, pace),
             Peer::Driver(u) => {
@@ -196,7 +214,11 @@ impl Peers {
         }
     }
 
-    fn shut_client(&mut self, c: ClientId, pace: &Pace) {
+    fn shut_client(&mut self, c: ClientId, pace: &Pace)
+        ensures seat { LeavesOut (Client c)
+            self.old.round.places.items self.new.round.places.items }
+        ensures last { self.new.round.last ≡ self.old.round.last }
+    {
         self.round.leave(Seat::Client(c));
         if let Some(place) = self.clients.iter().position(|client| client.id == c) {
             let client = self.clients.remove(place);

@@ -1,5 +1,3 @@
-use Rattle.std.proofs.Common.{sym, subst}
-use Rattle.nutloop.specs.Round.{FindsReady, first_above, rank}
 use Rattle.nutloop.proofs.NextTurn.{found_behind, found_first}
 use Rattle.nutloop.proofs.round.Round.next.Goals as goal
 

@@ -1,4 +1,4 @@
-use Rattle.std.proofs.Common.{◌≡◌, ◌∙◌, ◌+◌, ◌<◌, List, None, arith, ap, length, subst, sym}
+use Rattle.std.proofs.Common.{◌≡◌, ◌∙◌, ◌+◌, ◌<◌, List, arith, ap, length, subst, sym}
 use Rattle.std.proofs.lemmas.List.{get_or_read}
 use Rattle.nutloop.specs.declared.round.Place.{Place}
 use Rattle.nutloop.specs.Round.{FindsSeat, first_above, rank}
