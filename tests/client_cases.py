@@ -125,6 +125,7 @@ def asked_for():
     yield Row(("upsc", "-l", "localhost"), upses, b"LIST UPS\n", b"su\n")
     yield Row(("upsc", "-L"), described, b"LIST UPS\n", b"bay-1: Rack 1\nsu: \n")
     yield Row(("upsc", "-c", "su"), clients, b"LIST CLIENT su\n", b"192.0.2.1\n::1\n")
+    yield Row(("upsc", "--attached", "su"), b"NUMATTACH su 64\n", b"GET NUMATTACH su\n", b"64\n")
     yield Row(("upsrw", "su"), writable, b"LIST RW su\n", b"ups.delay=30\n")
     yield Row(("upscmd", "-l", "su"), commands, b"LIST CMD su\n", b"load.off\nload.on\n")
     yield Row(SET, b"OK\n" * 3, USER + PASSWORD + b'SET VAR su ups.delay "30"\n', b"OK\n")
@@ -213,6 +214,21 @@ MISFITS = [
 ]
 
 
+NO_COUNTS = [b"65", b"100", b"00", b"07", b"-1", b"+1", b"1x", b"x", b'""', b"1 2", b""]
+
+
+def counts():
+    """A number of clients is 0 to 64, as it is written; any other is a bad reply."""
+    words, asked = ("upsc", "--attached", "su"), b"GET NUMATTACH su\n"
+    for count in range(65):
+        yield Row(words, b"NUMATTACH su %d\n" % count, asked, b"%d\n" % count)
+    for count in NO_COUNTS:
+        yield Row(words, b"NUMATTACH su " + count + b"\n", asked, fault=BAD, ending=STAYS)
+    for reply in [b"NUMATTACH other 1\n", b"NUMLOGINS su 1\n", b"OK\n", b'VAR su a "1"\n']:
+        yield Row(words, reply, asked, fault=BAD, ending=STAYS)
+    yield Row(words, b"ERR UNKNOWN-UPS\n", asked, fault="server answered ERR UNKNOWN-UPS")
+
+
 def bad_replies():
     """Each is told at once, though the server could still send more."""
     for reply in MISFITS:
@@ -253,6 +269,7 @@ def main():
     BENCH.case("a cut reply prints nothing", check, cut_replies())
     BENCH.case("nothing is sent behind a refusal", check, refusals())
     BENCH.case("a line that does not fit is a bad reply", check, bad_replies())
+    BENCH.case("a number of clients is 0 to 64", check, counts())
     BENCH.case("a line has at most 1023 bytes", check, long_lines())
     BENCH.case("what stands behind a reply is left", check, more_behind_a_reply())
     BENCH.case("a server that takes less is told", check, servers_that_take_less())

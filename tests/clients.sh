@@ -27,6 +27,7 @@ perl -MIO::Socket::INET -e '
         "LIST CMD su" => "BEGIN LIST CMD su\nCMD su load.off\nEND LIST CMD su\n",
         "LIST UPS" => "BEGIN LIST UPS\nUPS su \"Rack 1\"\nEND LIST UPS\n",
         "LIST CLIENT su" => "BEGIN LIST CLIENT su\nCLIENT su 192.0.2.1\nEND LIST CLIENT su\n",
+        "GET NUMATTACH su" => "NUMATTACH su 1\n",
         "GET VAR su ups.status" => "VAR su ups.status \"OL\"\n",
         "USERNAME \"admin\"" => "OK\n", "PASSWORD \"s3 cret\"" => "OK\n", "PASSWORD \"no\"" => "ERR ACCESS-DENIED\n",
         "SET VAR su ups.delay \"30\"" => "OK\n", "INSTCMD su load.off" => "OK\n",
@@ -71,11 +72,15 @@ refuses_words three_words su ups.status more
 refuses_words clients_without_a_ups -c
 refuses_words two_lists -l -L
 refuses_words list_of_a_variable -l localhost ups.status
+refuses_words number_without_a_ups --attached
+refuses_words number_and_clients --attached -c su
+refuses_words number_of_a_variable --attached su ups.status
 ends unlawful_ups 2 "" "upsc: bad argument" s/u
 ends unlawful_port 2 "" "upsc: bad argument" su@localhost:0
 faults refused "upsc: cannot connect" "su@localhost:$refusing"
 faults closed "upsc: reply ended early" "su@127.0.0.1:$silent"
 faults unknown_ups "upsc: server answered ERR UNKNOWN-UPS" "other@127.0.0.1:$answering"
+prints number "1" --attached "su@127.0.0.1:$answering"
 prints variables "ups.status: OL" "su@localhost:$answering"
 prints variable "OL" "su@127.0.0.1:$answering" ups.status
 prints names "su" -l "127.0.0.1:$answering"

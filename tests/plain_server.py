@@ -229,6 +229,7 @@ class Session:
 
 FORMS = {
     b"USERNAME": (1,), b"PASSWORD": (1,), b"LOGIN": (1,), b"LOGOUT": (0,), b"PRIMARY": (1,), b"FSD": (1,),
+    b"ATTACH": (1,), b"DETACH": (0,), b"GET NUMATTACH": (1,),
     b"INSTCMD": (2, 3), b"HELP": (0,), b"VER": (0,), b"NETVER": (0,), b"PROTVER": (0,), b"STARTTLS": (0,),
     b"SET VAR": (3,), b"GET VAR": (2,), b"GET TYPE": (2,), b"GET DESC": (2,), b"GET CMDDESC": (2,),
     b"GET UPSDESC": (1,), b"GET NUMLOGINS": (1,), b"LIST UPS": (0,), b"LIST VAR": (1,), b"LIST RW": (1,),
@@ -242,7 +243,7 @@ TEXTS = {
 }
 LIVE = (b"GET VAR", b"GET TYPE", b"SET VAR", b"INSTCMD", b"LIST VAR", b"LIST RW", b"LIST CMD", b"LIST ENUM", b"LIST RANGE")
 OF_VARIABLE = (b"GET VAR", b"GET TYPE", b"SET VAR", b"LIST ENUM", b"LIST RANGE")
-RIGHTS = {b"LOGIN": "login", b"PRIMARY": "primary", b"FSD": "fsd", b"SET VAR": "set"}
+RIGHTS = {b"LOGIN": "login", b"ATTACH": "login", b"PRIMARY": "primary", b"FSD": "fsd", b"SET VAR": "set"}
 
 
 class Error(Exception):
@@ -419,7 +420,7 @@ class Server:
             return TEXTS[verb]
         if verb == b"STARTTLS":
             raise Error(b"FEATURE-NOT-CONFIGURED")
-        if verb == b"LOGOUT":
+        if verb in (b"LOGOUT", b"DETACH"):
             session.end()
             return b"OK Goodbye"
         if verb in (b"USERNAME", b"PASSWORD"):
@@ -441,7 +442,7 @@ class Server:
         return b"OK"
 
     def order(self, session, ups, verb, rest):
-        if verb == b"LOGIN":
+        if verb in (b"LOGIN", b"ATTACH"):
             if session.login:
                 raise Error(b"ALREADY-LOGGED-IN")
             session.login = ups.name
@@ -484,7 +485,7 @@ class Server:
             return front + quoted(ups.shown(rest[1]))
         if kind == b"TYPE":
             return front + ups.variables[rest[1]].type_words()
-        if kind == b"NUMLOGINS":
+        if kind in (b"NUMLOGINS", b"NUMATTACH"):
             return front + b"%d" % len(self.logged_in(ups))
         if kind == b"UPSDESC":
             return front + quoted(b"Unavailable" if ups.desc is None else ups.desc)

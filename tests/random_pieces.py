@@ -32,7 +32,8 @@ NAMES = [b"a", b"b", b"ups.status", b"test.start"] * 6 + [b"nope", b"A", b"x/y",
 VALUES = [b"1", b"OL", b"20", b"8", b"030", b"-5", b"s3 cret", b"pw", b"go", b'q"u\\o', b"", b"v" * 256, b"v" * 257, b"\xff\t "]
 UPS = [b"su"] * 9 + [b"bay", b"SU", b"none"]
 OF_NAME = [b"GET VAR", b"GET TYPE", b"GET DESC", b"GET CMDDESC", b"LIST ENUM", b"LIST RANGE"]
-OF_UPS = [b"LIST VAR", b"LIST RW", b"LIST CMD", b"LIST CLIENT", b"GET NUMLOGINS", b"GET UPSDESC", b"LOGIN", b"PRIMARY"]
+OF_UPS = [b"LIST VAR", b"LIST RW", b"LIST CMD", b"LIST CLIENT", b"GET NUMLOGINS", b"GET UPSDESC", b"LOGIN", b"PRIMARY",
+          b"ATTACH", b"GET NUMATTACH"]
 ALONE = [b"VER", b"NETVER", b"PROTVER", b"HELP", b"STARTTLS", b"LIST UPS", b"GET", b"LIST", b"WHAT", b"", b" \t"]
 FLAGS = [b"RW", b"STRING", b"NUMBER", b"rw", b"BLUE"]
 NUMBERS = [b"0", b"8", b"-5", b"600", b"08", b"1000000000", b"1000000001", b"-1000000000", b"x"]
@@ -81,7 +82,7 @@ class Pieces:
             value = [self.pick(VALUES)] if self.chance() < 0.5 else []
             return self.spell(b"INSTCMD", self.pick(UPS), self.pick(NAMES), *value)
         if kind == 7:
-            return self.pick([b"LOGOUT", self.spell(b"USERNAME", self.pick(NAMES)), self.spell(b"FSD", b"bay"), b"LIST VAR su"])
+            return self.pick([b"LOGOUT", b"DETACH", self.spell(b"USERNAME", self.pick(NAMES)), self.spell(b"FSD", b"bay"), b"LIST VAR su"])
         return self.credentials()
 
     def credentials(self):

@@ -15,7 +15,7 @@ _voqarchay_words() {
         *) printf '%s\n' serve replay help -h --help ;;
         esac
         ;;
-    upsc:*) printf '%s\n' -l -L -c -h --help ;;
+    upsc:*) printf '%s\n' -l -L -c --attached -h --help ;;
     upsrw:*) printf '%s\n' -s -u -p -h --help ;;
     upscmd:*) printf '%s\n' -l -u -p -h --help ;;
     esac

@@ -15,9 +15,9 @@ use Rattle.nutreply.specs.Lines.{lines}
 use Rattle.nutreply.specs.declared.item.Item.{Item}
 use Rattle.nutreply.specs.declared.request.Query.{Query}
 use Rattle.nutreply.specs.declared.request.Query.TheVariants.{Ups, Var, Rw, Cmd, Client}
-use Rattle.nutreply.specs.declared.request.Request.TheVariants.{List as ListOf, GetVar}
+use Rattle.nutreply.specs.declared.request.Request.TheVariants.{List as ListOf, GetVar, GetNumAttach}
 use Rattle.nutreply.specs.Request.{kind_of, ups_of, asked_words}
-use Rattle.nutreply.specs.Reply.{Reply, Whole, reply, reply_from, first_of, later_of, after_later, after_first, items_from, one_item, behind, is_nothing, is_frame}
+use Rattle.nutreply.specs.Reply.{Reply, Whole, reply, reply_from, first_of, later_of, after_later, after_first, items_from, one_item, behind, is_count, is_nothing, is_frame}
 use Rattle.endtoend.specs.Frames.{item_words, IsItem, AFrameIsReadAsItsItems}
 use Rattle.endtoend.proofs.LineReading.{first_found, words_read, written_line, line_before}
 
@@ -92,6 +92,16 @@ frame_read = λ query written items more h known few. whole query written items 
         ∙ ap (λ words. after_first (ListOf query) (first_of (ListOf query) words) (rest ++ more)) (words_read first (begin_words query) r)
         ∙ begin_read query (rest ++ more)
         ∙ items_read query rest ls items [] more cuts reads known (omega arith)
+
+-- the one line of a GET NUMATTACH
+pub number_read : (ups number : List ℕ) (more : List ℕ) → is_count number ≡ true → IsWrittenLine (codes "NUMATTACH" ∷ ups ∷ number ∷ []) (codes "NUMATTACH" ∷ ups ∷ number ∷ [])
+    → reply (GetNumAttach ups) (line_of (codes "NUMATTACH" ∷ ups ∷ number ∷ []) ++ more) ≡ Whole (one_item number) more
+number_read ups number more count h =
+    let words : List (List ℕ) = codes "NUMATTACH" ∷ ups ∷ number ∷ [] in
+    let r = written_line words words h in
+    ap (reply_from (GetNumAttach ups)) (line_before words words more r)
+    ∙ ap (λ ws. after_first (GetNumAttach ups) (first_of (GetNumAttach ups) ws) more) (words_read r.line words r.reads)
+    ∙ (rw (behind-same (codes "NUMATTACH" ∷ ups ∷ []) (number ∷ [])) (rw count refl))
 
 -- the one line of a GET VAR
 pub value_read : (ups name value : List ℕ) (texts : List (List ℕ)) (more : List ℕ) → IsWrittenLine texts (codes "VAR" ∷ ups ∷ name ∷ value ∷ []) → reply (GetVar ups name) (line_of texts ++ more) ≡ Whole (one_item value) more

@@ -4,7 +4,9 @@ use Rattle.std.specs.Prelude.{false, codes, map, All, IsTrue, IfSome, filter}
 use Rattle.std.specs.List.{AllZip, flat_map}
 use Rattle.std.specs.BTreeMap.{is_at}
 use Rattle.std.specs.Map.{keys_of, values_of}
+use Rattle.std.specs.Fmt.{decimal}
 use Rattle.std.proofs.lemmas.List.{length-map}
+use Rattle.std.proofs.lemmas.List.Sums.{length-filter, count_by-le-length}
 use Rattle.std.proofs.lemmas.Map.Views.{IfSome-lookup_from_All}
 use Rattle.std.proofs.lemmas.List.Elements.{All-head, All-tail, All-nil, All-cons, All-filter}
 use Rattle.nutwords.specs.Bytes.{is_name_byte}
@@ -20,6 +22,7 @@ use Rattle.nutusers.specs.UpsList.{Ups, IsLawfulUps}
 use Rattle.nutlisting.specs.Items.{variable_item, is_rw, command_item, ups_item}
 use Rattle.nutlisting.specs.Shown.{shown, ups_description}
 use Rattle.nutanswer.specs.Checks.{KnownUps}
+use Rattle.nutcore.specs.ByRight.{WhatIsCountedIsWhoIsThere, logged_in, is_logged_in_of}
 use Rattle.nutcore.specs.Headline.{AListingIsWhatIsHeld}
 use Rattle.nutcore.specs.Reply.{seen}
 use Rattle.nutcore.specs.Reply as server
@@ -36,10 +39,11 @@ use Rattle.nutclient.specs.declared.form.Form.{Form}
 use Rattle.nutclient.specs.declared.form.Form.TheVariants as forms
 use Rattle.endtoend.specs.Frames.{item_words, IsItem}
 use Rattle.endtoend.specs.Served.{HasVariable}
-use Rattle.endtoend.specs.Printed.{variable_line, setting_line, UpsrwPrintsTheVariables, UpscmdPrintsTheCommands, name_lines, description_line, description_lines, UpscPrintsTheVariables, UpscPrintsTheVariable, UpscPrintsTheUpses}
-use Rattle.endtoend.proofs.FrameReading.{frame_read, value_read}
+use Rattle.endtoend.specs.Printed.{variable_line, setting_line, UpsrwPrintsTheVariables, UpscmdPrintsTheCommands, name_lines, description_line, description_lines, UpscPrintsTheVariables, UpscPrintsTheVariable, UpscPrintsHowManyAreLoggedIn, UpscPrintsTheUpses}
+use Rattle.endtoend.proofs.FrameReading.{frame_read, number_read, value_read}
+use Rattle.endtoend.proofs.Numbers.{written_number}
 use Rattle.endtoend.proofs.Texts.{text_short, name_written, ups_name_written, quoted_written, quoted_short, shown_lawful, description_lawful}
-use Rattle.endtoend.proofs.Requests.{list_var_read, list_rw_read, list_cmd_read, list_ups_read, get_var_read, line_of_three, line_of_four}
+use Rattle.endtoend.proofs.Requests.{list_var_read, list_rw_read, list_cmd_read, list_ups_read, num_attach_read, get_var_read, line_of_three, line_of_four}
 use Rattle.endtoend.proofs.Rows.{name_kept, settings_answered, commands_answered, variable_answered, upses_answered}
 
 -- one request, whose reply is whole
@@ -205,6 +209,24 @@ prints_variable = λ s client ups name line known variable more n m u has e.
     printed_whole (requests.GetVar ups name) forms.Value ((server.reply s client line) ++ more) (one_item value) more
     (ap (λ t. reply (requests.GetVar ups name) (t ++ more)) (text ∙ ap (λ x. line_of (codes "VAR" ∷ x ∷ name ∷ quoted value ∷ [])) same) ∙ value_read ups name value texts more written)
     ∙ ap Prints (append-nil (with_lf value))
+
+-- how many are logged in to a UPS
+pub prints_number : WhatIsCountedIsWhoIsThere → UpscPrintsHowManyAreLoggedIn
+prints_number counted = λ s client ups line known more few n named e.
+    let logged = logged_in known.id s in
+    let number = decimal (length logged) in
+    let short = written_number (length logged) (omega (arith, few, length-filter (is_logged_in_of known.id) s.sessions, count_by-le-length (is_logged_in_of known.id) s.sessions)) in
+    let read = num_attach_read ups line n e in
+    let same : known.name ≡ ups = name_kept (seen s) ups known named in
+    let text = counted.attached s client line (Some ups) known read named in
+    let words : List (List ℕ) = codes "NUMATTACH" ∷ ups ∷ number ∷ [] in
+    let written : IsWrittenLine words words = record {
+      written = (as_it_is (omega arith) refl, (ups_name_written ups n, (as_it_is short.some short.bare, tt)));
+      fits = omega (arith, text_short is_name_byte false 32 ups n, short.short, line_of_three (codes "NUMATTACH") ups number);
+    } in
+    printed_whole (requests.GetNumAttach ups) forms.Value ((server.reply s client line) ++ more) (one_item number) more
+    (ap (λ t. reply (requests.GetNumAttach ups) (t ++ more)) (text ∙ ap (λ x. line_of (codes "NUMATTACH" ∷ x ∷ number ∷ [])) same) ∙ number_read ups number more short.count written)
+    ∙ ap Prints (append-nil (with_lf number))
 
 -- the UPSs
 abbrev ups_of_list : Ups → Item

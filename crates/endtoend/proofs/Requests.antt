@@ -68,6 +68,16 @@ list_ups_read line e =
     } in
     words_sent (requests.List queries.Ups) line written e
 
+-- GET NUMATTACH
+pub num_attach_read : (ups line : List ℕ) → is_ups_name ups ≡ true → IsLineOf (requests.GetNumAttach ups) line → read_command line ≡ Ok (Some (commands.GetNumAttach (Some ups)))
+num_attach_read ups line h e =
+    let written : IsWrittenLine (codes "GET" ∷ codes "NUMATTACH" ∷ ups ∷ []) (codes "GET" ∷ codes "NUMATTACH" ∷ ups ∷ []) = record {
+      written = (as_it_is (omega arith) refl, (as_it_is (omega arith) refl, (ups_name_written ups h, tt)));
+      fits = omega (arith, text_short is_name_byte false 32 ups h, line_of_three (codes "GET") (codes "NUMATTACH") ups);
+    } in
+    words_sent (requests.GetNumAttach ups) line written e
+    ∙ ap (λ r. Ok (Some (commands.GetNumAttach (result_ok r)))) (text_itself is_name_byte false 32 ups h)
+
 -- GET VAR
 pub get_var_read : (ups name line : List ℕ) → is_ups_name ups ≡ true → is_name name ≡ true → IsLineOf (requests.GetVar ups name) line → read_command line ≡ Ok (Some (commands.GetVar (Some ups) (Some name)))
 get_var_read ups name line h k e =

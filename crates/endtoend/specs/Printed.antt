@@ -1,5 +1,7 @@
 -- What a client prints of what the server answers to it.
-use Rattle.std.specs.Prelude.{◌≡◌, ℕ, Bool, List, [], ◌∷◌, ◌++◌, codes, filter, IsTrue}
+use Rattle.std.specs.Prelude.{◌≡◌, ◌≤◌, ℕ, Bool, List, [], ◌∷◌, ◌++◌, Some, codes, filter}
+use Rattle.std.specs.Prelude.{length, IsTrue}
+use Rattle.std.specs.Fmt.{decimal}
 use Rattle.std.specs.List.{flat_map}
 use Rattle.nutwords.specs.Reading.{is_name, is_ups_name}
 use Rattle.nutwords.specs.Text.{with_lf}
@@ -7,11 +9,13 @@ use Rattle.nutdriver.specs.Variable.{VariableState}
 use Rattle.nutusers.specs.UpsList.{Ups, IsList}
 use Rattle.nutlisting.specs.Items.{is_rw}
 use Rattle.nutlisting.specs.Shown.{shown, ups_description}
-use Rattle.nutanswer.specs.Checks.{KnownUps}
-use Rattle.nutcore.specs.Reply.{reply}
+use Rattle.nutlisting.specs.declared.listing.clients.TheConstants.{SESSION_LIMIT}
+use Rattle.nutanswer.specs.Checks.{KnownUps, ups_named}
+use Rattle.nutcore.specs.ByRight.{logged_in}
+use Rattle.nutcore.specs.Reply.{seen, reply}
 use Rattle.nutcore.specs.Server.{ServerState}
 use Rattle.nutreply.specs.declared.request.Query.TheVariants as queries
-use Rattle.nutreply.specs.declared.request.Request.TheVariants.{List as ListOf, GetVar}
+use Rattle.nutreply.specs.declared.request.Request.TheVariants.{List as ListOf, GetVar, GetNumAttach}
 use Rattle.nutclient.specs.Printed.{Prints, printed}
 use Rattle.nutclient.specs.declared.form.Form.TheVariants as forms
 use Rattle.endtoend.specs.Served.{IsLineOf, IsUsable, HasVariable}
@@ -42,6 +46,16 @@ UpscPrintsTheVariable =
     → HasVariable known name variable → IsLineOf (GetVar ups name) line
     → printed (GetVar ups name ∷ []) forms.Value (reply s client line ++ more)
     ≡ Prints (with_lf (shown known.state.fsd name variable))
+
+-- `upsc --attached ups`, of a server with no more than the 64 sessions that one takes: the number of
+-- those that are logged in to the UPS.
+abbrev pub UpscPrintsHowManyAreLoggedIn : Type 0
+UpscPrintsHowManyAreLoggedIn =
+    (s : ServerState) (client : ℕ) (ups line : List ℕ) (known : KnownUps) (more : List ℕ)
+    → length s.sessions ≤ SESSION_LIMIT → IsTrue (is_ups_name ups)
+    → ups_named (seen s) (Some ups) ≡ Some known → IsLineOf (GetNumAttach ups) line
+    → printed (GetNumAttach ups ∷ []) forms.Value (reply s client line ++ more)
+    ≡ Prints (with_lf (decimal (length (logged_in known.id s))))
 
 -- A line `name=value`.
 abbrev pub setting_line : Bool → List ℕ × VariableState → List ℕ

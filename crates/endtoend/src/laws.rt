@@ -1,8 +1,8 @@
 //! Laws over both ends: the server's `reply` and the client's `printed`, each as its own crate defines it.
 ghost use Rattle.endtoend.specs.Frames.{AFrameIsReadAsItsItems};
-ghost use Rattle.endtoend.specs.Printed.{UpscPrintsTheVariables, UpscPrintsTheVariable, UpscPrintsTheUpses, UpsrwPrintsTheVariables, UpscmdPrintsTheCommands};
+ghost use Rattle.endtoend.specs.Printed.{UpscPrintsTheVariables, UpscPrintsTheVariable, UpscPrintsHowManyAreLoggedIn, UpscPrintsTheUpses, UpsrwPrintsTheVariables, UpscmdPrintsTheCommands};
 
-use nutcore::laws::a_listing_is_what_is_held;
+use nutcore::laws::{a_listing_is_what_is_held, what_is_counted_is_who_is_there};
 
 /// What is written as a listing is read as the reply of its items, in their order, whatever stands after it.
 pub fn a_frame_is_read_as_its_items()
@@ -22,6 +22,14 @@ pub fn upsc_prints_the_variables()
 pub fn upsc_prints_the_variable()
     ensures { UpscPrintsTheVariable }
 {}
+
+/// `upsc --attached UPS`: what is printed of the server's answer to `GET NUMATTACH` is the number of the sessions that are
+/// logged in to the UPS.
+pub fn upsc_prints_how_many_are_logged_in()
+    ensures { UpscPrintsHowManyAreLoggedIn }
+{
+    what_is_counted_is_who_is_there();
+}
 
 /// `upsc -l` and `upsc -L`: what is printed of the server's answer to `LIST UPS` is exactly one line for each UPS of its
 /// list, in the order of the names.

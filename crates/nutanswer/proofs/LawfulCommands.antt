@@ -10,7 +10,7 @@ use Rattle.nutwords.specs.Scan.{read_line}
 use Rattle.nutwords.specs.Bytes.{is_name_byte, is_lawful}
 use Rattle.nutwords.specs.Reading.{read_text, is_value}
 use Rattle.nutanswer.specs.declared.command.Command.{Command}
-use Rattle.nutanswer.specs.declared.command.Command.TheVariants.{Username, Password, Login, Logout, Primary, Fsd, SetVar, InstCmd, GetVar, GetType, GetDesc, GetCmdDesc, GetUpsDesc, GetNumLogins, ListUps, ListVar, ListRw, ListCmd, ListEnum, ListRange, ListClient, Help, Ver, NetVer, ProtVer, StartTls}
+use Rattle.nutanswer.specs.declared.command.Command.TheVariants.{Username, Password, Login, Logout, Primary, Fsd, SetVar, InstCmd, GetVar, GetType, GetDesc, GetCmdDesc, GetUpsDesc, GetNumLogins, GetNumAttach, ListUps, ListVar, ListRw, ListCmd, ListEnum, ListRange, ListClient, Help, Ver, NetVer, ProtVer, StartTls}
 use Rattle.nutanswer.specs.declared.err_word.ErrWord.{ErrWord}
 use Rattle.nutwords.specs.Keyword.{is_word}
 use Rattle.nutanswer.specs.Command.{command_with, alone, user_name_alone, password_alone, ups_alone, ups_and_name, Names, value_of, ups_name_and_value, ups_name_and_value_if_any, read_set, read_instcmd, read_get, read_list, command_named, some_command, command_of, command_from}
@@ -120,7 +120,8 @@ get_lawful (kind ∷ words) =
     (either_lawful (is_word kind (codes "CMDDESC")) (of_two (λ a. GetCmdDesc a.0 a.1) words (λ a. tt))
     (either_lawful (is_word kind (codes "UPSDESC")) (of_ups (λ ups. GetUpsDesc ups) words (λ ups. tt))
     (either_lawful (is_word kind (codes "NUMLOGINS")) (of_ups (λ ups. GetNumLogins ups) words (λ ups. tt))
-    (none_lawful _))))))
+    (either_lawful (is_word kind (codes "NUMATTACH")) (of_ups (λ ups. GetNumAttach ups) words (λ ups. tt))
+    (none_lawful _)))))))
 
 list_lawful : (words : List (List ℕ)) → IsLawfulResult (read_list words)
 list_lawful [] = none_lawful _
@@ -149,8 +150,8 @@ named_lawful first words =
     (either_lawful (is_word first (codes "LIST")) (list_lawful words)
     (either_lawful (is_word first (codes "USERNAME")) (with_lawful (λ (name : Option (List ℕ)). Username name) (user_name_alone words) (λ a e. tt))
     (either_lawful (is_word first (codes "PASSWORD")) (with_lawful (λ (name : Option (List ℕ)). Password name) (password_alone words) (λ a e. tt))
-    (either_lawful (is_word first (codes "LOGIN")) (of_ups (λ ups. Login ups) words (λ ups. tt))
-    (either_lawful (is_word first (codes "LOGOUT")) (alone_lawful Logout words tt)
+    (either_lawful (is_word first (codes "LOGIN") || is_word first (codes "ATTACH")) (of_ups (λ ups. Login ups) words (λ ups. tt))
+    (either_lawful (is_word first (codes "LOGOUT") || is_word first (codes "DETACH")) (alone_lawful Logout words tt)
     (either_lawful (is_word first (codes "PRIMARY")) (of_ups (λ ups. Primary ups) words (λ ups. tt))
     (either_lawful (is_word first (codes "FSD")) (of_ups (λ ups. Fsd ups) words (λ ups. tt))
     (either_lawful (is_word first (codes "SET")) (set_lawful words)

@@ -11,7 +11,7 @@ use Rattle.nutusers.specs.Users.{may}
 use Rattle.nutusers.specs.declared.rights.Right.{Right}
 use Rattle.nutusers.specs.declared.rights.Right.TheVariants as rights
 use Rattle.nutanswer.specs.declared.command.Command.{Command}
-use Rattle.nutanswer.specs.declared.command.Command.TheVariants.{Username, Password, Login, Logout, Primary, Fsd, SetVar, InstCmd, GetVar, GetType, GetDesc, GetCmdDesc, GetUpsDesc, GetNumLogins, ListUps, ListVar, ListRw, ListCmd, ListEnum, ListRange, ListClient, Help, Ver, NetVer, ProtVer, StartTls}
+use Rattle.nutanswer.specs.declared.command.Command.TheVariants.{Username, Password, Login, Logout, Primary, Fsd, SetVar, InstCmd, GetVar, GetType, GetDesc, GetCmdDesc, GetUpsDesc, GetNumLogins, GetNumAttach, ListUps, ListVar, ListRw, ListCmd, ListEnum, ListRange, ListClient, Help, Ver, NetVer, ProtVer, StartTls}
 use Rattle.nutanswer.specs.declared.err_word.ErrWord.{ErrWord}
 use Rattle.nutanswer.specs.declared.err_word.ErrWord.TheVariants.{AccessDenied, UnknownUps, UsernameRequired, PasswordRequired, AlreadySetUsername, AlreadySetPassword, AlreadyLoggedIn, VarNotSupported, CmdNotSupported, Readonly, TooLong, InvalidValue, SetFailed, InstcmdFailed}
 use Rattle.nutanswer.specs.declared.reply.Change.TheVariants as changes
@@ -187,6 +187,7 @@ module _ (s : Seen) (asker : AskerSeen) where
   row (GetCmdDesc ups v) = row_of_name (GetCmdDesc ups v) ups (cmd_not_lawful v) _
   row (GetUpsDesc ups) = row_of_ups (GetUpsDesc ups) ups _
   row (GetNumLogins ups) = row_of_ups (GetNumLogins ups) ups _
+  row (GetNumAttach ups) = row_of_ups (GetNumAttach ups) ups _
   row ListUps = lists _ _
   row (ListVar ups) = row_of_usable (ListVar ups) ups _
   row (ListRw ups) = row_of_usable (ListRw ups) ups _

@@ -1,7 +1,7 @@
 -- What is answered to a command (RFC 9271): one row a command, its checks from left to right, here
 -- from above, and then the answer and what it changes.
-use Rattle.std.specs.Prelude.{◌≡◌, ℕ, Bool, true, false, List, [], ◌∷◌, codes, Some, Result, Ok}
-use Rattle.std.specs.Prelude.{Err}
+use Rattle.std.specs.Prelude.{◌≡◌, ℕ, Bool, true, false, List, [], ◌∷◌, codes, Option, Some}
+use Rattle.std.specs.Prelude.{Result, Ok, Err}
 use Rattle.std.specs.Fmt.{decimal}
 use Rattle.nutwords.specs.Frame.{line_of}
 use Rattle.nutwords.specs.Spelling.{quoted}
@@ -12,7 +12,8 @@ use Rattle.nutanswer.specs.declared.command.Command.TheVariants.{Username, Passw
 use Rattle.nutanswer.specs.declared.command.Command.TheVariants.{Primary, Fsd, SetVar, InstCmd}
 use Rattle.nutanswer.specs.declared.command.Command.TheVariants.{GetVar, GetType, GetDesc}
 use Rattle.nutanswer.specs.declared.command.Command.TheVariants.{GetCmdDesc, GetUpsDesc}
-use Rattle.nutanswer.specs.declared.command.Command.TheVariants.{GetNumLogins, ListUps, ListVar}
+use Rattle.nutanswer.specs.declared.command.Command.TheVariants.{GetNumLogins, GetNumAttach}
+use Rattle.nutanswer.specs.declared.command.Command.TheVariants.{ListUps, ListVar}
 use Rattle.nutanswer.specs.declared.command.Command.TheVariants.{ListRw, ListCmd, ListEnum}
 use Rattle.nutanswer.specs.declared.command.Command.TheVariants.{ListRange, ListClient, Help, Ver}
 use Rattle.nutanswer.specs.declared.command.Command.TheVariants.{NetVer, ProtVer, StartTls}
@@ -53,6 +54,12 @@ ok = codes "OK" ∷ []
 
 abbrev pub help_text : List ℕ
 help_text = codes "Commands: HELP VER NETVER PROTVER GET LIST SET INSTCMD LOGIN LOGOUT PRIMARY FSD USERNAME PASSWORD STARTTLS"
+
+-- How many sessions are logged in to a UPS, in a line that begins with this word.
+abbrev pub count_of_logins : List ℕ → Seen → Option (List ℕ) → Result Answer ErrWord
+count_of_logins kind s ups = do
+  u ← unknown_ups s ups
+  told (kind ∷ u.name ∷ decimal (login_count u.id s.clients) ∷ [])
 
 -- The table.
 abbrev pub answer_to : Seen → AskerSeen → Command → Result Answer ErrWord
@@ -117,9 +124,8 @@ answer_to s asker (GetCmdDesc ups name) = do
 answer_to s asker (GetUpsDesc ups) = do
   u ← unknown_ups s ups
   told (codes "UPSDESC" ∷ u.name ∷ quoted u.description ∷ [])
-answer_to s asker (GetNumLogins ups) = do
-  u ← unknown_ups s ups
-  told (codes "NUMLOGINS" ∷ u.name ∷ decimal (login_count u.id s.clients) ∷ [])
+answer_to s asker (GetNumLogins ups) = count_of_logins (codes "NUMLOGINS") s ups
+answer_to s asker (GetNumAttach ups) = count_of_logins (codes "NUMATTACH") s ups
 answer_to s asker ListUps = Ok (listing (ups_listing s.list))
 answer_to s asker (ListVar ups) = do
   u ← unknown_ups s ups

@@ -1,7 +1,7 @@
 -- Reading a line of a client (RFC 9271): the first refusal that fits, from the line's words to its
 -- command and the command's words.
 use Rattle.std.specs.Prelude.{ℕ, List, [], ◌∷◌, Option, Some, None, Result, Ok, Err, codes}
-use Rattle.std.specs.Prelude.{if◌then◌else◌}
+use Rattle.std.specs.Prelude.{if◌then◌else◌, ◌||◌}
 use Rattle.std.specs.Result.{result_ok}
 use Rattle.nutwords.specs.Scan.{read_line}
 use Rattle.nutwords.specs.Reading.{read_name, read_ups_name, read_value}
@@ -13,7 +13,8 @@ use Rattle.nutanswer.specs.declared.command.Command.TheVariants.{Username, Passw
 use Rattle.nutanswer.specs.declared.command.Command.TheVariants.{Primary, Fsd, SetVar, InstCmd}
 use Rattle.nutanswer.specs.declared.command.Command.TheVariants.{GetVar, GetType, GetDesc}
 use Rattle.nutanswer.specs.declared.command.Command.TheVariants.{GetCmdDesc, GetUpsDesc}
-use Rattle.nutanswer.specs.declared.command.Command.TheVariants.{GetNumLogins, ListUps, ListVar}
+use Rattle.nutanswer.specs.declared.command.Command.TheVariants.{GetNumLogins, GetNumAttach}
+use Rattle.nutanswer.specs.declared.command.Command.TheVariants.{ListUps, ListVar}
 use Rattle.nutanswer.specs.declared.command.Command.TheVariants.{ListRw, ListCmd, ListEnum}
 use Rattle.nutanswer.specs.declared.command.Command.TheVariants.{ListRange, ListClient, Help, Ver}
 use Rattle.nutanswer.specs.declared.command.Command.TheVariants.{NetVer, ProtVer, StartTls}
@@ -103,6 +104,8 @@ get_of kind words =
     then command_with (λ ups. GetUpsDesc ups) (ups_alone words)
     else if is_word kind (codes "NUMLOGINS")
     then command_with (λ ups. GetNumLogins ups) (ups_alone words)
+    else if is_word kind (codes "NUMATTACH")
+    then command_with (λ ups. GetNumAttach ups) (ups_alone words)
     else Err InvalidArgument
 
 abbrev pub read_get : List (List ℕ) → Result Command ErrWord
@@ -145,11 +148,13 @@ order_command first words =
     else if is_word first (codes "INSTCMD") then read_instcmd words
     else server_command first words
 
--- Those of logins and of forced shutdowns, and the ones above.
+-- Those of logins, each by two words, and of forced shutdowns, and the ones above.
 abbrev pub login_command : List ℕ → List (List ℕ) → Result Command ErrWord
 login_command first words =
-    if is_word first (codes "LOGIN") then command_with (λ ups. Login ups) (ups_alone words)
-    else if is_word first (codes "LOGOUT") then alone Logout words
+    if is_word first (codes "LOGIN") || is_word first (codes "ATTACH")
+    then command_with (λ ups. Login ups) (ups_alone words)
+    else if is_word first (codes "LOGOUT") || is_word first (codes "DETACH")
+    then alone Logout words
     else if is_word first (codes "PRIMARY") then command_with (λ ups. Primary ups) (ups_alone words)
     else if is_word first (codes "FSD") then command_with (λ ups. Fsd ups) (ups_alone words)
     else order_command first words

@@ -20,9 +20,9 @@ pub enum Command<'a> {
     Username(UserWord<'a>),
     /// `PASSWORD`: the user's password; none where it isn't as long as one may be.
     Password(PasswordWord<'a>),
-    /// `LOGIN`: this machine is fed by the UPS.
+    /// `LOGIN` or `ATTACH`: this machine is fed by the UPS.
     Login(UpsWord<'a>),
-    /// `LOGOUT`: the session ends.
+    /// `LOGOUT` or `DETACH`: the session ends.
     Logout,
     /// `PRIMARY`: this machine is the primary of the UPS.
     Primary(UpsWord<'a>),
@@ -45,6 +45,8 @@ pub enum Command<'a> {
     GetUpsDesc(UpsWord<'a>),
     /// `GET NUMLOGINS`: how many sessions are logged in to a UPS.
     GetNumLogins(UpsWord<'a>),
+    /// `GET NUMATTACH`: the same number, under the other name.
+    GetNumAttach(UpsWord<'a>),
     /// `LIST UPS`: the UPSs of the server.
     ListUps,
     /// `LIST VAR`: the variables of a UPS.
@@ -133,10 +135,10 @@ impl<'a> Command<'a> {
     fn of_login(first: &SpelledWord<'_>, words: SpelledWords<'a>) -> Result<Command<'a>, ErrWord>
         ensures { result ≡ login_command (spelled first.now) words.entry }
     {
-        if first.is_word(b"LOGIN") {
+        if first.is_word(b"LOGIN") || first.is_word(b"ATTACH") {
             let ups = ups_alone(words)?;
             Ok(Command::Login(ups))
-        } else if first.is_word(b"LOGOUT") {
+        } else if first.is_word(b"LOGOUT") || first.is_word(b"DETACH") {
             alone(Command::Logout, words)
         } else if first.is_word(b"PRIMARY") {
             let ups = ups_alone(words)?;
@@ -236,6 +238,9 @@ impl<'a> Command<'a> {
         } else if kind.is_word(b"NUMLOGINS") {
             let ups = ups_alone(words)?;
             Ok(Command::GetNumLogins(ups))
+        } else if kind.is_word(b"NUMATTACH") {
+            let ups = ups_alone(words)?;
+            Ok(Command::GetNumAttach(ups))
         } else {
             Err(ErrWord::InvalidArgument)
         }

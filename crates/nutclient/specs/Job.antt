@@ -8,8 +8,8 @@ use Rattle.nutwords.specs.Reading.{read_name, read_value}
 use Rattle.nutreply.specs.declared.request.Query.{Query}
 use Rattle.nutreply.specs.declared.request.Query.TheVariants.{Ups, Var, Rw, Cmd, Client}
 use Rattle.nutreply.specs.declared.request.Request.{Request}
-use Rattle.nutreply.specs.declared.request.Request.TheVariants.{List as ListOf, GetVar, Username}
-use Rattle.nutreply.specs.declared.request.Request.TheVariants.{Password, SetVar, Instcmd}
+use Rattle.nutreply.specs.declared.request.Request.TheVariants.{List as ListOf, GetVar, GetNumAttach}
+use Rattle.nutreply.specs.declared.request.Request.TheVariants.{Username, Password, SetVar, Instcmd}
 use Rattle.nutclient.specs.Target.{lawful, both, has_byte, server_of, local_server, ups_place_of}
 use Rattle.nutclient.specs.declared.limits.TheConstants.{USER_LIMIT, PASSWORD_LIMIT}
 use Rattle.nutclient.specs.Requests.{requests_in}
@@ -19,8 +19,8 @@ use Rattle.nutclient.specs.declared.form.Form.{Form}
 use Rattle.nutclient.specs.declared.form.Form.TheVariants.{Name, Value, Colon, Equals}
 use Rattle.nutclient.specs.declared.given.Given.{Given}
 use Rattle.nutclient.specs.declared.given.Given.TheVariants.{Variables, Variable, Upses}
-use Rattle.nutclient.specs.declared.given.Given.TheVariants.{Descriptions, Clients, Writable, Set}
-use Rattle.nutclient.specs.declared.given.Given.TheVariants.{Commands, Command}
+use Rattle.nutclient.specs.declared.given.Given.TheVariants.{Descriptions, Clients, Attached}
+use Rattle.nutclient.specs.declared.given.Given.TheVariants.{Writable, Set, Commands, Command}
 
 -- A UPS and its server.
 abbrev pub UpsPlace : Type 0
@@ -89,6 +89,10 @@ command_order place name value =
 abbrev pub variable_of : Option UpsPlace → Option (List ℕ) → Option JobParts
 variable_of = both (λ p n. (p.1, GetVar p.0 n ∷ [], Value))
 
+-- The number of the clients of a UPS.
+abbrev pub count_of : Option UpsPlace → Option JobParts
+count_of place = option_map (λ p. (p.1, GetNumAttach p.0 ∷ [], Value)) place
+
 -- What each of the programs' forms asks for, where its words are lawful.
 abbrev pub job_of : Given → Option JobParts
 job_of (Variables ups) = listing_of Var Colon (ups_place_of ups.now)
@@ -96,6 +100,7 @@ job_of (Variable ups name) = variable_of (ups_place_of ups.now) (lawful (read_na
 job_of (Upses server) = upses_of Name (server_or_local server)
 job_of (Descriptions server) = upses_of Colon (server_or_local server)
 job_of (Clients ups) = listing_of Client Name (ups_place_of ups.now)
+job_of (Attached ups) = count_of (ups_place_of ups.now)
 job_of (Writable ups) = listing_of Rw Equals (ups_place_of ups.now)
 job_of (Set ups setting user password) =
     ordered (login_of user.now password.now)

@@ -24,6 +24,10 @@ pub enum Given<'a> {
     Clients {
         ups: &'a str,
     },
+    /// `upsc --attached UPS`: how many clients are logged in to a UPS.
+    Attached {
+        ups: &'a str,
+    },
     /// `upsrw UPS`: the variables that may be set.
     Writable {
         ups: &'a str,

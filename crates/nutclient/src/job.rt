@@ -61,6 +61,10 @@ fn job_of(given: &Given<'_>) -> Option<Job>
             let (ups, target) = Target::read(ups)?;
             Some(single(target, Request::List(Query::Client(ups)), Form::Name))
         }
+        Given::Attached { ups } => {
+            let (ups, target) = Target::read(ups)?;
+            Some(single(target, Request::GetNumAttach(ups), Form::Value))
+        }
         Given::Writable { ups } => {
             let (ups, target) = Target::read(ups)?;
             Some(single(target, Request::List(Query::Rw(ups)), Form::Equals))

@@ -18,9 +18,9 @@ use Rattle.nutlisting.specs.Items.{text_of, client_item, client_listing}
 use Rattle.nutanswer.specs.declared.err_word.ErrWord.{ErrWord}
 use Rattle.nutanswer.specs.declared.err_word.ErrWord.TheVariants.{UnknownUps}
 use Rattle.nutanswer.specs.Checks.{◌>>=◌, KnownUps, ups_named, unknown_ups}
-use Rattle.nutanswer.specs.Answer.{Answer, told, listing_of_clients, text_of_answer}
+use Rattle.nutanswer.specs.Answer.{Answer, told, count_of_logins, listing_of_clients, text_of_answer}
 use Rattle.nutcore.specs.Server.{ServerState}
-use Rattle.nutcore.specs.ByRight.{WhatIsCountedIsWhoIsThere}
+use Rattle.nutcore.specs.ByRight.{WhatIsCountedIsWhoIsThere, logged_in}
 use Rattle.nutcore.specs.Reply.{seen, seen_client, text_to}
 
 -- the session is logged in to the UPS
@@ -83,11 +83,17 @@ items_of name (x ∷ xs) = ap (λ (items : List (List (List ℕ))). client_item 
 known_ups_is : (s : ServerState) (ups : Option (List ℕ)) (known : KnownUps) (f : KnownUps → Result Answer ErrWord) → ups_named (seen s) ups ≡ Some known → (unknown_ups (seen s) ups >>= f) ≡ f known
 known_ups_is s ups known f e = ap (λ (o : Option KnownUps). ok_or o UnknownUps >>= f) e
 
+-- what is told of how many they are
+count_text : (word : List ℕ) (s : ServerState) (ups : Option (List ℕ)) (known : KnownUps) → ups_named (seen s) ups ≡ Some known
+    → text_of_answer (count_of_logins word (seen s) ups) ≡ text_line (word ∷ known.name ∷ decimal (length (logged_in known.id s)) ∷ [])
+count_text word s ups known named =
+    ap text_of_answer (known_ups_is s ups known (λ u. told (word ∷ u.name ∷ decimal (login_count u.id (seen s).clients) ∷ [])) named)
+    ∙ ap (λ (n : ℕ). text_line (word ∷ known.name ∷ decimal n ∷ [])) (count_seen known.id s.sessions ∙ sym (length-filter (is_in known.id) s.sessions))
+
 pub who_is_there : WhatIsCountedIsWhoIsThere
 who_is_there = record {
-  counted = λ s c line ups known read named.
-      ap (text_to s c) read ∙ ap text_of_answer (known_ups_is s ups known (λ u. told (codes "NUMLOGINS" ∷ u.name ∷ decimal (login_count u.id (seen s).clients) ∷ [])) named)
-      ∙ ap (λ (n : ℕ). text_line (codes "NUMLOGINS" ∷ known.name ∷ decimal n ∷ [])) (count_seen known.id s.sessions ∙ sym (length-filter (is_in known.id) s.sessions));
+  counted = λ s c line ups known read named. ap (text_to s c) read ∙ count_text (codes "NUMLOGINS") s ups known named;
+  attached = λ s c line ups known read named. ap (text_to s c) read ∙ count_text (codes "NUMATTACH") s ups known named;
   listed = λ s c line ups known read named.
       ap (text_to s c) read ∙ ap text_of_answer (known_ups_is s ups known (λ u. Ok (listing_of_clients (client_listing u.name (addresses_at u.id (seen s).clients)))) named)
       ∙ ap (λ (addresses : List (List ℕ)). text_of (client_listing known.name addresses)) (seen_filter known.id s.sessions)

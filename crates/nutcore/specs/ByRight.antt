@@ -13,7 +13,8 @@ use Rattle.nutusers.specs.declared.rights.Right.TheVariants as rights
 use Rattle.nutusers.specs.declared.ups_list.UpsId.{UpsId}
 use Rattle.nutanswer.specs.declared.command.Command.{Command}
 use Rattle.nutanswer.specs.declared.command.Command.TheVariants.{Username, Password, Login, Fsd}
-use Rattle.nutanswer.specs.declared.command.Command.TheVariants.{GetNumLogins, ListClient}
+use Rattle.nutanswer.specs.declared.command.Command.TheVariants.{GetNumLogins, GetNumAttach}
+use Rattle.nutanswer.specs.declared.command.Command.TheVariants.{ListClient}
 use Rattle.nutanswer.specs.Command.{read_command}
 use Rattle.nutanswer.specs.Checks.{KnownUps, ups_named}
 use Rattle.nutcore.specs.declared.event.Event.{Event}
@@ -118,13 +119,20 @@ CredentialsAreGivenByLines =
 abbrev pub logged_in : UpsId → ServerState → List SessionState
 logged_in u s = filter (is_logged_in_of u) s.sessions
 
--- What is counted is who is there: `GET NUMLOGINS` tells the number of the sessions that are logged
--- in to the UPS, and `LIST CLIENT` lists exactly these, by their addresses.
+-- This command tells the number of the sessions that are logged in to the UPS, in a line that begins
+-- with this word.
+abbrev pub TellsHowManyAreLoggedIn : (Option (List ℕ) → Command) → List ℕ → Type 0
+TellsHowManyAreLoggedIn command word =
+    (s : ServerState) (c : ℕ) (line : List ℕ) (ups : Option (List ℕ)) (known : KnownUps)
+    → read_command line ≡ Ok (Some (command ups)) → ups_named (seen s) ups ≡ Some known
+    → reply s c line
+    ≡ text_line (word ∷ known.name ∷ decimal (length (logged_in known.id s)) ∷ [])
+
+-- What is counted is who is there: `GET NUMLOGINS` and `GET NUMATTACH` tell the number of the
+-- sessions that are logged in to the UPS, and `LIST CLIENT` lists exactly these, by their addresses.
 pub record WhatIsCountedIsWhoIsThere : Type 0 where
-  pub counted : (s : ServerState) (c : ℕ) (line : List ℕ) (ups : Option (List ℕ)) (known : KnownUps)
-      → read_command line ≡ Ok (Some (GetNumLogins ups)) → ups_named (seen s) ups ≡ Some known
-      → reply s c line
-      ≡ text_line (codes "NUMLOGINS" ∷ known.name ∷ decimal (length (logged_in known.id s)) ∷ [])
+  pub counted : TellsHowManyAreLoggedIn (λ ups. GetNumLogins ups) (codes "NUMLOGINS")
+  pub attached : TellsHowManyAreLoggedIn (λ ups. GetNumAttach ups) (codes "NUMATTACH")
   pub listed : (s : ServerState) (c : ℕ) (line : List ℕ) (ups : Option (List ℕ)) (known : KnownUps)
       → read_command line ≡ Ok (Some (ListClient ups)) → ups_named (seen s) ups ≡ Some known
       → reply s c line

@@ -79,8 +79,8 @@ pub fn credentials_are_given_by_lines()
     ensures { CredentialsAreGivenByLines }
 {}
 
-/// `GET NUMLOGINS` tells how many of the open sessions are logged in to the UPS, and `LIST CLIENT` lists exactly these, in
-/// the order of opening.
+/// `GET NUMLOGINS` and `GET NUMATTACH` tell how many of the open sessions are logged in to the UPS, and `LIST CLIENT` lists
+/// exactly these, in the order of opening.
 pub fn what_is_counted_is_who_is_there()
     ensures { WhatIsCountedIsWhoIsThere }
 {}

@@ -19,13 +19,16 @@ mod types;
 use arrayvec::ArrayVec;
 use itoa::Buffer;
 use nutdriver::{Range, Variable};
-use nutwords::{Address, Line, Name, UpsName, Value, quote_into};
+use nutwords::{Address, Line, NAME_LIMIT, Name, UPS_NAME_LIMIT, UpsName, Value, quote_into};
 
-/// The most bytes of a line's kind: `UPSDESC`, `CMDDESC`.
-pub(crate) const KIND_LIMIT: usize = 7;
+/// The most bytes of a line's kind: `NUMLOGINS`, `NUMATTACH`.
+pub(crate) const KIND_LIMIT: usize = 9;
+
+/// The most bytes of a line's kind and the name of a UPS, with a blank.
+const UPS_FRONT_LIMIT: usize = KIND_LIMIT + 1 + UPS_NAME_LIMIT;
 
 /// The most bytes of a line before what it tells: its kind, the names of a UPS and a variable, two blanks.
-pub(crate) const FRONT_LIMIT: usize = 105;
+pub(crate) const FRONT_LIMIT: usize = UPS_FRONT_LIMIT + 1 + NAME_LIMIT;
 
 /// Makes the line of a variable's value as clients see it.
 pub fn variable_line_into(
@@ -42,7 +45,24 @@ pub fn variable_line_into(
         ≡ line_of (variable_item kind.now ups.now fsd (name.now, variable.now)) }
     ensures whole { IsWholeLine line.new.items }
 {
-    let shown = shown::shown(fsd, name, variable);
+    if fsd && name.as_bytes() == b"ups.status".as_slice() {
+        marked_line_into(kind, ups, name, variable, line);
+    } else {
+        value_line_into(kind, ups, name, shown::value_of(variable), line);
+    }
+}
+
+/// Makes the line of a status while a forced shutdown is set. It alone has room for the text that is shown, which is
+/// cleared where the function begins: so it is a call of its own.
+#[inline(never)]
+fn marked_line_into(kind: &[u8], ups: &UpsName, name: &Name, variable: &Variable, line: &mut Line)
+    requires kind { length kind.now ≤ KIND_LIMIT }
+    requires lawful { IsTrue (list_all is_lawful kind.now) }
+    ensures text { line.new.items
+        ≡ line_of (kind.now ∷ ups.now ∷ name.now ∷ quoted (codes "FSD " ++ variable.now.value) ∷ []) }
+    ensures whole { IsWholeLine line.new.items }
+{
+    let shown = shown::marked(variable);
     value_line_into(kind, ups, name, shown.as_slice(), line);
 }
 
@@ -146,22 +166,18 @@ pub fn plain_line_into(text: &[u8], line: &mut Line)
     finish(line);
 }
 
-/// The most bytes of the line of a count: `NUMLOGINS`, a UPS's name, a number, two blanks.
-const COUNT_LINE_LIMIT: usize = 128;
-
 /// Makes the line of how many sessions are logged in to a UPS.
-pub fn count_line_into(ups: &UpsName, count: usize, line: &mut Line)
-    ensures text { line.new.items ≡ line_of (codes "NUMLOGINS" ∷ ups.now ∷ decimal count ∷ []) }
+#[tactic(auto, using(crate::proofs::Lawful::lawful_steps, crate::proofs::Lawful::decimal_lawful))]
+pub fn count_line_into(kind: &[u8], ups: &UpsName, count: usize, line: &mut Line)
+    requires kind { length kind.now ≤ KIND_LIMIT }
+    requires lawful { IsTrue (list_all is_lawful kind.now) }
+    ensures text { line.new.items ≡ line_of (kind.now ∷ ups.now ∷ decimal count ∷ []) }
     ensures whole { IsWholeLine line.new.items }
 {
-    let mut text: ArrayVec<u8, COUNT_LINE_LIMIT> = ArrayVec::new();
     let mut digits = Buffer::new();
-    text.try_extend_from_slice(b"NUMLOGINS ").unwrap();
-    text.try_extend_from_slice(ups.as_bytes()).unwrap();
-    text.push(b' ');
-    text.try_extend_from_slice(digits.format(count).as_bytes())
-        .unwrap();
-    plain_line_into(text.as_slice(), line);
+    front(line, kind, ups);
+    push_word(line, digits.format(count).as_bytes());
+    finish(line);
 }
 
 /// Begins a line: its kind, and the names of a UPS and of a variable or a command.
@@ -183,7 +199,7 @@ fn front(line: &mut Line, kind: &[u8], ups: &UpsName)
     requires kind { length kind.now ≤ KIND_LIMIT }
     requires lawful { IsTrue (list_all is_lawful kind.now) }
     ensures text { line.new.items ≡ join_with_byte 32 (kind.now ∷ ups.now ∷ []) }
-    ensures short { length line.new.items ≤ 40 }
+    ensures short { length line.new.items ≤ UPS_FRONT_LIMIT }
     ensures lawful { IsTrue (list_all is_lawful line.new.items) }
 {
     begin(line, kind);

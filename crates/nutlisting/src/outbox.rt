@@ -81,7 +81,8 @@ impl Outbox {
         ensures ring { result.now ≡ self.old.ring }
         ensures* same { sem 𝓛 (Rests the_row self.entry (λ new. new ≡ self.old)) }
     {
-        self.ring.bytes()
+        let outbox = &*self;
+        outbox.ring.bytes()
     }
 
     /// Whether nothing is owed.

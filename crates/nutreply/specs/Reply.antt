@@ -1,5 +1,5 @@
 -- A reply, as it is read from the bytes that come (RFC 9271).
-use Rattle.std.specs.Prelude.{ℕ, Bool, true, false, List, [], ◌∷◌, ◌++◌, ◌&&◌, ◌||◌, ◌==◌, nat_le}
+use Rattle.std.specs.Prelude.{ℕ, Bool, true, false, List, [], ◌∷◌, ◌++◌, ◌&&◌, ◌||◌, ◌==◌, ◌+◌, ◌-◌, ◌*◌, nat_le}
 use Rattle.std.specs.Prelude.{nat_lt, length, Option, Some, None, option_and_then, Result, Ok, Err}
 use Rattle.std.specs.Prelude.{if◌then◌else◌, codes}
 use Rattle.std.specs.Str.{bytes_eq}
@@ -7,12 +7,12 @@ use Rattle.std.specs.List.{list_all}
 use Rattle.nutwords.specs.Scan.{words_of}
 use Rattle.nutwords.specs.Reading.{read_name, is_name, is_ups_name, is_address}
 use Rattle.nutwords.specs.declared.faults.BadName.{BadName}
-use Rattle.nutreply.specs.declared.limits.TheConstants.{ITEM_LIMIT}
+use Rattle.nutreply.specs.declared.limits.TheConstants.{ITEM_LIMIT, COUNT_LIMIT}
 use Rattle.nutreply.specs.declared.item.Item.{Item}
 use Rattle.nutreply.specs.declared.request.Query.{Query}
 use Rattle.nutreply.specs.declared.request.Query.TheVariants.{Ups, Client}
 use Rattle.nutreply.specs.declared.request.Request.{Request}
-use Rattle.nutreply.specs.declared.request.Request.TheVariants.{List as ListOf, GetVar}
+use Rattle.nutreply.specs.declared.request.Request.TheVariants.{List as ListOf, GetVar, GetNumAttach}
 use Rattle.nutreply.specs.declared.read.FirstLine.{FirstLine}
 use Rattle.nutreply.specs.declared.read.FirstLine.TheVariants.{Expected, Refusal, Bad as BadFirst}
 use Rattle.nutreply.specs.declared.read.LaterLine.{LaterLine}
@@ -44,6 +44,9 @@ only_word _ = None
 abbrev pub is_frame : List ℕ → Query → List (List ℕ) → Bool
 is_frame verb query words = is_nothing (behind (verb ∷ codes "LIST" ∷ asked_words query) words)
 
+abbrev pub is_digit : ℕ → Bool
+is_digit b = nat_le 48 b && nat_le b 57
+
 -- An error word is made of letters and dashes.
 abbrev pub is_error_byte : ℕ → Bool
 is_error_byte b = (nat_le 97 b && nat_le b 122) || (nat_le 65 b && nat_le b 90) || (b == 45)
@@ -60,11 +63,25 @@ refusal_of_word None = BadFirst
 abbrev pub refusal_of : List (List ℕ) → FirstLine
 refusal_of words = refusal_of_word (only_word (behind (codes "ERR" ∷ []) words))
 
+-- A number of clients, as a server writes it: 0 to 64, with no leading zero.
+abbrev pub is_count : List ℕ → Bool
+is_count (ones ∷ []) = is_digit ones
+is_count (tens ∷ ones ∷ []) =
+    is_digit tens && is_digit ones && nat_le 49 tens
+    && nat_le ((tens - 48) * 10 + (ones - 48)) COUNT_LIMIT
+is_count _ = false
+
+abbrev pub count_in : Option (List ℕ) → Option (List ℕ)
+count_in (Some word) = if is_count word then Some word else None
+count_in None = None
+
 -- What the first line tells, where it is the one that the request is granted by: BEGIN tells
--- nothing, VAR a value, the others OK.
+-- nothing, VAR a value, NUMATTACH a number, the others OK.
 abbrev pub expected_of : Request → List (List ℕ) → Option (List ℕ)
 expected_of (ListOf query) words = if is_frame (codes "BEGIN") query words then Some [] else None
 expected_of (GetVar ups name) words = only_word (behind (codes "VAR" ∷ ups ∷ name ∷ []) words)
+expected_of (GetNumAttach ups) words =
+    count_in (only_word (behind (codes "NUMATTACH" ∷ ups ∷ []) words))
 expected_of _ words =
     if is_nothing (behind (codes "OK" ∷ []) words) then Some (codes "OK") else None
 

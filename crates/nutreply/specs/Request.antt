@@ -6,8 +6,8 @@ use Rattle.nutwords.specs.Spelling.{quoted}
 use Rattle.nutreply.specs.declared.request.Query.{Query}
 use Rattle.nutreply.specs.declared.request.Query.TheVariants.{Ups, Var, Rw, Cmd, Client}
 use Rattle.nutreply.specs.declared.request.Request.{Request}
-use Rattle.nutreply.specs.declared.request.Request.TheVariants.{List as ListOf, GetVar, Username}
-use Rattle.nutreply.specs.declared.request.Request.TheVariants.{Password, SetVar, Instcmd}
+use Rattle.nutreply.specs.declared.request.Request.TheVariants.{List as ListOf, GetVar, GetNumAttach}
+use Rattle.nutreply.specs.declared.request.Request.TheVariants.{Username, Password, SetVar, Instcmd}
 
 -- The word of a listing's kind.
 abbrev pub kind_of : Query → List ℕ
@@ -41,6 +41,7 @@ asked_words query = kind_of query ∷ option_to_list (ups_of query)
 abbrev pub request_words : Request → List (List ℕ)
 request_words (ListOf query) = codes "LIST" ∷ asked_words query
 request_words (GetVar ups name) = codes "GET" ∷ codes "VAR" ∷ ups ∷ name ∷ []
+request_words (GetNumAttach ups) = codes "GET" ∷ codes "NUMATTACH" ∷ ups ∷ []
 request_words (Username user) = codes "USERNAME" ∷ quoted user ∷ []
 request_words (Password password) = codes "PASSWORD" ∷ quoted password ∷ []
 request_words (SetVar ups name value) = codes "SET" ∷ codes "VAR" ∷ ups ∷ name ∷ quoted value ∷ []

@@ -1,6 +1,6 @@
 //! Laws of the definitions that the contracts of this crate cite. No program calls them.
 ghost use Rattle.std.specs.Prelude.{◌≡◌};
-ghost use Rattle.nutreply.specs.declared.limits.TheConstants.{ITEM_LIMIT};
+ghost use Rattle.nutreply.specs.declared.limits.TheConstants.{ITEM_LIMIT, COUNT_LIMIT};
 ghost use Rattle.nutreply.specs.Joining.{NothingIsReceived, ReceivedJoins, ReadFailedJoins, NothingIsWritten, WrittenJoins, WriteFailedJoins};
 
 use crate::{Sink, Source};
@@ -22,4 +22,5 @@ pub fn writes_are_joined<W: Sink>()
 /// The most items of a listing that a client reads.
 pub fn limits()
     ensures items { ITEM_LIMIT ≡ 65536 }
+    ensures count { COUNT_LIMIT ≡ 64 }
 {}

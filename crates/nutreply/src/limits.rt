@@ -3,5 +3,8 @@
 /// The most items of a listing that a client reads.
 pub const ITEM_LIMIT: usize = 65_536;
 
+/// The most clients that a server tells to be logged in to a UPS: as many as it may have sessions.
+pub const COUNT_LIMIT: usize = 64;
+
 /// The most bytes of a fault's text.
 pub const FAULT_LIMIT: usize = 128;

@@ -20,6 +20,7 @@ pub(crate) fn request_line(request: &Request) -> Line
     match request {
         Request::List(query) => list_line(query),
         Request::GetVar(ups, name) => ended(named(b"GET VAR", ups, name)),
+        Request::GetNumAttach(ups) => count_line(ups),
         Request::Username(user) => value_line(first_word(b"USERNAME"), user),
         Request::Password(password) => value_line(first_word(b"PASSWORD"), password),
         Request::SetVar(ups, name, value) => value_line(named(b"SET VAR", ups, name), value),
@@ -37,6 +38,16 @@ fn list_line(query: &Query) -> Line
     if let Some(ups) = query.ups() {
         push_word(&mut line, ups.as_bytes());
     }
+    ended(line)
+}
+
+/// The line that asks how many clients are logged in to a UPS.
+fn count_line(ups: &UpsName) -> Line
+    ensures { result.items ≡ line_of (codes "GET" ∷ codes "NUMATTACH" ∷ ups.now ∷ []) }
+{
+    let mut line = first_word(b"GET");
+    push_word(&mut line, b"NUMATTACH");
+    push_word(&mut line, ups.as_bytes());
     ended(line)
 }
 

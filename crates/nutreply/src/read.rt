@@ -6,8 +6,9 @@ ghost use Rattle.nutwords.specs.Reading.{read_name};
 ghost use Rattle.nutwords.specs.Word.{bytes_of};
 ghost use Rattle.nutwords.specs.declared.limits.TheConstants.{LINE_LIMIT};
 ghost use Rattle.nutreply.specs.Request.{asked_words};
-ghost use Rattle.nutreply.specs.Reply.{behind_word, behind, is_nothing, only_word, is_frame, is_error_byte, refusal_by, refusal_of, expected_of, first_of, is_item_name, value_in, item_in, later_of};
+ghost use Rattle.nutreply.specs.Reply.{behind_word, behind, is_nothing, only_word, is_frame, is_error_byte, count_in, is_count, refusal_by, refusal_of, expected_of, first_of, is_item_name, value_in, item_in, later_of};
 
+use crate::limits::COUNT_LIMIT;
 use crate::{Bytes, Item, Query, Request};
 use nutwords::{Address, Name, UpsName, Word, Words, words};
 use std::alloc::{AllocError, Global};
@@ -142,6 +143,7 @@ fn expected_value(
             }
         }
         Request::GetVar(ups, name) => told_value(alloc, ups, name, line),
+        Request::GetNumAttach(ups) => told_count(alloc, ups, line),
         _ => {
             if is_ok(line) {
                 Ok(Some(Bytes::new(b"OK".to_vec(alloc)?)))
@@ -179,6 +181,56 @@ fn behind_names<'a>(ups: &UpsName, name: &Name, words: Words<'a>) -> Option<Word
     let words = behind_word(b"VAR", words)?;
     let words = behind_word(ups.as_bytes(), words)?;
     behind_word(name.as_bytes(), words)
+}
+
+/// The number that a line tells of the clients of the UPS.
+fn told_count(alloc: Global, ups: &UpsName, line: &[u8]) -> Result<Option<Bytes>, AllocError>
+    requires { length line.now ≤ LINE_LIMIT }
+    ensures { IfOk result (λ value. value
+        ≡ count_in (only_word (behind (codes "NUMATTACH" ∷ ups.now ∷ []) (words_of line.now)))) }
+{
+    let Ok(words) = words(line) else {
+        return Ok(None);
+    };
+    let Some(words) = behind_word(b"NUMATTACH", words) else {
+        return Ok(None);
+    };
+    match behind_word(ups.as_bytes(), words) {
+        Some(words) => sole_count(alloc, words),
+        None => Ok(None),
+    }
+}
+
+/// The one word that is left, where it is a number of clients.
+fn sole_count(alloc: Global, words: Words<'_>) -> Result<Option<Bytes>, AllocError>
+    ensures { IfOk result (λ value. value ≡ count_in (only_word (Some words.entry))) }
+{
+    match only_word(words) {
+        Some(word) => {
+            if is_count(word.as_bytes()) {
+                Ok(Some(Bytes::new(word.as_bytes().to_vec(alloc)?)))
+            } else {
+                Ok(None)
+            }
+        }
+        None => Ok(None),
+    }
+}
+
+/// Whether a word is a number of clients: 0 to 64, with no leading zero.
+fn is_count(word: &[u8]) -> bool
+    ensures { result ≡ is_count word.now }
+{
+    match word {
+        [ones] => ones.is_ascii_digit(),
+        [tens, ones] => {
+            tens.is_ascii_digit()
+                && ones.is_ascii_digit()
+                && *tens >= b'1'
+                && usize::from((*tens - b'0') * 10 + (*ones - b'0')) <= COUNT_LIMIT
+        }
+        _ => false,
+    }
 }
 
 /// The bytes of the one word that is left.

@@ -62,6 +62,8 @@ pub enum Request {
     List(Query),
     /// The value of a variable.
     GetVar(UpsName, Name),
+    /// How many clients are logged in to a UPS.
+    GetNumAttach(UpsName),
     /// The name of the user, for the requests after it.
     Username(Value),
     /// The user's password.

@@ -18,6 +18,7 @@ impl Client for Upsc {
         let command = with(described(alloc), names(alloc));
         let command = with(command, descriptions(alloc));
         let command = with(command, clients(alloc));
+        let command = with(command, attached(alloc));
         let command = with(command, target(alloc));
         with(command, Ok(variable(alloc)))
     }
@@ -34,6 +35,9 @@ impl Client for Upsc {
         let ups = server.unwrap_or("");
         if matches.get_flag("c") {
             return Given::Clients { ups };
+        }
+        if matches.get_flag("attached") {
+            return Given::Attached { ups };
         }
         match matches.get_str("VAR") {
             Some(name) => Given::Variable { ups, name },
@@ -55,7 +59,7 @@ fn names(alloc: Global) -> Result<Arg<'static>, AllocError> {
         .short('l')
         .action(ArgAction::SetTrue)
         .help("Lists the names of the server's UPSs")
-        .conflicts_with_all(&["L", "c", "VAR"])
+        .conflicts_with_all(&["L", "c", "attached", "VAR"])
 }
 
 fn descriptions(alloc: Global) -> Result<Arg<'static>, AllocError> {
@@ -63,7 +67,7 @@ fn descriptions(alloc: Global) -> Result<Arg<'static>, AllocError> {
         .short('L')
         .action(ArgAction::SetTrue)
         .help("Lists the names of the server's UPSs with their descriptions")
-        .conflicts_with_all(&["c", "VAR"])
+        .conflicts_with_all(&["c", "attached", "VAR"])
 }
 
 fn clients(alloc: Global) -> Result<Arg<'static>, AllocError> {
@@ -71,6 +75,14 @@ fn clients(alloc: Global) -> Result<Arg<'static>, AllocError> {
         .short('c')
         .action(ArgAction::SetTrue)
         .help("Lists the clients that are logged in to the UPS")
+        .conflicts_with_all(&["attached", "VAR"])
+}
+
+fn attached(alloc: Global) -> Result<Arg<'static>, AllocError> {
+    Arg::new(alloc, "attached")
+        .long("attached")
+        .action(ArgAction::SetTrue)
+        .help("Prints how many clients are logged in to the UPS")
         .conflicts_with("VAR")
 }
 

@@ -1,9 +1,12 @@
 //! The commands of sessions: who asks, what it is logged in to, and the forced shutdown (RFC 9271).
-ghost use Rattle.std.specs.Prelude.{◌≡◌, ◌∷◌, [], Ok, codes};
+ghost use Rattle.std.specs.Prelude.{◌≡◌, ◌≤◌, ◌∷◌, [], Ok, codes, length, IsTrue};
+ghost use Rattle.std.specs.List.{list_all};
+ghost use Rattle.nutwords.specs.Bytes.{is_lawful};
+ghost use Rattle.nutlisting.specs.declared.lines.TheConstants.{KIND_LIMIT};
 ghost use Rattle.nutanswer.specs.View.{Seen, AskerSeen, asker_seen};
-ghost use Rattle.nutanswer.specs.Answer.{answer_to, one_line, ok};
+ghost use Rattle.nutanswer.specs.Answer.{answer_to, count_of_logins, one_line, ok};
 ghost use Rattle.nutanswer.specs.Promises.{CarriesAnswer, Gives, GivesReply, row};
-ghost use Rattle.nutanswer.specs.declared.command.Command.TheVariants.{Username, Password, Login, Logout, Primary, Fsd, GetNumLogins, ListClient};
+ghost use Rattle.nutanswer.specs.declared.command.Command.TheVariants.{Username, Password, Login, Logout, Primary, Fsd, ListClient};
 
 use crate::checks::{known_ups, user};
 use crate::{Asker, Change, ErrWord, PasswordWord, Reply, UpsWord, UserWord, View};
@@ -112,18 +115,21 @@ pub(crate) fn fsd<'a, V: View>(
     Ok(Reply::One(line.as_slice(), Change::Fsd(ups.id)))
 }
 
-/// GET NUMLOGINS.
+/// GET NUMLOGINS and GET NUMATTACH, by the word that their line begins with.
 #[inline(never)]
-pub(crate) fn get_num_logins<'a, V: View>(
+pub(crate) fn count_of_logins<'a, V: View>(
     view: &V,
+    kind: &[u8],
     ups: &UpsWord<'_>,
     line: &'a mut Line,
 ) -> Result<Reply<'a>, ErrWord>
-    ensures { Gives (row (V.seen view.now) (GetNumLogins ups.now)) result }
+    requires kind { length kind.now ≤ KIND_LIMIT }
+    requires lawful { IsTrue (list_all is_lawful kind.now) }
+    ensures { Gives (count_of_logins kind.now (V.seen view.now) ups.now) result }
 {
     let ups = ups.read();
     let ups = known_ups(view, &ups)?;
-    count_line_into(ups.name, view.login_count(ups.id), line);
+    count_line_into(kind, ups.name, view.login_count(ups.id), line);
     Ok(Reply::One(line.as_slice(), Change::Nothing))
 }
 

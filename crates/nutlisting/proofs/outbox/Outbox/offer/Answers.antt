@@ -6,10 +6,10 @@ use Rattle.nutlisting.proofs.outbox.Outbox.offer.Goals as goal
 
 pub returns : goal.returns
 returns c = (
-  (refl, λ x. tt, ap (λ r. let o : Owes = record { ring = r; cursor = c.self.inside.cursor } in o) c.bytes.follows.holds-at-none ∙ c.self.view_is),
+  (refl, λ x. tt, refl),
   record {
-    value = c.bytes.ensures.value ∙ sym (offered_is c.self.inside.ring c.self.inside.cursor c.self.invariant.0) ∙ ap (λ (o : Owes). take RING_LIMIT (owed o)) c.self.view_is;
-    ring = c.bytes.ensures.value ∙ ap (λ (o : Owes). o.ring) c.self.view_is;
+    value = c.bytes.ensures ∙ sym (offered_is c.outbox.inside.ring c.outbox.inside.cursor c.outbox.invariant.0) ∙ ap (λ (o : Owes). take RING_LIMIT (owed o)) c.outbox.view_is;
+    ring = c.bytes.ensures ∙ ap (λ (o : Owes). o.ring) c.outbox.view_is;
     same = tt;
   },
 )
