@@ -11,8 +11,8 @@ use Rattle.nutreply.specs.declared.faults.ClientFault.TheVariants.{Memory}
 use Rattle.nutreply.specs.declared.request.Query.{Query}
 use Rattle.nutreply.specs.declared.request.Query.TheVariants as queries
 use Rattle.nutreply.specs.declared.request.Request.{Request}
-use Rattle.nutreply.specs.declared.request.Request.TheVariants.{List as ListOf, GetVar}
-use Rattle.nutclient.specs.Job.{UpsPlace, JobParts, listing_of, variable_of, upses_of, parts_of}
+use Rattle.nutreply.specs.declared.request.Request.TheVariants.{List as ListOf, GetVar, GetNumAttach}
+use Rattle.nutclient.specs.Job.{UpsPlace, JobParts, listing_of, variable_of, upses_of, parts_of, count_of}
 use Rattle.nutclient.specs.Printed.{Prints, printed, Answers}
 use Rattle.nutclient.specs.Requests.{requests_in}
 use Rattle.nutclient.specs.Target.{lawful, both, ups_of, has_byte, server_of, local_server, ups_place_of}
@@ -88,6 +88,9 @@ pub asks_variable : (o : Option UpsPlace) (name : List ℕ) (place : UpsPlace) (
 asks_variable o name place job h at k =
     let read : lawful (read_name name) ≡ Some name = ap lawful (text_itself is_name_byte false 64 name k) in
     asks_parts place.1 (GetVar place.0 name ∷ []) forms.Value job (sym (ap (λ p. variable_of p (lawful (read_name name))) at ∙ ap (λ n. variable_of (Some place) n) read) ∙ h)
+
+pub asks_number : (o : Option UpsPlace) (place : UpsPlace) (job : Job) → count_of o ≡ Some (parts_of job) → o ≡ Some place → Asks (GetNumAttach place.0 ∷ []) forms.Value job
+asks_number o place job h at = asks_parts place.1 (GetNumAttach place.0 ∷ []) forms.Value job (sym (ap count_of at) ∙ h)
 
 pub asks_upses : (form : Form) (o : Option Target) (job : Job) → upses_of form o ≡ Some (parts_of job) → Asks (ListOf queries.Ups ∷ []) form job
 asks_upses form None job h = absurd (none-not_some h)

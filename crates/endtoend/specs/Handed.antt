@@ -1,29 +1,32 @@
 -- A program over a session that is handed what the server answers.
-use Rattle.std.specs.Prelude.{◌≡◌, ◌≢◌, ℕ, List, [], ◌++◌, false, Option, Some, Result, Ok, Err}
+use Rattle.std.specs.Prelude.{◌≡◌, ◌≢◌, ◌≤◌, ℕ, List, [], ◌++◌, false, length, Option, Some}
+use Rattle.std.specs.Prelude.{Result, Ok, Err}
 use Rattle.std.specs.Io.KnownBytes.{Appends}
 use denote.Ref.{Bor}
 use Rattle.nutwords.specs.Text.{with_lf}
 use Rattle.nutdriver.specs.Variable.{VariableState}
 use Rattle.nutusers.specs.UpsList.{IsList}
 use Rattle.nutlisting.specs.Shown.{shown}
-use Rattle.nutanswer.specs.Checks.{KnownUps}
-use Rattle.nutcore.specs.Reply.{reply}
+use Rattle.nutlisting.specs.declared.listing.clients.TheConstants.{SESSION_LIMIT}
+use Rattle.nutanswer.specs.Checks.{KnownUps, ups_named}
+use Rattle.nutcore.specs.Reply.{seen, reply}
 use Rattle.nutcore.specs.Server.{ServerState}
 use Rattle.nutreply.specs.Ends.{NoneFailed}
 use Rattle.nutreply.specs.State.{unread_of, reader_of, writer_of, is_over}
 use Rattle.nutreply.specs.declared.faults.ClientFault.{ClientFault}
 use Rattle.nutreply.specs.declared.faults.ClientFault.TheVariants.{Memory}
 use Rattle.nutreply.specs.declared.request.Query.TheVariants as queries
-use Rattle.nutreply.specs.declared.request.Request.TheVariants.{List as ListOf, GetVar}
+use Rattle.nutreply.specs.declared.request.Request.TheVariants.{List as ListOf, GetVar, GetNumAttach}
 use Rattle.nutreply.specs.declared.session.Session.{Session}
 use Rattle.nutclient.specs.Job.{UpsPlace, job_of, parts_of}
 use Rattle.nutclient.specs.Target.{ups_place_of}
 use Rattle.nutclient.specs.declared.given.Given.TheVariants.{Variables, Variable, Upses}
-use Rattle.nutclient.specs.declared.given.Given.TheVariants.{Descriptions, Writable, Commands}
+use Rattle.nutclient.specs.declared.given.Given.TheVariants.{Descriptions, Attached, Writable}
+use Rattle.nutclient.specs.declared.given.Given.TheVariants.{Commands}
 use Rattle.nutclient.specs.declared.job.Job.{Job}
 use Rattle.endtoend.specs.Served.{IsLineOf, IsUsable, HasVariable}
 use Rattle.endtoend.specs.Printed.{variable_lines, setting_lines, command_lines, name_lines}
-use Rattle.endtoend.specs.Printed.{description_lines}
+use Rattle.endtoend.specs.Printed.{description_lines, number_line}
 
 -- A run of a program: the session and the output before it and after it, and the result.
 pub record ProgramRun (R W O : Type 0) : Type 0 where
@@ -83,6 +86,17 @@ module _ {R W O : Type 0} (remaining : R → Option (List ℕ)) (failures : R �
       → IsLineOf (GetVar place.0 name.now) line
       → IsHanded (reply s client line ++ more) r
       → IsPrinted (with_lf (shown known.state.fsd name.now variable)) r
+
+  -- `upsc --attached ups`, handed the answer to GET NUMATTACH, prints how many sessions are logged in
+  -- to the UPS.
+  abbrev pub PrintsTheNumber : Job → ProgramRun R W O → Type 0
+  PrintsTheNumber job r =
+      (s : ServerState) (client : ℕ) (words : Bor (List ℕ)) (place : UpsPlace) (line : List ℕ)
+      (known : KnownUps) (more : List ℕ)
+      → job_of (Attached words) ≡ Some (parts_of job) → ups_place_of words.now ≡ Some place
+      → length s.sessions ≤ SESSION_LIMIT → ups_named (seen s) (Some place.0) ≡ Some known
+      → IsLineOf (GetNumAttach place.0) line
+      → IsHanded (reply s client line ++ more) r → IsPrinted (number_line s known) r
 
   -- `upsrw ups`, handed the answer to LIST RW, prints a line for each variable of the UPS that may
   -- be set.

@@ -47,15 +47,18 @@ UpscPrintsTheVariable =
     → printed (GetVar ups name ∷ []) forms.Value (reply s client line ++ more)
     ≡ Prints (with_lf (shown known.state.fsd name variable))
 
--- `upsc --attached ups`, of a server with no more than the 64 sessions that one takes: the number of
--- those that are logged in to the UPS.
+-- How many sessions are logged in to the UPS.
+abbrev pub number_line : ServerState → KnownUps → List ℕ
+number_line s known = with_lf (decimal (length (logged_in known.id s)))
+
+-- `upsc --attached ups`, of a server with no more than the 64 sessions that one takes.
 abbrev pub UpscPrintsHowManyAreLoggedIn : Type 0
 UpscPrintsHowManyAreLoggedIn =
     (s : ServerState) (client : ℕ) (ups line : List ℕ) (known : KnownUps) (more : List ℕ)
     → length s.sessions ≤ SESSION_LIMIT → IsTrue (is_ups_name ups)
     → ups_named (seen s) (Some ups) ≡ Some known → IsLineOf (GetNumAttach ups) line
     → printed (GetNumAttach ups ∷ []) forms.Value (reply s client line ++ more)
-    ≡ Prints (with_lf (decimal (length (logged_in known.id s))))
+    ≡ Prints (number_line s known)
 
 -- A line `name=value`.
 abbrev pub setting_line : Bool → List ℕ × VariableState → List ℕ

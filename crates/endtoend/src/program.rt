@@ -1,8 +1,8 @@
 //! A client's program, handed what the server answers to it.
-ghost use Rattle.endtoend.specs.Handed.{run_by, PrintsTheVariables, PrintsTheVariable, PrintsTheSettings, PrintsTheCommands, PrintsTheNames, PrintsTheDescriptions};
+ghost use Rattle.endtoend.specs.Handed.{run_by, PrintsTheVariables, PrintsTheVariable, PrintsTheNumber, PrintsTheSettings, PrintsTheCommands, PrintsTheNames, PrintsTheDescriptions};
 
 use crate::laws::{
-    upsc_prints_the_upses, upsc_prints_the_variable, upsc_prints_the_variables,
+    upsc_prints_how_many_are_logged_in, upsc_prints_the_upses, upsc_prints_the_variable, upsc_prints_the_variables,
     upscmd_prints_the_commands, upsrw_prints_the_variables,
 };
 use nutclient::{Job, run};
@@ -21,6 +21,9 @@ pub fn print_what_is_held<R: Source, W: Sink, O: Sink>(
     ensures variable { PrintsTheVariable
         R.remaining R.failures W.failures O.contents O.failures job.now
         (run_by session.old out.old result session.new out.new) }
+    ensures number { PrintsTheNumber
+        R.remaining R.failures W.failures O.contents O.failures job.now
+        (run_by session.old out.old result session.new out.new) }
     ensures settings { PrintsTheSettings
         R.remaining R.failures W.failures O.contents O.failures job.now
         (run_by session.old out.old result session.new out.new) }
@@ -36,6 +39,7 @@ pub fn print_what_is_held<R: Source, W: Sink, O: Sink>(
 {
     upsc_prints_the_variables();
     upsc_prints_the_variable();
+    upsc_prints_how_many_are_logged_in();
     upsrw_prints_the_variables();
     upscmd_prints_the_commands();
     upsc_prints_the_upses();

@@ -1,6 +1,6 @@
 -- The names and values of a command that was read are lawful.
 use Rattle.std.proofs.Common.{◌≡◌, ◌∙◌, ℕ, Bool, true, false, not, ◌&&◌, List, [], ◌∷◌, Option, Some, None, Result, Ok, Err, refl, sym, ap, subst, cond, eqb, length}
-use Rattle.std.specs.Prelude.{IsTrue, is_ok, nat_lt, codes}
+use Rattle.std.specs.Prelude.{IsTrue, is_ok, nat_lt, codes, ◌||◌}
 use Rattle.std.specs.Result.{result_ok}
 use Rattle.std.specs.List.{list_all}
 use Rattle.nutwords.specs.declared.faults.BadName.{BadName}

@@ -4,16 +4,16 @@ ghost use Rattle.std.specs.Option.{option_copied};
 ghost use Rattle.nutwords.specs.Spelling.{quoted};
 ghost use Rattle.nutanswer.specs.Orders.{order_line};
 
-use nutwords::{Line, Name, Value, quote_into};
+use nutwords::{Line, NAME_LIMIT, Name, VALUE_LIMIT, Value, quote_into};
 
 /// The most bytes of an order's verb: `INSTCMD`.
 const VERB_LIMIT: usize = 7;
 
 /// The most bytes of an order before its value: its verb, the name of a variable or a command, a blank.
-const ORDER_FRONT_LIMIT: usize = 72;
+const ORDER_FRONT_LIMIT: usize = VERB_LIMIT + 1 + NAME_LIMIT;
 
 /// The most bytes of an order without its LF: each byte of its value may stand after a backslash.
-const ORDER_LIMIT: usize = 587;
+const ORDER_LIMIT: usize = ORDER_FRONT_LIMIT + 1 + 2 * VALUE_LIMIT + 2;
 
 /// Makes the line of an order: its verb, the name of a variable or a command, and the value, if there is one.
 pub(crate) fn order_line_into(verb: &[u8], name: &Name, value: Option<&Value>, line: &mut Line)

@@ -22,7 +22,7 @@ use nutdriver::{Range, Variable};
 use nutwords::{Address, Line, NAME_LIMIT, Name, UPS_NAME_LIMIT, UpsName, Value, quote_into};
 
 /// The most bytes of a line's kind: `NUMLOGINS`, `NUMATTACH`.
-pub(crate) const KIND_LIMIT: usize = 9;
+pub const KIND_LIMIT: usize = 9;
 
 /// The most bytes of a line's kind and the name of a UPS, with a blank.
 const UPS_FRONT_LIMIT: usize = KIND_LIMIT + 1 + UPS_NAME_LIMIT;

@@ -2,7 +2,7 @@ use Rattle.nutreply.specs.declared.request.Query.TheVariants as queries
 use Rattle.nutclient.specs.Job.{server_or_local}
 use Rattle.nutclient.specs.Target.{ups_place_of}
 use Rattle.nutclient.specs.declared.form.Form.TheVariants as forms
-use Rattle.endtoend.proofs.Handing.{place_lawful, name_asked, asks_listing, asks_variable, asks_upses, handed}
+use Rattle.endtoend.proofs.Handing.{place_lawful, name_asked, asks_listing, asks_variable, asks_number, asks_upses, handed}
 use Rattle.endtoend.proofs.program.print_what_is_held.Goals as goal
 
 pub returns-clause-variables : goal.returns-clause-variables
@@ -16,6 +16,12 @@ returns-clause-variable g c = λ s client words name place line known variable m
     handed _ _ _ _ _ c.args.job.now _ _ _ _ _ c.run.ensures.printed
     (asks_variable (ups_place_of words.now) name.now place c.args.job.now job at (name_asked (ups_place_of words.now) name.now c.args.job.now job))
     (c.upsc_prints_the_variable.ensures s client place.0 name.now line known variable more (place_lawful words.now place at) (name_asked (ups_place_of words.now) name.now c.args.job.now job) usable has sent) h
+
+pub returns-clause-number : goal.returns-clause-number
+returns-clause-number g c = λ s client words place line known more job at few named sent h.
+    handed _ _ _ _ _ c.args.job.now _ _ _ _ _ c.run.ensures.printed
+    (asks_number (ups_place_of words.now) place c.args.job.now job at)
+    (c.upsc_prints_how_many_are_logged_in.ensures s client place.0 line known more few (place_lawful words.now place at) named sent) h
 
 pub returns-clause-settings : goal.returns-clause-settings
 returns-clause-settings g c = λ s client words place line known more job at usable sent h.
