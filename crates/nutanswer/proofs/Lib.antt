@@ -1,5 +1,6 @@
 mod Rows
 mod TableRows
+mod Fresh
 mod Named
 mod Changes
 mod LawfulCommands

@@ -58,7 +58,7 @@ module _ (P : Result Answer ErrWord → Type 0) (no : (word : ErrWord) → P (Er
   found (Err word) next h = no word
   found (Ok a) next h = h a refl
 
-  held : (r : Result (Unit {0}) ErrWord) (next : Result Answer ErrWord) → (r ≡ Ok tt → P next) → P (r >> next)
+  pub held : (r : Result (Unit {0}) ErrWord) (next : Result Answer ErrWord) → (r ≡ Ok tt → P next) → P (r >> next)
   held (Err word) next h = no word
   held (Ok none) next h = h refl
 
@@ -73,7 +73,7 @@ module _ (P : Result Answer ErrWord → Type 0) (no : (word : ErrWord) → P (Er
     of_ups next h = found (unknown_ups s ups) next (λ u is. h u (ok_found (ups_named s ups) UnknownUps u is))
 
     -- and is usable
-    of_usable : (next : KnownUps → Result Answer ErrWord)
+    pub of_usable : (next : KnownUps → Result Answer ErrWord)
         → ((u : KnownUps) → ups_named s ups ≡ Some u → readiness s.moment s.max_age u.state.report ≡ usable → P (next u)) → P (unknown_ups s ups >>= (λ u. live s u >> next u))
     of_usable next h = of_ups (λ u. live s u >> next u) (λ u named. held (live s u) (next u) (λ going. h u named (is_usable (ready s u) going)))
 

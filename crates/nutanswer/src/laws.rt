@@ -1,4 +1,5 @@
 //! Laws of the table of answers.
+ghost use Rattle.nutanswer.specs.Fresh.{WhatIsToldIsFresh};
 ghost use Rattle.nutanswer.specs.Laws.{RefusedLinesChangeNothing, OnlyOkChanges, ANamedUpsIsSeen, OrdersFit, ErrorLinesAreWhole};
 ghost use Rattle.nutanswer.specs.Lawful.{WhatIsReadIsLawful};
 ghost use Rattle.nutanswer.specs.Rows.{EachChangeComesOfItsCommand, EachOrderAnsweredOkIsGiven};
@@ -17,6 +18,12 @@ pub fn each_order_answered_ok_is_given()
 /// The names and values that are read from a line are lawful.
 pub fn what_is_read_is_lawful()
     ensures { WhatIsReadIsLawful }
+{}
+
+/// Where a command that asks for the data of a UPS, or gives its driver an order, isn't refused, the driver is connected, has
+/// reported all that it knows, says that its data are right, and was heard, by a whole line, at most the greatest age ago.
+pub fn what_is_told_is_fresh()
+    ensures { WhatIsToldIsFresh }
 {}
 
 /// What a command changes it says: a line that is refused changes nothing, and nor does one whose answer doesn't begin

@@ -27,12 +27,13 @@ pub record Keeps (change : Change) (x : SessionState) : Type 0 where
   pub username : ((changed_session change x).username ≡ x.username) ⊎ ((name : List ℕ) × (change ≡ Username name) × ((changed_session change x).username ≡ Some name))
   pub password : ((changed_session change x).password ≡ x.password) ⊎ ((password : List ℕ) × (change ≡ Password password) × ((changed_session change x).password ≡ Some password))
   pub login : ((changed_session change x).login ≡ x.login) ⊎ (((changed_session change x).login ≡ None) ⊎ ((u : UpsId) × (change ≡ Login u) × ((changed_session change x).login ≡ Some u)))
+  pub logged_out : (changed_session change x).login ≡ None → (x.login ≡ None) ⊎ ((changed_session change x).ending ≡ true)
 
 pub keeps : (change : Change) (x : SessionState) → Keeps change x
-keeps Nothing x = record { id = refl; address = refl; owed = refl; held = λ e. refl; shorter = omega arith; ended = λ e. inl e; joined = λ line text. refl; username = inl refl; password = inl refl; login = inl refl }
-keeps (Username name) x = record { id = refl; address = refl; owed = refl; held = λ e. refl; shorter = omega arith; ended = λ e. inl e; joined = λ line text. refl; username = inr (name, refl, refl); password = inl refl; login = inl refl }
-keeps (Password password) x = record { id = refl; address = refl; owed = refl; held = λ e. refl; shorter = omega arith; ended = λ e. inl e; joined = λ line text. refl; username = inl refl; password = inr (password, refl, refl); login = inl refl }
-keeps (Login u) x = record { id = refl; address = refl; owed = refl; held = λ e. refl; shorter = omega arith; ended = λ e. inl e; joined = λ line text. refl; username = inl refl; password = inl refl; login = inr (inr (u, refl, refl)) }
+keeps Nothing x = record { id = refl; address = refl; owed = refl; held = λ e. refl; shorter = omega arith; ended = λ e. inl e; joined = λ line text. refl; username = inl refl; password = inl refl; login = inl refl; logged_out = λ e. inl e }
+keeps (Username name) x = record { id = refl; address = refl; owed = refl; held = λ e. refl; shorter = omega arith; ended = λ e. inl e; joined = λ line text. refl; username = inr (name, refl, refl); password = inl refl; login = inl refl; logged_out = λ e. inl e }
+keeps (Password password) x = record { id = refl; address = refl; owed = refl; held = λ e. refl; shorter = omega arith; ended = λ e. inl e; joined = λ line text. refl; username = inl refl; password = inr (password, refl, refl); login = inl refl; logged_out = λ e. inl e }
+keeps (Login u) x = record { id = refl; address = refl; owed = refl; held = λ e. refl; shorter = omega arith; ended = λ e. inl e; joined = λ line text. refl; username = inl refl; password = inl refl; login = inr (inr (u, refl, refl)); logged_out = λ e. (let never : Some u ≡ None = e in cc never) }
 keeps Ending x = record {
   id = refl;
   address = refl;
@@ -44,9 +45,10 @@ keeps Ending x = record {
   username = inl refl;
   password = inl refl;
   login = inr (inl refl);
+  logged_out = λ e. inr refl;
 }
-keeps (Fsd u) x = record { id = refl; address = refl; owed = refl; held = λ e. refl; shorter = omega arith; ended = λ e. inl e; joined = λ line text. refl; username = inl refl; password = inl refl; login = inl refl }
-keeps (Order u line) x = record { id = refl; address = refl; owed = refl; held = λ e. refl; shorter = omega arith; ended = λ e. inl e; joined = λ line text. refl; username = inl refl; password = inl refl; login = inl refl }
+keeps (Fsd u) x = record { id = refl; address = refl; owed = refl; held = λ e. refl; shorter = omega arith; ended = λ e. inl e; joined = λ line text. refl; username = inl refl; password = inl refl; login = inl refl; logged_out = λ e. inl e }
+keeps (Order u line) x = record { id = refl; address = refl; owed = refl; held = λ e. refl; shorter = omega arith; ended = λ e. inl e; joined = λ line text. refl; username = inl refl; password = inl refl; login = inl refl; logged_out = λ e. inl e }
 
 -- what holds where nothing of the UPSs changes, where a forced shutdown is set, and where an order is told, holds of each change
 pub of_upses : (P : (UpsId → List Telling) → List UpsState → Type 0) (change : Change) (xs : List UpsState) → P (λ u. []) xs

@@ -24,6 +24,7 @@ mod Examples
 mod Rows
 mod Marks
 mod ShutdownMarks
+mod Lasting
 mod SessionMarks
 mod LoginMarks
 mod CredentialMarks

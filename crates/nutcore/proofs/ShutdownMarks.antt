@@ -29,20 +29,20 @@ use Rattle.nutcore.proofs.Events.{IsPlain, of_parts}
 use Rattle.nutcore.proofs.Marks.{run_sets, no_mark}
 
 -- the forced shutdown of the UPS at a place
-abbrev fsd_at : ℕ → List UpsState → Bool
+abbrev pub fsd_at : ℕ → List UpsState → Bool
 fsd_at q xs = option_map_or (λ (x : UpsState). x.fsd) (slice_get xs q) false
 
-abbrev Keeps : (UpsState → UpsState) → Type 0
+abbrev pub Keeps : (UpsState → UpsState) → Type 0
 Keeps f = (x : UpsState) → (f x).fsd ≡ x.fsd
 
-changed_keeps : (f : UpsState → UpsState) → Keeps f → (p q : ℕ) (xs : List UpsState) → fsd_at q (changed_at f p xs) ≡ fsd_at q xs
+pub changed_keeps : (f : UpsState → UpsState) → Keeps f → (p q : ℕ) (xs : List UpsState) → fsd_at q (changed_at f p xs) ≡ fsd_at q xs
 changed_keeps f k p q [] = refl
 changed_keeps f k zero zero (x ∷ xs) = k x
 changed_keeps f k zero (suc q) (x ∷ xs) = refl
 changed_keeps f k (suc p) zero (x ∷ xs) = refl
 changed_keeps f k (suc p) (suc q) (x ∷ xs) = changed_keeps f k p q xs
 
-map_keeps : (f : UpsState → UpsState) → Keeps f → (q : ℕ) (xs : List UpsState) → fsd_at q (map f xs) ≡ fsd_at q xs
+pub map_keeps : (f : UpsState → UpsState) → Keeps f → (q : ℕ) (xs : List UpsState) → fsd_at q (map f xs) ≡ fsd_at q xs
 map_keeps f k q [] = refl
 map_keeps f k zero (x ∷ xs) = k x
 map_keeps f k (suc q) (x ∷ xs) = map_keeps f k q xs
@@ -74,7 +74,7 @@ text_fsd moment text None x =
     cond_fsd (is_too_long (unfinished_after text)) (after_loss y) (with_unfinished (unfinished_after text) y) x e e
 text_fsd moment text (Some k) x = texts_fsd moment (take k (whole_lines text)) x
 
-bytes_fsd : (moment : ℕ) (piece : List ℕ) (refused : Option ℕ) → Keeps (ups_after_bytes moment piece refused)
+pub bytes_fsd : (moment : ℕ) (piece : List ℕ) (refused : Option ℕ) → Keeps (ups_after_bytes moment piece refused)
 bytes_fsd moment piece refused x = cond_fsd x.report.connected (ups_after_text moment (x.unfinished ++ piece) refused x) x x (text_fsd moment (x.unfinished ++ piece) refused x) refl
 
 -- what isn't the line of a client sets no forced shutdown

@@ -20,6 +20,7 @@ pub mod DriverRuns
 pub mod DriverOrders
 pub mod ByRight
 pub mod OrdersByRight
+pub mod Lasting
 pub mod ReadsBack
 pub mod Addresses
 pub mod TellingLines

@@ -1,6 +1,7 @@
 //! Laws of every server, event and run. No program calls them.
 ghost use Rattle.nutcore.specs.Headline.{WhatWasSentAndIsOwedIsTheAnswers, WhatWasAskedIsExecutedOrHeld, EachAnswerIsTimely, NothingIsLeftToExecute, OneAnswerAtMostIsOwedAbove, AListingIsWhatIsHeld, ARefusedLineChangesNothing, ThePumpExecutesTheLeast, EachEventIsAFunction};
 ghost use Rattle.nutcore.specs.ByRight.{AForcedShutdownIsSetByRight, ALoginIsByRight, CredentialsAreGivenByLines, WhatIsCountedIsWhoIsThere};
+ghost use Rattle.nutcore.specs.Lasting.{WhatNeverGoesBack};
 ghost use Rattle.nutcore.specs.OrdersByRight.{EachOrderIsByRight};
 ghost use Rattle.nutcore.specs.TellingLines.{EachTellingIsAWholeLine};
 ghost use Rattle.nutcore.specs.Examples.{TwoVariables, EmptyListing, TakenInFour, LongestLine, ThreeLines, EscapedValue, FaultyLines, CasesAndFaults, NotConnected, Described, PipelinedGet, CutLines, ToldInPieces};
@@ -83,6 +84,13 @@ pub fn credentials_are_given_by_lines()
 /// exactly these, in the order of opening.
 pub fn what_is_counted_is_who_is_there()
     ensures { WhatIsCountedIsWhoIsThere }
+{}
+
+/// Over every run, a user name and a password that a session gave stay as they were given, and so does its login up to the
+/// session's end; a session that ends goes on ending, and is owed no more than what was left; a closed session is never there
+/// again, and ids rise; a forced shutdown stays set.
+pub fn what_never_goes_back()
+    ensures { WhatNeverGoesBack }
 {}
 
 /// Every server is sound: a new one is, and each event and each run keeps it so. The tree of each UPS is sound (names
