@@ -1,8 +1,8 @@
 # Builds, tests, installs and packs the four programs. Each target as plain commands: docs/OPERATING.md.
 PREFIX = /usr/local
 DESTDIR =
-# The version of all of it, said here alone. Debian sorts what ends in ~dev before the version itself.
-VERSION = 0.1.0~dev
+# The version of all of it, which the programs have too.
+VERSION := $(shell sed -n 's/^pub const VERSION: &str = "\(.*\)";$$/\1/p' crates/nutversion/src/lib.rt)
 # Where the Debian package is put.
 PACKAGES = .
 

@@ -1,13 +1,15 @@
 """The cases of tests/clients.sh over a scripted server: what a client sends, prints and tells, whatever the pieces in which
-the reply comes, wherever it is cut, and however little the server or the output takes. Words: the library that makes ends
-narrow (narrow.c), and the programs upsc, upsrw and upscmd. A line a case, with its rows.
+the reply comes, wherever it is cut, however little the server or the output takes, and where the server says no more. Words:
+the library that makes ends narrow (narrow.c), and the programs upsc, upsrw and upscmd. A line a case, with its rows.
 """
+import concurrent.futures
 import contextlib
 import os
 import socket
 import struct
 import subprocess
 import sys
+import time
 from typing import NamedTuple
 
 from replaying import Bench
@@ -79,16 +81,16 @@ def all_of(wire):
 
 def start(words, narrow):
     program, *rest = words
-    more = {"LD_PRELOAD": NARROW, "LEAD_TO": str(PEER.port), "LED": LED, **narrow}
+    more = {"LD_PRELOAD": NARROW, "LED": LED, **narrow}
     ends = {"stdin": subprocess.DEVNULL, "stdout": subprocess.PIPE, "stderr": subprocess.PIPE}
     return subprocess.Popen([PROGRAMS[program], *rest], env={**os.environ, **more}, **ends)
 
 
-def meet(row):
+def meet(row, peer=PEER):
     """What the row's client sent, printed and told, and its status."""
-    child = start(row.words, row.narrow)
+    child = start(row.words, {"LEAD_TO": str(peer.port), **row.narrow})
     try:
-        sent = PEER.meet(row.reply, row.ending)
+        sent = peer.meet(row.reply, row.ending)
         printed, told = child.communicate(timeout=60)
     except (TimeoutError, subprocess.TimeoutExpired) as error:
         raise AssertionError(f"{row}: {error}") from None
@@ -98,13 +100,18 @@ def meet(row):
     return sent, printed, told, child.returncode
 
 
+def wanted(row):
+    """What its client is to have sent, printed and told, and its status."""
+    told, status = (f"{row.words[0]}: {row.fault}\n".encode(), 1) if row.fault else (b"", 0)
+    return row.sent, row.printed, told, status
+
+
 def check(rows):
     """Each row is so."""
     count = 0
     for row in rows:
-        told, status = (f"{row.words[0]}: {row.fault}\n".encode(), 1) if row.fault else (b"", 0)
-        got, want = meet(row), (row.sent, row.printed, told, status)
-        assert got == want, f"{row}: {got}"
+        got = meet(row)
+        assert got == wanted(row), f"{row}: {got}"
         count += 1
     return f"{count} rows"
 
@@ -259,6 +266,60 @@ def outputs_that_take_less():
     yield Row(LIST, b"BEGIN LIST VAR su\nEND LIST VAR su\n", ASKED, narrow={"WRITE_ROOM": "0"})
 
 
+# Servers that say nothing, or no more.
+
+WAIT, SLACK = 5.0, 3.0
+
+
+def silences():
+    """The server stays, and says nothing, or stops in the middle."""
+    yield Row(LIST, b"", ASKED, fault=READ, ending=STAYS)
+    yield Row(LIST, LISTED[:30], ASKED, fault=READ, ending=STAYS)
+    yield Row(("upsc", "-l"), b"BEGIN LIST UPS\n", b"LIST UPS\n", fault=READ, ending=STAYS)
+    yield Row(("upsrw", "su"), b"", b"LIST RW su\n", fault=READ, ending=STAYS)
+    yield Row(SET, b"OK\n", USER + PASSWORD, fault=READ, ending=STAYS)
+    yield Row(("upscmd", "-l", "su"), b"", b"LIST CMD su\n", fault=READ, ending=STAYS)
+
+
+def is_waited(began):
+    """Since then the longest wait has passed, and little more."""
+    return WAIT <= time.monotonic() - began < WAIT + SLACK
+
+
+def check_waits(rows):
+    """Each client gives up by itself after the longest wait. They wait beside one another, for a server each."""
+
+    def waited(row):
+        began = time.monotonic()
+        got = meet(row, Peer())
+        assert got == wanted(row) and is_waited(began), f"{row}: {got} after {time.monotonic() - began:.1f} s"
+
+    with concurrent.futures.ThreadPoolExecutor(len(rows)) as pool:
+        list(pool.map(waited, rows))
+    return f"{len(rows)} rows"
+
+
+def check_unanswered(programs):
+    """A listener without room for one more: the system answers no connection, and each client gives up."""
+    listener = socket.socket()
+    listener.bind(("127.0.0.1", 0))
+    listener.listen(0)
+    port = listener.getsockname()[1]
+    with contextlib.ExitStack() as held:
+        held.enter_context(listener)
+        for _ in range(4):
+            filler = held.enter_context(socket.socket())
+            filler.setblocking(False)
+            filler.connect_ex(("127.0.0.1", port))
+        began = time.monotonic()
+        children = [start(words, {"LEAD_TO": str(port)}) for words in programs]
+        for words, child in zip(programs, children):
+            printed, told = child.communicate(timeout=60)
+            got, want = (printed, told, child.returncode), (b"", f"{words[0]}: cannot connect\n".encode(), 1)
+            assert got == want and is_waited(began), f"{words}: {got} after {time.monotonic() - began:.1f} s"
+    return f"{len(programs)} rows"
+
+
 def main():
     BENCH.case("words and replies in pieces of every size", check, in_pieces())
     BENCH.case("values of orders and settings", check, values())
@@ -274,6 +335,8 @@ def main():
     BENCH.case("what stands behind a reply is left", check, more_behind_a_reply())
     BENCH.case("a server that takes less is told", check, servers_that_take_less())
     BENCH.case("a full output holds a beginning", check, outputs_that_take_less())
+    BENCH.case("a server that says no more is waited for 5 s", check_waits, list(silences()))
+    BENCH.case("a server that takes no connection, too", check_unanswered, [LIST, SET, ("upscmd", "-l", "su")])
     BENCH.end()
 
 

@@ -12,12 +12,12 @@ _voqarchay_words() {
         serve) printf '%s\n' --ups --users --vars --listen --maxage -h --help ;;
         replay) printf '%s\n' --ups --users --vars -h --help FILE ;;
         help) printf '%s\n' serve replay ;;
-        *) printf '%s\n' serve replay help -h --help ;;
+        *) printf '%s\n' serve replay help -h --help -V --version ;;
         esac
         ;;
-    upsc:*) printf '%s\n' -l -L -c --attached -h --help ;;
-    upsrw:*) printf '%s\n' -s -u -p -h --help ;;
-    upscmd:*) printf '%s\n' -l -u -p -h --help ;;
+    upsc:*) printf '%s\n' -l -L -c --attached -h --help -V --version ;;
+    upsrw:*) printf '%s\n' -s -u -p -h --help -V --version ;;
+    upscmd:*) printf '%s\n' -l -u -p -h --help -V --version ;;
     esac
 }
 

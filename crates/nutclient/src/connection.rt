@@ -1,44 +1,59 @@
 //! The connection to a server.
-ghost use Rattle.std.specs.Prelude.{◌≡◌, ◌⊎◌, IfErr};
+ghost use Rattle.std.specs.Prelude.{◌≡◌, ◌≢◌, ◌⊎◌, IfErr};
+ghost use Rattle.std.specs.IoError.{error_kind};
 
 use crate::Target;
+use crate::limits::WAIT_SECONDS;
 use nutreply::ClientFault;
 use std::io;
-use std::net::TcpStream;
+use std::io::ErrorKind;
+use std::net::{TcpStream, ToSocketAddrs};
+use std::time::Duration;
 
-/// Connects to the server: its name is looked up by the system, and each of its addresses is tried in turn.
+/// Connects to the server: its name is looked up by the system, and each of its addresses is tried in turn. No address is
+/// waited for longer than `WAIT_SECONDS`, nor is a later read or write.
 ///
 /// # Errors
 ///
-/// `Connect` where no address takes the connection; `Memory`.
+/// `Connect` where no address takes the connection in time; `Memory`.
 pub fn connect(rt: &HostRuntime, target: &Target) -> Result<TcpStream, ClientFault>
     ensures { IfErr result
         (λ fault. (fault ≡ ClientFault.Connect) ⊎ (fault ≡ ClientFault.Memory)) }
 {
-    match TcpStream::connect(rt, target.address()) {
-        Ok(stream) => without_delay(stream),
+    match open(rt, target.address()) {
+        Ok(stream) => Ok(stream),
         Err(error) => Err(fault_of(&error)),
     }
 }
 
-/// The stream, which sends each line at once.
-fn without_delay(stream: TcpStream) -> Result<TcpStream, ClientFault>
-    ensures { IfErr result
-        (λ fault. (fault ≡ ClientFault.Connect) ⊎ (fault ≡ ClientFault.Memory)) }
-{
-    match stream.set_nodelay(true) {
-        Ok(()) => Ok(stream),
-        Err(error) => Err(fault_of(&error)),
+/// The calls of the system that make a connection. No clause can say what they do.
+fn open(rt: &HostRuntime, server: (&str, u16)) -> io::Result<TcpStream> {
+    let wait = Duration::from_secs(WAIT_SECONDS);
+    let mut last = io::Error::from(ErrorKind::NotFound);
+    for address in server.to_socket_addrs(rt)? {
+        match TcpStream::connect_timeout(rt, &address, wait) {
+            Ok(stream) => return set_up(stream, wait),
+            Err(error) => last = error,
+        }
     }
+    Err(last)
 }
 
-/// What an error of the connection is to a client.
+/// The stream, which sends each line at once, and waits no longer than this.
+fn set_up(stream: TcpStream, wait: Duration) -> io::Result<TcpStream> {
+    stream.set_nodelay(true)?;
+    stream.set_read_timeout(Some(wait))?;
+    stream.set_write_timeout(Some(wait))?;
+    Ok(stream)
+}
+
+/// What an error of the connection is to a client: memory is told where it was refused, and nowhere else.
 fn fault_of(error: &io::Error) -> ClientFault
-    ensures { (result ≡ ClientFault.Connect) ⊎ (result ≡ ClientFault.Memory) }
+    ensures memory { error_kind error.now ≡ ErrorKind.OutOfMemory → result ≡ ClientFault.Memory }
+    ensures failed { error_kind error.now ≢ ErrorKind.OutOfMemory → result ≡ ClientFault.Connect }
 {
-    if error.kind() == io::ErrorKind::OutOfMemory {
-        ClientFault::Memory
-    } else {
-        ClientFault::Connect
+    match error.kind() {
+        ErrorKind::OutOfMemory => ClientFault::Memory,
+        _ => ClientFault::Connect,
     }
 }

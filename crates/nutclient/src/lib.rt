@@ -26,7 +26,7 @@ pub use form::Form;
 pub use given::Given;
 pub use host::Host;
 pub use job::Job;
-pub use limits::{DEFAULT_PORT, HOST_LIMIT, PASSWORD_LIMIT, PORT_LIMIT, USER_LIMIT};
+pub use limits::{DEFAULT_PORT, HOST_LIMIT, PASSWORD_LIMIT, PORT_LIMIT, USER_LIMIT, WAIT_SECONDS};
 pub use program::Program;
 pub use requests::Requests;
 pub use start::main_of;

@@ -1,4 +1,4 @@
-//! The limits of the words, in bytes, the port of the protocol, and a status.
+//! The limits of the words, in bytes, the port of the protocol, how long a server is waited for, and a status.
 
 /// The longest name of a host.
 pub const HOST_LIMIT: usize = 255;
@@ -14,6 +14,9 @@ pub const PORT_LIMIT: usize = 65_535;
 
 /// The port of the protocol (IANA: nut).
 pub const DEFAULT_PORT: u16 = 3493;
+
+/// How many seconds a server is waited for: by each of its addresses to connect, and by each read and each write.
+pub const WAIT_SECONDS: u64 = 5;
 
 /// The status of a fault of the words.
 pub const WORD_FAULT: u8 = 2;

@@ -105,10 +105,11 @@ fn tell(rt: &HostRuntime, program: Program, fault: ClientFault) -> ExitCode
     ExitCode::from(conclude(&mut err, program, &Err(fault)))
 }
 
-/// Prints what the parser of the words says: the help, or a fault of the words.
+/// Prints what the parser of the words says: the help, the version, or a fault of the words.
 fn end(rt: &HostRuntime, program: Program, error: &Error) -> ExitCode
     ensures memory { kind_of error.now ≡ ErrorKind.OutOfMemory → exit_status result ≡ 1 }
     ensures help { kind_of error.now ≡ ErrorKind.DisplayHelp → exit_status result ≡ 0 }
+    ensures version { kind_of error.now ≡ ErrorKind.DisplayVersion → exit_status result ≡ 0 }
     ensures words { kind_of error.now ≢ ErrorKind.OutOfMemory
         → kind_of error.now ≢ ErrorKind.DisplayHelp
         → kind_of error.now ≢ ErrorKind.DisplayVersion → exit_status result ≡ WORD_FAULT }

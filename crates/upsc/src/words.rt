@@ -1,6 +1,7 @@
 //! The words of upsc, and what they ask for.
 use clap::{Arg, ArgAction, ArgMatches, Command};
 use nutclient::{Client, Given, Program, with};
+use nutversion::VERSION;
 use std::alloc::{AllocError, Global};
 
 /// The program's name.
@@ -50,6 +51,7 @@ impl Client for Upsc {
 fn described<'a>(alloc: Global) -> Result<Command<'a>, AllocError> {
     Command::new(alloc, PROGRAM)
         .about("Prints what a UPS server tells of a UPS (RFC 9271)")
+        .version(VERSION)
         .after_help("Example: upsc su@localhost ups.status")
         .bin_name(PROGRAM)
 }

@@ -1,6 +1,7 @@
 //! The words of upscmd, and what they ask for.
 use clap::{Arg, ArgAction, ArgMatches, Command};
 use nutclient::{Client, Given, Program, with};
+use nutversion::VERSION;
 use std::alloc::{AllocError, Global};
 
 /// The program's name.
@@ -43,6 +44,7 @@ impl Client for Upscmd {
 fn described<'a>(alloc: Global) -> Result<Command<'a>, AllocError> {
     Command::new(alloc, PROGRAM)
         .about("Lists the commands of a UPS, or does one (RFC 9271)")
+        .version(VERSION)
         .after_help("Example: upscmd -u admin -p change-me su@localhost test.battery.start")
         .bin_name(PROGRAM)
 }

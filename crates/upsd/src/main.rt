@@ -24,6 +24,7 @@ use clap::error::ErrorKind;
 use clap::{Arg, ArgMatches, Command, Error};
 use nutcore::{MAX_AGE_LEAST, MAX_AGE_MOST};
 use nutreply::CountedWriter;
+use nutversion::VERSION;
 use std::alloc::{AllocError, Global};
 use std::process::ExitCode;
 use std::{env, io};
@@ -60,6 +61,7 @@ fn words_of<'a>(rt: &HostRuntime) -> Result<Vec<String>, Ending<'a>>
 fn matches_of(alloc: Global, words: &[String]) -> Result<ArgMatches<'_>, Error> {
     let upsd = Command::new(alloc, "upsd")
         .about("A UPS server (RFC 9271)")
+        .version(VERSION)
         .subcommand_required(true)
         .subcommand(serve_command(alloc)?)?
         .subcommand(replay_command(alloc)?)?;
@@ -71,8 +73,15 @@ fn serve_command<'a>(alloc: Global) -> Result<Command<'a>, AllocError> {
     // Each word is made where it is added, so that a refusal drops nothing else.
     Command::new(alloc, "serve")
         .about("Serves clients over the network what the UPSs' drivers tell")
-        .after_help("Example: upsd serve --ups ups.conf --users upsd.users --listen 127.0.0.1:3493")
-        .arg(file(alloc, "ups", "The file of the UPSs").required(true))?
+        .after_help(
+            "Example: upsd serve --ups upses.conf --users upsd.users --listen 127.0.0.1:3493",
+        )
+        .arg(file(
+            alloc,
+            "ups",
+            "The file of the UPSs, upsd.ups(5), not NUT's ups.conf",
+        )
+        .required(true))?
         .arg(file(alloc, "users", "The file of the users").required(true))?
         .arg(vars(alloc))?
         .arg(listen(alloc))?
@@ -129,10 +138,11 @@ fn file<'a>(alloc: Global, name: &'a str, help: &'a str) -> Arg<'a> {
     Arg::new(alloc, name).long(name).value_name("F").help(help)
 }
 
-/// Prints what the parser of the words says: the help, or a fault of the words.
+/// Prints what the parser of the words says: the help, the version, or a fault of the words.
 fn end(rt: &HostRuntime, error: &Error) -> ExitCode
     ensures memory { kind_of error.now ≡ ErrorKind.OutOfMemory → exit_status result ≡ FAULT }
     ensures help { kind_of error.now ≡ ErrorKind.DisplayHelp → exit_status result ≡ 0 }
+    ensures version { kind_of error.now ≡ ErrorKind.DisplayVersion → exit_status result ≡ 0 }
     ensures words { kind_of error.now ≢ ErrorKind.OutOfMemory
         → kind_of error.now ≢ ErrorKind.DisplayHelp
         → kind_of error.now ≢ ErrorKind.DisplayVersion → exit_status result ≡ WORD_FAULT }

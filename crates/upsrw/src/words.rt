@@ -1,6 +1,7 @@
 //! The words of upsrw, and what they ask for.
 use clap::{Arg, ArgMatches, Command};
 use nutclient::{Client, Given, Program, with};
+use nutversion::VERSION;
 use std::alloc::{AllocError, Global};
 
 /// The program's name.
@@ -40,6 +41,7 @@ impl Client for Upsrw {
 fn described<'a>(alloc: Global) -> Result<Command<'a>, AllocError> {
     Command::new(alloc, PROGRAM)
         .about("Prints the variables of a UPS that may be set, or sets one (RFC 9271)")
+        .version(VERSION)
         .after_help("Example: upsrw -s ups.delay=30 -u admin -p change-me su@localhost")
         .bin_name(PROGRAM)
 }

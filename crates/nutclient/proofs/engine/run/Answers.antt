@@ -1,6 +1,6 @@
 use Rattle.std.proofs.Common.{Err, refl, subst, inl}
 use Rattle.nutreply.specs.State.{unread_of, reader_of, writer_of}
-use Rattle.nutclient.specs.Requests.{RequestsGive, requests_in}
+use Rattle.nutclient.specs.Requests.{RequestsGive}
 use Rattle.nutclient.proofs.engine.run.Goals as goal
 
 pub returns-in-Err-clause-gives : goal.returns-in-Err-clause-gives

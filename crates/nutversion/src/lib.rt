@@ -1,0 +1,5 @@
+//! The version of the programs and of the package, said here alone: the Makefile reads it too.
+#![tactic(auto)]
+
+/// The version. Between releases it is the next one's with `~dev`, which Debian sorts before it.
+pub const VERSION: &str = "0.1.0~dev";
