@@ -2,8 +2,8 @@
 ghost use Rattle.endtoend.specs.Handed.{run_by, PrintsTheVariables, PrintsTheVariable, PrintsTheNumber, PrintsTheSettings, PrintsTheCommands, PrintsTheNames, PrintsTheDescriptions};
 
 use crate::laws::{
-    upsc_prints_how_many_are_logged_in, upsc_prints_the_upses, upsc_prints_the_variable, upsc_prints_the_variables,
-    upscmd_prints_the_commands, upsrw_prints_the_variables,
+    upsc_prints_how_many_are_logged_in, upsc_prints_the_upses, upsc_prints_the_variable,
+    upsc_prints_the_variables, upscmd_prints_the_commands, upsrw_prints_the_variables,
 };
 use nutclient::{Job, run};
 use nutreply::{ClientFault, Session, Sink, Source};
