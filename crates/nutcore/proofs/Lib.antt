@@ -25,6 +25,7 @@ mod Rows
 mod Marks
 mod ShutdownMarks
 mod Lasting
+mod Waiting
 mod SessionMarks
 mod LoginMarks
 mod CredentialMarks

@@ -12,6 +12,7 @@ pub mod Cost
 pub mod Headline
 pub mod Isolation
 pub mod Sound
+pub mod Waiting
 pub mod Bounded
 pub mod Taking
 pub mod Listed

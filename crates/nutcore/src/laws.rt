@@ -2,6 +2,7 @@
 ghost use Rattle.nutcore.specs.Headline.{WhatWasSentAndIsOwedIsTheAnswers, WhatWasAskedIsExecutedOrHeld, EachAnswerIsTimely, NothingIsLeftToExecute, OneAnswerAtMostIsOwedAbove, AListingIsWhatIsHeld, ARefusedLineChangesNothing, ThePumpExecutesTheLeast, EachEventIsAFunction};
 ghost use Rattle.nutcore.specs.ByRight.{AForcedShutdownIsSetByRight, ALoginIsByRight, CredentialsAreGivenByLines, WhatIsCountedIsWhoIsThere};
 ghost use Rattle.nutcore.specs.Lasting.{WhatNeverGoesBack};
+ghost use Rattle.nutcore.specs.Waiting.{ALineIsAnswered};
 ghost use Rattle.nutcore.specs.OrdersByRight.{EachOrderIsByRight};
 ghost use Rattle.nutcore.specs.TellingLines.{EachTellingIsAWholeLine};
 ghost use Rattle.nutcore.specs.Examples.{TwoVariables, EmptyListing, TakenInFour, LongestLine, ThreeLines, EscapedValue, FaultyLines, CasesAndFaults, NotConnected, Described, PipelinedGet, CutLines, ToldInPieces};
@@ -84,6 +85,12 @@ pub fn credentials_are_given_by_lines()
 /// exactly these, in the order of opening.
 pub fn what_is_counted_is_who_is_there()
     ensures { WhatIsCountedIsWhoIsThere }
+{}
+
+/// A session that was opened holds nothing and is owed nothing; and where such a one, which isn't ending, is fed one line of
+/// at most 1,023 bytes and memory is there, it is owed exactly the reply to that line, and holds nothing.
+pub fn a_line_is_answered()
+    ensures { ALineIsAnswered }
 {}
 
 /// Over every run, a user name and a password that a session gave stay as they were given, and so does its login up to the
