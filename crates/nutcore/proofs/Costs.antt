@@ -147,30 +147,20 @@ outbox_line_counted now o o' line made made' same few short one some joined more
     let few' : length (owed_in o) ≤ OWED_LIMIT = omega (arith, few, ap length same) in
     subst (λ (xs : List ℕ). IsCounted kept xs made') (sym joined) (line_counted (owed_in o) line made made' few' short (whole_of line one some) more kept (subst (λ (xs : List ℕ). IsCounted kept xs made) (sym same) c))
 
--- of the client whose session stands there
+-- what holds of a session that is put in its place holds of the client's
+pub of_set : (P : Option SessionState → Type 0) (v : ServerState) (c i : ℕ) (x y : SessionState) → IsAt c i v.sessions → session c v ≡ Some x → y.id ≡ x.id → P (Some y) → let code : ServerState = record v { sessions = set v.sessions i y } in P (session c code)
+of_set P v c i x y at found id p = subst P (sym (session_set v c i x y at found (id ∙ find_id c v.sessions x found))) p
+
 pub cost_kept : (v : ServerState) (c i : ℕ) (x y : SessionState) (made made' : ℕ) → IsAt c i v.sessions → session c v ≡ Some x → y.id ≡ x.id → KeepsCount x.owed made y.owed made' →
     let code : ServerState = record v { sessions = set v.sessions i y } in KeepsCount (owed c v) made (owed c code) made'
 cost_kept v c i x y made made' at found id keeps kept counted =
-    let now = session_set v c i x y at found (id ∙ find_id c v.sessions x found) in
-    subst (λ (o : Option SessionState). IsCounted kept (owed_of o) made') (sym now)
-    (keeps kept (subst (λ (o : Option SessionState). IsCounted kept (owed_of o) made) found counted))
+    of_set (λ o. IsCounted kept (owed_of o) made') v c i x y at found id (keeps kept (subst (λ (o : Option SessionState). IsCounted kept (owed_of o) made) found counted))
 
 -- the cost of what is placed after so many bytes
 pub placed_behind : (after : List ℕ) (kept made n : ℕ) → made ≡ lines (drop kept after) → n ≡ length after → (let cost : Cost = record { rendered = made; placed = n - kept } in cost ≡ cost_beyond kept after)
 placed_behind after kept made n counted all =
     ap (λ (k : ℕ). let z : Cost = record { rendered = k; placed = n - kept } in z) counted
     ∙ ap (λ (k : ℕ). let z : Cost = record { rendered = lines (drop kept after); placed = k - kept } in z) all
-
--- a session in its place: what is counted of it, and how much it holds
-pub counted_set : (v : ServerState) (c i : ℕ) (x y : SessionState) (kept made : ℕ) → IsAt c i v.sessions → session c v ≡ Some x → y.id ≡ x.id → IsCounted kept y.owed made →
-    let code : ServerState = record v { sessions = set v.sessions i y } in IsCounted kept (owed c code) made
-counted_set v c i x y kept made at found id counted =
-    subst (λ (o : Option SessionState). IsCounted kept (owed_of o) made) (sym (session_set v c i x y at found (id ∙ find_id c v.sessions x found))) counted
-
-pub held_set : (v : ServerState) (c i : ℕ) (x y : SessionState) → IsAt c i v.sessions → session c v ≡ Some x → y.id ≡ x.id → length y.held ≤ HELD_LIMIT →
-    let code : ServerState = record v { sessions = set v.sessions i y } in length (held_of (session c code)) ≤ HELD_LIMIT
-held_set v c i x y at found id short =
-    subst (λ (o : Option SessionState). length (held_of o) ≤ HELD_LIMIT) (sym (session_set v c i x y at found (id ∙ find_id c v.sessions x found))) short
 
 -- nothing is counted yet
 pub counts_none : (owed : List ℕ) (made : ℕ) → made ≡ 0 → IsCounted (length (take RING_LIMIT owed)) owed made
@@ -204,11 +194,11 @@ fed_none : (s : ServerState) (c : ℕ) (piece : List ℕ) → length (taken_in_e
 unfolding taken_in_event
 fed_none s c piece = refl
 
-took_none : (s : ServerState) (c n : ℕ) → may_take (session c s) n ≡ false → length (taken_in_event c s (Took c n)) ≡ 0
+pub took_none : (s : ServerState) (c n : ℕ) → may_take (session c s) n ≡ false → length (taken_in_event c s (Took c n)) ≡ 0
 unfolding taken_in_event
 took_none s c n may = ap length (cond-false _ _ _ may)
 
-took_some : (s : ServerState) (c n : ℕ) → may_take (session c s) n ≡ true → n ≤ length (offered (session c s)) → length (taken_in_event c s (Took c n)) ≡ n
+pub took_some : (s : ServerState) (c n : ℕ) → may_take (session c s) n ≡ true → n ≤ length (offered (session c s)) → length (taken_in_event c s (Took c n)) ≡ n
 unfolding taken_in_event
 took_some s c n may le =
     ap length (cond-true _ _ _ may ∙ cond-true _ _ _ (eq-eqb c c refl)) ∙ omega (arith, le, length-take n (owed_of (session c s)), length-take RING_LIMIT (owed_of (session c s)))

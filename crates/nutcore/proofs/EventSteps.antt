@@ -18,7 +18,8 @@ use Rattle.nutcore.specs.Promises.{IsAt, PumpGives}
 use Rattle.nutcore.proofs.Changed.{change_absent}
 use Rattle.nutcore.proofs.Places.{without_none}
 use Rattle.nutcore.proofs.Loops.{stopped_lines}
-use Rattle.nutcore.proofs.Serving.{change_set, no_notice}
+use Rattle.nutcore.proofs.Pumping.{no_notice}
+use Rattle.nutcore.proofs.Serving.{change_set}
 
 pub with_input_is : (s : ServerState) (c i : ℕ) (piece : List ℕ) (x y : SessionState) → IsAt c i s.sessions → session c s ≡ Some x → y ≡ joined piece x → (let code : ServerState = record s { sessions = set s.sessions i y } in code ≡ with_input s c piece)
 unfolding with_input
@@ -49,29 +50,26 @@ feed_absent s c piece e = record {
   leaves = pump_absent s c e ∙ ap (λ (z : ServerState). pumped z c) (sym (input_absent s c piece e));
 }
 
-pub feed_ok : (s j t : ServerState) (c : ℕ) (piece : List ℕ) (x : SessionState) (n : ℕ) → session c s ≡ Some x → j ≡ with_input s c piece → Fed n ≡ fed_by (session c s) piece false → PumpGives j c (Ok tt) t → Step s (Feed c piece) (Fed n) t
-unfolding outcome_of after_by pumped_until
-feed_ok s j t c piece x n e ej count (over, et) = record {
-  allowed = inl (count ∙ ap (λ (b : Bool). fed_by (session c s) piece b) (sym (ap (λ (z : ServerState). is_overlong (after_all_lines z c) c) (sym ej) ∙ over)));
-  leaves = et ∙ ap (λ (z : ServerState). pumped z c) ej;
-}
+-- what holds of the three ends of a pump holds of what it gives
+of_gives : (P : Result (Unit {0}) Fault → ServerState → Type 0) (j : ServerState) (c : ℕ) → ((u : Unit {0}) → is_overlong (after_all_lines j c) c ≡ false → P (Ok u) (pumped j c)) → (is_overlong (after_all_lines j c) c ≡ true → P (Err LineTooLong) (pumped j c))
+    → ((k : ℕ) → IsTrue (wants_memory (after_lines k j c) c) → P (Err (Memory k)) (after_lines k j c)) → (r : Result (Unit {0}) Fault) (t : ServerState) → PumpGives j c r t → P r t
+of_gives P j c short long memory (Ok u) t (over, e) = subst (P (Ok u)) (sym e) (short u over)
+of_gives P j c short long memory (Err LineTooLong) t (over, e) = subst (P (Err LineTooLong)) (sym e) (long over)
+of_gives P j c short long memory (Err (Memory k)) t (wants, e) = subst (P (Err (Memory k))) (sym e) (memory k wants)
+of_gives P j c short long memory (Err fault) t never = absurd never
 
-pub feed_err : (s j t : ServerState) (c : ℕ) (piece : List ℕ) (x : SessionState) (fault : Fault) → session c s ≡ Some x → j ≡ with_input s c piece → PumpGives j c (Err fault) t → Step s (Feed c piece) (Refused fault) t
+abbrev pub fed_as : ℕ → Result (Unit {0}) Fault → Outcome
+fed_as n (Ok u) = Fed n
+fed_as n (Err fault) = Refused fault
+
+pub feed_gives : (s j t : ServerState) (c : ℕ) (piece : List ℕ) (x : SessionState) (n : ℕ) (r : Result (Unit {0}) Fault) → session c s ≡ Some x → j ≡ with_input s c piece → Fed n ≡ fed_by (session c s) piece false → PumpGives j c r t → Step s (Feed c piece) (fed_as n r) t
 unfolding outcome_of after_by pumped_until MayLackMemory
-feed_err s j t c piece x LineTooLong e ej (over, et) = record {
-  allowed = inl (sym (ap (λ (o : Option SessionState). fed_by o piece (is_overlong (after_all_lines (with_input s c piece) c) c)) e ∙ cond-true _ _ _ (ap (λ (z : ServerState). is_overlong (after_all_lines z c) c) (sym ej) ∙ over)));
-  leaves = et ∙ ap (λ (z : ServerState). pumped z c) ej;
-}
-feed_err s j t c piece x (Memory k) e ej (wants, et) = record {
-  allowed = inr (k, refl, subst (λ (z : ServerState). IsTrue (wants_memory (after_lines k z c) c)) ej wants);
-  leaves = et ∙ ap (λ (z : ServerState). after_lines k z c) ej;
-}
-feed_err s j t c piece x NoSuchUps e ej never = absurd never
-feed_err s j t c piece x NoSuchClient e ej never = absurd never
-feed_err s j t c piece x TooManyClients e ej never = absurd never
-feed_err s j t c piece x TookTooMuch e ej never = absurd never
-feed_err s j t c piece x NotConnected e ej never = absurd never
-feed_err s j t c piece x AlreadyConnected e ej never = absurd never
+feed_gives s j t c piece x n r e ej count gives =
+    of_gives (λ r t. Step s (Feed c piece) (fed_as n r) t) (with_input s c piece) c
+    (λ u over. record { allowed = inl (count ∙ ap (λ (b : Bool). fed_by (session c s) piece b) (sym over)); leaves = refl })
+    (λ over. record { allowed = inl (sym (ap (λ (o : Option SessionState). fed_by o piece (is_overlong (after_all_lines (with_input s c piece) c) c)) e ∙ cond-true _ _ _ over)); leaves = refl })
+    (λ k wants. record { allowed = inr (k, refl, wants); leaves = refl })
+    r t (subst (λ (z : ServerState). PumpGives z c r t) ej gives)
 
 -- bytes taken
 pub took_absent : (s : ServerState) (c n : ℕ) → session c s ≡ None → Step s (Took c n) (Refused NoSuchClient) s
@@ -90,24 +88,14 @@ took_much s c n x e may = record {
 
 pub took_gives : (s j t : ServerState) (c n : ℕ) (x : SessionState) (r : Result (Unit {0}) Fault) → session c s ≡ Some x → may_take (session c s) n ≡ true → j ≡ without_output s c n → PumpGives j c r t → Step s (Took c n) (done r) t
 unfolding outcome_of after_by pumped_until MayLackMemory
-took_gives s j t c n x (Ok u) e may ej (over, et) = record {
-  allowed = inl (sym (ap (λ (o : Option SessionState). took_by o n (is_overlong (after_all_lines (without_output s c n) c) c)) e ∙ cond-true _ _ _ (ap (λ (o : Option SessionState). may_take o n) (sym e) ∙ may) ∙ cond-false _ _ _ (ap (λ (z : ServerState). is_overlong (after_all_lines z c) c) (sym ej) ∙ over)));
-  leaves = et ∙ ap (λ (z : ServerState). pumped z c) ej ∙ sym (cond-true _ _ _ may);
-}
-took_gives s j t c n x (Err LineTooLong) e may ej (over, et) = record {
-  allowed = inl (sym (ap (λ (o : Option SessionState). took_by o n (is_overlong (after_all_lines (without_output s c n) c) c)) e ∙ cond-true _ _ _ (ap (λ (o : Option SessionState). may_take o n) (sym e) ∙ may) ∙ cond-true _ _ _ (ap (λ (z : ServerState). is_overlong (after_all_lines z c) c) (sym ej) ∙ over)));
-  leaves = et ∙ ap (λ (z : ServerState). pumped z c) ej ∙ sym (cond-true _ _ _ may);
-}
-took_gives s j t c n x (Err (Memory k)) e may ej (wants, et) = record {
-  allowed = inr (k, refl, (may, subst (λ (z : ServerState). IsTrue (wants_memory (after_lines k z c) c)) ej wants));
-  leaves = et ∙ ap (λ (z : ServerState). after_lines k z c) ej ∙ sym (cond-true _ _ _ may);
-}
-took_gives s j t c n x (Err NoSuchUps) e may ej never = absurd never
-took_gives s j t c n x (Err NoSuchClient) e may ej never = absurd never
-took_gives s j t c n x (Err TooManyClients) e may ej never = absurd never
-took_gives s j t c n x (Err TookTooMuch) e may ej never = absurd never
-took_gives s j t c n x (Err NotConnected) e may ej never = absurd never
-took_gives s j t c n x (Err AlreadyConnected) e may ej never = absurd never
+took_gives s j t c n x r e may ej gives =
+    let over = is_overlong (after_all_lines (without_output s c n) c) c in
+    let its = ap (λ (o : Option SessionState). took_by o n over) e ∙ cond-true _ _ _ (ap (λ (o : Option SessionState). may_take o n) (sym e) ∙ may) in
+    of_gives (λ r t. Step s (Took c n) (done r) t) (without_output s c n) c
+    (λ u short. record { allowed = inl (sym (its ∙ cond-false _ _ _ short)); leaves = sym (cond-true _ _ _ may) })
+    (λ long. record { allowed = inl (sym (its ∙ cond-true _ _ _ long)); leaves = sym (cond-true _ _ _ may) })
+    (λ k wants. record { allowed = inr (k, refl, (may, wants)); leaves = sym (cond-true _ _ _ may) })
+    r t (subst (λ (z : ServerState). PumpGives z c r t) ej gives)
 
 -- closing
 pub close_absent : (s : ServerState) (c : ℕ) → session c s ≡ None → Step s (Close c) (Refused NoSuchClient) s

@@ -1,5 +1,6 @@
 -- Finding sessions after a change.
-use Rattle.std.proofs.Common.{◌≡◌, ◌≢◌, ℕ, List, [], ◌∷◌, ◌++◌, Some, None, refl, arith}
+use Rattle.std.proofs.Common.{◌≡◌, ◌≢◌, ℕ, Bool, true, false, List, [], ◌∷◌, ◌++◌, Option, Some, None, refl, arith, cond, eqb}
+use Rattle.std.proofs.lemmas.Bool.{cond_both, eqb-true}
 use Rattle.std.proofs.lemmas.Bool.Decides.{nat_tests}
 use Rattle.nutcore.specs.Session.{SessionState, find, put, without}
 
@@ -24,13 +25,14 @@ pub find_without_other : (c d : ℕ) (xs : List SessionState) → c ≢ d → fi
 find_without_other c d [] differ = refl
 find_without_other c d (z ∷ xs) differ = grind (arith, nat_tests, find_without_other c d xs differ)
 
-pub find_last : (y : SessionState) (xs : List SessionState) → find y.id xs ≡ None → find y.id (xs ++ y ∷ []) ≡ Some y
-find_last y [] e = grind (arith, nat_tests)
-find_last y (z ∷ xs) e = grind (arith, nat_tests, find_last y xs)
-
-pub find_last_other : (c : ℕ) (y : SessionState) (xs : List SessionState) → c ≢ y.id → find c (xs ++ y ∷ []) ≡ find c xs
-find_last_other c y [] differ = grind (arith, nat_tests)
-find_last_other c y (z ∷ xs) differ = grind (arith, nat_tests, find_last_other c y xs differ)
+-- what holds of what is found, and of a new session where there is none and it has the id, holds once it is pushed
+pub of_pushed : (P : Option SessionState → Type 0) (c : ℕ) (y : SessionState) (xs : List SessionState) → P (find c xs) → (y.id ≡ c → find c xs ≡ None → P (Some y)) → P (find c (xs ++ y ∷ []))
+of_pushed P c y [] same new = cond_both (eqb y.id c) (Some y) None P (λ e. new (eqb-true y.id c e) refl) (λ e. same)
+of_pushed P c y (x ∷ xs) same new = by_id (eqb x.id c) same new (of_pushed P c y xs)
+  where
+    by_id : (b : Bool) → P (cond b (Some x) (find c xs)) → (y.id ≡ c → cond b (Some x) (find c xs) ≡ None → P (Some y)) → (P (find c xs) → (y.id ≡ c → find c xs ≡ None → P (Some y)) → P (find c (xs ++ y ∷ []))) → P (cond b (Some x) (find c (xs ++ y ∷ [])))
+    by_id true same new rest = same
+    by_id false same new rest = rest same new
 
 -- a session put twice
 pub put_put : (y z : SessionState) (xs : List SessionState) → z.id ≡ y.id → put z (put y xs) ≡ put z xs

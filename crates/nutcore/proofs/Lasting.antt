@@ -23,7 +23,7 @@ use Rattle.nutcore.proofs.Found.{find_id, find_put_other, find_without, find_wit
 use Rattle.nutcore.proofs.Kept.{IsKept, IsAny, any_event, by_run}
 use Rattle.nutcore.proofs.Pumping.{is_next, after_line_is, change_at, session_after, session_after_id}
 use Rattle.nutcore.proofs.Rows.{comes_of_line}
-use Rattle.nutcore.proofs.ShutdownMarks.{fsd_at, changed_keeps, map_keeps, bytes_fsd}
+use Rattle.nutcore.proofs.ShutdownMarks.{fsd_at, changed_keeps, drivers_keep, tick_keeps, by_session}
 
 -- what a line, bytes that come and go, and a notice keep of a session
 record IsLasting (IsSo : SessionState → Type 0) : Type 0 where
@@ -47,8 +47,8 @@ module _ (IsSo : SessionState → Type 0) (lasting : IsLasting IsSo) (c : ℕ) w
           subst (λ o. IfSome o IsSo) (sym (session_put s c x y here (id ∙ sym same))) (keep (subst (λ o. IfSome o IsSo) here h))
       by_id false e = subst (λ o. IfSome o IsSo) (sym (find_put_other c y s.sessions (λ (k : c ≡ y.id). eqb-false c d e (k ∙ id)))) h
 
-  by_session : (f : SessionState → SessionState) → ((x : SessionState) → (f x).id ≡ x.id) → ((x : SessionState) → IsSo x → IsSo (f x)) → (s : ServerState) (d : ℕ) → IsThere s → IsThere (with_session_changed f d s)
-  by_session f same keep s d h = by_change IsThere f d s (λ x e. (h.0, puts s d x (f x) e (same x ∙ find_id d s.sessions x e) (keep x) h.1)) (λ e. h)
+  by_changing : (f : SessionState → SessionState) → ((x : SessionState) → (f x).id ≡ x.id) → ((x : SessionState) → IsSo x → IsSo (f x)) → (s : ServerState) (d : ℕ) → IsThere s → IsThere (with_session_changed f d s)
+  by_changing f same keep s d h = by_change IsThere f d s (λ x e. (h.0, puts s d x (f x) e (same x ∙ find_id d s.sessions x e) (keep x) h.1)) (λ e. h)
 
   closes : (s : ServerState) (d : ℕ) → IsThere s → (let t : ServerState = record s { sessions = without d s.sessions } in IsThere t)
   closes s d h = (h.0, by_id (eqb c d) refl)
@@ -70,9 +70,9 @@ module _ (IsSo : SessionState → Type 0) (lasting : IsLasting IsSo) (c : ℕ) w
         let n = is_next s d line e in
         subst IsThere (sym (after_line_is s d line n.asking n.found e))
         (h.0, puts s d n.asking (session_after s d line n.asking) n.found (session_after_id s d line n.asking n.found) (lasting.line s d line n.asking n.found n.going) h.1);
-    joins = λ s d piece h. by_session (joined piece) (λ x. refl) (lasting.joins piece) s d h;
-    gives = λ s d n h. by_session (taken_from n) (λ x. refl) (lasting.gives n) s d h;
-    notice = λ s d h. by_session with_notice notice_id lasting.notice s d h;
+    joins = λ s d piece h. by_changing (joined piece) (λ x. refl) (lasting.joins piece) s d h;
+    gives = λ s d n h. by_changing (taken_from n) (λ x. refl) (lasting.gives n) s d h;
+    notice = λ s d h. by_changing with_notice notice_id lasting.notice s d h;
     driver = λ s m. record { comes = λ u h. h; tells = λ piece u h. h; takes = λ n u h. h; goes = λ u h. h };
     ticks = by_tick;
     opens = λ s address room own h.
@@ -183,26 +183,24 @@ forced_stays zero (suc q) (x ∷ xs) h = h
 forced_stays (suc p) zero (x ∷ xs) h = h
 forced_stays (suc p) (suc q) (x ∷ xs) h = forced_stays p q xs h
 
-shutdown_ticks : (u : UpsId) (s : ServerState) (seconds : ℕ) → is_shut_down u s ≡ true → is_shut_down u (ticked seconds s) ≡ true
-unfolding ticked
-shutdown_ticks u s seconds h = map_keeps _ (λ x. cond_both (ping_is_due s.max_age _ x) _ x (λ y. y.fsd ≡ x.fsd) (λ b. refl) (λ b. refl)) u.place s.upses ∙ h
-
 shutdown_kept : (u : UpsId) → IsKept (λ s. is_shut_down u s ≡ true) IsAny
 shutdown_kept u = record {
   line = λ s d line e h.
       let at = is_next s d line e in
       subst (λ (t : ServerState). is_shut_down u t ≡ true) (sym (after_line_is s d line at.asking at.found e))
       (of_upses (λ told ys. fsd_at u.place ys ≡ true) (change_at s d line) s.upses h (λ v is. forced_stays v.place u.place s.upses h) (λ v line is. changed_keeps (with_order line.items) (λ x. refl) v.place u.place s.upses ∙ h));
-  joins = λ s d piece h. by_change (λ t. is_shut_down u t ≡ true) (joined piece) d s (λ x e. h) (λ e. h);
-  gives = λ s d n h. by_change (λ t. is_shut_down u t ≡ true) (taken_from n) d s (λ x e. h) (λ e. h);
-  notice = λ s d h. by_change (λ t. is_shut_down u t ≡ true) with_notice d s (λ x e. h) (λ e. h);
-  driver = λ s m. record {
-    comes = λ v h. changed_keeps (connected s.moment) (λ x. cond_both x.report.connected x (after_connecting s.moment x) (λ y. y.fsd ≡ x.fsd) (λ b. refl) (λ b. refl)) v.place u.place s.upses ∙ h;
-    tells = λ piece v h. changed_keeps (ups_after_bytes s.moment piece m) (bytes_fsd s.moment piece m) v.place u.place s.upses ∙ h;
-    takes = λ n v h. changed_keeps (after_driver_took n) (λ x. cond_both (driver_may_take n x) _ x (λ y. y.fsd ≡ x.fsd) (λ b. refl) (λ b. refl)) v.place u.place s.upses ∙ h;
-    goes = λ v h. changed_keeps disconnected (λ x. cond_both x.report.connected (after_loss x) x (λ y. y.fsd ≡ x.fsd) (λ b. refl) (λ b. refl)) v.place u.place s.upses ∙ h;
-  };
-  ticks = shutdown_ticks u;
+  joins = λ s d piece h. by_session u (joined piece) s d ∙ h;
+  gives = λ s d n h. by_session u (taken_from n) s d ∙ h;
+  notice = λ s d h. by_session u with_notice s d ∙ h;
+  driver = λ s m.
+      let keep = drivers_keep s m in
+      record {
+        comes = λ v h. changed_keeps (connected s.moment) keep.comes v.place u.place s.upses ∙ h;
+        tells = λ piece v h. changed_keeps (ups_after_bytes s.moment piece m) (keep.tells piece) v.place u.place s.upses ∙ h;
+        takes = λ n v h. changed_keeps (after_driver_took n) (keep.takes n) v.place u.place s.upses ∙ h;
+        goes = λ v h. changed_keeps disconnected keep.goes v.place u.place s.upses ∙ h;
+      };
+  ticks = λ s seconds h. tick_keeps u s seconds ∙ h;
   opens = λ s address room own h. h;
   closes = λ s d h. h;
 }

@@ -1,44 +1,40 @@
 -- The pump executes the least number of lines after which it stops.
-use Rattle.std.proofs.Common.{◌≡◌, ℕ, zero, suc, ◌<◌, ◌≤◌, Bool, true, false, List, [], ◌∷◌, Option, Some, None, refl, sym, ◌∙◌, ap, subst, cond, arith, length, inl, inr, ltb, ◌||◌, ◌++◌}
-use Rattle.std.specs.Prelude.{is_none, option_and_then}
-use Rattle.nutcore.specs.Lines.{first_line}
-use Rattle.nutcore.specs.Session.{SessionState, find, put}
-use Rattle.nutcore.specs.Server.{ServerState, session}
-use Rattle.std.proofs.lemmas.Bool.{cond-true}
+use Rattle.std.proofs.Common.{◌≡◌, ℕ, zero, suc, ◌<◌, ◌≤◌, Bool, true, false, List, [], ◌∷◌, ◌++◌, Option, Some, None, refl, sym, ◌∙◌, ap, subst, cond, arith, length, inl, inr}
+use Rattle.std.specs.Prelude.{is_none, option_and_then, option_map}
+use Rattle.std.specs.Option.{option_map_or}
+use Rattle.std.proofs.lemmas.Bool.{cond-true, ltb-false}
+use Rattle.nutlisting.specs.declared.outbox.TheConstants.{OWED_LIMIT}
 use Rattle.nutcore.specs.declared.event.Event.TheVariants.{Feed, Took}
 use Rattle.nutcore.specs.declared.event.Outcome.TheVariants.{Done, Fed, Refused}
 use Rattle.nutcore.specs.declared.event.Fault.TheVariants.{TookTooMuch, LineTooLong, Memory}
-use Rattle.nutcore.specs.Step.{Step, with_input, without_output, may_take, fed_by, took_by, outcome_of, after_by, pumped_until}
-use Rattle.nutcore.specs.Pump.{next_line, next_line_for, after_line, after_lines, pump_stops, held_of, pumped, after_notice, after_all_lines, is_overlong, answered, owed_of}
-use Rattle.nutcore.specs.Headline.{IsLeast, NothingIsLeftToExecute, OneAnswerAtMostIsOwedAbove}
+use Rattle.nutcore.specs.Lines.{first_line}
+use Rattle.nutcore.specs.Session.{SessionState}
+use Rattle.nutcore.specs.Server.{ServerState, session}
 use Rattle.nutcore.specs.Reply.{reply}
-use Rattle.nutlisting.specs.declared.outbox.TheConstants.{OWED_LIMIT}
-use Rattle.std.proofs.lemmas.Bool.Decides.{nat_tests}
-use Rattle.nutcore.proofs.Found.{find_put}
+use Rattle.nutcore.specs.Pump.{next_line, next_line_for, after_line, after_lines, pump_stops, held_of, owed_of, pumped, after_notice, after_all_lines, is_overlong, holds_overlong, notified, answered}
+use Rattle.nutcore.specs.Step.{Step, with_input, without_output, may_take, took_by, outcome_of, after_by, pumped_until}
+use Rattle.nutcore.specs.Headline.{IsLeast, NothingIsLeftToExecute, OneAnswerAtMostIsOwedAbove}
 use Rattle.nutcore.proofs.Changes.{keeps}
-use Rattle.nutcore.proofs.Pumping.{is_next, after_line_is, session_after, session_after_id, change_at, line_done}
-use Rattle.nutcore.proofs.Serving.{no_notice}
-use Rattle.nutcore.proofs.Loops.{stopped_lines, line_shortens, all_lines_are}
+use Rattle.nutcore.proofs.Changed.{session_changed}
+use Rattle.nutcore.proofs.Pumping.{is_next, change_at, of_notice_due}
+use Rattle.nutcore.proofs.Loops.{stopped_lines, line_shortens, all_lines_are, found_after_line}
 
 -- the pump goes on where there is a next line
-goes_on : (o : Option (List ℕ)) → is_none o ≡ false → (line : List ℕ) × (o ≡ Some line)
-goes_on None h = let k : true ≡ false = h in cc k
-goes_on (Some line) h = (line, refl)
+shortens : (s : ServerState) (c : ℕ) → pump_stops s c ≡ false → length (held_of (session c (after_line s c))) < length (held_of (session c s))
+shortens s c h = shortens_by (next_line_for s c) refl h
+  where
+    shortens_by : (o : Option (List ℕ)) → next_line_for s c ≡ o → is_none o ≡ false → length (held_of (session c (after_line s c))) < length (held_of (session c s))
+    shortens_by None e h = cc h
+    shortens_by (Some line) e h = line_shortens s c line e
 
-pub shortens : (s : ServerState) (c : ℕ) → pump_stops s c ≡ false → length (held_of (session c (after_line s c))) < length (held_of (session c s))
-shortens s c h = let n = goes_on (next_line_for s c) h in line_shortens s c n.0 n.1
-
-none_by : (b : Bool) (bytes : List ℕ) → bytes ≡ [] → is_none (cond b None (first_line bytes)) ≡ true
-none_by true bytes e = refl
-none_by false bytes e = ap (λ z. is_none (first_line z)) e
-
-empty : (bytes : List ℕ) → length bytes ≤ 0 → bytes ≡ []
-empty [] le = refl
-empty (b ∷ bytes) le = absurd (omega arith)
+none_by : (b : Bool) (bytes : List ℕ) → length bytes ≤ 0 → is_none (cond b None (first_line bytes)) ≡ true
+none_by true bytes le = refl
+none_by false [] le = refl
+none_by false (b ∷ bytes) le = absurd (omega arith)
 
 empty_stops : (o : Option SessionState) → length (held_of o) ≤ 0 → is_none (option_and_then next_line o) ≡ true
 empty_stops None le = refl
-empty_stops (Some x) le = none_by _ x.held (empty x.held le)
+empty_stops (Some x) le = none_by _ x.held le
 
 -- after as many lines as bytes are held, the pump has stopped
 pub stops_at_last : (n : ℕ) (s : ServerState) (c : ℕ) → length (held_of (session c s)) ≤ n → pump_stops (after_lines n s c) c ≡ true
@@ -75,69 +71,58 @@ pump_least s c =
     let l = least n s c (stops_at_last n s c (omega arith)) in
     (l.0, record { there = l.1.there; before = l.1.before; pumped_is = ap (λ (z : ServerState). after_notice z c) (all_lines_are l.0 s c l.1.within l.1.there) })
 
--- after an event of a client that wasn't refused the pump has stopped
-pub pump_stopped : (s : ServerState) (c : ℕ) → is_overlong (after_all_lines s c) c ≡ false → pump_stops (pumped s c) c ≡ true
+-- the pump has stopped, and no line is too long
+pub record HasStopped (s : ServerState) (c : ℕ) : Type 0 where
+  pub stopped : pump_stops s c ≡ true
+  pub short : is_overlong s c ≡ false
+
+told_ends : (o : Option SessionState) → (is_none (option_and_then next_line (option_map notified o)) ≡ true) × (option_map_or holds_overlong (option_map notified o) false ≡ false)
+told_ends None = (refl, refl)
+told_ends (Some x) = (refl, refl)
+
+pub pump_ended : (s : ServerState) (c : ℕ) → HasStopped (pumped s c) c
 unfolding pumped after_all_lines
-pump_stopped s c short =
+pump_ended s c =
     let n : ℕ = length (held_of (session c s)) in
-    subst (λ (z : ServerState). pump_stops z c ≡ true) (sym (no_notice (after_lines n s c) c short)) (stops_at_last n s c (omega arith))
+    let t : ServerState = after_lines n s c in
+    let now = session_changed notified (λ x. refl) c t in
+    of_notice_due (λ xs r. HasStopped r c) t c
+    (λ due. record {
+      stopped = ap (λ (o : Option SessionState). is_none (option_and_then next_line o)) now ∙ (told_ends (session c t)).0;
+      short = ap (λ (o : Option SessionState). option_map_or holds_overlong o false) now ∙ (told_ends (session c t)).1;
+    })
+    (λ short. record { stopped = stops_at_last n s c (omega arith); short = short })
 
-fed_short : (o : Option SessionState) (piece : List ℕ) (n : ℕ) (b : Bool) → Fed n ≡ fed_by o piece b → b ≡ false
-fed_short None piece n b h = cc
-fed_short (Some x) piece n true h = cc
-fed_short (Some x) piece n false h = refl
-
-took_short : (o : Option SessionState) (n : ℕ) (b : Bool) → Done ≡ took_by o n b → (b ≡ false) × (may_take o n ≡ true)
-took_short None n b h = cc
-took_short (Some x) n b h = short_by (may_take (Some x) n) refl b h
-  where
-    short_by : (d : Bool) → may_take (Some x) n ≡ d → (b : Bool) → Done ≡ cond d (cond b (Refused LineTooLong) Done) (Refused TookTooMuch) → (b ≡ false) × (may_take (Some x) n ≡ true)
-    short_by true e true h = cc
-    short_by true e false h = (refl, e)
-    short_by false e b h = cc
-
+-- so after bytes that were taken in, and after bytes that were taken
 fed_stops : (old new : ServerState) (c n : ℕ) (piece : List ℕ) → Step old (Feed c piece) (Fed n) new → pump_stops new c ≡ true
-unfolding outcome_of after_by pumped_until
-fed_stops old new c n piece step =
-    elim step.allowed [
-      | inl told ↦ subst (λ (z : ServerState). pump_stops z c ≡ true) (sym step.leaves) (pump_stopped (with_input old c piece) c (fed_short (session c old) piece n _ told))
-      | inr lack ↦ (let e : Fed n ≡ Refused (Memory lack.0) = lack.1 in cc)
-    ]
+unfolding after_by pumped_until
+fed_stops old new c n piece step = subst (λ (z : ServerState). pump_stops z c ≡ true) (sym step.leaves) (pump_ended (with_input old c piece) c).stopped
+
+may_by : (may overlong : Bool) → Done ≡ cond may (cond overlong (Refused LineTooLong) Done) (Refused TookTooMuch) → may ≡ true
+may_by true overlong h = refl
+may_by false overlong h = cc h
+
+may_of : (o : Option SessionState) (n : ℕ) (overlong : Bool) → Done ≡ took_by o n overlong → may_take o n ≡ true
+may_of None n overlong h = cc h
+may_of (Some x) n overlong h = may_by (may_take (Some x) n) overlong h
 
 took_stops : (old new : ServerState) (c n : ℕ) → Step old (Took c n) Done new → pump_stops new c ≡ true
 unfolding outcome_of after_by pumped_until
 took_stops old new c n step =
     elim step.allowed [
-      | inl told ↦ (let short = took_short (session c old) n _ told in
-          subst (λ (z : ServerState). pump_stops z c ≡ true) (sym (step.leaves ∙ cond-true _ _ _ short.1)) (pump_stopped (without_output old c n) c short.0))
+      | inl told ↦ subst (λ (z : ServerState). pump_stops z c ≡ true) (sym (step.leaves ∙ cond-true _ _ _ (may_of (session c old) n _ told))) (pump_ended (without_output old c n) c).stopped
       | inr lack ↦ (let e : Done ≡ Refused (Memory lack.0) = lack.1 in cc)
     ]
 
 pub nothing_left : NothingIsLeftToExecute
 nothing_left = record { fed = fed_stops; took = took_stops }
 
--- a line is executed while little is owed
-little_by : (owed : List ℕ) (ending : Bool) (bytes : List ℕ) (line : List ℕ) → cond (ending || ltb OWED_LIMIT (length owed)) None (first_line bytes) ≡ Some line → length owed ≤ OWED_LIMIT
-little_by owed true bytes line h = cc h
-little_by owed false bytes line h = by_length (ltb OWED_LIMIT (length owed)) refl h
-  where
-    by_length : (b : Bool) → ltb OWED_LIMIT (length owed) ≡ b → cond b None (first_line bytes) ≡ Some line → length owed ≤ OWED_LIMIT
-    by_length true e k = cc k
-    by_length false e k = grind (arith, nat_tests)
-
-little_of : (o : Option SessionState) (line : List ℕ) → option_and_then next_line o ≡ Some line → length (owed_of o) ≤ OWED_LIMIT
-little_of None line h = cc h
-little_of (Some x) line h = little_by x.owed x.ending x.held line h
-
+-- a line is executed while little is owed, and its answer is joined
 pub one_answer_above : OneAnswerAtMostIsOwedAbove
 one_answer_above s c line next =
-    let n = is_next s c line next in
-    let y : SessionState = session_after s c line n.asking in
-    let id : y.id ≡ c = session_after_id s c line n.asking n.found in
-    let found : find y.id s.sessions ≡ Some n.asking = ap (λ (k : ℕ). find k s.sessions) id ∙ n.found in
-    let there : session c (line_done s (change_at s c line) y) ≡ Some y = ap (λ (k : ℕ). find k (put y s.sessions)) (sym id) ∙ find_put y s.sessions n.asking found in (
-      little_of (session c s) line next,
-      ap (λ (z : ServerState). owed_of (session c z)) (after_line_is s c line n.asking n.found next) ∙ ap owed_of there
+    let n = is_next s c line next in (
+      subst (λ (o : Option SessionState). length (owed_of o) ≤ OWED_LIMIT) (sym n.found) (ltb-false _ _ n.little),
+      ap owed_of (found_after_line s c line n.asking n.found next)
           ∙ (keeps (change_at s c line) (answered line (reply s c line) n.asking)).owed
           ∙ ap (λ (o : Option SessionState). owed_of o ++ (reply s c line)) (sym n.found),
     )

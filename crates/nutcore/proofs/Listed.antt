@@ -10,7 +10,8 @@ use Rattle.std.specs.declared.cmp.Ordering.{Ordering}
 use Rattle.std.specs.declared.cmp.Ordering.TheVariants.{Less, Equal, Greater}
 use Rattle.std.specs.Option.{ok_or, option_map}
 use Rattle.std.proofs.lemmas.Cmp.{nat_list_cmp_total, eq_by_cmp_equiv}
-use Rattle.std.proofs.lemmas.List.Elements.{Contains-push_cases, Contains-append_cases, Contains-append_left, Contains-append_right}
+use Rattle.std.proofs.lemmas.List.Elements.{All-contains, All-contains_itself, All-filter, filter_passes, Contains-push_cases, Contains-append_cases, Contains-append_left, Contains-append_right}
+use Rattle.std.proofs.lemmas.Bool.{cond_both, both_ways}
 use Rattle.std.proofs.lemmas.Map.Keys.{IsDistinct-from_sorted}
 use Rattle.std.proofs.lemmas.Map.Lookups.{exact_bytes}
 use Rattle.std.proofs.lemmas.Map.Views.{lookup-from_Contains, Contains-from_lookup, list_any-from_Contains, Contains-from_any, IfSome-lookup_from_All}
@@ -74,20 +75,13 @@ range_of u v = range_listing u.name v.0 (Some v.1)
 -- what is left of rising keys rises
 all_left : (p : List ℕ × VariableState → Bool) (P : List ℕ → Type 0) (es : List (List ℕ × VariableState)) → AllByRecursion P (keys_of es) → AllByRecursion P (keys_of (filter p es))
 all_left p P [] all = tt
-all_left p P (e ∷ es) all = by_test (p e) (all_left p P es all.1)
-  where
-    by_test : (b : Bool) → AllByRecursion P (keys_of (filter p es)) → AllByRecursion P (keys_of (cond b (e ∷ filter p es) (filter p es)))
-    by_test true rest = (all.0, rest)
-    by_test false rest = rest
+all_left p P (e ∷ es) all = cond_both (p e) (e ∷ filter p es) (filter p es) (λ left. AllByRecursion P (keys_of left)) (λ yes. (all.0, all_left p P es all.1)) (λ no. all_left p P es all.1)
 
 left_rise : (p : List ℕ × VariableState → Bool) (es : List (List ℕ × VariableState)) → IsStrictlySortedBy byte_order (keys_of es) → IsStrictlySortedBy byte_order (keys_of (filter p es))
 unfolding IsStrictlySortedBy
 left_rise p [] rise = tt
-left_rise p (e ∷ es) rise = by_test (p e) (left_rise p es rise.1)
-  where
-    by_test : (b : Bool) → IsStrictlySortedBy byte_order (keys_of (filter p es)) → IsStrictlySortedBy byte_order (keys_of (cond b (e ∷ filter p es) (filter p es)))
-    by_test true rest = (all_left p (λ k. byte_order e.0 k ≡ Less) es rise.0, rest)
-    by_test false rest = rest
+left_rise p (e ∷ es) rise =
+    cond_both (p e) (e ∷ filter p es) (filter p es) (λ left. IsStrictlySortedBy byte_order (keys_of left)) (λ yes. (all_left p (λ k. byte_order e.0 k ≡ Less) es rise.0, left_rise p es rise.1)) (λ no. left_rise p es rise.1)
 
 pub variable_sound : (tree : TreeState) (name : List ℕ) (variable : VariableState) → IsSoundTree tree → variable_at tree name ≡ Some variable → IsSoundVariable variable
 variable_sound tree name variable sound e = subst (λ (o : Option VariableState). IfSome o IsSoundVariable) e (IfSome-lookup_from_All IsSoundVariable (is_at (byte_order name)) tree.variables sound.variables)
@@ -125,31 +119,21 @@ held_by es name variable rise = (
 )
 
 module _ {A : Type 0} (p : A → Bool) where
-  only : (x y : A) → Contains (x ∷ []) y → x ≡ y
-  only x y h = elim (Contains-push_cases [] x y h) [ inl (i, few, e) ↦ absurd (omega (arith, few)) | inr e ↦ e ]
-
   passing : (xs : List A) (y : A) → Contains (filter p xs) y → Contains xs y × (p y ≡ true)
-  passing [] y h = let few : h.0 < 0 = h.1 in absurd (omega (arith, few))
-  passing (x ∷ xs) y h = by_test (p x) refl h (passing xs y)
-    where
-      by_test : (b : Bool) → p x ≡ b → Contains (cond b (x ∷ filter p xs) (filter p xs)) y → (Contains (filter p xs) y → Contains xs y × (p y ≡ true)) → Contains (x ∷ xs) y × (p y ≡ true)
-      by_test true e k rest = elim (Contains-append_cases (x ∷ []) (filter p xs) y k) [
-        | inl one ↦ (Contains-append_left (x ∷ []) xs y one, ap p (sym (only x y one)) ∙ e)
-        | inr more ↦ (let r = rest more in (Contains-append_right (x ∷ []) xs y r.0, r.1))
-      ]
-      by_test false e k rest = let r = rest k in (Contains-append_right (x ∷ []) xs y r.0, r.1)
+  passing xs y h = (
+    All-contains (Contains xs) (filter p xs) y (All-filter p (Contains xs) xs (All-contains_itself xs)) h,
+    All-contains (λ x. p x ≡ true) (filter p xs) y (filter_passes p xs) h,
+  )
 
   passed : (xs : List A) (y : A) → Contains xs y → p y ≡ true → Contains (filter p xs) y
   passed [] y h e = let few : h.0 < 0 = h.1 in absurd (omega (arith, few))
-  passed (x ∷ xs) y h e = elim (Contains-append_cases (x ∷ []) xs y h) [ inl one ↦ by_first (p x) (ap p (only x y one) ∙ e) one | inr more ↦ by_rest (p x) (passed xs y more e) ]
+  passed (x ∷ xs) y h e = elim (Contains-append_cases (x ∷ []) xs y h) [
+    | inl one ↦ cond_both (p x) (x ∷ filter p xs) (filter p xs) (λ left. Contains left y) (λ yes. Contains-append_left (x ∷ []) (filter p xs) y one) (λ no. absurd (both_ways (p y) (passes_not y one no) e))
+    | inr more ↦ cond_both (p x) (x ∷ filter p xs) (filter p xs) (λ left. Contains left y) (λ yes. Contains-append_right (x ∷ []) (filter p xs) y (passed xs y more e)) (λ no. passed xs y more e)
+  ]
     where
-      by_first : (b : Bool) → b ≡ true → Contains (x ∷ []) y → Contains (cond b (x ∷ filter p xs) (filter p xs)) y
-      by_first true k one = Contains-append_left (x ∷ []) (filter p xs) y one
-      by_first false k one = cc k
-
-      by_rest : (b : Bool) → Contains (filter p xs) y → Contains (cond b (x ∷ filter p xs) (filter p xs)) y
-      by_rest true more = Contains-append_right (x ∷ []) (filter p xs) y more
-      by_rest false more = more
+      passes_not : (y : A) → Contains (x ∷ []) y → p x ≡ false → p y ≡ false
+      passes_not y one fails = elim (Contains-push_cases [] x y one) [ inl (i, few, at) ↦ absurd (omega (arith, few)) | inr same ↦ ap p (sym same) ∙ fails ]
 
 pub listed_is_held : WhatIsListedIsWhatIsHeld
 listed_is_held = record {

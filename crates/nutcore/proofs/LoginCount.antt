@@ -2,17 +2,16 @@
 use Rattle.std.proofs.Common.{◌≡◌, ℕ, suc, ◌+◌, ◌<◌, ◌≤◌, ◌++◌, Bool, true, false, List, [], ◌∷◌, refl, sym, ◌∙◌, ap, cond, map, take, length, get_or, arith}
 use Rattle.std.specs.Prelude.{count_by, codes, Option, Some, Result, Ok}
 use Rattle.std.specs.List.{filter}
-use Rattle.std.proofs.Math.Seq.{take-suc}
+use Rattle.std.proofs.lemmas.Bool.{cond_both}
 use Rattle.std.proofs.lemmas.List.{map-append}
-use Rattle.std.proofs.lemmas.List.Elements.{filter-append}
+use Rattle.std.proofs.lemmas.List.Elements.{filter_more}
 use Rattle.std.proofs.lemmas.Grind.{common_steps}
-use Rattle.std.proofs.lemmas.List.Sums.{count_by_more_yes, count_by_more_no}
+use Rattle.std.proofs.lemmas.List.Sums.{count_by_more_yes, count_by_more_no, length-filter}
 use Rattle.nutusers.specs.declared.ups_list.UpsId.{UpsId}
 use Rattle.nutanswer.specs.View.{ClientSeen, is_logged_in, login_count, addresses_at}
 use Rattle.nutcore.specs.Session.{SessionState}
 use Rattle.std.specs.Fmt.{decimal}
 use Rattle.std.specs.Option.{ok_or}
-use Rattle.std.proofs.lemmas.List.Sums.{length-filter}
 use Rattle.nutwords.specs.Frame.{frame, line_of as text_line}
 use Rattle.nutlisting.specs.Items.{text_of, client_item, client_listing}
 use Rattle.nutanswer.specs.declared.err_word.ErrWord.{ErrWord}
@@ -29,50 +28,33 @@ is_in u x = is_logged_in u (seen_client x)
 
 -- one more session
 pub count_more : (u : UpsId) (xs : List SessionState) (i : ℕ) (d : SessionState) → i < length xs → count_by (is_in u) (take (i + 1) xs) ≡ count_by (is_in u) (take i xs) + cond (is_in u (get_or xs i d)) 1 0
-count_more u xs i d lt = by_test (is_in u (get_or xs i d)) refl
-  where
-    by_test : (b : Bool) → is_in u (get_or xs i d) ≡ b → count_by (is_in u) (take (i + 1) xs) ≡ count_by (is_in u) (take i xs) + cond b 1 0
-    by_test true e = count_by_more_yes (is_in u) xs i d lt e
-    by_test false e = count_by_more_no (is_in u) xs i d lt e ∙ omega arith
+count_more u xs i d lt =
+    cond_both (is_in u (get_or xs i d)) 1 0 (λ more. count_by (is_in u) (take (i + 1) xs) ≡ count_by (is_in u) (take i xs) + more) (λ yes. count_by_more_yes (is_in u) xs i d lt yes) (λ no. count_by_more_no (is_in u) xs i d lt no ∙ omega arith)
 
 -- as clients are seen
 pub count_seen : (u : UpsId) (xs : List SessionState) → count_by (is_logged_in u) (map seen_client xs) ≡ count_by (is_in u) xs
 count_seen u [] = refl
 count_seen u (x ∷ xs) = grind (arith, common_steps, count_seen u xs)
 
--- the addresses of two lists of sessions
-addresses_append : (u : UpsId) (xs ys : List SessionState) → addresses_at u (map seen_client (xs ++ ys)) ≡ addresses_at u (map seen_client xs) ++ addresses_at u (map seen_client ys)
-addresses_append u xs ys =
-    ap (λ (all : List ClientSeen). addresses_at u all) (map-append seen_client xs ys)
-    ∙ ap (λ (all : List ClientSeen). map (λ (x : ClientSeen). x.address) all) (filter-append (is_logged_in u) (map seen_client xs) (map seen_client ys))
-    ∙ map-append (λ (x : ClientSeen). x.address) (filter (is_logged_in u) (map seen_client xs)) (filter (is_logged_in u) (map seen_client ys))
+-- the sessions that are logged in, as clients are seen
+seen_filter : (u : UpsId) (xs : List SessionState) → addresses_at u (map seen_client xs) ≡ map (λ (x : SessionState). x.address) (filter (is_in u) xs)
+seen_filter u [] = refl
+seen_filter u (x ∷ xs) = grind (arith, common_steps, seen_filter u xs)
 
 -- the addresses once one more session is seen
 pub list_more : (u : UpsId) (xs : List SessionState) (i : ℕ) (d : SessionState) → i < length xs
     → addresses_at u (map seen_client (take (i + 1) xs)) ≡ addresses_at u (map seen_client (take i xs)) ++ addresses_at u (seen_client (get_or xs i d) ∷ [])
 list_more u xs i d lt =
-    let e : i + 1 ≡ suc i = omega arith in
-    ap (λ (k : ℕ). addresses_at u (map seen_client (take k xs))) e
-    ∙ ap (λ (ys : List SessionState). addresses_at u (map seen_client ys)) (take-suc xs i d lt)
-    ∙ addresses_append u (take i xs) (get_or xs i d ∷ [])
+    let address : SessionState → List ℕ = λ (x : SessionState). x.address in
+    let one : List SessionState = filter (is_in u) (get_or xs i d ∷ []) in
+    seen_filter u (take (i + 1) xs) ∙ ap (map address) (filter_more (is_in u) xs i d lt)
+    ∙ map-append address (filter (is_in u) (take i xs)) one
+    ∙ ap (λ (ys : List (List ℕ)). ys ++ map address one) (sym (seen_filter u (take i xs)))
+    ∙ ap (λ (ys : List (List ℕ)). addresses_at u (map seen_client (take i xs)) ++ ys) (sym (seen_filter u (get_or xs i d ∷ [])))
 
 -- one session has one address at most
 pub one_address : (u : UpsId) (x : ClientSeen) → length (addresses_at u (x ∷ [])) ≤ 1
-one_address u x = by_test (is_logged_in u x)
-  where
-    by_test : (b : Bool) → length (map (λ (x : ClientSeen). x.address) (cond b (x ∷ []) [])) ≤ 1
-    by_test true = omega arith
-    by_test false = omega arith
-
--- the sessions that are logged in, as clients are seen
-seen_filter : (u : UpsId) (xs : List SessionState) → addresses_at u (map seen_client xs) ≡ map (λ (x : SessionState). x.address) (filter (is_in u) xs)
-seen_filter u [] = refl
-seen_filter u (x ∷ xs) = by_test (is_in u x) refl (seen_filter u xs)
-  where
-    by_test : (b : Bool) → is_in u x ≡ b → addresses_at u (map seen_client xs) ≡ map (λ (y : SessionState). y.address) (filter (is_in u) xs) →
-        map (λ (y : ClientSeen). y.address) (cond b (seen_client x ∷ filter (is_logged_in u) (map seen_client xs)) (filter (is_logged_in u) (map seen_client xs))) ≡ map (λ (y : SessionState). y.address) (cond b (x ∷ filter (is_in u) xs) (filter (is_in u) xs))
-    by_test true e rest = ap (λ (ys : List (List ℕ)). x.address ∷ ys) rest
-    by_test false e rest = rest
+one_address u x = cond_both (is_logged_in u x) (x ∷ []) [] (λ xs. length (map (λ (x : ClientSeen). x.address) xs) ≤ 1) (λ yes. omega arith) (λ no. omega arith)
 
 -- the items of addresses
 items_of : (name : List ℕ) (xs : List SessionState) → map (client_item name) (map (λ (x : SessionState). x.address) xs) ≡ map (λ (x : SessionState). client_item name x.address) xs

@@ -2,7 +2,7 @@
 use Rattle.std.proofs.Common.{◌≡◌, ◌∙◌, append_assoc, ℕ, Bool, true, false, List, [], ◌∷◌, ◌++◌, Option, Some, Result, Ok, refl, sym, ap, subst, cond, eqb, inl, inr}
 use Rattle.std.specs.List.{flat_map}
 use Rattle.std.proofs.lemmas.Grind.{flat_map-append}
-use Rattle.std.proofs.lemmas.Bool.{eqb-true, eq-eqb}
+use Rattle.std.proofs.lemmas.Bool.{cond_both, cond-false, eqb-true, eq-eqb}
 use Rattle.arrayvec.specs.ArrayVec.{ArrayVec}
 use Rattle.nutusers.specs.declared.ups_list.UpsId.{UpsId}
 use Rattle.nutanswer.specs.declared.command.Command.{Command}
@@ -92,12 +92,8 @@ passes u x e xs rest h = passed_over (λ bytes k. silent u bytes x e k) h
 line_joins : (u : UpsId) (s : ServerState) (c : ℕ) (line : List ℕ) (change : Change) → change_by s c (read_command line) ≡ change → Joins u (of_line s c line) (told_by_change u change)
 line_joins u s c line change e =
     of_upses (λ told ys. told_by_line u (of_line s c line) ≡ told u → Joins u (of_line s c line) (told u)) change [] (passes u (of_line s c line)) (λ v is. passes u (of_line s c line))
-    (λ v bytes is here. by_place v bytes (e ∙ is) here (eqb v.place u.place) refl) (ap (told_by_change u) e)
-  where
-    by_place : (v : UpsId) (bytes : ArrayVec ℕ) → change_by s c (read_command line) ≡ changes.Order v bytes → told_by_line u (of_line s c line) ≡ told_by_change u (changes.Order v bytes) → (b : Bool) → eqb v.place u.place ≡ b
-        → Joins u (of_line s c line) (cond b (order bytes.items ∷ []) [])
-    by_place v bytes e here true k = λ xs rest h. given (by_read s c line u v bytes (eqb-true v.place u.place k) e) h
-    by_place v bytes e here false k = passes u (of_line s c line) (here ∙ ap (λ (b : Bool). cond b (order bytes.items ∷ []) []) k)
+    (λ v bytes is here. cond_both (eqb v.place u.place) (order bytes.items ∷ []) [] (Joins u (of_line s c line)) (λ own xs rest h. given (by_read s c line u v bytes (eqb-true v.place u.place own) (e ∙ is)) h) (λ other. passes u (of_line s c line) (here ∙ cond-false _ _ _ other)))
+    (ap (told_by_change u) e)
 
 joins : (u : UpsId) (x : Execution) → Joins u x (told_by_line u x)
 joins u (of_line s c line) = line_joins u s c line (change_by s c (read_command line)) refl
@@ -108,12 +104,11 @@ all_join u [] = none_left
 all_join u (x ∷ xs) = joins u x xs (flat_map (told_by_line u) xs) (all_join u xs)
 
 -- what a run told beside lines is no order
-if_no_order : (b : Bool) (t : Telling) → order_of t ≡ [] → flat_map order_of (cond b (t ∷ []) []) ≡ []
-if_no_order true t e = ap (λ (z : List (List ℕ)). z ++ []) e
-if_no_order false t e = refl
-
 beside_no_order : (u : UpsId) (s : ServerState) (e : Event) → flat_map order_of (told_beside_lines u s e) ≡ []
-beside_no_order u s e = of_told_beside u s (λ told. flat_map order_of told ≡ []) refl (λ b. if_no_order b dump_all refl) (λ b. if_no_order b ping refl) e
+beside_no_order u s e = of_told_beside u s (λ told. flat_map order_of told ≡ []) refl (λ b. no_order dump_all refl b) (λ b. no_order ping refl b) e
+  where
+    no_order : (t : Telling) → order_of t ≡ [] → (b : Bool) → flat_map order_of (cond b (t ∷ []) []) ≡ []
+    no_order t none b = cond_both b (t ∷ []) [] (λ told. flat_map order_of told ≡ []) (λ yes. ap (λ (z : List (List ℕ)). z ++ []) none) (λ no. refl)
 
 front_told : (told : List Telling) (taken : List ℕ) (later : Connections) → all_told (with_front told taken later) ≡ told ++ all_told later
 front_told told taken (last now) = refl

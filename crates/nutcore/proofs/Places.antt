@@ -5,7 +5,7 @@ use Rattle.std.specs.Result.{result_or}
 use Rattle.std.specs.List.Sorted.{IsSearchInRange, IsBinarySearchResult, IsNonDecreasingBy}
 use Rattle.std.specs.Ordering.{nat_cmp, ordering_index}
 use Rattle.std.proofs.lemmas.Cmp.{ranked}
-use Rattle.std.proofs.lemmas.Bool.{eq-eqb}
+use Rattle.std.proofs.lemmas.Bool.{cond_both, eqb-true, eq-eqb}
 use Rattle.std.proofs.lemmas.List.Sums.{position_or_len_is}
 use Rattle.std.proofs.lemmas.Bool.Decides.{nat_tests}
 use Rattle.std.proofs.lemmas.Grind.{common_steps}
@@ -41,11 +41,8 @@ at_put c i y xs h = record {
 
 pub rise_put : (l n : ℕ) (y : SessionState) (xs : List SessionState) → IdsRise l n xs → IdsRise l n (put y xs)
 rise_put l n y [] h = h
-rise_put l n y (x ∷ xs) h = rise_by (rise_put (x.id + 1) n y xs h.1) (eqb x.id y.id) refl
-  where
-    rise_by : IdsRise (x.id + 1) n (put y xs) → (b : Bool) → eqb x.id y.id ≡ b → IdsRise l n (cond b (y ∷ xs) (x ∷ put y xs))
-    rise_by rest true e = let same : x.id ≡ y.id = grind (arith, nat_tests) in subst (λ (i : ℕ). (l ≤ i) × IdsRise (i + 1) n xs) same h
-    rise_by rest false e = (h.0, rest)
+rise_put l n y (x ∷ xs) h =
+    cond_both (eqb x.id y.id) (y ∷ xs) (x ∷ put y xs) (IdsRise l n) (λ same. subst (λ (i : ℕ). (l ≤ i) × IdsRise (i + 1) n xs) (eqb-true _ _ same) h) (λ other. (h.0, rise_put (x.id + 1) n y xs h.1))
 
 rise_from : (k l n : ℕ) (xs : List SessionState) → k ≤ l → IdsRise l n xs → IdsRise k n xs
 rise_from k l n [] low h = omega (arith, low, h)
@@ -80,11 +77,9 @@ rise_none l n c xs h below = none_by (find c xs) refl
 
 pub rise_without : (l n c : ℕ) (xs : List SessionState) → IdsRise l n xs → IdsRise l n (without c xs)
 rise_without l n c [] h = h
-rise_without l n c (x ∷ xs) h = rise_by (rise_without (x.id + 1) n c xs h.1) (eqb x.id c)
-  where
-    rise_by : IdsRise (x.id + 1) n (without c xs) → (b : Bool) → IdsRise l n (cond b (without c xs) (x ∷ without c xs))
-    rise_by rest true = rise_from l (x.id + 1) n (without c xs) (omega (arith, h.0)) rest
-    rise_by rest false = (h.0, rest)
+rise_without l n c (x ∷ xs) h =
+    let rest = rise_without (x.id + 1) n c xs h.1 in
+    cond_both (eqb x.id c) (without c xs) (x ∷ without c xs) (IdsRise l n) (λ same. rise_from l (x.id + 1) n (without c xs) (omega (arith, h.0)) rest) (λ other. (h.0, rest))
 
 -- a session that isn't there is left out by nothing
 pub without_none : (c : ℕ) (xs : List SessionState) → find c xs ≡ None → without c xs ≡ xs

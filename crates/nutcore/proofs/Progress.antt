@@ -2,6 +2,7 @@
 use Rattle.std.proofs.Common.{◌≡◌, ℕ, Bool, true, false, List, [], ◌++◌, Option, Some, None, refl, sym, ◌∙◌, ap, append_assoc, append-nil, ltb}
 use Rattle.std.specs.Prelude.{is_some}
 use Rattle.std.specs.Option.{option_map_or}
+use Rattle.std.proofs.lemmas.Bool.{both_ways}
 use Rattle.nutcore.specs.Session.{SessionState}
 use Rattle.nutcore.specs.Server.{ServerState, session}
 use Rattle.nutcore.specs.Pump.{owed_of, held_of}
@@ -12,8 +13,14 @@ pub record Presence : Type 0 where
   pub session : Option SessionState
   pub used : Bool
 
+abbrev pub is_at : Option SessionState → Bool → Presence
+is_at o u = record { session = o; used = u }
+
+pub presence_is : {o o' : Option SessionState} {u u' : Bool} → o ≡ o' → u ≡ u' → is_at o u ≡ is_at o' u'
+presence_is {o' = o'} {u = u} e f = ap (λ (o : Option SessionState). is_at o u) e ∙ ap (is_at o') f
+
 abbrev pub presence : ℕ → ServerState → Presence
-presence c s = record { session = session c s; used = ltb c s.next_id }
+presence c s = is_at (session c s) (ltb c s.next_id)
 
 abbrev pub is_closed : Presence → Bool
 is_closed p = option_map_or (λ x. false) p.session p.used
@@ -25,17 +32,19 @@ is_over p = option_map_or (λ x. x.ending) p.session p.used
 abbrev pub IsKept : Presence → Type 0
 IsKept p = is_some p.session ≡ true → p.used ≡ true
 
+-- one direction of a client's bytes: what was there, and came, is what went, and is there; once it is over, what went begins that, and nothing comes or goes
+pub record Half (over_before over_after : Bool) (old came went new : List ℕ) : Type 0 where
+  pub going : over_after ≡ false → old ++ came ≡ went ++ new
+  pub over : over_after ≡ true → IsBeginning went (old ++ came)
+  pub stays : over_before ≡ true → (over_after ≡ true) × (came ≡ []) × (went ≡ [])
+
 pub record Progress (p : Presence) (answers taken asked lines : List ℕ) (q : Presence) : Type 0 where
-  pub sent : is_closed q ≡ false → owed_of p.session ++ answers ≡ taken ++ owed_of q.session
-  pub sent_closed : is_closed q ≡ true → IsBeginning taken (owed_of p.session ++ answers)
-  pub asked_of : is_over q ≡ false → held_of p.session ++ asked ≡ lines ++ held_of q.session
-  pub asked_over : is_over q ≡ true → IsBeginning lines (held_of p.session ++ asked)
-  pub stays_closed : is_closed p ≡ true → (is_closed q ≡ true) × (answers ≡ []) × (taken ≡ [])
-  pub stays_over : is_over p ≡ true → (is_over q ≡ true) × (asked ≡ []) × (lines ≡ [])
+  pub sent : Half (is_closed p) (is_closed q) (owed_of p.session) answers taken (owed_of q.session)
+  pub taken_up : Half (is_over p) (is_over q) (held_of p.session) asked lines (held_of q.session)
   pub keeps : IsKept p → IsKept q
 
 -- two equations that meet in the middle
-pub seam : (o a t m a' t' q : List ℕ) → o ++ a ≡ t ++ m → m ++ a' ≡ t' ++ q → o ++ (a ++ a') ≡ (t ++ t') ++ q
+seam : (o a t m a' t' q : List ℕ) → o ++ a ≡ t ++ m → m ++ a' ≡ t' ++ q → o ++ (a ++ a') ≡ (t ++ t') ++ q
 seam o a t m a' t' q e e' =
     sym (append_assoc o a a') ∙ ap (λ z. z ++ a') e ∙ append_assoc t m a' ∙ ap (λ z. t ++ z) e' ∙ sym (append_assoc t t' q)
 
@@ -46,48 +55,39 @@ begins_alone o a t a' t' (r, e) ea et = (r, ap (λ z. (t ++ z) ++ r) et ∙ ap (
 begins_after : (o a t m a' t' : List ℕ) → o ++ a ≡ t ++ m → IsBeginning t' (m ++ a') → IsBeginning (t ++ t') (o ++ (a ++ a'))
 begins_after o a t m a' t' e (r, e') = (r, sym (seam o a t m a' t' r e (sym e')))
 
-module _ (p m q : Presence) (answers taken asked lines answers' taken' asked' lines' : List ℕ) where
-  sent_closed_by : Progress p answers taken asked lines m → Progress m answers' taken' asked' lines' q → (b : Bool) → is_closed m ≡ b → is_closed q ≡ true → IsBeginning (taken ++ taken') (owed_of p.session ++ (answers ++ answers'))
-  sent_closed_by f g true e h = let k = g.stays_closed e in begins_alone _ _ _ _ _ (f.sent_closed e) k.1 k.2
-  sent_closed_by f g false e h = begins_after _ _ _ _ _ _ (f.sent e) (g.sent_closed h)
+-- one after another
+half_joins : (b m e : Bool) (o a t n a' t' q : List ℕ) → Half b m o a t n → Half m e n a' t' q → Half b e o (a ++ a') (t ++ t') q
+half_joins b true e o a t n a' t' q f g = record {
+  going = λ h. absurd (both_ways e h (g.stays refl).0);
+  over = λ h. let k = g.stays refl in begins_alone o a t a' t' (f.over refl) k.1 k.2;
+  stays = λ h. let j = f.stays h in let k = g.stays refl in (k.0, ap (λ z. z ++ a') j.1 ∙ k.1, ap (λ z. z ++ t') j.2 ∙ k.2);
+}
+half_joins b false e o a t n a' t' q f g = record {
+  going = λ h. seam o a t n a' t' q (f.going refl) (g.going h);
+  over = λ h. begins_after o a t n a' t' (f.going refl) (g.over h);
+  stays = λ h. (let never : false ≡ true = (f.stays h).0 in cc never);
+}
 
-  sent_by : Progress p answers taken asked lines m → Progress m answers' taken' asked' lines' q → (b : Bool) → is_closed m ≡ b → is_closed q ≡ false → owed_of p.session ++ (answers ++ answers') ≡ (taken ++ taken') ++ owed_of q.session
-  sent_by f g true e h = let k : true ≡ false = sym (g.stays_closed e).0 ∙ h in cc k
-  sent_by f g false e h = seam (owed_of p.session) answers taken (owed_of m.session) answers' taken' (owed_of q.session) (f.sent e) (g.sent h)
-
-  asked_over_by : Progress p answers taken asked lines m → Progress m answers' taken' asked' lines' q → (b : Bool) → is_over m ≡ b → is_over q ≡ true → IsBeginning (lines ++ lines') (held_of p.session ++ (asked ++ asked'))
-  asked_over_by f g true e h = let k = g.stays_over e in begins_alone _ _ _ _ _ (f.asked_over e) k.1 k.2
-  asked_over_by f g false e h = begins_after _ _ _ _ _ _ (f.asked_of e) (g.asked_over h)
-
-  asked_by : Progress p answers taken asked lines m → Progress m answers' taken' asked' lines' q → (b : Bool) → is_over m ≡ b → is_over q ≡ false → held_of p.session ++ (asked ++ asked') ≡ (lines ++ lines') ++ held_of q.session
-  asked_by f g true e h = let k : true ≡ false = sym (g.stays_over e).0 ∙ h in cc k
-  asked_by f g false e h = seam (held_of p.session) asked lines (held_of m.session) asked' lines' (held_of q.session) (f.asked_of e) (g.asked_of h)
-
-  both_none : (xs ys : List ℕ) → xs ≡ [] → ys ≡ [] → xs ++ ys ≡ []
-  both_none xs ys e f = ap (λ z. z ++ ys) e ∙ f
-
-  pub joins : Progress p answers taken asked lines m → Progress m answers' taken' asked' lines' q → Progress p (answers ++ answers') (taken ++ taken') (asked ++ asked') (lines ++ lines') q
-  joins f g = record {
-    sent = sent_by f g (is_closed m) refl;
-    sent_closed = sent_closed_by f g (is_closed m) refl;
-    asked_of = asked_by f g (is_over m) refl;
-    asked_over = asked_over_by f g (is_over m) refl;
-    stays_closed = λ h. let a = f.stays_closed h in let b = g.stays_closed a.0 in (b.0, both_none _ _ a.1 b.1, both_none _ _ a.2 b.2);
-    stays_over = λ h. let a = f.stays_over h in let b = g.stays_over a.0 in (b.0, both_none _ _ a.1 b.1, both_none _ _ a.2 b.2);
-    keeps = λ h. g.keeps (f.keeps h);
-  }
+pub joins : (p m q : Presence) (answers taken asked lines answers' taken' asked' lines' : List ℕ) → Progress p answers taken asked lines m → Progress m answers' taken' asked' lines' q → Progress p (answers ++ answers') (taken ++ taken') (asked ++ asked') (lines ++ lines') q
+joins p m q answers taken asked lines answers' taken' asked' lines' f g = record {
+  sent = half_joins (is_closed p) (is_closed m) (is_closed q) _ _ _ _ _ _ _ f.sent g.sent;
+  taken_up = half_joins (is_over p) (is_over m) (is_over q) _ _ _ _ _ _ _ f.taken_up g.taken_up;
+  keeps = λ h. g.keeps (f.keeps h);
+}
 
 -- nothing happens
+half_stays : (b : Bool) (xs : List ℕ) → Half b b xs [] [] xs
+half_stays b xs = record { going = λ h. append-nil xs; over = λ h. (xs, sym (append-nil xs)); stays = λ h. (h, refl, refl) }
+
 pub stays : (p : Presence) → Progress p [] [] [] [] p
-stays p = record {
-  sent = λ h. append-nil _;
-  sent_closed = λ h. (owed_of p.session, sym (append-nil _));
-  asked_of = λ h. append-nil _;
-  asked_over = λ h. (held_of p.session, sym (append-nil _));
-  stays_closed = λ h. (h, refl, refl);
-  stays_over = λ h. (h, refl, refl);
-  keeps = λ h. h;
-}
+stays p = record { sent = half_stays (is_closed p) (owed_of p.session); taken_up = half_stays (is_over p) (held_of p.session); keeps = λ h. h }
+
+-- a client that isn't there, and whose id may be handed out
+half_away : (u u' : Bool) → (u ≡ true → u' ≡ true) → Half u u' [] [] [] []
+half_away u u' up = record { going = λ h. refl; over = λ h. ([], refl); stays = λ h. (up h, refl, refl) }
+
+pub stays_away : (u u' : Bool) → (u ≡ true → u' ≡ true) → Progress (is_at None u) [] [] [] [] (is_at None u')
+stays_away u u' up = record { sent = half_away u u' up; taken_up = half_away u u' up; keeps = λ h (k : false ≡ true). cc k }
 
 -- a step between two sessions of one client
 pub moves : (x y : SessionState) (u : Bool) (answers taken asked lines : List ℕ) →
@@ -95,37 +95,25 @@ pub moves : (x y : SessionState) (u : Bool) (answers taken asked lines : List �
     (y.ending ≡ false → x.held ++ asked ≡ lines ++ y.held) →
     (y.ending ≡ true → IsBeginning lines (x.held ++ asked)) →
     (x.ending ≡ true → (y.ending ≡ true) × (asked ≡ []) × (lines ≡ [])) →
-    Progress (record { session = Some x; used = u }) answers taken asked lines (record { session = Some y; used = u })
+    Progress (is_at (Some x) u) answers taken asked lines (is_at (Some y) u)
 moves x y u answers taken asked lines owed held begins gone = record {
-  sent = λ h. owed;
-  sent_closed = λ (h : false ≡ true). cc h;
-  asked_of = held;
-  asked_over = begins;
-  stays_closed = λ (h : false ≡ true). cc h;
-  stays_over = gone;
+  sent = record { going = λ h. owed; over = λ (h : false ≡ true). cc h; stays = λ (h : false ≡ true). cc h };
+  taken_up = record { going = held; over = begins; stays = gone };
   keeps = λ h. h;
 }
 
 -- a client that is closed
-pub closes : (x : SessionState) → Progress (record { session = Some x; used = true }) [] [] [] [] (record { session = None; used = true })
+pub closes : (x : SessionState) → Progress (is_at (Some x) true) [] [] [] [] (is_at None true)
 closes x = record {
-  sent = λ (h : true ≡ false). cc h;
-  sent_closed = λ h. (x.owed, sym (append-nil _));
-  asked_of = λ (h : true ≡ false). cc h;
-  asked_over = λ h. (x.held, sym (append-nil _));
-  stays_closed = λ (h : false ≡ true). cc h;
-  stays_over = λ h. (refl, refl, refl);
+  sent = record { going = λ (h : true ≡ false). cc h; over = λ h. (x.owed, sym (append-nil x.owed)); stays = λ (h : false ≡ true). cc h };
+  taken_up = record { going = λ (h : true ≡ false). cc h; over = λ h. (x.held, sym (append-nil x.held)); stays = λ h. (refl, refl, refl) };
   keeps = λ h (k : false ≡ true). cc k;
 }
 
 -- a client that is opened
-pub opens : (y : SessionState) → y.held ≡ [] → y.owed ≡ [] → y.ending ≡ false → Progress (record { session = None; used = false }) [] [] [] [] (record { session = Some y; used = true })
+pub opens : (y : SessionState) → y.held ≡ [] → y.owed ≡ [] → y.ending ≡ false → Progress (is_at None false) [] [] [] [] (is_at (Some y) true)
 opens y held owed going = record {
-  sent = λ h. sym owed;
-  sent_closed = λ (h : false ≡ true). cc h;
-  asked_of = λ h. sym held;
-  asked_over = λ (h : y.ending ≡ true). let k : false ≡ true = sym going ∙ h in cc k;
-  stays_closed = λ (h : false ≡ true). cc h;
-  stays_over = λ (h : false ≡ true). cc h;
+  sent = record { going = λ h. sym owed; over = λ (h : false ≡ true). cc h; stays = λ (h : false ≡ true). cc h };
+  taken_up = record { going = λ h. sym held; over = λ h. absurd (both_ways y.ending going h); stays = λ (h : false ≡ true). cc h };
   keeps = λ h k. refl;
 }

@@ -26,7 +26,7 @@ use Rattle.nutanswer.specs.Lawful.{HasLawfulUpsName, IsLawfulReading}
 use Rattle.nutanswer.proofs.PublicLaws.{a_named_ups_is_seen, what_is_read_is_lawful}
 use Rattle.nutcore.proofs.Listed.{variable_sound, listed_once}
 use Rattle.nutcore.proofs.LoginCount.{is_in, who_is_there}
-use Rattle.nutcore.proofs.Written.{IsShortText, name_word, ups_word, address_word, value_text, shown_text, description_text, number_text, line_of_one, line_of_more}
+use Rattle.nutcore.proofs.Written.{Word, name_word, ups_word, address_word, value_word, shown_word, description_word, number_word, texts, meanings, room, all_written, line_short, line_written}
 
 -- a keyword of a listing: as a name it is written as it is
 abbrev IsKeyword : List ℕ → Type 0
@@ -35,86 +35,30 @@ IsKeyword word = IsTrue (is_name word)
 -- the lines of items
 variable_written : (word ups : List ℕ) (fsd : Bool) (entry : List ℕ × VariableState) → IsKeyword word → IsTrue (is_ups_name ups) → IsTrue (is_name entry.0) × IsTrue (is_value entry.1.value)
     → IsWrittenLine (variable_item word ups fsd entry) (variable_words word ups fsd entry)
-variable_written word ups fsd entry k u (n, v) =
-    let w = name_word word k in
-    let x = ups_word ups u in
-    let y = name_word entry.0 n in
-    let z = shown_text fsd entry.0 entry.1 v in
-    let value = quoted (shown fsd entry.0 entry.1) in
-    record {
-      written = (w.written, (x.written, (y.written, (z.written, tt))));
-      fits = omega (arith, w.short, x.short, y.short, z.short, line_of_more word ups (entry.0 ∷ value ∷ []), line_of_more ups entry.0 (value ∷ []), line_of_more entry.0 value [], line_of_one value);
-    }
+variable_written word ups fsd entry k u (n, v) = line_written (name_word word k) (ups_word ups u ∷ name_word entry.0 n ∷ shown_word fsd entry.0 entry.1 v ∷ []) (omega arith)
 
 command_written : (ups name : List ℕ) → IsTrue (is_ups_name ups) → IsTrue (is_name name) → IsWrittenLine (command_item ups name) (command_item ups name)
-command_written ups name u n =
-    let x = ups_word ups u in
-    let y = name_word name n in
-    record {
-      written = ((name_word (codes "CMD") refl).written, (x.written, (y.written, tt)));
-      fits = omega (arith, x.short, y.short, line_of_more (codes "CMD") ups (name ∷ []), line_of_more ups name [], line_of_one name);
-    }
+command_written ups name u n = line_written (name_word (codes "CMD") refl) (ups_word ups u ∷ name_word name n ∷ []) (omega arith)
 
 enum_written : (ups name value : List ℕ) → IsTrue (is_ups_name ups) → IsTrue (is_name name) → IsTrue (is_value value) → IsWrittenLine (enum_item ups name value) (enum_words ups name value)
-enum_written ups name value u n v =
-    let x = ups_word ups u in
-    let y = name_word name n in
-    let z = value_text value v in
-    record {
-      written = ((name_word (codes "ENUM") refl).written, (x.written, (y.written, (z.written, tt))));
-      fits = omega (arith, x.short, y.short, z.short, line_of_more (codes "ENUM") ups (name ∷ quoted value ∷ []), line_of_more ups name (quoted value ∷ []), line_of_more name (quoted value) [], line_of_one (quoted value));
-    }
+enum_written ups name value u n v = line_written (name_word (codes "ENUM") refl) (ups_word ups u ∷ name_word name n ∷ value_word value v ∷ []) (omega arith)
 
 range_written : (ups name : List ℕ) (range : Range) → IsTrue (is_ups_name ups) → IsTrue (is_name name) → IsSoundRange range → IsWrittenLine (range_item ups name range) (range_words ups name range)
 range_written ups name range u n r =
-    let x = ups_word ups u in
-    let y = name_word name n in
-    let least : IsShortText 24 (signed_decimal range.least) = number_text range.least r.least (omega (arith, ints, r.rises, r.greatest)) in
-    let greatest : IsShortText 24 (signed_decimal range.greatest) = number_text range.greatest (omega (arith, ints, r.least, r.rises)) r.greatest in
-    let a = quoted (signed_decimal range.least) in
-    let b = quoted (signed_decimal range.greatest) in
-    record {
-      written = ((name_word (codes "RANGE") refl).written, (x.written, (y.written, (least.written, (greatest.written, tt)))));
-      fits = omega (arith, x.short, y.short, least.short, greatest.short, line_of_more (codes "RANGE") ups (name ∷ a ∷ b ∷ []), line_of_more ups name (a ∷ b ∷ []), line_of_more name a (b ∷ []), line_of_more a b [], line_of_one b);
-    }
+    let least : Word = number_word range.least r.least (omega (arith, ints, r.rises, r.greatest)) in
+    let greatest : Word = number_word range.greatest (omega (arith, ints, r.least, r.rises)) r.greatest in
+    line_written (name_word (codes "RANGE") refl) (ups_word ups u ∷ name_word name n ∷ least ∷ greatest ∷ []) (omega arith)
 
 ups_written : (ups : Ups) → IsLawfulUps ups → IsWrittenLine (ups_item ups) (ups_words ups)
-ups_written ups h =
-    let x = ups_word ups.name h.name in
-    let z = description_text ups.desc h.description in
-    let text = quoted (ups_description ups) in
-    record {
-      written = ((name_word (codes "UPS") refl).written, (x.written, (z.written, tt)));
-      fits = omega (arith, x.short, z.short, line_of_more (codes "UPS") ups.name (text ∷ []), line_of_more ups.name text [], line_of_one text);
-    }
+ups_written ups h = line_written (name_word (codes "UPS") refl) (ups_word ups.name h.name ∷ description_word ups.desc h.description ∷ []) (omega arith)
 
 client_written : (ups address : List ℕ) → IsTrue (is_ups_name ups) → IsTrue (is_address address) → IsWrittenLine (client_item ups address) (client_item ups address)
-client_written ups address u h =
-    let x = ups_word ups u in
-    let y = address_word address h in
-    record {
-      written = ((name_word (codes "CLIENT") refl).written, (x.written, (y.written, tt)));
-      fits = omega (arith, x.short, y.short, line_of_more (codes "CLIENT") ups (address ∷ []), line_of_more ups address [], line_of_one address);
-    }
+client_written ups address u h = line_written (name_word (codes "CLIENT") refl) (ups_word ups u ∷ address_word address h ∷ []) (omega arith)
 
 module _ {X : Type 0} (P : X → Type 0) (item words : X → List (List ℕ)) where
   rows_written : ((x : X) → P x → IsWrittenLine (item x) (words x)) → (xs : List X) → All P xs → AllZip IsWrittenLine (map item xs) (map words xs)
   rows_written each [] all = tt
   rows_written each (x ∷ xs) all = (each x (All-head P x xs all), rows_written each xs (All-tail P x xs all))
-
--- the line that begins a listing
-begin_of_ups : (kind ups : List ℕ) → IsKeyword kind → IsTrue (is_ups_name ups) → length (begin_line kind (ups ∷ [])) ≤ LINE_ROOM
-begin_of_ups kind ups k u =
-    let w = name_word kind k in
-    let x = ups_word ups u in
-    omega (arith, w.short, x.short, line_of_more (codes "BEGIN") (codes "LIST") (kind ∷ ups ∷ []), line_of_more (codes "LIST") kind (ups ∷ []), line_of_more kind ups [], line_of_one ups)
-
-begin_of_name : (kind ups name : List ℕ) → IsKeyword kind → IsTrue (is_ups_name ups) → IsTrue (is_name name) → length (begin_line kind (ups ∷ name ∷ [])) ≤ LINE_ROOM
-begin_of_name kind ups name k u n =
-    let w = name_word kind k in
-    let x = ups_word ups u in
-    let y = name_word name n in
-    omega (arith, w.short, x.short, y.short, line_of_more (codes "BEGIN") (codes "LIST") (kind ∷ ups ∷ name ∷ []), line_of_more (codes "LIST") kind (ups ∷ name ∷ []), line_of_more kind ups (name ∷ []), line_of_more ups name [], line_of_one name)
 
 -- the variables of a sound tree
 abbrev IsLawfulEntry : List ℕ × VariableState → Type 0
@@ -135,21 +79,23 @@ named_lawful : (s : Seen) (ups : Option (List ℕ)) (u : KnownUps) → HasLawful
 named_lawful s ups u lawful named = lawful u.name (a_named_ups_is_seen s ups u named).name_is
 
 module _ (back : ListingIsReadBack) (one : OneReading) where
-  reads_back : (text kind : List ℕ) (names : List (List ℕ)) (items rows : List (List (List ℕ))) → text ≡ frame kind names items
-      → AllZip IsWritten (kind ∷ names) (kind ∷ names) → length (begin_line kind names) ≤ LINE_ROOM → AllZip IsWrittenLine items rows → ReadsBack text (kind ∷ names) rows
-  reads_back text kind names items rows e asked fits written =
-      let reads : ReadsAsLines text (listing_words (kind ∷ names) rows) = subst (λ (t : List ℕ). ReadsAsLines t (listing_words (kind ∷ names) rows)) (sym e) (back kind names (kind ∷ names) items rows asked fits written) in
-      record { reads = reads; only = λ others h. one text (listing_words (kind ∷ names) rows) others reads h }
+  -- of a kind, with these names: its first line is of words too
+  reads_back : (text : List ℕ) (kind : Word) (names : List Word) (items rows : List (List (List ℕ))) → room (name_word (codes "BEGIN") refl ∷ name_word (codes "LIST") refl ∷ kind ∷ names) ≤ LINE_ROOM
+      → text ≡ frame kind.shown (texts names) items → AllZip IsWrittenLine items rows → ReadsBack text (meanings (kind ∷ names)) rows
+  reads_back text kind names items rows few e written =
+      let asked : List (List ℕ) = meanings (kind ∷ names) in
+      let short = line_short (name_word (codes "BEGIN") refl) (name_word (codes "LIST") refl ∷ kind ∷ names) in
+      let reads : ReadsAsLines text (listing_words asked rows) = subst (λ (t : List ℕ). ReadsAsLines t (listing_words asked rows)) (sym e) (back kind.shown (texts names) asked items rows (all_written (kind ∷ names)) (omega (arith, short, few)) written) in
+      record { reads = reads; only = λ others h. one text (listing_words asked rows) others reads h }
 
   -- of a UPS
   of_ups : (text kind ups : List ℕ) (items rows : List (List (List ℕ))) → IsKeyword kind → IsTrue (is_ups_name ups) → text ≡ frame kind (ups ∷ []) items → AllZip IsWrittenLine items rows → ReadsBack text (kind ∷ ups ∷ []) rows
-  of_ups text kind ups items rows k u e written = reads_back text kind (ups ∷ []) items rows e ((name_word kind k).written, ((ups_word ups u).written, tt)) (begin_of_ups kind ups k u) written
+  of_ups text kind ups items rows k u e written = reads_back text (name_word kind k) (ups_word ups u ∷ []) items rows (omega arith) e written
 
   -- of a variable of a UPS
   of_variable : (text kind ups name : List ℕ) (items rows : List (List (List ℕ))) → IsKeyword kind → IsTrue (is_ups_name ups) → IsTrue (is_name name) → text ≡ frame kind (ups ∷ name ∷ []) items → AllZip IsWrittenLine items rows
       → ReadsBack text (kind ∷ ups ∷ name ∷ []) rows
-  of_variable text kind ups name items rows k u n e written =
-      reads_back text kind (ups ∷ name ∷ []) items rows e ((name_word kind k).written, ((ups_word ups u).written, ((name_word name n).written, tt))) (begin_of_name kind ups name k u n) written
+  of_variable text kind ups name items rows k u n e written = reads_back text (name_word kind k) (ups_word ups u ∷ name_word name n ∷ []) items rows (omega arith) e written
 
   pub listings_read_back : EachListingReadsBack
   listings_read_back = record {
@@ -184,7 +130,7 @@ module _ (back : ListingIsReadBack) (one : OneReading) where
         of_variable _ (codes "RANGE") u.name name _ _ refl named n (listed_once.ranges s c line ups name u variable sound read asks there).0
         (rows_written IsSoundRange (range_item u.name name) (range_words u.name name) (λ range h. range_written u.name name range named n h) variable.ranges x.ranges);
     upses = λ s c line sound read.
-        reads_back _ (codes "UPS") [] _ _ (listed_once.upses s c line sound read).0 ((name_word (codes "UPS") refl).written, tt) (omega arith)
+        reads_back _ (name_word (codes "UPS") refl) [] _ _ (omega arith) (listed_once.upses s c line sound read).0
         (rows_written IsLawfulUps ups_item ups_words ups_written s.list sound.list.lawful);
     clients = λ s c line ups u sound read found lawful.
         let named = named_lawful (seen s) ups u (subst IsLawfulReading read (what_is_read_is_lawful line)) found in

@@ -30,14 +30,6 @@ use Rattle.nutcore.proofs.Pumping.{after_line_is, is_next, session_after, sessio
 use Rattle.nutcore.proofs.Places.{at_put, found_at, find_at, put_is, without_at}
 use Rattle.nutcore.proofs.Loops.{after_lines-suc, all_lines_are}
 
-pub on_ok_weaker : {T E : Type 0} (r : Result T E) (P Q : Type 0) → (P → Q) → OnOk r P → OnOk r Q
-on_ok_weaker (Ok v) P Q f p = f p
-on_ok_weaker (Err e) P Q f p = tt
-
-pub on_err_weaker : {T E : Type 0} (r : Result T E) (P Q : Type 0) → (P → Q) → OnErr r P → OnErr r Q
-on_err_weaker (Ok v) P Q f p = tt
-on_err_weaker (Err e) P Q f p = f p
-
 pub ok_when : {T E : Type 0} (r : Result T E) (P : Type 0) → is_err r ≡ false → OnOk r P → P
 ok_when (Ok v) P e p = p
 ok_when (Err x) P e p = let k : true ≡ false = e in cc k
@@ -68,6 +60,9 @@ at_found c i xs h = let lt : place c xs < length xs = omega (arith, h.first, h.w
 pub set_is : (s : ServerState) (c i : ℕ) (y : SessionState) → IsAt c i s.sessions → y.id ≡ c → (let code : ServerState = record s { sessions = set s.sessions i y } in code ≡ with_session s y)
 set_is s c i y h e = ap (λ (xs : List SessionState). let z : ServerState = record s { sessions = xs } in z) (put_is c i s.sessions y h e)
 
+pub at_set : (c i : ℕ) (xs : List SessionState) (y : SessionState) → IsAt c i xs → y.id ≡ c → IsAt c i (set xs i y)
+at_set c i xs y h e = subst (IsAt c i) (sym (put_is c i xs y h e)) (at_put c i y xs h)
+
 -- so is one that is changed, and keeps its id
 pub change_set : (f : SessionState → SessionState) (s : ServerState) (c i : ℕ) (x y : SessionState) → IsAt c i s.sessions → session c s ≡ Some x → (f x).id ≡ x.id → y ≡ f x →
     (let code : ServerState = record s { sessions = set s.sessions i y } in code ≡ with_session_changed f c s)
@@ -81,8 +76,9 @@ session_set s c i x y h e id = ap (session c) (set_is s c i y h id) ∙ session_
 pub next_of_found : (s : ServerState) (c : ℕ) (x : SessionState) (line : List ℕ) → session c s ≡ Some x → next_line_for s c ≡ Some line → next_line x ≡ Some line
 next_of_found s c x line found h = ap (option_and_then next_line) (sym found) ∙ h
 
-pub goes : (s : ServerState) (c : ℕ) (x : SessionState) → session c s ≡ Some x → is_some (next_line_for s c) ≡ true → is_some (next_line x) ≡ true
-goes s c x found h = ap (λ (o : Option SessionState). is_some (option_and_then next_line o)) (sym found) ∙ h
+-- whether the session has one
+pub has_next : (s : ServerState) (c : ℕ) (x : SessionState) → session c s ≡ Some x → is_some (next_line x) ≡ is_some (next_line_for s c)
+has_next s c x found = ap (λ (o : Option SessionState). is_some (option_and_then next_line o)) (sym found)
 
 -- one is there where the other is
 pub some_alike : {A B : Type 0} (r : Option A) (o : Option B) (read : A → B) → MatchOption r (o ≡ None) (λ a. o ≡ Some (read a)) → is_some r ≡ is_some o
@@ -92,9 +88,9 @@ some_alike (Some a) o read h = ap is_some (sym h)
 pub some_read : {A B : Type 0} (r : Option A) (a : A) (o : Option B) (read : A → B) → r ≡ Some a → MatchOption r (o ≡ None) (λ x. o ≡ Some (read x)) → o ≡ Some (read a)
 some_read {A = A} r a o read e h = subst (λ (z : Option A). MatchOption z (o ≡ None) (λ x. o ≡ Some (read x))) e h
 
--- whether the session has a next line
-pub has_next : (s : ServerState) (c : ℕ) (x : SessionState) → session c s ≡ Some x → is_some (next_line x) ≡ is_some (next_line_for s c)
-has_next s c x found = ap (λ (o : Option SessionState). is_some (option_and_then next_line o)) (sym found)
+-- what the code finds of the next line of the session at its place says whether the client has one
+pub has_line : {A : Type 0} (c i : ℕ) (s t : ServerState) (x : SessionState) (r : Option A) (read : A → List ℕ) (b : Bool) → s ≡ t → IsAt c i t.sessions → x ≡ get_or s.sessions i x → MatchOption r (next_line x ≡ None) (λ a. next_line x ≡ Some (read a)) → b ≡ is_some r → b ≡ is_some (next_line_for t c)
+has_line c i s t x r read b e at is line some = some ∙ some_alike r (next_line x) read line ∙ has_next t c x (found_in c i s t x e at is)
 
 pub some_there : {A : Type 0} (o : Option A) → is_some o ≡ true → (a : A) × (o ≡ Some a)
 some_there None h = cc h
@@ -136,21 +132,7 @@ at_line s c i line h next =
     let n = is_next s c line next in
     subst (λ (z : ServerState). IsAt c i z.sessions) (sym (after_line_is s c line n.asking n.found next)) (at_put c i (session_after s c line n.asking) s.sessions h)
 
--- the session that stands there is put
-put_same : (s : ServerState) (c : ℕ) (x : SessionState) → session c s ≡ Some x → with_session s x ≡ s
-put_same s c x e = ap (λ (xs : List SessionState). let z : ServerState = record s { sessions = xs } in z) (put_found x s.sessions (ap (λ d. find d s.sessions) (find_id c s.sessions x e) ∙ e))
-
 -- the notice, as the code writes it
-pub notice_there : (s : ServerState) (c : ℕ) (x : SessionState) → session c s ≡ Some x → holds_overlong x ≡ true → after_notice s c ≡ with_session s (notified x)
-unfolding after_notice
-notice_there s c x e over = change_is with_notice c s x e ∙ ap (with_session s) (cond-true _ _ _ over)
-
-pub no_notice : (s : ServerState) (c : ℕ) → is_overlong s c ≡ false → after_notice s c ≡ s
-unfolding after_notice
-no_notice s c over = by_change (λ t. t ≡ s) with_notice c s
-    (λ x e. ap (with_session s) (cond-false _ _ _ (ap (λ (o : Option SessionState). option_map_or holds_overlong o false) (sym e) ∙ over)) ∙ put_same s c x e)
-    (λ e. refl)
-
 pub notice_is : (s : ServerState) (c i : ℕ) (x y : SessionState) → IsAt c i s.sessions → session c s ≡ Some x → y ≡ with_notice x → let code : ServerState = record s { sessions = set s.sessions i y } in code ≡ after_notice s c
 unfolding after_notice
 notice_is s c i x y h e is = change_set with_notice s c i x y h e (notice_id x) is
@@ -164,25 +146,17 @@ begins s c = refl
 pub goes_on : (s t u : ServerState) (c k : ℕ) → t ≡ after_lines k s c → u ≡ after_line t c → u ≡ after_lines (k + 1) s c
 goes_on s t u c k e f = f ∙ ap (λ (z : ServerState). after_line z c) e ∙ sym (after_lines-suc k s c)
 
--- the loop ends: all lines are done
-done_is : (s t : ServerState) (c k : ℕ) → t ≡ after_lines k s c → k ≤ length (held_of (session c s)) → next_line_for t c ≡ None → after_all_lines s c ≡ t
-done_is s t c k e le none =
-    all_lines_are k s c le (subst (λ (z : ServerState). pump_stops z c ≡ true) e (ap is_none none)) ∙ sym e
-
-pub pump_ends : (s t u : ServerState) (c k : ℕ) → t ≡ after_lines k s c → k ≤ length (held_of (session c s)) → next_line_for t c ≡ None → u ≡ after_notice t c → (after_all_lines s c ≡ t) × (u ≡ pumped s c)
-unfolding pumped
-pump_ends s t u c k e le none f = let all = done_is s t c k e le none in (all, f ∙ ap (λ (z : ServerState). after_notice z c) (sym all))
-
--- and whether the session was told that its line is too long is what the pump answers
+-- the loop ends: all lines are done, and whether the session was told that its line is too long is what the pump answers
 pub pump_gives : (s t u : ServerState) (c k : ℕ) (r : Result (Unit {0}) Fault) → t ≡ after_lines k s c → k ≤ length (held_of (session c s)) → next_line_for t c ≡ None → u ≡ after_notice t c → r ≡ refused_overlong (is_overlong t c) → PumpGives s c r u
-pump_gives s t u c k r e le none f told = by_length (is_overlong t c) refl told
+unfolding pumped
+pump_gives s t u c k r e le none f told = subst (λ (z : Result (Unit {0}) Fault). PumpGives s c z u) (sym told) (by_length (is_overlong t c) refl)
   where
-    ends : (after_all_lines s c ≡ t) × (u ≡ pumped s c)
-    ends = pump_ends s t u c k e le none f
+    all : after_all_lines s c ≡ t
+    all = all_lines_are k s c le (subst (λ (z : ServerState). pump_stops z c ≡ true) e (ap is_none none)) ∙ sym e
 
-    by_length : (b : Bool) → is_overlong t c ≡ b → r ≡ refused_overlong b → PumpGives s c r u
-    by_length true long is = subst (λ (z : Result (Unit {0}) Fault). PumpGives s c z u) (sym is) (ap (λ (z : ServerState). is_overlong z c) ends.0 ∙ long, ends.1)
-    by_length false short is = subst (λ (z : Result (Unit {0}) Fault). PumpGives s c z u) (sym is) (ap (λ (z : ServerState). is_overlong z c) ends.0 ∙ short, ends.1)
+    by_length : (b : Bool) → is_overlong t c ≡ b → PumpGives s c (refused_overlong b) u
+    by_length true long = (ap (λ (z : ServerState). is_overlong z c) all ∙ long, f ∙ ap (λ (z : ServerState). after_notice z c) (sym all))
+    by_length false short = (ap (λ (z : ServerState). is_overlong z c) all ∙ short, f ∙ ap (λ (z : ServerState). after_notice z c) (sym all))
 
 -- memory was refused for a listing
 pub wants_is : (s : ServerState) (c : ℕ) (line : List ℕ) → next_line_for s c ≡ Some line → shares_version_read s c (read_command line) ≡ true → IsTrue (wants_memory s c)
@@ -201,9 +175,6 @@ pub may_take_false : (o : Option SessionState) (x : SessionState) (n k : ℕ) �
 may_take_false o x n k e ek lt =
     let few : k ≡ length (offered (Some x)) = ek ∙ ap (λ (z : Option SessionState). length (offered z)) e in
     ap (λ (z : Option SessionState). may_take z n) e ∙ lt-leb _ _ (let l : length (offered (Some x)) < n = omega (arith, few) in l)
-
-pub within_offered : (o : Option SessionState) (x : SessionState) (n : ℕ) → o ≡ Some x → may_take o n ≡ true → n ≤ length (offered (Some x))
-within_offered o x n e may = leb-true _ _ (ap (λ (z : Option SessionState). may_take z n) (sym e) ∙ may)
 
 -- what is left of the sessions where one is removed at its place
 pub left_out : (l n c i : ℕ) (xs : List SessionState) → IdsRise l n xs → IsAt c i xs → without c xs ≡ take i xs ++ drop (i + 1) xs

@@ -1,130 +1,153 @@
--- What only lines set of a session: a name, a password, a login.
-use Rattle.std.proofs.Common.{◌≡◌, ℕ, Bool, true, false, List, [], ◌∷◌, ◌++◌, Option, Some, None, refl, sym, ◌∙◌, ap, cond, eqb, inl, inr, drop, ◌⊎◌}
+-- What a session has given, and to what it is logged in, came by lines of its client.
+use Rattle.std.proofs.Common.{◌≡◌, ◌≢◌, ◌⊎◌, ◌∙◌, ℕ, Bool, true, false, List, [], ◌∷◌, ◌++◌, Option, Some, None, refl, sym, ap, subst, eqb, inl, inr}
+use Rattle.std.specs.Prelude.{option_map}
 use Rattle.std.specs.Option.{option_map_or}
-use Rattle.std.proofs.lemmas.Bool.{eqb-true, eqb-false}
+use Rattle.std.proofs.lemmas.Bool.{both_ways, eqb-true, eq-eqb}
+use Rattle.nutusers.specs.declared.ups_list.UpsId.{UpsId}
 use Rattle.nutanswer.specs.declared.reply.Change.{Change}
-use Rattle.nutcore.specs.declared.event.Event.{Event}
-use Rattle.nutcore.specs.Session.{SessionState, find, put, without, new_session}
+use Rattle.nutanswer.specs.declared.reply.Change.TheVariants as changes
+use Rattle.nutanswer.specs.View.{AskerSeen}
+use Rattle.nutcore.specs.Session.{SessionState, find}
 use Rattle.nutcore.specs.Server.{ServerState, session, with_session_changed}
-use Rattle.nutcore.specs.Reply.{reply, changed_session}
-use Rattle.nutcore.specs.Pump.{next_line_for, answered, after_line, after_notice, notified, with_notice}
-use Rattle.nutcore.specs.Step.{after_by, accepted_bytes, joined, with_input, taken_from, without_output, opened, may_open}
+use Rattle.nutcore.specs.Reply.{asker, asker_of, reply, text_to}
+use Rattle.nutcore.specs.Pump.{next_line_for, answered, after_line, notified}
+use Rattle.nutcore.specs.Step.{joined, with_input, taken_from, without_output}
 use Rattle.nutcore.specs.History.{Execution, of_line, of_notice}
-use Rattle.nutcore.proofs.Changed.{by_change, either_notice, notice_id}
-use Rattle.nutcore.proofs.Found.{find_id, find_put, find_put_other, find_without, find_without_other}
-use Rattle.nutcore.proofs.Pumping.{is_next, after_line_is, change_at, session_after, session_after_id}
-use Rattle.nutcore.proofs.Events.{IsPlain, of_session_event}
-use Rattle.nutcore.proofs.Marks.{IsSetByLines, no_mark}
+use Rattle.nutcore.specs.ByRight.{GivesUsername, GivesPassword, LogsInByRight, is_logged_in_of, CredentialsAreGivenByLines, ALoginIsByRight}
+use Rattle.nutcore.proofs.Changed.{session_changed, presence_other}
+use Rattle.nutcore.proofs.Changes.{keeps}
+use Rattle.nutcore.proofs.UpsPlaces.{same_ups}
+use Rattle.nutcore.proofs.Histories.{own_or_other, of_plain}
+use Rattle.nutcore.proofs.Loops.{found_after_line}
+use Rattle.nutcore.proofs.Marks.{OneIs, first_one, last_one, IsToldByLines, told_after, told_at}
+use Rattle.nutcore.proofs.Progress.{Presence}
+use Rattle.nutcore.proofs.Pumping.{is_next, change_at, session_after, other_after_line}
+use Rattle.nutcore.proofs.Rows.{some_command, comes_of_line, by_right}
 
--- a mark of a session that only a change sets, which this then holds of
-pub record IsSessionMark (mark : SessionState → Bool) (IsSet : Change → Type 0) : Type 0 where
-  pub held : (x : SessionState) (bytes : List ℕ) → mark (record x { held = bytes }) ≡ mark x
-  pub owed : (x : SessionState) (bytes : List ℕ) → mark (record x { owed = bytes }) ≡ mark x
-  pub noticed : (x : SessionState) → (mark (notified x) ≡ mark x) ⊎ (mark (notified x) ≡ false)
-  pub fresh : (c : ℕ) (address : List ℕ) → mark (new_session c address) ≡ false
-  pub set : (change : Change) (line text : List ℕ) (x : SessionState) → mark x ≡ false → mark (changed_session change (answered line text x)) ≡ true → IsSet change
+-- one has no more than the other
+record IsFewer (a b : AskerSeen) : Type 0 where
+  username : (name : List ℕ) → b.username ≡ Some name → a.username ≡ Some name
+  password : (word : List ℕ) → b.password ≡ Some word → a.password ≡ Some word
+  login : (u : UpsId) → b.login ≡ Some u → a.login ≡ Some u
 
-module _ (mark : SessionState → Bool) (IsSet : Change → Type 0) (is : IsSessionMark mark IsSet) where
-  -- whether the client's session has the mark
-  abbrev pub marked_of : Option SessionState → Bool
-  marked_of o = option_map_or mark o false
+the_same : (a : AskerSeen) → IsFewer a a
+the_same a = record { username = λ name e. e; password = λ word e. e; login = λ u e. e }
 
-  abbrev pub is_marked : ℕ → ServerState → Bool
-  is_marked c s = marked_of (session c s)
+nothing_given : (a : AskerSeen) → IsFewer a (asker_of None)
+nothing_given a = record { username = λ name e. cc e; password = λ word e. cc e; login = λ u e. cc e }
 
-  -- where a session is put in place of its own
-  put_in : (c : ℕ) (x y : SessionState) (xs : List SessionState) → find y.id xs ≡ Some x → (mark y ≡ mark x ⊎ mark y ≡ false) → marked_of (find c xs) ≡ false → marked_of (find c (put y xs)) ≡ false
-  put_in c x y xs found kept before = by_id (eqb c y.id) refl
-    where
-      at_own : (marked_of (Some x) ≡ false) → (mark y ≡ mark x ⊎ mark y ≡ false) → mark y ≡ false
-      at_own h k = elim k [ inl e ↦ e ∙ h | inr e ↦ e ]
+-- what changes a session so, changes it for its client alone
+by_session : (f : SessionState → SessionState) → ((x : SessionState) → (f x).id ≡ x.id) → ((x : SessionState) → IsFewer (asker_of (Some x)) (asker_of (Some (f x)))) → (c d : ℕ) (s : ServerState) → IsFewer (asker c s) (asker c (with_session_changed f d s))
+by_session f id fewer c d s =
+    own_or_other c d (λ z b. IsFewer (asker z s) (asker z (with_session_changed f d s))) (subst (λ o. IsFewer (asker d s) (asker_of o)) (sym (session_changed f id d s)) (own (session d s)))
+    (λ differ. subst (λ (p : Presence). IsFewer (asker c s) (asker_of p.session)) (sym (presence_other f id c d s differ)) (the_same (asker c s)))
+  where
+    own : (o : Option SessionState) → IsFewer (asker_of o) (asker_of (option_map f o))
+    own None = the_same (asker_of None)
+    own (Some x) = fewer x
 
-      by_id : (b : Bool) → eqb c y.id ≡ b → marked_of (find c (put y xs)) ≡ false
-      by_id true e =
-          let same : c ≡ y.id = eqb-true c y.id e in
-          let x_before : marked_of (Some x) ≡ false = ap (marked_of) (sym found) ∙ ap (λ d. marked_of (find d xs)) (sym same) ∙ before in
-          ap (λ d. marked_of (find d (put y xs))) same ∙ ap (marked_of) (find_put y xs x found) ∙ at_own x_before kept
-      by_id false e = ap (marked_of) (find_put_other c y xs (λ (k : c ≡ y.id). eqb-false c y.id e k)) ∙ before
+by_input : (c d : ℕ) (s : ServerState) (piece : List ℕ) → IsFewer (asker c s) (asker c (with_input s d piece))
+unfolding with_input
+by_input c d s piece = by_session (joined piece) (λ x. refl) (λ x. the_same (asker_of (Some x))) c d s
 
-  in_some : (c : ℕ) (s : ServerState) (o : Option SessionState) → session c s ≡ o → is_marked c s ≡ false → marked_of o ≡ false
-  in_some c s o e h = ap (marked_of) (sym e) ∙ h
+by_output : (c d : ℕ) (s : ServerState) (n : ℕ) → IsFewer (asker c s) (asker c (without_output s d n))
+unfolding without_output
+by_output c d s n = by_session (taken_from n) (λ x. refl) (λ x. the_same (asker_of (Some x))) c d s
 
-  -- a session that is changed, and has the mark no more than before
-  by_changing : (f : SessionState → SessionState) → ((x : SessionState) → (f x).id ≡ x.id) → ((x : SessionState) → mark (f x) ≡ mark x ⊎ mark (f x) ≡ false) →
-      (c : ℕ) (s : ServerState) (d : ℕ) → is_marked c s ≡ false → is_marked c (with_session_changed f d s) ≡ false
-  by_changing f id keeps c s d h = by_change (λ t. is_marked c t ≡ false) f d s
-      (λ x e. put_in c x (f x) s.sessions (ap (λ k. find k s.sessions) (id x ∙ find_id d s.sessions x e) ∙ e) (keeps x) h)
-      (λ e. h)
+by_notice : (c d : ℕ) (s : ServerState) → IsFewer (asker c s) (asker c (with_session_changed notified d s))
+by_notice c d s = by_session notified (λ x. refl) (λ x. record { username = λ name e. e; password = λ word e. e; login = λ u e. cc e }) c d s
 
-  -- bytes that come or are taken
-  by_input : (c : ℕ) (s : ServerState) (d : ℕ) (piece : List ℕ) → is_marked c s ≡ false → is_marked c (with_input s d piece) ≡ false
-  unfolding with_input
-  by_input c s d piece h = by_changing (joined piece) (λ x. refl) (λ x. inl (is.held x (x.held ++ accepted_bytes (Some x) piece))) c s d h
+-- what it has was there at the beginning, or came by one of the lines before
+record IsGiven (start : AskerSeen) (c : ℕ) (before : List Execution) (a : AskerSeen) : Type 0 where
+  username : (name : List ℕ) → a.username ≡ Some name → (start.username ≡ Some name) ⊎ OneIs (GivesUsername c name) before
+  password : (word : List ℕ) → a.password ≡ Some word → (start.password ≡ Some word) ⊎ OneIs (GivesPassword c word) before
+  login : (u : UpsId) → a.login ≡ Some u → (start.login ≡ Some u) ⊎ OneIs (LogsInByRight c u) before
 
-  by_output : (c : ℕ) (s : ServerState) (d n : ℕ) → is_marked c s ≡ false → is_marked c (without_output s d n) ≡ false
-  unfolding without_output
-  by_output c s d n h = by_changing (taken_from n) (λ x. refl) (λ x. inl (is.owed x (drop n x.owed))) c s d h
+at_the_start : (c : ℕ) (a : AskerSeen) → IsGiven a c [] a
+at_the_start c a = record { username = λ name e. inl e; password = λ word e. inl e; login = λ u e. inl e }
 
-  -- the notice
-  by_notice : (c : ℕ) (s : ServerState) (d : ℕ) → is_marked c s ≡ false → is_marked c (after_notice s d) ≡ false
-  unfolding after_notice
-  by_notice c s d h = by_changing with_notice notice_id (λ x. either_notice (λ y. mark y ≡ mark x ⊎ mark y ≡ false) x (is.noticed x) (inl refl)) c s d h
+or_first : {A : Type 0} (P : Execution → Type 0) (before more : List Execution) → A ⊎ OneIs P before → A ⊎ OneIs P (before ++ more)
+or_first P before more h = elim h [ inl a ↦ inl a | inr one ↦ inr (first_one P before more one) ]
 
-  either_of : (c : ℕ) (s t : ServerState) (b : Bool) → is_marked c s ≡ false → is_marked c t ≡ false → is_marked c (cond b s t) ≡ false
-  either_of c s t true e f = e
-  either_of c s t false e f = f
+as_before : (start : AskerSeen) (c : ℕ) (before more : List Execution) (a b : AskerSeen) → IsFewer a b → IsGiven start c before a → IsGiven start c (before ++ more) b
+as_before start c before more a b f h = record {
+  username = λ name e. or_first (GivesUsername c name) before more (h.username name (f.username name e));
+  password = λ word e. or_first (GivesPassword c word) before more (h.password word (f.password word e));
+  login = λ u e. or_first (LogsInByRight c u) before more (h.login u (f.login u e));
+}
 
-  -- a session that is opened hasn't it
-  open_in : (c : ℕ) (y : SessionState) (xs : List SessionState) → mark y ≡ false → marked_of (find c xs) ≡ false → marked_of (find c (xs ++ y ∷ [])) ≡ false
-  open_in c y [] none h = last_by (eqb y.id c)
-    where
-      last_by : (b : Bool) → marked_of (cond b (Some y) None) ≡ false
-      last_by true = none
-      last_by false = refl
-  open_in c y (x ∷ xs) none h = first_by (eqb x.id c) h (open_in c y xs none)
-    where
-      first_by : (b : Bool) → marked_of (cond b (Some x) (find c xs)) ≡ false → (marked_of (find c xs) ≡ false → marked_of (find c (xs ++ y ∷ [])) ≡ false) → marked_of (cond b (Some x) (find c (xs ++ y ∷ []))) ≡ false
-      first_by true k rest = k
-      first_by false k rest = rest k
+-- a line of its client gives it what it changes
+own_line : (start : AskerSeen) (c : ℕ) (before : List Execution) (s : ServerState) (line : List ℕ) → next_line_for s c ≡ Some line → IsGiven start c before (asker c s) → IsGiven start c (before ++ of_line s c line ∷ []) (asker c (after_line s c))
+own_line start c before s line next told =
+    let n = is_next s c line next in
+    let x : SessionState = n.asking in
+    let y : SessionState = session_after s c line x in
+    let it : Execution = of_line s c line in
+    let kept = keeps (change_at s c line) (answered line (reply s c line) x) in
+    let had : IsGiven start c before (asker_of (Some x)) = subst (λ o. IsGiven start c before (asker_of o)) n.found told in
+    let has : IsGiven start c (before ++ it ∷ []) (asker_of (Some y)) = record {
+      username = λ name e. elim kept.username [
+        | inl same ↦ or_first (GivesUsername c name) before (it ∷ []) (had.username name (sym same ∙ e))
+        | inr (given, is, now) ↦ (let came = comes_of_line s c line (changes.Username given) refl is in
+            let this : given ≡ name = cc (sym now ∙ e) in
+            inr (subst (λ w. OneIs (GivesUsername c w) (before ++ it ∷ [])) this (last_one (GivesUsername c given) before it (refl, came.read ∙ ap some_command came.row.is, ap (text_to s c) came.read ∙ came.row.text))))
+      ];
+      password = λ word e. elim kept.password [
+        | inl same ↦ or_first (GivesPassword c word) before (it ∷ []) (had.password word (sym same ∙ e))
+        | inr (given, is, now) ↦ (let came = comes_of_line s c line (changes.Password given) refl is in
+            let this : given ≡ word = cc (sym now ∙ e) in
+            inr (subst (λ w. OneIs (GivesPassword c w) (before ++ it ∷ [])) this (last_one (GivesPassword c given) before it (refl, came.read ∙ ap some_command came.row.is, ap (text_to s c) came.read ∙ came.row.text))))
+      ];
+      login = λ u e. elim kept.login [
+        | inl same ↦ or_first (LogsInByRight c u) before (it ∷ []) (had.login u (sym same ∙ e))
+        | inr (inl gone) ↦ (let never : None ≡ Some u = sym gone ∙ e in cc never)
+        | inr (inr (v, is, now)) ↦ (let came = comes_of_line s c line (changes.Login v) refl is in
+            let this : v ≡ u = cc (sym now ∙ e) in
+            inr (subst (λ w. OneIs (LogsInByRight c w) (before ++ it ∷ [])) this (last_one (LogsInByRight c v) before it (refl, by_right s c line came.command _ _ _ v came.read came.row.by_right))))
+      ];
+    } in
+    subst (λ o. IsGiven start c (before ++ it ∷ []) (asker_of o)) (sym (found_after_line s c line x n.found next)) has
 
-  opened_by : (c : ℕ) (s : ServerState) (address : List ℕ) (m : Option ℕ) → is_marked c s ≡ false → is_marked c (opened s address m) ≡ false
-  unfolding opened
-  opened_by c s address None h = either_of c _ s (may_open s) (open_in c (new_session s.next_id address) s.sessions (is.fresh s.next_id address) h) h
-  opened_by c s address (Some k) h = h
+module _ (start : AskerSeen) (c : ℕ) where
+  abbrev Told : List Execution → ServerState → Type 0
+  Told before s = IsGiven start c before (asker c s)
 
-  closed_by : (c : ℕ) (s : ServerState) (d : ℕ) (b : Bool) → eqb c d ≡ b → is_marked c s ≡ false → marked_of (find c (without d s.sessions)) ≡ false
-  closed_by c s d true e h = ap (λ k. marked_of (find k (without d s.sessions))) (eqb-true c d e) ∙ ap (marked_of) (find_without d s.sessions)
-  closed_by c s d false e h = ap (marked_of) (find_without_other c d s.sessions (λ (k : c ≡ d). eqb-false c d e k)) ∙ h
+  given_by_lines : IsToldByLines Told
+  given_by_lines = record {
+    by_line = λ before d s line next.
+        own_or_other c d (λ z b. IsGiven start z before (asker z s) → IsGiven start z (before ++ of_line s d line ∷ []) (asker z (after_line s d))) (own_line start d before s line next)
+        (λ differ. as_before start c before (of_line s d line ∷ []) (asker c s) _ (subst (λ (p : Presence). IsFewer (asker c s) (asker_of p.session)) (sym (other_after_line c d s line next differ)) (the_same (asker c s))));
+    by_notice = λ before d s. as_before start c before (of_notice d ∷ []) _ _ (by_notice c d s);
+    by_input = λ before d s piece. as_before start c before [] _ _ (by_input c d s piece);
+    by_output = λ before d s n. as_before start c before [] _ _ (by_output c d s n);
+    by_plain = λ before s e m plain. as_before start c before [] _ _
+        (of_plain (λ o. IsFewer (asker c s) (asker_of o)) c s e m plain (the_same (asker c s)) (nothing_given (asker c s)) (λ address same none. nothing_given (asker c s)));
+  }
 
-  by_plain : (c : ℕ) (s : ServerState) (e : Event) (m : Option ℕ) → IsPlain e → is_marked c s ≡ false → is_marked c (after_by s e m) ≡ false
-  unfolding after_by
-  by_plain c s e m =
-      of_session_event (λ e. IsPlain e → is_marked c s ≡ false → is_marked c (after_by s e m) ≡ false) (λ e apart plain h. ap (λ (xs : List SessionState). marked_of (find c xs)) (apart.sessions s m) ∙ h)
-      (λ address plain h. opened_by c s address m h) (λ d piece plain h. absurd plain) (λ d n plain h. absurd plain) (λ d plain h. closed_by c s d (eqb c d) refl h) e
+-- on a server without sessions nobody has given anything
+pub given_before : CredentialsAreGivenByLines
+given_before old new events outcomes before after s c line empty run e =
+    let start : IsGiven (asker_of None) c [] (asker c old) = subst (λ o. IsGiven (asker_of None) c [] (asker_of o)) (sym (ap (find c) empty)) (at_the_start c (asker_of None)) in
+    let told = told_at (Told (asker_of None) c) (given_by_lines (asker_of None) c) old new events outcomes run start before after (of_line s c line) e in
+    record {
+      username = λ name asked. elim (told.username name asked) [ inl never ↦ cc never | inr one ↦ one ];
+      password = λ word asked. elim (told.password word asked) [ inl never ↦ cc never | inr one ↦ one ];
+    }
 
-  -- the line of this client changes what sets the mark
-  abbrev pub SetsMark : ℕ → Execution → Type 0
-  SetsMark c (of_line s d line) = (d ≡ c) × IsSet (change_at s d line)
-  SetsMark c (of_notice d) = ⊥
+-- the login of an open session
+logged_in : (u : UpsId) (o : Option SessionState) → option_map_or (is_logged_in_of u) o false ≡ true → (asker_of o).login ≡ Some u
+logged_in u None h = cc h
+logged_in u (Some x) h = by_login x.login h
+  where
+    by_login : (login : Option UpsId) → option_map_or (λ v. eqb v.place u.place) login false ≡ true → login ≡ Some u
+    by_login None h = cc h
+    by_login (Some v) h = ap Some (same_ups v u (eqb-true v.place u.place h))
 
-  -- of the session that executed the line
-  by_session : (c : ℕ) (s : ServerState) (d : ℕ) (line : List ℕ) (x : SessionState) (b : Bool) → eqb d c ≡ b → session d s ≡ Some x → next_line_for s d ≡ Some line → is_marked c s ≡ false → is_marked c (after_line s d) ≡ true → SetsMark c (of_line s d line)
-  by_session c s d line x true e found next before after =
-      let y : SessionState = session_after s d line x in
-      let id : y.id ≡ d = session_after_id s d line x found in
-      let there : marked_of (find c (put y s.sessions)) ≡ true = ap (is_marked c) (sym (after_line_is s d line x found next)) ∙ after in
-      let same : d ≡ c = eqb-true d c e in
-      let own : find c (put y s.sessions) ≡ Some y = ap (λ k. find k (put y s.sessions)) (sym same ∙ sym id) ∙ find_put y s.sessions x (ap (λ k. find k s.sessions) id ∙ found) in
-      let x_before : mark x ≡ false = ap (marked_of) (sym found) ∙ ap (λ k. marked_of (find k s.sessions)) same ∙ before in
-      (same, is.set (change_at s d line) line (reply s d line) x x_before (ap (marked_of) (sym own) ∙ there))
-  by_session c s d line x false e found next before after =
-      let y : SessionState = session_after s d line x in
-      let id : y.id ≡ d = session_after_id s d line x found in
-      let there : marked_of (find c (put y s.sessions)) ≡ true = ap (is_marked c) (sym (after_line_is s d line x found next)) ∙ after in
-      no_mark _ before (ap (marked_of) (sym (find_put_other c y s.sessions (λ (k : c ≡ y.id). eqb-false d c e (sym (k ∙ id))))) ∙ there)
+logs_in : (u : UpsId) (o : Option SessionState) → (asker_of o).login ≡ Some u → option_map_or (is_logged_in_of u) o false ≡ true
+logs_in u None e = cc e
+logs_in u (Some x) e = ap (λ (login : Option UpsId). option_map_or (λ v. eqb v.place u.place) login false) e ∙ eq-eqb u.place u.place refl
 
-  by_line : (c : ℕ) (s : ServerState) (d : ℕ) (line : List ℕ) → next_line_for s d ≡ Some line → is_marked c s ≡ false → is_marked c (after_line s d) ≡ true → SetsMark c (of_line s d line)
-  by_line c s d line next before after = let n = is_next s d line next in by_session c s d line n.asking (eqb d c) refl n.found next before after
-
-  pub marks : (c : ℕ) → IsSetByLines (is_marked c) (SetsMark c)
-  marks c = record { by_line = by_line c; by_notice = by_notice c; by_input = by_input c; by_output = by_output c; by_plain = by_plain c }
+pub logins : ALoginIsByRight
+logins old new events outcomes c u run before after =
+    let told = told_after (Told (asker c old) c) (given_by_lines (asker c old) c) old new events outcomes run (at_the_start c (asker c old)) in
+    elim (told.login u (logged_in u (session c new) after)) [ inl was ↦ absurd (both_ways _ before (logs_in u (session c old) was)) | inr one ↦ one ]

@@ -1,8 +1,8 @@
 -- A forced shutdown is set by lines alone, and by those that have the right.
-use Rattle.std.proofs.Common.{◌≡◌, ◌≢◌, ℕ, zero, suc, Bool, true, false, List, [], ◌∷◌, ◌++◌, Option, Some, None, refl, sym, ◌∙◌, ap, cond, eqb, map, take}
+use Rattle.std.proofs.Common.{◌≡◌, ℕ, zero, suc, Bool, true, false, List, [], ◌∷◌, ◌++◌, Option, Some, None, refl, sym, ◌∙◌, ap, cond, eqb, map, take, inl, inr}
 use Rattle.std.specs.Prelude.{slice_get}
 use Rattle.std.specs.Option.{option_map_or}
-use Rattle.std.proofs.lemmas.Bool.{eqb-true, eqb-false}
+use Rattle.std.proofs.lemmas.Bool.{both_ways, cond_both, cases_Bool, eqb-true, eqb-false}
 use Rattle.nutusers.specs.declared.ups_list.UpsId.{UpsId}
 use Rattle.nutdriver.specs.declared.report.Report.{Report}
 use Rattle.nutdriver.specs.declared.report.LineOutcome.{LineOutcome}
@@ -16,17 +16,18 @@ use Rattle.nutcore.specs.Session.{SessionState}
 use Rattle.nutcore.specs.Ups.{UpsState, with_fsd, with_order, after_connecting, after_loss, after_outcome, after_text, after_texts, with_unfinished, ping_is_due}
 use Rattle.nutcore.specs.Server.{ServerState, with_session_changed, changed_at}
 use Rattle.nutcore.specs.Reply.{changed_upses}
-use Rattle.nutcore.specs.Pump.{next_line_for, after_line, after_notice, with_notice}
+use Rattle.nutcore.specs.Pump.{next_line_for, after_line, notified}
 use Rattle.nutcore.specs.Step.{after_by, joined, with_input, taken_from, without_output, opened, may_open, ticked, driver_may_take}
-use Rattle.nutcore.specs.History.{of_line}
+use Rattle.nutcore.specs.History.{Execution, of_line, of_notice}
 use Rattle.nutcore.specs.ByRight.{SetsShutdownByRight, is_shut_down, AForcedShutdownIsSetByRight}
 use Rattle.nutcore.proofs.Changed.{by_change}
 use Rattle.nutcore.proofs.Changes.{of_upses as of_changed_upses}
+use Rattle.nutcore.proofs.UpsPlaces.{same_ups, other_ups}
 use Rattle.nutcore.proofs.DriverText.{ups_after_text, ups_after_bytes}
 use Rattle.nutcore.proofs.Pumping.{is_next, after_line_is, change_at}
 use Rattle.nutcore.proofs.Rows.{comes_of_line, by_right}
-use Rattle.nutcore.proofs.Events.{IsPlain, of_parts}
-use Rattle.nutcore.proofs.Marks.{run_sets, no_mark}
+use Rattle.nutcore.proofs.Events.{IsPlain, OfDrivers, of_parts}
+use Rattle.nutcore.proofs.Marks.{OneIs, first_one, last_one, IsToldByLines, told_after}
 
 -- the forced shutdown of the UPS at a place
 abbrev pub fsd_at : ℕ → List UpsState → Bool
@@ -42,18 +43,10 @@ changed_keeps f k zero (suc q) (x ∷ xs) = refl
 changed_keeps f k (suc p) zero (x ∷ xs) = refl
 changed_keeps f k (suc p) (suc q) (x ∷ xs) = changed_keeps f k p q xs
 
-pub map_keeps : (f : UpsState → UpsState) → Keeps f → (q : ℕ) (xs : List UpsState) → fsd_at q (map f xs) ≡ fsd_at q xs
+map_keeps : (f : UpsState → UpsState) → Keeps f → (q : ℕ) (xs : List UpsState) → fsd_at q (map f xs) ≡ fsd_at q xs
 map_keeps f k q [] = refl
 map_keeps f k zero (x ∷ xs) = k x
 map_keeps f k (suc q) (x ∷ xs) = map_keeps f k q xs
-
--- a UPS at another place isn't changed
-other_place : (f : UpsState → UpsState) (p q : ℕ) (xs : List UpsState) → p ≢ q → fsd_at q (changed_at f p xs) ≡ fsd_at q xs
-other_place f p q [] differ = refl
-other_place f zero zero (x ∷ xs) differ = absurd (differ refl)
-other_place f zero (suc q) (x ∷ xs) differ = refl
-other_place f (suc p) zero (x ∷ xs) differ = refl
-other_place f (suc p) (suc q) (x ∷ xs) differ = other_place f p q xs (λ (e : p ≡ q). differ (ap suc e))
 
 outcome_fsd : (x : UpsState) (r : Report × LineOutcome) → (after_outcome x r).fsd ≡ x.fsd
 outcome_fsd x (report, Accepted) = refl
@@ -63,81 +56,94 @@ texts_fsd : (moment : ℕ) (lines : List (List ℕ)) (x : UpsState) → (after_t
 texts_fsd moment [] x = refl
 texts_fsd moment (line ∷ lines) x = texts_fsd moment lines (after_text moment x line) ∙ outcome_fsd x (report_after moment x.report line)
 
-cond_fsd : (b : Bool) (x y z : UpsState) → x.fsd ≡ z.fsd → y.fsd ≡ z.fsd → (cond b x y).fsd ≡ z.fsd
-cond_fsd true x y z e f = e
-cond_fsd false x y z e f = f
-
 text_fsd : (moment : ℕ) (text : List ℕ) (refused : Option ℕ) → Keeps (ups_after_text moment text refused)
 text_fsd moment text None x =
     let y : UpsState = after_texts moment (whole_lines text) x in
     let e : y.fsd ≡ x.fsd = texts_fsd moment (whole_lines text) x in
-    cond_fsd (is_too_long (unfinished_after text)) (after_loss y) (with_unfinished (unfinished_after text) y) x e e
+    cond_both (is_too_long (unfinished_after text)) (after_loss y) (with_unfinished (unfinished_after text) y) (λ z. z.fsd ≡ x.fsd) (λ long. e) (λ short. e)
 text_fsd moment text (Some k) x = texts_fsd moment (take k (whole_lines text)) x
 
-pub bytes_fsd : (moment : ℕ) (piece : List ℕ) (refused : Option ℕ) → Keeps (ups_after_bytes moment piece refused)
-bytes_fsd moment piece refused x = cond_fsd x.report.connected (ups_after_text moment (x.unfinished ++ piece) refused x) x x (text_fsd moment (x.unfinished ++ piece) refused x) refl
+bytes_fsd : (moment : ℕ) (piece : List ℕ) (refused : Option ℕ) → Keeps (ups_after_bytes moment piece refused)
+bytes_fsd moment piece refused x = cond_both x.report.connected (ups_after_text moment (x.unfinished ++ piece) refused x) x (λ z. z.fsd ≡ x.fsd) (λ heard. text_fsd moment (x.unfinished ++ piece) refused x) (λ lost. refl)
+
+-- no driver sets one, nor time
+pub drivers_keep : (s : ServerState) (m : Option ℕ) → OfDrivers s.moment m Keeps
+drivers_keep s m = record {
+  comes = λ x. cond_both x.report.connected x (after_connecting s.moment x) (λ z. z.fsd ≡ x.fsd) (λ here. refl) (λ away. refl);
+  tells = λ piece. bytes_fsd s.moment piece m;
+  takes = λ n x. cond_both (driver_may_take n x) _ x (λ z. z.fsd ≡ x.fsd) (λ may. refl) (λ never. refl);
+  goes = λ x. cond_both x.report.connected (after_loss x) x (λ z. z.fsd ≡ x.fsd) (λ here. refl) (λ away. refl);
+}
+
+pub tick_keeps : (u : UpsId) (s : ServerState) (seconds : ℕ) → is_shut_down u (ticked seconds s) ≡ is_shut_down u s
+unfolding ticked
+tick_keeps u s seconds = map_keeps _ (λ x. cond_both (ping_is_due s.max_age _ x) _ x (λ z. z.fsd ≡ x.fsd) (λ due. refl) (λ early. refl)) u.place s.upses
 
 -- what isn't the line of a client sets no forced shutdown
-of_upses : (q : ℕ) (xs ys : List UpsState) → fsd_at q ys ≡ fsd_at q xs → fsd_at q xs ≡ false → fsd_at q ys ≡ false
-of_upses q xs ys e h = e ∙ h
-
-either_of : (u : UpsId) (s t : ServerState) (b : Bool) → is_shut_down u s ≡ false → is_shut_down u t ≡ false → is_shut_down u (cond b s t) ≡ false
-either_of u s t true e f = e
-either_of u s t false e f = f
-
-opened_by : (u : UpsId) (s : ServerState) (address : List ℕ) (m : Option ℕ) → is_shut_down u s ≡ false → is_shut_down u (opened s address m) ≡ false
+by_plain : (u : UpsId) (s : ServerState) (e : Event) (m : Option ℕ) → IsPlain e → is_shut_down u (after_by s e m) ≡ is_shut_down u s
 unfolding opened
-opened_by u s address None h = either_of u _ s (may_open s) h h
-opened_by u s address (Some k) h = h
-
-by_plain : (u : UpsId) (s : ServerState) (e : Event) (m : Option ℕ) → IsPlain e → is_shut_down u s ≡ false → is_shut_down u (after_by s e m) ≡ false
-unfolding ticked
 by_plain u s e m =
-    of_parts s m Keeps
-    (record {
-      comes = λ x. cond_fsd x.report.connected x (after_connecting s.moment x) x refl refl;
-      tells = λ piece. bytes_fsd s.moment piece m;
-      takes = λ n x. cond_fsd (driver_may_take n x) _ x x refl refl;
-      goes = λ x. cond_fsd x.report.connected (after_loss x) x x refl refl;
-    })
-    (λ e t. IsPlain e → is_shut_down u s ≡ false → is_shut_down u t ≡ false)
-    (λ e v f its apart keeps plain h. changed_keeps f keeps v.place u.place s.upses ∙ h)
-    (λ seconds plain h. map_keeps _ (λ x. cond_fsd (ping_is_due s.max_age _ x) _ x x refl refl) u.place s.upses ∙ h)
-    (λ address plain h. opened_by u s address m h) (λ c piece plain h. absurd plain) (λ c n plain h. absurd plain) (λ c plain h. h) e
+    of_parts s m Keeps (drivers_keep s m)
+    (λ e t. IsPlain e → is_shut_down u t ≡ is_shut_down u s)
+    (λ e v f its apart keeps plain. changed_keeps f keeps v.place u.place s.upses)
+    (λ seconds plain. tick_keeps u s seconds)
+    (λ address plain. opens address m) (λ c piece plain. absurd plain) (λ c n plain. absurd plain) (λ c plain. refl) e
+  where
+    opens : (address : List ℕ) (m : Option ℕ) → is_shut_down u (opened s address m) ≡ is_shut_down u s
+    opens address None = cond_both (may_open s) _ s (λ t. is_shut_down u t ≡ is_shut_down u s) (λ may. refl) (λ full. refl)
+    opens address (Some k) = refl
 
--- a session that is changed
-by_session : (u : UpsId) (f : SessionState → SessionState) (s : ServerState) (c : ℕ) → is_shut_down u s ≡ false → is_shut_down u (with_session_changed f c s) ≡ false
-by_session u f s c h = by_change (λ t. is_shut_down u t ≡ false) f c s (λ x e. h) (λ e. h)
+-- nor does a session that is changed
+pub by_session : (u : UpsId) (f : SessionState → SessionState) (s : ServerState) (c : ℕ) → is_shut_down u (with_session_changed f c s) ≡ is_shut_down u s
+by_session u f s c = by_change (λ t. is_shut_down u t ≡ is_shut_down u s) f c s (λ x e. refl) (λ e. refl)
+
+input_keeps : (u : UpsId) (s : ServerState) (c : ℕ) (piece : List ℕ) → is_shut_down u (with_input s c piece) ≡ is_shut_down u s
+unfolding with_input
+input_keeps u s c piece = by_session u (joined piece) s c
+
+output_keeps : (u : UpsId) (s : ServerState) (c n : ℕ) → is_shut_down u (without_output s c n) ≡ is_shut_down u s
+unfolding without_output
+output_keeps u s c n = by_session u (taken_from n) s c
 
 -- a line that sets it has the row of FSD
+no_mark : {A : Type 0} (b : Bool) → b ≡ false → b ≡ true → A
+no_mark b e f = absurd (both_ways b e f)
+
 change_sets : (u : UpsId) (change : Change) (xs : List UpsState) → fsd_at u.place xs ≡ false → fsd_at u.place (changed_upses change xs) ≡ true → change ≡ changes.Fsd u
 change_sets u change xs before after =
     of_changed_upses (λ told ys. fsd_at u.place ys ≡ true → change ≡ changes.Fsd u) change xs (λ set. no_mark _ before set) (λ v is set. is ∙ by_place v (eqb v.place u.place) refl set)
     (λ v line is set. no_mark _ before (sym (changed_keeps (with_order line.items) (λ x. refl) v.place u.place xs) ∙ set)) after
   where
     by_place : (v : UpsId) (b : Bool) → eqb v.place u.place ≡ b → fsd_at u.place (changed_at with_fsd v.place xs) ≡ true → changes.Fsd v ≡ changes.Fsd u
-    by_place v true e set = ap (λ (p : ℕ). let w : UpsId = record { place = p } in changes.Fsd w) (eqb-true v.place u.place e)
-    by_place v false e set = no_mark _ before (sym (other_place with_fsd v.place u.place xs (λ (k : v.place ≡ u.place). eqb-false v.place u.place e k)) ∙ set)
+    by_place v true e set = ap (λ (w : UpsId). changes.Fsd w) (same_ups v u (eqb-true v.place u.place e))
+    by_place v false e set = no_mark _ before (sym (ap (λ (o : Option UpsState). option_map_or (λ (x : UpsState). x.fsd) o false) (other_ups with_fsd v.place u.place xs (λ (k : u.place ≡ v.place). eqb-false v.place u.place e (sym k)))) ∙ set)
 
-by_line : (u : UpsId) (s : ServerState) (c : ℕ) (line : List ℕ) → next_line_for s c ≡ Some line → is_shut_down u s ≡ false → is_shut_down u (after_line s c) ≡ true → SetsShutdownByRight u (of_line s c line)
-by_line u s c line next before after =
+line_sets : (u : UpsId) (s : ServerState) (c : ℕ) (line : List ℕ) → next_line_for s c ≡ Some line → is_shut_down u s ≡ false → is_shut_down u (after_line s c) ≡ true → SetsShutdownByRight u (of_line s c line)
+line_sets u s c line next before after =
     let n = is_next s c line next in
     let set : fsd_at u.place (changed_upses (change_at s c line) s.upses) ≡ true = ap (is_shut_down u) (sym (after_line_is s c line n.asking n.found next)) ∙ after in
     let came = comes_of_line s c line (changes.Fsd u) refl (change_sets u (change_at s c line) s.upses before set) in
     by_right s c line came.command _ _ _ u came.read came.row
 
-by_notice : (u : UpsId) (s : ServerState) (c : ℕ) → is_shut_down u s ≡ false → is_shut_down u (after_notice s c) ≡ false
-unfolding after_notice
-by_notice u s c h = by_session u with_notice s c h
+-- where it is set, one of the lines before set it
+module _ (u : UpsId) where
+  abbrev WasSet : List Execution → ServerState → Type 0
+  WasSet before s = is_shut_down u s ≡ true → OneIs (SetsShutdownByRight u) before
 
-by_input : (u : UpsId) (s : ServerState) (c : ℕ) (piece : List ℕ) → is_shut_down u s ≡ false → is_shut_down u (with_input s c piece) ≡ false
-unfolding with_input
-by_input u s c piece h = by_session u (joined piece) s c h
+  as_before : (before more : List Execution) (s t : ServerState) → is_shut_down u t ≡ is_shut_down u s → WasSet before s → WasSet (before ++ more) t
+  as_before before more s t same told set = first_one (SetsShutdownByRight u) before more (told (sym same ∙ set))
 
-by_output : (u : UpsId) (s : ServerState) (c n : ℕ) → is_shut_down u s ≡ false → is_shut_down u (without_output s c n) ≡ false
-unfolding without_output
-by_output u s c n h = by_session u (taken_from n) s c h
+  set_by_lines : IsToldByLines WasSet
+  set_by_lines = record {
+    by_line = λ before c s line next told set. elim (cases_Bool (is_shut_down u s)) [
+      | inl was ↦ first_one (SetsShutdownByRight u) before (of_line s c line ∷ []) (told was)
+      | inr never ↦ last_one (SetsShutdownByRight u) before (of_line s c line) (line_sets u s c line next never set)
+    ];
+    by_notice = λ before c s. as_before before (of_notice c ∷ []) s (with_session_changed notified c s) (by_session u notified s c);
+    by_input = λ before c s piece. as_before before [] s (with_input s c piece) (input_keeps u s c piece);
+    by_output = λ before c s n. as_before before [] s (without_output s c n) (output_keeps u s c n);
+    by_plain = λ before s e m plain. as_before before [] s (after_by s e m) (by_plain u s e m plain);
+  }
 
 pub shutdowns : AForcedShutdownIsSetByRight
-shutdowns = λ old new events outcomes u run before after.
-    run_sets (is_shut_down u) (SetsShutdownByRight u) (record { by_line = by_line u; by_notice = by_notice u; by_input = by_input u; by_output = by_output u; by_plain = by_plain u }) old new events outcomes run before after
+shutdowns old new events outcomes u run before after = told_after (WasSet u) (set_by_lines u) old new events outcomes run (λ set. no_mark _ before set) after

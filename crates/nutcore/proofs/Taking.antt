@@ -1,30 +1,15 @@
 -- A client that takes what it is offered, again and again, gets everything.
-use Rattle.std.proofs.Common.{◌≡◌, ◌⊎◌, ℕ, zero, suc, ◌+◌, ◌/◌, ◌<◌, ◌≤◌, true, List, [], ◌∷◌, ◌++◌, refl, ◌∙◌, ap, inl, inr, arith, length, length-append, length-take}
-use Rattle.std.proofs.lemmas.Bool.{cases_lt}
+use Rattle.std.proofs.Common.{◌≡◌, ◌⊎◌, ℕ, zero, suc, ◌+◌, ◌/◌, ◌<◌, ◌≤◌, true, List, [], ◌∷◌, ◌++◌, refl, inl, inr, arith, length}
 use Rattle.nutlisting.specs.declared.ring.TheConstants.{RING_LIMIT}
 use Rattle.nutcore.specs.declared.event.Event.{Event}
 use Rattle.nutcore.specs.declared.event.Outcome.{Outcome}
 use Rattle.nutcore.specs.Server.{ServerState, session}
 use Rattle.nutcore.specs.Pump.{pump_stops}
 use Rattle.nutcore.specs.Step.{offered}
-use Rattle.nutcore.specs.History.{Execution, text_of, texts_of, executions, executions_in_event, of_client, owed, held}
+use Rattle.nutcore.specs.History.{Execution, texts_of, executions, executions_in_event, of_client, owed, held}
 use Rattle.nutcore.specs.Taking.{enough_takes, GetsEverything, WhoTakesGetsEverything}
-use Rattle.nutcore.proofs.Stepping.{two_lists, two_clients}
-use Rattle.nutcore.proofs.Takes.{all_taken, outcome_then, server_then, done_then, IsTake, one_take}
-
--- a ring more, and no fewer
-ring_more : (a b : ℕ) → a + RING_LIMIT ≤ b → a / RING_LIMIT + 1 ≤ b / RING_LIMIT
-ring_more a b le = omega arith
-
-rings_rise : (a b : ℕ) → a ≤ b → a / RING_LIMIT ≤ b / RING_LIMIT
-rings_rise a b le = omega arith
-
--- the lines and the answers of one event and of those after it
-pub lines_more : (c : ℕ) (xs ys : List Execution) → length (of_client c (xs ++ ys)) ≡ length (of_client c xs) + length (of_client c ys)
-lines_more c xs ys = ap (λ (zs : List Execution). length zs) (two_clients c xs ys) ∙ length-append (of_client c xs) (of_client c ys)
-
-pub answers_more : (c : ℕ) (xs ys : List Execution) → length (texts_of (of_client c (xs ++ ys))) ≡ length (texts_of (of_client c xs)) + length (texts_of (of_client c ys))
-answers_more c xs ys = ap (λ (zs : List ℕ). length zs) (two_lists text_of c xs ys) ∙ length-append (texts_of (of_client c xs)) (texts_of (of_client c ys))
+use Rattle.nutcore.proofs.Histories.{lines_more, answers_more}
+use Rattle.nutcore.proofs.Takes.{all_taken, outcome_then, server_then, done_then, one_take, take_does}
 
 -- one take, and then the others
 abbrev enough_then : ServerState → ℕ → List Event → List Outcome → ℕ
@@ -34,33 +19,16 @@ enough_then s c es os = enough_takes c s (all_taken s c ∷ es) (outcome_then s 
 pub take_counts : (s : ServerState) (c : ℕ) (es : List Event) (os : List Outcome) → (RING_LIMIT ≤ length (offered (session c s))) ⊎ (1 ≤ length (done_then s c)) → suc (enough_takes c (server_then s c) es os) ≤ enough_then s c es os
 take_counts s c es os counts = counts_by counts
   where
-    t : ServerState
-    t = server_then s c
-
-    is : IsTake s c t (done_then s c)
-    is = one_take s c
-
     now : List Execution
     now = executions_in_event s (all_taken s c) (outcome_then s c)
 
     later : List Execution
-    later = executions t es os
+    later = executions (server_then s c) es os
 
-    before : ℕ
-    before = length (owed c t) + length (texts_of (of_client c later))
-
-    all : ℕ
-    all = length (owed c s) + length (texts_of (of_client c (now ++ later)))
-
-    counts_by : (RING_LIMIT ≤ length (offered (session c s))) ⊎ (1 ≤ length (done_then s c)) → suc (before / RING_LIMIT + length (of_client c later) + 1) ≤ all / RING_LIMIT + length (of_client c (now ++ later)) + 1
-    counts_by (inl full) =
-        let moved = is.moved in
-        let more : before / RING_LIMIT + 1 ≤ all / RING_LIMIT = ring_more before all (omega (arith, full, moved, answers_more c now later)) in
-        omega (arith, more, lines_more c now later)
-    counts_by (inr one) =
-        let moved = is.moved in
-        let more : before / RING_LIMIT ≤ all / RING_LIMIT = rings_rise before all (omega (arith, moved, answers_more c now later)) in
-        omega (arith, more, one, lines_more c now later)
+    counts_by : (RING_LIMIT ≤ length (offered (session c s))) ⊎ (1 ≤ length (done_then s c)) → suc ((length (owed c (server_then s c)) + length (texts_of (of_client c later))) / RING_LIMIT + length (of_client c later) + 1)
+        ≤ (length (owed c s) + length (texts_of (of_client c (now ++ later)))) / RING_LIMIT + length (of_client c (now ++ later)) + 1
+    counts_by (inl full) = let moved = (one_take s c).moved in omega (arith, full, moved, answers_more c now later, lines_more c now later)
+    counts_by (inr one) = let moved = (one_take s c).moved in omega (arith, one, moved, answers_more c now later, lines_more c now later)
 
 one_more : (s : ServerState) (c : ℕ) (rest : GetsEverything c (server_then s c)) → suc (length rest.events) ≤ enough_then s c rest.events rest.outcomes → GetsEverything c s
 one_more s c rest few = record {
@@ -84,31 +52,18 @@ counted_more s c counts rest =
     let more = take_counts s c rest.events rest.outcomes counts in
     one_more s c rest (omega (arith, few, more))
 
-pub none_owed : (bytes : List ℕ) → length bytes ≤ 0 → bytes ≡ []
-none_owed [] le = refl
-none_owed (b ∷ bytes) le = absurd (omega arith)
-
-abbrev no_more : (s : ServerState) (c : ℕ) → pump_stops s c ≡ true → length (owed c s) ≤ 0 → GetsEverything c s
-no_more s c stop none = record { events = []; outcomes = []; new = s; run = refl; takes = tt; nothing_owed = none_owed (owed c s) none; nothing_left = stop; few = omega arith; lines = omega arith }
-
 -- a take, where those that are nearer get everything: less is held, or less is owed
 nearer : (s : ServerState) (c : ℕ) → ((t : ServerState) → length (held c t) < length (held c s) → GetsEverything c t)
     → ((t : ServerState) → length (held c t) ≤ length (held c s) → length (owed c t) < length (owed c s) → GetsEverything c t) → GetsEverything c s
-nearer s c less_held less_owed = nearer_by is.quiet
-  where
-    t : ServerState
-    t = server_then s c
-
-    is : IsTake s c t (done_then s c)
-    is = one_take s c
-
-    full_or_all : length (owed c t) + length (offered (session c s)) ≤ length (owed c s) → (length (offered (session c s)) < RING_LIMIT) ⊎ (RING_LIMIT ≤ length (offered (session c s))) → GetsEverything c s
-    full_or_all left (inr full) = let few = is.fewer in counted_more s c (inl full) (less_owed t (omega (arith, few)) (omega (arith, left, full)))
-    full_or_all left (inl less) = one_more s c (no_more t c is.ended.stopped (omega (arith, left, less, length-take RING_LIMIT (owed c s)))) (omega arith)
-
-    nearer_by : (length (owed c t) + length (offered (session c s)) ≤ length (owed c s)) ⊎ (1 ≤ length (done_then s c)) → GetsEverything c s
-    nearer_by (inl left) = full_or_all left (cases_lt (length (offered (session c s))) RING_LIMIT)
-    nearer_by (inr one) = let few = is.fewer in counted_more s c (inr one) (less_held t (omega (arith, few, one)))
+nearer s c less_held less_owed =
+    let t : ServerState = server_then s c in
+    let is = one_take s c in
+    let few = is.fewer in
+    elim (take_does s c) [
+      | inl one ↦ counted_more s c (inr one) (less_held t (omega (arith, few, one)))
+      | inr (inl (full, less)) ↦ counted_more s c (inl full) (less_owed t (omega (arith, few)) less)
+      | inr (inr none) ↦ one_more s c (record { events = []; outcomes = []; new = t; run = refl; takes = tt; nothing_owed = none; nothing_left = is.ended.stopped; few = omega arith; lines = omega arith }) (omega arith)
+    ]
 
 -- while no less is held, less is owed
 less_owed : (h : ℕ) (c : ℕ) → ((t : ServerState) → length (held c t) < h → GetsEverything c t) → (w : ℕ) (s : ServerState) → length (held c s) ≤ h → length (owed c s) < w → GetsEverything c s

@@ -1,4 +1,4 @@
-use Rattle.nutcore.proofs.CredentialMarks.{given_before}
+use Rattle.nutcore.proofs.SessionMarks.{given_before}
 use Rattle.nutcore.proofs.laws.credentials_are_given_by_lines.Goals as goal
 
 pub returns : goal.returns

@@ -1,41 +1,26 @@
-use Rattle.nutcore.proofs.Examples.{two_variables, empty_listing, taken_in_four, longest_line, three_lines, escaped_value, faulty_lines, cases_and_faults, not_connected, described, pipelined_get, cut_lines, told_in_pieces}
+use Rattle.std.proofs.Common.{refl}
+use Rattle.nutcore.specs.Server.{with_session_changed}
+use Rattle.nutcore.specs.Lines.{ended_lines, whole_lines, unfinished_after}
+use Rattle.nutcore.specs.Pump.{after_reply, after_line, after_lines, after_all_lines, after_notice, pumped}
+use Rattle.nutcore.specs.Step.{with_input, without_output, opened, after_driver_line, after_driver_text, after_driver_bytes, pumped_until, after_by, outcome_of, wants_driver_memory}
+use Rattle.nutcore.specs.History.{taken_in_event}
 use Rattle.nutcore.proofs.laws.sessions_worked_by_hand.Goals as goal
 
-pub returns-clause-two_variables : goal.returns-clause-two_variables
-returns-clause-two_variables c = two_variables
-
-pub returns-clause-empty_listing : goal.returns-clause-empty_listing
-returns-clause-empty_listing c = empty_listing
-
-pub returns-clause-taken_in_four : goal.returns-clause-taken_in_four
-returns-clause-taken_in_four c = taken_in_four
-
-pub returns-clause-longest_line : goal.returns-clause-longest_line
-returns-clause-longest_line c = longest_line
-
-pub returns-clause-three_lines : goal.returns-clause-three_lines
-returns-clause-three_lines c = three_lines
-
-pub returns-clause-escaped_value : goal.returns-clause-escaped_value
-returns-clause-escaped_value c = escaped_value
-
-pub returns-clause-faulty_lines : goal.returns-clause-faulty_lines
-returns-clause-faulty_lines c = faulty_lines
-
-pub returns-clause-cases_and_faults : goal.returns-clause-cases_and_faults
-returns-clause-cases_and_faults c = cases_and_faults
-
-pub returns-clause-not_connected : goal.returns-clause-not_connected
-returns-clause-not_connected c = not_connected
-
-pub returns-clause-described : goal.returns-clause-described
-returns-clause-described c = described
-
-pub returns-clause-pipelined_get : goal.returns-clause-pipelined_get
-returns-clause-pipelined_get c = pipelined_get
-
-pub returns-clause-cut_lines : goal.returns-clause-cut_lines
-returns-clause-cut_lines c = cut_lines
-
-pub returns-clause-told_in_pieces : goal.returns-clause-told_in_pieces
-returns-clause-told_in_pieces c = told_in_pieces
+-- they are computed from the definitions
+pub returns : goal.returns
+unfolding with_session_changed ended_lines whole_lines unfinished_after after_driver_line after_driver_text after_reply after_line after_lines after_all_lines after_notice pumped with_input without_output opened after_driver_bytes pumped_until after_by outcome_of taken_in_event wants_driver_memory
+returns c = record {
+  two_variables = refl;
+  empty_listing = refl;
+  taken_in_four = record { first = refl; second = refl; third = refl; fourth = refl; all = refl; too_much = refl; still_owed = refl };
+  three_lines = record { answers = refl; nothing_held = refl };
+  longest_line = record { line = refl; fed = refl; refused = refl; told = refl; nothing_held = refl; ends = refl };
+  escaped_value = refl;
+  faulty_lines = record { counted = refl; type_words = refl; enum_values = refl; one_enum_value = refl; one_command = refl; one_to_set = refl };
+  cases_and_faults = record { small = refl; another_ups = refl; quote_inside = refl; too_few = refl; blank_lines = refl; no_answer = refl };
+  not_connected = record { upses = refl; ups = refl; variable = refl; encryption = refl; version = refl };
+  described = record { upses = refl; variable = refl };
+  pipelined_get = record { listed = refl; held_back = refl; told_behind = refl };
+  cut_lines = record { lines = refl; rest = refl; empty_line = refl; longest = refl; too_late = refl; still_open = refl; too_long = refl };
+  told_in_pieces = record { first = refl; second = refl; refused = refl; lost = refl; out_of_memory = refl; may_lack = refl; changes_nothing = refl; no_line = refl };
+}

@@ -3,19 +3,17 @@ use Rattle.nutcore.specs.declared.event.Fault.{Fault}
 use Rattle.nutcore.specs.Calls.{done}
 use Rattle.nutcore.specs.Headline.{Serves}
 use Rattle.std.proofs.Common.{◌≡◌, ◌∙◌, ap, Result, Err, refl, sym, List, subst, arith}
-use Rattle.nutcore.specs.Session.{SessionState}
+use Rattle.nutcore.specs.Session.{SessionState, without}
 use Rattle.nutcore.specs.Server.{ServerState}
 use Rattle.nutcore.specs.Promises.{IsAt}
 use Rattle.nutcore.specs.contracts.server.Server.{the_view}
-use Rattle.nutcore.specs.Session.{without}
 use Rattle.nutcore.proofs.Sound.{sound_closed}
 use Rattle.nutcore.specs.Sound.{IsSound}
 use Rattle.nutcore.specs.declared.event.Event.TheVariants.{Close}
 use Rattle.nutcore.specs.declared.event.Outcome.TheVariants.{Done}
 use Rattle.nutcore.proofs.Serving.{at_found, left_out}
 use Rattle.nutcore.proofs.EventSteps.{close_absent, close_present, step_from}
-use Rattle.nutcore.proofs.Runs.{served_from}
-use Rattle.nutcore.proofs.Runs.{state_is}
+use Rattle.nutcore.proofs.Runs.{served_from, state_is}
 use Rattle.nutcore.proofs.server.Server.close.Goals as goal
 
 pub returns-in_err-place-clause-served : goal.returns-in_err-place-clause-served

@@ -11,7 +11,7 @@ use Rattle.nutcore.specs.Cost.{RunningServer}
 use Rattle.nutcore.specs.Promises.{KeepsCount, change_in, text_with}
 use Rattle.nutcore.specs.contracts.server.Server.{the_view}
 use Rattle.nutcore.proofs.Runs.{state_is}
-use Rattle.nutcore.proofs.Serving.{StandsAt, stands, goes, next_of_found, change_told, line_is}
+use Rattle.nutcore.proofs.Serving.{StandsAt, stands, has_next, next_of_found, change_told, line_is}
 use Rattle.nutcore.proofs.KeptSound.{session_kept, answered_kept}
 use Rattle.nutcore.proofs.OrderFits.{order_fits}
 use Rattle.nutcore.proofs.Costs.{cost_kept}
@@ -30,7 +30,7 @@ answer-requires-clause-going c =
     let x : SessionState = c.index_mut-session.result.now in
     let is : v ≡ t = state_is c.self.view_is ∙ c.change_upses.ensures.changed in
     let here : StandsAt v c.args.c c.args.place x = stands c.args.c c.args.place v t x is c.requires.at c.index_mut-session.ensures.value in
-    goes s c.args.c x (ap (session c.args.c) (sym is) ∙ here.found) c.requires.next
+    has_next s c.args.c x (ap (session c.args.c) (sym is) ∙ here.found) ∙ c.requires.next
 
 pub invariant_of-self : goal.invariant_of-self
 invariant_of-self c =
@@ -40,7 +40,7 @@ invariant_of-self c =
     let x : SessionState = c.index_mut-session.result.now in
     let is : v ≡ t = state_is c.self.view_is ∙ c.change_upses.ensures.changed in
     let here : StandsAt v c.args.c c.args.place x = stands c.args.c c.args.place v t x is c.requires.at c.index_mut-session.ensures.value in
-    let going : is_some (next_line x) ≡ true = goes s c.args.c x (ap (session c.args.c) (sym is) ∙ here.found) c.requires.next in
+    let going : is_some (next_line x) ≡ true = has_next s c.args.c x (ap (session c.args.c) (sym is) ∙ here.found) ∙ c.requires.next in
     record {
       sound = session_kept v c.args.c c.args.place x c.answer.new.self here.at here.found c.answer.ensures.id
           (answered_kept (change_in c.in_ok-reply.reply) (text_with c.list_clients.new.clients c.in_ok-reply.reply) x c.answer.new.self going c.answer.ensures.answered)
@@ -48,8 +48,8 @@ invariant_of-self c =
       room = c.self.invariant.room;
     }
 
-pub returns-clause-ok : goal.returns-clause-ok
-returns-clause-ok c =
+pub returns : goal.returns
+returns c =
     let s : ServerState = c.args.self.now.state in
     let t : ServerState = record s { upses = changed_upses (change_in c.in_ok-reply.reply) s.upses } in
     let v : ServerState = (the_view c.self.inside).state in
@@ -58,20 +58,15 @@ returns-clause-ok c =
     let here : StandsAt v c.args.c c.args.place x = stands c.args.c c.args.place v t x is c.requires.at c.index_mut-session.ensures.value in
     let line : List ℕ = c.in_ok-reply.ensures.next.0 in
     let next : next_line x ≡ Some line = next_of_found s c.args.c x line (ap (session c.args.c) (sym is) ∙ here.found) c.in_ok-reply.ensures.next.1 in
-    line_is s v c.args.c c.args.place line c.in_ok-reply.reply c.list_clients.new.clients x c.answer.new.self
-    c.in_ok-reply.ensures.next.1 c.in_ok-reply.ensures.next.2 c.list_clients.ensures is here (c.answer.ensures.answered line next)
-
-pub returns-clause-keeps : goal.returns-clause-keeps
-returns-clause-keeps c =
-    let s : ServerState = c.args.self.now.state in
-    let t : ServerState = record s { upses = changed_upses (change_in c.in_ok-reply.reply) s.upses } in
-    let v : ServerState = (the_view c.self.inside).state in
-    let x : SessionState = c.index_mut-session.result.now in
-    let is : v ≡ t = state_is c.self.view_is ∙ c.change_upses.ensures.changed in
-    let here : StandsAt v c.args.c c.args.place x = stands c.args.c c.args.place v t x is c.requires.at c.index_mut-session.ensures.value in
     let after : ServerState = record v { sessions = set v.sessions c.args.place c.answer.new.self } in
     let made = c.answer.new.scratch.renders in
-    subst (λ (k : Cost). KeepsCount (owed c.args.c s) k.rendered (owed c.args.c after) made) c.change_upses.ensures.cost
-    (subst (λ (z : ServerState). KeepsCount (owed c.args.c z) c.change_upses.new.self.cost.rendered (owed c.args.c after) made) c.change_upses.ensures.changed
-    (subst (λ (z : RunningServer). KeepsCount (owed c.args.c z.state) z.cost.rendered (owed c.args.c after) made) c.self.view_is
-    (cost_kept v c.args.c c.args.place x c.answer.new.self _ _ here.at here.found c.answer.ensures.id c.answer.ensures.keeps)))
+    record {
+      ok = line_is s v c.args.c c.args.place line c.in_ok-reply.reply c.list_clients.new.clients x c.answer.new.self
+          c.in_ok-reply.ensures.next.1 c.in_ok-reply.ensures.next.2 c.list_clients.ensures is here (c.answer.ensures.answered line next);
+      err = tt;
+      memory = tt;
+      keeps = subst (λ (k : Cost). KeepsCount (owed c.args.c s) k.rendered (owed c.args.c after) made) c.change_upses.ensures.cost
+          (subst (λ (z : ServerState). KeepsCount (owed c.args.c z) c.change_upses.new.self.cost.rendered (owed c.args.c after) made) c.change_upses.ensures.changed
+          (subst (λ (z : RunningServer). KeepsCount (owed c.args.c z.state) z.cost.rendered (owed c.args.c after) made) c.self.view_is
+          (cost_kept v c.args.c c.args.place x c.answer.new.self _ _ here.at here.found c.answer.ensures.id c.answer.ensures.keeps)));
+    }

@@ -9,7 +9,7 @@ use Rattle.nutcore.specs.Promises.{IsLineOrNone}
 use Rattle.nutcore.specs.Pump.{next_line}
 use Rattle.nutcore.specs.Reply.{asker_of}
 use Rattle.nutcore.specs.contracts.server.Server.{the_view}
-use Rattle.nutcore.proofs.Serving.{found_in, goes, some_alike, some_read, replies_text, replies_as}
+use Rattle.nutcore.proofs.Serving.{found_in, has_next, some_alike, some_read, replies_text, replies_as}
 use Rattle.nutcore.proofs.Runs.{state_is}
 use Rattle.nutcore.proofs.server.Server.next_reply.Goals as goal
 
@@ -17,7 +17,7 @@ pub unwrap-line-requires : goal.unwrap-line-requires
 unwrap-line-requires c =
     let x : SessionState = c.index-session.result.now in
     let found : session c.args.c c.args.self.now.state ≡ Some x = found_in c.args.c c.args.place (the_view c.self.inside).state c.args.self.now.state x (state_is c.self.view_is) c.requires.at c.index-session.ensures in
-    some_alike c.next_line.result (next_line x) (λ line. line.now) c.next_line.ensures.line ∙ goes c.args.self.now.state c.args.c x found c.requires.next
+    some_alike c.next_line.result (next_line x) (λ line. line.now) c.next_line.ensures.line ∙ has_next c.args.self.now.state c.args.c x found ∙ c.requires.next
 
 pub returns-in-Err : goal.returns-in-Err
 returns-in-Err c =

@@ -1,5 +1,5 @@
 use Rattle.std.proofs.Common.{◌≡◌, ◌+◌, ◌<◌, ◌≤◌, ◌∙◌, ◌++◌, ◌∷◌, [], true, false, refl, ap, subst, length, arith}
-use Rattle.nutcore.specs.Session.{SessionState}
+use Rattle.nutcore.specs.Session.{SessionState, IdsRise}
 use Rattle.nutcore.specs.Server.{ServerState}
 use Rattle.nutcore.specs.contracts.server.Server.{the_view}
 use Rattle.nutcore.specs.declared.event.Event.TheVariants.{Open}
@@ -7,13 +7,14 @@ use Rattle.nutcore.specs.declared.event.Outcome.TheVariants.{Opened, Refused}
 use Rattle.nutcore.specs.declared.event.Fault.TheVariants.{Memory, TooManyClients}
 use Rattle.nutcore.specs.Step.{may_open}
 use Rattle.std.proofs.lemmas.Bool.{lt-ltb, le-ltb, and_left, and_right, and_from}
-use Rattle.nutcore.specs.Session.{IdsRise}
-use Rattle.nutcore.proofs.Runs.{served_from, lawful}
+use Rattle.nutcore.proofs.Runs.{served_from, lawful, state_is}
 use Rattle.nutcore.proofs.server.Server.open.Goals.{then-len-ge-SESSION_LIMIT-via-then-len-ge-SESSION_LIMIT, then-len-ge-SESSION_LIMIT-via-else-len-ge-SESSION_LIMIT+then-self}
 use Rattle.nutcore.proofs.Sound.{sound_opening}
 use Rattle.nutcore.proofs.EventSteps.{open_full, open_refused, open_done, step_from}
-use Rattle.nutcore.proofs.Runs.{state_is}
 use Rattle.nutcore.proofs.server.Server.open.Goals as goal
+
+may_be_opened : (v : ServerState) → length v.sessions < 64 → v.next_id < 18446744073709551616 → may_open v ≡ true
+may_be_opened v some low = and_from _ _ (lt-ltb _ _ some) (lt-ltb _ _ low)
 
 pub returns-then-len-ge-SESSION_LIMIT-clause-served : goal.returns-then-len-ge-SESSION_LIMIT-clause-served
 returns-then-len-ge-SESSION_LIMIT-clause-served c =
@@ -27,18 +28,14 @@ returns-then-len-ge-SESSION_LIMIT-clause-served c =
 pub returns-in_default-clause-served : goal.returns-in_default-clause-served
 returns-in_default-clause-served c =
     let v : ServerState = (the_view c.self.inside).state in
-    let some : length v.sessions < 64 = omega arith in
-    let low : v.next_id < 18446744073709551616 = omega arith in
-    let may : may_open v ≡ true = and_from _ _ (lt-ltb _ _ some) (lt-ltb _ _ low) in
+    let may = may_be_opened v (omega arith) (omega arith) in
     served_from _ _ _ _ _ c.forget_cost.ensures.state (lawful c.forget_cost.new.self.state (subst (λ (z : ServerState). IdsRise 1 z.next_id z.sessions) (state_is c.self.view_is) c.self.invariant.sound.ids)) (step_from v c.forget_cost.new.self.state v c.forget_cost.new.self.state (Open c.args.address) (Refused (Memory 0)) (state_is c.self.view_is) (state_is c.self.view_is) (open_refused v c.args.address may))
 
 pub invariant_of-self : goal.invariant_of-self
 invariant_of-self c =
     let more : c.push.new.self.items ≡ c.self.inside.sessions.items ++ c.in-Ok.session ∷ [] = rw c.unwrap.ensures at c.push.ensures.items in
     let v : ServerState = (the_view c.self.inside).state in
-    let some : length v.sessions < 64 = omega arith in
-    let low : v.next_id < 18446744073709551616 = omega arith in
-    let may : may_open v ≡ true = and_from _ _ (lt-ltb _ _ some) (lt-ltb _ _ low) in
+    let may = may_be_opened v (omega arith) (omega arith) in
     record {
       sound = sound_opening v _ c.args.address v.next_id (open_done v c.args.address c.push.new.self.items may (more ∙ ap (λ (x : SessionState). c.self.inside.sessions.items ++ x ∷ []) c.in-Ok.ensures)) c.self.invariant.sound;
       room = omega (arith, c.push.ensures.capacity, c.self.invariant.room);
@@ -47,9 +44,7 @@ invariant_of-self c =
 pub returns-clause-served : goal.returns-clause-served
 returns-clause-served c =
     let v : ServerState = (the_view c.self.inside).state in
-    let some : length v.sessions < 64 = omega arith in
-    let low : v.next_id < 18446744073709551616 = omega arith in
-    let may : may_open v ≡ true = and_from _ _ (lt-ltb _ _ some) (lt-ltb _ _ low) in
+    let may = may_be_opened v (omega arith) (omega arith) in
     let more : c.push.new.self.items ≡ c.self.inside.sessions.items ++ c.in-Ok.session ∷ [] = rw c.unwrap.ensures at c.push.ensures.items in
     let t : ServerState = record v { sessions = c.push.new.self.items; next_id = v.next_id + 1 } in
     served_from _ _ _ _ _ c.forget_cost.ensures.state (lawful c.forget_cost.new.self.state (subst (λ (z : ServerState). IdsRise 1 z.next_id z.sessions) (state_is c.self.view_is) c.self.invariant.sound.ids)) (step_from v c.forget_cost.new.self.state t t (Open c.args.address) (Opened v.next_id) (state_is c.self.view_is) refl

@@ -11,8 +11,9 @@ use Rattle.nutcore.specs.contracts.server.Server.{the_view}
 use Rattle.nutcore.proofs.Runs.{state_is}
 use Rattle.nutcore.proofs.Loops.{line_shortens}
 use Rattle.nutcore.proofs.Costs.{cost_kept}
+use Rattle.nutcore.proofs.Found.{find_id}
 use Rattle.nutcore.proofs.KeptSound.{session_kept, noticed_kept}
-use Rattle.nutcore.proofs.Serving.{begins, goes_on, ok_when, err_when, some_there, none_there, some_alike, found_in, StandsAt, stands, has_next, notice_is, at_line, pump_gives, refused}
+use Rattle.nutcore.proofs.Serving.{begins, goes_on, ok_when, err_when, some_there, none_there, has_line, StandsAt, stands, at_set, notice_is, at_line, pump_gives, refused}
 use Rattle.nutcore.proofs.server.Server.pump.Goals as goal
 
 pub loop-self-init : goal.loop-self-init
@@ -25,27 +26,20 @@ loop-self-init c = record {
 
 pub execute-requires-clause-next : goal.execute-requires-clause-next
 execute-requires-clause-next c =
-    let x : SessionState = c.index.result.now in
-    let t : ServerState = c.loop-self.self.state in
-    let found : session c.args.c t ≡ Some x = found_in c.args.c c.args.place (the_view c.self.inside).state t x (state_is c.self.view_is) c.loop-self.invariant.at c.index.ensures in
-    sym (has_next t c.args.c x found) ∙ sym (some_alike c.next_line.result (next_line x) (λ line. line.now) c.next_line.ensures.line) ∙ sym c.is_some.ensures ∙ c.loop-self-test.true
+    sym (has_line c.args.c c.args.place (the_view c.self.inside).state c.loop-self.self.state c.index.result.now c.next_line.result (λ line. line.now) c.is_some.result (state_is c.self.view_is) c.loop-self.invariant.at c.index.ensures c.next_line.ensures.line c.is_some.ensures) ∙ c.loop-self-test.true
 
 pub loop-self-smaller : goal.loop-self-smaller
 loop-self-smaller c =
-    let x : SessionState = c.index.result.now in
     let t : ServerState = c.loop-self.self.state in
-    let found : session c.args.c t ≡ Some x = found_in c.args.c c.args.place (the_view c.self.inside).state t x (state_is c.self.view_is) c.loop-self.invariant.at c.index.ensures in
-    let has : c.is_some.result ≡ is_some (next_line_for t c.args.c) = c.is_some.ensures ∙ some_alike c.next_line.result (next_line x) (λ line. line.now) c.next_line.ensures.line ∙ has_next t c.args.c x found in
+    let has = has_line c.args.c c.args.place (the_view c.self.inside).state t c.index.result.now c.next_line.result (λ line. line.now) c.is_some.result (state_is c.self.view_is) c.loop-self.invariant.at c.index.ensures c.next_line.ensures.line c.is_some.ensures in
     let there = some_there (next_line_for t c.args.c) (sym has ∙ c.loop-self-test.true) in
     let e : c.execute.new.self.state ≡ after_line t c.args.c = ok_when c.execute.result _ (sym c.is_err.ensures.value ∙ c.if-is_err.false) c.execute.ensures.ok in
     subst (λ (z : ServerState). length (held_of (session c.args.c z)) < length (held_of (session c.args.c t))) (sym e) (line_shortens t c.args.c there.0 there.1)
 
 pub loop-self-preserved : goal.loop-self-preserved
 loop-self-preserved c =
-    let x : SessionState = c.index.result.now in
     let t : ServerState = c.loop-self.self.state in
-    let found : session c.args.c t ≡ Some x = found_in c.args.c c.args.place (the_view c.self.inside).state t x (state_is c.self.view_is) c.loop-self.invariant.at c.index.ensures in
-    let has : c.is_some.result ≡ is_some (next_line_for t c.args.c) = c.is_some.ensures ∙ some_alike c.next_line.result (next_line x) (λ line. line.now) c.next_line.ensures.line ∙ has_next t c.args.c x found in
+    let has = has_line c.args.c c.args.place (the_view c.self.inside).state t c.index.result.now c.next_line.result (λ line. line.now) c.is_some.result (state_is c.self.view_is) c.loop-self.invariant.at c.index.ensures c.next_line.ensures.line c.is_some.ensures in
     let there = some_there (next_line_for t c.args.c) (sym has ∙ c.loop-self-test.true) in
     let e : c.execute.new.self.state ≡ after_line t c.args.c = ok_when c.execute.result _ (sym c.is_err.ensures.value ∙ c.if-is_err.false) c.execute.ensures.ok in
     let less : length (held_of (session c.args.c c.execute.new.self.state)) < length (held_of (session c.args.c t)) = subst (λ (z : ServerState). length (held_of (session c.args.c z)) < length (held_of (session c.args.c t))) (sym e) (line_shortens t c.args.c there.0 there.1) in
@@ -66,37 +60,34 @@ invariant_of-self c =
       room = c.self-2.invariant.room;
     }
 
-pub returns-then-is_err-clause-gives : goal.returns-then-is_err-clause-gives
-returns-then-is_err-clause-gives c =
+pub returns-then-is_err : goal.returns-then-is_err
+returns-then-is_err c =
     let failed = sym c.is_err.ensures.value ∙ c.if-is_err.true in
-    refused c.args.self.now.state c.loop-self.self.state c.execute.new.self.state c.args.c c.loop-self.done c.loop-self.invariant.done (err_when c.execute.result _ failed c.execute.ensures.memory) (err_when c.execute.result _ failed c.execute.ensures.err)
+    let same = err_when c.execute.result _ failed c.execute.ensures.err in
+    record {
+      gives = refused c.args.self.now.state c.loop-self.self.state c.execute.new.self.state c.args.c c.loop-self.done c.loop-self.invariant.done (err_when c.execute.result _ failed c.execute.ensures.memory) same;
+      keeps = λ kept counted. c.execute.ensures.keeps kept (c.loop-self.invariant.keeps kept counted);
+      at = subst (λ (z : ServerState). IsAt c.args.c c.args.place z.sessions) (sym same) c.loop-self.invariant.at;
+    }
 
-pub returns-then-is_err-clause-keeps : goal.returns-then-is_err-clause-keeps
-returns-then-is_err-clause-keeps c = λ kept counted. c.execute.ensures.keeps kept (c.loop-self.invariant.keeps kept counted)
-
-pub returns-clause-gives : goal.returns-clause-gives
-returns-clause-gives c =
+pub returns : goal.returns
+returns c =
     let t : ServerState = c.loop-self.self.state in
     let v : ServerState = (the_view c.self-2.inside).state in
     let x : SessionState = c.index_mut-session.result.now in
     let y : SessionState = c.refuse_overlong.new.self in
-    let before : session c.args.c t ≡ Some c.index.result.now = found_in c.args.c c.args.place (the_view c.self.inside).state t c.index.result.now (state_is c.self.view_is) c.loop-self.invariant.at c.index.ensures in
-    let has : c.is_some.result ≡ is_some (next_line_for t c.args.c) = c.is_some.ensures ∙ some_alike c.next_line.result (next_line c.index.result.now) (λ line. line.now) c.next_line.ensures.line ∙ has_next t c.args.c c.index.result.now before in
+    let has = has_line c.args.c c.args.place (the_view c.self.inside).state t c.index.result.now c.next_line.result (λ line. line.now) c.is_some.result (state_is c.self.view_is) c.loop-self.invariant.at c.index.ensures c.next_line.ensures.line c.is_some.ensures in
     let none : next_line_for t c.args.c ≡ None = none_there (next_line_for t c.args.c) (sym has ∙ c.loop-self-test.false) in
     let le : c.loop-self.done ≤ length (held_of (session c.args.c c.args.self.now.state)) = omega (arith, c.loop-self.invariant.rest) in
     let here : StandsAt v c.args.c c.args.place x = stands c.args.c c.args.place v t x (state_is c.self-2.view_is) c.loop-self.invariant.at c.index_mut-session.ensures.value in
     let found : session c.args.c t ≡ Some x = ap (session c.args.c) (sym (state_is c.self-2.view_is)) ∙ here.found in
     let noticed = notice_is v c.args.c c.args.place x y here.at here.found c.refuse_overlong.ensures.noticed ∙ ap (λ (z : ServerState). after_notice z c.args.c) (state_is c.self-2.view_is) in
-    pump_gives c.args.self.now.state t _ c.args.c c.loop-self.done c.refuse_overlong.result c.loop-self.invariant.done le none noticed
-    (c.refuse_overlong.ensures.overlong ∙ sym (ap (λ (o : Option SessionState). refused_overlong (option_map_or holds_overlong o false)) found))
-
-pub returns-clause-keeps : goal.returns-clause-keeps
-returns-clause-keeps c =
-    let v : ServerState = (the_view c.self-2.inside).state in
-    let x : SessionState = c.index_mut-session.result.now in
-    let y : SessionState = c.refuse_overlong.new.self in
-    let here : StandsAt v c.args.c c.args.place x = stands c.args.c c.args.place v c.loop-self.self.state x (state_is c.self-2.view_is) c.loop-self.invariant.at c.index_mut-session.ensures.value in
-    let t : ServerState = record v { sessions = set v.sessions c.args.place y } in
-    let keeps = subst (λ (z : RunningServer). KeepsCount (owed c.args.c z.state) z.cost.rendered (owed c.args.c t) c.refuse_overlong.new.scratch.renders) c.self-2.view_is
+    let u : ServerState = record v { sessions = set v.sessions c.args.place y } in
+    let keeps = subst (λ (z : RunningServer). KeepsCount (owed c.args.c z.state) z.cost.rendered (owed c.args.c u) c.refuse_overlong.new.scratch.renders) c.self-2.view_is
     (cost_kept v c.args.c c.args.place x y _ _ here.at here.found c.refuse_overlong.ensures.id c.refuse_overlong.ensures.keeps) in
-    λ kept counted. keeps kept (c.loop-self.invariant.keeps kept counted)
+    record {
+      gives = pump_gives c.args.self.now.state t _ c.args.c c.loop-self.done c.refuse_overlong.result c.loop-self.invariant.done le none noticed
+          (c.refuse_overlong.ensures.overlong ∙ sym (ap (λ (o : Option SessionState). refused_overlong (option_map_or holds_overlong o false)) found));
+      keeps = λ kept counted. keeps kept (c.loop-self.invariant.keeps kept counted);
+      at = at_set c.args.c c.args.place v.sessions y here.at (c.refuse_overlong.ensures.id ∙ find_id c.args.c v.sessions x here.found);
+    }

@@ -1,5 +1,6 @@
 use Rattle.std.proofs.Common.{◌≡◌, ◌+◌, ◌<◌, ◌≤◌, ◌∙◌, ℕ, Bool, true, false, List, refl, sym, ap, arith, length, take, cond, get_or, length-take}
 use Rattle.std.specs.Prelude.{count_by}
+use Rattle.std.proofs.lemmas.Bool.{cond_both}
 use Rattle.std.proofs.lemmas.List.{take_all}
 use Rattle.std.proofs.lemmas.List.Sums.{count_by-le-length}
 use Rattle.nutcore.specs.Session.{SessionState}
@@ -7,8 +8,7 @@ use Rattle.nutcore.proofs.LoginCount.{is_in, count_more, count_seen}
 use Rattle.nutcore.proofs.server.view.login_count.Goals as goal
 
 at_most_one : (b : Bool) → cond b 1 0 ≤ 1
-at_most_one true = omega arith
-at_most_one false = omega arith
+at_most_one b = cond_both b 1 0 (λ k. k ≤ 1) (λ yes. omega arith) (λ no. omega arith)
 
 pub loop-session-init : goal.loop-session-init
 loop-session-init c = refl
