@@ -13,10 +13,8 @@ use Rattle.nutlisting.specs.declared.outbox.TheConstants.{OWED_LIMIT}
 use Rattle.nutlisting.specs.declared.ring.TheConstants.{RING_LIMIT}
 use Rattle.nutlisting.proofs.PublicLaws.{lines_add_up, begun_lines_are_ended, lines_are_the_text, what_is_offered_is_the_ring}
 use Rattle.nutcore.specs.declared.cost.Cost.{Cost}
-use Rattle.nutcore.specs.declared.event.Event.{Event}
+use Rattle.nutcore.proofs.Common.{Event, SessionState, ServerState, session}
 use Rattle.nutcore.specs.declared.event.Event.TheVariants.{Feed, Took}
-use Rattle.nutcore.specs.Session.{SessionState}
-use Rattle.nutcore.specs.Server.{ServerState, session}
 use Rattle.nutcore.specs.declared.TheConstants.{HELD_LIMIT}
 use Rattle.nutcore.specs.Pump.{held_of, owed_of}
 use Rattle.nutcore.specs.Step.{offered, may_take}

@@ -3,12 +3,9 @@ use Rattle.std.proofs.Common.{◌≡◌, ℕ, zero, suc, ◌+◌, Bool, true, fa
 use Rattle.std.specs.Prelude.{All}
 use Rattle.std.proofs.lemmas.Bool.{cond_both}
 use Rattle.std.proofs.lemmas.List.Elements.{All-nil, All-cons, All-append, All-weaker}
-use Rattle.nutcore.specs.declared.event.Event.{Event}
-use Rattle.nutcore.specs.declared.event.Outcome.{Outcome}
-use Rattle.nutcore.specs.Server.{ServerState, session}
+use Rattle.nutcore.proofs.Common.{Event, Outcome, ServerState, session, Step, after, Run}
 use Rattle.nutcore.specs.Pump.{next_line_for, after_line, after_lines, is_overlong, after_all_lines}
-use Rattle.nutcore.specs.Step.{Step, after, refused_after, may_take, with_input, without_output}
-use Rattle.nutcore.specs.Run.{Run}
+use Rattle.nutcore.specs.Step.{refused_after, may_take, with_input, without_output}
 use Rattle.nutcore.specs.History.{Execution, of_line, of_notice, next_execution, lines_executed, pump_executions, executions_until, executions_by, executions}
 use Rattle.nutcore.specs.Headline.{IsInPump, IsInEvent, IsTimely, EachAnswerIsTimely}
 use Rattle.nutcore.proofs.Events.{of_event}

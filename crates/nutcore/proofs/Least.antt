@@ -8,11 +8,10 @@ use Rattle.nutcore.specs.declared.event.Event.TheVariants.{Feed, Took}
 use Rattle.nutcore.specs.declared.event.Outcome.TheVariants.{Done, Fed, Refused}
 use Rattle.nutcore.specs.declared.event.Fault.TheVariants.{TookTooMuch, LineTooLong, Memory}
 use Rattle.nutcore.specs.Lines.{first_line}
-use Rattle.nutcore.specs.Session.{SessionState}
-use Rattle.nutcore.specs.Server.{ServerState, session}
+use Rattle.nutcore.proofs.Common.{SessionState, ServerState, session, Step}
 use Rattle.nutcore.specs.Reply.{reply}
 use Rattle.nutcore.specs.Pump.{next_line, next_line_for, after_line, after_lines, pump_stops, held_of, owed_of, pumped, after_notice, after_all_lines, is_overlong, holds_overlong, notified, answered}
-use Rattle.nutcore.specs.Step.{Step, with_input, without_output, may_take, took_by, outcome_of, after_by, pumped_until}
+use Rattle.nutcore.specs.Step.{with_input, without_output, may_take, took_by, outcome_of, after_by, pumped_until}
 use Rattle.nutcore.specs.Headline.{IsLeast, NothingIsLeftToExecute, OneAnswerAtMostIsOwedAbove}
 use Rattle.nutcore.proofs.Changes.{keeps}
 use Rattle.nutcore.proofs.Changed.{session_changed}

@@ -7,9 +7,8 @@ use Rattle.std.proofs.lemmas.List.{map-append}
 use Rattle.std.proofs.lemmas.List.Elements.{filter_more}
 use Rattle.std.proofs.lemmas.Grind.{common_steps}
 use Rattle.std.proofs.lemmas.List.Sums.{count_by_more_yes, count_by_more_no, length-filter}
-use Rattle.nutusers.specs.declared.ups_list.UpsId.{UpsId}
+use Rattle.nutcore.proofs.Common.{UpsId, SessionState, ServerState}
 use Rattle.nutanswer.specs.View.{ClientSeen, is_logged_in, login_count, addresses_at}
-use Rattle.nutcore.specs.Session.{SessionState}
 use Rattle.std.specs.Fmt.{decimal}
 use Rattle.std.specs.Option.{ok_or}
 use Rattle.nutwords.specs.Frame.{frame, line_of as text_line}
@@ -18,7 +17,6 @@ use Rattle.nutanswer.specs.declared.err_word.ErrWord.{ErrWord}
 use Rattle.nutanswer.specs.declared.err_word.ErrWord.TheVariants.{UnknownUps}
 use Rattle.nutanswer.specs.Checks.{◌>>=◌, KnownUps, ups_named, unknown_ups}
 use Rattle.nutanswer.specs.Answer.{Answer, told, count_of_logins, listing_of_clients, text_of_answer}
-use Rattle.nutcore.specs.Server.{ServerState}
 use Rattle.nutcore.specs.ByRight.{WhatIsCountedIsWhoIsThere, logged_in}
 use Rattle.nutcore.specs.Reply.{seen, seen_client, text_to}
 

@@ -1,11 +1,8 @@
 -- What lines alone bring about, one of the lines that a run executed brought about.
 use Rattle.std.proofs.Common.{◌≡◌, ℕ, List, [], ◌∷◌, ◌++◌, Option, Some, refl, sym, ◌∙◌, ap, subst, append_assoc, append-nil}
-use Rattle.nutcore.specs.declared.event.Event.{Event}
-use Rattle.nutcore.specs.declared.event.Outcome.{Outcome}
-use Rattle.nutcore.specs.Server.{ServerState, with_session_changed}
+use Rattle.nutcore.proofs.Common.{Event, Outcome, ServerState, with_session_changed, Run}
 use Rattle.nutcore.specs.Pump.{next_line_for, after_line, notified}
 use Rattle.nutcore.specs.Step.{after_by, with_input, without_output}
-use Rattle.nutcore.specs.Run.{Run}
 use Rattle.nutcore.specs.History.{Execution, of_line, of_notice, executions}
 use Rattle.nutcore.specs.ByRight.{IsAmong}
 use Rattle.nutcore.proofs.Events.{IsPlain}

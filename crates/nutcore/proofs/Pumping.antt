@@ -3,12 +3,11 @@ use Rattle.std.proofs.Common.{◌≡◌, ◌≢◌, ℕ, Bool, true, false, List
 use Rattle.std.specs.Prelude.{◌||◌, option_map, option_and_then}
 use Rattle.std.specs.Option.{option_map_or}
 use Rattle.std.proofs.lemmas.Bool.{or_parts, cond-true, cond-false}
-use Rattle.nutanswer.specs.declared.reply.Change.{Change}
+use Rattle.nutcore.proofs.Common.{Change, SessionState, ServerState, session, with_session, with_session_changed}
 use Rattle.nutanswer.specs.Command.{read_command}
 use Rattle.nutlisting.specs.declared.outbox.TheConstants.{OWED_LIMIT}
 use Rattle.nutcore.specs.Lines.{first_line}
-use Rattle.nutcore.specs.Session.{SessionState, find, put}
-use Rattle.nutcore.specs.Server.{ServerState, session, with_session, with_session_changed}
+use Rattle.nutcore.specs.Session.{find, put}
 use Rattle.nutcore.specs.Reply.{reply, change_by, changed, changed_session, changed_upses}
 use Rattle.nutcore.specs.Pump.{next_line, next_line_for, answered, after_reply, after_line, after_notice, is_overlong, holds_overlong, notified, with_notice}
 use Rattle.nutcore.specs.History.{Execution, of_notice, notice}

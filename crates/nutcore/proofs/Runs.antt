@@ -1,13 +1,9 @@
 -- Runs, one event after another.
 use Rattle.std.proofs.Common.{◌≡◌, ℕ, ◌<◌, List, [], ◌∷◌, ◌++◌, ◌∙◌, refl, ap, subst, Option, Some, None, true}
 use Rattle.std.specs.Prelude.{is_some}
-use Rattle.nutcore.specs.declared.event.Event.{Event}
-use Rattle.nutcore.specs.declared.event.Outcome.{Outcome}
-use Rattle.nutcore.specs.Session.{SessionState, IdsRise}
-use Rattle.nutcore.specs.Server.{ServerState, session}
+use Rattle.nutcore.proofs.Common.{Event, Outcome, SessionState, ServerState, session, Step, after, Run}
+use Rattle.nutcore.specs.Session.{IdsRise}
 use Rattle.nutcore.specs.Headline.{IsLawful, Serves}
-use Rattle.nutcore.specs.Step.{Step, after}
-use Rattle.nutcore.specs.Run.{Run}
 use Rattle.nutcore.specs.declared.cost.Cost.{Cost}
 use Rattle.nutcore.specs.Cost.{RunningServer, cost_of, last_cost}
 use Rattle.nutcore.proofs.Places.{rise_lawful}

@@ -3,9 +3,8 @@ use Rattle.std.proofs.Common.{◌≡◌, ℕ, ◌+◌, ◌<◌, ◌≤◌, Bool,
 use Rattle.std.specs.Prelude.{IsTrue, IfOk, OnOk, OnErr, MatchOption, is_err, is_some, is_none, option_and_then}
 use Rattle.std.specs.Option.{option_map_or}
 use Rattle.std.proofs.lemmas.Bool.{le-leb, lt-leb, leb-true, cond-true, cond-false}
-use Rattle.nutcore.specs.Session.{SessionState, find, without, IdsRise, new_session}
-use Rattle.nutcore.specs.Server.{ServerState, session, with_session, with_session_changed}
-use Rattle.nutanswer.specs.declared.reply.Change.{Change}
+use Rattle.nutcore.proofs.Common.{Change, Fault, SessionState, ServerState, session, with_session, with_session_changed}
+use Rattle.nutcore.specs.Session.{find, without, IdsRise, new_session}
 use Rattle.std.specs.declared.alloc.AllocError.{AllocError}
 use Rattle.nutwords.specs.declared.limits.TheConstants.{LINE_LIMIT}
 use Rattle.nutlisting.specs.Lines.{IsWholeLine}
@@ -14,7 +13,6 @@ use Rattle.nutanswer.specs.Answer.{answer_to, IsReply, shares_version, text_of_a
 use Rattle.nutanswer.specs.Command.{read_command}
 use Rattle.nutcore.specs.Reply.{seen, asker, reply, text_to, change_by, changed_session, changed_upses}
 use Rattle.nutcore.specs.Pump.{next_line, next_line_for, answered, after_line, after_lines, pump_stops, held_of, after_all_lines, pumped, after_notice, is_overlong, holds_overlong, notified, with_notice, wants_memory, shares_version_read}
-use Rattle.nutcore.specs.declared.event.Fault.{Fault}
 use Rattle.nutcore.specs.Step.{offered, may_take}
 use Rattle.nutanswer.specs.declared.command.Command.{Command}
 use Rattle.nutanswer.specs.declared.err_word.ErrWord.{ErrWord}

@@ -3,12 +3,10 @@ use Rattle.std.proofs.Common.{◌≡◌, ◌≢◌, ◌⊎◌, ◌∙◌, ℕ, B
 use Rattle.std.specs.Prelude.{option_map}
 use Rattle.std.specs.Option.{option_map_or}
 use Rattle.std.proofs.lemmas.Bool.{both_ways, eqb-true, eq-eqb}
-use Rattle.nutusers.specs.declared.ups_list.UpsId.{UpsId}
-use Rattle.nutanswer.specs.declared.reply.Change.{Change}
+use Rattle.nutcore.proofs.Common.{UpsId, Change, SessionState, ServerState, session, with_session_changed}
 use Rattle.nutanswer.specs.declared.reply.Change.TheVariants as changes
 use Rattle.nutanswer.specs.View.{AskerSeen}
-use Rattle.nutcore.specs.Session.{SessionState, find}
-use Rattle.nutcore.specs.Server.{ServerState, session, with_session_changed}
+use Rattle.nutcore.specs.Session.{find}
 use Rattle.nutcore.specs.Reply.{asker, asker_of, reply, text_to}
 use Rattle.nutcore.specs.Pump.{next_line_for, answered, after_line, notified}
 use Rattle.nutcore.specs.Step.{joined, with_input, taken_from, without_output}

@@ -4,15 +4,12 @@ use Rattle.std.specs.Prelude.{is_some, option_map}
 use Rattle.std.proofs.lemmas.Bool.{cond_both, cond-true, cond-false, ne_eqb, ltb-true, lt-ltb, le-ltb}
 use Rattle.std.proofs.lemmas.Bool.Decides.{nat_tests}
 use Rattle.std.proofs.lemmas.List.{take-append-drop}
-use Rattle.nutcore.specs.declared.event.Event.{Event}
-use Rattle.nutcore.specs.declared.event.Outcome.{Outcome}
+use Rattle.nutcore.proofs.Common.{Event, Outcome, SessionState, ServerState, session, with_session_changed, Run}
 use Rattle.nutcore.specs.Lines.{rest_after, with_lf}
-use Rattle.nutcore.specs.Session.{SessionState, find, without, new_session}
-use Rattle.nutcore.specs.Server.{ServerState, session, with_session_changed}
+use Rattle.nutcore.specs.Session.{find, without, new_session}
 use Rattle.nutcore.specs.Reply.{reply, changed_session, too_long_notice}
 use Rattle.nutcore.specs.Pump.{next_line_for, answered, after_line, is_overlong, notified, owed_of}
 use Rattle.nutcore.specs.Step.{accepted_bytes, joined, with_input, taken_from, without_output, may_take, may_open, pumped_until, opened, after_by}
-use Rattle.nutcore.specs.Run.{Run}
 use Rattle.nutcore.specs.History.{Execution, of_line, of_notice, executions_until, of_client, answers, taken, asked, executed, texts_of, lines_of, text_of, line_of}
 use Rattle.nutcore.specs.Headline.{IsLawful, SentAndOwed, TakenUp}
 use Rattle.nutcore.proofs.FirstLine.{first_line_splits}

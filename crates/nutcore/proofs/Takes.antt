@@ -2,15 +2,12 @@
 use Rattle.std.proofs.Common.{◌≡◌, ◌⊎◌, ℕ, ◌+◌, ◌<◌, ◌≤◌, Bool, true, false, List, [], ◌∷◌, Option, Some, None, refl, sym, ◌∙◌, ap, subst, cond, inl, inr, arith, length, take, length-take}
 use Rattle.std.proofs.lemmas.Bool.{cond_both, cond-true, cases_Bool, cases_lt, le-leb}
 use Rattle.nutlisting.specs.declared.ring.TheConstants.{RING_LIMIT}
-use Rattle.nutcore.specs.declared.event.Event.{Event}
+use Rattle.nutcore.proofs.Common.{Event, Outcome, SessionState, ServerState, session, with_session, after}
 use Rattle.nutcore.specs.declared.event.Event.TheVariants.{Took}
-use Rattle.nutcore.specs.declared.event.Outcome.{Outcome}
 use Rattle.nutcore.specs.declared.event.Outcome.TheVariants.{Done, Refused}
 use Rattle.nutcore.specs.declared.event.Fault.TheVariants.{LineTooLong, TookTooMuch}
-use Rattle.nutcore.specs.Session.{SessionState}
-use Rattle.nutcore.specs.Server.{ServerState, session, with_session}
 use Rattle.nutcore.specs.Pump.{after_lines, after_all_lines, after_notice, pumped, held_of}
-use Rattle.nutcore.specs.Step.{taken_from, without_output, may_take, offered, pumped_until, after_by, after, refused_after, took_by, outcome_of}
+use Rattle.nutcore.specs.Step.{taken_from, without_output, may_take, offered, pumped_until, after_by, refused_after, took_by, outcome_of}
 use Rattle.nutcore.specs.History.{Execution, executions_in_event, of_client, texts_of, taken_in_event, asked_in_event, owed, held}
 use Rattle.nutcore.proofs.Bounded.{event_measured}
 use Rattle.nutcore.proofs.Changed.{by_change, change_absent}

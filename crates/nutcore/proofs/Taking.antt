@@ -1,9 +1,7 @@
 -- A client that takes what it is offered, again and again, gets everything.
 use Rattle.std.proofs.Common.{◌≡◌, ◌⊎◌, ℕ, zero, suc, ◌+◌, ◌/◌, ◌<◌, ◌≤◌, true, List, [], ◌∷◌, ◌++◌, refl, inl, inr, arith, length}
 use Rattle.nutlisting.specs.declared.ring.TheConstants.{RING_LIMIT}
-use Rattle.nutcore.specs.declared.event.Event.{Event}
-use Rattle.nutcore.specs.declared.event.Outcome.{Outcome}
-use Rattle.nutcore.specs.Server.{ServerState, session}
+use Rattle.nutcore.proofs.Common.{Event, Outcome, ServerState, session}
 use Rattle.nutcore.specs.Pump.{pump_stops}
 use Rattle.nutcore.specs.Step.{offered}
 use Rattle.nutcore.specs.History.{Execution, texts_of, executions, executions_in_event, of_client, owed, held}

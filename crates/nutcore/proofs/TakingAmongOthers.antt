@@ -5,14 +5,11 @@ use Rattle.std.specs.List.{filter}
 use Rattle.std.specs.Option.{option_map_or}
 use Rattle.std.proofs.lemmas.Bool.{cond_both, eqb-true, eq-eqb}
 use Rattle.nutlisting.specs.declared.ring.TheConstants.{RING_LIMIT}
-use Rattle.nutcore.specs.declared.event.Event.{Event}
+use Rattle.nutcore.proofs.Common.{Event, Outcome, SessionState, ServerState, session, after, Run}
 use Rattle.nutcore.specs.declared.event.Event.TheVariants.{Feed, Took, Close}
-use Rattle.nutcore.specs.declared.event.Outcome.{Outcome}
-use Rattle.nutcore.specs.Session.{SessionState, find, new_session}
-use Rattle.nutcore.specs.Server.{ServerState, session}
+use Rattle.nutcore.specs.Session.{find, new_session}
 use Rattle.nutcore.specs.Pump.{next_line, pump_stops, held_of, owed_of, holds_overlong}
-use Rattle.nutcore.specs.Step.{with_input, without_output, may_take, offered, after_by, after, refused_after, outcome_of}
-use Rattle.nutcore.specs.Run.{Run}
+use Rattle.nutcore.specs.Step.{with_input, without_output, may_take, offered, after_by, refused_after, outcome_of}
 use Rattle.nutcore.specs.History.{Execution, texts_of, executions_until, executions_by, executions, executions_in_event, of_client, owed}
 use Rattle.nutcore.specs.Isolation.{client_of}
 use Rattle.nutcore.specs.Taking.{IsTakeOfAll, enough_takes, TakesAmongOthers, is_event_of, events_of, IsServed, WhoTakesAmongOthersGetsEverything}

@@ -1,10 +1,9 @@
 use Rattle.std.proofs.lemmas.Result.{err_from_is_err_and}
-use Rattle.nutcore.specs.declared.event.Fault.{Fault}
+use Rattle.nutcore.proofs.Common.{Fault, SessionState, ServerState}
 use Rattle.nutcore.specs.Calls.{done}
 use Rattle.nutcore.specs.Headline.{Serves}
 use Rattle.std.proofs.Common.{◌≡◌, ◌∙◌, ap, Result, Err, refl, sym, List, subst, arith}
-use Rattle.nutcore.specs.Session.{SessionState, without}
-use Rattle.nutcore.specs.Server.{ServerState}
+use Rattle.nutcore.specs.Session.{without}
 use Rattle.nutcore.specs.Promises.{IsAt}
 use Rattle.nutcore.specs.contracts.server.Server.{the_view}
 use Rattle.nutcore.proofs.Sound.{sound_closed}

@@ -1,10 +1,9 @@
 use Rattle.std.proofs.Common.{◌≡◌, ◌∙◌, ◌≤◌, [], Option, Some, None, Ok, refl, sym, ap, subst, inl, inr, arith, length}
 use Rattle.std.specs.Prelude.{option_and_then}
-use Rattle.nutcore.specs.Session.{SessionState}
+use Rattle.nutcore.proofs.Common.{SessionState, ServerState, session}
 use Rattle.nutanswer.specs.declared.command.Command.{Command}
 use Rattle.nutanswer.specs.Command.{read_command}
 use Rattle.nutanswer.proofs.PublicLaws.{error_lines_are_whole}
-use Rattle.nutcore.specs.Server.{ServerState, session}
 use Rattle.nutcore.specs.Promises.{IsLineOrNone}
 use Rattle.nutcore.specs.Pump.{next_line}
 use Rattle.nutcore.specs.Reply.{asker_of}

@@ -2,10 +2,9 @@ use Rattle.std.proofs.Common.{◌≡◌, ◌∙◌, ℕ, List, Result, None, sym
 use Rattle.std.specs.List.Sorted.{IsSearchInRange, IsBinarySearchResult}
 use Rattle.std.specs.Ordering.{nat_cmp}
 use Rattle.std.specs.Prelude.{MatchResult}
-use Rattle.nutcore.specs.declared.event.Fault.{Fault}
+use Rattle.nutcore.proofs.Common.{Fault, SessionState, ServerState}
 use Rattle.nutcore.specs.declared.event.Fault.TheVariants.{NoSuchClient}
-use Rattle.nutcore.specs.Session.{SessionState, IdsRise, find}
-use Rattle.nutcore.specs.Server.{ServerState}
+use Rattle.nutcore.specs.Session.{IdsRise, find}
 use Rattle.nutcore.specs.Promises.{IsAt}
 use Rattle.nutcore.proofs.Runs.{lawful, state_is}
 use Rattle.nutcore.proofs.Places.{searched, place_found}

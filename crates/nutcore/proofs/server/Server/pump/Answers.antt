@@ -1,8 +1,7 @@
 use Rattle.std.specs.Prelude.{is_some}
 use Rattle.std.specs.Option.{option_map_or}
 use Rattle.std.proofs.Common.{◌≡◌, ◌<◌, ◌≤◌, ◌∙◌, Option, Some, None, false, sym, ap, subst, set, length, arith}
-use Rattle.nutcore.specs.Session.{SessionState}
-use Rattle.nutcore.specs.Server.{ServerState, session}
+use Rattle.nutcore.proofs.Common.{SessionState, ServerState, session}
 use Rattle.nutcore.specs.Promises.{IsAt, KeepsCount, refused_overlong}
 use Rattle.nutcore.specs.Pump.{next_line, next_line_for, after_line, after_notice, held_of, holds_overlong}
 use Rattle.nutcore.specs.History.{owed}

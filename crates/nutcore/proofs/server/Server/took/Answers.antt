@@ -1,14 +1,12 @@
 use Rattle.std.proofs.Common.{Result, Err, ◌≡◌, ◌≤◌, ◌-◌, ◌∙◌, Option, Some, ℕ, true, false, ap, sym, subst, length, arith}
 use Rattle.std.proofs.lemmas.Result.{err_from_is_err_and}
 use Rattle.nutcore.specs.declared.event.Event.TheVariants.{Took}
-use Rattle.nutcore.specs.declared.event.Fault.{Fault}
+use Rattle.nutcore.proofs.Common.{Fault, SessionState, ServerState, session}
 use Rattle.nutcore.specs.Calls.{done}
 use Rattle.nutcore.specs.Headline.{Serves}
 use Rattle.nutcore.specs.declared.cost.Cost.{Cost}
-use Rattle.nutcore.specs.Session.{SessionState}
 use Rattle.nutcore.specs.declared.TheConstants.{HELD_LIMIT}
 use Rattle.nutcore.specs.Pump.{held_of, owed_of}
-use Rattle.nutcore.specs.Server.{ServerState, session}
 use Rattle.nutcore.specs.Step.{without_output, offered, may_take}
 use Rattle.nutcore.specs.Cost.{RunningServer}
 use Rattle.nutcore.specs.Promises.{IsCounted}
