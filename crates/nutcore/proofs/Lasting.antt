@@ -19,7 +19,7 @@ use Rattle.nutcore.specs.Step.{joined, taken_from, ticked, connected, disconnect
 use Rattle.nutcore.proofs.Changed.{session_put, by_change, either_notice, notice_id}
 use Rattle.nutcore.proofs.Changes.{keeps, of_upses}
 use Rattle.nutcore.proofs.DriverText.{ups_after_bytes}
-use Rattle.nutcore.proofs.Found.{find_id, find_put_other, find_without, find_without_other, find_last_other}
+use Rattle.nutcore.proofs.Found.{find_id, find_put_other, find_without, find_without_other, of_pushed}
 use Rattle.nutcore.proofs.Kept.{IsKept, IsAny, any_event, by_run}
 use Rattle.nutcore.proofs.Pumping.{is_next, after_line_is, change_at, session_after, session_after_id}
 use Rattle.nutcore.proofs.Rows.{comes_of_line}
@@ -57,26 +57,25 @@ module _ (IsSo : SessionState → Type 0) (lasting : IsLasting IsSo) (c : ℕ) w
       by_id true e = subst (λ o. IfSome o IsSo) (sym (ap (λ k. find c (without k s.sessions)) (sym (eqb-true c d e)) ∙ find_without c s.sessions)) tt
       by_id false e = subst (λ o. IfSome o IsSo) (sym (find_without_other c d s.sessions (λ (k : c ≡ d). eqb-false c d e k))) h.1
 
-  before_it : (n : ℕ) → c < n → c ≢ n
-  before_it n lt e = absurd (omega (arith, lt, e))
-
   by_tick : (s : ServerState) (seconds : ℕ) → IsThere s → IsThere (ticked seconds s)
   unfolding ticked
   by_tick s seconds h = h
 
   kept : IsKept IsThere IsAny
   kept = record {
-    line = λ s d line e h.
-        let n = is_next s d line e in
-        subst IsThere (sym (after_line_is s d line n.asking n.found e))
-        (h.0, puts s d n.asking (session_after s d line n.asking) n.found (session_after_id s d line n.asking n.found) (lasting.line s d line n.asking n.found n.going) h.1);
-    joins = λ s d piece h. by_changing (joined piece) (λ x. refl) (lasting.joins piece) s d h;
-    gives = λ s d n h. by_changing (taken_from n) (λ x. refl) (lasting.gives n) s d h;
-    notice = λ s d h. by_changing with_notice notice_id lasting.notice s d h;
+    pumped = record {
+      line = λ s d line e h.
+          let n = is_next s d line e in
+          subst IsThere (sym (after_line_is s d line n.asking n.found e))
+          (h.0, puts s d n.asking (session_after s d line n.asking) n.found (session_after_id s d line n.asking n.found) (lasting.line s d line n.asking n.found n.going) h.1);
+      joins = λ s d piece h. by_changing (joined piece) (λ x. refl) (lasting.joins piece) s d h;
+      gives = λ s d n h. by_changing (taken_from n) (λ x. refl) (lasting.gives n) s d h;
+      notice = λ s d h. by_changing with_notice notice_id lasting.notice s d h;
+    };
     driver = λ s m. record { comes = λ u h. h; tells = λ piece u h. h; takes = λ n u h. h; goes = λ u h. h };
     ticks = by_tick;
     opens = λ s address room own h.
-        (omega (arith, h.0), subst (λ o. IfSome o IsSo) (sym (find_last_other c (new_session s.next_id address) s.sessions (before_it s.next_id h.0))) h.1);
+        (omega (arith, h.0), of_pushed (λ o. IfSome o IsSo) c (new_session s.next_id address) s.sessions h.1 (λ id none. absurd (omega (arith, h.0, id))));
     closes = closes;
   }
 
@@ -165,10 +164,12 @@ by_tick_ids n s seconds h = h
 
 ids_kept : (n : ℕ) → IsKept (λ s. n ≤ s.next_id) IsAny
 ids_kept n = record {
-  line = λ s d line e h. let at = is_next s d line e in subst (λ (t : ServerState). n ≤ t.next_id) (sym (after_line_is s d line at.asking at.found e)) h;
-  joins = λ s d piece h. by_change (λ t. n ≤ t.next_id) (joined piece) d s (λ x e. h) (λ e. h);
-  gives = λ s d k h. by_change (λ t. n ≤ t.next_id) (taken_from k) d s (λ x e. h) (λ e. h);
-  notice = λ s d h. by_change (λ t. n ≤ t.next_id) with_notice d s (λ x e. h) (λ e. h);
+  pumped = record {
+    line = λ s d line e h. let at = is_next s d line e in subst (λ (t : ServerState). n ≤ t.next_id) (sym (after_line_is s d line at.asking at.found e)) h;
+    joins = λ s d piece h. by_change (λ t. n ≤ t.next_id) (joined piece) d s (λ x e. h) (λ e. h);
+    gives = λ s d k h. by_change (λ t. n ≤ t.next_id) (taken_from k) d s (λ x e. h) (λ e. h);
+    notice = λ s d h. by_change (λ t. n ≤ t.next_id) with_notice d s (λ x e. h) (λ e. h);
+  };
   driver = λ s m. record { comes = λ u h. h; tells = λ piece u h. h; takes = λ k u h. h; goes = λ u h. h };
   ticks = by_tick_ids n;
   opens = λ s address room own h. omega (arith, h);
@@ -185,13 +186,15 @@ forced_stays (suc p) (suc q) (x ∷ xs) h = forced_stays p q xs h
 
 shutdown_kept : (u : UpsId) → IsKept (λ s. is_shut_down u s ≡ true) IsAny
 shutdown_kept u = record {
-  line = λ s d line e h.
-      let at = is_next s d line e in
-      subst (λ (t : ServerState). is_shut_down u t ≡ true) (sym (after_line_is s d line at.asking at.found e))
-      (of_upses (λ told ys. fsd_at u.place ys ≡ true) (change_at s d line) s.upses h (λ v is. forced_stays v.place u.place s.upses h) (λ v line is. changed_keeps (with_order line.items) (λ x. refl) v.place u.place s.upses ∙ h));
-  joins = λ s d piece h. by_session u (joined piece) s d ∙ h;
-  gives = λ s d n h. by_session u (taken_from n) s d ∙ h;
-  notice = λ s d h. by_session u with_notice s d ∙ h;
+  pumped = record {
+    line = λ s d line e h.
+        let at = is_next s d line e in
+        subst (λ (t : ServerState). is_shut_down u t ≡ true) (sym (after_line_is s d line at.asking at.found e))
+        (of_upses (λ told ys. fsd_at u.place ys ≡ true) (change_at s d line) s.upses h (λ v is. forced_stays v.place u.place s.upses h) (λ v line is. changed_keeps (with_order line.items) (λ x. refl) v.place u.place s.upses ∙ h));
+    joins = λ s d piece h. by_session u (joined piece) s d ∙ h;
+    gives = λ s d n h. by_session u (taken_from n) s d ∙ h;
+    notice = λ s d h. by_session u with_notice s d ∙ h;
+  };
   driver = λ s m.
       let keep = drivers_keep s m in
       record {

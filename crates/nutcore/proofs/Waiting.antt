@@ -1,6 +1,7 @@
 -- A client that asks one line, and waits for its answer.
 use Rattle.std.proofs.Common.{◌≡◌, ℕ, zero, suc, ◌+◌, ◌-◌, ◌<◌, ◌≤◌, Bool, true, false, List, [], ◌∷◌, ◌++◌, Option, Some, None, refl, sym, ◌∙◌, ap, subst, cond, eqb, ltb, leb, not, ◌&&◌, ◌||◌, length, take, drop, map, Result, Ok, Err, arith, length-append, length-drop}
 use Rattle.std.specs.Prelude.{is_none, is_some, option_map, option_and_then}
+use Rattle.std.proofs.lemmas.Bool.Decides.{nat_tests}
 use Rattle.std.proofs.lemmas.List.{take_all}
 use Rattle.nutlisting.specs.declared.outbox.TheConstants.{OWED_LIMIT}
 use Rattle.nutwords.specs.SplitLine.{split_line, has_lf}
@@ -24,7 +25,7 @@ use Rattle.nutcore.specs.Sound.{IsSound}
 use Rattle.nutcore.specs.Waiting.{IsWaiting, ALineIsAnswered}
 use Rattle.nutcore.proofs.Changed.{session_put, change_is, session_changed, notice_id}
 use Rattle.nutcore.proofs.Changes.{keeps}
-use Rattle.nutcore.proofs.Found.{find_id, find_put, find_last}
+use Rattle.nutcore.proofs.Found.{find_id, find_put}
 use Rattle.nutcore.proofs.Pumping.{after_line_is, stopped_none, change_at, session_after, session_after_id}
 use Rattle.nutcore.proofs.Runs.{lawful}
 
@@ -147,6 +148,10 @@ module _ (s : ServerState) (c : ℕ) (line : List ℕ) (w : IsWaiting c s) (whol
       ∙ ap (λ (z : SessionState). let o : Option SessionState = Some z in o) (no_notice_due after after_held)
 
 -- a session that was opened
+find_last : (y : SessionState) (xs : List SessionState) → find y.id xs ≡ None → find y.id (xs ++ y ∷ []) ≡ Some y
+find_last y [] e = grind (arith, nat_tests)
+find_last y (z ∷ xs) e = grind (arith, nat_tests, find_last y xs)
+
 opened_waits : (s : ServerState) (address : List ℕ) → IsSound s → may_open s ≡ true → IsWaiting s.next_id (after_by s (Open address) None)
 unfolding after_by opened
 opened_waits s address sound room = record {
