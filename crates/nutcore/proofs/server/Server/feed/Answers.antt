@@ -1,4 +1,4 @@
-use Rattle.std.proofs.Common.{Result, Err, ◌≡◌, ◌≤◌, ◌∙◌, Option, Some, ℕ, false, ap, sym, subst, length}
+use Rattle.std.proofs.Common.{Result, Ok, Err, ◌≡◌, ◌≤◌, ◌∙◌, Option, Some, ℕ, false, ap, sym, subst, length}
 use Rattle.std.proofs.lemmas.Result.{err_from_is_err_and}
 use Rattle.nutcore.specs.declared.event.Event.TheVariants.{Feed}
 use Rattle.nutcore.proofs.Common.{Fault, SessionState, ServerState, session}
@@ -67,7 +67,7 @@ returns c =
     let kept : c.offered-kept.result ≡ length (offered (session c.args.c s)) = c.offered-kept.ensures ∙ sym (ap (λ (o : Option SessionState). length (offered o)) found) in
     record {
       served = served_from _ _ _ _ _ c.forget_cost.ensures.state c.place_of.ensures.lawful
-          (feed_gives s _ c.serve.new.self.state c.args.c c.args.piece.now x c.join-count.result _ found fed count c.in_ok-serve.ensures.gives);
+          (feed_gives s _ c.serve.new.self.state c.args.c c.args.piece.now x c.join-count.result (Ok tt) found fed count c.in_ok-serve.ensures.gives);
       cost = c.in_ok-serve.ensures.cost ∙ feed_costs c.args.self.now.state s c.serve.new.self.state c.args.c c.offered-kept.result c.args.piece.now c.forget_cost.ensures.state kept c.in_ok-serve.ensures.within;
     }
 
