@@ -3,12 +3,9 @@ use Rattle.std.proofs.Common.{◌≡◌, ℕ, ◌+◌, ◌≤◌, false, true, L
 use Rattle.std.specs.Prelude.{◌⊎◌}
 use Rattle.std.proofs.Math.Seq.{drop-nil}
 use Rattle.arrayvec.specs.ArrayVec.{ArrayVec}
-use Rattle.nutusers.specs.declared.ups_list.UpsId.{UpsId}
-use Rattle.nutanswer.specs.declared.reply.Change.{Change}
-use Rattle.nutanswer.specs.declared.reply.Change.TheVariants.{Nothing, Username, Password, Login, Ending, Fsd, Order}
-use Rattle.nutcore.specs.Session.{SessionState}
+use Rattle.nutcore.proofs.Common.{UpsId, Change, SessionState, changed_at}
+use Rattle.nutanswer.specs.declared.reply.Change.TheVariants.{Username, Password, Login, Ending, Fsd, Order}
 use Rattle.nutcore.specs.Ups.{UpsState, with_fsd, with_order}
-use Rattle.nutcore.specs.Server.{changed_at}
 use Rattle.nutcore.specs.Reply.{changed_session, changed_upses}
 use Rattle.nutcore.specs.Pump.{answered}
 use Rattle.nutcore.specs.DriverOrders.{Telling, told_by_change}
@@ -29,7 +26,6 @@ pub record Keeps (change : Change) (x : SessionState) : Type 0 where
   pub login : ((changed_session change x).login ≡ x.login) ⊎ (((changed_session change x).login ≡ None) ⊎ ((u : UpsId) × (change ≡ Login u) × ((changed_session change x).login ≡ Some u)))
 
 pub keeps : (change : Change) (x : SessionState) → Keeps change x
-keeps Nothing x = record { id = refl; address = refl; owed = refl; held = λ e. refl; shorter = omega arith; ended = λ e. inl e; joined = λ line text. refl; username = inl refl; password = inl refl; login = inl refl }
 keeps (Username name) x = record { id = refl; address = refl; owed = refl; held = λ e. refl; shorter = omega arith; ended = λ e. inl e; joined = λ line text. refl; username = inr (name, refl, refl); password = inl refl; login = inl refl }
 keeps (Password password) x = record { id = refl; address = refl; owed = refl; held = λ e. refl; shorter = omega arith; ended = λ e. inl e; joined = λ line text. refl; username = inl refl; password = inr (password, refl, refl); login = inl refl }
 keeps (Login u) x = record { id = refl; address = refl; owed = refl; held = λ e. refl; shorter = omega arith; ended = λ e. inl e; joined = λ line text. refl; username = inl refl; password = inl refl; login = inr (inr (u, refl, refl)) }
@@ -45,18 +41,13 @@ keeps Ending x = record {
   password = inl refl;
   login = inr (inl refl);
 }
-keeps (Fsd u) x = record { id = refl; address = refl; owed = refl; held = λ e. refl; shorter = omega arith; ended = λ e. inl e; joined = λ line text. refl; username = inl refl; password = inl refl; login = inl refl }
-keeps (Order u line) x = record { id = refl; address = refl; owed = refl; held = λ e. refl; shorter = omega arith; ended = λ e. inl e; joined = λ line text. refl; username = inl refl; password = inl refl; login = inl refl }
+keeps _ x = record { id = refl; address = refl; owed = refl; held = λ e. refl; shorter = omega arith; ended = λ e. inl e; joined = λ line text. refl; username = inl refl; password = inl refl; login = inl refl }
 
 -- what holds where nothing of the UPSs changes, where a forced shutdown is set, and where an order is told, holds of each change
 pub of_upses : (P : (UpsId → List Telling) → List UpsState → Type 0) (change : Change) (xs : List UpsState) → P (λ u. []) xs
     → ((v : UpsId) → change ≡ Fsd v → P (λ u. []) (changed_at with_fsd v.place xs))
     → ((v : UpsId) (line : ArrayVec ℕ) → change ≡ Order v line → P (λ u. told_by_change u (Order v line)) (changed_at (with_order line.items) v.place xs))
     → P (λ u. told_by_change u change) (changed_upses change xs)
-of_upses P Nothing xs same fsd order = same
-of_upses P (Username name) xs same fsd order = same
-of_upses P (Password password) xs same fsd order = same
-of_upses P (Login u) xs same fsd order = same
-of_upses P Ending xs same fsd order = same
 of_upses P (Fsd u) xs same fsd order = fsd u refl
 of_upses P (Order u line) xs same fsd order = order u line refl
+of_upses P _ xs same fsd order = same

@@ -1,28 +1,24 @@
 -- The driver's lines, one by one.
 use Rattle.std.proofs.Common.{◌≡◌, ℕ, zero, suc, ◌+◌, ◌<◌, ◌≤◌, true, false, List, [], ◌∷◌, ◌++◌, Option, Some, None, Result, Ok, Err, refl, sym, ◌∙◌, ap, subst, arith, length, take, drop, append-nil}
-use Rattle.std.proofs.lemmas.Bool.{cond-true, cond-false, le-leb, lt-leb}
-use Rattle.std.proofs.lemmas.List.{take-append-drop}
 use Rattle.std.proofs.lemmas.List.Sums.{fold-append}
 use Rattle.std.specs.Prelude.{slice_get, is_err}
-use Rattle.std.specs.Option.{option_map_or}
 use Rattle.std.specs.declared.alloc.AllocError.{AllocError}
+use denote.Ref.{MutBor}
+use Rattle.std.specs.Fn.{Once}
 use Rattle.nutwords.specs.Found.{FindsLine, Finds}
-use Rattle.nutwords.specs.declared.cut.Found.TheVariants.{NeedsMore, TooLong}
+use Rattle.nutwords.specs.declared.cut.Found.{Found}
 use Rattle.nutwords.specs.declared.limits.TheConstants.{LINE_ROOM}
-use Rattle.nutdriver.specs.declared.report.Report.{Report}
-use Rattle.nutdriver.specs.declared.report.LineOutcome.{LineOutcome}
-use Rattle.nutdriver.specs.declared.report.LineOutcome.TheVariants.{Accepted, Refused}
 use Rattle.nutdriver.specs.Report.{after_line, line_changes}
-use Rattle.nutusers.specs.declared.ups_list.UpsId.{UpsId}
-use Rattle.nutcore.specs.declared.event.Fault.{Fault}
-use Rattle.nutcore.specs.declared.event.Fault.TheVariants.{NoSuchUps, NoSuchClient, TooManyClients, TookTooMuch, NotConnected, AlreadyConnected, LineTooLong, Memory}
+use Rattle.nutcore.proofs.Common.{cond-true, cond-false, le-leb, lt-leb, take-append-drop, same_Some, option_map, option_map_or, UpsId, Fault, ServerState, ups_at, changed_at, with_ups_changed}
+use Rattle.nutcore.specs.declared.event.Fault.TheVariants.{LineTooLong, Memory}
 use Rattle.nutcore.specs.Lines.{whole_lines, unfinished_after, is_too_long}
-use Rattle.nutcore.specs.Ups.{UpsState, after_loss, after_outcome, after_text, with_unfinished, wants_memory_for}
-use Rattle.nutcore.specs.Server.{ServerState, ups_at, changed_at, with_ups_changed}
+use Rattle.nutcore.specs.Ups.{UpsState, after_loss, after_text, with_unfinished, wants_memory_for}
 use Rattle.nutcore.specs.Step.{after_driver_line, after_driver_lines, with_rest, after_driver_text, wants_driver_memory}
-use Rattle.nutcore.specs.Promises.{DoesLine, IsTold, IsStopped, holding_nothing, ExecutesDriverLine, ReadsDriverLine}
-use Rattle.nutcore.proofs.DriverSteps.{at_changed, server_agree, changed_to, left_at}
-use Rattle.nutcore.proofs.DriverText.{server_twice}
+use Rattle.nutcore.specs.Calls.{is_connected}
+use Rattle.nutcore.specs.Promises.{front_or, IsCut, ChangesUps, OfUps, DoesLine, IsTold, IsStopped, holding_nothing, ExecutesDriverLine, ReadsDriverLine}
+use Rattle.nutcore.proofs.UpsPlaces.{Stands, of_ups, at_changed, server_agree, server_twice, changed_to, left_at}
+use Rattle.nutcore.proofs.DriverSteps.{is_there, connected_as, connected_at}
+use Rattle.nutcore.proofs.DriverChanges.{line_leaves}
 use Rattle.nutcore.proofs.WholeLines.{whole_first, whole_none, whole_too_long, unfinished_all, unfinished_first}
 
 -- one more of some lines
@@ -38,61 +34,30 @@ one_more (suc k) (x ∷ lines) line more h =
 pub no_more : {A : Type 0} (k : ℕ) (lines : List A) → drop k lines ≡ [] → take k lines ≡ lines
 no_more k lines h = sym (append-nil (take k lines)) ∙ ap (λ z. take k lines ++ z) (sym h) ∙ take-append-drop k lines
 
--- what is unfinished changes nothing of what a line does
-outcome_beside : (bytes : List ℕ) (x : UpsState) (r : Report × LineOutcome) → with_unfinished bytes (after_outcome x r) ≡ after_outcome (with_unfinished bytes x) r
-outcome_beside bytes x (report, Accepted) = refl
-outcome_beside bytes x (report, Refused fault) = refl
-
-text_beside : (bytes : List ℕ) (moment : ℕ) (x : UpsState) (line : List ℕ) → with_unfinished bytes (after_text moment x line) ≡ after_text moment (with_unfinished bytes x) line
-text_beside bytes moment x line = outcome_beside bytes x (after_line moment x.report line)
-
--- nor does a line change what is unfinished
-outcome_unfinished : (x : UpsState) (r : Report × LineOutcome) → (after_outcome x r).unfinished ≡ x.unfinished
-outcome_unfinished x (report, Accepted) = refl
-outcome_unfinished x (report, Refused fault) = refl
-
-pub text_unfinished : (moment : ℕ) (x : UpsState) (line : List ℕ) → (after_text moment x line).unfinished ≡ x.unfinished
-text_unfinished moment x line = outcome_unfinished x (after_line moment x.report line)
-
--- changes that are everywhere the same are one
-changed_alike : (f g : UpsState → UpsState) → ((x : UpsState) → f x ≡ g x) → (i : ℕ) (xs : List UpsState) → changed_at f i xs ≡ changed_at g i xs
-changed_alike f g h i [] = refl
-changed_alike f g h zero (x ∷ xs) = ap (λ (y : UpsState). y ∷ xs) (h x)
-changed_alike f g h (suc i) (x ∷ xs) = ap (λ (ys : List UpsState). x ∷ ys) (changed_alike f g h i xs)
-
-server_alike : (f g : UpsState → UpsState) → ((x : UpsState) → f x ≡ g x) → (u : UpsId) (s : ServerState) → with_ups_changed f u s ≡ with_ups_changed g u s
-server_alike f g h u s = ap (λ (xs : List UpsState). let t : ServerState = record s { upses = xs } in t) (changed_alike f g h u.place s.upses)
-
 -- what is unfinished changes nothing of what a line does to the server
 line_beside : (u : UpsId) (line : List ℕ) (s : ServerState) → holding_nothing u (after_driver_line u line s) ≡ after_driver_line u line (holding_nothing u s)
 unfolding after_driver_line
 line_beside u line s =
-    server_twice (λ x. after_text s.moment x line) (with_unfinished []) u s
-    ∙ server_alike (λ x. with_unfinished [] (after_text s.moment x line)) (λ x. after_text s.moment (with_unfinished [] x) line) (λ x. text_beside [] s.moment x line) u s
-    ∙ sym (server_twice (with_unfinished []) (λ x. after_text s.moment x line) u s)
+    let does : UpsState → UpsState = λ x. after_text s.moment x line in
+    server_twice does (with_unfinished []) u s
+    ∙ server_agree s u (λ x. with_unfinished [] (does x)) (λ x. does (with_unfinished [] x)) (λ x there. (line_leaves x (after_line s.moment x.report line)).beside [])
+    ∙ sym (server_twice (with_unfinished []) does u s)
 
 nothing_twice : (u : UpsId) (s : ServerState) → holding_nothing u (holding_nothing u s) ≡ holding_nothing u s
 nothing_twice u s = server_twice (with_unfinished []) (with_unfinished []) u s
 
 -- what a change leaves that doesn't look at what is unfinished
 left_alike : (f : UpsState → UpsState) → ((x : UpsState) → f (with_unfinished [] x) ≡ f x) → (u : UpsId) (s t : ServerState) → holding_nothing u s ≡ holding_nothing u t → with_ups_changed f u s ≡ with_ups_changed f u t
-left_alike f blind u s t same =
-    sym (server_alike (λ x. f (with_unfinished [] x)) f blind u s)
-    ∙ sym (server_twice (with_unfinished []) f u s)
-    ∙ ap (with_ups_changed f u) same
-    ∙ server_twice (with_unfinished []) f u t
-    ∙ server_alike (λ x. f (with_unfinished [] x)) f blind u t
+left_alike f blind u s t same = sym (of_blind s) ∙ ap (with_ups_changed f u) same ∙ of_blind t
+  where
+    of_blind : (r : ServerState) → with_ups_changed f u (holding_nothing u r) ≡ with_ups_changed f u r
+    of_blind r = server_twice (with_unfinished []) f u r ∙ server_agree r u (λ x. f (with_unfinished [] x)) f (λ x there. blind x)
 
 -- what stood at a place that was changed
-record StoodAt (f : UpsState → UpsState) (i : ℕ) (xs : List UpsState) (y : UpsState) : Type 0 where
-  before : UpsState
-  there : slice_get xs i ≡ Some before
-  is : f before ≡ y
-
-stood_at : (f : UpsState → UpsState) (i : ℕ) (xs : List UpsState) (y : UpsState) → slice_get (changed_at f i xs) i ≡ Some y → StoodAt f i xs y
+stood_at : (f : UpsState → UpsState) (i : ℕ) (xs : List UpsState) (y : UpsState) → slice_get (changed_at f i xs) i ≡ Some y → Stands i xs (λ x. f x ≡ y)
 stood_at f i [] y e = cc e
-stood_at f zero (x ∷ xs) y e = let same : f x ≡ y = cc e in record { before = x; there = refl; is = same }
-stood_at f (suc i) (x ∷ xs) y e = let s = stood_at f i xs y e in record { before = s.before; there = s.there; is = s.is }
+stood_at f zero (x ∷ xs) y e = record { ups = x; there = refl; is = same_Some (f x) y e }
+stood_at f (suc i) (x ∷ xs) y e = let s = stood_at f i xs y e in record { ups = s.ups; there = s.there; is = s.is }
 
 -- Where the reading stands: of what was told, k lines are done, and the rest begins with what is held.
 pub record IsAtLine (u : UpsId) (k : ℕ) (text : List ℕ) (old now : ServerState) (rest : List ℕ) : Type 0 where
@@ -106,16 +71,17 @@ pub begins : (u : UpsId) (s : ServerState) (x : UpsState) (piece : List ℕ) →
 begins u s x piece there = record { ups = x; there = there; ahead = refl; unfinished = refl; told = refl }
 
 -- one line more was done
-pub goes_on : (u : UpsId) (k used : ℕ) (text : List ℕ) (old s t : ServerState) (rest line : List ℕ) (at : IsAtLine u k text old s rest) → FindsLine at.ups.unfinished rest line used → t ≡ after_driver_line u line (holding_nothing u s) → IsAtLine u (k + 1) text old t (drop used rest)
+pub read_on : (u : UpsId) (k used : ℕ) (text : List ℕ) (old s t : ServerState) (rest : List ℕ) (at : IsAtLine u k text old s rest) (o : Option ℕ) → o ≡ Some used → OfUps u s (λ x. ReadsDriverLine u rest k x s (Ok o) t) → IsAtLine u (k + 1) text old t (drop used rest)
 unfolding after_driver_line
-goes_on u k used text old s t rest line at found does =
+read_on u k used text old s t rest at o some reads =
+    let (line, found, does) = subst (λ (r : Option ℕ). ReadsDriverLine u rest k at.ups s (Ok r) t) some (reads at.ups at.there) in
     let left : List ℕ = drop used rest in
     let lines : List (List ℕ) = whole_lines text in
     let y : UpsState = with_unfinished [] at.ups in
     let z : UpsState = after_text s.moment y line in
     let done : ServerState = after_driver_lines u (take k lines) old in
     let next = one_more k lines line (whole_lines left) (at.ahead ∙ whole_first (at.ups.unfinished ++ rest) line left found.0 found.3) in
-    let held : z.unfinished ++ left ≡ left = ap (λ (b : List ℕ). b ++ left) (text_unfinished s.moment y line) in
+    let held : z.unfinished ++ left ≡ left = ap (λ (b : List ℕ). b ++ left) (line_leaves y (after_line s.moment y.report line)).unfinished in
     record {
       ups = z;
       there = ap (ups_at u.place) does ∙ at_changed (λ x. after_text s.moment x line) u.place (holding_nothing u s).upses y (at_changed (with_unfinished []) u.place s.upses at.ups at.there);
@@ -140,9 +106,17 @@ ends u k text old s rest at none = record {
   told = at.told ∙ ap (λ (ls : List (List ℕ)). holding_nothing u (after_driver_lines u ls old)) (no_more k (whole_lines text) (at.ahead ∙ none));
 }
 
-ends_unfinished : (u : UpsId) (k : ℕ) (text kept : List ℕ) (old s t : ServerState) (rest : List ℕ) (at : IsAtLine u k text old s rest) → Finds at.ups.unfinished rest NeedsMore kept → t ≡ with_ups_changed (with_unfinished kept) u s → IsTold u text old (Ok tt) t
+-- how many bytes of the piece a line takes
+pub takes_some : (u : UpsId) (piece : List ℕ) (done used : ℕ) (s t : ServerState) (o : Option ℕ) → o ≡ Some used → option_map is_connected (ups_at u.place s) ≡ Some true → OfUps u s (λ x. ReadsDriverLine u piece done x s (Ok o) t) → (0 < used) × (used ≤ length piece)
+takes_some u piece done used s t o some connected reads =
+    let is = is_there s u true connected in
+    let (line, found, does) = subst (λ (r : Option ℕ). ReadsDriverLine u piece done is.ups s (Ok r) t) some (reads is.ups is.there) in
+    (found.1, found.2)
+
+-- the reading stops: nothing is whole any more, what is there is too long, or the next line wants memory that is refused
+pub stops_read : (u : UpsId) (k : ℕ) (text : List ℕ) (old s t : ServerState) (rest : List ℕ) (at : IsAtLine u k text old s rest) → ReadsDriverLine u rest k at.ups s (Ok None) t → IsStopped u text old (Ok tt) t
 unfolding after_driver_text
-ends_unfinished u k text kept old s t rest at cut leaves =
+stops_read u k text old s t rest at (kept, cut, leaves) =
     let held : List ℕ = at.ups.unfinished ++ rest in
     let bytes : List ℕ = unfinished_after text in
     let end = ends u k text old s rest at (whole_none held cut.0) in
@@ -152,12 +126,12 @@ ends_unfinished u k text kept old s t rest at cut leaves =
       leaves
           ∙ ap (λ (b : List ℕ). with_ups_changed (with_unfinished b) u s) (cut.2 ∙ sym end.rest_is)
           ∙ left_alike (with_unfinished bytes) (λ x. refl) u s done end.told
-          ∙ server_alike (with_unfinished bytes) (with_rest bytes) (λ x. sym (cond-false _ _ _ short)) u done,
+          ∙ server_agree done u (with_unfinished bytes) (with_rest bytes) (λ x there. sym (cond-false _ _ _ short)),
     )
 
-ends_too_long : (u : UpsId) (k : ℕ) (text kept : List ℕ) (old s t : ServerState) (rest : List ℕ) (at : IsAtLine u k text old s rest) → Finds at.ups.unfinished rest TooLong kept → t ≡ with_ups_changed (with_unfinished kept) u s → IsStopped u text old (Err LineTooLong) t
-unfolding after_driver_text
-ends_too_long u k text kept old s t rest at cut leaves =
+pub stops_refused : (u : UpsId) (k : ℕ) (text : List ℕ) (old s t : ServerState) (rest : List ℕ) (fault : Fault) (at : IsAtLine u k text old s rest) → ReadsDriverLine u rest k at.ups s (Err fault) t → IsStopped u text old (Err fault) t
+unfolding after_driver_text wants_driver_memory
+stops_refused u k text old s t rest LineTooLong at (kept, cut, leaves) =
     let held : List ℕ = at.ups.unfinished ++ rest in
     let bytes : List ℕ = unfinished_after text in
     let end = ends u k text old s rest at (whole_too_long held cut.0) in
@@ -167,42 +141,19 @@ ends_too_long u k text kept old s t rest at cut leaves =
       ap (with_ups_changed after_loss u) leaves
           ∙ server_twice (with_unfinished kept) after_loss u s
           ∙ left_alike after_loss (λ x. refl) u s done end.told
-          ∙ server_alike after_loss (with_rest bytes) (λ x. sym (cond-true _ _ _ long)) u done,
+          ∙ server_agree done u after_loss (with_rest bytes) (λ x there. sym (cond-true _ _ _ long)),
     )
-
--- the next line wants memory that is refused
-ends_lacking : (u : UpsId) (k used : ℕ) (text : List ℕ) (old s t : ServerState) (rest line : List ℕ) (at : IsAtLine u k text old s rest) → FindsLine at.ups.unfinished rest line used → line_changes at.ups.report.tree line ≡ true → with_ups_changed after_loss u t ≡ with_ups_changed after_loss u s → IsStopped u text old (Err (Memory k)) t
-unfolding after_driver_text wants_driver_memory
-ends_lacking u k used text old s t rest line at found changes lost =
+stops_refused u k text old s t rest (Memory n) at (these, line, used, found, changes, lost) =
     let lines : List (List ℕ) = whole_lines text in
     let done : ServerState = after_driver_lines u (take k lines) old in
     let next = one_more k lines line (whole_lines (drop used rest)) (at.ahead ∙ whole_first (at.ups.unfinished ++ rest) line (drop used rest) found.0 found.3) in
-    let was : StoodAt (with_unfinished []) u.place done.upses (with_unfinished [] at.ups) = stood_at (with_unfinished []) u.place done.upses (with_unfinished [] at.ups) (ap (ups_at u.place) (sym at.told) ∙ at_changed (with_unfinished []) u.place s.upses at.ups at.there) in
-    let same : line_changes was.before.report.tree line ≡ line_changes at.ups.report.tree line = ap (λ (x : UpsState). line_changes x.report.tree line) was.is in (
-      ap (λ (o : Option UpsState). option_map_or (wants_memory_for (slice_get lines k)) o false) was.there ∙ ap (λ (o : Option (List ℕ)). wants_memory_for o was.before) next.2 ∙ same ∙ changes,
+    let was : Stands u.place done.upses (λ x. with_unfinished [] x ≡ with_unfinished [] at.ups) = stood_at (with_unfinished []) u.place done.upses (with_unfinished [] at.ups) (ap (ups_at u.place) (sym at.told) ∙ at_changed (with_unfinished []) u.place s.upses at.ups at.there) in
+    let same : line_changes was.ups.report.tree line ≡ line_changes at.ups.report.tree line = ap (λ (x : UpsState). line_changes x.report.tree line) was.is in
+    subst (λ (m : ℕ). IsStopped u text old (Err (Memory m)) t) (sym these) (
+      ap (λ (o : Option UpsState). option_map_or (wants_memory_for (slice_get lines k)) o false) was.there ∙ ap (λ (o : Option (List ℕ)). wants_memory_for o was.ups) next.2 ∙ same ∙ changes,
       lost ∙ left_alike after_loss (λ x. refl) u s done at.told,
     )
-
--- how many bytes of the piece a line takes
-pub takes_some : (u : UpsId) (piece : List ℕ) (done used : ℕ) (x : UpsState) (s t : ServerState) → ReadsDriverLine u piece done x s (Ok (Some used)) t → (0 < used) × (used ≤ length piece)
-takes_some u piece done used x s t (line, found, does) = (found.1, found.2)
-
--- the reading goes on, or stops
-pub read_on : (u : UpsId) (k used : ℕ) (text : List ℕ) (old s t : ServerState) (rest : List ℕ) (at : IsAtLine u k text old s rest) → ReadsDriverLine u rest k at.ups s (Ok (Some used)) t → IsAtLine u (k + 1) text old t (drop used rest)
-read_on u k used text old s t rest at (line, found, does) = goes_on u k used text old s t rest line at found does
-
-pub stops_read : (u : UpsId) (k : ℕ) (text : List ℕ) (old s t : ServerState) (rest : List ℕ) (at : IsAtLine u k text old s rest) → ReadsDriverLine u rest k at.ups s (Ok None) t → IsStopped u text old (Ok tt) t
-stops_read u k text old s t rest at (kept, cut, leaves) = ends_unfinished u k text kept old s t rest at cut leaves
-
-pub stops_refused : (u : UpsId) (k : ℕ) (text : List ℕ) (old s t : ServerState) (rest : List ℕ) (fault : Fault) (at : IsAtLine u k text old s rest) → ReadsDriverLine u rest k at.ups s (Err fault) t → IsStopped u text old (Err fault) t
-stops_refused u k text old s t rest LineTooLong at (kept, cut, leaves) = ends_too_long u k text kept old s t rest at cut leaves
-stops_refused u k text old s t rest (Memory n) at (same, line, used, found, changes, lost) = subst (λ (m : ℕ). IsStopped u text old (Err (Memory m)) t) (sym same) (ends_lacking u k used text old s t rest line at found changes lost)
-stops_refused u k text old s t rest NoSuchUps at never = absurd never
-stops_refused u k text old s t rest NoSuchClient at never = absurd never
-stops_refused u k text old s t rest TooManyClients at never = absurd never
-stops_refused u k text old s t rest TookTooMuch at never = absurd never
-stops_refused u k text old s t rest NotConnected at never = absurd never
-stops_refused u k text old s t rest AlreadyConnected at never = absurd never
+stops_refused u k text old s t rest fault at never = absurd never
 
 -- where it was refused, the driver is lost
 pub told_lost : (u : UpsId) (text : List ℕ) (old s t : ServerState) (r : Result (Unit {0}) Fault) → is_err r ≡ true → IsStopped u text old r s → t ≡ with_ups_changed after_loss u s → IsTold u text old r t
@@ -221,31 +172,36 @@ executes u line s t x y (Ok v) there does leaves =
     ∙ sym (server_twice (with_unfinished []) (λ z. after_text s.moment z line) u s)
 executes u line s t x y (Err e) there (changes, heard) leaves = (
   changes,
-  ap (with_ups_changed after_loss u) leaves ∙ server_twice (λ z. y) after_loss u s ∙ server_agree s u (λ z. after_loss y) after_loss x there (ap after_loss heard),
+  ap (with_ups_changed after_loss u) leaves ∙ server_twice (λ z. y) after_loss u s ∙ server_agree s u (λ z. after_loss y) after_loss (of_ups s u x (λ z. after_loss y ≡ after_loss z) there (ap after_loss heard)),
 )
 
--- What a UPS is that found its next line.
-pub record IsFound (u : UpsId) (s mid : ServerState) (x y : UpsState) : Type 0 where
-  pub there : ups_at u.place mid ≡ Some y
-  pub report : y.report ≡ x.report
-  pub leaves : mid ≡ with_ups_changed (with_unfinished y.unfinished) u s
-  pub nothing : holding_nothing u mid ≡ holding_nothing u s
-  pub lost : with_ups_changed after_loss u mid ≡ with_ups_changed after_loss u s
+-- What a UPS does that looked for its next line.
+module _ {F R : Type 0} {g : Once F (MutBor UpsState × Unit {0}) (R × (MutBor UpsState × Unit {0}))} {f : F} {u : UpsId} {s mid : ServerState} {r : R} (piece : List ℕ) (found : Found) (d : ChangesUps g f u s r mid) (cut : IsCut piece d.before found d.after) where
+  holds : mid ≡ with_ups_changed (with_unfinished d.after.unfinished) u s
+  holds = changed_to s mid u (with_unfinished d.after.unfinished) d.before d.after d.there cut.leaves d.leaves
 
-pub finds : (u : UpsId) (s mid : ServerState) (x y : UpsState) → ups_at u.place s ≡ Some x → y ≡ with_unfinished y.unfinished x → mid ≡ with_ups_changed (λ z. y) u s → IsFound u s mid x y
-finds u s mid x y there cut leaves =
-    let e : mid ≡ with_ups_changed (with_unfinished y.unfinished) u s = changed_to s mid u (with_unfinished y.unfinished) x y there cut leaves in
-    record {
-      there = left_at s mid u x y there leaves;
-      report = ap (λ (z : UpsState). z.report) cut;
-      leaves = e;
-      nothing = ap (holding_nothing u) e ∙ server_twice (with_unfinished y.unfinished) (with_unfinished []) u s;
-      lost = ap (with_ups_changed after_loss u) e ∙ server_twice (with_unfinished y.unfinished) after_loss u s;
-    }
+  there : ups_at u.place mid ≡ Some d.after
+  there = left_at s mid u d.before d.after d.there d.leaves
 
--- It is done, or memory was refused.
-pub reads_done : (u : UpsId) (piece line : List ℕ) (done used : ℕ) (s mid t : ServerState) (x y : UpsState) → IsFound u s mid x y → FindsLine x.unfinished piece line used → ExecutesDriverLine u line y mid (Ok tt) t → ReadsDriverLine u piece done x s (Ok (Some used)) t
-reads_done u piece line done used s mid t x y is found does = (line, found, does ∙ ap (after_driver_line u line) is.nothing)
+  pub still_connected : option_map is_connected (ups_at u.place s) ≡ Some true → option_map is_connected (ups_at u.place mid) ≡ Some true
+  still_connected connected = connected_at mid u d.after there (ap (λ (z : UpsState). z.report.connected) cut.leaves ∙ connected_as s u d.before (is_there s u true connected) d.there)
 
-pub reads_lacking : (u : UpsId) (piece line : List ℕ) (done used : ℕ) (s mid t : ServerState) (x y : UpsState) (e : AllocError) → IsFound u s mid x y → FindsLine x.unfinished piece line used → ExecutesDriverLine u line y mid (Err e) t → ReadsDriverLine u piece done x s (Err (Memory done)) t
-reads_lacking u piece line done used s mid t x y e is found does = (refl, line, used, found, ap (λ (r : Report). line_changes r.tree line) (sym is.report) ∙ does.0, does.1 ∙ is.lost)
+  -- It is done, or memory was refused.
+  pub reads_done : (length : Option ℕ) (done used : ℕ) (t : ServerState) → FindsLine d.before.unfinished piece (front_or length piece d.after.unfinished) used
+      → OfUps u mid (λ y. ExecutesDriverLine u (front_or length piece y.unfinished) y mid (Ok tt) t) → OfUps u s (λ x. ReadsDriverLine u piece done x s (Ok (Some used)) t)
+  reads_done length done used t finds does =
+      let line : List ℕ = front_or length piece d.after.unfinished in
+      of_ups s u d.before (λ x. ReadsDriverLine u piece done x s (Ok (Some used)) t) d.there (line, finds, does d.after there ∙ ap (after_driver_line u line) (ap (holding_nothing u) holds ∙ server_twice (with_unfinished d.after.unfinished) (with_unfinished []) u s))
+
+  pub reads_lacking : (length : Option ℕ) (done used : ℕ) (t : ServerState) (e : AllocError) → FindsLine d.before.unfinished piece (front_or length piece d.after.unfinished) used
+      → OfUps u mid (λ y. ExecutesDriverLine u (front_or length piece y.unfinished) y mid (Err e) t) → OfUps u s (λ x. ReadsDriverLine u piece done x s (Err (Memory done)) t)
+  reads_lacking length done used t e finds does =
+      let line : List ℕ = front_or length piece d.after.unfinished in
+      let lacks = does d.after there in
+      let changes = ap (λ (z : UpsState). line_changes z.report.tree line) (sym cut.leaves) ∙ lacks.0 in
+      of_ups s u d.before (λ x. ReadsDriverLine u piece done x s (Err (Memory done)) t) d.there (refl, line, used, finds, changes, lacks.1 ∙ ap (with_ups_changed after_loss u) holds ∙ server_twice (with_unfinished d.after.unfinished) after_loss u s)
+
+  -- None is whole.
+  pub reads_none : (result : Result (Option ℕ) Fault) (done : ℕ) → ((kept : List ℕ) × Finds d.before.unfinished piece found kept × (mid ≡ with_ups_changed (with_unfinished kept) u s) → ReadsDriverLine u piece done d.before s result mid)
+      → OfUps u s (λ x. ReadsDriverLine u piece done x s result mid)
+  reads_none result done reads = of_ups s u d.before (λ x. ReadsDriverLine u piece done x s result mid) d.there (reads (d.after.unfinished, cut.finds, holds))

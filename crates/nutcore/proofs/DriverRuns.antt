@@ -1,9 +1,7 @@
 -- Drivers in whole runs: since one connected, up to its loss, and the count of its refused lines.
 use Rattle.std.proofs.Common.{◌≡◌, ◌≤◌, ◌<◌, ◌∙◌, ◌+◌, ℕ, Bool, true, false, List, [], ◌∷◌, ◌++◌, Option, Some, Result, Ok, Err, refl, sym, ap, subst, min, length, append_assoc, inl, inr, arith}
 use Rattle.std.specs.Prelude.{◌⊎◌}
-use Rattle.std.specs.Option.{option_map_or}
-use Rattle.std.proofs.lemmas.Bool.{cond-false}
-use Rattle.nutusers.specs.declared.ups_list.UpsId.{UpsId}
+use Rattle.nutcore.proofs.Common.{option_map_or, cond-false, same_Some, UpsId, Event, Outcome, ServerState, ups_at, Run}
 use Rattle.nutdriver.specs.declared.line.DriverLine.{DriverLine}
 use Rattle.nutdriver.specs.declared.fault.DriverFault.{DriverFault}
 use Rattle.nutdriver.specs.declared.effect.Effect.{Effect}
@@ -13,19 +11,18 @@ use Rattle.nutdriver.specs.DriverLine.{read_driver_line}
 use Rattle.nutdriver.specs.DriverStep.{driver_step}
 use Rattle.nutdriver.specs.Report.{lost_report, after_step, after_reading}
 use Rattle.nutdriver.specs.declared.report.LineOutcome.TheVariants.{Refused}
-use Rattle.nutcore.specs.declared.event.Event.{Event}
 use Rattle.nutcore.specs.declared.event.Event.TheVariants.{DriverUp}
-use Rattle.nutcore.specs.declared.event.Outcome.{Outcome}
 use Rattle.nutcore.specs.declared.event.Outcome.TheVariants.{Done}
 use Rattle.nutcore.specs.Ups.{UpsState, new_ups, after_connecting, greatest_count}
-use Rattle.nutcore.specs.Server.{ServerState, ups_at}
 use Rattle.nutcore.specs.Step.{Step, MayAnswer, MayLackMemory, connected_by, outcome_of, after}
-use Rattle.nutcore.specs.Run.{Run}
 use Rattle.nutcore.specs.Sound.{Each, IsSoundUps, IsSound, ANewServerIsSound, EveryRunKeepsTheServerSound}
 use Rattle.nutcore.specs.DriverHistory.{Heard, heard_in_event, heard, bytes_heard, refused_among, came_in_event, came, has_driver, StaysConnected, IsHeard}
 use Rattle.nutcore.specs.DriverRuns.{IsNewServer, ConnectsHere, ConnectedInRun, WhatCameSinceConnectingIsExecuted, ALostDriversLinesAreABeginning, IsRefusedFor, WhichLinesAreRefused, count_of, refused_lines, RefusedLinesAreCounted, ANewServerCountsAllRefusedLines}
-use Rattle.nutcore.proofs.SoundUps.{each_get, each_same, no_loss}
-use Rattle.nutcore.proofs.DriverHistory.{same_count, count_is_few, both_counts, none_before, has_it, there_is, event_leaves, bytes_both, first_stays, some_same, told_is_executed}
+use Rattle.nutcore.proofs.UpsPlaces.{Stands, within, read_off}
+use Rattle.nutcore.proofs.SoundUps.{each_get, each_same}
+use Rattle.nutcore.proofs.DriverChanges.{no_loss, count_is_few, both_counts}
+use Rattle.nutcore.proofs.DriverEvents.{event_leaves}
+use Rattle.nutcore.proofs.DriverHistory.{has_it, bytes_both, first_stays, told_is_executed}
 
 -- a new server
 abbrev IsNew : UpsState → Type 0
@@ -33,9 +30,9 @@ IsNew x = x ≡ new_ups
 
 new_at : (s : ServerState) (u : UpsId) → IsNewServer s → u.place < length s.upses → ups_at u.place s ≡ Some new_ups
 new_at s u new few =
-    let x = there_is u.place s.upses few in
+    let x = within u.place s.upses few in
     let all : Each IsNew s.upses = subst (λ (t : ServerState). Each IsNew t.upses) (sym new.is) (each_same IsNew new_ups refl (length new.list)) in
-    x.1 ∙ ap (λ (y : UpsState). Some y) (each_get IsNew s.upses u.place x.0 x.1 all)
+    x.there ∙ ap (λ (y : UpsState). Some y) (each_get IsNew s.upses u.place x.ups x.there all)
 
 -- a connection begins
 up_done : (u : UpsId) (s : ServerState) (o : Outcome) (x : UpsState) → ups_at u.place s ≡ Some x → x.report.connected ≡ false → MayAnswer s (DriverUp u) o → o ≡ Done
@@ -65,11 +62,11 @@ earlier u s new e o es os x now there at step run (inr (inl stays)) = by_driver 
     by_driver false absent =
         let next : ServerState = after s e o in
         let l = event_leaves u s e o x there in
-        let still : l.left.report.connected ≡ true = sym (has_it u next l.left l.there) ∙ first_stays u next es os stays in
-        let begun = l.goes.begins absent still in
+        let still : l.ups.report.connected ≡ true = sym (has_it u next l.ups l.there) ∙ first_stays u next es os stays in
+        let begun = l.is.begins absent still in
         let told = told_is_executed next new es os u run stays in
-        let before : told.before ≡ after_connecting s.moment x = some_same told.before l.left (sym told.there_before ∙ l.there) ∙ begun.1 in
-        let after_it : told.after ≡ now = some_same told.after now (sym told.there_after ∙ at) in
+        let before : told.before ≡ after_connecting s.moment x = same_Some told.before l.ups (sym told.there_before ∙ l.there) ∙ begun.1 in
+        let after_it : told.after ≡ now = same_Some told.after now (sym told.there_after ∙ at) in
         let done : o ≡ Done = up_done u s o x there absent (subst (λ (z : Event). MayAnswer s z o) begun.0 step.allowed) in
         let same : next ≡ after s (DriverUp u) Done = ap (λ (z : Event). after s z o) begun.0 ∙ ap (λ (z : Outcome). after s (DriverUp u) z) done in
         inr (inr (begins_here u s e o es os now begun.0 done (record {
@@ -82,57 +79,55 @@ earlier u s new e o es os x now there at step run (inr (inl stays)) = by_driver 
               (subst (λ (y : UpsState). IsHeard y (came u es) (heard u next es os) now) before (subst (IsHeard told.before (came u es) (heard u next es os)) after_it told.is_heard));
         })))
 
-stands : (old new : ServerState) (es : List Event) (os : List Outcome) (u : UpsId) (x : UpsState) → ups_at u.place old ≡ Some x → Run old es os new → (now : UpsState) × (ups_at u.place new ≡ Some now) × How u old es os now
-stands old new [] [] u x there r = (x, ap (ups_at u.place) r ∙ there, by_driver x.report.connected refl)
+stands : (old new : ServerState) (es : List Event) (os : List Outcome) (u : UpsId) (x : UpsState) → ups_at u.place old ≡ Some x → Run old es os new → Stands u.place new.upses (How u old es os)
+stands old new [] [] u x there r = record { ups = x; there = ap (ups_at u.place) r ∙ there; is = by_driver x.report.connected refl }
   where
     by_driver : (b : Bool) → x.report.connected ≡ b → How u old [] [] x
     by_driver true is = inr (inl (has_it u old x there ∙ is))
     by_driver false gone = inl gone
-stands old new [] (o ∷ os) u x there r = absurd r
-stands old new (e ∷ es) [] u x there r = absurd r
 stands old new (e ∷ es) (o ∷ os) u x there (mid, step, r) =
     let next : ServerState = after old e o in
     let l = event_leaves u old e o x there in
     let run : Run next es os new = subst (λ (t : ServerState). Run t es os new) step.leaves r in
-    let rest = stands next new es os u l.left l.there run in
-    (rest.0, rest.1, earlier u old new e o es os x rest.0 there rest.1 (subst (Step old e o) step.leaves step) run rest.2)
+    let rest = stands next new es os u l.ups l.there run in
+    record { ups = rest.ups; there = rest.there; is = earlier u old new e o es os x rest.ups there rest.there (subst (Step old e o) step.leaves step) run rest.is }
+stands old new es os u x there r = absurd r
 
 pub since_connecting : ANewServerIsSound → EveryRunKeepsTheServerSound → WhatCameSinceConnectingIsExecuted
 since_connecting opening keeps old new es os u is_new few r = record {
-  now = end.0;
-  there = end.1;
-  unconnected = λ gone. (each_get (IsSoundUps new.moment) new.upses u.place end.0 end.1 sound.upses).lost gone;
-  connected = by_how end.2;
+  now = end.ups;
+  there = end.there;
+  unconnected = λ gone. (each_get (IsSoundUps new.moment) new.upses u.place end.ups end.there sound.upses).lost gone;
+  connected = by_how end.is;
 }
   where
     at : ups_at u.place old ≡ Some new_ups
     at = new_at old u is_new few
 
-    end : (now : UpsState) × (ups_at u.place new ≡ Some now) × How u old es os now
+    end : Stands u.place new.upses (How u old es os)
     end = stands old new es os u new_ups at r
 
     sound : IsSound new
     sound = keeps old new es os r (subst IsSound (sym is_new.is) (opening is_new.list is_new.users is_new.descriptions is_new.max_age is_new.is_list is_new.is_max_age))
 
-    by_how : How u old es os end.0 → end.0.report.connected ≡ true → ConnectedInRun u old es os end.0
-    by_how (inl gone) is = no_loss end.0.report.connected is gone
+    by_how : How u old es os end.ups → end.ups.report.connected ≡ true → ConnectedInRun u old es os end.ups
+    by_how (inl gone) is = no_loss end.ups.report.connected is gone
     by_how (inr (inl stays)) is = no_loss (has_driver u old) (first_stays u old es os stays) (has_it u old new_ups at)
     by_how (inr (inr h)) is = h
 
 -- up to a loss
 last_stays : (u : UpsId) (old new : ServerState) (es : List Event) (os : List Outcome) → Run old es os new → StaysConnected u old es os → has_driver u new ≡ true
 last_stays u old new [] [] r stays = ap (has_driver u) r ∙ stays
-last_stays u old new [] (o ∷ os) r stays = absurd r
-last_stays u old new (e ∷ es) [] r stays = absurd r
 last_stays u old new (e ∷ es) (o ∷ os) (mid, step, r) stays = last_stays u (after old e o) new es os (subst (λ (t : ServerState). Run t es os new) step.leaves r) stays.1
+last_stays u old new es os r stays = absurd r
 
 pub lost_lines_begin : ALostDriversLinesAreABeginning
 lost_lines_begin old mid new es os e o u r stays step gone =
     let told = told_is_executed old mid es os u r stays in
     let l = event_leaves u mid e o told.after told.there_after in
     let was : told.after.report.connected ≡ true = sym (has_it u mid told.after told.there_after) ∙ last_stays u old mid es os r stays in
-    let lost : l.left.report.connected ≡ false = sym (has_it u (after mid e o) l.left l.there) ∙ ap (has_driver u) (sym step.leaves) ∙ gone in
-    let begins = l.goes.loses was lost in
+    let lost : l.ups.report.connected ≡ false = sym (has_it u (after mid e o) l.ups l.there) ∙ ap (has_driver u) (sym step.leaves) ∙ gone in
+    let begins = l.is.loses was lost in
     let lines : List Heard = heard u old es os in
     let more : List Heard = heard_in_event u mid e o in
     let piece : List ℕ = came_in_event u e in (
@@ -162,27 +157,22 @@ which_are_refused = record { refused = is; only = λ moment report line fault h.
     by_reading moment report line fault (Err f) e h = let same : f ≡ fault = cc h in inl (subst (λ (g : DriverFault). read_driver_line line ≡ Err g) same e)
 
 -- they are counted
-count_in : (u : UpsId) (s : ServerState) (x : UpsState) → ups_at u.place s ≡ Some x → count_of u s ≡ x.faulty
-count_in u s x there = ap (λ (a : Option UpsState). option_map_or (λ (y : UpsState). y.faulty) a 0) there
-
 run_counts : (old new : ServerState) (es : List Event) (os : List Outcome) (u : UpsId) (x : UpsState) → ups_at u.place old ≡ Some x → x.faulty ≤ greatest_count → Run old es os new → count_of u new ≡ min (x.faulty + refused_lines u old es os) greatest_count
-run_counts old new [] [] u x there few r = same_count x.faulty (count_of u new) greatest_count (count_in u new x (ap (ups_at u.place) r ∙ there)) few
-run_counts old new [] (o ∷ os) u x there few r = absurd r
-run_counts old new (e ∷ es) [] u x there few r = absurd r
+run_counts old new [] [] u x there few r = let same = read_off (λ (y : UpsState). y.faulty) 0 u new x (ap (ups_at u.place) r ∙ there) in omega (arith, same, few)
 run_counts old new (e ∷ es) (o ∷ os) u x there few (mid, step, r) =
     let next : ServerState = after old e o in
     let lines : List Heard = heard_in_event u old e o in
     let l = event_leaves u old e o x there in
-    let one : l.left.faulty ≡ min (x.faulty + refused_among x.report lines) greatest_count = l.goes.counted few in
-    let rest = run_counts next new es os u l.left l.there (count_is_few (x.faulty + refused_among x.report lines) l.left.faulty greatest_count one) (subst (λ (t : ServerState). Run t es os new) step.leaves r) in
-    both_counts x.faulty l.left.faulty (count_of u new) (refused_among x.report lines) (refused_lines u next es os) greatest_count one rest
+    let one : l.ups.faulty ≡ min (x.faulty + refused_among x.report lines) greatest_count = l.is.counted few in
+    let rest = run_counts next new es os u l.ups l.there (count_is_few (x.faulty + refused_among x.report lines) l.ups.faulty greatest_count one) (subst (λ (t : ServerState). Run t es os new) step.leaves r) in
+    both_counts x.faulty l.ups.faulty (count_of u new) (refused_among x.report lines) (refused_lines u next es os) greatest_count one rest
     ∙ ap (λ (a : Option UpsState). min (x.faulty + (refused_among (option_map_or (λ (y : UpsState). y.report) a lost_report) lines + refused_lines u next es os)) greatest_count) (sym there)
+run_counts old new es os u x there few r = absurd r
 
 pub refused_are_counted : RefusedLinesAreCounted
 refused_are_counted old new es os u there few r =
-    let x = there_is u.place old.upses there in
-    subst (λ (n : ℕ). n ≤ greatest_count → count_of u new ≡ min (n + refused_lines u old es os) greatest_count) (sym (count_in u old x.0 x.1)) (λ k. run_counts old new es os u x.0 x.1 k r) few
+    let x = within u.place old.upses there in
+    subst (λ (n : ℕ). n ≤ greatest_count → count_of u new ≡ min (n + refused_lines u old es os) greatest_count) (sym (read_off (λ (y : UpsState). y.faulty) 0 u old x.ups x.there)) (λ k. run_counts old new es os u x.ups x.there k r) few
 
 pub new_counts_all : ANewServerCountsAllRefusedLines
-new_counts_all old new es os u is_new there r =
-    run_counts old new es os u new_ups (new_at old u is_new there) (omega arith) r ∙ ap (λ (n : ℕ). min n greatest_count) (sym (none_before (refused_lines u old es os)))
+new_counts_all old new es os u is_new there r = let counted = run_counts old new es os u new_ups (new_at old u is_new there) (omega arith) r in omega (arith, counted)

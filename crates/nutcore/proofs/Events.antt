@@ -1,13 +1,10 @@
 -- Events by what they do: most execute nothing, and leave the sessions as they are.
-use Rattle.std.proofs.Common.{◌≡◌, ℕ, Bool, false, List, [], ◌∷◌, Option, Some, None, refl, sym, ap, subst, cond, eqb, ◌&&◌, not}
-use Rattle.std.specs.Option.{option_map_or}
-use Rattle.nutusers.specs.declared.ups_list.UpsId.{UpsId}
-use Rattle.nutcore.specs.declared.event.Event.{Event}
+use Rattle.std.proofs.Common.{◌≡◌, ◌+◌, ℕ, Bool, true, false, List, [], ◌∷◌, ◌++◌, Option, Some, None, refl, sym, ap, subst, cond, eqb, ◌&&◌, not}
+use Rattle.nutcore.proofs.Common.{option_map_or, cond_both, UpsId, Event, ServerState, session, ups_at, with_ups_changed}
 use Rattle.nutcore.specs.declared.event.Event.TheVariants.{DriverUp, DriverBytes, DriverTook, DriverDown, Tick, Open, Feed, Took, Close}
-use Rattle.nutcore.specs.Session.{without}
+use Rattle.nutcore.specs.Session.{without, new_session}
 use Rattle.nutcore.specs.Ups.{UpsState, ping_is_due}
-use Rattle.nutcore.specs.Server.{ServerState, session, ups_at, with_ups_changed}
-use Rattle.nutcore.specs.Step.{with_input, without_output, may_take, after_by, ticked, connected, disconnected, after_driver_took, opened, pumped_until}
+use Rattle.nutcore.specs.Step.{with_input, without_output, may_take, may_open, after_by, ticked, connected, disconnected, after_driver_took, opened, pumped_until}
 use Rattle.nutcore.specs.Isolation.{client_of, ups_of}
 use Rattle.nutcore.specs.History.{Execution, executions_until, executions_by, taken_in_event, asked_in_event}
 use Rattle.nutcore.specs.Cost.{cost_of, no_cost}
@@ -44,57 +41,33 @@ pub record IsApart (e : Event) : Type 0 where
 
 silent : (e : Event) → IsPlain e → IsSilent e
 unfolding executions_by given_by taken_in_event asked_in_event
-silent (DriverUp u) plain = record { plain = tt; executes = λ s m. refl; gives = λ c s m. refl; takes = λ c s. refl; asks = λ c s. refl; costs = λ old new. refl }
-silent (DriverBytes u piece) plain = record { plain = tt; executes = λ s m. refl; gives = λ c s m. refl; takes = λ c s. refl; asks = λ c s. refl; costs = λ old new. refl }
-silent (DriverTook u n) plain = record { plain = tt; executes = λ s m. refl; gives = λ c s m. refl; takes = λ c s. refl; asks = λ c s. refl; costs = λ old new. refl }
-silent (DriverDown u) plain = record { plain = tt; executes = λ s m. refl; gives = λ c s m. refl; takes = λ c s. refl; asks = λ c s. refl; costs = λ old new. refl }
-silent (Tick seconds) plain = record { plain = tt; executes = λ s m. refl; gives = λ c s m. refl; takes = λ c s. refl; asks = λ c s. refl; costs = λ old new. refl }
-silent (Open address) plain = record { plain = tt; executes = λ s m. refl; gives = λ c s m. refl; takes = λ c s. refl; asks = λ c s. refl; costs = λ old new. refl }
 silent (Feed c piece) plain = absurd plain
 silent (Took c n) plain = absurd plain
-silent (Close c) plain = record { plain = tt; executes = λ s m. refl; gives = λ c s m. refl; takes = λ c s. refl; asks = λ c s. refl; costs = λ old new. refl }
+silent e plain = record { plain = tt; executes = λ s m. refl; gives = λ c s m. refl; takes = λ c s. refl; asks = λ c s. refl; costs = λ old new. refl }
 
 -- what holds of those, and of what a client sends and takes, holds of each event
 pub of_event : (P : Event → Type 0) → ((e : Event) → IsSilent e → P e) → ((c : ℕ) (piece : List ℕ) → P (Feed c piece)) → ((c n : ℕ) → P (Took c n)) → (e : Event) → P e
-of_event P other feed took (DriverUp u) = other (DriverUp u) (silent (DriverUp u) tt)
-of_event P other feed took (DriverBytes u piece) = other (DriverBytes u piece) (silent (DriverBytes u piece) tt)
-of_event P other feed took (DriverTook u n) = other (DriverTook u n) (silent (DriverTook u n) tt)
-of_event P other feed took (DriverDown u) = other (DriverDown u) (silent (DriverDown u) tt)
-of_event P other feed took (Tick seconds) = other (Tick seconds) (silent (Tick seconds) tt)
-of_event P other feed took (Open address) = other (Open address) (silent (Open address) tt)
 of_event P other feed took (Feed c piece) = feed c piece
 of_event P other feed took (Took c n) = took c n
-of_event P other feed took (Close c) = other (Close c) (silent (Close c) tt)
+of_event P other feed took e = other e (silent e tt)
 
 -- the same, with those apart that open and close a session
 pub of_session_event : (P : Event → Type 0) → ((e : Event) → IsApart e → P e) → ((address : List ℕ) → P (Open address)) → ((c : ℕ) (piece : List ℕ) → P (Feed c piece)) → ((c n : ℕ) → P (Took c n)) → ((c : ℕ) → P (Close c)) → (e : Event) → P e
 unfolding after_by ticked
-of_session_event P other opens feed took closes (DriverUp u) = other (DriverUp u) (record { silent = silent (DriverUp u) tt; sessions = λ s m. refl; next_id = λ s m. refl })
 of_session_event P other opens feed took closes (DriverBytes u piece) =
-    other (DriverBytes u piece) (record {
-      silent = silent (DriverBytes u piece) tt;
-      sessions = λ s m. ap (λ (t : ServerState). t.sessions) (bytes_change u piece m s);
-      next_id = λ s m. ap (λ (t : ServerState). t.next_id) (bytes_change u piece m s);
-    })
-of_session_event P other opens feed took closes (DriverTook u n) = other (DriverTook u n) (record { silent = silent (DriverTook u n) tt; sessions = λ s m. refl; next_id = λ s m. refl })
-of_session_event P other opens feed took closes (DriverDown u) = other (DriverDown u) (record { silent = silent (DriverDown u) tt; sessions = λ s m. refl; next_id = λ s m. refl })
-of_session_event P other opens feed took closes (Tick seconds) = other (Tick seconds) (record { silent = silent (Tick seconds) tt; sessions = λ s m. refl; next_id = λ s m. refl })
+    let e : Event = DriverBytes u piece in
+    other e (record { silent = silent e tt; sessions = λ s m. ap (λ (t : ServerState). t.sessions) (bytes_change u piece m s); next_id = λ s m. ap (λ (t : ServerState). t.next_id) (bytes_change u piece m s) })
 of_session_event P other opens feed took closes (Open address) = opens address
 of_session_event P other opens feed took closes (Feed c piece) = feed c piece
 of_session_event P other opens feed took closes (Took c n) = took c n
 of_session_event P other opens feed took closes (Close c) = closes c
+of_session_event P other opens feed took closes e = other e (record { silent = silent e tt; sessions = λ s m. refl; next_id = λ s m. refl })
 
 -- what holds of nothing, and of what a driver is told that comes and at its time, holds of what an event tells a driver beside lines
 pub of_told_beside : (u : UpsId) (s : ServerState) (P : List Telling → Type 0) → P [] → ((b : Bool) → P (cond b (dump_all ∷ []) [])) → ((b : Bool) → P (cond b (ping ∷ []) [])) → (e : Event) → P (told_beside_lines u s e)
 of_told_beside u s P none up tick (DriverUp v) = up (eqb v.place u.place && not (has_driver u s))
-of_told_beside u s P none up tick (DriverBytes v piece) = none
-of_told_beside u s P none up tick (DriverTook v n) = none
-of_told_beside u s P none up tick (DriverDown v) = none
 of_told_beside u s P none up tick (Tick seconds) = tick (option_map_or (ping_is_due s.max_age (moment_of s seconds)) (ups_at u.place s) false)
-of_told_beside u s P none up tick (Open address) = none
-of_told_beside u s P none up tick (Feed c piece) = none
-of_told_beside u s P none up tick (Took c n) = none
-of_told_beside u s P none up tick (Close c) = none
+of_told_beside u s P none up tick e = none
 
 -- what holds of each change that a driver's event makes of its UPS
 pub record OfDrivers (moment : ℕ) (m : Option ℕ) (Q : (UpsState → UpsState) → Type 0) : Type 0 where
@@ -121,6 +94,13 @@ of_parts s m Q drivers P ups tick opens feed took closes (Open address) = opens 
 of_parts s m Q drivers P ups tick opens feed took closes (Feed c piece) = feed c piece
 of_parts s m Q drivers P ups tick opens feed took closes (Took c n) = took c n
 of_parts s m Q drivers P ups tick opens feed took closes (Close c) = closes c
+
+-- what an opening leaves: one session more, or all as it was
+pub of_opened : (P : ServerState → Type 0) (s : ServerState) (address : List ℕ) (m : Option ℕ) → P s
+    → (may_open s ≡ true → let t : ServerState = record s { sessions = s.sessions ++ new_session s.next_id address ∷ []; next_id = s.next_id + 1 } in P t) → P (opened s address m)
+unfolding opened
+of_opened P s address None same more = cond_both (may_open s) _ s P more (λ full. same)
+of_opened P s address (Some k) same more = same
 
 -- what asks nothing of these changes
 pub any_driver : (moment : ℕ) (m : Option ℕ) → OfDrivers moment m (λ f. Unit {0})

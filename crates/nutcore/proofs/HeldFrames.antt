@@ -1,5 +1,5 @@
 -- A listing is the frame of what is held.
-use Rattle.std.proofs.Common.{◌≡◌, ℕ, Bool, true, false, List, [], ◌∷◌, Option, Some, None, Result, Ok, Err, refl, sym, ◌∙◌, ap}
+use Rattle.std.proofs.Common.{◌≡◌, ℕ, Bool, true, false, List, [], ◌∷◌, Option, Some, Result, Ok, refl, sym, ◌∙◌, ap}
 use Rattle.std.specs.Prelude.{codes, nat_eq}
 use Rattle.std.specs.List.{starts_with}
 use Rattle.std.proofs.lemmas.Slice.Eq.{bytes_eq-Decides}
@@ -8,16 +8,11 @@ use Rattle.nutanswer.specs.declared.command.Command.{Command}
 use Rattle.nutanswer.specs.declared.err_word.ErrWord.{ErrWord}
 use Rattle.nutanswer.specs.Command.{read_command}
 use Rattle.nutlisting.specs.Items.{ListingState}
-use Rattle.nutanswer.specs.Answer.{Answer, one_line, answer_to, listing, listing_of_clients, text_of_answer, change_of_answer}
-use Rattle.nutcore.specs.Server.{ServerState}
-use Rattle.nutcore.specs.Reply.{seen, asker, reply, text_to}
-use Rattle.nutcore.specs.Session.{SessionState}
-use Rattle.nutcore.specs.Server.{session, with_session}
-use Rattle.nutcore.specs.Reply.{change_by, changed_session}
-use Rattle.nutcore.specs.Pump.{next_line_for, after_line}
-use Rattle.nutcore.specs.Pump.{answered as answered_line}
+use Rattle.nutanswer.specs.Answer.{Answer, one_line, answer_to, listing, text_of_answer, change_of_answer}
+use Rattle.nutcore.proofs.Common.{Change, SessionState, ServerState, session, with_session}
+use Rattle.nutcore.specs.Reply.{seen, asker, reply, text_to, change_by, changed_session}
+use Rattle.nutcore.specs.Pump.{next_line_for, after_line, answered as answered_line}
 use Rattle.nutcore.proofs.Pumping.{after_line_is, line_done}
-use Rattle.nutanswer.specs.declared.reply.Change.{Change}
 use Rattle.nutanswer.specs.declared.reply.Change.TheVariants.{Nothing}
 use Rattle.nutanswer.specs.Laws.{is_ok_line, OnlyOkChanges}
 use Rattle.nutcore.specs.Headline.{AListingIsWhatIsHeld}
@@ -38,23 +33,19 @@ ok_line [] e = cc e
 ok_line (word ∷ words) e = cc e
 
 ok_text : (answer : Result Answer ErrWord) → is_ok_line answer ≡ true → starts_with nat_eq (text_of_answer answer) (codes "ERR") ≡ true → ⊥
-ok_text (Err word) ok e = cc ok
-ok_text (Ok (one_line [] change)) ok e = cc ok
 ok_text (Ok (one_line (first ∷ words) change)) ok e =
     let same : first ≡ codes "OK" = (bytes_eq-Decides first (codes "OK")).0 ok in
     ok_line words (ap (λ (w : List ℕ). starts_with nat_eq (line_of (w ∷ words)) (codes "ERR")) (sym same) ∙ e)
-ok_text (Ok (listing l)) ok e = cc ok
-ok_text (Ok (listing_of_clients l)) ok e = cc ok
+ok_text answer ok e = cc ok
 
 -- so what begins with ERR changes nothing
 refused_change : OnlyOkChanges → (s : ServerState) (c : ℕ) (r : Result (Option Command) ErrWord) → starts_with nat_eq (text_to s c r) (codes "ERR") ≡ true → change_by s c r ≡ Nothing
-refused_change only_ok s c (Err word) e = refl
-refused_change only_ok s c (Ok None) e = refl
 refused_change only_ok s c (Ok (Some command)) e = by_ok (is_ok_line (answer_to (seen s) (asker c s) command)) refl
   where
     by_ok : (b : Bool) → is_ok_line (answer_to (seen s) (asker c s) command) ≡ b → change_of_answer (answer_to (seen s) (asker c s) command) ≡ Nothing
     by_ok true ok = absurd (ok_text (answer_to (seen s) (asker c s) command) ok e)
     by_ok false not_ok = only_ok (seen s) (asker c s) command not_ok
+refused_change only_ok s c r e = refl
 
 pub refused_line : OnlyOkChanges → (s : ServerState) (c : ℕ) (line : List ℕ) (x : SessionState) → session c s ≡ Some x → next_line_for s c ≡ Some line → starts_with nat_eq (reply s c line) (codes "ERR") ≡ true → after_line s c ≡ with_session s (answered_line line (reply s c line) x)
 refused_line only_ok s c line x found next refused =

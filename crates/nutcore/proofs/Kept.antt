@@ -1,35 +1,31 @@
 -- What every part of an event keeps, every event and every run keeps.
-use Rattle.std.proofs.Common.{◌≡◌, ◌+◌, ℕ, zero, suc, Bool, true, false, List, [], ◌∷◌, ◌++◌, Option, Some, None, refl, sym, subst, cond, length, All, IfSome}
+use Rattle.std.proofs.Common.{◌≡◌, ◌+◌, ℕ, zero, suc, true, List, [], ◌∷◌, ◌++◌, Option, Some, None, refl, sym, subst, cond, length, All, IfSome}
 use Rattle.std.proofs.lemmas.List.Elements.{All-head, All-tail}
-use Rattle.nutusers.specs.declared.ups_list.UpsId.{UpsId}
-use Rattle.nutcore.specs.declared.event.Event.{Event}
-use Rattle.nutcore.specs.declared.event.Outcome.{Outcome}
+use Rattle.nutcore.proofs.Common.{cond_both, UpsId, Event, Outcome, ServerState, session, with_session_changed, with_ups_changed, Run}
 use Rattle.nutcore.specs.Session.{without, new_session}
-use Rattle.nutcore.specs.Server.{ServerState, session, with_session_changed, with_ups_changed}
 use Rattle.nutcore.specs.Pump.{next_line_for, after_line, after_lines, after_all_lines, after_notice, with_notice, pumped, held_of}
-use Rattle.nutcore.specs.Step.{joined, with_input, taken_from, without_output, may_take, may_open, opened, ticked, pumped_until, after_by, refused_after}
-use Rattle.nutcore.specs.Run.{Run}
+use Rattle.nutcore.specs.Step.{joined, with_input, taken_from, without_output, may_take, may_open, ticked, pumped_until, after_by, refused_after}
 use Rattle.nutcore.specs.Addresses.{opened_from}
 use Rattle.nutcore.proofs.Pumping.{stopped_none}
-use Rattle.nutcore.proofs.Events.{OfDrivers, of_parts}
+use Rattle.nutcore.proofs.Events.{OfDrivers, of_opened, of_parts}
 
--- the parts: a line is executed, a session is changed, a UPS by its driver, time goes on, a session opens, and one is closed
-pub record IsKept (P : ServerState → Type 0) (Opens : List ℕ → Type 0) : Type 0 where
+-- the parts of what a client sends and takes: a line is executed, and a session is changed
+pub record IsPumped (P : ServerState → Type 0) : Type 0 where
   pub line : (s : ServerState) (c : ℕ) (line : List ℕ) → next_line_for s c ≡ Some line → P s → P (after_line s c)
   pub joins : (s : ServerState) (c : ℕ) (piece : List ℕ) → P s → P (with_session_changed (joined piece) c s)
   pub gives : (s : ServerState) (c n : ℕ) → P s → P (with_session_changed (taken_from n) c s)
   pub notice : (s : ServerState) (c : ℕ) → P s → P (with_session_changed with_notice c s)
+
+-- all parts: a UPS is changed by its driver too, time goes on, a session opens, and one is closed
+pub record IsKept (P : ServerState → Type 0) (Opens : List ℕ → Type 0) : Type 0 where
+  pub pumped : IsPumped P
   pub driver : (s : ServerState) (m : Option ℕ) → OfDrivers s.moment m (λ f. (u : UpsId) → P s → P (with_ups_changed f u s))
   pub ticks : (s : ServerState) (seconds : ℕ) → P s → P (ticked seconds s)
   pub opens : (s : ServerState) (address : List ℕ) → may_open s ≡ true → Opens address → P s
       → (let t : ServerState = record s { sessions = s.sessions ++ new_session s.next_id address ∷ []; next_id = s.next_id + 1 } in P t)
   pub closes : (s : ServerState) (c : ℕ) → P s → (let t : ServerState = record s { sessions = without c s.sessions } in P t)
 
-module _ (P : ServerState → Type 0) (Opens : List ℕ → Type 0) (kept : IsKept P Opens) where
-  either : (b : Bool) (s t : ServerState) → P s → P t → P (cond b s t)
-  either true s t h k = h
-  either false s t h k = k
-
+module _ (P : ServerState → Type 0) (kept : IsPumped P) where
   by_line : (s : ServerState) (c : ℕ) (o : Option (List ℕ)) → next_line_for s c ≡ o → P s → P (after_line s c)
   by_line s c None e h = subst P (sym (stopped_none s c e)) h
   by_line s c (Some line) e h = kept.line s c line e h
@@ -46,33 +42,29 @@ module _ (P : ServerState → Type 0) (Opens : List ℕ → Type 0) (kept : IsKe
       kept.notice (after_lines k s c) c (by_lines k c s h)
   by_pump c s (Some k) h = by_lines k c s h
 
-  by_opening : (s : ServerState) (address : List ℕ) (m : Option ℕ) → Opens address → P s → P (opened s address m)
-  unfolding opened
-  by_opening s address None own h = by_room (may_open s) refl
-    where
-      by_room : (b : Bool) → may_open s ≡ b → P (cond b (record s { sessions = s.sessions ++ new_session s.next_id address ∷ []; next_id = s.next_id + 1 }) s)
-      by_room true e = kept.opens s address e own h
-      by_room false e = h
-  by_opening s address (Some k) own h = h
+  pub by_feed : (s : ServerState) (c : ℕ) (piece : List ℕ) (m : Option ℕ) → P s → P (pumped_until (with_input s c piece) c m)
+  unfolding with_input
+  by_feed s c piece m h = by_pump c (with_input s c piece) m (kept.joins s c piece h)
 
+  pub by_take : (s : ServerState) (c n : ℕ) (m : Option ℕ) → P s → P (cond (may_take (session c s) n) (pumped_until (without_output s c n) c m) s)
+  unfolding without_output
+  by_take s c n m h = cond_both (may_take (session c s) n) _ s P (λ e. by_pump c (without_output s c n) m (kept.gives s c n h)) (λ e. h)
+
+module _ (P : ServerState → Type 0) (Opens : List ℕ → Type 0) (kept : IsKept P Opens) where
   abbrev OpensFrom : Event → Type 0
   OpensFrom e = IfSome (opened_from e) Opens
 
   pub by_event : (s : ServerState) (e : Event) (m : Option ℕ) → OpensFrom e → P s → P (after_by s e m)
-  unfolding with_input without_output
   by_event s e m =
       of_parts s m (λ f. (u : UpsId) → P s → P (with_ups_changed f u s)) (kept.driver s m) (λ e t. OpensFrom e → P s → P t)
-      (λ e u f its apart keeps own h. keeps u h) (λ seconds own h. kept.ticks s seconds h) (λ address own h. by_opening s address m own h)
-      (λ c piece own h. by_pump c (with_input s c piece) m (kept.joins s c piece h))
-      (λ c n own h. either (may_take (session c s) n) (pumped_until (without_output s c n) c m) s (by_pump c (without_output s c n) m (kept.gives s c n h)) h)
-      (λ c own h. kept.closes s c h) e
+      (λ e u f its apart keeps own h. keeps u h) (λ seconds own h. kept.ticks s seconds h) (λ address own h. of_opened P s address m h (λ room. kept.opens s address room own h))
+      (λ c piece own h. by_feed P kept.pumped s c piece m h) (λ c n own h. by_take P kept.pumped s c n m h) (λ c own h. kept.closes s c h) e
 
   pub by_run : (s t : ServerState) (es : List Event) (os : List Outcome) → Run s es os t → All OpensFrom es → P s → P t
   by_run s t [] [] r own h = subst P (sym r) h
-  by_run s t [] (o ∷ os) r own h = absurd r
-  by_run s t (e ∷ es) [] r own h = absurd r
   by_run s t (e ∷ es) (o ∷ os) (mid, step, r) own h =
       by_run mid t es os r (All-tail OpensFrom e es own) (subst P (sym step.leaves) (by_event s e (refused_after o) (All-head OpensFrom e es own) h))
+  by_run s t es os r own h = absurd r
 
 -- where nothing is asked of addresses
 abbrev pub IsAny : List ℕ → Type 0

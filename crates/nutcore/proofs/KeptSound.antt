@@ -1,35 +1,26 @@
 -- What a method puts in place of one session or of one UPS keeps the server sound.
-use Rattle.std.proofs.Common.{◌≡◌, ℕ, zero, suc, Bool, true, false, ◌||◌, List, [], ◌∷◌, Option, Some, None, Result, Ok, Err, refl, sym, ◌∙◌, ap, subst, cond, set, length, length-set, arith}
+use Rattle.std.proofs.Common.{◌≡◌, ℕ, true, false, ◌||◌, List, [], Option, Some, None, Result, Ok, Err, refl, sym, ◌∙◌, ap, subst, set, length, arith}
 use Rattle.std.specs.Prelude.{is_some, nat_lt}
 use denote.Ref.{MutBor}
 use Rattle.std.specs.Fn.{Once, FnOnceReturnsAtMut}
 use Rattle.nutdriver.specs.Tree.{empty_tree}
 use Rattle.nutdriver.specs.Sound.{IsSoundTree, EachLineKeepsTheTreeSound}
-use Rattle.nutusers.specs.declared.ups_list.UpsId.{UpsId}
+use Rattle.nutcore.proofs.Common.{cond_both, or_parts, UpsId, Change, Fault, SessionState, ServerState, session, ups_at}
 use Rattle.nutlisting.specs.declared.outbox.TheConstants.{OWED_LIMIT}
-use Rattle.nutanswer.specs.declared.reply.Change.{Change}
-use Rattle.nutcore.specs.declared.event.Fault.{Fault}
 use Rattle.std.specs.declared.alloc.AllocError.{AllocError}
 use Rattle.nutcore.specs.Lines.{first_line}
-use Rattle.nutcore.specs.Session.{SessionState}
 use Rattle.nutcore.specs.Ups.{UpsState, with_unfinished}
-use Rattle.nutcore.specs.Server.{ServerState, session, ups_at}
 use Rattle.nutcore.specs.Reply.{changed_session, changed_upses}
 use Rattle.nutcore.specs.Pump.{next_line, answered, with_notice}
 use Rattle.nutcore.specs.Step.{joined, taken_from}
-use Rattle.nutcore.specs.Promises.{IsTaken, DoesLine}
-use Rattle.nutcore.specs.Promises.{IsAt, OrderFits}
+use Rattle.nutcore.specs.Promises.{IsTaken, DoesLine, IsAt, OrderFits}
 use Rattle.nutcore.specs.Sound.{Each, IsSoundSession, IsSoundUps, IsSound}
+use Rattle.nutcore.proofs.UpsPlaces.{of_ups, server_set}
 use Rattle.nutcore.proofs.Found.{find_id}
 use Rattle.nutcore.proofs.Serving.{set_is}
-use Rattle.nutcore.proofs.SoundUps.{each_get, sound_changes, length-changes, sound_fewer, sound_bytes, sound_text, text_connected, no_loss}
-use Rattle.nutcore.proofs.Sound.{each_found, sound_with, sound_answered, sound_notice, sound_input, sound_output}
-
--- lists
-each_set : {A : Type 0} (P : A → Type 0) (y : A) → P y → (i : ℕ) (xs : List A) → Each P xs → Each P (set xs i y)
-each_set P y p i [] all = tt
-each_set P y p zero (x ∷ xs) all = (p, all.1)
-each_set P y p (suc i) (x ∷ xs) all = (all.0, each_set P y p i xs all.1)
+use Rattle.nutcore.proofs.SoundUps.{sound_changes, length-changes, sound_fewer, sound_bytes, sound_text, text_connected}
+use Rattle.nutcore.proofs.DriverChanges.{no_loss}
+use Rattle.nutcore.proofs.Sound.{each_found, sound_with, sound_upses, upses_sound, sound_answered, sound_notice, sound_input, sound_output}
 
 -- a session in place of the one that stands there
 pub session_kept : (v : ServerState) (c i : ℕ) (x y : SessionState) → IsAt c i v.sessions → session c v ≡ Some x → y.id ≡ x.id → (IsSoundSession x → IsSoundSession y) → IsSound v →
@@ -42,13 +33,12 @@ pub answered_kept : (change : Change) (text : List ℕ) (x y : SessionState) →
     IsSoundSession x → IsSoundSession y
 answered_kept change text x y going is h = by_line (next_line x) refl going
   where
-    going_of : (a b : Bool) (o : Option (List ℕ)) (line : List ℕ) → cond (a || b) None o ≡ Some line → a ≡ false
-    going_of false b o line e = refl
-    going_of true b o line e = cc e
+    going_of : (line : List ℕ) → next_line x ≡ Some line → x.ending ≡ false
+    going_of line = cond_both (x.ending || nat_lt OWED_LIMIT (length x.owed)) None (first_line x.held) (λ o. o ≡ Some line → x.ending ≡ false) (λ k e. cc e) (λ k e. (or_parts x.ending (nat_lt OWED_LIMIT (length x.owed)) k).0)
 
     by_line : (o : Option (List ℕ)) → next_line x ≡ o → is_some o ≡ true → IsSoundSession y
     by_line None e some = cc some
-    by_line (Some line) e some = subst IsSoundSession (sym (is line e)) (sound_answered change line text x (going_of x.ending (nat_lt OWED_LIMIT (length x.owed)) (first_line x.held) line e) h)
+    by_line (Some line) e some = subst IsSoundSession (sym (is line e)) (sound_answered change line text x (going_of line e) h)
 
 -- it is told that its line is too long, or stays
 pub noticed_kept : (x y : SessionState) → y ≡ with_notice x → IsSoundSession x → IsSoundSession y
@@ -65,15 +55,8 @@ taken_kept n x y e h = subst IsSoundSession (sym e) (sound_output n x h)
 -- a UPS in place of the one that stands there
 pub ups_kept : (v : ServerState) (u : UpsId) (x y : UpsState) → ups_at u.place v ≡ Some x → (IsSoundUps v.moment x → IsSoundUps v.moment y) → IsSound v →
     let code : ServerState = record v { upses = set v.upses u.place y } in IsSound code
-ups_kept v u x y there keeps h = record {
-  max_age = h.max_age;
-  list = h.list;
-  named = length-set v.upses u.place y ∙ h.named;
-  few = h.few;
-  ids = h.ids;
-  sessions = h.sessions;
-  upses = each_set (IsSoundUps v.moment) y (keeps (each_get (IsSoundUps v.moment) v.upses u.place x there h.upses)) u.place v.upses h.upses;
-}
+ups_kept v u x y there keeps h =
+    subst IsSound (sym (server_set v u (λ z. y) x y there refl)) (sound_upses (λ z. y) u v (of_ups v u x (λ z. IsSoundUps v.moment z → IsSoundUps v.moment y) there keeps) h)
 
 -- what a call does to a UPS is said of what it was lent and left
 pub of_call : {F R : Type 0} {g : Once F (MutBor UpsState × Unit {0}) (R × (MutBor UpsState × Unit {0}))} {f : F} {x y : UpsState} {r : R} (P : UpsState → UpsState → Type 0) (called : FnOnceReturnsAtMut g f x r y) → P called.shown.now called.left.now → P x y
@@ -82,15 +65,8 @@ of_call {y = y} P called p = subst (λ (z : UpsState). P z y) called.shows (subs
 -- an answer changes the UPSs
 pub upses_kept : (v : ServerState) (change : Change) (xs : List UpsState) → xs ≡ changed_upses change v.upses → OrderFits change v.upses → IsSound v →
     let code : ServerState = record v { upses = xs } in IsSound code
-upses_kept v change xs e fits h = record {
-  max_age = h.max_age;
-  list = h.list;
-  named = ap length e ∙ length-changes change v.upses ∙ h.named;
-  few = h.few;
-  ids = h.ids;
-  sessions = h.sessions;
-  upses = subst (Each (IsSoundUps v.moment)) (sym e) (sound_changes v.moment change v.upses fits h.upses);
-}
+upses_kept v change xs e fits h =
+    upses_sound v v.moment xs (ap length e ∙ length-changes change v.upses) (subst (Each (IsSoundUps v.moment)) (sym e) (sound_changes v.moment change v.upses fits h.upses)) h
 
 -- its driver takes bytes
 pub driver_taken_kept : (m n : ℕ) (x y : UpsState) (r : Result (Unit {0}) Fault) → IsTaken n x r y → IsSoundUps m x → IsSoundUps m y

@@ -1,3 +1,4 @@
+mod Common
 mod FirstLine
 mod Found
 mod Progress
@@ -12,9 +13,13 @@ mod Kept
 mod Executions
 mod Timely
 mod HeldFrames
+mod UpsPlaces
 mod DriverLoops
 mod WholeLines
 mod DriverText
+mod DriverChanges
+mod DriverEvents
+mod Refused
 mod Places
 mod Serving
 mod EventSteps

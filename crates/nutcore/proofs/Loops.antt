@@ -21,11 +21,8 @@ none_of : (o : Option (List ℕ)) → is_none o ≡ true → o ≡ None
 none_of None h = refl
 none_of (Some line) h = cc
 
-pub stops_none : (s : ServerState) (c : ℕ) → pump_stops s c ≡ true → next_line_for s c ≡ None
-stops_none s c stop = none_of (next_line_for s c) stop
-
 pub stopped_line : (s : ServerState) (c : ℕ) → pump_stops s c ≡ true → after_line s c ≡ s
-stopped_line s c stop = stopped_none s c (stops_none s c stop)
+stopped_line s c stop = stopped_none s c (none_of (next_line_for s c) stop)
 
 pub stopped_lines : (k : ℕ) (s : ServerState) (c : ℕ) → pump_stops s c ≡ true → after_lines k s c ≡ s
 unfolding after_lines

@@ -23,7 +23,7 @@ use Rattle.nutcore.specs.DriverOrders.{Telling, dump_all, ping, order, told_by_c
 use Rattle.nutcore.specs.OrdersByRight.{IsSetByRight, IsCommandedByRight, IsOrderByRight, AreOrdersByRight, none_left, given, passed_over, order_of, all_told, orders_told, EachOrderIsByRight}
 use Rattle.nutcore.proofs.Events.{of_told_beside}
 use Rattle.nutcore.proofs.Changes.{of_upses}
-use Rattle.nutcore.proofs.DriverHistory.{same_ups}
+use Rattle.nutcore.proofs.UpsPlaces.{same_ups}
 use Rattle.nutanswer.proofs.PublicLaws.{each_order_answered_ok_is_given}
 use Rattle.nutcore.proofs.Rows.{comes_of_line, by_right}
 

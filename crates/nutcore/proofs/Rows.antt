@@ -1,15 +1,13 @@
 -- What a line changes comes of its command, where the checks of its row held.
-use Rattle.std.proofs.Common.{◌≡◌, ◌∙◌, ℕ, Bool, true, false, List, Option, Some, None, Result, Ok, Err, refl, ap, subst}
+use Rattle.std.proofs.Common.{◌≡◌, ◌∙◌, ℕ, Bool, true, false, List, Option, Some, Result, Ok, refl, ap, subst}
 use Rattle.nutusers.specs.declared.rights.Right.{Right}
-use Rattle.nutusers.specs.declared.ups_list.UpsId.{UpsId}
+use Rattle.nutcore.proofs.Common.{UpsId, Change, ServerState}
 use Rattle.nutanswer.specs.declared.command.Command.{Command}
 use Rattle.nutanswer.specs.declared.err_word.ErrWord.{ErrWord}
-use Rattle.nutanswer.specs.declared.reply.Change.{Change}
 use Rattle.nutanswer.specs.declared.reply.Change.TheVariants.{Nothing}
 use Rattle.nutanswer.specs.Command.{read_command}
 use Rattle.nutanswer.specs.Rows.{ComesOf, IsByRight as IsRowByRight}
 use Rattle.nutanswer.proofs.PublicLaws.{each_change_comes_of_its_command}
-use Rattle.nutcore.specs.Server.{ServerState}
 use Rattle.nutcore.specs.Reply.{seen, asker, change_by, text_to}
 use Rattle.nutcore.specs.ByRight.{IsByRight}
 
@@ -29,9 +27,8 @@ pub comes_of_line : (s : ServerState) (c : ℕ) (line : List ℕ) (change : Chan
 comes_of_line s c line change some is = by_read (read_command line) refl (ap changes_something is ∙ some) is
   where
     by_read : (r : Result (Option Command) ErrWord) → read_command line ≡ r → changes_something (change_by s c r) ≡ true → change_by s c r ≡ change → ComesOfLine s c line change
-    by_read (Err word) e k h = cc k
-    by_read (Ok None) e k h = cc k
     by_read (Ok (Some command)) e k h = record { command = command; read = e; row = subst (ComesOf (seen s) (asker c s) command) h (each_change_comes_of_its_command (seen s) (asker c s) command) }
+    by_read r e k h = cc k
 
 -- a row that is by right, as its line has it
 unfoldable pub by_right : (s : ServerState) (c : ℕ) (line : List ℕ) (command : Command) (of_ups : Option (List ℕ) → Command) (right : Right) (words : List (List ℕ)) (u : UpsId) → read_command line ≡ Ok (Some command)

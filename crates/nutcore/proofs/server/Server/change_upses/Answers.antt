@@ -1,8 +1,7 @@
 use Rattle.std.proofs.Common.{◌∙◌, ℕ, List, refl, sym, ap, subst}
-use Rattle.nutanswer.specs.declared.reply.Change.{Change}
+use Rattle.nutcore.proofs.Common.{Change, ServerState, changed_at}
 use Rattle.nutanswer.specs.declared.reply.Change.TheVariants.{Fsd, Order}
 use Rattle.nutcore.specs.Ups.{with_order}
-use Rattle.nutcore.specs.Server.{ServerState, changed_at}
 use Rattle.nutcore.specs.Promises.{TakesLine, OrderFits, change_in}
 use Rattle.nutcore.specs.contracts.server.Server.{the_view}
 use Rattle.nutcore.proofs.KeptSound.{upses_kept}

@@ -1,10 +1,6 @@
-use Rattle.std.proofs.Common.{Result, Err, true, sym, ◌∙◌, ap, subst, rules}
+use Rattle.std.proofs.Common.{true, rules}
 use Rattle.std.proofs.lemmas.Result.{err_from_is_err_and}
-use Rattle.nutcore.proofs.DriverSteps.{is_there, refused_as, took_absent, took_unconnected, took_taken}
-use Rattle.nutcore.specs.declared.event.Event.TheVariants.{DriverTook}
-use Rattle.nutcore.specs.declared.event.Fault.{Fault}
-use Rattle.nutcore.specs.Calls.{done}
-use Rattle.nutcore.specs.Headline.{Serves}
+use Rattle.nutcore.proofs.DriverSteps.{is_there, took_refused, took_taken}
 use Rattle.nutcore.specs.Promises.{IsTaken}
 use Rattle.nutcore.proofs.KeptSound.{of_call, driver_taken_kept}
 use Rattle.nutcore.proofs.Runs.{served_from}
@@ -12,10 +8,8 @@ use Rattle.nutcore.proofs.server.Server.driver_took.Goals as goal
 
 pub returns-in_err-connected-clause-served : goal.returns-in_err-connected-clause-served
 returns-in_err-connected-clause-served c =
-    let s = c.forget_cost.new.self.state in
     let p = err_from_is_err_and c.from_residual.result c.from_residual.ensures.1 in
-    subst (λ (r : Result (Unit {0}) Fault). Serves c.args.self.now.state (DriverTook c.args.u c.args.n) (done r) s) (sym (p.1 ∙ ap Err p.2))
-    (served_from _ _ _ _ _ c.forget_cost.ensures.state c.connected.ensures.lawful (refused_as s c.args.u (DriverTook c.args.u c.args.n) c.in_err-connected.field-0.0 (took_absent s c.args.u c.args.n) (took_unconnected s c.args.u c.args.n) c.in_err-connected.ensures.refused))
+    rw (p.1, p.2) (served_from _ _ _ _ _ c.forget_cost.ensures.state c.connected.ensures.lawful (took_refused c.forget_cost.new.self.state c.args.u c.args.n c.in_err-connected.field-0.0 c.in_err-connected.ensures.refused))
 
 pub with_ups-requires-clause-sound : goal.with_ups-requires-clause-sound
 with_ups-requires-clause-sound c = λ x y r there called sound. driver_taken_kept _ c.args.n x y r (of_call (λ x y. IsTaken c.args.n x r y) called (search rules)) sound

@@ -1,7 +1,8 @@
 use Rattle.std.proofs.Common.{◌≡◌, ◌∙◌, true, ap, subst, rules}
 use Rattle.nutcore.specs.Server.{ServerState}
 use Rattle.nutcore.specs.Promises.{front_or, DoesLine, ExecutesDriverLine}
-use Rattle.nutcore.proofs.DriverSteps.{is_there, there_within, connected_as, connected_at, of_ups, left_at}
+use Rattle.nutcore.proofs.DriverSteps.{is_there, there_within, connected_as, connected_at}
+use Rattle.nutcore.proofs.UpsPlaces.{of_ups, left_at}
 use Rattle.nutcore.proofs.DriverLoops.{executes}
 use Rattle.nutcore.proofs.KeptSound.{of_call, driver_line_kept, driver_line_connected}
 use Rattle.nutcore.proofs.Runs.{state_is}

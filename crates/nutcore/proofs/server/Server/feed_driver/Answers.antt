@@ -1,6 +1,6 @@
 use Rattle.std.proofs.Common.{◌≡◌, ◌∙◌, ◌++◌, sym, rules}
 use Rattle.nutcore.specs.Ups.{after_loss}
-use Rattle.nutcore.proofs.DriverSteps.{changed_to}
+use Rattle.nutcore.proofs.UpsPlaces.{changed_to}
 use Rattle.nutcore.proofs.DriverLoops.{told_lost, told_kept}
 use Rattle.nutcore.proofs.KeptSound.{of_call}
 use Rattle.nutcore.proofs.server.Server.feed_driver.Goals as goal

@@ -1,6 +1,5 @@
-use Rattle.std.proofs.Common.{◌+◌, ◌++◌, ℕ, Option, Ok, true, refl, sym, ◌∙◌, ap, subst, length, arith, length-drop}
+use Rattle.std.proofs.Common.{◌+◌, ◌++◌, ℕ, Option, Ok, sym, ◌∙◌, refl, ap, subst, length, arith, length-drop}
 use Rattle.nutcore.specs.Promises.{ReadsDriverLine}
-use Rattle.nutcore.proofs.DriverSteps.{IsThere, is_there}
 use Rattle.nutcore.proofs.DriverLoops.{IsAtLine, begins, takes_some, read_on, stops_read, stops_refused}
 use Rattle.nutcore.proofs.server.Server.pump_driver.Goals as goal
 
@@ -13,37 +12,23 @@ loop-used-init c = record {
 }
 
 pub unused-rest-requires : goal.unused-rest-requires
-unused-rest-requires c =
-    let is : IsThere c.loop-used.self.state c.args.u true = is_there c.loop-used.self.state c.args.u true c.loop-used.invariant.connected in
-    let read = subst (λ (o : Option ℕ). ReadsDriverLine c.args.u c.loop-used.rest.now c.loop-used.done is.ups c.loop-used.self.state (Ok o) c.read_driver_line.new.self.state) c.in-Ok-Some.field-0-is (c.in-Ok-Some.ensures.reads is.ups is.there) in
-    let some = takes_some c.args.u c.loop-used.rest.now c.loop-used.done c.in-Ok-Some.used is.ups c.loop-used.self.state c.read_driver_line.new.self.state read in
-    some.1
+unused-rest-requires c = (takes_some c.args.u c.loop-used.rest.now c.loop-used.done c.in-Ok-Some.used c.loop-used.self.state c.read_driver_line.new.self.state _ c.in-Ok-Some.field-0-is c.loop-used.invariant.connected c.in-Ok-Some.ensures.reads).1
 
 pub loop-used-smaller : goal.loop-used-smaller
 loop-used-smaller c =
-    let is : IsThere c.loop-used.self.state c.args.u true = is_there c.loop-used.self.state c.args.u true c.loop-used.invariant.connected in
-    let read = subst (λ (o : Option ℕ). ReadsDriverLine c.args.u c.loop-used.rest.now c.loop-used.done is.ups c.loop-used.self.state (Ok o) c.read_driver_line.new.self.state) c.in-Ok-Some.field-0-is (c.in-Ok-Some.ensures.reads is.ups is.there) in
-    let some = takes_some c.args.u c.loop-used.rest.now c.loop-used.done c.in-Ok-Some.used is.ups c.loop-used.self.state c.read_driver_line.new.self.state read in
-    let one = some.0 in
-    let within = some.1 in
-    omega (arith, one, within, ap length c.unused-rest.ensures, length-drop c.in-Ok-Some.used c.loop-used.rest.now)
+    let some = takes_some c.args.u c.loop-used.rest.now c.loop-used.done c.in-Ok-Some.used c.loop-used.self.state c.read_driver_line.new.self.state _ c.in-Ok-Some.field-0-is c.loop-used.invariant.connected c.in-Ok-Some.ensures.reads in
+    omega (arith, some.0, some.1, ap length c.unused-rest.ensures, length-drop c.in-Ok-Some.used c.loop-used.rest.now)
 
 pub loop-used-preserved : goal.loop-used-preserved
 loop-used-preserved c =
-    let is : IsThere c.loop-used.self.state c.args.u true = is_there c.loop-used.self.state c.args.u true c.loop-used.invariant.connected in
-    let read = subst (λ (o : Option ℕ). ReadsDriverLine c.args.u c.loop-used.rest.now c.loop-used.done is.ups c.loop-used.self.state (Ok o) c.read_driver_line.new.self.state) c.in-Ok-Some.field-0-is (c.in-Ok-Some.ensures.reads is.ups is.there) in
-    let some = takes_some c.args.u c.loop-used.rest.now c.loop-used.done c.in-Ok-Some.used is.ups c.loop-used.self.state c.read_driver_line.new.self.state read in
-    let one = some.0 in
-    let within = some.1 in
+    let some = takes_some c.args.u c.loop-used.rest.now c.loop-used.done c.in-Ok-Some.used c.loop-used.self.state c.read_driver_line.new.self.state _ c.in-Ok-Some.field-0-is c.loop-used.invariant.connected c.in-Ok-Some.ensures.reads in
     record {
-      at = λ x there. (
-          let at = c.loop-used.invariant.at x there in
+      at = λ x there.
           subst (IsAtLine c.args.u (c.loop-used.done + 1) (x.unfinished ++ c.args.piece.now) c.args.self.now.state c.read_driver_line.new.self.state) (sym c.unused-rest.ensures)
-          (read_on c.args.u c.loop-used.done c.in-Ok-Some.used (x.unfinished ++ c.args.piece.now) c.args.self.now.state c.loop-used.self.state c.read_driver_line.new.self.state c.loop-used.rest.now at
-          (subst (λ (o : Option ℕ). ReadsDriverLine c.args.u c.loop-used.rest.now c.loop-used.done at.ups c.loop-used.self.state (Ok o) c.read_driver_line.new.self.state) c.in-Ok-Some.field-0-is (c.in-Ok-Some.ensures.reads at.ups at.there))));
+          (read_on c.args.u c.loop-used.done c.in-Ok-Some.used (x.unfinished ++ c.args.piece.now) c.args.self.now.state c.loop-used.self.state c.read_driver_line.new.self.state c.loop-used.rest.now (c.loop-used.invariant.at x there) _ c.in-Ok-Some.field-0-is c.in-Ok-Some.ensures.reads);
       connected = c.read_driver_line.ensures.connected;
       cost = c.read_driver_line.ensures.cost ∙ c.loop-used.invariant.cost;
-      left = omega (arith, one, within, c.loop-used.invariant.left, ap length c.unused-rest.ensures, length-drop c.in-Ok-Some.used c.loop-used.rest.now);
+      left = omega (arith, some.0, some.1, c.loop-used.invariant.left, ap length c.unused-rest.ensures, length-drop c.in-Ok-Some.used c.loop-used.rest.now);
     }
 
 pub returns-in-Ok-None-clause-stops : goal.returns-in-Ok-None-clause-stops

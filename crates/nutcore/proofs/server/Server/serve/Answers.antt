@@ -1,7 +1,6 @@
 use Rattle.std.proofs.Common.{◌≡◌, ◌≤◌, ◌∙◌, Option, Some, ap, sym, arith, length, drop}
 use Rattle.nutlisting.specs.Counts.{lines}
-use Rattle.nutcore.specs.Session.{SessionState}
-use Rattle.nutcore.specs.Server.{ServerState, session}
+use Rattle.nutcore.proofs.Common.{SessionState, ServerState, session}
 use Rattle.nutcore.specs.Step.{offered}
 use Rattle.nutcore.specs.Cost.{RunningServer}
 use Rattle.nutcore.specs.contracts.server.Server.{the_view}

@@ -9,8 +9,7 @@ use Rattle.nutcore.proofs.DriverSteps.{ticked_is, tick_done}
 use Rattle.nutcore.proofs.EventSteps.{step_from}
 use Rattle.nutcore.specs.Sound.{IsSound}
 use Rattle.nutcore.proofs.Sound.{sound_ticked}
-use Rattle.nutcore.proofs.Runs.{served_from, lawful}
-use Rattle.nutcore.proofs.Runs.{state_is}
+use Rattle.nutcore.proofs.Runs.{served_from, lawful, state_is}
 use Rattle.nutcore.proofs.server.Server.tick.Goals as goal
 
 pub returns-clause-served : goal.returns-clause-served

@@ -1,9 +1,8 @@
 use Rattle.std.proofs.Common.{◌≡◌, ◌<◌, Some, refl, sym, subst, length, set}
-use Rattle.nutcore.specs.Ups.{UpsState}
-use Rattle.nutcore.specs.Server.{ServerState, ups_at}
+use Rattle.nutcore.proofs.Common.{UpsState, ServerState, ups_at}
 use Rattle.nutcore.specs.Promises.{KeepsUpsSound, ChangesUps}
 use Rattle.nutcore.specs.contracts.server.Server.{the_view}
-use Rattle.nutcore.proofs.DriverSteps.{there_is, server_set}
+use Rattle.nutcore.proofs.UpsPlaces.{there_is, server_set}
 use Rattle.nutcore.proofs.KeptSound.{ups_kept}
 use Rattle.nutcore.proofs.Runs.{state_is}
 use Rattle.nutcore.proofs.server.Server.with_ups.Goals as goal

@@ -1,7 +1,7 @@
 use Rattle.std.proofs.Common.{◌<◌, ◌≤◌, List, sym, length, arith}
 use Rattle.std.proofs.lemmas.Option.{slice_get_past}
 use Rattle.nutcore.specs.Ups.{UpsState, with_order}
-use Rattle.nutcore.proofs.DriverSteps.{there_is, set_changed, changed_none}
+use Rattle.nutcore.proofs.UpsPlaces.{there_is, set_changed, changed_none}
 use Rattle.nutcore.proofs.server.pump.order.Goals as goal
 
 pub order-requires : goal.order-requires

@@ -1,0 +1,183 @@
+-- What each event of a driver does to its UPS: what was told, what is owed, whether the driver stays, and the count.
+use Rattle.std.proofs.Common.{◌≡◌, ◌≤◌, ◌∙◌, ◌+◌, ℕ, Bool, true, false, ◌&&◌, not, List, [], ◌∷◌, ◌++◌, Option, Some, None, refl, sym, ap, cond, map, min, take, drop, append_assoc, append-nil, arith}
+use Rattle.nutcore.proofs.Common.{and_from, flat_map-append, take-append-drop, UpsId, Event}
+use Rattle.nutdriver.specs.declared.report.Report.{Report}
+use Rattle.nutdriver.specs.declared.report.LineOutcome.{LineOutcome}
+use Rattle.nutdriver.specs.declared.report.LineOutcome.TheVariants.{Accepted, Refused}
+use Rattle.nutdriver.specs.Report.{after_line}
+use Rattle.nutcore.specs.declared.event.Event.TheVariants.{DriverUp}
+use Rattle.nutcore.specs.Lines.{with_lf, joined, whole_lines, unfinished_after, is_too_long}
+use Rattle.nutcore.specs.Ups.{UpsState, after_connecting, after_loss, ping_line, greatest_count, after_outcome, after_text, after_texts, with_unfinished}
+use Rattle.nutcore.specs.Headline.{IsBeginning}
+use Rattle.nutcore.specs.Sound.{Each}
+use Rattle.nutcore.specs.DriverHistory.{Heard, heard_at, as_far, bytes_heard, after_heard, refusals, refused_among, IsWholeLine, CountsRefused, IsHeard}
+use Rattle.nutcore.specs.DriverOrders.{Telling, dump_all, ping, texts_of}
+use Rattle.nutcore.proofs.WholeLines.{no_byte_is_lost, IsWhole, each_is_whole}
+use Rattle.nutcore.proofs.DriverText.{ups_after_text, ups_after_bytes}
+
+-- driver is here and isn't
+pub no_loss : {A : Type 0} (b : Bool) → b ≡ true → b ≡ false → A
+no_loss true e f = cc f
+no_loss false e f = cc e
+
+-- counts: what one is at most, and one after two lists of lines
+pub count_is_few : (a b most : ℕ) → b ≡ min a most → b ≤ most
+count_is_few a b most e = omega arith
+
+pub both_counts : (a b c p q most : ℕ) → b ≡ min (a + p) most → c ≡ min (b + q) most → c ≡ min (a + (p + q)) most
+both_counts a b c p q most first more = omega arith
+
+-- what a line of its driver leaves of a UPS
+pub record LineLeaves (x : UpsState) (r : Report × LineOutcome) (y : UpsState) : Type 0 where
+  pub report : y.report ≡ r.0
+  pub pinged : y.pinged ≡ x.pinged
+  pub owed : y.owed ≡ x.owed
+  pub unfinished : y.unfinished ≡ x.unfinished
+  pub counted : x.faulty ≤ greatest_count → y.faulty ≡ min (x.faulty + refusals r.1) greatest_count
+  -- what is unfinished changes nothing of it
+  pub beside : (bytes : List ℕ) → with_unfinished bytes y ≡ after_outcome (with_unfinished bytes x) r
+
+pub line_leaves : (x : UpsState) (r : Report × LineOutcome) → LineLeaves x r (after_outcome x r)
+line_leaves x (report, Accepted) = record { report = refl; pinged = refl; owed = refl; unfinished = refl; counted = λ few. omega (arith, few); beside = λ bytes. refl }
+line_leaves x (report, Refused fault) = record { report = refl; pinged = refl; owed = refl; unfinished = refl; counted = λ few. refl; beside = λ bytes. refl }
+
+-- whole lines, all at one moment
+record LinesLeave (m : ℕ) (lines : List (List ℕ)) (x y : UpsState) : Type 0 where
+  report : y.report ≡ after_heard x.report (map (heard_at m) lines)
+  owed : y.owed ≡ x.owed
+  counted : CountsRefused x (map (heard_at m) lines) y
+
+lines_leave : (m : ℕ) (lines : List (List ℕ)) (x : UpsState) → LinesLeave m lines x (after_texts m lines x)
+lines_leave m [] x = record { report = refl; owed = refl; counted = λ few. omega (arith, few) }
+lines_leave m (line ∷ lines) x =
+    let r : Report × LineOutcome = after_line m x.report line in
+    let y : UpsState = after_text m x line in
+    let one = line_leaves x r in
+    let rest = lines_leave m lines y in
+    let more : Report → ℕ = λ (report : Report). refused_among report (map (heard_at m) lines) in
+    record {
+      report = rest.report ∙ ap (λ (report : Report). after_heard report (map (heard_at m) lines)) one.report;
+      owed = rest.owed ∙ one.owed;
+      counted = λ few.
+          both_counts x.faulty y.faulty (after_texts m lines y).faulty (refusals r.1) (more r.0) greatest_count (one.counted few)
+          (rest.counted (count_is_few (x.faulty + refusals r.1) y.faulty greatest_count (one.counted few)) ∙ ap (λ (report : Report). min (y.faulty + more report) greatest_count) one.report);
+    }
+
+bytes_at : (m : ℕ) (lines : List (List ℕ)) → bytes_heard (map (heard_at m) lines) ≡ joined lines
+bytes_at m [] = refl
+bytes_at m (line ∷ lines) = ap (λ (z : List ℕ). with_lf line ++ z) (bytes_at m lines)
+
+whole_at : (m : ℕ) (lines : List (List ℕ)) → Each IsWhole lines → Each IsWholeLine (map (heard_at m) lines)
+whole_at m [] all = tt
+whole_at m (line ∷ lines) all = (record { one = all.0.0; short = (let short = all.0.1 in omega (arith, short)) }, whole_at m lines all.1)
+
+begins_with : (m : ℕ) (text : List ℕ) (first others : List (List ℕ)) → first ++ others ≡ whole_lines text → IsBeginning (bytes_heard (map (heard_at m) first)) text
+begins_with m text first others all =
+    let rest : List ℕ = unfinished_after text in
+    let joins : joined first ++ joined others ≡ joined (whole_lines text) = sym (flat_map-append with_lf first others) ∙ ap joined all in
+    (joined others ++ rest, ap (λ (z : List ℕ). z ++ (joined others ++ rest)) (bytes_at m first) ∙ sym (append_assoc (joined first) (joined others) rest) ∙ ap (λ (z : List ℕ). z ++ rest) joins ∙ sym (no_byte_is_lost text))
+
+begins_text : (m : ℕ) (text : List ℕ) (refused : Option ℕ) → IsBeginning (bytes_heard (map (heard_at m) (as_far refused (whole_lines text)))) text
+begins_text m text None = begins_with m text (whole_lines text) [] (append-nil (whole_lines text))
+begins_text m text (Some k) = begins_with m text (take k (whole_lines text)) (drop k (whole_lines text)) (take-append-drop k (whole_lines text))
+
+-- an event leaves y of the UPS x, of whose driver this piece came, by which these lines are heard, and which is told this and takes this
+pub record Does (now : ℕ) (u : UpsId) (e : Event) (x : UpsState) (piece : List ℕ) (lines : List Heard) (told : List Telling) (taken : List ℕ) (y : UpsState) : Type 0 where
+  pub stays : x.report.connected ≡ true → y.report.connected ≡ true → IsHeard x piece lines y
+  pub loses : x.report.connected ≡ true → y.report.connected ≡ false → IsBeginning (bytes_heard lines) (x.unfinished ++ piece)
+  pub begins : x.report.connected ≡ false → y.report.connected ≡ true → (e ≡ DriverUp u) × (y ≡ after_connecting now x)
+  pub counted : CountsRefused x lines y
+  pub takes : IsBeginning taken (x.owed ++ texts_of told)
+  pub owes : (x.report.connected ≡ false → x.owed ≡ []) → (x.report.connected && not y.report.connected) ≡ false → x.owed ++ texts_of told ≡ taken ++ y.owed
+
+module _ (now : ℕ) (u : UpsId) (e : Event) (x : UpsState) where
+  -- nothing comes of it, and its driver stays
+  pub goes_on : (told : List Telling) (taken : List ℕ) (y : UpsState) → y.report ≡ x.report → y.unfinished ≡ x.unfinished → y.faulty ≡ x.faulty → x.owed ++ texts_of told ≡ taken ++ y.owed → Does now u e x [] [] told taken y
+  goes_on told taken y report same count owed =
+      let driver : y.report.connected ≡ x.report.connected = ap (λ (r : Report). r.connected) report in
+      let counted : CountsRefused x [] y = λ few. omega (arith, count, few) in
+      record {
+        stays = λ is still. record { whole = tt; all = append-nil x.unfinished ∙ sym same; report = report; counted = counted };
+        loses = λ is gone. no_loss x.report.connected is (sym driver ∙ gone);
+        begins = λ gone is. no_loss y.report.connected is (driver ∙ gone);
+        counted = counted;
+        takes = (y.owed, sym owed);
+        owes = λ nothing kept. owed;
+      }
+
+  pub stays_so : Does now u e x [] [] [] [] x
+  stays_so = goes_on [] [] x refl refl refl (append-nil x.owed)
+
+  lost : (piece : List ℕ) (lines : List Heard) (y : UpsState) → x.report.connected ≡ true → IsBeginning (bytes_heard lines) (x.unfinished ++ piece) → CountsRefused x lines y → Does now u e x piece lines [] [] (after_loss y)
+  lost piece lines y is begins counted = record {
+    stays = λ was still. cc still;
+    loses = λ was gone. begins;
+    begins = λ gone is. cc is;
+    counted = counted;
+    takes = (x.owed ++ [], refl);
+    owes = λ nothing kept. no_loss (x.report.connected && true) (and_from x.report.connected true is refl) kept;
+  }
+
+  unconnected : (piece : List ℕ) (told : List Telling) (y : UpsState) → x.report.connected ≡ false → y.faulty ≡ x.faulty → (y.report.connected ≡ true → (e ≡ DriverUp u) × (y ≡ after_connecting now x))
+      → ((x.report.connected ≡ false → x.owed ≡ []) → x.owed ++ texts_of told ≡ y.owed) → Does now u e x piece [] told [] y
+  unconnected piece told y absent count connects owes = record {
+    stays = λ was still. no_loss x.report.connected was absent;
+    loses = λ was gone. no_loss x.report.connected was absent;
+    begins = λ gone still. connects still;
+    counted = λ few. omega (arith, count, few);
+    takes = (x.owed ++ texts_of told, refl);
+    owes = λ nothing kept. owes nothing;
+  }
+
+  pub down_does : (b : Bool) → x.report.connected ≡ b → Does now u e x [] [] [] [] (cond b (after_loss x) x)
+  down_does true is = lost [] [] x is (x.unfinished ++ [], refl) (λ few. omega (arith, few))
+  down_does false gone = stays_so
+
+  pub took_does : (n : ℕ) (b : Bool) → Does now u e x [] [] [] (cond b (take n x.owed) []) (cond b (record x { owed = drop n x.owed }) x)
+  took_does n true = goes_on [] (take n x.owed) _ refl refl refl (append-nil x.owed ∙ sym (take-append-drop n x.owed))
+  took_does n false = stays_so
+
+  pub tick_does : (moment : ℕ) (b : Bool) → Does now u e x [] [] (cond b (ping ∷ []) []) [] (cond b (record x { pinged = moment; owed = x.owed ++ ping_line }) x)
+  tick_does moment true = goes_on (ping ∷ []) [] _ refl refl refl (ap (λ (z : List ℕ). x.owed ++ z) (append-nil ping_line))
+  tick_does moment false = stays_so
+
+  pub up_does : (b : Bool) → x.report.connected ≡ b → e ≡ DriverUp u → Does now u e x [] [] (cond (not b) (dump_all ∷ []) []) [] (cond b x (after_connecting now x))
+  up_does true there is = stays_so
+  up_does false absent is = unconnected [] (dump_all ∷ []) (after_connecting now x) absent refl (λ still. (is, refl)) (λ nothing. ap (λ (z : List ℕ). z ++ texts_of (dump_all ∷ [])) (nothing absent))
+
+  pub bytes_do : (piece : List ℕ) (refused : Option ℕ)
+      → Does now u e x piece (cond x.report.connected (map (heard_at now) (as_far refused (whole_lines (x.unfinished ++ piece)))) []) [] [] (ups_after_bytes now piece refused x)
+  bytes_do piece refused = by_connection x.report.connected refl refused
+    where
+      text : List ℕ
+      text = x.unfinished ++ piece
+
+      lines : Option ℕ → List Heard
+      lines r = map (heard_at now) (as_far r (whole_lines text))
+
+      y : UpsState
+      y = after_texts now (whole_lines text) x
+
+      by_loss : x.report.connected ≡ true → (r : Option ℕ) → Does now u e x piece (lines r) [] [] (after_loss (after_texts now (as_far r (whole_lines text)) x))
+      by_loss is r = lost piece (lines r) (after_texts now (as_far r (whole_lines text)) x) is (begins_text now text r) (lines_leave now (as_far r (whole_lines text)) x).counted
+
+      by_length : x.report.connected ≡ true → (b : Bool) → Does now u e x piece (lines None) [] [] (cond b (after_loss y) (with_unfinished (unfinished_after text) y))
+      by_length is true = by_loss is None
+      by_length is false = let left = lines_leave now (whole_lines text) x in record {
+        stays = λ was still. record {
+          whole = whole_at now (whole_lines text) (each_is_whole text);
+          all = no_byte_is_lost text ∙ ap (λ (z : List ℕ). z ++ unfinished_after text) (sym (bytes_at now (whole_lines text)));
+          report = left.report;
+          counted = left.counted;
+        };
+        loses = λ was gone. begins_text now text None;
+        begins = λ gone still. no_loss x.report.connected is gone;
+        counted = left.counted;
+        takes = (x.owed ++ [], refl);
+        owes = λ nothing kept. append-nil x.owed ∙ sym left.owed;
+      }
+
+      by_connection : (b : Bool) → x.report.connected ≡ b → (r : Option ℕ) → Does now u e x piece (cond b (lines r) []) [] [] (cond b (ups_after_text now text r x) x)
+      by_connection true is None = by_length is (is_too_long (unfinished_after text))
+      by_connection true is (Some k) = by_loss is (Some k)
+      by_connection false absent r = unconnected piece [] x absent refl (λ is. no_loss x.report.connected is absent) (λ nothing. append-nil x.owed)
