@@ -25,6 +25,7 @@ shows() {
 printed() { sed -n "s/^ *\(crates.* test.failure.$1\)\$/\1/p" "$folder/said"; }
 
 mkdir "$folder/room"
+: >"$folder/said"
 TMPDIR=$folder/room make -s demo >"$folder/said" 2>"$folder/told" &
 demo=$!
 shows '^ups\.status: OL$' 30
@@ -56,7 +57,7 @@ tail -n 1 "$folder/said" | grep -qE '^ups\.status: OL +battery\.charge: 100$' ||
 left() {
     local words
     for words in /proc/[0-9]*/cmdline; do
-        [[ $(tr '\0' ' ' <"$words" 2>/dev/null) != *"$folder/room"* ]] || echo "$words"
+        [[ $({ tr '\0' ' ' <"$words"; } 2>/dev/null) != *"$folder/room"* ]] || echo "$words"
     done
 }
 kill "$demo"
