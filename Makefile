@@ -24,7 +24,11 @@ LIST = $(ROOT)/$(MINE)/installed
 
 # Proves and builds: a program that isn't proved isn't built. It stands as crates/NAME/out/NAME then.
 all:
-	python3 tests/build.py $(PROGRAMS)
+	python3 tests/build.py $(PROGRAMS) demodriver
+
+# The server, a driver without hardware and upsc at work, as they stand built. Ctrl-C ends it.
+demo:
+	@bash tools/demo
 
 # Every proof from nothing, the edits that must fail, the tests, and the scripts of tests/.
 test:
@@ -63,4 +67,4 @@ uninstall:
 deb:
 	bash tools/deb $(VERSION) $(PACKAGES)
 
-.PHONY: all test edits install uninstall deb
+.PHONY: all demo test edits install uninstall deb

@@ -19,6 +19,8 @@ messages_of() { sed -nE "s/^\.B \"$1: (.*)\"\$/\1/p" "man/$1.8" | grep -vE '^(se
 told=$({
     sed -nE 's/^ *#\[error\("(.*)"\)\]$/\1/p' crates/upsd/src/ending.rt crates/nutloop/src/fault.rt | grep -vxF '{0}' |
         sed -e 's/{path}/PATH/; s/{line}/LINE/; s/{cause}/N/'
+    sed -nE 's/^ *Danger::[A-Za-z]+ => "(.*)",$/warning: PATH:LINE: \1/p' crates/upsd/src/warnings.rt
+    sed -nE 's/.*"upsd: (warning: )\{path\}(: [^{]*)"\);$/\1PATH\2/p' crates/upsd/src/warnings.rt
     sed -nE 's/^ *News::[A-Za-z]+ => "(.*)",$/su: \1/p' crates/upsd/src/journal.rt
 } | sort)
 alike upsd "$told" "$(messages_of upsd)"

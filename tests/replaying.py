@@ -19,6 +19,7 @@ class Bench:
         path = os.path.join(self.folder.name, name)
         with open(path, "wb") as out:
             out.write(content)
+        os.chmod(path, 0o600)
         return path
 
     def run(self, script, *options):

@@ -38,9 +38,10 @@ def path(name):
     return os.path.join(FOLDER, name)
 
 
-def file(name, text):
+def file(name, text, mode=0o600):
     with open(path(name), "w", encoding="utf-8") as out:
         out.write(text)
+    os.chmod(path(name), mode)
     return path(name)
 
 
@@ -132,12 +133,14 @@ class Client:
 class Server:
     """The built server, at a port that the system gives."""
 
-    def __init__(self, ups, *words, port=0, files=None):
+    def __init__(self, ups, *words, port=0, files=None, has_users=True):
         limit = (lambda: resource.setrlimit(resource.RLIMIT_NOFILE, (files, files))) if files else None
         self.journal_path = path(f"journal{time.monotonic_ns()}")
+        if has_users:
+            words = ("--users", path("users"), *words)
         with open(self.journal_path, "wb") as journal:
             self.process = subprocess.Popen(
-                [UPSD, "serve", "--ups", ups, "--users", path("users"), "--listen", f"127.0.0.1:{port}", *words],
+                [UPSD, "serve", "--ups", ups, "--listen", f"127.0.0.1:{port}", *words],
                 stdout=subprocess.PIPE, stderr=journal, preexec_fn=limit)
         ready, _, _ = select.select([self.process.stdout], [], [], 10)
         assert ready, "it didn't say that it listens"
@@ -248,6 +251,37 @@ def a_taken_port_is_told():
     with served() as (server, _, _):
         words = ["--ups", path("su.conf"), "--users", path("users"), "--listen", f"127.0.0.1:{server.port}"]
         assert run_to_end(*words) == (1, b"", b"upsd: cannot listen\n")
+
+
+EXAMPLE, SMALL = "a password of the example, which everybody knows", "only ALL grants every command"
+NO_PASSWORD = "a user without a password, who may do nothing"
+
+
+def warned(users):
+    """What is told before it listens, of this file of users. The warnings are all there then."""
+    server = Server(file("list", "[su]\n"), "--users", users, has_users=False)
+    told = server.journal()
+    server.close()
+    return told.splitlines()
+
+
+@case
+def dangers_of_the_users_file_are_told():
+    dangerous = "[a]\nactions = SET\n[b]\n# a comment of three words\npassword = \"change-me\"\ninstcmds = All\n"
+    dangerous += "[c]\npassword = change-me-too\ninstcmds = ALL\ninstcmds = test.all\n[d]\nupsmon secondary\n"
+    dangers = [(1, NO_PASSWORD), (5, EXAMPLE), (6, SMALL), (8, EXAMPLE), (11, NO_PASSWORD)]
+    users = file("dangerous", dangerous)
+    lines = [f"upsd: warning: {users}:{line}: {danger}" for line, danger in dangers]
+    assert warned(users) == lines, warned(users)
+    for mode, is_told in [(0o604, True), (0o640, False), (0o644, True)]:
+        os.chmod(users, mode)
+        assert warned(users) == [f"upsd: warning: {users}: everybody may read it"] * is_told + lines, oct(mode)
+    assert warned(path("users")) == []
+    example = os.path.join(os.path.dirname(__file__), "..", "examples", "upsd.users")
+    assert sum(line.endswith(EXAMPLE) for line in warned(example)) == 2
+    # A file that is refused is told by its cause alone.
+    refused = file("refused", dangerous + "[d]\n")
+    assert run_to_end("--ups", path("list"), "--users", refused) == (1, b"", f"upsd: {refused}:13: cause 4\n".encode())
 
 
 @case

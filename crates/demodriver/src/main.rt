@@ -17,13 +17,21 @@ const USAGE: &str = "usage: demodriver SOCKET";
 
 fn main(rt: HostRuntime) -> io::Result<()> {
     let words = env::args(&rt)?.collect::<Vec<String>>(rt.alloc())?;
-    let [_, path] = words.as_slice() else {
+    let Some(path) = socket_in(&words) else {
         println!(rt; "{USAGE}")?;
         return Ok(());
     };
-    let listener = UnixListener::bind(&rt, path.as_str())?;
+    let listener = UnixListener::bind(&rt, path)?;
     println!(rt; "demodriver: listening on {path}")?;
     serve_each(&rt, &listener)
+}
+
+/// The path of the socket, where it is the only word, and no option.
+fn socket_in(words: &[String]) -> Option<&str> {
+    let [_, path] = words else {
+        return None;
+    };
+    (!path.starts_with('-')).then_some(path.as_str())
 }
 
 /// Serves one server after another. The UPS goes on as the last one left it.

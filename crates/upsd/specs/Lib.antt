@@ -5,3 +5,4 @@ pub mod Configuration
 pub mod Replaying
 pub mod Task
 pub mod Journal
+pub mod Warnings

@@ -14,6 +14,7 @@ mod reading;
 mod replaying;
 mod serve;
 mod task;
+mod warnings;
 
 use crate::ending::{Ending, FAULT, WORD_FAULT, status_of};
 use crate::replaying::replay_files;

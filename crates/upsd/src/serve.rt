@@ -10,13 +10,14 @@ use crate::files::{Configuration, Files, configuration_in};
 use crate::journal::Journal;
 use crate::reading::FileReader;
 use crate::task::Service;
+use crate::warnings::warn;
 use nutcore::{MaxAge, Server};
 use nutloop::{MioSockets, Sockets};
 use std::alloc::Global;
 use std::io::{Error, ErrorKind};
 use std::net::SocketAddr;
 
-/// `upsd serve`: serves until the loop can't go on.
+/// `upsd serve`: warns of what is dangerous in the file of users, and serves until the loop can't go on.
 ///
 /// # Errors
 ///
@@ -27,6 +28,7 @@ pub fn serve_files<'a>(
     service: Service,
 ) -> Result<(), Ending<'a>> {
     let server = server_of(rt.alloc(), rt, files, service.max_age)?;
+    warn(rt, files.users);
     serve(rt, server, service.address)
 }
 
