@@ -16,7 +16,10 @@ charge_after false charge = min (charge + STEP) FULL
 
 abbrev pub after_second : Ups → Ups
 after_second ups =
-    record ups { charge = charge_after ups.is_failing ups.charge; seconds = min (ups.seconds + 1) 4294967295 }
+    record ups {
+      charge = charge_after ups.is_failing ups.charge;
+      seconds = min (ups.seconds + 1) 4294967295;
+    }
 
 abbrev pub after_failure : Ups → Ups
 after_failure ups = record ups { is_failing = true }

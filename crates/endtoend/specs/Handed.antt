@@ -16,7 +16,8 @@ use Rattle.nutreply.specs.State.{unread_of, reader_of, writer_of, is_over}
 use Rattle.nutreply.specs.declared.faults.ClientFault.{ClientFault}
 use Rattle.nutreply.specs.declared.faults.ClientFault.TheVariants.{Memory}
 use Rattle.nutreply.specs.declared.request.Query.TheVariants as queries
-use Rattle.nutreply.specs.declared.request.Request.TheVariants.{List as ListOf, GetVar, GetNumAttach}
+use Rattle.nutreply.specs.declared.request.Request.TheVariants.{List as ListOf, GetVar}
+use Rattle.nutreply.specs.declared.request.Request.TheVariants.{GetNumAttach}
 use Rattle.nutreply.specs.declared.session.Session.{Session}
 use Rattle.nutclient.specs.Job.{UpsPlace, job_of, parts_of}
 use Rattle.nutclient.specs.Target.{ups_place_of}
@@ -87,8 +88,8 @@ module _ {R W O : Type 0} (remaining : R → Option (List ℕ)) (failures : R �
       → IsHanded (reply s client line ++ more) r
       → IsPrinted (with_lf (shown known.state.fsd name.now variable)) r
 
-  -- `upsc --attached ups`, handed the answer to GET NUMATTACH, prints how many sessions are logged in
-  -- to the UPS.
+  -- `upsc --attached ups`, handed the answer to GET NUMATTACH, prints how many sessions are logged
+  -- in to the UPS.
   abbrev pub PrintsTheNumber : Job → ProgramRun R W O → Type 0
   PrintsTheNumber job r =
       (s : ServerState) (client : ℕ) (words : Bor (List ℕ)) (place : UpsPlace) (line : List ℕ)

@@ -119,8 +119,8 @@ CredentialsAreGivenByLines =
 abbrev pub logged_in : UpsId → ServerState → List SessionState
 logged_in u s = filter (is_logged_in_of u) s.sessions
 
--- This command tells the number of the sessions that are logged in to the UPS, in a line that begins
--- with this word.
+-- This command tells the number of the sessions that are logged in to the UPS, in a line that
+-- begins with this word.
 abbrev pub TellsHowManyAreLoggedIn : (Option (List ℕ) → Command) → List ℕ → Type 0
 TellsHowManyAreLoggedIn command word =
     (s : ServerState) (c : ℕ) (line : List ℕ) (ups : Option (List ℕ)) (known : KnownUps)
@@ -129,7 +129,8 @@ TellsHowManyAreLoggedIn command word =
     ≡ text_line (word ∷ known.name ∷ decimal (length (logged_in known.id s)) ∷ [])
 
 -- What is counted is who is there: `GET NUMLOGINS` and `GET NUMATTACH` tell the number of the
--- sessions that are logged in to the UPS, and `LIST CLIENT` lists exactly these, by their addresses.
+-- sessions that are logged in to the UPS, and `LIST CLIENT` lists exactly these, by their
+-- addresses.
 pub record WhatIsCountedIsWhoIsThere : Type 0 where
   pub counted : TellsHowManyAreLoggedIn (λ ups. GetNumLogins ups) (codes "NUMLOGINS")
   pub attached : TellsHowManyAreLoggedIn (λ ups. GetNumAttach ups) (codes "NUMATTACH")

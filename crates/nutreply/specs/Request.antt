@@ -6,7 +6,8 @@ use Rattle.nutwords.specs.Spelling.{quoted}
 use Rattle.nutreply.specs.declared.request.Query.{Query}
 use Rattle.nutreply.specs.declared.request.Query.TheVariants.{Ups, Var, Rw, Cmd, Client}
 use Rattle.nutreply.specs.declared.request.Request.{Request}
-use Rattle.nutreply.specs.declared.request.Request.TheVariants.{List as ListOf, GetVar, GetNumAttach}
+use Rattle.nutreply.specs.declared.request.Request.TheVariants.{List as ListOf, GetVar}
+use Rattle.nutreply.specs.declared.request.Request.TheVariants.{GetNumAttach}
 use Rattle.nutreply.specs.declared.request.Request.TheVariants.{Username, Password, SetVar, Instcmd}
 
 -- The word of a listing's kind.

@@ -1,5 +1,6 @@
 -- What of the users' file is dangerous, though lawful.
-use Rattle.std.specs.Prelude.{ℕ, ◌+◌, ◌^◌, ◌-◌, min, List, [], ◌∷◌, ◌++◌, Bool, not, ◌&&◌, ◌||◌, codes}
+use Rattle.std.specs.Prelude.{ℕ, ◌+◌, ◌^◌, ◌-◌, min, List, [], ◌∷◌, ◌++◌, Bool, not, ◌&&◌, ◌||◌}
+use Rattle.std.specs.Prelude.{codes}
 use Rattle.std.specs.Prelude.{Option, Some, None, if◌then◌else◌}
 use Rattle.std.specs.Option.{option_map_or}
 use Rattle.std.specs.Str.{bytes_eq}
@@ -61,7 +62,8 @@ abbrev pub listed : Option Warning → List Warning
 listed None = []
 listed (Some warning) = warning ∷ []
 
--- What was found up to a line: the number of the next one, and the line of the section that is open.
+-- What was found up to a line: the number of the next one, and the line of the section that is
+-- open.
 pub record Search : Type 0 where
   pub number : ℕ
   pub section : Option ℕ
