@@ -1,4 +1,5 @@
-"""The cases of tests/serve.sh: the built server on real sockets. Words: the programs upsd, upsc, upsrw and upscmd."""
+"""The cases of tests/serve.sh: the built server on real sockets. Words: the programs upsd, upsc, upsrw and upscmd, and
+the names of the cases, if not all are to run."""
 import contextlib
 import os
 import resource
@@ -86,8 +87,8 @@ class Driver:
 class Client:
     """A client of the server."""
 
-    def __init__(self, port):
-        self.wire = socket.create_connection(("127.0.0.1", port), timeout=10)
+    def __init__(self, port, source="127.0.0.1"):
+        self.wire = socket.create_connection(("127.0.0.1", port), timeout=10, source_address=(source, 0))
         self.kept = b""
 
     def send(self, text):
@@ -125,6 +126,9 @@ class Client:
     def close(self):
         self.wire.close()
 
+    def was_reset(self):
+        return self.wire.getsockopt(socket.SOL_SOCKET, socket.SO_ERROR) != 0
+
     def reset(self):
         self.wire.setsockopt(socket.SOL_SOCKET, socket.SO_LINGER, struct.pack("ii", 1, 0))
         self.wire.close()
@@ -148,8 +152,8 @@ class Server:
         assert line.startswith("upsd: listening on 127.0.0.1:"), line
         self.port = int(line.rsplit(":", 1)[1])
 
-    def client(self):
-        return Client(self.port)
+    def client(self, source="127.0.0.1"):
+        return Client(self.port, source)
 
     def journal(self):
         with open(self.journal_path, encoding="utf-8") as journal:
@@ -362,6 +366,42 @@ def logins_are_listed():
 
 
 @case
+def a_client_is_listed_by_the_address_that_it_comes_from():
+    with served() as (server, _, good):
+        others = [server.client(f"127.0.0.{i}") for i in range(2, 5)]
+        assert all(other.ask(MON + b"LOGIN su\n") == b"OK\n" * 3 for other in others)
+        good.send(b"LIST CLIENT su\n")
+        listed = b"".join(b"CLIENT su 127.0.0.%d\n" % i for i in range(2, 5))
+        assert good.listing() == b"BEGIN LIST CLIENT su\n" + listed + b"END LIST CLIENT su\n"
+        for other in others:
+            other.close()
+
+
+@case
+def newcomers_are_let_in_as_they_come():
+    with served() as (server, _, _):
+        begin = time.monotonic()
+        for _ in range(5):
+            client = server.client()
+            assert client.ask(GET) == STATUS
+            client.close()
+            time.sleep(0.02)
+        waited = time.monotonic() - begin
+        assert waited < 2, f"they waited {waited:.2f} s"
+
+
+@case
+def drivers_are_connected_to_before_it_tells_that_it_listens():
+    drivers = [Driver(f"{name}.sock") for name in "de"]
+    ups = file("two.conf", "".join(f"[{name}]\nsocket = {path(name)}.sock\n" for name in "de"))
+    server = Server(ups)
+    for driver in drivers:
+        assert select.select([driver.listener], [], [], 0)[0], "it isn't connected to"
+        driver.close()
+    server.close()
+
+
+@case
 def a_lost_driver_comes_back():
     with served() as (server, driver, good):
         driver.lose()
@@ -470,12 +510,12 @@ def nobody_waits_for_slow_readers():
 
 @case
 def a_standing_connection_lists_without_delay():
-    with served(many(100, 10)) as (_, _, good):
+    with served(many(1000, 10)) as (_, _, good):
         waits = []
         for _ in range(20):
             begin = time.monotonic()
             good.send(b"LIST VAR su\n")
-            assert good.listing() == many_listed(100, 10)
+            assert good.listing() == many_listed(1000, 10)
             waits.append(time.monotonic() - begin)
         assert sorted(waits)[10] < 0.030, waits
 
@@ -523,6 +563,8 @@ def goodbye_is_received_before_unread_lines():
     with served() as (server, _, _):
         client = server.client()
         client.send(b"VER\nLOGOUT\n" + b"VER\n" * 100_000)
+        # Its end is told with it: its connection is closed a second later at the soonest.
+        client.wire.settimeout(0.9)
         assert client.line() and client.up_to_end() == b"OK Goodbye\n"
         client.close()
 
@@ -537,6 +579,70 @@ def a_parting_client_is_closed_after_two_ticks():
         assert comes(lambda: server.descriptors() == before, 3.5)
         for client in clients:
             client.close()
+
+
+@case
+def what_clients_send_after_their_end_is_read():
+    with served() as (server, _, _):
+        before = server.descriptors()
+        early, late = server.client(), server.client()
+        early.send(b"LOGOUT\n" + b"VER\n" * 100_000)
+        assert late.ask(b"LOGOUT\n") == b"OK Goodbye\n"
+        time.sleep(0.2)
+        late.send(b"VER\n" * 10_000)
+        # Both are closed by now. A connection that is closed with unread input is reset.
+        assert comes(lambda: server.descriptors() == before, 3.5)
+        assert early.up_to_end() == b"OK Goodbye\n"
+        assert late.up_to_end() == b""
+        assert not early.was_reset() and not late.was_reset()
+        early.close()
+        late.close()
+
+
+@case
+def clients_that_left_are_closed_at_their_end():
+    with served() as (server, _, _):
+        before = server.descriptors()
+        clients = [server.client() for _ in range(10)]
+        assert all(client.ask(b"LOGOUT\n") == b"OK Goodbye\n" for client in clients)
+        time.sleep(0.2)
+        for client in clients:
+            client.close()
+        assert comes(lambda: server.descriptors() == before, 0.5)
+
+
+@case
+def of_more_than_64_clients_that_left_the_oldest_are_closed():
+    with served() as (server, _, _):
+        before = server.descriptors()
+        clients = []
+        for _ in range(64):
+            clients.append(server.client())
+            assert clients[-1].ask(b"LOGOUT\n") == b"OK Goodbye\n"
+        clients.append(server.client())
+        clients[-1].send(b"LOGOUT\n" + b"VER\n" * 20_000)
+        time.sleep(0.2)
+        assert server.descriptors() <= before + 64
+        assert clients[-1].up_to_end() == b"OK Goodbye\n" and not clients[-1].was_reset()
+        for client in clients:
+            client.close()
+
+
+@case
+def a_server_that_is_asked_nothing_does_nothing():
+    with served(many(MANY, 256)) as (server, driver, _):
+        slow, gone = server.client(), server.client()
+        slow.send(b"LIST VAR su\n" * 4)
+        assert gone.ask(b"LOGOUT\n") == b"OK Goodbye\n"
+        time.sleep(0.3)
+        before, opened = server.seconds_of_work(), server.descriptors()
+        again = select.select([driver.listener], [], [], 2.5)[0]
+        assert not again, "a driver that is there is connected to again"
+        worked = server.seconds_of_work() - before
+        assert worked < 0.2, f"it worked {worked:.2f} s"
+        assert server.descriptors() == opened - 1
+        slow.close()
+        gone.close()
 
 
 @case
@@ -695,8 +801,9 @@ def it_starts_again_at_its_port():
 
 def main():
     file("users", USERS)
-    failed = 0
-    for function in CASES:
+    failed, named = 0, sys.argv[5:]
+    cases = [function for function in CASES if not named or function.__name__ in named]
+    for function in cases:
         begin = time.monotonic()
         try:
             function()
@@ -706,7 +813,7 @@ def main():
             line = fault.__traceback__.tb_next.tb_lineno
             print(f"serve: FAILED: {function.__name__}: line {line}: {fault!r}", flush=True)
     shutil.rmtree(FOLDER)
-    print(f"serve: {len(CASES) - failed} of {len(CASES)} cases")
+    print(f"serve: {len(cases) - failed} of {len(cases)} cases")
     sys.exit(failed > 0)
 
 

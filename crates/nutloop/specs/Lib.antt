@@ -1,6 +1,7 @@
 pub mod Fault
 pub mod Moved
 pub mod Pace
+pub mod Peers
 pub mod Round
 pub mod Scripted
 pub mod Serving

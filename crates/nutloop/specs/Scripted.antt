@@ -1,6 +1,6 @@
 -- What scripted sockets tell.
-use Rattle.std.specs.Prelude.{◌≡◌, ◌⊎◌, ℕ, Bool, true, false, List, [], ◌∷◌, ◌++◌, Option, Some, None}
-use Rattle.std.specs.Prelude.{◌&&◌, if◌then◌else◌, Result, Ok, Err, length, take, min}
+use Rattle.std.specs.Prelude.{◌≡◌, ◌⊎◌, ℕ, Bool, true, false, List, [], ◌∷◌, ◌++◌, Option, Some}
+use Rattle.std.specs.Prelude.{None, ◌&&◌, if◌then◌else◌, Result, Ok, Err, length, take, min}
 use Rattle.nutloop.specs.declared.scripted.Act.{Act}
 use Rattle.nutloop.specs.declared.scripted.Act.TheVariants.{Gives, Waits, Ends, Takes}
 use Rattle.nutloop.specs.declared.sockets.Call.{Call}
@@ -18,7 +18,8 @@ IsKeptOrNot was before is now call =
     (kept : Bool) × (now ≡ (if kept then before ++ call ∷ [] else before)) × (is ≡ (was && kept))
 
 -- A call takes the next act, if there is one, and is answered by it. One that fails takes it too.
-abbrev pub Follows : {T E : Type 0} → (T → Act → Type 0) → List Act → Result T E → List Act → Type 0
+abbrev pub Follows : {T E : Type 0} → (T → Act → Type 0) → List Act → Result T E → List Act
+    → Type 0
 Follows answers before (Ok x) after = (next : Act) × (before ≡ next ∷ after) × answers x next
 Follows answers before (Err e) after =
     ((next : Act) × (before ≡ next ∷ after)) ⊎ ((before ≡ []) × (after ≡ []))

@@ -115,7 +115,8 @@ ready_of (Driver u) way.Read true = Read (peer.Driver u)
 ready_of (Driver u) way.Write true = Write (peer.Driver u)
 
 -- The next one has its turn, which is counted and told, or nobody is ready.
-abbrev pub TellsTurn : Seat → List Place → Pace → Option Ready → Seat → List Place → Pace → Type 0
+abbrev pub TellsTurn : Seat → List Place → Pace → Option Ready → Seat → List Place → Pace
+    → Type 0
 TellsTurn last places pace None new_last new after =
     TakesTurn last places None new_last new × (after ≡ pace)
 TellsTurn last places pace (Some ready) new_last new after =

@@ -1,5 +1,6 @@
 //! Whose turn it is: all who may have one go round.
-ghost use Rattle.std.specs.Prelude.{◌≡◌, ◌≤◌, ◌↔◌, [], IfOk, IsTrue, MatchResult, length};
+ghost use Rattle.std.specs.Prelude.{◌≡◌, ◌≤◌, ◌↔◌, [], IfOk, IsTrue, MatchResult, OnErr, length};
+ghost use Rattle.std.specs.Prelude.{vec_capacity, vec_len};
 ghost use Rattle.nutloop.specs.declared.round.Seat.TheVariants.{Listener};
 ghost use Rattle.nutloop.specs.Round.{FindsNext, FindsReady, FindsSeat, IsOver, LeavesOut, Notes};
 ghost use Rattle.nutloop.specs.Round.{StandInOrder, TakesIn, TakesTurn};
@@ -126,6 +127,7 @@ impl Round {
         ensures places { MatchResult result
             (λ _. TakesIn seat self.old.places.items self.new.places.items)
             (λ _. self.new.places.items ≡ self.old.places.items) }
+        ensures full { OnErr result (vec_capacity self.old.places ≤ vec_len self.old.places) }
     {
         let flags = Flags {
             readable: false,

@@ -1,5 +1,6 @@
 -- What is new of a UPS, by how it stood and how it stands; and what is written of each.
-use Rattle.std.specs.Prelude.{◌≡◌, ◌<◌, ◌≤◌, ℕ, Bool, true, false, List, Option, Some, None, slice_get}
+use Rattle.std.specs.Prelude.{◌≡◌, ◌<◌, ◌≤◌, ℕ, Bool, true, false, List, Option, Some, None}
+use Rattle.std.specs.Prelude.{codes, slice_get}
 use Rattle.std.specs.Option.{option_map_or}
 use Rattle.nutcore.specs.Server.{ServerState, ups_at}
 use Rattle.upsd.specs.declared.journal.News.{News}
@@ -7,6 +8,12 @@ use Rattle.upsd.specs.declared.journal.News.TheVariants.{DriverConnected, Driver
 use Rattle.upsd.specs.declared.journal.News.TheVariants.{ForcedShutdown}
 use Rattle.upsd.specs.declared.journal.Standing.{Standing}
 use Rattle.upsd.specs.declared.journal.UpsNews.{UpsNews}
+
+-- The words of what is new.
+abbrev pub text_of : News → List ℕ
+text_of DriverConnected = codes "driver connected"
+text_of DriverLost = codes "driver lost"
+text_of ForcedShutdown = codes "forced shutdown"
 
 -- A driver was connected or not, and is now.
 abbrev pub driver_news : Bool → Bool → Option News

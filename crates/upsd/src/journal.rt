@@ -1,6 +1,6 @@
 //! The journal of the UPSs while they are served: a line for each change.
 ghost use Rattle.std.specs.Prelude.{◌≡◌, ◌<◌, length, slice_get, slice_set, replicate, option_map, Some};
-ghost use Rattle.upsd.specs.Journal.{driver_news, shutdown_news, ups_news, standing_at, IsWrittenUpTo};
+ghost use Rattle.upsd.specs.Journal.{driver_news, shutdown_news, text_of, ups_news, standing_at, IsWrittenUpTo};
 
 use nutcore::{Server, UpsId};
 use nutusers::UPS_LIMIT;
@@ -15,6 +15,8 @@ pub enum News {
 }
 
 impl fmt::Display for News {
+    ghost output = { λ news. Some (text_of news) };
+
     fn fmt<W: fmt::Write>(&self, f: &mut fmt::Formatter<W>) -> fmt::Result {
         f.write_str(match self {
             News::DriverConnected => "driver connected",

@@ -1,8 +1,12 @@
 //! The sockets of clients.
-ghost use Rattle.std.specs.Prelude.{◌≡◌};
-ghost use Rattle.nutloop.specs.Standing.{client_flags, standing_of};
+ghost use Rattle.std.specs.Prelude.{◌≡◌, ◌≤◌, length, IfOk};
+ghost use Rattle.nutloop.specs.Peers.{IsClientNoted, IsRead, IsSameClient, IsWritten, client_place};
+ghost use Rattle.nutloop.specs.Sockets.{AtMost};
+ghost use Rattle.nutloop.specs.Standing.{client_flags, heard, standing_of};
 
-use crate::round::Flags;
+use super::readiness;
+use crate::round::{Flags, Round, Seat};
+use crate::sockets::{Broken, Got};
 use crate::standing::{Readiness, Standing, client_flags};
 use mio::Token;
 use mio::net::TcpStream;
@@ -27,15 +31,58 @@ impl ClientSocket {
         ensures owed { self.new.is_owed ≡ (standing_of self.old.id server.now.state).is_owed }
         ensures readiness { self.new.readiness ≡ self.old.readiness }
         ensures id { self.new.id ≡ self.old.id }
+        ensures token { self.new.token ≡ self.old.token }
     {
         let standing = Standing::of(server, self.id);
         self.is_owed = standing.is_owed;
         client_flags(self.readiness, standing)
     }
+
+    /// Notes what may be done with it.
+    pub fn note(&mut self, round: &mut Round, server: &Server)
+        ensures noted { IsClientNoted server.now.state self.old self.new
+            round.old.places.items round.new.places.items }
+        ensures last { round.new.last ≡ round.old.last }
+    {
+        let flags = self.flags(server);
+        round.note(Seat::Client(self.id), flags);
+    }
+
+    /// Notes what an event tells of it.
+    pub fn hear(&mut self, told: Readiness, round: &mut Round, server: &Server)
+        ensures noted { IsClientNoted server.now.state
+            (record self.old { readiness = heard told self.old.readiness }) self.new
+            round.old.places.items round.new.places.items }
+        ensures last { round.new.last ≡ round.old.last }
+    {
+        self.readiness.hear(told);
+        self.note(round, server);
+    }
+
+    /// Reads into the front of the buffer.
+    pub fn read(&mut self, into: &mut [u8]) -> Result<Got, Broken>
+        ensures bound { AtMost result into.new }
+        ensures read { IsRead (length into.new) self.old.is_owed result
+            self.old.readiness self.new.readiness }
+        ensures same { IsSameClient self.old self.new }
+    {
+        readiness::read(&mut self.stream, &mut self.readiness, into, self.is_owed)
+    }
+
+    /// Writes a beginning of the bytes.
+    pub fn write(&mut self, from: &[u8]) -> Result<usize, Broken>
+        ensures bound { IfOk result (λ n. n ≤ length from.now) }
+        ensures written { IsWritten (length from.now) result
+            self.old.readiness self.new.readiness }
+        ensures same { IsSameClient self.old self.new }
+    {
+        readiness::write(&mut self.stream, &mut self.readiness, from)
+    }
 }
 
-/// The socket of this client. They stand in the order of their ids.
-pub(super) fn client(clients: &mut [ClientSocket], c: ClientId) -> Option<&mut ClientSocket> {
-    let place = clients.binary_search_by_key(&c, |client| client.id).ok()?;
-    clients.get_mut(place)
+/// Where the socket of this client is.
+pub(super) fn client_place(clients: &[ClientSocket], c: ClientId) -> Option<usize>
+    ensures { result ≡ client_place c clients.now }
+{
+    clients.iter().position(|client| client.id == c)
 }

@@ -1,5 +1,6 @@
 //! The listener, and the newcomer that it took in last.
-ghost use Rattle.std.specs.Prelude.{◌≡◌, None};
+ghost use Rattle.std.specs.Prelude.{◌≡◌, IfOk, None, OnErr, OnOk, Some, option_map};
+ghost use Rattle.std.specs.Net.Text.{ip_text};
 
 use super::readiness::both_ways;
 use crate::sockets::Broken;
@@ -83,7 +84,12 @@ impl Door {
         registry: &Registry,
         mut stream: TcpStream,
         ip: IpAddr,
-    ) -> io::Result<Address> {
+    ) -> io::Result<Address>
+        ensures address { IfOk result (λ address. address ≡ ip_text ip) }
+        ensures taken { OnOk result
+            (option_map (λ x. x.token) self.new.newcomer ≡ Some (record { 0 = self.old.count })) }
+        ensures left { OnErr result (self.new.newcomer ≡ self.old.newcomer) }
+    {
         let text = format!(in self.alloc; "{ip}")?;
         let Ok(address) = Address::read(text.as_bytes()) else {
             return Err(io::Error::from(ErrorKind::InvalidData));

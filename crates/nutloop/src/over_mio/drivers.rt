@@ -1,9 +1,13 @@
 //! The sockets of drivers.
-ghost use Rattle.std.specs.Prelude.{◌≡◌, MatchOption};
-ghost use Rattle.nutloop.specs.Standing.{driver_flags, is_driver_owed};
+ghost use Rattle.std.specs.Prelude.{◌≡◌, ◌≤◌, length, false, IfOk, MatchOption};
+ghost use Rattle.nutloop.specs.Peers.{IsDriverNoted, IsRead, IsSameDriver, IsWritten, driver_place};
+ghost use Rattle.nutloop.specs.Sockets.{AtMost};
+ghost use Rattle.nutloop.specs.Standing.{driver_flags, heard, is_driver_owed};
 
+use super::readiness;
 use super::readiness::both_ways;
-use crate::round::Flags;
+use crate::round::{Flags, Round, Seat};
+use crate::sockets::{Broken, Got};
 use crate::standing::{Readiness, driver_flags, is_driver_owed};
 use mio::net::UnixStream;
 use mio::{Registry, Token};
@@ -30,7 +34,7 @@ impl DriverSocket {
     /// Connects to the driver of a UPS, whose socket has this path.
     pub fn connect<R: Net>(rt: &R, registry: &Registry, u: UpsId, path: &str) -> io::Result<Self> {
         let mut stream = UnixStream::connect(rt, path)?;
-        registry.register(&mut stream, token(u), both_ways())?;
+        registry.register(&mut stream, driver_token(u), both_ways())?;
         Ok(DriverSocket {
             u,
             stream,
@@ -60,30 +64,57 @@ impl DriverSocket {
         self.flags = flags;
         Some(flags)
     }
+
+    /// Notes what may be done with it, where that has changed.
+    pub fn note(&mut self, round: &mut Round, server: &Server)
+        ensures noted { IsDriverNoted server.now.state self.old self.new
+            round.old.places.items round.new.places.items }
+        ensures last { round.new.last ≡ round.old.last }
+    {
+        if let Some(flags) = self.new_flags(server) {
+            round.note(Seat::Driver(self.u), flags);
+        }
+    }
+
+    /// Notes what an event tells of it.
+    pub fn hear(&mut self, told: Readiness, round: &mut Round, server: &Server)
+        ensures noted { IsDriverNoted server.now.state
+            (record self.old { readiness = heard told self.old.readiness }) self.new
+            round.old.places.items round.new.places.items }
+        ensures last { round.new.last ≡ round.old.last }
+    {
+        self.readiness.hear(told);
+        self.note(round, server);
+    }
+
+    /// Reads into the front of the buffer.
+    pub fn read(&mut self, into: &mut [u8]) -> Result<Got, Broken>
+        ensures bound { AtMost result into.new }
+        ensures read { IsRead (length into.new) false result self.old.readiness self.new.readiness }
+        ensures same { IsSameDriver self.old self.new }
+    {
+        readiness::read(&mut self.stream, &mut self.readiness, into, false)
+    }
+
+    /// Writes a beginning of the bytes.
+    pub fn write(&mut self, from: &[u8]) -> Result<usize, Broken>
+        ensures bound { IfOk result (λ n. n ≤ length from.now) }
+        ensures written { IsWritten (length from.now) result
+            self.old.readiness self.new.readiness }
+        ensures same { IsSameDriver self.old self.new }
+    {
+        readiness::write(&mut self.stream, &mut self.readiness, from)
+    }
 }
 
-fn token(u: UpsId) -> Token {
+/// The token by which events tell of the UPS's driver.
+pub(super) fn driver_token(u: UpsId) -> Token {
     Token(FIRST_DRIVER + u.place as usize)
 }
 
-/// The socket of this UPS's driver.
-pub(super) fn driver(drivers: &mut [DriverSocket], u: UpsId) -> Option<&mut DriverSocket> {
-    drivers.iter_mut().find(|driver| driver.u == u)
-}
-
-/// The socket that events tell of by this token.
-pub(super) fn driver_of(drivers: &mut [DriverSocket], event: Token) -> Option<&mut DriverSocket> {
-    drivers.iter_mut().find(|driver| token(driver.u) == event)
-}
-
-/// The path of the UPS's socket, where its driver isn't connected.
-pub(super) fn missing<'a>(
-    server: &'a Server,
-    drivers: &mut [DriverSocket],
-    u: UpsId,
-) -> Option<&'a str> {
-    match driver(drivers, u) {
-        Some(_) => None,
-        None => server.ups().socket(u),
-    }
+/// Where the socket of this UPS's driver is.
+pub(super) fn driver_place(drivers: &[DriverSocket], u: UpsId) -> Option<usize>
+    ensures { result ≡ driver_place u drivers.now }
+{
+    drivers.iter().position(|driver| driver.u.place == u.place)
 }

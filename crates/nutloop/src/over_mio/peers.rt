@@ -1,15 +1,18 @@
 //! The sockets of all peers, and their places in the round.
-ghost use Rattle.std.specs.Prelude.{◌≡◌, ◌≢◌, ◌≤◌, false, length, IfOk};
-ghost use Rattle.nutloop.specs.Round.{LeavesOut, Notes};
+ghost use Rattle.std.specs.Prelude.{◌≡◌, ◌≢◌, ◌≤◌, ◌⊎◌, ◌++◌, ◌∷◌, [], false, length, IfOk, MatchOption};
+ghost use Rattle.std.specs.Prelude.{vec_capacity, vec_len};
+ghost use Rattle.std.specs.List.{list_any, remove};
+ghost use Rattle.nutloop.specs.Peers.{NotesLast, ReadsPeer, ShutsPeer, WritesPeer, client_of, client_place};
+ghost use Rattle.nutloop.specs.Round.{LeavesOut, Notes, TakesIn};
 ghost use Rattle.nutloop.specs.Sockets.{AtMost};
 ghost use Rattle.nutloop.specs.Standing.{TellsTurn, seat_of};
 ghost use Rattle.nutloop.specs.declared.round.Seat.TheVariants.{Client, Listener};
 
-use super::clients::{ClientSocket, client};
+use super::clients::{ClientSocket, client_place};
 use super::door::Newcomer;
-use super::drivers::{DriverSocket, driver, driver_of, missing};
+use super::drivers::{DriverSocket, driver_place, driver_token};
 use super::partings::{PARTING_LIMIT, Parting, drain_all, part};
-use super::readiness::{read, told_by, write};
+use super::readiness::told_by;
 use crate::pace::Pace;
 use crate::round::{Flags, Round, Seat};
 use crate::sockets::{Broken, Got, Ready};
@@ -32,17 +35,9 @@ pub(super) struct Peers {
     pub round: Round,
     /// Newcomers may be waiting, as the round knows.
     is_knocked_at: bool,
-    /// In the order of their ids.
     clients: Vec<ClientSocket>,
     drivers: Vec<DriverSocket>,
     partings: Vec<Parting>,
-}
-
-/// Notes what may be done with a driver, where that has changed.
-fn note_driver(round: &mut Round, driver: &mut DriverSocket, server: &Server) {
-    if let Some(flags) = driver.new_flags(server) {
-        round.note(Seat::Driver(driver.u), flags);
-    }
 }
 
 impl Peers {
@@ -62,12 +57,20 @@ impl Peers {
     pub fn connect<R: Net>(&mut self, rt: &R, registry: &Registry, server: &Server) {
         for place in 0..server.ups().len() {
             let u = UpsId { place: place as u8 };
-            let Some(path) = missing(server, &mut self.drivers, u) else {
+            let Some(path) = self.missing(server, u) else {
                 continue;
             };
             if let Ok(socket) = DriverSocket::connect(rt, registry, u, path) {
                 self.take_driver(socket);
             }
+        }
+    }
+
+    /// The path of the UPS's socket, where its driver isn't connected.
+    fn missing<'a>(&self, server: &'a Server, u: UpsId) -> Option<&'a str> {
+        match driver_place(&self.drivers, u) {
+            Some(_) => None,
+            None => server.ups().socket(u),
         }
     }
 
@@ -80,7 +83,13 @@ impl Peers {
     }
 
     /// Takes the newcomer in as the client of this session.
-    pub fn take_client(&mut self, newcomer: Newcomer, c: ClientId) {
+    pub fn take_client(&mut self, newcomer: Newcomer, c: ClientId)
+        ensures taken { (vec_capacity self.old.clients ≤ vec_len self.old.clients)
+            ⊎ (self.new.clients.items ≡ self.old.clients.items ++ client_of newcomer c ∷ []) }
+        ensures seat { (vec_capacity self.old.clients ≤ vec_len self.old.clients)
+            ⊎ ((vec_capacity self.old.round.places ≤ vec_len self.old.round.places)
+            ⊎ TakesIn (Client c) self.old.round.places.items self.new.round.places.items) }
+    {
         let socket = ClientSocket {
             id: c,
             token: newcomer.token,
@@ -88,8 +97,7 @@ impl Peers {
             readiness: Readiness::new(),
             is_owed: false,
         };
-        let place = self.clients.partition_point(|client| client.id < c);
-        if self.clients.insert(place, socket).is_ok() {
+        if self.clients.push(socket).is_ok() {
             let _ = self.round.enter(Seat::Client(c));
         }
     }
@@ -97,28 +105,41 @@ impl Peers {
     /// Notes what an event tells of a peer.
     pub fn hear(&mut self, event: &Event, server: &Server) {
         let token = event.token();
-        if let Some(driver) = driver_of(&mut self.drivers, token) {
-            driver.readiness.hear(told_by(event));
-            note_driver(&mut self.round, driver, server);
-        } else if let Some(client) = self.clients.iter_mut().find(|x| x.token == token) {
-            client.readiness.hear(told_by(event));
-            let flags = client.flags(server);
-            self.round.note(Seat::Client(client.id), flags);
-        } else if let Some(parting) = self.partings.iter_mut().find(|x| x.token == token) {
-            parting.readable = true;
+        let told = told_by(event);
+        if let Some(at) = self.drivers.iter().position(|x| driver_token(x.u) == token) {
+            self.drivers[at].hear(told, &mut self.round, server);
+        } else if let Some(at) = self.clients.iter().position(|x| x.token == token) {
+            self.clients[at].hear(told, &mut self.round, server);
+        } else if let Some(at) = self.partings.iter().position(|x| x.token == token) {
+            self.partings[at].readable = true;
         }
     }
 
     /// Notes what may be done now with whoever had the last turn, and with each driver, for which it may have left orders.
     pub fn refresh(&mut self, server: &Server) {
-        if let Seat::Client(c) = self.round.last() {
-            if let Some(client) = client(&mut self.clients, c) {
-                let flags = client.flags(server);
-                self.round.note(Seat::Client(c), flags);
-            }
+        self.note_last(server);
+        self.note_drivers(server);
+    }
+
+    /// Notes what may be done now with the client that had the last turn, if it was one.
+    fn note_last(&mut self, server: &Server)
+        ensures noted { NotesLast self.old.round.last server.now.state
+            self.old.clients.items self.new.clients.items
+            self.old.round.places.items self.new.round.places.items }
+        ensures last { self.new.round.last ≡ self.old.round.last }
+    {
+        let Seat::Client(c) = self.round.last() else {
+            return;
+        };
+        if let Some(at) = client_place(&self.clients, c) {
+            self.clients[at].note(&mut self.round, server);
         }
+    }
+
+    /// Notes what may be done now with each driver.
+    fn note_drivers(&mut self, server: &Server) {
         for driver in self.drivers.iter_mut() {
-            note_driver(&mut self.round, driver, server);
+            driver.note(&mut self.round, server);
         }
     }
 
@@ -159,25 +180,28 @@ impl Peers {
         let Seat::Driver(u) = seat else {
             return true;
         };
-        let Some(driver) = driver(&mut self.drivers, u) else {
+        let Some(at) = driver_place(&self.drivers, u) else {
             return true;
         };
-        let is_told = driver.is_told;
-        driver.is_told = true;
+        let is_told = self.drivers[at].is_told;
+        self.drivers[at].is_told = true;
         is_told
     }
 
     /// Reads into the front of the buffer. A peer that isn't there has ended.
     pub fn read(&mut self, p: Peer, into: &mut [u8]) -> Result<Got, Broken>
         ensures bound { AtMost result into.new }
+        ensures reads { ReadsPeer p (length into.new) result
+            self.old.clients.items self.old.drivers.items
+            self.new.clients.items self.new.drivers.items }
     {
         match p {
-            Peer::Client(c) => match client(&mut self.clients, c) {
-                Some(x) => read(&mut x.stream, &mut x.readiness, into, x.is_owed),
+            Peer::Client(c) => match client_place(&self.clients, c) {
+                Some(at) => self.clients[at].read(into),
                 None => Ok(Got::End),
             },
-            Peer::Driver(u) => match driver(&mut self.drivers, u) {
-                Some(x) => read(&mut x.stream, &mut x.readiness, into, false),
+            Peer::Driver(u) => match driver_place(&self.drivers, u) {
+                Some(at) => self.drivers[at].read(into),
                 None => Ok(Got::End),
             },
         }
@@ -186,14 +210,17 @@ impl Peers {
     /// Writes a beginning of the bytes.
     pub fn write(&mut self, p: Peer, from: &[u8]) -> Result<usize, Broken>
         ensures bound { IfOk result (λ n. n ≤ length from.now) }
+        ensures writes { WritesPeer p (length from.now) result
+            self.old.clients.items self.old.drivers.items
+            self.new.clients.items self.new.drivers.items }
     {
         match p {
-            Peer::Client(c) => match client(&mut self.clients, c) {
-                Some(x) => write(&mut x.stream, &mut x.readiness, from),
+            Peer::Client(c) => match client_place(&self.clients, c) {
+                Some(at) => self.clients[at].write(from),
                 None => Err(Broken),
             },
-            Peer::Driver(u) => match driver(&mut self.drivers, u) {
-                Some(x) => write(&mut x.stream, &mut x.readiness, from),
+            Peer::Driver(u) => match driver_place(&self.drivers, u) {
+                Some(at) => self.drivers[at].write(from),
                 None => Err(Broken),
             },
         }
@@ -204,12 +231,16 @@ impl Peers {
         ensures seat { LeavesOut (seat_of p)
             self.old.round.places.items self.new.round.places.items }
         ensures last { self.new.round.last ≡ self.old.round.last }
+        ensures shuts { ShutsPeer p self.old.clients.items self.old.drivers.items
+            self.new.clients.items self.new.drivers.items }
     {
         match p {
             Peer::Client(c) => self.shut_client(c, pace),
             Peer::Driver(u) => {
                 self.round.leave(Seat::Driver(u));
-                self.drivers.retain(|driver| driver.u != u);
+                if let Some(at) = driver_place(&self.drivers, u) {
+                    let _shut = self.drivers.remove(at);
+                }
             }
         }
     }
@@ -218,16 +249,22 @@ impl Peers {
         ensures seat { LeavesOut (Client c)
             self.old.round.places.items self.new.round.places.items }
         ensures last { self.new.round.last ≡ self.old.round.last }
+        ensures shuts { MatchOption (client_place c self.old.clients.items)
+            (self.new.clients.items ≡ self.old.clients.items)
+            (λ at. self.new.clients.items ≡ remove self.old.clients.items at) }
+        ensures drivers { self.new.drivers.items ≡ self.old.drivers.items }
     {
         self.round.leave(Seat::Client(c));
-        if let Some(place) = self.clients.iter().position(|client| client.id == c) {
-            let client = self.clients.remove(place);
+        if let Some(at) = client_place(&self.clients, c) {
+            let client = self.clients.remove(at);
             part(&mut self.partings, client, pace.parting_end());
         }
     }
 
     /// Whether something that clients sent after their sessions is still to be read and dropped.
-    pub fn is_draining(&self) -> bool {
+    pub fn is_draining(&self) -> bool
+        ensures { result ≡ list_any (λ x. x.readable) self.now.partings.items }
+    {
         self.partings.iter().any(|parting| parting.readable)
     }
 

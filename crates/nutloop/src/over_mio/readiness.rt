@@ -1,5 +1,6 @@
 //! What events and calls tell of a peer's socket.
-ghost use Rattle.std.specs.Prelude.{◌≤◌, length, IfOk};
+ghost use Rattle.std.specs.Prelude.{◌≡◌, ◌≤◌, length, IfOk};
+ghost use Rattle.nutloop.specs.Peers.{ReadsOnce, WritesOnce, told_by};
 ghost use Rattle.nutloop.specs.Sockets.{AtMost};
 
 use crate::sockets::{Broken, Got};
@@ -14,7 +15,9 @@ pub(super) fn both_ways() -> Interest {
 }
 
 /// What an event tells of it.
-pub(super) fn told_by(event: &Event) -> Readiness {
+pub(super) fn told_by(event: &Event) -> Readiness
+    ensures { result ≡ told_by event.now }
+{
     let ended = event.is_read_closed() || event.is_error();
     Readiness {
         readable: event.is_readable() || ended,
@@ -31,6 +34,8 @@ pub(super) fn read<S: Read>(
     is_owed: bool,
 ) -> Result<Got, Broken>
     ensures bound { AtMost result into.new }
+    ensures reads { ReadsOnce S.remaining stream.old stream.new
+        readiness.old readiness.new into.new is_owed result }
 {
     let room = into.len();
     let answer = Answer::of(stream.read(into));
@@ -44,6 +49,8 @@ pub(super) fn write<S: Write>(
     from: &[u8],
 ) -> Result<usize, Broken>
     ensures bound { IfOk result (λ n. n ≤ length from.now) }
+    ensures writes { WritesOnce S.contents stream.old stream.new
+        readiness.old readiness.new from.now result }
 {
     let answer = Answer::of(stream.write(from));
     readiness.write(answer, from.len())

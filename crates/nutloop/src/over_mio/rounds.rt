@@ -1,5 +1,6 @@
 //! Going round the peers, and asking the system what is ready.
-ghost use Rattle.std.specs.Prelude.{◌≤◌, length, IfOk};
+ghost use Rattle.std.specs.Prelude.{◌≡◌, ◌≤◌, length, IfOk, None, OnOk};
+ghost use Rattle.nutloop.specs.Peers.{ReadsPeer, WritesPeer};
 ghost use Rattle.nutloop.specs.Sockets.{AtMost};
 
 use super::door::{Door, LISTENER};
@@ -27,6 +28,17 @@ pub(super) struct Rounds<'a, R> {
     peers: Peers,
     start: Instant,
     pace: Pace,
+}
+
+/// Notes what the system tells.
+fn hear_all(events: &Events, door: &mut Door, peers: &mut Peers, server: &Server) {
+    for event in events.iter() {
+        if event.token() == LISTENER {
+            door.is_knocked_at = true;
+        } else {
+            peers.hear(event, server);
+        }
+    }
 }
 
 impl<'a, R: Net + Clock> Rounds<'a, R> {
@@ -72,15 +84,12 @@ impl<'a, R: Net + Clock> Rounds<'a, R> {
 
     /// Asks the system what is ready, and the clock. The second where it is a new one, at which the drivers that aren't
     /// connected are tried, and newcomers looked for.
-    fn look(&mut self, server: &Server, wait: Duration) -> io::Result<Option<u64>> {
+    fn look(&mut self, server: &Server, wait: Duration) -> io::Result<Option<u64>>
+        ensures noted { OnOk result
+            (self.new.peers.is_knocked_at ≡ self.new.door.is_knocked_at) }
+    {
         self.poll.poll(&mut self.events, Some(wait))?;
-        for event in self.events.iter() {
-            if event.token() == LISTENER {
-                self.door.is_knocked_at = true;
-            } else {
-                self.peers.hear(event, server);
-            }
-        }
+        hear_all(&self.events, &mut self.door, &mut self.peers, server);
         let tick = self.pace.look(self.start.elapsed(self.rt)?);
         self.peers.drain(&self.pace);
         if tick.is_some() {
@@ -97,7 +106,9 @@ impl<'a, R: Net + Clock> Rounds<'a, R> {
     }
 
     /// Takes the newcomer in as the client of this session.
-    pub fn name(&mut self, c: ClientId) {
+    pub fn name(&mut self, c: ClientId)
+        ensures left { self.new.door.newcomer ≡ None }
+    {
         if let Some(newcomer) = self.door.take_newcomer() {
             self.peers.take_client(newcomer, c);
         }
@@ -105,12 +116,18 @@ impl<'a, R: Net + Clock> Rounds<'a, R> {
 
     pub fn read(&mut self, p: Peer, into: &mut [u8]) -> Result<Got, Broken>
         ensures bound { AtMost result into.new }
+        ensures reads { ReadsPeer p (length into.new) result
+            self.old.peers.clients.items self.old.peers.drivers.items
+            self.new.peers.clients.items self.new.peers.drivers.items }
     {
         self.peers.read(p, into)
     }
 
     pub fn write(&mut self, p: Peer, from: &[u8]) -> Result<usize, Broken>
         ensures bound { IfOk result (λ n. n ≤ length from.now) }
+        ensures writes { WritesPeer p (length from.now) result
+            self.old.peers.clients.items self.old.peers.drivers.items
+            self.new.peers.clients.items self.new.peers.drivers.items }
     {
         self.peers.write(p, from)
     }
