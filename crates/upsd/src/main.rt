@@ -69,14 +69,20 @@ fn matches_of(alloc: Global, words: &[String]) -> Result<ArgMatches<'_>, Error> 
     upsd.try_get_matches_from(words)
 }
 
+/// What stands below the options of `serve`.
+const BEHIND_SERVE: &str = "\
+A line of a file that is refused is told as PATH:LINE: cause N:
+  1 malformed line, 2 setting outside of a section, 3 bad name, 4 duplicate,
+  5 unknown key, 6 bad value
+
+Example: upsd serve --ups upses.conf --users upsd.users --listen 127.0.0.1:3493";
+
 /// The words of `serve`.
 fn serve_command<'a>(alloc: Global) -> Result<Command<'a>, AllocError> {
     // Each word is made where it is added, so that a refusal drops nothing else.
     Command::new(alloc, "serve")
         .about("Serves clients over the network what the UPSs' drivers tell")
-        .after_help(
-            "Example: upsd serve --ups upses.conf --users upsd.users --listen 127.0.0.1:3493",
-        )
+        .after_help(BEHIND_SERVE)
         .arg(file(
             alloc,
             "ups",
