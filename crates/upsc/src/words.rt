@@ -90,6 +90,7 @@ fn attached(alloc: Global) -> Result<Arg<'static>, AllocError> {
 
 fn target(alloc: Global) -> Result<Arg<'static>, AllocError> {
     Arg::new(alloc, "UPS")
+        .value_name("UPS|HOST")
         .help("The UPS, as ups[@host[:port]]; with -l and -L the server, as host[:port]")
         .required_unless_present_any(&["l", "L"])
 }
