@@ -25,7 +25,7 @@ import tempfile
 import threading
 import time
 
-from kit import KIT, build_library, in_turn, rt, rtlib
+from kit import KIT, build_library, in_turn, is_refused, rt, rtlib
 
 FOLDER, STAMP = "edits", "judged"
 
@@ -234,12 +234,11 @@ def tried_alone(crate, edits, kept, say):
     # By that way an edit says something only where the crate itself is proved.
     is_sound = not edits or check(crate, {}, kept)[0] == 0
     for it in edits:
-        kind, said = None, f"{crate.name} isn't proved as it stands"
+        answer, said = None, f"{crate.name} isn't proved as it stands"
         if is_sound:
-            kind, said = rt.must_fail(crate, it.file, ["--jobs", "1"], kept)
+            answer, said = rt.must_fail(crate, it.file, ["--jobs", "1"], kept)
         say(f"edit {it.name}: tried alone: {said.removeprefix(f'must-fail {it.name}: ')}")
-        # Of the kinds of answer that the kit has, this one alone says that the contract refuses the edit.
-        failed += [it.name] * (kind != rt.REFUSED)
+        failed += [it.name] * (not is_refused(answer))
     return failed
 
 

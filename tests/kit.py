@@ -23,6 +23,11 @@ rt = load("rt_of_the_kit", f"{KIT}/bin/rt")
 rtlib = rt.rtlib
 
 
+def is_refused(answer):
+    """Tells whether the kit's must_fail says that the contract refuses the edit: some kits answer a kind, others a truth value."""
+    return answer == rt.REFUSED if hasattr(rt, "REFUSED") else answer is True
+
+
 def in_turn(crates, lanes, work):
     """Calls work with each of these crates once it went well with those below it, with some at a time. Returns those with which it went well."""
     well, crates = {}, sorted(crates, key=lambda it: len(it.below()))
