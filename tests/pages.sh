@@ -24,7 +24,7 @@ told=$({
     sed -nE 's/^ *News::[A-Za-z]+ => "(.*)",$/su: \1/p' crates/upsd/src/journal.rt
 } | sort)
 alike upsd "$told" "$(messages_of upsd)"
-told=$(sed -nE 's/^ *ClientFault::.* => push\(line, b"(.*)"\),$/\1/p' crates/nutreply/src/faults.rt | sort)
+told=$(sed -nE 's/^ *ClientFault::.* => push\(line, b"(.*)"\),$/\1/p' crates/nutrequest/src/faults.rt | sort)
 for program in upsc upsrw upscmd; do
     alike "$program" "$told" "$(messages_of "$program")"
     unknown=$(sed -nE 's/^\.B ".*: server answered ERR ([A-Z-]+)"$/\1/p' "man/$program.8" |

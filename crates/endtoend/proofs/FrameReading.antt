@@ -11,13 +11,13 @@ use Rattle.nutwords.specs.Grammar.{Reads}
 use Rattle.nutwords.specs.Lines.{IsCutInto, Unfinished, line, unfinished}
 use Rattle.nutwords.specs.Listing.{IsWrittenLine, ReadsLineByLine, listing_words}
 use Rattle.nutwords.proofs.PublicLaws.{lines_are_read_back}
-use Rattle.nutreply.specs.Lines.{lines}
-use Rattle.nutreply.specs.declared.item.Item.{Item}
-use Rattle.nutreply.specs.declared.request.Query.{Query}
-use Rattle.nutreply.specs.declared.request.Query.TheVariants.{Ups, Var, Rw, Cmd, Client}
-use Rattle.nutreply.specs.declared.request.Request.TheVariants.{List as ListOf, GetVar, GetNumAttach}
-use Rattle.nutreply.specs.Request.{kind_of, ups_of, asked_words}
-use Rattle.nutreply.specs.Reply.{Reply, Whole, reply, reply_from, first_of, later_of, after_later, after_first, items_from, one_item, behind, is_count, is_nothing, is_frame}
+use Rattle.nutrequest.specs.Lines.{lines}
+use Rattle.nutrequest.specs.declared.item.Item.{Item}
+use Rattle.nutrequest.specs.declared.request.Query.{Query}
+use Rattle.nutrequest.specs.declared.request.Query.TheVariants.{Ups, Var, Rw, Cmd, Client}
+use Rattle.nutrequest.specs.declared.request.Request.TheVariants.{List as ListOf, GetVar, GetNumAttach}
+use Rattle.nutrequest.specs.Request.{kind_of, ups_of, asked_words}
+use Rattle.nutrequest.specs.Reply.{Reply, Whole, reply, reply_from, first_of, later_of, after_later, after_first, items_from, one_item, behind, is_count, is_nothing, is_frame}
 use Rattle.endtoend.specs.Frames.{item_words, IsItem, AFrameIsReadAsItsItems}
 use Rattle.endtoend.proofs.LineReading.{first_found, words_read, written_line, line_before}
 

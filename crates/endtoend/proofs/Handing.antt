@@ -5,13 +5,13 @@ use Rattle.std.specs.List.{before_first, after_first}
 use Rattle.std.specs.Prelude.{◌≢◌, ◌==◌, is_ok}
 use Rattle.nutwords.specs.Bytes.{is_name_byte}
 use Rattle.nutwords.specs.Reading.{read_name, is_name, read_ups_name, is_ups_name}
-use Rattle.nutreply.specs.Ends.{NoneFailed}
-use Rattle.nutreply.specs.State.{unread_of, reader_of, writer_of, is_over}
-use Rattle.nutreply.specs.declared.faults.ClientFault.TheVariants.{Memory}
-use Rattle.nutreply.specs.declared.request.Query.{Query}
-use Rattle.nutreply.specs.declared.request.Query.TheVariants as queries
-use Rattle.nutreply.specs.declared.request.Request.{Request}
-use Rattle.nutreply.specs.declared.request.Request.TheVariants.{List as ListOf, GetVar, GetNumAttach}
+use Rattle.nutio.specs.Ends.{NoneFailed}
+use Rattle.nutrequest.specs.State.{unread_of, reader_of, writer_of, is_over}
+use Rattle.nutrequest.specs.declared.faults.ClientFault.TheVariants.{Memory}
+use Rattle.nutrequest.specs.declared.request.Query.{Query}
+use Rattle.nutrequest.specs.declared.request.Query.TheVariants as queries
+use Rattle.nutrequest.specs.declared.request.Request.{Request}
+use Rattle.nutrequest.specs.declared.request.Request.TheVariants.{List as ListOf, GetVar, GetNumAttach}
 use Rattle.nutclient.specs.Job.{UpsPlace, JobParts, listing_of, variable_of, upses_of, parts_of, count_of}
 use Rattle.nutclient.specs.Printed.{Prints, printed, Answers}
 use Rattle.nutclient.specs.Requests.{requests_in}

@@ -11,7 +11,7 @@ use Rattle.nutwords.specs.Lines.{line as a_line}
 use Rattle.nutwords.specs.Listing.{as_it_is, IsWrittenLine, ReadsLineByLine, listing_words}
 use Rattle.nutwords.specs.Scan.{words_of}
 use Rattle.nutwords.proofs.PublicLaws.{first_line_is_cut_off, lines_are_read_back, read_line_is_the_grammar}
-use Rattle.nutreply.specs.Lines.{lines, lines_from, Line}
+use Rattle.nutrequest.specs.Lines.{lines, lines_from, Line}
 
 -- A line that is short enough is found, and the lines after it are those of what stands after it.
 line_found : (held line rest : List ℕ) → has_lf line ≡ false → length held + length line ≤ 1023 → lines_from held (line ++ 10 ∷ rest) ≡ Line (held ++ line) rest ∷ lines_from [] rest

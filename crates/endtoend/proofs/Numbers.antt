@@ -5,7 +5,7 @@ use Rattle.std.specs.List.{list_all}
 use Rattle.std.proofs.lemmas.Bool.Decides.{nat_tests}
 use Rattle.std.proofs.lemmas.Fmt.{decimal_digit, decimal_step}
 use Rattle.nutwords.specs.Bytes.{is_bare}
-use Rattle.nutreply.specs.Reply.{is_count}
+use Rattle.nutrequest.specs.Reply.{is_count}
 
 -- it is read as a number, and stands in a line as it is
 pub record IsNumber (text : List ℕ) : Type 0 where

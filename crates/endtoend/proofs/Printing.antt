@@ -26,13 +26,13 @@ use Rattle.nutcore.specs.ByRight.{WhatIsCountedIsWhoIsThere, logged_in, is_logge
 use Rattle.nutcore.specs.Headline.{AListingIsWhatIsHeld}
 use Rattle.nutcore.specs.Reply.{seen}
 use Rattle.nutcore.specs.Reply as server
-use Rattle.nutreply.specs.declared.item.Item.{Item}
-use Rattle.nutreply.specs.declared.request.Query.TheVariants as queries
-use Rattle.nutreply.specs.declared.request.Request.{Request}
-use Rattle.nutreply.specs.declared.request.Request.TheVariants as requests
-use Rattle.nutreply.specs.declared.request.Query.{Query}
-use Rattle.nutreply.specs.Request.{has_value}
-use Rattle.nutreply.specs.Reply.{Reply, Whole, reply, one_item, is_item_name}
+use Rattle.nutrequest.specs.declared.item.Item.{Item}
+use Rattle.nutrequest.specs.declared.request.Query.TheVariants as queries
+use Rattle.nutrequest.specs.declared.request.Request.{Request}
+use Rattle.nutrequest.specs.declared.request.Request.TheVariants as requests
+use Rattle.nutrequest.specs.declared.request.Query.{Query}
+use Rattle.nutrequest.specs.Request.{has_value}
+use Rattle.nutrequest.specs.Reply.{Reply, Whole, reply, one_item, is_item_name}
 use Rattle.nutclient.specs.Requests.{reply_behind}
 use Rattle.nutclient.specs.Printed.{Prints, printed, printed_of, item_line, text_of}
 use Rattle.nutclient.specs.declared.form.Form.{Form}

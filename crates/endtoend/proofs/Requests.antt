@@ -11,10 +11,10 @@ use Rattle.nutwords.specs.Reading.{read_text, is_name, is_ups_name}
 use Rattle.nutwords.proofs.PublicLaws.{read_line_is_the_grammar}
 use Rattle.nutanswer.specs.Command.{read_command, command_from}
 use Rattle.nutanswer.specs.declared.command.Command.TheVariants as commands
-use Rattle.nutreply.specs.Request.{request_words}
-use Rattle.nutreply.specs.declared.request.Query.TheVariants as queries
-use Rattle.nutreply.specs.declared.request.Request.{Request}
-use Rattle.nutreply.specs.declared.request.Request.TheVariants as requests
+use Rattle.nutrequest.specs.Request.{request_words}
+use Rattle.nutrequest.specs.declared.request.Query.TheVariants as queries
+use Rattle.nutrequest.specs.declared.request.Request.{Request}
+use Rattle.nutrequest.specs.declared.request.Request.TheVariants as requests
 use Rattle.endtoend.specs.Served.{IsLineOf}
 use Rattle.endtoend.proofs.LineReading.{written_line}
 use Rattle.endtoend.proofs.Texts.{text_short, text_itself, name_written, ups_name_written}

@@ -3,12 +3,12 @@ use Rattle.std.specs.Prelude.{◌≡◌, ◌≤◌, ℕ, Bool, true, false, List
 use Rattle.std.specs.Prelude.{IsTrue, option_to_list}
 use Rattle.nutwords.specs.Frame.{frame}
 use Rattle.nutwords.specs.Listing.{IsWrittenListing}
-use Rattle.nutreply.specs.declared.item.Item.{Item}
-use Rattle.nutreply.specs.declared.limits.TheConstants.{ITEM_LIMIT}
-use Rattle.nutreply.specs.declared.request.Query.{Query}
-use Rattle.nutreply.specs.declared.request.Request.TheVariants.{List as ListOf}
-use Rattle.nutreply.specs.Request.{kind_of, ups_of, has_value, asked_words}
-use Rattle.nutreply.specs.Reply.{Whole, reply, is_item_name}
+use Rattle.nutrequest.specs.declared.item.Item.{Item}
+use Rattle.nutrequest.specs.declared.limits.TheConstants.{ITEM_LIMIT}
+use Rattle.nutrequest.specs.declared.request.Query.{Query}
+use Rattle.nutrequest.specs.declared.request.Request.TheVariants.{List as ListOf}
+use Rattle.nutrequest.specs.Request.{kind_of, ups_of, has_value, asked_words}
+use Rattle.nutrequest.specs.Reply.{Whole, reply, is_item_name}
 
 -- The value of an item, where it has one.
 abbrev pub value_words : Bool → List ℕ → List (List ℕ)

@@ -11,14 +11,14 @@ use Rattle.nutlisting.specs.declared.listing.clients.TheConstants.{SESSION_LIMIT
 use Rattle.nutanswer.specs.Checks.{KnownUps, ups_named}
 use Rattle.nutcore.specs.Reply.{seen, reply}
 use Rattle.nutcore.specs.Server.{ServerState}
-use Rattle.nutreply.specs.Ends.{NoneFailed}
-use Rattle.nutreply.specs.State.{unread_of, reader_of, writer_of, is_over}
-use Rattle.nutreply.specs.declared.faults.ClientFault.{ClientFault}
-use Rattle.nutreply.specs.declared.faults.ClientFault.TheVariants.{Memory}
-use Rattle.nutreply.specs.declared.request.Query.TheVariants as queries
-use Rattle.nutreply.specs.declared.request.Request.TheVariants.{List as ListOf, GetVar}
-use Rattle.nutreply.specs.declared.request.Request.TheVariants.{GetNumAttach}
-use Rattle.nutreply.specs.declared.session.Session.{Session}
+use Rattle.nutio.specs.Ends.{NoneFailed}
+use Rattle.nutrequest.specs.State.{unread_of, reader_of, writer_of, is_over}
+use Rattle.nutrequest.specs.declared.faults.ClientFault.{ClientFault}
+use Rattle.nutrequest.specs.declared.faults.ClientFault.TheVariants.{Memory}
+use Rattle.nutrequest.specs.declared.request.Query.TheVariants as queries
+use Rattle.nutrequest.specs.declared.request.Request.TheVariants.{List as ListOf, GetVar}
+use Rattle.nutrequest.specs.declared.request.Request.TheVariants.{GetNumAttach}
+use Rattle.nutrequest.specs.declared.session.Session.{Session}
 use Rattle.nutclient.specs.Job.{UpsPlace, job_of, parts_of}
 use Rattle.nutclient.specs.Target.{ups_place_of}
 use Rattle.nutclient.specs.declared.given.Given.TheVariants.{Variables, Variable, Upses}

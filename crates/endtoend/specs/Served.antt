@@ -8,8 +8,8 @@ use Rattle.nutanswer.specs.Checks.{KnownUps, ups_named}
 use Rattle.nutanswer.specs.View.{readiness, usable}
 use Rattle.nutcore.specs.Reply.{seen}
 use Rattle.nutcore.specs.Server.{ServerState}
-use Rattle.nutreply.specs.Request.{request_line}
-use Rattle.nutreply.specs.declared.request.Request.{Request}
+use Rattle.nutrequest.specs.Request.{request_line}
+use Rattle.nutrequest.specs.declared.request.Request.{Request}
 
 -- The line, with its LF, is what a client sends for this request.
 abbrev pub IsLineOf : Request → List ℕ → Type 0

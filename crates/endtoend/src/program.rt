@@ -6,7 +6,8 @@ use crate::laws::{
     upsc_prints_the_variables, upscmd_prints_the_commands, upsrw_prints_the_variables,
 };
 use nutclient::{Job, run};
-use nutreply::{ClientFault, Session, Sink, Source};
+use nutio::{Sink, Source};
+use nutrequest::{ClientFault, Session};
 
 /// Does the job by `run`, as the programs do. Where the session's reader gives what the server answers, in whatever pieces,
 /// it prints what the server holds, and nothing else.

@@ -2,11 +2,11 @@
 use Rattle.std.proofs.Common.{◌≡◌, ℕ, ◌+◌, ◌-◌, ◌<◌, List, [], ◌++◌, Option, Some, None, Result, Ok, Err, refl, sym, ap, subst, ◌∙◌, inl, inr, arith, append-nil}
 use Rattle.std.specs.Prelude.{min, ◌^◌}
 use Rattle.std.specs.Io.KnownBytes.{Consumes, IsAtEnd}
-use Rattle.nutreply.specs.Ends.{counted, NoneFailed}
-use Rattle.nutreply.specs.declared.item.Item.{Item}
-use Rattle.nutreply.specs.declared.request.Request.{Request}
-use Rattle.nutreply.specs.declared.faults.ClientFault.{ClientFault}
-use Rattle.nutreply.specs.declared.faults.ClientFault.TheVariants.{Connect, Read, Write, EarlyEnd, ErrWord, BadReply, BadTarget, Memory}
+use Rattle.nutio.specs.Ends.{counted, NoneFailed}
+use Rattle.nutrequest.specs.declared.item.Item.{Item}
+use Rattle.nutrequest.specs.declared.request.Request.{Request}
+use Rattle.nutrequest.specs.declared.faults.ClientFault.{ClientFault}
+use Rattle.nutrequest.specs.declared.faults.ClientFault.TheVariants.{Connect, Read, Write, EarlyEnd, ErrWord, BadReply, BadTarget, Memory}
 use Rattle.nutclient.specs.Requests.{RequestsGive}
 use Rattle.nutclient.specs.Printed.{Printed, Prints, Faults, printed, printed_of, text_of, PrintGives, RunGives, Answers}
 use Rattle.nutclient.specs.declared.form.Form.{Form}

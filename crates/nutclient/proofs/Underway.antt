@@ -1,16 +1,16 @@
 -- Requests of which some are answered.
 use Rattle.std.proofs.Common.{◌≡◌, ℕ, List, [], ◌∷◌, ◌++◌, Option, Ok, Err, refl, sym, ap, subst, ◌∙◌, append_assoc, append-nil, drop, suc, length, get_or, add-one, ◌+◌, ◌<◌}
 use Rattle.std.proofs.Math.Seq.{drop-cons}
-use Rattle.nutreply.specs.Ends.{Received, Written, IsBeginning}
-use Rattle.nutreply.specs.Request.{request_line}
-use Rattle.nutreply.specs.Reply.{Reply, Refused, Bad, Unfinished, reply}
-use Rattle.nutreply.specs.Session.{AskGives}
-use Rattle.nutreply.specs.declared.item.Item.{Item}
-use Rattle.nutreply.specs.declared.request.Request.{Request}
-use Rattle.nutreply.specs.declared.faults.ClientFault.{ClientFault}
-use Rattle.nutreply.specs.declared.faults.ClientFault.TheVariants.{Connect, Read, Write, EarlyEnd, ErrWord, BadReply, BadTarget, Memory}
+use Rattle.nutio.specs.Ends.{Received, Written, IsBeginning}
+use Rattle.nutrequest.specs.Request.{request_line}
+use Rattle.nutrequest.specs.Reply.{Reply, Refused, Bad, Unfinished, reply}
+use Rattle.nutrequest.specs.Session.{AskGives}
+use Rattle.nutrequest.specs.declared.item.Item.{Item}
+use Rattle.nutrequest.specs.declared.request.Request.{Request}
+use Rattle.nutrequest.specs.declared.faults.ClientFault.{ClientFault}
+use Rattle.nutrequest.specs.declared.faults.ClientFault.TheVariants.{Connect, Read, Write, EarlyEnd, ErrWord, BadReply, BadTarget, Memory}
 use Rattle.nutclient.specs.Requests.{lines_behind, sent_lines, reply_behind, last_reply_after, last_reply, RequestsGive}
-use Rattle.nutreply.proofs.PublicLaws.{nothing_is_received, received_joins, read_failed_joins, nothing_is_written, written_joins, write_failed_joins}
+use Rattle.nutio.proofs.PublicLaws.{nothing_is_received, received_joins, read_failed_joins, nothing_is_written, written_joins, write_failed_joins}
 
 -- Of all requests these are left: what came and what was written so far are the replies and the lines up to there, and these items came last.
 pub record IsUnderWay {R W : Type 0} (rem : R → Option (List ℕ)) (rf : R → ℕ) (con : W → Option (List ℕ)) (wf : W → ℕ) (all : List Request) (old : List ℕ) (reader : R) (writer : W)

@@ -1,8 +1,9 @@
 -- How a program ends: with which status, and what it tells on standard error.
 use Rattle.std.specs.Prelude.{◌≡◌, ℕ, List, [], ◌∷◌, ◌++◌, Option, Result, Ok, Err, codes}
-use Rattle.nutreply.specs.Fault.{status_of, fault_text}
-use Rattle.nutreply.specs.Writing.{SendGives}
-use Rattle.nutreply.specs.declared.faults.ClientFault.{ClientFault}
+use Rattle.nutrequest.specs.Fault.{status_of, fault_text}
+use Rattle.nutio.specs.Writing.{SendGives}
+use Rattle.nutio.specs.declared.ends.Failed.{Failed}
+use Rattle.nutrequest.specs.declared.faults.ClientFault.{ClientFault}
 use Rattle.nutclient.specs.declared.program.Program.{Program}
 use Rattle.nutclient.specs.declared.program.Program.TheVariants.{Upsc, Upsrw, Upscmd}
 
@@ -18,7 +19,7 @@ told_line program fault = name_of program ++ (codes ": " ++ (fault_text fault ++
 -- A text is sent, whether or not all of it is taken.
 abbrev pub Tells : {E : Type 0} → (E → Option (List ℕ)) → (E → ℕ) → List ℕ → E → E → Type 0
 Tells contents failures text err after =
-    (sent : Result (Unit {0}) ClientFault) × SendGives contents failures text err sent after
+    (sent : Result (Unit {0}) Failed) × SendGives contents failures text err sent after
 
 -- By what came of it: where it is done, the status is 0, and nothing is told; at a fault the status
 -- is the fault's, and the fault's line is told.

@@ -5,12 +5,12 @@ use Rattle.std.specs.Prelude.{None, option_map, if◌then◌else◌}
 use Rattle.std.specs.List.{before_first, after_first}
 use denote.Ref.{Bor}
 use Rattle.nutwords.specs.Reading.{read_name, read_value}
-use Rattle.nutreply.specs.declared.request.Query.{Query}
-use Rattle.nutreply.specs.declared.request.Query.TheVariants.{Ups, Var, Rw, Cmd, Client}
-use Rattle.nutreply.specs.declared.request.Request.{Request}
-use Rattle.nutreply.specs.declared.request.Request.TheVariants.{List as ListOf, GetVar}
-use Rattle.nutreply.specs.declared.request.Request.TheVariants.{GetNumAttach}
-use Rattle.nutreply.specs.declared.request.Request.TheVariants.{Username, Password, SetVar, Instcmd}
+use Rattle.nutrequest.specs.declared.request.Query.{Query}
+use Rattle.nutrequest.specs.declared.request.Query.TheVariants.{Ups, Var, Rw, Cmd, Client}
+use Rattle.nutrequest.specs.declared.request.Request.{Request}
+use Rattle.nutrequest.specs.declared.request.Request.TheVariants.{List as ListOf, GetVar}
+use Rattle.nutrequest.specs.declared.request.Request.TheVariants.{GetNumAttach}
+use Rattle.nutrequest.specs.declared.request.Request.TheVariants.{Username, Password, SetVar, Instcmd}
 use Rattle.nutclient.specs.Target.{lawful, both, has_byte, server_of, local_server, ups_place_of}
 use Rattle.nutclient.specs.declared.limits.TheConstants.{USER_LIMIT, PASSWORD_LIMIT}
 use Rattle.nutclient.specs.Requests.{requests_in}

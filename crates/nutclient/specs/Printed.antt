@@ -2,13 +2,13 @@
 use Rattle.std.specs.Prelude.{◌≡◌, ℕ, List, [], ◌∷◌, ◌++◌, ◌⊎◌, Option, Result, Ok, Err, codes}
 use Rattle.std.specs.List.{flat_map}
 use Rattle.std.specs.Io.KnownBytes.{Appends}
-use Rattle.nutreply.specs.Reply.{Reply, Whole, Bad, Unfinished, Refused}
-use Rattle.nutreply.specs.Writing.{SendGives}
-use Rattle.nutreply.specs.declared.item.Item.{Item}
-use Rattle.nutreply.specs.declared.request.Request.{Request}
-use Rattle.nutreply.specs.declared.faults.ClientFault.{ClientFault}
-use Rattle.nutreply.specs.declared.faults.ClientFault.TheVariants.{EarlyEnd, ErrWord, BadReply}
-use Rattle.nutreply.specs.declared.faults.ClientFault.TheVariants.{Memory}
+use Rattle.nutrequest.specs.Reply.{Reply, Whole, Bad, Unfinished, Refused}
+use Rattle.nutio.specs.Ends.{Written, WriteFailed}
+use Rattle.nutrequest.specs.declared.item.Item.{Item}
+use Rattle.nutrequest.specs.declared.request.Request.{Request}
+use Rattle.nutrequest.specs.declared.faults.ClientFault.{ClientFault}
+use Rattle.nutrequest.specs.declared.faults.ClientFault.TheVariants.{EarlyEnd, ErrWord, BadReply}
+use Rattle.nutrequest.specs.declared.faults.ClientFault.TheVariants.{Write, Memory}
 use Rattle.nutclient.specs.Requests.{RequestsGive, last_reply}
 use Rattle.nutclient.specs.declared.form.Form.{Form}
 use Rattle.nutclient.specs.declared.form.Form.TheVariants.{Name, Value, Colon, Equals}
@@ -42,12 +42,15 @@ printed_of form Unfinished = Faults EarlyEnd
 abbrev pub printed : List Request → Form → List ℕ → Printed
 printed requests form bytes = printed_of form (last_reply requests bytes)
 
--- What the output took of a text, for each result of its printing.
+-- What the output took of a text, for each result of its printing: all of it; or a beginning of it,
+-- and then a write failed; or nothing, memory being refused. No other fault comes.
 abbrev pub PrintGives : {O : Type 0} → (O → Option (List ℕ)) → (O → ℕ) → List ℕ → O
     → Result (Unit {0}) ClientFault → O → Type 0
+PrintGives contents failures text out (Ok done) after = Written contents failures out text after
+PrintGives contents failures text out (Err Write) after =
+    WriteFailed contents failures out text after
 PrintGives contents failures text out (Err Memory) after = after ≡ out
-PrintGives contents failures text out result after =
-    SendGives contents failures text out result after
+PrintGives contents failures text out result after = ⊥
 
 -- What was sent, what came and what was printed, for each result of a job: the replies are whole,
 -- and what is printed is the text of the last one's items; or the requests end with the fault, and

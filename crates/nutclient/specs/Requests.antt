@@ -1,16 +1,16 @@
 -- Requests in turn, each sent once the one before is granted.
 use Rattle.std.specs.Prelude.{◌≡◌, ℕ, List, [], ◌∷◌, ◌++◌, Option, Result, Ok, Err}
 use Rattle.std.specs.Io.KnownBytes.{IsAtEnd}
-use Rattle.nutreply.specs.Ends.{Received, ReadFailed, Written, WriteFailed, IsBeginning}
-use Rattle.nutreply.specs.Request.{request_line}
-use Rattle.nutreply.specs.Reply.{Reply, Refused, Whole, Bad, Unfinished, reply}
-use Rattle.nutreply.specs.declared.item.Item.{Item}
-use Rattle.nutreply.specs.declared.request.Request.{Request}
+use Rattle.nutio.specs.Ends.{Received, ReadFailed, Written, WriteFailed, IsBeginning}
+use Rattle.nutrequest.specs.Request.{request_line}
+use Rattle.nutrequest.specs.Reply.{Reply, Refused, Whole, Bad, Unfinished, reply}
+use Rattle.nutrequest.specs.declared.item.Item.{Item}
+use Rattle.nutrequest.specs.declared.request.Request.{Request}
 use Rattle.nutclient.specs.declared.requests.Requests.{Requests}
 use Rattle.nutclient.specs.declared.requests.Requests.TheVariants.{Alone, BehindLogin}
-use Rattle.nutreply.specs.declared.faults.ClientFault.{ClientFault}
-use Rattle.nutreply.specs.declared.faults.ClientFault.TheVariants.{Read, Write, EarlyEnd, ErrWord}
-use Rattle.nutreply.specs.declared.faults.ClientFault.TheVariants.{BadReply, Memory}
+use Rattle.nutrequest.specs.declared.faults.ClientFault.{ClientFault}
+use Rattle.nutrequest.specs.declared.faults.ClientFault.TheVariants.{Read, Write, EarlyEnd, ErrWord}
+use Rattle.nutrequest.specs.declared.faults.ClientFault.TheVariants.{BadReply, Memory}
 
 -- The requests of a job, in the order in which they are sent.
 abbrev pub requests_in : Requests → List Request

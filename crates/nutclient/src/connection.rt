@@ -4,7 +4,7 @@ ghost use Rattle.std.specs.IoError.{error_kind};
 
 use crate::Target;
 use crate::limits::WAIT_SECONDS;
-use nutreply::ClientFault;
+use nutrequest::ClientFault;
 use std::io;
 use std::io::ErrorKind;
 use std::net::{TcpStream, ToSocketAddrs};

@@ -1,15 +1,16 @@
-//! How a program ends: its status, and the fault that it tells. Each of its ends is one of nutreply's, so that a contract
+//! How a program ends: its status, and the fault that it tells. Each of its ends is one of nutio's, so that a contract
 //! says what goes where.
 ghost use Rattle.std.specs.Prelude.{◌≡◌, Result, false};
-ghost use Rattle.nutreply.specs.State.{unread_of, reader_of, writer_of, is_over};
-ghost use Rattle.nutreply.specs.Fault.{status_of};
-ghost use Rattle.nutreply.specs.declared.faults.ClientFault.{ClientFault};
+ghost use Rattle.nutrequest.specs.State.{unread_of, reader_of, writer_of, is_over};
+ghost use Rattle.nutrequest.specs.Fault.{status_of};
+ghost use Rattle.nutrequest.specs.declared.faults.ClientFault.{ClientFault};
 ghost use Rattle.nutclient.specs.Requests.{requests_in};
 ghost use Rattle.nutclient.specs.Printed.{RunGives};
 ghost use Rattle.nutclient.specs.Ending.{told_line, Tells, EndsBy};
 
 use crate::{Job, Program, run};
-use nutreply::{ClientFault, Session, Sink, Source, send};
+use nutio::{Sink, Source, send};
+use nutrequest::{ClientFault, Session};
 use nutwords::Line;
 
 /// Does the job over the session, prints on `out`, and ends the program: a fault is told on `err`. Gives the status.

@@ -1,13 +1,14 @@
 //! The engine of the programs.
 ghost use Rattle.std.specs.Prelude.{◌≡◌, ◌≢◌, ◌++◌, [], Err, OnErr, OnOk, MatchResult, true, false, Some, List, ℕ};
-ghost use Rattle.nutreply.specs.Ends.{NoneFailed};
-ghost use Rattle.nutreply.specs.State.{unread_of, reader_of, writer_of, is_over};
+ghost use Rattle.nutio.specs.Ends.{NoneFailed};
+ghost use Rattle.nutrequest.specs.State.{unread_of, reader_of, writer_of, is_over};
 ghost use Rattle.nutclient.specs.Requests.{RequestsGive, requests_in};
 ghost use Rattle.nutclient.specs.Printed.{text_of, printed, PrintGives, RunGives, Answers};
 
 use crate::printed::text_of;
 use crate::{Form, Job};
-use nutreply::{ClientFault, Items, Request, Session, Sink, Source, ask, send};
+use nutio::{Sink, Source, send};
+use nutrequest::{ClientFault, Items, Request, Session, ask};
 use std::alloc::Global;
 
 /// Does the job: sends its requests, each once the one before is granted, and prints the items of the last reply once
@@ -83,7 +84,7 @@ fn print<O: Sink>(alloc: Global, form: Form, items: &Items, out: &mut O) -> Resu
     ensures { PrintGives O.contents O.failures (text_of form items.now) out.old result out.new }
 {
     match text_of(alloc, form, items) {
-        Ok(text) => send(out, text.as_slice()),
+        Ok(text) => send(out, text.as_slice()).map_err(|_| ClientFault::Write),
         Err(_) => Err(ClientFault::Memory),
     }
 }

@@ -6,7 +6,7 @@ ghost use Rattle.nutclient.specs.Target.{both, lawful, ups_place_of};
 ghost use Rattle.nutclient.specs.Job.{parts_of, variable_of, listing_of, server_or_local, upses_of, word_of, login_of, setting_of, value_of, ordered, set_order, command_order, job_of};
 
 use crate::{Form, Given, PASSWORD_LIMIT, Requests, Target, USER_LIMIT};
-use nutreply::{ClientFault, Query, Request};
+use nutrequest::{ClientFault, Query, Request};
 use nutwords::{Name, UpsName, Value};
 
 /// The server, the requests that are sent to it, each once the one before is granted, and how the items of the last reply

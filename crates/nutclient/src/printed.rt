@@ -3,7 +3,7 @@ ghost use Rattle.std.specs.Prelude.{◌≡◌, ◌++◌, OnOk, IfOk};
 ghost use Rattle.nutclient.specs.Printed.{item_line, text_of};
 
 use crate::Form;
-use nutreply::{Item, Items};
+use nutrequest::{Item, Items};
 use std::alloc::{AllocError, Global};
 
 /// The lines that are printed of the items.

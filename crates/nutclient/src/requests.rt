@@ -2,7 +2,7 @@
 ghost use Rattle.std.specs.Prelude.{◌≡◌};
 ghost use Rattle.nutclient.specs.Requests.{requests_in};
 
-use nutreply::Request;
+use nutrequest::Request;
 
 /// The requests of a job: one, or one after the user's name and the password.
 #[derive(Debug, Drop)]

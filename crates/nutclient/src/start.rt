@@ -3,8 +3,8 @@
 ghost use Rattle.std.specs.Prelude.{◌≡◌, ◌≢◌, ◌≤◌, ◌⊎◌, ◌↔◌, None, Err, IfErr, Result};
 ghost use Rattle.std.specs.Process.{exit_status};
 ghost use Rattle.clap.specs.Words.{kind_of};
-ghost use Rattle.nutreply.specs.Fault.{status_of};
-ghost use Rattle.nutreply.specs.declared.faults.ClientFault.{ClientFault};
+ghost use Rattle.nutrequest.specs.Fault.{status_of};
+ghost use Rattle.nutrequest.specs.declared.faults.ClientFault.{ClientFault};
 ghost use Rattle.nutclient.specs.Job.{job_of};
 ghost use Rattle.nutclient.specs.Ending.{EndsBy};
 
@@ -13,7 +13,8 @@ use crate::limits::WORD_FAULT;
 use crate::{Client, Given, Job, Program, connect};
 use clap::error::ErrorKind;
 use clap::{ArgMatches, Error};
-use nutreply::{ClientFault, CountedReader, CountedWriter, Session, Sink};
+use nutio::{CountedReader, CountedWriter, Sink};
+use nutrequest::{ClientFault, Session};
 use std::alloc::Global;
 use std::process::ExitCode;
 use std::{env, io};

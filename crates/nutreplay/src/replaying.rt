@@ -1,13 +1,13 @@
 //! Replaying a script over a server.
 ghost use Rattle.std.specs.Prelude.{◌≡◌, ◌⊎◌, ℕ, List, OnOk, IfOk, IfErr, Some, None};
-ghost use Rattle.nutreply.specs.Ends.{Written, WriteFailed};
+ghost use Rattle.nutio.specs.Ends.{Written, WriteFailed};
 ghost use Rattle.nutreplay.specs.Script.{first_bad_line};
 ghost use Rattle.nutreplay.specs.Transcript.{IsOutput};
 
 use crate::script::read_script;
 use crate::transcript::Transcript;
 use nutcore::{Descriptions, MaxAge, UpsList, Users};
-use nutreply::{Sink, send};
+use nutio::{Sink, send};
 use std::alloc::{AllocError, AllocFailed, Global};
 use thiserror::Error;
 

@@ -2,7 +2,8 @@
 use crate::served::{Served, TURN_LIMIT};
 use anyhow::Result;
 use nutclient::{Given, Job, connect, run};
-use nutreply::{ClientFault, CountedReader, CountedWriter, Session};
+use nutio::{CountedReader, CountedWriter};
+use nutrequest::{ClientFault, Session};
 use std::io;
 use std::io::{ErrorKind, Read};
 use std::net::TcpStream;

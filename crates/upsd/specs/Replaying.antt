@@ -1,7 +1,7 @@
 -- What becomes of a script that is replayed over what the configuration files mean.
 use Rattle.std.specs.Prelude.{◌≡◌, ◌⊎◌, ℕ, List, Option, Some, None, Result, Ok, Err}
 use denote.Ref.{Bor}
-use Rattle.nutreply.specs.Ends.{Written, WriteFailed}
+use Rattle.nutio.specs.Ends.{Written, WriteFailed}
 use Rattle.nutreplay.specs.Script.{first_bad_line}
 use Rattle.nutreplay.specs.Transcript.{IsOutput}
 use Rattle.nutreplay.specs.declared.replaying.TheConstants.{REPLAY_MAX_AGE}

@@ -24,7 +24,7 @@ use clap::builder::ValueParser;
 use clap::error::ErrorKind;
 use clap::{Arg, ArgMatches, Command, Error};
 use nutcore::{MAX_AGE_LEAST, MAX_AGE_MOST};
-use nutreply::CountedWriter;
+use nutio::CountedWriter;
 use nutversion::VERSION;
 use std::alloc::{AllocError, Global};
 use std::process::ExitCode;

@@ -7,8 +7,8 @@ ghost use Rattle.upsd.specs.Replaying.{IsReplay, Replays, FailsBefore};
 use crate::ending::{Ending, ended};
 use crate::files::{Configuration, Files, configuration_in};
 use crate::reading::{FileReader, read};
+use nutio::Sink;
 use nutreplay::replay;
-use nutreply::Sink;
 use std::alloc::Global;
 
 /// `upsd replay`: replays the script of the file over the UPSs, users and descriptions of theirs.

@@ -1,4 +1,4 @@
-use Rattle.nutreply.specs.declared.request.Query.TheVariants as queries
+use Rattle.nutrequest.specs.declared.request.Query.TheVariants as queries
 use Rattle.nutclient.specs.Job.{server_or_local}
 use Rattle.nutclient.specs.Target.{ups_place_of}
 use Rattle.nutclient.specs.declared.form.Form.TheVariants as forms

@@ -1,5 +1,5 @@
 use Rattle.std.proofs.Common.{subst, ◌∙◌}
-use Rattle.nutreply.specs.Writing.{SendGives}
+use Rattle.nutio.specs.Writing.{SendGives}
 use Rattle.nutclient.proofs.ending.tell.Goals as goal
 
 pub returns-clause-told : goal.returns-clause-told

@@ -1,6 +1,6 @@
 use Rattle.std.proofs.Common.{◌+◌, List, sym, subst, drop}
-use Rattle.nutreply.specs.State.{unread_of, reader_of, writer_of}
-use Rattle.nutreply.specs.declared.request.Request.{Request}
+use Rattle.nutrequest.specs.State.{unread_of, reader_of, writer_of}
+use Rattle.nutrequest.specs.declared.request.Request.{Request}
 use Rattle.nutclient.proofs.Underway.{IsUnderWay, starts, goes_further, ends_early, comes_next}
 use Rattle.nutclient.proofs.engine.ask_all.Goals as goal
 

@@ -1,5 +1,5 @@
 use Rattle.std.proofs.Common.{◌≡◌, drop, false}
-use Rattle.nutreply.specs.State.{unread_of, reader_of, writer_of, is_over}
+use Rattle.nutrequest.specs.State.{unread_of, reader_of, writer_of, is_over}
 use Rattle.nutclient.proofs.Underway.{IsUnderWay}
 use Rattle.nutclient.proofs.engine.ask_all.Given as goal
 

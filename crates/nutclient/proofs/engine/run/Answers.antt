@@ -1,5 +1,5 @@
 use Rattle.std.proofs.Common.{Err, refl, subst, inl}
-use Rattle.nutreply.specs.State.{unread_of, reader_of, writer_of}
+use Rattle.nutrequest.specs.State.{unread_of, reader_of, writer_of}
 use Rattle.nutclient.specs.Requests.{RequestsGive}
 use Rattle.nutclient.proofs.engine.run.Goals as goal
 

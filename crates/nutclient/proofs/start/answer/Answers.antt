@@ -1,6 +1,6 @@
 use Rattle.std.proofs.Common.{◌≡◌, ◌⊎◌, Option, Some, None, Result, Err, refl, ap, inl, inr}
-use Rattle.nutreply.specs.declared.faults.ClientFault.{ClientFault}
-use Rattle.nutreply.specs.declared.faults.ClientFault.TheVariants.{Connect, BadTarget, Memory}
+use Rattle.nutrequest.specs.declared.faults.ClientFault.{ClientFault}
+use Rattle.nutrequest.specs.declared.faults.ClientFault.TheVariants.{Connect, BadTarget, Memory}
 use Rattle.nutclient.proofs.Printing.{no_word_fault}
 use Rattle.nutclient.proofs.start.answer.Goals as goal
 

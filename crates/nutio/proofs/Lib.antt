@@ -1,0 +1,2 @@
+pub mod PublicLaws
+pub mod Known

@@ -1,0 +1,4 @@
+pub mod Cutting
+pub mod Reading
+pub mod Quoted
+pub mod Replies

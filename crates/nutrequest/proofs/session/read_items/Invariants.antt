@@ -1,0 +1,14 @@
+use Rattle.std.proofs.Common.{◌≡◌, ℕ, List, [], ◌++◌, ◌-◌, length}
+use Rattle.nutio.specs.Ends.{Received}
+use Rattle.nutrequest.specs.Inbox.{unread}
+use Rattle.nutrequest.specs.Lines.{lines}
+use Rattle.nutrequest.specs.Reply.{items_from}
+use Rattle.nutrequest.proofs.session.read_items.Given as goal
+
+-- What came is a front of the reply: with whatever stands after, it is the items so far and what is left to be read.
+abbrev pub invariant-loop-line : goal.invariant-loop-line
+invariant-loop-line g l = (came : List ℕ) × Received g.R.Source.remaining g.R.Source.failures l.fn.reader came l.reader
+    × ((more : List ℕ) → items_from l.query [] (lines (unread l.fn.inbox ++ (came ++ more))) ≡ items_from l.query l.items (lines (unread l.inbox ++ more)))
+
+abbrev pub decreases-loop-line : goal.decreases-loop-line
+decreases-loop-line g l = 65536 - length l.items

@@ -1,0 +1,7 @@
+pub mod Fault
+pub mod Lines
+pub mod Inbox
+pub mod Request
+pub mod Reply
+pub mod Session
+pub mod State

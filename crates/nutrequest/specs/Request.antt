@@ -1,0 +1,54 @@
+-- What a client asks for, and the line that it sends for it (RFC 9271).
+use Rattle.std.specs.Prelude.{ℕ, Bool, true, false, List, [], ◌∷◌, Option, Some, None, option_map}
+use Rattle.std.specs.Prelude.{option_to_list, codes}
+use Rattle.nutwords.specs.Frame.{line_of}
+use Rattle.nutwords.specs.Spelling.{quoted}
+use Rattle.nutrequest.specs.declared.request.Query.{Query}
+use Rattle.nutrequest.specs.declared.request.Query.TheVariants.{Ups, Var, Rw, Cmd, Client}
+use Rattle.nutrequest.specs.declared.request.Request.{Request}
+use Rattle.nutrequest.specs.declared.request.Request.TheVariants.{List as ListOf, GetVar}
+use Rattle.nutrequest.specs.declared.request.Request.TheVariants.{GetNumAttach}
+use Rattle.nutrequest.specs.declared.request.Request.TheVariants.{Username, Password, SetVar, Instcmd}
+
+-- The word of a listing's kind.
+abbrev pub kind_of : Query → List ℕ
+kind_of Ups = codes "UPS"
+kind_of (Var ups) = codes "VAR"
+kind_of (Rw ups) = codes "RW"
+kind_of (Cmd ups) = codes "CMD"
+kind_of (Client ups) = codes "CLIENT"
+
+-- The UPS whose items they are.
+abbrev pub ups_of : Query → Option (List ℕ)
+ups_of Ups = None
+ups_of (Var ups) = Some ups
+ups_of (Rw ups) = Some ups
+ups_of (Cmd ups) = Some ups
+ups_of (Client ups) = Some ups
+
+-- Whether its items have a value or a description.
+abbrev pub has_value : Query → Bool
+has_value Ups = true
+has_value (Var ups) = true
+has_value (Rw ups) = true
+has_value (Cmd ups) = false
+has_value (Client ups) = false
+
+-- The words after LIST, BEGIN LIST and END LIST, which each item begins with, too.
+abbrev pub asked_words : Query → List (List ℕ)
+asked_words query = kind_of query ∷ option_to_list (ups_of query)
+
+-- The words of a request, as they are written.
+abbrev pub request_words : Request → List (List ℕ)
+request_words (ListOf query) = codes "LIST" ∷ asked_words query
+request_words (GetVar ups name) = codes "GET" ∷ codes "VAR" ∷ ups ∷ name ∷ []
+request_words (GetNumAttach ups) = codes "GET" ∷ codes "NUMATTACH" ∷ ups ∷ []
+request_words (Username user) = codes "USERNAME" ∷ quoted user ∷ []
+request_words (Password password) = codes "PASSWORD" ∷ quoted password ∷ []
+request_words (SetVar ups name value) = codes "SET" ∷ codes "VAR" ∷ ups ∷ name ∷ quoted value ∷ []
+request_words (Instcmd ups name value) =
+    codes "INSTCMD" ∷ ups ∷ name ∷ option_to_list (option_map quoted value)
+
+-- The line of a request, with its LF.
+abbrev pub request_line : Request → List ℕ
+request_line request = line_of (request_words request)

@@ -1,0 +1,18 @@
+-- What is seen of a session.
+use Rattle.std.specs.Prelude.{ℕ, Bool, List}
+use Rattle.nutrequest.specs.Inbox.{unread}
+use Rattle.nutrequest.specs.declared.session.Session.{Session}
+
+-- The bytes read past the last reply.
+abbrev pub unread_of : {R W : Type 0} → Session R W → List ℕ
+unread_of session = unread session.inbox
+
+abbrev pub reader_of : {R W : Type 0} → Session R W → R
+reader_of session = session.reader
+
+abbrev pub writer_of : {R W : Type 0} → Session R W → W
+writer_of session = session.writer
+
+-- It met a fault: every further request is refused.
+abbrev pub is_over : {R W : Type 0} → Session R W → Bool
+is_over session = session.is_over

@@ -1,0 +1,92 @@
+//! What was read and not yet used.
+ghost use Rattle.std.specs.Prelude.{◌≡◌, ◌<◌, ◌≤◌, ℕ, List, [], Option, length, IfOk};
+
+use crate::ClientFault;
+use arrayvec::ArrayVec;
+use nutio::Source;
+use nutwords::{Cut, LINE_ROOM, Line, LineCut};
+
+/// The bytes that were read and not yet used: what has come of a line, and what stands after the last cut.
+#[derive(Drop)]
+pub struct Inbox {
+    cut: LineCut,
+    kept: ArrayVec<u8, LINE_ROOM>,
+    used: usize,
+    ghost within: { used ≤ length kept.items },
+}
+
+/// What an inbox gives.
+#[derive(Drop)]
+pub(crate) enum Next {
+    Line(Line),
+    More,
+    TooLong,
+}
+
+impl Inbox {
+    ghost use Rattle.nutrequest.specs.Inbox.{unread, NextGives, FillGives, LineGives};
+
+    pub(crate) fn new() -> Inbox
+        ensures { unread result ≡ [] }
+    {
+        Inbox {
+            cut: LineCut::new(),
+            kept: ArrayVec::new(),
+            used: 0,
+        }
+    }
+
+    /// The next line that is whole.
+    fn take_line(&mut self) -> Next
+        ensures gives { NextGives (unread self.old) result (unread self.new) }
+        ensures used_up { result ≡ Next.More → self.new.used ≡ length self.new.kept.items }
+    {
+        match self.cut.next(&self.kept[self.used..]) {
+            Cut::Line(line, used) => {
+                self.used += used;
+                Next::Line(line)
+            }
+            Cut::More => {
+                self.used = self.kept.len();
+                Next::More
+            }
+            Cut::TooLong => Next::TooLong,
+        }
+    }
+
+    /// Reads some bytes.
+    fn fill<R: Source>(&mut self, reader: &mut R) -> Result<(), ClientFault>
+        requires { self.old.used ≡ length self.old.kept.items }
+        ensures { FillGives R.remaining R.failures (unread self.old) reader.old result
+            (unread self.new) reader.new }
+    {
+        let mut bytes = [0; LINE_ROOM];
+        let Ok(n) = reader.read(&mut bytes) else {
+            return Err(ClientFault::Read);
+        };
+        if n == 0 {
+            return Err(ClientFault::EarlyEnd);
+        }
+        self.kept.clear();
+        self.kept.try_extend_from_slice(&bytes[..n]).unwrap();
+        self.used = 0;
+        Ok(())
+    }
+
+    /// The next line, from what was read and what comes.
+    pub(crate) fn line<R: Source>(&mut self, reader: &mut R) -> Result<Line, ClientFault>
+        ensures { LineGives R.remaining R.failures (unread self.old) reader.old result
+            (unread self.new) reader.new }
+    {
+        loop {
+            match self.take_line() {
+                Next::Line(line) => return Ok(line),
+                Next::TooLong => return Err(ClientFault::BadReply),
+                Next::More => {}
+            }
+            if let Err(fault) = self.fill(reader) {
+                return Err(fault);
+            }
+        }
+    }
+}

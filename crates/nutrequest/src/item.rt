@@ -1,0 +1,81 @@
+//! The items of a reply.
+ghost use Rattle.std.specs.Prelude.{◌≡◌, ◌∷◌, ◌++◌, [], length, MatchResult, IsTrue, ◌↔◌};
+
+use crate::{Bytes, ITEM_LIMIT};
+use std::alloc::{AllocError, Global};
+use std::marker::Model;
+
+/// An item of a listing: its name, command or address, and its value or description, empty where it has none. A reply
+/// of one line is seen as one item without a name.
+#[derive(Debug, Drop)]
+pub struct Item {
+    pub name: Bytes,
+    pub value: Bytes,
+}
+
+/// The items of a reply, in its order. A contract sees them as a list.
+#[derive(Debug, Drop)]
+pub struct Items {
+    all: Vec<Item>,
+}
+
+impl Model for Items {
+    ghost use Rattle.std.specs.Prelude.{List};
+    ghost use Rattle.nutrequest.specs.declared.item.Item.{Item};
+
+    ghost Value = { List Item };
+
+    ghost view = { λ i. i.all.items };
+}
+
+impl Items {
+    ghost use Rattle.nutrequest.specs.Reply.{has_room};
+
+    /// No items. Takes no memory.
+    pub fn new(alloc: Global) -> Items
+        ensures { result ≡ [] }
+    {
+        Items {
+            all: Vec::new(alloc),
+        }
+    }
+
+    /// How many they are.
+    pub fn len(&self) -> usize
+        ensures { result ≡ length self.now }
+    {
+        self.all.len()
+    }
+
+    /// Whether there are none.
+    pub fn is_empty(&self) -> bool
+        ensures { IsTrue result ↔ (self.now ≡ []) }
+    {
+        self.all.is_empty()
+    }
+
+    /// Whether a listing may have an item more.
+    pub(crate) fn has_room(&self) -> bool
+        ensures { result ≡ has_room self.now }
+    {
+        self.all.len() < ITEM_LIMIT
+    }
+
+    /// All of them.
+    pub fn as_slice(&self) -> &[Item]
+        ensures { result.now ≡ self.now }
+    {
+        self.all.as_slice()
+    }
+
+    /// Adds an item. Where memory is refused, the items are as before.
+    pub(crate) fn push(&mut self, item: Item) -> Result<(), AllocError>
+        ensures { MatchResult result
+            (λ _. self.new ≡ self.old ++ item ∷ []) (λ _. self.new ≡ self.old) }
+    {
+        match self.all.push(item) {
+            Ok(()) => Ok(()),
+            Err(_) => Err(AllocError),
+        }
+    }
+}

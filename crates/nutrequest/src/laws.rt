@@ -1,0 +1,9 @@
+//! Laws of the definitions that the contracts of this crate cite. No program calls them.
+ghost use Rattle.std.specs.Prelude.{◌≡◌};
+ghost use Rattle.nutrequest.specs.declared.limits.TheConstants.{ITEM_LIMIT, COUNT_LIMIT};
+
+/// The most items of a listing that a client reads.
+pub fn limits()
+    ensures items { ITEM_LIMIT ≡ 65536 }
+    ensures count { COUNT_LIMIT ≡ 64 }
+{}

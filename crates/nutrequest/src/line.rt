@@ -1,0 +1,114 @@
+//! The line of a request.
+ghost use Rattle.std.specs.Prelude.{◌≡◌, ◌+◌, ◌*◌, ◌≤◌, [], ◌∷◌, ◌++◌, codes, length, option_map, option_to_list};
+ghost use Rattle.std.specs.List.{join_with_byte};
+ghost use Rattle.nutwords.specs.Frame.{line_of};
+ghost use Rattle.nutwords.specs.Spelling.{quoted};
+ghost use Rattle.nutwords.specs.declared.limits.TheConstants.{VALUE_LIMIT};
+ghost use Rattle.nutrequest.specs.Request.{request_line, asked_words};
+
+use crate::{Query, Request};
+use arrayvec::ArrayVec;
+use nutwords::{Line, Name, UpsName, Value, quote_into};
+
+/// The most bytes of the words before a value: `SET VAR`, the names of a UPS and of a variable, three blanks.
+const FRONT_LIMIT: usize = 110;
+
+/// The line that is sent for a request, with its LF.
+pub(crate) fn request_line(request: &Request) -> Line
+    ensures { result.items ≡ request_line request.now }
+{
+    match request {
+        Request::List(query) => list_line(query),
+        Request::GetVar(ups, name) => ended(named(b"GET VAR", ups, name)),
+        Request::GetNumAttach(ups) => count_line(ups),
+        Request::Username(user) => value_line(first_word(b"USERNAME"), user),
+        Request::Password(password) => value_line(first_word(b"PASSWORD"), password),
+        Request::SetVar(ups, name, value) => value_line(named(b"SET VAR", ups, name), value),
+        Request::Instcmd(ups, name, Some(value)) => value_line(named(b"INSTCMD", ups, name), value),
+        Request::Instcmd(ups, name, None) => ended(named(b"INSTCMD", ups, name)),
+    }
+}
+
+/// The line that asks for a listing.
+fn list_line(query: &Query) -> Line
+    ensures { result.items ≡ line_of (codes "LIST" ∷ asked_words query.now) }
+{
+    let mut line = first_word(b"LIST");
+    push_word(&mut line, query.kind());
+    if let Some(ups) = query.ups() {
+        push_word(&mut line, ups.as_bytes());
+    }
+    ended(line)
+}
+
+/// The line that asks how many clients are logged in to a UPS.
+fn count_line(ups: &UpsName) -> Line
+    ensures { result.items ≡ line_of (codes "GET" ∷ codes "NUMATTACH" ∷ ups.now ∷ []) }
+{
+    let mut line = first_word(b"GET");
+    push_word(&mut line, b"NUMATTACH");
+    push_word(&mut line, ups.as_bytes());
+    ended(line)
+}
+
+/// The first words of a line: the command, and the names of a UPS and of a variable or a command.
+fn named(command: &[u8], ups: &UpsName, name: &Name) -> Line
+    requires { length command.now ≤ 8 }
+    ensures text { result.items ≡ join_with_byte 32 (command.now ∷ ups.now ∷ name.now ∷ []) }
+    ensures short { length result.items ≤ FRONT_LIMIT }
+{
+    let mut line = first_word(command);
+    push_word(&mut line, ups.as_bytes());
+    push_word(&mut line, name.as_bytes());
+    line
+}
+
+/// The words before a value, the value in quotes, and LF.
+fn value_line(mut line: Line, value: &Value) -> Line
+    requires { length line.items ≤ FRONT_LIMIT }
+    ensures { result.items ≡ line.items ++ 32 ∷ (quoted value.now ++ 10 ∷ []) }
+{
+    line.push(b' ');
+    push_quoted(&mut line, value.as_bytes());
+    ended(line)
+}
+
+/// A line's first words.
+fn first_word(word: &[u8]) -> Line
+    requires { length word.now ≤ 8 }
+    ensures { result.items ≡ word.now }
+{
+    let mut line = ArrayVec::new();
+    line.try_extend_from_slice(word).unwrap();
+    line
+}
+
+/// Appends a word of at most 64 bytes.
+fn push_word(line: &mut Line, word: &[u8])
+    requires room { length line.old.items ≤ FRONT_LIMIT }
+    requires word { length word.now ≤ 64 }
+    ensures text { line.new.items ≡ line.old.items ++ 32 ∷ word.now }
+    ensures short { length line.new.items ≡ length line.old.items + (1 + length word.now) }
+{
+    line.push(b' ');
+    line.try_extend_from_slice(word).unwrap();
+}
+
+/// Appends a value in quotes.
+fn push_quoted(line: &mut Line, value: &[u8])
+    requires room { length line.old.items ≤ FRONT_LIMIT + 1 }
+    requires value { length value.now ≤ VALUE_LIMIT }
+    ensures text { line.new.items ≡ line.old.items ++ quoted value.now }
+    ensures short { length line.new.items ≤ length line.old.items + (2 * VALUE_LIMIT + 2) }
+{
+    quote_into(value, line);
+}
+
+/// The words and LF.
+fn ended(mut line: Line) -> Line
+    requires { length line.items ≤ 1000 }
+    ensures { result.items ≡ line.items ++ 10 ∷ [] }
+{
+    line.push(b'\n');
+    line
+}

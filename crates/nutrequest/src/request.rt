@@ -1,0 +1,75 @@
+//! What a client asks for (RFC 9271: LIST, GET, SET, INSTCMD, USERNAME, PASSWORD).
+ghost use Rattle.std.specs.Prelude.{◌≡◌, option_map};
+
+use nutwords::{Name, UpsName, Value};
+
+/// A listing that is asked for.
+#[derive(Debug, Drop)]
+pub enum Query {
+    /// The UPSs of the server, each with its description.
+    Ups,
+    /// The variables of a UPS, each with its value.
+    Var(UpsName),
+    /// The variables that may be set, each with its value.
+    Rw(UpsName),
+    /// The commands of a UPS.
+    Cmd(UpsName),
+    /// The addresses of the clients that are logged in to a UPS.
+    Client(UpsName),
+}
+
+impl Query {
+    ghost use Rattle.nutrequest.specs.Request.{kind_of, ups_of, has_value};
+
+    /// The word of its kind.
+    pub(crate) fn kind(&self) -> &'static [u8]
+        ensures { result.now ≡ kind_of self.now }
+    {
+        match self {
+            Query::Ups => b"UPS",
+            Query::Var(_) => b"VAR",
+            Query::Rw(_) => b"RW",
+            Query::Cmd(_) => b"CMD",
+            Query::Client(_) => b"CLIENT",
+        }
+    }
+
+    /// The UPS that it asks for, if it is one.
+    pub(crate) fn ups(&self) -> Option<&UpsName>
+        ensures { option_map (λ u. u.now) result ≡ ups_of self.now }
+    {
+        match self {
+            Query::Ups => None,
+            Query::Var(ups) | Query::Rw(ups) | Query::Cmd(ups) | Query::Client(ups) => Some(ups),
+        }
+    }
+
+    /// Whether its items have a value or a description.
+    pub(crate) fn has_value(&self) -> bool
+        ensures { result ≡ has_value self.now }
+    {
+        match self {
+            Query::Ups | Query::Var(_) | Query::Rw(_) => true,
+            Query::Cmd(_) | Query::Client(_) => false,
+        }
+    }
+}
+
+/// A line that a client sends, with the words that it has. Each asks for one reply.
+#[derive(Debug, Drop)]
+pub enum Request {
+    /// A listing.
+    List(Query),
+    /// The value of a variable.
+    GetVar(UpsName, Name),
+    /// How many clients are logged in to a UPS.
+    GetNumAttach(UpsName),
+    /// The name of the user, for the requests after it.
+    Username(Value),
+    /// The user's password.
+    Password(Value),
+    /// That a variable be set to a value.
+    SetVar(UpsName, Name, Value),
+    /// That a command be done, with a value for it or without.
+    Instcmd(UpsName, Name, Option<Value>),
+}

@@ -1,0 +1,219 @@
+//! A session: requests, each with its reply.
+ghost use Rattle.std.specs.Prelude.{◌≡◌, ◌≤◌, [], length, Err, OnErr, OnOk, MatchResult, true, false};
+ghost use Rattle.nutwords.specs.Scan.{words_of};
+ghost use Rattle.nutwords.specs.declared.limits.TheConstants.{LINE_LIMIT};
+ghost use Rattle.nutrequest.specs.Reply.{one_item, later_of};
+ghost use Rattle.nutrequest.specs.Inbox.{unread};
+ghost use Rattle.nutrequest.specs.State.{unread_of, reader_of, writer_of, is_over};
+ghost use Rattle.nutrequest.specs.Session.{FirstGives, TakeGives, ItemsGive, ReplyGives, AskGives};
+
+use crate::inbox::Inbox;
+use crate::line::request_line;
+use crate::read::{FirstLine, LaterLine, first_line, later_line};
+use crate::{Bytes, ClientFault, Item, Items, Query, Request};
+use nutio::{Sink, Source, send};
+use std::alloc::Global;
+
+/// A session over a reader and a writer. It keeps what was read past a reply, for the next.
+#[derive(Drop)]
+pub struct Session<R, W> {
+    alloc: Global,
+    reader: R,
+    writer: W,
+    inbox: Inbox,
+    is_over: bool,
+}
+
+impl<R: Source, W: Sink> Session<R, W> {
+    /// A session that has read nothing.
+    pub fn new(alloc: Global, reader: R, writer: W) -> Self
+        ensures reader { reader_of result ≡ reader }
+        ensures writer { writer_of result ≡ writer }
+        ensures unread { unread_of result ≡ [] }
+        ensures over { is_over result ≡ false }
+    {
+        Session {
+            alloc,
+            reader,
+            writer,
+            inbox: Inbox::new(),
+            is_over: false,
+        }
+    }
+
+    /// Where its memory comes from.
+    pub fn alloc(&self) -> Global {
+        self.alloc
+    }
+
+    /// Whether it met a fault: every further request is refused then.
+    pub fn is_over(&self) -> bool
+        ensures { result ≡ is_over self.now }
+    {
+        self.is_over
+    }
+
+    /// Ends the session: every further request is refused.
+    pub fn end(&mut self)
+        ensures over { is_over self.new ≡ true }
+        ensures unread { unread_of self.new ≡ unread_of self.old }
+        ensures reader { reader_of self.new ≡ reader_of self.old }
+        ensures writer { writer_of self.new ≡ writer_of self.old }
+    {
+        self.is_over = true;
+    }
+
+    /// Sends the request's line and reads its reply.
+    fn exchange(&mut self, request: &Request) -> Result<Items, ClientFault>
+        ensures { AskGives R.remaining R.failures W.contents W.failures request.now
+            (unread self.old.inbox) self.old.reader self.old.writer result
+            (unread self.new.inbox) self.new.reader self.new.writer }
+    {
+        let Ok(()) = send(&mut self.writer, &request_line(request)) else {
+            return Err(ClientFault::Write);
+        };
+        read_reply(self.alloc, &mut self.inbox, &mut self.reader, request)
+    }
+}
+
+/// Asks, and gives the reply's items once the reply is whole.
+pub fn ask<R: Source, W: Sink>(
+    session: &mut Session<R, W>,
+    request: &Request,
+) -> Result<Items, ClientFault>
+    // After a fault every further request is refused, and changes nothing.
+    ensures over { is_over session.old ≡ true
+        → (result ≡ Err ClientFault.EarlyEnd) × (session.new ≡ session.old) }
+    ensures reply { is_over session.old ≡ false
+        → AskGives R.remaining R.failures W.contents W.failures request.now
+        (unread_of session.old) (reader_of session.old) (writer_of session.old) result
+        (unread_of session.new) (reader_of session.new) (writer_of session.new) }
+    ensures fault { OnErr result (is_over session.new ≡ true) }
+    ensures goes_on { OnOk result (is_over session.new ≡ false) }
+{
+    if session.is_over {
+        return Err(ClientFault::EarlyEnd);
+    }
+    let result = session.exchange(request);
+    session.is_over = result.is_err();
+    result
+}
+
+/// Reads the reply to a request.
+fn read_reply<R: Source>(
+    alloc: Global,
+    inbox: &mut Inbox,
+    reader: &mut R,
+    request: &Request,
+) -> Result<Items, ClientFault>
+    ensures { ReplyGives R.remaining R.failures request.now (unread inbox.old) reader.old result
+        (unread inbox.new) reader.new }
+{
+    let value = match read_first(alloc, inbox, reader, request) {
+        Ok(value) => value,
+        Err(fault) => return Err(fault),
+    };
+    match request {
+        Request::List(query) => read_items(alloc, inbox, reader, query),
+        _ => one_item(alloc, value),
+    }
+}
+
+/// Reads the first line of a reply, and gives the value that it tells.
+fn read_first<R: Source>(
+    alloc: Global,
+    inbox: &mut Inbox,
+    reader: &mut R,
+    request: &Request,
+) -> Result<Bytes, ClientFault>
+    ensures { FirstGives R.remaining R.failures request.now (unread inbox.old) reader.old result
+        (unread inbox.new) reader.new }
+{
+    let line = match inbox.line(reader) {
+        Ok(line) => line,
+        Err(fault) => return Err(fault),
+    };
+    match first_line(alloc, request, &line) {
+        Ok(FirstLine::Expected(value)) => Ok(value),
+        Ok(FirstLine::Refusal(word)) => Err(ClientFault::ErrWord(word)),
+        Ok(FirstLine::Bad) => Err(ClientFault::BadReply),
+        Err(_) => Err(ClientFault::Memory),
+    }
+}
+
+/// Reads the items of a listing and its last line.
+fn read_items<R: Source>(
+    alloc: Global,
+    inbox: &mut Inbox,
+    reader: &mut R,
+    query: &Query,
+) -> Result<Items, ClientFault>
+    ensures { ItemsGive R.remaining R.failures query.now (unread inbox.old) reader.old result
+        (unread inbox.new) reader.new }
+{
+    let mut items = Items::new(alloc);
+    loop {
+        let line = match inbox.line(reader) {
+            Ok(line) => line,
+            Err(fault) => return Err(fault),
+        };
+        match take_later(alloc, query, &line, &mut items) {
+            Ok(Taken::All) => return Ok(items),
+            Ok(Taken::One) => {}
+            Err(fault) => return Err(fault),
+        }
+    }
+}
+
+/// What a later line brought.
+#[derive(Drop)]
+enum Taken {
+    /// An item more.
+    One,
+    /// The end: the items are all there.
+    All,
+}
+
+/// Takes a line of a listing after the first.
+fn take_later(
+    alloc: Global,
+    query: &Query,
+    line: &[u8],
+    items: &mut Items,
+) -> Result<Taken, ClientFault>
+    requires { length line.now ≤ LINE_LIMIT }
+    ensures { TakeGives (later_of query.now (words_of line.now)) items.old result items.new }
+{
+    match later_line(alloc, query, line) {
+        Ok(LaterLine::End) => Ok(Taken::All),
+        Ok(LaterLine::Another(item)) => add_item(items, item),
+        Ok(LaterLine::Bad) => Err(ClientFault::BadReply),
+        Err(_) => Err(ClientFault::Memory),
+    }
+}
+
+/// Adds an item, where the listing has room for it.
+fn add_item(items: &mut Items, item: Item) -> Result<Taken, ClientFault>
+    ensures { TakeGives (LaterLine.Another item) items.old result items.new }
+{
+    if !items.has_room() {
+        return Err(ClientFault::BadReply);
+    }
+    match items.push(item) {
+        Ok(()) => Ok(Taken::One),
+        Err(_) => Err(ClientFault::Memory),
+    }
+}
+
+/// A reply of one line, as one item without a name.
+fn one_item(alloc: Global, value: Bytes) -> Result<Items, ClientFault>
+    ensures { MatchResult result
+        (λ items. items ≡ one_item value) (λ fault. fault ≡ ClientFault.Memory) }
+{
+    let name = Bytes::new(Vec::new(alloc));
+    let mut items = Items::new(alloc);
+    if items.push(Item { name, value }).is_err() {
+        return Err(ClientFault::Memory);
+    }
+    Ok(items)
+}
