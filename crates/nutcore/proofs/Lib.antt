@@ -44,6 +44,7 @@ mod TakingAmongOthers
 mod Listed
 mod DriverHistory
 mod DriverRuns
+mod FreshRuns
 mod DriverOrders
 mod OrdersByRight
 mod Written

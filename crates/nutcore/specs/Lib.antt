@@ -18,6 +18,7 @@ pub mod Taking
 pub mod Listed
 pub mod DriverHistory
 pub mod DriverRuns
+pub mod FreshRuns
 pub mod DriverOrders
 pub mod ByRight
 pub mod OrdersByRight

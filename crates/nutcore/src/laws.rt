@@ -13,13 +13,14 @@ ghost use Rattle.nutcore.specs.Taking.{WhoTakesGetsEverything, WhoTakesAmongOthe
 ghost use Rattle.nutcore.specs.Lines.{WholeLinesAreTheCut};
 ghost use Rattle.nutcore.specs.DriverHistory.{WhatADriverToldIsExecuted};
 ghost use Rattle.nutcore.specs.DriverRuns.{WhatCameSinceConnectingIsExecuted, ALostDriversLinesAreABeginning, WhichLinesAreRefused, RefusedLinesAreCounted, ANewServerCountsAllRefusedLines};
+ghost use Rattle.nutcore.specs.FreshRuns.{TheMomentIsTheGreatestTick, WhateverIsToldIsFresh};
 ghost use Rattle.nutcore.specs.DriverOrders.{WhatADriverWasSentAndIsOwedIsWhatItWasTold};
 ghost use Rattle.nutcore.specs.Listed.{EachIsListedOnce, WhatIsListedIsWhatIsHeld};
 ghost use Rattle.nutcore.specs.ReadsBack.{EachListingReadsBack};
 ghost use Rattle.nutcore.specs.Addresses.{ANewServerHasLawfulAddresses, EveryRunKeepsAddressesLawful, EveryRunKeepsTheList};
 ghost use Rattle.nutcore.specs.Sound.{ANewServerIsSound, EachEventKeepsTheServerSound, EveryRunKeepsTheServerSound, ASoundServerIsLawful};
 
-use nutanswer::laws::only_ok_changes;
+use nutanswer::laws::{only_ok_changes, what_is_told_is_fresh};
 use nutdriver::laws::{each_line_keeps_the_tree_sound, lawful_lines_keep_trees_sound};
 use nutwords::laws::listing_is_read_back;
 
@@ -177,6 +178,18 @@ pub fn refused_lines_are_counted()
     ensures run { RefusedLinesAreCounted }
     ensures from_new { ANewServerCountsAllRefusedLines }
 {}
+
+/// Whatever is told of a UPS's data is fresh, over every run from `Server::new`: where a line that the run executes asks for
+/// them, or gives its driver an order, and isn't answered by `ERR`, then at that moment the driver was connected, since an
+/// event of the run, had reported all that it knows, said that its data are right, and its last whole line had come at a
+/// moment at most the greatest age before the greatest tick so far, which is the moment of the server.
+pub fn whatever_is_told_is_fresh()
+    ensures fresh { WhateverIsToldIsFresh }
+    ensures moment { TheMomentIsTheGreatestTick }
+{
+    what_is_told_is_fresh();
+    every_server_is_sound();
+}
 
 /// The other half: over every run, what the driver of a UPS was owed, followed by what its connections (`DUMPALL`), the
 /// lines that were executed (orders) and the ticks (`PING`) told it, in their order, is what was taken for it, followed by
