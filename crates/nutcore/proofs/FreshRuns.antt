@@ -124,12 +124,12 @@ dumped_has_last moment [] report is dumped = let never : false ≡ true = sym (a
 dumped_has_last moment (x ∷ xs) report is dumped = subst (λ (r : Report). IsLast r (x ∷ xs)) (sym is) (last_of (connected_report moment) x xs)
 
 -- what stands at a place of a mapped list
-record IsOf {A B : Type 0} (f : A → B) (xs : List A) (p : ℕ) (b : B) : Type 0 where
-  of : A
-  there : slice_get xs p ≡ Some of
-  is : f of ≡ b
+pub record IsOf {A B : Type 0} (f : A → B) (xs : List A) (p : ℕ) (b : B) : Type 0 where
+  pub of : A
+  pub there : slice_get xs p ≡ Some of
+  pub is : f of ≡ b
 
-mapped_at : {A B : Type 0} (f : A → B) (xs : List A) (p : ℕ) (b : B) → slice_get (map f xs) p ≡ Some b → IsOf f xs p b
+pub mapped_at : {A B : Type 0} (f : A → B) (xs : List A) (p : ℕ) (b : B) → slice_get (map f xs) p ≡ Some b → IsOf f xs p b
 mapped_at f [] p b h = cc h
 mapped_at f (x ∷ xs) zero b h = record { of = x; there = refl; is = same_Some (f x) b h }
 mapped_at f (x ∷ xs) (suc p) b h = let more = mapped_at f xs p b h in record { of = more.of; there = more.there; is = more.is }

@@ -29,6 +29,7 @@ mod Rows
 mod Marks
 mod ShutdownMarks
 mod Lasting
+mod Endings
 mod Waiting
 mod SessionMarks
 mod LoginCount

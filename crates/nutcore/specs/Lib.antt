@@ -23,6 +23,7 @@ pub mod DriverOrders
 pub mod ByRight
 pub mod OrdersByRight
 pub mod Lasting
+pub mod Endings
 pub mod ReadsBack
 pub mod Addresses
 pub mod TellingLines

@@ -2,6 +2,7 @@
 ghost use Rattle.nutcore.specs.Headline.{WhatWasSentAndIsOwedIsTheAnswers, WhatWasAskedIsExecutedOrHeld, EachAnswerIsTimely, NothingIsLeftToExecute, OneAnswerAtMostIsOwedAbove, AListingIsWhatIsHeld, ARefusedLineChangesNothing, ThePumpExecutesTheLeast, EachEventIsAFunction};
 ghost use Rattle.nutcore.specs.ByRight.{AForcedShutdownIsSetByRight, ALoginIsByRight, CredentialsAreGivenByLines, WhatIsCountedIsWhoIsThere};
 ghost use Rattle.nutcore.specs.Lasting.{WhatNeverGoesBack};
+ghost use Rattle.nutcore.specs.Endings.{WhoIsOverIsAskedNoMore, IdsThatAreGivenRise, AGrantedShutdownIsSet, ATickTouchesNoSession, AnOpeningTouchesNoOther};
 ghost use Rattle.nutcore.specs.Waiting.{ALineIsAnswered};
 ghost use Rattle.nutcore.specs.OrdersByRight.{EachOrderIsByRight};
 ghost use Rattle.nutcore.specs.TellingLines.{EachTellingIsAWholeLine};
@@ -99,6 +100,31 @@ pub fn a_line_is_answered()
 /// again, and ids rise; a forced shutdown stays set.
 pub fn what_never_goes_back()
     ensures { WhatNeverGoesBack }
+{}
+
+/// Who is over is asked no more: of a client that is ending, or was closed, a run executes nothing, and what it takes,
+/// followed by what it is owed after, is what it was owed before, until it is closed.
+pub fn who_is_over_is_asked_no_more()
+    ensures { WhoIsOverIsAskedNoMore }
+{}
+
+/// The ids that a run gives to new sessions rise, from the next one of its first server on: none is given twice, and none
+/// comes back.
+pub fn ids_that_are_given_rise()
+    ensures { IdsThatAreGivenRise }
+{}
+
+/// A forced shutdown that is granted is set: where one of the lines that a run executed was `FSD` of a UPS, answered
+/// `OK FSD-SET`, of a user with the right, the UPS's forced shutdown is set after the run.
+pub fn a_granted_shutdown_is_set()
+    ensures { AGrantedShutdownIsSet }
+{}
+
+/// A tick touches no session, and of the server nothing but the moment and the UPSs; an opening touches no session that
+/// there was, and of the server nothing but the sessions and the next id.
+pub fn time_and_newcomers_touch_no_session()
+    ensures tick { ATickTouchesNoSession }
+    ensures opening { AnOpeningTouchesNoOther }
 {}
 
 /// Every server is sound: a new one is, and each event and each run keeps it so. The tree of each UPS is sound (names
