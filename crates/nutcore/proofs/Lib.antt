@@ -34,6 +34,7 @@ mod Waiting
 mod SessionMarks
 mod LoginCount
 mod Isolation
+mod Happenings
 mod KeptSound
 mod OrderFits
 mod SoundUps

@@ -11,6 +11,7 @@ pub mod History
 pub mod Cost
 pub mod Headline
 pub mod Isolation
+pub mod Happenings
 pub mod Sound
 pub mod Waiting
 pub mod Bounded

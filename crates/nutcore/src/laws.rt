@@ -8,6 +8,7 @@ ghost use Rattle.nutcore.specs.OrdersByRight.{EachOrderIsByRight};
 ghost use Rattle.nutcore.specs.TellingLines.{EachTellingIsAWholeLine};
 ghost use Rattle.nutcore.specs.Examples.{TwoVariables, EmptyListing, TakenInFour, LongestLine, ThreeLines, EscapedValue, FaultyLines, CasesAndFaults, NotConnected, Described, PipelinedGet, CutLines, ToldInPieces};
 ghost use Rattle.nutcore.specs.Isolation.{AClientTouchesNoOther, ADriverTouchesNoOther, ARefusedEventChangesNothing, ARefusedEventCostsNothing};
+ghost use Rattle.nutcore.specs.Happenings.{AnswersComeOfWhatHappens, AQuietTakeChangesWhatIsOwedAlone, AReplyComesOfWhatIsSeen};
 ghost use Rattle.nutcore.specs.Limits.{Limits};
 ghost use Rattle.nutcore.specs.Bounded.{EachEventIsBounded};
 ghost use Rattle.nutcore.specs.Taking.{WhoTakesGetsEverything, WhoTakesAmongOthersGetsEverything};
@@ -277,6 +278,24 @@ pub fn limits()
 /// What a client sends or takes, or its end, touches no other session, and of the server nothing but what commands change.
 pub fn a_client_touches_no_other()
     ensures { AClientTouchesNoOther }
+{}
+
+/// Nobody's answers depend on how slowly others read, or on the pieces in which their lines come. Two runs in which the same
+/// happens, the same lines are executed and the same events of drivers, time, openings and closings come, in the same order,
+/// from servers that differ at most in what is held and owed, give every client the same answers, and lead to such servers.
+pub fn answers_come_of_what_happens()
+    ensures { AnswersComeOfWhatHappens }
+{}
+
+/// A take that executes nothing changes what its own client is owed, and nothing else of the server.
+pub fn a_quiet_take_changes_what_is_owed_alone()
+    ensures { AQuietTakeChangesWhatIsOwedAlone }
+{}
+
+/// What is answered to a line, and what it changes, comes of what is seen of the server and of the session that asks: no
+/// session's held or owed bytes, and no other one's name or password, are among that.
+pub fn a_reply_comes_of_what_is_seen()
+    ensures { AReplyComesOfWhatIsSeen }
 {}
 
 /// What a driver does touches no session, no other UPS, and nothing else of the server.
