@@ -7,7 +7,7 @@ use Rattle.nutcore.specs.Numbers.{number_of_fault}
 use Rattle.nutcore.specs.Session.{SessionState}
 use Rattle.nutcore.specs.Ups.{UpsState, with_fsd, with_order}
 use Rattle.nutcore.specs.Reply.{changed_upses}
-use Rattle.nutcore.specs.Pump.{next_line_for, after_line, after_all_lines, is_overlong, with_notice}
+use Rattle.nutcore.specs.Pump.{next_line_for, after_line, after_lines, after_all_lines, is_overlong, with_notice}
 use Rattle.nutcore.specs.Step.{Step, joined, with_input, taken_from, without_output, may_take, pumped_until, after_by, refused_after, outcome_of}
 use Rattle.nutcore.specs.Isolation.{client_of, ups_of, without_commands, kept_from_clients, LeavesOtherClients, LeavesOtherUpses, AClientTouchesNoOther, ADriverTouchesNoOther, ARefusedEventChangesNothing, ARefusedEventCostsNothing}
 use Rattle.nutcore.specs.Cost.{cost_of, no_cost}
@@ -16,7 +16,7 @@ use Rattle.nutcore.proofs.Changed.{by_change}
 use Rattle.nutcore.proofs.Changes.{of_upses}
 use Rattle.nutcore.proofs.Costs.{refused_feed_costs, refused_take_costs}
 use Rattle.nutcore.proofs.Found.{find_without_other}
-use Rattle.nutcore.proofs.Kept.{IsPumped, by_feed, by_take}
+use Rattle.nutcore.proofs.Kept.{IsPumped, by_lines, by_feed, by_take}
 use Rattle.nutcore.proofs.Progress.{Presence}
 use Rattle.nutcore.proofs.Pumping.{is_next, after_line_is, change_at}
 use Rattle.nutcore.proofs.Refused.{refusal, may_not, refused}
@@ -60,6 +60,17 @@ pumped s = record {
   gives = λ t c n h. kept_session s (taken_from n) t c h;
   notice = λ t c h. kept_session s with_notice t c h;
 }
+
+pub kept_in_lines : (k c : ℕ) (s t : ServerState) → kept_from_clients t ≡ kept_from_clients s → kept_from_clients (after_lines k t c) ≡ kept_from_clients s
+kept_in_lines k c s t h = by_lines (IsKept s) (pumped s) k c t h
+
+pub kept_in_input : (s : ServerState) (c : ℕ) (piece : List ℕ) → kept_from_clients (with_input s c piece) ≡ kept_from_clients s
+unfolding with_input
+kept_in_input s c piece = kept_session s (joined piece) s c refl
+
+pub kept_in_output : (s : ServerState) (c n : ℕ) → kept_from_clients (without_output s c n) ≡ kept_from_clients s
+unfolding without_output
+kept_in_output s c n = kept_session s (taken_from n) s c refl
 
 own_of : (s : ServerState) (e : Event) (m : Option ℕ) → IfSome (client_of e) (λ c. LeavesOtherClients c s (after_by s e m))
 unfolding after_by

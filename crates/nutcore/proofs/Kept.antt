@@ -30,7 +30,7 @@ module _ (P : ServerState → Type 0) (kept : IsPumped P) where
   by_line s c None e h = subst P (sym (stopped_none s c e)) h
   by_line s c (Some line) e h = kept.line s c line e h
 
-  by_lines : (k c : ℕ) (s : ServerState) → P s → P (after_lines k s c)
+  pub by_lines : (k c : ℕ) (s : ServerState) → P s → P (after_lines k s c)
   unfolding after_lines
   by_lines zero c s h = h
   by_lines (suc k) c s h = by_lines k c (after_line s c) (by_line s c (next_line_for s c) refl h)

@@ -26,15 +26,15 @@ use Rattle.nutcore.proofs.Rows.{comes_of_line}
 use Rattle.nutcore.proofs.ShutdownMarks.{fsd_at, changed_keeps, drivers_keep, tick_keeps, by_session}
 
 -- what a line, bytes that come and go, and a notice keep of a session
-record IsLasting (IsSo : SessionState → Type 0) : Type 0 where
-  line : (s : ServerState) (c : ℕ) (line : List ℕ) (x : SessionState) → session c s ≡ Some x → x.ending ≡ false → IsSo x → IsSo (session_after s c line x)
-  joins : (piece : List ℕ) (x : SessionState) → IsSo x → IsSo (joined piece x)
-  gives : (n : ℕ) (x : SessionState) → IsSo x → IsSo (taken_from n x)
-  notice : (x : SessionState) → IsSo x → IsSo (with_notice x)
+pub record IsLasting (IsSo : SessionState → Type 0) : Type 0 where
+  pub line : (s : ServerState) (c : ℕ) (line : List ℕ) (x : SessionState) → session c s ≡ Some x → x.ending ≡ false → IsSo x → IsSo (session_after s c line x)
+  pub joins : (piece : List ℕ) (x : SessionState) → IsSo x → IsSo (joined piece x)
+  pub gives : (n : ℕ) (x : SessionState) → IsSo x → IsSo (taken_from n x)
+  pub notice : (x : SessionState) → IsSo x → IsSo (with_notice x)
 
 module _ (IsSo : SessionState → Type 0) (lasting : IsLasting IsSo) (c : ℕ) where
   -- the client's id was given, and its session is so where it is open
-  abbrev IsThere : ServerState → Type 0
+  abbrev pub IsThere : ServerState → Type 0
   IsThere s = (c < s.next_id) × IfSome (session c s) IsSo
 
   puts : (s : ServerState) (d : ℕ) (x y : SessionState) → session d s ≡ Some x → y.id ≡ d → (IsSo x → IsSo y) → IfSome (session c s) IsSo → IfSome (find c (put y s.sessions)) IsSo
@@ -61,7 +61,7 @@ module _ (IsSo : SessionState → Type 0) (lasting : IsLasting IsSo) (c : ℕ) w
   unfolding ticked
   by_tick s seconds h = h
 
-  kept : IsKept IsThere IsAny
+  pub kept : IsKept IsThere IsAny
   kept = record {
     pumped = record {
       line = λ s d line e h.
@@ -162,7 +162,7 @@ by_tick_ids : (n : ℕ) (s : ServerState) (seconds : ℕ) → n ≤ s.next_id �
 unfolding ticked
 by_tick_ids n s seconds h = h
 
-ids_kept : (n : ℕ) → IsKept (λ s. n ≤ s.next_id) IsAny
+pub ids_kept : (n : ℕ) → IsKept (λ s. n ≤ s.next_id) IsAny
 ids_kept n = record {
   pumped = record {
     line = λ s d line e h. let at = is_next s d line e in subst (λ (t : ServerState). n ≤ t.next_id) (sym (after_line_is s d line at.asking at.found e)) h;
@@ -184,7 +184,7 @@ forced_stays zero (suc q) (x ∷ xs) h = h
 forced_stays (suc p) zero (x ∷ xs) h = h
 forced_stays (suc p) (suc q) (x ∷ xs) h = forced_stays p q xs h
 
-shutdown_kept : (u : UpsId) → IsKept (λ s. is_shut_down u s ≡ true) IsAny
+pub shutdown_kept : (u : UpsId) → IsKept (λ s. is_shut_down u s ≡ true) IsAny
 shutdown_kept u = record {
   pumped = record {
     line = λ s d line e h.

@@ -29,10 +29,12 @@ mod Rows
 mod Marks
 mod ShutdownMarks
 mod Lasting
+mod Endings
 mod Waiting
 mod SessionMarks
 mod LoginCount
 mod Isolation
+mod Happenings
 mod KeptSound
 mod OrderFits
 mod SoundUps
@@ -44,6 +46,7 @@ mod TakingAmongOthers
 mod Listed
 mod DriverHistory
 mod DriverRuns
+mod FreshRuns
 mod DriverOrders
 mod OrdersByRight
 mod Written

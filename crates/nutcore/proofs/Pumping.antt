@@ -108,7 +108,7 @@ pub overlong_there : (o : Option SessionState) → option_map_or holds_overlong 
 overlong_there None h = cc h
 overlong_there (Some x) h = (x, refl, h)
 
-notice_there : (s : ServerState) (c : ℕ) → is_overlong s c ≡ true → after_notice s c ≡ with_session_changed notified c s
+pub notice_there : (s : ServerState) (c : ℕ) → is_overlong s c ≡ true → after_notice s c ≡ with_session_changed notified c s
 unfolding after_notice
 notice_there s c over =
     let (x, found, long) = overlong_there (session c s) over in

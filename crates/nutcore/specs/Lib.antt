@@ -11,6 +11,7 @@ pub mod History
 pub mod Cost
 pub mod Headline
 pub mod Isolation
+pub mod Happenings
 pub mod Sound
 pub mod Waiting
 pub mod Bounded
@@ -18,10 +19,12 @@ pub mod Taking
 pub mod Listed
 pub mod DriverHistory
 pub mod DriverRuns
+pub mod FreshRuns
 pub mod DriverOrders
 pub mod ByRight
 pub mod OrdersByRight
 pub mod Lasting
+pub mod Endings
 pub mod ReadsBack
 pub mod Addresses
 pub mod TellingLines

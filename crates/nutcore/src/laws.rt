@@ -2,24 +2,27 @@
 ghost use Rattle.nutcore.specs.Headline.{WhatWasSentAndIsOwedIsTheAnswers, WhatWasAskedIsExecutedOrHeld, EachAnswerIsTimely, NothingIsLeftToExecute, OneAnswerAtMostIsOwedAbove, AListingIsWhatIsHeld, ARefusedLineChangesNothing, ThePumpExecutesTheLeast, EachEventIsAFunction};
 ghost use Rattle.nutcore.specs.ByRight.{AForcedShutdownIsSetByRight, ALoginIsByRight, CredentialsAreGivenByLines, WhatIsCountedIsWhoIsThere};
 ghost use Rattle.nutcore.specs.Lasting.{WhatNeverGoesBack};
+ghost use Rattle.nutcore.specs.Endings.{WhoIsOverIsAskedNoMore, IdsThatAreGivenRise, AGrantedShutdownIsSet, ATickTouchesNoSession, AnOpeningTouchesNoOther};
 ghost use Rattle.nutcore.specs.Waiting.{ALineIsAnswered};
 ghost use Rattle.nutcore.specs.OrdersByRight.{EachOrderIsByRight};
 ghost use Rattle.nutcore.specs.TellingLines.{EachTellingIsAWholeLine};
 ghost use Rattle.nutcore.specs.Examples.{TwoVariables, EmptyListing, TakenInFour, LongestLine, ThreeLines, EscapedValue, FaultyLines, CasesAndFaults, NotConnected, Described, PipelinedGet, CutLines, ToldInPieces};
 ghost use Rattle.nutcore.specs.Isolation.{AClientTouchesNoOther, ADriverTouchesNoOther, ARefusedEventChangesNothing, ARefusedEventCostsNothing};
+ghost use Rattle.nutcore.specs.Happenings.{AnswersComeOfWhatHappens, AQuietTakeChangesWhatIsOwedAlone, AReplyComesOfWhatIsSeen};
 ghost use Rattle.nutcore.specs.Limits.{Limits};
 ghost use Rattle.nutcore.specs.Bounded.{EachEventIsBounded};
 ghost use Rattle.nutcore.specs.Taking.{WhoTakesGetsEverything, WhoTakesAmongOthersGetsEverything};
 ghost use Rattle.nutcore.specs.Lines.{WholeLinesAreTheCut};
 ghost use Rattle.nutcore.specs.DriverHistory.{WhatADriverToldIsExecuted};
 ghost use Rattle.nutcore.specs.DriverRuns.{WhatCameSinceConnectingIsExecuted, ALostDriversLinesAreABeginning, WhichLinesAreRefused, RefusedLinesAreCounted, ANewServerCountsAllRefusedLines};
+ghost use Rattle.nutcore.specs.FreshRuns.{TheMomentIsTheGreatestTick, WhateverIsToldIsFresh};
 ghost use Rattle.nutcore.specs.DriverOrders.{WhatADriverWasSentAndIsOwedIsWhatItWasTold};
 ghost use Rattle.nutcore.specs.Listed.{EachIsListedOnce, WhatIsListedIsWhatIsHeld};
 ghost use Rattle.nutcore.specs.ReadsBack.{EachListingReadsBack};
 ghost use Rattle.nutcore.specs.Addresses.{ANewServerHasLawfulAddresses, EveryRunKeepsAddressesLawful, EveryRunKeepsTheList};
 ghost use Rattle.nutcore.specs.Sound.{ANewServerIsSound, EachEventKeepsTheServerSound, EveryRunKeepsTheServerSound, ASoundServerIsLawful};
 
-use nutanswer::laws::only_ok_changes;
+use nutanswer::laws::{only_ok_changes, what_is_told_is_fresh};
 use nutdriver::laws::{each_line_keeps_the_tree_sound, lawful_lines_keep_trees_sound};
 use nutwords::laws::listing_is_read_back;
 
@@ -100,6 +103,31 @@ pub fn what_never_goes_back()
     ensures { WhatNeverGoesBack }
 {}
 
+/// Who is over is asked no more: of a client that is ending, or was closed, a run executes nothing, and what it takes,
+/// followed by what it is owed after, is what it was owed before, until it is closed.
+pub fn who_is_over_is_asked_no_more()
+    ensures { WhoIsOverIsAskedNoMore }
+{}
+
+/// The ids that a run gives to new sessions rise, from the next one of its first server on: none is given twice, and none
+/// comes back.
+pub fn ids_that_are_given_rise()
+    ensures { IdsThatAreGivenRise }
+{}
+
+/// A forced shutdown that is granted is set: where one of the lines that a run executed was `FSD` of a UPS, answered
+/// `OK FSD-SET`, of a user with the right, the UPS's forced shutdown is set after the run.
+pub fn a_granted_shutdown_is_set()
+    ensures { AGrantedShutdownIsSet }
+{}
+
+/// A tick touches no session, and of the server nothing but the moment and the UPSs; an opening touches no session that
+/// there was, and of the server nothing but the sessions and the next id.
+pub fn time_and_newcomers_touch_no_session()
+    ensures tick { ATickTouchesNoSession }
+    ensures opening { AnOpeningTouchesNoOther }
+{}
+
 /// Every server is sound: a new one is, and each event and each run keeps it so. The tree of each UPS is sound (names
 /// strictly rise, and all that was reported is lawful and within its limits), nothing was heard later than now, what is
 /// held and owed is within its limits, and the ids of sessions rise. So the premise of the laws of every run holds.
@@ -178,6 +206,18 @@ pub fn refused_lines_are_counted()
     ensures from_new { ANewServerCountsAllRefusedLines }
 {}
 
+/// Whatever is told of a UPS's data is fresh, over every run from `Server::new`: where a line that the run executes asks for
+/// them, or gives its driver an order, and isn't answered by `ERR`, then at that moment the driver was connected, since an
+/// event of the run, had reported all that it knows, said that its data are right, and its last whole line had come at a
+/// moment at most the greatest age before the greatest tick so far, which is the moment of the server.
+pub fn whatever_is_told_is_fresh()
+    ensures fresh { WhateverIsToldIsFresh }
+    ensures moment { TheMomentIsTheGreatestTick }
+{
+    what_is_told_is_fresh();
+    every_server_is_sound();
+}
+
 /// The other half: over every run, what the driver of a UPS was owed, followed by what its connections (`DUMPALL`), the
 /// lines that were executed (orders) and the ticks (`PING`) told it, in their order, is what was taken for it, followed by
 /// what it is owed. A driver that is lost was sent a beginning of that, and the next connection begins with nothing owed.
@@ -238,6 +278,24 @@ pub fn limits()
 /// What a client sends or takes, or its end, touches no other session, and of the server nothing but what commands change.
 pub fn a_client_touches_no_other()
     ensures { AClientTouchesNoOther }
+{}
+
+/// Nobody's answers depend on how slowly others read, or on the pieces in which their lines come. Two runs in which the same
+/// happens, the same lines are executed and the same events of drivers, time, openings and closings come, in the same order,
+/// from servers that differ at most in what is held and owed, give every client the same answers, and lead to such servers.
+pub fn answers_come_of_what_happens()
+    ensures { AnswersComeOfWhatHappens }
+{}
+
+/// A take that executes nothing changes what its own client is owed, and nothing else of the server.
+pub fn a_quiet_take_changes_what_is_owed_alone()
+    ensures { AQuietTakeChangesWhatIsOwedAlone }
+{}
+
+/// What is answered to a line, and what it changes, comes of what is seen of the server and of the session that asks: no
+/// session's held or owed bytes, and no other one's name or password, are among that.
+pub fn a_reply_comes_of_what_is_seen()
+    ensures { AReplyComesOfWhatIsSeen }
 {}
 
 /// What a driver does touches no session, no other UPS, and nothing else of the server.

@@ -74,12 +74,12 @@ module _ {X : Type 0} (adds : DriverLine → Option X) (takes : DriverLine → X
       ∙ ap (λ xs. xs ++ one_if (adds line)) (sym (filter-append (λ x. not (takes line x)) left rest))
 
 -- ---- a change of one variable
-equal_by : (o : Ordering) → is_eq o ≡ true → o ≡ Equal
+pub equal_by : (o : Ordering) → is_eq o ≡ true → o ≡ Equal
 equal_by Less h = absurd (cc)
 equal_by Equal h = refl
 equal_by Greater h = absurd (cc)
 
-apart_by : (o : Ordering) → is_eq o ≡ false → o ≢ Equal
+pub apart_by : (o : Ordering) → is_eq o ≡ false → o ≢ Equal
 apart_by o h = λ same. true≢false (sym (ap is_eq same) ∙ h)
 
 all_kept : {X : Type 0} (xs : List X) → xs ≡ moved (λ x. false) None xs

@@ -4,3 +4,4 @@ pub mod LawfulLines
 pub mod SoundTrees
 pub mod LineLemmas
 pub mod AddingOrder
+mod LastLine

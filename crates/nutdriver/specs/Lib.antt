@@ -11,3 +11,4 @@ pub mod Promises
 pub mod Report
 pub mod Sound
 pub mod Additions
+pub mod LastLine

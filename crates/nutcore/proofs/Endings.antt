@@ -1,0 +1,281 @@
+-- What is over stays over, and what ticks and newcomers leave as it is.
+use Rattle.std.proofs.Common.{◌≡◌, ◌<◌, ◌≤◌, ◌+◌, ◌⊎◌, ◌∙◌, ℕ, Bool, true, false, not, ◌&&◌, List, [], ◌∷◌, ◌++◌, Option, Some, None, Result, Ok, Err, IfSome, refl, sym, ap, subst, cond, eqb, ltb, leb, length, inl, inr, arith, append-nil}
+use Rattle.std.specs.Prelude.{slice_get, is_some, codes}
+use Rattle.std.specs.Option.{option_map_or, ok_or}
+use Rattle.std.specs.List.{flat_map}
+use Rattle.std.proofs.lemmas.Bool.{both_ways, eqb-true, ltb-true, and_parts, cond-true, cond-false}
+use Rattle.nutcore.proofs.Common.{cond_both, UpsId, Change, Event, Outcome, SessionState, UpsState, ServerState, session, ups_at, changed_at, with_session_changed, Step, after, Run}
+use Rattle.nutanswer.specs.declared.command.Command.TheVariants.{Fsd}
+use Rattle.nutanswer.specs.declared.err_word.ErrWord.{ErrWord}
+use Rattle.nutanswer.specs.declared.err_word.ErrWord.TheVariants.{UnknownUps, UsernameRequired, PasswordRequired, AccessDenied}
+use Rattle.nutanswer.specs.declared.reply.Change.TheVariants as changes
+use Rattle.nutanswer.specs.Command.{read_command}
+use Rattle.nutanswer.specs.Checks.{◌>>=◌, ◌>>◌, KnownUps, unless, user, unknown_ups}
+use Rattle.nutanswer.specs.Answer.{Answer, one_line, change_of_answer}
+use Rattle.nutanswer.proofs.PublicLaws.{a_named_ups_is_seen}
+use Rattle.nutusers.specs.Users.{may}
+use Rattle.nutusers.specs.declared.rights.Right.TheVariants as rights
+use Rattle.nutcore.specs.declared.event.Event.TheVariants.{DriverUp, DriverBytes, DriverTook, DriverDown, Tick, Open, Feed, Took, Close}
+use Rattle.nutcore.specs.declared.event.Outcome.TheVariants.{Done, Fed, Opened, Refused}
+use Rattle.nutcore.specs.declared.event.Fault.TheVariants.{NoSuchUps, NoSuchClient, TooManyClients, TookTooMuch, NotConnected, AlreadyConnected, LineTooLong, Memory}
+use Rattle.nutcore.specs.Session.{find, new_session}
+use Rattle.nutcore.specs.Ups.{with_fsd}
+use Rattle.nutcore.specs.Lines.{is_too_long, unfinished_after}
+use Rattle.nutcore.specs.Reply.{seen, seen_ups, asker, change_by, changed_upses}
+use Rattle.nutcore.specs.Pump.{next_line_for, after_line, after_notice, holds_overlong, notified}
+use Rattle.nutcore.specs.Step.{with_input, without_output, may_take, may_open, opened, ticked, after_by, refused_after, outcome_of, MayAnswer, connected_by, driver_text_outcome, driver_bytes_by, driver_took_by, disconnected_by, accepted, fed_by, took_by, closed_by}
+use Rattle.nutcore.specs.History.{Execution, of_line, of_notice, executions, of_client, texts_of, owed, is_over}
+use Rattle.nutcore.specs.Headline.{IsLawful}
+use Rattle.nutcore.specs.Addresses.{opened_from}
+use Rattle.nutcore.specs.ByRight.{IsAmong, IsByRight, SetsShutdownByRight, is_shut_down}
+use Rattle.nutcore.specs.Endings.{WhoIsOverIsAskedNoMore, id_given, ids_given, RiseFrom, IdsThatAreGivenRise, AGrantedShutdownIsSet, ATickTouchesNoSession, LeavesOlderSessions, AnOpeningTouchesNoOther}
+use Rattle.nutcore.proofs.Changed.{either_notice}
+use Rattle.nutcore.proofs.Events.{of_opened}
+use Rattle.nutcore.proofs.Found.{of_pushed}
+use Rattle.nutcore.proofs.FreshRuns.{mapped_at}
+use Rattle.nutcore.proofs.Histories.{IsOfEvents, run_keeps, two_clients}
+use Rattle.nutcore.proofs.Kept.{IsKept, IsAny, any_address, by_event}
+use Rattle.nutcore.proofs.Lasting.{IsLasting, IsThere, kept, ids_kept, shutdown_kept}
+use Rattle.nutcore.proofs.Pumping.{is_next, after_line_is, change_at, overlong_there, notice_there}
+use Rattle.nutcore.proofs.Stepping.{run_sent}
+use Rattle.nutcore.proofs.UpsPlaces.{at_changed}
+
+never_ends : {A : Type 0} (b : Bool) → b ≡ true → b ≡ false → A
+never_ends true e f = cc f
+never_ends false e f = cc e
+
+-- a session that is ending goes on ending
+abbrev Ends : SessionState → Type 0
+Ends x = x.ending ≡ true
+
+ending_goes_on : IsLasting Ends
+ending_goes_on = record {
+  line = λ s c line x found going so. never_ends x.ending so going;
+  joins = λ piece x so. so;
+  gives = λ n x so. so;
+  notice = λ x so. either_notice Ends x refl so;
+}
+
+-- a client that is over: its session is ending, or it has none any more
+abbrev IsOver : ℕ → ServerState → Type 0
+IsOver c = IsThere Ends ending_goes_on c
+
+is_kept : (c : ℕ) → IsKept (IsOver c) IsAny
+is_kept c = kept Ends ending_goes_on c
+
+-- it is asked no more
+abbrev AsksNoMore : ℕ → ServerState → List Execution → List ℕ → List ℕ → ServerState → Type 0
+AsksNoMore c s xs taken asked t = IsOver c s → (of_client c xs ≡ []) × IsOver c t
+
+one_other : (c : ℕ) (x : Execution) (d : ℕ) → (d ≡ c → ⊥) → cond (eqb d c) (x ∷ []) [] ≡ []
+one_other c x d differ = cond_both (eqb d c) (x ∷ []) [] (λ ys. ys ≡ []) (λ e. absurd (differ (eqb-true d c e))) (λ e. refl)
+
+found_ending : (c d : ℕ) (s : ServerState) (x : SessionState) → d ≡ c → session d s ≡ Some x → IsOver c s → x.ending ≡ true
+found_ending c d s x same found over = subst (λ o. IfSome o Ends) (ap (λ k. session k s) (sym same) ∙ found) over.1
+
+no_notice_to : (x : SessionState) → x.ending ≡ true → holds_overlong x ≡ true → ⊥
+no_notice_to x ends long = let parts = and_parts (not x.ending) _ long in never_ends (not x.ending) parts.0 (ap not ends)
+
+asks_no_more : (c : ℕ) → IsOfEvents c (AsksNoMore c)
+unfolding with_input without_output after_notice
+asks_no_more c = record {
+  stays = λ s over. (refl, over);
+  joins = λ s m t xs ys k k' a a' f g over.
+      let first = f over in
+      let more = g first.1 in
+      (two_clients c xs ys ∙ ap (λ (zs : List Execution). zs ++ of_client c ys) first.0 ∙ more.0, more.1);
+  by_line = λ d s line next over.
+      let n = is_next s d line next in
+      (one_other c (of_line s d line) d (λ (e : d ≡ c). never_ends n.asking.ending (found_ending c d s n.asking e n.found over) n.going), (is_kept c).pumped.line s d line next over);
+  by_notice = λ d s long over.
+      let due = overlong_there (session d s) long in
+      (one_other c (of_notice d) d (λ (e : d ≡ c). no_notice_to due.0 (found_ending c d s due.0 e due.1 over) due.2), subst (IsOver c) (notice_there s d long) ((is_kept c).pumped.notice s d over));
+  by_input = λ d s piece over. (refl, (is_kept c).pumped.joins s d piece over);
+  by_output = λ d s n may over. (refl, (is_kept c).pumped.gives s d n over);
+  by_plain = λ s e m plain over. (refl, by_event (IsOver c) IsAny (is_kept c) s e m (any_address (opened_from e)) over);
+}
+
+over_there : (c : ℕ) (s : ServerState) → IsLawful s → is_over c s ≡ true → IsOver c s
+over_there c s lawful over = by_session (session c s) refl over
+  where
+    by_session : (o : Option SessionState) → session c s ≡ o → option_map_or (λ x. x.ending) o (ltb c s.next_id) ≡ true → IsOver c s
+    by_session None e h = (ltb-true c s.next_id h, subst (λ o. IfSome o Ends) (sym e) tt)
+    by_session (Some x) e h = (lawful c (ap is_some e), subst (λ o. IfSome o Ends) (sym e) h)
+
+pub asked_no_more : WhoIsOverIsAskedNoMore
+asked_no_more old new es os c lawful over r =
+    let none : of_client c (executions old es os) ≡ [] = (run_keeps c (AsksNoMore c) (asks_no_more c) old new es os r (over_there c old lawful over)).0 in
+    record {
+      nothing = none;
+      owed_less = λ still.
+          sym (append-nil (owed c old)) ∙ ap (λ (xs : List Execution). owed c old ++ texts_of xs) (sym none) ∙ (run_sent old new es os lawful r c).while_open still;
+    }
+
+-- ids: an outcome where memory is there gives none, but that of an opening
+gives_none : (b : Bool) (o p : Outcome) → id_given o ≡ [] → id_given p ≡ [] → id_given (cond b o p) ≡ []
+gives_none true o p e f = e
+gives_none false o p e f = f
+
+up_gives : (o : Option UpsState) → id_given (connected_by o) ≡ []
+up_gives None = refl
+up_gives (Some x) = gives_none x.report.connected (Refused AlreadyConnected) Done refl refl
+
+bytes_give : (piece : List ℕ) (o : Option UpsState) → id_given (driver_bytes_by piece o) ≡ []
+bytes_give piece None = refl
+bytes_give piece (Some x) =
+    let text : List ℕ = x.unfinished ++ piece in
+    gives_none x.report.connected (driver_text_outcome text) (Refused NotConnected) (gives_none (is_too_long (unfinished_after text)) (Refused LineTooLong) Done refl refl) refl
+
+driver_took_gives : (n : ℕ) (o : Option UpsState) → id_given (driver_took_by n o) ≡ []
+driver_took_gives n None = refl
+driver_took_gives n (Some x) =
+    gives_none (not x.report.connected) (Refused NotConnected) (cond (leb n (length x.owed)) Done (Refused TookTooMuch)) refl (gives_none (leb n (length x.owed)) Done (Refused TookTooMuch) refl refl)
+
+down_gives : (o : Option UpsState) → id_given (disconnected_by o) ≡ []
+down_gives None = refl
+down_gives (Some x) = gives_none x.report.connected Done (Refused NotConnected) refl refl
+
+feed_gives : (o : Option SessionState) (piece : List ℕ) (b : Bool) → id_given (fed_by o piece b) ≡ []
+feed_gives None piece b = refl
+feed_gives (Some x) piece b = gives_none b (Refused LineTooLong) (Fed (accepted x piece)) refl refl
+
+took_gives : (o : Option SessionState) (n : ℕ) (b : Bool) → id_given (took_by o n b) ≡ []
+took_gives None n b = refl
+took_gives (Some x) n b = gives_none (may_take (Some x) n) (cond b (Refused LineTooLong) Done) (Refused TookTooMuch) (gives_none b (Refused LineTooLong) Done refl refl) refl
+
+close_gives : (o : Option SessionState) → id_given (closed_by o) ≡ []
+close_gives None = refl
+close_gives (Some x) = refl
+
+joined_rise : (a b c : ℕ) (xs ys : List ℕ) → RiseFrom a b xs → RiseFrom b c ys → RiseFrom a c (xs ++ ys)
+joined_rise a b c [] ys least rest = lower a b c ys least rest
+  where
+    lower : (a b c : ℕ) (ys : List ℕ) → a ≤ b → RiseFrom b c ys → RiseFrom a c ys
+    lower a b c [] least rest = omega (arith, least, rest)
+    lower a b c (y ∷ ys) least rest = (omega (arith, least, rest.0), rest.1)
+joined_rise a b c (x ∷ xs) ys h rest = (h.0, joined_rise (x + 1) b c xs ys h.1 rest)
+
+next_is_no_less : (s : ServerState) (e : Event) (m : Option ℕ) → s.next_id ≤ (after_by s e m).next_id
+next_is_no_less s e m = by_event (λ t. s.next_id ≤ t.next_id) IsAny (ids_kept s.next_id) s e m (any_address (opened_from e)) (omega arith)
+
+opened_next : (s : ServerState) (address : List ℕ) → may_open s ≡ true → (after_by s (Open address) None).next_id ≡ s.next_id + 1
+unfolding after_by opened
+opened_next s address room = cond_both (may_open s) _ s (λ t. t.next_id ≡ s.next_id + 1) (λ may. refl) (λ full. never_ends (may_open s) room full)
+
+Rises : ServerState → Event → Outcome → Type 0
+Rises s e o = RiseFrom s.next_id (after s e o).next_id (id_given o)
+
+rises_by_none : (s : ServerState) (e : Event) (o : Outcome) → id_given o ≡ [] → Rises s e o
+unfolding Rises
+rises_by_none s e o none = subst (RiseFrom s.next_id (after s e o).next_id) (sym none) (next_is_no_less s e (refused_after o))
+
+told_rises : (s : ServerState) (e : Event) → Rises s e (outcome_of s e)
+unfolding outcome_of Rises
+told_rises s (DriverUp u) = rises_by_none s _ _ (up_gives (ups_at u.place s))
+told_rises s (DriverBytes u piece) = rises_by_none s _ _ (bytes_give piece (ups_at u.place s))
+told_rises s (DriverTook u n) = rises_by_none s _ _ (driver_took_gives n (ups_at u.place s))
+told_rises s (DriverDown u) = rises_by_none s _ _ (down_gives (ups_at u.place s))
+told_rises s (Tick seconds) = rises_by_none s (Tick seconds) Done refl
+told_rises s (Open address) = by_room (may_open s) refl
+  where
+    by_room : (b : Bool) → may_open s ≡ b → Rises s (Open address) (cond b (Opened s.next_id) (Refused TooManyClients))
+    by_room true room = let next = opened_next s address room in (omega arith, omega (arith, next))
+    by_room false full = rises_by_none s (Open address) (Refused TooManyClients) refl
+told_rises s (Feed c piece) = rises_by_none s _ _ (feed_gives (session c s) piece _)
+told_rises s (Took c n) = rises_by_none s _ _ (took_gives (session c s) n _)
+told_rises s (Close c) = rises_by_none s _ _ (close_gives (session c s))
+
+event_rises : (s : ServerState) (e : Event) (o : Outcome) → MayAnswer s e o → Rises s e o
+event_rises s e o (inl is) = subst (Rises s e) (sym is) (told_rises s e)
+event_rises s e o (inr (k, is, lacks)) = rises_by_none s e o (ap id_given is)
+
+pub ids_rise : IdsThatAreGivenRise
+unfolding Rises
+ids_rise old new [] [] r = let next = ap (λ (s : ServerState). s.next_id) r in omega (arith, next)
+ids_rise old new (e ∷ es) (o ∷ os) (mid, step, r) =
+    joined_rise old.next_id mid.next_id new.next_id (id_given o) (ids_given os)
+    (subst (λ (s : ServerState). RiseFrom old.next_id s.next_id (id_given o)) (sym step.leaves) (event_rises old e o step.allowed)) (ids_rise mid new es os r)
+ids_rise old new es os r = absurd r
+
+-- a forced shutdown that is granted
+change_sets : (u : UpsId) (s : ServerState) (c : ℕ) (line : List ℕ) (words : List (List ℕ)) → (h : IsByRight s c line Fsd rights.Fsd words u) → change_at s c line ≡ changes.Fsd u
+change_sets u s c line words h =
+    let a = asker c s in
+    let granted : user (seen s) a rights.Fsd ≡ Ok tt =
+    ap (λ (o : Option (List ℕ)). ok_or o UsernameRequired >>= (λ name. ok_or a.password PasswordRequired >>= (λ password. unless (may s.users name password rights.Fsd) AccessDenied))) h.username_given
+    ∙ ap (λ (o : Option (List ℕ)). ok_or o PasswordRequired >>= (λ password. unless (may s.users h.name password rights.Fsd) AccessDenied)) h.password_given
+    ∙ ap (λ (b : Bool). unless b AccessDenied) h.granted in
+    ap (change_by s c) h.command
+    ∙ ap (λ (r : Result (Unit {0}) ErrWord). change_of_answer (r >> (unknown_ups (seen s) h.ups >>= (λ v. Ok (one_line (codes "OK" ∷ codes "FSD-SET" ∷ []) (changes.Fsd v.id)))))) granted
+    ∙ ap (λ (o : Option KnownUps). change_of_answer (ok_or o UnknownUps >>= (λ v. Ok (one_line (codes "OK" ∷ codes "FSD-SET" ∷ []) (changes.Fsd v.id))))) h.named
+    ∙ ap (λ (v : UpsId). changes.Fsd v) h.this
+
+line_shuts_down : (u : UpsId) (s : ServerState) (c : ℕ) (line : List ℕ) → next_line_for s c ≡ Some line → SetsShutdownByRight u (of_line s c line) → is_shut_down u (after_line s c) ≡ true
+line_shuts_down u s c line next h =
+    let n = is_next s c line next in
+    let stands = mapped_at seen_ups s.upses u.place h.known.state (ap (λ (v : UpsId). slice_get (seen s).upses v.place) (sym h.this) ∙ (a_named_ups_is_seen (seen s) h.ups h.known h.named).stands) in
+    ap (is_shut_down u) (after_line_is s c line n.asking n.found next)
+    ∙ ap (λ (change : Change). option_map_or (λ (x : UpsState). x.fsd) (slice_get (changed_upses change s.upses) u.place) false) (change_sets u s c line _ h)
+    ∙ ap (λ (o : Option UpsState). option_map_or (λ (x : UpsState). x.fsd) o false) (at_changed with_fsd u.place s.upses stands.of stands.there)
+
+-- one of them does
+AnySets : UpsId → List Execution → Type 0
+AnySets u [] = ⊥
+AnySets u (x ∷ xs) = SetsShutdownByRight u x ⊎ AnySets u xs
+
+any_of : (u : UpsId) (before after : List Execution) (x : Execution) → SetsShutdownByRight u x → AnySets u (before ++ x ∷ after)
+unfolding AnySets
+any_of u [] after x sets = inl sets
+any_of u (y ∷ before) after x sets = inr (any_of u before after x sets)
+
+either_sets : (u : UpsId) (xs ys : List Execution) → AnySets u (xs ++ ys) → AnySets u xs ⊎ AnySets u ys
+unfolding AnySets
+either_sets u [] ys h = inr h
+either_sets u (x ∷ xs) ys (inl sets) = inl (inl sets)
+either_sets u (x ∷ xs) ys (inr h) = elim (either_sets u xs ys h) [ inl first ↦ inl (inr first) | inr last ↦ inr last ]
+
+record ShutsDown (u : UpsId) (s : ServerState) (xs : List Execution) (t : ServerState) : Type 0 where
+  stays : is_shut_down u s ≡ true → is_shut_down u t ≡ true
+  sets : AnySets u xs → is_shut_down u t ≡ true
+
+shuts_down : (u : UpsId) → IsOfEvents 0 (λ s xs taken asked t. ShutsDown u s xs t)
+unfolding with_input without_output after_notice AnySets
+shuts_down u =
+    let k = shutdown_kept u in
+    record {
+      stays = λ s. record { stays = λ set. set; sets = λ none. absurd none };
+      joins = λ s m t xs ys taken taken' asked asked' f g. record {
+        stays = λ set. g.stays (f.stays set);
+        sets = λ any. elim (either_sets u xs ys any) [ inl first ↦ g.stays (f.sets first) | inr last ↦ g.sets last ];
+      };
+      by_line = λ d s line next. record {
+        stays = λ set. k.pumped.line s d line next set;
+        sets = λ any. elim any [ inl sets ↦ line_shuts_down u s d line next sets | inr none ↦ absurd none ];
+      };
+      by_notice = λ d s long. record {
+        stays = λ set. subst (λ t. is_shut_down u t ≡ true) (notice_there s d long) (k.pumped.notice s d set);
+        sets = λ any. elim any [ inl never ↦ absurd never | inr none ↦ absurd none ];
+      };
+      by_input = λ d s piece. record { stays = λ set. k.pumped.joins s d piece set; sets = λ none. absurd none };
+      by_output = λ d s n may. record { stays = λ set. k.pumped.gives s d n set; sets = λ none. absurd none };
+      by_plain = λ s e m plain. record { stays = λ set. by_event (λ t. is_shut_down u t ≡ true) IsAny k s e m (any_address (opened_from e)) set; sets = λ none. absurd none };
+    }
+
+pub granted_is_set : AGrantedShutdownIsSet
+granted_is_set old new es os u x r (before, after, is) sets =
+    (run_keeps 0 (λ s xs taken asked t. ShutsDown u s xs t) (shuts_down u) old new es os r).sets (subst (AnySets u) (sym is) (any_of u before after x sets))
+
+-- ticks and openings
+pub tick_alone : ATickTouchesNoSession
+unfolding after_by ticked
+tick_alone old new seconds o step = ap (λ (s : ServerState). let but : ServerState = record s { moment = old.moment; upses = old.upses } in but) step.leaves
+
+pub opening_alone : AnOpeningTouchesNoOther
+unfolding after_by
+opening_alone old new address o step =
+    subst (LeavesOlderSessions old) (sym step.leaves)
+    (of_opened (LeavesOlderSessions old) old address (refused_after o) (record { sessions = λ c before. refl; server = refl })
+    (λ room. record {
+      sessions = λ c before. of_pushed (λ p. p ≡ session c old) c (new_session old.next_id address) old.sessions refl (λ id none. absurd (omega (arith, before, id)));
+      server = refl;
+    }))

@@ -1,0 +1,244 @@
+-- What is told of a UPS's data is fresh, over every run from a new server.
+use Rattle.std.proofs.Common.{◌≡◌, ◌≤◌, ◌<◌, ◌+◌, ◌-◌, ◌∙◌, ℕ, zero, suc, Bool, true, false, List, [], ◌∷◌, ◌++◌, Option, Some, None, Result, Ok, Err, refl, sym, ap, subst, map, max, length, arith}
+use Rattle.std.specs.Prelude.{codes, nat_eq, slice_get}
+use Rattle.std.specs.List.{starts_with}
+use Rattle.std.proofs.lemmas.List.Elements.{All-weaker}
+use Rattle.nutcore.proofs.Common.{same_Some, slice_get_within, UpsId, Event, Outcome, UpsState, ServerState, session, ups_at, Step, after, Run}
+use Rattle.nutdriver.specs.declared.line.DriverLine.{DriverLine}
+use Rattle.nutdriver.specs.declared.fault.DriverFault.{DriverFault}
+use Rattle.nutdriver.specs.declared.effect.Effect.{Effect}
+use Rattle.nutdriver.specs.declared.effect.Effect.TheVariants.{Nothing, Changed, DumpDone, DataOk, DataStale, Pong}
+use Rattle.nutdriver.specs.declared.report.Report.{Report}
+use Rattle.nutdriver.specs.Tree.{TreeState}
+use Rattle.nutdriver.specs.DriverLine.{read_driver_line}
+use Rattle.nutdriver.specs.DriverStep.{driver_step}
+use Rattle.nutdriver.specs.Report.{Heard, connected_report, after_effect, after_step, after_reading, after_line, after_heard}
+use Rattle.nutanswer.specs.declared.command.Command.{Command}
+use Rattle.nutanswer.specs.declared.err_word.ErrWord.{ErrWord}
+use Rattle.nutanswer.specs.Command.{read_command}
+use Rattle.nutanswer.specs.ErrWord.{error_line}
+use Rattle.nutanswer.specs.View.{UpsSeen}
+use Rattle.nutanswer.specs.Answer.{Answer, answer_to, text_of_answer}
+use Rattle.nutanswer.specs.Fresh.{asks_data_of, WhatIsToldIsFresh}
+use Rattle.nutanswer.proofs.PublicLaws.{a_named_ups_is_seen}
+use Rattle.nutcore.specs.declared.event.Event.TheVariants.{DriverUp, DriverBytes, DriverTook, DriverDown, Tick, Open, Feed, Took, Close}
+use Rattle.nutcore.specs.Session.{without}
+use Rattle.nutcore.specs.Server.{new_server}
+use Rattle.nutcore.specs.Reply.{seen, seen_ups, asker, text_to, reply}
+use Rattle.nutcore.specs.Step.{after_by, refused_after, ticked, opened}
+use Rattle.nutcore.specs.History.{Execution, of_line, of_notice}
+use Rattle.nutcore.specs.Headline.{IsInEvent, IsTimely}
+use Rattle.nutcore.specs.Isolation.{ups_of, without_commands, kept_from_clients}
+use Rattle.nutcore.specs.Sound.{IsSound, ANewServerIsSound, EveryRunKeepsTheServerSound}
+use Rattle.nutcore.specs.DriverHistory.{bytes_heard}
+use Rattle.nutcore.specs.DriverRuns.{IsNewServer, ConnectedInRun}
+use Rattle.nutcore.specs.FreshRuns.{tick_of, greatest_tick, TheMomentIsTheGreatestTick, lines_since, IsFreshIn, WasFresh, IsToldFresh, WhateverIsToldIsFresh}
+use Rattle.nutcore.proofs.Addresses.{run_keeps_list}
+use Rattle.nutcore.proofs.DriverRuns.{since_connecting}
+use Rattle.nutcore.proofs.Events.{of_parts, of_opened, any_driver}
+use Rattle.nutcore.proofs.Executions.{each_answer_timely}
+use Rattle.nutcore.proofs.Isolation.{own, kept_in_lines, kept_in_input, kept_in_output}
+
+-- the moment and the greatest age after an event, and after a run
+record IsTimed (tick : ℕ) (s t : ServerState) : Type 0 where
+  moment : t.moment ≡ max tick s.moment
+  max_age : t.max_age ≡ s.max_age
+
+kept_timed : (s t : ServerState) → kept_from_clients t ≡ kept_from_clients s → IsTimed 0 s t
+kept_timed s t kept =
+    let moment : t.moment ≡ s.moment = ap (λ (z : ServerState). z.moment) kept in
+    record { moment = omega (arith, moment); max_age = ap (λ (z : ServerState). z.max_age) kept }
+
+no_tick : (e : Event) (u : UpsId) → ups_of e ≡ Some u → tick_of e ≡ 0
+no_tick (Tick seconds) u h = cc h
+no_tick e u h = refl
+
+tick_timed : (s : ServerState) (seconds : ℕ) → IsTimed seconds s (ticked seconds s)
+unfolding ticked
+tick_timed s seconds = record { moment = refl; max_age = refl }
+
+event_timed : (s : ServerState) (e : Event) (m : Option ℕ) → IsTimed (tick_of e) s (after_by s e m)
+unfolding after_by
+event_timed s e m =
+    of_parts s m (λ f. Unit {0}) (any_driver s.moment m) (λ e t. IsTimed (tick_of e) s t)
+    (λ e u f its apart any. let none = no_tick e u its in record { moment = omega (arith, none); max_age = refl })
+    (λ seconds. tick_timed s seconds)
+    (λ address. of_opened (IsTimed 0 s) s address m (kept_timed s s refl) (λ may. record { moment = omega arith; max_age = refl }))
+    (λ c piece. kept_timed s _ (own s (Feed c piece) m c refl).server) (λ c n. kept_timed s _ (own s (Took c n) m c refl).server) (λ c. record { moment = omega arith; max_age = refl }) e
+
+run_timed : (s t : ServerState) (es : List Event) (os : List Outcome) → Run s es os t → IsTimed (greatest_tick es) s t
+run_timed s t [] [] r = subst (IsTimed 0 s) (sym r) (record { moment = omega arith; max_age = refl })
+run_timed s t (e ∷ es) (o ∷ os) (mid, step, r) =
+    let first = event_timed s e (refused_after o) in
+    let moment : mid.moment ≡ max (tick_of e) s.moment = ap (λ (z : ServerState). z.moment) step.leaves ∙ first.moment in
+    let rest = run_timed mid t es os r in
+    let last : t.moment ≡ max (greatest_tick es) mid.moment = rest.moment in
+    record { moment = omega (arith, moment, last); max_age = rest.max_age ∙ ap (λ (z : ServerState). z.max_age) step.leaves ∙ first.max_age }
+run_timed s t es os r = absurd r
+
+pub moment_is_greatest_tick : TheMomentIsTheGreatestTick
+moment_is_greatest_tick old new es os is_new r =
+    let timed = run_timed old new es os r in
+    let moment : new.moment ≡ max (greatest_tick es) old.moment = timed.moment in
+    let begins : old.moment ≡ 0 = ap (λ (z : ServerState). z.moment) is_new.is in
+    record { moment = omega (arith, moment, begins); max_age = timed.max_age }
+
+-- a line is heard at its moment
+heard_now : (moment : ℕ) (report : Report) (line : List ℕ) → (after_line moment report line).0.heard ≡ moment
+heard_now moment report line = by_reading (read_driver_line line)
+  where
+    at : Report
+    at = record report { heard = moment }
+
+    by_effect : (tree : TreeState) (effect : Effect) → (after_effect effect (record at { tree = tree })).heard ≡ moment
+    by_effect tree Nothing = refl
+    by_effect tree Changed = refl
+    by_effect tree DumpDone = refl
+    by_effect tree DataOk = refl
+    by_effect tree DataStale = refl
+    by_effect tree Pong = refl
+
+    by_step : (r : Result (TreeState × Effect) DriverFault) → (after_step at r).0.heard ≡ moment
+    by_step (Ok (tree, effect)) = by_effect tree effect
+    by_step (Err fault) = refl
+
+    by_reading : (r : Result DriverLine DriverFault) → (after_reading at r).0.heard ≡ moment
+    by_reading (Ok said) = by_step (driver_step report.tree said)
+    by_reading (Err fault) = refl
+
+-- so a report was heard when the last of its lines was
+record IsLast (report : Report) (lines : List Heard) : Type 0 where
+  earlier : List Heard
+  last : Heard
+  lines_are : lines ≡ earlier ++ last ∷ []
+  at : report.heard ≡ last.moment
+
+last_of : (report : Report) (x : Heard) (xs : List Heard) → IsLast (after_heard report (x ∷ xs)) (x ∷ xs)
+last_of report x [] = record { earlier = []; last = x; lines_are = refl; at = heard_now x.moment report x.line }
+last_of report x (y ∷ ys) =
+    let more = last_of (after_line x.moment report x.line).0 y ys in
+    record { earlier = x ∷ more.earlier; last = more.last; lines_are = ap (λ (zs : List Heard). x ∷ zs) more.lines_are; at = more.at }
+
+dumped_has_last : (moment : ℕ) (lines : List Heard) (report : Report) → report ≡ after_heard (connected_report moment) lines → report.dumped ≡ true → IsLast report lines
+dumped_has_last moment [] report is dumped = let never : false ≡ true = sym (ap (λ (r : Report). r.dumped) is) ∙ dumped in cc never
+dumped_has_last moment (x ∷ xs) report is dumped = subst (λ (r : Report). IsLast r (x ∷ xs)) (sym is) (last_of (connected_report moment) x xs)
+
+-- what stands at a place of a mapped list
+pub record IsOf {A B : Type 0} (f : A → B) (xs : List A) (p : ℕ) (b : B) : Type 0 where
+  pub of : A
+  pub there : slice_get xs p ≡ Some of
+  pub is : f of ≡ b
+
+pub mapped_at : {A B : Type 0} (f : A → B) (xs : List A) (p : ℕ) (b : B) → slice_get (map f xs) p ≡ Some b → IsOf f xs p b
+mapped_at f [] p b h = cc h
+mapped_at f (x ∷ xs) zero b h = record { of = x; there = refl; is = same_Some (f x) b h }
+mapped_at f (x ∷ xs) (suc p) b h = let more = mapped_at f xs p b h in record { of = more.of; there = more.there; is = more.is }
+
+at_mapped : {A B : Type 0} (f : A → B) (xs : List A) (p : ℕ) (a : A) → slice_get xs p ≡ Some a → slice_get (map f xs) p ≡ Some (f a)
+at_mapped f [] p a h = cc h
+at_mapped f (x ∷ xs) zero a h = ap (λ z. Some (f z)) (same_Some x a h)
+at_mapped f (x ∷ xs) (suc p) a h = at_mapped f xs p a h
+
+-- what lines leave as it was before their event
+kept_until : (s : ServerState) (e : Event) (t : ServerState) (c : ℕ) (line : List ℕ) → IsInEvent s e (of_line t c line) → kept_from_clients t ≡ kept_from_clients s
+kept_until s (Feed d piece) t c line (own, k, is, next) = ap kept_from_clients is ∙ kept_in_lines k d s _ (kept_in_input s d piece)
+kept_until s (Took d n) t c line (own, k, is, next) = ap kept_from_clients is ∙ kept_in_lines k d s _ (kept_in_output s d n)
+kept_until s e t c line h = absurd h
+
+-- what isn't answered by ERR has an answer
+answer_there : (s : ServerState) (c : ℕ) (line : List ℕ) (command : Command) → read_command line ≡ Ok (Some command) → starts_with nat_eq (reply s c line) (codes "ERR") ≡ false → (answer : Answer) × (answer_to (seen s) (asker c s) command ≡ Ok answer)
+answer_there s c line command read kind = by_answer (answer_to (seen s) (asker c s) command) refl
+  where
+    by_answer : (r : Result Answer ErrWord) → answer_to (seen s) (asker c s) command ≡ r → (answer : Answer) × (answer_to (seen s) (asker c s) command ≡ Ok answer)
+    by_answer (Ok answer) e = (answer, e)
+    by_answer (Err word) e =
+        let text : reply s c line ≡ error_line word = ap (text_to s c) read ∙ ap text_of_answer e in
+        let begins : starts_with nat_eq (error_line word) (codes "ERR") ≡ true = refl in
+        let never : true ≡ false = sym begins ∙ ap (λ (w : List ℕ). starts_with nat_eq w (codes "ERR")) (sym text) ∙ kind in
+        cc never
+
+module _ (told : WhatIsToldIsFresh) (opening : ANewServerIsSound) (keeps : EveryRunKeepsTheServerSound) (old : ServerState) (is_new : IsNewServer old) where
+  sound_old : IsSound old
+  sound_old = subst IsSound (sym is_new.is) (opening is_new.list is_new.users is_new.descriptions is_new.max_age is_new.is_list is_new.is_max_age)
+
+  -- a UPS that is there after a run was there before it
+  there_before : (t : ServerState) (es : List Event) (os : List Outcome) (p : ℕ) (x : UpsState) → Run old es os t → ups_at p t ≡ Some x → p < length old.upses
+  there_before t es os p x r there =
+      let few : p < length t.upses = slice_get_within t.upses p x there in
+      let named = (keeps old t es os r sound_old).named in
+      let named_old = sound_old.named in
+      let list = ap (λ xs. length xs) (run_keeps_list old t es os r) in
+      omega (arith, few, named, named_old, list)
+
+  -- what a UPS's driver told since it connected is what it told a UPS that has its report and its rest
+  same_driver : (u : UpsId) (es : List Event) (os : List Outcome) (x y : UpsState) → without_commands x ≡ without_commands y → ConnectedInRun u old es os y → ConnectedInRun u old es os x
+  same_driver u es os x y same k = record {
+    events_before = k.events_before;
+    outcomes_before = k.outcomes_before;
+    server = k.server;
+    events_since = k.events_since;
+    outcomes_since = k.outcomes_since;
+    events_are = k.events_are;
+    outcomes_are = k.outcomes_are;
+    reached = k.reached;
+    connects = record {
+      lost = k.connects.lost;
+      there = k.connects.there;
+      unconnected = k.connects.unconnected;
+      stays = k.connects.stays;
+      is_heard = record {
+        whole = k.connects.is_heard.whole;
+        all = k.connects.is_heard.all ∙ ap (λ (z : UpsState). bytes_heard (lines_since k) ++ z.unfinished) (sym same);
+        report = ap (λ (z : UpsState). z.report) same ∙ k.connects.is_heard.report;
+        counted = λ few. ap (λ (z : UpsState). z.faulty) same ∙ k.connects.is_heard.counted few;
+      };
+    };
+  }
+
+  line_fresh : (es : List Event) (os : List Outcome) (x : Execution) → IsTimely old es os x → IsToldFresh old es os x
+  line_fresh es os (of_notice c) t = tt
+  line_fresh es os (of_line s c line) t = λ command ups read asks kind.
+      let (answer, given) = answer_there s c line command read kind in
+      let (known, named, fresh) = told (seen s) (asker c s) command ups answer asks given in
+      let u : UpsId = known.id in
+      let seen_at = mapped_at seen_ups s.upses u.place known.state (a_named_ups_is_seen (seen s) ups known named).stands in
+      let x : UpsState = seen_at.of in
+      let report : x.report ≡ known.state.report = ap (λ (z : UpsSeen). z.report) seen_at.is in
+      let kept : kept_from_clients s ≡ kept_from_clients t.server = kept_until t.server t.event s c line t.executed in
+      let was_at = mapped_at without_commands t.server.upses u.place (without_commands x)
+          (ap (λ (z : ServerState). slice_get z.upses u.place) (sym kept) ∙ at_mapped without_commands s.upses u.place x seen_at.there) in
+      let y : UpsState = was_at.of in
+      let stands = since_connecting opening keeps old t.server t.events_before t.outcomes_before u is_new
+          (there_before t.server t.events_before t.outcomes_before u.place y t.reached was_at.there) t.reached in
+      let same : stands.now ≡ y = same_Some stands.now y (sym stands.there ∙ was_at.there) in
+      let connected : stands.now.report.connected ≡ true =
+          ap (λ (z : UpsState). z.report.connected) same ∙ ap (λ (z : UpsState). z.report.connected) was_at.is ∙ ap (λ (z : Report). z.connected) report ∙ fresh.connected in
+      let run = same_driver u t.events_before t.outcomes_before x stands.now (sym was_at.is ∙ ap without_commands (sym same)) (stands.connected connected) in
+      let dumped : x.report.dumped ≡ true = ap (λ (z : Report). z.dumped) report ∙ fresh.dumped in
+      let last = dumped_has_last run.server.moment (lines_since run) x.report run.connects.is_heard.report dumped in
+      let timed = run_timed old t.server t.events_before t.outcomes_before t.reached in
+      let moment : s.moment ≡ t.server.moment = ap (λ (z : ServerState). z.moment) kept in
+      let was : t.server.moment ≡ max (greatest_tick t.events_before) old.moment = timed.moment in
+      let age : s.max_age ≡ old.max_age = ap (λ (z : ServerState). z.max_age) kept ∙ timed.max_age in
+      let heard : known.state.report.heard ≡ last.last.moment = ap (λ (z : Report). z.heard) (sym report) ∙ last.at in
+      let within : s.moment - known.state.report.heard ≤ s.max_age = fresh.heard in
+      record {
+        known = known;
+        named = named;
+        timely = t;
+        fresh = record {
+          now = x;
+          there = seen_at.there;
+          connected = run;
+          dumped = dumped;
+          ok = ap (λ (z : Report). z.ok) report ∙ fresh.ok;
+          earlier = last.earlier;
+          last = last.last;
+          lines_are = last.lines_are;
+          recent = omega (arith, moment, was, age, heard, within);
+        };
+      }
+
+pub whatever_is_told_is_fresh : WhatIsToldIsFresh → ANewServerIsSound → EveryRunKeepsTheServerSound → WhateverIsToldIsFresh
+whatever_is_told_is_fresh told opening keeps old new es os is_new r =
+    All-weaker (IsTimely old es os) (IsToldFresh old es os) (line_fresh told opening keeps old is_new es os) _ (each_answer_timely old new es os r)

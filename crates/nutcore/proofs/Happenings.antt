@@ -1,0 +1,293 @@
+-- Answers come of what happens, and not of bytes that come and go.
+use Rattle.std.proofs.Common.{◌≡◌, ◌∙◌, ◌+◌, ◌<◌, ℕ, Bool, true, false, List, [], ◌∷◌, ◌++◌, Option, Some, None, Result, Ok, Err, refl, sym, ap, subst, cond, eqb, ltb, ◌&&◌, ◌^◌, map, length, append_assoc, append-nil}
+use Rattle.std.specs.Prelude.{option_map}
+use Rattle.nutcore.proofs.Common.{cond_both, length-map, Change, Event, Outcome, SessionState, UpsState, ServerState, session, with_session, with_session_changed, Step, after, Run}
+use Rattle.nutanswer.specs.declared.command.Command.{Command}
+use Rattle.nutanswer.specs.declared.err_word.ErrWord.{ErrWord}
+use Rattle.nutanswer.specs.declared.reply.Change.TheVariants.{Nothing, Username, Password, Login, Ending, Fsd, Order}
+use Rattle.nutanswer.specs.Command.{read_command}
+use Rattle.nutanswer.specs.View.{Seen, ClientSeen, AskerSeen}
+use Rattle.nutanswer.specs.Answer.{answer_to, text_of_answer, change_of_answer}
+use Rattle.nutlisting.specs.declared.listing.clients.TheConstants.{SESSION_LIMIT}
+use Rattle.nutcore.specs.declared.event.Event.TheVariants.{DriverUp, DriverBytes, DriverTook, DriverDown, Tick, Open, Feed, Took, Close}
+use Rattle.nutcore.specs.Session.{find, put, without, new_session, begin_ending}
+use Rattle.nutcore.specs.Reply.{seen, seen_client, asker, asker_of, reply, text_to, change_by, changed, changed_session, changed_upses, after_change, too_long_notice}
+use Rattle.nutcore.specs.Pump.{next_line_for, answered, after_line, is_overlong, notified}
+use Rattle.nutcore.specs.Step.{joined, with_input, taken_from, without_output, may_take, may_open, opened, ticked, pumped_until, after_by, refused_after}
+use Rattle.nutcore.specs.History.{Execution, of_line, of_notice, client_of, text_of, executions_until, executions_by, executions, of_client, texts_of, answers}
+use Rattle.nutcore.specs.Happenings.{Happening, line_is_executed, notice_is_told, event_comes, happening_of, happened_in_event, happenings, without_bytes, apart_from_bytes, AreAnsweredAlike, AnswersComeOfWhatHappens, AQuietTakeChangesWhatIsOwedAlone, IsAlike, AReplyComesOfWhatIsSeen}
+use Rattle.nutcore.proofs.Changed.{by_change, change_is, change_absent}
+use Rattle.nutcore.proofs.DriverText.{bytes_change}
+use Rattle.nutcore.proofs.Events.{IsPlain}
+use Rattle.nutcore.proofs.Found.{find_id}
+use Rattle.nutcore.proofs.Histories.{IsOfPump, until_keeps, two_lists, later}
+use Rattle.nutcore.proofs.Pumping.{is_next, after_line_is, change_at, changed_is, line_done, session_after, session_after_id, overlong_there}
+
+-- what is answered comes of what is seen
+pub reply_of_seen : AReplyComesOfWhatIsSeen
+reply_of_seen s t c d line same asks = record { reply = by_text (read_command line); change = by_change_of (read_command line) }
+  where
+    by_text : (r : Result (Option Command) ErrWord) → text_to s c r ≡ text_to t d r
+    by_text (Err word) = refl
+    by_text (Ok None) = refl
+    by_text (Ok (Some command)) = ap (λ (v : Seen). text_of_answer (answer_to v (asker c s) command)) same ∙ ap (λ (a : AskerSeen). text_of_answer (answer_to (seen t) a command)) asks
+
+    by_change_of : (r : Result (Option Command) ErrWord) → change_by s c r ≡ change_by t d r
+    by_change_of (Err word) = refl
+    by_change_of (Ok None) = refl
+    by_change_of (Ok (Some command)) = ap (λ (v : Seen). change_of_answer (answer_to v (asker c s) command)) same ∙ ap (λ (a : AskerSeen). change_of_answer (answer_to (seen t) a command)) asks
+
+-- a take by which nothing is executed
+nothing_both : (xs ys : List Execution) → xs ++ ys ≡ [] → (xs ≡ []) × (ys ≡ [])
+nothing_both [] ys e = (refl, e)
+nothing_both (x ∷ xs) ys e = cc e
+
+quiet_pump : (d : ℕ) → IsOfPump d (λ s xs t. xs ≡ [] → t ≡ s)
+quiet_pump d = record {
+  stays = λ s e. refl;
+  joins = λ s m t xs ys f g e. let none = nothing_both xs ys e in g none.1 ∙ f none.0;
+  by_line = λ s line next e. cc e;
+  by_notice = λ s long e. cc e;
+}
+
+pub quiet_take : AQuietTakeChangesWhatIsOwedAlone
+unfolding after_by executions_by
+quiet_take old new c n o step may quiet =
+    let begun : ServerState = without_output old c n in
+    let m : Option ℕ = refused_after o in
+    let none : executions_until begun c m ≡ [] = ap (λ (b : Bool). cond b (executions_until begun c m) []) (sym may) ∙ quiet in
+    step.leaves ∙ ap (λ (b : Bool). cond b (pumped_until begun c m) old) may ∙ until_keeps c (λ s xs t. xs ≡ [] → t ≡ s) (quiet_pump c) begun m none
+
+-- sessions but for what they hold and are owed
+found_without : (c : ℕ) (xs : List SessionState) → find c (map without_bytes xs) ≡ option_map without_bytes (find c xs)
+found_without c [] = refl
+found_without c (x ∷ xs) = by_id (eqb x.id c) (found_without c xs)
+  where
+    by_id : (b : Bool) → find c (map without_bytes xs) ≡ option_map without_bytes (find c xs) → cond b (Some (without_bytes x)) (find c (map without_bytes xs)) ≡ option_map without_bytes (cond b (Some x) (find c xs))
+    by_id true more = refl
+    by_id false more = more
+
+put_without : (y : SessionState) (xs : List SessionState) → map without_bytes (put y xs) ≡ put (without_bytes y) (map without_bytes xs)
+put_without y [] = refl
+put_without y (x ∷ xs) = by_id (eqb x.id y.id) (put_without y xs)
+  where
+    by_id : (b : Bool) → map without_bytes (put y xs) ≡ put (without_bytes y) (map without_bytes xs)
+        → map without_bytes (cond b (y ∷ xs) (x ∷ put y xs)) ≡ cond b (without_bytes y ∷ map without_bytes xs) (without_bytes x ∷ put (without_bytes y) (map without_bytes xs))
+    by_id true more = refl
+    by_id false more = ap (λ (zs : List SessionState). without_bytes x ∷ zs) more
+
+put_same : (x y : SessionState) (xs : List SessionState) → find y.id xs ≡ Some x → without_bytes y ≡ without_bytes x → map without_bytes (put y xs) ≡ map without_bytes xs
+put_same x y [] found same = refl
+put_same x y (z ∷ xs) found same = by_id (eqb z.id y.id) found (λ e. put_same x y xs e same)
+  where
+    by_id : (b : Bool) → cond b (Some z) (find y.id xs) ≡ Some x → (find y.id xs ≡ Some x → map without_bytes (put y xs) ≡ map without_bytes xs) → map without_bytes (cond b (y ∷ xs) (z ∷ put y xs)) ≡ without_bytes z ∷ map without_bytes xs
+    by_id true e more = let is : z ≡ x = cc e in ap (λ (w : SessionState). w ∷ map without_bytes xs) (same ∙ ap without_bytes (sym is))
+    by_id false e more = ap (λ (zs : List SessionState). without_bytes z ∷ zs) (more e)
+
+closed_without : (c : ℕ) (xs : List SessionState) → map without_bytes (without c xs) ≡ without c (map without_bytes xs)
+closed_without c [] = refl
+closed_without c (x ∷ xs) = by_id (eqb x.id c) (closed_without c xs)
+  where
+    by_id : (b : Bool) → map without_bytes (without c xs) ≡ without c (map without_bytes xs)
+        → map without_bytes (cond b (without c xs) (x ∷ without c xs)) ≡ cond b (without c (map without_bytes xs)) (without_bytes x ∷ without c (map without_bytes xs))
+    by_id true more = more
+    by_id false more = ap (λ (zs : List SessionState). without_bytes x ∷ zs) more
+
+pushed_without : (xs ys : List SessionState) → map without_bytes (xs ++ ys) ≡ map without_bytes xs ++ map without_bytes ys
+pushed_without [] ys = refl
+pushed_without (x ∷ xs) ys = ap (λ (zs : List SessionState). without_bytes x ∷ zs) (pushed_without xs ys)
+
+seen_without : (xs : List SessionState) → map seen_client (map without_bytes xs) ≡ map seen_client xs
+seen_without [] = refl
+seen_without (x ∷ xs) = ap (λ (cs : List ClientSeen). seen_client x ∷ cs) (seen_without xs)
+
+asker_without : (o : Option SessionState) → asker_of (option_map without_bytes o) ≡ asker_of o
+asker_without None = refl
+asker_without (Some x) = refl
+
+changed_without : (change : Change) (line text : List ℕ) (x : SessionState) → without_bytes (changed_session change (answered line text x)) ≡ changed_session change (without_bytes x)
+changed_without (Username name) line text x = refl
+changed_without (Password word) line text x = refl
+changed_without (Login u) line text x = refl
+changed_without Ending line text x = refl
+changed_without _ line text x = refl
+
+-- the server: what is answered is the same
+core_alike : (s : ServerState) (c : ℕ) (line : List ℕ) → IsAlike (apart_from_bytes s) s c c line
+core_alike s c line =
+    reply_of_seen (apart_from_bytes s) s c c line
+    (ap (λ (clients : List ClientSeen). let v : Seen = record (seen s) { clients = clients } in v) (seen_without s.sessions))
+    (ap asker_of (found_without c s.sessions) ∙ asker_without (session c s))
+
+-- bytes that come and go change nothing else
+core_bytes : (f : SessionState → SessionState) → ((x : SessionState) → (f x).id ≡ x.id) → ((x : SessionState) → without_bytes (f x) ≡ without_bytes x) → (s : ServerState) (c : ℕ) → apart_from_bytes (with_session_changed f c s) ≡ apart_from_bytes s
+core_bytes f id same s c =
+    by_change (λ t. apart_from_bytes t ≡ apart_from_bytes s) f c s
+    (λ x e. ap (λ (xs : List SessionState). let t : ServerState = record s { sessions = xs } in t) (put_same x (f x) s.sessions (ap (λ k. find k s.sessions) (id x ∙ find_id c s.sessions x e) ∙ e) (same x)))
+    (λ e. refl)
+
+core_input : (s : ServerState) (c : ℕ) (piece : List ℕ) → apart_from_bytes (with_input s c piece) ≡ apart_from_bytes s
+unfolding with_input
+core_input s c piece = core_bytes (joined piece) (λ x. refl) (λ x. refl) s c
+
+core_output : (s : ServerState) (c n : ℕ) → apart_from_bytes (without_output s c n) ≡ apart_from_bytes s
+unfolding without_output
+core_output s c n = core_bytes (taken_from n) (λ x. refl) (λ x. refl) s c
+
+-- what a happening does to it, and what it tells the client
+abbrev act : Happening → ServerState → ServerState
+act (line_is_executed c line) k = after_change k c line
+act (notice_is_told c) k = with_session_changed begin_ending c k
+act (event_comes e m) k = after_by k e m
+
+abbrev says : ℕ → Happening → ServerState → List ℕ
+says c (line_is_executed d line) k = cond (eqb d c) (reply k d line) []
+says c (notice_is_told d) k = cond (eqb d c) too_long_notice []
+says c (event_comes e m) k = []
+
+left : List Happening → ServerState → ServerState
+left [] k = k
+left (h ∷ hs) k = left hs (act h k)
+
+said : ℕ → List Happening → ServerState → List ℕ
+said c [] k = []
+said c (h ∷ hs) k = says c h k ++ said c hs (act h k)
+
+left_both : (hs gs : List Happening) (k : ServerState) → left (hs ++ gs) k ≡ left gs (left hs k)
+unfolding left
+left_both [] gs k = refl
+left_both (h ∷ hs) gs k = left_both hs gs (act h k)
+
+said_both : (c : ℕ) (hs gs : List Happening) (k : ServerState) → said c (hs ++ gs) k ≡ said c hs k ++ said c gs (left hs k)
+unfolding left said
+said_both c [] gs k = refl
+said_both c (h ∷ hs) gs k = ap (λ (w : List ℕ). says c h k ++ w) (said_both c hs gs (act h k)) ∙ sym (append_assoc (says c h k) (said c hs (act h k)) (said c gs (left hs (act h k))))
+
+happened_both : (xs ys : List Execution) → map happening_of (xs ++ ys) ≡ map happening_of xs ++ map happening_of ys
+happened_both [] ys = refl
+happened_both (x ∷ xs) ys = ap (λ (hs : List Happening). happening_of x ∷ hs) (happened_both xs ys)
+
+-- the line and the notice
+core_line : (s : ServerState) (c : ℕ) (line : List ℕ) → next_line_for s c ≡ Some line → act (line_is_executed c line) (apart_from_bytes s) ≡ apart_from_bytes (after_line s c)
+core_line s c line next =
+    let n = is_next s c line next in
+    let k : ServerState = apart_from_bytes s in
+    let x : SessionState = n.asking in
+    let change : Change = change_at s c line in
+    let y : SessionState = session_after s c line x in
+    ap (λ (z : Change). changed z c k) (core_alike s c line).change
+    ∙ changed_is change c k (without_bytes x) (found_without c s.sessions ∙ ap (option_map without_bytes) n.found)
+    ∙ ap (line_done k change) (sym (changed_without change line (reply s c line) x))
+    ∙ ap (λ (xs : List SessionState). let t : ServerState = record s { sessions = xs; upses = changed_upses change s.upses } in t) (sym (put_without y s.sessions))
+    ∙ ap apart_from_bytes (sym (after_line_is s c line x n.found next))
+
+core_notice : (s : ServerState) (c : ℕ) → is_overlong s c ≡ true → act (notice_is_told c) (apart_from_bytes s) ≡ apart_from_bytes (with_session_changed notified c s)
+core_notice s c long =
+    let due = overlong_there (session c s) long in
+    let x : SessionState = due.0 in
+    change_is begin_ending c (apart_from_bytes s) (without_bytes x) (found_without c s.sessions ∙ ap (option_map without_bytes) due.1)
+    ∙ ap (λ (xs : List SessionState). let t : ServerState = record s { sessions = xs } in t) (sym (put_without (notified x) s.sessions))
+    ∙ ap apart_from_bytes (sym (change_is notified c s x due.1))
+
+-- other events
+core_opened : (s : ServerState) (address : List ℕ) (m : Option ℕ) → opened (apart_from_bytes s) address m ≡ apart_from_bytes (opened s address m)
+unfolding opened
+core_opened s address (Some k) = refl
+core_opened s address None =
+    let k : ServerState = apart_from_bytes s in
+    let room : may_open k ≡ may_open s = ap (λ (n : ℕ). ltb n SESSION_LIMIT && ltb s.next_id (2 ^ 64)) (length-map s.sessions without_bytes) in
+    ap (λ (b : Bool). cond b (record k { sessions = k.sessions ++ new_session s.next_id address ∷ []; next_id = s.next_id + 1 }) k) room
+    ∙ by_room (may_open s)
+  where
+    by_room : (b : Bool) → let k : ServerState = apart_from_bytes s in
+        cond b (record k { sessions = k.sessions ++ new_session s.next_id address ∷ []; next_id = s.next_id + 1 }) k
+        ≡ apart_from_bytes (cond b (record s { sessions = s.sessions ++ new_session s.next_id address ∷ []; next_id = s.next_id + 1 }) s)
+    by_room true = ap (λ (xs : List SessionState). let t : ServerState = record s { sessions = xs; next_id = s.next_id + 1 } in t) (sym (pushed_without s.sessions (new_session s.next_id address ∷ [])))
+    by_room false = refl
+
+core_event : (s : ServerState) (e : Event) (m : Option ℕ) → IsPlain e → after_by (apart_from_bytes s) e m ≡ apart_from_bytes (after_by s e m)
+unfolding after_by ticked
+core_event s (DriverUp u) m plain = refl
+core_event s (DriverBytes u piece) m plain = bytes_change u piece m (apart_from_bytes s) ∙ ap apart_from_bytes (sym (bytes_change u piece m s))
+core_event s (DriverTook u n) m plain = refl
+core_event s (DriverDown u) m plain = refl
+core_event s (Tick seconds) m plain = refl
+core_event s (Open address) m plain = core_opened s address m
+core_event s (Feed c piece) m plain = absurd plain
+core_event s (Took c n) m plain = absurd plain
+core_event s (Close c) m plain = ap (λ (xs : List SessionState). let t : ServerState = record s { sessions = xs } in t) (sym (closed_without c s.sessions))
+
+-- executions lead from a server to another so
+record Leads (s : ServerState) (hs : List Happening) (texts : ℕ → List ℕ) (t : ServerState) : Type 0 where
+  server : left hs (apart_from_bytes s) ≡ apart_from_bytes t
+  told : (c : ℕ) → said c hs (apart_from_bytes s) ≡ texts c
+
+abbrev told_by : List Execution → ℕ → List ℕ
+told_by xs c = texts_of (of_client c xs)
+
+both_lead : (s m t : ServerState) (hs gs : List Happening) (p q r : ℕ → List ℕ) → ((c : ℕ) → r c ≡ p c ++ q c) → Leads s hs p m → Leads m gs q t → Leads s (hs ++ gs) r t
+both_lead s m t hs gs p q r is f g = record {
+  server = left_both hs gs (apart_from_bytes s) ∙ ap (left gs) f.server ∙ g.server;
+  told = λ c.
+      said_both c hs gs (apart_from_bytes s) ∙ ap (λ (w : List ℕ). w ++ said c gs (left hs (apart_from_bytes s))) (f.told c)
+      ∙ ap (λ (k : ServerState). p c ++ said c gs k) f.server ∙ ap (λ (w : List ℕ). p c ++ w) (g.told c) ∙ sym (is c);
+}
+
+one_told : (x : Execution) (text : List ℕ) (c : ℕ) → text ≡ text_of x → cond (eqb (client_of x) c) text [] ++ [] ≡ texts_of (of_client c (x ∷ []))
+one_told x text c is = by_own (eqb (client_of x) c)
+  where
+    by_own : (b : Bool) → cond b text [] ++ [] ≡ texts_of (cond b (x ∷ []) [])
+    by_own true = ap (λ (w : List ℕ). w ++ []) is
+    by_own false = refl
+
+pump_leads : (d : ℕ) → IsOfPump d (λ s xs t. Leads s (map happening_of xs) (told_by xs) t)
+unfolding left said
+pump_leads d = record {
+  stays = λ s. record { server = refl; told = λ c. refl };
+  joins = λ s m t xs ys f g.
+      subst (λ (hs : List Happening). Leads s hs (told_by (xs ++ ys)) t) (sym (happened_both xs ys))
+      (both_lead s m t (map happening_of xs) (map happening_of ys) (told_by xs) (told_by ys) (told_by (xs ++ ys)) (λ c. two_lists text_of c xs ys) f g);
+  by_line = λ s line next. record { server = core_line s d line next; told = λ c. one_told (of_line s d line) (reply (apart_from_bytes s) d line) c (core_alike s d line).reply };
+  by_notice = λ s long. record { server = core_notice s d long; told = λ c. one_told (of_notice d) too_long_notice c refl };
+}
+
+from_core : (s b t : ServerState) (hs : List Happening) (texts : ℕ → List ℕ) → apart_from_bytes b ≡ apart_from_bytes s → Leads b hs texts t → Leads s hs texts t
+from_core s b t hs texts same f = record {
+  server = ap (left hs) (sym same) ∙ f.server;
+  told = λ c. ap (said c hs) (sym same) ∙ f.told c;
+}
+
+event_leads : (s : ServerState) (e : Event) (o : Outcome) → Leads s (happened_in_event s e o) (told_by (executions_by s e (refused_after o))) (after_by s e (refused_after o))
+unfolding executions_by after_by left said
+event_leads s (Feed d piece) o =
+    let b : ServerState = with_input s d piece in
+    from_core s b _ _ _ (core_input s d piece) (until_keeps d (λ s xs t. Leads s (map happening_of xs) (told_by xs) t) (pump_leads d) b (refused_after o))
+event_leads s (Took d n) o =
+    by_may (may_take (session d s) n)
+  where
+    taken : Leads s (map happening_of (executions_until (without_output s d n) d (refused_after o))) (told_by (executions_until (without_output s d n) d (refused_after o))) (pumped_until (without_output s d n) d (refused_after o))
+    taken = from_core s (without_output s d n) _ _ _ (core_output s d n) (until_keeps d (λ s xs t. Leads s (map happening_of xs) (told_by xs) t) (pump_leads d) (without_output s d n) (refused_after o))
+
+    by_may : (b : Bool) → Leads s (map happening_of (cond b (executions_until (without_output s d n) d (refused_after o)) []))
+        (told_by (cond b (executions_until (without_output s d n) d (refused_after o)) [])) (cond b (pumped_until (without_output s d n) d (refused_after o)) s)
+    by_may true = taken
+    by_may false = record { server = refl; told = λ c. refl }
+event_leads s e o = record { server = core_event s e (refused_after o) tt; told = λ c. refl }
+
+run_leads : (s t : ServerState) (es : List Event) (os : List Outcome) → Run s es os t → Leads s (happenings s es os) (told_by (executions s es os)) t
+unfolding left said
+run_leads s t [] [] r = record { server = ap apart_from_bytes (sym r); told = λ c. refl }
+run_leads s t (e ∷ es) (o ∷ os) (mid, step, r) =
+    let next : ServerState = after s e o in
+    both_lead s next t (happened_in_event s e o) (happenings next es os) (told_by (executions_by s e (refused_after o))) (told_by (executions next es os)) (told_by (executions s (e ∷ es) (o ∷ os)))
+    (λ c. two_lists text_of c (executions_by s e (refused_after o)) (executions next es os)) (event_leads s e o) (run_leads next t es os (later t es os step r))
+run_leads s t es os r = absurd r
+
+pub answers_of_happenings : AnswersComeOfWhatHappens
+answers_of_happenings s s' t t' es fs os ps r q same happened =
+    let f = run_leads s s' es os r in
+    let g = run_leads t t' fs ps q in
+    record {
+      answers = λ c. sym (f.told c) ∙ ap (said c (happenings s es os)) same ∙ ap (λ (hs : List Happening). said c hs (apart_from_bytes t)) happened ∙ g.told c;
+      servers = sym f.server ∙ ap (left (happenings s es os)) same ∙ ap (λ (hs : List Happening). left hs (apart_from_bytes t)) happened ∙ g.server;
+    }

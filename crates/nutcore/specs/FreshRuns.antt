@@ -1,0 +1,90 @@
+-- What is told of a UPS's data is fresh, over every run from a new server.
+use Rattle.std.specs.Prelude.{◌≡◌, ◌≤◌, ◌+◌, ℕ, true, false, List, [], ◌∷◌, ◌++◌, Option, Some}
+use Rattle.std.specs.Prelude.{Ok, All, codes, max, nat_eq}
+use Rattle.std.specs.List.{starts_with}
+use Rattle.nutusers.specs.declared.ups_list.UpsId.{UpsId}
+use Rattle.nutanswer.specs.declared.command.Command.{Command}
+use Rattle.nutanswer.specs.Command.{read_command}
+use Rattle.nutanswer.specs.Checks.{KnownUps, ups_named}
+use Rattle.nutanswer.specs.Fresh.{asks_data_of}
+use Rattle.nutcore.specs.declared.event.Event.{Event}
+use Rattle.nutcore.specs.declared.event.Event.TheVariants.{DriverUp, Tick}
+use Rattle.nutcore.specs.declared.event.Outcome.{Outcome}
+use Rattle.nutcore.specs.declared.event.Outcome.TheVariants.{Done}
+use Rattle.nutcore.specs.Ups.{UpsState}
+use Rattle.nutcore.specs.Server.{ServerState, ups_at}
+use Rattle.nutcore.specs.Reply.{seen, reply}
+use Rattle.nutcore.specs.Step.{after}
+use Rattle.nutcore.specs.Run.{Run}
+use Rattle.nutcore.specs.History.{Execution, of_line, of_notice, executions}
+use Rattle.nutcore.specs.Headline.{IsTimely}
+use Rattle.nutcore.specs.DriverHistory.{Heard, heard}
+use Rattle.nutcore.specs.DriverRuns.{IsNewServer, ConnectedInRun}
+
+-- The greatest tick among the events.
+abbrev pub tick_of : Event → ℕ
+tick_of (Tick seconds) = seconds
+tick_of _ = 0
+
+abbrev pub greatest_tick : List Event → ℕ
+greatest_tick [] = 0
+greatest_tick (e ∷ es) = max (tick_of e) (greatest_tick es)
+
+-- It is the moment of the server to which they lead from a new one; the greatest age stays what it
+-- was.
+pub record IsAtItsMoment (old : ServerState) (events : List Event) (new : ServerState) : Type 0
+  where
+  pub moment : new.moment ≡ greatest_tick events
+  pub max_age : new.max_age ≡ old.max_age
+
+abbrev pub TheMomentIsTheGreatestTick : Type 0
+TheMomentIsTheGreatestTick =
+    (old new : ServerState) (events : List Event) (outcomes : List Outcome) → IsNewServer old
+    → Run old events outcomes new → IsAtItsMoment old events new
+
+-- The whole lines that the server executed of a driver since it connected, each with its moment.
+abbrev pub lines_since : {u : UpsId} {old : ServerState} {events : List Event}
+    {outcomes : List Outcome} {now : UpsState} → ConnectedInRun u old events outcomes now
+    → List Heard
+lines_since {u = u} c =
+    heard u (after c.server (DriverUp u) Done) c.events_since c.outcomes_since
+
+-- On this server the driver of the UPS is connected: it connected in these events, which a run
+-- began with, and wasn't lost since. It has reported all that it knows, and says that its data are
+-- right; and the last of the whole lines that came since it connected came at a moment at most the
+-- greatest age before the greatest tick of these events.
+pub record IsFreshIn (old : ServerState) (events : List Event) (outcomes : List Outcome)
+    (s : ServerState) (u : UpsId) : Type 0 where
+  pub now : UpsState
+  pub there : ups_at u.place s ≡ Some now
+  pub connected : ConnectedInRun u old events outcomes now
+  pub dumped : now.report.dumped ≡ true
+  pub ok : now.report.ok ≡ true
+  pub earlier : List Heard
+  pub last : Heard
+  pub lines_are : lines_since connected ≡ earlier ++ last ∷ []
+  pub recent : greatest_tick events ≤ last.moment + old.max_age
+
+-- The UPS that was asked for was there, and fresh in the run's beginning before the event that
+-- executed the line.
+pub record WasFresh (old : ServerState) (events : List Event) (outcomes : List Outcome)
+    (s : ServerState) (c : ℕ) (line : List ℕ) (ups : Option (List ℕ)) : Type 0 where
+  pub known : KnownUps
+  pub named : ups_named (seen s) ups ≡ Some known
+  pub timely : IsTimely old events outcomes (of_line s c line)
+  pub fresh : IsFreshIn old timely.events_before timely.outcomes_before s known.id
+
+-- Where a line asks for the data of a UPS, or gives its driver an order, and isn't answered by ERR.
+abbrev pub IsToldFresh : ServerState → List Event → List Outcome → Execution → Type 0
+IsToldFresh old events outcomes (of_line s c line) =
+    (command : Command) (ups : Option (List ℕ)) → read_command line ≡ Ok (Some command)
+    → asks_data_of command ≡ Some ups → starts_with nat_eq (reply s c line) (codes "ERR") ≡ false
+    → WasFresh old events outcomes s c line ups
+IsToldFresh old events outcomes (of_notice c) = Unit {0}
+
+-- Of every line that a run from a new server executes.
+abbrev pub WhateverIsToldIsFresh : Type 0
+WhateverIsToldIsFresh =
+    (old new : ServerState) (events : List Event) (outcomes : List Outcome) → IsNewServer old
+    → Run old events outcomes new
+    → All (IsToldFresh old events outcomes) (executions old events outcomes)

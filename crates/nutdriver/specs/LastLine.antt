@@ -1,0 +1,42 @@
+-- The last line on a variable decides it: its value, told from its driver's lines.
+use Rattle.std.specs.Prelude.{◌≡◌, ℕ, Bool, false, List, [], ◌∷◌, ◌++◌, Option, Some, None}
+use Rattle.std.specs.Prelude.{option_map}
+use Rattle.std.specs.List.{list_any}
+use Rattle.std.specs.Str.{bytes_eq}
+use Rattle.nutdriver.specs.declared.line.DriverLine.{DriverLine}
+use Rattle.nutdriver.specs.declared.line.DriverLine.TheVariants.{SetInfo, DelInfo}
+use Rattle.nutdriver.specs.Tree.{TreeState, variable_at}
+use Rattle.nutdriver.specs.Report.{connected_report, Heard, after_heard}
+use Rattle.nutdriver.specs.Additions.{changes}
+
+-- The value of the variable of this name, where it is there.
+abbrev pub value_of : TreeState → List ℕ → Option (List ℕ)
+value_of tree name = option_map (λ v. v.value) (variable_at tree name)
+
+-- The line gives the variable of this name its value, or takes it away.
+abbrev pub decides : List ℕ → DriverLine → Bool
+decides name (SetInfo other value) = bytes_eq other name
+decides name (DelInfo other) = bytes_eq other name
+decides name _ = false
+
+-- None of the lines does.
+abbrev pub NoneDecides : List ℕ → List DriverLine → Type 0
+NoneDecides name lines = list_any (decides name) lines ≡ false
+
+-- Where these lines changed the tree, from an empty one to this: the last of them that decides the
+-- variable gave it its value, or took it away; and where none does, it isn't there.
+pub record TheLastLineDecides (tree : TreeState) (lines : List DriverLine) (name : List ℕ) : Type 0
+  where
+  pub given : (earlier later : List DriverLine) (value : List ℕ)
+      → lines ≡ earlier ++ SetInfo name value ∷ later → NoneDecides name later
+      → value_of tree name ≡ Some value
+  pub taken : (earlier later : List DriverLine) → lines ≡ earlier ++ DelInfo name ∷ later
+      → NoneDecides name later → value_of tree name ≡ None
+  pub never : NoneDecides name lines → value_of tree name ≡ None
+
+-- After whatever lines of a driver since it connected.
+abbrev pub TheLastLineOnAVariableDecidesIt : Type 0
+TheLastLineOnAVariableDecidesIt =
+    (moment : ℕ) (lines : List Heard) (name : List ℕ)
+    → TheLastLineDecides (after_heard (connected_report moment) lines).tree
+    (changes (connected_report moment) lines) name
