@@ -8,7 +8,7 @@ ghost use Rattle.nutwords.specs.Split.{unescaped, word_end, TakesWord, StartsInW
 ghost use Rattle.nutwords.specs.Word.{bytes_of};
 ghost use Rattle.nutwords.specs.declared.scan.Place.TheVariants.{Bare, Quoted};
 
-use crate::scan::{Place, word_end};
+use crate::scan::word_end;
 use crate::{
     ADDRESS_LIMIT, Address, BadName, LINE_LIMIT, LINE_ROOM, NAME_LIMIT, Name, UPS_NAME_LIMIT,
     UpsName, VALUE_LIMIT, Value, Word, is_word,
@@ -252,7 +252,7 @@ fn bare_word(line: &[u8]) -> (SpelledWord<'_>, &[u8])
     ensures takes { TakesWord (read_from line.now Bare) (spelled result.0) result.1.now }
     ensures short { length result.1.now ≤ length line.now }
 {
-    let end = word_end(line, Place::Bare);
+    let end = word_end(line, false);
     (word_of(&line[..end]), &line[end..])
 }
 
@@ -273,7 +273,7 @@ fn closing_quote(inside: &[u8]) -> usize
     ensures value { result ≡ word_end inside.now Quoted }
     ensures within { result < length inside.now }
 {
-    word_end(inside, Place::Quoted)
+    word_end(inside, true)
 }
 
 /// The word that is spelled so.
