@@ -5,3 +5,4 @@ pub mod Turning
 pub mod MoreTurns
 pub mod NextTurn
 pub mod Fairness
+pub mod NotedDrivers

@@ -1,5 +1,5 @@
 -- When the system is asked, and the clock.
-use Rattle.std.specs.Prelude.{◌≡◌, ◌+◌, ◌-◌, ◌*◌, ◌^◌, ◌≤◌, ◌⊎◌, ◌||◌, ℕ, Bool, true, false, List}
+use Rattle.std.specs.Prelude.{◌≡◌, ◌+◌, ◌-◌, ◌*◌, ◌^◌, ◌<◌, ◌≤◌, ◌⊎◌, ◌||◌, ℕ, Bool, true, false, List}
 use Rattle.std.specs.Prelude.{Option, Some, None, if◌then◌else◌, nat_lt, min, max}
 use Rattle.nutloop.specs.declared.pace.Pace.{Pace}
 use Rattle.nutloop.specs.declared.pace.TheConstants.{MOST_TURNS, PARTING_TICKS}
@@ -40,6 +40,11 @@ until_tick is_draining second elapsed =
 -- A new second is told by a tick, once.
 abbrev pub tick_at : ℕ → ℕ → Option ℕ
 tick_at now second = if nat_lt second now then Some now else None
+
+-- From one second to another: a tick tells the new one, and without one it is the same.
+abbrev pub Ticks : Option ℕ → ℕ → ℕ → Type 0
+Ticks (Some second) before now = (before < second) × (now ≡ second)
+Ticks None before now = now ≡ before
 
 abbrev pub after_look : ℕ → Pace → Pace
 after_look now pace = record { second = max pace.second now; turns = 0; was_driver_read = false }

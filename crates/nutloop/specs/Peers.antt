@@ -1,5 +1,6 @@
 -- What each call of the sockets over the system's leaves of what is known of them.
-use Rattle.std.specs.Prelude.{◌≡◌, ◌⊎◌, ◌||◌, ◌==◌, ℕ, Bool, true, false, List, Option, Some, None}
+use Rattle.std.specs.Prelude.{◌≡◌, ◌⊎◌, ◌||◌, ◌==◌, ◌++◌, ◌∷◌, [], ℕ, Bool, true, false, List}
+use Rattle.std.specs.Prelude.{Option, Some, None}
 use Rattle.std.specs.Prelude.{Result, Ok, Err, MatchOption, length, slice_get, slice_set}
 use Rattle.std.specs.Io.{ReadsAtMost, WritesAtMost}
 use Rattle.std.specs.Io.KnownBytes.{ReadConsumes, WriteAppends}
@@ -204,6 +205,23 @@ NotesLast (Client c) s old new places noted =
 NotesLast (Driver u) s old new places noted = (new ≡ old) × (noted ≡ places)
 NotesLast Listener s old new places noted = (new ≡ old) × (noted ≡ places)
 
+-- It is noted of each driver, one after another.
+abbrev pub NotesDrivers : ServerState → List DriverSocket → List DriverSocket → List Place
+    → List Place → Type 0
+NotesDrivers s [] [] places noted = noted ≡ places
+NotesDrivers s (old ∷ olds) (new ∷ news) places noted =
+    (between : List Place)
+    × IsDriverNoted s old new places between × NotesDrivers s olds news between noted
+NotesDrivers s [] (new ∷ news) places noted = ⊥
+NotesDrivers s (old ∷ olds) [] places noted = ⊥
+
+-- Before a turn it is noted what may be done with whoever had the last one, and with each driver.
+pub record NotesBefore (last : Seat) (s : ServerState) (clients new_clients : List ClientSocket)
+    (drivers new_drivers : List DriverSocket) (places noted : List Place) : Type 0 where
+  pub between : List Place
+  pub had_last : NotesLast last s clients new_clients places between
+  pub all_drivers : NotesDrivers s drivers new_drivers between noted
+
 -- The socket of a newcomer that has this session.
 abbrev pub client_of : Newcomer → ℕ → ClientSocket
 client_of newcomer c =
@@ -214,6 +232,11 @@ client_of newcomer c =
       readiness = record { readable = false; writable = true; ended = false };
       is_owed = false;
     }
+
+-- The newcomer, if there is one, comes in behind all others as the client of this session.
+abbrev pub TakesNewcomer : Option Newcomer → ℕ → List ClientSocket → List ClientSocket → Type 0
+TakesNewcomer None c old new = new ≡ old
+TakesNewcomer (Some newcomer) c old new = new ≡ old ++ client_of newcomer c ∷ []
 
 -- Its socket is left out, if it is there.
 abbrev pub ShutsPeer : Peer → List ClientSocket → List DriverSocket → List ClientSocket

@@ -9,8 +9,8 @@ use Rattle.nutcore.specs.declared.event.Peer.{Peer}
 use Rattle.nutcore.specs.declared.event.Peer.TheVariants as peer
 use Rattle.nutcore.specs.Server.{ServerState, session}
 use Rattle.nutcore.specs.Step.{offered}
-use Rattle.nutloop.specs.Pace.{after_turn}
-use Rattle.nutloop.specs.Round.{TakesTurn}
+use Rattle.nutloop.specs.Pace.{Ticks, after_turn}
+use Rattle.nutloop.specs.Round.{NobodyIsReady, TakesTurn}
 use Rattle.nutloop.specs.Turn.{room_at, is_finished_at, owed_to_driver}
 use Rattle.nutloop.specs.declared.pace.Pace.{Pace}
 use Rattle.nutloop.specs.declared.round.Flags.{Flags}
@@ -24,7 +24,7 @@ use Rattle.nutloop.specs.declared.sockets.Broken.{Broken}
 use Rattle.nutloop.specs.declared.sockets.Got.{Got}
 use Rattle.nutloop.specs.declared.sockets.Got.TheVariants.{Bytes, Later, End}
 use Rattle.nutloop.specs.declared.sockets.Ready.{Ready}
-use Rattle.nutloop.specs.declared.sockets.Ready.TheVariants.{Newcomer, DriverUp, Read, Write}
+use Rattle.nutloop.specs.declared.sockets.Ready.TheVariants.{Nothing, Tick, Newcomer, DriverUp, Read, Write}
 use Rattle.nutloop.specs.declared.standing.Answer.{Answer}
 use Rattle.nutloop.specs.declared.standing.Answer.TheVariants.{Moved, WouldBlock, Failed}
 use Rattle.nutloop.specs.declared.standing.Readiness.{Readiness}
@@ -123,6 +123,16 @@ TellsTurn last places pace (Some ready) new_last new after =
     (turn : Turn)
     × ((is_told : Bool) × TakesTurn last places (Some turn) new_last new
     × (after ≡ after_turn turn pace) × (ready ≡ ready_of turn.seat turn.way is_told))
+
+-- What is told is the second of a tick that is due, nothing where nobody is ready, or else the
+-- turn of the next one.
+abbrev pub IsTold : Ready → Pace → Pace → Seat → List Place → Type 0
+IsTold (Tick second) pace after last places = Ticks (Some second) pace.second after.second
+IsTold Nothing pace after last places = NobodyIsReady places
+IsTold ready pace after last places =
+    (had_last : Seat)
+    × ((had : List Place) × ((before : Pace)
+    × TellsTurn had_last had before (Some ready) last places after))
 
 -- The seat of a peer.
 abbrev pub seat_of : Peer → Seat

@@ -1,6 +1,11 @@
 //! The sockets over `mio`: clients come over TCP, and drivers are connected to over Unix sockets.
-ghost use Rattle.std.specs.Prelude.{◌≡◌};
-ghost use Rattle.nutloop.specs.Sockets.{counted};
+ghost use Rattle.std.specs.Prelude.{◌≡◌, ◌≤◌, ◌∷◌, [], ◌⊎◌, length, IfOk, None};
+ghost use Rattle.std.specs.Prelude.{vec_capacity, vec_len};
+ghost use Rattle.nutloop.specs.Peers.{ReadsPeer, ShutsPeer, TakesNewcomer, WritesPeer};
+ghost use Rattle.nutloop.specs.Round.{LeavesOut};
+ghost use Rattle.nutloop.specs.Sockets.{AtMost, Grows, IsCounted, Logs, counted, read_call};
+ghost use Rattle.nutloop.specs.declared.sockets.Call.TheVariants.{Named, Readied, Refused, Shut, Wrote};
+ghost use Rattle.nutloop.specs.Standing.{IsTold, seat_of};
 
 mod clients;
 mod door;
@@ -53,7 +58,8 @@ impl<'a, R: Net + Clock> MioSockets<'a, R> {
 
     /// A call failed: it is counted.
     fn broken(&mut self) -> Broken
-        ensures { self.new.failures ≡ counted self.old.failures }
+        ensures count { self.new.failures ≡ counted self.old.failures }
+        ensures rounds { self.new.rounds ≡ self.old.rounds }
     {
         self.failures = self.failures.saturating_add(1);
         Broken
@@ -61,13 +67,17 @@ impl<'a, R: Net + Clock> MioSockets<'a, R> {
 }
 
 impl<'a, R: Net + Clock> Sockets for MioSockets<'a, R> {
-    ghost use Rattle.std.specs.Prelude.{None};
-
     ghost calls = { λ _. None };
 
     ghost failures = { λ s. s.failures };
 
-    fn ready(&mut self, server: &Server) -> Result<Ready, Broken> {
+    fn ready(&mut self, server: &Server) -> Result<Ready, Broken>
+        ensures is_told { IfOk result (λ ready. IsTold ready
+            self.old.rounds.pace self.new.rounds.pace
+            self.new.rounds.peers.round.last self.new.rounds.peers.round.places.items) }
+        ensures told { Logs None None Readied result }
+        ensures count { IsCounted self.old.failures self.new.failures result }
+    {
         match self.rounds.next(server) {
             Ok(ready) => Ok(ready),
             Err(_) => Err(self.broken()),
@@ -81,29 +91,64 @@ impl<'a, R: Net + Clock> Sockets for MioSockets<'a, R> {
         }
     }
 
-    fn name(&mut self, c: ClientId) {
+    fn name(&mut self, c: ClientId)
+        ensures left { self.new.rounds.door.newcomer ≡ None }
+        ensures taken {
+            (vec_capacity self.old.rounds.peers.clients ≤ vec_len self.old.rounds.peers.clients)
+            ⊎ TakesNewcomer self.old.rounds.door.newcomer c
+            self.old.rounds.peers.clients.items self.new.rounds.peers.clients.items }
+        ensures told { Grows None None (Named c ∷ []) }
+        ensures count { self.new.failures ≡ self.old.failures }
+    {
         self.rounds.name(c);
     }
 
-    fn refuse(&mut self) {
+    fn refuse(&mut self)
+        ensures left { self.new.rounds.door.newcomer ≡ None }
+        ensures peers { self.new.rounds.peers ≡ self.old.rounds.peers }
+        ensures told { Grows None None (Refused ∷ []) }
+        ensures count { self.new.failures ≡ self.old.failures }
+    {
         let _refused = self.rounds.door.take_newcomer();
     }
 
-    fn read(&mut self, p: Peer, into: &mut [u8]) -> Result<Got, Broken> {
+    fn read(&mut self, p: Peer, into: &mut [u8]) -> Result<Got, Broken>
+        ensures bound { AtMost result into.new }
+        ensures reads { ReadsPeer p (length into.new) result
+            self.old.rounds.peers.clients.items self.old.rounds.peers.drivers.items
+            self.new.rounds.peers.clients.items self.new.rounds.peers.drivers.items }
+        ensures told { Logs None None (read_call p into.new) result }
+        ensures count { IsCounted self.old.failures self.new.failures result }
+    {
         match self.rounds.read(p, into) {
             Ok(got) => Ok(got),
             Err(_) => Err(self.broken()),
         }
     }
 
-    fn write(&mut self, p: Peer, from: &[u8]) -> Result<usize, Broken> {
+    fn write(&mut self, p: Peer, from: &[u8]) -> Result<usize, Broken>
+        ensures bound { IfOk result (λ n. n ≤ length from.now) }
+        ensures writes { WritesPeer p (length from.now) result
+            self.old.rounds.peers.clients.items self.old.rounds.peers.drivers.items
+            self.new.rounds.peers.clients.items self.new.rounds.peers.drivers.items }
+        ensures told { Logs None None (Wrote p from.now) result }
+        ensures count { IsCounted self.old.failures self.new.failures result }
+    {
         match self.rounds.write(p, from) {
             Ok(n) => Ok(n),
             Err(_) => Err(self.broken()),
         }
     }
 
-    fn shut(&mut self, p: Peer) {
+    fn shut(&mut self, p: Peer)
+        ensures seat { LeavesOut (seat_of p)
+            self.old.rounds.peers.round.places.items self.new.rounds.peers.round.places.items }
+        ensures shuts { ShutsPeer p
+            self.old.rounds.peers.clients.items self.old.rounds.peers.drivers.items
+            self.new.rounds.peers.clients.items self.new.rounds.peers.drivers.items }
+        ensures told { Grows None None (Shut p ∷ []) }
+        ensures count { self.new.failures ≡ self.old.failures }
+    {
         self.rounds.shut(p);
     }
 }

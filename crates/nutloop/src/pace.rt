@@ -1,7 +1,7 @@
 //! When the system is asked, and the clock.
 ghost use Rattle.std.specs.Prelude.{◌≡◌, ◌<◌, ◌/◌, ◌↔◌, false, max, min, IsTrue};
 ghost use Rattle.std.specs.Duration.{as_nanos};
-ghost use Rattle.nutloop.specs.Pace.{IsDue, after_look, after_turn, parting_end, tick_at, until_tick};
+ghost use Rattle.nutloop.specs.Pace.{IsDue, Ticks, after_look, after_turn, parting_end, tick_at, until_tick};
 
 use crate::round::{Round, Seat, Turn, Way};
 use std::time::Duration;
@@ -65,6 +65,7 @@ impl Pace {
     pub fn look(&mut self, elapsed: Duration) -> Option<u64>
         ensures pace { self.new ≡ after_look (as_nanos elapsed / 1_000_000_000) self.old }
         ensures tick { result ≡ tick_at (as_nanos elapsed / 1_000_000_000) self.old.second }
+        ensures ticks { Ticks result self.old.second self.new.second }
     {
         self.turns = 0;
         self.was_driver_read = false;

@@ -1,6 +1,7 @@
 //! The sockets of drivers.
 ghost use Rattle.std.specs.Prelude.{◌≡◌, ◌≤◌, length, false, IfOk, MatchOption};
-ghost use Rattle.nutloop.specs.Peers.{IsDriverNoted, IsRead, IsSameDriver, IsWritten, driver_place};
+ghost use Rattle.nutloop.specs.Peers.{IsDriverNoted, IsRead, IsSameDriver, IsWritten, NotesDrivers};
+ghost use Rattle.nutloop.specs.Peers.{driver_place};
 ghost use Rattle.nutloop.specs.Sockets.{AtMost};
 ghost use Rattle.nutloop.specs.Standing.{driver_flags, heard, is_driver_owed};
 
@@ -104,6 +105,17 @@ impl DriverSocket {
         ensures same { IsSameDriver self.old self.new }
     {
         readiness::write(&mut self.stream, &mut self.readiness, from)
+    }
+}
+
+/// Notes what may be done now with each driver.
+pub(super) fn note_drivers(drivers: &mut [DriverSocket], round: &mut Round, server: &Server)
+    ensures noted { NotesDrivers server.now.state drivers.old drivers.new
+        round.old.places.items round.new.places.items }
+    ensures last { round.new.last ≡ round.old.last }
+{
+    for driver in drivers.iter_mut() {
+        driver.note(round, server);
     }
 }
 

@@ -2,7 +2,8 @@
 ghost use Rattle.std.specs.Prelude.{◌≡◌, ◌≢◌, ◌≤◌, ◌⊎◌, ◌++◌, ◌∷◌, [], false, length, IfOk, MatchOption};
 ghost use Rattle.std.specs.Prelude.{vec_capacity, vec_len};
 ghost use Rattle.std.specs.List.{list_any, remove};
-ghost use Rattle.nutloop.specs.Peers.{NotesLast, ReadsPeer, ShutsPeer, WritesPeer, client_of, client_place};
+ghost use Rattle.nutloop.specs.Peers.{NotesBefore, NotesLast, ReadsPeer, ShutsPeer, WritesPeer};
+ghost use Rattle.nutloop.specs.Peers.{client_of, client_place};
 ghost use Rattle.nutloop.specs.Round.{LeavesOut, Notes, TakesIn};
 ghost use Rattle.nutloop.specs.Sockets.{AtMost};
 ghost use Rattle.nutloop.specs.Standing.{TellsTurn, seat_of};
@@ -10,7 +11,7 @@ ghost use Rattle.nutloop.specs.declared.round.Seat.TheVariants.{Client, Listener
 
 use super::clients::{ClientSocket, client_place};
 use super::door::Newcomer;
-use super::drivers::{DriverSocket, driver_place, driver_token};
+use super::drivers::{DriverSocket, driver_place, driver_token, note_drivers};
 use super::partings::{PARTING_LIMIT, Parting, drain_all, part};
 use super::readiness::told_by;
 use crate::pace::Pace;
@@ -116,9 +117,15 @@ impl Peers {
     }
 
     /// Notes what may be done now with whoever had the last turn, and with each driver, for which it may have left orders.
-    pub fn refresh(&mut self, server: &Server) {
+    pub fn refresh(&mut self, server: &Server)
+        ensures noted { NotesBefore self.old.round.last server.now.state
+            self.old.clients.items self.new.clients.items
+            self.old.drivers.items self.new.drivers.items
+            self.old.round.places.items self.new.round.places.items }
+        ensures last { self.new.round.last ≡ self.old.round.last }
+    {
         self.note_last(server);
-        self.note_drivers(server);
+        note_drivers(&mut self.drivers, &mut self.round, server);
     }
 
     /// Notes what may be done now with the client that had the last turn, if it was one.
@@ -126,6 +133,7 @@ impl Peers {
         ensures noted { NotesLast self.old.round.last server.now.state
             self.old.clients.items self.new.clients.items
             self.old.round.places.items self.new.round.places.items }
+        ensures drivers { self.new.drivers.items ≡ self.old.drivers.items }
         ensures last { self.new.round.last ≡ self.old.round.last }
     {
         let Seat::Client(c) = self.round.last() else {
@@ -133,13 +141,6 @@ impl Peers {
         };
         if let Some(at) = client_place(&self.clients, c) {
             self.clients[at].note(&mut self.round, server);
-        }
-    }
-
-    /// Notes what may be done now with each driver.
-    fn note_drivers(&mut self, server: &Server) {
-        for driver in self.drivers.iter_mut() {
-            driver.note(&mut self.round, server);
         }
     }
 

@@ -1,7 +1,11 @@
 //! Going round the peers, and asking the system what is ready.
-ghost use Rattle.std.specs.Prelude.{◌≡◌, ◌≤◌, length, IfOk, None, OnOk};
-ghost use Rattle.nutloop.specs.Peers.{ReadsPeer, WritesPeer};
+ghost use Rattle.std.specs.Prelude.{◌≡◌, ◌≤◌, ◌⊎◌, length, IfOk, None, OnOk};
+ghost use Rattle.std.specs.Prelude.{vec_capacity, vec_len};
+ghost use Rattle.nutloop.specs.Peers.{ReadsPeer, ShutsPeer, TakesNewcomer, WritesPeer};
+ghost use Rattle.nutloop.specs.Pace.{Ticks};
+ghost use Rattle.nutloop.specs.Round.{LeavesOut};
 ghost use Rattle.nutloop.specs.Sockets.{AtMost};
+ghost use Rattle.nutloop.specs.Standing.{IsTold, seat_of};
 
 use super::door::{Door, LISTENER};
 use super::peers::Peers;
@@ -57,12 +61,17 @@ impl<'a, R: Net + Clock> Rounds<'a, R> {
     }
 
     /// Connects to the drivers that aren't.
-    pub fn connect(&mut self, server: &Server) {
+    pub fn connect(&mut self, server: &Server)
+        ensures pace { self.new.pace ≡ self.old.pace }
+    {
         self.peers.connect(self.rt, self.poll.registry(), server);
     }
 
     /// What is ready next. The system is asked first where that is due, and waited for where nobody is ready.
-    pub fn next(&mut self, server: &Server) -> io::Result<Ready> {
+    pub fn next(&mut self, server: &Server) -> io::Result<Ready>
+        ensures told { IfOk result (λ ready. IsTold ready self.old.pace self.new.pace
+            self.new.peers.round.last self.new.peers.round.places.items) }
+    {
         self.peers.refresh(server);
         self.peers.note_newcomers(self.door.is_knocked_at);
         if self.pace.is_due(&self.peers.round) {
@@ -87,6 +96,8 @@ impl<'a, R: Net + Clock> Rounds<'a, R> {
     fn look(&mut self, server: &Server, wait: Duration) -> io::Result<Option<u64>>
         ensures noted { OnOk result
             (self.new.peers.is_knocked_at ≡ self.new.door.is_knocked_at) }
+        ensures ticks { IfOk result (λ tick.
+            Ticks tick self.old.pace.second self.new.pace.second) }
     {
         self.poll.poll(&mut self.events, Some(wait))?;
         hear_all(&self.events, &mut self.door, &mut self.peers, server);
@@ -108,6 +119,9 @@ impl<'a, R: Net + Clock> Rounds<'a, R> {
     /// Takes the newcomer in as the client of this session.
     pub fn name(&mut self, c: ClientId)
         ensures left { self.new.door.newcomer ≡ None }
+        ensures taken { (vec_capacity self.old.peers.clients ≤ vec_len self.old.peers.clients)
+            ⊎ TakesNewcomer self.old.door.newcomer c
+            self.old.peers.clients.items self.new.peers.clients.items }
     {
         if let Some(newcomer) = self.door.take_newcomer() {
             self.peers.take_client(newcomer, c);
@@ -132,7 +146,12 @@ impl<'a, R: Net + Clock> Rounds<'a, R> {
         self.peers.write(p, from)
     }
 
-    pub fn shut(&mut self, p: Peer) {
+    pub fn shut(&mut self, p: Peer)
+        ensures seat { LeavesOut (seat_of p)
+            self.old.peers.round.places.items self.new.peers.round.places.items }
+        ensures shuts { ShutsPeer p self.old.peers.clients.items self.old.peers.drivers.items
+            self.new.peers.clients.items self.new.peers.drivers.items }
+    {
         self.peers.shut(p, &self.pace);
     }
 }
