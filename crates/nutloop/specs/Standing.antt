@@ -11,7 +11,8 @@ use Rattle.nutcore.specs.Server.{ServerState, session}
 use Rattle.nutcore.specs.Step.{offered}
 use Rattle.nutloop.specs.Pace.{after_turn}
 use Rattle.nutloop.specs.Round.{TakesTurn}
-use Rattle.nutloop.specs.Turn.{room_at, is_finished_at, owed_to_driver}
+use Rattle.nutcore.specs.DriverOrders.{owed_to_driver}
+use Rattle.nutloop.specs.Turn.{room_at, is_finished_at}
 use Rattle.nutloop.specs.declared.pace.Pace.{Pace}
 use Rattle.nutloop.specs.declared.round.Flags.{Flags}
 use Rattle.nutloop.specs.declared.round.Place.{Place}

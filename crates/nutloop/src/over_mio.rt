@@ -1,6 +1,6 @@
 //! The sockets over `mio`: clients come over TCP, and drivers are connected to over Unix sockets.
 ghost use Rattle.std.specs.Prelude.{◌≡◌};
-ghost use Rattle.nutloop.specs.Sockets.{counted};
+ghost use Rattle.nutio.specs.Ends.{counted};
 
 mod clients;
 mod door;
