@@ -42,7 +42,8 @@ use Rattle.endtoend.specs.Served.{HasVariable}
 use Rattle.endtoend.specs.Printed.{variable_line, setting_line, UpsrwPrintsTheVariables, UpscmdPrintsTheCommands, name_lines, description_line, description_lines, UpscPrintsTheVariables, UpscPrintsTheVariable, UpscPrintsHowManyAreLoggedIn, UpscPrintsTheUpses}
 use Rattle.endtoend.proofs.FrameReading.{frame_read, number_read, value_read}
 use Rattle.endtoend.proofs.Numbers.{written_number}
-use Rattle.endtoend.proofs.Texts.{text_short, name_written, ups_name_written, quoted_written, quoted_short, shown_lawful, description_lawful}
+use Rattle.nutwords.proofs.PublicLaws.{quoted_is_short}
+use Rattle.endtoend.proofs.Texts.{text_short, name_written, ups_name_written, quoted_written, shown_lawful, description_lawful}
 use Rattle.endtoend.proofs.Requests.{list_var_read, list_rw_read, list_cmd_read, list_ups_read, num_attach_read, get_var_read, line_of_three, line_of_four}
 use Rattle.endtoend.proofs.Rows.{name_kept, settings_answered, commands_answered, variable_answered, upses_answered}
 
@@ -73,7 +74,7 @@ variable_written word ups fsd entry w few h lawful =
     let s = shown_lawful fsd entry.0 entry.1 lawful.1 in
     record {
       written = (w, (ups_name_written ups h, (name_written entry.0 lawful.0, (quoted_written value s.0, tt))));
-      fits = omega (arith, few, text_short is_name_byte false 32 ups h, text_short is_name_byte false 64 entry.0 lawful.0, s.1, quoted_short value, line_of_four word ups entry.0 (quoted value));
+      fits = omega (arith, few, text_short is_name_byte false 32 ups h, text_short is_name_byte false 64 entry.0 lawful.0, s.1, quoted_is_short value, line_of_four word ups entry.0 (quoted value));
     }
 
 variables_written : (query : Query) (word ups : List ℕ) (fsd : Bool) (entries : List (List ℕ × VariableState)) → ((item : Item) → item_words query item ≡ word ∷ ups ∷ item.name ∷ item.value ∷ [])
@@ -204,7 +205,7 @@ prints_variable = λ s client ups name line known variable more n m u has e.
     let texts : List (List ℕ) = codes "VAR" ∷ ups ∷ name ∷ quoted value ∷ [] in
     let written : IsWrittenLine texts (codes "VAR" ∷ ups ∷ name ∷ value ∷ []) = record {
       written = (as_it_is (omega arith) refl, (ups_name_written ups n, (name_written name m, (quoted_written value lawful.0, tt))));
-      fits = omega (arith, text_short is_name_byte false 32 ups n, text_short is_name_byte false 64 name m, lawful.1, quoted_short value, line_of_four (codes "VAR") ups name (quoted value));
+      fits = omega (arith, text_short is_name_byte false 32 ups n, text_short is_name_byte false 64 name m, lawful.1, quoted_is_short value, line_of_four (codes "VAR") ups name (quoted value));
     } in
     printed_whole (requests.GetVar ups name) forms.Value ((server.reply s client line) ++ more) (one_item value) more
     (ap (λ t. reply (requests.GetVar ups name) (t ++ more)) (text ∙ ap (λ x. line_of (codes "VAR" ∷ x ∷ name ∷ quoted value ∷ [])) same) ∙ value_read ups name value texts more written)
@@ -238,7 +239,7 @@ ups_written ups lawful =
     let d = description_lawful ups lawful.description in
     record {
       written = (as_it_is (omega arith) refl, (ups_name_written ups.name lawful.name, (quoted_written text d.0, tt)));
-      fits = omega (arith, text_short is_name_byte false 32 ups.name lawful.name, d.1, quoted_short text, line_of_three (codes "UPS") ups.name (quoted text));
+      fits = omega (arith, text_short is_name_byte false 32 ups.name lawful.name, d.1, quoted_is_short text, line_of_three (codes "UPS") ups.name (quoted text));
     }
 
 upses_written : (list : List Ups) → All IsLawfulUps list → AllZip IsWrittenLine (map ups_item list) (map (item_words queries.Ups) (map ups_of_list list))

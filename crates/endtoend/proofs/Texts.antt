@@ -51,18 +51,6 @@ ups_name_written name h = as_it_is (text_some is_name_byte 32 name h) (name_byte
 pub quoted_written : (text : List ℕ) → list_all is_lawful text ≡ true → IsWritten (quoted text) text
 quoted_written text h = in_quotes h
 
-backslashes_by : (v : Bool) (b : ℕ) (word : List ℕ) → length (with_backslashes word) ≤ 2 * length word → length (cond v (92 ∷ b ∷ []) (b ∷ []) ++ with_backslashes word) ≤ 2 * length (b ∷ word)
-backslashes_by true b word le = omega (arith, le)
-backslashes_by false b word le = omega (arith, le)
-
-backslashes_short : (word : List ℕ) → length (with_backslashes word) ≤ 2 * length word
-backslashes_short [] = omega arith
-backslashes_short (b ∷ word) = backslashes_by (eqb b 34 || eqb b 92) b word (backslashes_short word)
-
--- a backslash before each byte at most
-pub quoted_short : (word : List ℕ) → length (quoted word) ≤ 2 * length word + 2
-quoted_short word = omega (arith, backslashes_short word, length-append (with_backslashes word) (34 ∷ []))
-
 -- a value as clients see it
 shown_by : (v : Bool) (value : List ℕ) → list_all is_lawful value ≡ true → length value ≤ 256
     → (list_all is_lawful (cond v (codes "FSD " ++ value) value) ≡ true) × (length (cond v (codes "FSD " ++ value) value) ≤ 260)

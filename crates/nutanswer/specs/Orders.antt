@@ -4,11 +4,11 @@ use Rattle.std.specs.Prelude.{ℕ, ℤ, ◌==◌, ◌&&◌, ◌||◌, Bool, fals
 use Rattle.std.specs.Prelude.{◌∷◌, codes, length, Option, Some, None}
 use Rattle.std.specs.List.{list_any}
 use Rattle.nutwords.specs.Frame.{line_of}
+use Rattle.nutwords.specs.Natural.{is_empty}
 use Rattle.nutwords.specs.Spelling.{quoted}
 use Rattle.nutdriver.specs.Number.{read_number}
 use Rattle.nutdriver.specs.Variable.{VariableState, has_value}
 use Rattle.nutdriver.specs.declared.range.Range.{Range}
-use Rattle.nutlisting.specs.Types.{is_empty}
 use Rattle.nutusers.specs.declared.rights.Right.{Right}
 use Rattle.nutusers.specs.declared.rights.Right.TheVariants as rights
 use Rattle.nutusers.specs.declared.ups_list.UpsId.{UpsId}

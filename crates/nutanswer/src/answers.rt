@@ -1,9 +1,9 @@
 //! The answers to commands (RFC 9271).
-ghost use Rattle.std.specs.Prelude.{◌≡◌, ◌≤◌, [], ◌∷◌, length, IfOk, OnErr, Result, Err, IsTrue};
+ghost use Rattle.std.specs.Prelude.{◌≡◌, ◌≤◌, [], ◌∷◌, length, IfOk, OnErr, Result, Ok, Err, IsTrue};
 ghost use Rattle.std.specs.List.{list_all};
 ghost use Rattle.nutwords.specs.Bytes.{is_lawful};
 ghost use Rattle.nutanswer.specs.View.{Seen, asker_seen};
-ghost use Rattle.nutanswer.specs.Answer.{answer_to, shares_version, told, Answer, IsReply};
+ghost use Rattle.nutanswer.specs.Answer.{answer_to, shares_version, told, one_line, ok, Answer, IsReply};
 ghost use Rattle.nutanswer.specs.Promises.{CarriesAnswer, Gives, GivesReply, row};
 ghost use Rattle.nutanswer.specs.declared.command.Command.TheVariants.{GetVar, GetType, GetDesc, GetCmdDesc, GetUpsDesc, ListUps, ListVar, ListRw, ListCmd, ListEnum, ListRange};
 
@@ -39,11 +39,11 @@ pub fn answer<'a, V: View>(
 {
     // A listing shares a version, for which memory may be refused; each other row is answered by its line.
     let row = match command {
-        Command::Username(name) => session::username(asker, name, line),
-        Command::Password(password) => session::password(asker, password, line),
-        Command::Login(ups) => session::login(view, asker, ups, line),
+        Command::Username(name) => session::username(asker, name),
+        Command::Password(password) => session::password(asker, password),
+        Command::Login(ups) => session::login(view, asker, ups),
         Command::Logout => session::logout(line),
-        Command::Primary(ups) => session::primary(view, asker, ups, line),
+        Command::Primary(ups) => session::primary(view, asker, ups),
         Command::Fsd(ups) => session::fsd(view, asker, ups, line),
         Command::SetVar(ups, name, value) => {
             orders::set_var(view, asker, ups, name, value, line)
@@ -186,6 +186,13 @@ fn given<'a>(row: Result<Reply<'a>, ErrWord>) -> Reply<'a>
         Ok(reply) => reply,
         Err(word) => refused(word),
     }
+}
+
+/// The bare OK, of a command that changes this.
+fn ok<'a>(change: Change<'a>) -> Reply<'a>
+    ensures { CarriesAnswer (Ok (one_line ok change.entry)) result }
+{
+    Reply::One(b"OK\n", change)
 }
 
 /// The line of an error.

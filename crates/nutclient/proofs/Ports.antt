@@ -6,7 +6,8 @@ use Rattle.std.proofs.lemmas.Bool.Decides.{nat_tests}
 use Rattle.std.specs.List.{list_all}
 use Rattle.std.specs.Char.{digit_value}
 use Rattle.std.specs.Str.Parse.{AllDigits, IsNumeral, digits_value, without_leading_plus}
-use Rattle.nutclient.specs.Target.{is_digit, is_numeral, port_of}
+use Rattle.nutwords.specs.Natural.{is_digit}
+use Rattle.nutclient.specs.Target.{is_numeral, port_of}
 
 -- both tests pass
 pub and_parts : (a b : Bool) → (a && b) ≡ true → (a ≡ true) × (b ≡ true)

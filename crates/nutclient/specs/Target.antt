@@ -4,6 +4,7 @@ use Rattle.std.specs.Prelude.{slice_index, Option, Some, None, Result, Ok, Err, 
 use Rattle.std.specs.Prelude.{codes}
 use Rattle.std.specs.List.{list_all, position_or_len, before_first, after_first}
 use Rattle.std.specs.Str.Parse.{digits_value}
+use Rattle.nutwords.specs.Natural.{is_digit}
 use Rattle.nutwords.specs.Reading.{read_ups_name}
 use Rattle.nutwords.specs.declared.faults.BadName.{BadName}
 use Rattle.nutclient.specs.declared.limits.TheConstants.{HOST_LIMIT, PORT_LIMIT, DEFAULT_PORT}
@@ -33,9 +34,6 @@ host_of text =
     else if not (list_all is_host_byte text) then None
     else if nat_le (length text) HOST_LIMIT then Some text
     else None
-
-abbrev pub is_digit : ℕ → Bool
-is_digit b = nat_le 48 b && nat_le b 57
 
 -- Digits, of which the first isn't 0.
 abbrev pub is_numeral : List ℕ → Bool

@@ -1,10 +1,11 @@
 //! The UPS and the server that a program's words name (upsc(8)).
 ghost use Rattle.std.specs.Prelude.{◌≡◌};
 ghost use Rattle.std.specs.List.{list_all};
-ghost use Rattle.nutclient.specs.Target.{both, is_digit, is_numeral, port_of, server_of, local_server, ups_of, ups_place_of};
+ghost use Rattle.nutwords.specs.Natural.{is_digit};
+ghost use Rattle.nutclient.specs.Target.{both, is_numeral, port_of, server_of, local_server, ups_of, ups_place_of};
 
 use crate::{DEFAULT_PORT, Host};
-use nutwords::UpsName;
+use nutwords::{UpsName, is_digit};
 
 /// A server: its host and its port.
 #[derive(Debug, Drop)]
@@ -96,10 +97,4 @@ fn are_digits(text: &[u8]) -> bool
     ensures { result ≡ list_all is_digit text.now }
 {
     text.iter().all(|b| is_digit(*b))
-}
-
-fn is_digit(b: u8) -> bool
-    ensures { result ≡ is_digit b }
-{
-    b.is_ascii_digit()
 }

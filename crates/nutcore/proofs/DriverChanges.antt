@@ -6,7 +6,8 @@ use Rattle.nutdriver.specs.declared.report.LineOutcome.{LineOutcome}
 use Rattle.nutdriver.specs.declared.report.LineOutcome.TheVariants.{Accepted, Refused}
 use Rattle.nutdriver.specs.Report.{after_line}
 use Rattle.nutcore.specs.declared.event.Event.TheVariants.{DriverUp}
-use Rattle.nutcore.specs.Lines.{with_lf, joined, whole_lines, unfinished_after, is_too_long}
+use Rattle.nutwords.specs.Text.{with_lf}
+use Rattle.nutcore.specs.Lines.{joined, whole_lines, unfinished_after, is_too_long}
 use Rattle.nutcore.specs.Ups.{UpsState, after_connecting, after_loss, ping_line, greatest_count, after_outcome, after_text, after_texts, with_unfinished}
 use Rattle.nutcore.specs.Headline.{IsBeginning}
 use Rattle.nutcore.specs.Sound.{Each}

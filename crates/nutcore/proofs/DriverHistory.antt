@@ -3,7 +3,7 @@ use Rattle.std.proofs.Common.{◌≡◌, ◌∙◌, ◌+◌, ℕ, true, false, L
 use Rattle.nutcore.proofs.Common.{option_map_or, flat_map-append, same_Some, UpsId, Event, Outcome, ServerState, ups_at, after, Run}
 use Rattle.nutdriver.specs.declared.report.Report.{Report}
 use Rattle.nutdriver.specs.Report.{after_line}
-use Rattle.nutcore.specs.Lines.{with_lf}
+use Rattle.nutwords.specs.Text.{with_lf}
 use Rattle.nutcore.specs.Ups.{UpsState, greatest_count}
 use Rattle.nutcore.specs.DriverHistory.{Heard, heard_in_event, heard, bytes_heard, after_heard, refused_among, IsWholeLine, came_in_event, came, has_driver, StaysConnected, IsHeard, WhatADriverToldIsExecuted}
 use Rattle.nutcore.proofs.UpsPlaces.{read_off}

@@ -9,7 +9,8 @@ use Rattle.std.proofs.lemmas.List.{take-append-drop, get_or-take}
 use Rattle.std.proofs.lemmas.List.Folds.{list_any_none}
 use Rattle.nutwords.specs.SplitLine.{split_line, has_lf}
 use Rattle.nutwords.proofs.PublicLaws.{first_line_is_cut_off, no_line_without_lf}
-use Rattle.nutcore.specs.Lines.{first_line, rest_after, with_lf}
+use Rattle.nutwords.specs.Text.{with_lf}
+use Rattle.nutcore.specs.Lines.{first_line, rest_after}
 
 -- a byte more before the first line
 abbrev pub with_byte : ℕ → Option (List ℕ × List ℕ) → Option (List ℕ × List ℕ)

@@ -5,7 +5,8 @@ use Rattle.std.proofs.lemmas.Bool.{cond_both, cond-true, cond-false, ne_eqb, ltb
 use Rattle.std.proofs.lemmas.Bool.Decides.{nat_tests}
 use Rattle.std.proofs.lemmas.List.{take-append-drop}
 use Rattle.nutcore.proofs.Common.{Event, Outcome, SessionState, ServerState, session, with_session_changed, Run}
-use Rattle.nutcore.specs.Lines.{rest_after, with_lf}
+use Rattle.nutwords.specs.Text.{with_lf}
+use Rattle.nutcore.specs.Lines.{rest_after}
 use Rattle.nutcore.specs.Session.{find, without, new_session}
 use Rattle.nutcore.specs.Reply.{reply, changed_session, too_long_notice}
 use Rattle.nutcore.specs.Pump.{next_line_for, answered, after_line, is_overlong, notified, owed_of}

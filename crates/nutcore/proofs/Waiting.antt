@@ -14,7 +14,8 @@ use Rattle.nutanswer.specs.Answer.{answer_to, text_of_answer}
 use Rattle.nutanswer.specs.Command.{read_command}
 use Rattle.nutcore.specs.declared.TheConstants.{HELD_LIMIT}
 use Rattle.nutcore.specs.declared.event.Event.TheVariants.{Feed, Open}
-use Rattle.nutcore.specs.Lines.{first_line, rest_after, with_lf}
+use Rattle.nutwords.specs.Text.{with_lf}
+use Rattle.nutcore.specs.Lines.{first_line, rest_after}
 use Rattle.nutcore.specs.Session.{SessionState, find, put, new_session}
 use Rattle.nutcore.specs.Server.{ServerState, session, with_session, with_session_changed}
 use Rattle.nutcore.specs.Reply.{seen, seen_client, asker_of, text_to, reply}

@@ -8,7 +8,8 @@ use Rattle.nutwords.specs.SplitLine.{split_line, has_lf}
 use Rattle.nutwords.specs.Lines.{Tail, Unfinished, Overlong, IsCutInto, line as one_line, unfinished, overlong}
 use Rattle.nutwords.proofs.PublicLaws.{first_line_is_cut_off, no_line_without_lf, each_text_is_cut}
 use Rattle.nutwords.specs.declared.limits.TheConstants.{LINE_ROOM}
-use Rattle.nutcore.specs.Lines.{with_lf, joined, in_first, ended_lines, is_short, whole_lines, unfinished_after, is_too_long, tail_after, WholeLinesAreTheCut}
+use Rattle.nutwords.specs.Text.{with_lf}
+use Rattle.nutcore.specs.Lines.{joined, in_first, ended_lines, is_short, whole_lines, unfinished_after, is_too_long, tail_after, WholeLinesAreTheCut}
 use Rattle.nutcore.specs.Sound.{Each}
 
 -- the lines that an LF ends: the first, and those of the rest

@@ -17,11 +17,12 @@ use Rattle.nutanswer.specs.declared.command.Command.TheVariants.{GetNumLogins, G
 use Rattle.nutanswer.specs.declared.command.Command.TheVariants.{ListClient}
 use Rattle.nutanswer.specs.Command.{read_command}
 use Rattle.nutanswer.specs.Checks.{KnownUps, ups_named}
+use Rattle.nutanswer.specs.View.{is_logged_in as is_logged_in_as_seen}
 use Rattle.nutcore.specs.declared.event.Event.{Event}
 use Rattle.nutcore.specs.declared.event.Outcome.{Outcome}
 use Rattle.nutcore.specs.Session.{SessionState}
 use Rattle.nutcore.specs.Server.{ServerState, session, ups_at}
-use Rattle.nutcore.specs.Reply.{seen, asker, reply}
+use Rattle.nutcore.specs.Reply.{seen, seen_client, asker, reply}
 use Rattle.nutcore.specs.Run.{Run}
 use Rattle.nutcore.specs.History.{Execution, of_line, of_notice, executions}
 
@@ -62,7 +63,7 @@ abbrev pub is_shut_down : UpsId → ServerState → Bool
 is_shut_down u s = option_map_or (λ x. x.fsd) (ups_at u.place s) false
 
 abbrev pub is_logged_in_of : UpsId → SessionState → Bool
-is_logged_in_of u x = option_map_or (λ v. v.place == u.place) x.login false
+is_logged_in_of u x = is_logged_in_as_seen u (seen_client x)
 
 -- The client is logged in to the UPS.
 abbrev pub is_logged_in : ℕ → UpsId → ServerState → Bool

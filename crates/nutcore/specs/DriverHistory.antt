@@ -14,7 +14,8 @@ pub use Rattle.nutdriver.specs.Report.{Heard, after_heard}
 use Rattle.nutcore.specs.declared.event.Event.{Event}
 use Rattle.nutcore.specs.declared.event.Event.TheVariants.{DriverBytes}
 use Rattle.nutcore.specs.declared.event.Outcome.{Outcome}
-use Rattle.nutcore.specs.Lines.{with_lf, whole_lines}
+use Rattle.nutwords.specs.Text.{with_lf}
+use Rattle.nutcore.specs.Lines.{whole_lines}
 use Rattle.nutcore.specs.Ups.{UpsState, greatest_count}
 use Rattle.nutcore.specs.Server.{ServerState, ups_at}
 use Rattle.nutcore.specs.Step.{after, refused_after}

@@ -4,6 +4,7 @@ use Rattle.std.specs.Prelude.{take_while, nat_le, nat_lt, if◌then◌else◌}
 use Rattle.std.specs.List.{flat_map}
 use Rattle.std.specs.Option.{option_map}
 use Rattle.nutwords.specs.SplitLine.{split_line}
+use Rattle.nutwords.specs.Text.{with_lf}
 use Rattle.nutwords.specs.Lines.{Tail, Unfinished, Overlong, IsCutInto}
 use Rattle.nutwords.specs.declared.limits.TheConstants.{LINE_ROOM}
 
@@ -14,10 +15,6 @@ first_line bytes = option_map (λ split. split.0) (split_line bytes)
 -- What follows the first line and its LF.
 abbrev pub rest_after : List ℕ → List ℕ → List ℕ
 rest_after line bytes = drop (length line + 1) bytes
-
--- A line with its LF.
-abbrev pub with_lf : List ℕ → List ℕ
-with_lf line = line ++ 10 ∷ []
 
 -- The bytes of these lines, each with its LF.
 abbrev pub joined : List (List ℕ) → List ℕ

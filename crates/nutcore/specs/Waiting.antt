@@ -3,7 +3,7 @@ use Rattle.std.specs.Prelude.{◌≡◌, ◌<◌, ℕ, true, false, List, [], So
 use Rattle.nutwords.specs.SplitLine.{has_lf}
 use Rattle.nutwords.specs.declared.limits.TheConstants.{LINE_ROOM}
 use Rattle.nutcore.specs.declared.event.Event.TheVariants.{Feed, Open}
-use Rattle.nutcore.specs.Lines.{with_lf}
+use Rattle.nutwords.specs.Text.{with_lf}
 use Rattle.nutcore.specs.Session.{SessionState}
 use Rattle.nutcore.specs.Server.{ServerState, session}
 use Rattle.nutcore.specs.Reply.{reply}

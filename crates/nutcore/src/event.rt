@@ -1,9 +1,8 @@
 //! Events, what is answered to them, and why one is refused.
 ghost use Rattle.std.specs.Prelude.{◌≡◌};
 
-use crate::bytes::Bytes;
 use nutusers::UpsId;
-use nutwords::Address;
+use nutwords::{Address, Bytes};
 use thiserror::Error;
 
 /// A client's session. Ids count from 1 and are never used again.

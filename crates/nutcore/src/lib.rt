@@ -1,7 +1,6 @@
 //! The core of upsd: the state of each UPS, the sessions of clients, and what each event does to them.
 #![tactic(auto)]
 
-mod bytes;
 mod cost;
 mod event;
 pub mod laws;
@@ -12,12 +11,12 @@ mod server;
 mod session;
 mod ups;
 
-pub use bytes::Bytes;
 pub use cost::Cost;
 pub use event::{ClientId, Event, Fault, Outcome, Peer};
 pub use max_age::{MAX_AGE_DEFAULT, MAX_AGE_LEAST, MAX_AGE_MOST, MaxAge};
 pub use nutlisting::{OWED_LIMIT, Outbox, RING_LIMIT, SESSION_LIMIT};
 pub use nutusers::{Descriptions, UpsId, UpsList, Users};
+pub use nutwords::Bytes;
 pub use server::Server;
 
 /// The most bytes of input that a session holds, and that may stand without an LF.

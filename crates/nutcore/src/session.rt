@@ -21,7 +21,7 @@ use crate::HELD_LIMIT;
 use crate::event::Fault;
 use crate::lines::{drop_front, line_end};
 use crate::scratch::Scratch;
-use nutanswer::{Asker, Change, Reply};
+use nutanswer::{Asker, Change, ErrWord, Reply};
 use nutlisting::{Clients, Listing, Outbox};
 use nutusers::{Password, UpsId, UserName};
 use nutwords::{Address, UpsName};
@@ -278,7 +278,7 @@ impl Session {
         {
             return Ok(());
         }
-        self.owe(b"ERR TOO-LONG\n", scratch);
+        self.owe(ErrWord::TooLong.line(), scratch);
         self.begin_ending();
         Err(Fault::LineTooLong)
     }

@@ -1,4 +1,3 @@
-mod Quoted
 mod Firsts
 mod AheadLemmas
 mod Upses

@@ -1,7 +1,8 @@
 -- The listings (RFC 9271: LIST), each by the words of its items.
 use Rattle.std.specs.Prelude.{ℕ, Bool, List, [], ◌∷◌, ◌++◌, Option, Some, None, codes, map, filter}
 use Rattle.std.specs.Fmt.{signed_decimal}
-use Rattle.nutwords.specs.Frame.{frame, line_of}
+use Rattle.nutwords.specs.Frame as frame
+use Rattle.nutwords.specs.Frame.{frame, frame_lines}
 use Rattle.nutwords.specs.Spelling.{quoted}
 use Rattle.nutdriver.specs.declared.range.Range.{Range}
 use Rattle.nutdriver.specs.Variable.{VariableState}
@@ -18,13 +19,13 @@ pub record ListingState : Type 0 where
 abbrev pub text_of : ListingState → List ℕ
 text_of l = frame l.kind l.names l.items
 
--- The line BEGIN or END: the word, LIST, and what was asked for.
+-- Its line BEGIN or END.
 abbrev pub edge_line : List ℕ → ListingState → List ℕ
-edge_line word l = line_of (word ∷ codes "LIST" ∷ l.kind ∷ l.names)
+edge_line word l = frame.edge_line word l.kind l.names
 
 -- Its lines. Joined they are its text.
 abbrev pub lines_of : ListingState → List (List ℕ)
-lines_of l = edge_line (codes "BEGIN") l ∷ (map line_of l.items ++ edge_line (codes "END") l ∷ [])
+lines_of l = frame_lines l.kind l.names l.items
 
 abbrev pub ups_item : Ups → List (List ℕ)
 ups_item ups = codes "UPS" ∷ ups.name ∷ quoted (ups_description ups) ∷ []

@@ -1,15 +1,12 @@
 -- What a client is told of the values that a variable may have (RFC 9271: GET TYPE).
 use Rattle.std.specs.Prelude.{Bool, true, false, not, ℕ, List, [], ◌∷◌, ◌++◌, codes}
 use Rattle.std.specs.Fmt.{decimal}
+use Rattle.nutwords.specs.Natural.{is_empty}
 use Rattle.nutdriver.specs.Variable.{VariableState}
 
 abbrev pub word_if : Bool → List ℕ → List (List ℕ)
 word_if true word = word ∷ []
 word_if false word = []
-
-abbrev pub is_empty : {A : Type 0} → List A → Bool
-is_empty [] = true
-is_empty (x ∷ xs) = false
 
 abbrev pub else_number : List (List ℕ) → List (List ℕ)
 else_number [] = codes "NUMBER" ∷ []

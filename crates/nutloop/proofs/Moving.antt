@@ -19,7 +19,8 @@ use Rattle.nutloop.specs.declared.sockets.Ready.TheVariants.{Nothing, Tick, Newc
 use Rattle.nutloop.specs.declared.sockets.Call.{Call}
 use Rattle.nutloop.specs.declared.sockets.Call.TheVariants.{Readied, Accepted, Named, Refused, Gave, Waits, Ended, Wrote, Shut}
 use Rattle.nutloop.specs.declared.turns.TheConstants.{DRIVER_READ_LIMIT}
-use Rattle.nutloop.specs.Turn.{nobody, accepts, reads, Answer, unasked, newcomer, gave, later, ended, took, failed, ask, write_of, room_at, owed_to_driver, is_finished_at, MayAnswer, answered, row_events, read_of_client, read_of_driver, write_to_client, write_to_driver, opening, last_events, calls_behind, calls_behind_all, loses_driver}
+use Rattle.nutcore.specs.DriverOrders.{owed_to_driver}
+use Rattle.nutloop.specs.Turn.{nobody, accepts, reads, Answer, unasked, newcomer, gave, later, ended, took, failed, ask, write_of, room_at, is_finished_at, MayAnswer, answered, row_events, read_of_client, read_of_driver, write_to_client, write_to_driver, opening, last_events, calls_behind, calls_behind_all, loses_driver}
 use Rattle.nutloop.specs.Moved.{along}
 
 pub record Fit (g : Call → List ℕ) (f : ServerState → Event → List ℕ) : Type 0 where

@@ -26,7 +26,8 @@ use Rattle.nutloop.specs.declared.sockets.Call.{Call}
 use Rattle.nutloop.specs.declared.sockets.Call.TheVariants.{Readied}
 use Rattle.nutloop.specs.declared.turns.TheConstants.{DRIVER_READ_LIMIT}
 use Rattle.nutloop.specs.Sockets.{Grows}
-use Rattle.nutloop.specs.Turn.{Ask, nobody, reads, writes, Answer, ask, read_of, write_of, owed_to_driver, MayAnswer, answered, row_events, last_events, end_of, calls_behind, calls_behind_all, Does, failures_by, IsRow}
+use Rattle.nutcore.specs.DriverOrders.{owed_to_driver}
+use Rattle.nutloop.specs.Turn.{Ask, nobody, reads, writes, Answer, ask, read_of, write_of, MayAnswer, answered, row_events, last_events, end_of, calls_behind, calls_behind_all, Does, failures_by, IsRow}
 
 pub grows_nothing : (a : Option (List Call)) → Grows a a []
 grows_nothing None = tt

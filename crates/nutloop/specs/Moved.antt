@@ -16,7 +16,8 @@ use Rattle.nutcore.specs.DriverHistory.{came}
 use Rattle.nutloop.specs.declared.sockets.Call.{Call}
 use Rattle.nutloop.specs.declared.sockets.Call.TheVariants.{Gave, Wrote}
 use Rattle.nutloop.specs.declared.fault.LoopFault.{LoopFault}
-use Rattle.nutloop.specs.Turn.{TurnGives, owed_to_driver}
+use Rattle.nutcore.specs.DriverOrders.{owed_to_driver}
+use Rattle.nutloop.specs.Turn.{TurnGives}
 
 -- Turns, one after another, with the answer of each.
 abbrev pub Turns : {S : Type 0} → (S → Option (List Call)) → (S → ℕ) → ServerState → S

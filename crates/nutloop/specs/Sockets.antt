@@ -33,11 +33,3 @@ abbrev pub Logs : {T E : Type 0} → Option (List Call) → Option (List Call) �
     → Type 0
 Logs old new call (Ok x) = Grows old new (call x ∷ [])
 Logs old new call (Err e) = Grows old new []
-
--- A count after one more failure. It stops at its greatest number.
-abbrev pub counted : ℕ → ℕ
-counted n = min (n + 1) (2 ^ 64 - 1)
-
--- A failure is counted, and nothing else is.
-abbrev pub IsCounted : {T E : Type 0} → ℕ → ℕ → Result T E → Type 0
-IsCounted before now result = MatchResult result (λ _. now ≡ before) (λ _. now ≡ counted before)

@@ -9,9 +9,10 @@ use Rattle.nutcore.specs.declared.event.Peer.{Peer}
 use Rattle.nutcore.specs.declared.event.Peer.TheVariants as peer
 use Rattle.nutcore.specs.Server.{ServerState, session}
 use Rattle.nutcore.specs.Step.{offered}
+use Rattle.nutcore.specs.DriverOrders.{owed_to_driver}
 use Rattle.nutloop.specs.Pace.{Ticks, after_turn}
 use Rattle.nutloop.specs.Round.{NobodyIsReady, TakesTurn}
-use Rattle.nutloop.specs.Turn.{room_at, is_finished_at, owed_to_driver}
+use Rattle.nutloop.specs.Turn.{room_at, is_finished_at}
 use Rattle.nutloop.specs.declared.pace.Pace.{Pace}
 use Rattle.nutloop.specs.declared.round.Flags.{Flags}
 use Rattle.nutloop.specs.declared.round.Place.{Place}

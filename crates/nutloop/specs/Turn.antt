@@ -16,8 +16,9 @@ use Rattle.nutcore.specs.declared.event.Peer.TheVariants.{Client, Driver}
 use Rattle.nutcore.specs.Server.{ServerState, session, ups_at}
 use Rattle.nutcore.specs.Step.{offered}
 use Rattle.nutcore.specs.Run.{Run}
-use Rattle.nutcore.specs.Calls.{room_of, is_finished, owed_to}
+use Rattle.nutcore.specs.Calls.{room_of, is_finished}
 use Rattle.nutcore.specs.DriverHistory.{has_driver}
+use Rattle.nutcore.specs.DriverOrders.{owed_to_driver}
 use Rattle.nutloop.specs.declared.sockets.Ready.{Ready}
 use Rattle.nutloop.specs.declared.sockets.Ready.TheVariants.{Nothing, Tick, Newcomer, DriverUp}
 use Rattle.nutloop.specs.declared.sockets.Ready.TheVariants.{Read, Write}
@@ -27,7 +28,8 @@ use Rattle.nutloop.specs.declared.sockets.Call.TheVariants.{Waits, Ended, Wrote,
 use Rattle.nutloop.specs.declared.fault.LoopFault.{LoopFault}
 use Rattle.nutloop.specs.declared.fault.LoopFault.TheVariants as fault
 use Rattle.nutloop.specs.declared.turns.TheConstants.{DRIVER_READ_LIMIT}
-use Rattle.nutloop.specs.Sockets.{Grows, counted}
+use Rattle.nutio.specs.Ends.{counted}
+use Rattle.nutloop.specs.Sockets.{Grows}
 
 -- The one call that a row makes of the sockets and that may fail, if it makes one: reads has how
 -- many bytes are asked for, writes which ones are offered.
@@ -53,9 +55,6 @@ room_at c s = option_map_or room_of (session c s) 0
 
 abbrev pub is_finished_at : ℕ → ServerState → Bool
 is_finished_at c s = option_map_or is_finished (session c s) false
-
-abbrev pub owed_to_driver : UpsId → ServerState → List ℕ
-owed_to_driver u s = option_map_or owed_to (ups_at u.place s) []
 
 -- A read is of some bytes, and a write is of all that is offered, if that is anything.
 abbrev pub read_of : Peer → ℕ → Ask

@@ -3,7 +3,8 @@ ghost use Rattle.std.specs.Prelude.{◌≡◌, ◌≤◌, ◌∷◌, [], true, I
 ghost use Rattle.std.specs.Vec.Iter.{into_iter_items};
 ghost use Rattle.nutloop.specs.declared.scripted.Act.TheVariants as act;
 ghost use Rattle.nutloop.specs.declared.sockets.Call.TheVariants.{Readied, Accepted, Named, Refused, Wrote, Shut};
-ghost use Rattle.nutloop.specs.Sockets.{Grows, Logs, AtMost, IsCounted, read_call};
+ghost use Rattle.nutio.specs.Ends.{IsCounted};
+ghost use Rattle.nutloop.specs.Sockets.{Grows, Logs, AtMost, read_call};
 ghost use Rattle.nutloop.specs.Scripted.{AnswersRead, AnswersWrite, Follows, IsKeptOrNot, told_while};
 
 use crate::{Broken, Call, Got, Ready, Sockets};

@@ -2,7 +2,8 @@
 ghost use Rattle.std.specs.Prelude.{◌≡◌, ◌≤◌, ◌∷◌, [], ℕ, List, Option, length, IfOk};
 ghost use Rattle.nutloop.specs.declared.sockets.Call.{Call};
 ghost use Rattle.nutloop.specs.declared.sockets.Call.TheVariants.{Readied, Accepted, Named, Refused, Wrote, Shut};
-ghost use Rattle.nutloop.specs.Sockets.{Grows, Logs, AtMost, IsCounted, read_call};
+ghost use Rattle.nutio.specs.Ends.{IsCounted};
+ghost use Rattle.nutloop.specs.Sockets.{Grows, Logs, AtMost, read_call};
 
 use nutcore::{Bytes, ClientId, Peer, Server, UpsId};
 use nutwords::Address;

@@ -8,7 +8,7 @@ use Rattle.hex.specs.Hex.{decode_of}
 use Rattle.nutwords.specs.Natural.{read_natural}
 use Rattle.nutwords.specs.Reading.{read_ups_name, read_address}
 use Rattle.nutwords.specs.Text.{lines_of, is_silent}
-use Rattle.nutcore.specs.Lines.{with_lf}
+use Rattle.nutwords.specs.Text.{with_lf}
 use Rattle.nutreplay.specs.declared.script.action.Action.{Action}
 use Rattle.nutreplay.specs.declared.script.action.Action.TheVariants.{DriverUp, DriverBytes}
 use Rattle.nutreplay.specs.declared.script.action.Action.TheVariants.{DriverTook, DriverTookAll}

@@ -5,6 +5,7 @@ use Rattle.std.specs.Prelude.{nat_lt, length, Option, Some, None, option_and_the
 use Rattle.std.specs.Prelude.{if◌then◌else◌, codes}
 use Rattle.std.specs.Str.{bytes_eq}
 use Rattle.std.specs.List.{list_all}
+use Rattle.nutwords.specs.Natural.{is_digit}
 use Rattle.nutwords.specs.Scan.{words_of}
 use Rattle.nutwords.specs.Reading.{read_name, is_name, is_ups_name, is_address}
 use Rattle.nutwords.specs.declared.faults.BadName.{BadName}
@@ -45,9 +46,6 @@ only_word _ = None
 -- The words are BEGIN or END, LIST, and what was asked for.
 abbrev pub is_frame : List ℕ → Query → List (List ℕ) → Bool
 is_frame verb query words = is_nothing (behind (verb ∷ codes "LIST" ∷ asked_words query) words)
-
-abbrev pub is_digit : ℕ → Bool
-is_digit b = nat_le 48 b && nat_le b 57
 
 -- An error word is made of letters and dashes.
 abbrev pub is_error_byte : ℕ → Bool

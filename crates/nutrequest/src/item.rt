@@ -1,7 +1,8 @@
 //! The items of a reply.
 ghost use Rattle.std.specs.Prelude.{◌≡◌, ◌∷◌, ◌++◌, [], length, MatchResult, IsTrue, ◌↔◌};
 
-use crate::{Bytes, ITEM_LIMIT};
+use crate::ITEM_LIMIT;
+use nutwords::Bytes;
 use std::alloc::{AllocError, Global};
 use std::marker::Model;
 

@@ -3,7 +3,6 @@
 //! A reply is taken as a whole or not at all: it is a function of the bytes that came, however they were cut.
 #![tactic(auto)]
 
-mod bytes;
 mod faults;
 mod inbox;
 mod item;
@@ -14,7 +13,6 @@ mod read;
 mod request;
 mod session;
 
-pub use bytes::Bytes;
 pub use faults::ClientFault;
 pub use item::{Item, Items};
 pub use limits::{FAULT_LIMIT, ITEM_LIMIT};

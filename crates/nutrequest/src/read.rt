@@ -9,8 +9,8 @@ ghost use Rattle.nutrequest.specs.Request.{asked_words};
 ghost use Rattle.nutrequest.specs.Reply.{behind_word, behind, is_nothing, only_word, is_frame, is_error_byte, count_in, is_count, refusal_by, refusal_of, expected_of, first_of, is_item_name, value_in, item_in, later_of};
 
 use crate::limits::COUNT_LIMIT;
-use crate::{Bytes, Item, Query, Request};
-use nutwords::{Address, Name, UpsName, Word, Words, words};
+use crate::{Item, Query, Request};
+use nutwords::{Address, Bytes, Name, UpsName, Word, Words, words};
 use std::alloc::{AllocError, Global};
 
 /// What the first line of a reply is.

@@ -10,8 +10,9 @@ ghost use Rattle.nutrequest.specs.Session.{FirstGives, TakeGives, ItemsGive, Rep
 use crate::inbox::Inbox;
 use crate::line::request_line;
 use crate::read::{FirstLine, LaterLine, first_line, later_line};
-use crate::{Bytes, ClientFault, Item, Items, Query, Request};
+use crate::{ClientFault, Item, Items, Query, Request};
 use nutio::{Sink, Source, send};
+use nutwords::Bytes;
 use std::alloc::Global;
 
 /// A session over a reader and a writer. It keeps what was read past a reply, for the next.

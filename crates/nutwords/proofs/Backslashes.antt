@@ -1,7 +1,7 @@
 -- Where a word needs a backslash.
-use Rattle.std.proofs.Common.{◌≡◌, ℕ, zero, suc, ◌<◌, true, false, cond, eqb, List, [], ◌∷◌, ◌++◌, length, take, drop, get_or, refl, ap, arith}
+use Rattle.std.proofs.Common.{◌≡◌, ℕ, zero, suc, ◌+◌, ◌*◌, ◌<◌, ◌≤◌, Bool, true, false, cond, eqb, List, [], ◌∷◌, ◌++◌, length, take, drop, get_or, refl, ap, arith, length-append}
 use Rattle.std.specs.Prelude.{◌||◌}
-use Rattle.nutwords.specs.Spelling.{with_backslashes}
+use Rattle.nutwords.specs.Spelling.{with_backslashes, quoted}
 
 -- no byte needs one
 pub with_backslashes-none : (word : List ℕ) → ((j : ℕ) → j < length word → (eqb (get_or word j 0) 34 || eqb (get_or word j 0) 92) ≡ true → ⊥) → with_backslashes word ≡ word
@@ -21,3 +21,15 @@ with_backslashes-at (b ∷ word) (suc k) lt here at =
       | true ↦ λ e. absurd (here 0 (omega arith) e)
       | false ↦ λ e. ap (λ t. b ∷ t) (with_backslashes-at word k (omega arith) (λ j below f. here (suc j) (omega arith) f) at)
     ] refl
+
+backslashes_by : (v : Bool) (b : ℕ) (word : List ℕ) → length (with_backslashes word) ≤ 2 * length word → length (cond v (92 ∷ b ∷ []) (b ∷ []) ++ with_backslashes word) ≤ 2 * length (b ∷ word)
+backslashes_by true b word le = omega (arith, le)
+backslashes_by false b word le = omega (arith, le)
+
+-- a backslash before each byte at most
+backslashes_short : (word : List ℕ) → length (with_backslashes word) ≤ 2 * length word
+backslashes_short [] = omega arith
+backslashes_short (b ∷ word) = backslashes_by (eqb b 34 || eqb b 92) b word (backslashes_short word)
+
+pub quoted_short : (word : List ℕ) → length (quoted word) ≤ 2 * length word + 2
+quoted_short word = omega (arith, backslashes_short word, length-append (with_backslashes word) (34 ∷ []))

@@ -6,7 +6,9 @@ use Rattle.nutwords.specs.Lines.{IsCutInto, Unfinished, line, unfinished, overlo
 use Rattle.nutwords.specs.Listing.{LinesAreReadBack, ListingIsReadBack, OneReading}
 use Rattle.nutwords.specs.Meaning.{WordsOrFault, NotBoth, OneListOfWords, OneFault, ReadLineIsTheGrammar, ReadLineIsTheFault}
 use Rattle.nutwords.specs.Spelled.{QuotedIsSpelled, BareIsSpelled, PlainStandsForItself}
+use Rattle.nutwords.specs.Spelling.{QuotedIsShort}
 use Rattle.nutwords.specs.SplitLine.{FirstLineIsCutOff, NoLineWithoutLf, HeldGoesInFront}
+use Rattle.nutwords.proofs.Backslashes as backslashes
 use Rattle.nutwords.proofs.Complete.{read_line-complete}
 use Rattle.nutwords.proofs.Escapes.{quoted_spelled, bare_spelled}
 use Rattle.nutwords.proofs.FaultLemmas.{IsFault-no_words}
@@ -49,6 +51,10 @@ bare_is_spelled = λ text word units. bare_spelled text word units.0
 
 pub plain_stands_for_itself : PlainStandsForItself
 plain_stands_for_itself = λ text none. unescaped-same text none
+
+-- written_spellings_are_short
+pub quoted_is_short : QuotedIsShort
+quoted_is_short = λ word. backslashes.quoted_short word
 
 -- first_line_is_cut_off
 pub first_line_is_cut_off : FirstLineIsCutOff

@@ -8,9 +8,9 @@ use Rattle.std.specs.Str.Parse.{digits_value}
 abbrev pub is_digit : ℕ → Bool
 is_digit b = nat_le 48 b && nat_le b 57
 
-abbrev pub is_empty : List ℕ → Bool
+abbrev pub is_empty : {A : Type 0} → List A → Bool
 is_empty [] = true
-is_empty (b ∷ bytes) = false
+is_empty (x ∷ xs) = false
 
 -- There is a first byte, and it is no 0 or stands alone.
 abbrev pub has_no_leading_zero : List ℕ → Bool

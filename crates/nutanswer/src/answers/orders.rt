@@ -6,6 +6,7 @@ ghost use Rattle.nutanswer.specs.Orders.{order};
 ghost use Rattle.nutanswer.specs.Promises.{CarriesAnswer, Gives};
 ghost use Rattle.nutanswer.specs.declared.command.Command.TheVariants.{SetVar, InstCmd};
 
+use super::ok;
 use crate::checks::{command_value, live_command, live_variable, settable, user, user_of_command};
 use crate::known::KnownCommand;
 use crate::lines::order_line_into;
@@ -69,5 +70,5 @@ pub(crate) fn inst_cmd<'a, V: View>(
 fn ordered<'a>(u: UpsId, line: &'a Line) -> Reply<'a>
     ensures { CarriesAnswer (Ok (one_line ok (order u line.now.items))) result }
 {
-    Reply::One(b"OK\n", Change::Order(u, OrderLine::of(line.as_slice())))
+    ok(Change::Order(u, OrderLine::of(line.as_slice())))
 }

@@ -8,6 +8,7 @@ ghost use Rattle.nutanswer.specs.Answer.{answer_to, count_of_logins, one_line, o
 ghost use Rattle.nutanswer.specs.Promises.{CarriesAnswer, Gives, GivesReply, row};
 ghost use Rattle.nutanswer.specs.declared.command.Command.TheVariants.{Username, Password, Login, Logout, Primary, Fsd, ListClient};
 
+use super::ok;
 use crate::checks::{known_ups, user};
 use crate::{Asker, Change, ErrWord, PasswordWord, Reply, UpsWord, UserWord, View};
 use nutlisting::{count_line_into, plain_line_into};
@@ -16,11 +17,7 @@ use nutwords::Line;
 
 /// USERNAME.
 #[inline(never)]
-pub(crate) fn username<'a>(
-    asker: Asker<'_>,
-    name: &UserWord<'_>,
-    line: &'a mut Line,
-) -> Result<Reply<'a>, ErrWord>
+pub(crate) fn username<'a>(asker: Asker<'_>, name: &UserWord<'_>) -> Result<Reply<'a>, ErrWord>
     ensures { (s : Seen) → Gives
         (answer_to s (asker_seen asker.entry) (Username name.now)) result }
 {
@@ -28,7 +25,7 @@ pub(crate) fn username<'a>(
         return Err(ErrWord::AlreadySetUsername);
     }
     match name.read() {
-        Some(name) => Ok(ok(Change::Username(name), line)),
+        Some(name) => Ok(ok(Change::Username(name))),
         None => Err(ErrWord::InvalidArgument),
     }
 }
@@ -38,7 +35,6 @@ pub(crate) fn username<'a>(
 pub(crate) fn password<'a>(
     asker: Asker<'_>,
     password: &PasswordWord<'_>,
-    line: &'a mut Line,
 ) -> Result<Reply<'a>, ErrWord>
     ensures { (s : Seen) → Gives
         (answer_to s (asker_seen asker.entry) (Password password.now)) result }
@@ -47,7 +43,7 @@ pub(crate) fn password<'a>(
         return Err(ErrWord::AlreadySetPassword);
     }
     match password.read() {
-        Some(password) => Ok(ok(Change::Password(password), line)),
+        Some(password) => Ok(ok(Change::Password(password))),
         None => Err(ErrWord::InvalidArgument),
     }
 }
@@ -58,7 +54,6 @@ pub(crate) fn login<'a, V: View>(
     view: &V,
     asker: Asker<'_>,
     ups: &UpsWord<'_>,
-    line: &'a mut Line,
 ) -> Result<Reply<'a>, ErrWord>
     ensures { Gives
         (answer_to (V.seen view.now) (asker_seen asker.entry) (Login ups.now)) result }
@@ -69,7 +64,7 @@ pub(crate) fn login<'a, V: View>(
     if asker.login.is_some() {
         return Err(ErrWord::AlreadyLoggedIn);
     }
-    Ok(ok(Change::Login(ups.id), line))
+    Ok(ok(Change::Login(ups.id)))
 }
 
 /// LOGOUT.
@@ -86,7 +81,6 @@ pub(crate) fn primary<'a, V: View>(
     view: &V,
     asker: Asker<'_>,
     ups: &UpsWord<'_>,
-    line: &'a mut Line,
 ) -> Result<Reply<'a>, ErrWord>
     ensures { Gives
         (answer_to (V.seen view.now) (asker_seen asker.entry) (Primary ups.now)) result }
@@ -94,7 +88,7 @@ pub(crate) fn primary<'a, V: View>(
     user(view, asker, Right::Primary)?;
     let ups = ups.read();
     known_ups(view, &ups)?;
-    Ok(ok(Change::Nothing, line))
+    Ok(ok(Change::Nothing))
 }
 
 /// FSD.
@@ -141,12 +135,4 @@ pub(crate) fn list_client<'a, V: View>(view: &V, ups: &UpsWord<'_>) -> Result<Re
     let ups = ups.read();
     let ups = known_ups(view, &ups)?;
     Ok(Reply::Clients(ups.name.copied(), ups.id))
-}
-
-/// The bare OK, of a command that changes this.
-fn ok<'a>(change: Change<'a>, line: &'a mut Line) -> Reply<'a>
-    ensures { CarriesAnswer (Ok (one_line ok change.entry)) result }
-{
-    plain_line_into(b"OK", line);
-    Reply::One(line.as_slice(), change)
 }

@@ -1,6 +1,6 @@
 //! What one line of a script asks for.
 ghost use Rattle.std.specs.Prelude.{◌≡◌, ◌<◌, ◌==◌, ℕ, length, position, IfOk, IfSome, MatchOption, None, Some};
-ghost use Rattle.nutcore.specs.Lines.{with_lf};
+ghost use Rattle.nutwords.specs.Text.{with_lf};
 ghost use Rattle.nutreplay.specs.Script.{split_at_space, number, ups_name, address, ups_and_rest, client_and_rest, taking_by, driver_taking_by, driver_line, driver_part, client_line, client_part, hex_bytes, driver_hex_by, client_hex_by, action_of, driver_action, client_action, read_action};
 
 use hex::FromHexError;

@@ -5,7 +5,8 @@ use Rattle.nutcore.specs.Server.{ups_at}
 use Rattle.nutcore.specs.Calls.{done}
 use Rattle.nutcore.specs.Cost.{RunningServer}
 use Rattle.nutloop.specs.declared.sockets.Ready.TheVariants.{Write}
-use Rattle.nutloop.specs.Turn.{nobody, writes, unasked, took, failed, owed_to_driver}
+use Rattle.nutcore.specs.DriverOrders.{owed_to_driver}
+use Rattle.nutloop.specs.Turn.{nobody, writes, unasked, took, failed}
 use Rattle.nutloop.proofs.Rows.{row_of, does_nothing, does_quietly, does_from, grows_nothing, writes_all, writes_nothing, nothing_is_owed, owed_is}
 use Rattle.nutloop.proofs.turns.write_driver.Goals as goal
 

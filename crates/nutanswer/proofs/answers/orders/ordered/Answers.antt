@@ -1,17 +1,8 @@
-use Rattle.std.proofs.Common.{ℕ, List, refl, ap, ◌∙◌, arith}
-use Rattle.std.specs.Prelude.{codes}
-use Rattle.nutanswer.specs.declared.reply.Change.{Change}
+use Rattle.std.proofs.Common.{ℕ, List, Ok, subst, ◌∙◌}
+use Rattle.nutanswer.specs.Answer.{one_line, ok}
 use Rattle.nutanswer.specs.Orders.{order}
+use Rattle.nutanswer.specs.Promises.{CarriesAnswer}
 use Rattle.nutanswer.proofs.answers.orders.ordered.Goals as goal
 
 pub returns : goal.returns
-returns c = record {
-  text = refl;
-  changes = ap (λ (items : List ℕ). let z : Change = order c.args.u items in z) (c.of.ensures ∙ c.as_slice.ensures.value);
-  one = refl;
-  whole_line = record {
-    line = codes "OK";
-    whole = refl;
-    answer = record { fits = omega arith; lawful = refl };
-  };
-}
+returns c = subst (λ (items : List ℕ). CarriesAnswer (Ok (one_line ok (order c.args.u items))) c.ok.result) (c.of.ensures ∙ c.as_slice.ensures.value) c.ok.ensures

@@ -1,4 +1,4 @@
-//! Bytes that a reply holds.
+//! Bytes on the heap.
 ghost use Rattle.std.specs.Prelude.{◌≡◌};
 
 use std::marker::Model;
@@ -18,14 +18,14 @@ impl Model for Bytes {
 }
 
 impl Bytes {
-    /// The bytes of the vector. Takes no memory.
+    /// Takes the vector over. Takes no memory.
     pub fn new(all: Vec<u8>) -> Self
         ensures { result ≡ all.items }
     {
         Bytes { all }
     }
 
-    /// All of them.
+    /// All of the bytes.
     pub fn as_slice(&self) -> &[u8]
         ensures { result.now ≡ self.now }
     {
