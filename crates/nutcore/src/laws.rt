@@ -12,6 +12,8 @@ ghost use Rattle.nutcore.specs.Happenings.{AnswersComeOfWhatHappens, AQuietTakeC
 ghost use Rattle.nutcore.specs.Limits.{Limits};
 ghost use Rattle.nutcore.specs.Bounded.{EachEventIsBounded};
 ghost use Rattle.nutcore.specs.Taking.{WhoTakesGetsEverything, WhoTakesAmongOthersGetsEverything};
+ghost use Rattle.nutcore.specs.NotStuck.{WhoIsOwedLittleHasRoom, WhoEndsIsFinished};
+ghost use Rattle.nutcore.specs.Totals.{AServerIsBoundedInAll};
 ghost use Rattle.nutcore.specs.Lines.{WholeLinesAreTheCut};
 ghost use Rattle.nutcore.specs.DriverHistory.{WhatADriverToldIsExecuted};
 ghost use Rattle.nutcore.specs.DriverRuns.{WhatCameSinceConnectingIsExecuted, ALostDriversLinesAreABeginning, WhichLinesAreRefused, RefusedLinesAreCounted, ANewServerCountsAllRefusedLines};
@@ -260,6 +262,21 @@ pub fn each_event_is_bounded()
 pub fn who_takes_gets_everything()
     ensures alone { WhoTakesGetsEverything }
     ensures among_others { WhoTakesAmongOthersGetsEverything }
+{}
+
+/// Nobody is stuck. Of a client that opened in a run, whose session isn't ending and to which at most 2,048 bytes are owed,
+/// memory was there whenever it sent or took: then it holds no whole line, and fewer bytes than it may. A session that is
+/// ending is finished once as many bytes are taken as it was owed. `who_takes_gets_everything` says how many takes that is.
+pub fn nobody_is_stuck()
+    ensures room { WhoIsOwedLittleHasRoom }
+    ensures finished { WhoEndsIsFinished }
+{}
+
+/// The whole server in numbers: its sessions hold at most 64 times 1,024 bytes together, and are offered at most 64 times
+/// 4,096; the drivers of its UPSs are owed at most 32 times 2,048; and its trees together have at most 32 times as many
+/// variables, commands, enum values and ranges as one may.
+pub fn a_server_is_bounded_in_all()
+    ensures { AServerIsBoundedInAll }
 {}
 
 /// Given a server, an event and its outcome there is one next server, and but where memory is refused
