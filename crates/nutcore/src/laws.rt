@@ -17,7 +17,7 @@ ghost use Rattle.nutcore.specs.Totals.{AServerIsBoundedInAll};
 ghost use Rattle.nutcore.specs.Lines.{WholeLinesAreTheCut};
 ghost use Rattle.nutcore.specs.DriverHistory.{WhatADriverToldIsExecuted};
 ghost use Rattle.nutcore.specs.DriverRuns.{WhatCameSinceConnectingIsExecuted, ALostDriversLinesAreABeginning, WhichLinesAreRefused, RefusedLinesAreCounted, ANewServerCountsAllRefusedLines};
-ghost use Rattle.nutcore.specs.FreshRuns.{TheMomentIsTheGreatestTick, WhateverIsToldIsFresh};
+ghost use Rattle.nutcore.specs.FreshRuns.{TheMomentIsTheGreatestTick, WhateverIsToldIsFresh, WhatADriverSetLastIsHeld};
 ghost use Rattle.nutcore.specs.DriverOrders.{WhatADriverWasSentAndIsOwedIsWhatItWasTold};
 ghost use Rattle.nutcore.specs.Listed.{EachIsListedOnce, WhatIsListedIsWhatIsHeld};
 ghost use Rattle.nutcore.specs.ReadsBack.{EachListingReadsBack};
@@ -25,7 +25,10 @@ ghost use Rattle.nutcore.specs.Addresses.{ANewServerHasLawfulAddresses, EveryRun
 ghost use Rattle.nutcore.specs.Sound.{ANewServerIsSound, EachEventKeepsTheServerSound, EveryRunKeepsTheServerSound, ASoundServerIsLawful};
 
 use nutanswer::laws::{only_ok_changes, what_is_told_is_fresh};
-use nutdriver::laws::{each_line_keeps_the_tree_sound, lawful_lines_keep_trees_sound};
+use nutdriver::laws::{
+    each_line_keeps_the_tree_sound, lawful_lines_keep_trees_sound,
+    the_last_line_on_a_variable_decides_it,
+};
 use nutwords::laws::listing_is_read_back;
 
 /// Over every run, what each client was sent, followed by what it is still owed, is exactly the
@@ -218,6 +221,14 @@ pub fn whatever_is_told_is_fresh()
 {
     what_is_told_is_fresh();
     every_server_is_sound();
+}
+
+/// What the driver of a UPS set last is what the UPS holds: of those of its lines since it connected that were done, the last
+/// one that gave a variable its value, or took it away, decides it.
+pub fn what_a_driver_set_last_is_held()
+    ensures { WhatADriverSetLastIsHeld }
+{
+    the_last_line_on_a_variable_decides_it();
 }
 
 /// The other half: over every run, what the driver of a UPS was owed, followed by what its connections (`DUMPALL`), the
