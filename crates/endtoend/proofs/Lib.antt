@@ -6,3 +6,4 @@ pub mod Requests
 pub mod Rows
 pub mod Printing
 pub mod Handing
+pub mod FromDriver

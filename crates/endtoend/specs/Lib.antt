@@ -2,3 +2,4 @@ pub mod Frames
 pub mod Served
 pub mod Printed
 pub mod Handed
+pub mod FromDriver
