@@ -7,3 +7,4 @@ pub mod Rows
 pub mod Printing
 pub mod Handing
 pub mod FromDriver
+pub mod Refused

@@ -3,3 +3,4 @@ pub mod Served
 pub mod Printed
 pub mod Handed
 pub mod FromDriver
+pub mod Refused

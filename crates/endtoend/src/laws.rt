@@ -1,6 +1,7 @@
 //! Laws over both ends: the server's `reply` and the client's `printed`, each as its own crate defines it.
 ghost use Rattle.endtoend.specs.Frames.{AFrameIsReadAsItsItems};
 ghost use Rattle.endtoend.specs.FromDriver.{UpscPrintsWhatTheDriverSetLast, UpscPrintsAllThatTheDriverSetLast};
+ghost use Rattle.endtoend.specs.Refused.{ARefusalIsTold};
 ghost use Rattle.endtoend.specs.Printed.{UpscPrintsTheVariables, UpscPrintsTheVariable, UpscPrintsHowManyAreLoggedIn, UpscPrintsTheUpses, UpsrwPrintsTheVariables, UpscmdPrintsTheCommands};
 
 use nutcore::laws::{
@@ -66,3 +67,10 @@ pub fn upsc_prints_what_the_driver_set_last()
     upsc_prints_the_variable();
     upsc_prints_the_variables();
 }
+
+/// A refusal is told: where the server answers a request of a job by `ERR` and a word, whichever of `upsc`, `upsrw` and
+/// `upscmd` asks, nothing is printed, and the job ends with that word; where it answers a user name, a password or an order
+/// by `OK`, the next request decides.
+pub fn a_refusal_is_told()
+    ensures { ARefusalIsTold }
+{}
