@@ -8,3 +8,4 @@ pub mod Printing
 pub mod Handing
 pub mod FromDriver
 pub mod Refused
+pub mod Ordered

@@ -4,3 +4,4 @@ pub mod Printed
 pub mod Handed
 pub mod FromDriver
 pub mod Refused
+pub mod Ordered

@@ -2,8 +2,10 @@
 ghost use Rattle.endtoend.specs.Frames.{AFrameIsReadAsItsItems};
 ghost use Rattle.endtoend.specs.FromDriver.{UpscPrintsWhatTheDriverSetLast, UpscPrintsAllThatTheDriverSetLast};
 ghost use Rattle.endtoend.specs.Refused.{ARefusalIsTold};
+ghost use Rattle.endtoend.specs.Ordered.{AnOrderThatIsPrintedIsGiven};
 ghost use Rattle.endtoend.specs.Printed.{UpscPrintsTheVariables, UpscPrintsTheVariable, UpscPrintsHowManyAreLoggedIn, UpscPrintsTheUpses, UpsrwPrintsTheVariables, UpscmdPrintsTheCommands};
 
+use nutanswer::laws::each_order_answered_ok_is_given;
 use nutcore::laws::{
     a_listing_is_what_is_held, what_a_driver_set_last_is_held, what_is_counted_is_who_is_there,
     whatever_is_told_is_fresh,
@@ -74,3 +76,12 @@ pub fn upsc_prints_what_the_driver_set_last()
 pub fn a_refusal_is_told()
     ensures { ARefusalIsTold }
 {}
+
+/// From the screen to the driver: where `upsrw -s` or `upscmd` prints a text of what the server answers to its order, that
+/// is `OK`, the server answered `OK`, and the line that it executed told the driver of that UPS the order, once, and no other
+/// driver anything. `what_a_driver_was_sent_and_is_owed` of nutcore says what becomes of what a driver was told.
+pub fn an_order_that_is_printed_is_given()
+    ensures { AnOrderThatIsPrintedIsGiven }
+{
+    each_order_answered_ok_is_given();
+}
