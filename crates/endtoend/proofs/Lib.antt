@@ -6,3 +6,6 @@ pub mod Requests
 pub mod Rows
 pub mod Printing
 pub mod Handing
+pub mod FromDriver
+pub mod Refused
+pub mod Ordered

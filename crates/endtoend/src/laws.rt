@@ -1,8 +1,15 @@
 //! Laws over both ends: the server's `reply` and the client's `printed`, each as its own crate defines it.
 ghost use Rattle.endtoend.specs.Frames.{AFrameIsReadAsItsItems};
+ghost use Rattle.endtoend.specs.FromDriver.{UpscPrintsWhatTheDriverSetLast, UpscPrintsAllThatTheDriverSetLast};
+ghost use Rattle.endtoend.specs.Refused.{ARefusalIsTold};
+ghost use Rattle.endtoend.specs.Ordered.{AnOrderThatIsPrintedIsGiven};
 ghost use Rattle.endtoend.specs.Printed.{UpscPrintsTheVariables, UpscPrintsTheVariable, UpscPrintsHowManyAreLoggedIn, UpscPrintsTheUpses, UpsrwPrintsTheVariables, UpscmdPrintsTheCommands};
 
-use nutcore::laws::{a_listing_is_what_is_held, what_is_counted_is_who_is_there};
+use nutanswer::laws::each_order_answered_ok_is_given;
+use nutcore::laws::{
+    a_listing_is_what_is_held, what_a_driver_set_last_is_held, what_is_counted_is_who_is_there,
+    whatever_is_told_is_fresh,
+};
 
 /// What is written as a listing is read as the reply of its items, in their order, whatever stands after it.
 pub fn a_frame_is_read_as_its_items()
@@ -48,3 +55,33 @@ pub fn upsrw_prints_the_variables()
 pub fn upscmd_prints_the_commands()
     ensures { UpscmdPrintsTheCommands }
 {}
+
+/// From the driver to the screen. Over every run from a new server: where `upsc UPS VAR` was answered, not by `ERR`, the UPS
+/// was fresh then, and where the last of its driver's lines since it connected that decides the variable gave it a value, that
+/// value is what is printed, as clients see it. What `upsc UPS` prints is a line for each variable that the UPS holds, and the
+/// last of these lines decides each.
+pub fn upsc_prints_what_the_driver_set_last()
+    ensures variable { UpscPrintsWhatTheDriverSetLast }
+    ensures variables { UpscPrintsAllThatTheDriverSetLast }
+{
+    whatever_is_told_is_fresh();
+    what_a_driver_set_last_is_held();
+    upsc_prints_the_variable();
+    upsc_prints_the_variables();
+}
+
+/// A refusal is told: where the server answers a request of a job by `ERR` and a word, whichever of `upsc`, `upsrw` and
+/// `upscmd` asks, nothing is printed, and the job ends with that word; where it answers a user name, a password or an order
+/// by `OK`, the next request decides.
+pub fn a_refusal_is_told()
+    ensures { ARefusalIsTold }
+{}
+
+/// From the screen to the driver: where `upsrw -s` or `upscmd` prints a text of what the server answers to its order, that
+/// is `OK`, the server answered `OK`, and the line that it executed told the driver of that UPS the order, once, and no other
+/// driver anything. `what_a_driver_was_sent_and_is_owed` of nutcore says what becomes of what a driver was told.
+pub fn an_order_that_is_printed_is_given()
+    ensures { AnOrderThatIsPrintedIsGiven }
+{
+    each_order_answered_ok_is_given();
+}

@@ -111,6 +111,9 @@ asked_no_more old new es os c lawful over r =
           sym (append-nil (owed c old)) ∙ ap (λ (xs : List Execution). owed c old ++ texts_of xs) (sym none) ∙ (run_sent old new es os lawful r c).while_open still;
     }
 
+pub stays_ending : (old new : ServerState) (es : List Event) (os : List Outcome) (c : ℕ) (y : SessionState) → IsLawful old → is_over c old ≡ true → Run old es os new → session c new ≡ Some y → y.ending ≡ true
+stays_ending old new es os c y lawful over r found = found_ending c c new y refl found (run_keeps c (AsksNoMore c) (asks_no_more c) old new es os r (over_there c old lawful over)).1
+
 -- ids: an outcome where memory is there gives none, but that of an opening
 gives_none : (b : Bool) (o p : Outcome) → id_given o ≡ [] → id_given p ≡ [] → id_given (cond b o p) ≡ []
 gives_none true o p e f = e

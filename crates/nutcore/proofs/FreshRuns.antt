@@ -1,7 +1,8 @@
 -- What is told of a UPS's data is fresh, over every run from a new server.
-use Rattle.std.proofs.Common.{◌≡◌, ◌≤◌, ◌<◌, ◌+◌, ◌-◌, ◌∙◌, ℕ, zero, suc, Bool, true, false, List, [], ◌∷◌, ◌++◌, Option, Some, None, Result, Ok, Err, refl, sym, ap, subst, map, max, length, arith}
+use Rattle.std.proofs.Common.{◌≡◌, ◌≤◌, ◌<◌, ◌+◌, ◌-◌, ◌∙◌, ℕ, zero, suc, Bool, true, false, List, [], ◌∷◌, ◌++◌, Option, Some, None, Result, Ok, Err, refl, sym, ap, subst, map, max, length, arith, cond, not, ltb, ◌||◌}
 use Rattle.std.specs.Prelude.{codes, nat_eq, slice_get}
 use Rattle.std.specs.List.{starts_with}
+use Rattle.std.proofs.lemmas.Bool.Decides.{nat_tests}
 use Rattle.std.proofs.lemmas.List.Elements.{All-weaker}
 use Rattle.nutcore.proofs.Common.{same_Some, slice_get_within, UpsId, Event, Outcome, UpsState, ServerState, session, ups_at, Step, after, Run}
 use Rattle.nutdriver.specs.declared.line.DriverLine.{DriverLine}
@@ -10,6 +11,9 @@ use Rattle.nutdriver.specs.declared.effect.Effect.{Effect}
 use Rattle.nutdriver.specs.declared.effect.Effect.TheVariants.{Nothing, Changed, DumpDone, DataOk, DataStale, Pong}
 use Rattle.nutdriver.specs.declared.report.Report.{Report}
 use Rattle.nutdriver.specs.Tree.{TreeState}
+use Rattle.nutdriver.specs.Sound.{IsSoundTree}
+use Rattle.nutdriver.specs.LastLine.{TheLastLineDecides, TheLastLineOnAVariableDecidesIt}
+use Rattle.nutdriver.specs.Additions.{changes}
 use Rattle.nutdriver.specs.DriverLine.{read_driver_line}
 use Rattle.nutdriver.specs.DriverStep.{driver_step}
 use Rattle.nutdriver.specs.Report.{Heard, connected_report, after_effect, after_step, after_reading, after_line, after_heard}
@@ -17,7 +21,7 @@ use Rattle.nutanswer.specs.declared.command.Command.{Command}
 use Rattle.nutanswer.specs.declared.err_word.ErrWord.{ErrWord}
 use Rattle.nutanswer.specs.Command.{read_command}
 use Rattle.nutanswer.specs.ErrWord.{error_line}
-use Rattle.nutanswer.specs.View.{UpsSeen}
+use Rattle.nutanswer.specs.View.{UpsSeen, readiness, usable, stale, not_connected}
 use Rattle.nutanswer.specs.Answer.{Answer, answer_to, text_of_answer}
 use Rattle.nutanswer.specs.Fresh.{asks_data_of, WhatIsToldIsFresh}
 use Rattle.nutanswer.proofs.PublicLaws.{a_named_ups_is_seen}
@@ -29,14 +33,15 @@ use Rattle.nutcore.specs.Step.{after_by, refused_after, ticked, opened}
 use Rattle.nutcore.specs.History.{Execution, of_line, of_notice}
 use Rattle.nutcore.specs.Headline.{IsInEvent, IsTimely}
 use Rattle.nutcore.specs.Isolation.{ups_of, without_commands, kept_from_clients}
-use Rattle.nutcore.specs.Sound.{IsSound, ANewServerIsSound, EveryRunKeepsTheServerSound}
+use Rattle.nutcore.specs.Sound.{IsSoundUps, IsSound, ANewServerIsSound, EveryRunKeepsTheServerSound}
 use Rattle.nutcore.specs.DriverHistory.{bytes_heard}
 use Rattle.nutcore.specs.DriverRuns.{IsNewServer, ConnectedInRun}
-use Rattle.nutcore.specs.FreshRuns.{tick_of, greatest_tick, TheMomentIsTheGreatestTick, lines_since, IsFreshIn, WasFresh, IsToldFresh, WhateverIsToldIsFresh}
+use Rattle.nutcore.specs.FreshRuns.{tick_of, greatest_tick, TheMomentIsTheGreatestTick, lines_since, IsFreshIn, WasFresh, IsToldFresh, WhateverIsToldIsFresh, WhatADriverSetLastIsHeld}
 use Rattle.nutcore.proofs.Addresses.{run_keeps_list}
 use Rattle.nutcore.proofs.DriverRuns.{since_connecting}
 use Rattle.nutcore.proofs.Events.{of_parts, of_opened, any_driver}
 use Rattle.nutcore.proofs.Executions.{each_answer_timely}
+use Rattle.nutcore.proofs.SoundUps.{each_get}
 use Rattle.nutcore.proofs.Isolation.{own, kept_in_lines, kept_in_input, kept_in_output}
 
 -- the moment and the greatest age after an event, and after a run
@@ -105,6 +110,17 @@ heard_now moment report line = by_reading (read_driver_line line)
     by_reading : (r : Result DriverLine DriverFault) → (after_reading at r).0.heard ≡ moment
     by_reading (Ok said) = by_step (driver_step report.tree said)
     by_reading (Err fault) = refl
+
+-- a report that is fresh is usable
+ready_is : (moment max_age : ℕ) (x : Report) → x.connected ≡ true → x.dumped ≡ true → x.ok ≡ true → moment - x.heard ≤ max_age → readiness moment max_age x ≡ usable
+ready_is moment max_age x connected dumped right recent = by x.connected x.dumped x.ok (ltb max_age (moment - x.heard)) connected dumped right (grind (arith, nat_tests))
+  where
+    by : (a b c d : Bool) → a ≡ true → b ≡ true → c ≡ true → d ≡ false → cond (not a) not_connected (cond (not b || (not c || d)) stale usable) ≡ usable
+    by true true true false e f g h = refl
+    by true true true true e f g h = cc h
+    by true true false d e f g h = cc g
+    by true false c d e f g h = cc f
+    by false b c d e f g h = cc e
 
 -- so a report was heard when the last of its lines was
 record IsLast (report : Report) (lines : List Heard) : Type 0 where
@@ -225,7 +241,10 @@ module _ (told : WhatIsToldIsFresh) (opening : ANewServerIsSound) (keeps : Every
       record {
         known = known;
         named = named;
+        ready = ready_is s.moment s.max_age known.state.report fresh.connected fresh.dumped fresh.ok fresh.heard;
+        sound = subst (λ (r : Report). IsSoundTree r.tree) (ap (λ (z : UpsState). z.report) was_at.is ∙ report) (each_get (IsSoundUps t.server.moment) t.server.upses u.place y was_at.there (keeps old t.server t.events_before t.outcomes_before t.reached sound_old).upses).tree;
         timely = t;
+        is = sym seen_at.is;
         fresh = record {
           now = x;
           there = seen_at.there;
@@ -242,3 +261,8 @@ module _ (told : WhatIsToldIsFresh) (opening : ANewServerIsSound) (keeps : Every
 pub whatever_is_told_is_fresh : WhatIsToldIsFresh → ANewServerIsSound → EveryRunKeepsTheServerSound → WhateverIsToldIsFresh
 whatever_is_told_is_fresh told opening keeps old new es os is_new r =
     All-weaker (IsTimely old es os) (IsToldFresh old es os) (line_fresh told opening keeps old is_new es os) _ (each_answer_timely old new es os r)
+
+-- what a driver set last
+pub set_last_is_held : TheLastLineOnAVariableDecidesIt → WhatADriverSetLastIsHeld
+set_last_is_held decides old es os u now name k =
+    subst (λ (r : Report). TheLastLineDecides r.tree (changes (connected_report k.server.moment) (lines_since k)) name) (sym k.connects.is_heard.report) (decides k.server.moment (lines_since k) name)

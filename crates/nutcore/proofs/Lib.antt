@@ -43,6 +43,8 @@ mod Bounded
 mod Takes
 mod Taking
 mod TakingAmongOthers
+mod NotStuck
+mod Totals
 mod Listed
 mod DriverHistory
 mod DriverRuns

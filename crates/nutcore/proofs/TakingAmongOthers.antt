@@ -21,11 +21,11 @@ use Rattle.nutcore.proofs.Takes.{HasNothingLeft, all_taken, outcome_then, server
 use Rattle.nutcore.proofs.Taking.{take_counts}
 
 -- what a client holds and owes stays: its session does, or one is opened for it
-record IsUntouched (old new : Option SessionState) : Type 0 where
-  owes : owed_of new ≡ owed_of old
-  holds : held_of new ≡ held_of old
-  stops : is_none (option_and_then next_line new) ≡ is_none (option_and_then next_line old)
-  long : option_map_or holds_overlong new false ≡ option_map_or holds_overlong old false
+pub record IsUntouched (old new : Option SessionState) : Type 0 where
+  pub owes : owed_of new ≡ owed_of old
+  pub holds : held_of new ≡ held_of old
+  pub stops : is_none (option_and_then next_line new) ≡ is_none (option_and_then next_line old)
+  pub long : option_map_or holds_overlong new false ≡ option_map_or holds_overlong old false
 
 same_session : (old new : Option SessionState) → new ≡ old → IsUntouched old new
 same_session old new e = record {
@@ -36,11 +36,11 @@ same_session old new e = record {
 }
 
 -- another's event executes nothing of the client, and leaves what it holds and owes
-record IsAnothers (c : ℕ) (s : ServerState) (t : ServerState) (done : List Execution) : Type 0 where
-  nothing : done ≡ []
-  untouched : IsUntouched (session c s) (session c t)
+pub record IsAnothers (c : ℕ) (s : ServerState) (t : ServerState) (done : List Execution) : Type 0 where
+  pub nothing : done ≡ []
+  pub untouched : IsUntouched (session c s) (session c t)
 
-anothers : (c : ℕ) (s : ServerState) (e : Event) (m : Option ℕ) → client_of e ≢ Some c → IsAnothers c s (after_by s e m) (of_client c (executions_by s e m))
+pub anothers : (c : ℕ) (s : ServerState) (e : Event) (m : Option ℕ) → client_of e ≢ Some c → IsAnothers c s (after_by s e m) (of_client c (executions_by s e m))
 unfolding executions_by after_by
 anothers c s e m =
     of_session_event (λ e. client_of e ≢ Some c → IsAnothers c s (after_by s e m) (of_client c (executions_by s e m)))
@@ -63,11 +63,11 @@ anothers c s e m =
     e
 
 -- whose the event is
-its_own : (c : ℕ) (d : Option ℕ) → option_map_or (λ k. eqb k c) d false ≡ true → d ≡ Some c
+pub its_own : (c : ℕ) (d : Option ℕ) → option_map_or (λ k. eqb k c) d false ≡ true → d ≡ Some c
 its_own c None e = cc e
 its_own c (Some k) e = ap Some (eqb-true k c e)
 
-not_its_own : (c : ℕ) (d : Option ℕ) → option_map_or (λ k. eqb k c) d false ≡ false → d ≢ Some c
+pub not_its_own : (c : ℕ) (d : Option ℕ) → option_map_or (λ k. eqb k c) d false ≡ false → d ≢ Some c
 not_its_own c None e = λ h. cc h
 not_its_own c (Some k) e = λ h. let same : k ≡ c = cc h in let yes_same = eq-eqb k c same in cc
 

@@ -2,18 +2,24 @@
 use Rattle.std.specs.Prelude.{◌≡◌, ◌≤◌, ◌+◌, ℕ, true, false, List, [], ◌∷◌, ◌++◌, Option, Some}
 use Rattle.std.specs.Prelude.{Ok, All, codes, max, nat_eq}
 use Rattle.std.specs.List.{starts_with}
+use Rattle.nutdriver.specs.declared.line.DriverLine.{DriverLine}
+use Rattle.nutdriver.specs.Report.{connected_report}
+use Rattle.nutdriver.specs.Additions.{changes}
+use Rattle.nutdriver.specs.LastLine.{TheLastLineDecides}
+use Rattle.nutdriver.specs.Sound.{IsSoundTree}
 use Rattle.nutusers.specs.declared.ups_list.UpsId.{UpsId}
 use Rattle.nutanswer.specs.declared.command.Command.{Command}
 use Rattle.nutanswer.specs.Command.{read_command}
 use Rattle.nutanswer.specs.Checks.{KnownUps, ups_named}
 use Rattle.nutanswer.specs.Fresh.{asks_data_of}
+use Rattle.nutanswer.specs.View.{readiness, usable}
 use Rattle.nutcore.specs.declared.event.Event.{Event}
 use Rattle.nutcore.specs.declared.event.Event.TheVariants.{DriverUp, Tick}
 use Rattle.nutcore.specs.declared.event.Outcome.{Outcome}
 use Rattle.nutcore.specs.declared.event.Outcome.TheVariants.{Done}
 use Rattle.nutcore.specs.Ups.{UpsState}
 use Rattle.nutcore.specs.Server.{ServerState, ups_at}
-use Rattle.nutcore.specs.Reply.{seen, reply}
+use Rattle.nutcore.specs.Reply.{seen, seen_ups, reply}
 use Rattle.nutcore.specs.Step.{after}
 use Rattle.nutcore.specs.Run.{Run}
 use Rattle.nutcore.specs.History.{Execution, of_line, of_notice, executions}
@@ -65,14 +71,17 @@ pub record IsFreshIn (old : ServerState) (events : List Event) (outcomes : List 
   pub lines_are : lines_since connected ≡ earlier ++ last ∷ []
   pub recent : greatest_tick events ≤ last.moment + old.max_age
 
--- The UPS that was asked for was there, and fresh in the run's beginning before the event that
--- executed the line.
+-- The UPS that was asked for was there, usable and sound, and fresh in the run's beginning before the
+-- event that executed the line.
 pub record WasFresh (old : ServerState) (events : List Event) (outcomes : List Outcome)
     (s : ServerState) (c : ℕ) (line : List ℕ) (ups : Option (List ℕ)) : Type 0 where
   pub known : KnownUps
   pub named : ups_named (seen s) ups ≡ Some known
+  pub ready : readiness s.moment s.max_age known.state.report ≡ usable
+  pub sound : IsSoundTree known.state.report.tree
   pub timely : IsTimely old events outcomes (of_line s c line)
   pub fresh : IsFreshIn old timely.events_before timely.outcomes_before s known.id
+  pub is : known.state ≡ seen_ups fresh.now
 
 -- Where a line asks for the data of a UPS, or gives its driver an order, and isn't answered by ERR.
 abbrev pub IsToldFresh : ServerState → List Event → List Outcome → Execution → Type 0
@@ -88,3 +97,17 @@ WhateverIsToldIsFresh =
     (old new : ServerState) (events : List Event) (outcomes : List Outcome) → IsNewServer old
     → Run old events outcomes new
     → All (IsToldFresh old events outcomes) (executions old events outcomes)
+
+-- Those of its lines since it connected that changed its tree.
+abbrev pub changes_since : {u : UpsId} {old : ServerState} {events : List Event}
+    {outcomes : List Outcome} {now : UpsState} → ConnectedInRun u old events outcomes now
+    → List DriverLine
+changes_since c = changes (connected_report c.server.moment) (lines_since c)
+
+-- What the driver of a UPS set last, since it connected, the UPS holds: the last of these lines that
+-- decides a variable.
+abbrev pub WhatADriverSetLastIsHeld : Type 0
+WhatADriverSetLastIsHeld =
+    (old : ServerState) (events : List Event) (outcomes : List Outcome) (u : UpsId) (now : UpsState)
+    (name : List ℕ) (c : ConnectedInRun u old events outcomes now)
+    → TheLastLineDecides now.report.tree (changes_since c) name

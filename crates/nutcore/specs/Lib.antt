@@ -16,6 +16,8 @@ pub mod Sound
 pub mod Waiting
 pub mod Bounded
 pub mod Taking
+pub mod NotStuck
+pub mod Totals
 pub mod Listed
 pub mod DriverHistory
 pub mod DriverRuns

@@ -12,10 +12,12 @@ ghost use Rattle.nutcore.specs.Happenings.{AnswersComeOfWhatHappens, AQuietTakeC
 ghost use Rattle.nutcore.specs.Limits.{Limits};
 ghost use Rattle.nutcore.specs.Bounded.{EachEventIsBounded};
 ghost use Rattle.nutcore.specs.Taking.{WhoTakesGetsEverything, WhoTakesAmongOthersGetsEverything};
+ghost use Rattle.nutcore.specs.NotStuck.{WhoIsOwedLittleHasRoom, WhoEndsIsFinished};
+ghost use Rattle.nutcore.specs.Totals.{AServerIsBoundedInAll};
 ghost use Rattle.nutcore.specs.Lines.{WholeLinesAreTheCut};
 ghost use Rattle.nutcore.specs.DriverHistory.{WhatADriverToldIsExecuted};
 ghost use Rattle.nutcore.specs.DriverRuns.{WhatCameSinceConnectingIsExecuted, ALostDriversLinesAreABeginning, WhichLinesAreRefused, RefusedLinesAreCounted, ANewServerCountsAllRefusedLines};
-ghost use Rattle.nutcore.specs.FreshRuns.{TheMomentIsTheGreatestTick, WhateverIsToldIsFresh};
+ghost use Rattle.nutcore.specs.FreshRuns.{TheMomentIsTheGreatestTick, WhateverIsToldIsFresh, WhatADriverSetLastIsHeld};
 ghost use Rattle.nutcore.specs.DriverOrders.{WhatADriverWasSentAndIsOwedIsWhatItWasTold};
 ghost use Rattle.nutcore.specs.Listed.{EachIsListedOnce, WhatIsListedIsWhatIsHeld};
 ghost use Rattle.nutcore.specs.ReadsBack.{EachListingReadsBack};
@@ -23,7 +25,10 @@ ghost use Rattle.nutcore.specs.Addresses.{ANewServerHasLawfulAddresses, EveryRun
 ghost use Rattle.nutcore.specs.Sound.{ANewServerIsSound, EachEventKeepsTheServerSound, EveryRunKeepsTheServerSound, ASoundServerIsLawful};
 
 use nutanswer::laws::{only_ok_changes, what_is_told_is_fresh};
-use nutdriver::laws::{each_line_keeps_the_tree_sound, lawful_lines_keep_trees_sound};
+use nutdriver::laws::{
+    each_line_keeps_the_tree_sound, lawful_lines_keep_trees_sound,
+    the_last_line_on_a_variable_decides_it,
+};
 use nutwords::laws::listing_is_read_back;
 
 /// Over every run, what each client was sent, followed by what it is still owed, is exactly the
@@ -218,6 +223,14 @@ pub fn whatever_is_told_is_fresh()
     every_server_is_sound();
 }
 
+/// What the driver of a UPS set last is what the UPS holds: of those of its lines since it connected that were done, the last
+/// one that gave a variable its value, or took it away, decides it.
+pub fn what_a_driver_set_last_is_held()
+    ensures { WhatADriverSetLastIsHeld }
+{
+    the_last_line_on_a_variable_decides_it();
+}
+
 /// The other half: over every run, what the driver of a UPS was owed, followed by what its connections (`DUMPALL`), the
 /// lines that were executed (orders) and the ticks (`PING`) told it, in their order, is what was taken for it, followed by
 /// what it is owed. A driver that is lost was sent a beginning of that, and the next connection begins with nothing owed.
@@ -260,6 +273,21 @@ pub fn each_event_is_bounded()
 pub fn who_takes_gets_everything()
     ensures alone { WhoTakesGetsEverything }
     ensures among_others { WhoTakesAmongOthersGetsEverything }
+{}
+
+/// Nobody is stuck. Of a client that opened in a run, whose session isn't ending and to which at most 2,048 bytes are owed,
+/// memory was there whenever it sent or took: then it holds no whole line, and fewer bytes than it may. A session that is
+/// ending is finished once as many bytes are taken as it was owed. `who_takes_gets_everything` says how many takes that is.
+pub fn nobody_is_stuck()
+    ensures room { WhoIsOwedLittleHasRoom }
+    ensures finished { WhoEndsIsFinished }
+{}
+
+/// The whole server in numbers: its sessions hold at most 64 times 1,024 bytes together, and are offered at most 64 times
+/// 4,096; the drivers of its UPSs are owed at most 32 times 2,048; and its trees together have at most 32 times as many
+/// variables, commands, enum values and ranges as one may.
+pub fn a_server_is_bounded_in_all()
+    ensures { AServerIsBoundedInAll }
 {}
 
 /// Given a server, an event and its outcome there is one next server, and but where memory is refused

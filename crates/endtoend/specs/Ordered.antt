@@ -1,0 +1,42 @@
+-- From the screen to the driver: an order whose OK a client printed was given.
+use Rattle.std.specs.Prelude.{◌≡◌, ◌==◌, ℕ, List, [], ◌∷◌, ◌++◌, Option, Some, codes, IsTrue, IfSome}
+use Rattle.std.specs.Prelude.{if◌then◌else◌}
+use Rattle.nutwords.specs.Frame.{line_of}
+use Rattle.nutwords.specs.Reading.{is_name, is_ups_name, is_value}
+use Rattle.nutusers.specs.declared.ups_list.UpsId.{UpsId}
+use Rattle.nutanswer.specs.Checks.{KnownUps, ups_named}
+use Rattle.nutanswer.specs.Orders.{set_line, instcmd_line}
+use Rattle.nutcore.specs.Server.{ServerState}
+use Rattle.nutcore.specs.Reply.{seen, reply}
+use Rattle.nutcore.specs.History.{of_line}
+use Rattle.nutcore.specs.DriverOrders.{order, told_by_line}
+use Rattle.nutreply.specs.declared.request.Request.{Request}
+use Rattle.nutreply.specs.declared.request.Request.TheVariants.{SetVar, Instcmd}
+use Rattle.nutclient.specs.Printed.{Prints, printed}
+use Rattle.nutclient.specs.declared.form.Form.TheVariants as forms
+use Rattle.endtoend.specs.Served.{IsLineOf}
+
+-- The line was answered by OK; it tells the driver of this UPS the order, once, and no other driver
+-- anything. What was printed is `OK`.
+pub record IsOrdered (s : ServerState) (c : ℕ) (line ups bytes text : List ℕ) : Type 0 where
+  pub known : KnownUps
+  pub named : ups_named (seen s) (Some ups) ≡ Some known
+  pub answered : reply s c line ≡ line_of (codes "OK" ∷ [])
+  pub told : (u : UpsId) → told_by_line u (of_line s c line)
+      ≡ (if known.id.place == u.place then order bytes ∷ [] else [])
+  pub text_is : text ≡ line_of (codes "OK" ∷ [])
+
+-- Whatever comes after the server's answer to the order of `upsrw -s` or `upscmd`: where a text is
+-- printed, the order was given.
+pub record AnOrderThatIsPrintedIsGiven : Type 0 where
+  pub set : (s : ServerState) (c : ℕ) (line ups name value more text : List ℕ)
+      → IsTrue (is_ups_name ups) → IsTrue (is_name name) → IsTrue (is_value value)
+      → IsLineOf (SetVar ups name value) line
+      → printed (SetVar ups name value ∷ []) forms.Value (reply s c line ++ more) ≡ Prints text
+      → IsOrdered s c line ups (set_line name value) text
+  pub command : (s : ServerState) (c : ℕ) (line ups name : List ℕ) (value : Option (List ℕ))
+      (more text : List ℕ)
+      → IsTrue (is_ups_name ups) → IsTrue (is_name name)
+      → IfSome value (λ v. IsTrue (is_value v)) → IsLineOf (Instcmd ups name value) line
+      → printed (Instcmd ups name value ∷ []) forms.Value (reply s c line ++ more) ≡ Prints text
+      → IsOrdered s c line ups (instcmd_line name value) text

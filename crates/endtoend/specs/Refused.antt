@@ -1,0 +1,35 @@
+-- What a client makes of a server's refusal, and of an order's OK.
+use Rattle.std.specs.Prelude.{◌≡◌, ℕ, Bool, true, false, List, [], ◌∷◌, ◌++◌, codes}
+use Rattle.nutwords.specs.Frame.{line_of}
+use Rattle.nutanswer.specs.ErrWord.{error_line, spelling_of}
+use Rattle.nutanswer.specs.declared.err_word.ErrWord.{ErrWord}
+use Rattle.nutcore.specs.Server.{ServerState}
+use Rattle.nutcore.specs.Reply.{reply}
+use Rattle.nutreply.specs.declared.faults.ClientFault.TheVariants.{ErrWord as ServerRefused}
+use Rattle.nutreply.specs.declared.request.Request.{Request}
+use Rattle.nutreply.specs.declared.request.Request.TheVariants.{List as ListOf, GetVar}
+use Rattle.nutreply.specs.declared.request.Request.TheVariants.{GetNumAttach}
+use Rattle.nutclient.specs.Printed.{Faults, printed}
+use Rattle.nutclient.specs.declared.form.Form.{Form}
+
+-- The request is granted by OK: a user name, a password, and orders are.
+abbrev pub is_granted_by_ok : Request → Bool
+is_granted_by_ok (ListOf query) = false
+is_granted_by_ok (GetVar ups name) = false
+is_granted_by_ok (GetNumAttach ups) = false
+is_granted_by_ok _ = true
+
+-- Where the server answers a request by ERR, whatever was to be asked after it and whatever comes
+-- after the answer, nothing is printed, and the job ends with the word of the error. And where a
+-- request that isn't the last is answered by OK, what the others make of the rest decides. So it is
+-- for each request of a job.
+pub record ARefusalIsTold : Type 0 where
+  pub refused : (s : ServerState) (c : ℕ) (line : List ℕ) (word : ErrWord) (request : Request)
+      (requests : List Request) (form : Form) (more : List ℕ) → reply s c line ≡ error_line word
+      → printed (request ∷ requests) form (reply s c line ++ more)
+      ≡ Faults (ServerRefused (spelling_of word))
+  pub granted : (s : ServerState) (c : ℕ) (line : List ℕ) (request next : Request)
+      (requests : List Request) (form : Form) (more : List ℕ) → is_granted_by_ok request ≡ true
+      → reply s c line ≡ line_of (codes "OK" ∷ [])
+      → printed (request ∷ next ∷ requests) form (reply s c line ++ more)
+      ≡ printed (next ∷ requests) form more

@@ -1,0 +1,51 @@
+-- The whole server in numbers: the sums of what its sessions and its UPSs have.
+use Rattle.std.specs.Prelude.{◌≡◌, ◌≤◌, ◌+◌, ◌*◌, ℕ, List, [], ◌∷◌, Some, length}
+use Rattle.nutlisting.specs.declared.ring.TheConstants.{RING_LIMIT}
+use Rattle.nutlisting.specs.declared.listing.clients.TheConstants.{SESSION_LIMIT}
+use Rattle.nutdriver.specs.declared.limits.TheConstants.{VARIABLE_LIMIT, COMMAND_LIMIT, ENUM_LIMIT}
+use Rattle.nutdriver.specs.declared.limits.TheConstants.{RANGE_LIMIT}
+use Rattle.nutdriver.specs.Variable.{VariableState}
+use Rattle.nutusers.specs.declared.limits.TheConstants.{UPS_LIMIT}
+use Rattle.nutcore.specs.declared.TheConstants.{HELD_LIMIT, DRIVER_OWED_LIMIT}
+use Rattle.nutcore.specs.Session.{SessionState}
+use Rattle.nutcore.specs.Ups.{UpsState}
+use Rattle.nutcore.specs.Server.{ServerState}
+use Rattle.nutcore.specs.Step.{offered}
+use Rattle.nutcore.specs.Sound.{IsSound}
+
+-- The sum of their sizes.
+abbrev pub total : {A : Type 0} → (A → ℕ) → List A → ℕ
+total size [] = 0
+total size (x ∷ xs) = size x + total size xs
+
+-- How many variables and commands a UPS has, and how many enum values and ranges its variables.
+abbrev pub variables_of : UpsState → ℕ
+variables_of x = length x.report.tree.variables
+
+abbrev pub commands_of : UpsState → ℕ
+commands_of x = length x.report.tree.commands
+
+abbrev pub enum_values_of : UpsState → ℕ
+enum_values_of x = total (λ (entry : List ℕ × VariableState). length entry.1.enum_values)
+    x.report.tree.variables
+
+abbrev pub ranges_of : UpsState → ℕ
+ranges_of x = total (λ (entry : List ℕ × VariableState). length entry.1.ranges)
+    x.report.tree.variables
+
+-- At most 64 sessions hold and are offered so many bytes together, and the drivers of at most 32
+-- UPSs are owed so many; all their trees together have so many entries.
+pub record IsBoundedInAll (s : ServerState) : Type 0 where
+  pub held : total (λ (x : SessionState). length x.held) s.sessions ≤ SESSION_LIMIT * HELD_LIMIT
+  pub offered : total (λ (x : SessionState). length (offered (Some x))) s.sessions
+      ≤ SESSION_LIMIT * RING_LIMIT
+  pub owed_to_drivers : total (λ (x : UpsState). length x.owed) s.upses
+      ≤ UPS_LIMIT * DRIVER_OWED_LIMIT
+  pub variables : total variables_of s.upses ≤ UPS_LIMIT * VARIABLE_LIMIT
+  pub commands : total commands_of s.upses ≤ UPS_LIMIT * COMMAND_LIMIT
+  pub enum_values : total enum_values_of s.upses ≤ UPS_LIMIT * (VARIABLE_LIMIT * ENUM_LIMIT)
+  pub ranges : total ranges_of s.upses ≤ UPS_LIMIT * (VARIABLE_LIMIT * RANGE_LIMIT)
+
+-- Of every sound server, as each server is.
+abbrev pub AServerIsBoundedInAll : Type 0
+AServerIsBoundedInAll = (s : ServerState) → IsSound s → IsBoundedInAll s
