@@ -1,10 +1,11 @@
 -- The first line of some bytes.
-use Rattle.std.proofs.Common.{◌≡◌, ℕ, suc, ◌+◌, ◌<◌, true, false, eqb, get_or, List, [], ◌∷◌, ◌++◌, length, take, drop, Option, Some, None, refl, sym, ap, ◌∙◌, arith, append_assoc, length-append, length-take, drop-cons}
+use Rattle.std.proofs.Common.{◌≡◌, ℕ, suc, ◌+◌, ◌<◌, true, false, eqb, get_or, List, [], ◌∷◌, ◌++◌, length, take, drop, Option, Some, None, refl, sym, ap, ◌∙◌, arith, append_assoc, length-append, length-drop, length-take, drop-cons, ◌≤◌}
 use Rattle.std.specs.Option.{option_map}
 use Rattle.std.specs.Prelude.{MatchOption}
 use Rattle.bstr.specs.Find.{IsFirstByte, is_byte}
 use Rattle.std.proofs.lemmas.Bool.{eqb-true, false_from_ne_true}
 use Rattle.std.proofs.lemmas.Grind.{get_or_default_zero}
+use Rattle.std.proofs.Math.Seq.{take-append_seam}
 use Rattle.std.proofs.lemmas.List.{take-append-drop, get_or-take}
 use Rattle.std.proofs.lemmas.List.Folds.{list_any_none}
 use Rattle.nutwords.specs.SplitLine.{split_line, has_lf}
@@ -50,6 +51,22 @@ pub behind_shorter : (bytes line : List ℕ) → first_line bytes ≡ Some line 
 behind_shorter bytes line h =
     let e = ap length (split_is bytes line (rest_after line bytes) (line_found bytes line h)) in
     omega (arith, e, length-append line (10 ∷ rest_after line bytes))
+
+-- where it ends says which one it is
+ends_by : (bytes : List ℕ) (end : ℕ) (o : Option (List ℕ)) → first_line bytes ≡ o → option_map length o ≡ Some end → (first_line bytes ≡ Some (take end bytes)) × (end < length bytes)
+ends_by bytes end None e h = cc
+ends_by bytes end (Some line) e h =
+    let long : length line ≡ end = cc h in
+    let whole : bytes ≡ line ++ 10 ∷ rest_after line bytes = split_is bytes line (rest_after line bytes) (line_found bytes line e) in
+    let front : take end bytes ≡ line = ap (λ n. take n bytes) (sym long) ∙ ap (λ z. take (length line) z) whole ∙ take-append_seam line (10 ∷ rest_after line bytes) in
+    (e ∙ ap Some (sym front), omega (arith, long, behind_shorter bytes line e))
+
+pub line_ends : (bytes : List ℕ) (end : ℕ) → option_map length (first_line bytes) ≡ Some end → (first_line bytes ≡ Some (take end bytes)) × (end < length bytes)
+line_ends bytes end h = ends_by bytes end (first_line bytes) refl h
+
+-- where these bytes are what is left of others, it ends within those
+pub ends_within : (bytes held : List ℕ) (from end : ℕ) → drop from bytes ≡ held → option_map length (first_line held) ≡ Some end → from + end + 1 ≤ length bytes
+ends_within bytes held from end is h = omega (arith, (line_ends held end h).1, ap length is, length-drop from bytes)
 
 -- no byte is LF
 no_lf : (bytes : List ℕ) → ((j : ℕ) → j < length bytes → eqb (get_or bytes j 0) 10 ≡ true → ⊥) → has_lf bytes ≡ false

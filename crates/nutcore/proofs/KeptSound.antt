@@ -1,6 +1,6 @@
 -- What a method puts in place of one session or of one UPS keeps the server sound.
 use Rattle.std.proofs.Common.{◌≡◌, ℕ, true, false, ◌||◌, List, [], Option, Some, None, Result, Ok, Err, refl, sym, ◌∙◌, ap, subst, set, length, arith}
-use Rattle.std.specs.Prelude.{is_some, nat_lt}
+use Rattle.std.specs.Prelude.{option_map, nat_lt}
 use denote.Ref.{MutBor}
 use Rattle.std.specs.Fn.{Once, FnOnceReturnsAtMut}
 use Rattle.nutdriver.specs.Tree.{empty_tree}
@@ -29,14 +29,14 @@ session_kept v c i x y at found id keeps h =
     subst IsSound (sym (set_is v c i y at (id ∙ find_id c v.sessions x found))) (sound_with v y (keeps (each_found IsSoundSession c v.sessions x found h.sessions)) h)
 
 -- its next line is answered
-pub answered_kept : (change : Change) (text : List ℕ) (x y : SessionState) → is_some (next_line x) ≡ true → ((line : List ℕ) → next_line x ≡ Some line → y ≡ changed_session change (answered line text x)) →
+pub answered_kept : (change : Change) (text : List ℕ) (x y : SessionState) (end : ℕ) → option_map length (next_line x) ≡ Some end → ((line : List ℕ) → next_line x ≡ Some line → y ≡ changed_session change (answered line text x)) →
     IsSoundSession x → IsSoundSession y
-answered_kept change text x y going is h = by_line (next_line x) refl going
+answered_kept change text x y end going is h = by_line (next_line x) refl going
   where
     going_of : (line : List ℕ) → next_line x ≡ Some line → x.ending ≡ false
     going_of line = cond_both (x.ending || nat_lt OWED_LIMIT (length x.owed)) None (first_line x.held) (λ o. o ≡ Some line → x.ending ≡ false) (λ k e. cc e) (λ k e. (or_parts x.ending (nat_lt OWED_LIMIT (length x.owed)) k).0)
 
-    by_line : (o : Option (List ℕ)) → next_line x ≡ o → is_some o ≡ true → IsSoundSession y
+    by_line : (o : Option (List ℕ)) → next_line x ≡ o → option_map length o ≡ Some end → IsSoundSession y
     by_line None e some = cc some
     by_line (Some line) e some = subst IsSoundSession (sym (is line e)) (sound_answered change line text x (going_of line e) h)
 

@@ -1,5 +1,5 @@
 -- What one line of a client leaves of the server, and the notice.
-use Rattle.std.proofs.Common.{◌≡◌, ◌≢◌, ℕ, Bool, true, false, List, [], ◌∷◌, Option, Some, None, refl, sym, ◌∙◌, ap, subst, cond, ltb, length}
+use Rattle.std.proofs.Common.{◌≡◌, ◌≢◌, ℕ, Bool, true, false, List, [], ◌∷◌, Option, Some, None, refl, sym, ◌∙◌, ap, subst, cond, ltb, ◌<◌, length, take}
 use Rattle.std.specs.Prelude.{◌||◌, option_map, option_and_then}
 use Rattle.std.specs.Option.{option_map_or}
 use Rattle.std.proofs.lemmas.Bool.{or_parts, cond-true, cond-false}
@@ -11,6 +11,7 @@ use Rattle.nutcore.specs.Session.{find, put}
 use Rattle.nutcore.specs.Reply.{reply, change_by, changed, changed_session, changed_upses}
 use Rattle.nutcore.specs.Pump.{next_line, next_line_for, answered, after_reply, after_line, after_notice, is_overlong, holds_overlong, notified, with_notice}
 use Rattle.nutcore.specs.History.{Execution, of_notice, notice}
+use Rattle.nutcore.proofs.FirstLine.{line_ends}
 use Rattle.nutcore.proofs.Changes.{keeps}
 use Rattle.nutcore.proofs.Progress.{presence}
 use Rattle.nutcore.proofs.Found.{find_id, find_put, find_put_other, put_put, put_found}
@@ -44,6 +45,14 @@ next_of s c line (Some x) found h =
 
 pub is_next : (s : ServerState) (c : ℕ) (line : List ℕ) → next_line_for s c ≡ Some line → IsNext s c line
 is_next s c line h = next_of s c line (session c s) refl h
+
+-- where the next line ends says which one it is
+ends_unless : (b : Bool) (bytes : List ℕ) (end : ℕ) → option_map length (cond b None (first_line bytes)) ≡ Some end → (cond b None (first_line bytes) ≡ Some (take end bytes)) × (end < length bytes)
+ends_unless true bytes end h = cc h
+ends_unless false bytes end h = line_ends bytes end h
+
+pub next_line_ends : (x : SessionState) (end : ℕ) → option_map length (next_line x) ≡ Some end → (next_line x ≡ Some (take end x.held)) × (end < length x.held)
+next_line_ends x end h = ends_unless (x.ending || ltb OWED_LIMIT (length x.owed)) x.held end h
 
 -- where there is no next line, nothing happens
 pub stopped_none : (s : ServerState) (c : ℕ) → next_line_for s c ≡ None → after_line s c ≡ s

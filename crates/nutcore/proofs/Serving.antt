@@ -1,8 +1,8 @@
 -- What the server's methods do, over plain states.
 use Rattle.std.proofs.Common.{◌≡◌, ℕ, ◌+◌, ◌<◌, ◌≤◌, Bool, true, false, List, [], ◌++◌, Option, Some, None, Result, Ok, Err, refl, sym, ◌∙◌, ap, subst, arith, length, get_or, set, take, drop, inl, length-append, ◌∷◌}
-use Rattle.std.specs.Prelude.{IsTrue, IfOk, OnOk, OnErr, MatchOption, is_err, is_some, is_none, option_and_then}
-use Rattle.std.specs.Option.{option_map_or}
-use Rattle.std.proofs.lemmas.Bool.{le-leb, lt-leb, leb-true, cond-true, cond-false}
+use Rattle.std.specs.Prelude.{IsTrue, IfOk, OnOk, OnErr, is_err, is_none, option_and_then}
+use Rattle.std.specs.Option.{option_map, option_map_or}
+use Rattle.std.proofs.lemmas.Bool.{le-leb, lt-leb}
 use Rattle.nutcore.proofs.Common.{Change, Fault, SessionState, ServerState, session, with_session, with_session_changed}
 use Rattle.nutcore.specs.Session.{find, without, IdsRise, new_session}
 use Rattle.std.specs.declared.alloc.AllocError.{AllocError}
@@ -12,7 +12,7 @@ use Rattle.nutanswer.specs.View.{AskerSeen}
 use Rattle.nutanswer.specs.Answer.{answer_to, IsReply, shares_version, text_of_answer, change_of_answer}
 use Rattle.nutanswer.specs.Command.{read_command}
 use Rattle.nutcore.specs.Reply.{seen, asker, reply, text_to, change_by, changed_session, changed_upses}
-use Rattle.nutcore.specs.Pump.{next_line, next_line_for, answered, after_line, after_lines, pump_stops, held_of, after_all_lines, pumped, after_notice, is_overlong, holds_overlong, notified, with_notice, wants_memory, shares_version_read}
+use Rattle.nutcore.specs.Pump.{next_line, next_line_for, answered, after_line, after_lines, pump_stops, held_of, after_all_lines, pumped, after_notice, is_overlong, with_notice, wants_memory, shares_version_read}
 use Rattle.nutcore.specs.Step.{offered, may_take}
 use Rattle.nutanswer.specs.declared.command.Command.{Command}
 use Rattle.nutanswer.specs.declared.err_word.ErrWord.{ErrWord}
@@ -22,8 +22,8 @@ use Rattle.nutanswer.specs.declared.reply.Change.TheVariants.{Nothing}
 use Rattle.nutlisting.specs.Items.{text_of, client_listing}
 use Rattle.nutlisting.specs.declared.outbox.TheConstants.{OWED_LIMIT}
 use Rattle.nutcore.specs.Promises.{place, IsAt, PumpGives, refused_overlong, IsText, IsLineOrNone, Replies, RepliesOrLacks, text_with, change_in, ListsClients}
-use Rattle.nutcore.proofs.Found.{find_id, put_found}
-use Rattle.nutcore.proofs.Changed.{by_change, change_is, session_put, notice_id}
+use Rattle.nutcore.proofs.Found.{find_id}
+use Rattle.nutcore.proofs.Changed.{change_is, session_put, notice_id}
 use Rattle.nutcore.proofs.Pumping.{after_line_is, is_next, session_after, session_after_id, line_done}
 use Rattle.nutcore.proofs.Places.{at_put, found_at, find_at, put_is, without_at}
 use Rattle.nutcore.proofs.Loops.{after_lines-suc, all_lines_are}
@@ -74,29 +74,21 @@ session_set s c i x y h e id = ap (session c) (set_is s c i y h id) ∙ session_
 pub next_of_found : (s : ServerState) (c : ℕ) (x : SessionState) (line : List ℕ) → session c s ≡ Some x → next_line_for s c ≡ Some line → next_line x ≡ Some line
 next_of_found s c x line found h = ap (option_and_then next_line) (sym found) ∙ h
 
--- whether the session has one
-pub has_next : (s : ServerState) (c : ℕ) (x : SessionState) → session c s ≡ Some x → is_some (next_line x) ≡ is_some (next_line_for s c)
-has_next s c x found = ap (λ (o : Option SessionState). is_some (option_and_then next_line o)) (sym found)
+-- so is where it ends
+pub next_end_is : (s : ServerState) (c : ℕ) (x : SessionState) → session c s ≡ Some x → option_map length (next_line x) ≡ option_map length (next_line_for s c)
+next_end_is s c x found = ap (λ (o : Option SessionState). option_map length (option_and_then next_line o)) (sym found)
 
--- one is there where the other is
-pub some_alike : {A B : Type 0} (r : Option A) (o : Option B) (read : A → B) → MatchOption r (o ≡ None) (λ a. o ≡ Some (read a)) → is_some r ≡ is_some o
-some_alike None o read h = ap is_some (sym h)
-some_alike (Some a) o read h = ap is_some (sym h)
+-- where the code finds that the next line of the session at its place ends, the client's does
+pub ends_at : (c i : ℕ) (s t : ServerState) (x : SessionState) (r : Option ℕ) → s ≡ t → IsAt c i t.sessions → x ≡ get_or s.sessions i x → r ≡ option_map length (next_line x) → option_map length (next_line_for t c) ≡ r
+ends_at c i s t x r e at is end = sym (next_end_is t c x (found_in c i s t x e at is)) ∙ sym end
 
-pub some_read : {A B : Type 0} (r : Option A) (a : A) (o : Option B) (read : A → B) → r ≡ Some a → MatchOption r (o ≡ None) (λ x. o ≡ Some (read x)) → o ≡ Some (read a)
-some_read {A = A} r a o read e h = subst (λ (z : Option A). MatchOption z (o ≡ None) (λ x. o ≡ Some (read x))) e h
+pub line_there : (o : Option (List ℕ)) (end : ℕ) → option_map length o ≡ Some end → (line : List ℕ) × (o ≡ Some line)
+line_there None end h = cc h
+line_there (Some line) end h = (line, refl)
 
--- what the code finds of the next line of the session at its place says whether the client has one
-pub has_line : {A : Type 0} (c i : ℕ) (s t : ServerState) (x : SessionState) (r : Option A) (read : A → List ℕ) (b : Bool) → s ≡ t → IsAt c i t.sessions → x ≡ get_or s.sessions i x → MatchOption r (next_line x ≡ None) (λ a. next_line x ≡ Some (read a)) → b ≡ is_some r → b ≡ is_some (next_line_for t c)
-has_line c i s t x r read b e at is line some = some ∙ some_alike r (next_line x) read line ∙ has_next t c x (found_in c i s t x e at is)
-
-pub some_there : {A : Type 0} (o : Option A) → is_some o ≡ true → (a : A) × (o ≡ Some a)
-some_there None h = cc h
-some_there (Some a) h = (a, refl)
-
-pub none_there : {A : Type 0} (o : Option A) → is_some o ≡ false → o ≡ None
-none_there None h = refl
-none_there (Some a) h = cc h
+pub no_line_there : (o : Option (List ℕ)) → option_map length o ≡ None → o ≡ None
+no_line_there None h = refl
+no_line_there (Some line) h = cc h
 
 -- what an answer says, and what it changes
 answers_as : (s : ServerState) (c : ℕ) (line : List ℕ) (reply : Reply) (clients : List (List ℕ)) → Replies s c line reply → ListsClients s.sessions reply clients →

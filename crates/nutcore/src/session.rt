@@ -1,5 +1,6 @@
 //! One session: what it holds of its client's input, and what it owes.
-ghost use Rattle.std.specs.Prelude.{◌≡◌, ◌≤◌, ◌<◌, ◌-◌, ◌++◌, ℕ, List, length, take, IfOk, MatchOption, true, false, Some, None, [], ◌∷◌, is_some, if◌then◌else◌};
+ghost use Rattle.std.specs.Prelude.{◌≡◌, ◌≤◌, ◌<◌, ◌-◌, ◌++◌, ℕ, List, length, take, IfOk, true, false, Some, None, [], ◌∷◌, if◌then◌else◌};
+ghost use Rattle.std.specs.Option.{option_map};
 ghost use Rattle.nutcore.specs.Session.{new_session, begin_ending};
 ghost use Rattle.nutcore.specs.Lines.{first_line};
 ghost use Rattle.nutcore.specs.Pump.{next_line, answered, holds_overlong, with_notice};
@@ -136,7 +137,8 @@ impl Session {
 
     /// What came of its input and isn't executed yet.
     fn waiting(&self) -> &[u8]
-        ensures { result.now ≡ self.now.held }
+        ensures value { result.now ≡ self.now.held }
+        ensures short { length result.now ≤ HELD_LIMIT }
     {
         &self.held[self.executed..]
     }
@@ -158,25 +160,30 @@ impl Session {
         count
     }
 
-    /// Its next line, if it may be executed.
-    pub(crate) fn next_line(&self) -> Option<&[u8]>
-        ensures held { length self.now.held ≤ HELD_LIMIT }
-        ensures line { MatchOption result (next_line self.now ≡ None)
-            (λ line. next_line self.now ≡ Some line.now) }
-        ensures short { MatchOption result (Unit {0}) (λ line. length line.now ≤ LINE_LIMIT) }
+    /// Where its next line ends, if it may be executed.
+    pub(crate) fn next_end(&self) -> Option<usize>
+        ensures { result ≡ option_map length (next_line self.now) }
     {
         if self.ending || !self.outbox.is_ready() {
             return None;
         }
-        let waiting = self.waiting();
-        let end = line_end(waiting)?;
-        Some(&waiting[..end])
+        line_end(self.waiting())
     }
 
-    /// Takes the next line, joins its answer to what is owed, and does what that changes of the session. The clients in
-    /// the scratch are those that the answer lists. Takes no memory.
-    pub(crate) fn answer(&mut self, reply: Reply<'_>, scratch: &mut Scratch)
-        requires going { is_some (next_line self.old) ≡ true }
+    /// Its next line, which ends there.
+    #[tactic(auto, using(crate::proofs::Pumping::next_line_ends))]
+    pub(crate) fn next_line(&self, end: usize) -> &[u8]
+        requires { option_map length (next_line self.now) ≡ Some end }
+        ensures line { next_line self.now ≡ Some result.now }
+        ensures short { length result.now ≤ LINE_LIMIT }
+    {
+        &self.waiting()[..end]
+    }
+
+    /// Takes the next line, which ends there, joins its answer to what is owed, and does what that changes of the session.
+    /// The clients in the scratch are those that the answer lists. Takes no memory.
+    pub(crate) fn answer(&mut self, reply: Reply<'_>, end: usize, scratch: &mut Scratch)
+        requires going { option_map length (next_line self.old) ≡ Some end }
         requires short { IsShort reply }
         ensures answered { (line : List ℕ) → next_line self.old ≡ Some line
             → self.new ≡ changed_session (change_in reply.entry)
@@ -188,16 +195,16 @@ impl Session {
         match reply {
             Reply::One(text, change) => {
                 self.owe(text, scratch);
-                self.take_line();
+                self.take_line(end);
                 self.change(change);
             }
             Reply::Many(listing) => {
                 self.owe_listing(listing, scratch);
-                self.take_line();
+                self.take_line(end);
             }
             Reply::Clients(ups, _) => {
                 self.owe_clients(&ups, scratch);
-                self.take_line();
+                self.take_line(end);
             }
         }
     }
@@ -247,16 +254,15 @@ impl Session {
         self.outbox.accept(listing, line, renders);
     }
 
-    /// Takes the first line.
-    fn take_line(&mut self)
-        requires { is_some (first_line self.old.held) ≡ true }
+    /// Takes the first line, which ends there.
+    fn take_line(&mut self, end: usize)
+        requires { option_map length (first_line self.old.held) ≡ Some end }
         ensures taken { (line : List ℕ) → first_line self.old.held ≡ Some line
             → self.new ≡ answered line [] self.old }
         ensures id { self.new.id ≡ self.old.id }
         ensures owed { self.new.owed ≡ self.old.owed }
     {
-        let end = line_end(self.waiting()).unwrap();
-        self.executed += end + 1;
+        self.executed = self.executed + end + 1;
     }
 
     /// A session that holds 1,024 bytes without an LF is told so, and begins to end.

@@ -1,5 +1,6 @@
 //! The pump: which of a session's lines are executed, and what each does.
-ghost use Rattle.std.specs.Prelude.{◌≡◌, ◌≤◌, ◌<◌, length, slice_get, OnOk, OnErr, IsTrue, is_some, Some, None, true};
+ghost use Rattle.std.specs.Prelude.{◌≡◌, ◌≤◌, ◌<◌, length, slice_get, OnOk, OnErr, IsTrue, Some, None};
+ghost use Rattle.std.specs.Option.{option_map};
 ghost use Rattle.nutcore.specs.Server.{session, changed_at};
 ghost use Rattle.nutcore.specs.Pump.{next_line_for, after_line, held_of, wants_memory};
 ghost use Rattle.nutcore.specs.History.{owed};
@@ -23,21 +24,22 @@ use nutwords::Line;
 use std::alloc::AllocError;
 
 impl Server {
-    /// What answers the session's next line, which is there, as the server is now. The answer's line is made in the one
+    /// What answers the session's next line, which ends there, as the server is now. The answer's line is made in the one
     /// that is lent. Memory is asked for by a listing alone.
     pub(super) fn next_reply<'a>(
         &self,
         c: ClientId,
         place: usize,
+        end: usize,
         lent: &'a mut Line,
     ) -> Result<Reply<'a>, AllocError>
         requires at { IsAt c place self.now.state.sessions }
-        requires next { is_some (next_line_for self.now.state c) ≡ true }
+        requires next { option_map length (next_line_for self.now.state c) ≡ Some end }
         ensures next { NextIs self.now.state c
             (λ line. RepliesOrLacks self.now.state c line result) }
     {
         let session = &self.sessions[place];
-        let line = session.next_line().unwrap();
+        let line = session.next_line(end);
         match Command::read(line) {
             Err(word) => Ok(one_line(word.line())),
             Ok(None) => Ok(one_line(b"")),
@@ -62,23 +64,28 @@ impl Server {
         }
     }
 
-    /// Executes the next line, which is there. Without memory nothing changes. It alone has a line of an answer, which is
+    /// Executes the next line, which ends there. Without memory nothing changes. It alone has a line of an answer, which is
     /// cleared where the function begins: so it is a call of its own, and a session without a line pays for none.
     #[inline(never)]
-    pub(super) fn execute(&mut self, c: ClientId, place: usize) -> Result<(), AllocError>
+    pub(super) fn execute(
+        &mut self,
+        c: ClientId,
+        place: usize,
+        end: usize,
+    ) -> Result<(), AllocError>
         requires at { IsAt c place self.old.state.sessions }
-        requires next { is_some (next_line_for self.old.state c) ≡ true }
+        requires next { option_map length (next_line_for self.old.state c) ≡ Some end }
         ensures ok { OnOk result (self.new.state ≡ after_line self.old.state c) }
         ensures err { OnErr result (self.new.state ≡ self.old.state) }
         ensures memory { OnErr result (IsTrue (wants_memory self.old.state c)) }
         ensures keeps { KeepsCost c self.old self.new }
     {
         let mut line = Line::new();
-        let reply = self.next_reply(c, place, &mut line)?;
+        let reply = self.next_reply(c, place, end, &mut line)?;
         self.change_upses(&reply);
         list_clients(&self.sessions, &reply, &mut self.scratch.clients);
         let session = &mut self.sessions[place];
-        session.answer(reply, &mut self.scratch);
+        session.answer(reply, end, &mut self.scratch);
         Ok(())
     }
 
@@ -92,8 +99,8 @@ impl Server {
         ensures at { IsAt c place self.new.state.sessions }
     {
         let mut done = 0;
-        while self.sessions[place].next_line().is_some() {
-            if self.execute(c, place).is_err() {
+        while let Some(end) = self.sessions[place].next_end() {
+            if self.execute(c, place, end).is_err() {
                 return Err(Fault::Memory(done));
             }
             done += 1;

@@ -1,5 +1,5 @@
-use Rattle.std.specs.Prelude.{is_some}
-use Rattle.std.proofs.Common.{◌≡◌, ◌∙◌, List, ℕ, Some, true, ap, sym, subst, set}
+use Rattle.std.specs.Option.{option_map}
+use Rattle.std.proofs.Common.{◌≡◌, ◌∙◌, List, ℕ, Some, length, ap, sym, subst, set}
 use Rattle.nutanswer.specs.Command.{read_command}
 use Rattle.nutcore.specs.declared.cost.Cost.{Cost}
 use Rattle.nutcore.proofs.Common.{SessionState, ServerState, session}
@@ -10,7 +10,7 @@ use Rattle.nutcore.specs.Cost.{RunningServer}
 use Rattle.nutcore.specs.Promises.{KeepsCount, change_in, text_with}
 use Rattle.nutcore.specs.contracts.server.Server.{the_view}
 use Rattle.nutcore.proofs.Runs.{state_is}
-use Rattle.nutcore.proofs.Serving.{StandsAt, stands, has_next, next_of_found, change_told, line_is}
+use Rattle.nutcore.proofs.Serving.{StandsAt, stands, next_end_is, next_of_found, change_told, line_is}
 use Rattle.nutcore.proofs.KeptSound.{session_kept, answered_kept}
 use Rattle.nutcore.proofs.OrderFits.{order_fits}
 use Rattle.nutcore.proofs.Costs.{cost_kept}
@@ -29,7 +29,7 @@ answer-requires-clause-going c =
     let x : SessionState = c.index_mut-session.result.now in
     let is : v ≡ t = state_is c.self.view_is ∙ c.change_upses.ensures.changed in
     let here : StandsAt v c.args.c c.args.place x = stands c.args.c c.args.place v t x is c.requires.at c.index_mut-session.ensures.value in
-    has_next s c.args.c x (ap (session c.args.c) (sym is) ∙ here.found) ∙ c.requires.next
+    next_end_is s c.args.c x (ap (session c.args.c) (sym is) ∙ here.found) ∙ c.requires.next
 
 pub invariant_of-self : goal.invariant_of-self
 invariant_of-self c =
@@ -39,10 +39,10 @@ invariant_of-self c =
     let x : SessionState = c.index_mut-session.result.now in
     let is : v ≡ t = state_is c.self.view_is ∙ c.change_upses.ensures.changed in
     let here : StandsAt v c.args.c c.args.place x = stands c.args.c c.args.place v t x is c.requires.at c.index_mut-session.ensures.value in
-    let going : is_some (next_line x) ≡ true = has_next s c.args.c x (ap (session c.args.c) (sym is) ∙ here.found) ∙ c.requires.next in
+    let going : option_map length (next_line x) ≡ Some c.args.end = next_end_is s c.args.c x (ap (session c.args.c) (sym is) ∙ here.found) ∙ c.requires.next in
     record {
       sound = session_kept v c.args.c c.args.place x c.answer.new.self here.at here.found c.answer.ensures.id
-          (answered_kept (change_in c.in_ok-reply.reply) (text_with c.list_clients.new.clients c.in_ok-reply.reply) x c.answer.new.self going c.answer.ensures.answered)
+          (answered_kept (change_in c.in_ok-reply.reply) (text_with c.list_clients.new.clients c.in_ok-reply.reply) x c.answer.new.self c.args.end going c.answer.ensures.answered)
           c.self.invariant.sound;
       room = c.self.invariant.room;
     }

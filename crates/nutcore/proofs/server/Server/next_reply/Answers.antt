@@ -8,29 +8,29 @@ use Rattle.nutcore.specs.Promises.{IsLineOrNone}
 use Rattle.nutcore.specs.Pump.{next_line}
 use Rattle.nutcore.specs.Reply.{asker_of}
 use Rattle.nutcore.specs.contracts.server.Server.{the_view}
-use Rattle.nutcore.proofs.Serving.{found_in, has_next, some_alike, some_read, replies_text, replies_as}
+use Rattle.nutcore.proofs.Serving.{found_in, next_end_is, replies_text, replies_as}
 use Rattle.nutcore.proofs.Runs.{state_is}
 use Rattle.nutcore.proofs.server.Server.next_reply.Goals as goal
 
-pub unwrap-line-requires : goal.unwrap-line-requires
-unwrap-line-requires c =
+pub next_line-line-requires : goal.next_line-line-requires
+next_line-line-requires c =
     let x : SessionState = c.index-session.result.now in
     let found : session c.args.c c.args.self.now.state ≡ Some x = found_in c.args.c c.args.place (the_view c.self.inside).state c.args.self.now.state x (state_is c.self.view_is) c.requires.at c.index-session.ensures in
-    some_alike c.next_line.result (next_line x) (λ line. line.now) c.next_line.ensures.line ∙ has_next c.args.self.now.state c.args.c x found ∙ c.requires.next
+    next_end_is c.args.self.now.state c.args.c x found ∙ c.requires.next
 
 pub returns-in-Err : goal.returns-in-Err
 returns-in-Err c =
     let s : ServerState = c.args.self.now.state in
     let x : SessionState = c.index-session.result.now in
     let found : session c.args.c s ≡ Some x = found_in c.args.c c.args.place (the_view c.self.inside).state s x (state_is c.self.view_is) c.requires.at c.index-session.ensures in
-    let line : next_line x ≡ Some c.unwrap-line.result.now = some_read c.next_line.result c.unwrap-line.result (next_line x) (λ line. line.now) c.unwrap-line.ensures c.next_line.ensures.line in
+    let line : next_line x ≡ Some c.next_line-line.result.now = c.next_line-line.ensures.line in
     let short : length c.line.result.now ≤ 2048 = omega (arith, c.line.ensures.short) in
     let whole : IsLineOrNone c.line.result.now = subst IsLineOrNone (sym c.line.ensures.line) (inl (error_lines_are_whole c.in-Err.word)) in
     record {
       next = (
-        c.unwrap-line.result.now,
+        c.next_line-line.result.now,
         ap (option_and_then next_line) found ∙ line,
-        replies_text s c.args.c c.unwrap-line.result.now c.line.result.now _ c.one_line.result (sym c.read.ensures ∙ c.in-Err.is) refl (sym c.line.ensures.line) refl short whole c.one_line.ensures,
+        replies_text s c.args.c c.next_line-line.result.now c.line.result.now _ c.one_line.result (sym c.read.ensures ∙ c.in-Err.is) refl (sym c.line.ensures.line) refl short whole c.one_line.ensures,
       );
     }
 
@@ -39,13 +39,13 @@ returns-in-Ok-None c =
     let s : ServerState = c.args.self.now.state in
     let x : SessionState = c.index-session.result.now in
     let found : session c.args.c s ≡ Some x = found_in c.args.c c.args.place (the_view c.self.inside).state s x (state_is c.self.view_is) c.requires.at c.index-session.ensures in
-    let line : next_line x ≡ Some c.unwrap-line.result.now = some_read c.next_line.result c.unwrap-line.result (next_line x) (λ line. line.now) c.unwrap-line.ensures c.next_line.ensures.line in
-    let read : read_command c.unwrap-line.result.now ≡ Ok None = sym c.read.ensures ∙ c.in-Ok-None.is ∙ ap (λ (o : Option Command). Ok o) c.in-Ok-None.field-0-is in
+    let line : next_line x ≡ Some c.next_line-line.result.now = c.next_line-line.ensures.line in
+    let read : read_command c.next_line-line.result.now ≡ Ok None = sym c.read.ensures ∙ c.in-Ok-None.is ∙ ap (λ (o : Option Command). Ok o) c.in-Ok-None.field-0-is in
     record {
       next = (
-        c.unwrap-line.result.now,
+        c.next_line-line.result.now,
         ap (option_and_then next_line) found ∙ line,
-        replies_text s c.args.c c.unwrap-line.result.now [] _ c.one_line-in-Ok-None.result read refl refl refl (omega arith) (inr refl) c.one_line-in-Ok-None.ensures,
+        replies_text s c.args.c c.next_line-line.result.now [] _ c.one_line-in-Ok-None.result read refl refl refl (omega arith) (inr refl) c.one_line-in-Ok-None.ensures,
       );
     }
 
@@ -54,12 +54,12 @@ returns-in-Ok-Some c =
     let s : ServerState = c.args.self.now.state in
     let x : SessionState = c.index-session.result.now in
     let found : session c.args.c s ≡ Some x = found_in c.args.c c.args.place (the_view c.self.inside).state s x (state_is c.self.view_is) c.requires.at c.index-session.ensures in
-    let line : next_line x ≡ Some c.unwrap-line.result.now = some_read c.next_line.result c.unwrap-line.result (next_line x) (λ line. line.now) c.unwrap-line.ensures c.next_line.ensures.line in
-    let read : read_command c.unwrap-line.result.now ≡ Ok (Some c.in-Ok-Some.command) = sym c.read.ensures ∙ c.in-Ok-Some.is ∙ ap (λ (o : Option Command). Ok o) c.in-Ok-Some.field-0-is in
+    let line : next_line x ≡ Some c.next_line-line.result.now = c.next_line-line.ensures.line in
+    let read : read_command c.next_line-line.result.now ≡ Ok (Some c.in-Ok-Some.command) = sym c.read.ensures ∙ c.in-Ok-Some.is ∙ ap (λ (o : Option Command). Ok o) c.in-Ok-Some.field-0-is in
     record {
       next = (
-        c.unwrap-line.result.now,
+        c.next_line-line.result.now,
         ap (option_and_then next_line) found ∙ line,
-        replies_as s c.args.c c.unwrap-line.result.now c.in-Ok-Some.command _ c.answer.result (c.asker.ensures ∙ ap asker_of (sym found)) read c.answer.ensures.ok c.answer.ensures.memory,
+        replies_as s c.args.c c.next_line-line.result.now c.in-Ok-Some.command _ c.answer.result (c.asker.ensures ∙ ap asker_of (sym found)) read c.answer.ensures.ok c.answer.ensures.memory,
       );
     }

@@ -1,9 +1,8 @@
-use Rattle.std.specs.Prelude.{is_some}
 use Rattle.std.specs.Option.{option_map_or}
 use Rattle.std.proofs.Common.{◌≡◌, ◌<◌, ◌≤◌, ◌∙◌, Option, Some, None, false, sym, ap, subst, set, length, arith}
 use Rattle.nutcore.proofs.Common.{SessionState, ServerState, session}
 use Rattle.nutcore.specs.Promises.{IsAt, KeepsCount, refused_overlong}
-use Rattle.nutcore.specs.Pump.{next_line, next_line_for, after_line, after_notice, held_of, holds_overlong}
+use Rattle.nutcore.specs.Pump.{next_line_for, after_line, after_notice, held_of, holds_overlong}
 use Rattle.nutcore.specs.History.{owed}
 use Rattle.nutcore.specs.Cost.{RunningServer}
 use Rattle.nutcore.specs.contracts.server.Server.{the_view}
@@ -12,11 +11,11 @@ use Rattle.nutcore.proofs.Loops.{line_shortens}
 use Rattle.nutcore.proofs.Costs.{cost_kept}
 use Rattle.nutcore.proofs.Found.{find_id}
 use Rattle.nutcore.proofs.KeptSound.{session_kept, noticed_kept}
-use Rattle.nutcore.proofs.Serving.{begins, goes_on, ok_when, err_when, some_there, none_there, has_line, StandsAt, stands, at_set, notice_is, at_line, pump_gives, refused}
+use Rattle.nutcore.proofs.Serving.{begins, goes_on, ok_when, err_when, line_there, no_line_there, ends_at, StandsAt, stands, at_set, notice_is, at_line, pump_gives, refused}
 use Rattle.nutcore.proofs.server.Server.pump.Goals as goal
 
-pub loop-self-init : goal.loop-self-init
-loop-self-init c = record {
+pub loop-end-init : goal.loop-end-init
+loop-end-init c = record {
   at = c.requires.at;
   keeps = λ kept counted. counted;
   done = begins c.args.self.now.state c.args.c;
@@ -25,35 +24,35 @@ loop-self-init c = record {
 
 pub execute-requires-clause-next : goal.execute-requires-clause-next
 execute-requires-clause-next c =
-    sym (has_line c.args.c c.args.place (the_view c.self.inside).state c.loop-self.self.state c.index.result.now c.next_line.result (λ line. line.now) c.is_some.result (state_is c.self.view_is) c.loop-self.invariant.at c.index.ensures c.next_line.ensures.line c.is_some.ensures) ∙ c.loop-self-test.true
+    ends_at c.args.c c.args.place (the_view c.self.inside).state c.loop-end.self.state c.index.result.now c.next_end.result (state_is c.self.view_is) c.loop-end.invariant.at c.index.ensures c.next_end.ensures ∙ c.in-Some.is
 
-pub loop-self-smaller : goal.loop-self-smaller
-loop-self-smaller c =
-    let t : ServerState = c.loop-self.self.state in
-    let has = has_line c.args.c c.args.place (the_view c.self.inside).state t c.index.result.now c.next_line.result (λ line. line.now) c.is_some.result (state_is c.self.view_is) c.loop-self.invariant.at c.index.ensures c.next_line.ensures.line c.is_some.ensures in
-    let there = some_there (next_line_for t c.args.c) (sym has ∙ c.loop-self-test.true) in
+pub loop-end-smaller : goal.loop-end-smaller
+loop-end-smaller c =
+    let t : ServerState = c.loop-end.self.state in
+    let ends = ends_at c.args.c c.args.place (the_view c.self.inside).state t c.index.result.now c.next_end.result (state_is c.self.view_is) c.loop-end.invariant.at c.index.ensures c.next_end.ensures in
+    let there = line_there (next_line_for t c.args.c) c.in-Some.end (ends ∙ c.in-Some.is) in
     let e : c.execute.new.self.state ≡ after_line t c.args.c = ok_when c.execute.result _ (sym c.is_err.ensures.value ∙ c.if-is_err.false) c.execute.ensures.ok in
     subst (λ (z : ServerState). length (held_of (session c.args.c z)) < length (held_of (session c.args.c t))) (sym e) (line_shortens t c.args.c there.0 there.1)
 
-pub loop-self-preserved : goal.loop-self-preserved
-loop-self-preserved c =
-    let t : ServerState = c.loop-self.self.state in
-    let has = has_line c.args.c c.args.place (the_view c.self.inside).state t c.index.result.now c.next_line.result (λ line. line.now) c.is_some.result (state_is c.self.view_is) c.loop-self.invariant.at c.index.ensures c.next_line.ensures.line c.is_some.ensures in
-    let there = some_there (next_line_for t c.args.c) (sym has ∙ c.loop-self-test.true) in
+pub loop-end-preserved : goal.loop-end-preserved
+loop-end-preserved c =
+    let t : ServerState = c.loop-end.self.state in
+    let ends = ends_at c.args.c c.args.place (the_view c.self.inside).state t c.index.result.now c.next_end.result (state_is c.self.view_is) c.loop-end.invariant.at c.index.ensures c.next_end.ensures in
+    let there = line_there (next_line_for t c.args.c) c.in-Some.end (ends ∙ c.in-Some.is) in
     let e : c.execute.new.self.state ≡ after_line t c.args.c = ok_when c.execute.result _ (sym c.is_err.ensures.value ∙ c.if-is_err.false) c.execute.ensures.ok in
     let less : length (held_of (session c.args.c c.execute.new.self.state)) < length (held_of (session c.args.c t)) = subst (λ (z : ServerState). length (held_of (session c.args.c z)) < length (held_of (session c.args.c t))) (sym e) (line_shortens t c.args.c there.0 there.1) in
     record {
-      at = subst (λ (z : ServerState). IsAt c.args.c c.args.place z.sessions) (sym e) (at_line t c.args.c c.args.place there.0 c.loop-self.invariant.at there.1);
-      keeps = λ kept counted. c.execute.ensures.keeps kept (c.loop-self.invariant.keeps kept counted);
-      done = goes_on c.args.self.now.state t c.execute.new.self.state c.args.c c.loop-self.done c.loop-self.invariant.done e;
-      rest = omega (arith, less, c.loop-self.invariant.rest);
+      at = subst (λ (z : ServerState). IsAt c.args.c c.args.place z.sessions) (sym e) (at_line t c.args.c c.args.place there.0 c.loop-end.invariant.at there.1);
+      keeps = λ kept counted. c.execute.ensures.keeps kept (c.loop-end.invariant.keeps kept counted);
+      done = goes_on c.args.self.now.state t c.execute.new.self.state c.args.c c.loop-end.done c.loop-end.invariant.done e;
+      rest = omega (arith, less, c.loop-end.invariant.rest);
     }
 
 pub invariant_of-self : goal.invariant_of-self
 invariant_of-self c =
     let v : ServerState = (the_view c.self-2.inside).state in
     let x : SessionState = c.index_mut-session.result.now in
-    let here : StandsAt v c.args.c c.args.place x = stands c.args.c c.args.place v c.loop-self.self.state x (state_is c.self-2.view_is) c.loop-self.invariant.at c.index_mut-session.ensures.value in
+    let here : StandsAt v c.args.c c.args.place x = stands c.args.c c.args.place v c.loop-end.self.state x (state_is c.self-2.view_is) c.loop-end.invariant.at c.index_mut-session.ensures.value in
     record {
       sound = session_kept v c.args.c c.args.place x c.refuse_overlong.new.self here.at here.found c.refuse_overlong.ensures.id (noticed_kept x c.refuse_overlong.new.self c.refuse_overlong.ensures.noticed) c.self-2.invariant.sound;
       room = c.self-2.invariant.room;
@@ -64,29 +63,29 @@ returns-then-is_err c =
     let failed = sym c.is_err.ensures.value ∙ c.if-is_err.true in
     let same = err_when c.execute.result _ failed c.execute.ensures.err in
     record {
-      gives = refused c.args.self.now.state c.loop-self.self.state c.execute.new.self.state c.args.c c.loop-self.done c.loop-self.invariant.done (err_when c.execute.result _ failed c.execute.ensures.memory) same;
-      keeps = λ kept counted. c.execute.ensures.keeps kept (c.loop-self.invariant.keeps kept counted);
-      at = subst (λ (z : ServerState). IsAt c.args.c c.args.place z.sessions) (sym same) c.loop-self.invariant.at;
+      gives = refused c.args.self.now.state c.loop-end.self.state c.execute.new.self.state c.args.c c.loop-end.done c.loop-end.invariant.done (err_when c.execute.result _ failed c.execute.ensures.memory) same;
+      keeps = λ kept counted. c.execute.ensures.keeps kept (c.loop-end.invariant.keeps kept counted);
+      at = subst (λ (z : ServerState). IsAt c.args.c c.args.place z.sessions) (sym same) c.loop-end.invariant.at;
     }
 
 pub returns : goal.returns
 returns c =
-    let t : ServerState = c.loop-self.self.state in
+    let t : ServerState = c.loop-end.self.state in
     let v : ServerState = (the_view c.self-2.inside).state in
     let x : SessionState = c.index_mut-session.result.now in
     let y : SessionState = c.refuse_overlong.new.self in
-    let has = has_line c.args.c c.args.place (the_view c.self.inside).state t c.index.result.now c.next_line.result (λ line. line.now) c.is_some.result (state_is c.self.view_is) c.loop-self.invariant.at c.index.ensures c.next_line.ensures.line c.is_some.ensures in
-    let none : next_line_for t c.args.c ≡ None = none_there (next_line_for t c.args.c) (sym has ∙ c.loop-self-test.false) in
-    let le : c.loop-self.done ≤ length (held_of (session c.args.c c.args.self.now.state)) = omega (arith, c.loop-self.invariant.rest) in
-    let here : StandsAt v c.args.c c.args.place x = stands c.args.c c.args.place v t x (state_is c.self-2.view_is) c.loop-self.invariant.at c.index_mut-session.ensures.value in
+    let ends = ends_at c.args.c c.args.place (the_view c.self.inside).state t c.index.result.now c.next_end.result (state_is c.self.view_is) c.loop-end.invariant.at c.index.ensures c.next_end.ensures in
+    let none : next_line_for t c.args.c ≡ None = no_line_there (next_line_for t c.args.c) (ends ∙ c.in_default.is) in
+    let le : c.loop-end.done ≤ length (held_of (session c.args.c c.args.self.now.state)) = omega (arith, c.loop-end.invariant.rest) in
+    let here : StandsAt v c.args.c c.args.place x = stands c.args.c c.args.place v t x (state_is c.self-2.view_is) c.loop-end.invariant.at c.index_mut-session.ensures.value in
     let found : session c.args.c t ≡ Some x = ap (session c.args.c) (sym (state_is c.self-2.view_is)) ∙ here.found in
     let noticed = notice_is v c.args.c c.args.place x y here.at here.found c.refuse_overlong.ensures.noticed ∙ ap (λ (z : ServerState). after_notice z c.args.c) (state_is c.self-2.view_is) in
     let u : ServerState = record v { sessions = set v.sessions c.args.place y } in
     let keeps = subst (λ (z : RunningServer). KeepsCount (owed c.args.c z.state) z.cost.rendered (owed c.args.c u) c.refuse_overlong.new.scratch.renders) c.self-2.view_is
     (cost_kept v c.args.c c.args.place x y _ _ here.at here.found c.refuse_overlong.ensures.id c.refuse_overlong.ensures.keeps) in
     record {
-      gives = pump_gives c.args.self.now.state t _ c.args.c c.loop-self.done c.refuse_overlong.result c.loop-self.invariant.done le none noticed
+      gives = pump_gives c.args.self.now.state t _ c.args.c c.loop-end.done c.refuse_overlong.result c.loop-end.invariant.done le none noticed
           (c.refuse_overlong.ensures.overlong ∙ sym (ap (λ (o : Option SessionState). refused_overlong (option_map_or holds_overlong o false)) found));
-      keeps = λ kept counted. keeps kept (c.loop-self.invariant.keeps kept counted);
+      keeps = λ kept counted. keeps kept (c.loop-end.invariant.keeps kept counted);
       at = at_set c.args.c c.args.place v.sessions y here.at (c.refuse_overlong.ensures.id ∙ find_id c.args.c v.sessions x here.found);
     }

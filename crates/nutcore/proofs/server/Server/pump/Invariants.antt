@@ -5,13 +5,13 @@ use Rattle.nutcore.specs.Pump.{after_lines, held_of}
 use Rattle.nutcore.proofs.server.Server.pump.Given as goal
 
 -- so many lines are done, what they placed is counted, and the session still stands at its place
-abbrev pub invariant-loop-self : goal.invariant-loop-self
-invariant-loop-self l = record {
+abbrev pub invariant-loop-end : goal.invariant-loop-end
+invariant-loop-end l = record {
   at : IsAt l.c l.place l.self.state.sessions;
   keeps : KeepsCost l.c l.fn.self l.self;
   done : l.self.state ≡ after_lines l.done l.fn.self.state l.c;
   rest : l.done + length (held_of (session l.c l.self.state)) ≤ length (held_of (session l.c l.fn.self.state));
 }
 
-abbrev pub decreases-loop-self : goal.decreases-loop-self
-decreases-loop-self l = length (held_of (session l.c l.self.state))
+abbrev pub decreases-loop-end : goal.decreases-loop-end
+decreases-loop-end l = length (held_of (session l.c l.self.state))
