@@ -11,6 +11,7 @@ mod scratch;
 mod server;
 mod session;
 mod ups;
+mod visitor;
 
 pub use bytes::Bytes;
 pub use cost::Cost;
@@ -19,6 +20,7 @@ pub use max_age::{MAX_AGE_DEFAULT, MAX_AGE_LEAST, MAX_AGE_MOST, MaxAge};
 pub use nutlisting::{OWED_LIMIT, Outbox, RING_LIMIT, SESSION_LIMIT};
 pub use nutusers::{Descriptions, UpsId, UpsList, Users};
 pub use server::Server;
+pub use visitor::Visitor;
 
 /// The most bytes of input that a session holds, and that may stand without an LF.
 pub const HELD_LIMIT: usize = 1024;
