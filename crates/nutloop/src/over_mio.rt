@@ -11,7 +11,7 @@ mod readiness;
 mod rounds;
 
 use crate::sockets::{Broken, Got, Ready, Sockets};
-use nutcore::{ClientId, Peer, Server};
+use nutcore::{ClientId, Peer, Server, UpsId};
 use nutwords::Address;
 use rounds::Rounds;
 use std::alloc::Global;
@@ -25,6 +25,7 @@ use std::time::Clock;
 pub struct MioSockets<'a, R> {
     rounds: Rounds<'a, R>,
     failures: u64,
+    refusals: u64,
 }
 
 impl<'a, R: Net + Clock> MioSockets<'a, R> {
@@ -39,6 +40,7 @@ impl<'a, R: Net + Clock> MioSockets<'a, R> {
         Ok(MioSockets {
             rounds,
             failures: 0,
+            refusals: 0,
         })
     }
 
@@ -87,6 +89,7 @@ impl<'a, R: Net + Clock> Sockets for MioSockets<'a, R> {
 
     fn refuse(&mut self) {
         let _refused = self.rounds.door.take_newcomer();
+        self.refusals = self.refusals.saturating_add(1);
     }
 
     fn read(&mut self, p: Peer, into: &mut [u8]) -> Result<Got, Broken> {
@@ -101,6 +104,14 @@ impl<'a, R: Net + Clock> Sockets for MioSockets<'a, R> {
             Ok(n) => Ok(n),
             Err(_) => Err(self.broken()),
         }
+    }
+
+    fn driver_error(&self, u: UpsId) -> Option<i32> {
+        self.rounds.driver_error(u)
+    }
+
+    fn refusals(&self) -> u64 {
+        self.refusals
     }
 
     fn shut(&mut self, p: Peer) {
