@@ -69,6 +69,6 @@ for _ in $(seq 30); do
 done
 [[ -z $(ls "$folder/room") ]] || fails 'files stay'
 [[ -z $(left) ]] || fails 'programs stay'
-grep -vE '^(upsd: demo: driver connected|make: .*)$' "$folder/told" && fails 'what was told'
+grep -vE '^(upsd: demo: (driver connected|data good)|make: .*)$' "$folder/told" && fails 'what was told'
 ((failed == 0)) && echo "demo: ok: $checks checks"
 exit "$failed"

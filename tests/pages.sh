@@ -22,6 +22,9 @@ told=$({
     sed -nE 's/^ *Danger::[A-Za-z]+ => "(.*)",$/warning: PATH:LINE: \1/p' crates/upsd/src/warnings.rt
     sed -nE 's/.*"upsd: (warning: )\{path\}(: [^{]*)"\);$/\1PATH\2/p' crates/upsd/src/warnings.rt
     sed -nE 's/^ *News::[A-Za-z]+ => "(.*)",$/su: \1/p' crates/upsd/src/journal.rt
+    sed -nE 's/^ *Visit::[A-Za-z]+ => "(.*)",$/su: mon@192.0.2.1 \1/p' crates/upsd/src/journal/logins.rt
+    sed -nE 's/.*"upsd: \{name\}(: [^{]*)\{error\}"\);$/su\1ERROR/p' crates/upsd/src/journal/connecting.rt
+    sed -nE 's/^ *RoomNews::.*"(.*)"\),$/\1/p' crates/upsd/src/journal/room.rt | sed -e 's/{count}/N/'
 } | sort)
 alike upsd "$told" "$(messages_of upsd)"
 told=$(sed -nE 's/^ *ClientFault::.* => push\(line, b"(.*)"\),$/\1/p' crates/nutrequest/src/faults.rt | sort)

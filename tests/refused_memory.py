@@ -415,7 +415,8 @@ def a_driver_without_memory_is_lost():
         serving.driver_comes(b"SETINFO a 1\n" + STATUS)
         assert ask(client, b"GET VAR su a\n", 1) == b'VAR su a "1"\n'
         serving.err.seek(0)
-        assert serving.err.read() == b"upsd: su: driver connected\nupsd: su: driver lost\nupsd: su: driver connected\n"
+        come = b"upsd: su: driver connected\nupsd: su: data good\n"
+        assert serving.err.read() == come + b"upsd: su: driver lost\n" + come
 
 
 def starting():

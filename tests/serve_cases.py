@@ -32,6 +32,9 @@ TWO = b'SETINFO ups.status "OL"\nSETINFO battery.charge "100"\n'
 LISTED = b'BEGIN LIST VAR su\nVAR su battery.charge "100"\nVAR su ups.status "OL"\nEND LIST VAR su\n'
 GET, STATUS = b"GET VAR su ups.status\n", b'VAR su ups.status "OL"\n'
 AWAY = b"ERR DRIVER-NOT-CONNECTED\n"
+NO_FILE = "cannot connect: No such file or directory (os error 2)\n"
+REFUSED = "cannot connect: Connection refused (os error 111)\n"
+COME = "upsd: su: driver connected\nupsd: su: data good\n"
 MANY = 4096
 
 
@@ -346,10 +349,10 @@ def a_forced_shutdown_is_seen_and_told_once():
     with served() as (server, _, good):
         other = server.client()
         assert other.ask(MON + b"FSD su\n") == b"OK\nOK\nERR ACCESS-DENIED\n"
-        assert server.journal() == "upsd: su: driver connected\n"
+        assert server.journal() == COME
         assert good.ask(ADMIN + b"FSD su\nFSD su\n") == b"OK\nOK\nOK FSD-SET\nOK FSD-SET\n"
         assert other.ask(GET) == b'VAR su ups.status "FSD OL"\n'
-        told = "upsd: su: driver connected\nupsd: su: forced shutdown\n"
+        told = COME + "upsd: su: forced shutdown\n"
         assert server.journal() == told, server.journal()
         other.close()
 
@@ -363,6 +366,27 @@ def logins_are_listed():
         assert good.listing() == b"BEGIN LIST CLIENT su\nCLIENT su 127.0.0.1\nEND LIST CLIENT su\n"
         other.close()
         assert comes(lambda: good.ask(b"GET NUMLOGINS su\n") == b"NUMLOGINS su 0\n")
+
+
+@case
+def who_logs_in_and_out_is_told_within_a_second():
+    with served() as (server, _, good):
+        begun = "upsd: su: mon@127.0.0.2 logged in\nupsd: su: admin@127.0.0.3 logged in\n"
+        first, second = server.client("127.0.0.2"), server.client("127.0.0.3")
+        assert first.ask(MON + b"LOGIN su\n") == b"OK\n" * 3
+        assert comes(lambda: server.journal() == COME + begun.splitlines(True)[0], 1.5), server.journal()
+        assert second.ask(ADMIN + b"LOGIN su\n") == b"OK\n" * 3
+        assert comes(lambda: server.journal() == COME + begun, 1.5), server.journal()
+        # One says so, one is gone; who isn't logged in isn't told.
+        assert good.ask(MON) == b"OK\n" * 2
+        assert first.ask(b"LOGOUT\n") == b"OK Goodbye\n"
+        second.reset()
+        told = COME + begun + "upsd: su: mon@127.0.0.2 logged out\nupsd: su: admin@127.0.0.3 logged out\n"
+        assert comes(lambda: len(server.journal()) == len(told), 1.5), server.journal()
+        assert sorted(server.journal().splitlines()) == sorted(told.splitlines())
+        time.sleep(1.2)
+        assert len(server.journal()) == len(told), server.journal()
+        first.close()
 
 
 @case
@@ -408,7 +432,7 @@ def a_lost_driver_comes_back():
         assert comes(lambda: good.ask(GET) == AWAY)
         driver.accept(TWO)
         assert comes(lambda: good.ask(GET) == STATUS)
-        told = "upsd: su: driver connected\nupsd: su: driver lost\nupsd: su: driver connected\n"
+        told = COME + "upsd: su: driver lost\n" + COME
         assert server.journal() == told, server.journal()
 
 
@@ -431,14 +455,16 @@ def drivers_that_are_not_there_are_tried_again():
     server = Server(ups)
     good = server.client()
     assert good.ask(b"GET VAR a x\nGET VAR b x\nGET VAR c x\n") == AWAY * 3
+    assert comes(lambda: sorted(server.journal().splitlines(True)) == ["upsd: a: " + NO_FILE, "upsd: b: " + REFUSED, "upsd: c: " + REFUSED])
     os.unlink(plain)
     os.unlink(refusing.path)
     drivers = [Driver("absent.sock"), Driver("plain"), Driver("refusing.sock")]
     for driver in drivers:
         driver.accept(b'SETINFO x "1"\n')
     assert comes(lambda: good.ask(b"GET VAR a x\nGET VAR b x\nGET VAR c x\n").count(b'"1"') == 3)
-    told = [f"upsd: {name}: driver connected" for name in "abc"]
-    assert sorted(server.journal().splitlines()) == told, server.journal()
+    told = [f"upsd: {name}: {news}" for name in "abc" for news in ["data good", "driver connected"]]
+    lines = [line for line in sorted(server.journal().splitlines()) if "cannot connect" not in line]
+    assert lines == told, server.journal()
     for driver in drivers:
         driver.close()
     good.close()
@@ -446,13 +472,55 @@ def drivers_that_are_not_there_are_tried_again():
 
 
 @case
+def why_a_driver_cannot_be_connected_to_is_told_once_a_reason():
+    server = Server(file("late.conf", f"[su]\nsocket = {path('late.sock')}\n"))
+    assert comes(lambda: server.journal() == "upsd: su: " + NO_FILE), server.journal()
+    time.sleep(1.2)
+    assert server.journal() == "upsd: su: " + NO_FILE, server.journal()
+    with socket.socket(socket.AF_UNIX) as bound:
+        bound.bind(path("late.sock"))
+        told = f"upsd: su: {NO_FILE}upsd: su: {REFUSED}"
+        assert comes(lambda: server.journal() == told), server.journal()
+        time.sleep(1.2)
+        bound.listen(1)
+        assert comes(lambda: server.journal() == told + "upsd: su: driver connected\n"), server.journal()
+    # The driver is gone, and nobody listens at its path.
+    told += "upsd: su: driver connected\nupsd: su: driver lost\nupsd: su: " + REFUSED
+    assert comes(lambda: server.journal() == told), server.journal()
+    server.close()
+
+
+@case
 def a_silent_driver_is_pinged_and_goes_stale():
-    with served(TWO, "--maxage", "3") as (_, driver, good):
+    with served(TWO, "--maxage", "3") as (server, driver, good):
         assert driver.line() == b"PING\n"
         assert good.ask(GET) == STATUS
+        assert server.journal() == COME, server.journal()
         assert comes(lambda: good.ask(GET) == b"ERR DATA-STALE\n", 6)
         driver.send(b"PONG\n")
         assert comes(lambda: good.ask(GET) == STATUS)
+        told = COME + "upsd: su: data stale\nupsd: su: data good\n"
+        assert server.journal() == told, server.journal()
+
+
+@case
+def data_that_a_driver_takes_back_are_told_once():
+    with served() as (server, driver, good):
+        driver.send(b"DATASTALE\nDATASTALE\n")
+        assert comes(lambda: good.ask(GET) == b"ERR DATA-STALE\n")
+        driver.send(b'SETINFO battery.charge "99"\nDATASTALE\n')
+        driver.send(b"DATAOK\nDATAOK\n")
+        assert comes(lambda: good.ask(GET) == STATUS)
+        told = COME + "upsd: su: data stale\nupsd: su: data good\n"
+        assert server.journal() == told, server.journal()
+        # Lost while they are stale, they are told as good once the driver has told all again.
+        driver.send(b"DATASTALE\n")
+        assert comes(lambda: good.ask(GET) == b"ERR DATA-STALE\n")
+        driver.lose()
+        driver.accept(TWO)
+        assert comes(lambda: good.ask(GET) == STATUS)
+        told += "upsd: su: data stale\nupsd: su: driver lost\n" + COME
+        assert server.journal() == told, server.journal()
 
 
 @case
@@ -476,8 +544,14 @@ def the_sixty_fifth_client_is_closed():
                 return late.ask(GET) == STATUS
             return False
         assert comes(is_served)
+        told = COME + "upsd: no room for a client\n"
+        assert comes(lambda: server.journal() == told), server.journal()
         for other in others:
             other.close()
+        told += "upsd: room for clients again: "
+        assert comes(lambda: server.journal().startswith(told)), server.journal()
+        count = server.journal()[len(told):]
+        assert count.endswith(" were sent away\n") and int(count.split()[0]) >= 3, server.journal()
 
 
 def worst_wait(client, count):
@@ -782,7 +856,7 @@ def nothing_grows():
         assert comes(lambda: server.descriptors() <= open_before)
         grown = server.kilobytes() - before
         assert grown <= 256, f"{grown} KB more"
-        assert server.journal() == "upsd: su: driver connected\n", server.journal()
+        assert server.journal() == COME, server.journal()
 
 
 @case

@@ -32,5 +32,6 @@ pub mod Addresses
 pub mod TellingLines
 pub mod Limits
 pub mod Calls
+pub mod Status
 pub mod Promises
 pub mod Examples

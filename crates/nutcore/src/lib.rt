@@ -10,6 +10,7 @@ mod scratch;
 mod server;
 mod session;
 mod ups;
+mod visitor;
 
 pub use cost::Cost;
 pub use event::{ClientId, Event, Fault, Outcome, Peer};
@@ -18,6 +19,7 @@ pub use nutlisting::{OWED_LIMIT, Outbox, RING_LIMIT, SESSION_LIMIT};
 pub use nutusers::{Descriptions, UpsId, UpsList, Users};
 pub use nutwords::Bytes;
 pub use server::Server;
+pub use visitor::Visitor;
 
 /// The most bytes of input that a session holds, and that may stand without an LF.
 pub const HELD_LIMIT: usize = 1024;

@@ -86,6 +86,13 @@ impl Session {
         self.id
     }
 
+    /// Its client's address.
+    pub(crate) fn address(&self) -> &Address
+        ensures { result.now ≡ self.now.address }
+    {
+        &self.address
+    }
+
     /// The session as one that asks.
     pub(crate) fn asker(&self) -> Asker<'_>
         ensures { asker_seen result ≡ asker_of (Some self.now) }

@@ -61,6 +61,13 @@ impl Ups {
         self.report.connected
     }
 
+    /// What its driver has reported.
+    pub(crate) fn report(&self) -> &Report
+        ensures { result.now ≡ self.now.report }
+    {
+        &self.report
+    }
+
     /// Whether a forced shutdown is set.
     pub(crate) fn fsd(&self) -> bool
         ensures { result ≡ self.now.fsd }

@@ -23,20 +23,20 @@ pub is_one_run : {S : Type 0} (calls : S → Option (List Call)) (failures : S �
 is_one_run calls failures (Ok u) old sockets new after t = any_turns_are_one_run calls failures old new sockets after (replicate t.0 (Ok tt)) t.2
 is_one_run calls failures (Err fault) old sockets new after t = any_turns_are_one_run calls failures old new sockets after (replicate t.0 (Ok tt) ++ Err fault ∷ []) t.1
 
-module _ {S W : Type 0} (calls : S → Option (List Call)) (failures : S → ℕ) (shows : W → RunningServer → W → Type 0) where
+module _ {S W : Type 0} (calls : S → Option (List Call)) (failures : S → ℕ) (shows : W → RunningServer → S → W → Type 0) where
   pub nothing_shown : (old : ServerState) (sockets : S) (watcher : W) → ShownTurns calls failures shows 0 old sockets watcher old sockets watcher
   nothing_shown old sockets watcher = (refl, refl, refl)
 
   next_shown : (n : ℕ) (old : ServerState) (sockets : S) (watcher : W) (mid : ServerState) (middle : S) (next : W) (new : RunningServer) (after : S) (last : W)
-      → ShownTurns calls failures shows n old sockets watcher mid middle next → TurnGives calls failures mid middle (Ok tt) new.state after → shows next new last
+      → ShownTurns calls failures shows n old sockets watcher mid middle next → TurnGives calls failures mid middle (Ok tt) new.state after → shows next new after last
       → ShownTurns calls failures shows (suc n) old sockets watcher new.state after last
   next_shown zero old sockets watcher mid middle next new after last t u h =
-      (new, (after, (last, turn_from calls failures (Ok tt) old mid sockets middle new.state after t.0 t.1 u, subst (λ w. shows w new last) t.2 h, (refl, refl, refl))))
+      (new, (after, (last, turn_from calls failures (Ok tt) old mid sockets middle new.state after t.0 t.1 u, subst (λ w. shows w new after last) t.2 h, (refl, refl, refl))))
   next_shown (suc n) old sockets watcher mid middle next new after last t u h =
       (t.0, (t.1.0, (t.1.1.0, t.1.1.1, t.1.1.2, next_shown n t.0.state t.1.0 t.1.1.0 mid middle next new after last t.1.1.3 u h)))
 
   pub shown_then : (n : ℕ) (old : ServerState) (sockets : S) (watcher : W) (mid : ServerState) (middle : S) (next : W) (new : RunningServer) (after : S) (last : W)
-      → ShownTurns calls failures shows n old sockets watcher mid middle next → TurnGives calls failures mid middle (Ok tt) new.state after → shows next new last
+      → ShownTurns calls failures shows n old sockets watcher mid middle next → TurnGives calls failures mid middle (Ok tt) new.state after → shows next new after last
       → ShownTurns calls failures shows (n + 1) old sockets watcher new.state after last
   shown_then n old sockets watcher mid middle next new after last t u h =
       subst (λ k. ShownTurns calls failures shows k old sockets watcher new.state after last) (sym (add-one n)) (next_shown n old sockets watcher mid middle next new after last t u h)

@@ -1,6 +1,8 @@
 -- Serving: turns one after another, up to the first that fails; and what holds of any turns.
 use Rattle.std.specs.Prelude.{◌≡◌, ℕ, zero, suc, List, [], ◌∷◌, ◌++◌, Option, Result, Ok, Err, All}
 use Rattle.std.specs.Prelude.{replicate}
+use Rattle.std.specs.Fn.{Called, Mut}
+use denote.Ref.{Bor}
 use Rattle.nutcore.specs.declared.event.Event.{Event}
 use Rattle.nutcore.specs.declared.event.Outcome.{Outcome}
 use Rattle.nutcore.specs.Server.{ServerState}
@@ -22,21 +24,31 @@ TurnsUpTo calls failures old sockets (Ok u) new after =
 TurnsUpTo calls failures old sockets (Err fault) new after =
     (n : ℕ) × Turns calls failures old sockets (replicate n (Ok tt) ++ Err fault ∷ []) new after
 
--- So many turns that ended well, one after another. After each the watcher is shown the server.
+-- The watcher is called with this server and these sockets, and is this one then.
+pub record IsShown {W S : Type 0} (g : Mut W (Bor RunningServer × (Bor S × Unit {0})) (Unit {0}))
+    (watcher : W) (server : RunningServer) (sockets : S) (next : W) : Type 0 where
+  pub first : Bor RunningServer
+  pub second : Bor S
+  pub shows : (first.now ≡ server) × (second.now ≡ sockets)
+  pub called : Called g watcher (first, (second, tt)) tt next
+
+-- So many turns that ended well, one after another. After each the watcher is shown the server and
+-- the sockets.
 abbrev pub ShownTurns : {S W : Type 0} → (S → Option (List Call)) → (S → ℕ)
-    → (W → RunningServer → W → Type 0) → ℕ → ServerState → S → W → ServerState → S → W → Type 0
+    → (W → RunningServer → S → W → Type 0) → ℕ → ServerState → S → W → ServerState → S → W → Type 0
 ShownTurns calls failures shows zero old sockets watcher new after last =
     (new ≡ old) × (after ≡ sockets) × (last ≡ watcher)
 ShownTurns {S} {W} calls failures shows (suc n) old sockets watcher new after last =
     (mid : RunningServer)
     × ((middle : S)
     × ((next : W) × TurnGives calls failures old sockets (Ok tt) mid.state middle
-    × shows watcher mid next
+    × shows watcher mid middle next
     × ShownTurns calls failures shows n mid.state middle next new after last))
 
--- The watcher is shown the server after each turn that ended well, and not after one that failed.
+-- The watcher is shown the server and the sockets after each turn that ended well, and not after
+-- one that failed.
 abbrev pub ShownUpTo : {S W : Type 0} → (S → Option (List Call)) → (S → ℕ)
-    → (W → RunningServer → W → Type 0) → ServerState → S → W → Result (Unit {0}) LoopFault
+    → (W → RunningServer → S → W → Type 0) → ServerState → S → W → Result (Unit {0}) LoopFault
     → ServerState → S → Type 0
 ShownUpTo {S} {W} calls failures shows old sockets watcher (Ok u) new after =
     (n : ℕ)

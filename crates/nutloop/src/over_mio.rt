@@ -17,7 +17,7 @@ mod readiness;
 mod rounds;
 
 use crate::sockets::{Broken, Got, Ready, Sockets};
-use nutcore::{ClientId, Peer, Server};
+use nutcore::{ClientId, Peer, Server, UpsId};
 use nutwords::Address;
 use rounds::Rounds;
 use std::alloc::Global;
@@ -31,6 +31,7 @@ use std::time::Clock;
 pub struct MioSockets<'a, R> {
     rounds: Rounds<'a, R>,
     failures: u64,
+    refusals: u64,
 }
 
 impl<'a, R: Net + Clock> MioSockets<'a, R> {
@@ -45,6 +46,7 @@ impl<'a, R: Net + Clock> MioSockets<'a, R> {
         Ok(MioSockets {
             rounds,
             failures: 0,
+            refusals: 0,
         })
     }
 
@@ -109,8 +111,10 @@ impl<'a, R: Net + Clock> Sockets for MioSockets<'a, R> {
         ensures peers { self.new.rounds.peers ≡ self.old.rounds.peers }
         ensures told { Grows None None (Refused ∷ []) }
         ensures count { self.new.failures ≡ self.old.failures }
+        ensures refusals { self.new.refusals ≡ counted self.old.refusals }
     {
         let _refused = self.rounds.door.take_newcomer();
+        self.refusals = self.refusals.saturating_add(1);
     }
 
     fn read(&mut self, p: Peer, into: &mut [u8]) -> Result<Got, Broken>
@@ -139,6 +143,14 @@ impl<'a, R: Net + Clock> Sockets for MioSockets<'a, R> {
             Ok(n) => Ok(n),
             Err(_) => Err(self.broken()),
         }
+    }
+
+    fn driver_error(&self, u: UpsId) -> Option<i32> {
+        self.rounds.driver_error(u)
+    }
+
+    fn refusals(&self) -> u64 {
+        self.refusals
     }
 
     fn shut(&mut self, p: Peer)

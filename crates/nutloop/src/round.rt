@@ -101,6 +101,7 @@ impl Round {
     pub fn new(alloc: Global, capacity: usize) -> Result<Round, AllocError>
         ensures places { IfOk result (λ r. r.places.items ≡ []) }
         ensures last { IfOk result (λ r. r.last ≡ Listener) }
+        ensures capacity { IfOk result (λ r. capacity ≤ vec_capacity r.places) }
     {
         Ok(Round {
             last: Seat::Listener,

@@ -8,7 +8,7 @@ ghost use Rattle.nutloop.specs.Sockets.{Grows, Logs, AtMost, read_call};
 ghost use Rattle.nutloop.specs.Scripted.{AnswersRead, AnswersWrite, Follows, IsKeptOrNot, told_while};
 
 use crate::{Broken, Call, Got, Ready, Sockets};
-use nutcore::{Bytes, ClientId, Peer, Server};
+use nutcore::{Bytes, ClientId, Peer, Server, UpsId};
 use nutwords::Address;
 use std::alloc::Global;
 use std::vec::IntoIter;
@@ -296,6 +296,16 @@ impl Sockets for Scripted {
     {
         let answer = self.next_write(p, from);
         self.count(answer)
+    }
+
+    /// No driver is connected to, and so none can't be.
+    fn driver_error(&self, _u: UpsId) -> Option<i32> {
+        None
+    }
+
+    /// They stand among the calls, and aren't counted beside them.
+    fn refusals(&self) -> u64 {
+        0
     }
 
     fn shut(&mut self, p: Peer)

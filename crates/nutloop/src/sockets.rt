@@ -103,6 +103,12 @@ pub trait Sockets {
         ensures told { Logs (calls self.old) (calls self.new) (Wrote p from.now) result }
         ensures count { IsCounted (failures self.old) (failures self.new) result };
 
+    /// The system's number of the error by which the driver of the UPS couldn't be connected to, when that was tried last.
+    fn driver_error(&self, u: UpsId) -> Option<i32>;
+
+    /// How many newcomers were sent away. The count stops at its greatest number.
+    fn refusals(&self) -> u64;
+
     /// Shuts the connection of a peer. A client's is gone for good.
     fn shut(&mut self, p: Peer)
         ensures told { Grows (calls self.old) (calls self.new) (Shut p ∷ []) }

@@ -3,9 +3,10 @@ use Rattle.std.specs.Prelude.{◌≡◌, ◌<◌, ◌≤◌, ℕ, Bool, true, fa
 use Rattle.std.specs.Prelude.{codes, slice_get}
 use Rattle.std.specs.Option.{option_map_or}
 use Rattle.nutcore.specs.Server.{ServerState, ups_at}
+use Rattle.nutcore.specs.Status.{has_usable_data}
 use Rattle.upsd.specs.declared.journal.News.{News}
 use Rattle.upsd.specs.declared.journal.News.TheVariants.{DriverConnected, DriverLost}
-use Rattle.upsd.specs.declared.journal.News.TheVariants.{ForcedShutdown}
+use Rattle.upsd.specs.declared.journal.News.TheVariants.{DataGood, DataStale, ForcedShutdown}
 use Rattle.upsd.specs.declared.journal.Standing.{Standing}
 use Rattle.upsd.specs.declared.journal.UpsNews.{UpsNews}
 
@@ -13,6 +14,8 @@ use Rattle.upsd.specs.declared.journal.UpsNews.{UpsNews}
 abbrev pub text_of : News → List ℕ
 text_of DriverConnected = codes "driver connected"
 text_of DriverLost = codes "driver lost"
+text_of DataGood = codes "data good"
+text_of DataStale = codes "data stale"
 text_of ForcedShutdown = codes "forced shutdown"
 
 -- A driver was connected or not, and is now.
@@ -21,6 +24,15 @@ driver_news false false = None
 driver_news false true = Some DriverConnected
 driver_news true false = Some DriverLost
 driver_news true true = None
+
+-- Clients were told its data or not, and are now. That they aren't where no driver is connected is
+-- no news beside the driver's own.
+abbrev pub data_news : Bool → Bool → Bool → Option News
+data_news false false is_connected = None
+data_news false true is_connected = Some DataGood
+data_news true false false = None
+data_news true false true = Some DataStale
+data_news true true is_connected = None
 
 -- A forced shutdown was set or not, and is now. It stays.
 abbrev pub shutdown_news : Bool → Bool → Option News
@@ -34,6 +46,7 @@ abbrev pub ups_news : Standing → Standing → UpsNews
 ups_news was is =
     record {
       driver = driver_news was.is_connected is.is_connected;
+      freshness = data_news was.is_usable is.is_usable is.is_connected;
       shutdown = shutdown_news was.is_forced is.is_forced;
     }
 
@@ -42,6 +55,7 @@ abbrev pub standing_at : ℕ → ServerState → Standing
 standing_at place s =
     record {
       is_connected = option_map_or (λ x. x.report.connected) (ups_at place s) false;
+      is_usable = option_map_or (has_usable_data s) (ups_at place s) false;
       is_forced = option_map_or (λ x. x.fsd) (ups_at place s) false;
     }
 

@@ -4,5 +4,8 @@ pub mod Reading
 pub mod Configuration
 pub mod Replaying
 pub mod Task
+pub mod Connecting
+pub mod Logins
+pub mod Room
 pub mod Journal
 pub mod Warnings

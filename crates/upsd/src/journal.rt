@@ -1,9 +1,18 @@
-//! The journal of the UPSs while they are served: a line for each change.
+//! The journal of the UPSs and their clients while they are served: a line for each change.
 ghost use Rattle.std.specs.Prelude.{◌≡◌, ◌<◌, length, slice_get, slice_set, replicate, option_map, Some};
-ghost use Rattle.upsd.specs.Journal.{driver_news, shutdown_news, text_of, ups_news, standing_at, IsWrittenUpTo};
+ghost use Rattle.upsd.specs.Journal.{data_news, driver_news, shutdown_news, text_of, ups_news, standing_at, IsWrittenUpTo};
 
+mod connecting;
+mod logins;
+mod room;
+
+use self::connecting::Connecting;
+use self::logins::Logins;
+use self::room::Room;
 use nutcore::{Server, UpsId};
+use nutloop::Sockets;
 use nutusers::UPS_LIMIT;
+use std::alloc::Global;
 use std::{fmt, str};
 
 /// What is new of a UPS.
@@ -11,6 +20,8 @@ use std::{fmt, str};
 pub enum News {
     DriverConnected,
     DriverLost,
+    DataGood,
+    DataStale,
     ForcedShutdown,
 }
 
@@ -21,15 +32,18 @@ impl fmt::Display for News {
         f.write_str(match self {
             News::DriverConnected => "driver connected",
             News::DriverLost => "driver lost",
+            News::DataGood => "data good",
+            News::DataStale => "data stale",
             News::ForcedShutdown => "forced shutdown",
         })
     }
 }
 
-/// What is new of a UPS: of its driver, and of a forced shutdown.
+/// What is new of a UPS: of its driver, of its data, and of a forced shutdown.
 #[derive(Clone, Copy)]
 pub struct UpsNews {
     pub driver: Option<News>,
+    pub freshness: Option<News>,
     pub shutdown: Option<News>,
 }
 
@@ -37,33 +51,61 @@ pub struct UpsNews {
 #[derive(Clone, Copy)]
 pub struct Standing {
     pub is_connected: bool,
+    /// Clients are told its data.
+    pub is_usable: bool,
     pub is_forced: bool,
 }
 
 /// How a UPS stands of which nothing was written.
 const UNWRITTEN: Standing = Standing {
     is_connected: false,
+    is_usable: false,
     is_forced: false,
 };
 
-/// How each UPS stands by what was written of it, by its place.
+/// How each UPS stands by what was written of it, by its place. What is looked at once a second stands beside it: the last
+/// second, the drivers that can't be connected to, who is logged in, and whether there is room.
 #[derive(Drop)]
 pub struct Journal {
     pub written: [Standing; UPS_LIMIT],
+    moment: Option<u64>,
+    connecting: Connecting,
+    logins: Logins,
+    room: Room,
 }
 
 impl Journal {
     /// Nothing was written yet.
-    pub fn new() -> Journal
+    pub fn new(alloc: Global) -> Journal
         ensures { result.written ≡ replicate UPS_LIMIT UNWRITTEN }
     {
         Journal {
             written: [UNWRITTEN; UPS_LIMIT],
+            moment: None,
+            connecting: Connecting::new(),
+            logins: Logins::new(alloc),
+            room: Room::new(),
         }
     }
 
-    /// Writes what is new of each UPS to standard error. Where that fails it isn't written again.
-    pub fn write(&mut self, rt: &HostRuntime, server: &Server)
+    /// Writes what is new to standard error: of each UPS, and once a second of all else. Where that fails it isn't written
+    /// again.
+    pub fn write<S: Sockets>(&mut self, rt: &HostRuntime, server: &Server, sockets: &S)
+        ensures { IsWrittenUpTo (length server.now.state.list) server.now.state
+            self.old.written self.new.written }
+    {
+        self.write_upses(rt, server);
+        let moment = Some(server.current_moment());
+        if self.moment != moment {
+            self.moment = moment;
+            self.connecting.write(rt, server, sockets);
+            self.logins.write(rt, server);
+            self.room.write(rt, server, sockets.refusals());
+        }
+    }
+
+    /// Writes what is new of each UPS.
+    fn write_upses(&mut self, rt: &HostRuntime, server: &Server)
         ensures { IsWrittenUpTo (length server.now.state.list) server.now.state
             self.old.written self.new.written }
     {
@@ -71,6 +113,7 @@ impl Journal {
             let u = UpsId { place: place as u8 };
             let news = self.take_news(place, standing_of(server, u));
             write_news(rt, server, u, news.driver);
+            write_news(rt, server, u, news.freshness);
             write_news(rt, server, u, news.shutdown);
         }
     }
@@ -86,6 +129,7 @@ impl Journal {
         self.written[place] = now;
         UpsNews {
             driver: driver_news(was.is_connected, now.is_connected),
+            freshness: data_news(was.is_usable, now.is_usable, now.is_connected),
             shutdown: shutdown_news(was.is_forced, now.is_forced),
         }
     }
@@ -97,6 +141,7 @@ fn standing_of(server: &Server, u: UpsId) -> Standing
 {
     Standing {
         is_connected: server.driver_connected(u).unwrap_or(false),
+        is_usable: server.data_usable(u).unwrap_or(false),
         is_forced: server.forced_shutdown(u).unwrap_or(false),
     }
 }
@@ -118,6 +163,17 @@ fn driver_news(was: bool, is: bool) -> Option<News>
     match (was, is) {
         (false, true) => Some(News::DriverConnected),
         (true, false) => Some(News::DriverLost),
+        _ => None,
+    }
+}
+
+/// What is new of data that were usable or not, and are now, of a driver that is connected or not.
+fn data_news(was: bool, is: bool, is_connected: bool) -> Option<News>
+    ensures { result ≡ data_news was is is_connected }
+{
+    match (was, is, is_connected) {
+        (false, true, _) => Some(News::DataGood),
+        (true, false, true) => Some(News::DataStale),
         _ => None,
     }
 }

@@ -79,8 +79,12 @@ fn go_round<'a, S: Sockets>(
         server.old.state sockets.old (Err fault) server.new.state sockets.new) }
     ensures run { IsOneRun server.old.state server.new.state }
 {
-    let mut journal = Journal::new();
-    match nutloop::serve(server, sockets, |server| journal.write(rt, server)) {
+    let mut journal = Journal::new(rt.alloc());
+    match nutloop::serve(
+        server,
+        sockets,
+        |server, sockets| journal.write(rt, server, sockets),
+    ) {
         Ok(()) => Ok(()),
         Err(fault) => Err(Ending::Loop(fault)),
     }

@@ -1,12 +1,22 @@
-//! What is told of a UPS beside the answers to clients.
+//! What is told of the server beside the answers to clients.
+ghost use Rattle.std.specs.Prelude.{◌≡◌, option_map, slice_get};
 ghost use Rattle.nutcore.specs.Calls.{ReadsUps};
 ghost use Rattle.nutcore.specs.Server.{ups_at};
+ghost use Rattle.nutcore.specs.Status.{has_usable_data, visitor_of, visitor_seen};
 
 use super::Server;
 use crate::event::Fault;
+use crate::visitor::Visitor;
 use nutusers::UpsId;
 
 impl Server {
+    /// The moment, in seconds.
+    pub fn current_moment(&self) -> u64
+        ensures { result ≡ self.now.state.moment }
+    {
+        self.moment
+    }
+
     /// Whether a driver is connected to the UPS.
     ///
     /// # Errors
@@ -27,5 +37,39 @@ impl Server {
         ensures { ReadsUps (λ x. x.fsd) (ups_at u.place self.now.state) result }
     {
         Ok(self.ups_of(u)?.fsd())
+    }
+    /// Whether clients are told the data of the UPS: its driver is connected, has reported all that it knows, says that its
+    /// data are right, and was heard no longer ago than the greatest age.
+    ///
+    /// # Errors
+    ///
+    /// `NoSuchUps`.
+    pub fn data_usable(&self, u: UpsId) -> Result<bool, Fault>
+        ensures { ReadsUps (has_usable_data self.now.state)
+            (ups_at u.place self.now.state) result }
+    {
+        let report = self.ups_of(u)?.report();
+        let age = self.moment.saturating_sub(report.heard);
+        Ok(
+            report.connected
+                && report.dumped
+                && report.ok
+                && age <= u64::from(self.max_age.seconds()),
+        )
+    }
+
+    /// Who has the open session at this place, in the order of opening.
+    pub fn visitor(&self, place: usize) -> Option<Visitor<'_>>
+        ensures { option_map visitor_seen result
+            ≡ option_map visitor_of (slice_get self.now.state.sessions place) }
+    {
+        let session = self.sessions.get(place)?;
+        let asker = session.asker();
+        Some(Visitor {
+            id: session.id(),
+            address: session.address(),
+            username: asker.username,
+            login: asker.login,
+        })
     }
 }

@@ -106,6 +106,8 @@ impl Door {
     pub fn take_newcomer(&mut self) -> Option<Newcomer>
         ensures taken { result ≡ self.old.newcomer }
         ensures left { self.new.newcomer ≡ None }
+        ensures knocked { self.new.is_knocked_at ≡ self.old.is_knocked_at }
+        ensures count { self.new.count ≡ self.old.count }
     {
         self.newcomer.take()
     }

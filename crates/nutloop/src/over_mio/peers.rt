@@ -1,7 +1,9 @@
 //! The sockets of all peers, and their places in the round.
 ghost use Rattle.std.specs.Prelude.{◌≡◌, ◌≢◌, ◌≤◌, ◌⊎◌, ◌++◌, ◌∷◌, [], false, length, IfOk, MatchOption};
 ghost use Rattle.std.specs.Prelude.{vec_capacity, vec_len};
+ghost use Rattle.std.specs.IoError.{raw_os_error};
 ghost use Rattle.std.specs.List.{list_any, remove};
+ghost use Rattle.std.specs.Option.{unwrap_or};
 ghost use Rattle.nutloop.specs.Peers.{NotesBefore, NotesLast, ReadsPeer, ShutsPeer, WritesPeer};
 ghost use Rattle.nutloop.specs.Peers.{client_of, client_place};
 ghost use Rattle.nutloop.specs.Round.{LeavesOut, Notes, TakesIn};
@@ -26,6 +28,9 @@ use std::alloc::Global;
 use std::io;
 use std::net::Net;
 
+/// The system's number of an invalid argument: what isn't the system's own, as a path that is too long, counts as one.
+const INVALID_ARGUMENT: i32 = 22;
+
 /// The most seats: those of all clients and drivers, and the listener's.
 const SEAT_LIMIT: usize = SESSION_LIMIT + UPS_LIMIT + 1;
 
@@ -39,6 +44,8 @@ pub(super) struct Peers {
     clients: Vec<ClientSocket>,
     drivers: Vec<DriverSocket>,
     partings: Vec<Parting>,
+    /// The number of the error by which each driver couldn't be connected to, when that was tried last.
+    driver_errors: [Option<i32>; UPS_LIMIT],
 }
 
 impl Peers {
@@ -51,20 +58,38 @@ impl Peers {
             clients: Vec::with_capacity(alloc, SESSION_LIMIT)?,
             drivers: Vec::with_capacity(alloc, UPS_LIMIT)?,
             partings: Vec::with_capacity(alloc, PARTING_LIMIT)?,
+            driver_errors: [None; UPS_LIMIT],
         })
     }
 
-    /// Connects to the drivers that aren't, where a path is named. One that can't be connected to is passed over.
+    /// Connects to the drivers that aren't, where a path is named. One that can't be connected to is passed over, and the
+    /// error noted.
     pub fn connect<R: Net>(&mut self, rt: &R, registry: &Registry, server: &Server) {
         for place in 0..server.ups().len() {
             let u = UpsId { place: place as u8 };
             let Some(path) = self.missing(server, u) else {
                 continue;
             };
-            if let Ok(socket) = DriverSocket::connect(rt, registry, u, path) {
-                self.take_driver(socket);
+            match DriverSocket::connect(rt, registry, u, path) {
+                Ok(socket) => {
+                    self.note_error(u, None);
+                    self.take_driver(socket);
+                }
+                Err(error) => self.note_error(u, Some(error_number(&error))),
             }
         }
+    }
+
+    /// Notes by which error the driver couldn't be connected to, or that it could.
+    fn note_error(&mut self, u: UpsId, error: Option<i32>) {
+        if let Some(noted) = self.driver_errors.get_mut(u.place as usize) {
+            *noted = error;
+        }
+    }
+
+    /// The number of the error by which the driver couldn't be connected to, when that was tried last.
+    pub fn driver_error(&self, u: UpsId) -> Option<i32> {
+        *self.driver_errors.get(u.place as usize)?
     }
 
     /// The path of the UPS's socket, where its driver isn't connected.
@@ -90,6 +115,7 @@ impl Peers {
         ensures seat { (vec_capacity self.old.clients ≤ vec_len self.old.clients)
             ⊎ ((vec_capacity self.old.round.places ≤ vec_len self.old.round.places)
             ⊎ TakesIn (Client c) self.old.round.places.items self.new.round.places.items) }
+        ensures known { self.new.is_knocked_at ≡ self.old.is_knocked_at }
     {
         let socket = ClientSocket {
             id: c,
@@ -123,6 +149,7 @@ impl Peers {
             self.old.drivers.items self.new.drivers.items
             self.old.round.places.items self.new.round.places.items }
         ensures last { self.new.round.last ≡ self.old.round.last }
+        ensures known { self.new.is_knocked_at ≡ self.old.is_knocked_at }
     {
         self.note_last(server);
         note_drivers(&mut self.drivers, &mut self.round, server);
@@ -135,6 +162,7 @@ impl Peers {
             self.old.round.places.items self.new.round.places.items }
         ensures drivers { self.new.drivers.items ≡ self.old.drivers.items }
         ensures last { self.new.round.last ≡ self.old.round.last }
+        ensures known { self.new.is_knocked_at ≡ self.old.is_knocked_at }
     {
         let Seat::Client(c) = self.round.last() else {
             return;
@@ -234,6 +262,7 @@ impl Peers {
         ensures last { self.new.round.last ≡ self.old.round.last }
         ensures shuts { ShutsPeer p self.old.clients.items self.old.drivers.items
             self.new.clients.items self.new.drivers.items }
+        ensures known { self.new.is_knocked_at ≡ self.old.is_knocked_at }
     {
         match p {
             Peer::Client(c) => self.shut_client(c, pace),
@@ -254,6 +283,7 @@ impl Peers {
             (self.new.clients.items ≡ self.old.clients.items)
             (λ at. self.new.clients.items ≡ remove self.old.clients.items at) }
         ensures drivers { self.new.drivers.items ≡ self.old.drivers.items }
+        ensures known { self.new.is_knocked_at ≡ self.old.is_knocked_at }
     {
         self.round.leave(Seat::Client(c));
         if let Some(at) = client_place(&self.clients, c) {
@@ -273,4 +303,11 @@ impl Peers {
     pub fn drain(&mut self, pace: &Pace) {
         drain_all(&mut self.partings, pace);
     }
+}
+
+/// The system's number of the error.
+fn error_number(error: &io::Error) -> i32
+    ensures { result ≡ unwrap_or (raw_os_error error.now) INVALID_ARGUMENT }
+{
+    error.raw_os_error().unwrap_or(INVALID_ARGUMENT)
 }

@@ -12,7 +12,7 @@ use super::peers::Peers;
 use crate::pace::Pace;
 use crate::sockets::{Broken, Got, Ready};
 use mio::{Events, Poll};
-use nutcore::{ClientId, Peer, Server};
+use nutcore::{ClientId, Peer, Server, UpsId};
 use nutwords::Address;
 use std::alloc::Global;
 use std::io;
@@ -144,6 +144,11 @@ impl<'a, R: Net + Clock> Rounds<'a, R> {
             self.new.peers.clients.items self.new.peers.drivers.items }
     {
         self.peers.write(p, from)
+    }
+
+    /// The system's number of the error by which the driver couldn't be connected to, when that was tried last.
+    pub fn driver_error(&self, u: UpsId) -> Option<i32> {
+        self.peers.driver_error(u)
     }
 
     pub fn shut(&mut self, p: Peer)

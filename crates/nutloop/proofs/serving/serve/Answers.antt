@@ -1,8 +1,7 @@
 use Rattle.std.proofs.Common.{◌≡◌, refl, arith, of_calls}
 use Rattle.std.specs.Prelude.{Ok, Err, replicate}
-use Rattle.std.specs.Fn.{CalledAt}
 use Rattle.nutloop.specs.declared.serving.TheConstants.{TURN_LIMIT}
-use Rattle.nutloop.specs.Serving.{TurnsUpTo}
+use Rattle.nutloop.specs.Serving.{IsShown, TurnsUpTo}
 use Rattle.nutloop.proofs.MoreTurns.{turns_then, shown_then, turns_shown, is_one_run}
 use Rattle.nutloop.proofs.serving.serve.Goals as goal
 
@@ -12,13 +11,13 @@ loop-init g c = (c.requires, (refl, refl, refl))
 pub loop-preserved : goal.loop-preserved
 loop-preserved g c = (
   search of_calls,
-  shown_then g.S.Sockets.calls g.S.Sockets.failures (λ w s v. CalledAt g.W.FnMut w s tt v) c.loop.counter c.args.server.now.state c.args.sockets.now c.args.watch c.loop.server.state c.loop.sockets c.loop.watch c.turn.new.server c.turn.new.sockets c.watch.new.self c.loop.invariant.1 c.in_default.ensures
-      (record { shown = _; shows = refl; called = c.watch.ensures }),
+  shown_then g.S.Sockets.calls g.S.Sockets.failures (IsShown g.W.FnMut) c.loop.counter c.args.server.now.state c.args.sockets.now c.args.watch c.loop.server.state c.loop.sockets c.loop.watch c.turn.new.server c.turn.new.sockets c.watch.new.self c.loop.invariant.1 c.in_default.ensures
+      (record { first = _; second = _; shows = (refl, refl); called = c.watch.ensures }),
 )
 
 pub returns-in-Err : goal.returns-in-Err
 returns-in-Err g c =
-    let well = turns_shown g.S.Sockets.calls g.S.Sockets.failures (λ w s v. CalledAt g.W.FnMut w s tt v) c.loop.counter c.args.server.now.state c.args.sockets.now c.args.watch c.loop.server.state c.loop.sockets c.loop.watch c.loop.invariant.1 in
+    let well = turns_shown g.S.Sockets.calls g.S.Sockets.failures (IsShown g.W.FnMut) c.loop.counter c.args.server.now.state c.args.sockets.now c.args.watch c.loop.server.state c.loop.sockets c.loop.watch c.loop.invariant.1 in
     let turns : TurnsUpTo g.S.Sockets.calls g.S.Sockets.failures c.args.server.now.state c.args.sockets.now (Err c.in-Err.fault) c.turn.new.server.state c.turn.new.sockets =
     (c.loop.counter, turns_then g.S.Sockets.calls g.S.Sockets.failures (replicate c.loop.counter (Ok tt)) (Err c.in-Err.fault) c.args.server.now.state c.args.sockets.now c.loop.server.state c.loop.sockets c.turn.new.server.state c.turn.new.sockets well c.in-Err.ensures) in
     record {
@@ -30,7 +29,7 @@ returns-in-Err g c =
 pub returns : goal.returns
 returns g c =
     let all : c.loop.counter ≡ TURN_LIMIT = omega arith in
-    let well = turns_shown g.S.Sockets.calls g.S.Sockets.failures (λ w s v. CalledAt g.W.FnMut w s tt v) c.loop.counter c.args.server.now.state c.args.sockets.now c.args.watch c.loop.server.state c.loop.sockets c.loop.watch c.loop.invariant.1 in
+    let well = turns_shown g.S.Sockets.calls g.S.Sockets.failures (IsShown g.W.FnMut) c.loop.counter c.args.server.now.state c.args.sockets.now c.args.watch c.loop.server.state c.loop.sockets c.loop.watch c.loop.invariant.1 in
     let turns : TurnsUpTo g.S.Sockets.calls g.S.Sockets.failures c.args.server.now.state c.args.sockets.now (Ok tt) c.loop.server.state c.loop.sockets = (c.loop.counter, all, well) in
     record {
       turns = turns;

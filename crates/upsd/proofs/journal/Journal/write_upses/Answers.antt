@@ -4,7 +4,7 @@ use Rattle.nutcore.specs.Server.{ServerState}
 use Rattle.upsd.specs.declared.journal.Standing.{Standing}
 use Rattle.upsd.specs.Journal.{standing_at, ups_news, IsWrittenUpTo}
 use Rattle.upsd.proofs.Written.{some_mapped, written_more}
-use Rattle.upsd.proofs.journal.Journal.write.Goals as goal
+use Rattle.upsd.proofs.journal.Journal.write_upses.Goals as goal
 
 pub loop-place-preserved : goal.loop-place-preserved
 loop-place-preserved c =

@@ -1,5 +1,5 @@
 use Rattle.upsd.specs.Journal.{IsWrittenUpTo}
-use Rattle.upsd.proofs.journal.Journal.write.Given as goal
+use Rattle.upsd.proofs.journal.Journal.write_upses.Given as goal
 
 -- of the UPSs before the place it is written how each stands
 abbrev pub invariant-loop-place : goal.invariant-loop-place

@@ -1,0 +1,41 @@
+-- What is told of a server beside the answers to its clients.
+use Rattle.std.specs.Prelude.{ℕ, Bool, true, false, List, Option}
+use Rattle.std.specs.Option.{option_copied}
+use Rattle.nutusers.specs.declared.ups_list.UpsId.{UpsId}
+use Rattle.nutanswer.specs.View.{Readiness, not_connected, stale, usable, readiness}
+use Rattle.nutcore.specs.declared.visitor.Visitor.{Visitor}
+use Rattle.nutcore.specs.Session.{SessionState}
+use Rattle.nutcore.specs.Ups.{UpsState}
+use Rattle.nutcore.specs.Server.{ServerState}
+
+-- Clients are told what a driver has reported,
+abbrev pub is_usable : Readiness → Bool
+is_usable not_connected = false
+is_usable stale = false
+is_usable usable = true
+
+-- of this UPS, at the server's moment.
+abbrev pub has_usable_data : ServerState → UpsState → Bool
+has_usable_data s x = is_usable (readiness s.moment s.max_age x.report)
+
+-- Who has an open session: its id, the client's address, the user name that it gave, and the UPS
+-- that it is logged in to.
+pub record VisitorSeen : Type 0 where
+  pub id : ℕ
+  pub address : List ℕ
+  pub username : Option (List ℕ)
+  pub login : Option UpsId
+
+abbrev pub visitor_of : SessionState → VisitorSeen
+visitor_of x =
+    record { id = x.id; address = x.address; username = x.username; login = x.login }
+
+-- Who is handed out.
+abbrev pub visitor_seen : Visitor → VisitorSeen
+visitor_seen v =
+    record {
+      id = v.id;
+      address = v.address.now;
+      username = option_copied v.username;
+      login = v.login;
+    }

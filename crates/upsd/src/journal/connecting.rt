@@ -1,0 +1,67 @@
+//! The journal of drivers that can't be connected to, and why.
+ghost use Rattle.std.specs.Prelude.{◌≡◌, ◌<◌, MatchOption, slice_get, slice_set, replicate, None};
+ghost use Rattle.upsd.specs.Connecting.{IsErrorNews};
+
+use nutcore::{Server, UpsId};
+use nutloop::Sockets;
+use nutusers::UPS_LIMIT;
+use std::io::Error;
+
+/// The error by which each driver couldn't be connected to, by what was written of it: the system's number, by the UPS's
+/// place.
+#[derive(Drop)]
+pub struct Connecting {
+    pub written: [Option<i32>; UPS_LIMIT],
+}
+
+impl Connecting {
+    /// Nothing was written yet.
+    pub fn new() -> Connecting
+        ensures { result.written ≡ replicate UPS_LIMIT None }
+    {
+        Connecting {
+            written: [None; UPS_LIMIT],
+        }
+    }
+
+    /// Writes a line of each driver that can't be connected to by another error than was written last.
+    pub fn write<S: Sockets>(&mut self, rt: &HostRuntime, server: &Server, sockets: &S) {
+        for place in 0..server.ups().len() {
+            let u = UpsId { place: place as u8 };
+            if let Some(number) = self.take_news(place, sockets.driver_error(u)) {
+                write_error(rt, server, u, number);
+            }
+        }
+    }
+
+    /// The error, where it is news of the driver at the place. From now on it is written.
+    fn take_news(&mut self, place: usize, now: Option<i32>) -> Option<i32>
+        requires { place < UPS_LIMIT }
+        ensures news { MatchOption (slice_get self.old.written place) ⊥
+            (λ was. IsErrorNews was now result) }
+        ensures written { self.new.written ≡ slice_set self.old.written place now }
+    {
+        let was = self.written[place];
+        self.written[place] = now;
+        error_news(was, now)
+    }
+}
+
+/// Writes by which error the driver of the UPS can't be connected to.
+fn write_error(rt: &HostRuntime, server: &Server, u: UpsId, number: i32) {
+    let Some(name) = server.ups().name(u) else {
+        return;
+    };
+    let (name, error) = (
+        name.as_bytes().escape_ascii(),
+        Error::from_raw_os_error(number),
+    );
+    let _ = eprintln!(rt; "upsd: {name}: cannot connect: {error}");
+}
+
+/// What is new of a driver that couldn't be connected to by one error or could, and can't by another or can.
+fn error_news(was: Option<i32>, now: Option<i32>) -> Option<i32>
+    ensures { IsErrorNews was now result }
+{
+    if now == was { None } else { now }
+}
