@@ -1,6 +1,6 @@
 -- Names, values and descriptions as the words of a line.
-use Rattle.std.proofs.Common.{◌≡◌, ℕ, ◌+◌, ◌*◌, ◌<◌, ◌≤◌, Bool, true, false, eqb, leb, cond, List, [], ◌∷◌, ◌++◌, length, Option, Some, None, Ok, refl, arith, length-append}
-use Rattle.std.specs.Prelude.{◌||◌, ◌&&◌, is_ok, IsTrue, codes, IfSome}
+use Rattle.std.proofs.Common.{◌≡◌, ℕ, ◌<◌, ◌≤◌, Bool, true, false, leb, cond, List, [], ◌∷◌, ◌++◌, length, Option, Some, None, Ok, refl, arith}
+use Rattle.std.specs.Prelude.{◌&&◌, is_ok, IsTrue, codes, IfSome}
 use Rattle.std.specs.List.{list_all}
 use Rattle.std.specs.Str.{bytes_eq}
 use Rattle.std.proofs.lemmas.Bool.{and_parts, and_from}
@@ -9,7 +9,7 @@ use Rattle.std.proofs.lemmas.Grind.{common_steps}
 use Rattle.nutwords.specs.Bytes.{is_lawful, is_bare, is_name_byte}
 use Rattle.nutwords.specs.Listing.{IsWritten, as_it_is, in_quotes}
 use Rattle.nutwords.specs.Reading.{read_text, is_name, is_ups_name, is_value}
-use Rattle.nutwords.specs.Spelling.{with_backslashes, quoted}
+use Rattle.nutwords.specs.Spelling.{quoted}
 use Rattle.nutdriver.specs.Variable.{VariableState}
 use Rattle.nutusers.specs.Texts.{is_description}
 use Rattle.nutusers.specs.UpsList.{Ups}
