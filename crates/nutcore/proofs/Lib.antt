@@ -31,6 +31,7 @@ mod ShutdownMarks
 mod Lasting
 mod Endings
 mod Waiting
+mod Alone
 mod SessionMarks
 mod LoginCount
 mod Isolation

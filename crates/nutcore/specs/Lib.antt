@@ -14,6 +14,7 @@ pub mod Isolation
 pub mod Happenings
 pub mod Sound
 pub mod Waiting
+pub mod Alone
 pub mod Bounded
 pub mod Taking
 pub mod NotStuck

@@ -4,6 +4,7 @@ ghost use Rattle.nutcore.specs.ByRight.{AForcedShutdownIsSetByRight, ALoginIsByR
 ghost use Rattle.nutcore.specs.Lasting.{WhatNeverGoesBack};
 ghost use Rattle.nutcore.specs.Endings.{WhoIsOverIsAskedNoMore, IdsThatAreGivenRise, AGrantedShutdownIsSet, ATickTouchesNoSession, AnOpeningTouchesNoOther};
 ghost use Rattle.nutcore.specs.Waiting.{ALineIsAnswered};
+ghost use Rattle.nutcore.specs.Alone.{OneLineIsAnswered};
 ghost use Rattle.nutcore.specs.OrdersByRight.{EachOrderIsByRight};
 ghost use Rattle.nutcore.specs.TellingLines.{EachTellingIsAWholeLine};
 ghost use Rattle.nutcore.specs.Examples.{TwoVariables, EmptyListing, TakenInFour, LongestLine, ThreeLines, EscapedValue, FaultyLines, CasesAndFaults, NotConnected, Described, PipelinedGet, CutLines, ToldInPieces};
@@ -99,6 +100,13 @@ pub fn what_is_counted_is_who_is_there()
 /// at most 1,023 bytes and memory is there, it is owed exactly the reply to that line, and holds nothing.
 pub fn a_line_is_answered()
     ensures { ALineIsAnswered }
+{}
+
+/// One client, whatever others do: where what joined its held input in a run is one line, and in the end it holds nothing, is
+/// owed nothing and isn't over, the run executed that line for it, and no other, and what the client took is exactly the
+/// reply to it.
+pub fn one_line_is_answered()
+    ensures { OneLineIsAnswered }
 {}
 
 /// Over every run, a user name and a password that a session gave stay as they were given, and so does its login up to the
