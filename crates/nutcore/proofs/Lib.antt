@@ -44,6 +44,7 @@ mod Bounded
 mod Takes
 mod Taking
 mod TakingAmongOthers
+mod TakingSome
 mod NotStuck
 mod Totals
 mod Listed

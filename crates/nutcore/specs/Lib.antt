@@ -17,6 +17,7 @@ pub mod Waiting
 pub mod Alone
 pub mod Bounded
 pub mod Taking
+pub mod TakingSome
 pub mod NotStuck
 pub mod Totals
 pub mod Listed

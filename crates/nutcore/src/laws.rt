@@ -15,6 +15,7 @@ ghost use Rattle.nutcore.specs.Bounded.{EachEventIsBounded};
 ghost use Rattle.nutcore.specs.Taking.{WhoTakesGetsEverything, WhoTakesAmongOthersGetsEverything};
 ghost use Rattle.nutcore.specs.NotStuck.{WhoIsOwedLittleHasRoom, WhoEndsIsFinished};
 ghost use Rattle.nutcore.specs.Totals.{AServerIsBoundedInAll};
+ghost use Rattle.nutcore.specs.TakingSome.{WhoTakesSomeGetsEverything};
 ghost use Rattle.nutcore.specs.Lines.{WholeLinesAreTheCut};
 ghost use Rattle.nutcore.specs.DriverHistory.{WhatADriverToldIsExecuted};
 ghost use Rattle.nutcore.specs.DriverRuns.{WhatCameSinceConnectingIsExecuted, ALostDriversLinesAreABeginning, WhichLinesAreRefused, RefusedLinesAreCounted, ANewServerCountsAllRefusedLines};
@@ -296,6 +297,13 @@ pub fn nobody_is_stuck()
 /// variables, commands, enum values and ranges as one may.
 pub fn a_server_is_bounded_in_all()
     ensures { AServerIsBoundedInAll }
+{}
+
+/// So many takes are enough of a client that takes k bytes at a time, from 1 to 4,096, or all that it is offered where those
+/// are fewer: one for each k bytes of what is owed and is answered, one for each line that is executed, and one more. Drivers
+/// and other clients do anything between.
+pub fn who_takes_some_gets_everything()
+    ensures { WhoTakesSomeGetsEverything }
 {}
 
 /// Given a server, an event and its outcome there is one next server, and but where memory is refused
