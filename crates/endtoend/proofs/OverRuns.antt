@@ -1,12 +1,11 @@
 -- `upsc` over a run of the server.
-use Rattle.std.proofs.Common.{◌≡◌, ◌∙◌, ℕ, Bool, true, false, cond, eqb, List, [], ◌∷◌, ◌++◌, refl, sym, ap, subst}
+use Rattle.std.proofs.Common.{◌≡◌, ◌∙◌, ℕ, Bool, true, false, cond, eqb, List, [], ◌∷◌, sym, ap, subst}
 use Rattle.std.specs.Prelude.{codes, nat_eq}
 use Rattle.std.specs.List.{starts_with}
 use Rattle.nutcore.specs.declared.event.Event.{Event}
 use Rattle.nutcore.specs.declared.event.Outcome.{Outcome}
 use Rattle.nutcore.specs.Server.{ServerState, session}
 use Rattle.nutcore.specs.History.{Execution, of_line, client_of, executions, of_client}
-use Rattle.nutcore.specs.Headline.{IsLawful}
 use Rattle.nutcore.specs.ByRight.{IsAmong}
 use Rattle.nutcore.specs.Alone.{WasAnswered, OneLineIsAnswered}
 use Rattle.nutcore.specs.Sound.{IsSound, ANewServerIsSound, ASoundServerIsLawful}
@@ -14,7 +13,7 @@ use Rattle.nutreply.specs.declared.request.Request.{Request}
 use Rattle.nutreply.specs.declared.request.Request.TheVariants as requests
 use Rattle.nutreply.specs.declared.request.Query.TheVariants as queries
 use Rattle.endtoend.specs.FromDriver.{IsAnswered, UpscPrintsWhatTheDriverSetLast, UpscPrintsAllThatTheDriverSetLast}
-use Rattle.endtoend.specs.OverRuns.{IsServed, IsReply, UpscPrintsWhatItTook}
+use Rattle.endtoend.specs.OverRuns.{IsServed, UpscPrintsWhatItTook}
 
 -- the first of a client's executions is one of all
 first_among : (c : ℕ) (xs ys : List Execution) (x : Execution) → of_client c xs ≡ x ∷ ys → IsAmong x xs

@@ -1,17 +1,16 @@
 -- A client that asks one line, in a run of any others.
-use Rattle.std.proofs.Common.{◌≡◌, ◌≢◌, ◌⊎◌, ◌∙◌, ◌+◌, ℕ, Bool, true, false, List, [], ◌∷◌, ◌++◌, Option, Some, None, refl, sym, ap, subst, cond, eqb, ltb, inl, inr, length, length-append, append_assoc, append-nil, arith}
+use Rattle.std.proofs.Common.{◌≡◌, ◌⊎◌, ◌∙◌, ℕ, Bool, true, false, List, [], ◌∷◌, ◌++◌, Option, Some, None, refl, sym, ap, subst, cond, eqb, ltb, inl, inr, append_assoc, append-nil}
 use Rattle.std.specs.Prelude.{option_map}
 use Rattle.std.specs.Option.{option_map_or}
 use Rattle.std.proofs.lemmas.Bool.{both_ways, eqb-true, lt-ltb}
 use Rattle.nutwords.specs.SplitLine.{split_line, has_lf}
 use Rattle.nutwords.proofs.PublicLaws.{first_line_is_cut_off}
-use Rattle.nutcore.proofs.Common.{cond_both, same_Some, Event, Outcome, SessionState, ServerState, session, with_session_changed, Run}
+use Rattle.nutcore.proofs.Common.{cond_both, same_Some, SessionState, ServerState, session, with_session_changed}
 use Rattle.nutcore.specs.Lines.{first_line, with_lf}
-use Rattle.nutcore.specs.Pump.{next_line_for, after_line, notified, owed_of, held_of}
-use Rattle.nutcore.specs.History.{Execution, of_line, of_notice, client_of, executions, of_client, lines_of, texts_of, taken, asked, executed, answers, owed, held, is_over, is_closed}
-use Rattle.nutcore.specs.Headline.{IsLawful}
+use Rattle.nutcore.specs.Pump.{notified, owed_of, held_of}
+use Rattle.nutcore.specs.History.{Execution, of_line, of_notice, client_of, executions, of_client, lines_of, texts_of, taken, asked, executed, answers, is_over}
 use Rattle.nutcore.specs.Sound.{Each}
-use Rattle.nutcore.specs.Alone.{WasAnswered, OneLineIsAnswered}
+use Rattle.nutcore.specs.Alone.{OneLineIsAnswered}
 use Rattle.nutcore.proofs.Changed.{session_changed}
 use Rattle.nutcore.proofs.Histories.{IsOfEvents, run_keeps, two_clients}
 use Rattle.nutcore.proofs.Progress.{IsKept, presence}

@@ -1,5 +1,5 @@
 -- A client that takes some bytes at a time gets everything.
-use Rattle.std.proofs.Common.{◌≡◌, ◌≢◌, ◌⊎◌, ℕ, zero, suc, ◌+◌, ◌*◌, ◌<◌, ◌≤◌, Bool, true, false, List, [], ◌∷◌, ◌++◌, Option, Some, None, refl, sym, ◌∙◌, ap, subst, cond, inl, inr, arith, length, min, take, length-take}
+use Rattle.std.proofs.Common.{◌≡◌, ◌⊎◌, ℕ, zero, suc, ◌+◌, ◌*◌, ◌<◌, ◌≤◌, Bool, true, false, List, [], ◌∷◌, Option, Some, None, refl, sym, ◌∙◌, ap, subst, cond, inl, inr, arith, length, min, take, length-take}
 use Rattle.std.specs.List.{filter}
 use Rattle.std.proofs.lemmas.Bool.{cond-true, cases_Bool, cases_lt, le-leb, eq-eqb}
 use Rattle.nutlisting.specs.declared.ring.TheConstants.{RING_LIMIT}
@@ -7,7 +7,7 @@ use Rattle.nutcore.proofs.Common.{Event, Outcome, SessionState, ServerState, ses
 use Rattle.nutcore.specs.declared.event.Event.TheVariants.{Took}
 use Rattle.nutcore.specs.Pump.{pump_stops, pumped}
 use Rattle.nutcore.specs.Step.{taken_from, without_output, may_take, offered, pumped_until, after_by, refused_after, outcome_of}
-use Rattle.nutcore.specs.History.{Execution, executions, executions_in_event, of_client, texts_of, taken_in_event, asked_in_event, owed, held, answers}
+use Rattle.nutcore.specs.History.{Execution, executions, executions_in_event, of_client, texts_of, taken_in_event, asked_in_event, owed, answers}
 use Rattle.nutcore.specs.Isolation.{client_of}
 use Rattle.nutcore.specs.Taking.{is_event_of, events_of, lines_done}
 use Rattle.nutcore.specs.TakingSome.{IsTakeOf, TakesSomeAmongOthers, WhoTakesSomeGetsEverything}
