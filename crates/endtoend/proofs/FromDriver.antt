@@ -1,5 +1,5 @@
 -- What a driver set last is what a client prints.
-use Rattle.std.proofs.Common.{◌≡◌, ◌∙◌, ℕ, Bool, true, false, List, [], ◌∷◌, ◌++◌, Option, Some, None, refl, sym, ap, subst, cond, All}
+use Rattle.std.proofs.Common.{◌≡◌, ◌∙◌, ℕ, Bool, List, [], ◌∷◌, ◌++◌, Option, Some, None, refl, sym, ap, subst, All}
 use Rattle.std.specs.Prelude.{option_map}
 use Rattle.std.proofs.lemmas.List.Elements.{All-head, All-tail}
 use Rattle.nutwords.specs.Text.{with_lf}
@@ -8,19 +8,16 @@ use Rattle.nutdriver.specs.Tree.{TreeState, variable_at}
 use Rattle.nutdriver.specs.LastLine.{TheLastLineDecides}
 use Rattle.nutlisting.specs.Shown.{shown}
 use Rattle.nutanswer.specs.View.{UpsSeen}
-use Rattle.nutanswer.specs.declared.command.Command.{Command}
 use Rattle.nutanswer.specs.declared.command.Command.TheVariants as commands
 use Rattle.nutcore.specs.declared.event.Event.{Event}
 use Rattle.nutcore.specs.declared.event.Outcome.{Outcome}
 use Rattle.nutcore.specs.Server.{ServerState}
 use Rattle.nutcore.specs.History.{Execution, of_line, executions}
 use Rattle.nutcore.specs.FreshRuns.{WasFresh, IsToldFresh, WhateverIsToldIsFresh, WhatADriverSetLastIsHeld, changes_since}
-use Rattle.nutreply.specs.declared.request.Query.TheVariants as queries
-use Rattle.nutreply.specs.declared.request.Request.TheVariants as requests
 use Rattle.nutclient.specs.Printed.{Prints}
 use Rattle.endtoend.specs.Served.{IsUsable}
 use Rattle.endtoend.specs.Printed.{UpscPrintsTheVariables, UpscPrintsTheVariable}
-use Rattle.endtoend.specs.FromDriver.{IsAnswered, UpscPrintsWhatTheDriverSetLast, UpscPrintsAllThatTheDriverSetLast}
+use Rattle.endtoend.specs.FromDriver.{UpscPrintsWhatTheDriverSetLast, UpscPrintsAllThatTheDriverSetLast}
 use Rattle.endtoend.proofs.Requests.{list_var_read, get_var_read}
 
 -- what holds of each holds of one of them

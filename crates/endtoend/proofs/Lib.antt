@@ -9,3 +9,4 @@ pub mod Handing
 pub mod FromDriver
 pub mod Refused
 pub mod Ordered
+pub mod OverRuns

@@ -1,18 +1,16 @@
 -- An order whose OK a client printed was given.
-use Rattle.std.proofs.Common.{◌≡◌, ◌⊎◌, ◌∙◌, ◌+◌, ◌*◌, ◌≤◌, ℕ, Bool, true, false, cond, eqb, List, [], ◌∷◌, ◌++◌, length, length-append, Option, Some, None, Result, Ok, Err, IfSome, refl, sym, ap, subst, inl, inr, arith, append-nil}
+use Rattle.std.proofs.Common.{◌≡◌, ◌⊎◌, ◌∙◌, ◌+◌, ℕ, true, false, List, [], ◌∷◌, ◌++◌, length, length-append, Option, Some, None, Result, Ok, Err, IfSome, refl, sym, ap, subst, inl, inr, arith}
 use Rattle.std.specs.Prelude.{codes, IsTrue}
 use Rattle.std.specs.Result.{result_ok}
 use Rattle.std.specs.Option.{ok_or}
-use Rattle.std.specs.List.{list_all}
 use Rattle.std.proofs.lemmas.List.{append_cancel_right}
 use Rattle.nutwords.specs.Bytes.{is_name_byte, is_lawful}
 use Rattle.nutwords.specs.Frame.{line_of}
 use Rattle.nutwords.specs.Grammar.{Reads}
 use Rattle.nutwords.specs.Listing.{as_it_is, IsWrittenLine}
-use Rattle.nutwords.specs.Reading.{read_text, read_name, read_value, is_name, is_ups_name, is_value}
+use Rattle.nutwords.specs.Reading.{read_name, read_value, is_name, is_ups_name, is_value}
 use Rattle.nutwords.specs.Spelling.{quoted}
 use Rattle.nutwords.proofs.PublicLaws.{read_line_is_the_grammar}
-use Rattle.nutusers.specs.declared.ups_list.UpsId.{UpsId}
 use Rattle.nutusers.specs.declared.rights.Right.TheVariants as rights
 use Rattle.nutanswer.specs.declared.command.Command.{Command}
 use Rattle.nutanswer.specs.declared.command.Command.TheVariants as commands
@@ -23,20 +21,18 @@ use Rattle.nutanswer.specs.Command.{read_command, command_from}
 use Rattle.nutanswer.specs.Checks.{◌>>=◌, ◌>>◌, KnownUps, ups_named, unknown_ups, user, live, var_not_supported, readonly, too_long, invalid_value, set_failed, cmd_not_supported, too_long_of_command, instcmd_failed}
 use Rattle.nutanswer.specs.Orders.{instcmd_right, set_line, instcmd_line, order as order_to}
 use Rattle.nutanswer.specs.Answer.{Answer, one_line, answer_to, text_of_answer, change_of_answer, ok}
-use Rattle.nutanswer.specs.ErrWord.{error_line, spelling_of}
 use Rattle.nutanswer.specs.Rows.{EachOrderAnsweredOkIsGiven, value_given}
 use Rattle.nutanswer.specs.View.{Seen, AskerSeen}
 use Rattle.nutcore.specs.Server.{ServerState}
 use Rattle.nutcore.specs.Reply.{seen, asker, text_to, change_by}
 use Rattle.nutcore.specs.Reply as server
-use Rattle.nutcore.specs.History.{of_line}
-use Rattle.nutcore.specs.DriverOrders.{Telling, order, told_by_change, told_by_line}
+use Rattle.nutcore.specs.DriverOrders.{told_by_change}
 use Rattle.nutreply.specs.Request.{request_words}
-use Rattle.nutreply.specs.Reply.{Reply, Refused, Whole, reply, one_item}
+use Rattle.nutreply.specs.Reply.{Reply, Whole}
 use Rattle.nutreply.specs.declared.request.Request.{Request}
 use Rattle.nutreply.specs.declared.request.Request.TheVariants as requests
 use Rattle.nutclient.specs.Requests.{reply_behind}
-use Rattle.nutclient.specs.Printed.{Printed, Prints, Faults, printed, printed_of}
+use Rattle.nutclient.specs.Printed.{Prints, printed, printed_of}
 use Rattle.nutclient.specs.declared.form.Form.TheVariants as forms
 use Rattle.endtoend.specs.Served.{IsLineOf}
 use Rattle.endtoend.specs.Refused.{is_granted_by_ok}
@@ -158,7 +154,7 @@ module _ (s : ServerState) (c : ℕ) (line ups : List ℕ) (command : Command) (
   refusal_prints_nothing : (word : ErrWord) → answer ≡ Err word → printed (request ∷ []) forms.Value (server.reply s c line ++ more) ≡ Prints text → ⊥
   refusal_prints_nothing word e h =
       let faults = ap (λ t. printed (request ∷ []) forms.Value (t ++ more)) (text_is_of ∙ ap text_of_answer e)
-          ∙ ap (λ (r : Reply). printed_of forms.Value (reply_behind r (λ items rest. Whole items rest))) (refused_read request word more) in
+      ∙ ap (λ (r : Reply). printed_of forms.Value (reply_behind r (λ items rest. Whole items rest))) (refused_read request word more) in
       absurd (cc (sym faults ∙ h))
 
   ok_prints : text_of_answer answer ≡ line_of ok → printed (request ∷ []) forms.Value (server.reply s c line ++ more) ≡ Prints (line_of ok)

@@ -1,5 +1,5 @@
 -- What a client makes of a server's refusal, and of an order's OK.
-use Rattle.std.proofs.Common.{◌≡◌, ◌∙◌, ◌+◌, ◌<◌, ◌≤◌, ℕ, true, false, List, [], ◌∷◌, ◌++◌, length, length-append, Option, Some, None, refl, ap, arith}
+use Rattle.std.proofs.Common.{◌≡◌, ◌∙◌, ◌<◌, ◌≤◌, ℕ, true, List, [], ◌∷◌, ◌++◌, length, length-append, None, refl, ap, arith}
 use Rattle.std.specs.Prelude.{codes, IsTrue}
 use Rattle.std.specs.List.{list_all}
 use Rattle.nutwords.specs.Bytes.{is_bare}
@@ -8,13 +8,11 @@ use Rattle.nutwords.specs.Listing.{as_it_is, IsWrittenLine}
 use Rattle.nutanswer.specs.ErrWord.{error_line, spelling_of}
 use Rattle.nutanswer.specs.declared.err_word.ErrWord.{ErrWord}
 use Rattle.nutanswer.specs.declared.err_word.ErrWord.TheVariants.{AccessDenied, UnknownUps, VarNotSupported, CmdNotSupported, InvalidArgument, InstcmdFailed, SetFailed, Readonly, TooLong, FeatureNotConfigured, DriverNotConnected, DataStale, AlreadyLoggedIn, AlreadySetPassword, AlreadySetUsername, UsernameRequired, PasswordRequired, UnknownCommand, InvalidValue}
-use Rattle.nutreply.specs.declared.item.Item.{Item}
 use Rattle.nutreply.specs.declared.request.Request.{Request}
-use Rattle.nutreply.specs.declared.request.Request.TheVariants.{List as ListOf, GetVar, GetNumAttach, Username, Password, SetVar, Instcmd}
+use Rattle.nutreply.specs.declared.request.Request.TheVariants.{List as ListOf, GetVar, GetNumAttach}
 use Rattle.nutreply.specs.Reply.{Reply, Refused, Whole, reply, reply_from, first_of, first_or, expected_of, refusal_of, after_first, one_item}
 use Rattle.nutclient.specs.Requests.{reply_behind, last_reply_after}
 use Rattle.nutclient.specs.Printed.{printed, printed_of}
-use Rattle.nutclient.specs.declared.form.Form.{Form}
 use Rattle.endtoend.specs.Refused.{is_granted_by_ok, ARefusalIsTold}
 use Rattle.endtoend.proofs.LineReading.{written_line, words_read, line_before}
 

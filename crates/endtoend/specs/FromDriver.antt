@@ -55,8 +55,8 @@ UpscPrintsWhatTheDriverSetLast =
     → IsAnswered old events outcomes s c line (GetVar ups name)
     → PrintsTheLastValue old events outcomes s c line ups name
 
--- `upsc ups`: the UPS was fresh then; what is printed is a line for each variable that it holds; and
--- of each name, the last of its driver's lines since it connected decides it.
+-- `upsc ups`: the UPS was fresh then; what is printed is a line for each variable that it holds;
+-- and of each name, the last of its driver's lines since it connected decides it.
 pub record PrintsTheLastValues (old : ServerState) (events : List Event) (outcomes : List Outcome)
     (s : ServerState) (c : ℕ) (line ups : List ℕ) : Type 0 where
   pub was : WasFresh old events outcomes s c line (Some ups)

@@ -5,3 +5,4 @@ pub mod Handed
 pub mod FromDriver
 pub mod Refused
 pub mod Ordered
+pub mod OverRuns

@@ -1,6 +1,6 @@
 -- From the screen to the driver: an order whose OK a client printed was given.
-use Rattle.std.specs.Prelude.{◌≡◌, ◌==◌, ℕ, List, [], ◌∷◌, ◌++◌, Option, Some, codes, IsTrue, IfSome}
-use Rattle.std.specs.Prelude.{if◌then◌else◌}
+use Rattle.std.specs.Prelude.{◌≡◌, ◌==◌, ℕ, List, [], ◌∷◌, ◌++◌, Option, Some, codes, IsTrue}
+use Rattle.std.specs.Prelude.{IfSome, if◌then◌else◌}
 use Rattle.nutwords.specs.Frame.{line_of}
 use Rattle.nutwords.specs.Reading.{is_name, is_ups_name, is_value}
 use Rattle.nutusers.specs.declared.ups_list.UpsId.{UpsId}
@@ -10,7 +10,6 @@ use Rattle.nutcore.specs.Server.{ServerState}
 use Rattle.nutcore.specs.Reply.{seen, reply}
 use Rattle.nutcore.specs.History.{of_line}
 use Rattle.nutcore.specs.DriverOrders.{order, told_by_line}
-use Rattle.nutreply.specs.declared.request.Request.{Request}
 use Rattle.nutreply.specs.declared.request.Request.TheVariants.{SetVar, Instcmd}
 use Rattle.nutclient.specs.Printed.{Prints, printed}
 use Rattle.nutclient.specs.declared.form.Form.TheVariants as forms

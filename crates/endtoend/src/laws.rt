@@ -3,12 +3,13 @@ ghost use Rattle.endtoend.specs.Frames.{AFrameIsReadAsItsItems};
 ghost use Rattle.endtoend.specs.FromDriver.{UpscPrintsWhatTheDriverSetLast, UpscPrintsAllThatTheDriverSetLast};
 ghost use Rattle.endtoend.specs.Refused.{ARefusalIsTold};
 ghost use Rattle.endtoend.specs.Ordered.{AnOrderThatIsPrintedIsGiven};
+ghost use Rattle.endtoend.specs.OverRuns.{UpscPrintsWhatItTook};
 ghost use Rattle.endtoend.specs.Printed.{UpscPrintsTheVariables, UpscPrintsTheVariable, UpscPrintsHowManyAreLoggedIn, UpscPrintsTheUpses, UpsrwPrintsTheVariables, UpscmdPrintsTheCommands};
 
 use nutanswer::laws::each_order_answered_ok_is_given;
 use nutcore::laws::{
-    a_listing_is_what_is_held, what_a_driver_set_last_is_held, what_is_counted_is_who_is_there,
-    whatever_is_told_is_fresh,
+    a_listing_is_what_is_held, every_server_is_sound, one_line_is_answered,
+    what_a_driver_set_last_is_held, what_is_counted_is_who_is_there, whatever_is_told_is_fresh,
 };
 
 /// What is written as a listing is read as the reply of its items, in their order, whatever stands after it.
@@ -84,4 +85,15 @@ pub fn an_order_that_is_printed_is_given()
     ensures { AnOrderThatIsPrintedIsGiven }
 {
     each_order_answered_ok_is_given();
+}
+
+/// The same over a run, of any clients and drivers, from a new server: where the server took in of a client the line of
+/// `upsc UPS VAR` or `upsc UPS`, and the client took all that it was owed, which doesn't begin with `ERR`, then what it took is
+/// the server's reply, of which the law above tells what is printed.
+pub fn upsc_prints_what_it_took()
+    ensures { UpscPrintsWhatItTook }
+{
+    every_server_is_sound();
+    one_line_is_answered();
+    upsc_prints_what_the_driver_set_last();
 }

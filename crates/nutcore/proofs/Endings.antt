@@ -1,33 +1,31 @@
 -- What is over stays over, and what ticks and newcomers leave as it is.
-use Rattle.std.proofs.Common.{◌≡◌, ◌<◌, ◌≤◌, ◌+◌, ◌⊎◌, ◌∙◌, ℕ, Bool, true, false, not, ◌&&◌, List, [], ◌∷◌, ◌++◌, Option, Some, None, Result, Ok, Err, IfSome, refl, sym, ap, subst, cond, eqb, ltb, leb, length, inl, inr, arith, append-nil}
+use Rattle.std.proofs.Common.{◌≡◌, ◌≤◌, ◌+◌, ◌⊎◌, ◌∙◌, ℕ, Bool, true, false, not, List, [], ◌∷◌, ◌++◌, Option, Some, None, Result, Ok, IfSome, refl, sym, ap, subst, cond, eqb, ltb, leb, length, inl, inr, arith, append-nil}
 use Rattle.std.specs.Prelude.{slice_get, is_some, codes}
 use Rattle.std.specs.Option.{option_map_or, ok_or}
-use Rattle.std.specs.List.{flat_map}
-use Rattle.std.proofs.lemmas.Bool.{both_ways, eqb-true, ltb-true, and_parts, cond-true, cond-false}
-use Rattle.nutcore.proofs.Common.{cond_both, UpsId, Change, Event, Outcome, SessionState, UpsState, ServerState, session, ups_at, changed_at, with_session_changed, Step, after, Run}
+use Rattle.std.proofs.lemmas.Bool.{eqb-true, ltb-true, and_parts}
+use Rattle.nutcore.proofs.Common.{cond_both, UpsId, Change, Event, Outcome, SessionState, UpsState, ServerState, session, ups_at, after, Run}
 use Rattle.nutanswer.specs.declared.command.Command.TheVariants.{Fsd}
 use Rattle.nutanswer.specs.declared.err_word.ErrWord.{ErrWord}
 use Rattle.nutanswer.specs.declared.err_word.ErrWord.TheVariants.{UnknownUps, UsernameRequired, PasswordRequired, AccessDenied}
 use Rattle.nutanswer.specs.declared.reply.Change.TheVariants as changes
-use Rattle.nutanswer.specs.Command.{read_command}
 use Rattle.nutanswer.specs.Checks.{◌>>=◌, ◌>>◌, KnownUps, unless, user, unknown_ups}
-use Rattle.nutanswer.specs.Answer.{Answer, one_line, change_of_answer}
+use Rattle.nutanswer.specs.Answer.{one_line, change_of_answer}
 use Rattle.nutanswer.proofs.PublicLaws.{a_named_ups_is_seen}
 use Rattle.nutusers.specs.Users.{may}
 use Rattle.nutusers.specs.declared.rights.Right.TheVariants as rights
 use Rattle.nutcore.specs.declared.event.Event.TheVariants.{DriverUp, DriverBytes, DriverTook, DriverDown, Tick, Open, Feed, Took, Close}
 use Rattle.nutcore.specs.declared.event.Outcome.TheVariants.{Done, Fed, Opened, Refused}
-use Rattle.nutcore.specs.declared.event.Fault.TheVariants.{NoSuchUps, NoSuchClient, TooManyClients, TookTooMuch, NotConnected, AlreadyConnected, LineTooLong, Memory}
-use Rattle.nutcore.specs.Session.{find, new_session}
+use Rattle.nutcore.specs.declared.event.Fault.TheVariants.{TooManyClients, TookTooMuch, NotConnected, AlreadyConnected, LineTooLong}
+use Rattle.nutcore.specs.Session.{new_session}
 use Rattle.nutcore.specs.Ups.{with_fsd}
 use Rattle.nutcore.specs.Lines.{is_too_long, unfinished_after}
 use Rattle.nutcore.specs.Reply.{seen, seen_ups, asker, change_by, changed_upses}
-use Rattle.nutcore.specs.Pump.{next_line_for, after_line, after_notice, holds_overlong, notified}
+use Rattle.nutcore.specs.Pump.{next_line_for, after_line, after_notice, holds_overlong}
 use Rattle.nutcore.specs.Step.{with_input, without_output, may_take, may_open, opened, ticked, after_by, refused_after, outcome_of, MayAnswer, connected_by, driver_text_outcome, driver_bytes_by, driver_took_by, disconnected_by, accepted, fed_by, took_by, closed_by}
 use Rattle.nutcore.specs.History.{Execution, of_line, of_notice, executions, of_client, texts_of, owed, is_over}
 use Rattle.nutcore.specs.Headline.{IsLawful}
 use Rattle.nutcore.specs.Addresses.{opened_from}
-use Rattle.nutcore.specs.ByRight.{IsAmong, IsByRight, SetsShutdownByRight, is_shut_down}
+use Rattle.nutcore.specs.ByRight.{IsByRight, SetsShutdownByRight, is_shut_down}
 use Rattle.nutcore.specs.Endings.{WhoIsOverIsAskedNoMore, id_given, ids_given, RiseFrom, IdsThatAreGivenRise, AGrantedShutdownIsSet, ATickTouchesNoSession, LeavesOlderSessions, AnOpeningTouchesNoOther}
 use Rattle.nutcore.proofs.Changed.{either_notice}
 use Rattle.nutcore.proofs.Events.{of_opened}

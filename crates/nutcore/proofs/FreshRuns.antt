@@ -1,10 +1,10 @@
 -- What is told of a UPS's data is fresh, over every run from a new server.
-use Rattle.std.proofs.Common.{◌≡◌, ◌≤◌, ◌<◌, ◌+◌, ◌-◌, ◌∙◌, ℕ, zero, suc, Bool, true, false, List, [], ◌∷◌, ◌++◌, Option, Some, None, Result, Ok, Err, refl, sym, ap, subst, map, max, length, arith, cond, not, ltb, ◌||◌}
+use Rattle.std.proofs.Common.{◌≡◌, ◌≤◌, ◌<◌, ◌-◌, ◌∙◌, ℕ, zero, suc, Bool, true, false, List, [], ◌∷◌, ◌++◌, Option, Some, Result, Ok, Err, refl, sym, ap, subst, map, max, length, arith, cond, not, ltb, ◌||◌}
 use Rattle.std.specs.Prelude.{codes, nat_eq, slice_get}
 use Rattle.std.specs.List.{starts_with}
 use Rattle.std.proofs.lemmas.Bool.Decides.{nat_tests}
 use Rattle.std.proofs.lemmas.List.Elements.{All-weaker}
-use Rattle.nutcore.proofs.Common.{same_Some, slice_get_within, UpsId, Event, Outcome, UpsState, ServerState, session, ups_at, Step, after, Run}
+use Rattle.nutcore.proofs.Common.{same_Some, slice_get_within, UpsId, Event, Outcome, UpsState, ServerState, ups_at, Run}
 use Rattle.nutdriver.specs.declared.line.DriverLine.{DriverLine}
 use Rattle.nutdriver.specs.declared.fault.DriverFault.{DriverFault}
 use Rattle.nutdriver.specs.declared.effect.Effect.{Effect}
@@ -23,20 +23,18 @@ use Rattle.nutanswer.specs.Command.{read_command}
 use Rattle.nutanswer.specs.ErrWord.{error_line}
 use Rattle.nutanswer.specs.View.{UpsSeen, readiness, usable, stale, not_connected}
 use Rattle.nutanswer.specs.Answer.{Answer, answer_to, text_of_answer}
-use Rattle.nutanswer.specs.Fresh.{asks_data_of, WhatIsToldIsFresh}
+use Rattle.nutanswer.specs.Fresh.{WhatIsToldIsFresh}
 use Rattle.nutanswer.proofs.PublicLaws.{a_named_ups_is_seen}
-use Rattle.nutcore.specs.declared.event.Event.TheVariants.{DriverUp, DriverBytes, DriverTook, DriverDown, Tick, Open, Feed, Took, Close}
-use Rattle.nutcore.specs.Session.{without}
-use Rattle.nutcore.specs.Server.{new_server}
+use Rattle.nutcore.specs.declared.event.Event.TheVariants.{Tick, Feed, Took}
 use Rattle.nutcore.specs.Reply.{seen, seen_ups, asker, text_to, reply}
-use Rattle.nutcore.specs.Step.{after_by, refused_after, ticked, opened}
+use Rattle.nutcore.specs.Step.{after_by, refused_after, ticked}
 use Rattle.nutcore.specs.History.{Execution, of_line, of_notice}
 use Rattle.nutcore.specs.Headline.{IsInEvent, IsTimely}
 use Rattle.nutcore.specs.Isolation.{ups_of, without_commands, kept_from_clients}
 use Rattle.nutcore.specs.Sound.{IsSoundUps, IsSound, ANewServerIsSound, EveryRunKeepsTheServerSound}
 use Rattle.nutcore.specs.DriverHistory.{bytes_heard}
 use Rattle.nutcore.specs.DriverRuns.{IsNewServer, ConnectedInRun}
-use Rattle.nutcore.specs.FreshRuns.{tick_of, greatest_tick, TheMomentIsTheGreatestTick, lines_since, IsFreshIn, WasFresh, IsToldFresh, WhateverIsToldIsFresh, WhatADriverSetLastIsHeld}
+use Rattle.nutcore.specs.FreshRuns.{tick_of, greatest_tick, TheMomentIsTheGreatestTick, lines_since, IsToldFresh, WhateverIsToldIsFresh, WhatADriverSetLastIsHeld}
 use Rattle.nutcore.proofs.Addresses.{run_keeps_list}
 use Rattle.nutcore.proofs.DriverRuns.{since_connecting}
 use Rattle.nutcore.proofs.Events.{of_parts, of_opened, any_driver}
@@ -222,13 +220,13 @@ module _ (told : WhatIsToldIsFresh) (opening : ANewServerIsSound) (keeps : Every
       let report : x.report ≡ known.state.report = ap (λ (z : UpsSeen). z.report) seen_at.is in
       let kept : kept_from_clients s ≡ kept_from_clients t.server = kept_until t.server t.event s c line t.executed in
       let was_at = mapped_at without_commands t.server.upses u.place (without_commands x)
-          (ap (λ (z : ServerState). slice_get z.upses u.place) (sym kept) ∙ at_mapped without_commands s.upses u.place x seen_at.there) in
+      (ap (λ (z : ServerState). slice_get z.upses u.place) (sym kept) ∙ at_mapped without_commands s.upses u.place x seen_at.there) in
       let y : UpsState = was_at.of in
       let stands = since_connecting opening keeps old t.server t.events_before t.outcomes_before u is_new
-          (there_before t.server t.events_before t.outcomes_before u.place y t.reached was_at.there) t.reached in
+      (there_before t.server t.events_before t.outcomes_before u.place y t.reached was_at.there) t.reached in
       let same : stands.now ≡ y = same_Some stands.now y (sym stands.there ∙ was_at.there) in
       let connected : stands.now.report.connected ≡ true =
-          ap (λ (z : UpsState). z.report.connected) same ∙ ap (λ (z : UpsState). z.report.connected) was_at.is ∙ ap (λ (z : Report). z.connected) report ∙ fresh.connected in
+      ap (λ (z : UpsState). z.report.connected) same ∙ ap (λ (z : UpsState). z.report.connected) was_at.is ∙ ap (λ (z : Report). z.connected) report ∙ fresh.connected in
       let run = same_driver u t.events_before t.outcomes_before x stands.now (sym was_at.is ∙ ap without_commands (sym same)) (stands.connected connected) in
       let dumped : x.report.dumped ≡ true = ap (λ (z : Report). z.dumped) report ∙ fresh.dumped in
       let last = dumped_has_last run.server.moment (lines_since run) x.report run.connects.is_heard.report dumped in

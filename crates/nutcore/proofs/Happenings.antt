@@ -1,10 +1,10 @@
 -- Answers come of what happens, and not of bytes that come and go.
-use Rattle.std.proofs.Common.{◌≡◌, ◌∙◌, ◌+◌, ◌<◌, ℕ, Bool, true, false, List, [], ◌∷◌, ◌++◌, Option, Some, None, Result, Ok, Err, refl, sym, ap, subst, cond, eqb, ltb, ◌&&◌, ◌^◌, map, length, append_assoc, append-nil}
+use Rattle.std.proofs.Common.{◌≡◌, ◌∙◌, ◌+◌, ℕ, Bool, true, false, List, [], ◌∷◌, ◌++◌, Option, Some, None, Result, Ok, Err, refl, sym, ap, subst, cond, eqb, ltb, ◌&&◌, ◌^◌, map, append_assoc}
 use Rattle.std.specs.Prelude.{option_map}
-use Rattle.nutcore.proofs.Common.{cond_both, length-map, Change, Event, Outcome, SessionState, UpsState, ServerState, session, with_session, with_session_changed, Step, after, Run}
+use Rattle.nutcore.proofs.Common.{length-map, Change, Event, Outcome, SessionState, ServerState, session, with_session_changed, after, Run}
 use Rattle.nutanswer.specs.declared.command.Command.{Command}
 use Rattle.nutanswer.specs.declared.err_word.ErrWord.{ErrWord}
-use Rattle.nutanswer.specs.declared.reply.Change.TheVariants.{Nothing, Username, Password, Login, Ending, Fsd, Order}
+use Rattle.nutanswer.specs.declared.reply.Change.TheVariants.{Username, Password, Login, Ending}
 use Rattle.nutanswer.specs.Command.{read_command}
 use Rattle.nutanswer.specs.View.{Seen, ClientSeen, AskerSeen}
 use Rattle.nutanswer.specs.Answer.{answer_to, text_of_answer, change_of_answer}
@@ -14,14 +14,14 @@ use Rattle.nutcore.specs.Session.{find, put, without, new_session, begin_ending}
 use Rattle.nutcore.specs.Reply.{seen, seen_client, asker, asker_of, reply, text_to, change_by, changed, changed_session, changed_upses, after_change, too_long_notice}
 use Rattle.nutcore.specs.Pump.{next_line_for, answered, after_line, is_overlong, notified}
 use Rattle.nutcore.specs.Step.{joined, with_input, taken_from, without_output, may_take, may_open, opened, ticked, pumped_until, after_by, refused_after}
-use Rattle.nutcore.specs.History.{Execution, of_line, of_notice, client_of, text_of, executions_until, executions_by, executions, of_client, texts_of, answers}
-use Rattle.nutcore.specs.Happenings.{Happening, line_is_executed, notice_is_told, event_comes, happening_of, happened_in_event, happenings, without_bytes, apart_from_bytes, AreAnsweredAlike, AnswersComeOfWhatHappens, AQuietTakeChangesWhatIsOwedAlone, IsAlike, AReplyComesOfWhatIsSeen}
-use Rattle.nutcore.proofs.Changed.{by_change, change_is, change_absent}
+use Rattle.nutcore.specs.History.{Execution, of_line, of_notice, client_of, text_of, executions_until, executions_by, executions, of_client, texts_of}
+use Rattle.nutcore.specs.Happenings.{Happening, line_is_executed, notice_is_told, event_comes, happening_of, happened_in_event, happenings, without_bytes, apart_from_bytes, AnswersComeOfWhatHappens, AQuietTakeChangesWhatIsOwedAlone, IsAlike, AReplyComesOfWhatIsSeen}
+use Rattle.nutcore.proofs.Changed.{by_change, change_is}
 use Rattle.nutcore.proofs.DriverText.{bytes_change}
 use Rattle.nutcore.proofs.Events.{IsPlain}
 use Rattle.nutcore.proofs.Found.{find_id}
 use Rattle.nutcore.proofs.Histories.{IsOfPump, until_keeps, two_lists, later}
-use Rattle.nutcore.proofs.Pumping.{is_next, after_line_is, change_at, changed_is, line_done, session_after, session_after_id, overlong_there}
+use Rattle.nutcore.proofs.Pumping.{is_next, after_line_is, change_at, changed_is, line_done, session_after, overlong_there}
 
 -- what is answered comes of what is seen
 pub reply_of_seen : AReplyComesOfWhatIsSeen

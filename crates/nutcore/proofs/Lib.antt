@@ -31,6 +31,7 @@ mod ShutdownMarks
 mod Lasting
 mod Endings
 mod Waiting
+mod Alone
 mod SessionMarks
 mod LoginCount
 mod Isolation
@@ -43,6 +44,7 @@ mod Bounded
 mod Takes
 mod Taking
 mod TakingAmongOthers
+mod TakingSome
 mod NotStuck
 mod Totals
 mod Listed

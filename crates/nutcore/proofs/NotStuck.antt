@@ -1,27 +1,26 @@
 -- Nobody is stuck.
-use Rattle.std.proofs.Common.{◌≡◌, ◌≢◌, ◌<◌, ◌≤◌, ◌∙◌, ◌+◌, ℕ, Bool, true, false, not, ◌&&◌, ◌||◌, List, [], ◌∷◌, ◌++◌, Option, Some, None, refl, sym, ap, subst, cond, eqb, ltb, leb, length, length-append, arith}
-use Rattle.std.specs.Prelude.{is_none, is_some, option_and_then}
+use Rattle.std.proofs.Common.{◌≡◌, ◌≢◌, ◌≤◌, ◌∙◌, ◌+◌, ℕ, Bool, true, false, not, ◌&&◌, ◌||◌, List, [], ◌∷◌, ◌++◌, Option, Some, None, refl, sym, ap, subst, cond, eqb, ltb, leb, length, length-append, arith}
+use Rattle.std.specs.Prelude.{is_none, option_and_then}
 use Rattle.std.specs.Option.{option_map_or}
 use Rattle.std.proofs.lemmas.Bool.{cond_both, le-leb}
 use Rattle.std.proofs.lemmas.Bool.Decides.{nat_tests}
 use Rattle.nutlisting.specs.declared.outbox.TheConstants.{OWED_LIMIT}
-use Rattle.nutcore.proofs.Common.{Event, Outcome, SessionState, ServerState, session, Step, after, Run}
+use Rattle.nutcore.proofs.Common.{Event, Outcome, SessionState, ServerState, session, after, Run}
 use Rattle.nutcore.specs.declared.TheConstants.{HELD_LIMIT}
-use Rattle.nutcore.specs.declared.event.Event.TheVariants.{DriverUp, DriverBytes, DriverTook, DriverDown, Tick, Open, Feed, Took, Close}
+use Rattle.nutcore.specs.declared.event.Event.TheVariants.{Feed, Took, Close}
 use Rattle.nutcore.specs.Lines.{first_line}
 use Rattle.nutcore.specs.Session.{without}
-use Rattle.nutcore.specs.Calls.{is_finished}
 use Rattle.nutcore.specs.Pump.{next_line, pumped, holds_overlong, owed_of}
 use Rattle.nutcore.specs.Step.{with_input, without_output, may_take, pumped_until, after_by, refused_after}
-use Rattle.nutcore.specs.History.{taken, owed, is_closed}
+use Rattle.nutcore.specs.History.{taken, owed}
 use Rattle.nutcore.specs.Isolation.{client_of}
-use Rattle.nutcore.specs.NotStuck.{HadMemory, HasRoom, WhoIsOwedLittleHasRoom, WhoEndsIsFinished}
+use Rattle.nutcore.specs.NotStuck.{HadMemory, WhoIsOwedLittleHasRoom, WhoEndsIsFinished}
 use Rattle.nutcore.proofs.Endings.{asked_no_more, stays_ending}
 use Rattle.nutcore.proofs.Found.{find_without}
 use Rattle.nutcore.proofs.Histories.{later}
 use Rattle.nutcore.proofs.Least.{HasStopped, pump_ended}
 use Rattle.nutcore.proofs.Takes.{none_owed}
-use Rattle.nutcore.proofs.TakingAmongOthers.{IsUntouched, anothers, its_own, not_its_own}
+use Rattle.nutcore.proofs.TakingAmongOthers.{anothers, its_own, not_its_own}
 
 -- a client without a session has stopped
 absent_stops : (s : ServerState) (c : ℕ) → session c s ≡ None → HasStopped s c

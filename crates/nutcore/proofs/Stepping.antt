@@ -140,7 +140,7 @@ close_goes c d s = own_or_other c d (λ z b. IsKept (presence z s) → Progress 
 
 -- each event
 module _ (c : ℕ) where
-  abbrev Goes : ServerState → List Execution → List ℕ → List ℕ → ServerState → Type 0
+  abbrev pub Goes : ServerState → List Execution → List ℕ → List ℕ → ServerState → Type 0
   Goes s xs taken asked t = IsKept (presence c s) → Progress (presence c s) (texts_of (of_client c xs)) taken asked (lines_of (of_client c xs)) (presence c t)
 
   plain_goes : (s : ServerState) (e : Event) (m : Option ℕ) → IsPlain e → Goes s [] [] [] (after_by s e m)
@@ -150,7 +150,7 @@ module _ (c : ℕ) where
       (λ e apart plain kept. unmoved (presence c s) _ (presence_is (ap (find c) (apart.sessions s m)) (ap (ltb c) (apart.next_id s m))))
       (λ address plain. open_goes c s address m) (λ d piece plain. absurd plain) (λ d n plain. absurd plain) (λ d plain. close_goes c d s) e
 
-  goes : IsOfEvents c Goes
+  pub goes : IsOfEvents c Goes
   goes = record {
     stays = λ s kept. stays (presence c s);
     joins = λ s m t xs ys k k' a a' f g kept.

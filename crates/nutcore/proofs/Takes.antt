@@ -30,7 +30,7 @@ server_then s c = after s (all_taken s c) (outcome_then s c)
 abbrev pub done_then : ServerState → ℕ → List Execution
 done_then s c = of_client c (executions_in_event s (all_taken s c) (outcome_then s c))
 
-there_is_memory : (o : Option SessionState) (n : ℕ) (b : Bool) → refused_after (took_by o n b) ≡ None
+pub there_is_memory : (o : Option SessionState) (n : ℕ) (b : Bool) → refused_after (took_by o n b) ≡ None
 there_is_memory None n b = refl
 there_is_memory (Some x) n b =
     cond_both (may_take (Some x) n) (cond b (Refused LineTooLong) Done) (Refused TookTooMuch) (λ outcome. refused_after outcome ≡ None)
@@ -106,7 +106,7 @@ pub record HasNothingLeft (c : ℕ) (s : ServerState) : Type 0 where
   pub none : owed c s ≡ []
   pub ended : HasStopped s c
 
-pump_idle : (s : ServerState) (c : ℕ) → HasStopped s c → pumped s c ≡ s
+pub pump_idle : (s : ServerState) (c : ℕ) → HasStopped s c → pumped s c ≡ s
 unfolding pumped after_all_lines
 pump_idle s c h =
     let k : ℕ = length (held_of (session c s)) in

@@ -76,7 +76,7 @@ as_take : (c : ℕ) (s : ServerState) (e : Event) (o : Outcome) (P : Event → O
 as_take c s e o P (event_is, outcome_is) p = subst (λ (z : Event). P z o) (sym event_is) (subst (P (all_taken s c)) (sym (outcome_is ∙ ap (outcome_of s) event_is)) p)
 
 -- where nothing is left, it stays so
-left_after : (c : ℕ) (s t : ServerState) → IsUntouched (session c s) (session c t) → HasNothingLeft c s → HasNothingLeft c t
+pub left_after : (c : ℕ) (s t : ServerState) → IsUntouched (session c s) (session c t) → HasNothingLeft c s → HasNothingLeft c t
 left_after c s t same h = record { none = same.owes ∙ h.none; ended = record { stopped = same.stops ∙ h.ended.stopped; short = same.long ∙ h.ended.short } }
 
 stays_left : (c : ℕ) (s t : ServerState) (es : List Event) (os : List Outcome) → Run s es os t → TakesAmongOthers c s es os → HasNothingLeft c s → HasNothingLeft c t

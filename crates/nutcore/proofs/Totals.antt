@@ -1,5 +1,5 @@
 -- The whole server in numbers.
-use Rattle.std.proofs.Common.{◌≡◌, ◌≤◌, ◌+◌, ◌*◌, ℕ, zero, suc, List, [], ◌∷◌, Some, refl, length, take, length-take, All, arith}
+use Rattle.std.proofs.Common.{◌≤◌, ◌*◌, ℕ, zero, suc, List, [], ◌∷◌, Some, length, length-take, All, arith}
 use Rattle.std.specs.Map.{values_of}
 use Rattle.std.proofs.lemmas.List.Elements.{All-head, All-tail}
 use Rattle.nutlisting.specs.declared.ring.TheConstants.{RING_LIMIT}
@@ -8,11 +8,11 @@ use Rattle.nutdriver.specs.declared.limits.TheConstants.{VARIABLE_LIMIT, COMMAND
 use Rattle.nutdriver.specs.Variable.{VariableState}
 use Rattle.nutdriver.specs.Sound.{IsSoundVariable}
 use Rattle.nutusers.specs.declared.limits.TheConstants.{UPS_LIMIT}
-use Rattle.nutcore.proofs.Common.{SessionState, UpsState, ServerState}
+use Rattle.nutcore.proofs.Common.{SessionState, UpsState}
 use Rattle.nutcore.specs.declared.TheConstants.{HELD_LIMIT, DRIVER_OWED_LIMIT}
 use Rattle.nutcore.specs.Step.{offered}
-use Rattle.nutcore.specs.Sound.{Each, IsSoundSession, IsSoundUps, IsSound}
-use Rattle.nutcore.specs.Totals.{total, variables_of, commands_of, enum_values_of, ranges_of, IsBoundedInAll, AServerIsBoundedInAll}
+use Rattle.nutcore.specs.Sound.{Each, IsSoundSession, IsSoundUps}
+use Rattle.nutcore.specs.Totals.{total, variables_of, commands_of, enum_values_of, ranges_of, AServerIsBoundedInAll}
 
 -- as many as there may be, each with at most so much
 total_most : {A : Type 0} (P : A → Type 0) (size : A → ℕ) (most : ℕ) → ((x : A) → P x → size x ≤ most) → (n : ℕ) (xs : List A) → length xs ≤ n → Each P xs → total size xs ≤ n * most

@@ -40,8 +40,8 @@ greatest_tick (e ∷ es) = max (tick_of e) (greatest_tick es)
 -- was.
 pub record IsAtItsMoment (old : ServerState) (events : List Event) (new : ServerState) : Type 0
   where
-  pub moment : new.moment ≡ greatest_tick events
-  pub max_age : new.max_age ≡ old.max_age
+    pub moment : new.moment ≡ greatest_tick events
+    pub max_age : new.max_age ≡ old.max_age
 
 abbrev pub TheMomentIsTheGreatestTick : Type 0
 TheMomentIsTheGreatestTick =
@@ -71,8 +71,8 @@ pub record IsFreshIn (old : ServerState) (events : List Event) (outcomes : List 
   pub lines_are : lines_since connected ≡ earlier ++ last ∷ []
   pub recent : greatest_tick events ≤ last.moment + old.max_age
 
--- The UPS that was asked for was there, usable and sound, and fresh in the run's beginning before the
--- event that executed the line.
+-- The UPS that was asked for was there, usable and sound, and fresh in the run's beginning before
+-- the event that executed the line.
 pub record WasFresh (old : ServerState) (events : List Event) (outcomes : List Outcome)
     (s : ServerState) (c : ℕ) (line : List ℕ) (ups : Option (List ℕ)) : Type 0 where
   pub known : KnownUps
@@ -104,8 +104,8 @@ abbrev pub changes_since : {u : UpsId} {old : ServerState} {events : List Event}
     → List DriverLine
 changes_since c = changes (connected_report c.server.moment) (lines_since c)
 
--- What the driver of a UPS set last, since it connected, the UPS holds: the last of these lines that
--- decides a variable.
+-- What the driver of a UPS set last, since it connected, the UPS holds: the last of these lines
+-- that decides a variable.
 abbrev pub WhatADriverSetLastIsHeld : Type 0
 WhatADriverSetLastIsHeld =
     (old : ServerState) (events : List Event) (outcomes : List Outcome) (u : UpsId) (now : UpsState)

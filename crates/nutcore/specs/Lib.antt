@@ -14,8 +14,10 @@ pub mod Isolation
 pub mod Happenings
 pub mod Sound
 pub mod Waiting
+pub mod Alone
 pub mod Bounded
 pub mod Taking
+pub mod TakingSome
 pub mod NotStuck
 pub mod Totals
 pub mod Listed

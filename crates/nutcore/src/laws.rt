@@ -4,6 +4,7 @@ ghost use Rattle.nutcore.specs.ByRight.{AForcedShutdownIsSetByRight, ALoginIsByR
 ghost use Rattle.nutcore.specs.Lasting.{WhatNeverGoesBack};
 ghost use Rattle.nutcore.specs.Endings.{WhoIsOverIsAskedNoMore, IdsThatAreGivenRise, AGrantedShutdownIsSet, ATickTouchesNoSession, AnOpeningTouchesNoOther};
 ghost use Rattle.nutcore.specs.Waiting.{ALineIsAnswered};
+ghost use Rattle.nutcore.specs.Alone.{OneLineIsAnswered};
 ghost use Rattle.nutcore.specs.OrdersByRight.{EachOrderIsByRight};
 ghost use Rattle.nutcore.specs.TellingLines.{EachTellingIsAWholeLine};
 ghost use Rattle.nutcore.specs.Examples.{TwoVariables, EmptyListing, TakenInFour, LongestLine, ThreeLines, EscapedValue, FaultyLines, CasesAndFaults, NotConnected, Described, PipelinedGet, CutLines, ToldInPieces};
@@ -14,6 +15,7 @@ ghost use Rattle.nutcore.specs.Bounded.{EachEventIsBounded};
 ghost use Rattle.nutcore.specs.Taking.{WhoTakesGetsEverything, WhoTakesAmongOthersGetsEverything};
 ghost use Rattle.nutcore.specs.NotStuck.{WhoIsOwedLittleHasRoom, WhoEndsIsFinished};
 ghost use Rattle.nutcore.specs.Totals.{AServerIsBoundedInAll};
+ghost use Rattle.nutcore.specs.TakingSome.{WhoTakesSomeGetsEverything};
 ghost use Rattle.nutcore.specs.Lines.{WholeLinesAreTheCut};
 ghost use Rattle.nutcore.specs.DriverHistory.{WhatADriverToldIsExecuted};
 ghost use Rattle.nutcore.specs.DriverRuns.{WhatCameSinceConnectingIsExecuted, ALostDriversLinesAreABeginning, WhichLinesAreRefused, RefusedLinesAreCounted, ANewServerCountsAllRefusedLines};
@@ -99,6 +101,13 @@ pub fn what_is_counted_is_who_is_there()
 /// at most 1,023 bytes and memory is there, it is owed exactly the reply to that line, and holds nothing.
 pub fn a_line_is_answered()
     ensures { ALineIsAnswered }
+{}
+
+/// One client, whatever others do: where what joined its held input in a run is one line, and in the end it holds nothing, is
+/// owed nothing and isn't over, the run executed that line for it, and no other, and what the client took is exactly the
+/// reply to it.
+pub fn one_line_is_answered()
+    ensures { OneLineIsAnswered }
 {}
 
 /// Over every run, a user name and a password that a session gave stay as they were given, and so does its login up to the
@@ -288,6 +297,13 @@ pub fn nobody_is_stuck()
 /// variables, commands, enum values and ranges as one may.
 pub fn a_server_is_bounded_in_all()
     ensures { AServerIsBoundedInAll }
+{}
+
+/// So many takes are enough of a client that takes k bytes at a time, from 1 to 4,096, or all that it is offered where those
+/// are fewer: one for each k bytes of what is owed and is answered, one for each line that is executed, and one more. Drivers
+/// and other clients do anything between.
+pub fn who_takes_some_gets_everything()
+    ensures { WhoTakesSomeGetsEverything }
 {}
 
 /// Given a server, an event and its outcome there is one next server, and but where memory is refused

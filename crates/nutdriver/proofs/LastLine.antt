@@ -1,6 +1,6 @@
 -- The last line on a variable decides it.
 use Rattle.std.proofs.Common.{◌≡◌, ℕ, Bool, true, false, cond, List, [], ◌∷◌, ◌++◌, Option, Some, None, refl, sym, ap, subst, ◌∙◌, append-nil, append_assoc, length}
-use Rattle.std.specs.Prelude.{◌||◌, nat_le, Result, Ok, Err, IfOk, IfSome, if◌then◌else◌, option_map}
+use Rattle.std.specs.Prelude.{nat_le, Result, Ok, Err, IfOk, IfSome, if◌then◌else◌, option_map}
 use Rattle.std.specs.List.{list_any}
 use Rattle.std.specs.Str.{bytes_eq}
 use Rattle.std.proofs.lemmas.Bool.{or_parts}

@@ -1,5 +1,5 @@
 -- The last line on a variable decides it: its value, told from its driver's lines.
-use Rattle.std.specs.Prelude.{◌≡◌, ℕ, Bool, false, List, [], ◌∷◌, ◌++◌, Option, Some, None}
+use Rattle.std.specs.Prelude.{◌≡◌, ℕ, Bool, false, List, ◌∷◌, ◌++◌, Option, Some, None}
 use Rattle.std.specs.Prelude.{option_map}
 use Rattle.std.specs.List.{list_any}
 use Rattle.std.specs.Str.{bytes_eq}
@@ -27,12 +27,12 @@ NoneDecides name lines = list_any (decides name) lines ≡ false
 -- variable gave it its value, or took it away; and where none does, it isn't there.
 pub record TheLastLineDecides (tree : TreeState) (lines : List DriverLine) (name : List ℕ) : Type 0
   where
-  pub given : (earlier later : List DriverLine) (value : List ℕ)
-      → lines ≡ earlier ++ SetInfo name value ∷ later → NoneDecides name later
-      → value_of tree name ≡ Some value
-  pub taken : (earlier later : List DriverLine) → lines ≡ earlier ++ DelInfo name ∷ later
-      → NoneDecides name later → value_of tree name ≡ None
-  pub never : NoneDecides name lines → value_of tree name ≡ None
+    pub given : (earlier later : List DriverLine) (value : List ℕ)
+        → lines ≡ earlier ++ SetInfo name value ∷ later → NoneDecides name later
+        → value_of tree name ≡ Some value
+    pub taken : (earlier later : List DriverLine) → lines ≡ earlier ++ DelInfo name ∷ later
+        → NoneDecides name later → value_of tree name ≡ None
+    pub never : NoneDecides name lines → value_of tree name ≡ None
 
 -- After whatever lines of a driver since it connected.
 abbrev pub TheLastLineOnAVariableDecidesIt : Type 0

@@ -1,0 +1,28 @@
+-- A client that asks one line, in a run of any others.
+use Rattle.std.specs.Prelude.{◌≡◌, ℕ, false, List, [], ◌∷◌, None}
+use Rattle.nutwords.specs.SplitLine.{has_lf}
+use Rattle.nutcore.specs.declared.event.Event.{Event}
+use Rattle.nutcore.specs.declared.event.Outcome.{Outcome}
+use Rattle.nutcore.specs.Lines.{with_lf}
+use Rattle.nutcore.specs.Server.{ServerState, session}
+use Rattle.nutcore.specs.Reply.{reply}
+use Rattle.nutcore.specs.Run.{Run}
+use Rattle.nutcore.specs.History.{of_line, executions, of_client, taken, asked, owed, held, is_over}
+use Rattle.nutcore.specs.Headline.{IsLawful}
+
+-- The run executed for the client this line alone, on this server, and what it took is exactly the
+-- reply to it.
+pub record WasAnswered (c : ℕ) (old : ServerState) (events : List Event) (outcomes : List Outcome)
+    (line : List ℕ) : Type 0 where
+  pub server : ServerState
+  pub executed : of_client c (executions old events outcomes) ≡ of_line server c line ∷ []
+  pub took : taken c old events outcomes ≡ reply server c line
+
+-- A client that wasn't there before, whatever others do: where what joined its held input in a run
+-- is one line, and in the end it isn't over, holds nothing and is owed nothing.
+abbrev pub OneLineIsAnswered : Type 0
+OneLineIsAnswered =
+    (old new : ServerState) (events : List Event) (outcomes : List Outcome) (c : ℕ) (line : List ℕ)
+    → IsLawful old → session c old ≡ None → Run old events outcomes new
+    → asked c old events outcomes ≡ with_lf line → has_lf line ≡ false → is_over c new ≡ false
+    → held c new ≡ [] → owed c new ≡ [] → WasAnswered c old events outcomes line
