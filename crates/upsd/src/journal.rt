@@ -13,7 +13,7 @@ use nutcore::{Server, UpsId};
 use nutloop::Sockets;
 use nutusers::UPS_LIMIT;
 use std::alloc::Global;
-use std::{fmt, str};
+use std::fmt;
 
 /// What is new of a UPS.
 #[derive(Clone, Copy, Debug, PartialEq, Eq)]
@@ -148,10 +148,11 @@ fn standing_of(server: &Server, u: UpsId) -> Standing
 
 /// Writes a line of what is new of the UPS, if anything is.
 fn write_news(rt: &HostRuntime, server: &Server, u: UpsId, news: Option<News>) {
-    let (Some(name), Some(news)) = (server.ups().name(u), news) else {
+    let Some(news) = news else {
         return;
     };
-    if let Ok(name) = str::from_utf8(name.as_bytes()) {
+    if let Some(name) = server.ups().name(u) {
+        let name = name.as_bytes().escape_ascii();
         let _ = eprintln!(rt; "upsd: {name}: {news}");
     }
 }
