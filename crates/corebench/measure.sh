@@ -7,7 +7,7 @@
 set -euo pipefail
 cd "$(dirname "${BASH_SOURCE[0]}")"
 program=$(realpath "${1:-out/corebench}")
-upsd=$(realpath "${2:-../upsd/out/upsd}")
+upsd=$(realpath -m "${2:-../upsd/out/upsd}")
 over_sockets=$(realpath over_sockets.py)
 folder=$(mktemp -d)
 trap 'rm -r "$folder"' EXIT
