@@ -33,10 +33,10 @@ pub noted_up_to : (s : ServerState) (olds news : List DriverSocket) (i : ℕ) (d
     → NotesDrivers s (take (i + 1) olds) (take (i + 1) (set news i new)) places noted
 noted_up_to s olds news i d new places between noted below lengths same others of_one =
     let here : get_or news i d ≡ get_or olds i d =
-            sym (get_or-drop_first news i d) ∙ ap (λ (xs : List DriverSocket). get_or xs 0 d) same ∙ get_or-drop_first olds i d in
+    sym (get_or-drop_first news i d) ∙ ap (λ (xs : List DriverSocket). get_or xs 0 d) same ∙ get_or-drop_first olds i d in
     let old_front : take (i + 1) olds ≡ take i olds ++ get_or olds i d ∷ [] = ap (λ (n : ℕ). take n olds) (add-one i) ∙ take-suc olds i d below in
     let new_front : take (i + 1) (set news i new) ≡ take i news ++ new ∷ [] =
-            take-set_at news i (i + 1) new refl (rw lengths below) in
+    take-set_at news i (i + 1) new refl (rw lengths below) in
     rw old_front (rw new_front (noted_behind s (take i olds) (take i news) (get_or olds i d) new places between noted others
     (subst (λ (x : DriverSocket). IsDriverNoted s x new between noted) here of_one)))
 
