@@ -27,10 +27,10 @@ use Rattle.nutcore.specs.Server.{ServerState}
 use Rattle.nutcore.specs.Reply.{seen, asker, text_to, change_by}
 use Rattle.nutcore.specs.Reply as server
 use Rattle.nutcore.specs.DriverOrders.{told_by_change}
-use Rattle.nutreply.specs.Request.{request_words}
-use Rattle.nutreply.specs.Reply.{Reply, Whole}
-use Rattle.nutreply.specs.declared.request.Request.{Request}
-use Rattle.nutreply.specs.declared.request.Request.TheVariants as requests
+use Rattle.nutrequest.specs.Request.{request_words}
+use Rattle.nutrequest.specs.Reply.{Reply, Whole}
+use Rattle.nutrequest.specs.declared.request.Request.{Request}
+use Rattle.nutrequest.specs.declared.request.Request.TheVariants as requests
 use Rattle.nutclient.specs.Requests.{reply_behind}
 use Rattle.nutclient.specs.Printed.{Prints, printed, printed_of}
 use Rattle.nutclient.specs.declared.form.Form.TheVariants as forms

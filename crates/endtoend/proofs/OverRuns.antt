@@ -9,9 +9,9 @@ use Rattle.nutcore.specs.History.{Execution, of_line, client_of, executions, of_
 use Rattle.nutcore.specs.ByRight.{IsAmong}
 use Rattle.nutcore.specs.Alone.{WasAnswered, OneLineIsAnswered}
 use Rattle.nutcore.specs.Sound.{IsSound, ANewServerIsSound, ASoundServerIsLawful}
-use Rattle.nutreply.specs.declared.request.Request.{Request}
-use Rattle.nutreply.specs.declared.request.Request.TheVariants as requests
-use Rattle.nutreply.specs.declared.request.Query.TheVariants as queries
+use Rattle.nutrequest.specs.declared.request.Request.{Request}
+use Rattle.nutrequest.specs.declared.request.Request.TheVariants as requests
+use Rattle.nutrequest.specs.declared.request.Query.TheVariants as queries
 use Rattle.endtoend.specs.FromDriver.{IsAnswered, UpscPrintsWhatTheDriverSetLast, UpscPrintsAllThatTheDriverSetLast}
 use Rattle.endtoend.specs.OverRuns.{IsServed, UpscPrintsWhatItTook}
 

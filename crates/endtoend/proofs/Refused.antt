@@ -8,9 +8,9 @@ use Rattle.nutwords.specs.Listing.{as_it_is, IsWrittenLine}
 use Rattle.nutanswer.specs.ErrWord.{error_line, spelling_of}
 use Rattle.nutanswer.specs.declared.err_word.ErrWord.{ErrWord}
 use Rattle.nutanswer.specs.declared.err_word.ErrWord.TheVariants.{AccessDenied, UnknownUps, VarNotSupported, CmdNotSupported, InvalidArgument, InstcmdFailed, SetFailed, Readonly, TooLong, FeatureNotConfigured, DriverNotConnected, DataStale, AlreadyLoggedIn, AlreadySetPassword, AlreadySetUsername, UsernameRequired, PasswordRequired, UnknownCommand, InvalidValue}
-use Rattle.nutreply.specs.declared.request.Request.{Request}
-use Rattle.nutreply.specs.declared.request.Request.TheVariants.{List as ListOf, GetVar, GetNumAttach}
-use Rattle.nutreply.specs.Reply.{Reply, Refused, Whole, reply, reply_from, first_of, first_or, expected_of, refusal_of, after_first, one_item}
+use Rattle.nutrequest.specs.declared.request.Request.{Request}
+use Rattle.nutrequest.specs.declared.request.Request.TheVariants.{List as ListOf, GetVar, GetNumAttach}
+use Rattle.nutrequest.specs.Reply.{Reply, Refused, Whole, reply, reply_from, first_of, first_or, expected_of, refusal_of, after_first, one_item}
 use Rattle.nutclient.specs.Requests.{reply_behind, last_reply_after}
 use Rattle.nutclient.specs.Printed.{printed, printed_of}
 use Rattle.endtoend.specs.Refused.{is_granted_by_ok, ARefusalIsTold}

@@ -17,9 +17,9 @@ use Rattle.nutcore.specs.History.{of_line, executions}
 use Rattle.nutcore.specs.ByRight.{IsAmong}
 use Rattle.nutcore.specs.DriverRuns.{IsNewServer}
 use Rattle.nutcore.specs.FreshRuns.{WasFresh, changes_since}
-use Rattle.nutreply.specs.declared.request.Query.TheVariants as queries
-use Rattle.nutreply.specs.declared.request.Request.{Request}
-use Rattle.nutreply.specs.declared.request.Request.TheVariants.{List as ListOf, GetVar}
+use Rattle.nutrequest.specs.declared.request.Query.TheVariants as queries
+use Rattle.nutrequest.specs.declared.request.Request.{Request}
+use Rattle.nutrequest.specs.declared.request.Request.TheVariants.{List as ListOf, GetVar}
 use Rattle.nutclient.specs.Printed.{Prints, printed}
 use Rattle.nutclient.specs.declared.form.Form.TheVariants as forms
 use Rattle.endtoend.specs.Served.{IsLineOf}

@@ -10,7 +10,7 @@ use Rattle.nutcore.specs.Server.{ServerState}
 use Rattle.nutcore.specs.Reply.{seen, reply}
 use Rattle.nutcore.specs.History.{of_line}
 use Rattle.nutcore.specs.DriverOrders.{order, told_by_line}
-use Rattle.nutreply.specs.declared.request.Request.TheVariants.{SetVar, Instcmd}
+use Rattle.nutrequest.specs.declared.request.Request.TheVariants.{SetVar, Instcmd}
 use Rattle.nutclient.specs.Printed.{Prints, printed}
 use Rattle.nutclient.specs.declared.form.Form.TheVariants as forms
 use Rattle.endtoend.specs.Served.{IsLineOf}

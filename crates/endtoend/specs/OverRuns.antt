@@ -11,9 +11,9 @@ use Rattle.nutcore.specs.Reply.{reply}
 use Rattle.nutcore.specs.Run.{Run}
 use Rattle.nutcore.specs.History.{taken, asked, owed, held, is_over}
 use Rattle.nutcore.specs.DriverRuns.{IsNewServer}
-use Rattle.nutreply.specs.declared.request.Query.TheVariants as queries
-use Rattle.nutreply.specs.declared.request.Request.{Request}
-use Rattle.nutreply.specs.declared.request.Request.TheVariants.{List as ListOf, GetVar}
+use Rattle.nutrequest.specs.declared.request.Query.TheVariants as queries
+use Rattle.nutrequest.specs.declared.request.Request.{Request}
+use Rattle.nutrequest.specs.declared.request.Request.TheVariants.{List as ListOf, GetVar}
 use Rattle.endtoend.specs.Served.{IsLineOf}
 use Rattle.endtoend.specs.FromDriver.{PrintsTheLastValue, PrintsTheLastValues}
 

@@ -5,10 +5,10 @@ use Rattle.nutanswer.specs.ErrWord.{error_line, spelling_of}
 use Rattle.nutanswer.specs.declared.err_word.ErrWord.{ErrWord}
 use Rattle.nutcore.specs.Server.{ServerState}
 use Rattle.nutcore.specs.Reply.{reply}
-use Rattle.nutreply.specs.declared.faults.ClientFault.TheVariants.{ErrWord as ServerRefused}
-use Rattle.nutreply.specs.declared.request.Request.{Request}
-use Rattle.nutreply.specs.declared.request.Request.TheVariants.{List as ListOf, GetVar}
-use Rattle.nutreply.specs.declared.request.Request.TheVariants.{GetNumAttach}
+use Rattle.nutrequest.specs.declared.faults.ClientFault.TheVariants.{ErrWord as ServerRefused}
+use Rattle.nutrequest.specs.declared.request.Request.{Request}
+use Rattle.nutrequest.specs.declared.request.Request.TheVariants.{List as ListOf, GetVar}
+use Rattle.nutrequest.specs.declared.request.Request.TheVariants.{GetNumAttach}
 use Rattle.nutclient.specs.Printed.{Faults, printed}
 use Rattle.nutclient.specs.declared.form.Form.{Form}
 
