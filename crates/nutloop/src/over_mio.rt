@@ -1,10 +1,10 @@
 //! The sockets over `mio`: clients come over TCP, and drivers are connected to over Unix sockets.
 ghost use Rattle.std.specs.Prelude.{◌≡◌, ◌≤◌, ◌∷◌, [], ◌⊎◌, length, IfOk, None};
 ghost use Rattle.std.specs.Prelude.{vec_capacity, vec_len};
-ghost use Rattle.nutio.specs.Ends.{counted};
+ghost use Rattle.nutio.specs.Ends.{IsCounted, counted};
 ghost use Rattle.nutloop.specs.Peers.{ReadsPeer, ShutsPeer, TakesNewcomer, WritesPeer};
 ghost use Rattle.nutloop.specs.Round.{LeavesOut};
-ghost use Rattle.nutloop.specs.Sockets.{AtMost, Grows, IsCounted, Logs, read_call};
+ghost use Rattle.nutloop.specs.Sockets.{AtMost, Grows, Logs, read_call};
 ghost use Rattle.nutloop.specs.declared.sockets.Call.TheVariants.{Named, Readied, Refused, Shut, Wrote};
 ghost use Rattle.nutloop.specs.Standing.{IsTold, seat_of};
 
