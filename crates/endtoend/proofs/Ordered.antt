@@ -40,7 +40,8 @@ use Rattle.endtoend.specs.Ordered.{IsOrdered, AnOrderThatIsPrintedIsGiven}
 use Rattle.endtoend.proofs.LineReading.{written_line}
 use Rattle.endtoend.proofs.Refused.{refused_read, granted_read}
 use Rattle.endtoend.proofs.Requests.{line_of_three, line_of_four}
-use Rattle.endtoend.proofs.Texts.{text_short, text_all, text_itself, name_written, ups_name_written, quoted_written, quoted_short}
+use Rattle.endtoend.proofs.Texts.{text_short, text_all, text_itself, name_written, ups_name_written, quoted_written}
+use Rattle.nutwords.proofs.PublicLaws.{quoted_is_short}
 
 -- a request that is written so is read as these words
 sent_as : (request : Request) (words : List (List ℕ)) (line : List ℕ) → IsWrittenLine (request_words request) words → IsLineOf request line → read_command line ≡ command_from (Ok words)
@@ -60,7 +61,7 @@ set_read ups name value line h k v e =
     let short = text_short is_name_byte false 64 name k in
     let lawful = text_all is_lawful true 256 value v in
     let value_few = text_short is_lawful true 256 value v in
-    let quoted_few = quoted_short value in
+    let quoted_few = quoted_is_short value in
     let words : List (List ℕ) = codes "SET" ∷ codes "VAR" ∷ ups ∷ name ∷ value ∷ [] in
     let written : IsWrittenLine (request_words (requests.SetVar ups name value)) words = record {
       written = (as_it_is (omega arith) refl, (as_it_is (omega arith) refl, (ups_name_written ups h, (name_written name k, (quoted_written value lawful, tt)))));
@@ -89,7 +90,7 @@ command_read ups name (Some value) line h k v e =
     let short = text_short is_name_byte false 64 name k in
     let lawful = text_all is_lawful true 256 value v in
     let value_few = text_short is_lawful true 256 value v in
-    let quoted_few = quoted_short value in
+    let quoted_few = quoted_is_short value in
     let words : List (List ℕ) = codes "INSTCMD" ∷ ups ∷ name ∷ value ∷ [] in
     let written : IsWrittenLine (request_words (requests.Instcmd ups name (Some value))) words = record {
       written = (as_it_is (omega arith) refl, (ups_name_written ups h, (name_written name k, (quoted_written value lawful, tt))));
