@@ -96,7 +96,8 @@ impl<'a, R: Net + Clock> Sockets for MioSockets<'a, R> {
 
     fn name(&mut self, c: ClientId)
         ensures left { self.new.rounds.door.newcomer ≡ None }
-        ensures taken { (vec_capacity self.old.rounds.peers.clients ≤ vec_len self.old.rounds.peers.clients)
+        ensures taken { (vec_capacity self.old.rounds.peers.clients
+            ≤ vec_len self.old.rounds.peers.clients)
             ⊎ TakesNewcomer self.old.rounds.door.newcomer c
             self.old.rounds.peers.clients.items self.new.rounds.peers.clients.items }
         ensures told { Grows None None (Named c ∷ []) }
