@@ -2,6 +2,7 @@ pub mod Rows
 pub mod Moving
 pub mod Opening
 pub mod Turning
+pub mod SocketToSocket
 pub mod MoreTurns
 pub mod NextTurn
 pub mod Fairness

@@ -47,7 +47,7 @@ along_joins f s mid (e ∷ es) fs (o ∷ os) qs r =
     ap (λ v. f s e ++ v) (along_joins f (after s e o) mid es fs os qs rest) ∙ sym (append_assoc (f s e) (along f (after s e o) es os) (along f mid fs qs))
 
 -- What turns did, in the words of any reading of calls and events that fit.
-record Moves {S : Type 0} (calls : S → Option (List Call)) (old : ServerState) (sockets : S) (new : ServerState) (after : S) : Type 0 where
+pub record Moves {S : Type 0} (calls : S → Option (List Call)) (old : ServerState) (sockets : S) (new : ServerState) (after : S) : Type 0 where
   pub since : List Call
   pub events : List Event
   pub outcomes : List Outcome
@@ -103,7 +103,7 @@ both_are_moved calls old sockets mid middle new after x y = record {
   moves = λ g f fit. flat_map-append g x.since y.since ∙ ap (λ v. v ++ flat_map g y.since) (x.moves g f fit) ∙ ap (λ v. along f old x.events x.outcomes ++ v) (y.moves g f fit) ∙ sym (along_joins f old mid x.events y.events x.outcomes y.outcomes x.run);
 }
 
-turns_are_moved : {S : Type 0} (calls : S → Option (List Call)) (failures : S → ℕ) (rs : List (Result (Unit {0}) LoopFault)) (old : ServerState) (sockets : S) (new : ServerState) (after : S) → Turns calls failures old sockets rs new after → Moves calls old sockets new after
+pub turns_are_moved : {S : Type 0} (calls : S → Option (List Call)) (failures : S → ℕ) (rs : List (Result (Unit {0}) LoopFault)) (old : ServerState) (sockets : S) (new : ServerState) (after : S) → Turns calls failures old sockets rs new after → Moves calls old sockets new after
 turns_are_moved calls failures [] old sockets new after t = nothing_is_moved calls old sockets new after (subst (λ k. Grows (calls sockets) (calls k) []) (sym t.1) (grows_nothing (calls sockets))) t.0
 turns_are_moved calls failures (r ∷ rs) old sockets new after t =
     both_are_moved calls old sockets t.0 t.1.0 new after (turn_is_moved calls failures old sockets r t.0 t.1.0 t.1.1) (turns_are_moved calls failures rs t.0 t.1.0 new after t.1.2)
@@ -122,7 +122,7 @@ any_turns_keep_addresses_lawful {S} calls failures kept = λ old new sockets aft
     from old new sockets after m lawful = kept old new m.events m.outcomes m.run m.opens lawful
 
 -- The four readings.
-none : (b : Bool) → if◌then◌else◌ {A = List ℕ} b [] [] ≡ []
+pub none : (b : Bool) → if◌then◌else◌ {A = List ℕ} b [] [] ≡ []
 none true = refl
 none false = refl
 
@@ -172,7 +172,7 @@ taken_of : (b : Bool) (n : ℕ) (o : Option SessionState) → n ≤ length (offe
 taken_of b n None h = nothing_of b n h
 taken_of b n (Some x) h = rw (within n (length (offered (Some x))) h) (ap (λ ys. if b then ys else []) (front_of n x h))
 
-taken_fits : (c : ℕ) → Fit (took_in (is_client c)) (taken_in_event c)
+pub taken_fits : (c : ℕ) → Fit (took_in (is_client c)) (taken_in_event c)
 unfolding taken_in_event
 taken_fits c = record {
   readied = λ r. refl;
@@ -194,7 +194,7 @@ taken_fits c = record {
   driver_takes = λ s u n xs e h. refl;
 }
 
-came_fits : (u : UpsId) → Fit (gave_in (is_driver u)) (λ s e. came_in_event u e)
+pub came_fits : (u : UpsId) → Fit (gave_in (is_driver u)) (λ s e. came_in_event u e)
 came_fits u = record {
   readied = λ r. refl;
   accepted = λ a. refl;
@@ -237,18 +237,18 @@ driver_took_fits u = record {
 }
 
 -- The histories of nutcore are such readings.
-taken_is_along : (c : ℕ) (s : ServerState) (es : List Event) (os : List Outcome) → along (taken_in_event c) s es os ≡ taken c s es os
+pub taken_is_along : (c : ℕ) (s : ServerState) (es : List Event) (os : List Outcome) → along (taken_in_event c) s es os ≡ taken c s es os
 taken_is_along c s [] os = refl
 taken_is_along c s (e ∷ es) [] = refl
 taken_is_along c s (e ∷ es) (o ∷ os) = ap (λ v. taken_in_event c s e ++ v) (taken_is_along c (after s e o) es os)
 
-came_is_along : (u : UpsId) (s new : ServerState) (es : List Event) (os : List Outcome) → Run s es os new → along (λ t e. came_in_event u e) s es os ≡ came u es
+pub came_is_along : (u : UpsId) (s new : ServerState) (es : List Event) (os : List Outcome) → Run s es os new → along (λ t e. came_in_event u e) s es os ≡ came u es
 came_is_along u s new [] [] r = refl
 came_is_along u s new [] (o ∷ os) r = absurd r
 came_is_along u s new (e ∷ es) [] r = absurd r
 came_is_along u s new (e ∷ es) (o ∷ os) r = ap (λ v. came_in_event u e ++ v) (came_is_along u (after s e o) new es os (subst (λ t. Run t es os new) r.1.leaves r.2))
 
-told_since : (a b : Option (List Call)) (before now since : List Call) → Grows a b since → a ≡ Some before → b ≡ Some now → now ≡ before ++ since
+pub told_since : (a b : Option (List Call)) (before now since : List Call) → Grows a b since → a ≡ Some before → b ≡ Some now → now ≡ before ++ since
 told_since (Some xs) (Some ys) before now since h e k = cc
 told_since None b before now since h e k = cc
 told_since (Some xs) None before now since h e k = cc

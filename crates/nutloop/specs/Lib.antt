@@ -5,6 +5,7 @@ pub mod Peers
 pub mod Round
 pub mod Scripted
 pub mod Serving
+pub mod SocketToSocket
 pub mod Sockets
 pub mod Standing
 pub mod Turn

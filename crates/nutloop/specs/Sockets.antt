@@ -1,6 +1,6 @@
 -- What the sockets answer, and what they tell of it.
-use Rattle.std.specs.Prelude.{◌≡◌, ℕ, ◌+◌, ◌-◌, ◌^◌, ◌≤◌, List, [], ◌∷◌, ◌++◌, ⊤, Option, Some}
-use Rattle.std.specs.Prelude.{None, Result, Ok, Err, MatchResult, length, take, min}
+use Rattle.std.specs.Prelude.{◌≡◌, ℕ, ◌≤◌, List, [], ◌∷◌, ◌++◌, ⊤, Option, Some}
+use Rattle.std.specs.Prelude.{None, Result, Ok, Err, length, take}
 use Rattle.nutloop.specs.declared.sockets.Call.{Call}
 use Rattle.nutloop.specs.declared.sockets.Call.TheVariants.{Gave, Waits, Ended}
 use Rattle.nutloop.specs.declared.sockets.Got.{Got}

@@ -13,7 +13,7 @@ use Rattle.nutcore.specs.declared.event.Fault.{Fault}
 use Rattle.nutcore.specs.declared.event.Fault.TheVariants.{LineTooLong, Memory}
 use Rattle.nutcore.specs.declared.event.Peer.{Peer}
 use Rattle.nutcore.specs.declared.event.Peer.TheVariants.{Client, Driver}
-use Rattle.nutcore.specs.Server.{ServerState, session, ups_at}
+use Rattle.nutcore.specs.Server.{ServerState, session}
 use Rattle.nutcore.specs.Step.{offered}
 use Rattle.nutcore.specs.Run.{Run}
 use Rattle.nutcore.specs.Calls.{room_of, is_finished}

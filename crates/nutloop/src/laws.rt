@@ -2,15 +2,43 @@
 ghost use Rattle.nutloop.specs.Moved.{EveryByteIsMovedOnce};
 ghost use Rattle.nutloop.specs.Round.{EverySecondTurn, NobodyIsPassedOver};
 ghost use Rattle.nutloop.specs.Serving.{AnyTurnsAreOneRun, AnyTurnsKeepAddressesLawful};
+ghost use Rattle.nutloop.specs.SocketToSocket.{WhatASocketGaveIsAnswered, ADriverIsHeardAndToldByItsSocket};
 
 use crate::Sockets;
-use nutcore::laws::addresses_are_lawful;
+use nutcore::laws::{
+    addresses_are_lawful, each_answer_is_timely, every_server_is_sound,
+    what_a_driver_told_is_executed, what_a_driver_was_sent_and_is_owed, what_never_goes_back,
+    what_was_asked_is_executed_or_held, what_was_sent_and_is_owed_is_the_answers,
+};
 
 /// Over any turns of sockets that tell their calls: what each client gave was fed to it and what each driver gave to it,
 /// all of it, once and in order; and what each of them took is what the server counts as taken.
 pub fn every_byte_is_moved_once<S: Sockets>()
     ensures { EveryByteIsMovedOnce S.calls S.failures }
 {}
+
+/// Over any turns from `Server::new`, of sockets that tell their calls: what each client's socket took, followed by what it
+/// is owed, is the answers to its executed lines, in order; and these lines, followed by what is held, are all that its
+/// socket gave. Of a client that is ending or closed they are a beginning of that: what comes later is dropped.
+pub fn what_a_socket_gave_is_answered<S: Sockets>()
+    ensures { WhatASocketGaveIsAnswered S.calls S.failures }
+{
+    what_was_sent_and_is_owed_is_the_answers();
+    what_was_asked_is_executed_or_held();
+    each_answer_is_timely();
+    what_never_goes_back();
+    every_server_is_sound();
+}
+
+/// Over any turns of sockets that tell their calls: while a driver isn't lost, what was unfinished of it, followed by all
+/// that its socket gave, is its executed lines, followed by what is unfinished, and its report is what these lines made; and
+/// what it was owed, followed by what it was told, is what its socket took, followed by what it is owed.
+pub fn a_driver_is_heard_and_told_by_its_socket<S: Sockets>()
+    ensures { ADriverIsHeardAndToldByItsSocket S.calls S.failures }
+{
+    what_a_driver_told_is_executed();
+    what_a_driver_was_sent_and_is_owed();
+}
 
 /// Any turns, over any sockets, are one run of the server. So the laws of every run hold of what `serve` does, whatever
 /// the sockets do.
