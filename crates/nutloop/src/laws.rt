@@ -19,7 +19,7 @@ pub fn every_byte_is_moved_once<S: Sockets>()
 
 /// Over any turns from `Server::new`, of sockets that tell their calls: what each client's socket took, followed by what it
 /// is owed, is the answers to its executed lines, in order; and these lines, followed by what is held, are all that its
-/// socket gave. Of a client that is ending or closed they are a beginning of that: what comes later is dropped.
+/// socket gave. Of a client that is ending or closed they are a beginning of that: what comes later is never executed.
 pub fn what_a_socket_gave_is_answered<S: Sockets>()
     ensures { WhatASocketGaveIsAnswered S.calls S.failures }
 {
