@@ -1,0 +1,9 @@
+pub mod Digits
+pub mod Texts
+pub mod Reading
+pub mod Numbers
+pub mod ReadBack
+pub mod Counts
+pub mod KeptSound
+pub mod ActSteps
+pub mod PublicLaws

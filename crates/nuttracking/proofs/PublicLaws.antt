@@ -1,0 +1,74 @@
+-- The laws of this crate that a proof in a crate above may cite: each is what a function of src/laws.rt ensures.
+use Rattle.std.proofs.Common.{◌≡◌, ℕ, ◌-◌, List, [], ◌∷◌, ◌++◌, length, map, drop, Bool, true, false, true≢false, if◌then◌else◌, Option, Some, None, is_some, unwrap_or, arith, refl, sym, ap, ◌∙◌, append_assoc, append-nil, length-append}
+use Rattle.std.proofs.lemmas.Slice.Eq.{bytes_eq-Decides}
+use Rattle.std.specs.Str.{bytes_eq, str_to_ascii_lowercase}
+use Rattle.circular_buffer.specs.Buffer.{keep_last}
+use Rattle.nuttracking.proofs.ReadBack.{reads_text}
+use Rattle.nuttracking.proofs.Reading.{text_is_lower}
+use Rattle.nuttracking.specs.Acts.{Given, after_act, after_acts, taken_by, taken_in, given_by, given}
+use Rattle.nuttracking.specs.Acts.Act.{ordered}
+use Rattle.nuttracking.specs.Id.{id_text, digits_number, read_id, WrittenIsRead, ReadIsWritten}
+use Rattle.nuttracking.specs.Laws.{FirstInFirstOut, TheLastAreKept, ActsKeepItSound, ItsDriverSettlesItOnce, as_given}
+use Rattle.nuttracking.specs.Sound.{IsSoundTracking}
+use Rattle.nuttracking.specs.Tracking.{TrackingState, nothing_tracked, pending, with_order}
+use Rattle.nuttracking.specs.declared.limits.TheConstants.{ORDER_LIMIT}
+use Rattle.nuttracking.specs.declared.order.Progress.TheVariants.{Pending}
+use Rattle.nuttracking.proofs.ActSteps.{sound_after_act, id_step, order_step, map_append, all_kept, keep_keep, dropped_front, orders_after, settles}
+
+-- ids_are_read_back
+is_read : (text : List ℕ) (n : ℕ) (b : Bool) → (if b then Some (digits_number text) else None) ≡ Some n → (b ≡ true) × (digits_number text ≡ n)
+is_read text n true e = (refl, ap (λ (o : Option ℕ). unwrap_or o 0) e)
+is_read text n false e = absurd (true≢false (sym (ap is_some e)))
+
+text_read : (text : List ℕ) (n : ℕ) → read_id text ≡ Some n → str_to_ascii_lowercase text ≡ id_text n
+unfolding read_id
+text_read text n e =
+    let r = is_read text n (bytes_eq (str_to_ascii_lowercase text) (id_text (digits_number text))) e in
+    (bytes_eq-Decides (str_to_ascii_lowercase text) (id_text (digits_number text))).0 r.0 ∙ ap id_text r.1
+
+pub read_is_written : ReadIsWritten
+read_is_written text id small = (text_read text id, reads_text text id small)
+
+pub written_is_read : WrittenIsRead
+written_is_read id small = reads_text (id_text id) id small (text_is_lower id)
+
+-- an_id_stands_for_one_order
+pub nothing_is_sound : IsSoundTracking nothing_tracked
+nothing_is_sound = record { ids_few = omega arith; orders_few = omega arith; once = λ id. omega arith }
+
+pub acts_keep_it_sound : ActsKeepItSound
+acts_keep_it_sound t [] s = s
+acts_keep_it_sound t (act ∷ acts) s = acts_keep_it_sound (after_act t act) acts (sound_after_act t act s)
+
+-- ids_are_used_in_their_order
+pub first_in_first_out : FirstInFirstOut
+first_in_first_out t [] = sym (append-nil t.ids)
+first_in_first_out t (act ∷ acts) =
+    let t' : TrackingState = after_act t act in
+    let used : List ℕ = map (λ (order : Given). order.id) (given_by t act) in
+    let later : List ℕ = map (λ (order : Given). order.id) (given t' acts) in
+    let final : List ℕ = (after_acts t' acts).ids in
+    let taken : List ℕ = taken_in t' acts in
+    ap (λ (l : List ℕ). l ++ final) (map_append (λ (order : Given). order.id) (given_by t act) (given t' acts))
+    ∙ append_assoc used later final ∙ ap (λ (l : List ℕ). used ++ l) (first_in_first_out t' acts)
+    ∙ sym (append_assoc used t'.ids taken) ∙ ap (λ (l : List ℕ). l ++ taken) (id_step t act) ∙ append_assoc t.ids (taken_by t act) taken
+
+-- the_last_orders_are_kept
+pub the_last_are_kept : TheLastAreKept
+the_last_are_kept t [] s = all_kept t.orders s.orders_few
+the_last_are_kept t (act ∷ acts) s =
+    let t' : TrackingState = after_act t act in
+    let before : List Given = map as_given t.orders in
+    let now : List Given = given_by t act in
+    let later : List Given = given t' acts in
+    the_last_are_kept t' acts (sound_after_act t act s)
+    ∙ ap (λ (l : List Given). keep_last ORDER_LIMIT (l ++ later)) (order_step t act s.orders_few)
+    ∙ keep_keep ORDER_LIMIT (before ++ now) later ∙ ap (keep_last ORDER_LIMIT) (append_assoc before now later)
+
+-- its_driver_settles_an_order_once
+pub its_driver_settles_it_once : ItsDriverSettlesItOnce
+its_driver_settles_it_once t place id later s e few =
+    let k : ℕ = length (t.orders ++ pending place id ∷ []) - ORDER_LIMIT in
+    let orders : (with_order place t).orders ≡ drop k t.orders ++ pending place id ∷ [] =
+    orders_after place id t.ids t.orders e ∙ sym (dropped_front k t.orders (pending place id ∷ []) (omega (arith, length-append t.orders (pending place id ∷ [])))) in
+    settles (with_order place t) place id Pending (drop k t.orders) [] later (sound_after_act t (ordered place) s) orders (omega arith)

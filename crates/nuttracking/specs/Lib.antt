@@ -1,0 +1,5 @@
+pub mod Id
+pub mod Tracking
+pub mod Sound
+pub mod Acts
+pub mod Laws

@@ -1,0 +1,31 @@
+-- What holds of every tracking that its operations have made.
+use Rattle.std.specs.Prelude.{◌≤◌, ⊤, ℕ, ◌==◌, List, ◌++◌, length, map, All}
+use Rattle.std.specs.List.{count_by}
+use Rattle.nuttracking.specs.declared.limits.TheConstants.{ID_LIMIT, ORDER_LIMIT, DONE_LIMIT}
+use Rattle.nuttracking.specs.declared.order.Progress.{Progress}
+use Rattle.nuttracking.specs.declared.order.Progress.TheVariants.{Pending, Done}
+use Rattle.nuttracking.specs.declared.order.TrackedOrder.{TrackedOrder}
+use Rattle.nuttracking.specs.Tracking.{TrackingState}
+
+-- How often the id stands there.
+abbrev pub times : ℕ → List ℕ → ℕ
+times id ids = count_by (λ other. other == id) ids
+
+-- The ids at hand, and those of the orders that are kept.
+abbrev pub known_ids : TrackingState → List ℕ
+known_ids t = t.ids ++ map (λ order. order.id) t.orders
+
+-- No more ids are at hand, and no more orders are kept, than may be; and an id stands for one thing:
+-- it is at hand once, or an order that is kept has it, and no other one.
+pub record IsSoundTracking (t : TrackingState) : Type 0 where
+  pub ids_few : length t.ids ≤ ID_LIMIT
+  pub orders_few : length t.orders ≤ ORDER_LIMIT
+  pub once : (id : ℕ) → times id (known_ids t) ≤ 1
+
+abbrev pub IsLawfulProgress : Progress → Type 0
+IsLawfulProgress Pending = ⊤
+IsLawfulProgress (Done number) = number ≤ DONE_LIMIT
+
+-- The numbers with which orders are done are at most the greatest.
+abbrev pub HaveLawfulNumbers : List TrackedOrder → Type 0
+HaveLawfulNumbers orders = All (λ order. IsLawfulProgress order.progress) orders
