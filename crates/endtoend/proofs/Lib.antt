@@ -10,3 +10,4 @@ pub mod FromDriver
 pub mod Refused
 pub mod Ordered
 pub mod OverRuns
+pub mod OrdersOverRuns

@@ -4,12 +4,14 @@ ghost use Rattle.endtoend.specs.FromDriver.{UpscPrintsWhatTheDriverSetLast, Upsc
 ghost use Rattle.endtoend.specs.Refused.{ARefusalIsTold};
 ghost use Rattle.endtoend.specs.Ordered.{AnOrderThatIsPrintedIsGiven};
 ghost use Rattle.endtoend.specs.OverRuns.{UpscPrintsWhatItTook};
+ghost use Rattle.endtoend.specs.OrdersOverRuns.{AnOrderThatIsPrintedIsToldInTheRun};
 ghost use Rattle.endtoend.specs.Printed.{UpscPrintsTheVariables, UpscPrintsTheVariable, UpscPrintsHowManyAreLoggedIn, UpscPrintsTheUpses, UpsrwPrintsTheVariables, UpscmdPrintsTheCommands};
 
 use nutanswer::laws::each_order_answered_ok_is_given;
 use nutcore::laws::{
     a_listing_is_what_is_held, every_server_is_sound, one_line_is_answered,
-    what_a_driver_set_last_is_held, what_is_counted_is_who_is_there, whatever_is_told_is_fresh,
+    the_orders_told_are_those_of_the_lines, what_a_driver_set_last_is_held,
+    what_is_counted_is_who_is_there, whatever_is_told_is_fresh,
 };
 
 /// What is written as a listing is read as the reply of its items, in their order, whatever stands after it.
@@ -85,6 +87,16 @@ pub fn an_order_that_is_printed_is_given()
     ensures { AnOrderThatIsPrintedIsGiven }
 {
     each_order_answered_ok_is_given();
+}
+
+/// The same over a run, of any clients and drivers, that executed the line of the order: the order stands among those that the
+/// run told the driver of that UPS, of which `what_a_driver_was_sent_and_is_owed` says that they were sent, in their order,
+/// or are still owed, while the driver isn't lost.
+pub fn an_order_that_is_printed_is_told_in_the_run()
+    ensures { AnOrderThatIsPrintedIsToldInTheRun }
+{
+    the_orders_told_are_those_of_the_lines();
+    an_order_that_is_printed_is_given();
 }
 
 /// The same over a run, of any clients and drivers, from a new server: where the server took in of a client the line of

@@ -1,7 +1,7 @@
 -- How much one event makes a server do for its clients.
-use Rattle.std.proofs.Common.{sym, ◌≡◌, ◌≢◌, ℕ, ◌+◌, ◌-◌, ◌≤◌, Bool, true, false, List, [], ◌∷◌, ◌++◌, Option, Some, None, refl, ◌∙◌, ap, subst, cond, eqb, leb, not, ◌&&◌, arith, length, take, drop, length-append, length-take, length-drop}
+use Rattle.std.proofs.Common.{sym, ◌≡◌, ℕ, ◌+◌, ◌-◌, ◌≤◌, Bool, true, false, List, [], ◌∷◌, ◌++◌, Option, Some, None, refl, ◌∙◌, ap, subst, cond, eqb, leb, not, ◌&&◌, arith, length, take, drop, length-append, length-take, length-drop}
 use Rattle.std.specs.Prelude.{is_none, option_map}
-use Rattle.std.proofs.lemmas.Bool.{cond_both, cond-true, eq-eqb, eqb-true, leb-true}
+use Rattle.std.proofs.lemmas.Bool.{cond_both, cond-true, eq-eqb, leb-true}
 use Rattle.nutlisting.specs.declared.outbox.TheConstants.{OWED_LIMIT}
 use Rattle.nutlisting.specs.declared.ring.TheConstants.{RING_LIMIT}
 use Rattle.nutlisting.proofs.PublicLaws.{lines_add_up}
@@ -11,7 +11,7 @@ use Rattle.nutcore.proofs.Common.{Event, SessionState, ServerState, session, wit
 use Rattle.nutcore.specs.declared.event.Event.TheVariants.{Feed, Took}
 use Rattle.nutcore.specs.Lines.{first_line}
 use Rattle.nutcore.specs.Reply.{reply, too_long_notice}
-use Rattle.nutcore.specs.Pump.{next_line_for, after_line, held_of, owed_of, holds_overlong, is_overlong, notified}
+use Rattle.nutcore.specs.Pump.{next_line_for, after_line, held_of, owed_of, is_overlong, notified}
 use Rattle.nutcore.specs.Step.{accepted_bytes, joined, with_input, taken_from, without_output, may_take, offered, refused_after, after_by}
 use Rattle.nutcore.specs.History.{Execution, of_line, of_notice, executions_until, executions_by, of_client, texts_of, held, owed, taken_in_event, asked_in_event}
 use Rattle.nutcore.specs.Cost.{no_cost, cost_between, cost_of}

@@ -6,7 +6,7 @@ use Rattle.std.proofs.lemmas.Bool.{cond-true, cond-false}
 use Rattle.nutcore.proofs.Common.{Event, Fault, Outcome, SessionState, ServerState, session, Step}
 use Rattle.nutcore.specs.declared.event.Event.TheVariants.{Open, Feed, Took, Close}
 use Rattle.nutcore.specs.declared.event.Outcome.TheVariants.{Done, Fed, Opened, Refused}
-use Rattle.nutcore.specs.declared.event.Fault.TheVariants.{NoSuchUps, NoSuchClient, TooManyClients, TookTooMuch, NotConnected, AlreadyConnected, LineTooLong, Memory}
+use Rattle.nutcore.specs.declared.event.Fault.TheVariants.{NoSuchClient, TooManyClients, TookTooMuch, LineTooLong, Memory}
 use Rattle.nutcore.specs.Session.{without, new_session}
 use Rattle.nutcore.specs.Pump.{next_line, pump_stops, held_of, after_all_lines, after_lines, pumped, after_notice, is_overlong, holds_overlong, wants_memory}
 use Rattle.nutcore.specs.Step.{joined, with_input, taken_from, without_output, may_take, may_open, pumped_until, opened, after_by, fed_by, took_by, closed_by, outcome_of, MayLackMemory}

@@ -1,9 +1,9 @@
 -- Each line is executed at its moment.
-use Rattle.std.proofs.Common.{◌≡◌, ℕ, zero, suc, ◌+◌, Bool, true, false, List, [], ◌∷◌, ◌++◌, Option, Some, None, refl, sym, ◌∙◌, ap, subst, cond}
+use Rattle.std.proofs.Common.{◌≡◌, ℕ, zero, suc, ◌+◌, List, [], ◌∷◌, Option, Some, None, refl, sym, ◌∙◌, ap, subst}
 use Rattle.std.specs.Prelude.{All}
 use Rattle.std.proofs.lemmas.Bool.{cond_both}
 use Rattle.std.proofs.lemmas.List.Elements.{All-nil, All-cons, All-append, All-weaker}
-use Rattle.nutcore.proofs.Common.{Event, Outcome, ServerState, session, Step, after, Run}
+use Rattle.nutcore.proofs.Common.{Event, Outcome, ServerState, session, after, Run}
 use Rattle.nutcore.specs.Pump.{next_line_for, after_line, after_lines, is_overlong, after_all_lines}
 use Rattle.nutcore.specs.Step.{refused_after, may_take, with_input, without_output}
 use Rattle.nutcore.specs.History.{Execution, of_line, of_notice, next_execution, lines_executed, pump_executions, executions_until, executions_by, executions}

@@ -9,7 +9,7 @@ use Rattle.nutcore.specs.Session.{find, without, new_session}
 use Rattle.nutcore.specs.Pump.{next_line_for, after_line, after_lines, after_all_lines, after_notice, is_overlong, notified, pumped, held_of, owed_of}
 use Rattle.nutcore.specs.Step.{accepted_bytes, with_input, without_output, may_take, may_open, opened, pumped_until, after_by, refused_after}
 use Rattle.nutcore.specs.History.{Execution, of_line, of_notice, client_of, text_of, next_execution, lines_executed, notice, pump_executions, executions_until, executions_by, executions, of_client, texts_of, taken_in_event, asked_in_event, taken, asked}
-use Rattle.nutcore.proofs.Events.{IsPlain, IsSilent, IsApart, of_event, of_session_event}
+use Rattle.nutcore.proofs.Events.{IsPlain, IsSilent, of_event, of_session_event}
 use Rattle.nutcore.proofs.Found.{find_without, find_without_other, of_pushed}
 use Rattle.nutcore.proofs.Pumping.{stopped_none, of_notice_due}
 

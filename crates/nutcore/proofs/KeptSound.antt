@@ -1,8 +1,12 @@
 -- What a method puts in place of one session or of one UPS keeps the server sound.
-use Rattle.std.proofs.Common.{◌≡◌, ℕ, true, false, ◌||◌, List, [], Option, Some, None, Result, Ok, Err, refl, sym, ◌∙◌, ap, subst, set, length, arith}
+use Rattle.std.proofs.Common.{◌≡◌, ◌≤◌, ℕ, true, false, ◌||◌, List, [], Option, Some, None, Result, Ok, Err, refl, sym, ◌∙◌, ap, subst, set, length, arith}
 use Rattle.std.specs.Prelude.{option_map, nat_lt}
 use denote.Ref.{MutBor}
 use Rattle.std.specs.Fn.{Once, FnOnceReturnsAtMut}
+use Rattle.nutwords.specs.Found.{Finds}
+use Rattle.nutwords.specs.declared.cut.Found.{Found}
+use Rattle.nutwords.specs.declared.cut.Found.TheVariants.{InPiece, Joined, NeedsMore, TooLong}
+use Rattle.nutwords.specs.declared.limits.TheConstants.{LINE_LIMIT}
 use Rattle.nutdriver.specs.Tree.{empty_tree}
 use Rattle.nutdriver.specs.Sound.{IsSoundTree, EachLineKeepsTheTreeSound}
 use Rattle.nutcore.proofs.Common.{cond_both, or_parts, UpsId, Change, Fault, SessionState, ServerState, session, ups_at}
@@ -13,7 +17,7 @@ use Rattle.nutcore.specs.Ups.{UpsState, with_unfinished}
 use Rattle.nutcore.specs.Reply.{changed_session, changed_upses}
 use Rattle.nutcore.specs.Pump.{next_line, answered, with_notice}
 use Rattle.nutcore.specs.Step.{joined, taken_from}
-use Rattle.nutcore.specs.Promises.{IsTaken, DoesLine, IsAt, OrderFits}
+use Rattle.nutcore.specs.Promises.{IsTaken, IsCut, DoesLine, IsAt, OrderFits}
 use Rattle.nutcore.specs.Sound.{Each, IsSoundSession, IsSoundUps, IsSound}
 use Rattle.nutcore.proofs.UpsPlaces.{of_ups, server_set}
 use Rattle.nutcore.proofs.Found.{find_id}
@@ -74,17 +78,24 @@ driver_taken_kept m n x y (Ok u) taken h =
     subst (IsSoundUps m) (sym taken.1) (sound_fewer m n x h)
 driver_taken_kept m n x y (Err fault) taken h = subst (IsSoundUps m) (sym taken.2) h
 
--- its next line is looked for
-pub driver_cut_kept : (m : ℕ) (x y : UpsState) → y ≡ with_unfinished y.unfinished x → x.report.connected ≡ true → IsSoundUps m x → IsSoundUps m y
-driver_cut_kept m x y cut connected h = subst (IsSoundUps m) (sym cut) (sound_bytes m y.unfinished x (record { is = h; connected = connected })).is
+-- its next line is looked for: what is held after that is no longer than a line
+cut_short : (held piece after : List ℕ) (r : Found) → Finds held piece r after → length after ≤ LINE_LIMIT
+cut_short held piece after (InPiece n) finds = let none = finds.1 in subst (λ (bytes : List ℕ). length bytes ≤ LINE_LIMIT) (sym none) (omega arith)
+cut_short held piece after (Joined used) finds = let short = finds.3 in omega (arith, short)
+cut_short held piece after NeedsMore finds = let short = finds.1 in subst (λ (bytes : List ℕ). length bytes ≤ LINE_LIMIT) (sym finds.2) (omega (arith, short))
+cut_short held piece after TooLong finds = subst (λ (bytes : List ℕ). length bytes ≤ LINE_LIMIT) (sym finds.2) (omega arith)
+
+pub driver_cut_kept : (m : ℕ) (piece : List ℕ) (x y : UpsState) (r : Found) → IsCut piece x r y → x.report.connected ≡ true → IsSoundUps m x → IsSoundUps m y
+driver_cut_kept m piece x y r cut connected h =
+    subst (IsSoundUps m) (sym cut.leaves) (sound_bytes m y.unfinished x (cut_short x.unfinished piece y.unfinished r cut.finds) (record { is = h; connected = connected })).is
 
 -- a line of its driver is done, or memory is refused
 module _ (empty : IsSoundTree empty_tree) (line_keeps : EachLineKeepsTheTreeSound) where
   pub driver_line_kept : (m : ℕ) (line : List ℕ) (x y : UpsState) (r : Result (Unit {0}) AllocError) → DoesLine m line x r y → x.report.connected ≡ true → IsSoundUps m x → IsSoundUps m y
   driver_line_kept m line x y (Ok v) does connected h =
-      subst (IsSoundUps m) (sym does) (sound_text empty line_keeps m (with_unfinished [] x) line (sound_bytes m [] x (record { is = h; connected = connected }))).is
+      subst (IsSoundUps m) (sym does) (sound_text empty line_keeps m (with_unfinished [] x) line (sound_bytes m [] x (omega arith) (record { is = h; connected = connected }))).is
   driver_line_kept m line x y (Err e) does connected h =
-      subst (IsSoundUps m) (sym does.1) (record { tree = h.tree; heard = omega arith; pinged = h.pinged; owed = h.owed; lost = λ lost. no_loss x.report.connected connected lost })
+      subst (IsSoundUps m) (sym does.1) (record { tree = h.tree; heard = omega arith; pinged = h.pinged; owed = h.owed; unfinished = h.unfinished; lost = λ lost. no_loss x.report.connected connected lost })
 
 pub driver_line_connected : (m : ℕ) (line : List ℕ) (x y : UpsState) (r : Result (Unit {0}) AllocError) → DoesLine m line x r y → y.report.connected ≡ x.report.connected
 driver_line_connected m line x y (Ok v) does = ap (λ (z : UpsState). z.report.connected) does ∙ text_connected m (with_unfinished [] x) line

@@ -1,7 +1,7 @@
 -- What never goes back.
-use Rattle.std.proofs.Common.{◌≡◌, ◌≢◌, ℕ, ◌+◌, ◌<◌, ◌≤◌, Bool, true, false, List, [], ◌∷◌, ◌++◌, zero, suc, Option, Some, None, refl, sym, ◌∙◌, ap, subst, cond, eqb, not, ◌&&◌, IfSome, drop, length, inl, inr, ◌⊎◌, arith}
+use Rattle.std.proofs.Common.{◌≡◌, ℕ, ◌+◌, ◌<◌, ◌≤◌, Bool, true, false, List, [], ◌∷◌, zero, suc, Option, Some, None, refl, sym, ◌∙◌, ap, subst, cond, eqb, not, ◌&&◌, IfSome, drop, length, inl, inr, ◌⊎◌, arith}
 use Rattle.std.specs.Prelude.{is_none, nat_le}
-use Rattle.std.proofs.lemmas.Bool.{cond_both, eqb-true, eqb-false}
+use Rattle.std.proofs.lemmas.Bool.{eqb-true, eqb-false}
 use Rattle.std.proofs.lemmas.List.{drop-drop}
 use Rattle.nutlisting.specs.declared.outbox.TheConstants.{OWED_LIMIT}
 use Rattle.nutusers.specs.declared.ups_list.UpsId.{UpsId}
@@ -10,12 +10,12 @@ use Rattle.nutcore.specs.declared.TheConstants.{HELD_LIMIT}
 use Rattle.nutcore.specs.Lasting.{Lasts, IsEnding, WhatNeverGoesBack}
 use Rattle.nutcore.specs.Lines.{first_line}
 use Rattle.nutcore.specs.Reply.{reply, asker_of}
-use Rattle.nutcore.specs.Pump.{next_line_for, answered, holds_overlong, notified, with_notice}
+use Rattle.nutcore.specs.Pump.{answered, notified, with_notice}
 use Rattle.nutcore.specs.ByRight.{is_shut_down}
-use Rattle.nutcore.specs.Ups.{UpsState, with_fsd, with_order, after_connecting, after_loss, ping_is_due}
+use Rattle.nutcore.specs.Ups.{UpsState, with_fsd, with_order}
 use Rattle.nutcore.specs.Session.{SessionState, find, put, without, new_session}
 use Rattle.nutcore.specs.Server.{ServerState, session, with_session_changed, changed_at}
-use Rattle.nutcore.specs.Step.{joined, taken_from, ticked, connected, disconnected, driver_may_take, after_driver_took}
+use Rattle.nutcore.specs.Step.{joined, taken_from, ticked, connected, disconnected, after_driver_took}
 use Rattle.nutcore.proofs.Changed.{session_put, by_change, either_notice, notice_id}
 use Rattle.nutcore.proofs.Changes.{keeps, of_upses}
 use Rattle.nutcore.proofs.DriverText.{ups_after_bytes}

@@ -1,5 +1,5 @@
 -- Counting the sessions that are logged in.
-use Rattle.std.proofs.Common.{◌≡◌, ℕ, suc, ◌+◌, ◌<◌, ◌≤◌, ◌++◌, Bool, true, false, List, [], ◌∷◌, refl, sym, ◌∙◌, ap, cond, map, take, length, get_or, arith}
+use Rattle.std.proofs.Common.{◌≡◌, ℕ, ◌+◌, ◌<◌, ◌≤◌, ◌++◌, Bool, List, [], ◌∷◌, refl, sym, ◌∙◌, ap, cond, map, take, length, get_or, arith}
 use Rattle.std.specs.Prelude.{count_by, codes, Option, Some, Result, Ok}
 use Rattle.std.specs.List.{filter}
 use Rattle.std.proofs.lemmas.Bool.{cond_both}

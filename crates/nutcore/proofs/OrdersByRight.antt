@@ -113,7 +113,7 @@ pub all_in_front : (b : Bool) (told : List Telling) (taken : List ℕ) (later : 
 all_in_front true told taken later = refl
 all_in_front false told taken later = front_told told taken later
 
-run_orders : (u : UpsId) (s : ServerState) (es : List Event) (os : List Outcome) → orders_told u s es os ≡ flat_map order_of (flat_map (told_by_line u) (executions s es os))
+pub run_orders : (u : UpsId) (s : ServerState) (es : List Event) (os : List Outcome) → orders_told u s es os ≡ flat_map order_of (flat_map (told_by_line u) (executions s es os))
 run_orders u s [] os = refl
 run_orders u s (e ∷ es) [] = refl
 run_orders u s (e ∷ es) (o ∷ os) =

@@ -1,22 +1,19 @@
 -- What a sound server lists is read back.
-use Rattle.std.proofs.Common.{◌≡◌, ℕ, ◌≤◌, Bool, List, [], ◌∷◌, Option, Some, length, refl, sym, subst, arith}
+use Rattle.std.proofs.Common.{◌≡◌, ℕ, ◌≤◌, Bool, List, [], ◌∷◌, Option, Some, refl, sym, subst, arith}
 use Rattle.std.specs.Prelude.{codes, map, filter, All, IsTrue}
 use Rattle.std.specs.List.{AllZip}
-use Rattle.std.specs.Fmt.{signed_decimal}
 use Rattle.std.specs.Map.{keys_of, values_of}
 use Rattle.std.proofs.lemmas.Int.{ints}
 use Rattle.std.proofs.lemmas.List.Elements.{All-head, All-tail, All-nil, All-cons, All-filter}
-use Rattle.nutwords.specs.Frame.{frame, begin_line}
-use Rattle.nutwords.specs.Listing.{IsWritten, IsWrittenLine, ReadsAsLines, listing_words, ListingIsReadBack, OneReading}
+use Rattle.nutwords.specs.Frame.{frame}
+use Rattle.nutwords.specs.Listing.{IsWrittenLine, ReadsAsLines, listing_words, ListingIsReadBack, OneReading}
 use Rattle.nutwords.specs.Reading.{is_name, is_ups_name, is_value, is_address}
-use Rattle.nutwords.specs.Spelling.{quoted}
 use Rattle.nutwords.specs.declared.limits.TheConstants.{LINE_ROOM}
 use Rattle.nutdriver.specs.declared.range.Range.{Range}
 use Rattle.nutdriver.specs.Sound.{IsSoundRange, IsSoundVariable, IsSoundTree}
 use Rattle.nutdriver.specs.Variable.{VariableState}
 use Rattle.nutusers.specs.UpsList.{Ups, IsLawfulUps}
 use Rattle.nutlisting.specs.Items.{is_rw, variable_item, command_item, enum_item, range_item, ups_item, client_item}
-use Rattle.nutlisting.specs.Shown.{shown, ups_description}
 use Rattle.nutanswer.specs.Checks.{KnownUps, ups_named}
 use Rattle.nutanswer.specs.View.{Seen}
 use Rattle.nutcore.specs.ByRight.{logged_in}

@@ -1,9 +1,9 @@
 -- What a session has given, and to what it is logged in, came by lines of its client.
-use Rattle.std.proofs.Common.{◌≡◌, ◌≢◌, ◌⊎◌, ◌∙◌, ℕ, Bool, true, false, List, [], ◌∷◌, ◌++◌, Option, Some, None, refl, sym, ap, subst, eqb, inl, inr}
+use Rattle.std.proofs.Common.{◌≡◌, ◌⊎◌, ◌∙◌, ℕ, true, false, List, [], ◌∷◌, ◌++◌, Option, Some, None, refl, sym, ap, subst, eqb, inl, inr}
 use Rattle.std.specs.Prelude.{option_map}
 use Rattle.std.specs.Option.{option_map_or}
 use Rattle.std.proofs.lemmas.Bool.{both_ways, eqb-true, eq-eqb}
-use Rattle.nutcore.proofs.Common.{UpsId, Change, SessionState, ServerState, session, with_session_changed}
+use Rattle.nutcore.proofs.Common.{UpsId, SessionState, ServerState, session, with_session_changed}
 use Rattle.nutanswer.specs.declared.reply.Change.TheVariants as changes
 use Rattle.nutanswer.specs.View.{AskerSeen}
 use Rattle.nutcore.specs.Session.{find}

@@ -1,6 +1,8 @@
 -- Sound UPSs, and what keeps them so.
 use Rattle.std.proofs.Common.{◌≡◌, ◌≤◌, ◌+◌, ◌-◌, ◌/◌, ℕ, zero, suc, Bool, true, false, ◌&&◌, List, [], ◌∷◌, ◌++◌, Option, Some, None, Result, Ok, Err, refl, ◌∙◌, ap, subst, cond, map, length, replicate, take, drop, length-append, length-drop, arith}
 use Rattle.std.proofs.Math.Seq.{drop-nil}
+use Rattle.std.proofs.lemmas.Bool.{leb-false}
+use Rattle.nutwords.specs.declared.limits.TheConstants.{LINE_LIMIT, LINE_ROOM}
 use Rattle.std.specs.Prelude.{slice_get, nat_le}
 use Rattle.nutdriver.specs.declared.report.Report.{Report}
 use Rattle.nutdriver.specs.declared.report.LineOutcome.{LineOutcome}
@@ -82,15 +84,15 @@ pub record IsSoundConnected (m : ℕ) (x : UpsState) : Type 0 where
   pub is : IsSoundUps m x
   pub connected : x.report.connected ≡ true
 
-sound_there : (m : ℕ) (x : UpsState) → IsSoundTree x.report.tree → x.report.heard ≤ m → x.pinged ≤ m → length x.owed ≤ DRIVER_OWED_LIMIT → x.report.connected ≡ true → IsSoundConnected m x
-sound_there m x tree heard pinged owed is = record { is = record { tree = tree; heard = heard; pinged = pinged; owed = owed; lost = λ e. no_loss x.report.connected is e }; connected = is }
+sound_there : (m : ℕ) (x : UpsState) → IsSoundTree x.report.tree → x.report.heard ≤ m → x.pinged ≤ m → length x.owed ≤ DRIVER_OWED_LIMIT → length x.unfinished ≤ LINE_LIMIT → x.report.connected ≡ true → IsSoundConnected m x
+sound_there m x tree heard pinged owed short is = record { is = record { tree = tree; heard = heard; pinged = pinged; owed = owed; unfinished = short; lost = λ e. no_loss x.report.connected is e }; connected = is }
 
-pub sound_bytes : (m : ℕ) (bytes : List ℕ) (x : UpsState) → IsSoundConnected m x → IsSoundConnected m (record x { unfinished = bytes })
-sound_bytes m bytes x h = sound_there m _ h.is.tree h.is.heard h.is.pinged h.is.owed h.connected
+pub sound_bytes : (m : ℕ) (bytes : List ℕ) (x : UpsState) → length bytes ≤ LINE_LIMIT → IsSoundConnected m x → IsSoundConnected m (record x { unfinished = bytes })
+sound_bytes m bytes x short h = sound_there m _ h.is.tree h.is.heard h.is.pinged h.is.owed short h.connected
 
 sound_outcome : (m : ℕ) (x : UpsState) (report : Report) (outcome : LineOutcome) → IsSoundConnected m x → IsSoundTree report.tree → report.heard ≤ m → report.connected ≡ true → IsSoundConnected m (after_outcome x (report, outcome))
-sound_outcome m x report Accepted h tree heard is = sound_there m _ tree heard h.is.pinged h.is.owed is
-sound_outcome m x report (Refused fault) h tree heard is = sound_there m _ tree heard h.is.pinged h.is.owed is
+sound_outcome m x report Accepted h tree heard is = sound_there m _ tree heard h.is.pinged h.is.owed h.is.unfinished is
+sound_outcome m x report (Refused fault) h tree heard is = sound_there m _ tree heard h.is.pinged h.is.owed h.is.unfinished is
 
 -- a line loses no driver
 pub text_connected : (m : ℕ) (x : UpsState) (line : List ℕ) → (after_text m x line).report.connected ≡ x.report.connected
@@ -103,6 +105,7 @@ sound_fewer m n x h = record {
   heard = h.heard;
   pinged = h.pinged;
   owed = (let few = h.owed in omega (arith, few, length-drop n x.owed));
+  unfinished = h.unfinished;
   lost = λ e.
       ap (λ (y : UpsState). let z : UpsState = record y { owed = drop n y.owed } in z) (h.lost e)
       ∙ ap (λ (bytes : List ℕ). let z : UpsState = record new_ups { fsd = x.fsd; faulty = x.faulty; owed = bytes } in z) (drop-nil n);
@@ -124,18 +127,18 @@ pub sound_tick : (ma m now : ℕ) (x : UpsState) → m ≤ now → IsSoundUps m 
 sound_tick ma m now x later h =
     let heard = h.heard in
     let asked = h.pinged in
-    let stays : IsSoundUps now x = record { tree = h.tree; heard = omega (arith, heard, later); pinged = omega (arith, asked, later); owed = h.owed; lost = h.lost } in
+    let stays : IsSoundUps now x = record { tree = h.tree; heard = omega (arith, heard, later); pinged = omega (arith, asked, later); owed = h.owed; unfinished = h.unfinished; lost = h.lost } in
     let pinged : UpsState = record x { pinged = now; owed = x.owed ++ ping_line } in
-    cond_both (ping_is_due ma now x) pinged x (IsSoundUps now) (λ e. let due = due_parts ma now x e in (sound_there now pinged h.tree stays.heard (omega arith) (omega (arith, due.1, length-append x.owed ping_line)) due.0).is) (λ e. stays)
+    cond_both (ping_is_due ma now x) pinged x (IsSoundUps now) (λ e. let due = due_parts ma now x e in (sound_there now pinged h.tree stays.heard (omega arith) (omega (arith, due.1, length-append x.owed ping_line)) h.unfinished due.0).is) (λ e. stays)
 
 sound_fsd : (m : ℕ) (x : UpsState) → IsSoundUps m x → IsSoundUps m (with_fsd x)
-sound_fsd m x h = record { tree = h.tree; heard = h.heard; pinged = h.pinged; owed = h.owed; lost = λ e. ap with_fsd (h.lost e) }
+sound_fsd m x h = record { tree = h.tree; heard = h.heard; pinged = h.pinged; owed = h.owed; unfinished = h.unfinished; lost = λ e. ap with_fsd (h.lost e) }
 
 sound_order : (m : ℕ) (line : List ℕ) (x : UpsState) → TakesLine line x → IsSoundUps m x → IsSoundUps m (with_order line x)
 sound_order m line x takes h =
     let few = h.owed in
     let room = takes.fits in
-    (sound_there m (with_order line x) h.tree h.heard h.pinged (omega (arith, few, room, length-append x.owed line)) takes.connected).is
+    (sound_there m (with_order line x) h.tree h.heard h.pinged (omega (arith, few, room, length-append x.owed line)) h.unfinished takes.connected).is
 
 pub sound_changes : (m : ℕ) (change : Change) (xs : List UpsState) → OrderFits change xs → Each (IsSoundUps m) xs → Each (IsSoundUps m) (changed_upses change xs)
 sound_changes m change xs fits all =
@@ -147,10 +150,10 @@ length-changes change xs = of_upses (λ told ys. length ys ≡ length xs) change
 
 module _ (empty : IsSoundTree empty_tree) (line_keeps : EachLineKeepsTheTreeSound) where
   pub sound_loss : (m : ℕ) (x : UpsState) → IsSoundUps m (after_loss x)
-  sound_loss m x = record { tree = empty; heard = omega arith; pinged = omega arith; owed = omega arith; lost = λ e. refl }
+  sound_loss m x = record { tree = empty; heard = omega arith; pinged = omega arith; owed = omega arith; unfinished = omega arith; lost = λ e. refl }
 
   pub sound_connecting : (m : ℕ) (x : UpsState) → IsSoundUps m (after_connecting m x)
-  sound_connecting m x = record { tree = empty; heard = omega arith; pinged = omega arith; owed = omega arith; lost = λ e. cc e }
+  sound_connecting m x = record { tree = empty; heard = omega arith; pinged = omega arith; owed = omega arith; unfinished = omega arith; lost = λ e. cc e }
 
   pub sound_text : (m : ℕ) (x : UpsState) (line : List ℕ) → IsSoundConnected m x → IsSoundConnected m (after_text m x line)
   sound_text m x line h =
@@ -163,8 +166,8 @@ module _ (empty : IsSoundTree empty_tree) (line_keeps : EachLineKeepsTheTreeSoun
   sound_texts [] m x h = h
   sound_texts (line ∷ lines) m x h = sound_texts lines m (after_text m x line) (sound_text m x line h)
 
-  pub sound_connected_text : (m : ℕ) (text : List ℕ) (x : UpsState) → x.report.connected ≡ true → IsSoundUps m x → IsSoundUps m (with_unfinished (unfinished_after text) (after_texts m (whole_lines text) x))
-  sound_connected_text m text x e h = (sound_bytes m (unfinished_after text) (after_texts m (whole_lines text) x) (sound_texts (whole_lines text) m x (record { is = h; connected = e }))).is
+  pub sound_connected_text : (m : ℕ) (text : List ℕ) (x : UpsState) → is_too_long (unfinished_after text) ≡ false → x.report.connected ≡ true → IsSoundUps m x → IsSoundUps m (with_unfinished (unfinished_after text) (after_texts m (whole_lines text) x))
+  sound_connected_text m text x short e h = (sound_bytes m (unfinished_after text) (after_texts m (whole_lines text) x) (let fits = leb-false LINE_ROOM (length (unfinished_after text)) short in omega (arith, fits)) (sound_texts (whole_lines text) m x (record { is = h; connected = e }))).is
 
   pub sound_driver_bytes : (m : ℕ) (piece : List ℕ) (refused : Option ℕ) (x : UpsState) → IsSoundUps m x → IsSoundUps m (ups_after_bytes m piece refused x)
   sound_driver_bytes m piece refused x h = by_connection x.report.connected refl refused
@@ -175,6 +178,6 @@ module _ (empty : IsSoundTree empty_tree) (line_keeps : EachLineKeepsTheTreeSoun
       by_connection : (b : Bool) → x.report.connected ≡ b → (r : Option ℕ) → IsSoundUps m (cond b (ups_after_text m text r x) x)
       by_connection true e None =
           let y : UpsState = after_texts m (whole_lines text) x in
-          cond_both (is_too_long (unfinished_after text)) (after_loss y) (with_unfinished (unfinished_after text) y) (IsSoundUps m) (λ long. sound_loss m y) (λ short. sound_connected_text m text x e h)
+          cond_both (is_too_long (unfinished_after text)) (after_loss y) (with_unfinished (unfinished_after text) y) (IsSoundUps m) (λ long. sound_loss m y) (λ short. sound_connected_text m text x short e h)
       by_connection true e (Some k) = sound_loss m (after_texts m (take k (whole_lines text)) x)
       by_connection false e r = h

@@ -1,14 +1,13 @@
 -- What each event, and a run of them, does to each client's presence.
 use Rattle.std.proofs.Common.{◌≡◌, ◌≢◌, ℕ, ◌+◌, Bool, true, false, List, [], ◌∷◌, ◌++◌, Option, Some, None, refl, sym, ◌∙◌, ap, subst, cond, eqb, ltb, arith, take, append-nil}
-use Rattle.std.specs.Prelude.{is_some, option_map}
+use Rattle.std.specs.Prelude.{option_map}
 use Rattle.std.proofs.lemmas.Bool.{cond_both, cond-true, cond-false, ne_eqb, ltb-true, lt-ltb, le-ltb}
-use Rattle.std.proofs.lemmas.Bool.Decides.{nat_tests}
 use Rattle.std.proofs.lemmas.List.{take-append-drop}
 use Rattle.nutcore.proofs.Common.{Event, Outcome, SessionState, ServerState, session, with_session_changed, Run}
 use Rattle.nutwords.specs.Text.{with_lf}
 use Rattle.nutcore.specs.Lines.{rest_after}
 use Rattle.nutcore.specs.Session.{find, without, new_session}
-use Rattle.nutcore.specs.Reply.{reply, changed_session, too_long_notice}
+use Rattle.nutcore.specs.Reply.{reply, too_long_notice}
 use Rattle.nutcore.specs.Pump.{next_line_for, answered, after_line, is_overlong, notified, owed_of}
 use Rattle.nutcore.specs.Step.{accepted_bytes, joined, with_input, taken_from, without_output, may_take, may_open, pumped_until, opened, after_by}
 use Rattle.nutcore.specs.History.{Execution, of_line, of_notice, executions_until, of_client, answers, taken, asked, executed, texts_of, lines_of, text_of, line_of}
@@ -17,10 +16,10 @@ use Rattle.nutcore.proofs.FirstLine.{first_line_splits}
 use Rattle.nutcore.proofs.Changes.{keeps}
 use Rattle.nutcore.proofs.Changed.{at_client, presence_changed, presence_other}
 use Rattle.nutcore.proofs.Progress.{Presence, is_at, presence_is, presence, Progress, IsKept, joins, stays, moves, closes, stays_away, opens}
-use Rattle.nutcore.proofs.Events.{IsPlain, IsApart, of_session_event}
+use Rattle.nutcore.proofs.Events.{IsPlain, of_session_event}
 use Rattle.nutcore.proofs.Found.{find_without, find_without_other, of_pushed}
 use Rattle.nutcore.proofs.Pumping.{is_next, change_at, session_after, own_after_line, other_after_line, overlong_there}
-use Rattle.nutcore.proofs.Histories.{IsOfPump, until_keeps, IsOfEvents, run_keeps, two_clients, two_lists, own_or_other}
+use Rattle.nutcore.proofs.Histories.{until_keeps, IsOfEvents, run_keeps, two_clients, two_lists, own_or_other}
 
 -- along equal presences, and with equal texts
 progress_at : (p p' q q' : Presence) (a t k l : List ℕ) → p ≡ p' → q ≡ q' → Progress p' a t k l q' → Progress p a t k l q

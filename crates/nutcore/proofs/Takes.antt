@@ -6,7 +6,7 @@ use Rattle.nutcore.proofs.Common.{Event, Outcome, SessionState, ServerState, ses
 use Rattle.nutcore.specs.declared.event.Event.TheVariants.{Took}
 use Rattle.nutcore.specs.declared.event.Outcome.TheVariants.{Done, Refused}
 use Rattle.nutcore.specs.declared.event.Fault.TheVariants.{LineTooLong, TookTooMuch}
-use Rattle.nutcore.specs.Pump.{after_lines, after_all_lines, after_notice, pumped, held_of}
+use Rattle.nutcore.specs.Pump.{after_all_lines, after_notice, pumped, held_of}
 use Rattle.nutcore.specs.Step.{taken_from, without_output, may_take, offered, pumped_until, after_by, refused_after, took_by, outcome_of}
 use Rattle.nutcore.specs.History.{Execution, executions_in_event, of_client, texts_of, taken_in_event, asked_in_event, owed, held}
 use Rattle.nutcore.proofs.Bounded.{event_measured}

@@ -1,8 +1,7 @@
 -- A client that takes what it is offered, again and again, gets everything.
-use Rattle.std.proofs.Common.{◌≡◌, ◌⊎◌, ℕ, zero, suc, ◌+◌, ◌/◌, ◌<◌, ◌≤◌, true, List, [], ◌∷◌, ◌++◌, refl, inl, inr, arith, length}
+use Rattle.std.proofs.Common.{◌⊎◌, ℕ, zero, suc, ◌+◌, ◌/◌, ◌<◌, ◌≤◌, List, [], ◌∷◌, ◌++◌, refl, inl, inr, arith, length}
 use Rattle.nutlisting.specs.declared.ring.TheConstants.{RING_LIMIT}
 use Rattle.nutcore.proofs.Common.{Event, Outcome, ServerState, session}
-use Rattle.nutcore.specs.Pump.{pump_stops}
 use Rattle.nutcore.specs.Step.{offered}
 use Rattle.nutcore.specs.History.{Execution, texts_of, executions, executions_in_event, of_client, owed, held}
 use Rattle.nutcore.specs.Taking.{enough_takes, GetsEverything, WhoTakesGetsEverything}

@@ -10,7 +10,6 @@ use Rattle.nutwords.specs.Spelling.{with_backslashes, quoted}
 use Rattle.nutwords.specs.SplitLine.{has_lf}
 use Rattle.nutwords.proofs.PublicLaws.{no_line_without_lf}
 use Rattle.nutcore.proofs.Common.{cond_both, and_from, and_parts, eqb-true, UpsId, Change, Event, Outcome, ServerState, after}
-use Rattle.nutanswer.specs.declared.reply.Change.TheVariants as changes
 use Rattle.nutanswer.specs.Command.{read_command}
 use Rattle.nutanswer.specs.Orders.{set_line, instcmd_line}
 use Rattle.nutcore.specs.Reply.{change_by}

@@ -1,5 +1,5 @@
 -- A client that asks one line, and waits for its answer.
-use Rattle.std.proofs.Common.{◌≡◌, ℕ, zero, suc, ◌+◌, ◌-◌, ◌<◌, ◌≤◌, Bool, true, false, List, [], ◌∷◌, ◌++◌, Option, Some, None, refl, sym, ◌∙◌, ap, subst, cond, eqb, ltb, leb, not, ◌&&◌, ◌||◌, length, take, drop, map, Result, Ok, Err, arith, length-append, length-drop}
+use Rattle.std.proofs.Common.{◌≡◌, ℕ, zero, suc, ◌+◌, ◌-◌, ◌<◌, ◌≤◌, Bool, true, false, List, [], ◌∷◌, ◌++◌, Option, Some, None, refl, sym, ◌∙◌, ap, cond, eqb, ltb, leb, not, ◌&&◌, ◌||◌, length, take, map, Result, Ok, Err, arith, length-append, length-drop}
 use Rattle.std.specs.Prelude.{is_none, is_some, option_map, option_and_then}
 use Rattle.std.proofs.lemmas.Bool.Decides.{nat_tests}
 use Rattle.std.proofs.lemmas.List.{take_all}
@@ -15,18 +15,17 @@ use Rattle.nutanswer.specs.Command.{read_command}
 use Rattle.nutcore.specs.declared.TheConstants.{HELD_LIMIT}
 use Rattle.nutcore.specs.declared.event.Event.TheVariants.{Feed, Open}
 use Rattle.nutwords.specs.Text.{with_lf}
-use Rattle.nutcore.specs.Lines.{first_line, rest_after}
+use Rattle.nutcore.specs.Lines.{first_line}
 use Rattle.nutcore.specs.Session.{SessionState, find, put, new_session}
 use Rattle.nutcore.specs.Server.{ServerState, session, with_session, with_session_changed}
 use Rattle.nutcore.specs.Reply.{seen, seen_client, asker_of, text_to, reply}
-use Rattle.nutcore.specs.Pump.{next_line, next_line_for, answered, after_line, after_lines, after_all_lines, after_notice, pumped, holds_overlong, notified, with_notice, held_of, owed_of}
+use Rattle.nutcore.specs.Pump.{next_line, next_line_for, answered, after_line, after_lines, after_all_lines, after_notice, pumped, notified, with_notice, held_of, owed_of}
 use Rattle.nutcore.specs.Step.{joined, with_input, accepted_bytes, opened, may_open, pumped_until, after_by}
-use Rattle.nutcore.specs.History.{held, owed}
 use Rattle.nutcore.specs.Sound.{IsSound}
 use Rattle.nutcore.specs.Waiting.{IsWaiting, ALineIsAnswered}
 use Rattle.nutcore.proofs.Changed.{session_put, change_is, session_changed, notice_id}
 use Rattle.nutcore.proofs.Changes.{keeps}
-use Rattle.nutcore.proofs.Found.{find_id, find_put}
+use Rattle.nutcore.proofs.Found.{find_id}
 use Rattle.nutcore.proofs.Pumping.{after_line_is, stopped_none, change_at, session_after, session_after_id}
 use Rattle.nutcore.proofs.Runs.{lawful}
 

@@ -1,5 +1,5 @@
 -- Lines in a run of bytes (RFC 9271: a line is ended by LF).
-use Rattle.std.specs.Prelude.{ℕ, Bool, List, [], ◌∷◌, ◌++◌, ◌+◌, ◌==◌, Option, length, drop}
+use Rattle.std.specs.Prelude.{ℕ, Bool, List, [], ◌∷◌, ◌+◌, ◌==◌, Option, length, drop}
 use Rattle.std.specs.Prelude.{take_while, nat_le, nat_lt, if◌then◌else◌}
 use Rattle.std.specs.List.{flat_map}
 use Rattle.std.specs.Option.{option_map}

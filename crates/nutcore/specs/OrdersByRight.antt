@@ -16,7 +16,7 @@ use Rattle.nutcore.specs.Server.{ServerState}
 use Rattle.nutcore.specs.History.{Execution, of_line, of_notice, executions}
 use Rattle.nutcore.specs.ByRight.{IsByRight}
 use Rattle.nutcore.specs.DriverOrders.{Telling, dump_all, ping, order, Connections, last, lost}
-use Rattle.nutcore.specs.DriverOrders.{connections}
+use Rattle.nutcore.specs.DriverOrders.{connections, told_by_line}
 
 -- The line is `SET VAR` of this UPS, answered `OK`, of a session that has given the name and the
 -- password of a user with the right to set variables; its UPS is usable, and has the variable,
@@ -87,3 +87,10 @@ abbrev pub EachOrderIsByRight : Type 0
 EachOrderIsByRight =
     (old : ServerState) (events : List Event) (outcomes : List Outcome) (u : UpsId)
     → AreOrdersByRight u (executions old events outcomes) (orders_told u old events outcomes)
+
+-- They are what the lines that it executed tell that driver, in their order.
+abbrev pub TheOrdersToldAreThoseOfTheLines : Type 0
+TheOrdersToldAreThoseOfTheLines =
+    (old : ServerState) (events : List Event) (outcomes : List Outcome) (u : UpsId)
+    → orders_told u old events outcomes
+    ≡ flat_map order_of (flat_map (told_by_line u) (executions old events outcomes))

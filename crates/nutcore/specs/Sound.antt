@@ -1,5 +1,6 @@
 -- Sound servers: what every server is that events have made of a new one.
 use Rattle.std.specs.Prelude.{◌≡◌, ◌≤◌, ℕ, true, false, List, [], ◌∷◌, None, length}
+use Rattle.nutwords.specs.declared.limits.TheConstants.{LINE_LIMIT}
 use Rattle.nutdriver.specs.Sound.{IsSoundTree}
 use Rattle.nutlisting.specs.declared.listing.clients.TheConstants.{SESSION_LIMIT}
 use Rattle.nutusers.specs.UpsList.{Ups, IsList}
@@ -28,14 +29,16 @@ pub record IsSoundSession (x : SessionState) : Type 0 where
   pub ending : x.ending ≡ true → (x.held ≡ []) × (x.login ≡ None)
 
 -- A UPS, at this moment: the tree that its driver reported is sound; nothing was heard or asked
--- later than now; its driver is owed no more than it may be; and where no driver is connected, none
--- has reported or been asked anything, nothing came of a line, and nothing is owed: it is a new one
--- but for a forced shutdown and the count of faults.
+-- later than now; its driver is owed no more than it may be, and of its next line no more came than
+-- a line may have; and where no driver is connected, none has reported or been asked anything,
+-- nothing came of a line, and nothing is owed: it is a new one but for a forced shutdown and the
+-- count of faults.
 pub record IsSoundUps (moment : ℕ) (x : UpsState) : Type 0 where
   pub tree : IsSoundTree x.report.tree
   pub heard : x.report.heard ≤ moment
   pub pinged : x.pinged ≤ moment
   pub owed : length x.owed ≤ DRIVER_OWED_LIMIT
+  pub unfinished : length x.unfinished ≤ LINE_LIMIT
   pub lost : x.report.connected ≡ false → x ≡ record new_ups { fsd = x.fsd; faulty = x.faulty }
 
 -- The seconds are a greatest age of what a driver reported: from 3 to 86,400.

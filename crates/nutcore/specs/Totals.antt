@@ -1,5 +1,7 @@
 -- The whole server in numbers: the sums of what its sessions and its UPSs have.
-use Rattle.std.specs.Prelude.{◌≤◌, ◌+◌, ◌*◌, ℕ, List, [], ◌∷◌, Some, length}
+use Rattle.std.specs.Prelude.{◌≤◌, ◌+◌, ◌*◌, ℕ, Bool, List, [], ◌∷◌, Some, length, count_by}
+use Rattle.std.specs.Prelude.{nat_lt}
+use Rattle.nutwords.specs.declared.limits.TheConstants.{LINE_LIMIT}
 use Rattle.nutlisting.specs.declared.ring.TheConstants.{RING_LIMIT}
 use Rattle.nutlisting.specs.declared.listing.clients.TheConstants.{SESSION_LIMIT}
 use Rattle.nutdriver.specs.declared.limits.TheConstants.{VARIABLE_LIMIT, COMMAND_LIMIT, ENUM_LIMIT}
@@ -33,18 +35,30 @@ abbrev pub ranges_of : UpsState → ℕ
 ranges_of x = total (λ (entry : List ℕ × VariableState). length entry.1.ranges)
     x.report.tree.variables
 
+-- The session is owed more than is offered to it: a listing goes on, which has a version of what it
+-- lists.
+abbrev pub listing_goes_on : SessionState → Bool
+listing_goes_on x = nat_lt RING_LIMIT (length x.owed)
+
+-- How many versions of trees may be alive: that of each UPS, and one for each listing that goes on.
+abbrev pub versions_alive : ServerState → ℕ
+versions_alive s = length s.upses + count_by listing_goes_on s.sessions
+
 -- At most 64 sessions hold and are offered so many bytes together, and the drivers of at most 32
--- UPSs are owed so many; all their trees together have so many entries.
+-- UPSs are owed so many, and have so many unfinished; all their trees together have so many entries;
+-- and there are so many versions of trees.
 pub record IsBoundedInAll (s : ServerState) : Type 0 where
   pub held : total (λ (x : SessionState). length x.held) s.sessions ≤ SESSION_LIMIT * HELD_LIMIT
   pub offered : total (λ (x : SessionState). length (offered (Some x))) s.sessions
       ≤ SESSION_LIMIT * RING_LIMIT
   pub owed_to_drivers : total (λ (x : UpsState). length x.owed) s.upses
       ≤ UPS_LIMIT * DRIVER_OWED_LIMIT
+  pub unfinished : total (λ (x : UpsState). length x.unfinished) s.upses ≤ UPS_LIMIT * LINE_LIMIT
   pub variables : total variables_of s.upses ≤ UPS_LIMIT * VARIABLE_LIMIT
   pub commands : total commands_of s.upses ≤ UPS_LIMIT * COMMAND_LIMIT
   pub enum_values : total enum_values_of s.upses ≤ UPS_LIMIT * (VARIABLE_LIMIT * ENUM_LIMIT)
   pub ranges : total ranges_of s.upses ≤ UPS_LIMIT * (VARIABLE_LIMIT * RANGE_LIMIT)
+  pub versions : versions_alive s ≤ UPS_LIMIT + SESSION_LIMIT
 
 -- Of every sound server, as each server is.
 abbrev pub AServerIsBoundedInAll : Type 0

@@ -5,7 +5,7 @@ ghost use Rattle.nutcore.specs.Lasting.{WhatNeverGoesBack};
 ghost use Rattle.nutcore.specs.Endings.{WhoIsOverIsAskedNoMore, IdsThatAreGivenRise, AGrantedShutdownIsSet, ATickTouchesNoSession, AnOpeningTouchesNoOther};
 ghost use Rattle.nutcore.specs.Waiting.{ALineIsAnswered};
 ghost use Rattle.nutcore.specs.Alone.{OneLineIsAnswered};
-ghost use Rattle.nutcore.specs.OrdersByRight.{EachOrderIsByRight};
+ghost use Rattle.nutcore.specs.OrdersByRight.{EachOrderIsByRight, TheOrdersToldAreThoseOfTheLines};
 ghost use Rattle.nutcore.specs.TellingLines.{EachTellingIsAWholeLine};
 ghost use Rattle.nutcore.specs.Examples.{TwoVariables, EmptyListing, TakenInFour, LongestLine, ThreeLines, EscapedValue, FaultyLines, CasesAndFaults, NotConnected, Described, PipelinedGet, CutLines, ToldInPieces};
 ghost use Rattle.nutcore.specs.Isolation.{AClientTouchesNoOther, ADriverTouchesNoOther, ARefusedEventChangesNothing, ARefusedEventCostsNothing};
@@ -257,6 +257,11 @@ pub fn each_order_is_by_right()
     ensures { EachOrderIsByRight }
 {}
 
+/// The orders that a run told the driver of a UPS are what the lines that it executed tell that driver, in their order.
+pub fn the_orders_told_are_those_of_the_lines()
+    ensures { TheOrdersToldAreThoseOfTheLines }
+{}
+
 /// Whatever a run tells a driver is whole lines: `DUMPALL`, `PING`, `SET name "value"`, `INSTCMD name` or
 /// `INSTCMD name "value"`, of lawful names and values, each of at most 1,023 lawful bytes without an LF, and its LF.
 pub fn each_telling_is_a_whole_line()
@@ -293,8 +298,9 @@ pub fn nobody_is_stuck()
 {}
 
 /// The whole server in numbers: its sessions hold at most 64 times 1,024 bytes together, and are offered at most 64 times
-/// 4,096; the drivers of its UPSs are owed at most 32 times 2,048; and its trees together have at most 32 times as many
-/// variables, commands, enum values and ranges as one may.
+/// 4,096; the drivers of its UPSs are owed at most 32 times 2,048, and have at most 32 times 1,023 unfinished; its trees
+/// together have at most 32 times as many variables, commands, enum values and ranges as one may; and at most 96 versions of
+/// trees are alive, one a UPS and one a listing that goes on.
 pub fn a_server_is_bounded_in_all()
     ensures { AServerIsBoundedInAll }
 {}

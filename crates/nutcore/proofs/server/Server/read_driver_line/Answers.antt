@@ -1,10 +1,16 @@
-use Rattle.std.proofs.Common.{Some, None, Ok, Err, ◌+◌, rules}
+use Rattle.std.proofs.Common.{true, Some, None, Ok, Err, ◌+◌, rules}
 use Rattle.nutwords.specs.declared.cut.Found.TheVariants.{InPiece, Joined, NeedsMore, TooLong}
 use Rattle.nutcore.specs.declared.event.Fault.TheVariants as faults
 use Rattle.nutcore.specs.Promises.{IsCut}
 use Rattle.nutcore.proofs.DriverLoops.{still_connected, reads_done, reads_lacking, reads_none}
-use Rattle.nutcore.proofs.KeptSound.{of_call}
+use Rattle.nutcore.proofs.DriverSteps.{is_there, connected_as}
+use Rattle.nutcore.proofs.KeptSound.{of_call, driver_cut_kept}
 use Rattle.nutcore.proofs.server.Server.read_driver_line.Goals as goal
+
+pub with_ups-requires-clause-sound : goal.with_ups-requires-clause-sound
+with_ups-requires-clause-sound c = λ x y r there called sound. (
+    let s = c.args.self.now.state in
+    driver_cut_kept s.moment c.args.piece.now x y r (of_call (λ x y. IsCut c.args.piece.now x r y) called (search rules)) (connected_as s c.args.u x (is_there s c.args.u true c.requires.connected) there) sound)
 
 pub execute_driver_line-requires-clause-connected : goal.execute_driver_line-requires-clause-connected
 execute_driver_line-requires-clause-connected c =
