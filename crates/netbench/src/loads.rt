@@ -6,6 +6,8 @@ use std::time::Instant;
 /// How long a client waited for its answers, in microseconds.
 #[derive(Clone, Copy)]
 pub struct Waits {
+    /// Half of the waits were no longer.
+    pub middle: u128,
     /// 99 of 100 waits were no longer.
     pub high: u128,
     pub worst: u128,
@@ -90,6 +92,7 @@ pub fn waits_of(
     micros.sort_unstable();
     let high = micros.len().saturating_sub(micros.len() / 100 + 1);
     Ok(Waits {
+        middle: micros.get(micros.len() / 2).copied().unwrap_or(0),
         high: micros.get(high).copied().unwrap_or(0),
         worst: micros.last().copied().unwrap_or(0),
     })

@@ -1,5 +1,6 @@
 //! Measures a UPS server over the network, by the protocol alone: requests and listings a second, and how long a good
-//! client waits beside slow ones.
+//! client waits, alone and beside slow ones. With a third word it measures how long a client waits that is alone, and no
+//! more: `flood.py` beside it is the driver of that UPS, and never pauses.
 #![tactic(auto)]
 
 mod connection;
@@ -10,8 +11,8 @@ use crate::loads::{Waits, gets, lists, lists_anew, slow_readers, waits_of};
 use std::time::{Duration, Instant};
 use std::{env, io};
 
-/// What is printed without the two words.
-const USAGE: &str = "usage: netbench HOST:PORT UPS";
+/// What is printed where the words are others.
+const USAGE: &str = "usage: netbench HOST:PORT UPS [waits]";
 
 /// How many requests each load has.
 const REQUESTS: usize = 100_000;
@@ -30,14 +31,24 @@ const WAITS: usize = 10_000;
 
 fn main(rt: HostRuntime) -> io::Result<()> {
     let words = env::args(&rt)?.collect::<Vec<String>>(rt.alloc())?;
-    let [_, address, ups] = words.as_slice() else {
-        println!(rt; "{USAGE}")?;
-        return Ok(());
-    };
-    let server = Server::new(rt.alloc(), address.as_str(), ups.as_str())?;
-    requests(&rt, &server)?;
-    listings(&rt, &server)?;
-    good_client(&rt, &server)
+    match words.as_slice() {
+        [_, address, ups] => {
+            let server = Server::new(rt.alloc(), address.as_str(), ups.as_str())?;
+            measure_all(&rt, &server)
+        }
+        [_, address, ups, load] if load.as_str() == "waits" => {
+            let server = Server::new(rt.alloc(), address.as_str(), ups.as_str())?;
+            client_alone(&rt, &server)
+        }
+        _ => println!(rt; "{USAGE}"),
+    }
+}
+
+fn measure_all(rt: &HostRuntime, server: &Server) -> io::Result<()> {
+    requests(rt, server)?;
+    listings(rt, server)?;
+    client_alone(rt, server)?;
+    client_beside_slow(rt, server)
 }
 
 /// GET VAR on one connection and on many.
@@ -71,14 +82,19 @@ fn tell_listings(rt: &HostRuntime, kind: &str, bytes: usize, time: Duration) -> 
     println!(rt; "LIST VAR  {kind} {rate:>9} a second, {kilobytes:>9} KB a second")
 }
 
-/// The waits of a good client, alone and beside many that take nothing of long listings.
-fn good_client(rt: &HostRuntime, server: &Server) -> io::Result<()> {
-    let mut good = server.connect(rt)?;
+/// The waits of a client that is alone.
+fn client_alone(rt: &HostRuntime, server: &Server) -> io::Result<()> {
+    let mut client = server.connect(rt)?;
     tell_waits(
         rt,
-        "alone:        ",
-        waits_of(rt, &mut good, server, WAITS)?,
-    )?;
+        "alone:         ",
+        waits_of(rt, &mut client, server, WAITS)?,
+    )
+}
+
+/// The waits of a good client beside many that take nothing of long listings.
+fn client_beside_slow(rt: &HostRuntime, server: &Server) -> io::Result<()> {
+    let mut good = server.connect(rt)?;
     let _slow = slow_readers(rt, server, MANY - 1, UNDRAINED)?;
     tell_waits(
         rt,
@@ -88,8 +104,14 @@ fn good_client(rt: &HostRuntime, server: &Server) -> io::Result<()> {
 }
 
 fn tell_waits(rt: &HostRuntime, kind: &str, waits: Waits) -> io::Result<()> {
-    let Waits { high, worst } = waits;
-    println!(rt; "GET VAR   {kind} 99 of 100 within {high} us, the worst {worst} us")
+    let Waits {
+        middle,
+        high,
+        worst,
+    } = waits;
+    println!(rt;
+        "GET VAR   {kind} half within {middle} us, 99 of 100 within {high} us, the worst {worst} us"
+    )
 }
 
 /// How many a second, where there were so many in this time.

@@ -40,7 +40,7 @@ pub fn answer<'a, V: View>(
     // A listing shares a version, for which memory may be refused; each other row is answered by its line.
     let row = match command {
         Command::Username(name) => session::username(asker, name),
-        Command::Password(password) => session::password(asker, password),
+        Command::Password(password) => session::password(asker, password, line),
         Command::Login(ups) => session::login(view, asker, ups),
         Command::Logout => session::logout(line),
         Command::Primary(ups) => session::primary(view, asker, ups),

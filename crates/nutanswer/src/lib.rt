@@ -15,5 +15,5 @@ pub use answers::answer;
 pub use command::{Command, NameWord, PasswordWord, UpsWord, UserWord, ValueWord};
 pub use err_word::ErrWord;
 pub use nutlisting::Listing;
-pub use reply::{Change, OrderLine, Reply};
+pub use reply::{Change, GivenPassword, OrderLine, Reply};
 pub use view::{Asker, UpsView, View};

@@ -3,7 +3,7 @@ ghost use Rattle.std.specs.Prelude.{◌≡◌};
 
 use crate::Listing;
 use nutusers::{Password, UpsId, UserName};
-use nutwords::UpsName;
+use nutwords::{Line, UpsName};
 use std::marker::Model;
 
 /// The line of an order to a driver, with its LF, where it was made. Contracts see the line.
@@ -37,6 +37,45 @@ impl<'a> OrderLine<'a> {
     }
 }
 
+/// A password that a client gives, where it was made: in a change it is an address, and not its 256 bytes. Contracts see
+/// the password.
+#[derive(Debug, Drop)]
+pub struct GivenPassword<'a> {
+    bytes: &'a [u8],
+}
+
+impl<'a> Model for GivenPassword<'a> {
+    ghost use Rattle.std.specs.Prelude.{ℕ, List, IsTrue};
+    ghost use Rattle.nutusers.specs.Texts.{is_text_within};
+    ghost use Rattle.nutusers.specs.declared.limits.TheConstants.{PASSWORD_LIMIT};
+
+    ghost Value = { List ℕ };
+
+    ghost view = { λ p. p.bytes.now };
+
+    ghost invariant = { λ p. IsTrue (is_text_within PASSWORD_LIMIT p.bytes.now) };
+}
+
+impl<'a> GivenPassword<'a> {
+    /// This password, made in the line, in place of what that held.
+    pub(crate) fn made(password: &Password, line: &'a mut Line) -> GivenPassword<'a>
+        ensures { result ≡ password.now }
+    {
+        line.clear();
+        line.try_extend_from_slice(password.as_bytes()).unwrap();
+        GivenPassword {
+            bytes: line.as_slice(),
+        }
+    }
+
+    /// The password, to be kept.
+    pub fn to_password(&self) -> Password
+        ensures { result ≡ self.now }
+    {
+        Password::read(self.bytes).unwrap()
+    }
+}
+
 /// What a command changes.
 #[derive(Drop)]
 pub enum Change<'a> {
@@ -45,7 +84,7 @@ pub enum Change<'a> {
     /// The session has given this user name (RFC 9271: USERNAME).
     Username(UserName),
     /// The session has given this password (RFC 9271: PASSWORD).
-    Password(Password),
+    Password(GivenPassword<'a>),
     /// The session is logged in to this UPS (RFC 9271: LOGIN).
     Login(UpsId),
     /// The session begins to end (RFC 9271: LOGOUT).
@@ -56,7 +95,7 @@ pub enum Change<'a> {
     Order(UpsId, OrderLine<'a>),
 }
 
-/// The answer to a command. Its line, and that of an order, stand where they were made.
+/// The answer to a command. Its line, that of an order and a password stand where they were made.
 #[derive(Drop)]
 pub enum Reply<'a> {
     /// One line with its LF, and what the command changes.

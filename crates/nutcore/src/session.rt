@@ -314,7 +314,7 @@ impl Session {
         match change {
             Change::Nothing | Change::Fsd(_) | Change::Order(_, _) => {}
             Change::Username(name) => self.username = Some(name),
-            Change::Password(password) => self.password = Some(password),
+            Change::Password(password) => self.password = Some(password.to_password()),
             Change::Login(u) => self.login = Some(u),
             Change::Ending => self.begin_ending(),
         }

@@ -10,7 +10,7 @@ ghost use Rattle.nutanswer.specs.declared.command.Command.TheVariants.{Username,
 
 use super::ok;
 use crate::checks::{known_ups, user};
-use crate::{Asker, Change, ErrWord, PasswordWord, Reply, UpsWord, UserWord, View};
+use crate::{Asker, Change, ErrWord, GivenPassword, PasswordWord, Reply, UpsWord, UserWord, View};
 use nutlisting::{count_line_into, plain_line_into};
 use nutusers::Right;
 use nutwords::Line;
@@ -35,6 +35,7 @@ pub(crate) fn username<'a>(asker: Asker<'_>, name: &UserWord<'_>) -> Result<Repl
 pub(crate) fn password<'a>(
     asker: Asker<'_>,
     password: &PasswordWord<'_>,
+    line: &'a mut Line,
 ) -> Result<Reply<'a>, ErrWord>
     ensures { (s : Seen) → Gives
         (answer_to s (asker_seen asker.entry) (Password password.now)) result }
@@ -43,7 +44,7 @@ pub(crate) fn password<'a>(
         return Err(ErrWord::AlreadySetPassword);
     }
     match password.read() {
-        Some(password) => Ok(ok(Change::Password(password))),
+        Some(password) => Ok(ok(Change::Password(GivenPassword::made(&password, line)))),
         None => Err(ErrWord::InvalidArgument),
     }
 }
