@@ -20,6 +20,7 @@ use Rattle.nutrequest.specs.Request.{kind_of, ups_of, asked_words}
 use Rattle.nutrequest.specs.Reply.{Reply, Whole, reply, reply_from, first_of, later_of, after_later, after_first, items_from, one_item, behind, is_count, is_nothing, is_frame}
 use Rattle.endtoend.specs.Frames.{item_words, IsItem, AFrameIsReadAsItsItems}
 use Rattle.endtoend.proofs.LineReading.{first_found, words_read, written_line, line_before}
+use Rattle.nutrequest.specs.declared.limits.TheConstants.{ITEM_LIMIT}
 
 pub bytes_eq-same : (xs : List ℕ) → bytes_eq xs xs ≡ true
 bytes_eq-same xs = (bytes_eq-Decides xs xs).1 refl
@@ -50,12 +51,12 @@ end_read : (query : Query) (items : List Item) (rest : List ℕ) (go : List Item
 end_read query items rest go = rw (frame_known (codes "END") query) refl
 
 -- an item joins those before it
-item_read : (query : Query) (item : Item) (items : List Item) (rest : List ℕ) (go : List Item → Reply) → IsItem query item → length items < 65536 → after_later (later_of query (item_words query item)) items rest go ≡ go (items ++ item ∷ [])
-item_read Ups item items rest go i few = let e : ltb (length items) 65536 ≡ true = grind (arith, nat_tests) in rw (i.name, e) refl
-item_read (Var ups) item items rest go i few = let e : ltb (length items) 65536 ≡ true = grind (arith, nat_tests) in rw (bytes_eq-same ups, i.name, e) refl
-item_read (Rw ups) item items rest go i few = let e : ltb (length items) 65536 ≡ true = grind (arith, nat_tests) in rw (bytes_eq-same ups, i.name, e) refl
-item_read (Cmd ups) item items rest go i few = let e : ltb (length items) 65536 ≡ true = grind (arith, nat_tests) in rw (bytes_eq-same ups, i.name, e) (ap (λ value. go (items ++ record { name = item.name; value = value } ∷ [])) (sym (i.value refl)))
-item_read (Client ups) item items rest go i few = let e : ltb (length items) 65536 ≡ true = grind (arith, nat_tests) in rw (bytes_eq-same ups, i.name, e) (ap (λ value. go (items ++ record { name = item.name; value = value } ∷ [])) (sym (i.value refl)))
+item_read : (query : Query) (item : Item) (items : List Item) (rest : List ℕ) (go : List Item → Reply) → IsItem query item → length items < ITEM_LIMIT → after_later (later_of query (item_words query item)) items rest go ≡ go (items ++ item ∷ [])
+item_read Ups item items rest go i few = let e : ltb (length items) ITEM_LIMIT ≡ true = grind (arith, nat_tests) in rw (i.name, e) refl
+item_read (Var ups) item items rest go i few = let e : ltb (length items) ITEM_LIMIT ≡ true = grind (arith, nat_tests) in rw (bytes_eq-same ups, i.name, e) refl
+item_read (Rw ups) item items rest go i few = let e : ltb (length items) ITEM_LIMIT ≡ true = grind (arith, nat_tests) in rw (bytes_eq-same ups, i.name, e) refl
+item_read (Cmd ups) item items rest go i few = let e : ltb (length items) ITEM_LIMIT ≡ true = grind (arith, nat_tests) in rw (bytes_eq-same ups, i.name, e) (ap (λ value. go (items ++ record { name = item.name; value = value } ∷ [])) (sym (i.value refl)))
+item_read (Client ups) item items rest go i few = let e : ltb (length items) ITEM_LIMIT ≡ true = grind (arith, nat_tests) in rw (bytes_eq-same ups, i.name, e) (ap (λ value. go (items ++ record { name = item.name; value = value } ∷ [])) (sym (i.value refl)))
 
 -- a line that is read as these words
 abbrev next_items : Query → List Item → List ℕ → List (List ℕ) → Reply
@@ -63,7 +64,7 @@ next_items query items rest words = after_later (later_of query words) items res
 
 -- the later lines are the items and END
 items_read : (query : Query) (text : List ℕ) (ls : List (List ℕ)) (items before : List Item) (more : List ℕ)
-    → IsCutInto text ls (Unfinished []) → AllZip Reads ls (map (item_words query) items ++ end_words query ∷ []) → All (IsItem query) items → length before + length items ≤ 65536
+    → IsCutInto text ls (Unfinished []) → AllZip Reads ls (map (item_words query) items ++ end_words query ∷ []) → All (IsItem query) items → length before + length items ≤ ITEM_LIMIT
     → items_from query before (lines (text ++ more)) ≡ Whole (before ++ items) more
 items_read query text (first ∷ []) [] before more (line {rest = rest} cut few (unfinished e f)) (r, t) known fits =
     ap (items_from query before) (first_found text first [] more cut few)
@@ -84,7 +85,7 @@ pub frame_read : AFrameIsReadAsItsItems
 frame_read = λ query written items more h known few. whole query written items more (lines_are_read_back (kind_of query) (option_to_list (ups_of query)) (asked_words query) written (map (item_words query) items) h) known few
   where
     whole : (query : Query) (written : List (List (List ℕ))) (items : List Item) (more : List ℕ)
-        → ReadsLineByLine (frame_lines (kind_of query) (option_to_list (ups_of query)) written) (listing_words (asked_words query) (map (item_words query) items)) → All (IsItem query) items → length items ≤ 65536
+        → ReadsLineByLine (frame_lines (kind_of query) (option_to_list (ups_of query)) written) (listing_words (asked_words query) (map (item_words query) items)) → All (IsItem query) items → length items ≤ ITEM_LIMIT
         → reply (ListOf query) (frame (kind_of query) (option_to_list (ups_of query)) written ++ more) ≡ Whole items more
     whole query written items more ([], e, cut, reads) known fits = absurd reads
     whole query written items more (first ∷ ls, e, line {rest = rest} cut few cuts, (r, reads)) known fits =

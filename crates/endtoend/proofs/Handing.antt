@@ -22,6 +22,7 @@ use Rattle.nutclient.specs.declared.job.Job.{Job}
 use Rattle.nutclient.specs.declared.target.Target.{Target}
 use Rattle.endtoend.specs.Handed.{ProgramRun, IsHanded, IsPrinted}
 use Rattle.endtoend.proofs.Texts.{text_itself, text_same}
+use Rattle.nutwords.specs.declared.limits.TheConstants.{NAME_LIMIT, UPS_NAME_LIMIT}
 
 none-not_some : {A : Type 0} {x : A} → None ≡ Some x → ⊥
 none-not_some h = cc
@@ -37,7 +38,7 @@ lawful_name text name h = by (read_ups_name text) refl
     by (Err bad) e = let k : None ≡ Some name = sym (ap lawful e) ∙ h in absurd (none-not_some k)
     by (Ok read) e =
         let k : Some read ≡ Some name = sym (ap lawful e) ∙ h in
-        let same : text ≡ read = text_same is_name_byte false 32 text read e in
+        let same : text ≡ read = text_same is_name_byte false UPS_NAME_LIMIT text read e in
         ap is_ups_name (sym (same ∙ some_same k)) ∙ ap is_ok e
 
 -- the UPS that the words name
@@ -86,7 +87,7 @@ name_asked (Some place) name job h = by (read_name name) h
 
 pub asks_variable : (o : Option UpsPlace) (name : List ℕ) (place : UpsPlace) (job : Job) → variable_of o (lawful (read_name name)) ≡ Some (parts_of job) → o ≡ Some place → is_name name ≡ true → Asks (GetVar place.0 name ∷ []) forms.Value job
 asks_variable o name place job h at k =
-    let read : lawful (read_name name) ≡ Some name = ap lawful (text_itself is_name_byte false 64 name k) in
+    let read : lawful (read_name name) ≡ Some name = ap lawful (text_itself is_name_byte false NAME_LIMIT name k) in
     asks_parts place.1 (GetVar place.0 name ∷ []) forms.Value job (sym (ap (λ p. variable_of p (lawful (read_name name))) at ∙ ap (λ n. variable_of (Some place) n) read) ∙ h)
 
 pub asks_number : (o : Option UpsPlace) (place : UpsPlace) (job : Job) → count_of o ≡ Some (parts_of job) → o ≡ Some place → Asks (GetNumAttach place.0 ∷ []) forms.Value job

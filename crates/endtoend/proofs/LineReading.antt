@@ -12,21 +12,22 @@ use Rattle.nutwords.specs.Listing.{as_it_is, IsWrittenLine, ReadsLineByLine, lis
 use Rattle.nutwords.specs.Scan.{words_of}
 use Rattle.nutwords.proofs.PublicLaws.{first_line_is_cut_off, lines_are_read_back, read_line_is_the_grammar}
 use Rattle.nutrequest.specs.Lines.{lines, lines_from, Line}
+use Rattle.nutwords.specs.declared.limits.TheConstants.{LINE_LIMIT, LINE_ROOM}
 
 -- A line that is short enough is found, and the lines after it are those of what stands after it.
-line_found : (held line rest : List ℕ) → has_lf line ≡ false → length held + length line ≤ 1023 → lines_from held (line ++ 10 ∷ rest) ≡ Line (held ++ line) rest ∷ lines_from [] rest
+line_found : (held line rest : List ℕ) → has_lf line ≡ false → length held + length line ≤ LINE_LIMIT → lines_from held (line ++ 10 ∷ rest) ≡ Line (held ++ line) rest ∷ lines_from [] rest
 line_found held [] rest none fits = rw append-nil refl
 line_found held (b ∷ line) rest none fits =
     let p = or_parts (eqb b 10) (has_lf line) none in
-    let room : leb 1023 (length held) ≡ false = grind (arith, nat_tests) in
-    let fewer : length (held ++ b ∷ []) + length line ≤ 1023 = omega (arith, length-append held (b ∷ [])) in
+    let room : leb LINE_LIMIT (length held) ≡ false = grind (arith, nat_tests) in
+    let fewer : length (held ++ b ∷ []) + length line ≤ LINE_LIMIT = omega (arith, length-append held (b ∷ [])) in
     step p.0 room ∙ line_found (held ++ b ∷ []) line rest p.1 fewer ∙ ap (λ l. Line l rest ∷ lines_from [] rest) (append_assoc held (b ∷ []) line)
   where
-    step : eqb b 10 ≡ false → leb 1023 (length held) ≡ false → lines_from held (b ∷ (line ++ 10 ∷ rest)) ≡ lines_from (held ++ b ∷ []) (line ++ 10 ∷ rest)
+    step : eqb b 10 ≡ false → leb LINE_LIMIT (length held) ≡ false → lines_from held (b ∷ (line ++ 10 ∷ rest)) ≡ lines_from (held ++ b ∷ []) (line ++ 10 ∷ rest)
     step e room = rw (e, room) refl
 
 -- The first line of a text, whatever stands after the text.
-pub first_found : (text line rest more : List ℕ) → split_line text ≡ Some (line, rest) → length line < 1024 → lines (text ++ more) ≡ Line line (rest ++ more) ∷ lines (rest ++ more)
+pub first_found : (text line rest more : List ℕ) → split_line text ≡ Some (line, rest) → length line < LINE_ROOM → lines (text ++ more) ≡ Line line (rest ++ more) ∷ lines (rest ++ more)
 first_found text line rest more h few =
     let p = (first_line_is_cut_off text line rest).0 h in
     ap (λ t. lines (t ++ more)) p.0 ∙ ap lines (append_assoc line (10 ∷ rest) more) ∙ line_found [] line (rest ++ more) p.1 (omega arith)
@@ -40,7 +41,7 @@ pub record IsReadLine (texts words : List (List ℕ)) : Type 0 where
   pub line : List ℕ
   pub whole : line_of texts ≡ line ++ 10 ∷ []
   pub no_lf : has_lf line ≡ false
-  pub fits : length line ≤ 1023
+  pub fits : length line ≤ LINE_LIMIT
   pub reads : Reads line words
 
 pub written_line : (texts words : List (List ℕ)) → IsWrittenLine texts words → IsReadLine texts words

@@ -42,6 +42,7 @@ use Rattle.endtoend.proofs.Refused.{refused_read, granted_read}
 use Rattle.endtoend.proofs.Requests.{line_of_three, line_of_four}
 use Rattle.endtoend.proofs.Texts.{text_short, text_all, text_itself, name_written, ups_name_written, quoted_written}
 use Rattle.nutwords.proofs.PublicLaws.{quoted_is_short}
+use Rattle.nutwords.specs.declared.limits.TheConstants.{VALUE_LIMIT, NAME_LIMIT, UPS_NAME_LIMIT}
 
 -- a request that is written so is read as these words
 sent_as : (request : Request) (words : List (List ℕ)) (line : List ℕ) → IsWrittenLine (request_words request) words → IsLineOf request line → read_command line ≡ command_from (Ok words)
@@ -57,10 +58,10 @@ line_of_five a b c d e =
 set_read : (ups name value line : List ℕ) → is_ups_name ups ≡ true → is_name name ≡ true → is_value value ≡ true → IsLineOf (requests.SetVar ups name value) line
     → read_command line ≡ Ok (Some (commands.SetVar (Some ups) (Some name) (Some value)))
 set_read ups name value line h k v e =
-    let few = text_short is_name_byte false 32 ups h in
-    let short = text_short is_name_byte false 64 name k in
-    let lawful = text_all is_lawful true 256 value v in
-    let value_few = text_short is_lawful true 256 value v in
+    let few = text_short is_name_byte false UPS_NAME_LIMIT ups h in
+    let short = text_short is_name_byte false NAME_LIMIT name k in
+    let lawful = text_all is_lawful true VALUE_LIMIT value v in
+    let value_few = text_short is_lawful true VALUE_LIMIT value v in
     let quoted_few = quoted_is_short value in
     let words : List (List ℕ) = codes "SET" ∷ codes "VAR" ∷ ups ∷ name ∷ value ∷ [] in
     let written : IsWrittenLine (request_words (requests.SetVar ups name value)) words = record {
@@ -68,28 +69,28 @@ set_read ups name value line h k v e =
       fits = omega (arith, few, short, value_few, quoted_few, line_of_five (codes "SET") (codes "VAR") ups name (quoted value));
     } in
     sent_as (requests.SetVar ups name value) words line written e
-    ∙ ap (λ r. Ok (Some (commands.SetVar (result_ok r) (result_ok (read_name name)) (result_ok (read_value value))))) (text_itself is_name_byte false 32 ups h)
-    ∙ ap (λ r. Ok (Some (commands.SetVar (Some ups) (result_ok r) (result_ok (read_value value))))) (text_itself is_name_byte false 64 name k)
-    ∙ ap (λ r. Ok (Some (commands.SetVar (Some ups) (Some name) (result_ok r)))) (text_itself is_lawful true 256 value v)
+    ∙ ap (λ r. Ok (Some (commands.SetVar (result_ok r) (result_ok (read_name name)) (result_ok (read_value value))))) (text_itself is_name_byte false UPS_NAME_LIMIT ups h)
+    ∙ ap (λ r. Ok (Some (commands.SetVar (Some ups) (result_ok r) (result_ok (read_value value))))) (text_itself is_name_byte false NAME_LIMIT name k)
+    ∙ ap (λ r. Ok (Some (commands.SetVar (Some ups) (Some name) (result_ok r)))) (text_itself is_lawful true VALUE_LIMIT value v)
 
 command_read : (ups name : List ℕ) (value : Option (List ℕ)) (line : List ℕ) → is_ups_name ups ≡ true → is_name name ≡ true → IfSome value (λ v. IsTrue (is_value v)) → IsLineOf (requests.Instcmd ups name value) line
     → read_command line ≡ Ok (Some (commands.InstCmd (Some ups) (Some name) (value_given value)))
 command_read ups name None line h k v e =
-    let few = text_short is_name_byte false 32 ups h in
-    let short = text_short is_name_byte false 64 name k in
+    let few = text_short is_name_byte false UPS_NAME_LIMIT ups h in
+    let short = text_short is_name_byte false NAME_LIMIT name k in
     let words : List (List ℕ) = codes "INSTCMD" ∷ ups ∷ name ∷ [] in
     let written : IsWrittenLine (request_words (requests.Instcmd ups name None)) words = record {
       written = (as_it_is (omega arith) refl, (ups_name_written ups h, (name_written name k, tt)));
       fits = omega (arith, few, short, line_of_three (codes "INSTCMD") ups name);
     } in
     sent_as (requests.Instcmd ups name None) words line written e
-    ∙ ap (λ r. Ok (Some (commands.InstCmd (result_ok r) (result_ok (read_name name)) None))) (text_itself is_name_byte false 32 ups h)
-    ∙ ap (λ r. Ok (Some (commands.InstCmd (Some ups) (result_ok r) None))) (text_itself is_name_byte false 64 name k)
+    ∙ ap (λ r. Ok (Some (commands.InstCmd (result_ok r) (result_ok (read_name name)) None))) (text_itself is_name_byte false UPS_NAME_LIMIT ups h)
+    ∙ ap (λ r. Ok (Some (commands.InstCmd (Some ups) (result_ok r) None))) (text_itself is_name_byte false NAME_LIMIT name k)
 command_read ups name (Some value) line h k v e =
-    let few = text_short is_name_byte false 32 ups h in
-    let short = text_short is_name_byte false 64 name k in
-    let lawful = text_all is_lawful true 256 value v in
-    let value_few = text_short is_lawful true 256 value v in
+    let few = text_short is_name_byte false UPS_NAME_LIMIT ups h in
+    let short = text_short is_name_byte false NAME_LIMIT name k in
+    let lawful = text_all is_lawful true VALUE_LIMIT value v in
+    let value_few = text_short is_lawful true VALUE_LIMIT value v in
     let quoted_few = quoted_is_short value in
     let words : List (List ℕ) = codes "INSTCMD" ∷ ups ∷ name ∷ value ∷ [] in
     let written : IsWrittenLine (request_words (requests.Instcmd ups name (Some value))) words = record {
@@ -97,9 +98,9 @@ command_read ups name (Some value) line h k v e =
       fits = omega (arith, few, short, value_few, quoted_few, line_of_four (codes "INSTCMD") ups name (quoted value));
     } in
     sent_as (requests.Instcmd ups name (Some value)) words line written e
-    ∙ ap (λ r. Ok (Some (commands.InstCmd (result_ok r) (result_ok (read_name name)) (Some (result_ok (read_value value)))))) (text_itself is_name_byte false 32 ups h)
-    ∙ ap (λ r. Ok (Some (commands.InstCmd (Some ups) (result_ok r) (Some (result_ok (read_value value)))))) (text_itself is_name_byte false 64 name k)
-    ∙ ap (λ r. Ok (Some (commands.InstCmd (Some ups) (Some name) (Some (result_ok r))))) (text_itself is_lawful true 256 value v)
+    ∙ ap (λ r. Ok (Some (commands.InstCmd (result_ok r) (result_ok (read_name name)) (Some (result_ok (read_value value)))))) (text_itself is_name_byte false UPS_NAME_LIMIT ups h)
+    ∙ ap (λ r. Ok (Some (commands.InstCmd (Some ups) (result_ok r) (Some (result_ok (read_value value)))))) (text_itself is_name_byte false NAME_LIMIT name k)
+    ∙ ap (λ r. Ok (Some (commands.InstCmd (Some ups) (Some name) (Some (result_ok r))))) (text_itself is_lawful true VALUE_LIMIT value v)
 
 -- a row of an order is answered by an error, or its UPS is there and OK answers it
 abbrev IsEither : Seen → Option (List ℕ) → Result Answer ErrWord → Type 0

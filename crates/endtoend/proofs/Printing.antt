@@ -46,6 +46,8 @@ use Rattle.nutwords.proofs.PublicLaws.{quoted_is_short}
 use Rattle.endtoend.proofs.Texts.{text_short, name_written, ups_name_written, quoted_written, shown_lawful, description_lawful}
 use Rattle.endtoend.proofs.Requests.{list_var_read, list_rw_read, list_cmd_read, list_ups_read, num_attach_read, get_var_read, line_of_three, line_of_four}
 use Rattle.endtoend.proofs.Rows.{name_kept, settings_answered, commands_answered, variable_answered, upses_answered}
+use Rattle.nutwords.specs.declared.limits.TheConstants.{LINE_ROOM, NAME_LIMIT, UPS_NAME_LIMIT}
+use Rattle.nutrequest.specs.declared.limits.TheConstants.{ITEM_LIMIT}
 
 -- one request, whose reply is whole
 printed_whole : (request : Request) (form : Form) (bytes : List ℕ) (items : List Item) (rest : List ℕ) → reply request bytes ≡ Whole items rest → printed (request ∷ []) form bytes ≡ Prints (text_of form items)
@@ -74,7 +76,7 @@ variable_written word ups fsd entry w few h lawful =
     let s = shown_lawful fsd entry.0 entry.1 lawful.1 in
     record {
       written = (w, (ups_name_written ups h, (name_written entry.0 lawful.0, (quoted_written value s.0, tt))));
-      fits = omega (arith, few, text_short is_name_byte false 32 ups h, text_short is_name_byte false 64 entry.0 lawful.0, s.1, quoted_is_short value, line_of_four word ups entry.0 (quoted value));
+      fits = omega (arith, few, text_short is_name_byte false UPS_NAME_LIMIT ups h, text_short is_name_byte false NAME_LIMIT entry.0 lawful.0, s.1, quoted_is_short value, line_of_four word ups entry.0 (quoted value));
     }
 
 variables_written : (query : Query) (word ups : List ℕ) (fsd : Bool) (entries : List (List ℕ × VariableState)) → ((item : Item) → item_words query item ≡ word ∷ ups ∷ item.name ∷ item.value ∷ [])
@@ -100,8 +102,8 @@ variables_text form fsd line_of [] same = refl
 variables_text form fsd line_of (entry ∷ entries) same = ap (λ t. t ++ text_of form (map (variable_of fsd) entries)) (same entry) ∙ ap (λ t. line_of entry ++ t) (variables_text form fsd line_of entries same)
 
 -- a listing of one UPS is written so
-listing_written : (kind ups : List ℕ) → length kind ≤ 64 → is_ups_name ups ≡ true → length (begin_line kind (ups ∷ [])) ≤ 1024
-listing_written kind ups few h = omega (arith, few, text_short is_name_byte false 32 ups h, line_of_four (codes "BEGIN") (codes "LIST") kind ups)
+listing_written : (kind ups : List ℕ) → length kind ≤ 64 → is_ups_name ups ≡ true → length (begin_line kind (ups ∷ [])) ≤ LINE_ROOM
+listing_written kind ups few h = omega (arith, few, text_short is_name_byte false UPS_NAME_LIMIT ups h, line_of_four (codes "BEGIN") (codes "LIST") kind ups)
 
 pub prints_variables : AListingIsWhatIsHeld → UpscPrintsTheVariables
 prints_variables held = λ s client ups line known more n u e.
@@ -112,7 +114,7 @@ prints_variables held = λ s client ups line known more n u e.
     let read = list_var_read ups line n e in
     let same : known.name ≡ ups = name_kept (seen s) ups known u.named in
     let text = held.variables s client line ups known read u.named u.ready in
-    let few : length (map (variable_of fsd) entries) ≤ 65536 = omega (arith, u.sound.variables_few, length-map entries (variable_of fsd)) in
+    let few : length (map (variable_of fsd) entries) ≤ ITEM_LIMIT = omega (arith, u.sound.variables_few, length-map entries (variable_of fsd)) in
     let written = variables_written query (codes "VAR") ups fsd entries (λ item. refl) (as_it_is (omega arith) refl) (omega arith) n lawful in
     let items = variables_known query fsd entries (λ name h. h) refl lawful in
     let whole = frame_read query (map (variable_item (codes "VAR") ups fsd) entries) (map (variable_of fsd) entries) more
@@ -140,7 +142,7 @@ prints_settings = λ s client ups line known more n u e.
     let read = list_rw_read ups line n e in
     let same : known.name ≡ ups = name_kept (seen s) ups known u.named in
     let text = settings_answered s client ups line known u.named u.ready read in
-    let few : length (map (variable_of fsd) entries) ≤ 65536 = omega (arith, u.sound.variables_few, filter_short is_rw known.state.report.tree.variables, length-map entries (variable_of fsd)) in
+    let few : length (map (variable_of fsd) entries) ≤ ITEM_LIMIT = omega (arith, u.sound.variables_few, filter_short is_rw known.state.report.tree.variables, length-map entries (variable_of fsd)) in
     let written = variables_written query (codes "RW") ups fsd entries (λ item. refl) (as_it_is (omega arith) refl) (omega arith) n lawful in
     let items = variables_known query fsd entries (λ name h. h) refl lawful in
     let whole = frame_read query (map (variable_item (codes "RW") ups fsd) entries) (map (variable_of fsd) entries) more
@@ -160,7 +162,7 @@ commands_written ups (name ∷ commands) h names =
     let k = All-head (λ name. IsTrue (is_name name)) name commands names in (
       record {
         written = (as_it_is (omega arith) refl, (ups_name_written ups h, (name_written name k, tt)));
-        fits = omega (arith, text_short is_name_byte false 32 ups h, text_short is_name_byte false 64 name k, line_of_three (codes "CMD") ups name);
+        fits = omega (arith, text_short is_name_byte false UPS_NAME_LIMIT ups h, text_short is_name_byte false NAME_LIMIT name k, line_of_three (codes "CMD") ups name);
       },
       commands_written ups commands h (All-tail (λ name. IsTrue (is_name name)) name commands names),
     )
@@ -183,7 +185,7 @@ prints_commands = λ s client ups line known more n u e.
     let read = list_cmd_read ups line n e in
     let same : known.name ≡ ups = name_kept (seen s) ups known u.named in
     let text = commands_answered s client ups line known u.named u.ready read in
-    let few : length (map command_of commands) ≤ 65536 = omega (arith, u.sound.commands_few, length-map commands command_of) in
+    let few : length (map command_of commands) ≤ ITEM_LIMIT = omega (arith, u.sound.commands_few, length-map commands command_of) in
     let whole = frame_read query (map (command_item ups) commands) (map command_of commands) more
     ((as_it_is (omega arith) refl, (ups_name_written ups n, tt)), listing_written (codes "CMD") ups (omega arith) n, commands_written ups commands n u.sound.commands) (commands_known ups commands u.sound.commands) few in
     printed_whole (requests.List query) forms.Name ((server.reply s client line) ++ more) (map command_of commands) more
@@ -205,7 +207,7 @@ prints_variable = λ s client ups name line known variable more n m u has e.
     let texts : List (List ℕ) = codes "VAR" ∷ ups ∷ name ∷ quoted value ∷ [] in
     let written : IsWrittenLine texts (codes "VAR" ∷ ups ∷ name ∷ value ∷ []) = record {
       written = (as_it_is (omega arith) refl, (ups_name_written ups n, (name_written name m, (quoted_written value lawful.0, tt))));
-      fits = omega (arith, text_short is_name_byte false 32 ups n, text_short is_name_byte false 64 name m, lawful.1, quoted_is_short value, line_of_four (codes "VAR") ups name (quoted value));
+      fits = omega (arith, text_short is_name_byte false UPS_NAME_LIMIT ups n, text_short is_name_byte false NAME_LIMIT name m, lawful.1, quoted_is_short value, line_of_four (codes "VAR") ups name (quoted value));
     } in
     printed_whole (requests.GetVar ups name) forms.Value ((server.reply s client line) ++ more) (one_item value) more
     (ap (λ t. reply (requests.GetVar ups name) (t ++ more)) (text ∙ ap (λ x. line_of (codes "VAR" ∷ x ∷ name ∷ quoted value ∷ [])) same) ∙ value_read ups name value texts more written)
@@ -223,7 +225,7 @@ prints_number counted = λ s client ups line known more few n named e.
     let words : List (List ℕ) = codes "NUMATTACH" ∷ ups ∷ number ∷ [] in
     let written : IsWrittenLine words words = record {
       written = (as_it_is (omega arith) refl, (ups_name_written ups n, (as_it_is short.some short.bare, tt)));
-      fits = omega (arith, text_short is_name_byte false 32 ups n, short.short, line_of_three (codes "NUMATTACH") ups number);
+      fits = omega (arith, text_short is_name_byte false UPS_NAME_LIMIT ups n, short.short, line_of_three (codes "NUMATTACH") ups number);
     } in
     printed_whole (requests.GetNumAttach ups) forms.Value ((server.reply s client line) ++ more) (one_item number) more
     (ap (λ t. reply (requests.GetNumAttach ups) (t ++ more)) (text ∙ ap (λ x. line_of (codes "NUMATTACH" ∷ x ∷ number ∷ [])) same) ∙ number_read ups number more short.count written)
@@ -239,7 +241,7 @@ ups_written ups lawful =
     let d = description_lawful ups lawful.description in
     record {
       written = (as_it_is (omega arith) refl, (ups_name_written ups.name lawful.name, (quoted_written text d.0, tt)));
-      fits = omega (arith, text_short is_name_byte false 32 ups.name lawful.name, d.1, quoted_is_short text, line_of_three (codes "UPS") ups.name (quoted text));
+      fits = omega (arith, text_short is_name_byte false UPS_NAME_LIMIT ups.name lawful.name, d.1, quoted_is_short text, line_of_three (codes "UPS") ups.name (quoted text));
     }
 
 upses_written : (list : List Ups) → All IsLawfulUps list → AllZip IsWrittenLine (map ups_item list) (map (item_words queries.Ups) (map ups_of_list list))
@@ -265,7 +267,7 @@ pub prints_upses : UpscPrintsTheUpses
 prints_upses = λ s client line more is e.
     let list = s.list in
     let text = upses_answered s client line (list_ups_read line e) in
-    let few : length (map ups_of_list list) ≤ 65536 = omega (arith, is.few, length-map list ups_of_list) in
+    let few : length (map ups_of_list list) ≤ ITEM_LIMIT = omega (arith, is.few, length-map list ups_of_list) in
     let whole = frame_read queries.Ups (map ups_item list) (map ups_of_list list) more
     ((as_it_is (omega arith) refl, tt), omega arith, upses_written list is.lawful)
     (upses_known list is.lawful) few in

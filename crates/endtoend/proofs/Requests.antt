@@ -18,6 +18,7 @@ use Rattle.nutrequest.specs.declared.request.Request.TheVariants as requests
 use Rattle.endtoend.specs.Served.{IsLineOf}
 use Rattle.endtoend.proofs.LineReading.{written_line}
 use Rattle.endtoend.proofs.Texts.{text_short, text_itself, name_written, ups_name_written}
+use Rattle.nutwords.specs.declared.limits.TheConstants.{NAME_LIMIT, UPS_NAME_LIMIT}
 
 -- how long a line of three words and of four is
 pub line_of_three : (a b c : List ℕ) → length (line_of (a ∷ b ∷ c ∷ [])) ≡ length a + length b + length c + 3
@@ -38,26 +39,26 @@ words_sent request line h e =
 list_written : (kind ups : List ℕ) → IsWritten kind kind → length kind ≤ 64 → is_ups_name ups ≡ true → IsWrittenLine (codes "LIST" ∷ kind ∷ ups ∷ []) (codes "LIST" ∷ kind ∷ ups ∷ [])
 list_written kind ups written few h = record {
   written = (as_it_is (omega arith) refl, (written, (ups_name_written ups h, tt)));
-  fits = omega (arith, few, text_short is_name_byte false 32 ups h, line_of_three (codes "LIST") kind ups);
+  fits = omega (arith, few, text_short is_name_byte false UPS_NAME_LIMIT ups h, line_of_three (codes "LIST") kind ups);
 }
 
 -- LIST VAR
 pub list_var_read : (ups line : List ℕ) → is_ups_name ups ≡ true → IsLineOf (requests.List (queries.Var ups)) line → read_command line ≡ Ok (Some (commands.ListVar (Some ups)))
 list_var_read ups line h e =
     words_sent (requests.List (queries.Var ups)) line (list_written (codes "VAR") ups (as_it_is (omega arith) refl) (omega arith) h) e
-    ∙ ap (λ r. Ok (Some (commands.ListVar (result_ok r)))) (text_itself is_name_byte false 32 ups h)
+    ∙ ap (λ r. Ok (Some (commands.ListVar (result_ok r)))) (text_itself is_name_byte false UPS_NAME_LIMIT ups h)
 
 -- LIST RW
 pub list_rw_read : (ups line : List ℕ) → is_ups_name ups ≡ true → IsLineOf (requests.List (queries.Rw ups)) line → read_command line ≡ Ok (Some (commands.ListRw (Some ups)))
 list_rw_read ups line h e =
     words_sent (requests.List (queries.Rw ups)) line (list_written (codes "RW") ups (as_it_is (omega arith) refl) (omega arith) h) e
-    ∙ ap (λ r. Ok (Some (commands.ListRw (result_ok r)))) (text_itself is_name_byte false 32 ups h)
+    ∙ ap (λ r. Ok (Some (commands.ListRw (result_ok r)))) (text_itself is_name_byte false UPS_NAME_LIMIT ups h)
 
 -- LIST CMD
 pub list_cmd_read : (ups line : List ℕ) → is_ups_name ups ≡ true → IsLineOf (requests.List (queries.Cmd ups)) line → read_command line ≡ Ok (Some (commands.ListCmd (Some ups)))
 list_cmd_read ups line h e =
     words_sent (requests.List (queries.Cmd ups)) line (list_written (codes "CMD") ups (as_it_is (omega arith) refl) (omega arith) h) e
-    ∙ ap (λ r. Ok (Some (commands.ListCmd (result_ok r)))) (text_itself is_name_byte false 32 ups h)
+    ∙ ap (λ r. Ok (Some (commands.ListCmd (result_ok r)))) (text_itself is_name_byte false UPS_NAME_LIMIT ups h)
 
 -- LIST UPS
 pub list_ups_read : (line : List ℕ) → IsLineOf (requests.List queries.Ups) line → read_command line ≡ Ok (Some commands.ListUps)
@@ -73,20 +74,20 @@ pub num_attach_read : (ups line : List ℕ) → is_ups_name ups ≡ true → IsL
 num_attach_read ups line h e =
     let written : IsWrittenLine (codes "GET" ∷ codes "NUMATTACH" ∷ ups ∷ []) (codes "GET" ∷ codes "NUMATTACH" ∷ ups ∷ []) = record {
       written = (as_it_is (omega arith) refl, (as_it_is (omega arith) refl, (ups_name_written ups h, tt)));
-      fits = omega (arith, text_short is_name_byte false 32 ups h, line_of_three (codes "GET") (codes "NUMATTACH") ups);
+      fits = omega (arith, text_short is_name_byte false UPS_NAME_LIMIT ups h, line_of_three (codes "GET") (codes "NUMATTACH") ups);
     } in
     words_sent (requests.GetNumAttach ups) line written e
-    ∙ ap (λ r. Ok (Some (commands.GetNumAttach (result_ok r)))) (text_itself is_name_byte false 32 ups h)
+    ∙ ap (λ r. Ok (Some (commands.GetNumAttach (result_ok r)))) (text_itself is_name_byte false UPS_NAME_LIMIT ups h)
 
 -- GET VAR
 pub get_var_read : (ups name line : List ℕ) → is_ups_name ups ≡ true → is_name name ≡ true → IsLineOf (requests.GetVar ups name) line → read_command line ≡ Ok (Some (commands.GetVar (Some ups) (Some name)))
 get_var_read ups name line h k e =
-    let few = text_short is_name_byte false 32 ups h in
-    let short = text_short is_name_byte false 64 name k in
+    let few = text_short is_name_byte false UPS_NAME_LIMIT ups h in
+    let short = text_short is_name_byte false NAME_LIMIT name k in
     let written : IsWrittenLine (codes "GET" ∷ codes "VAR" ∷ ups ∷ name ∷ []) (codes "GET" ∷ codes "VAR" ∷ ups ∷ name ∷ []) = record {
       written = (as_it_is (omega arith) refl, (as_it_is (omega arith) refl, (ups_name_written ups h, (name_written name k, tt))));
       fits = omega (arith, few, short, line_of_four (codes "GET") (codes "VAR") ups name);
     } in
     words_sent (requests.GetVar ups name) line written e
-    ∙ ap (λ r. Ok (Some (commands.GetVar (result_ok r) (result_ok (read_text is_name_byte false 64 name))))) (text_itself is_name_byte false 32 ups h)
-    ∙ ap (λ r. Ok (Some (commands.GetVar (Some ups) (result_ok r)))) (text_itself is_name_byte false 64 name k)
+    ∙ ap (λ r. Ok (Some (commands.GetVar (result_ok r) (result_ok (read_text is_name_byte false NAME_LIMIT name))))) (text_itself is_name_byte false UPS_NAME_LIMIT ups h)
+    ∙ ap (λ r. Ok (Some (commands.GetVar (Some ups) (result_ok r)))) (text_itself is_name_byte false NAME_LIMIT name k)

@@ -14,6 +14,8 @@ use Rattle.nutdriver.specs.Variable.{VariableState}
 use Rattle.nutusers.specs.Texts.{is_description}
 use Rattle.nutusers.specs.UpsList.{Ups}
 use Rattle.nutlisting.specs.Shown.{shown, ups_description}
+use Rattle.nutlisting.specs.declared.lines.shown.TheConstants.{SHOWN_LIMIT}
+use Rattle.nutwords.specs.declared.limits.TheConstants.{VALUE_LIMIT, NAME_LIMIT, UPS_NAME_LIMIT}
 
 -- what is read as a text: its length, its bytes, and itself
 pub text_short : (allowed : ℕ → Bool) (may_be_empty : Bool) (most : ℕ) (bytes : List ℕ) → is_ok (read_text allowed may_be_empty most bytes) ≡ true → length bytes ≤ most
@@ -42,34 +44,34 @@ name_bytes-bare (b ∷ bytes) h =
 
 -- a name is written as it is
 pub name_written : (name : List ℕ) → is_name name ≡ true → IsWritten name name
-name_written name h = as_it_is (text_some is_name_byte 64 name h) (name_bytes-bare name (text_all is_name_byte false 64 name h))
+name_written name h = as_it_is (text_some is_name_byte NAME_LIMIT name h) (name_bytes-bare name (text_all is_name_byte false NAME_LIMIT name h))
 
 pub ups_name_written : (name : List ℕ) → is_ups_name name ≡ true → IsWritten name name
-ups_name_written name h = as_it_is (text_some is_name_byte 32 name h) (name_bytes-bare name (text_all is_name_byte false 32 name h))
+ups_name_written name h = as_it_is (text_some is_name_byte UPS_NAME_LIMIT name h) (name_bytes-bare name (text_all is_name_byte false UPS_NAME_LIMIT name h))
 
 -- a text of lawful bytes is written in quotes
 pub quoted_written : (text : List ℕ) → list_all is_lawful text ≡ true → IsWritten (quoted text) text
 quoted_written text h = in_quotes h
 
 -- a value as clients see it
-shown_by : (v : Bool) (value : List ℕ) → list_all is_lawful value ≡ true → length value ≤ 256
-    → (list_all is_lawful (cond v (codes "FSD " ++ value) value) ≡ true) × (length (cond v (codes "FSD " ++ value) value) ≤ 260)
+shown_by : (v : Bool) (value : List ℕ) → list_all is_lawful value ≡ true → length value ≤ VALUE_LIMIT
+    → (list_all is_lawful (cond v (codes "FSD " ++ value) value) ≡ true) × (length (cond v (codes "FSD " ++ value) value) ≤ SHOWN_LIMIT)
 shown_by true value h few = (h, omega (arith, few))
 shown_by false value h few = (h, omega (arith, few))
 
 pub shown_lawful : (fsd : Bool) (name : List ℕ) (variable : VariableState) → is_value variable.value ≡ true
-    → (list_all is_lawful (shown fsd name variable) ≡ true) × (length (shown fsd name variable) ≤ 260)
+    → (list_all is_lawful (shown fsd name variable) ≡ true) × (length (shown fsd name variable) ≤ SHOWN_LIMIT)
 shown_lawful fsd name variable h =
-    shown_by (fsd && bytes_eq name (codes "ups.status")) variable.value (text_all is_lawful true 256 variable.value h) (text_short is_lawful true 256 variable.value h)
+    shown_by (fsd && bytes_eq name (codes "ups.status")) variable.value (text_all is_lawful true VALUE_LIMIT variable.value h) (text_short is_lawful true VALUE_LIMIT variable.value h)
 
 -- a description as clients see it
 pub description_lawful : (ups : Ups) → IfSome ups.desc (λ text. IsTrue (is_description text))
-    → (list_all is_lawful (ups_description ups) ≡ true) × (length (ups_description ups) ≤ 260)
+    → (list_all is_lawful (ups_description ups) ≡ true) × (length (ups_description ups) ≤ SHOWN_LIMIT)
 description_lawful ups h = by ups.desc refl
   where
-    by : (o : Option (List ℕ)) → ups.desc ≡ o → (list_all is_lawful (ups_description ups) ≡ true) × (length (ups_description ups) ≤ 260)
+    by : (o : Option (List ℕ)) → ups.desc ≡ o → (list_all is_lawful (ups_description ups) ≡ true) × (length (ups_description ups) ≤ SHOWN_LIMIT)
     by None e = rw e (refl, omega arith)
     by (Some text) e =
         let k : is_description text ≡ true = rw e at h in
-        let v : is_value text ≡ true = (and_parts (leb (length text) 256) (is_value text) k).1 in
-        rw e (text_all is_lawful true 256 text v, omega (arith, text_short is_lawful true 256 text v))
+        let v : is_value text ≡ true = (and_parts (leb (length text) VALUE_LIMIT) (is_value text) k).1 in
+        rw e (text_all is_lawful true VALUE_LIMIT text v, omega (arith, text_short is_lawful true VALUE_LIMIT text v))

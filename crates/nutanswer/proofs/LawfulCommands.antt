@@ -15,6 +15,7 @@ use Rattle.nutanswer.specs.declared.err_word.ErrWord.{ErrWord}
 use Rattle.nutwords.specs.Keyword.{is_word}
 use Rattle.nutanswer.specs.Command.{command_with, alone, user_name_alone, password_alone, ups_alone, ups_and_name, Names, value_of, ups_name_and_value, ups_name_and_value_if_any, read_set, read_instcmd, read_get, read_list, command_named, some_command, command_of, command_from}
 use Rattle.nutanswer.specs.Lawful.{HasLawfulName, HasLawfulUpsName, HasLawfulValue, HasLawfulValueIfAny, IsLawfulCommand, IsLawfulReading, WhatIsReadIsLawful}
+use Rattle.nutwords.specs.declared.limits.TheConstants.{NAME_LIMIT, VALUE_LIMIT, UPS_NAME_LIMIT}
 
 -- a text that is read stands for itself
 read_is : (allowed : ℕ → Bool) (may_be_empty : Bool) (most : ℕ) (bytes text : List ℕ) → result_ok (read_text allowed may_be_empty most bytes) ≡ Some text → is_ok (read_text allowed may_be_empty most text) ≡ true
@@ -65,25 +66,25 @@ set_words [] a e = cc e
 set_words (ups ∷ []) a e = cc e
 set_words (ups ∷ v ∷ []) a e = cc e
 set_words (ups ∷ v ∷ w ∷ []) a e =
-    let first : result_ok (read_text is_name_byte false 64 v) ≡ a.1 = cc e in
+    let first : result_ok (read_text is_name_byte false NAME_LIMIT v) ≡ a.1 = cc e in
     let second : value_of w ≡ a.2 = cc e in
-    (λ name is. read_is is_name_byte false 64 v name (first ∙ is), λ value is. read_is is_lawful true 256 w value (second ∙ is))
+    (λ name is. read_is is_name_byte false NAME_LIMIT v name (first ∙ is), λ value is. read_is is_lawful true VALUE_LIMIT w value (second ∙ is))
 set_words (ups ∷ v ∷ w ∷ x ∷ words) a e = cc e
 
 instcmd_words : (words : List (List ℕ)) (a : Names (Option (Option (List ℕ)))) → ups_name_and_value_if_any words ≡ Ok a → HasLawfulName a.1 × HasLawfulValueIfAny a.2
 instcmd_words [] a e = cc e
 instcmd_words (ups ∷ []) a e = cc e
 instcmd_words (ups ∷ v ∷ []) a e =
-    let first : result_ok (read_text is_name_byte false 64 v) ≡ a.1 = cc e in
+    let first : result_ok (read_text is_name_byte false NAME_LIMIT v) ≡ a.1 = cc e in
     let second : None ≡ a.2 = cc e in
-    (λ name is. read_is is_name_byte false 64 v name (first ∙ is), λ value is. no_value value (second ∙ is))
+    (λ name is. read_is is_name_byte false NAME_LIMIT v name (first ∙ is), λ value is. no_value value (second ∙ is))
   where
     no_value : (value : List ℕ) → None ≡ Some (Some value) → IsTrue (is_value value)
     no_value value k = cc k
 instcmd_words (ups ∷ v ∷ w ∷ []) a e =
-    let first : result_ok (read_text is_name_byte false 64 v) ≡ a.1 = cc e in
+    let first : result_ok (read_text is_name_byte false NAME_LIMIT v) ≡ a.1 = cc e in
     let second : Some (value_of w) ≡ a.2 = cc e in
-    (λ name is. read_is is_name_byte false 64 v name (first ∙ is), λ value is. read_is is_lawful true 256 w value (one value (second ∙ is)))
+    (λ name is. read_is is_name_byte false NAME_LIMIT v name (first ∙ is), λ value is. read_is is_lawful true VALUE_LIMIT w value (one value (second ∙ is)))
   where
     one : (value : List ℕ) → Some (value_of w) ≡ Some (Some value) → value_of w ≡ Some value
     one value k = cc k
@@ -98,17 +99,17 @@ of_ups f words h = with_lawful f (ups_alone words) (λ ups e. h ups)
 ups_words : (words : List (List ℕ)) (ups : Option (List ℕ)) → ups_alone words ≡ Ok ups → HasLawfulUpsName ups
 ups_words [] ups e = cc e
 ups_words (u ∷ []) ups e =
-    let named : result_ok (read_text is_name_byte false 32 u) ≡ ups = cc e in
-    λ name is. read_is is_name_byte false 32 u name (named ∙ is)
+    let named : result_ok (read_text is_name_byte false UPS_NAME_LIMIT u) ≡ ups = cc e in
+    λ name is. read_is is_name_byte false UPS_NAME_LIMIT u name (named ∙ is)
 ups_words (u ∷ w ∷ words) ups e = cc e
 
 two_words : (words : List (List ℕ)) (a : Option (List ℕ) × Option (List ℕ)) → ups_and_name words ≡ Ok a → HasLawfulUpsName a.0 × HasLawfulName a.1
 two_words [] a e = cc e
 two_words (u ∷ []) a e = cc e
 two_words (u ∷ v ∷ []) a e =
-    let first : result_ok (read_text is_name_byte false 32 u) ≡ a.0 = cc e in
-    let second : result_ok (read_text is_name_byte false 64 v) ≡ a.1 = cc e in
-    (λ name is. read_is is_name_byte false 32 u name (first ∙ is), λ name is. read_is is_name_byte false 64 v name (second ∙ is))
+    let first : result_ok (read_text is_name_byte false UPS_NAME_LIMIT u) ≡ a.0 = cc e in
+    let second : result_ok (read_text is_name_byte false NAME_LIMIT v) ≡ a.1 = cc e in
+    (λ name is. read_is is_name_byte false UPS_NAME_LIMIT u name (first ∙ is), λ name is. read_is is_name_byte false NAME_LIMIT v name (second ∙ is))
 two_words (u ∷ v ∷ w ∷ words) a e = cc e
 
 get_lawful : (words : List (List ℕ)) → IsLawfulResult (read_get words)

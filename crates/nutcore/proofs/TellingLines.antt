@@ -26,6 +26,7 @@ use Rattle.nutanswer.specs.Rows.{value_given}
 use Rattle.nutanswer.proofs.PublicLaws.{what_is_read_is_lawful}
 use Rattle.nutcore.proofs.OrdersByRight.{by_read, all_in_front}
 use Rattle.nutcore.proofs.Written.{text_short, text_all, backslashes_short}
+use Rattle.nutwords.specs.declared.limits.TheConstants.{LINE_LIMIT, NAME_LIMIT, VALUE_LIMIT}
 
 -- lawful bytes
 abbrev Lawful : List ℕ → Type 0
@@ -57,16 +58,23 @@ record IsPart (most : ℕ) (text : List ℕ) : Type 0 where
   short : length text ≤ most
   lawful : Lawful text
 
-part_of_name : (name : List ℕ) → IsTrue (is_name name) → IsPart 64 name
-part_of_name name h = record { short = text_short is_name_byte false 64 name h; lawful = name_bytes name (text_all is_name_byte false 64 name h) }
+-- the most bytes of a value in quotes, and of a name before one
+abbrev quoted_limit : ℕ
+quoted_limit = 2 * VALUE_LIMIT + 2
 
-part_of_value : (value : List ℕ) → IsTrue (is_value value) → IsPart 514 (quoted value)
+abbrev pair_limit : ℕ
+pair_limit = NAME_LIMIT + 1 + quoted_limit
+
+part_of_name : (name : List ℕ) → IsTrue (is_name name) → IsPart NAME_LIMIT name
+part_of_name name h = record { short = text_short is_name_byte false NAME_LIMIT name h; lawful = name_bytes name (text_all is_name_byte false NAME_LIMIT name h) }
+
+part_of_value : (value : List ℕ) → IsTrue (is_value value) → IsPart quoted_limit (quoted value)
 part_of_value value h =
-    let few : length value ≤ 256 = text_short is_lawful true 256 value h in
+    let few : length value ≤ VALUE_LIMIT = text_short is_lawful true VALUE_LIMIT value h in
     let spelled : length (with_backslashes value) ≤ 2 * length value = backslashes_short value in
     record {
       short = omega (arith, few, spelled, length-append (with_backslashes value) (34 ∷ []));
-      lawful = byte_lawful 34 (with_backslashes value ++ 34 ∷ []) refl (both_lawful (with_backslashes value) (34 ∷ []) (backslashes_lawful value (text_all is_lawful true 256 value h)) refl);
+      lawful = byte_lawful 34 (with_backslashes value ++ 34 ∷ []) refl (both_lawful (with_backslashes value) (34 ∷ []) (backslashes_lawful value (text_all is_lawful true VALUE_LIMIT value h)) refl);
     }
 
 behind_blank : (front back : List ℕ) (n m : ℕ) → IsPart n front → IsPart m back → IsPart (n + 1 + m) (front ++ 32 ∷ back)
@@ -83,7 +91,7 @@ no_lf : (text : List ℕ) → Lawful text → has_lf text ≡ false
 no_lf [] h = refl
 no_lf (b ∷ text) h = let p = and_parts (is_lawful b) (list_all is_lawful text) h in rw (not_lf b p.0) (no_lf text p.1)
 
-line_is : (told : Telling) (n : ℕ) (line : List ℕ) → n ≤ 1023 → text_of told ≡ line ++ 10 ∷ [] → IsSpelled told → IsPart n line → IsLineToDriver told
+line_is : (told : Telling) (n : ℕ) (line : List ℕ) → n ≤ LINE_LIMIT → text_of told ≡ line ++ 10 ∷ [] → IsSpelled told → IsPart n line → IsLineToDriver told
 line_is told n line few text spelled h = record {
   spelled = spelled;
   whole = record { line = line; whole = text; answer = record { fits = (let k = h.short in omega (arith, few, k)); lawful = h.lawful } };
@@ -93,20 +101,20 @@ line_is told n line few text spelled h = record {
 word_part : (n : ℕ) (word : List ℕ) → length word ≤ n → Lawful word → IsPart n word
 word_part n word short lawful = record { short = short; lawful = lawful }
 
-two_parts : (name value : List ℕ) → IsTrue (is_name name) → IsTrue (is_value value) → IsPart 579 (name ++ 32 ∷ quoted value)
-two_parts name value n v = behind_blank name (quoted value) 64 514 (part_of_name name n) (part_of_value value v)
+two_parts : (name value : List ℕ) → IsTrue (is_name name) → IsTrue (is_value value) → IsPart pair_limit (name ++ 32 ∷ quoted value)
+two_parts name value n v = behind_blank name (quoted value) NAME_LIMIT quoted_limit (part_of_name name n) (part_of_value value v)
 
 tells : (told : Telling) → IsSpelled told → IsLineToDriver told
 tells _ asks_for_all = line_is dump_all 7 (codes "DUMPALL") (omega arith) refl asks_for_all (word_part 7 (codes "DUMPALL") (omega arith) refl)
 tells _ asks_whether_there = line_is ping 4 (codes "PING") (omega arith) refl asks_whether_there (word_part 4 (codes "PING") (omega arith) refl)
 tells _ (sets name value n v) =
-    line_is (order (set_line name value)) 583 (codes "SET" ++ 32 ∷ (name ++ 32 ∷ quoted value)) (omega arith) refl (sets name value n v)
-    (behind_blank (codes "SET") (name ++ 32 ∷ quoted value) 3 579 (word_part 3 (codes "SET") (omega arith) refl) (two_parts name value n v))
+    line_is (order (set_line name value)) (3 + 1 + pair_limit) (codes "SET" ++ 32 ∷ (name ++ 32 ∷ quoted value)) (omega arith) refl (sets name value n v)
+    (behind_blank (codes "SET") (name ++ 32 ∷ quoted value) 3 pair_limit (word_part 3 (codes "SET") (omega arith) refl) (two_parts name value n v))
 tells _ (commands name n) =
-    line_is (order (instcmd_line name None)) 72 (codes "INSTCMD" ++ 32 ∷ name) (omega arith) refl (commands name n) (behind_blank (codes "INSTCMD") name 7 64 (word_part 7 (codes "INSTCMD") (omega arith) refl) (part_of_name name n))
+    line_is (order (instcmd_line name None)) (7 + 1 + NAME_LIMIT) (codes "INSTCMD" ++ 32 ∷ name) (omega arith) refl (commands name n) (behind_blank (codes "INSTCMD") name 7 NAME_LIMIT (word_part 7 (codes "INSTCMD") (omega arith) refl) (part_of_name name n))
 tells _ (commands_with name value n v) =
-    line_is (order (instcmd_line name (Some value))) 587 (codes "INSTCMD" ++ 32 ∷ (name ++ 32 ∷ quoted value)) (omega arith) refl (commands_with name value n v)
-    (behind_blank (codes "INSTCMD") (name ++ 32 ∷ quoted value) 7 579 (word_part 7 (codes "INSTCMD") (omega arith) refl) (two_parts name value n v))
+    line_is (order (instcmd_line name (Some value))) (7 + 1 + pair_limit) (codes "INSTCMD" ++ 32 ∷ (name ++ 32 ∷ quoted value)) (omega arith) refl (commands_with name value n v)
+    (behind_blank (codes "INSTCMD") (name ++ 32 ∷ quoted value) 7 pair_limit (word_part 7 (codes "INSTCMD") (omega arith) refl) (two_parts name value n v))
 
 -- an order by right is spelled so
 spelled_command : (name : List ℕ) (value : Option (List ℕ)) → IsTrue (is_name name) → ((given : List ℕ) → value_given value ≡ Some (Some given) → IsTrue (is_value given)) → IsSpelled (order (instcmd_line name value))

@@ -16,11 +16,12 @@ use Rattle.nutwords.specs.Frame.{line_of}
 use Rattle.nutwords.specs.Listing.{IsWritten, IsWrittenLine, as_it_is, in_quotes}
 use Rattle.nutwords.specs.Reading.{read_text, is_name, is_ups_name, is_address, is_value}
 use Rattle.nutwords.specs.Spelling.{with_backslashes, quoted}
-use Rattle.nutwords.specs.declared.limits.TheConstants.{LINE_ROOM}
+use Rattle.nutwords.specs.declared.limits.TheConstants.{LINE_ROOM, VALUE_LIMIT, NAME_LIMIT, UPS_NAME_LIMIT}
 use Rattle.nutdriver.specs.Variable.{VariableState}
 use Rattle.nutdriver.specs.declared.limits.TheConstants.{NUMBER_LIMIT}
 use Rattle.nutusers.specs.Texts.{is_description}
 use Rattle.nutlisting.specs.Shown.{shown, text_or_unavailable}
+use Rattle.nutlisting.specs.declared.lines.shown.TheConstants.{SHOWN_LIMIT}
 
 -- what is read as a text: its length and its bytes
 pub text_short : (allowed : ℕ → Bool) (may_be_empty : Bool) (most : ℕ) (bytes : List ℕ) → is_ok (read_text allowed may_be_empty most bytes) ≡ true → length bytes ≤ most
@@ -63,10 +64,10 @@ bare_word allowed most bytes bare h = record {
 }
 
 abbrev pub name_word : (name : List ℕ) → IsTrue (is_name name) → Word
-name_word name h = bare_word is_name_byte 64 name name_byte-bare h
+name_word name h = bare_word is_name_byte NAME_LIMIT name name_byte-bare h
 
 abbrev pub ups_word : (name : List ℕ) → IsTrue (is_ups_name name) → Word
-ups_word name h = bare_word is_name_byte 32 name name_byte-bare h
+ups_word name h = bare_word is_name_byte UPS_NAME_LIMIT name name_byte-bare h
 
 abbrev pub address_word : (address : List ℕ) → IsTrue (is_address address) → Word
 address_word address h = bare_word is_address_byte 64 address address_byte-bare h
@@ -91,28 +92,28 @@ text_word few text h le = record {
 }
 
 abbrev pub value_word : (value : List ℕ) → IsTrue (is_value value) → Word
-value_word value h = text_word 256 value (text_all is_lawful true 256 value h) (text_short is_lawful true 256 value h)
+value_word value h = text_word VALUE_LIMIT value (text_all is_lawful true VALUE_LIMIT value h) (text_short is_lawful true VALUE_LIMIT value h)
 
 -- a value as clients see it
-pub shown_lawful : (fsd : Bool) (name : List ℕ) (variable : VariableState) → IsTrue (is_value variable.value) → (list_all is_lawful (shown fsd name variable) ≡ true) × (length (shown fsd name variable) ≤ 260)
+pub shown_lawful : (fsd : Bool) (name : List ℕ) (variable : VariableState) → IsTrue (is_value variable.value) → (list_all is_lawful (shown fsd name variable) ≡ true) × (length (shown fsd name variable) ≤ SHOWN_LIMIT)
 shown_lawful fsd name variable h =
-    let few : length variable.value ≤ 256 = text_short is_lawful true 256 variable.value h in
-    let all : list_all is_lawful variable.value ≡ true = text_all is_lawful true 256 variable.value h in
-    cond_both (fsd && bytes_eq name (codes "ups.status")) (codes "FSD " ++ variable.value) variable.value (λ text. (list_all is_lawful text ≡ true) × (length text ≤ 260))
+    let few : length variable.value ≤ VALUE_LIMIT = text_short is_lawful true VALUE_LIMIT variable.value h in
+    let all : list_all is_lawful variable.value ≡ true = text_all is_lawful true VALUE_LIMIT variable.value h in
+    cond_both (fsd && bytes_eq name (codes "ups.status")) (codes "FSD " ++ variable.value) variable.value (λ text. (list_all is_lawful text ≡ true) × (length text ≤ SHOWN_LIMIT))
     (λ down. (all, omega (arith, few))) (λ up. (all, omega (arith, few)))
 
 abbrev pub shown_word : (fsd : Bool) (name : List ℕ) (variable : VariableState) → IsTrue (is_value variable.value) → Word
-shown_word fsd name variable h = text_word 260 (shown fsd name variable) (shown_lawful fsd name variable h).0 (shown_lawful fsd name variable h).1
+shown_word fsd name variable h = text_word SHOWN_LIMIT (shown fsd name variable) (shown_lawful fsd name variable h).0 (shown_lawful fsd name variable h).1
 
 -- a description as clients see it
-pub description_lawful : (desc : Option (List ℕ)) → IfSome desc (λ text. IsTrue (is_description text)) → (list_all is_lawful (text_or_unavailable desc) ≡ true) × (length (text_or_unavailable desc) ≤ 256)
+pub description_lawful : (desc : Option (List ℕ)) → IfSome desc (λ text. IsTrue (is_description text)) → (list_all is_lawful (text_or_unavailable desc) ≡ true) × (length (text_or_unavailable desc) ≤ VALUE_LIMIT)
 description_lawful None h = (refl, omega arith)
 description_lawful (Some text) h =
-    let value = (and_parts (leb (length text) 256) (is_value text) h).1 in
-    (text_all is_lawful true 256 text value, text_short is_lawful true 256 text value)
+    let value = (and_parts (leb (length text) VALUE_LIMIT) (is_value text) h).1 in
+    (text_all is_lawful true VALUE_LIMIT text value, text_short is_lawful true VALUE_LIMIT text value)
 
 abbrev pub description_word : (desc : Option (List ℕ)) → IfSome desc (λ text. IsTrue (is_description text)) → Word
-description_word desc h = text_word 256 (text_or_unavailable desc) (description_lawful desc h).0 (description_lawful desc h).1
+description_word desc h = text_word VALUE_LIMIT (text_or_unavailable desc) (description_lawful desc h).0 (description_lawful desc h).1
 
 -- a number of the protocol
 digit : (d : ℕ) → d < 10 → is_lawful (48 + d) ≡ true
@@ -124,15 +125,15 @@ decimal_lawful n small = decimal_by_steps (λ n text. list_all is_lawful text �
     (λ n text h k. list_all-append is_lawful text ((48 + n % 10) ∷ []) ∙ and_from (list_all is_lawful text) (list_all is_lawful ((48 + n % 10) ∷ [])) k (and_from (is_lawful (48 + n % 10)) true (digit (n % 10) (omega arith)) refl))
     n small
 
-pub signed_lawful : (z : ℤ) → mag z ≤ 1000000000 → list_all is_lawful (signed_decimal z) ≡ true
+pub signed_lawful : (z : ℤ) → mag z ≤ NUMBER_LIMIT → list_all is_lawful (signed_decimal z) ≡ true
 signed_lawful (pos n) h = decimal_lawful n (omega (arith, h))
 signed_lawful (negsuc n) h = decimal_lawful (suc n) (omega (arith, h))
 
-pub small : (z : ℤ) → neg_ℤ (pos NUMBER_LIMIT) ≤ℤ z → z ≤ℤ pos NUMBER_LIMIT → mag z ≤ 1000000000
+pub small : (z : ℤ) → neg_ℤ (pos NUMBER_LIMIT) ≤ℤ z → z ≤ℤ pos NUMBER_LIMIT → mag z ≤ NUMBER_LIMIT
 small (pos n) low high = omega (arith, ints, high)
 small (negsuc n) low high = omega (arith, ints, low)
 
-pub number_short : (z : ℤ) → mag z ≤ 1000000000 → length (signed_decimal z) ≤ 11
+pub number_short : (z : ℤ) → mag z ≤ NUMBER_LIMIT → length (signed_decimal z) ≤ 11
 number_short z few = length_signed_le 10 z (omega (arith, few)) (omega (arith, few))
 
 abbrev pub number_word : (z : ℤ) → neg_ℤ (pos NUMBER_LIMIT) ≤ℤ z → z ≤ℤ pos NUMBER_LIMIT → Word

@@ -15,6 +15,7 @@ use Rattle.nutcore.specs.Lines.{whole_lines, unfinished_after, is_too_long}
 use Rattle.nutcore.specs.Ups.{new_ups as no_driver}
 use Rattle.nutcore.specs.Step.{after_by, outcome_of, wants_driver_memory}
 use Rattle.nutcore.specs.History.{owed, held, taken_in_event, is_over}
+use Rattle.nutwords.specs.declared.limits.TheConstants.{LINE_LIMIT, LINE_ROOM, VALUE_LIMIT}
 
 -- What events leave, where memory is there.
 abbrev pub after_events : ServerState → List Event → ServerState
@@ -36,7 +37,9 @@ abbrev pub ask : List ℕ → Event
 ask line = Feed 1 (line ++ 10 ∷ [])
 
 abbrev pub two_variables : List ℕ
-two_variables = codes "BEGIN LIST VAR su\nVAR su battery.charge \"100\"\nVAR su ups.status \"OL\"\nEND LIST VAR su\n"
+two_variables =
+    codes "BEGIN LIST VAR su\nVAR su battery.charge \"100\"\n"
+    ++ codes "VAR su ups.status \"OL\"\nEND LIST VAR su\n"
 
 -- Two variables are listed in the order of their names.
 abbrev pub TwoVariables : Type 0
@@ -70,17 +73,21 @@ pub record TakenInFour : Type 0 where
 abbrev pub told : ServerState → List ℕ → List ℕ
 told s line = reply s 1 line
 
--- What a driver reports is whole lines, of which one may be empty, and a rest. A line has at most
--- 1,023 bytes: where an LF is byte 1,025, it is too late.
+-- A line of so many letters.
+abbrev pub letters : ℕ → List ℕ
+letters n = replicate n 120
+
+-- What a driver reports is whole lines, of which one may be empty, and a rest. Where an LF comes
+-- after more bytes than the longest line has, it is too late.
 pub record CutLines : Type 0 where
   pub lines : whole_lines (codes "PONG\nDATAOK\nSETIN") ≡ codes "PONG" ∷ codes "DATAOK" ∷ []
   pub rest : unfinished_after (codes "PONG\nDATAOK\nSETIN") ≡ codes "SETIN"
   pub empty_line : whole_lines (codes "\nPONG\n") ≡ [] ∷ codes "PONG" ∷ []
-  pub longest : whole_lines (replicate 1023 120 ++ 10 ∷ []) ≡ replicate 1023 120 ∷ []
-  pub too_late : whole_lines (codes "PONG\n" ++ replicate 1024 120 ++ codes "\nPONG\n")
+  pub longest : whole_lines (letters LINE_LIMIT ++ 10 ∷ []) ≡ letters LINE_LIMIT ∷ []
+  pub too_late : whole_lines (codes "PONG\n" ++ letters LINE_ROOM ++ codes "\nPONG\n")
       ≡ codes "PONG" ∷ []
-  pub still_open : is_too_long (unfinished_after (codes "PONG\n" ++ replicate 1023 120)) ≡ false
-  pub too_long : is_too_long (unfinished_after (codes "PONG\n" ++ replicate 1024 120)) ≡ true
+  pub still_open : is_too_long (unfinished_after (codes "PONG\n" ++ letters LINE_LIMIT)) ≡ false
+  pub too_long : is_too_long (unfinished_after (codes "PONG\n" ++ letters LINE_ROOM)) ≡ true
 
 abbrev pub from_driver : List ℕ → Event
 from_driver piece = DriverBytes (id_at 0) piece
@@ -96,10 +103,10 @@ pub record ToldInPieces : Type 0 where
       (after_events with_two_variables
       (from_driver (codes "SETINFO a 1\nSETINFO b") ∷ from_driver (codes " 2\n") ∷ []))
       (codes "GET VAR su b") ≡ codes "VAR su b \"2\"\n"
-  pub refused : outcome_of with_two_variables (from_driver (codes "HELLO\n" ++ replicate 1024 120))
+  pub refused : outcome_of with_two_variables (from_driver (codes "HELLO\n" ++ letters LINE_ROOM))
       ≡ Refused LineTooLong
   pub lost : ups_at 0
-      (after_events with_two_variables (from_driver (codes "HELLO\n" ++ replicate 1024 120) ∷ []))
+      (after_events with_two_variables (from_driver (codes "HELLO\n" ++ letters LINE_ROOM) ∷ []))
       ≡ Some (record no_driver { faulty = 1 })
   pub out_of_memory : ups_at 0
       (after_by with_two_variables (from_driver (codes "HELLO\nSETINFO a 1\nHELLO\n")) (Some 1))
@@ -111,18 +118,18 @@ pub record ToldInPieces : Type 0 where
   pub no_line : wants_driver_memory (id_at 0)
       (codes "HELLO\nSETINFO a 1\nHELLO") 2 with_two_variables ≡ false
 
--- A line of 1,023 bytes is a line. 1,024 bytes without an LF are refused, and the session is told
--- so and ends.
+-- The longest line is a line. As many bytes as it has with its LF, and none of them an LF, are
+-- refused, and the session is told so and ends.
 pub record LongestLine : Type 0 where
-  pub line : owed 1 (after_events with_two_variables (ask (replicate 1023 120) ∷ []))
+  pub line : owed 1 (after_events with_two_variables (ask (letters LINE_LIMIT) ∷ []))
       ≡ codes "ERR UNKNOWN-COMMAND\n"
-  pub fed : outcome_of with_two_variables (ask (replicate 1023 120)) ≡ Fed 1024
-  pub refused : outcome_of with_two_variables (Feed 1 (replicate 1024 120)) ≡ Refused LineTooLong
-  pub told : owed 1 (after_events with_two_variables (Feed 1 (replicate 1024 120) ∷ []))
+  pub fed : outcome_of with_two_variables (ask (letters LINE_LIMIT)) ≡ Fed LINE_ROOM
+  pub refused : outcome_of with_two_variables (Feed 1 (letters LINE_ROOM)) ≡ Refused LineTooLong
+  pub told : owed 1 (after_events with_two_variables (Feed 1 (letters LINE_ROOM) ∷ []))
       ≡ codes "ERR TOO-LONG\n"
-  pub nothing_held : held 1 (after_events with_two_variables (Feed 1 (replicate 1024 120) ∷ []))
+  pub nothing_held : held 1 (after_events with_two_variables (Feed 1 (letters LINE_ROOM) ∷ []))
       ≡ []
-  pub ends : is_over 1 (after_events with_two_variables (Feed 1 (replicate 1024 120) ∷ [])) ≡ true
+  pub ends : is_over 1 (after_events with_two_variables (Feed 1 (letters LINE_ROOM) ∷ [])) ≡ true
 
 -- Of three lines in one piece the second is blank: it is executed, and nothing is answered to it.
 pub record ThreeLines : Type 0 where
@@ -138,17 +145,26 @@ EscapedValue =
     (codes "GET VAR su ups.id") ≡ codes "VAR su ups.id \"a\\\"b\\\\c\"\n"
 
 abbrev pub with_faulty_lines : ServerState
-with_faulty_lines = with_driver_lines (codes "SETINFO ups.mode \"auto\"\nADDENUM nope \"x\"\nADDENUM ups.mode \"auto\"\nADDENUM ups.mode \"eco\"\nADDENUM ups.mode \"auto\"\nSETFLAGS ups.mode RW BLUE\nHELLO\nSETFLAGS ups.mode RW\nDUMPDONE\nDATAOK\n")
+with_faulty_lines = with_driver_lines (
+    codes "SETINFO ups.mode \"auto\"\nADDENUM nope \"x\"\n"
+    ++ codes "ADDENUM ups.mode \"auto\"\nADDENUM ups.mode \"eco\"\n"
+    ++ codes "ADDENUM ups.mode \"auto\"\nSETFLAGS ups.mode RW BLUE\nHELLO\n"
+    ++ codes "SETFLAGS ups.mode RW\nDUMPDONE\nDATAOK\n")
 
 abbrev pub with_items_taken_back : ServerState
-with_items_taken_back = after_events with_faulty_lines (DriverBytes (id_at 0) (codes "DELENUM ups.mode \"auto\"\nADDRANGE ups.mode 0 9\nADDRANGE ups.mode 20 30\nDELRANGE ups.mode 0 9\nADDCMD a\nADDCMD b\nDELCMD a\n") ∷ [])
+with_items_taken_back = after_events with_faulty_lines (DriverBytes (id_at 0) (
+    codes "DELENUM ups.mode \"auto\"\nADDRANGE ups.mode 0 9\n"
+    ++ codes "ADDRANGE ups.mode 20 30\nDELRANGE ups.mode 0 9\nADDCMD a\nADDCMD b\n"
+    ++ codes "DELCMD a\n") ∷ [])
 
 -- Faulty lines of a driver are counted, and change nothing; the others hold.
 pub record FaultyLines : Type 0 where
   pub counted : option_map (λ x. x.faulty) (ups_at 0 with_faulty_lines) ≡ Some 3
   pub type_words : told with_faulty_lines (codes "GET TYPE su ups.mode")
       ≡ codes "TYPE su ups.mode RW ENUM\n"
-  pub enum_values : told with_faulty_lines (codes "LIST ENUM su ups.mode") ≡ codes "BEGIN LIST ENUM su ups.mode\nENUM su ups.mode \"auto\"\nENUM su ups.mode \"eco\"\nEND LIST ENUM su ups.mode\n"
+  pub enum_values : told with_faulty_lines (codes "LIST ENUM su ups.mode")
+      ≡ codes "BEGIN LIST ENUM su ups.mode\nENUM su ups.mode \"auto\"\n"
+      ++ codes "ENUM su ups.mode \"eco\"\nEND LIST ENUM su ups.mode\n"
   pub one_enum_value : told with_items_taken_back (codes "LIST ENUM su ups.mode")
       ≡ codes "BEGIN LIST ENUM su ups.mode\nENUM su ups.mode \"eco\"\nEND LIST ENUM su ups.mode\n"
   pub one_command : told with_items_taken_back (codes "LIST CMD su")
@@ -203,8 +219,9 @@ abbrev pub pipelined : ServerState
 pipelined =
     after_events (with_driver_lines (codes "SETINFO ups.status OL\nDUMPDONE\nDATAOK\n"))
     (flat_map
-    (λ name. DriverBytes (id_at 0) (codes "SETINFO " ++ name ++ 32 ∷ (replicate 256 120 ++ 10 ∷ []))
-    ∷ []) (codes "a" ∷ codes "b" ∷ codes "c" ∷ codes "d" ∷ codes "e" ∷ codes "f" ∷ codes "g"
+    (λ name.
+    DriverBytes (id_at 0) (codes "SETINFO " ++ name ++ 32 ∷ (letters VALUE_LIMIT ++ 10 ∷ [])) ∷ [])
+    (codes "a" ∷ codes "b" ∷ codes "c" ∷ codes "d" ∷ codes "e" ∷ codes "f" ∷ codes "g"
     ∷ codes "h" ∷ [])
     ++ Feed 1 (codes "LIST VAR su\nGET VAR su ups.status\n")
     ∷ DriverBytes (id_at 0) (codes "SETINFO ups.status OB\n") ∷ [])

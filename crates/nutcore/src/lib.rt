@@ -18,11 +18,12 @@ pub use max_age::{MAX_AGE_DEFAULT, MAX_AGE_LEAST, MAX_AGE_MOST, MaxAge};
 pub use nutlisting::{OWED_LIMIT, Outbox, RING_LIMIT, SESSION_LIMIT};
 pub use nutusers::{Descriptions, UpsId, UpsList, Users};
 pub use nutwords::Bytes;
+use nutwords::LINE_ROOM;
 pub use server::Server;
 pub use visitor::Visitor;
 
-/// The most bytes of input that a session holds, and that may stand without an LF.
-pub const HELD_LIMIT: usize = 1024;
+/// The most bytes of input that a session holds: those of the longest line with its LF.
+pub const HELD_LIMIT: usize = LINE_ROOM;
 
 /// The most bytes that a driver is still to be sent.
 pub const DRIVER_OWED_LIMIT: usize = 2048;

@@ -11,6 +11,7 @@ use Rattle.std.proofs.lemmas.List.Folds.{list_all-append}
 use Rattle.nutwords.specs.Bytes.{is_lawful, is_name_byte, is_address_byte}
 use Rattle.nutwords.specs.Reading.{read_text, is_name, is_ups_name, is_address, is_value}
 use Rattle.nutwords.specs.Spelling.{with_backslashes, quoted}
+use Rattle.nutwords.specs.declared.limits.TheConstants.{VALUE_LIMIT, ADDRESS_LIMIT, NAME_LIMIT, UPS_NAME_LIMIT}
 
 -- each byte is lawful
 abbrev pub Lawful : List ℕ → Type 0
@@ -36,13 +37,13 @@ name_bytes (b ∷ bytes) h =
     and_from (is_lawful b) (list_all is_lawful bytes) (name_byte b p.0) (name_bytes bytes p.1)
 
 pub name_lawful : (bytes : List ℕ) → IsTrue (is_name bytes) → Lawful bytes
-name_lawful bytes h = name_bytes bytes (text_all is_name_byte false 64 bytes h)
+name_lawful bytes h = name_bytes bytes (text_all is_name_byte false NAME_LIMIT bytes h)
 
 pub ups_name_lawful : (bytes : List ℕ) → IsTrue (is_ups_name bytes) → Lawful bytes
-ups_name_lawful bytes h = name_bytes bytes (text_all is_name_byte false 32 bytes h)
+ups_name_lawful bytes h = name_bytes bytes (text_all is_name_byte false UPS_NAME_LIMIT bytes h)
 
 pub value_lawful : (bytes : List ℕ) → IsTrue (is_value bytes) → Lawful bytes
-value_lawful bytes h = text_all is_lawful true 256 bytes h
+value_lawful bytes h = text_all is_lawful true VALUE_LIMIT bytes h
 
 address_byte : (b : ℕ) → is_address_byte b ≡ true → is_lawful b ≡ true
 address_byte b h = grind (arith, nat_tests)
@@ -54,7 +55,7 @@ address_bytes (b ∷ bytes) h =
     and_from (is_lawful b) (list_all is_lawful bytes) (address_byte b p.0) (address_bytes bytes p.1)
 
 pub address_lawful : (bytes : List ℕ) → IsTrue (is_address bytes) → Lawful bytes
-address_lawful bytes h = address_bytes bytes (text_all is_address_byte false 64 bytes h)
+address_lawful bytes h = address_bytes bytes (text_all is_address_byte false ADDRESS_LIMIT bytes h)
 
 spelled : (v : Bool) (b : ℕ) → is_lawful b ≡ true → Lawful (cond v (92 ∷ b ∷ []) (b ∷ []))
 spelled true b h = byte_lawful 92 (b ∷ []) refl (byte_lawful b [] h refl)

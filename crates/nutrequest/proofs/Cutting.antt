@@ -4,6 +4,7 @@ use Rattle.std.proofs.lemmas.Bool.Decides.{nat_tests}
 use Rattle.std.specs.Option.{option_map}
 use Rattle.nutwords.specs.SplitLine.{split_line}
 use Rattle.nutrequest.specs.Lines.{lines, lines_from, Line, TooLong}
+use Rattle.nutwords.specs.declared.limits.TheConstants.{LINE_LIMIT, LINE_ROOM}
 
 -- a byte more before the first line
 abbrev with_byte : ℕ → Option (List ℕ × List ℕ) → Option (List ℕ × List ℕ)
@@ -20,11 +21,11 @@ some_same : {A : Type 0} {x y : A} → Some x ≡ Some y → x ≡ y
 some_same h = cc
 
 -- a byte more of a line that isn't whole
-held_more : (held : List ℕ) (b : ℕ) (bs : List ℕ) → eqb b 10 ≡ false → length held < 1023 → lines_from held (b ∷ bs) ≡ lines_from (held ++ b ∷ []) bs
-held_more held b bs e few = let h : leb 1023 (length held) ≡ false = grind (arith, nat_tests) in rw (e, h) refl
+held_more : (held : List ℕ) (b : ℕ) (bs : List ℕ) → eqb b 10 ≡ false → length held < LINE_LIMIT → lines_from held (b ∷ bs) ≡ lines_from (held ++ b ∷ []) bs
+held_more held b bs e few = let h : leb LINE_LIMIT (length held) ≡ false = grind (arith, nat_tests) in rw (e, h) refl
 
 -- the first line is whole and short enough
-pub lines_whole : (held bs line rest more : List ℕ) → split_line bs ≡ Some (line, rest) → length held + length line < 1024 → lines_from held (bs ++ more) ≡ Line (held ++ line) (rest ++ more) ∷ lines_from [] (rest ++ more)
+pub lines_whole : (held bs line rest more : List ℕ) → split_line bs ≡ Some (line, rest) → length held + length line < LINE_ROOM → lines_from held (bs ++ more) ≡ Line (held ++ line) (rest ++ more) ∷ lines_from [] (rest ++ more)
 lines_whole held [] line rest more h few = absurd (none-not_some h)
 lines_whole held (b ∷ bs) line rest more h few =
     elim (eqb b 10) as (λ v. eqb b 10 ≡ v → lines_from held (b ∷ (bs ++ more)) ≡ Line (held ++ line) (rest ++ more) ∷ lines_from [] (rest ++ more)) [
@@ -40,15 +41,15 @@ lines_whole held (b ∷ bs) line rest more h few =
         subst (λ l. lines_from held (b ∷ (bs ++ more)) ≡ Line (held ++ l) (rest ++ more) ∷ lines_from [] (rest ++ more)) p
         (subst (λ r. lines_from held (b ∷ (bs ++ more)) ≡ Line (held ++ []) (r ++ more) ∷ lines_from [] (r ++ more)) q (rw (e, append-nil) refl))
 
-    beyond : eqb b 10 ≡ false → ((l r : List ℕ) → split_line bs ≡ Some (l, r) → length (held ++ b ∷ []) + length l < 1024 → lines_from (held ++ b ∷ []) (bs ++ more) ≡ Line ((held ++ b ∷ []) ++ l) (r ++ more) ∷ lines_from [] (r ++ more))
+    beyond : eqb b 10 ≡ false → ((l r : List ℕ) → split_line bs ≡ Some (l, r) → length (held ++ b ∷ []) + length l < LINE_ROOM → lines_from (held ++ b ∷ []) (bs ++ more) ≡ Line ((held ++ b ∷ []) ++ l) (r ++ more) ∷ lines_from [] (r ++ more))
         → (o : Option (List ℕ × List ℕ)) → split_line bs ≡ o → lines_from held (b ∷ (bs ++ more)) ≡ Line (held ++ line) (rest ++ more) ∷ lines_from [] (rest ++ more)
     beyond e of_rest None q = absurd (none-not_some (sym (ap (with_byte b) q) ∙ sym (split_line-other b bs e) ∙ h))
     beyond e of_rest (Some s) q =
         let k : Some (b ∷ s.0, s.1) ≡ Some (line, rest) = sym (ap (with_byte b) q) ∙ sym (split_line-other b bs e) ∙ h in
         let p : b ∷ s.0 ≡ line = ap (λ (s : List ℕ × List ℕ). s.0) (some_same k) in
         let r : s.1 ≡ rest = ap (λ (s : List ℕ × List ℕ). s.1) (some_same k) in
-        let short : length held + length (b ∷ s.0) < 1024 = subst (λ l. length held + length l < 1024) (sym p) few in
-        let shorter : length (held ++ b ∷ []) + length s.0 < 1024 = omega (arith, length-append held (b ∷ [])) in
+        let short : length held + length (b ∷ s.0) < LINE_ROOM = subst (λ l. length held + length l < LINE_ROOM) (sym p) few in
+        let shorter : length (held ++ b ∷ []) + length s.0 < LINE_ROOM = omega (arith, length-append held (b ∷ [])) in
         subst (λ l. lines_from held (b ∷ (bs ++ more)) ≡ Line (held ++ l) (rest ++ more) ∷ lines_from [] (rest ++ more)) p
         (subst (λ r. lines_from held (b ∷ (bs ++ more)) ≡ Line (held ++ b ∷ s.0) (r ++ more) ∷ lines_from [] (r ++ more)) r
         (held_more held b (bs ++ more) e (omega arith)
@@ -67,31 +68,31 @@ none_more b bs h = elim (eqb b 10) as (λ v. eqb b 10 ≡ v → (eqb b 10 ≡ fa
     of_rest (Some s) k = absurd (none-not_some (sym k))
 
 -- no line is whole
-pub lines_open : (held bs : List ℕ) → split_line bs ≡ None → length held + length bs < 1024 → lines_from held bs ≡ []
+pub lines_open : (held bs : List ℕ) → split_line bs ≡ None → length held + length bs < LINE_ROOM → lines_from held bs ≡ []
 lines_open held [] h few = refl
 lines_open held (b ∷ bs) h few =
     let k = none_more b bs h in
-    let shorter : length (held ++ b ∷ []) + length bs < 1024 = omega (arith, length-append held (b ∷ [])) in
+    let shorter : length (held ++ b ∷ []) + length bs < LINE_ROOM = omega (arith, length-append held (b ∷ [])) in
     held_more held b bs k.0 (omega arith) ∙ lines_open (held ++ b ∷ []) bs k.1 shorter
 
 -- 1,024 bytes stand without LF
-pub lines_too_long : (n : ℕ) (held bs more : List ℕ) → split_line (take n bs) ≡ None → length held + n ≡ 1024 → 0 < n → n ≤ length bs → lines_from held (bs ++ more) ≡ TooLong ∷ []
+pub lines_too_long : (n : ℕ) (held bs more : List ℕ) → split_line (take n bs) ≡ None → length held + n ≡ LINE_ROOM → 0 < n → n ≤ length bs → lines_from held (bs ++ more) ≡ TooLong ∷ []
 lines_too_long zero held bs more h e some within = absurd (omega arith)
 lines_too_long (suc n) held [] more h e some within = absurd (omega arith)
 lines_too_long (suc zero) held (b ∷ bs) more h e some within =
     let k = none_more b [] h in
-    let full : leb 1023 (length held) ≡ true = grind (arith, nat_tests) in
+    let full : leb LINE_LIMIT (length held) ≡ true = grind (arith, nat_tests) in
     rw (k.0, full) refl
 lines_too_long (suc (suc n)) held (b ∷ bs) more h e some within =
     let k = none_more b (take (suc n) bs) h in
-    let longer : length (held ++ b ∷ []) + suc n ≡ 1024 = omega (arith, length-append held (b ∷ [])) in
+    let longer : length (held ++ b ∷ []) + suc n ≡ LINE_ROOM = omega (arith, length-append held (b ∷ [])) in
     held_more held b (bs ++ more) k.0 (omega arith) ∙ lines_too_long (suc n) (held ++ b ∷ []) bs more k.1 longer (omega arith) (omega arith)
 
-pub first_line : (old came kept line new : List ℕ) → kept ≡ old ++ came → split_line kept ≡ Some (line, new) → length line < 1024 → (more : List ℕ) → lines (old ++ (came ++ more)) ≡ Line line (new ++ more) ∷ lines (new ++ more)
+pub first_line : (old came kept line new : List ℕ) → kept ≡ old ++ came → split_line kept ≡ Some (line, new) → length line < LINE_ROOM → (more : List ℕ) → lines (old ++ (came ++ more)) ≡ Line line (new ++ more) ∷ lines (new ++ more)
 first_line old came kept line new same h few more = rw (← append_assoc) (subst (λ bs. lines (bs ++ more) ≡ Line line (new ++ more) ∷ lines (new ++ more)) same (lines_whole [] kept line new more h (omega arith)))
 
-pub first_too_long : (old came kept : List ℕ) → kept ≡ old ++ came → split_line (take 1024 kept) ≡ None → 1024 ≤ length kept → (more : List ℕ) → lines (old ++ (came ++ more)) ≡ TooLong ∷ []
-first_too_long old came kept same h long more = rw (← append_assoc) (subst (λ bs. lines (bs ++ more) ≡ TooLong ∷ []) same (lines_too_long 1024 [] kept more h refl (omega arith) long))
+pub first_too_long : (old came kept : List ℕ) → kept ≡ old ++ came → split_line (take LINE_ROOM kept) ≡ None → LINE_ROOM ≤ length kept → (more : List ℕ) → lines (old ++ (came ++ more)) ≡ TooLong ∷ []
+first_too_long old came kept same h long more = rw (← append_assoc) (subst (λ bs. lines (bs ++ more) ≡ TooLong ∷ []) same (lines_too_long LINE_ROOM [] kept more h refl (omega arith) long))
 
-pub first_open : (old kept : List ℕ) → kept ≡ old → split_line kept ≡ None → length kept < 1024 → lines old ≡ []
+pub first_open : (old kept : List ℕ) → kept ≡ old → split_line kept ≡ None → length kept < LINE_ROOM → lines old ≡ []
 first_open old kept same h few = subst (λ bs. lines bs ≡ []) same (lines_open [] kept h (omega arith))

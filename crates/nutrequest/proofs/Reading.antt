@@ -7,9 +7,10 @@ use Rattle.nutrequest.specs.declared.faults.ClientFault.{ClientFault}
 use Rattle.nutrequest.specs.declared.faults.ClientFault.TheVariants.{Connect, Read, Write, EarlyEnd, ErrWord, BadReply, BadTarget, Memory}
 use Rattle.nutio.proofs.PublicLaws.{received_joins, read_failed_joins}
 use Rattle.nutrequest.proofs.Cutting.{first_open}
+use Rattle.nutwords.specs.declared.limits.TheConstants.{LINE_ROOM}
 
 pub line_fails : {R : Type 0} (remaining : R → Option (List ℕ)) (failures : R → ℕ) (reader mid after : R) (old kept came new : List ℕ) (fault : ClientFault)
-    → Received remaining failures reader came mid → kept ≡ old ++ came → split_line kept ≡ None → length kept < 1024
+    → Received remaining failures reader came mid → kept ≡ old ++ came → split_line kept ≡ None → length kept < LINE_ROOM
     → FillGives remaining failures kept mid (Err fault) new after → LineGives remaining failures old reader (Err fault) new after
 line_fails remaining failures reader mid after old kept came new EarlyEnd h same none few f =
     (came ++ [], received_joins remaining failures reader mid after came [] h f.0, f.1, rw append-nil (first_open (old ++ came) kept same none few))

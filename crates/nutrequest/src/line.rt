@@ -3,15 +3,18 @@ ghost use Rattle.std.specs.Prelude.{◌≡◌, ◌+◌, ◌*◌, ◌≤◌, [], 
 ghost use Rattle.std.specs.List.{join_with_byte};
 ghost use Rattle.nutwords.specs.Frame.{line_of};
 ghost use Rattle.nutwords.specs.Spelling.{quoted};
-ghost use Rattle.nutwords.specs.declared.limits.TheConstants.{VALUE_LIMIT};
+ghost use Rattle.nutwords.specs.declared.limits.TheConstants.{LINE_LIMIT, NAME_LIMIT, VALUE_LIMIT};
 ghost use Rattle.nutrequest.specs.Request.{request_line, asked_words};
 
 use crate::{Query, Request};
 use arrayvec::ArrayVec;
-use nutwords::{Line, Name, UpsName, Value, quote_into};
+use nutwords::{Line, NAME_LIMIT, Name, UPS_NAME_LIMIT, UpsName, Value, quote_into};
 
-/// The most bytes of the words before a value: `SET VAR`, the names of a UPS and of a variable, three blanks.
-const FRONT_LIMIT: usize = 110;
+/// The most bytes of a request's first words, which no name follows yet: `USERNAME`, `PASSWORD`.
+const VERB_LIMIT: usize = 8;
+
+/// The most bytes of the words before a value: a verb, the names of a UPS and of a variable, two blanks.
+const FRONT_LIMIT: usize = VERB_LIMIT + 1 + UPS_NAME_LIMIT + 1 + NAME_LIMIT;
 
 /// The line that is sent for a request, with its LF.
 pub(crate) fn request_line(request: &Request) -> Line
@@ -53,7 +56,7 @@ fn count_line(ups: &UpsName) -> Line
 
 /// The first words of a line: the command, and the names of a UPS and of a variable or a command.
 fn named(command: &[u8], ups: &UpsName, name: &Name) -> Line
-    requires { length command.now ≤ 8 }
+    requires { length command.now ≤ VERB_LIMIT }
     ensures text { result.items ≡ join_with_byte 32 (command.now ∷ ups.now ∷ name.now ∷ []) }
     ensures short { length result.items ≤ FRONT_LIMIT }
 {
@@ -75,7 +78,7 @@ fn value_line(mut line: Line, value: &Value) -> Line
 
 /// A line's first words.
 fn first_word(word: &[u8]) -> Line
-    requires { length word.now ≤ 8 }
+    requires { length word.now ≤ VERB_LIMIT }
     ensures { result.items ≡ word.now }
 {
     let mut line = ArrayVec::new();
@@ -83,10 +86,10 @@ fn first_word(word: &[u8]) -> Line
     line
 }
 
-/// Appends a word of at most 64 bytes.
+/// Appends a word, which is at most as long as a name.
 fn push_word(line: &mut Line, word: &[u8])
     requires room { length line.old.items ≤ FRONT_LIMIT }
-    requires word { length word.now ≤ 64 }
+    requires word { length word.now ≤ NAME_LIMIT }
     ensures text { line.new.items ≡ line.old.items ++ 32 ∷ word.now }
     ensures short { length line.new.items ≡ length line.old.items + (1 + length word.now) }
 {
@@ -106,7 +109,7 @@ fn push_quoted(line: &mut Line, value: &[u8])
 
 /// The words and LF.
 fn ended(mut line: Line) -> Line
-    requires { length line.items ≤ 1000 }
+    requires { length line.items ≤ LINE_LIMIT }
     ensures { result.items ≡ line.items ++ 10 ∷ [] }
 {
     line.push(b'\n');

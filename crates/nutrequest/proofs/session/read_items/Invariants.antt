@@ -4,6 +4,7 @@ use Rattle.nutrequest.specs.Inbox.{unread}
 use Rattle.nutrequest.specs.Lines.{lines}
 use Rattle.nutrequest.specs.Reply.{items_from}
 use Rattle.nutrequest.proofs.session.read_items.Given as goal
+use Rattle.nutrequest.specs.declared.limits.TheConstants.{ITEM_LIMIT}
 
 -- What came is a front of the reply: with whatever stands after, it is the items so far and what is left to be read.
 abbrev pub invariant-loop-line : goal.invariant-loop-line
@@ -11,4 +12,4 @@ invariant-loop-line g l = (came : List ℕ) × Received g.R.Source.remaining g.R
     × ((more : List ℕ) → items_from l.query [] (lines (unread l.fn.inbox ++ (came ++ more))) ≡ items_from l.query l.items (lines (unread l.inbox ++ more)))
 
 abbrev pub decreases-loop-line : goal.decreases-loop-line
-decreases-loop-line g l = 65536 - length l.items
+decreases-loop-line g l = ITEM_LIMIT - length l.items

@@ -11,6 +11,7 @@ use Rattle.nutcore.specs.contracts.server.Server.{the_view}
 use Rattle.nutcore.proofs.Serving.{found_in, next_end_is, replies_text, replies_as}
 use Rattle.nutcore.proofs.Runs.{state_is}
 use Rattle.nutcore.proofs.server.Server.next_reply.Goals as goal
+use Rattle.nutlisting.specs.declared.outbox.TheConstants.{OWED_LIMIT}
 
 pub next_line-line-requires : goal.next_line-line-requires
 next_line-line-requires c =
@@ -24,7 +25,7 @@ returns-in-Err c =
     let x : SessionState = c.index-session.result.now in
     let found : session c.args.c s ≡ Some x = found_in c.args.c c.args.place (the_view c.self.inside).state s x (state_is c.self.view_is) c.requires.at c.index-session.ensures in
     let line : next_line x ≡ Some c.next_line-line.result.now = c.next_line-line.ensures.line in
-    let short : length c.line.result.now ≤ 2048 = omega (arith, c.line.ensures.short) in
+    let short : length c.line.result.now ≤ OWED_LIMIT = omega (arith, c.line.ensures.short) in
     let whole : IsLineOrNone c.line.result.now = subst IsLineOrNone (sym c.line.ensures.line) (inl (error_lines_are_whole c.in-Err.word)) in
     record {
       next = (
