@@ -23,6 +23,7 @@ mod Refused
 mod Places
 mod Serving
 mod EventSteps
+mod Deeds
 mod Runs
 mod DriverSteps
 mod Rows

@@ -17,7 +17,7 @@ after_lines-suc zero s c = refl
 after_lines-suc (suc k) s c = let e : suc k + 1 ≡ suc (k + 1) = omega arith in ap (λ n. after_lines n s c) e ∙ after_lines-suc k (after_line s c) c
 
 -- where the pump stops, nothing happens
-none_of : (o : Option (List ℕ)) → is_none o ≡ true → o ≡ None
+pub none_of : (o : Option (List ℕ)) → is_none o ≡ true → o ≡ None
 none_of None h = refl
 none_of (Some line) h = cc
 

@@ -3,6 +3,7 @@
 use Rattle.std.specs.Prelude.{◌≡◌, ℕ, ◌+◌, ◌-◌, List, [], ◌∷◌, length, drop}
 use Rattle.nutlisting.specs.Counts.{lines}
 use Rattle.nutcore.specs.declared.cost.Cost.{Cost}
+use Rattle.nutcore.specs.declared.deed.Deed.{Deed}
 use Rattle.nutcore.specs.declared.event.Event.{Event}
 use Rattle.nutcore.specs.declared.event.Outcome.{Outcome}
 use Rattle.nutcore.specs.declared.event.Event.TheVariants.{Feed, Took}
@@ -10,17 +11,18 @@ use Rattle.nutcore.specs.Server.{ServerState, session}
 use Rattle.nutcore.specs.Step.{offered, after}
 use Rattle.nutcore.specs.History.{taken_in_event}
 
--- A server as its callers see it, and what its last event cost.
+-- A server as its callers see it, what its last event cost, and what is told of that.
 pub record RunningServer : Type 0 where
   pub state : ServerState
   pub cost : Cost
+  pub deeds : List Deed
 
 abbrev pub no_cost : Cost
 no_cost = record { rendered = 0; placed = 0 }
 
 -- A server before any event.
 abbrev pub begun : ServerState → RunningServer
-begun s = record { state = s; cost = no_cost }
+begun s = record { state = s; cost = no_cost; deeds = [] }
 
 -- What is offered to a client before and after, and how many bytes it took: those that are offered
 -- after, and those taken, less those offered before, were placed. They are the last of those

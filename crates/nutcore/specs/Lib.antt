@@ -8,6 +8,7 @@ pub mod Pump
 pub mod Step
 pub mod Run
 pub mod History
+pub mod Deeds
 pub mod Cost
 pub mod Headline
 pub mod Isolation

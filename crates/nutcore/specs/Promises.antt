@@ -2,7 +2,7 @@
 -- none of it.
 use Rattle.std.specs.Prelude.{◌≡◌, ◌<◌, ◌≤◌, ◌-◌, ◌⊎◌, ◌==◌, ℕ, Bool, true, false, if◌then◌else◌}
 use Rattle.std.specs.Prelude.{List, [], Option, Some, None, Result, Ok, Err, IsTrue, length, drop}
-use Rattle.std.specs.Prelude.{take, map, slice_get}
+use Rattle.std.specs.Prelude.{take, map, slice_get, ◌++◌, ◌∷◌}
 use Rattle.std.specs.List.{position_or_len}
 use Rattle.nutcore.specs.declared.event.Fault.{Fault}
 use Rattle.nutcore.specs.declared.event.Fault.TheVariants.{NoSuchUps, NoSuchClient, TooManyClients}
@@ -26,7 +26,7 @@ use Rattle.nutcore.specs.Lines.{unfinished_after, is_too_long}
 use Rattle.nutcore.specs.Ups.{UpsState, free_room, after_loss, after_text, with_unfinished}
 use Rattle.nutcore.specs.Step.{after_driver_line, after_driver_text, wants_driver_memory}
 use Rattle.nutusers.specs.declared.ups_list.UpsId.{UpsId}
-use Rattle.std.specs.Option.{option_map}
+use Rattle.std.specs.Option.{option_map, option_and_then}
 use denote.Ref.{MutBor}
 use Rattle.std.specs.Fn.{Once, FnOnceTakesAtMut, FnOnceReturnsAtMut}
 use Rattle.nutcore.specs.Sound.{IsSoundUps}
@@ -34,7 +34,10 @@ use Rattle.nutcore.specs.Calls.{is_connected}
 use Rattle.nutcore.specs.Server.{ServerState, ups_at, with_ups_changed}
 use Rattle.nutcore.specs.Reply.{text_to, change_by, seen_client}
 use Rattle.nutcore.specs.declared.cost.Cost.{Cost}
-use Rattle.nutcore.specs.History.{owed}
+use Rattle.nutcore.specs.History.{owed, of_line}
+use Rattle.nutcore.specs.declared.deed.Deed.{Deed}
+use Rattle.nutcore.specs.declared.deed.TheConstants.{DEED_LIMIT}
+use Rattle.nutcore.specs.Deeds.{is_told, deed_read, deed_of}
 use Rattle.nutcore.specs.Cost.{RunningServer}
 use Rattle.nutcore.specs.Pump.{pumped, after_all_lines, after_lines, is_overlong, wants_memory}
 use Rattle.nutcore.specs.Pump.{shares_version_read, next_line_for}
@@ -274,3 +277,28 @@ KeepsCost c old new =
 -- the cost of an event after which these bytes are offered, so many of which were there before
 abbrev pub cost_beyond : ℕ → List ℕ → Cost
 cost_beyond kept after = record { rendered = lines (drop kept after); placed = length after - kept }
+
+-- a line that is answered so is told
+abbrev pub is_told_by : ServerState → Reply → Bool
+is_told_by s (One text change) = is_told s text.now change
+is_told_by s (Many listing) = false
+is_told_by s (Clients name u) = false
+
+-- what is told of it, where it is
+abbrev pub deed_in_reply : Bool → ℕ → List ℕ → Reply → Option Deed
+deed_in_reply told c line (One text change) =
+    if told then deed_read c (read_command line) text.now else None
+deed_in_reply told c line (Many listing) = None
+deed_in_reply told c line (Clients name u) = None
+
+-- the deeds, and one more, as many as are noted
+abbrev pub with_deed : Option Deed → List Deed → List Deed
+with_deed None deeds = deeds
+with_deed (Some deed) deeds = take DEED_LIMIT (deeds ++ deed ∷ [])
+
+-- what is told of the client's next line, if it may be executed
+abbrev pub told_next : ServerState → ℕ → Option (List ℕ) → Option Deed
+told_next s c next = option_and_then (λ line. deed_of (of_line s c line)) next
+
+abbrev pub with_next : ServerState → ℕ → List Deed → List Deed
+with_next s c deeds = with_deed (told_next s c (next_line_for s c)) deeds

@@ -2,6 +2,7 @@
 #![tactic(auto)]
 
 mod cost;
+mod deed;
 mod event;
 pub mod laws;
 mod lines;
@@ -13,6 +14,7 @@ mod ups;
 mod visitor;
 
 pub use cost::Cost;
+pub use deed::{DEED_LIMIT, Deed, Verb};
 pub use event::{ClientId, Event, Fault, Outcome, Peer};
 pub use max_age::{MAX_AGE_DEFAULT, MAX_AGE_LEAST, MAX_AGE_MOST, MaxAge};
 pub use nutlisting::{OWED_LIMIT, Outbox, RING_LIMIT, SESSION_LIMIT};

@@ -8,6 +8,7 @@ ghost use Rattle.nutusers.specs.UpsList.{place_of, id_at};
 ghost use Rattle.nutcore.specs.Step.{Step, offered};
 ghost use Rattle.nutcore.specs.Run.{Run};
 ghost use Rattle.nutcore.specs.Cost.{begun, no_cost, last_cost, Costs};
+ghost use Rattle.nutcore.specs.Deeds.{IsNoted};
 ghost use Rattle.nutcore.specs.Sound.{IsSound};
 ghost use Rattle.nutcore.specs.History.{owed};
 ghost use Rattle.nutcore.specs.Headline.{SentAndOwed, TakenUp, Serves};
@@ -24,6 +25,7 @@ mod view;
 
 use self::drivers::ping_upses;
 use crate::cost::Cost;
+use crate::deed::{Deed, Deeds};
 use crate::event::{ClientId, Event, Fault, Outcome};
 use crate::max_age::MaxAge;
 use crate::scratch::Scratch;
@@ -51,6 +53,8 @@ pub struct Server {
     scratch: Scratch,
     /// How many bytes the last event placed.
     placed: usize,
+    /// What is told of the last event.
+    deeds: Deeds,
 }
 
 impl Model for Server {
@@ -61,7 +65,7 @@ impl Model for Server {
 
     ghost Value = { RunningServer };
 
-    ghost view = { λ s. record { state = record { moment = s.moment; max_age = s.max_age; list = s.list; users = s.users; descriptions = s.descriptions; upses = s.upses.items; sessions = s.sessions.items; next_id = s.last_id + 1 }; cost = record { rendered = s.scratch.renders; placed = s.placed } } };
+    ghost view = { λ s. record { state = record { moment = s.moment; max_age = s.max_age; list = s.list; users = s.users; descriptions = s.descriptions; upses = s.upses.items; sessions = s.sessions.items; next_id = s.last_id + 1 }; cost = record { rendered = s.scratch.renders; placed = s.placed }; deeds = s.deeds } };
 
     ghost invariant = { λ s. record {
       sound : IsSound (record { moment = s.moment; max_age = s.max_age; list = s.list; users = s.users; descriptions = s.descriptions; upses = s.upses.items; sessions = s.sessions.items; next_id = s.last_id + 1 });
@@ -89,6 +93,7 @@ impl Server {
         }
         let sessions = Vec::with_capacity(alloc, SESSION_LIMIT)?;
         let scratch = Scratch::new(alloc)?;
+        let deeds = Deeds::new(alloc)?;
         Ok(Server {
             alloc,
             moment: 0,
@@ -101,6 +106,7 @@ impl Server {
             last_id: 0,
             scratch,
             placed: 0,
+            deeds,
         })
     }
 
@@ -122,13 +128,23 @@ impl Server {
         }
     }
 
-    /// Nothing is rendered or placed yet.
+    /// What is told of the last event beside its answers, in its order: of each forced shutdown that a client set and each
+    /// order that it gave, and of each login, forced shutdown or order that was refused. All are of one session.
+    pub fn deeds(&self) -> &[Deed]
+        ensures { result.now ≡ self.now.deeds }
+    {
+        self.deeds.as_slice()
+    }
+
+    /// Nothing is rendered, placed or noted yet.
     fn forget_cost(&mut self)
         ensures state { self.new.state ≡ self.old.state }
         ensures none { self.new.cost ≡ no_cost }
+        ensures deeds { self.new.deeds ≡ [] }
     {
         self.scratch.renders = Renders::new();
         self.placed = 0;
+        self.deeds.clear();
     }
 
     /// The UPS of this name.
@@ -147,6 +163,7 @@ impl Server {
     pub fn driver_up(&mut self, u: UpsId) -> Result<(), Fault>
         ensures served { Serves self.old.state (Event.DriverUp u) (done result) self.new.state }
         ensures cost { Costs self.old (Event.DriverUp u) self.new }
+        ensures deeds { self.new.deeds ≡ [] }
         ensures no_memory { (k : ℕ) → result ≢ Err (Fault.Memory k) }
     {
         self.forget_cost();
@@ -171,6 +188,7 @@ impl Server {
         ensures served { Serves self.old.state (Event.DriverBytes u piece.now)
             (done result) self.new.state }
         ensures cost { Costs self.old (Event.DriverBytes u piece.now) self.new }
+        ensures deeds { self.new.deeds ≡ [] }
     {
         self.forget_cost();
         self.connected(u)?;
@@ -217,6 +235,7 @@ impl Server {
     pub fn driver_took(&mut self, u: UpsId, n: usize) -> Result<(), Fault>
         ensures served { Serves self.old.state (Event.DriverTook u n) (done result) self.new.state }
         ensures cost { Costs self.old (Event.DriverTook u n) self.new }
+        ensures deeds { self.new.deeds ≡ [] }
         ensures no_memory { (k : ℕ) → result ≢ Err (Fault.Memory k) }
     {
         self.forget_cost();
@@ -232,6 +251,7 @@ impl Server {
     pub fn driver_down(&mut self, u: UpsId) -> Result<(), Fault>
         ensures served { Serves self.old.state (Event.DriverDown u) (done result) self.new.state }
         ensures cost { Costs self.old (Event.DriverDown u) self.new }
+        ensures deeds { self.new.deeds ≡ [] }
         ensures no_memory { (k : ℕ) → result ≢ Err (Fault.Memory k) }
     {
         self.forget_cost();
@@ -247,6 +267,7 @@ impl Server {
     pub fn tick(&mut self, seconds: u64)
         ensures served { Serves self.old.state (Event.Tick seconds) Outcome.Done self.new.state }
         ensures cost { Costs self.old (Event.Tick seconds) self.new }
+        ensures deeds { self.new.deeds ≡ [] }
     {
         self.forget_cost();
         self.moment = seconds.max(self.moment);
@@ -275,6 +296,7 @@ impl Server {
         ensures served { Serves self.old.state (Event.Open address)
             (opened_as result) self.new.state }
         ensures cost { Costs self.old (Event.Open address) self.new }
+        ensures deeds { self.new.deeds ≡ [] }
     {
         self.forget_cost();
         if self.sessions.len() >= SESSION_LIMIT || self.last_id == u64::MAX {
@@ -314,6 +336,8 @@ impl Server {
         ensures served { Serves self.old.state (Event.Feed c piece.now)
             (fed result) self.new.state }
         ensures cost { Costs self.old (Event.Feed c piece.now) self.new }
+        ensures deeds { IsNoted self.new.deeds self.old.state (Event.Feed c piece.now)
+            (fed result) }
     {
         self.forget_cost();
         let place = self.place_of(c)?;
@@ -378,6 +402,7 @@ impl Server {
     pub fn took(&mut self, c: ClientId, n: usize) -> Result<(), Fault>
         ensures served { Serves self.old.state (Event.Took c n) (done result) self.new.state }
         ensures cost { Costs self.old (Event.Took c n) self.new }
+        ensures deeds { IsNoted self.new.deeds self.old.state (Event.Took c n) (done result) }
     {
         self.forget_cost();
         let place = self.place_of(c)?;
@@ -409,6 +434,7 @@ impl Server {
     pub fn close(&mut self, c: ClientId) -> Result<(), Fault>
         ensures served { Serves self.old.state (Event.Close c) (done result) self.new.state }
         ensures cost { Costs self.old (Event.Close c) self.new }
+        ensures deeds { self.new.deeds ≡ [] }
         ensures no_memory { (k : ℕ) → result ≢ Err (Fault.Memory k) }
     {
         self.forget_cost();

@@ -35,7 +35,7 @@ impl<'a> UpsWord<'a> {
     }
 
     /// What it names.
-    pub(crate) fn read(&self) -> Option<UpsName>
+    pub fn read(&self) -> Option<UpsName>
         ensures { result ≡ self.now }
     {
         self.word.ups_name().ok()
@@ -73,7 +73,7 @@ impl<'a> NameWord<'a> {
     }
 
     /// What it names.
-    pub(crate) fn read(&self) -> Option<Name>
+    pub fn read(&self) -> Option<Name>
         ensures { result ≡ self.now }
     {
         self.word.name().ok()

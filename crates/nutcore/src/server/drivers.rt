@@ -55,6 +55,7 @@ impl Server {
         requires sound { KeepsUpsSound F.FnOnce f u self.old.state }
         ensures changes { ChangesUps F.FnOnce f u self.old.state result self.new.state }
         ensures cost { self.new.cost ≡ self.old.cost }
+        ensures deeds { self.new.deeds ≡ self.old.deeds }
     {
         f(&mut self.upses[u.place as usize])
     }
@@ -78,6 +79,7 @@ impl Server {
             (front_or length piece.now x.unfinished) x self.old.state result self.new.state) }
         ensures connected { option_map is_connected (ups_at u.place self.new.state) ≡ Some true }
         ensures cost { self.new.cost ≡ self.old.cost }
+        ensures deeds { self.new.deeds ≡ self.old.deeds }
     {
         lawful_lines_keep_trees_sound();
         each_line_keeps_the_tree_sound();
@@ -102,6 +104,7 @@ impl Server {
             (λ x. ReadsDriverLine u piece.now done x self.old.state result self.new.state) }
         ensures connected { option_map is_connected (ups_at u.place self.new.state) ≡ Some true }
         ensures cost { self.new.cost ≡ self.old.cost }
+        ensures deeds { self.new.deeds ≡ self.old.deeds }
     {
         match self.with_ups(u, |ups| ups.find_line(piece)) {
             Found::InPiece(length) => match self.execute_driver_line(u, piece, Some(length)) {
@@ -124,6 +127,7 @@ impl Server {
             self.old.state result self.new.state) }
         ensures connected { option_map is_connected (ups_at u.place self.new.state) ≡ Some true }
         ensures cost { self.new.cost ≡ self.old.cost }
+        ensures deeds { self.new.deeds ≡ self.old.deeds }
     {
         let mut rest = piece;
         let mut done = 0;
@@ -150,6 +154,7 @@ impl Server {
         ensures told { OfUps u self.old.state (λ x. IsTold u (x.unfinished ++ piece.now)
             self.old.state result self.new.state) }
         ensures cost { self.new.cost ≡ self.old.cost }
+        ensures deeds { self.new.deeds ≡ self.old.deeds }
     {
         lawful_lines_keep_trees_sound();
         each_line_keeps_the_tree_sound();

@@ -1,19 +1,21 @@
 //! The pump: which of a session's lines are executed, and what each does.
-ghost use Rattle.std.specs.Prelude.{◌≡◌, ◌≤◌, ◌<◌, length, slice_get, OnOk, OnErr, IsTrue, Some, None};
+ghost use Rattle.std.specs.Prelude.{◌≡◌, ◌≤◌, ◌<◌, length, slice_get, OnOk, OnErr, IsTrue, Some, None, []};
 ghost use Rattle.std.specs.Option.{option_map};
 ghost use Rattle.nutcore.specs.Server.{session, changed_at};
 ghost use Rattle.nutcore.specs.Pump.{next_line_for, after_line, held_of, wants_memory};
-ghost use Rattle.nutcore.specs.History.{owed};
+ghost use Rattle.nutcore.specs.History.{owed, executions_until};
+ghost use Rattle.nutcore.specs.Deeds.{deeds_of};
 ghost use Rattle.nutcore.specs.Ups.{with_fsd, with_order};
 ghost use Rattle.nutcore.specs.Ups.{UpsState};
 ghost use Rattle.nutcore.specs.Calls.{done};
-ghost use Rattle.nutcore.specs.Step.{offered};
-ghost use Rattle.nutcore.specs.Promises.{IsAt, TakesLine, OrderFits, PumpGives, RepliesOrLacks, ListsClients, change_in, IsText, NextIs, IsCounted, KeepsCost, cost_beyond};
+ghost use Rattle.nutcore.specs.Step.{offered, refused_after};
+ghost use Rattle.nutcore.specs.Promises.{IsAt, TakesLine, OrderFits, PumpGives, RepliesOrLacks, ListsClients, change_in, IsText, NextIs, IsCounted, KeepsCost, cost_beyond, is_told_by, with_next};
 ghost use Rattle.nutcore.specs.Reply.{changed_upses};
 ghost use Rattle.nutlisting.specs.declared.listing.clients.TheConstants.{SESSION_LIMIT};
 ghost use Rattle.nutcore.specs.declared.TheConstants.{HELD_LIMIT};
 
 use super::Server;
+use crate::deed::{is_refusal, note};
 use crate::event::{ClientId, Fault};
 use crate::session::Session;
 use crate::ups::Ups;
@@ -47,12 +49,28 @@ impl Server {
         }
     }
 
+    /// Whether a line that is answered so is told: it sets a forced shutdown that isn't set, it is an order to a driver, or it
+    /// is refused.
+    fn is_told(&self, reply: &Reply<'_>) -> bool
+        ensures { result ≡ is_told_by self.now.state reply.now }
+    {
+        let Reply::One(text, change) = reply else {
+            return false;
+        };
+        match change {
+            Change::Fsd(u) => !self.forced_shutdown(*u).unwrap_or(false),
+            Change::Order(_, _) => true,
+            _ => is_refusal(text),
+        }
+    }
+
     /// Does what an answer changes of the UPSs.
     pub(super) fn change_upses(&mut self, reply: &Reply<'_>)
         requires fits { OrderFits (change_in reply.now) self.old.state.upses }
         ensures changed { self.new.state ≡ record self.old.state
             { upses = changed_upses (change_in reply.now) self.old.state.upses } }
         ensures cost { self.new.cost ≡ self.old.cost }
+        ensures deeds { self.new.deeds ≡ self.old.deeds }
     {
         let Reply::One(_, change) = reply else {
             return;
@@ -79,10 +97,21 @@ impl Server {
         ensures err { OnErr result (self.new.state ≡ self.old.state) }
         ensures memory { OnErr result (IsTrue (wants_memory self.old.state c)) }
         ensures keeps { KeepsCost c self.old self.new }
+        ensures noted { OnOk result (self.new.deeds ≡ with_next self.old.state c self.old.deeds) }
+        ensures unnoted { OnErr result (self.new.deeds ≡ self.old.deeds) }
     {
         let mut line = Line::new();
         let reply = self.next_reply(c, place, end, &mut line)?;
+        let is_told = self.is_told(&reply);
         self.change_upses(&reply);
+        note(
+            is_told,
+            c,
+            &self.sessions[place],
+            end,
+            &reply,
+            &mut self.deeds,
+        );
         list_clients(&self.sessions, &reply, &mut self.scratch.clients);
         let session = &mut self.sessions[place];
         session.answer(reply, end, &mut self.scratch);
@@ -94,7 +123,10 @@ impl Server {
     pub(super) fn pump(&mut self, c: ClientId, place: usize) -> Result<(), Fault>
         requires at { IsAt c place self.old.state.sessions }
         requires short { length (held_of (session c self.old.state)) ≤ HELD_LIMIT }
+        requires unnoted { self.old.deeds ≡ [] }
         ensures gives { PumpGives self.old.state c result self.new.state }
+        ensures deeds { self.new.deeds
+            ≡ deeds_of (executions_until self.old.state c (refused_after (done result))) }
         ensures keeps { KeepsCost c self.old self.new }
         ensures at { IsAt c place self.new.state.sessions }
     {
@@ -114,8 +146,11 @@ impl Server {
     pub(super) fn serve(&mut self, c: ClientId, place: usize, kept: usize) -> Result<(), Fault>
         requires at { IsAt c place self.old.state.sessions }
         requires short { length (held_of (session c self.old.state)) ≤ HELD_LIMIT }
+        requires unnoted { self.old.deeds ≡ [] }
         requires counted { IsCounted kept (owed c self.old.state) self.old.cost.rendered }
         ensures gives { PumpGives self.old.state c result self.new.state }
+        ensures deeds { self.new.deeds
+            ≡ deeds_of (executions_until self.old.state c (refused_after (done result))) }
         ensures within { kept ≤ length (offered (session c self.new.state)) }
         ensures cost { self.new.cost ≡ cost_beyond kept (offered (session c self.new.state)) }
     {

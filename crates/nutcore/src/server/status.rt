@@ -1,11 +1,12 @@
 //! What is told of the server beside the answers to clients.
 ghost use Rattle.std.specs.Prelude.{◌≡◌, option_map, slice_get};
 ghost use Rattle.nutcore.specs.Calls.{ReadsUps};
-ghost use Rattle.nutcore.specs.Server.{ups_at};
+ghost use Rattle.nutcore.specs.Server.{session, ups_at};
 ghost use Rattle.nutcore.specs.Status.{has_usable_data, visitor_of, visitor_seen};
 
 use super::Server;
-use crate::event::Fault;
+use crate::event::{ClientId, Fault};
+use crate::session::Session;
 use crate::visitor::Visitor;
 use nutusers::UpsId;
 
@@ -64,12 +65,28 @@ impl Server {
             ≡ option_map visitor_of (slice_get self.now.state.sessions place) }
     {
         let session = self.sessions.get(place)?;
-        let asker = session.asker();
-        Some(Visitor {
-            id: session.id(),
-            address: session.address(),
-            username: asker.username,
-            login: asker.login,
-        })
+        Some(visitor_in(session))
+    }
+
+    /// Who has the open session of this id.
+    pub fn visitor_of(&self, c: ClientId) -> Option<Visitor<'_>>
+        ensures { option_map visitor_seen result
+            ≡ option_map visitor_of (session c self.now.state) }
+    {
+        let session = self.session(c).ok()?;
+        Some(visitor_in(session))
+    }
+}
+
+/// Who has the session.
+fn visitor_in(session: &Session) -> Visitor<'_>
+    ensures { visitor_seen result ≡ visitor_of session.now }
+{
+    let asker = session.asker();
+    Visitor {
+        id: session.id(),
+        address: session.address(),
+        username: asker.username,
+        login: asker.login,
     }
 }

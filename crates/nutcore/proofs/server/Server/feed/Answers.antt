@@ -1,14 +1,15 @@
-use Rattle.std.proofs.Common.{Result, Ok, Err, ◌≡◌, ◌≤◌, ◌∙◌, Option, Some, ℕ, false, ap, sym, subst, length}
+use Rattle.std.proofs.Common.{Result, Ok, Err, ◌≡◌, ◌≤◌, ◌∙◌, Option, Some, None, ℕ, false, ap, sym, subst, length}
 use Rattle.std.proofs.lemmas.Result.{err_from_is_err_and}
 use Rattle.nutcore.specs.declared.event.Event.TheVariants.{Feed}
 use Rattle.nutcore.proofs.Common.{Fault, SessionState, ServerState, session}
 use Rattle.nutcore.specs.Calls.{fed as outcome_of_feed}
 use Rattle.nutcore.specs.Headline.{Serves}
 use Rattle.nutcore.specs.declared.cost.Cost.{Cost}
-use Rattle.nutcore.specs.declared.event.Outcome.TheVariants.{Fed}
+use Rattle.nutcore.specs.declared.event.Outcome.TheVariants.{Fed, Refused}
 use Rattle.nutcore.specs.declared.TheConstants.{HELD_LIMIT}
 use Rattle.nutcore.specs.Pump.{held_of, owed_of}
-use Rattle.nutcore.specs.Step.{with_input, offered, fed_by}
+use Rattle.nutcore.specs.Step.{with_input, offered, fed_by, refused_after}
+use Rattle.nutcore.specs.Deeds.{IsNoted}
 use Rattle.nutcore.specs.Cost.{RunningServer}
 use Rattle.nutcore.specs.Promises.{IsCounted}
 use Rattle.nutcore.specs.contracts.server.Server.{the_view}
@@ -18,6 +19,7 @@ use Rattle.nutcore.proofs.Found.{find_id}
 use Rattle.nutcore.proofs.KeptSound.{session_kept, joined_kept}
 use Rattle.nutcore.proofs.EventSteps.{with_input_is, feed_absent, feed_gives}
 use Rattle.nutcore.proofs.Costs.{counts_none, of_set, refused_feed_costs, feed_costs}
+use Rattle.nutcore.proofs.Deeds.{fed_absent, fed_noted}
 use Rattle.nutcore.proofs.server.Server.feed.Goals as goal
 
 pub returns-in_err-place : goal.returns-in_err-place
@@ -29,6 +31,8 @@ returns-in_err-place c =
       served = subst (λ (r : Result ℕ Fault). Serves c.args.self.now.state (Feed c.args.c c.args.piece.now) (outcome_of_feed r) s) (sym (p.1 ∙ ap Err (p.2 ∙ found.0)))
           (served_from _ _ _ _ _ c.forget_cost.ensures.state c.place_of.ensures.lawful (feed_absent s c.args.c c.args.piece.now found.1));
       cost = c.forget_cost.ensures.none ∙ refused_feed_costs c.args.self.now.state s c.args.c c.args.piece.now c.forget_cost.ensures.state;
+      deeds = subst (λ (r : Result ℕ Fault). IsNoted c.forget_cost.new.self.deeds c.args.self.now.state (Feed c.args.c c.args.piece.now) (outcome_of_feed r)) (sym (p.1 ∙ ap Err (p.2 ∙ found.0)))
+          (fed_absent c.args.self.now.state s c.args.c c.args.piece.now c.forget_cost.new.self.deeds c.forget_cost.ensures.state found.1 c.forget_cost.ensures.deeds);
     }
 
 pub invariant_of-self : goal.invariant_of-self
@@ -49,6 +53,7 @@ serve-requires c =
     let none : c.self.inside.scratch.renders ≡ 0 = ap (λ (r : RunningServer). r.cost.rendered) c.self.view_is ∙ ap (λ (k : Cost). k.rendered) c.forget_cost.ensures.none in
     let before : IsCounted c.offered-kept.result x.owed c.self.inside.scratch.renders = subst (λ (k : ℕ). IsCounted k x.owed c.self.inside.scratch.renders) (sym c.offered-kept.ensures) (counts_none x.owed c.self.inside.scratch.renders none) in
     record {
+      unnoted = ap (λ (r : RunningServer). r.deeds) c.self.view_is ∙ c.forget_cost.ensures.deeds;
       at = at_set c.args.c c.in_ok-place.place v.sessions c.join-count.new.self here.at (c.join-count.ensures.id ∙ find_id c.args.c v.sessions x here.found);
       short = of_set (λ o. length (held_of o) ≤ HELD_LIMIT) v c.args.c c.in_ok-place.place x c.join-count.new.self here.at here.found c.join-count.ensures.id c.join-count.ensures.short;
       counted = of_set (λ o. IsCounted c.offered-kept.result (owed_of o) c.self.inside.scratch.renders) v c.args.c c.in_ok-place.place x c.join-count.new.self here.at here.found c.join-count.ensures.id
@@ -69,6 +74,7 @@ returns c =
       served = served_from _ _ _ _ _ c.forget_cost.ensures.state c.place_of.ensures.lawful
           (feed_gives s _ c.serve.new.self.state c.args.c c.args.piece.now x c.join-count.result (Ok tt) found fed count c.in_ok-serve.ensures.gives);
       cost = c.in_ok-serve.ensures.cost ∙ feed_costs c.args.self.now.state s c.serve.new.self.state c.args.c c.offered-kept.result c.args.piece.now c.forget_cost.ensures.state kept c.in_ok-serve.ensures.within;
+      deeds = fed_noted c.args.self.now.state s _ c.args.c c.args.piece.now None c.serve.new.self.deeds c.forget_cost.ensures.state fed c.in_ok-serve.ensures.deeds;
     }
 
 pub returns-in_err-serve : goal.returns-in_err-serve
@@ -86,4 +92,6 @@ returns-in_err-serve c =
       served = subst (λ (r : Result ℕ Fault). Serves c.args.self.now.state (Feed c.args.c c.args.piece.now) (outcome_of_feed r) c.serve.new.self.state) (sym (p.1 ∙ ap Err p.2))
           (served_from _ _ _ _ _ c.forget_cost.ensures.state c.place_of.ensures.lawful (feed_gives s _ c.serve.new.self.state c.args.c c.args.piece.now x c.join-count.result (Err c.in_err-serve.field-0.0) found fed count c.in_err-serve.ensures.gives));
       cost = c.in_err-serve.ensures.cost ∙ feed_costs c.args.self.now.state s c.serve.new.self.state c.args.c c.offered-kept.result c.args.piece.now c.forget_cost.ensures.state kept c.in_err-serve.ensures.within;
+      deeds = subst (λ (r : Result ℕ Fault). IsNoted c.serve.new.self.deeds c.args.self.now.state (Feed c.args.c c.args.piece.now) (outcome_of_feed r)) (sym (p.1 ∙ ap Err p.2))
+          (fed_noted c.args.self.now.state s _ c.args.c c.args.piece.now (refused_after (Refused c.in_err-serve.field-0.0)) c.serve.new.self.deeds c.forget_cost.ensures.state fed c.in_err-serve.ensures.deeds);
     }

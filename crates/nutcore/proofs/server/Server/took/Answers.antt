@@ -1,4 +1,4 @@
-use Rattle.std.proofs.Common.{Result, Err, ◌≡◌, ◌≤◌, ◌-◌, ◌∙◌, Option, Some, ℕ, true, false, ap, sym, subst, length, arith}
+use Rattle.std.proofs.Common.{Result, Err, ◌≡◌, ◌≤◌, ◌-◌, ◌∙◌, Option, Some, None, ℕ, true, false, ap, sym, subst, length, arith}
 use Rattle.std.proofs.lemmas.Result.{err_from_is_err_and}
 use Rattle.nutcore.specs.declared.event.Event.TheVariants.{Took}
 use Rattle.nutcore.proofs.Common.{Fault, SessionState, ServerState, session}
@@ -7,7 +7,8 @@ use Rattle.nutcore.specs.Headline.{Serves}
 use Rattle.nutcore.specs.declared.cost.Cost.{Cost}
 use Rattle.nutcore.specs.declared.TheConstants.{HELD_LIMIT}
 use Rattle.nutcore.specs.Pump.{held_of, owed_of}
-use Rattle.nutcore.specs.Step.{without_output, offered, may_take}
+use Rattle.nutcore.specs.Step.{without_output, offered, may_take, refused_after}
+use Rattle.nutcore.specs.Deeds.{IsNoted}
 use Rattle.nutcore.specs.Cost.{RunningServer}
 use Rattle.nutcore.specs.Promises.{IsCounted}
 use Rattle.nutcore.specs.contracts.server.Server.{the_view}
@@ -17,6 +18,7 @@ use Rattle.nutcore.proofs.Found.{find_id}
 use Rattle.nutcore.proofs.KeptSound.{session_kept, taken_kept}
 use Rattle.nutcore.proofs.EventSteps.{without_output_is, took_absent, took_much, took_gives}
 use Rattle.nutcore.proofs.Costs.{of_set, refused_take_costs, take_costs}
+use Rattle.nutcore.proofs.Deeds.{took_never, took_noted}
 use Rattle.nutcore.proofs.server.Server.took.Goals as goal
 
 pub returns-in_err-place : goal.returns-in_err-place
@@ -28,6 +30,8 @@ returns-in_err-place c =
       served = subst (λ (r : Result (Unit {0}) Fault). Serves c.args.self.now.state (Took c.args.c c.args.n) (done r) s) (sym (p.1 ∙ ap Err (p.2 ∙ found.0)))
           (served_from _ _ _ _ _ c.forget_cost.ensures.state c.place_of.ensures.lawful (took_absent s c.args.c c.args.n found.1));
       cost = c.forget_cost.ensures.none ∙ refused_take_costs c.args.self.now.state s c.args.c c.args.n c.forget_cost.ensures.state (ap (λ (o : Option SessionState). may_take o c.args.n) found.1);
+      deeds = subst (λ (r : Result (Unit {0}) Fault). IsNoted c.forget_cost.new.self.deeds c.args.self.now.state (Took c.args.c c.args.n) (done r)) (sym (p.1 ∙ ap Err (p.2 ∙ found.0)))
+          (took_never c.args.self.now.state s c.args.c c.args.n None c.forget_cost.new.self.deeds c.forget_cost.ensures.state (ap (λ (o : Option SessionState). may_take o c.args.n) found.1) c.forget_cost.ensures.deeds);
     }
 
 pub returns-then-n-offered : goal.returns-then-n-offered
@@ -40,6 +44,7 @@ returns-then-n-offered c =
     record {
       served = served_from _ _ _ _ _ c.forget_cost.ensures.state c.place_of.ensures.lawful (took_much s c.args.c c.args.n x found never);
       cost = c.forget_cost.ensures.none ∙ refused_take_costs c.args.self.now.state s c.args.c c.args.n c.forget_cost.ensures.state never;
+      deeds = took_never c.args.self.now.state s c.args.c c.args.n None c.forget_cost.new.self.deeds c.forget_cost.ensures.state never c.forget_cost.ensures.deeds;
     }
 
 pub take-requires : goal.take-requires
@@ -73,6 +78,7 @@ serve-requires c =
     let before : session c.args.c s ≡ Some c.index.result.now = found_in c.args.c c.in_ok-place.place v s c.index.result.now (state_is c.self.view_is) c.in_ok-place.ensures.place c.index.ensures in
     let all : c.offered-offered.result ≡ length (offered (Some x)) = c.offered-offered.ensures ∙ ap (λ (o : Option SessionState). length (offered o)) (sym before ∙ ap (session c.args.c) (sym (state_is c.self.view_is)) ∙ here.found) in
     record {
+      unnoted = ap (λ (r : RunningServer). r.deeds) c.self.view_is ∙ c.forget_cost.ensures.deeds;
       at = at_set c.args.c c.in_ok-place.place v.sessions c.take.new.self here.at (c.take.ensures.id ∙ find_id c.args.c v.sessions x here.found);
       short = of_set (λ o. length (held_of o) ≤ HELD_LIMIT) v c.args.c c.in_ok-place.place x c.take.new.self here.at here.found c.take.ensures.id c.take.ensures.short;
       counted = of_set (λ o. IsCounted (c.offered-offered.result - c.args.n) (owed_of o) c.take.new.scratch.renders) v c.args.c c.in_ok-place.place x c.take.new.self here.at here.found c.take.ensures.id
@@ -93,4 +99,5 @@ returns c =
     record {
       served = served_from _ _ _ _ _ c.forget_cost.ensures.state c.place_of.ensures.lawful (took_gives s _ c.serve.new.self.state c.args.c c.args.n _ c.serve.result before may given c.serve.ensures.gives);
       cost = c.serve.ensures.cost ∙ take_costs c.args.self.now.state s c.serve.new.self.state c.args.c c.args.n _ c.forget_cost.ensures.state may few (omega (arith, all)) c.serve.ensures.within;
+      deeds = took_noted c.args.self.now.state s _ c.args.c c.args.n (refused_after (done c.serve.result)) c.serve.new.self.deeds c.forget_cost.ensures.state may given c.serve.ensures.deeds;
     }
