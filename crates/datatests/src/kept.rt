@@ -1,6 +1,7 @@
 //! What is kept from row to row.
 use nutdriver::{Report, Tree};
 use nutmap::{Map, Meter};
+use nuttracking::Tracking;
 use nutusers::{Descriptions, UpsList, Users};
 use nutwords::LineCut;
 use std::alloc::Global;
@@ -19,6 +20,7 @@ pub struct Kept {
     pub users: Users,
     pub upses: Option<UpsList>,
     pub descriptions: Descriptions,
+    pub tracking: Option<Tracking>,
 }
 
 impl Kept {
@@ -35,6 +37,7 @@ impl Kept {
             users: Users::none(alloc),
             upses: None,
             descriptions: Descriptions::none(alloc),
+            tracking: None,
         }
     }
 }

@@ -1,4 +1,4 @@
-//! What the public functions of nutwords, nutmap, nutdriver and nutusers answer, a row of the input each. It stands above
+//! What the public functions of nutwords, nuttracking, nutmap, nutdriver and nutusers answer, a row of the input each. It stands above
 //! these crates, so that none of them is proved twice.
 //!
 //! A row is the name of a function, a space, and a text; what is printed is the row, and behind ` => ` the answer. In the
@@ -19,6 +19,7 @@ mod row;
 mod shown;
 mod spelled;
 mod text;
+mod tracking;
 mod tree;
 mod upses;
 mod users;
@@ -68,7 +69,8 @@ fn push_known(answer: &mut String, kept: &mut Kept, row: &Row<'_>) -> Result<boo
         push_of_words(answer, kept, row)?
             || map::push_answer(answer, kept, row)?
             || push_of_driver(answer, kept, row)?
-            || push_of_files(answer, kept, row)?,
+            || push_of_files(answer, kept, row)?
+            || tracking::push_answer(answer, kept, row)?,
     )
 }
 

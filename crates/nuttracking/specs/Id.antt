@@ -1,7 +1,7 @@
--- The form of an id: a number of 128 bits as 32 hexadecimal digits in lower case, in groups of 8, 4,
--- 4, 4 and 12 with a hyphen between each two (RFC 9562, section 4).
-use Rattle.std.specs.Prelude.{◌≡◌, ◌<◌, ◌^◌, ◌/◌, ◌%◌, ◌↔◌, ℕ, zero, suc, List, [], ◌∷◌, ◌++◌, take, drop}
-use Rattle.std.specs.Prelude.{slice_range, Option, Some, None, if◌then◌else◌}
+-- The form of an id: a number of 128 bits as 32 hexadecimal digits in lower case, in groups of 8,
+-- 4, 4, 4 and 12 with a hyphen between each two (RFC 9562, section 4).
+use Rattle.std.specs.Prelude.{◌≡◌, ◌<◌, ◌^◌, ◌/◌, ◌%◌, ◌↔◌, ℕ, zero, suc, List, [], ◌∷◌, ◌++◌}
+use Rattle.std.specs.Prelude.{take, drop, slice_range, Option, Some, None, if◌then◌else◌}
 use Rattle.std.specs.Char.{digit_char, is_ascii_hexdigit}
 use Rattle.std.specs.List.{filter, join_with_byte}
 use Rattle.std.specs.Str.{bytes_eq, str_to_ascii_lowercase}

@@ -15,8 +15,8 @@ times id ids = count_by (λ other. other == id) ids
 abbrev pub known_ids : TrackingState → List ℕ
 known_ids t = t.ids ++ map (λ order. order.id) t.orders
 
--- No more ids are at hand, and no more orders are kept, than may be; and an id stands for one thing:
--- it is at hand once, or an order that is kept has it, and no other one.
+-- No more ids are at hand, and no more orders are kept, than may be; and an id stands for one
+-- thing: it is at hand, once, or one order that is kept has it.
 pub record IsSoundTracking (t : TrackingState) : Type 0 where
   pub ids_few : length t.ids ≤ ID_LIMIT
   pub orders_few : length t.orders ≤ ORDER_LIMIT
