@@ -1,5 +1,5 @@
--- From the screen to the driver, over a run: an order whose OK a client printed stands among what the
--- run told the driver.
+-- From the screen to the driver, over a run: an order whose OK a client printed stands among what
+-- the run told the driver.
 use Rattle.std.specs.Prelude.{◌≡◌, ℕ, List, [], ◌∷◌, ◌++◌, Option, IsTrue, IfSome}
 use Rattle.nutwords.specs.Reading.{is_name, is_ups_name, is_value}
 use Rattle.nutanswer.specs.Orders.{set_line, instcmd_line}
@@ -26,8 +26,8 @@ pub record IsPrintedInRun (old : ServerState) (events : List Event) (outcomes : 
   pub asks : IsLineOf request line
   pub prints : printed (request ∷ []) forms.Value (reply s c line ++ more) ≡ Prints text
 
--- The server answered OK, and these bytes are one of the orders that the run told the driver of that
--- UPS.
+-- The server answered OK, and these bytes are one of the orders that the run told the driver of
+-- that UPS.
 pub record IsToldInRun (old : ServerState) (events : List Event) (outcomes : List Outcome)
     (s : ServerState) (c : ℕ) (line ups bytes text : List ℕ) : Type 0 where
   pub ordered : IsOrdered s c line ups bytes text

@@ -45,8 +45,8 @@ abbrev pub versions_alive : ServerState → ℕ
 versions_alive s = length s.upses + count_by listing_goes_on s.sessions
 
 -- At most 64 sessions hold and are offered so many bytes together, and the drivers of at most 32
--- UPSs are owed so many, and have so many unfinished; all their trees together have so many entries;
--- and there are so many versions of trees.
+-- UPSs are owed so many, and have so many unfinished; all their trees together have so many
+-- entries; and there are so many versions of trees.
 pub record IsBoundedInAll (s : ServerState) : Type 0 where
   pub held : total (λ (x : SessionState). length x.held) s.sessions ≤ SESSION_LIMIT * HELD_LIMIT
   pub offered : total (λ (x : SessionState). length (offered (Some x))) s.sessions
