@@ -24,6 +24,8 @@ told=$({
     sed -nE 's/^ *News::[A-Za-z]+ => "(.*)",$/su: \1/p' crates/upsd/src/journal.rt
     sed -nE 's/^ *Visit::[A-Za-z]+ => "(.*)",$/su: mon@192.0.2.1 \1/p' crates/upsd/src/journal/logins.rt
     sed -nE 's/.*"upsd: \{name\}(: [^{]*)\{error\}"\);$/su\1ERROR/p' crates/upsd/src/journal/connecting.rt
+    sed -nE 's/.*"upsd: \{place\}\{who\} ([a-z ]+) \{what\}(: \{word\})?"\),?$/su: mon@192.0.2.1 \1 COMMAND\2/p' \
+        crates/upsd/src/journal/deeds.rt | sed 's/{word}/WORD/'
     sed -nE 's/^ *RoomNews::.*"(.*)"\),$/\1/p' crates/upsd/src/journal/room.rt | sed -e 's/{count}/N/'
 } | sort)
 alike upsd "$told" "$(messages_of upsd)"

@@ -349,10 +349,36 @@ def a_forced_shutdown_is_seen_and_told_once():
     with served() as (server, _, good):
         other = server.client()
         assert other.ask(MON + b"FSD su\n") == b"OK\nOK\nERR ACCESS-DENIED\n"
-        assert server.journal() == COME
+        refused = "upsd: su: mon@127.0.0.1 was refused FSD: ACCESS-DENIED\n"
+        assert server.journal() == COME + refused, server.journal()
         assert good.ask(ADMIN + b"FSD su\nFSD su\n") == b"OK\nOK\nOK FSD-SET\nOK FSD-SET\n"
         assert other.ask(GET) == b'VAR su ups.status "FSD OL"\n'
-        told = COME + "upsd: su: forced shutdown\n"
+        told = COME + refused + "upsd: su: admin@127.0.0.1 ordered FSD\nupsd: su: forced shutdown\n"
+        assert server.journal() == told, server.journal()
+        other.close()
+
+
+@case
+def orders_are_told_once_and_no_value():
+    with served() as (server, driver, good):
+        assert good.ask(ADMIN + b'SET VAR su ups.delay "30"\nINSTCMD su test.battery.start\n') == b"OK\n" * 4
+        told = COME + "".join(
+            f"upsd: su: admin@127.0.0.1 ordered {what}\n" for what in ("SET VAR ups.delay", "INSTCMD test.battery.start")
+        )
+        assert good.ask(GET) == b'VAR su ups.status "OL"\n'
+        assert server.journal() == told, server.journal()
+
+
+@case
+def refused_logins_are_told_once_a_second():
+    with served() as (server, _, good):
+        other = server.client("127.0.0.2")
+        assert other.ask(b"LOGIN su\n" * 3) == b"ERR USERNAME-REQUIRED\n" * 3
+        told = COME + "upsd: su: 127.0.0.2 was refused LOGIN: USERNAME-REQUIRED\n"
+        assert server.journal() == told, server.journal()
+        time.sleep(2.1)
+        assert other.ask(b"USERNAME mon\nPASSWORD secret-word\nLOGIN su\n") == b"OK\nOK\nERR ACCESS-DENIED\n"
+        told += "upsd: su: mon@127.0.0.2 was refused LOGIN: ACCESS-DENIED\n"
         assert server.journal() == told, server.journal()
         other.close()
 

@@ -5,6 +5,7 @@ pub mod Configuration
 pub mod Replaying
 pub mod Task
 pub mod Connecting
+pub mod Deeds
 pub mod Logins
 pub mod Room
 pub mod Journal

@@ -1,12 +1,15 @@
 //! The journal of the UPSs and their clients while they are served: a line for each change.
-ghost use Rattle.std.specs.Prelude.{◌≡◌, ◌<◌, length, slice_get, slice_set, replicate, option_map, Some};
+ghost use Rattle.std.specs.Prelude.{◌≡◌, ◌<◌, length, slice_get, slice_set, replicate, option_map, Some, []};
+ghost use Rattle.upsd.specs.Deeds.{after_deeds};
 ghost use Rattle.upsd.specs.Journal.{data_news, driver_news, shutdown_news, text_of, ups_news, standing_at, IsWrittenUpTo};
 
 mod connecting;
+mod deeds;
 mod logins;
 mod room;
 
 use self::connecting::Connecting;
+use self::deeds::Refusals;
 use self::logins::Logins;
 use self::room::Room;
 use nutcore::{Server, UpsId};
@@ -63,11 +66,13 @@ const UNWRITTEN: Standing = Standing {
     is_forced: false,
 };
 
-/// How each UPS stands by what was written of it, by its place. What is looked at once a second stands beside it: the last
-/// second, the drivers that can't be connected to, who is logged in, and whether there is room.
+/// How each UPS stands by what was written of it, by its place, and of whom a refusal was written. What is looked at once a
+/// second stands beside it: the last second, the drivers that can't be connected to, who is logged in, and whether there is
+/// room.
 #[derive(Drop)]
 pub struct Journal {
     pub written: [Standing; UPS_LIMIT],
+    pub refusals: Refusals,
     moment: Option<u64>,
     connecting: Connecting,
     logins: Logins,
@@ -77,10 +82,12 @@ pub struct Journal {
 impl Journal {
     /// Nothing was written yet.
     pub fn new(alloc: Global) -> Journal
-        ensures { result.written ≡ replicate UPS_LIMIT UNWRITTEN }
+        ensures written { result.written ≡ replicate UPS_LIMIT UNWRITTEN }
+        ensures refusals { result.refusals.told.items ≡ [] }
     {
         Journal {
             written: [UNWRITTEN; UPS_LIMIT],
+            refusals: Refusals::new(),
             moment: None,
             connecting: Connecting::new(),
             logins: Logins::new(alloc),
@@ -88,12 +95,15 @@ impl Journal {
         }
     }
 
-    /// Writes what is new to standard error: of each UPS, and once a second of all else. Where that fails it isn't written
-    /// again.
+    /// Writes what is new to standard error: what a client did in the server's last event, what is new of each UPS, and once
+    /// a second all else. Where that fails it isn't written again.
     pub fn write<S: Sockets>(&mut self, rt: &HostRuntime, server: &Server, sockets: &S)
-        ensures { IsWrittenUpTo (length server.now.state.list) server.now.state
+        ensures written { IsWrittenUpTo (length server.now.state.list) server.now.state
             self.old.written self.new.written }
+        ensures refusals { self.new.refusals
+            ≡ after_deeds self.old.refusals server.now.state.moment server.now.deeds }
     {
+        self.refusals.write(rt, server);
         self.write_upses(rt, server);
         let moment = Some(server.current_moment());
         if self.moment != moment {
@@ -106,8 +116,9 @@ impl Journal {
 
     /// Writes what is new of each UPS.
     fn write_upses(&mut self, rt: &HostRuntime, server: &Server)
-        ensures { IsWrittenUpTo (length server.now.state.list) server.now.state
+        ensures written { IsWrittenUpTo (length server.now.state.list) server.now.state
             self.old.written self.new.written }
+        ensures refusals { self.new.refusals ≡ self.old.refusals }
     {
         for place in 0..server.ups().len() {
             let u = UpsId { place: place as u8 };
@@ -124,6 +135,7 @@ impl Journal {
         ensures news { Some result
             ≡ option_map (λ was. ups_news was now) (slice_get self.old.written place) }
         ensures written { self.new.written ≡ slice_set self.old.written place now }
+        ensures refusals { self.new.refusals ≡ self.old.refusals }
     {
         let was = self.written[place];
         self.written[place] = now;
