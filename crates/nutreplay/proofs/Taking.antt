@@ -21,7 +21,6 @@ use Rattle.nutcore.specs.declared.event.Event.TheVariants.{Took, DriverTook}
 use Rattle.nutreplay.specs.declared.transcript.sent.Taken.{Taken}
 use Rattle.nutreplay.specs.Transcript.{TranscriptState, Happens, TakesAgain, count_offered}
 use Rattle.nutreplay.specs.Transcript.TakesAgain.{again}
-use Rattle.nutlisting.specs.declared.ring.TheConstants.{RING_LIMIT}
 
 -- each taking is kept
 pub taken_longer : (line c n : ℕ) (old new : TranscriptState) → Happens line (Took c n) old new → length new.taken ≡ length old.taken + 1
@@ -54,25 +53,25 @@ pub when_false : (b : Bool) (xs : List ℕ) → b ≡ false → (if b then xs el
 when_false true xs e = cc e
 when_false false xs e = refl
 
-within_offer : (n : ℕ) (owed : List ℕ) → n ≤ length (take RING_LIMIT owed) → n ≤ RING_LIMIT
-within_offer n owed h = omega (arith, h, length-take RING_LIMIT owed)
+within_offer : (n : ℕ) (owed : List ℕ) → n ≤ length (take 4096 owed) → n ≤ 4096
+within_offer n owed h = omega (arith, h, length-take 4096 owed)
 
-taken_open : (c n : ℕ) (s : ServerState) (o : Option SessionState) (bytes : List ℕ) → session c s ≡ o → is_some o ≡ true → bytes ≡ take RING_LIMIT (owed_of o) → n ≤ length bytes → taken_in_event c s (Took c n) ≡ take n bytes
+taken_open : (c n : ℕ) (s : ServerState) (o : Option SessionState) (bytes : List ℕ) → session c s ≡ o → is_some o ≡ true → bytes ≡ take 4096 (owed_of o) → n ≤ length bytes → taken_in_event c s (Took c n) ≡ take n bytes
 taken_open c n s None bytes e is_open b h = cc is_open
 taken_open c n s (Some x) bytes e is_open b h =
-    let few : n ≤ length (take RING_LIMIT x.owed) = subst (λ (xs : List ℕ). n ≤ length xs) b h in
-    client_taken_of c n s (Some x) e ∙ when_true (may_take (Some x) n) (take n x.owed) (le-leb _ _ few) ∙ sym (take-take n RING_LIMIT x.owed (within_offer n x.owed few)) ∙ sym (ap (λ (xs : List ℕ). take n xs) b)
+    let few : n ≤ length (take 4096 x.owed) = subst (λ (xs : List ℕ). n ≤ length xs) b h in
+    client_taken_of c n s (Some x) e ∙ when_true (may_take (Some x) n) (take n x.owed) (le-leb _ _ few) ∙ sym (take-take n 4096 x.owed (within_offer n x.owed few)) ∙ sym (ap (λ (xs : List ℕ). take n xs) b)
 
-pub taken_some : (c n : ℕ) (s : ServerState) (bytes : List ℕ) → is_some (session c s) ≡ true → bytes ≡ take RING_LIMIT (owed c s) → n ≤ length bytes → taken_in_event c s (Took c n) ≡ take n bytes
+pub taken_some : (c n : ℕ) (s : ServerState) (bytes : List ℕ) → is_some (session c s) ≡ true → bytes ≡ take 4096 (owed c s) → n ≤ length bytes → taken_in_event c s (Took c n) ≡ take n bytes
 taken_some c n s bytes is_open b h = taken_open c n s (session c s) bytes refl is_open b h
 
-taken_fewer : (c n : ℕ) (s : ServerState) (o : Option SessionState) (bytes : List ℕ) → session c s ≡ o → is_some o ≡ true → bytes ≡ take RING_LIMIT (owed_of o) → length bytes < n → taken_in_event c s (Took c n) ≡ []
+taken_fewer : (c n : ℕ) (s : ServerState) (o : Option SessionState) (bytes : List ℕ) → session c s ≡ o → is_some o ≡ true → bytes ≡ take 4096 (owed_of o) → length bytes < n → taken_in_event c s (Took c n) ≡ []
 taken_fewer c n s None bytes e is_open b h = cc is_open
 taken_fewer c n s (Some x) bytes e is_open b h =
-    let more : length (take RING_LIMIT x.owed) < n = subst (λ (xs : List ℕ). length xs < n) b h in
+    let more : length (take 4096 x.owed) < n = subst (λ (xs : List ℕ). length xs < n) b h in
     client_taken_of c n s (Some x) e ∙ when_false (may_take (Some x) n) (take n x.owed) (lt-leb _ _ more)
 
-pub taken_too_few : (c n : ℕ) (s : ServerState) (bytes : List ℕ) → is_some (session c s) ≡ true → bytes ≡ take RING_LIMIT (owed c s) → length bytes < n → taken_in_event c s (Took c n) ≡ []
+pub taken_too_few : (c n : ℕ) (s : ServerState) (bytes : List ℕ) → is_some (session c s) ≡ true → bytes ≡ take 4096 (owed c s) → length bytes < n → taken_in_event c s (Took c n) ≡ []
 taken_too_few c n s bytes is_open b h = taken_fewer c n s (session c s) bytes refl is_open b h
 
 -- what a driver takes, by its UPS
