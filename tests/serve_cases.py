@@ -332,10 +332,12 @@ def clients_print_what_the_server_holds():
             assert (got.returncode, got.stdout, got.stderr) == (0, want, b""), got
 
 
+ORDERS = TWO + b'SETINFO ups.delay "20"\nSETFLAGS ups.delay RW\nADDRANGE ups.delay 0 600\nADDCMD test.battery.start\n'
+
+
 @case
 def orders_reach_the_driver():
-    told = TWO + b'SETINFO ups.delay "20"\nSETFLAGS ups.delay RW\nADDRANGE ups.delay 0 600\nADDCMD test.battery.start\n'
-    with served(told) as (_, driver, good):
+    with served(ORDERS) as (_, driver, good):
         assert good.ask(ADMIN + b"SET VAR su ups.delay 30\n") == b"OK\n" * 3
         assert driver.line() == b'SET ups.delay "30"\n'
         assert good.ask(b"INSTCMD su test.battery.start\n") == b"OK\n"
@@ -360,7 +362,7 @@ def a_forced_shutdown_is_seen_and_told_once():
 
 @case
 def orders_are_told_once_and_no_value():
-    with served() as (server, driver, good):
+    with served(ORDERS) as (server, _, good):
         assert good.ask(ADMIN + b'SET VAR su ups.delay "30"\nINSTCMD su test.battery.start\n') == b"OK\n" * 4
         told = COME + "".join(
             f"upsd: su: admin@127.0.0.1 ordered {what}\n" for what in ("SET VAR ups.delay", "INSTCMD test.battery.start")
