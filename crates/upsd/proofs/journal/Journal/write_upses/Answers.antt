@@ -15,9 +15,8 @@ loop-place-preserved c =
     let within : p < length mid = slice_get_within mid p was.0 was.1 in
     let now : c.standing_of.result ≡ standing_at p s = c.standing_of.ensures in
     let after : c.take_news-news.new.self.written ≡ set mid p (standing_at p s) =
-    c.take_news-news.ensures.written ∙ ap (λ (standing : Standing). set mid p standing) now in
-    (
+    c.take_news-news.ensures.written ∙ ap (λ (standing : Standing). set mid p standing) now in (
       subst (λ (xs : List Standing). IsWrittenUpTo (p + 1) s c.args.self.now.written xs) (sym after)
-      (written_more p s c.args.self.now.written mid c.loop-place.invariant.0 within),
+          (written_more p s c.args.self.now.written mid c.loop-place.invariant.0 within),
       c.take_news-news.ensures.refusals ∙ c.loop-place.invariant.1,
     )
