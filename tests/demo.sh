@@ -69,6 +69,13 @@ for _ in $(seq 30); do
 done
 [[ -z $(ls "$folder/room") ]] || fails 'files stay'
 [[ -z $(left) ]] || fails 'programs stay'
-grep -vE '^(upsd: demo: (driver connected|data good)|make: .*)$' "$folder/told" && fails 'what was told'
+# The journal has the orders, each once, and no value.
+ordered="upsd: demo: admin@127.0.0.1 ordered"
+orders="$ordered SET VAR battery.charge.low
+$ordered INSTCMD test.failure.start
+$ordered INSTCMD test.failure.stop"
+checks=$((checks + 1))
+[[ $(grep -F "$ordered" "$folder/told") == "$orders" ]] || fails 'which orders were told'
+grep -vE "^(upsd: demo: (driver connected|data good)|$ordered .*|make: .*)$" "$folder/told" && fails 'what was told'
 ((failed == 0)) && echo "demo: ok: $checks checks"
 exit "$failed"
