@@ -10,8 +10,8 @@ callee's contract. A round counts only where it reached the prover and no functi
 goal; else it is halved. What isn't refused so, and each edit of another kind, is tried alone by the kit's own way,
 which proves the whole crate for it.
 
-crates/NAME/edits/judged holds a sum of all that the judgement of the crate's edits reads; where it is the same, they
-aren't judged again, but with --all. With --beside, FILE is what a running `rt ci` prints: a crate's edits begin once
+crates/NAME/edits/judged holds, a line a kit, a sum of all that the judgement of the crate's edits reads; where that of
+this kit is the same, they aren't judged again, but with --all. With --beside, FILE is what a running `rt ci` prints: a crate's edits begin once
 the crates below it are proved there, and take their libraries. The last line tells how many were refused."""
 import concurrent.futures as futures
 import hashlib
@@ -365,8 +365,9 @@ class Judgement:
         crate = now.crate
         # What changed while it was judged isn't known to be judged.
         if not failed and sum_of(crate) == self.sums[crate]:
+            sums = {**stamps(crate), kit_name(): self.sums[crate]}
             with open(f"{crate.folder}/{FOLDER}/{STAMP}", "w", encoding="utf-8") as it:
-                it.write(f"{self.sums[crate]}\n")
+                it.writelines(f"{kit} {sums[kit]}\n" for kit in sorted(sums))
         with self.lock:
             self.refused += len(now.edits) - len(failed)
             self.failed += failed
@@ -378,8 +379,18 @@ def lanes():
     return int(os.environ.get("RT_JOBS", "0")) or len(os.sched_getaffinity(0))
 
 
+def kit_name():
+    return rtlib.text_of(f"{KIT}/KIT-ID").split()[0]
+
+
+def stamps(crate):
+    """Returns the sums of earlier judgements of a crate's edits, by the kit."""
+    lines = (rtlib.text_of(f"{crate.folder}/{FOLDER}/{STAMP}") or "").splitlines()
+    return dict(it.split() for it in lines if len(it.split()) == 2)
+
+
 def is_judged(crate):
-    return (rtlib.text_of(f"{crate.folder}/{FOLDER}/{STAMP}") or "").strip() == sum_of(crate)
+    return stamps(crate).get(kit_name()) == sum_of(crate)
 
 
 def main(words):
