@@ -1,6 +1,6 @@
 -- What changes of a tree's maps say of its names, and how many entries they leave.
-use Rattle.std.proofs.Common.{◌≡◌, ℕ, ◌+◌, ◌<◌, ◌≤◌, Bool, true, false, cond, List, [], ◌∷◌, length, refl, ap, arith}
-use Rattle.std.specs.Prelude.{Option, Some, None, is_some, IsNone, ◌||◌}
+use Rattle.std.proofs.Common.{◌≡◌, ℕ, ◌+◌, ◌<◌, ◌≤◌, Bool, true, false, cond, List, [], ◌∷◌, length, refl, ap, subst, arith}
+use Rattle.std.specs.Prelude.{Option, Some, None, is_some, IsNone, IsTrue, IsFalse, ◌||◌}
 use Rattle.std.specs.List.{list_any}
 use Rattle.std.specs.Map.{keys_of, lookup, remove_entry}
 use Rattle.std.specs.Set.{remove_key}
@@ -9,6 +9,9 @@ use Rattle.std.specs.BTreeSet.{insert_key}
 use Rattle.std.specs.declared.cmp.Ordering.{Ordering}
 use Rattle.std.specs.declared.cmp.Ordering.TheVariants.{Less, Equal, Greater}
 use Rattle.std.specs.Ordering.{match_ordering}
+use Rattle.std.specs.Fn.{Once, FnOnceReturnsAtMut}
+use denote.Ref.{MutBor}
+use Rattle.nutmap.specs.Changed.{ChangesValue}
 use Rattle.nutmap.specs.Entries.{HasRisingKeys, value_at}
 use Rattle.nutdriver.specs.Tree.{byte_order}
 use Rattle.std.specs.Borrow.{Bor}
@@ -65,6 +68,18 @@ module _ {V : Type 0} (added : CountsAdded V) (replaced : CountsReplaced V) (k :
   -- an entry more is no entry too many, where there is room for a new key
   pub few_inserted : (es : List (List ℕ × V)) → HasRisingKeys byte_order es → length es ≤ limit → (IsNone (value_at byte_order es k) → length es < limit) → length (insert_entry byte_order es k v) ≤ limit
   few_inserted es rising few room = few_by es (value_at byte_order es k) refl rising few room
+
+module _ {V F : Type 0} (replaced : CountsReplaced V) {g : Once F (MutBor V × Unit {0}) (Unit {0} × (MutBor V × Unit {0}))} {f : F} (k : List ℕ) (limit : ℕ) where
+  -- a value that is changed is no entry more
+  pub few_changed : (is : Bool) (es new : List (List ℕ × V)) → HasRisingKeys byte_order es → (IsTrue is → ChangesValue g f byte_order es k new) → (IsFalse is → new ≡ es) → length es ≤ limit → length new ≤ limit
+  few_changed true es new rising changed unchanged few =
+      let d = changed refl in
+      rw (d.leaves, replaced es k d.after d.before rising d.there) few
+  few_changed false es new rising changed unchanged few = rw (unchanged refl) few
+
+-- what a call does to what is behind its reference
+pub of_call : {F V R : Type 0} {g : Once F (MutBor V × Unit {0}) (R × (MutBor V × Unit {0}))} {f : F} {x y : V} {r : R} (P : V → V → Type 0) (called : FnOnceReturnsAtMut g f x r y) → P called.shown.now called.left.now → P x y
+of_call {V = V} {y = y} P called p = subst (λ (z : V). P z y) called.shows (subst (P called.shown.now) called.leaves p)
 
 module _ {V : Type 0} (taken : CountsTakenOut V) (absent : KeepsAbsent V) (k : List ℕ) (limit : ℕ) where
   few_left : (es : List (List ℕ × V)) (held : Option V) → value_at byte_order es k ≡ held → length es ≤ limit → length (remove_entry (is_at (byte_order k)) es) ≤ limit

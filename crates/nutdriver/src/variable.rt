@@ -3,7 +3,7 @@ ghost use Rattle.std.specs.Prelude.{◌≡◌, ◌≤◌, length, IfOk};
 ghost use Rattle.nutdriver.specs.Variable.{VariableState, new_variable, with_value, with_aux, with_flags, add_enum, delete_enum, add_range, delete_range, has_value, has_range};
 ghost use Rattle.nutdriver.specs.Promises.{AnswersChange, variable_step};
 
-use crate::lists::{copied, has_range, has_value, take_range_out, take_value_out};
+use crate::lists::{has_range, has_value, take_range_out, take_value_out};
 use crate::{DriverFault, DriverLine, ENUM_LIMIT, Flags, RANGE_LIMIT, Range};
 use nutwords::Value;
 use std::alloc::{AllocError, Global};
@@ -14,7 +14,7 @@ pub(crate) type Change = Result<Option<Variable>, DriverFault>;
 
 /// A variable of a UPS: its value, and what values it may have (RFC 9271: GET TYPE, LIST ENUM, LIST RANGE).
 ///
-/// A variable isn't changed once a tree has it, so the versions of a tree share it. Contracts see the record of what it has.
+/// The versions of a tree share a variable, which isn't changed while they do. Contracts see the record of what it has.
 #[derive(Drop)]
 pub struct Variable {
     value: Value,
@@ -38,19 +38,16 @@ impl Model for Variable {
 
 impl Variable {
     /// A variable without flags, enum values and ranges, whose aux is 0.
-    pub(crate) fn new(alloc: Global, value: &Value) -> Change
-        ensures { AnswersChange (Ok (Some (new_variable value.now))) result }
+    pub(crate) fn new(alloc: Global, value: &Value) -> Variable
+        ensures { result ≡ new_variable value.now }
     {
-        let Ok(value) = copied(value) else {
-            return Err(DriverFault::Memory);
-        };
-        Ok(Some(Variable {
-            value,
+        Variable {
+            value: value.copied(),
             flags: Flags::none(),
             aux: 0,
             enum_values: Vec::new(alloc),
             ranges: Vec::new(alloc),
-        }))
+        }
     }
 
     /// Its value.
@@ -103,12 +100,19 @@ impl Variable {
         ensures { IfOk result (λ copy. copy ≡ with_value value.now self.now) }
     {
         Ok(Variable {
-            value: copied(value)?,
+            value: value.copied(),
             flags: self.flags,
             aux: self.aux,
             enum_values: self.enum_values.clone()?,
             ranges: self.ranges.clone()?,
         })
+    }
+
+    /// Sets its value. All else stays.
+    pub(crate) fn set_value(&mut self, value: &Value)
+        ensures { self.new ≡ with_value value.now self.old }
+    {
+        self.value = value.copied();
     }
 
     /// What becomes of the variable by a line that names it.
@@ -166,13 +170,10 @@ impl Variable {
         if self.enum_values.len() >= ENUM_LIMIT {
             return Err(DriverFault::Full);
         }
-        let Ok(value) = copied(value) else {
-            return Err(DriverFault::Memory);
-        };
         let Ok(mut copy) = self.copied() else {
             return Err(DriverFault::Memory);
         };
-        let Ok(()) = copy.enum_values.push(value) else {
+        let Ok(()) = copy.enum_values.push(value.copied()) else {
             return Err(DriverFault::Memory);
         };
         Ok(Some(copy))

@@ -1,12 +1,14 @@
 //! The map.
-ghost use Rattle.std.specs.Prelude.{◌≡◌, ◌+◌, ◌≤◌, [], length, map, take, Some, IsNone, IfOk, OnOk, OnErr};
+ghost use Rattle.std.specs.Prelude.{◌≡◌, ◌+◌, ◌≤◌, [], length, map, take, Some, IsNone, IsTrue, IsFalse, IfOk, OnOk, OnErr};
 ghost use Rattle.std.specs.Option.{option_copied, option_map};
 ghost use Rattle.std.specs.Map.{remove_entry};
 ghost use Rattle.std.specs.BTreeMap.{insert_entry, is_at};
+ghost use Rattle.nutmap.specs.Changed.{ChangesValue};
 ghost use Rattle.nutmap.specs.Digits.{most_nodes};
 ghost use Rattle.nutmap.specs.Entries.{value_at, entry_after, entries_after, HasRisingKeys};
 ghost use Rattle.nutmap.specs.Meter.{counted_up};
 
+use crate::change::change_in_place;
 use crate::find;
 use crate::insert::{insert, put_in_place};
 use crate::meter::Meter;
@@ -22,7 +24,7 @@ use std::rc::Rc;
 /// A version is a map of its own: it keeps its entries whatever is done to the map that it was shared from, and
 /// the other way round. Versions share the nodes of a balanced binary tree and, by `Rc`, the keys and values.
 /// A node that is shared is never changed, so a change makes new nodes from the root to the place of the key. Only where
-/// nobody shares one of these is the value of a key that is there put in place.
+/// nobody shares one of these is the value of a key that is there put or changed in place.
 ///
 /// Contracts see a map as the list of its entries, whose keys rise.
 #[derive(Drop)]
@@ -135,6 +137,35 @@ impl<K: Ord + Drop, V: Drop> Map<K, V> {
             root: shared(&self.root)?,
             len: self.len,
         })
+    }
+
+    /// Changes the value of a key in its place, and answers whether it did: it doesn't, and the map is as it was, where the map
+    /// doesn't have the key, or shares the value or a node on the way to it with a version.
+    ///
+    /// It makes no node. A value that it changes is counted by `meter` as one.
+    pub fn change_in_place<F: FnOnce(&mut V)>(
+        &mut self,
+        key: &K,
+        change: F,
+        meter: &mut Meter,
+    ) -> bool
+        requires { F.IsAlwaysCallable change }
+        ensures changed { IsTrue result
+            → ChangesValue F.FnOnce change K.cmp self.old key.now self.new }
+        ensures unchanged { IsFalse result → self.new ≡ self.old }
+        ensures rising { HasRisingKeys K.cmp self.old }
+        ensures not_less { meter.old ≤ meter.new }
+        ensures most { meter.new ≤ meter.old + 1 }
+        ensures counted { IsTrue result → counted_up meter.old ≤ meter.new }
+        ensures uncounted { IsFalse result → meter.new ≡ meter.old }
+    {
+        // What the root says of the entries: their keys rise.
+        let _ = height(&self.root);
+        let is_changed = change_in_place(&mut self.root, key, change);
+        if is_changed {
+            meter.count();
+        }
+        is_changed
     }
 
     /// Sets the value of a key, and answers the earlier value. An equal key that is there stays.
