@@ -1,5 +1,6 @@
 -- The laws of this crate that a proof in a crate above may cite: each is what a function of src/laws.rt ensures.
 use Rattle.std.proofs.Common.{[], ◌++◌, drop, refl, sym, subst}
+use Rattle.nutwords.specs.Answers.{FirstAnswersAreTheFirst, AnswersAreCutInOneWay}
 use Rattle.nutwords.specs.Found.{EachCallTakesALine, EachCutIsFound, FoundLineIsFirst, RestIsUnfinished, RestIsOverlong}
 use Rattle.nutwords.specs.Frame.{FrameIsInThreeParts}
 use Rattle.nutwords.specs.Lines.{IsCutInto, Unfinished, line, unfinished, overlong, PiecesGiveTheLines, CutsDoNotMatter, EachTextIsCut, OneCutting, NoByteIsLost, LinesAreJoined}
@@ -8,6 +9,7 @@ use Rattle.nutwords.specs.Meaning.{WordsOrFault, NotBoth, OneListOfWords, OneFau
 use Rattle.nutwords.specs.Spelled.{QuotedIsSpelled, BareIsSpelled, PlainStandsForItself}
 use Rattle.nutwords.specs.Spelling.{QuotedIsShort}
 use Rattle.nutwords.specs.SplitLine.{FirstLineIsCutOff, NoLineWithoutLf, HeldGoesInFront}
+use Rattle.nutwords.proofs.Answers as answers
 use Rattle.nutwords.proofs.Backslashes as backslashes
 use Rattle.nutwords.proofs.Complete.{read_line-complete}
 use Rattle.nutwords.proofs.Escapes.{quoted_spelled, bare_spelled}
@@ -113,3 +115,10 @@ frame_is_in_three_parts = λ kind names items. frame_in_parts kind names items
 
 pub one_reading : OneReading
 one_reading = λ text rows others reads also. ReadsAsLines-one text rows others reads also
+
+-- answers_are_cut_in_one_way
+pub first_answers_are_the_first : FirstAnswersAreTheFirst
+first_answers_are_the_first = λ all firsts rest each shaped same. answers.first_answers all firsts rest each shaped same
+
+pub answers_are_cut_in_one_way : AnswersAreCutInOneWay
+answers_are_cut_in_one_way = λ all others each shaped same. answers.one_way all others each shaped same
