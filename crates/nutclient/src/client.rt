@@ -1,4 +1,8 @@
 //! The words of a program, as the parser takes them.
+ghost use Rattle.std.specs.Prelude.{◌≡◌, IfOk};
+ghost use Rattle.nutclient.specs.declared.program.Program.{Program};
+ghost use Rattle.nutclient.specs.Words.{IsWith};
+
 use crate::{Given, Program};
 use clap::{Arg, ArgMatches, Command};
 use std::alloc::{AllocError, Global};
@@ -6,7 +10,11 @@ use std::alloc::{AllocError, Global};
 /// A program: its words, and what they ask for.
 pub trait Client {
     /// Which of the programs it is.
-    fn program() -> Program;
+    ghost which: { Program };
+
+    /// Which of the programs it is.
+    fn program() -> Program
+        ensures { result ≡ which };
 
     /// The words that it takes.
     fn command<'a>(alloc: Global) -> Result<Command<'a>, AllocError>;
@@ -19,7 +27,9 @@ pub trait Client {
 pub fn with<'a>(
     command: Result<Command<'a>, AllocError>,
     word: Result<Arg<'static>, AllocError>,
-) -> Result<Command<'a>, AllocError> {
+) -> Result<Command<'a>, AllocError>
+    ensures { IfOk result (IsWith command.entry word.entry) }
+{
     let word = word?;
     command?.arg(word)
 }

@@ -7,3 +7,4 @@ pub mod MoreTurns
 pub mod NextTurn
 pub mod Fairness
 pub mod NotedDrivers
+pub mod TriedDrivers

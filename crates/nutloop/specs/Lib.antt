@@ -2,6 +2,7 @@ pub mod Fault
 pub mod Moved
 pub mod Pace
 pub mod Peers
+pub mod Door
 pub mod Round
 pub mod Scripted
 pub mod Serving

@@ -1,23 +1,27 @@
 -- What each call of the sockets over the system's leaves of what is known of them.
-use Rattle.std.specs.Prelude.{◌≡◌, ◌⊎◌, ◌||◌, ◌==◌, ◌++◌, ◌∷◌, [], ℕ, Bool, true, false, List}
-use Rattle.std.specs.Prelude.{Option, Some, None}
+use Rattle.std.specs.Prelude.{◌≡◌, ◌<◌, ◌⊎◌, ◌+◌, ◌||◌, ◌==◌, ◌++◌, ◌∷◌, [], ℕ, ℤ, Bool, true, false}
+use Rattle.std.specs.Prelude.{List, Option, Some, None, IfSome, is_some}
 use Rattle.std.specs.Prelude.{Result, Ok, Err, MatchOption, length, slice_get, slice_set}
 use Rattle.std.specs.Io.{ReadsAtMost, WritesAtMost}
 use Rattle.std.specs.Io.KnownBytes.{ReadConsumes, WriteAppends}
-use Rattle.std.specs.List.{position, remove}
+use Rattle.std.specs.List.{list_any, position, remove}
+use Rattle.std.specs.Option.{option_and_then}
 use Rattle.std.specs.declared.io.Error.{Error}
 use Rattle.mio.specs.declared.event.event.Event.{Event}
 use Rattle.mio.specs.Event as mio
+use Rattle.mio.specs.declared.token.Token.{Token}
+use Rattle.nutusers.specs.UpsList.{Ups, id_at}
 use Rattle.nutusers.specs.declared.ups_list.UpsId.{UpsId}
 use Rattle.nutcore.specs.declared.event.Peer.{Peer}
 use Rattle.nutcore.specs.declared.event.Peer.TheVariants as peer
 use Rattle.nutcore.specs.Server.{ServerState}
 use Rattle.nutloop.specs.Round.{Notes}
 use Rattle.nutloop.specs.Standing.{IsAnswer, after_read, after_write, client_flags, driver_flags}
-use Rattle.nutloop.specs.Standing.{got_by, is_driver_owed, standing_of, took_by}
+use Rattle.nutloop.specs.Standing.{got_by, heard, is_driver_owed, standing_of, took_by}
 use Rattle.nutloop.specs.declared.over_mio.door.Newcomer.{Newcomer}
 use Rattle.nutloop.specs.declared.over_mio.clients.ClientSocket.{ClientSocket}
 use Rattle.nutloop.specs.declared.over_mio.drivers.DriverSocket.{DriverSocket}
+use Rattle.nutloop.specs.declared.over_mio.drivers.TheConstants.{FIRST_DRIVER}
 use Rattle.nutloop.specs.declared.round.Place.{Place}
 use Rattle.nutloop.specs.declared.round.Seat.{Seat}
 use Rattle.nutloop.specs.declared.round.Seat.TheVariants.{Client, Driver, Listener}
@@ -247,3 +251,79 @@ ShutsPeer (peer.Client c) clients drivers new_clients new_drivers =
 ShutsPeer (peer.Driver u) clients drivers new_clients new_drivers =
     MatchOption (driver_place u drivers) (new_drivers ≡ drivers)
     (λ at. new_drivers ≡ remove drivers at) × (new_clients ≡ clients)
+
+-- The path of the socket of a UPS's driver, if the list has one.
+abbrev pub socket_of : UpsId → List Ups → Option (List ℕ)
+socket_of u list = option_and_then (λ ups. ups.socket) (slice_get list u.place)
+
+-- The error that is noted of a UPS's driver.
+abbrev pub error_of : UpsId → List (Option ℤ) → Option ℤ
+error_of u errors = option_and_then (λ error. error) (slice_get errors u.place)
+
+-- The UPS's driver is there.
+abbrev pub is_there : UpsId → List DriverSocket → Bool
+is_there u drivers = list_any (λ x. x.u.place == u.place) drivers
+
+-- Where the socket of the UPS's driver is named, the driver is there, or it is noted by which error
+-- it couldn't be connected to.
+abbrev pub IsTried : UpsId → List Ups → List DriverSocket → List (Option ℤ) → Type 0
+IsTried u list drivers errors =
+    IfSome (socket_of u list)
+    (λ path. (is_there u drivers ≡ true) ⊎ (is_some (error_of u errors) ≡ true))
+
+-- So it is of each of the first UPSs of the list, and of all.
+abbrev pub AreTriedUpTo : ℕ → List Ups → List DriverSocket → List (Option ℤ) → Type 0
+AreTriedUpTo count list drivers errors =
+    (place : ℕ) → place < count → IsTried (id_at place) list drivers errors
+
+abbrev pub AreTried : List Ups → List DriverSocket → List (Option ℤ) → Type 0
+AreTried list drivers errors = AreTriedUpTo (length list) list drivers errors
+
+-- The drivers that were there before are there, and others behind them.
+abbrev pub GrowsBehind : List DriverSocket → List DriverSocket → Type 0
+GrowsBehind old new = (more : List DriverSocket) × (new ≡ old ++ more)
+
+-- The token by which events tell of a UPS's driver.
+abbrev pub driver_token : UpsId → Token
+driver_token u = record { 0 = FIRST_DRIVER + u.place }
+
+-- What an event tells of the client here is heard, and of no other.
+pub record HearsClientAt (s : ServerState) (told : Readiness) (at : ℕ) (old new : List ClientSocket)
+    (places noted : List Place) : Type 0 where
+  pub before : ClientSocket
+  pub after : ClientSocket
+  pub is_at : slice_get old at ≡ Some before
+  pub leaves : new ≡ slice_set old at after
+  pub client : IsClientNoted s (record before { readiness = heard told before.readiness }) after
+      places noted
+
+pub record HearsDriverAt (s : ServerState) (told : Readiness) (at : ℕ) (old new : List DriverSocket)
+    (places noted : List Place) : Type 0 where
+  pub before : DriverSocket
+  pub after : DriverSocket
+  pub is_at : slice_get old at ≡ Some before
+  pub leaves : new ≡ slice_set old at after
+  pub driver : IsDriverNoted s (record before { readiness = heard told before.readiness }) after
+      places noted
+
+-- Where the socket is that has this token, of a driver, and of a client.
+abbrev pub driver_with : Token → List DriverSocket → Option ℕ
+driver_with token drivers = position (λ x. (driver_token x.u).0 == token.0) drivers
+
+abbrev pub client_with : Token → List ClientSocket → Option ℕ
+client_with token clients = position (λ x. x.token.0 == token.0) clients
+
+-- An event tells of the client that has its token; of others nothing is noted in the round.
+abbrev pub HearsClient : Token → Readiness → ServerState → List ClientSocket → List ClientSocket
+    → List Place → List Place → Type 0
+HearsClient token told s old new places noted =
+    MatchOption (client_with token old) ((new ≡ old) × (noted ≡ places))
+    (λ at. HearsClientAt s told at old new places noted)
+
+-- It tells of the driver that has its token, or else of the client.
+abbrev pub HearsPeer : Token → Readiness → ServerState → List ClientSocket → List ClientSocket
+    → List DriverSocket → List DriverSocket → List Place → List Place → Type 0
+HearsPeer token told s clients new_clients drivers new_drivers places noted =
+    MatchOption (driver_with token drivers)
+    ((new_drivers ≡ drivers) × HearsClient token told s clients new_clients places noted)
+    (λ at. (new_clients ≡ clients) × HearsDriverAt s told at drivers new_drivers places noted)

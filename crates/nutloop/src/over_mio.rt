@@ -2,10 +2,11 @@
 ghost use Rattle.std.specs.Prelude.{◌≡◌, ◌≤◌, ◌∷◌, [], ◌⊎◌, length, IfOk, None};
 ghost use Rattle.std.specs.Prelude.{vec_capacity, vec_len};
 ghost use Rattle.nutio.specs.Ends.{IsCounted, counted};
-ghost use Rattle.nutloop.specs.Peers.{ReadsPeer, ShutsPeer, TakesNewcomer, WritesPeer};
+ghost use Rattle.nutloop.specs.Peers.{AreTried, ReadsPeer, ShutsPeer, TakesNewcomer, WritesPeer, error_of};
+ghost use Rattle.nutloop.specs.Door.{ComesIn};
 ghost use Rattle.nutloop.specs.Round.{LeavesOut};
 ghost use Rattle.nutloop.specs.Sockets.{AtMost, Grows, Logs, read_call};
-ghost use Rattle.nutloop.specs.declared.sockets.Call.TheVariants.{Named, Readied, Refused, Shut, Wrote};
+ghost use Rattle.nutloop.specs.declared.sockets.Call.TheVariants.{Accepted, Named, Readied, Refused, Shut, Wrote};
 ghost use Rattle.nutloop.specs.Standing.{IsTold, seat_of};
 
 mod clients;
@@ -40,7 +41,12 @@ impl<'a, R: Net + Clock> MioSockets<'a, R> {
     /// # Errors
     ///
     /// The address can't be listened at, or memory or the clock fails.
-    pub fn new(rt: &'a R, alloc: Global, address: SocketAddr, server: &Server) -> io::Result<Self> {
+    pub fn new(rt: &'a R, alloc: Global, address: SocketAddr, server: &Server) -> io::Result<Self>
+        ensures fresh { IfOk result (λ s. (s.failures ≡ 0) × (s.refusals ≡ 0)) }
+        ensures tried { IfOk result (λ s. AreTried server.now.state.list
+            s.rounds.peers.drivers.items s.rounds.peers.driver_errors) }
+        ensures clients { IfOk result (λ s. s.rounds.peers.clients.items ≡ []) }
+    {
         let mut rounds = Rounds::new(rt, alloc, address)?;
         rounds.connect(server);
         Ok(MioSockets {
@@ -62,6 +68,7 @@ impl<'a, R: Net + Clock> MioSockets<'a, R> {
     /// A call failed: it is counted.
     fn broken(&mut self) -> Broken
         ensures count { self.new.failures ≡ counted self.old.failures }
+        ensures refusals { self.new.refusals ≡ self.old.refusals }
         ensures rounds { self.new.rounds ≡ self.old.rounds }
     {
         self.failures = self.failures.saturating_add(1);
@@ -74,12 +81,17 @@ impl<'a, R: Net + Clock> Sockets for MioSockets<'a, R> {
 
     ghost failures = { λ s. s.failures };
 
+    ghost errors = { λ s u. error_of u s.rounds.peers.driver_errors };
+
+    ghost refused = { λ s. s.refusals };
+
     fn ready(&mut self, server: &Server) -> Result<Ready, Broken>
         ensures is_told { IfOk result (λ ready. IsTold ready
             self.old.rounds.pace self.new.rounds.pace
             self.new.rounds.peers.round.last self.new.rounds.peers.round.places.items) }
         ensures told { Logs None None Readied result }
         ensures count { IsCounted self.old.failures self.new.failures result }
+        ensures refusals { self.new.refusals ≡ self.old.refusals }
     {
         match self.rounds.next(server) {
             Ok(ready) => Ok(ready),
@@ -87,7 +99,13 @@ impl<'a, R: Net + Clock> Sockets for MioSockets<'a, R> {
         }
     }
 
-    fn accept(&mut self) -> Result<Option<Address>, Broken> {
+    fn accept(&mut self) -> Result<Option<Address>, Broken>
+        ensures takes { ComesIn self.old.rounds.door self.new.rounds.door result }
+        ensures peers { self.new.rounds.peers ≡ self.old.rounds.peers }
+        ensures told { Logs None None Accepted result }
+        ensures count { IsCounted self.old.failures self.new.failures result }
+        ensures refusals { self.new.refusals ≡ self.old.refusals }
+    {
         match self.rounds.accept() {
             Ok(newcomer) => Ok(newcomer),
             Err(_) => Err(self.broken()),
@@ -102,6 +120,7 @@ impl<'a, R: Net + Clock> Sockets for MioSockets<'a, R> {
             self.old.rounds.peers.clients.items self.new.rounds.peers.clients.items }
         ensures told { Grows None None (Named c ∷ []) }
         ensures count { self.new.failures ≡ self.old.failures }
+        ensures refusals { self.new.refusals ≡ self.old.refusals }
     {
         self.rounds.name(c);
     }
@@ -124,6 +143,7 @@ impl<'a, R: Net + Clock> Sockets for MioSockets<'a, R> {
             self.new.rounds.peers.clients.items self.new.rounds.peers.drivers.items }
         ensures told { Logs None None (read_call p into.new) result }
         ensures count { IsCounted self.old.failures self.new.failures result }
+        ensures refusals { self.new.refusals ≡ self.old.refusals }
     {
         match self.rounds.read(p, into) {
             Ok(got) => Ok(got),
@@ -138,6 +158,7 @@ impl<'a, R: Net + Clock> Sockets for MioSockets<'a, R> {
             self.new.rounds.peers.clients.items self.new.rounds.peers.drivers.items }
         ensures told { Logs None None (Wrote p from.now) result }
         ensures count { IsCounted self.old.failures self.new.failures result }
+        ensures refusals { self.new.refusals ≡ self.old.refusals }
     {
         match self.rounds.write(p, from) {
             Ok(n) => Ok(n),
@@ -161,6 +182,7 @@ impl<'a, R: Net + Clock> Sockets for MioSockets<'a, R> {
             self.new.rounds.peers.clients.items self.new.rounds.peers.drivers.items }
         ensures told { Grows None None (Shut p ∷ []) }
         ensures count { self.new.failures ≡ self.old.failures }
+        ensures refusals { self.new.refusals ≡ self.old.refusals }
     {
         self.rounds.shut(p);
     }

@@ -1,9 +1,9 @@
 //! Sockets in memory: they answer from a script, and keep every call that was answered.
-ghost use Rattle.std.specs.Prelude.{◌≡◌, ◌≤◌, ◌∷◌, [], true, IfOk, length};
+ghost use Rattle.std.specs.Prelude.{◌≡◌, ◌≤◌, ◌∷◌, [], true, IfOk, None, length};
 ghost use Rattle.std.specs.Vec.Iter.{into_iter_items};
 ghost use Rattle.nutloop.specs.declared.scripted.Act.TheVariants as act;
 ghost use Rattle.nutloop.specs.declared.sockets.Call.TheVariants.{Readied, Accepted, Named, Refused, Wrote, Shut};
-ghost use Rattle.nutio.specs.Ends.{IsCounted};
+ghost use Rattle.nutio.specs.Ends.{IsCounted, counted};
 ghost use Rattle.nutloop.specs.Sockets.{Grows, Logs, AtMost, read_call};
 ghost use Rattle.nutloop.specs.Scripted.{AnswersRead, AnswersWrite, Follows, IsKeptOrNot, told_while};
 
@@ -40,6 +40,7 @@ pub struct Scripted {
     calls: Vec<Call>,
     is_whole: bool,
     failures: u64,
+    refusals: u64,
 }
 
 impl Scripted {
@@ -48,6 +49,7 @@ impl Scripted {
         ensures calls { result.calls.items ≡ [] }
         ensures whole { result.is_whole ≡ true }
         ensures failures { result.failures ≡ 0 }
+        ensures refusals { result.refusals ≡ 0 }
         ensures script { into_iter_items result.script ≡ script.items }
     {
         Scripted {
@@ -56,6 +58,7 @@ impl Scripted {
             calls: Vec::new(alloc),
             is_whole: true,
             failures: 0,
+            refusals: 0,
         }
     }
 
@@ -79,6 +82,7 @@ impl Scripted {
         ensures calls { self.new.calls.items ≡ self.old.calls.items }
         ensures whole { self.new.is_whole ≡ self.old.is_whole }
         ensures count { self.new.failures ≡ self.old.failures }
+        ensures refusals { self.new.refusals ≡ self.old.refusals }
     {
         self.script.next().ok_or(Broken)
     }
@@ -90,6 +94,7 @@ impl Scripted {
             (told_while self.new.is_whole self.new.calls.items) (λ _. call) result }
         ensures whole { self.new.is_whole ≡ self.old.is_whole }
         ensures count { self.new.failures ≡ self.old.failures }
+        ensures refusals { self.new.refusals ≡ self.old.refusals }
     {
         match self.calls.push(call) {
             Ok(()) => Ok(()),
@@ -105,6 +110,7 @@ impl Scripted {
         ensures kept { IsKeptOrNot self.old.is_whole self.old.calls.items
             self.new.is_whole self.new.calls.items call }
         ensures count { self.new.failures ≡ self.old.failures }
+        ensures refusals { self.new.refusals ≡ self.old.refusals }
     {
         if self.calls.push(call).is_err() {
             self.is_whole = false;
@@ -118,6 +124,7 @@ impl Scripted {
         ensures calls { self.new.calls.items ≡ self.old.calls.items }
         ensures whole { self.new.is_whole ≡ self.old.is_whole }
         ensures count { IsCounted self.old.failures self.new.failures answer }
+        ensures refusals { self.new.refusals ≡ self.old.refusals }
     {
         if answer.is_err() {
             self.failures = self.failures.saturating_add(1);
@@ -132,6 +139,7 @@ impl Scripted {
             (told_while self.new.is_whole self.new.calls.items) Readied result }
         ensures whole { self.new.is_whole ≡ self.old.is_whole }
         ensures count { self.new.failures ≡ self.old.failures }
+        ensures refusals { self.new.refusals ≡ self.old.refusals }
     {
         let Act::Ready(ready) = self.next()? else {
             return Err(Broken);
@@ -147,6 +155,7 @@ impl Scripted {
             (told_while self.new.is_whole self.new.calls.items) Accepted result }
         ensures whole { self.new.is_whole ≡ self.old.is_whole }
         ensures count { self.new.failures ≡ self.old.failures }
+        ensures refusals { self.new.refusals ≡ self.old.refusals }
     {
         let Act::Comes(address) = self.next()? else {
             return Err(Broken);
@@ -167,6 +176,7 @@ impl Scripted {
             (told_while self.new.is_whole self.new.calls.items) (read_call p into.new) result }
         ensures whole { self.new.is_whole ≡ self.old.is_whole }
         ensures count { self.new.failures ≡ self.old.failures }
+        ensures refusals { self.new.refusals ≡ self.old.refusals }
     {
         let n = bytes.as_slice().len();
         if n > into.len() {
@@ -185,6 +195,7 @@ impl Scripted {
             (told_while self.new.is_whole self.new.calls.items) (read_call p into.new) result }
         ensures whole { self.new.is_whole ≡ self.old.is_whole }
         ensures count { self.new.failures ≡ self.old.failures }
+        ensures refusals { self.new.refusals ≡ self.old.refusals }
     {
         match self.next()? {
             Act::Gives(bytes) => self.give(p, bytes, into),
@@ -208,6 +219,7 @@ impl Scripted {
             (told_while self.new.is_whole self.new.calls.items) (Wrote p from.now) result }
         ensures whole { self.new.is_whole ≡ self.old.is_whole }
         ensures count { self.new.failures ≡ self.old.failures }
+        ensures refusals { self.new.refusals ≡ self.old.refusals }
     {
         let Act::Takes(most) = self.next()? else {
             return Err(Broken);
@@ -226,6 +238,10 @@ impl Sockets for Scripted {
 
     ghost failures = { λ s. s.failures };
 
+    ghost errors = { λ _ _. None };
+
+    ghost refused = { λ s. s.refusals };
+
     fn ready(&mut self, _server: &Server) -> Result<Ready, Broken>
         ensures script { Follows (λ ready next. next ≡ act.Ready ready)
             (into_iter_items self.old.script) result (into_iter_items self.new.script) }
@@ -233,6 +249,7 @@ impl Sockets for Scripted {
             (told_while self.new.is_whole self.new.calls.items) Readied result }
         ensures whole { self.new.is_whole ≡ self.old.is_whole }
         ensures count { IsCounted self.old.failures self.new.failures result }
+        ensures refusals { self.new.refusals ≡ self.old.refusals }
     {
         let answer = self.next_ready();
         self.count(answer)
@@ -245,6 +262,7 @@ impl Sockets for Scripted {
             (told_while self.new.is_whole self.new.calls.items) Accepted result }
         ensures whole { self.new.is_whole ≡ self.old.is_whole }
         ensures count { IsCounted self.old.failures self.new.failures result }
+        ensures refusals { self.new.refusals ≡ self.old.refusals }
     {
         let answer = self.next_newcomer();
         self.count(answer)
@@ -257,6 +275,7 @@ impl Sockets for Scripted {
         ensures kept { IsKeptOrNot self.old.is_whole self.old.calls.items
             self.new.is_whole self.new.calls.items (Named c) }
         ensures count { self.new.failures ≡ self.old.failures }
+        ensures refusals { self.new.refusals ≡ self.old.refusals }
     {
         self.keep_or_stop(Call::Named(c));
     }
@@ -268,8 +287,10 @@ impl Sockets for Scripted {
         ensures kept { IsKeptOrNot self.old.is_whole self.old.calls.items
             self.new.is_whole self.new.calls.items Refused }
         ensures count { self.new.failures ≡ self.old.failures }
+        ensures refusals { self.new.refusals ≡ counted self.old.refusals }
     {
         self.keep_or_stop(Call::Refused);
+        self.refusals = self.refusals.saturating_add(1);
     }
 
     fn read(&mut self, p: Peer, into: &mut [u8]) -> Result<Got, Broken>
@@ -280,6 +301,7 @@ impl Sockets for Scripted {
             (told_while self.new.is_whole self.new.calls.items) (read_call p into.new) result }
         ensures whole { self.new.is_whole ≡ self.old.is_whole }
         ensures count { IsCounted self.old.failures self.new.failures result }
+        ensures refusals { self.new.refusals ≡ self.old.refusals }
     {
         let answer = self.next_read(p, into);
         self.count(answer)
@@ -293,6 +315,7 @@ impl Sockets for Scripted {
             (told_while self.new.is_whole self.new.calls.items) (Wrote p from.now) result }
         ensures whole { self.new.is_whole ≡ self.old.is_whole }
         ensures count { IsCounted self.old.failures self.new.failures result }
+        ensures refusals { self.new.refusals ≡ self.old.refusals }
     {
         let answer = self.next_write(p, from);
         self.count(answer)
@@ -303,9 +326,8 @@ impl Sockets for Scripted {
         None
     }
 
-    /// They stand among the calls, and aren't counted beside them.
     fn refusals(&self) -> u64 {
-        0
+        self.refusals
     }
 
     fn shut(&mut self, p: Peer)
@@ -315,6 +337,7 @@ impl Sockets for Scripted {
         ensures kept { IsKeptOrNot self.old.is_whole self.old.calls.items
             self.new.is_whole self.new.calls.items (Shut p) }
         ensures count { self.new.failures ≡ self.old.failures }
+        ensures refusals { self.new.refusals ≡ self.old.refusals }
     {
         self.keep_or_stop(Call::Shut(p));
     }

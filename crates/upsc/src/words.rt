@@ -11,6 +11,8 @@ const PROGRAM: &str = "upsc";
 pub struct Upsc;
 
 impl Client for Upsc {
+    ghost which = { Program.Upsc };
+
     fn program() -> Program {
         Program::Upsc
     }

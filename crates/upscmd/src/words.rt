@@ -11,6 +11,8 @@ const PROGRAM: &str = "upscmd";
 pub struct Upscmd;
 
 impl Client for Upscmd {
+    ghost which = { Program.Upscmd };
+
     fn program() -> Program {
         Program::Upscmd
     }

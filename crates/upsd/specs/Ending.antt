@@ -1,5 +1,5 @@
 -- How the program ends by what it meets.
-use Rattle.std.specs.Prelude.{◌≡◌, ◌≢◌, ℕ, Bool, List, Result, Ok, Err}
+use Rattle.std.specs.Prelude.{◌≡◌, ◌≢◌, ◌⊎◌, ℕ, Bool, List, Result, Ok, Err}
 use denote.Ref.{Bor}
 use Rattle.nutusers.specs.File.{Format, IsRefused, number_of_cause}
 use Rattle.nutusers.specs.declared.fault.Cause.TheVariants as causes
@@ -7,6 +7,7 @@ use Rattle.nutusers.specs.declared.fault.ConfFault.{ConfFault}
 use Rattle.upsd.specs.declared.ending.Ending.{Ending}
 use Rattle.upsd.specs.declared.ending.Ending.TheVariants as endings
 use Rattle.upsd.specs.declared.ending.TheConstants.{DONE, FAULT, WORD_FAULT}
+use Rattle.nutloop.specs.declared.fault.LoopFault.{LoopFault}
 use Rattle.nutreplay.specs.declared.replaying.ReplayFault.{ReplayFault}
 use Rattle.nutreplay.specs.declared.replaying.ReplayFault.TheVariants as faults
 
@@ -27,6 +28,11 @@ abbrev pub ending_of_replay : Bor (List ℕ) → ReplayFault → Ending
 ending_of_replay script (faults.BadEvent line) = endings.BadEvent script line
 ending_of_replay script faults.Memory = endings.Memory
 ending_of_replay script faults.Write = endings.Write
+
+-- How serving ends, once it has a server.
+abbrev pub IsEndOfServing : Ending → Type 0
+IsEndOfServing ending = (ending ≡ endings.Memory) ⊎ ((ending ≡ endings.Listen)
+    ⊎ ((ending ≡ endings.Write) ⊎ ((fault : LoopFault) × (ending ≡ endings.Loop fault))))
 
 -- The status with which the program ends.
 abbrev pub status_of : Result (Unit {0}) Ending → ℕ

@@ -59,7 +59,13 @@ standing_at place s =
       is_forced = option_map_or (λ x. x.fsd) (ups_at place s) false;
     }
 
--- Of so many UPSs, the first ones, it is written how each stands; of no other is anything written.
-pub record IsWrittenUpTo (count : ℕ) (s : ServerState) (before after : List Standing) : Type 0 where
-  pub written : (place : ℕ) → place < count → slice_get after place ≡ Some (standing_at place s)
+-- Of so many UPSs, the first ones, it is written what each is now; of no other is anything written.
+pub record AreWrittenUpTo {A : Type 0} (count : ℕ) (now : ℕ → A) (before after : List A)
+    : Type 0 where
+  pub written : (place : ℕ) → place < count → slice_get after place ≡ Some (now place)
   pub others : (place : ℕ) → count ≤ place → slice_get after place ≡ slice_get before place
+
+-- So it is written how each stands.
+abbrev pub IsWrittenUpTo : ℕ → ServerState → List Standing → List Standing → Type 0
+IsWrittenUpTo count s before after =
+    AreWrittenUpTo count (λ place. standing_at place s) before after

@@ -4,9 +4,11 @@ pub mod Reading
 pub mod Configuration
 pub mod Replaying
 pub mod Task
-pub mod Connecting
+pub mod Words
 pub mod Deeds
 pub mod Logins
 pub mod Room
 pub mod Journal
+pub mod Connecting
+pub mod Looks
 pub mod Warnings

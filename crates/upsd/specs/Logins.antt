@@ -1,10 +1,17 @@
 -- Who is logged in, as the journal tells it.
-use Rattle.std.specs.Prelude.{ℕ, Bool, List, Option, ◌==◌, map}
+use Rattle.std.specs.Prelude.{ℕ, Bool, List, Option, ◌==◌, codes, map}
 use Rattle.std.specs.Option.{option_map}
 use Rattle.std.specs.List.{list_any, filter_map}
 use Rattle.nutcore.specs.Server.{ServerState}
 use Rattle.nutcore.specs.Status.{VisitorSeen, visitor_of}
 use Rattle.upsd.specs.declared.journal.logins.Login.{Login}
+use Rattle.upsd.specs.declared.journal.logins.Visit.{Visit}
+use Rattle.upsd.specs.declared.journal.logins.Visit.TheVariants.{Begun, Ended}
+
+-- The words of what is new of a login.
+abbrev pub text_of_visit : Visit → List ℕ
+text_of_visit Begun = codes "logged in"
+text_of_visit Ended = codes "logged out"
 
 -- The login of who has an open session, if there is one.
 abbrev pub login_of : VisitorSeen → Option Login

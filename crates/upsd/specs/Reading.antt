@@ -1,5 +1,5 @@
 -- What reading files gives.
-use Rattle.std.specs.Prelude.{◌≡◌, ℕ, List, Result, Err}
+use Rattle.std.specs.Prelude.{◌≡◌, ℕ, ⊤, List, Result, Err}
 use denote.Ref.{Bor}
 use Rattle.upsd.specs.declared.ending.Ending.{Ending}
 use Rattle.upsd.specs.declared.ending.Ending.TheVariants as endings
@@ -9,6 +9,10 @@ use Rattle.upsd.specs.declared.reading.ReadFault.TheVariants as faults
 -- What reading the file of a path gives: its bytes, or why it can't be read.
 abbrev pub Readings : Type 1
 Readings = List ℕ → Result (List ℕ) ReadFault → Type 0
+
+-- Any file may hold anything, as those of the system.
+abbrev pub anything : Readings
+anything path reading = ⊤
 
 -- How the program ends where it can't read a file.
 abbrev pub ending_of_unread : Bor (List ℕ) → ReadFault → Ending

@@ -9,8 +9,15 @@ use Rattle.nutwords.specs.Text.{is_silent}
 use Rattle.nutusers.specs.Line.{words_in}
 use Rattle.upsd.specs.declared.warnings.Kind.{Kind}
 use Rattle.upsd.specs.declared.warnings.Kind.TheVariants as kinds
+use Rattle.upsd.specs.declared.warnings.Danger.{Danger}
 use Rattle.upsd.specs.declared.warnings.Danger.TheVariants as dangers
 use Rattle.upsd.specs.declared.warnings.Warning.{Warning}
+
+-- The words of a danger.
+abbrev pub text_of : Danger → List ℕ
+text_of dangers.ExamplePassword = codes "a password of the example, which everybody knows"
+text_of dangers.SmallAll = codes "only ALL grants every command"
+text_of dangers.NoPassword = codes "a user without a password, who may do nothing"
 
 -- A password of examples/upsd.users.
 abbrev pub is_of_example : List ℕ → Bool

@@ -1,6 +1,7 @@
 //! The journal of the UPSs and their clients while they are served: a line for each change.
-ghost use Rattle.std.specs.Prelude.{◌≡◌, ◌<◌, length, slice_get, slice_set, replicate, option_map, Some, []};
+ghost use Rattle.std.specs.Prelude.{◌≡◌, ◌≢◌, ◌<◌, length, slice_get, slice_set, replicate, option_map, Some, []};
 ghost use Rattle.upsd.specs.Deeds.{after_deeds};
+ghost use Rattle.upsd.specs.Looks.{AreOthersKept, IsLookedAt};
 ghost use Rattle.upsd.specs.Journal.{data_news, driver_news, shutdown_news, text_of, ups_news, standing_at, IsWrittenUpTo};
 
 mod connecting;
@@ -102,6 +103,15 @@ impl Journal {
             self.old.written self.new.written }
         ensures refusals { self.new.refusals
             ≡ after_deeds self.old.refusals server.now.state.moment server.now.deeds }
+        ensures moment { self.new.moment ≡ Some server.now.state.moment }
+        // At each new moment all else is looked at,
+        ensures looks { self.old.moment ≢ Some server.now.state.moment
+            → IsLookedAt (S.errors sockets.now) (S.refused sockets.now) server.now.state
+            self.old self.new }
+        // and until then nothing of it is.
+        ensures rests { self.old.moment ≡ Some server.now.state.moment
+            → (self.new.connecting ≡ self.old.connecting) × (self.new.logins ≡ self.old.logins)
+            × (self.new.room ≡ self.old.room) }
     {
         self.refusals.write(rt, server);
         self.write_upses(rt, server);
@@ -119,6 +129,7 @@ impl Journal {
         ensures written { IsWrittenUpTo (length server.now.state.list) server.now.state
             self.old.written self.new.written }
         ensures refusals { self.new.refusals ≡ self.old.refusals }
+        ensures others { AreOthersKept self.old self.new }
     {
         for place in 0..server.ups().len() {
             let u = UpsId { place: place as u8 };
@@ -136,6 +147,7 @@ impl Journal {
             ≡ option_map (λ was. ups_news was now) (slice_get self.old.written place) }
         ensures written { self.new.written ≡ slice_set self.old.written place now }
         ensures refusals { self.new.refusals ≡ self.old.refusals }
+        ensures others { AreOthersKept self.old self.new }
     {
         let was = self.written[place];
         self.written[place] = now;

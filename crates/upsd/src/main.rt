@@ -1,10 +1,11 @@
 //! upsd: a UPS server that shares what the drivers of UPSs tell with clients over the network (RFC 9271).
 #![tactic(auto)]
 
-ghost use Rattle.std.specs.Prelude.{◌≡◌, ◌≢◌, ◌⊎◌, IfErr};
+ghost use Rattle.std.specs.Prelude.{◌≡◌, ◌≢◌, ◌⊎◌, [], Err, IfErr, IfOk, None, codes, false, map, string_bytes};
 ghost use Rattle.std.specs.Process.{exit_status};
-ghost use Rattle.clap.specs.Words.{kind_of};
+ghost use Rattle.clap.specs.Words.{app_of, kind_of, rule_of, subcommand_name_of};
 ghost use Rattle.upsd.specs.Ending.{status_of};
+ghost use Rattle.upsd.specs.Words.{AreRead, listen_word, max_age_word, option_word, replay_shape, script_word, serve_shape};
 
 mod ending;
 mod files;
@@ -59,7 +60,9 @@ fn words_of<'a>(rt: &HostRuntime) -> Result<Vec<String>, Ending<'a>>
 }
 
 /// What the words say.
-fn matches_of(alloc: Global, words: &[String]) -> Result<ArgMatches<'_>, Error> {
+fn matches_of(alloc: Global, words: &[String]) -> Result<ArgMatches<'_>, Error>
+    ensures { AreRead (map string_bytes words.entry.now) result }
+{
     let upsd = Command::new(alloc, "upsd")
         .about("A UPS server (RFC 9271)")
         .version(VERSION)
@@ -78,7 +81,9 @@ A line of a file that is refused is told as PATH:LINE: cause N:
 Example: upsd serve --ups upses.conf --users upsd.users --listen 127.0.0.1:3493";
 
 /// The words of `serve`.
-fn serve_command<'a>(alloc: Global) -> Result<Command<'a>, AllocError> {
+fn serve_command<'a>(alloc: Global) -> Result<Command<'a>, AllocError>
+    ensures { IfOk result (λ c. app_of c ≡ record { top = serve_shape; subs = [] }) }
+{
     // Each word is made where it is added, so that a refusal drops nothing else.
     Command::new(alloc, "serve")
         .about("Serves clients over the network what the UPSs' drivers tell")
@@ -96,7 +101,9 @@ fn serve_command<'a>(alloc: Global) -> Result<Command<'a>, AllocError> {
 }
 
 /// The words of `replay`.
-fn replay_command<'a>(alloc: Global) -> Result<Command<'a>, AllocError> {
+fn replay_command<'a>(alloc: Global) -> Result<Command<'a>, AllocError>
+    ensures { IfOk result (λ c. app_of c ≡ record { top = replay_shape; subs = [] }) }
+{
     Command::new(alloc, "replay")
         .about("Replays a script of events, and prints what was sent")
         .after_help("Example: upsd replay data/first.txt")
@@ -107,7 +114,10 @@ fn replay_command<'a>(alloc: Global) -> Result<Command<'a>, AllocError> {
 }
 
 /// The word that names the file of the descriptions.
-fn vars<'a>(alloc: Global) -> Arg<'a> {
+fn vars<'a>(alloc: Global) -> Arg<'a>
+    ensures word { rule_of result ≡ option_word (codes "vars") }
+    ensures local { result.global ≡ false }
+{
     file(
         alloc,
         "vars",
@@ -116,7 +126,10 @@ fn vars<'a>(alloc: Global) -> Arg<'a> {
 }
 
 /// The word that names the address to listen at.
-fn listen<'a>(alloc: Global) -> Arg<'a> {
+fn listen<'a>(alloc: Global) -> Arg<'a>
+    ensures word { rule_of result ≡ listen_word }
+    ensures local { result.global ≡ false }
+{
     Arg::new(alloc, "listen")
         .long("listen")
         .value_name("A:P")
@@ -125,7 +138,10 @@ fn listen<'a>(alloc: Global) -> Arg<'a> {
 }
 
 /// The word that says after how many seconds data are stale.
-fn max_age<'a>(alloc: Global) -> Arg<'a> {
+fn max_age<'a>(alloc: Global) -> Arg<'a>
+    ensures word { rule_of result ≡ max_age_word }
+    ensures local { result.global ≡ false }
+{
     Arg::new(alloc, "maxage")
         .long("maxage")
         .value_name("N")
@@ -134,14 +150,20 @@ fn max_age<'a>(alloc: Global) -> Arg<'a> {
 }
 
 /// The word that names the script.
-fn script<'a>(alloc: Global) -> Arg<'a> {
+fn script<'a>(alloc: Global) -> Arg<'a>
+    ensures word { rule_of result ≡ script_word }
+    ensures local { result.global ≡ false }
+{
     Arg::new(alloc, "SCRIPT")
         .required(true)
         .help("The script's file")
 }
 
 /// The word that names a file.
-fn file<'a>(alloc: Global, name: &'a str, help: &'a str) -> Arg<'a> {
+fn file<'a>(alloc: Global, name: &'a str, help: &'a str) -> Arg<'a>
+    ensures word { rule_of result ≡ option_word name.entry.now }
+    ensures local { result.global ≡ false }
+{
     Arg::new(alloc, name).long(name).value_name("F").help(help)
 }
 
@@ -162,7 +184,9 @@ fn end(rt: &HostRuntime, error: &Error) -> ExitCode
 }
 
 /// Does what the words ask for.
-fn run<'a>(rt: &HostRuntime, matches: &ArgMatches<'a>) -> Result<(), Ending<'a>> {
+fn run<'a>(rt: &HostRuntime, matches: &ArgMatches<'a>) -> Result<(), Ending<'a>>
+    ensures { subcommand_name_of matches.now ≡ None → result ≡ Err Ending.BadArgument }
+{
     let Some((name, found)) = matches.subcommand() else {
         return Err(Ending::BadArgument);
     };

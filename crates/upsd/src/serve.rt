@@ -4,6 +4,8 @@ ghost use Rattle.std.specs.IoError.{error_kind};
 ghost use Rattle.nutloop.specs.declared.fault.LoopFault.{LoopFault};
 ghost use Rattle.nutloop.specs.Serving.{IsOneRun, TurnsUpTo};
 ghost use Rattle.upsd.specs.Configuration.{FirstFails, IsServerOf};
+ghost use Rattle.upsd.specs.Ending.{IsEndOfServing};
+ghost use Rattle.upsd.specs.Reading.{anything};
 
 use crate::ending::Ending;
 use crate::files::{Configuration, Files, configuration_in};
@@ -26,7 +28,10 @@ pub fn serve_files<'a>(
     rt: &HostRuntime,
     files: Files<'a>,
     service: Service,
-) -> Result<(), Ending<'a>> {
+) -> Result<(), Ending<'a>>
+    ensures { IfErr result (λ ending.
+        FirstFails anything files.entry ending ⊎ IsEndOfServing ending) }
+{
     let server = server_of(rt.alloc(), rt, files, service.max_age)?;
     warn(rt, files.users);
     serve(rt, server, service.address)
@@ -55,7 +60,9 @@ fn server_of<'a, R: FileReader>(
 }
 
 /// Listens at the address, tells it, and serves from then on.
-fn serve<'a>(rt: &HostRuntime, mut server: Server, address: SocketAddr) -> Result<(), Ending<'a>> {
+fn serve<'a>(rt: &HostRuntime, mut server: Server, address: SocketAddr) -> Result<(), Ending<'a>>
+    ensures { IfErr result IsEndOfServing }
+{
     match MioSockets::new(rt, rt.alloc(), address, &server) {
         Ok(mut sockets) => match tell_address(rt, &sockets) {
             Ok(()) => go_round(rt, &mut server, &mut sockets),
@@ -94,7 +101,9 @@ fn go_round<'a, S: Sockets>(
 fn tell_address<'a>(
     rt: &HostRuntime,
     sockets: &MioSockets<'_, HostRuntime>,
-) -> Result<(), Ending<'a>> {
+) -> Result<(), Ending<'a>>
+    ensures { IfErr result (λ ending. (ending ≡ Ending.Listen) ⊎ (ending ≡ Ending.Write)) }
+{
     let Ok(bound) = sockets.local_addr() else {
         return Err(Ending::Listen);
     };

@@ -1,15 +1,17 @@
 //! What of the users' file is dangerous, though lawful: it is told where serving begins.
-ghost use Rattle.std.specs.Prelude.{◌≡◌, ◌++◌, ◌==◌, not, bit_and, OnOk, IfOk};
+ghost use Rattle.std.specs.Prelude.{◌≡◌, ◌++◌, ◌==◌, not, bit_and, OnOk, IfOk, MatchResult, Some};
+ghost use Rattle.std.specs.Fs.{metadata_mode};
 ghost use Rattle.nutwords.specs.Text.{lines_of};
 ghost use Rattle.nutusers.specs.Line.{words_in};
-ghost use Rattle.upsd.specs.Warnings.{begun, kind_of, kind_of_words, kind_of_setting, is_of_example, is_small_all, own_danger, at_end_of, open_after, after_line, warnings_of, listed};
+ghost use Rattle.upsd.specs.Warnings.{begun, text_of, kind_of, kind_of_words, kind_of_setting, is_of_example, is_small_all, own_danger, at_end_of, open_after, after_line, warnings_of, listed};
 ghost use Rattle.upsd.specs.declared.warnings.TheConstants.{READ_BY_ALL};
 
 use nutwords::{LINE_LIMIT, TextLines, Words, is_silent, is_word, words};
 use std::alloc::{AllocError, Global};
+use std::fs::Metadata;
 use std::marker::Model;
 use std::os::unix::fs::PermissionsExt;
-use std::{fmt, fs};
+use std::{fmt, fs, io};
 
 /// The bit of a file's mode by which everybody may read it.
 pub const READ_BY_ALL: u32 = 0o004;
@@ -23,6 +25,8 @@ pub enum Danger {
 }
 
 impl fmt::Display for Danger {
+    ghost output = { λ danger. Some (text_of danger) };
+
     fn fmt<W: fmt::Write>(&self, f: &mut fmt::Formatter<W>) -> fmt::Result {
         f.write_str(match self {
             Danger::ExamplePassword => "a password of the example, which everybody knows",
@@ -100,7 +104,7 @@ pub fn warn(rt: &HostRuntime, path: Option<&str>) {
     let Some(path) = path else {
         return;
     };
-    if is_for_all(mode_of(rt, path)) {
+    if is_for_all(mode_of(fs::metadata(rt, path))) {
         let _ = eprintln!(rt; "upsd: warning: {path}: everybody may read it");
     }
     let Ok(text) = fs::read(rt, path) else {
@@ -119,9 +123,11 @@ fn tell_each(rt: &HostRuntime, path: &str, warnings: &[Warning]) {
     }
 }
 
-/// The mode of the file, 0 where the system doesn't tell it.
-fn mode_of(rt: &HostRuntime, path: &str) -> u32 {
-    match fs::metadata(rt, path) {
+/// The mode of a file, 0 where the system doesn't tell it.
+fn mode_of(metadata: io::Result<Metadata>) -> u32
+    ensures { MatchResult metadata (λ told. result ≡ metadata_mode told) (λ _. result ≡ 0) }
+{
+    match metadata {
         Ok(metadata) => metadata.permissions().mode(),
         Err(_) => 0,
     }

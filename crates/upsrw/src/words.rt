@@ -11,6 +11,8 @@ const PROGRAM: &str = "upsrw";
 pub struct Upsrw;
 
 impl Client for Upsrw {
+    ghost which = { Program.Upsrw };
+
     fn program() -> Program {
         Program::Upsrw
     }

@@ -1,6 +1,6 @@
 //! The sockets of clients.
 ghost use Rattle.std.specs.Prelude.{◌≡◌, ◌≤◌, length, IfOk};
-ghost use Rattle.nutloop.specs.Peers.{IsClientNoted, IsRead, IsSameClient, IsWritten, client_place};
+ghost use Rattle.nutloop.specs.Peers.{IsClientNoted, IsRead, IsSameClient, IsWritten, client_place, client_with};
 ghost use Rattle.nutloop.specs.Sockets.{AtMost};
 ghost use Rattle.nutloop.specs.Standing.{client_flags, heard, standing_of};
 
@@ -85,4 +85,11 @@ pub(super) fn client_place(clients: &[ClientSocket], c: ClientId) -> Option<usiz
     ensures { result ≡ client_place c clients.now }
 {
     clients.iter().position(|client| client.id == c)
+}
+
+/// Where the client's socket is that has this token.
+pub(super) fn client_with(clients: &[ClientSocket], token: Token) -> Option<usize>
+    ensures { result ≡ client_with token clients.now }
+{
+    clients.iter().position(|client| client.token.0 == token.0)
 }

@@ -1,6 +1,8 @@
 //! The listener, and the newcomer that it took in last.
-ghost use Rattle.std.specs.Prelude.{◌≡◌, IfOk, None, OnErr, OnOk, Some, option_map};
+ghost use Rattle.std.specs.Prelude.{◌≡◌, IfOk, None, OnErr, OnOk, Some, if◌then◌else◌, is_ok, option_map, true};
+ghost use Rattle.nutio.specs.Ends.{counted};
 ghost use Rattle.std.specs.Net.Text.{ip_text};
+ghost use Rattle.nutloop.specs.Door.{ComesIn};
 
 use super::readiness::both_ways;
 use crate::sockets::Broken;
@@ -41,7 +43,11 @@ impl Door {
         alloc: Global,
         registry: &Registry,
         address: SocketAddr,
-    ) -> io::Result<Door> {
+    ) -> io::Result<Door>
+        ensures knocked { IfOk result (λ door. door.is_knocked_at ≡ true) }
+        ensures newcomer { IfOk result (λ door. door.newcomer ≡ None) }
+        ensures count { IfOk result (λ door. door.count ≡ 0) }
+    {
         let mut listener = TcpListener::bind(rt, address)?;
         registry.register(&mut listener, LISTENER, Interest::READABLE)?;
         Ok(Door {
@@ -64,7 +70,9 @@ impl Door {
     /// # Errors
     ///
     /// The listener listens no more.
-    pub fn accept(&mut self, registry: &Registry) -> Result<Option<Address>, Broken> {
+    pub fn accept(&mut self, registry: &Registry) -> Result<Option<Address>, Broken>
+        ensures { ComesIn self.old self.new result }
+    {
         match self.listener.accept() {
             Ok((stream, address)) => Ok(self.take_in(registry, stream, address.ip()).ok()),
             Err(error) => match error.kind() {
@@ -89,6 +97,8 @@ impl Door {
         ensures taken { OnOk result
             (option_map (λ x. x.token) self.new.newcomer ≡ Some (record { 0 = self.old.count })) }
         ensures left { OnErr result (self.new.newcomer ≡ self.old.newcomer) }
+        ensures knocked { self.new.is_knocked_at ≡ self.old.is_knocked_at }
+        ensures count { self.new.count ≡ (if is_ok result then counted self.old.count else self.old.count) }
     {
         let text = format!(in self.alloc; "{ip}")?;
         let Ok(address) = Address::read(text.as_bytes()) else {

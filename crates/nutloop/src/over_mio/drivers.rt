@@ -1,7 +1,7 @@
 //! The sockets of drivers.
-ghost use Rattle.std.specs.Prelude.{◌≡◌, ◌≤◌, length, false, IfOk, MatchOption};
+ghost use Rattle.std.specs.Prelude.{◌≡◌, ◌≤◌, length, false, true, IfOk, MatchOption};
 ghost use Rattle.nutloop.specs.Peers.{IsDriverNoted, IsRead, IsSameDriver, IsWritten, NotesDrivers};
-ghost use Rattle.nutloop.specs.Peers.{driver_place};
+ghost use Rattle.nutloop.specs.Peers.{driver_place, driver_token, driver_with, is_there};
 ghost use Rattle.nutloop.specs.Sockets.{AtMost};
 ghost use Rattle.nutloop.specs.Standing.{driver_flags, heard, is_driver_owed};
 
@@ -33,7 +33,14 @@ pub(super) struct DriverSocket {
 
 impl DriverSocket {
     /// Connects to the driver of a UPS, whose socket has this path.
-    pub fn connect<R: Net>(rt: &R, registry: &Registry, u: UpsId, path: &str) -> io::Result<Self> {
+    pub fn connect<R: Net>(rt: &R, registry: &Registry, u: UpsId, path: &str) -> io::Result<Self>
+        ensures ups { IfOk result (λ x. x.u ≡ u) }
+        ensures fresh { IfOk result (λ x. x.readiness
+            ≡ record { readable = false; writable = true; ended = false }) }
+        // It is told at its first turn that it is there.
+        ensures is_told { IfOk result (λ x. x.is_told ≡ false) }
+        ensures flags { IfOk result (λ x. x.flags ≡ record { readable = false; writable = false }) }
+    {
         let mut stream = UnixStream::connect(rt, path)?;
         registry.register(&mut stream, driver_token(u), both_ways())?;
         Ok(DriverSocket {
@@ -120,7 +127,9 @@ pub(super) fn note_drivers(drivers: &mut [DriverSocket], round: &mut Round, serv
 }
 
 /// The token by which events tell of the UPS's driver.
-pub(super) fn driver_token(u: UpsId) -> Token {
+pub(super) fn driver_token(u: UpsId) -> Token
+    ensures { result ≡ driver_token u }
+{
     Token(FIRST_DRIVER + u.place as usize)
 }
 
@@ -129,4 +138,20 @@ pub(super) fn driver_place(drivers: &[DriverSocket], u: UpsId) -> Option<usize>
     ensures { result ≡ driver_place u drivers.now }
 {
     drivers.iter().position(|driver| driver.u.place == u.place)
+}
+
+/// Where the driver's socket is that has this token.
+pub(super) fn driver_with(drivers: &[DriverSocket], token: Token) -> Option<usize>
+    ensures { result ≡ driver_with token drivers.now }
+{
+    drivers
+        .iter()
+        .position(|driver| driver_token(driver.u).0 == token.0)
+}
+
+/// Whether this UPS's driver is there.
+pub(super) fn is_there(drivers: &[DriverSocket], u: UpsId) -> bool
+    ensures { result ≡ is_there u drivers.now }
+{
+    drivers.iter().any(|driver| driver.u.place == u.place)
 }

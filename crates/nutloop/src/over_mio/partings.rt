@@ -1,4 +1,6 @@
 //! The sockets of clients whose sessions have ended.
+ghost use Rattle.std.specs.Prelude.{◌≤◌, vec_len};
+
 use super::clients::ClientSocket;
 use crate::pace::Pace;
 use mio::Token;
@@ -56,7 +58,9 @@ pub(super) fn part(partings: &mut Vec<Parting>, client: ClientSocket, until: u64
 }
 
 /// Reads a piece of each that may be read, and closes those that have ended, or whose time is over.
-pub(super) fn drain_all(partings: &mut Vec<Parting>, pace: &Pace) {
+pub(super) fn drain_all(partings: &mut Vec<Parting>, pace: &Pace)
+    ensures { vec_len partings.new ≤ vec_len partings.old }
+{
     partings.retain_mut(|parting| {
         let has_ended = parting.readable && parting.drain();
         pace.keeps(parting.until, has_ended)

@@ -1,27 +1,31 @@
 //! The sockets of all peers, and their places in the round.
-ghost use Rattle.std.specs.Prelude.{◌≡◌, ◌≢◌, ◌≤◌, ◌⊎◌, ◌++◌, ◌∷◌, [], false, length, IfOk, MatchOption};
+ghost use Rattle.std.specs.Prelude.{◌≡◌, ◌≢◌, ◌≤◌, ◌<◌, ◌⊎◌, ◌++◌, ◌∷◌, [], ℤ, Option, None, false, length, slice_set, true};
+ghost use Rattle.std.specs.Prelude.{replicate, IfOk, MatchOption, MatchResult, OnOk};
 ghost use Rattle.std.specs.Prelude.{vec_capacity, vec_len};
 ghost use Rattle.std.specs.IoError.{raw_os_error};
 ghost use Rattle.std.specs.List.{list_any, remove};
-ghost use Rattle.std.specs.Option.{unwrap_or};
+ghost use Rattle.std.specs.Option.{option_copied, unwrap_or};
+ghost use Rattle.mio.specs.Event.{event_token};
 ghost use Rattle.nutloop.specs.Peers.{NotesBefore, NotesLast, ReadsPeer, ShutsPeer, WritesPeer};
-ghost use Rattle.nutloop.specs.Peers.{client_of, client_place};
+ghost use Rattle.nutloop.specs.Peers.{AreTried, GrowsBehind, HearsClient, HearsPeer, IsTried, client_of, client_place};
+ghost use Rattle.nutloop.specs.Peers.{error_of, is_there, socket_of, told_by};
+ghost use Rattle.nutloop.specs.declared.over_mio.drivers.DriverSocket.{DriverSocket};
 ghost use Rattle.nutloop.specs.Round.{LeavesOut, Notes, TakesIn};
 ghost use Rattle.nutloop.specs.Sockets.{AtMost};
 ghost use Rattle.nutloop.specs.Standing.{TellsTurn, seat_of};
-ghost use Rattle.nutloop.specs.declared.round.Seat.TheVariants.{Client, Listener};
+ghost use Rattle.nutloop.specs.declared.round.Seat.TheVariants.{Client, Driver, Listener};
 
-use super::clients::{ClientSocket, client_place};
+use super::clients::{ClientSocket, client_place, client_with};
 use super::door::Newcomer;
-use super::drivers::{DriverSocket, driver_place, driver_token, note_drivers};
+use super::drivers::{DriverSocket, driver_place, driver_with, is_there, note_drivers};
 use super::partings::{PARTING_LIMIT, Parting, drain_all, part};
 use super::readiness::told_by;
 use crate::pace::Pace;
 use crate::round::{Flags, Round, Seat};
 use crate::sockets::{Broken, Got, Ready};
 use crate::standing::{Readiness, ready_of};
-use mio::Registry;
 use mio::event::Event;
+use mio::{Registry, Token};
 use nutcore::{ClientId, Peer, SESSION_LIMIT, Server, UpsId};
 use nutusers::UPS_LIMIT;
 use std::alloc::Global;
@@ -49,7 +53,15 @@ pub(super) struct Peers {
 }
 
 impl Peers {
-    pub fn new(alloc: Global) -> io::Result<Peers> {
+    pub fn new(alloc: Global) -> io::Result<Peers>
+        ensures nobody { IfOk result (λ x. (x.clients.items ≡ []) × (x.drivers.items ≡ [])
+            × (x.partings.items ≡ [])) }
+        // Only the listener has a seat.
+        ensures seats { IfOk result (λ x. TakesIn Listener [] x.round.places.items) }
+        ensures last { IfOk result (λ x. x.round.last ≡ Listener) }
+        ensures known { IfOk result (λ x. x.is_knocked_at ≡ false) }
+        ensures errors { IfOk result (λ x. x.driver_errors ≡ replicate UPS_LIMIT None) }
+    {
         let mut round = Round::new(alloc, SEAT_LIMIT)?;
         round.enter(Seat::Listener)?;
         Ok(Peers {
@@ -64,48 +76,121 @@ impl Peers {
 
     /// Connects to the drivers that aren't, where a path is named. One that can't be connected to is passed over, and the
     /// error noted.
-    pub fn connect<R: Net>(&mut self, rt: &R, registry: &Registry, server: &Server) {
+    pub fn connect<R: Net>(&mut self, rt: &R, registry: &Registry, server: &Server)
+        ensures tried { AreTried server.now.state.list
+            self.new.drivers.items self.new.driver_errors }
+        ensures drivers { GrowsBehind self.old.drivers.items self.new.drivers.items }
+        ensures clients { self.new.clients.items ≡ self.old.clients.items }
+        ensures partings { self.new.partings.items ≡ self.old.partings.items }
+        ensures last { self.new.round.last ≡ self.old.round.last }
+        ensures known { self.new.is_knocked_at ≡ self.old.is_knocked_at }
+    {
         for place in 0..server.ups().len() {
-            let u = UpsId { place: place as u8 };
-            let Some(path) = self.missing(server, u) else {
-                continue;
-            };
-            match DriverSocket::connect(rt, registry, u, path) {
-                Ok(socket) => {
-                    self.note_error(u, None);
-                    self.take_driver(socket);
-                }
-                Err(error) => self.note_error(u, Some(error_number(&error))),
-            }
+            self.connect_one(rt, registry, server, UpsId { place: place as u8 });
+        }
+    }
+
+    /// Connects to the driver of a UPS, if it isn't there and its path is named, and notes the error where that fails.
+    fn connect_one<R: Net>(&mut self, rt: &R, registry: &Registry, server: &Server, u: UpsId)
+        requires { u.place < UPS_LIMIT }
+        ensures tried { IsTried u server.now.state.list
+            self.new.drivers.items self.new.driver_errors }
+        ensures drivers { GrowsBehind self.old.drivers.items self.new.drivers.items }
+        ensures errors { (error : Option ℤ)
+            × ((self.new.driver_errors ≡ self.old.driver_errors)
+            ⊎ (self.new.driver_errors ≡ slice_set self.old.driver_errors u.place error)) }
+        ensures clients { self.new.clients.items ≡ self.old.clients.items }
+        ensures partings { self.new.partings.items ≡ self.old.partings.items }
+        ensures last { self.new.round.last ≡ self.old.round.last }
+        ensures known { self.new.is_knocked_at ≡ self.old.is_knocked_at }
+    {
+        if let Some(path) = self.missing(server, u) {
+            let error = self.try_driver(rt, registry, u, path);
+            self.note_error(u, error);
+        }
+    }
+
+    /// Connects to the driver of a UPS. The number of the error, where that fails.
+    #[tactic(auto, using(crate::proofs::TriedDrivers::there_last))]
+    fn try_driver<R: Net>(
+        &mut self,
+        rt: &R,
+        registry: &Registry,
+        u: UpsId,
+        path: &str,
+    ) -> Option<i32>
+        ensures tried { MatchOption result (is_there u self.new.drivers.items ≡ true)
+            (λ _. self.new.drivers.items ≡ self.old.drivers.items) }
+        ensures drivers { GrowsBehind self.old.drivers.items self.new.drivers.items }
+        ensures errors { self.new.driver_errors ≡ self.old.driver_errors }
+        ensures clients { self.new.clients.items ≡ self.old.clients.items }
+        ensures partings { self.new.partings.items ≡ self.old.partings.items }
+        ensures last { self.new.round.last ≡ self.old.round.last }
+        ensures known { self.new.is_knocked_at ≡ self.old.is_knocked_at }
+    {
+        match self.take_driver(rt, registry, u, path) {
+            Ok(()) => None,
+            Err(error) => Some(error_number(&error)),
         }
     }
 
     /// Notes by which error the driver couldn't be connected to, or that it could.
-    fn note_error(&mut self, u: UpsId, error: Option<i32>) {
-        if let Some(noted) = self.driver_errors.get_mut(u.place as usize) {
-            *noted = error;
-        }
+    fn note_error(&mut self, u: UpsId, error: Option<i32>)
+        requires { u.place < UPS_LIMIT }
+        ensures errors { self.new.driver_errors ≡ slice_set self.old.driver_errors u.place error }
+        ensures noted { error_of u self.new.driver_errors ≡ error }
+        ensures same { self.new ≡ record self.old { driver_errors = self.new.driver_errors } }
+    {
+        self.driver_errors[u.place as usize] = error;
     }
 
     /// The number of the error by which the driver couldn't be connected to, when that was tried last.
-    pub fn driver_error(&self, u: UpsId) -> Option<i32> {
+    pub fn driver_error(&self, u: UpsId) -> Option<i32>
+        ensures { result ≡ error_of u self.now.driver_errors }
+    {
         *self.driver_errors.get(u.place as usize)?
     }
 
     /// The path of the UPS's socket, where its driver isn't connected.
-    fn missing<'a>(&self, server: &'a Server, u: UpsId) -> Option<&'a str> {
-        match driver_place(&self.drivers, u) {
-            Some(_) => None,
-            None => server.ups().socket(u),
+    fn missing<'a>(&self, server: &'a Server, u: UpsId) -> Option<&'a str>
+        ensures there { is_there u self.now.drivers.items ≡ true → result ≡ None }
+        ensures path { is_there u self.now.drivers.items ≡ false
+            → option_copied result ≡ socket_of u server.now.state.list }
+    {
+        if is_there(&self.drivers, u) {
+            return None;
         }
+        server.ups().socket(u)
     }
 
-    /// Takes in a driver. There is room, of seats too: no server has more UPSs, or more sessions.
-    fn take_driver(&mut self, socket: DriverSocket) {
-        let seat = Seat::Driver(socket.u);
-        if self.drivers.push(socket).is_ok() {
-            let _ = self.round.enter(seat);
+    /// Connects to the driver of a UPS, and takes it in. There is room, of seats too: no server has more UPSs, or more
+    /// sessions.
+    fn take_driver<R: Net>(
+        &mut self,
+        rt: &R,
+        registry: &Registry,
+        u: UpsId,
+        path: &str,
+    ) -> io::Result<()>
+        ensures taken { MatchResult result
+            (λ _. (x : DriverSocket) × (x.u ≡ u)
+            × (self.new.drivers.items ≡ self.old.drivers.items ++ x ∷ []))
+            (λ _. self.new.drivers.items ≡ self.old.drivers.items) }
+        ensures seat { OnOk result
+            ((vec_capacity self.old.round.places ≤ vec_len self.old.round.places)
+            ⊎ TakesIn (Driver u) self.old.round.places.items self.new.round.places.items) }
+        ensures errors { self.new.driver_errors ≡ self.old.driver_errors }
+        ensures clients { self.new.clients.items ≡ self.old.clients.items }
+        ensures partings { self.new.partings.items ≡ self.old.partings.items }
+        ensures last { self.new.round.last ≡ self.old.round.last }
+        ensures known { self.new.is_knocked_at ≡ self.old.is_knocked_at }
+    {
+        let socket = DriverSocket::connect(rt, registry, u, path)?;
+        if self.drivers.push(socket).is_err() {
+            return Err(io::Error::from(io::ErrorKind::OutOfMemory));
         }
+        let _ = self.round.enter(Seat::Driver(u));
+        Ok(())
     }
 
     /// Takes the newcomer in as the client of this session.
@@ -130,14 +215,41 @@ impl Peers {
     }
 
     /// Notes what an event tells of a peer.
-    pub fn hear(&mut self, event: &Event, server: &Server) {
-        let token = event.token();
-        let told = told_by(event);
-        if let Some(at) = self.drivers.iter().position(|x| driver_token(x.u) == token) {
-            self.drivers[at].hear(told, &mut self.round, server);
-        } else if let Some(at) = self.clients.iter().position(|x| x.token == token) {
-            self.clients[at].hear(told, &mut self.round, server);
-        } else if let Some(at) = self.partings.iter().position(|x| x.token == token) {
+    pub fn hear(&mut self, event: &Event, server: &Server)
+        ensures heard { HearsPeer (event_token event.now) (told_by event.now) server.now.state
+            self.old.clients.items self.new.clients.items
+            self.old.drivers.items self.new.drivers.items
+            self.old.round.places.items self.new.round.places.items }
+        ensures last { self.new.round.last ≡ self.old.round.last }
+        ensures known { self.new.is_knocked_at ≡ self.old.is_knocked_at }
+    {
+        let (token, told) = (event.token(), told_by(event));
+        match driver_with(&self.drivers, token) {
+            Some(at) => self.drivers[at].hear(told, &mut self.round, server),
+            None => self.hear_client(token, told, server),
+        }
+    }
+
+    /// Notes what an event tells of a client, or of one that left.
+    fn hear_client(&mut self, token: Token, told: Readiness, server: &Server)
+        ensures heard { HearsClient token told server.now.state
+            self.old.clients.items self.new.clients.items
+            self.old.round.places.items self.new.round.places.items }
+        ensures drivers { self.new.drivers.items ≡ self.old.drivers.items }
+        ensures last { self.new.round.last ≡ self.old.round.last }
+        ensures known { self.new.is_knocked_at ≡ self.old.is_knocked_at }
+    {
+        match client_with(&self.clients, token) {
+            Some(at) => self.clients[at].hear(told, &mut self.round, server),
+            None => self.hear_parting(token),
+        }
+    }
+
+    /// Notes that a client that left may be read.
+    fn hear_parting(&mut self, token: Token)
+        ensures { self.new ≡ record self.old { partings = self.new.partings } }
+    {
+        if let Some(at) = self.partings.iter().position(|x| x.token == token) {
             self.partings[at].readable = true;
         }
     }
@@ -179,6 +291,8 @@ impl Peers {
             → Notes Listener (record { readable = is_knocked_at; writable = false })
             self.old.round.places.items self.new.round.places.items }
         ensures last { self.new.round.last ≡ self.old.round.last }
+        ensures drivers { self.new.drivers.items ≡ self.old.drivers.items }
+        ensures errors { self.new.driver_errors ≡ self.old.driver_errors }
     {
         if is_knocked_at == self.is_knocked_at {
             return;
@@ -300,7 +414,10 @@ impl Peers {
     }
 
     /// Reads and drops what such clients sent.
-    pub fn drain(&mut self, pace: &Pace) {
+    pub fn drain(&mut self, pace: &Pace)
+        ensures same { self.new ≡ record self.old { partings = self.new.partings } }
+        ensures kept { vec_len self.new.partings ≤ vec_len self.old.partings }
+    {
         drain_all(&mut self.partings, pace);
     }
 }

@@ -1,9 +1,12 @@
 //! Going round the peers, and asking the system what is ready.
-ghost use Rattle.std.specs.Prelude.{◌≡◌, ◌≤◌, ◌⊎◌, length, IfOk, None, OnOk};
+ghost use Rattle.std.specs.Prelude.{◌≡◌, ◌≤◌, ◌⊎◌, [], length, IfOk, IfSome, None, OnOk, false, replicate, true};
 ghost use Rattle.std.specs.Prelude.{vec_capacity, vec_len};
-ghost use Rattle.nutloop.specs.Peers.{ReadsPeer, ShutsPeer, TakesNewcomer, WritesPeer};
+ghost use Rattle.nutloop.specs.Door.{ComesIn};
+ghost use Rattle.nutloop.specs.Peers.{AreTried, GrowsBehind, ReadsPeer, ShutsPeer, TakesNewcomer, WritesPeer, error_of};
 ghost use Rattle.nutloop.specs.Pace.{Ticks};
-ghost use Rattle.nutloop.specs.Round.{LeavesOut};
+ghost use Rattle.nutloop.specs.Round.{LeavesOut, TakesIn};
+ghost use Rattle.nutloop.specs.declared.round.Seat.TheVariants.{Listener};
+ghost use Rattle.nutusers.specs.declared.limits.TheConstants.{UPS_LIMIT};
 ghost use Rattle.nutloop.specs.Sockets.{AtMost};
 ghost use Rattle.nutloop.specs.Standing.{IsTold, seat_of};
 
@@ -46,7 +49,18 @@ fn hear_all(events: &Events, door: &mut Door, peers: &mut Peers, server: &Server
 }
 
 impl<'a, R: Net + Clock> Rounds<'a, R> {
-    pub fn new(rt: &'a R, alloc: Global, address: SocketAddr) -> io::Result<Self> {
+    pub fn new(rt: &'a R, alloc: Global, address: SocketAddr) -> io::Result<Self>
+        ensures nobody { IfOk result (λ x. (x.peers.clients.items ≡ [])
+            × (x.peers.drivers.items ≡ []) × (x.peers.partings.items ≡ [])) }
+        ensures seats { IfOk result (λ x. TakesIn Listener [] x.peers.round.places.items) }
+        ensures last { IfOk result (λ x. x.peers.round.last ≡ Listener) }
+        ensures errors { IfOk result (λ x. x.peers.driver_errors ≡ replicate UPS_LIMIT None) }
+        ensures newcomer { IfOk result (λ x. x.door.newcomer ≡ None) }
+        // Newcomers are looked for before the first turn.
+        ensures knocked { IfOk result (λ x. x.door.is_knocked_at ≡ true) }
+        ensures pace { IfOk result
+            (λ x. x.pace ≡ record { second = 0; turns = 0; was_driver_read = false }) }
+    {
         let poll = Poll::new(rt)?;
         let door = Door::open(rt, alloc, poll.registry(), address)?;
         Ok(Rounds {
@@ -62,6 +76,11 @@ impl<'a, R: Net + Clock> Rounds<'a, R> {
 
     /// Connects to the drivers that aren't.
     pub fn connect(&mut self, server: &Server)
+        ensures tried { AreTried server.now.state.list
+            self.new.peers.drivers.items self.new.peers.driver_errors }
+        ensures drivers { GrowsBehind self.old.peers.drivers.items self.new.peers.drivers.items }
+        ensures clients { self.new.peers.clients.items ≡ self.old.peers.clients.items }
+        ensures door { self.new.door ≡ self.old.door }
         ensures pace { self.new.pace ≡ self.old.pace }
     {
         self.peers.connect(self.rt, self.poll.registry(), server);
@@ -98,6 +117,10 @@ impl<'a, R: Net + Clock> Rounds<'a, R> {
             (self.new.peers.is_knocked_at ≡ self.new.door.is_knocked_at) }
         ensures ticks { IfOk result (λ tick.
             Ticks tick self.old.pace.second self.new.pace.second) }
+        ensures tried { IfOk result (λ tick. IfSome tick (λ _. AreTried server.now.state.list
+            self.new.peers.drivers.items self.new.peers.driver_errors)) }
+        ensures knocked { IfOk result (λ tick. IfSome tick
+            (λ _. self.new.door.is_knocked_at ≡ true)) }
     {
         self.poll.poll(&mut self.events, Some(wait))?;
         hear_all(&self.events, &mut self.door, &mut self.peers, server);
@@ -112,7 +135,11 @@ impl<'a, R: Net + Clock> Rounds<'a, R> {
     }
 
     /// The next newcomer.
-    pub fn accept(&mut self) -> Result<Option<Address>, Broken> {
+    pub fn accept(&mut self) -> Result<Option<Address>, Broken>
+        ensures takes { ComesIn self.old.door self.new.door result }
+        ensures peers { self.new.peers ≡ self.old.peers }
+        ensures pace { self.new.pace ≡ self.old.pace }
+    {
         self.door.accept(self.poll.registry())
     }
 
@@ -147,7 +174,9 @@ impl<'a, R: Net + Clock> Rounds<'a, R> {
     }
 
     /// The system's number of the error by which the driver couldn't be connected to, when that was tried last.
-    pub fn driver_error(&self, u: UpsId) -> Option<i32> {
+    pub fn driver_error(&self, u: UpsId) -> Option<i32>
+        ensures { result ≡ error_of u self.now.peers.driver_errors }
+    {
         self.peers.driver_error(u)
     }
 

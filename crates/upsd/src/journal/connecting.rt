@@ -1,6 +1,6 @@
 //! The journal of drivers that can't be connected to, and why.
-ghost use Rattle.std.specs.Prelude.{◌≡◌, ◌<◌, MatchOption, slice_get, slice_set, replicate, None};
-ghost use Rattle.upsd.specs.Connecting.{IsErrorNews};
+ghost use Rattle.std.specs.Prelude.{◌≡◌, ◌<◌, MatchOption, length, slice_get, slice_set, replicate, None};
+ghost use Rattle.upsd.specs.Connecting.{AreErrorsWrittenUpTo, IsErrorNews};
 
 use nutcore::{Server, UpsId};
 use nutloop::Sockets;
@@ -25,7 +25,10 @@ impl Connecting {
     }
 
     /// Writes a line of each driver that can't be connected to by another error than was written last.
-    pub fn write<S: Sockets>(&mut self, rt: &HostRuntime, server: &Server, sockets: &S) {
+    pub fn write<S: Sockets>(&mut self, rt: &HostRuntime, server: &Server, sockets: &S)
+        ensures { AreErrorsWrittenUpTo (length server.now.state.list) (S.errors sockets.now)
+            self.old.written self.new.written }
+    {
         for place in 0..server.ups().len() {
             let u = UpsId { place: place as u8 };
             if let Some(number) = self.take_news(place, sockets.driver_error(u)) {

@@ -1,8 +1,8 @@
 //! The journal of logins: who logged in to which UPS, and who logged out.
-ghost use Rattle.std.specs.Prelude.{◌≡◌, ◌⊎◌, slice_get, option_map, IfOk, Some};
+ghost use Rattle.std.specs.Prelude.{◌≡◌, ◌⊎◌, slice_get, option_map, IfOk, Some, []};
 ghost use Rattle.std.specs.Option.{option_and_then};
 ghost use Rattle.nutcore.specs.Status.{visitor_of};
-ghost use Rattle.upsd.specs.Logins.{is_among, login_of, logins_of};
+ghost use Rattle.upsd.specs.Logins.{is_among, login_of, logins_of, text_of_visit};
 
 use nutcore::{ClientId, SESSION_LIMIT, Server, UpsId};
 use nutusers::UserName;
@@ -18,6 +18,8 @@ pub enum Visit {
 }
 
 impl fmt::Display for Visit {
+    ghost output = { λ visit. Some (text_of_visit visit) };
+
     fn fmt<W: fmt::Write>(&self, f: &mut fmt::Formatter<W>) -> fmt::Result {
         f.write_str(match self {
             Visit::Begun => "logged in",
@@ -44,7 +46,9 @@ pub struct Logins {
 
 impl Logins {
     /// Nobody.
-    pub fn new(alloc: Global) -> Logins {
+    pub fn new(alloc: Global) -> Logins
+        ensures { result.written.items ≡ [] }
+    {
         Logins {
             alloc,
             written: Vec::new(alloc),
