@@ -29,6 +29,11 @@ PRINTED = b'a: 1\nb: 2 "x\\\n'
 ASKED = b"LIST VAR su\n"
 SET = ("upsrw", "-s", "ups.delay=30", "-u", "admin", "-p", "s3 cret", "su@localhost:3494")
 USER, PASSWORD = b'USERNAME "admin"\n', b'PASSWORD "s3 cret"\n'
+ID = "1bd31808-cb49-4aec-9d75-d056e6f018d2"
+TRACKED_SET = ("upsrw", "--track", *SET[1:])
+TRACKED_COMMAND = ("upscmd", "--track", "-u", "admin", "-p", "s3 cret", "su", "load.off", "1 0")
+TRACKED = USER + PASSWORD + b"SET TRACKING ON\n"
+PROGRESS = ("upsc", "--tracked", ID, "su")
 
 
 class Row(NamedTuple):
@@ -136,6 +141,10 @@ def asked_for():
     yield Row(("upsrw", "su"), writable, b"LIST RW su\n", b"ups.delay=30\n")
     yield Row(("upscmd", "-l", "su"), commands, b"LIST CMD su\n", b"load.off\nload.on\n")
     yield Row(SET, b"OK\n" * 3, USER + PASSWORD + b'SET VAR su ups.delay "30"\n', b"OK\n")
+    tracked = b"OK\n" * 3 + b"OK TRACKING %s\n" % ID.encode()
+    yield Row(TRACKED_SET, tracked, TRACKED + b'SET VAR su ups.delay "30"\n', ID.encode() + b"\n")
+    yield Row(TRACKED_COMMAND, tracked, TRACKED + b'INSTCMD su load.off "1 0"\n', ID.encode() + b"\n")
+    yield Row(PROGRESS, b"TRACKING %s FAILED 7\n" % ID.encode(), b"GET TRACKING %s\n" % ID.encode(), b"FAILED 7\n")
 
 
 def in_pieces():
@@ -236,6 +245,49 @@ def counts():
     yield Row(words, b"ERR UNKNOWN-UPS\n", asked, fault="server answered ERR UNKNOWN-UPS")
 
 
+NO_IDS = [ID[:-1], ID + "0", ID.replace("-", ""), "{" + ID + "}", "urn:uuid:" + ID, ID.replace("b", "g"), "x", '""']
+NO_IDS += [ID[:7] + "-" + ID[7] + ID[9:], ID.replace("-", "+"), "2" * 36]
+
+
+def granted_orders():
+    """An order that is tracked is granted by its id, in either case, and by nothing else."""
+    for words, order in [(TRACKED_SET, b'SET VAR su ups.delay "30"\n'), (TRACKED_COMMAND, b'INSTCMD su load.off "1 0"\n')]:
+        for text in [ID, ID.upper(), "00000000-0000-0000-0000-000000000000", "FFFFFFFF-ffff-FFFF-ffff-FFFFFFFFFFFF"]:
+            printed = text.lower().encode() + b"\n"
+            yield Row(words, b"OK\n" * 3 + b"OK TRACKING %s\n" % text.encode(), TRACKED + order, printed)
+        for reply in ["OK", "OK TRACKING", f"OK {ID}", f"OK TRACKING {ID} 1", f"ok TRACKING {ID}", f"TRACKING {ID}"]:
+            yield Row(words, b"OK\n" * 3 + reply.encode() + b"\n", TRACKED + order, fault=BAD, ending=STAYS)
+        for text in NO_IDS:
+            reply = b"OK\n" * 3 + b"OK TRACKING %s\n" % text.encode()
+            yield Row(words, reply, TRACKED + order, fault=BAD, ending=STAYS)
+        yield Row(words, b"OK\n" * 3 + b"ERR ACCESS-DENIED\n", TRACKED + order, fault=DENIED)
+        yield Row(words, b"OK\nOK\nERR INVALID-ARGUMENT\n", TRACKED, fault="server answered ERR INVALID-ARGUMENT")
+        yield Row(words, b"OK\nOK\nOK TRACKING %s\n" % ID.encode(), TRACKED, fault=BAD, ending=STAYS)
+    # An order that isn't tracked is granted by OK alone.
+    order = b'SET VAR su ups.delay "30"\n'
+    yield Row(SET, b"OK\nOK\nOK TRACKING %s\n" % ID.encode(), USER + PASSWORD + order, fault=BAD, ending=STAYS)
+
+
+ENDS_OF_ORDERS = ["PENDING", "SUCCESS", "FAILED 1", "FAILED 10", "FAILED 1000000000"]
+NO_ENDS = ["", "FAILED", "FAILED 0", "FAILED 01", "FAILED -1", "FAILED +1", "FAILED 1x", 'FAILED ""', "FAILED 1 2"]
+NO_ENDS += ["FAILED 1000000001", "FAILED 18446744073709551617", "PENDING 1", "SUCCESS 0", "pending", "DONE", "1"]
+
+
+def progress():
+    """How far an order has come: that of the id which was asked for, in one of three forms."""
+    asked = b"GET TRACKING %s\n" % ID.encode()
+    for end in ENDS_OF_ORDERS:
+        for words in [PROGRESS, ("upsc", "--tracked", ID.upper(), "other@localhost")]:
+            for text in [ID, ID.upper()]:
+                yield Row(words, f"TRACKING {text} {end}\n".encode(), asked, end.encode() + b"\n")
+    for end in NO_ENDS:
+        yield Row(PROGRESS, f"TRACKING {ID} {end}\n".encode(), asked, fault=BAD, ending=STAYS)
+    others = [ID.replace("1", "2", 1), *NO_IDS]
+    for reply in ["SUCCESS", "OK", "TRACKING SUCCESS", *[f"TRACKING {text} SUCCESS" for text in others]]:
+        yield Row(PROGRESS, reply.encode() + b"\n", asked, fault=BAD, ending=STAYS)
+    yield Row(PROGRESS, b"ERR INVALID-ARGUMENT\n", asked, fault="server answered ERR INVALID-ARGUMENT")
+
+
 def bad_replies():
     """Each is told at once, though the server could still send more."""
     for reply in MISFITS:
@@ -326,11 +378,15 @@ def main():
     BENCH.case("lawful words lead to their server", check_led, SERVERS)
     unlawful = [("upsc", ups) for ups in UNLAWFUL_UPSES]
     unlawful += [("upsrw", "-s", setting, "-u", "u", "-p", "p", "su") for setting in UNLAWFUL_SETTINGS]
+    unlawful += [("upsc", "--tracked", text, "su") for text in ["", *NO_IDS]]
+    unlawful += [("upsc", "--tracked", ID, "s/u"), ("upsrw", "--track", "-s", "a", "-u", "u", "-p", "p", "su")]
     BENCH.case("unlawful words are bad arguments", check_unlawful, unlawful)
     BENCH.case("a cut reply prints nothing", check, cut_replies())
     BENCH.case("nothing is sent behind a refusal", check, refusals())
     BENCH.case("a line that does not fit is a bad reply", check, bad_replies())
     BENCH.case("a number of clients is 0 to 64", check, counts())
+    BENCH.case("a tracked order has an id", check, granted_orders())
+    BENCH.case("an order is pending, a success or a failure", check, progress())
     BENCH.case("a line has at most 1023 bytes", check, long_lines())
     BENCH.case("what stands behind a reply is left", check, more_behind_a_reply())
     BENCH.case("a server that takes less is told", check, servers_that_take_less())

@@ -11,6 +11,7 @@ source "$(dirname "${BASH_SOURCE[0]}")/built.bash"
 source "$top/tests/ends.bash"
 built upsc upsrw upscmd
 
+id=1bd31808-cb49-4aec-9d75-d056e6f018d2
 server=
 trap '[[ -z $server ]] || kill "$server"; rm -r "$folder"' EXIT
 
@@ -30,15 +31,20 @@ perl -MIO::Socket::INET -e '
         "GET NUMATTACH su" => "NUMATTACH su 1\n",
         "GET VAR su ups.status" => "VAR su ups.status \"OL\"\n",
         "USERNAME \"admin\"" => "OK\n", "PASSWORD \"s3 cret\"" => "OK\n", "PASSWORD \"no\"" => "ERR ACCESS-DENIED\n",
-        "SET VAR su ups.delay \"30\"" => "OK\n", "INSTCMD su load.off" => "OK\n",
+        "SET VAR su ups.delay \"30\"" => "OK\n", "INSTCMD su load.off" => "OK\n", "SET TRACKING ON" => "OK\n",
+        "GET TRACKING $ARGV[0]" => "TRACKING $ARGV[0] PENDING\n",
     );
     sub serve {
         my ($listener, $speaks) = @_;
         while (my $client = $listener->accept) {
+            my $tracks = 0;
             while (my $line = <$client>) {
                 chomp $line;
                 last unless $speaks;
-                print $client $replies{$line} // "ERR UNKNOWN-UPS\n";
+                my $reply = $replies{$line} // "ERR UNKNOWN-UPS\n";
+                $reply = "OK TRACKING $ARGV[0]\n" if $tracks;
+                $tracks ||= $line eq "SET TRACKING ON";
+                print $client $reply;
                 $client->flush;
             }
             close $client;
@@ -47,7 +53,7 @@ perl -MIO::Socket::INET -e '
     my $child = fork;
     $SIG{TERM} = sub { kill "TERM", $child if $child; exit };
     $child ? serve($silent, 0) : serve($answering, 1);
-' >"$folder/ports" &
+' "$id" >"$folder/ports" &
 server=$!
 for _ in $(seq 50); do
     [[ -s $folder/ports ]] && break
@@ -75,6 +81,13 @@ refuses_words list_of_a_variable -l localhost ups.status
 refuses_words number_without_a_ups --attached
 refuses_words number_and_clients --attached -c su
 refuses_words number_of_a_variable --attached su ups.status
+refuses_words order_without_a_ups --tracked "$id"
+refuses_words order_without_an_id --tracked
+refuses_words order_and_names --tracked "$id" -l
+refuses_words order_and_clients --tracked "$id" -c su
+refuses_words order_and_number --tracked "$id" --attached su
+refuses_words order_and_a_variable --tracked "$id" su ups.status
+ends unlawful_id 2 "" "upsc: bad argument" --tracked 1 su
 ends unlawful_ups 2 "" "upsc: bad argument" s/u
 ends unlawful_port 2 "" "upsc: bad argument" su@localhost:0
 faults refused "upsc: cannot connect" "su@localhost:$refusing"
@@ -86,6 +99,7 @@ prints variable "OL" "su@127.0.0.1:$answering" ups.status
 prints names "su" -l "127.0.0.1:$answering"
 prints descriptions "su: Rack 1" -L "127.0.0.1:$answering"
 prints clients "192.0.2.1" -c "su@127.0.0.1:$answering"
+prints order "PENDING" --tracked "${id^^}" "su@127.0.0.1:$answering"
 fails_at_a_full_output "su@localhost:$answering"
 fails_at_a_full_output "su@localhost:$answering" ups.status
 fails_at_a_full_output -L "localhost:$answering"
@@ -93,18 +107,22 @@ fails_at_a_full_output -L "localhost:$answering"
 begin upsrw
 refuses_words set_without_a_user -s ups.delay=30 su
 refuses_words user_without_a_setting -u admin su
+refuses_words track_without_a_setting --track su
 ends unlawful_setting 2 "" "upsrw: bad argument" -s ups.delay -u admin -p "s3 cret" su
 faults refused "upsrw: cannot connect" "su@127.0.0.1:$refusing"
 faults closed "upsrw: reply ended early" "su@127.0.0.1:$silent"
 faults denied "upsrw: server answered ERR ACCESS-DENIED" -s ups.delay=30 -u admin -p no "su@127.0.0.1:$answering"
 prints writable "ups.delay=30" "su@127.0.0.1:$answering"
 prints set "OK" -s ups.delay=30 -u admin -p "s3 cret" "su@127.0.0.1:$answering"
+prints tracked "$id" --track -s ups.delay=30 -u admin -p "s3 cret" "su@127.0.0.1:$answering"
 fails_at_a_full_output "su@localhost:$answering"
 fails_at_a_full_output -s ups.delay=30 -u admin -p "s3 cret" "su@localhost:$answering"
 
 begin upscmd
 refuses_words command_without_a_user su load.off
 refuses_words list_of_a_command -l su load.off
+refuses_words track_of_a_list --track -l su
+refuses_words track_without_a_command --track -u admin -p "s3 cret" su
 refuses_words no_command -u admin -p "s3 cret" su
 ends unlawful_command 2 "" "upscmd: bad argument" -u admin -p "s3 cret" su load/off
 faults refused "upscmd: cannot connect" -l "su@127.0.0.1:$refusing"
@@ -112,6 +130,7 @@ faults closed "upscmd: reply ended early" -u admin -p "s3 cret" "su@127.0.0.1:$s
 faults denied "upscmd: server answered ERR ACCESS-DENIED" -u admin -p no "su@127.0.0.1:$answering" load.off
 prints commands "load.off" -l "su@127.0.0.1:$answering"
 prints done "OK" -u admin -p "s3 cret" "su@127.0.0.1:$answering" load.off
+prints tracked "$id" --track -u admin -p "s3 cret" "su@127.0.0.1:$answering" load.off
 fails_at_a_full_output -l "su@localhost:$answering"
 fails_at_a_full_output -u admin -p "s3 cret" "su@localhost:$answering" load.off
 

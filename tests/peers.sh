@@ -309,6 +309,13 @@ says "our upsrw -s at NUT's upsd, a password and a value with blanks" 'OK \[0\]'
 comes "NUT's driver has set it" 'a* \[0\]' 3 "$(ours upsc)" "$nu" ups.id
 says "our upsrw -s at NUT's upsd, a wrong password" 'upsrw: server answered ERR ACCESS-DENIED \[1\]' \
     "$(ours upsrw)" -s ups.id=x -u admin -p no "$nu"
+four='[0-9a-f][0-9a-f][0-9a-f][0-9a-f]'
+is_id="$four$four-$four-$four-$four-$four$four$four \\[0\\]"
+says "our upsrw --track at NUT's upsd" "$is_id" "$(ours upsrw)" --track -s ups.id=y -u admin -p 's3 cret' "$nu"
+comes "NUT's driver has set that, too" 'y \[0\]' 3 "$(ours upsc)" "$nu" ups.id
+says "our upscmd --track at NUT's upsd" "$is_id" "$(ours upscmd)" --track -u admin -p 's3 cret' "$nu" load.off
+says "our upsc --tracked at NUT's upsd" 'upsc: server answered ERR FEATURE-NOT-CONFIGURED \[1\]' \
+    "$(ours upsc)" --tracked 2ddc5036-f665-4d29-be4c-0374d091d263 "$nu"
 says "our upscmd -l at NUT's upsd" 'load.off \[0\]' "$(ours upscmd)" -l "$nu"
 says "our upscmd at NUT's upsd" 'OK \[0\]' "$(ours upscmd)" -u admin -p 's3 cret' "$nu" load.off
 comes "NUT's driver was told it" 'instcmd: unknown command \[load.off\]* \[0\]' 3 grep load.off "$folder/driver of nu.log"

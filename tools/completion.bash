@@ -15,9 +15,10 @@ _voqarchay_words() {
         *) printf '%s\n' serve replay help -h --help -V --version ;;
         esac
         ;;
-    upsc:*) printf '%s\n' -l -L -c --attached -h --help -V --version ;;
-    upsrw:*) printf '%s\n' -s -u -p -h --help -V --version ;;
-    upscmd:*) printf '%s\n' -l -u -p -h --help -V --version ;;
+    upsc:--tracked) ;;
+    upsc:*) printf '%s\n' -l -L -c --attached --tracked -h --help -V --version ;;
+    upsrw:*) printf '%s\n' -s -u -p --track -h --help -V --version ;;
+    upscmd:*) printf '%s\n' -l -u -p --track -h --help -V --version ;;
     esac
 }
 

@@ -9,7 +9,7 @@ use Rattle.nutanswer.specs.ErrWord.{error_line, spelling_of}
 use Rattle.nutanswer.specs.declared.err_word.ErrWord.{ErrWord}
 use Rattle.nutanswer.specs.declared.err_word.ErrWord.TheVariants.{AccessDenied, UnknownUps, VarNotSupported, CmdNotSupported, InvalidArgument, InstcmdFailed, SetFailed, Readonly, TooLong, FeatureNotConfigured, DriverNotConnected, DataStale, AlreadyLoggedIn, AlreadySetPassword, AlreadySetUsername, UsernameRequired, PasswordRequired, UnknownCommand, InvalidValue}
 use Rattle.nutrequest.specs.declared.request.Request.{Request}
-use Rattle.nutrequest.specs.declared.request.Request.TheVariants.{List as ListOf, GetVar, GetNumAttach}
+use Rattle.nutrequest.specs.declared.request.Request.TheVariants.{List as ListOf, GetVar, GetNumAttach, TrackedSetVar, TrackedInstcmd, GetTracking}
 use Rattle.nutrequest.specs.Reply.{Reply, Refused, Whole, reply, reply_from, first_of, first_or, expected_of, refusal_of, after_first, one_item}
 use Rattle.nutclient.specs.Requests.{reply_behind, last_reply_after}
 use Rattle.nutclient.specs.Printed.{printed, printed_of}
@@ -55,6 +55,9 @@ not_expected : (request : Request) (word : List ℕ) → expected_of request (co
 not_expected (ListOf query) word = refl
 not_expected (GetVar ups name) word = refl
 not_expected (GetNumAttach ups) word = refl
+not_expected (TrackedSetVar ups name value) word = refl
+not_expected (TrackedInstcmd ups name value) word = refl
+not_expected (GetTracking id) word = refl
 not_expected _ word = refl
 
 pub refused_read : (request : Request) (word : ErrWord) (more : List ℕ) → reply request (error_line word ++ more) ≡ Refused (spelling_of word)
@@ -76,6 +79,9 @@ granted_by : (request : Request) (more : List ℕ) → is_granted_by_ok request 
 granted_by (ListOf query) more h = cc h
 granted_by (GetVar ups name) more h = cc h
 granted_by (GetNumAttach ups) more h = cc h
+granted_by (TrackedSetVar ups name value) more h = cc h
+granted_by (TrackedInstcmd ups name value) more h = cc h
+granted_by (GetTracking id) more h = cc h
 granted_by _ more h = refl
 
 pub granted_read : (request : Request) (more : List ℕ) → is_granted_by_ok request ≡ true → reply request (line_of (codes "OK" ∷ []) ++ more) ≡ Whole (one_item (codes "OK")) more

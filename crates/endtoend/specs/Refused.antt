@@ -8,15 +8,20 @@ use Rattle.nutcore.specs.Reply.{reply}
 use Rattle.nutrequest.specs.declared.faults.ClientFault.TheVariants.{ErrWord as ServerRefused}
 use Rattle.nutrequest.specs.declared.request.Request.{Request}
 use Rattle.nutrequest.specs.declared.request.Request.TheVariants.{List as ListOf, GetVar}
-use Rattle.nutrequest.specs.declared.request.Request.TheVariants.{GetNumAttach}
+use Rattle.nutrequest.specs.declared.request.Request.TheVariants.{GetNumAttach, TrackedSetVar}
+use Rattle.nutrequest.specs.declared.request.Request.TheVariants.{TrackedInstcmd, GetTracking}
 use Rattle.nutclient.specs.Printed.{Faults, printed}
 use Rattle.nutclient.specs.declared.form.Form.{Form}
 
--- The request is granted by OK: a user name, a password, and orders are.
+-- The request is granted by OK alone: a user name, a password, the asking for ids, and orders that
+-- aren't tracked are.
 abbrev pub is_granted_by_ok : Request → Bool
 is_granted_by_ok (ListOf query) = false
 is_granted_by_ok (GetVar ups name) = false
 is_granted_by_ok (GetNumAttach ups) = false
+is_granted_by_ok (TrackedSetVar ups name value) = false
+is_granted_by_ok (TrackedInstcmd ups name value) = false
+is_granted_by_ok (GetTracking id) = false
 is_granted_by_ok _ = true
 
 -- Where the server answers a request by ERR, whatever was to be asked after it and whatever comes

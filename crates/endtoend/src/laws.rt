@@ -74,8 +74,8 @@ pub fn upsc_prints_what_the_driver_set_last()
 }
 
 /// A refusal is told: where the server answers a request of a job by `ERR` and a word, whichever of `upsc`, `upsrw` and
-/// `upscmd` asks, nothing is printed, and the job ends with that word; where it answers a user name, a password or an order
-/// by `OK`, the next request decides.
+/// `upscmd` asks, nothing is printed, and the job ends with that word; where it answers a user name, a password,
+/// `SET TRACKING ON` or an order without an id by `OK`, the next request decides.
 pub fn a_refusal_is_told()
     ensures { ARefusalIsTold }
 {}

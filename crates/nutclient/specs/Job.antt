@@ -1,16 +1,19 @@
 -- What a program's words ask for: the server, the requests, and how the items of the last reply are
 -- printed.
-use Rattle.std.specs.Prelude.{ℕ, List, [], ◌∷◌, ◌++◌, ◌==◌, ◌&&◌, nat_le, length, Option, Some}
+use Rattle.std.specs.Prelude.{ℕ, Bool, true, false, List, [], ◌∷◌, ◌++◌, ◌==◌, ◌&&◌, nat_le, length, Option, Some}
 use Rattle.std.specs.Prelude.{None, option_map, if◌then◌else◌}
 use Rattle.std.specs.List.{before_first, after_first}
 use denote.Ref.{Bor}
 use Rattle.nutwords.specs.Reading.{read_name, read_value}
+use Rattle.nuttracking.specs.Id.{read_id}
 use Rattle.nutrequest.specs.declared.request.Query.{Query}
 use Rattle.nutrequest.specs.declared.request.Query.TheVariants.{Ups, Var, Rw, Cmd, Client}
 use Rattle.nutrequest.specs.declared.request.Request.{Request}
 use Rattle.nutrequest.specs.declared.request.Request.TheVariants.{List as ListOf, GetVar}
 use Rattle.nutrequest.specs.declared.request.Request.TheVariants.{GetNumAttach}
 use Rattle.nutrequest.specs.declared.request.Request.TheVariants.{Username, Password, SetVar, Instcmd}
+use Rattle.nutrequest.specs.declared.request.Request.TheVariants.{SetTracking, TrackedSetVar}
+use Rattle.nutrequest.specs.declared.request.Request.TheVariants.{TrackedInstcmd, GetTracking}
 use Rattle.nutclient.specs.Target.{lawful, both, has_byte, server_of, local_server, ups_place_of}
 use Rattle.nutclient.specs.declared.limits.TheConstants.{USER_LIMIT, PASSWORD_LIMIT}
 use Rattle.nutclient.specs.Requests.{requests_in}
@@ -20,7 +23,7 @@ use Rattle.nutclient.specs.declared.form.Form.{Form}
 use Rattle.nutclient.specs.declared.form.Form.TheVariants.{Name, Value, Colon, Equals}
 use Rattle.nutclient.specs.declared.given.Given.{Given}
 use Rattle.nutclient.specs.declared.given.Given.TheVariants.{Variables, Variable, Upses}
-use Rattle.nutclient.specs.declared.given.Given.TheVariants.{Descriptions, Clients, Attached}
+use Rattle.nutclient.specs.declared.given.Given.TheVariants.{Descriptions, Clients, Attached, Tracked}
 use Rattle.nutclient.specs.declared.given.Given.TheVariants.{Writable, Set, Commands, Command}
 
 -- A UPS and its server.
@@ -70,21 +73,37 @@ abbrev pub value_of : Option (Bor (List ℕ)) → Option (Option (List ℕ))
 value_of None = Some None
 value_of (Some text) = option_map (λ value. Some value) (lawful (read_value text.now))
 
--- An order after the login.
-abbrev pub ordered : Option (List Request) → Option (Target × Request) → Option JobParts
-ordered login order = both (λ requests o. (o.0, requests ++ o.1 ∷ [], Value)) login order
+-- What an order is sent after: the login, and where it is tracked, the asking for its id.
+abbrev pub before_order : Bool → List Request → List Request
+before_order false login = login
+before_order true login = login ++ SetTracking ∷ []
 
-abbrev pub set_order : Option UpsPlace → Option (List ℕ × List ℕ) → Option (Target × Request)
-set_order = both (λ place set. (place.1, SetVar place.0 set.0 set.1))
+-- An order after the login.
+abbrev pub ordered : Bool → Option (List Request) → Option (Target × Request) → Option JobParts
+ordered track = both (λ login o. (o.0, before_order track login ++ o.1 ∷ [], Value))
+
+-- The order to set a variable, and the one to do a command, tracked or not.
+abbrev pub set_request : Bool → List ℕ → List ℕ → List ℕ → Request
+set_request false ups name value = SetVar ups name value
+set_request true ups name value = TrackedSetVar ups name value
+
+abbrev pub command_request : Bool → List ℕ → List ℕ → Option (List ℕ) → Request
+command_request false ups name value = Instcmd ups name value
+command_request true ups name value = TrackedInstcmd ups name value
+
+abbrev pub set_order : Bool → Option UpsPlace → Option (List ℕ × List ℕ)
+    → Option (Target × Request)
+set_order track = both (λ place set. (place.1, set_request track place.0 set.0 set.1))
 
 -- A UPS, its server and a name.
 abbrev pub named_place : Option UpsPlace → Option (List ℕ) → Option (UpsPlace × List ℕ)
 named_place = both (λ place name. (place, name))
 
-abbrev pub command_order : Option UpsPlace → Option (List ℕ) → Option (Option (List ℕ))
+abbrev pub command_order : Bool → Option UpsPlace → Option (List ℕ) → Option (Option (List ℕ))
     → Option (Target × Request)
-command_order place name value =
-    both (λ named v. (named.0.1, Instcmd named.0.0 named.1 v)) (named_place place name) value
+command_order track place name value =
+    both (λ named v. (named.0.1, command_request track named.0.0 named.1 v))
+    (named_place place name) value
 
 -- The value of a variable.
 abbrev pub variable_of : Option UpsPlace → Option (List ℕ) → Option JobParts
@@ -94,6 +113,10 @@ variable_of = both (λ p n. (p.1, GetVar p.0 n ∷ [], Value))
 abbrev pub count_of : Option UpsPlace → Option JobParts
 count_of place = option_map (λ p. (p.1, GetNumAttach p.0 ∷ [], Value)) place
 
+-- How far an order has come. The UPS names the server that is asked, and isn't sent.
+abbrev pub tracked_of : Option UpsPlace → Option ℕ → Option JobParts
+tracked_of = both (λ place id. (place.1, GetTracking id ∷ [], Value))
+
 -- What each of the programs' forms asks for, where its words are lawful.
 abbrev pub job_of : Given → Option JobParts
 job_of (Variables ups) = listing_of Var Colon (ups_place_of ups.now)
@@ -102,11 +125,12 @@ job_of (Upses server) = upses_of Name (server_or_local server)
 job_of (Descriptions server) = upses_of Colon (server_or_local server)
 job_of (Clients ups) = listing_of Client Name (ups_place_of ups.now)
 job_of (Attached ups) = count_of (ups_place_of ups.now)
+job_of (Tracked ups id) = tracked_of (ups_place_of ups.now) (read_id id.now)
 job_of (Writable ups) = listing_of Rw Equals (ups_place_of ups.now)
-job_of (Set ups setting user password) =
-    ordered (login_of user.now password.now)
-    (set_order (ups_place_of ups.now) (setting_of setting.now))
+job_of (Set ups setting user password track) =
+    ordered track (login_of user.now password.now)
+    (set_order track (ups_place_of ups.now) (setting_of setting.now))
 job_of (Commands ups) = listing_of Cmd Name (ups_place_of ups.now)
-job_of (Command ups name value user password) =
-    ordered (login_of user.now password.now)
-    (command_order (ups_place_of ups.now) (lawful (read_name name.now)) (value_of value))
+job_of (Command ups name value user password track) =
+    ordered track (login_of user.now password.now)
+    (command_order track (ups_place_of ups.now) (lawful (read_name name.now)) (value_of value))

@@ -7,7 +7,7 @@ use Rattle.nutrequest.specs.Reply.{Reply, Refused, Whole, Bad, Unfinished, reply
 use Rattle.nutrequest.specs.declared.item.Item.{Item}
 use Rattle.nutrequest.specs.declared.request.Request.{Request}
 use Rattle.nutclient.specs.declared.requests.Requests.{Requests}
-use Rattle.nutclient.specs.declared.requests.Requests.TheVariants.{Alone, BehindLogin}
+use Rattle.nutclient.specs.declared.requests.Requests.TheVariants.{Alone, BehindLogin, Tracked}
 use Rattle.nutrequest.specs.declared.faults.ClientFault.{ClientFault}
 use Rattle.nutrequest.specs.declared.faults.ClientFault.TheVariants.{Read, Write, EarlyEnd, ErrWord}
 use Rattle.nutrequest.specs.declared.faults.ClientFault.TheVariants.{BadReply, Memory}
@@ -16,6 +16,7 @@ use Rattle.nutrequest.specs.declared.faults.ClientFault.TheVariants.{BadReply, M
 abbrev pub requests_in : Requests → List Request
 requests_in (Alone requests) = requests
 requests_in (BehindLogin requests) = requests
+requests_in (Tracked requests) = requests
 
 -- The lines after a reply that is whole; after another none.
 abbrev pub lines_behind : Reply → (List ℕ → List ℕ) → List ℕ

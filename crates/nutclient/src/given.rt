@@ -28,27 +28,34 @@ pub enum Given<'a> {
     Attached {
         ups: &'a str,
     },
+    /// `upsc --tracked ID UPS`: how far the order of this id has come.
+    Tracked {
+        ups: &'a str,
+        id: &'a str,
+    },
     /// `upsrw UPS`: the variables that may be set.
     Writable {
         ups: &'a str,
     },
-    /// `upsrw -s VAR=VALUE -u USER -p PASS UPS`: set a variable.
+    /// `upsrw [--track] -s VAR=VALUE -u USER -p PASS UPS`: set a variable, and track the order where it is said.
     Set {
         ups: &'a str,
         setting: &'a str,
         user: &'a str,
         password: &'a str,
+        track: bool,
     },
     /// `upscmd -l UPS`: the commands of a UPS.
     Commands {
         ups: &'a str,
     },
-    /// `upscmd -u USER -p PASS UPS CMD [VALUE]`: do a command.
+    /// `upscmd [--track] -u USER -p PASS UPS CMD [VALUE]`: do a command, and track the order where it is said.
     Command {
         ups: &'a str,
         name: &'a str,
         value: Option<&'a str>,
         user: &'a str,
         password: &'a str,
+        track: bool,
     },
 }

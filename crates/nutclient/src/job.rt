@@ -1,12 +1,14 @@
 //! What a program does at the server.
 ghost use Rattle.std.specs.Prelude.{◌≡◌, ◌∷◌, [], Some, None, MatchResult, option_map};
 ghost use Rattle.nutwords.specs.Reading.{read_name, read_value};
+ghost use Rattle.nuttracking.specs.Id.{read_id};
 ghost use Rattle.nutclient.specs.Requests.{requests_in};
 ghost use Rattle.nutclient.specs.Target.{both, lawful, ups_place_of};
-ghost use Rattle.nutclient.specs.Job.{parts_of, variable_of, listing_of, server_or_local, upses_of, word_of, login_of, setting_of, value_of, ordered, set_order, command_order, job_of};
+ghost use Rattle.nutclient.specs.Job.{parts_of, variable_of, listing_of, server_or_local, upses_of, word_of, login_of, setting_of, value_of, ordered, set_request, command_request, set_order, command_order, tracked_of, job_of};
 
 use crate::{Form, Given, PASSWORD_LIMIT, Requests, Target, USER_LIMIT};
 use nutrequest::{ClientFault, Query, Request};
+use nuttracking::read_id;
 use nutwords::{Name, UpsName, Value};
 
 /// The server, the requests that are sent to it, each once the one before is granted, and how the items of the last reply
@@ -65,6 +67,7 @@ fn job_of(given: &Given<'_>) -> Option<Job>
             let (ups, target) = Target::read(ups)?;
             Some(single(target, Request::GetNumAttach(ups), Form::Value))
         }
+        Given::Tracked { ups, id } => tracked_job(ups, id),
         Given::Writable { ups } => {
             let (ups, target) = Target::read(ups)?;
             Some(single(target, Request::List(Query::Rw(ups)), Form::Equals))
@@ -78,16 +81,23 @@ fn job_of(given: &Given<'_>) -> Option<Job>
             setting,
             user,
             password,
-        } => ordered(login(user, password), set_order(Target::read(ups), setting)),
+            track,
+        } => ordered(
+            *track,
+            login(user, password),
+            set_order(*track, Target::read(ups), setting),
+        ),
         Given::Command {
             ups,
             name,
             value,
             user,
             password,
+            track,
         } => ordered(
+            *track,
             login(user, password),
-            command_order(Target::read(ups), name, *value),
+            command_order(*track, Target::read(ups), name, *value),
         ),
     }
 }
@@ -115,6 +125,15 @@ fn variable_job(ups: &str, name: &str) -> Option<Job>
     Some(single(target, Request::GetVar(ups, name), Form::Value))
 }
 
+/// How far the order of an id has come, by the server of a UPS.
+fn tracked_job(ups: &str, id: &str) -> Option<Job>
+    ensures { option_map parts_of result ≡ tracked_of (ups_place_of ups.now) (read_id id.now) }
+{
+    let (_, target) = Target::read(ups)?;
+    let id = read_id(id.as_bytes())?;
+    Some(single(target, Request::GetTracking(id), Form::Value))
+}
+
 /// The UPSs of a server, which is this host where none is named.
 fn upses_job(server: Option<&str>, form: Form) -> Option<Job>
     ensures { option_map parts_of result
@@ -127,16 +146,21 @@ fn upses_job(server: Option<&str>, form: Form) -> Option<Job>
     Some(single(target, Request::List(Query::Ups), form))
 }
 
-/// The order after the user's name and the password.
-fn ordered(login: Option<Login>, order: Option<Order>) -> Option<Job>
+/// The order after the user's name and the password, and where it is tracked, after the asking for its id.
+fn ordered(track: bool, login: Option<Login>, order: Option<Order>) -> Option<Job>
     ensures { option_map parts_of result
-        ≡ ordered (option_map (λ l. l.0 ∷ l.1 ∷ []) login) order }
+        ≡ ordered track (option_map (λ l. l.0 ∷ l.1 ∷ []) login) order }
 {
     let (user, password) = login?;
     let (target, request) = order?;
+    let requests = if track {
+        Requests::Tracked([user, password, Request::SetTracking, request])
+    } else {
+        Requests::BehindLogin([user, password, request])
+    };
     Some(Job {
         target,
-        requests: Requests::BehindLogin([user, password, request]),
+        requests,
         form: Form::Value,
     })
 }
@@ -161,12 +185,23 @@ fn word(text: &str, most: usize) -> Option<Value>
 }
 
 /// The order to set a variable of a UPS.
-fn set_order(place: Option<Place>, setting: &str) -> Option<Order>
-    ensures { result ≡ set_order place (setting_of setting.now) }
+fn set_order(track: bool, place: Option<Place>, setting: &str) -> Option<Order>
+    ensures { result ≡ set_order track place (setting_of setting.now) }
 {
     let (ups, target) = place?;
     let (name, value) = setting_parts(setting)?;
-    Some((target, Request::SetVar(ups, name, value)))
+    Some((target, set_request(track, ups, name, value)))
+}
+
+/// That a variable be set, tracked or not.
+fn set_request(track: bool, ups: UpsName, name: Name, value: Value) -> Request
+    ensures { result ≡ set_request track ups name value }
+{
+    if track {
+        Request::TrackedSetVar(ups, name, value)
+    } else {
+        Request::SetVar(ups, name, value)
+    }
 }
 
 /// The variable and the value of `VAR=VALUE`, cut at the first equals sign.
@@ -180,8 +215,14 @@ fn setting_parts(text: &str) -> Option<(Name, Value)>
 }
 
 /// The order to do a command of a UPS, with a value or without.
-fn command_order(place: Option<Place>, name: &str, value: Option<&str>) -> Option<Order>
-    ensures { result ≡ command_order place (lawful (read_name name.now)) (value_of value.entry) }
+fn command_order(
+    track: bool,
+    place: Option<Place>,
+    name: &str,
+    value: Option<&str>,
+) -> Option<Order>
+    ensures { result
+        ≡ command_order track place (lawful (read_name name.now)) (value_of value.entry) }
 {
     let (ups, target) = place?;
     let name = Name::read(name.as_bytes()).ok()?;
@@ -189,5 +230,16 @@ fn command_order(place: Option<Place>, name: &str, value: Option<&str>) -> Optio
         Some(text) => Some(Value::read(text.as_bytes()).ok()?),
         None => None,
     };
-    Some((target, Request::Instcmd(ups, name, value)))
+    Some((target, command_request(track, ups, name, value)))
+}
+
+/// That a command be done, tracked or not.
+fn command_request(track: bool, ups: UpsName, name: Name, value: Option<Value>) -> Request
+    ensures { result ≡ command_request track ups name value }
+{
+    if track {
+        Request::TrackedInstcmd(ups, name, value)
+    } else {
+        Request::Instcmd(ups, name, value)
+    }
 }

@@ -4,11 +4,13 @@ ghost use Rattle.nutclient.specs.Requests.{requests_in};
 
 use nutrequest::Request;
 
-/// The requests of a job: one, or one after the user's name and the password.
+/// The requests of a job: one; or an order after the user's name and the password; or one that is tracked, which is asked
+/// for before it.
 #[derive(Debug, Drop)]
 pub enum Requests {
     Alone([Request; 1]),
     BehindLogin([Request; 3]),
+    Tracked([Request; 4]),
 }
 
 impl Requests {
@@ -19,6 +21,7 @@ impl Requests {
         match self {
             Requests::Alone(requests) => requests,
             Requests::BehindLogin(requests) => requests,
+            Requests::Tracked(requests) => requests,
         }
     }
 }

@@ -1,21 +1,25 @@
 -- A reply, as it is read from the bytes that come (RFC 9271).
 use Rattle.std.specs.Prelude.{ℕ, Bool, true, false, List, [], ◌∷◌, ◌++◌, ◌&&◌, ◌||◌, ◌==◌, ◌+◌, ◌-◌}
 use Rattle.std.specs.Prelude.{◌*◌, nat_le}
-use Rattle.std.specs.Prelude.{nat_lt, length, Option, Some, None, option_and_then, Result, Ok, Err}
+use Rattle.std.specs.Prelude.{nat_lt, length, Option, Some, None, option_and_then, option_map}
+use Rattle.std.specs.Prelude.{Result, Ok, Err}
 use Rattle.std.specs.Prelude.{if◌then◌else◌, codes}
 use Rattle.std.specs.Str.{bytes_eq}
 use Rattle.std.specs.List.{list_all}
-use Rattle.nutwords.specs.Natural.{is_digit}
+use Rattle.nutwords.specs.Natural.{is_digit, read_natural}
 use Rattle.nutwords.specs.Scan.{words_of}
 use Rattle.nutwords.specs.Reading.{read_name, is_name, is_ups_name, is_address}
 use Rattle.nutwords.specs.declared.faults.BadName.{BadName}
+use Rattle.nuttracking.specs.Id.{id_text, read_id}
+use Rattle.nuttracking.specs.declared.limits.TheConstants.{DONE_LIMIT}
 use Rattle.nutrequest.specs.declared.limits.TheConstants.{ITEM_LIMIT, COUNT_LIMIT}
 use Rattle.nutrequest.specs.declared.item.Item.{Item}
 use Rattle.nutrequest.specs.declared.request.Query.{Query}
 use Rattle.nutrequest.specs.declared.request.Query.TheVariants.{Ups, Client}
 use Rattle.nutrequest.specs.declared.request.Request.{Request}
 use Rattle.nutrequest.specs.declared.request.Request.TheVariants.{List as ListOf, GetVar}
-use Rattle.nutrequest.specs.declared.request.Request.TheVariants.{GetNumAttach}
+use Rattle.nutrequest.specs.declared.request.Request.TheVariants.{GetNumAttach, TrackedSetVar}
+use Rattle.nutrequest.specs.declared.request.Request.TheVariants.{TrackedInstcmd, GetTracking}
 use Rattle.nutrequest.specs.declared.read.FirstLine.{FirstLine}
 use Rattle.nutrequest.specs.declared.read.FirstLine.TheVariants.{Expected, Refusal, Bad as BadFirst}
 use Rattle.nutrequest.specs.declared.read.LaterLine.{LaterLine}
@@ -75,13 +79,60 @@ abbrev pub count_in : Option (List ℕ) → Option (List ℕ)
 count_in (Some word) = if is_count word then Some word else None
 count_in None = None
 
+-- The id that a word is, as it is written.
+abbrev pub id_in : Option (List ℕ) → Option (List ℕ)
+id_in word = option_map id_text (option_and_then read_id word)
+
+-- What a granted order is answered by, where it is tracked: its id.
+abbrev pub granted_id : List (List ℕ) → Option (List ℕ)
+granted_id words = id_in (only_word (behind (codes "OK" ∷ codes "TRACKING" ∷ []) words))
+
+abbrev pub is_that : ℕ → Option ℕ → Bool
+is_that id (Some read) = read == id
+is_that id None = false
+
+-- The words after this id, where it is the first of them, in whichever case.
+abbrev pub behind_id : ℕ → Option (List (List ℕ)) → Option (List (List ℕ))
+behind_id id (Some (word ∷ words)) = if is_that id (read_id word) then Some words else None
+behind_id id _ = None
+
+-- A number that isn't 0.
+abbrev pub is_some_number : Option ℕ → Bool
+is_some_number (Some number) = nat_lt 0 number
+is_some_number None = false
+
+-- What an order failed with: 1 to 1,000,000,000, with no leading zero.
+abbrev pub failure_in : Option (List ℕ) → Option (List ℕ)
+failure_in (Some word) =
+    if is_some_number (read_natural DONE_LIMIT word) then Some (codes "FAILED " ++ word) else None
+failure_in None = None
+
+-- The word tells by itself how far an order has come.
+abbrev pub stands_alone : List ℕ → Bool
+stands_alone word = bytes_eq word (codes "PENDING") || bytes_eq word (codes "SUCCESS")
+
+-- How far an order has come: PENDING or SUCCESS alone, or FAILED and a number.
+abbrev pub progress_in : Option (List (List ℕ)) → Option (List ℕ)
+progress_in (Some (word ∷ words)) =
+    if bytes_eq word (codes "FAILED") then failure_in (only_word (Some words))
+    else if stands_alone word && is_nothing (Some words) then Some word
+    else None
+progress_in _ = None
+
+abbrev pub progress_of : ℕ → List (List ℕ) → Option (List ℕ)
+progress_of id words = progress_in (behind_id id (behind (codes "TRACKING" ∷ []) words))
+
 -- What the first line tells, where it is the one that the request is granted by: BEGIN tells
--- nothing, VAR a value, NUMATTACH a number, the others OK.
+-- nothing, VAR a value, NUMATTACH a number, OK of a tracked order its id, TRACKING how far that of
+-- this id has come, the others OK.
 abbrev pub expected_of : Request → List (List ℕ) → Option (List ℕ)
 expected_of (ListOf query) words = if is_frame (codes "BEGIN") query words then Some [] else None
 expected_of (GetVar ups name) words = only_word (behind (codes "VAR" ∷ ups ∷ name ∷ []) words)
 expected_of (GetNumAttach ups) words =
     count_in (only_word (behind (codes "NUMATTACH" ∷ ups ∷ []) words))
+expected_of (TrackedSetVar ups name value) words = granted_id words
+expected_of (TrackedInstcmd ups name value) words = granted_id words
+expected_of (GetTracking id) words = progress_of id words
 expected_of _ words =
     if is_nothing (behind (codes "OK" ∷ []) words) then Some (codes "OK") else None
 

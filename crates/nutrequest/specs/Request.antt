@@ -3,12 +3,15 @@ use Rattle.std.specs.Prelude.{ℕ, Bool, true, false, List, [], ◌∷◌, Optio
 use Rattle.std.specs.Prelude.{option_to_list, codes}
 use Rattle.nutwords.specs.Frame.{line_of}
 use Rattle.nutwords.specs.Spelling.{quoted}
+use Rattle.nuttracking.specs.Id.{id_text}
 use Rattle.nutrequest.specs.declared.request.Query.{Query}
 use Rattle.nutrequest.specs.declared.request.Query.TheVariants.{Ups, Var, Rw, Cmd, Client}
 use Rattle.nutrequest.specs.declared.request.Request.{Request}
 use Rattle.nutrequest.specs.declared.request.Request.TheVariants.{List as ListOf, GetVar}
 use Rattle.nutrequest.specs.declared.request.Request.TheVariants.{GetNumAttach}
 use Rattle.nutrequest.specs.declared.request.Request.TheVariants.{Username, Password, SetVar, Instcmd}
+use Rattle.nutrequest.specs.declared.request.Request.TheVariants.{SetTracking, TrackedSetVar}
+use Rattle.nutrequest.specs.declared.request.Request.TheVariants.{TrackedInstcmd, GetTracking}
 
 -- The word of a listing's kind.
 abbrev pub kind_of : Query → List ℕ
@@ -38,16 +41,27 @@ has_value (Client ups) = false
 abbrev pub asked_words : Query → List (List ℕ)
 asked_words query = kind_of query ∷ option_to_list (ups_of query)
 
--- The words of a request, as they are written.
+-- The words of an order to set a variable, and of one to do a command.
+abbrev pub set_words : List ℕ → List ℕ → List ℕ → List (List ℕ)
+set_words ups name value = codes "SET" ∷ codes "VAR" ∷ ups ∷ name ∷ quoted value ∷ []
+
+abbrev pub instcmd_words : List ℕ → List ℕ → Option (List ℕ) → List (List ℕ)
+instcmd_words ups name value =
+    codes "INSTCMD" ∷ ups ∷ name ∷ option_to_list (option_map quoted value)
+
+-- The words of a request, as they are written. A tracked order is written as any other.
 abbrev pub request_words : Request → List (List ℕ)
 request_words (ListOf query) = codes "LIST" ∷ asked_words query
 request_words (GetVar ups name) = codes "GET" ∷ codes "VAR" ∷ ups ∷ name ∷ []
 request_words (GetNumAttach ups) = codes "GET" ∷ codes "NUMATTACH" ∷ ups ∷ []
 request_words (Username user) = codes "USERNAME" ∷ quoted user ∷ []
 request_words (Password password) = codes "PASSWORD" ∷ quoted password ∷ []
-request_words (SetVar ups name value) = codes "SET" ∷ codes "VAR" ∷ ups ∷ name ∷ quoted value ∷ []
-request_words (Instcmd ups name value) =
-    codes "INSTCMD" ∷ ups ∷ name ∷ option_to_list (option_map quoted value)
+request_words (SetVar ups name value) = set_words ups name value
+request_words (Instcmd ups name value) = instcmd_words ups name value
+request_words SetTracking = codes "SET" ∷ codes "TRACKING" ∷ codes "ON" ∷ []
+request_words (TrackedSetVar ups name value) = set_words ups name value
+request_words (TrackedInstcmd ups name value) = instcmd_words ups name value
+request_words (GetTracking id) = codes "GET" ∷ codes "TRACKING" ∷ id_text id ∷ []
 
 -- The line of a request, with its LF.
 abbrev pub request_line : Request → List ℕ

@@ -12,6 +12,7 @@ mod line;
 mod read;
 mod request;
 mod session;
+mod tracked;
 
 pub use faults::ClientFault;
 pub use item::{Item, Items};

@@ -4,10 +4,11 @@ ghost use Rattle.std.specs.List.{join_with_byte};
 ghost use Rattle.nutwords.specs.Frame.{line_of};
 ghost use Rattle.nutwords.specs.Spelling.{quoted};
 ghost use Rattle.nutwords.specs.declared.limits.TheConstants.{LINE_LIMIT, NAME_LIMIT, VALUE_LIMIT};
-ghost use Rattle.nutrequest.specs.Request.{request_line, asked_words};
+ghost use Rattle.nutrequest.specs.Request.{request_line, asked_words, instcmd_words};
 
 use crate::{Query, Request};
 use arrayvec::ArrayVec;
+use nuttracking::id_text;
 use nutwords::{Line, NAME_LIMIT, Name, UPS_NAME_LIMIT, UpsName, Value, quote_into};
 
 /// The most bytes of a request's first words, which no name follows yet: `USERNAME`, `PASSWORD`.
@@ -26,9 +27,14 @@ pub(crate) fn request_line(request: &Request) -> Line
         Request::GetNumAttach(ups) => count_line(ups),
         Request::Username(user) => value_line(first_word(b"USERNAME"), user),
         Request::Password(password) => value_line(first_word(b"PASSWORD"), password),
-        Request::SetVar(ups, name, value) => value_line(named(b"SET VAR", ups, name), value),
-        Request::Instcmd(ups, name, Some(value)) => value_line(named(b"INSTCMD", ups, name), value),
-        Request::Instcmd(ups, name, None) => ended(named(b"INSTCMD", ups, name)),
+        Request::SetVar(ups, name, value) | Request::TrackedSetVar(ups, name, value) => {
+            value_line(named(b"SET VAR", ups, name), value)
+        }
+        Request::Instcmd(ups, name, value) | Request::TrackedInstcmd(ups, name, value) => {
+            command_line(ups, name, value.as_ref())
+        }
+        Request::SetTracking => tracking_line(b"SET", b"ON"),
+        Request::GetTracking(id) => tracking_line(b"GET", &id_text(*id)),
     }
 }
 
@@ -51,6 +57,29 @@ fn count_line(ups: &UpsName) -> Line
     let mut line = first_word(b"GET");
     push_word(&mut line, b"NUMATTACH");
     push_word(&mut line, ups.as_bytes());
+    ended(line)
+}
+
+/// The line that orders a command, with its value or without.
+fn command_line(ups: &UpsName, name: &Name, value: Option<&Value>) -> Line
+    ensures { result.items
+        ≡ line_of (instcmd_words ups.now name.now (option_map (λ v. v.now) value.entry)) }
+{
+    match value {
+        Some(value) => value_line(named(b"INSTCMD", ups, name), value),
+        None => ended(named(b"INSTCMD", ups, name)),
+    }
+}
+
+/// The line that asks for ids, or for the order of one.
+fn tracking_line(command: &[u8], word: &[u8]) -> Line
+    requires command { length command.now ≤ VERB_LIMIT }
+    requires word { length word.now ≤ NAME_LIMIT }
+    ensures { result.items ≡ line_of (command.now ∷ codes "TRACKING" ∷ word.now ∷ []) }
+{
+    let mut line = first_word(command);
+    push_word(&mut line, b"TRACKING");
+    push_word(&mut line, word);
     ended(line)
 }
 

@@ -9,6 +9,7 @@ ghost use Rattle.nutrequest.specs.Request.{asked_words};
 ghost use Rattle.nutrequest.specs.Reply.{behind_word, behind, is_nothing, only_word, is_frame, is_error_byte, count_in, is_count, refusal_by, refusal_of, expected_of, first_of, is_item_name, value_in, item_in, later_of};
 
 use crate::limits::COUNT_LIMIT;
+use crate::tracked::{granted_id, told_progress};
 use crate::{Item, Query, Request};
 use nutwords::{Address, Bytes, Name, UpsName, Word, Words, words};
 use std::alloc::{AllocError, Global};
@@ -65,7 +66,7 @@ pub(crate) fn later_line(alloc: Global, query: &Query, line: &[u8]) -> Result<La
 }
 
 /// The words after this one, where it is the first.
-fn behind_word<'a>(word: &[u8], mut words: Words<'a>) -> Option<Words<'a>>
+pub(crate) fn behind_word<'a>(word: &[u8], mut words: Words<'a>) -> Option<Words<'a>>
     ensures { result ≡ behind_word word.now words.entry }
 {
     let first = words.next()?;
@@ -108,14 +109,14 @@ fn is_frame(verb: &[u8], query: &Query, line: &[u8]) -> bool
 }
 
 /// Whether no word is left.
-fn is_empty(mut words: Words<'_>) -> bool
+pub(crate) fn is_empty(mut words: Words<'_>) -> bool
     ensures { result ≡ is_nothing (Some words.entry) }
 {
     words.next().is_none()
 }
 
 /// The one word that is left.
-fn only_word<'a>(mut words: Words<'a>) -> Option<Word<'a>>
+pub(crate) fn only_word<'a>(mut words: Words<'a>) -> Option<Word<'a>>
     ensures { option_map bytes_of result ≡ only_word (Some words.entry) }
 {
     let word = words.next()?;
@@ -144,6 +145,10 @@ fn expected_value(
         }
         Request::GetVar(ups, name) => told_value(alloc, ups, name, line),
         Request::GetNumAttach(ups) => told_count(alloc, ups, line),
+        Request::TrackedSetVar(_, _, _) | Request::TrackedInstcmd(_, _, _) => {
+            granted_id(alloc, line)
+        }
+        Request::GetTracking(id) => told_progress(alloc, *id, line),
         _ => {
             if is_ok(line) {
                 Ok(Some(Bytes::new(b"OK".to_vec(alloc)?)))

@@ -72,4 +72,12 @@ pub enum Request {
     SetVar(UpsName, Name, Value),
     /// That a command be done, with a value for it or without.
     Instcmd(UpsName, Name, Option<Value>),
+    /// That the orders after it be tracked: an id is told for each.
+    SetTracking,
+    /// The same as `SetVar`, behind `SetTracking`.
+    TrackedSetVar(UpsName, Name, Value),
+    /// The same as `Instcmd`, behind `SetTracking`.
+    TrackedInstcmd(UpsName, Name, Option<Value>),
+    /// How far the order of this id has come.
+    GetTracking(u128),
 }

@@ -22,6 +22,7 @@ impl Client for Upsc {
         let command = with(command, descriptions(alloc));
         let command = with(command, clients(alloc));
         let command = with(command, attached(alloc));
+        let command = with(command, tracked(alloc));
         let command = with(command, target(alloc));
         with(command, Ok(variable(alloc)))
     }
@@ -41,6 +42,9 @@ impl Client for Upsc {
         }
         if matches.get_flag("attached") {
             return Given::Attached { ups };
+        }
+        if let Some(id) = matches.get_str("tracked") {
+            return Given::Tracked { ups, id };
         }
         match matches.get_str("VAR") {
             Some(name) => Given::Variable { ups, name },
@@ -63,7 +67,7 @@ fn names(alloc: Global) -> Result<Arg<'static>, AllocError> {
         .short('l')
         .action(ArgAction::SetTrue)
         .help("Lists the names of the server's UPSs")
-        .conflicts_with_all(&["L", "c", "attached", "VAR"])
+        .conflicts_with_all(&["L", "c", "attached", "tracked", "VAR"])
 }
 
 fn descriptions(alloc: Global) -> Result<Arg<'static>, AllocError> {
@@ -71,7 +75,7 @@ fn descriptions(alloc: Global) -> Result<Arg<'static>, AllocError> {
         .short('L')
         .action(ArgAction::SetTrue)
         .help("Lists the names of the server's UPSs with their descriptions")
-        .conflicts_with_all(&["c", "attached", "VAR"])
+        .conflicts_with_all(&["c", "attached", "tracked", "VAR"])
 }
 
 fn clients(alloc: Global) -> Result<Arg<'static>, AllocError> {
@@ -79,7 +83,7 @@ fn clients(alloc: Global) -> Result<Arg<'static>, AllocError> {
         .short('c')
         .action(ArgAction::SetTrue)
         .help("Lists the clients that are logged in to the UPS")
-        .conflicts_with_all(&["attached", "VAR"])
+        .conflicts_with_all(&["attached", "tracked", "VAR"])
 }
 
 fn attached(alloc: Global) -> Result<Arg<'static>, AllocError> {
@@ -87,6 +91,14 @@ fn attached(alloc: Global) -> Result<Arg<'static>, AllocError> {
         .long("attached")
         .action(ArgAction::SetTrue)
         .help("Prints how many clients are logged in to the UPS")
+        .conflicts_with_all(&["tracked", "VAR"])
+}
+
+fn tracked(alloc: Global) -> Result<Arg<'static>, AllocError> {
+    Arg::new(alloc, "tracked")
+        .long("tracked")
+        .value_name("ID")
+        .help("Prints how far the order of this id has come")
         .conflicts_with("VAR")
 }
 

@@ -21,6 +21,7 @@ impl Client for Upscmd {
         let command = with(described(alloc), list(alloc));
         let command = with(command, user(alloc));
         let command = with(command, password(alloc));
+        let command = with(command, Ok(track(alloc)));
         let command = with(command, Ok(target(alloc)));
         let command = with(command, name(alloc));
         with(command, Ok(value(alloc)))
@@ -38,6 +39,7 @@ impl Client for Upscmd {
             value: matches.get_str("VALUE"),
             user: matches.get_str("u").unwrap_or(""),
             password: matches.get_str("p").unwrap_or(""),
+            track: matches.get_flag("track"),
         }
     }
 }
@@ -56,7 +58,7 @@ fn list(alloc: Global) -> Result<Arg<'static>, AllocError> {
         .short('l')
         .action(ArgAction::SetTrue)
         .help("Lists the commands of the UPS")
-        .conflicts_with_all(&["u", "p", "CMD", "VALUE"])
+        .conflicts_with_all(&["u", "p", "track", "CMD", "VALUE"])
 }
 
 fn user(alloc: Global) -> Result<Arg<'static>, AllocError> {
@@ -73,6 +75,13 @@ fn password(alloc: Global) -> Result<Arg<'static>, AllocError> {
         .value_name("PASS")
         .help("The user's password")
         .required_unless_present("l")
+}
+
+fn track(alloc: Global) -> Arg<'static> {
+    Arg::new(alloc, "track")
+        .long("track")
+        .action(ArgAction::SetTrue)
+        .help("Prints the order's id in place of OK")
 }
 
 fn target(alloc: Global) -> Arg<'static> {

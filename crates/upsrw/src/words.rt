@@ -1,5 +1,5 @@
 //! The words of upsrw, and what they ask for.
-use clap::{Arg, ArgMatches, Command};
+use clap::{Arg, ArgAction, ArgMatches, Command};
 use nutclient::{Client, Given, Program, with};
 use nutversion::VERSION;
 use std::alloc::{AllocError, Global};
@@ -21,6 +21,7 @@ impl Client for Upsrw {
         let command = with(described(alloc), setting(alloc));
         let command = with(command, user(alloc));
         let command = with(command, password(alloc));
+        let command = with(command, track(alloc));
         with(command, Ok(target(alloc)))
     }
 
@@ -33,6 +34,7 @@ impl Client for Upsrw {
                 setting,
                 user: matches.get_str("u").unwrap_or(""),
                 password: matches.get_str("p").unwrap_or(""),
+                track: matches.get_flag("track"),
             },
             None => Given::Writable { ups },
         }
@@ -69,6 +71,14 @@ fn password(alloc: Global) -> Result<Arg<'static>, AllocError> {
         .short('p')
         .value_name("PASS")
         .help("The user's password, for -s")
+        .requires_arg("s")
+}
+
+fn track(alloc: Global) -> Result<Arg<'static>, AllocError> {
+    Arg::new(alloc, "track")
+        .long("track")
+        .action(ArgAction::SetTrue)
+        .help("Prints the order's id in place of OK, for -s")
         .requires_arg("s")
 }
 
