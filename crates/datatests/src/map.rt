@@ -17,6 +17,7 @@ pub fn push_answer(
     match row.kind {
         "map" => fill(kept, natural32(row.text))?,
         "map_set" => push_set(answer, kept, row.text)?,
+        "map_change" => push_change_in_place(answer, kept, row.text)?,
         "map_remove" => push_value(answer, removed(kept, natural32(row.text))?)?,
         "map_get" => push_value(answer, kept.map.get(&(natural32(row.text))).copied())?,
         "map_made" => push_number(answer, kept.meter.made())?,
@@ -66,6 +67,20 @@ fn push_set(answer: &mut String, kept: &mut Kept, text: &[u8]) -> Result<(), All
         answer,
         changed(&mut kept.map, key, Some(value), &mut kept.meter)?,
     )
+}
+
+/// Changes a key's value to the one behind the bar, in its place. The answer is whether it did.
+fn push_change_in_place(
+    answer: &mut String,
+    kept: &mut Kept,
+    text: &[u8],
+) -> Result<(), AllocError> {
+    let (key, value) = parted(text);
+    let (key, value) = (natural32(key), natural32(value));
+    let is_changed = kept
+        .map
+        .change_in_place(&key, |held| *held = value, &mut kept.meter);
+    push_yes(answer, is_changed)
 }
 
 fn removed(kept: &mut Kept, key: u32) -> Result<Option<u32>, AllocError> {
