@@ -1,4 +1,6 @@
 //! The words of upsc, and what they ask for.
+ghost use Rattle.nutclient.specs.declared.program.Program.TheVariants as program;
+
 use clap::{Arg, ArgAction, ArgMatches, Command};
 use nutclient::{Client, Given, Program, with};
 use nutversion::VERSION;
@@ -11,7 +13,7 @@ const PROGRAM: &str = "upsc";
 pub struct Upsc;
 
 impl Client for Upsc {
-    ghost which = { Program.Upsc };
+    ghost which = { program.Upsc };
 
     fn program() -> Program {
         Program::Upsc

@@ -1,4 +1,6 @@
 //! The words of upscmd, and what they ask for.
+ghost use Rattle.nutclient.specs.declared.program.Program.TheVariants as program;
+
 use clap::{Arg, ArgAction, ArgMatches, Command};
 use nutclient::{Client, Given, Program, with};
 use nutversion::VERSION;
@@ -11,7 +13,7 @@ const PROGRAM: &str = "upscmd";
 pub struct Upscmd;
 
 impl Client for Upscmd {
-    ghost which = { Program.Upscmd };
+    ghost which = { program.Upscmd };
 
     fn program() -> Program {
         Program::Upscmd

@@ -1,4 +1,6 @@
 //! The words of upsrw, and what they ask for.
+ghost use Rattle.nutclient.specs.declared.program.Program.TheVariants as program;
+
 use clap::{Arg, ArgAction, ArgMatches, Command};
 use nutclient::{Client, Given, Program, with};
 use nutversion::VERSION;
@@ -11,7 +13,7 @@ const PROGRAM: &str = "upsrw";
 pub struct Upsrw;
 
 impl Client for Upsrw {
-    ghost which = { Program.Upsrw };
+    ghost which = { program.Upsrw };
 
     fn program() -> Program {
         Program::Upsrw
