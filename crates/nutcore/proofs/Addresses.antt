@@ -4,7 +4,7 @@ use Rattle.std.proofs.lemmas.List.Elements.{All-nil, All-cons, All-head, All-tai
 use Rattle.nutwords.specs.Reading.{is_address}
 use Rattle.nutusers.specs.UpsList.{Ups}
 use Rattle.nutcore.specs.Session.{SessionState, without, new_session}
-use Rattle.nutcore.proofs.Common.{UpsState, ServerState, session, with_session, with_session_changed}
+use Rattle.nutcore.proofs.Common.{UpsState, TrackingState, ServerState, session, with_session, with_session_changed, with_tracking}
 use Rattle.nutcore.specs.Reply.{reply, changed_upses}
 use Rattle.nutcore.specs.Pump.{answered, with_notice}
 use Rattle.nutcore.specs.Step.{joined, taken_from, may_open, ticked}
@@ -18,11 +18,12 @@ use Rattle.nutcore.proofs.Kept.{IsKept, IsAny, any_event, by_run}
 use Rattle.nutcore.proofs.Sound.{each_put, each_without, each_found}
 use Rattle.nutcore.proofs.SoundUps.{each_last}
 
--- what is of the sessions' addresses and the list alone: a session is put with its address, UPSs and the moment change
+-- what is of the sessions' addresses and the list alone: a session is put with its address, UPSs, the moment and what is tracked change
 record IsApart (P : ServerState → Type 0) : Type 0 where
   puts : (s : ServerState) (c : ℕ) (x y : SessionState) → session c s ≡ Some x → y.address ≡ x.address → P s → P (with_session s y)
   upses : (s : ServerState) (upses : List UpsState) → P s → (let t : ServerState = record s { upses = upses } in P t)
   moment : (s : ServerState) (moment : ℕ) → P s → (let t : ServerState = record s { moment = moment } in P t)
+  tracking : (s : ServerState) (t : TrackingState) → P s → P (with_tracking t s)
 
 -- so each part of an event keeps it, but that a session opens and one is closed
 module _ (P : ServerState → Type 0) (Opens : List ℕ → Type 0) (apart : IsApart P) where
@@ -50,7 +51,8 @@ module _ (P : ServerState → Type 0) (Opens : List ℕ → Type 0) (apart : IsA
       gives = λ s c n h. by_session (taken_from n) (λ x. refl) s c h;
       notice = λ s c h. by_session with_notice (λ x. either_notice (λ y. y.address ≡ x.address) x refl refl) s c h;
     };
-    driver = λ s m. record { comes = λ u h. apart.upses s _ h; tells = λ piece u h. apart.upses s _ h; takes = λ n u h. apart.upses s _ h; goes = λ u h. apart.upses s _ h };
+    driver = λ s m. record { comes = λ u h. apart.upses s _ h; tells = λ place piece u h. apart.upses s _ h; takes = λ n u h. apart.upses s _ h; goes = λ u h. apart.upses s _ h };
+    tracks = λ s act h. apart.tracking s _ h;
     ticks = by_tick;
     opens = opens;
     closes = closes;
@@ -70,6 +72,7 @@ addresses_kept =
       puts = λ s c x y found same h. each_put HasLawfulAddress y (subst IsLawfulAddress (sym same) (each_found HasLawfulAddress c s.sessions x found h)) s.sessions h;
       upses = λ s upses h. h;
       moment = λ s moment h. h;
+      tracking = λ s t h. h;
     })
     (λ s address room own h. each_last HasLawfulAddress (new_session s.next_id address) own s.sessions h) (λ s c h. each_without HasLawfulAddress c s.sessions h)
 
@@ -91,7 +94,7 @@ run_addresses_lawful old new events outcomes r own h =
 -- the list
 list_kept : (list : List Ups) → IsKept (λ s. s.list ≡ list) IsAny
 list_kept list =
-    kept_apart (λ s. s.list ≡ list) IsAny (record { puts = λ s c x y found same h. h; upses = λ s upses h. h; moment = λ s moment h. h })
+    kept_apart (λ s. s.list ≡ list) IsAny (record { puts = λ s c x y found same h. h; upses = λ s upses h. h; moment = λ s moment h. h; tracking = λ s t h. h })
     (λ s address room own h. h) (λ s c h. h)
 
 pub run_keeps_list : EveryRunKeepsTheList

@@ -1,14 +1,14 @@
 -- What each event of a driver does to its UPS: what was told, what is owed, whether the driver stays, and the count.
-use Rattle.std.proofs.Common.{◌≡◌, ◌≤◌, ◌∙◌, ◌+◌, ℕ, Bool, true, false, ◌&&◌, not, List, [], ◌∷◌, ◌++◌, Option, Some, None, refl, sym, ap, cond, map, min, take, drop, append_assoc, append-nil, arith}
-use Rattle.nutcore.proofs.Common.{and_from, flat_map-append, take-append-drop, UpsId, Event}
+use Rattle.std.proofs.Common.{◌≡◌, ◌≤◌, ◌∙◌, ◌+◌, ℕ, Bool, true, false, ◌&&◌, not, List, [], ◌∷◌, ◌++◌, Option, Some, None, refl, sym, ap, cond, min, take, drop, append_assoc, append-nil, arith}
+use Rattle.nutcore.proofs.Common.{and_from, flat_map-append, take-append-drop, cond_both, UpsId, TrackingState, Event}
 use Rattle.nutdriver.specs.declared.report.Report.{Report}
 use Rattle.nutdriver.specs.declared.report.LineOutcome.{LineOutcome}
-use Rattle.nutdriver.specs.declared.report.LineOutcome.TheVariants.{Accepted, Refused}
 use Rattle.nutdriver.specs.Report.{after_line}
 use Rattle.nutcore.specs.declared.event.Event.TheVariants.{DriverUp}
 use Rattle.nutwords.specs.Text.{with_lf}
 use Rattle.nutcore.specs.Lines.{joined, whole_lines, unfinished_after, is_too_long}
-use Rattle.nutcore.specs.Ups.{UpsState, after_connecting, after_loss, ping_line, greatest_count, after_outcome, after_text, after_texts, with_unfinished}
+use Rattle.nutcore.specs.Reports.{end_in, with_end, is_unawaited}
+use Rattle.nutcore.specs.Ups.{UpsState, after_connecting, after_loss, ping_line, greatest_count, is_refused, with_faulty_line, after_outcome, after_text, after_texts, with_unfinished}
 use Rattle.nutcore.specs.Headline.{IsBeginning}
 use Rattle.nutcore.specs.Sound.{Each}
 use Rattle.nutcore.specs.DriverHistory.{Heard, heard_at, as_far, bytes_heard, after_heard, refusals, refused_among, IsWholeLine, CountsRefused, IsHeard}
@@ -29,58 +29,67 @@ pub both_counts : (a b c p q most : ℕ) → b ≡ min (a + p) most → c ≡ mi
 both_counts a b c p q most first more = omega arith
 
 -- what a line of its driver leaves of a UPS
-pub record LineLeaves (x : UpsState) (r : Report × LineOutcome) (y : UpsState) : Type 0 where
+pub record LineLeaves (unawaited : Bool) (x : UpsState) (r : Report × LineOutcome) (y : UpsState) : Type 0 where
   pub report : y.report ≡ r.0
   pub pinged : y.pinged ≡ x.pinged
   pub owed : y.owed ≡ x.owed
   pub unfinished : y.unfinished ≡ x.unfinished
-  pub counted : x.faulty ≤ greatest_count → y.faulty ≡ min (x.faulty + refusals r.1) greatest_count
+  pub counted : x.faulty ≤ greatest_count → y.faulty ≡ min (x.faulty + refusals unawaited r.1) greatest_count
   -- what is unfinished changes nothing of it
-  pub beside : (bytes : List ℕ) → with_unfinished bytes y ≡ after_outcome (with_unfinished bytes x) r
+  pub beside : (bytes : List ℕ) → with_unfinished bytes y ≡ after_outcome unawaited (with_unfinished bytes x) r
 
-pub line_leaves : (x : UpsState) (r : Report × LineOutcome) → LineLeaves x r (after_outcome x r)
-line_leaves x (report, Accepted) = record { report = refl; pinged = refl; owed = refl; unfinished = refl; counted = λ few. omega (arith, few); beside = λ bytes. refl }
-line_leaves x (report, Refused fault) = record { report = refl; pinged = refl; owed = refl; unfinished = refl; counted = λ few. refl; beside = λ bytes. refl }
+pub line_leaves : (unawaited : Bool) (x : UpsState) (r : Report × LineOutcome) → LineLeaves unawaited x r (after_outcome unawaited x r)
+line_leaves unawaited x r = by_refusal (is_refused unawaited r.1) refl
+  where
+    y : UpsState
+    y = record x { report = r.0 }
+
+    by_refusal : (b : Bool) → is_refused unawaited r.1 ≡ b → LineLeaves unawaited x r (cond b (with_faulty_line y) y)
+    by_refusal true is = record { report = refl; pinged = refl; owed = refl; unfinished = refl; counted = λ few. rw is refl; beside = λ bytes. rw is refl }
+    by_refusal false is = record { report = refl; pinged = refl; owed = refl; unfinished = refl; counted = λ few. rw is (omega (arith, few)); beside = λ bytes. rw is refl }
 
 -- whole lines, all at one moment
-record LinesLeave (m : ℕ) (lines : List (List ℕ)) (x y : UpsState) : Type 0 where
-  report : y.report ≡ after_heard x.report (map (heard_at m) lines)
+record LinesLeave (lines : List Heard) (x y : UpsState) : Type 0 where
+  report : y.report ≡ after_heard x.report lines
   owed : y.owed ≡ x.owed
-  counted : CountsRefused x (map (heard_at m) lines) y
+  counted : CountsRefused x lines y
 
-lines_leave : (m : ℕ) (lines : List (List ℕ)) (x : UpsState) → LinesLeave m lines x (after_texts m lines x)
-lines_leave m [] x = record { report = refl; owed = refl; counted = λ few. omega (arith, few) }
-lines_leave m (line ∷ lines) x =
+lines_leave : (m place : ℕ) (t : TrackingState) (lines : List (List ℕ)) (x : UpsState) → LinesLeave (heard_at m place t lines) x (after_texts m place t lines x)
+lines_leave m place t [] x = record { report = refl; owed = refl; counted = λ few. omega (arith, few) }
+lines_leave m place t (line ∷ lines) x =
     let r : Report × LineOutcome = after_line m x.report line in
-    let y : UpsState = after_text m x line in
-    let one = line_leaves x r in
-    let rest = lines_leave m lines y in
-    let more : Report → ℕ = λ (report : Report). refused_among report (map (heard_at m) lines) in
+    let b : Bool = is_unawaited place (end_in line) t in
+    let next : TrackingState = with_end place (end_in line) t in
+    let y : UpsState = after_text m b x line in
+    let later : List Heard = heard_at m place next lines in
+    let one = line_leaves b x r in
+    let rest = lines_leave m place next lines y in
+    let more : Report → ℕ = λ (report : Report). refused_among report later in
     record {
-      report = rest.report ∙ ap (λ (report : Report). after_heard report (map (heard_at m) lines)) one.report;
+      report = rest.report ∙ ap (λ (report : Report). after_heard report later) one.report;
       owed = rest.owed ∙ one.owed;
       counted = λ few.
-          both_counts x.faulty y.faulty (after_texts m lines y).faulty (refusals r.1) (more r.0) greatest_count (one.counted few)
-          (rest.counted (count_is_few (x.faulty + refusals r.1) y.faulty greatest_count (one.counted few)) ∙ ap (λ (report : Report). min (y.faulty + more report) greatest_count) one.report);
+          both_counts x.faulty y.faulty (after_texts m place next lines y).faulty (refusals b r.1) (more r.0) greatest_count (one.counted few)
+          (rest.counted (count_is_few (x.faulty + refusals b r.1) y.faulty greatest_count (one.counted few)) ∙ ap (λ (report : Report). min (y.faulty + more report) greatest_count) one.report);
     }
 
-bytes_at : (m : ℕ) (lines : List (List ℕ)) → bytes_heard (map (heard_at m) lines) ≡ joined lines
-bytes_at m [] = refl
-bytes_at m (line ∷ lines) = ap (λ (z : List ℕ). with_lf line ++ z) (bytes_at m lines)
+bytes_at : (m place : ℕ) (t : TrackingState) (lines : List (List ℕ)) → bytes_heard (heard_at m place t lines) ≡ joined lines
+bytes_at m place t [] = refl
+bytes_at m place t (line ∷ lines) = ap (λ (z : List ℕ). with_lf line ++ z) (bytes_at m place (with_end place (end_in line) t) lines)
 
-whole_at : (m : ℕ) (lines : List (List ℕ)) → Each IsWhole lines → Each IsWholeLine (map (heard_at m) lines)
-whole_at m [] all = tt
-whole_at m (line ∷ lines) all = (record { one = all.0.0; short = (let short = all.0.1 in omega (arith, short)) }, whole_at m lines all.1)
+whole_at : (m place : ℕ) (t : TrackingState) (lines : List (List ℕ)) → Each IsWhole lines → Each IsWholeLine (heard_at m place t lines)
+whole_at m place t [] all = tt
+whole_at m place t (line ∷ lines) all = (record { one = all.0.0; short = (let short = all.0.1 in omega (arith, short)) }, whole_at m place (with_end place (end_in line) t) lines all.1)
 
-begins_with : (m : ℕ) (text : List ℕ) (first others : List (List ℕ)) → first ++ others ≡ whole_lines text → IsBeginning (bytes_heard (map (heard_at m) first)) text
-begins_with m text first others all =
+begins_with : (m place : ℕ) (t : TrackingState) (text : List ℕ) (first others : List (List ℕ)) → first ++ others ≡ whole_lines text → IsBeginning (bytes_heard (heard_at m place t first)) text
+begins_with m place t text first others all =
     let rest : List ℕ = unfinished_after text in
     let joins : joined first ++ joined others ≡ joined (whole_lines text) = sym (flat_map-append with_lf first others) ∙ ap joined all in
-    (joined others ++ rest, ap (λ (z : List ℕ). z ++ (joined others ++ rest)) (bytes_at m first) ∙ sym (append_assoc (joined first) (joined others) rest) ∙ ap (λ (z : List ℕ). z ++ rest) joins ∙ sym (no_byte_is_lost text))
+    (joined others ++ rest, ap (λ (z : List ℕ). z ++ (joined others ++ rest)) (bytes_at m place t first) ∙ sym (append_assoc (joined first) (joined others) rest) ∙ ap (λ (z : List ℕ). z ++ rest) joins ∙ sym (no_byte_is_lost text))
 
-begins_text : (m : ℕ) (text : List ℕ) (refused : Option ℕ) → IsBeginning (bytes_heard (map (heard_at m) (as_far refused (whole_lines text)))) text
-begins_text m text None = begins_with m text (whole_lines text) [] (append-nil (whole_lines text))
-begins_text m text (Some k) = begins_with m text (take k (whole_lines text)) (drop k (whole_lines text)) (take-append-drop k (whole_lines text))
+begins_text : (m place : ℕ) (t : TrackingState) (text : List ℕ) (refused : Option ℕ) → IsBeginning (bytes_heard (heard_at m place t (as_far refused (whole_lines text)))) text
+begins_text m place t text None = begins_with m place t text (whole_lines text) [] (append-nil (whole_lines text))
+begins_text m place t text (Some k) = begins_with m place t text (take k (whole_lines text)) (drop k (whole_lines text)) (take-append-drop k (whole_lines text))
 
 -- an event leaves y of the UPS x, of whose driver this piece came, by which these lines are heard, and which is told this and takes this
 pub record Does (now : ℕ) (u : UpsId) (e : Event) (x : UpsState) (piece : List ℕ) (lines : List Heard) (told : List Telling) (taken : List ℕ) (y : UpsState) : Type 0 where
@@ -146,39 +155,39 @@ module _ (now : ℕ) (u : UpsId) (e : Event) (x : UpsState) where
   up_does true there is = stays_so
   up_does false absent is = unconnected [] (dump_all ∷ []) (after_connecting now x) absent refl (λ still. (is, refl)) (λ nothing. ap (λ (z : List ℕ). z ++ texts_of (dump_all ∷ [])) (nothing absent))
 
-  pub bytes_do : (piece : List ℕ) (refused : Option ℕ)
-      → Does now u e x piece (cond x.report.connected (map (heard_at now) (as_far refused (whole_lines (x.unfinished ++ piece)))) []) [] [] (ups_after_bytes now piece refused x)
-  bytes_do piece refused = by_connection x.report.connected refl refused
+  pub bytes_do : (t : TrackingState) (piece : List ℕ) (refused : Option ℕ)
+      → Does now u e x piece (cond x.report.connected (heard_at now u.place t (as_far refused (whole_lines (x.unfinished ++ piece)))) []) [] [] (ups_after_bytes now u.place t piece refused x)
+  bytes_do t piece refused = by_connection x.report.connected refl refused
     where
       text : List ℕ
       text = x.unfinished ++ piece
 
       lines : Option ℕ → List Heard
-      lines r = map (heard_at now) (as_far r (whole_lines text))
+      lines r = heard_at now u.place t (as_far r (whole_lines text))
 
       y : UpsState
-      y = after_texts now (whole_lines text) x
+      y = after_texts now u.place t (whole_lines text) x
 
-      by_loss : x.report.connected ≡ true → (r : Option ℕ) → Does now u e x piece (lines r) [] [] (after_loss (after_texts now (as_far r (whole_lines text)) x))
-      by_loss is r = lost piece (lines r) (after_texts now (as_far r (whole_lines text)) x) is (begins_text now text r) (lines_leave now (as_far r (whole_lines text)) x).counted
+      by_loss : x.report.connected ≡ true → (r : Option ℕ) → Does now u e x piece (lines r) [] [] (after_loss (after_texts now u.place t (as_far r (whole_lines text)) x))
+      by_loss is r = lost piece (lines r) (after_texts now u.place t (as_far r (whole_lines text)) x) is (begins_text now u.place t text r) (lines_leave now u.place t (as_far r (whole_lines text)) x).counted
 
       by_length : x.report.connected ≡ true → (b : Bool) → Does now u e x piece (lines None) [] [] (cond b (after_loss y) (with_unfinished (unfinished_after text) y))
       by_length is true = by_loss is None
-      by_length is false = let left = lines_leave now (whole_lines text) x in record {
+      by_length is false = let left = lines_leave now u.place t (whole_lines text) x in record {
         stays = λ was still. record {
-          whole = whole_at now (whole_lines text) (each_is_whole text);
-          all = no_byte_is_lost text ∙ ap (λ (z : List ℕ). z ++ unfinished_after text) (sym (bytes_at now (whole_lines text)));
+          whole = whole_at now u.place t (whole_lines text) (each_is_whole text);
+          all = no_byte_is_lost text ∙ ap (λ (z : List ℕ). z ++ unfinished_after text) (sym (bytes_at now u.place t (whole_lines text)));
           report = left.report;
           counted = left.counted;
         };
-        loses = λ was gone. begins_text now text None;
+        loses = λ was gone. begins_text now u.place t text None;
         begins = λ gone still. no_loss x.report.connected is gone;
         counted = left.counted;
         takes = (x.owed ++ [], refl);
         owes = λ nothing kept. append-nil x.owed ∙ sym left.owed;
       }
 
-      by_connection : (b : Bool) → x.report.connected ≡ b → (r : Option ℕ) → Does now u e x piece (cond b (lines r) []) [] [] (cond b (ups_after_text now text r x) x)
+      by_connection : (b : Bool) → x.report.connected ≡ b → (r : Option ℕ) → Does now u e x piece (cond b (lines r) []) [] [] (cond b (ups_after_text now u.place t text r x) x)
       by_connection true is None = by_length is (is_too_long (unfinished_after text))
       by_connection true is (Some k) = by_loss is (Some k)
       by_connection false absent r = unconnected piece [] x absent refl (λ is. no_loss x.report.connected is absent) (λ nothing. append-nil x.owed)

@@ -3,7 +3,7 @@ use Rattle.std.proofs.Common.{◌≡◌, ◌∙◌, ℕ, zero, suc, Bool, true, 
 use Rattle.std.specs.List.{flat_map}
 use Rattle.nutcore.proofs.Common.{slice_get, option_map, cond_both, flat_map-append, slice_get-map, UpsId, Change, Event, Outcome, SessionState, ServerState, session, ups_at, with_session_changed}
 use Rattle.nutanswer.specs.declared.reply.Change.TheVariants as changes
-use Rattle.nutcore.specs.declared.event.Event.TheVariants.{DriverUp, DriverBytes, DriverTook, DriverDown, Tick, Open, Feed, Took, Close}
+use Rattle.nutcore.specs.declared.event.Event.TheVariants.{DriverUp, DriverBytes, DriverTook, DriverDown, Tick, Open, Feed, Took, Close, Id}
 use Rattle.nutcore.specs.Ups.{UpsState, with_fsd, with_order, after_tick, ping_is_due}
 use Rattle.nutcore.specs.Reply.{changed_upses}
 use Rattle.nutcore.specs.Pump.{next_line_for, after_line, after_lines, after_all_lines, after_notice, is_overlong, with_notice, pumped, held_of}
@@ -104,8 +104,8 @@ event_leaves u s (DriverBytes v piece) o x there =
     let e : Event = DriverBytes v piece in
     let m : Option ℕ = refused_after o in
     subst (λ (t : ServerState). Stands u.place t.upses (Does s.moment u e x (came_in_event u e) (heard_in_event u s e o) [] [])) (sym (bytes_change v piece m s))
-    (of_place (ups_after_bytes s.moment piece m) u v s.upses x (Does s.moment u e x (came_in_event u e) (heard_in_event u s e o) [] []) there
-    (λ k same. rw (k, there) (bytes_do s.moment u e x piece m)) (λ k. rw k (stays_so s.moment u e x)))
+    (of_place (ups_after_bytes s.moment v.place s.tracking piece m) u v s.upses x (Does s.moment u e x (came_in_event u e) (heard_in_event u s e o) [] []) there
+    (λ k same. rw (k, there) (subst (λ (w : UpsId). Does s.moment u e x piece _ [] [] (ups_after_bytes s.moment w.place s.tracking piece m x)) (sym same) (bytes_do s.moment u e x s.tracking piece m))) (λ k. rw k (stays_so s.moment u e x)))
 event_leaves u s (DriverTook v n) o x there =
     let e : Event = DriverTook v n in
     of_place (after_driver_took n) u v s.upses x (Does s.moment u e x [] [] [] (taken_in_event u s e)) there
@@ -124,3 +124,4 @@ event_leaves u s (Open address) o x there = record { ups = x; there = of_opened 
 event_leaves u s (Feed c piece) o x there = by_client s.moment u (Feed c piece) x _ _ (pump_adds u (with_input s c piece) c (refused_after o) x (session_keeps u (joined piece) s c x there))
 event_leaves u s (Took c n) o x there = by_client s.moment u (Took c n) x _ _ (took_adds u s c n (refused_after o) x (may_take (session c s) n) there)
 event_leaves u s (Close c) o x there = record { ups = x; there = there; is = stays_so s.moment u (Close c) x }
+event_leaves u s (Id id) o x there = record { ups = x; there = there; is = stays_so s.moment u (Id id) x }

@@ -1,5 +1,5 @@
 -- The driver's lines, one by one.
-use Rattle.std.proofs.Common.{None, ◌≡◌, ℕ, zero, suc, ◌+◌, ◌<◌, ◌≤◌, true, false, List, [], ◌∷◌, ◌++◌, Option, Some, Result, Ok, Err, refl, sym, ◌∙◌, ap, subst, arith, length, take, drop, append-nil}
+use Rattle.std.proofs.Common.{None, ◌≡◌, ℕ, zero, suc, ◌+◌, ◌<◌, ◌≤◌, Bool, cond, true, false, List, [], ◌∷◌, ◌++◌, Option, Some, Result, Ok, Err, refl, sym, ◌∙◌, ap, subst, arith, length, take, drop, append-nil}
 use Rattle.std.proofs.lemmas.List.Sums.{fold-append}
 use Rattle.std.specs.Prelude.{slice_get, is_err}
 use Rattle.std.specs.declared.alloc.AllocError.{AllocError}
@@ -8,14 +8,29 @@ use Rattle.std.specs.Fn.{Once}
 use Rattle.nutwords.specs.Found.{FindsLine, Finds}
 use Rattle.nutwords.specs.declared.cut.Found.{Found}
 use Rattle.nutwords.specs.declared.limits.TheConstants.{LINE_ROOM}
-use Rattle.nutdriver.specs.Report.{after_line, line_changes}
-use Rattle.nutcore.proofs.Common.{cond-true, cond-false, le-leb, lt-leb, take-append-drop, same_Some, option_map, option_map_or, UpsId, Fault, ServerState, ups_at, changed_at, with_ups_changed}
+use Rattle.std.specs.Prelude.{nat_le}
+use Rattle.nutdriver.specs.declared.line.DriverLine.{DriverLine}
+use Rattle.nutdriver.specs.declared.line.DriverLine.TheVariants.{SetInfo, DelInfo, AddEnum, DelEnum, AddRange, DelRange, SetAux, SetFlags, AddCmd, DelCmd, Tracking}
+use Rattle.nutdriver.specs.declared.fault.DriverFault.{DriverFault}
+use Rattle.nutdriver.specs.declared.fault.DriverFault.TheVariants.{NoSuchItem, Full}
+use Rattle.nutdriver.specs.declared.effect.Effect.{Effect}
+use Rattle.nutdriver.specs.declared.effect.Effect.TheVariants.{Nothing, Changed}
+use Rattle.nutdriver.specs.declared.limits.TheConstants.{VARIABLE_LIMIT, COMMAND_LIMIT}
+use Rattle.nutdriver.specs.declared.report.Report.{Report}
+use Rattle.nutdriver.specs.declared.report.LineOutcome.{LineOutcome}
+use Rattle.nutdriver.specs.Variable.{VariableState, new_variable, add_enum, delete_enum, add_range, delete_range, with_aux, with_flags}
+use Rattle.nutdriver.specs.Tree.{TreeState, variable_at, with_variable, without_variable, has_command, with_command, without_command}
+use Rattle.nutdriver.specs.DriverLine.{read_driver_line}
+use Rattle.nutdriver.specs.DriverStep.{put_back, if_there, set_info, delete_info, driver_step}
+use Rattle.nutdriver.specs.Report.{after_step, after_reading, after_line, line_changes}
+use Rattle.nutcore.specs.Reports.{OrderEnd, end_read, end_in, with_end, is_unawaited}
+use Rattle.nutcore.proofs.Common.{cond-true, cond-false, le-leb, lt-leb, take-append-drop, cond_both, same_Some, option_map, option_map_or, UpsId, TrackingState, Fault, ServerState, ups_at, changed_at, with_ups_changed, with_tracking}
 use Rattle.nutcore.specs.declared.event.Fault.TheVariants.{LineTooLong, Memory}
 use Rattle.nutcore.specs.Lines.{whole_lines, unfinished_after, is_too_long}
-use Rattle.nutcore.specs.Ups.{UpsState, after_loss, after_text, with_unfinished, wants_memory_for}
+use Rattle.nutcore.specs.Ups.{UpsState, after_loss, is_refused, with_faulty_line, after_text, with_unfinished, wants_memory_for}
 use Rattle.nutcore.specs.Step.{after_driver_line, after_driver_lines, with_rest, after_driver_text, wants_driver_memory}
 use Rattle.nutcore.specs.Calls.{is_connected}
-use Rattle.nutcore.specs.Promises.{front_or, IsCut, ChangesUps, OfUps, DoesLine, IsTold, IsStopped, holding_nothing, ExecutesDriverLine, ReadsDriverLine}
+use Rattle.nutcore.specs.Promises.{front_or, IsCut, ChangesUps, OfUps, DoesLine, end_told, IsTold, IsStopped, holding_nothing, ExecutesDriverLine, ReadsDriverLine}
 use Rattle.nutcore.proofs.UpsPlaces.{Stands, of_ups, at_changed, server_agree, server_twice, changed_to, left_at}
 use Rattle.nutcore.proofs.DriverSteps.{is_there, connected_as, connected_at}
 use Rattle.nutcore.proofs.DriverChanges.{line_leaves}
@@ -38,10 +53,12 @@ no_more k lines h = sym (append-nil (take k lines)) ∙ ap (λ z. take k lines +
 line_beside : (u : UpsId) (line : List ℕ) (s : ServerState) → holding_nothing u (after_driver_line u line s) ≡ after_driver_line u line (holding_nothing u s)
 unfolding after_driver_line
 line_beside u line s =
-    let does : UpsState → UpsState = λ x. after_text s.moment x line in
-    server_twice does (with_unfinished []) u s
-    ∙ server_agree s u (λ x. with_unfinished [] (does x)) (λ x. does (with_unfinished [] x)) (λ x there. (line_leaves x (after_line s.moment x.report line)).beside [])
-    ∙ sym (server_twice (with_unfinished []) does u s)
+    let b : Bool = is_unawaited u.place (end_in line) s.tracking in
+    let does : UpsState → UpsState = λ x. after_text s.moment b x line in
+    ap (with_tracking (with_end u.place (end_in line) s.tracking))
+    (server_twice does (with_unfinished []) u s
+    ∙ server_agree s u (λ x. with_unfinished [] (does x)) (λ x. does (with_unfinished [] x)) (λ x there. (line_leaves b x (after_line s.moment x.report line)).beside [])
+    ∙ sym (server_twice (with_unfinished []) does u s))
 
 nothing_twice : (u : UpsId) (s : ServerState) → holding_nothing u (holding_nothing u s) ≡ holding_nothing u s
 nothing_twice u s = server_twice (with_unfinished []) (with_unfinished []) u s
@@ -78,13 +95,14 @@ read_on u k used text old s t rest at o some reads =
     let left : List ℕ = drop used rest in
     let lines : List (List ℕ) = whole_lines text in
     let y : UpsState = with_unfinished [] at.ups in
-    let z : UpsState = after_text s.moment y line in
+    let b : Bool = is_unawaited u.place (end_in line) s.tracking in
+    let z : UpsState = after_text s.moment b y line in
     let done : ServerState = after_driver_lines u (take k lines) old in
     let next = one_more k lines line (whole_lines left) (at.ahead ∙ whole_first (at.ups.unfinished ++ rest) line left found.0 found.3) in
-    let held : z.unfinished ++ left ≡ left = ap (λ (b : List ℕ). b ++ left) (line_leaves y (after_line s.moment y.report line)).unfinished in
+    let held : z.unfinished ++ left ≡ left = ap (λ (b : List ℕ). b ++ left) (line_leaves b y (after_line s.moment y.report line)).unfinished in
     record {
       ups = z;
-      there = ap (ups_at u.place) does ∙ at_changed (λ x. after_text s.moment x line) u.place (holding_nothing u s).upses y (at_changed (with_unfinished []) u.place s.upses at.ups at.there);
+      there = ap (ups_at u.place) does ∙ at_changed (λ x. after_text s.moment b x line) u.place (holding_nothing u s).upses y (at_changed (with_unfinished []) u.place s.upses at.ups at.there);
       ahead = next.1 ∙ ap whole_lines (sym held);
       unfinished = at.unfinished ∙ unfinished_first (at.ups.unfinished ++ rest) line left found.0 found.3 ∙ ap unfinished_after (sym held);
       told =
@@ -164,13 +182,83 @@ pub told_kept : (u : UpsId) (text : List ℕ) (old s : ServerState) (r : Result 
 told_kept u text old s (Ok v) went stopped = stopped
 told_kept u text old s (Err fault) went stopped = cc went
 
--- What a line does to a UPS, said of the server.
-pub executes : (u : UpsId) (line : List ℕ) (s t : ServerState) (x y : UpsState) (r : Result (Unit {0}) AllocError) → ups_at u.place s ≡ Some x → DoesLine s.moment line x r y → t ≡ with_ups_changed (λ z. y) u s → ExecutesDriverLine u line x s r t
+-- What a line says of an order is what its outcome tells.
+told_is_read : (moment : ℕ) (report : Report) (line : List ℕ) → end_told (after_line moment report line).1 ≡ end_in line
+told_is_read moment report line = by_reading (read_driver_line line)
+  where
+    at : Report
+    at = record report { heard = moment }
+
+    tree : TreeState
+    tree = report.tree
+
+    IsUntold : Result (TreeState × Effect) DriverFault → Type 0
+    IsUntold r = end_told (after_step at r).1 ≡ None
+
+    by_back : (name : List ℕ) (r : Result (Option VariableState) DriverFault) → IsUntold (put_back tree name r)
+    by_back name (Err fault) = refl
+    by_back name (Ok None) = refl
+    by_back name (Ok (Some variable)) = refl
+
+    by_there : (name : List ℕ) (f : VariableState → Result (Option VariableState) DriverFault) (o : Option VariableState) → IsUntold (if_there tree name o f)
+    by_there name f None = refl
+    by_there name f (Some variable) = by_back name (f variable)
+
+    by_set : (name value : List ℕ) (o : Option VariableState) → IsUntold (set_info tree name value o)
+    by_set name value None = cond_both (nat_le VARIABLE_LIMIT (length tree.variables)) (Err Full) (Ok (with_variable tree name (new_variable value), Changed)) IsUntold (λ e. refl) (λ e. refl)
+    by_set name value (Some variable) = refl
+
+    by_delete : (name : List ℕ) (o : Option VariableState) → IsUntold (delete_info tree name o)
+    by_delete name None = refl
+    by_delete name (Some variable) = refl
+
+    by_line : (said : DriverLine) → end_told (after_step at (driver_step tree said)).1 ≡ end_read (Ok said)
+    by_line (SetInfo name value) = by_set name value (variable_at tree name)
+    by_line (DelInfo name) = by_delete name (variable_at tree name)
+    by_line (AddEnum name value) = by_there name (add_enum value) (variable_at tree name)
+    by_line (DelEnum name value) = by_there name (delete_enum value) (variable_at tree name)
+    by_line (AddRange name range) = by_there name (add_range range) (variable_at tree name)
+    by_line (DelRange name range) = by_there name (delete_range range) (variable_at tree name)
+    by_line (SetAux name aux) = by_there name (λ variable. Ok (Some (with_aux aux variable))) (variable_at tree name)
+    by_line (SetFlags name flags) = by_there name (λ variable. Ok (Some (with_flags flags variable))) (variable_at tree name)
+    by_line (AddCmd name) =
+        let more : Result (TreeState × Effect) DriverFault = cond (nat_le COMMAND_LIMIT (length tree.commands)) (Err Full) (Ok (with_command tree name, Changed)) in
+        cond_both (has_command tree name) (Ok (tree, Nothing)) more IsUntold (λ e. refl) (λ e. cond_both (nat_le COMMAND_LIMIT (length tree.commands)) (Err Full) (Ok (with_command tree name, Changed)) IsUntold (λ e. refl) (λ e. refl))
+    by_line (DelCmd name) = cond_both (has_command tree name) (Ok (without_command tree name, Changed)) (Err NoSuchItem) IsUntold (λ e. refl) (λ e. refl)
+    by_line (Tracking id number) = refl
+    by_line _ = refl
+
+    by_reading : (r : Result DriverLine DriverFault) → end_told (after_reading at r).1 ≡ end_read r
+    by_reading (Err fault) = refl
+    by_reading (Ok said) = by_line said
+
+-- What a line does to a UPS, said of the server: it is done, and is counted where it is refused.
+pub executes : (u : UpsId) (line : List ℕ) (s mid t : ServerState) (x y : UpsState) (outcome : LineOutcome) (b : Bool) → ups_at u.place s ≡ Some x → DoesLine s.moment line x (Ok outcome) y
+    → mid ≡ with_tracking (with_end u.place (end_told outcome) s.tracking) (with_ups_changed (λ z. y) u s) → b ≡ is_refused (is_unawaited u.place (end_told outcome) s.tracking) outcome
+    → t ≡ cond b (with_ups_changed with_faulty_line u mid) mid → ExecutesDriverLine u line x s (Ok tt) t
 unfolding after_driver_line
-executes u line s t x y (Ok v) there does leaves =
-    changed_to s t u (λ z. after_text s.moment (with_unfinished [] z) line) x y there does leaves
-    ∙ sym (server_twice (with_unfinished []) (λ z. after_text s.moment z line) u s)
-executes u line s t x y (Err e) there (changes, heard) leaves = (
+executes u line s mid t x y outcome b there (is, leaves) told refused counted =
+    let r : Report × LineOutcome = after_line s.moment x.report line in
+    let read : end_told outcome ≡ end_in line = ap end_told is ∙ told_is_read s.moment x.report line in
+    let unawaited : Bool = is_unawaited u.place (end_in line) s.tracking in
+    let next : TrackingState = with_end u.place (end_in line) s.tracking in
+    let done : UpsState = record (with_unfinished [] x) { report = r.0 } in
+    let w : UpsState = cond b (with_faulty_line y) y in
+    let does : UpsState → UpsState = λ z. after_text s.moment unawaited (with_unfinished [] z) line in
+    let by : b ≡ is_refused unawaited r.1 = refused ∙ ap (λ (o : Option OrderEnd). is_refused (is_unawaited u.place o s.tracking) outcome) read ∙ ap (is_refused unawaited) is in
+    let same : w ≡ does x = ap (λ (z : UpsState). cond b (with_faulty_line z) z) leaves ∙ ap (λ (c : Bool). cond c (with_faulty_line done) done) by in
+    counted
+    ∙ ap (λ (v : ServerState). cond b (with_ups_changed with_faulty_line u v) v) (told ∙ ap (λ (o : Option OrderEnd). with_tracking (with_end u.place o s.tracking) (with_ups_changed (λ z. y) u s)) read)
+    ∙ by_refusal next b
+    ∙ ap (with_tracking next) (server_agree s u (λ z. w) does (of_ups s u x (λ z. w ≡ does z) there same) ∙ sym (server_twice (with_unfinished []) (λ z. after_text s.moment unawaited z line) u s))
+  where
+    by_refusal : (next : TrackingState) (c : Bool) → let v : ServerState = with_tracking next (with_ups_changed (λ z. y) u s) in
+        cond c (with_ups_changed with_faulty_line u v) v ≡ with_tracking next (with_ups_changed (λ z. cond c (with_faulty_line y) y) u s)
+    by_refusal next true = ap (with_tracking next) (server_twice (λ z. y) with_faulty_line u s)
+    by_refusal next false = refl
+
+pub lacks : (u : UpsId) (line : List ℕ) (s t : ServerState) (x y : UpsState) (e : AllocError) → ups_at u.place s ≡ Some x → DoesLine s.moment line x (Err e) y → t ≡ with_ups_changed (λ z. y) u s → ExecutesDriverLine u line x s (Err e) t
+lacks u line s t x y e there (changes, heard) leaves = (
   changes,
   ap (with_ups_changed after_loss u) leaves ∙ server_twice (λ z. y) after_loss u s ∙ server_agree s u (λ z. after_loss y) after_loss (of_ups s u x (λ z. after_loss y ≡ after_loss z) there (ap after_loss heard)),
 )

@@ -5,6 +5,7 @@ use Rattle.nutcore.proofs.Common.{option_map_or, cond-false, same_Some, UpsId, E
 use Rattle.nutdriver.specs.declared.line.DriverLine.{DriverLine}
 use Rattle.nutdriver.specs.declared.fault.DriverFault.{DriverFault}
 use Rattle.nutdriver.specs.declared.effect.Effect.{Effect}
+use Rattle.nutdriver.specs.declared.effect.Effect.TheVariants.{Tracked}
 use Rattle.nutdriver.specs.declared.report.Report.{Report}
 use Rattle.nutdriver.specs.Tree.{TreeState}
 use Rattle.nutdriver.specs.DriverLine.{read_driver_line}
@@ -149,6 +150,7 @@ which_are_refused = record { refused = is; only = λ moment report line fault h.
     is moment report line fault (inr (said, read, refused)) = ap (after_reading (at moment report)) read ∙ ap (after_step (at moment report)) refused
 
     by_step : (moment : ℕ) (report : Report) (line : List ℕ) (fault : DriverFault) (said : DriverLine) → read_driver_line line ≡ Ok said → (r : Result (TreeState × Effect) DriverFault) → driver_step report.tree said ≡ r → (after_step (at moment report) r).1 ≡ Refused fault → IsRefusedFor report line fault
+    by_step moment report line fault said read (Ok (tree, Tracked id number)) e h = cc h
     by_step moment report line fault said read (Ok (tree, effect)) e h = cc h
     by_step moment report line fault said read (Err f) e h = let same : f ≡ fault = cc h in inr (said, read, subst (λ (g : DriverFault). driver_step report.tree said ≡ Err g) same e)
 

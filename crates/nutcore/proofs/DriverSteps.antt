@@ -34,19 +34,19 @@ connected_at s u x there is = ap (option_map is_connected) there ∙ ap (λ b. S
 -- where no driver is connected, an event of the driver is refused
 refused_as : (s : ServerState) (u : UpsId) (event : Event) (fault : Fault) (by : Option UpsState → Outcome) → outcome_of s event ≡ by (ups_at u.place s) → by None ≡ Refused NoSuchUps
     → ((x : UpsState) → x.report.connected ≡ false → by (Some x) ≡ Refused NotConnected) → IsNotConnected u fault s → Step s event (Refused fault) s
-refused_as s u event fault by is absent lost (inl (e, none)) = subst (λ (f : Fault). Step s event (Refused f) s) (sym e) (refused s event NoSuchUps (is ∙ ap by none ∙ absent) (omega arith))
+refused_as s u event fault by is absent lost (inl (e, none)) = subst (λ (f : Fault). Step s event (Refused f) s) (sym e) (refused s event NoSuchUps (is ∙ ap by none ∙ absent) refl)
 refused_as s u event fault by is absent lost (inr (e, unconnected)) =
     let h = is_there s u false unconnected in
-    subst (λ (f : Fault). Step s event (Refused f) s) (sym e) (refused s event NotConnected (is ∙ ap by h.there ∙ lost h.ups h.is) (omega arith))
+    subst (λ (f : Fault). Step s event (Refused f) s) (sym e) (refused s event NotConnected (is ∙ ap by h.there ∙ lost h.ups h.is) refl)
 
 -- a driver connects
 pub up_absent : (s : ServerState) (u : UpsId) → ups_at u.place s ≡ None → Step s (DriverUp u) (Refused NoSuchUps) s
 unfolding outcome_of
-up_absent s u none = refused s (DriverUp u) NoSuchUps (ap connected_by none) (omega arith)
+up_absent s u none = refused s (DriverUp u) NoSuchUps (ap connected_by none) refl
 
 pub up_again : (s : ServerState) (u : UpsId) → IsThere s u true → Step s (DriverUp u) (Refused AlreadyConnected) s
 unfolding outcome_of
-up_again s u h = refused s (DriverUp u) AlreadyConnected (ap connected_by h.there ∙ cond-true _ _ _ h.is) (omega arith)
+up_again s u h = refused s (DriverUp u) AlreadyConnected (ap connected_by h.there ∙ cond-true _ _ _ h.is) refl
 
 pub up_done : (s t : ServerState) (u : UpsId) → IsThere s u false → t ≡ with_ups_changed (after_connecting s.moment) u s → Step s (DriverUp u) Done t
 unfolding outcome_of after_by

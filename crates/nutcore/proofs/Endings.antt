@@ -13,7 +13,7 @@ use Rattle.nutanswer.specs.Answer.{one_line, change_of_answer}
 use Rattle.nutanswer.proofs.PublicLaws.{a_named_ups_is_seen}
 use Rattle.nutusers.specs.Users.{may}
 use Rattle.nutusers.specs.declared.rights.Right.TheVariants as rights
-use Rattle.nutcore.specs.declared.event.Event.TheVariants.{DriverUp, DriverBytes, DriverTook, DriverDown, Tick, Open, Feed, Took, Close}
+use Rattle.nutcore.specs.declared.event.Event.TheVariants.{DriverUp, DriverBytes, DriverTook, DriverDown, Tick, Open, Feed, Took, Close, Id}
 use Rattle.nutcore.specs.declared.event.Outcome.TheVariants.{Done, Fed, Opened, Refused}
 use Rattle.nutcore.specs.declared.event.Fault.TheVariants.{TooManyClients, TookTooMuch, NotConnected, AlreadyConnected, LineTooLong}
 use Rattle.nutcore.specs.Session.{new_session}
@@ -21,7 +21,10 @@ use Rattle.nutcore.specs.Ups.{with_fsd}
 use Rattle.nutcore.specs.Lines.{is_too_long, unfinished_after}
 use Rattle.nutcore.specs.Reply.{seen, seen_ups, asker, change_by, changed_upses}
 use Rattle.nutcore.specs.Pump.{next_line_for, after_line, after_notice, holds_overlong}
-use Rattle.nutcore.specs.Step.{with_input, without_output, may_take, may_open, opened, ticked, after_by, refused_after, outcome_of, MayAnswer, connected_by, driver_text_outcome, driver_bytes_by, driver_took_by, disconnected_by, accepted, fed_by, took_by, closed_by}
+use Rattle.nutcore.specs.Step.{with_input, without_output, may_take, may_open, opened, ticked, after_by, refused_after, outcome_of, MayAnswer, connected_by, driver_text_outcome, driver_bytes_by, driver_took_by, disconnected_by, accepted, fed_by, took_by, closed_by, id_outcome}
+use Rattle.nuttracking.specs.declared.tracking.IdFault.{IdFault}
+use Rattle.nuttracking.specs.declared.tracking.IdFault.TheVariants.{Known, TooMany}
+use Rattle.nuttracking.specs.Tracking.{id_fault}
 use Rattle.nutcore.specs.History.{Execution, of_line, of_notice, executions, of_client, texts_of, owed, is_over}
 use Rattle.nutcore.specs.Headline.{IsLawful}
 use Rattle.nutcore.specs.Addresses.{opened_from}
@@ -170,6 +173,11 @@ rises_by_none : (s : ServerState) (e : Event) (o : Outcome) → id_given o ≡ [
 unfolding Rises
 rises_by_none s e o none = subst (RiseFrom s.next_id (after s e o).next_id) (sym none) (next_is_no_less s e (refused_after o))
 
+id_gives : (o : Option IdFault) → id_given (id_outcome o) ≡ []
+id_gives None = refl
+id_gives (Some Known) = refl
+id_gives (Some TooMany) = refl
+
 told_rises : (s : ServerState) (e : Event) → Rises s e (outcome_of s e)
 unfolding outcome_of Rises
 told_rises s (DriverUp u) = rises_by_none s _ _ (up_gives (ups_at u.place s))
@@ -185,6 +193,7 @@ told_rises s (Open address) = by_room (may_open s) refl
 told_rises s (Feed c piece) = rises_by_none s _ _ (feed_gives (session c s) piece _)
 told_rises s (Took c n) = rises_by_none s _ _ (took_gives (session c s) n _)
 told_rises s (Close c) = rises_by_none s _ _ (close_gives (session c s))
+told_rises s (Id id) = rises_by_none s _ _ (id_gives (id_fault id s.tracking))
 
 event_rises : (s : ServerState) (e : Event) (o : Outcome) → MayAnswer s e o → Rises s e o
 event_rises s e o (inl is) = subst (Rises s e) (sym is) (told_rises s e)

@@ -1,16 +1,16 @@
 -- Events by what they do: most execute nothing, and leave the sessions as they are.
 use Rattle.std.proofs.Common.{◌≡◌, ◌+◌, ℕ, Bool, true, false, List, [], ◌∷◌, ◌++◌, Option, Some, None, refl, sym, ap, subst, cond, eqb, ◌&&◌, not}
-use Rattle.nutcore.proofs.Common.{option_map_or, cond_both, UpsId, Event, ServerState, session, ups_at, with_ups_changed}
-use Rattle.nutcore.specs.declared.event.Event.TheVariants.{DriverUp, DriverBytes, DriverTook, DriverDown, Tick, Open, Feed, Took, Close}
+use Rattle.nutcore.proofs.Common.{option_map_or, cond_both, UpsId, TrackingState, Event, ServerState, session, ups_at, with_ups_changed, with_tracking}
+use Rattle.nutcore.specs.declared.event.Event.TheVariants.{DriverUp, DriverBytes, DriverTook, DriverDown, Tick, Open, Feed, Took, Close, Id}
 use Rattle.nutcore.specs.Session.{without, new_session}
 use Rattle.nutcore.specs.Ups.{UpsState, ping_is_due}
-use Rattle.nutcore.specs.Step.{with_input, without_output, may_take, may_open, after_by, ticked, connected, disconnected, after_driver_took, opened, pumped_until}
+use Rattle.nutcore.specs.Step.{with_input, without_output, may_take, may_open, after_by, ticked, connected, disconnected, after_driver_took, opened, pumped_until, handed_in}
 use Rattle.nutcore.specs.Isolation.{client_of, ups_of}
 use Rattle.nutcore.specs.History.{Execution, executions_until, executions_by, taken_in_event, asked_in_event}
 use Rattle.nutcore.specs.Cost.{cost_of, no_cost}
 use Rattle.nutcore.specs.DriverHistory.{has_driver}
 use Rattle.nutcore.specs.DriverOrders.{Telling, dump_all, ping, told_beside_lines, moment_of}
-use Rattle.nutcore.proofs.DriverText.{ups_after_bytes, bytes_change}
+use Rattle.nutcore.proofs.DriverText.{ups_after_bytes, changed_both, lines_read, bytes_change}
 
 -- what one client executes in an event
 unfoldable pub given_by : ℕ → ServerState → Event → Option ℕ → List Execution
@@ -70,30 +70,31 @@ of_told_beside u s P none up tick (Tick seconds) = tick (option_map_or (ping_is_
 of_told_beside u s P none up tick e = none
 
 -- what holds of each change that a driver's event makes of its UPS
-pub record OfDrivers (moment : ℕ) (m : Option ℕ) (Q : (UpsState → UpsState) → Type 0) : Type 0 where
+pub record OfDrivers (moment : ℕ) (t : TrackingState) (m : Option ℕ) (Q : (UpsState → UpsState) → Type 0) : Type 0 where
   pub comes : Q (connected moment)
-  pub tells : (piece : List ℕ) → Q (ups_after_bytes moment piece m)
+  pub tells : (place : ℕ) (piece : List ℕ) → Q (ups_after_bytes moment place t piece m)
   pub takes : (n : ℕ) → Q (after_driver_took n)
   pub goes : Q disconnected
 
--- what an event leaves: a driver's one UPS changed, a tick time and all UPSs, the others sessions
-pub of_parts : (s : ServerState) (m : Option ℕ) (Q : (UpsState → UpsState) → Type 0) → OfDrivers s.moment m Q → (P : Event → ServerState → Type 0)
-    → ((e : Event) (u : UpsId) (f : UpsState → UpsState) → ups_of e ≡ Some u → client_of e ≡ None → Q f → P e (with_ups_changed f u s))
+-- what an event leaves: a driver's one UPS changed, and orders that it waits for, a tick time and all UPSs, an id those at hand, the others sessions
+pub of_parts : (s : ServerState) (m : Option ℕ) (Q : (UpsState → UpsState) → Type 0) → OfDrivers s.moment s.tracking m Q → (P : Event → ServerState → Type 0)
+    → ((e : Event) (u : UpsId) (f : UpsState → UpsState) (lines : List (List ℕ)) → ups_of e ≡ Some u → client_of e ≡ None → Q f → P e (changed_both f lines u s))
     → ((seconds : ℕ) → P (Tick seconds) (ticked seconds s)) → ((address : List ℕ) → P (Open address) (opened s address m))
     → ((c : ℕ) (piece : List ℕ) → P (Feed c piece) (pumped_until (with_input s c piece) c m))
     → ((c n : ℕ) → P (Took c n) (cond (may_take (session c s) n) (pumped_until (without_output s c n) c m) s))
-    → ((c : ℕ) → let t : ServerState = record s { sessions = without c s.sessions } in P (Close c) t) → (e : Event) → P e (after_by s e m)
+    → ((c : ℕ) → let t : ServerState = record s { sessions = without c s.sessions } in P (Close c) t) → ((id : ℕ) → P (Id id) (handed_in id s)) → (e : Event) → P e (after_by s e m)
 unfolding after_by
-of_parts s m Q drivers P ups tick opens feed took closes (DriverUp u) = ups (DriverUp u) u (connected s.moment) refl refl drivers.comes
-of_parts s m Q drivers P ups tick opens feed took closes (DriverBytes u piece) =
-    subst (P (DriverBytes u piece)) (sym (bytes_change u piece m s)) (ups (DriverBytes u piece) u (ups_after_bytes s.moment piece m) refl refl (drivers.tells piece))
-of_parts s m Q drivers P ups tick opens feed took closes (DriverTook u n) = ups (DriverTook u n) u (after_driver_took n) refl refl (drivers.takes n)
-of_parts s m Q drivers P ups tick opens feed took closes (DriverDown u) = ups (DriverDown u) u disconnected refl refl drivers.goes
-of_parts s m Q drivers P ups tick opens feed took closes (Tick seconds) = tick seconds
-of_parts s m Q drivers P ups tick opens feed took closes (Open address) = opens address
-of_parts s m Q drivers P ups tick opens feed took closes (Feed c piece) = feed c piece
-of_parts s m Q drivers P ups tick opens feed took closes (Took c n) = took c n
-of_parts s m Q drivers P ups tick opens feed took closes (Close c) = closes c
+of_parts s m Q drivers P ups tick opens feed took closes hands (DriverUp u) = ups (DriverUp u) u (connected s.moment) [] refl refl drivers.comes
+of_parts s m Q drivers P ups tick opens feed took closes hands (DriverBytes u piece) =
+    subst (P (DriverBytes u piece)) (sym (bytes_change u piece m s)) (ups (DriverBytes u piece) u (ups_after_bytes s.moment u.place s.tracking piece m) (lines_read u piece m s) refl refl (drivers.tells u.place piece))
+of_parts s m Q drivers P ups tick opens feed took closes hands (DriverTook u n) = ups (DriverTook u n) u (after_driver_took n) [] refl refl (drivers.takes n)
+of_parts s m Q drivers P ups tick opens feed took closes hands (DriverDown u) = ups (DriverDown u) u disconnected [] refl refl drivers.goes
+of_parts s m Q drivers P ups tick opens feed took closes hands (Tick seconds) = tick seconds
+of_parts s m Q drivers P ups tick opens feed took closes hands (Open address) = opens address
+of_parts s m Q drivers P ups tick opens feed took closes hands (Feed c piece) = feed c piece
+of_parts s m Q drivers P ups tick opens feed took closes hands (Took c n) = took c n
+of_parts s m Q drivers P ups tick opens feed took closes hands (Close c) = closes c
+of_parts s m Q drivers P ups tick opens feed took closes hands (Id id) = hands id
 
 -- what an opening leaves: one session more, or all as it was
 pub of_opened : (P : ServerState → Type 0) (s : ServerState) (address : List ℕ) (m : Option ℕ) → P s
@@ -103,5 +104,5 @@ of_opened P s address None same more = cond_both (may_open s) _ s P more (λ ful
 of_opened P s address (Some k) same more = same
 
 -- what asks nothing of these changes
-pub any_driver : (moment : ℕ) (m : Option ℕ) → OfDrivers moment m (λ f. Unit {0})
-any_driver moment m = record { comes = tt; tells = λ piece. tt; takes = λ n. tt; goes = tt }
+pub any_driver : (moment : ℕ) (t : TrackingState) (m : Option ℕ) → OfDrivers moment t m (λ f. Unit {0})
+any_driver moment t m = record { comes = tt; tells = λ place piece. tt; takes = λ n. tt; goes = tt }

@@ -8,7 +8,7 @@ use Rattle.nutcore.proofs.Common.{same_Some, slice_get_within, UpsId, Event, Out
 use Rattle.nutdriver.specs.declared.line.DriverLine.{DriverLine}
 use Rattle.nutdriver.specs.declared.fault.DriverFault.{DriverFault}
 use Rattle.nutdriver.specs.declared.effect.Effect.{Effect}
-use Rattle.nutdriver.specs.declared.effect.Effect.TheVariants.{Nothing, Changed, DumpDone, DataOk, DataStale, Pong}
+use Rattle.nutdriver.specs.declared.effect.Effect.TheVariants.{Nothing, Changed, DumpDone, DataOk, DataStale, Pong, Tracked}
 use Rattle.nutdriver.specs.declared.report.Report.{Report}
 use Rattle.nutdriver.specs.Tree.{TreeState}
 use Rattle.nutdriver.specs.Sound.{IsSoundTree}
@@ -63,11 +63,11 @@ tick_timed s seconds = record { moment = refl; max_age = refl }
 event_timed : (s : ServerState) (e : Event) (m : Option ℕ) → IsTimed (tick_of e) s (after_by s e m)
 unfolding after_by
 event_timed s e m =
-    of_parts s m (λ f. Unit {0}) (any_driver s.moment m) (λ e t. IsTimed (tick_of e) s t)
-    (λ e u f its apart any. let none = no_tick e u its in record { moment = omega (arith, none); max_age = refl })
+    of_parts s m (λ f. Unit {0}) (any_driver s.moment s.tracking m) (λ e t. IsTimed (tick_of e) s t)
+    (λ e u f lines its apart any. let none = no_tick e u its in record { moment = omega (arith, none); max_age = refl })
     (λ seconds. tick_timed s seconds)
     (λ address. of_opened (IsTimed 0 s) s address m (kept_timed s s refl) (λ may. record { moment = omega arith; max_age = refl }))
-    (λ c piece. kept_timed s _ (own s (Feed c piece) m c refl).server) (λ c n. kept_timed s _ (own s (Took c n) m c refl).server) (λ c. record { moment = omega arith; max_age = refl }) e
+    (λ c piece. kept_timed s _ (own s (Feed c piece) m c refl).server) (λ c n. kept_timed s _ (own s (Took c n) m c refl).server) (λ c. record { moment = omega arith; max_age = refl }) (λ id. record { moment = omega arith; max_age = refl }) e
 
 run_timed : (s t : ServerState) (es : List Event) (os : List Outcome) → Run s es os t → IsTimed (greatest_tick es) s t
 run_timed s t [] [] r = subst (IsTimed 0 s) (sym r) (record { moment = omega arith; max_age = refl })
@@ -100,6 +100,7 @@ heard_now moment report line = by_reading (read_driver_line line)
     by_effect tree DataOk = refl
     by_effect tree DataStale = refl
     by_effect tree Pong = refl
+    by_effect tree (Tracked id number) = refl
 
     by_step : (r : Result (TreeState × Effect) DriverFault) → (after_step at r).0.heard ≡ moment
     by_step (Ok (tree, effect)) = by_effect tree effect

@@ -9,7 +9,7 @@ use Rattle.nutanswer.specs.Command.{read_command}
 use Rattle.nutanswer.specs.View.{Seen, ClientSeen, AskerSeen}
 use Rattle.nutanswer.specs.Answer.{answer_to, text_of_answer, change_of_answer}
 use Rattle.nutlisting.specs.declared.listing.clients.TheConstants.{SESSION_LIMIT}
-use Rattle.nutcore.specs.declared.event.Event.TheVariants.{DriverUp, DriverBytes, DriverTook, DriverDown, Tick, Open, Feed, Took, Close}
+use Rattle.nutcore.specs.declared.event.Event.TheVariants.{DriverUp, DriverBytes, DriverTook, DriverDown, Tick, Open, Feed, Took, Close, Id}
 use Rattle.nutcore.specs.Session.{find, put, without, new_session, begin_ending}
 use Rattle.nutcore.specs.Reply.{seen, seen_client, asker, asker_of, reply, text_to, change_by, changed, changed_session, changed_upses, after_change, too_long_notice}
 use Rattle.nutcore.specs.Pump.{next_line_for, answered, after_line, is_overlong, notified}
@@ -216,6 +216,7 @@ core_event s (Open address) m plain = core_opened s address m
 core_event s (Feed c piece) m plain = absurd plain
 core_event s (Took c n) m plain = absurd plain
 core_event s (Close c) m plain = ap (λ (xs : List SessionState). let t : ServerState = record s { sessions = xs } in t) (sym (closed_without c s.sessions))
+core_event s (Id id) m plain = refl
 
 -- executions lead from a server to another so
 record Leads (s : ServerState) (hs : List Happening) (texts : ℕ → List ℕ) (t : ServerState) : Type 0 where

@@ -1,25 +1,30 @@
 -- What an event doesn't touch.
-use Rattle.std.proofs.Common.{◌≡◌, ◌≢◌, ◌≤◌, ℕ, zero, suc, inl, inr, List, [], ◌∷◌, Option, Some, refl, sym, ◌∙◌, ap, subst, cond, map, arith, IfSome}
-use Rattle.nutcore.proofs.Common.{cond_both, same_Some, UpsId, Change, Event, Fault, Outcome, ServerState, session, changed_at, with_session_changed, with_ups_changed}
+use Rattle.std.proofs.Common.{◌≡◌, ◌≢◌, ℕ, zero, suc, Bool, true, false, ◌&&◌, eqb, inl, inr, List, [], ◌∷◌, Option, Some, None, refl, sym, ◌∙◌, ap, subst, cond, map, IfSome}
+use Rattle.nutcore.proofs.Common.{cond_both, and_parts, eqb-true, same_Some, UpsId, TrackingState, Change, Event, Fault, Outcome, ServerState, session, changed_at, with_session_changed, with_ups_changed}
 use Rattle.nutcore.specs.declared.event.Event.TheVariants.{Feed, Took, Close}
 use Rattle.nutcore.specs.declared.event.Outcome.TheVariants.{Refused}
-use Rattle.nutcore.specs.Numbers.{number_of_fault}
+use Rattle.nuttracking.specs.declared.order.Progress.{Progress}
+use Rattle.nuttracking.specs.declared.order.Progress.TheVariants.{Pending, Done}
+use Rattle.nuttracking.specs.declared.order.TrackedOrder.{TrackedOrder}
+use Rattle.nuttracking.specs.Tracking.{has_id, is_pending, awaits, settled}
+use Rattle.nutcore.specs.Reports.{OrderEnd, end_in, with_end, after_ends}
 use Rattle.nutcore.specs.Session.{SessionState}
 use Rattle.nutcore.specs.Ups.{UpsState, with_fsd, with_order}
 use Rattle.nutcore.specs.Reply.{changed_upses}
 use Rattle.nutcore.specs.Pump.{next_line_for, after_line, after_lines, after_all_lines, is_overlong, with_notice}
 use Rattle.nutcore.specs.Step.{Step, joined, with_input, taken_from, without_output, may_take, pumped_until, after_by, refused_after, outcome_of}
-use Rattle.nutcore.specs.Isolation.{client_of, ups_of, without_commands, kept_from_clients, LeavesOtherClients, LeavesOtherUpses, AClientTouchesNoOther, ADriverTouchesNoOther, ARefusedEventChangesNothing, ARefusedEventCostsNothing}
+use Rattle.nutcore.specs.Isolation.{client_of, ups_of, without_commands, kept_from_clients, LeavesOtherClients, MaySettle, MaySettleEach, LeavesOtherUpses, AClientTouchesNoOther, ADriverTouchesNoOther, ARefusedEventChangesNothing, ARefusedEventCostsNothing, is_harmless}
 use Rattle.nutcore.specs.Cost.{cost_of, no_cost}
 use Rattle.nutcore.proofs.Events.{of_event, of_parts, any_driver}
 use Rattle.nutcore.proofs.Changed.{by_change}
+use Rattle.nutcore.proofs.DriverText.{changed_both}
 use Rattle.nutcore.proofs.Changes.{of_upses}
 use Rattle.nutcore.proofs.Costs.{refused_feed_costs, refused_take_costs}
 use Rattle.nutcore.proofs.Found.{find_without_other}
 use Rattle.nutcore.proofs.Kept.{IsPumped, by_lines, by_feed, by_take}
 use Rattle.nutcore.proofs.Progress.{Presence}
 use Rattle.nutcore.proofs.Pumping.{is_next, after_line_is, change_at}
-use Rattle.nutcore.proofs.Refused.{refusal, may_not, refused}
+use Rattle.nutcore.proofs.Refused.{is_quiet, may_not, refused}
 use Rattle.nutcore.proofs.Stepping.{until_other, input_other, output_other}
 use Rattle.nutcore.proofs.UpsPlaces.{other_ups}
 
@@ -85,29 +90,94 @@ own s e m c h = subst (λ (o : Option ℕ). IfSome o (λ d. LeavesOtherClients d
 pub client_alone : AClientTouchesNoOther
 client_alone old new e o c step h = subst (λ (t : ServerState). LeavesOtherClients c old t) (sym step.leaves) (own old e (refused_after o) c h)
 
--- a driver's event: the other UPSs
+-- a driver's event: orders, of which it may settle pending ones of its own UPS
+may_settle : (place id number : ℕ) (x : TrackedOrder) → MaySettle place x (settled place id number x)
+may_settle place id number x = by_awaits (awaits place id x) refl
+  where
+    y : TrackedOrder
+    y = record x { progress = Done number }
+
+    pending : (p : Progress) → is_pending p ≡ true → p ≡ Pending
+    pending Pending e = refl
+    pending (Done n) e = cc e
+
+    by_awaits : (b : Bool) → awaits place id x ≡ b → MaySettle place x (cond b y x)
+    by_awaits true e =
+        let own = (and_parts (has_id id x) (eqb x.place place && is_pending x.progress) e).1 in
+        let parts = and_parts (eqb x.place place) (is_pending x.progress) own in
+        inr (eqb-true x.place place parts.0, pending x.progress parts.1, refl)
+    by_awaits false e = inl refl
+
+settles_twice : (place : ℕ) (x y z : TrackedOrder) → MaySettle place x y → MaySettle place y z → MaySettle place x z
+settles_twice place x y z (inl e) later = subst (λ (w : TrackedOrder). MaySettle place w z) e later
+settles_twice place x y z first (inl e) = subst (MaySettle place x) (sym e) first
+settles_twice place x y z (inr (its, pending, is)) (inr (its', pending', is')) =
+    inr (its, pending, is' ∙ ap (λ (w : TrackedOrder). let v : TrackedOrder = record w { progress = z.progress } in v) is)
+
+each_settles : (place id number : ℕ) (xs : List TrackedOrder) → MaySettleEach place xs (map (settled place id number) xs)
+each_settles place id number [] = tt
+each_settles place id number (x ∷ xs) = (may_settle place id number x, each_settles place id number xs)
+
+none_settles : (place : ℕ) (xs : List TrackedOrder) → MaySettleEach place xs xs
+none_settles place [] = tt
+none_settles place (x ∷ xs) = (inl refl, none_settles place xs)
+
+each_twice : (place : ℕ) (xs ys zs : List TrackedOrder) → MaySettleEach place xs ys → MaySettleEach place ys zs → MaySettleEach place xs zs
+each_twice place [] [] zs first later = later
+each_twice place (x ∷ xs) (y ∷ ys) (z ∷ zs) first later = (settles_twice place x y z first.0 later.0, each_twice place xs ys zs first.1 later.1)
+each_twice place [] (y ∷ ys) zs first later = absurd first
+each_twice place (x ∷ xs) [] zs first later = absurd first
+each_twice place (x ∷ xs) (y ∷ ys) [] first later = absurd later
+
+end_settles : (place : ℕ) (o : Option OrderEnd) (t : TrackingState) → MaySettleEach place t.orders (with_end place o t).orders
+end_settles place None t = none_settles place t.orders
+end_settles place (Some told) t = each_settles place told.id told.number t.orders
+
+ends_settle : (place : ℕ) (lines : List (List ℕ)) (t : TrackingState) → MaySettleEach place t.orders (after_ends place lines t).orders
+ends_settle place [] t = none_settles place t.orders
+ends_settle place (line ∷ lines) t =
+    let next : TrackingState = with_end place (end_in line) t in
+    each_twice place t.orders next.orders (after_ends place lines next).orders (end_settles place (end_in line) t) (ends_settle place lines next)
+
+end_keeps_ids : (place : ℕ) (o : Option OrderEnd) (t : TrackingState) → (with_end place o t).ids ≡ t.ids
+end_keeps_ids place None t = refl
+end_keeps_ids place (Some told) t = refl
+
+ends_keep_ids : (place : ℕ) (lines : List (List ℕ)) (t : TrackingState) → (after_ends place lines t).ids ≡ t.ids
+ends_keep_ids place [] t = refl
+ends_keep_ids place (line ∷ lines) t = ends_keep_ids place lines (with_end place (end_in line) t) ∙ end_keeps_ids place (end_in line) t
+
+-- the other UPSs
 own_ups : (s : ServerState) (e : Event) (m : Option ℕ) (u : UpsId) → ups_of e ≡ Some u → LeavesOtherUpses u s (after_by s e m)
 own_ups s e m u =
-    of_parts s m (λ f. Unit {0}) (any_driver s.moment m) (λ e t. ups_of e ≡ Some u → LeavesOtherUpses u s t)
-    (λ e v f its apart any h. subst (λ (z : UpsId). LeavesOtherUpses z s (with_ups_changed f v s)) (same_Some v u (sym its ∙ h)) (record { upses = λ q differ. other_ups f v.place q s.upses differ; server = refl }))
-    (λ seconds h. cc h) (λ address h. cc h) (λ c piece h. cc h) (λ c n h. cc h) (λ c h. cc h) e
+    of_parts s m (λ f. Unit {0}) (any_driver s.moment s.tracking m) (λ e t. ups_of e ≡ Some u → LeavesOtherUpses u s t)
+    (λ e v f lines its apart any h. subst (λ (z : UpsId). LeavesOtherUpses z s (changed_both f lines v s)) (same_Some v u (sym its ∙ h)) (record {
+      upses = λ q differ. other_ups f v.place q s.upses differ;
+      ids = ends_keep_ids v.place lines s.tracking;
+      orders = ends_settle v.place lines s.tracking;
+      server = refl;
+    }))
+    (λ seconds h. cc h) (λ address h. cc h) (λ c piece h. cc h) (λ c n h. cc h) (λ c h. cc h) (λ id h. cc h) e
 
 pub driver_alone : ADriverTouchesNoOther
 driver_alone old new e o u step h = subst (λ (t : ServerState). LeavesOtherUpses u old t) (sym step.leaves) (own_ups old e (refused_after o) u h)
 
 -- a refused event
-refused_so : (old new : ServerState) (e : Event) (fault : Fault) → Step old e (Refused fault) new → number_of_fault fault ≤ 6 → outcome_of old e ≡ Refused fault
-refused_so old new e fault step h = elim step.allowed [ inl told ↦ sym told | inr lack ↦ (let n : number_of_fault fault ≡ 8 = ap refusal lack.1 in absurd (omega arith)) ]
+refused_so : (old new : ServerState) (e : Event) (fault : Fault) → Step old e (Refused fault) new → is_harmless fault ≡ true → outcome_of old e ≡ Refused fault
+refused_so old new e fault step h = elim step.allowed [
+  | inl told ↦ sym told
+  | inr lack ↦ (let never : false ≡ true = sym (ap is_quiet lack.1) ∙ h in cc never)
+]
 
 pub refused_alone : ARefusedEventChangesNothing
 refused_alone old new e fault step h = step.leaves ∙ sym (refused old e fault (refused_so old new e fault step h) h).leaves
 
-free : (s : ServerState) (e : Event) → refusal (outcome_of s e) ≤ 6 → no_cost ≡ cost_of s e s
+free : (s : ServerState) (e : Event) → is_quiet (outcome_of s e) ≡ true → no_cost ≡ cost_of s e s
 unfolding outcome_of
 free s e =
-    of_event (λ e. refusal (outcome_of s e) ≤ 6 → no_cost ≡ cost_of s e s) (λ e silent h. sym (silent.costs s s)) (λ c piece h. refused_feed_costs s s c piece refl)
+    of_event (λ e. is_quiet (outcome_of s e) ≡ true → no_cost ≡ cost_of s e s) (λ e silent h. sym (silent.costs s s)) (λ c piece h. refused_feed_costs s s c piece refl)
     (λ c n h. refused_take_costs s s c n refl (may_not (session c s) n (is_overlong (after_all_lines (without_output s c n) c) c) h)) e
 
 pub refused_free : ARefusedEventCostsNothing
 refused_free old new e fault step h =
-    ap (cost_of old e) (refused_alone old new e fault step h) ∙ sym (free old e (subst (λ (o : Outcome). refusal o ≤ 6) (sym (refused_so old new e fault step h)) h))
+    ap (cost_of old e) (refused_alone old new e fault step h) ∙ sym (free old e (subst (λ (o : Outcome). is_quiet o ≡ true) (sym (refused_so old new e fault step h)) h))

@@ -1,7 +1,10 @@
 -- What every part of an event keeps, every event and every run keeps.
 use Rattle.std.proofs.Common.{◌≡◌, ◌+◌, ℕ, zero, suc, true, List, [], ◌∷◌, ◌++◌, Option, Some, None, refl, sym, subst, cond, length, All, IfSome}
 use Rattle.std.proofs.lemmas.List.Elements.{All-head, All-tail}
-use Rattle.nutcore.proofs.Common.{cond_both, UpsId, Event, Outcome, ServerState, session, with_session_changed, with_ups_changed, Run}
+use Rattle.nutcore.proofs.Common.{cond_both, UpsId, Event, Outcome, ServerState, session, with_session_changed, with_ups_changed, with_tracking, Run}
+use Rattle.nuttracking.specs.Acts.{Act, after_act}
+use Rattle.nuttracking.specs.Acts.Act as acts
+use Rattle.nutcore.specs.Reports.{OrderEnd, end_in, with_end, after_ends}
 use Rattle.nutcore.specs.Session.{without, new_session}
 use Rattle.nutcore.specs.Pump.{next_line_for, after_line, after_lines, after_all_lines, after_notice, with_notice, pumped, held_of}
 use Rattle.nutcore.specs.Step.{joined, with_input, taken_from, without_output, may_take, may_open, ticked, pumped_until, after_by, refused_after}
@@ -16,10 +19,11 @@ pub record IsPumped (P : ServerState → Type 0) : Type 0 where
   pub gives : (s : ServerState) (c n : ℕ) → P s → P (with_session_changed (taken_from n) c s)
   pub notice : (s : ServerState) (c : ℕ) → P s → P (with_session_changed with_notice c s)
 
--- all parts: a UPS is changed by its driver too, time goes on, a session opens, and one is closed
+-- all parts: a UPS is changed by its driver too, ids and orders are tracked, time goes on, a session opens, and one is closed
 pub record IsKept (P : ServerState → Type 0) (Opens : List ℕ → Type 0) : Type 0 where
   pub pumped : IsPumped P
-  pub driver : (s : ServerState) (m : Option ℕ) → OfDrivers s.moment m (λ f. (u : UpsId) → P s → P (with_ups_changed f u s))
+  pub driver : (s : ServerState) (m : Option ℕ) → OfDrivers s.moment s.tracking m (λ f. (u : UpsId) → P s → P (with_ups_changed f u s))
+  pub tracks : (s : ServerState) (act : Act) → P s → P (with_tracking (after_act s.tracking act) s)
   pub ticks : (s : ServerState) (seconds : ℕ) → P s → P (ticked seconds s)
   pub opens : (s : ServerState) (address : List ℕ) → may_open s ≡ true → Opens address → P s
       → (let t : ServerState = record s { sessions = s.sessions ++ new_session s.next_id address ∷ []; next_id = s.next_id + 1 } in P t)
@@ -54,11 +58,19 @@ module _ (P : ServerState → Type 0) (Opens : List ℕ → Type 0) (kept : IsKe
   abbrev OpensFrom : Event → Type 0
   OpensFrom e = IfSome (opened_from e) Opens
 
+  by_end : (u : UpsId) (o : Option OrderEnd) (s : ServerState) → P s → P (with_tracking (with_end u.place o s.tracking) s)
+  by_end u None s h = h
+  by_end u (Some told) s h = kept.tracks s (acts.reported u.place told.id told.number) h
+
+  by_ends : (u : UpsId) (lines : List (List ℕ)) (s : ServerState) → P s → P (with_tracking (after_ends u.place lines s.tracking) s)
+  by_ends u [] s h = h
+  by_ends u (line ∷ lines) s h = by_ends u lines (with_tracking (with_end u.place (end_in line) s.tracking) s) (by_end u (end_in line) s h)
+
   pub by_event : (s : ServerState) (e : Event) (m : Option ℕ) → OpensFrom e → P s → P (after_by s e m)
   by_event s e m =
       of_parts s m (λ f. (u : UpsId) → P s → P (with_ups_changed f u s)) (kept.driver s m) (λ e t. OpensFrom e → P s → P t)
-      (λ e u f its apart keeps own h. keeps u h) (λ seconds own h. kept.ticks s seconds h) (λ address own h. of_opened P s address m h (λ room. kept.opens s address room own h))
-      (λ c piece own h. by_feed P kept.pumped s c piece m h) (λ c n own h. by_take P kept.pumped s c n m h) (λ c own h. kept.closes s c h) e
+      (λ e u f lines its apart keeps own h. by_ends u lines (with_ups_changed f u s) (keeps u h)) (λ seconds own h. kept.ticks s seconds h) (λ address own h. of_opened P s address m h (λ room. kept.opens s address room own h))
+      (λ c piece own h. by_feed P kept.pumped s c piece m h) (λ c n own h. by_take P kept.pumped s c n m h) (λ c own h. kept.closes s c h) (λ id own h. kept.tracks s (acts.handed_in id) h) e
 
   pub by_run : (s t : ServerState) (es : List Event) (os : List Outcome) → Run s es os t → All OpensFrom es → P s → P t
   by_run s t [] [] r own h = subst P (sym r) h

@@ -7,13 +7,14 @@ use Rattle.nutwords.specs.Found.{Finds}
 use Rattle.nutwords.specs.declared.cut.Found.{Found}
 use Rattle.nutwords.specs.declared.cut.Found.TheVariants.{InPiece, Joined, NeedsMore, TooLong}
 use Rattle.nutwords.specs.declared.limits.TheConstants.{LINE_LIMIT}
+use Rattle.nutdriver.specs.declared.report.LineOutcome.{LineOutcome}
 use Rattle.nutdriver.specs.Tree.{empty_tree}
 use Rattle.nutdriver.specs.Sound.{IsSoundTree, EachLineKeepsTheTreeSound}
 use Rattle.nutcore.proofs.Common.{cond_both, or_parts, UpsId, Change, Fault, SessionState, ServerState, session, ups_at}
 use Rattle.nutlisting.specs.declared.outbox.TheConstants.{OWED_LIMIT}
 use Rattle.std.specs.declared.alloc.AllocError.{AllocError}
 use Rattle.nutcore.specs.Lines.{first_line}
-use Rattle.nutcore.specs.Ups.{UpsState, with_unfinished}
+use Rattle.nutcore.specs.Ups.{UpsState, with_faulty_line, with_unfinished}
 use Rattle.nutcore.specs.Reply.{changed_session, changed_upses}
 use Rattle.nutcore.specs.Pump.{next_line, answered, with_notice}
 use Rattle.nutcore.specs.Step.{joined, taken_from}
@@ -22,7 +23,7 @@ use Rattle.nutcore.specs.Sound.{Each, IsSoundSession, IsSoundUps, IsSound}
 use Rattle.nutcore.proofs.UpsPlaces.{of_ups, server_set}
 use Rattle.nutcore.proofs.Found.{find_id}
 use Rattle.nutcore.proofs.Serving.{set_is}
-use Rattle.nutcore.proofs.SoundUps.{sound_changes, length-changes, sound_fewer, sound_bytes, sound_text, text_connected}
+use Rattle.nutcore.proofs.SoundUps.{sound_changes, length-changes, sound_fewer, sound_bytes, sound_report, report_connected}
 use Rattle.nutcore.proofs.DriverChanges.{no_loss}
 use Rattle.nutcore.proofs.Sound.{each_found, sound_with, sound_upses, upses_sound, sound_answered, sound_notice, sound_input, sound_output}
 
@@ -89,14 +90,19 @@ pub driver_cut_kept : (m : ℕ) (piece : List ℕ) (x y : UpsState) (r : Found) 
 driver_cut_kept m piece x y r cut connected h =
     subst (IsSoundUps m) (sym cut.leaves) (sound_bytes m y.unfinished x (cut_short x.unfinished piece y.unfinished r cut.finds) (record { is = h; connected = connected })).is
 
+-- a line of its driver is refused
+pub counted_kept : (m : ℕ) (x y : UpsState) → y ≡ with_faulty_line x → IsSoundUps m x → IsSoundUps m y
+counted_kept m x y e h =
+    subst (IsSoundUps m) (sym e) (record { tree = h.tree; heard = h.heard; pinged = h.pinged; owed = h.owed; unfinished = h.unfinished; lost = λ lost. ap with_faulty_line (h.lost lost) })
+
 -- a line of its driver is done, or memory is refused
 module _ (empty : IsSoundTree empty_tree) (line_keeps : EachLineKeepsTheTreeSound) where
-  pub driver_line_kept : (m : ℕ) (line : List ℕ) (x y : UpsState) (r : Result (Unit {0}) AllocError) → DoesLine m line x r y → x.report.connected ≡ true → IsSoundUps m x → IsSoundUps m y
-  driver_line_kept m line x y (Ok v) does connected h =
-      subst (IsSoundUps m) (sym does) (sound_text empty line_keeps m (with_unfinished [] x) line (sound_bytes m [] x (omega arith) (record { is = h; connected = connected }))).is
+  pub driver_line_kept : (m : ℕ) (line : List ℕ) (x y : UpsState) (r : Result LineOutcome AllocError) → DoesLine m line x r y → x.report.connected ≡ true → IsSoundUps m x → IsSoundUps m y
+  driver_line_kept m line x y (Ok outcome) does connected h =
+      subst (IsSoundUps m) (sym does.1) (sound_report empty line_keeps m (with_unfinished [] x) line (sound_bytes m [] x (omega arith) (record { is = h; connected = connected }))).is
   driver_line_kept m line x y (Err e) does connected h =
       subst (IsSoundUps m) (sym does.1) (record { tree = h.tree; heard = omega arith; pinged = h.pinged; owed = h.owed; unfinished = h.unfinished; lost = λ lost. no_loss x.report.connected connected lost })
 
-pub driver_line_connected : (m : ℕ) (line : List ℕ) (x y : UpsState) (r : Result (Unit {0}) AllocError) → DoesLine m line x r y → y.report.connected ≡ x.report.connected
-driver_line_connected m line x y (Ok v) does = ap (λ (z : UpsState). z.report.connected) does ∙ text_connected m (with_unfinished [] x) line
+pub driver_line_connected : (m : ℕ) (line : List ℕ) (x y : UpsState) (r : Result LineOutcome AllocError) → DoesLine m line x r y → y.report.connected ≡ x.report.connected
+driver_line_connected m line x y (Ok outcome) does = ap (λ (z : UpsState). z.report.connected) does.1 ∙ report_connected m x line
 driver_line_connected m line x y (Err e) does = ap (λ (z : UpsState). z.report.connected) does.1

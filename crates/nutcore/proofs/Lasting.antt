@@ -72,7 +72,8 @@ module _ (IsSo : SessionState → Type 0) (lasting : IsLasting IsSo) (c : ℕ) w
       gives = λ s d n h. by_changing (taken_from n) (λ x. refl) (lasting.gives n) s d h;
       notice = λ s d h. by_changing with_notice notice_id lasting.notice s d h;
     };
-    driver = λ s m. record { comes = λ u h. h; tells = λ piece u h. h; takes = λ n u h. h; goes = λ u h. h };
+    driver = λ s m. record { comes = λ u h. h; tells = λ place piece u h. h; takes = λ n u h. h; goes = λ u h. h };
+    tracks = λ s act h. h;
     ticks = by_tick;
     opens = λ s address room own h.
         (omega (arith, h.0), of_pushed (λ o. IfSome o IsSo) c (new_session s.next_id address) s.sessions h.1 (λ id none. absurd (omega (arith, h.0, id))));
@@ -170,7 +171,8 @@ ids_kept n = record {
     gives = λ s d k h. by_change (λ t. n ≤ t.next_id) (taken_from k) d s (λ x e. h) (λ e. h);
     notice = λ s d h. by_change (λ t. n ≤ t.next_id) with_notice d s (λ x e. h) (λ e. h);
   };
-  driver = λ s m. record { comes = λ u h. h; tells = λ piece u h. h; takes = λ k u h. h; goes = λ u h. h };
+  driver = λ s m. record { comes = λ u h. h; tells = λ place piece u h. h; takes = λ k u h. h; goes = λ u h. h };
+  tracks = λ s act h. h;
   ticks = by_tick_ids n;
   opens = λ s address room own h. omega (arith, h);
   closes = λ s d h. h;
@@ -199,10 +201,11 @@ shutdown_kept u = record {
       let keep = drivers_keep s m in
       record {
         comes = λ v h. changed_keeps (connected s.moment) keep.comes v.place u.place s.upses ∙ h;
-        tells = λ piece v h. changed_keeps (ups_after_bytes s.moment piece m) (keep.tells piece) v.place u.place s.upses ∙ h;
+        tells = λ place piece v h. changed_keeps (ups_after_bytes s.moment place s.tracking piece m) (keep.tells place piece) v.place u.place s.upses ∙ h;
         takes = λ n v h. changed_keeps (after_driver_took n) (keep.takes n) v.place u.place s.upses ∙ h;
         goes = λ v h. changed_keeps disconnected keep.goes v.place u.place s.upses ∙ h;
       };
+  tracks = λ s act h. h;
   ticks = λ s seconds h. tick_keeps u s seconds ∙ h;
   opens = λ s address room own h. h;
   closes = λ s d h. h;

@@ -3,14 +3,14 @@ use Rattle.std.proofs.Common.{◌≡◌, ℕ, zero, suc, Bool, true, false, List
 use Rattle.std.specs.Prelude.{slice_get}
 use Rattle.std.specs.Option.{option_map_or}
 use Rattle.std.proofs.lemmas.Bool.{both_ways, cond_both, cases_Bool, eqb-true, eqb-false}
-use Rattle.nutcore.proofs.Common.{UpsId, Change, Event, SessionState, UpsState, ServerState, changed_at, with_session_changed}
+use Rattle.nutcore.proofs.Common.{UpsId, Change, TrackingState, Event, SessionState, UpsState, ServerState, changed_at, with_session_changed}
 use Rattle.nutdriver.specs.declared.report.Report.{Report}
 use Rattle.nutdriver.specs.declared.report.LineOutcome.{LineOutcome}
-use Rattle.nutdriver.specs.declared.report.LineOutcome.TheVariants.{Accepted, Refused}
 use Rattle.nutdriver.specs.Report.{after_line as report_after}
 use Rattle.nutanswer.specs.declared.reply.Change.TheVariants as changes
 use Rattle.nutcore.specs.Lines.{whole_lines, unfinished_after, is_too_long}
-use Rattle.nutcore.specs.Ups.{with_fsd, with_order, after_connecting, after_loss, after_outcome, after_text, after_texts, with_unfinished, ping_is_due}
+use Rattle.nutcore.specs.Reports.{end_in, with_end, is_unawaited}
+use Rattle.nutcore.specs.Ups.{with_fsd, with_order, after_connecting, after_loss, is_refused, after_outcome, after_text, after_texts, with_unfinished, ping_is_due}
 use Rattle.nutcore.specs.Reply.{changed_upses}
 use Rattle.nutcore.specs.Pump.{next_line_for, after_line, notified}
 use Rattle.nutcore.specs.Step.{after_by, joined, with_input, taken_from, without_output, opened, may_open, ticked, driver_may_take}
@@ -44,29 +44,30 @@ map_keeps f k q [] = refl
 map_keeps f k zero (x ∷ xs) = k x
 map_keeps f k (suc q) (x ∷ xs) = map_keeps f k q xs
 
-outcome_fsd : (x : UpsState) (r : Report × LineOutcome) → (after_outcome x r).fsd ≡ x.fsd
-outcome_fsd x (report, Accepted) = refl
-outcome_fsd x (report, Refused fault) = refl
+outcome_fsd : (unawaited : Bool) (x : UpsState) (r : Report × LineOutcome) → (after_outcome unawaited x r).fsd ≡ x.fsd
+outcome_fsd unawaited x r = cond_both (is_refused unawaited r.1) _ _ (λ z. z.fsd ≡ x.fsd) (λ refused. refl) (λ accepted. refl)
 
-texts_fsd : (moment : ℕ) (lines : List (List ℕ)) (x : UpsState) → (after_texts moment lines x).fsd ≡ x.fsd
-texts_fsd moment [] x = refl
-texts_fsd moment (line ∷ lines) x = texts_fsd moment lines (after_text moment x line) ∙ outcome_fsd x (report_after moment x.report line)
+texts_fsd : (moment place : ℕ) (t : TrackingState) (lines : List (List ℕ)) (x : UpsState) → (after_texts moment place t lines x).fsd ≡ x.fsd
+texts_fsd moment place t [] x = refl
+texts_fsd moment place t (line ∷ lines) x =
+    let b : Bool = is_unawaited place (end_in line) t in
+    texts_fsd moment place (with_end place (end_in line) t) lines (after_text moment b x line) ∙ outcome_fsd b x (report_after moment x.report line)
 
-text_fsd : (moment : ℕ) (text : List ℕ) (refused : Option ℕ) → Keeps (ups_after_text moment text refused)
-text_fsd moment text None x =
-    let y : UpsState = after_texts moment (whole_lines text) x in
-    let e : y.fsd ≡ x.fsd = texts_fsd moment (whole_lines text) x in
+text_fsd : (moment place : ℕ) (t : TrackingState) (text : List ℕ) (refused : Option ℕ) → Keeps (ups_after_text moment place t text refused)
+text_fsd moment place t text None x =
+    let y : UpsState = after_texts moment place t (whole_lines text) x in
+    let e : y.fsd ≡ x.fsd = texts_fsd moment place t (whole_lines text) x in
     cond_both (is_too_long (unfinished_after text)) (after_loss y) (with_unfinished (unfinished_after text) y) (λ z. z.fsd ≡ x.fsd) (λ long. e) (λ short. e)
-text_fsd moment text (Some k) x = texts_fsd moment (take k (whole_lines text)) x
+text_fsd moment place t text (Some k) x = texts_fsd moment place t (take k (whole_lines text)) x
 
-bytes_fsd : (moment : ℕ) (piece : List ℕ) (refused : Option ℕ) → Keeps (ups_after_bytes moment piece refused)
-bytes_fsd moment piece refused x = cond_both x.report.connected (ups_after_text moment (x.unfinished ++ piece) refused x) x (λ z. z.fsd ≡ x.fsd) (λ heard. text_fsd moment (x.unfinished ++ piece) refused x) (λ lost. refl)
+bytes_fsd : (moment place : ℕ) (t : TrackingState) (piece : List ℕ) (refused : Option ℕ) → Keeps (ups_after_bytes moment place t piece refused)
+bytes_fsd moment place t piece refused x = cond_both x.report.connected (ups_after_text moment place t (x.unfinished ++ piece) refused x) x (λ z. z.fsd ≡ x.fsd) (λ heard. text_fsd moment place t (x.unfinished ++ piece) refused x) (λ lost. refl)
 
 -- no driver sets one, nor time
-pub drivers_keep : (s : ServerState) (m : Option ℕ) → OfDrivers s.moment m Keeps
+pub drivers_keep : (s : ServerState) (m : Option ℕ) → OfDrivers s.moment s.tracking m Keeps
 drivers_keep s m = record {
   comes = λ x. cond_both x.report.connected x (after_connecting s.moment x) (λ z. z.fsd ≡ x.fsd) (λ here. refl) (λ away. refl);
-  tells = λ piece. bytes_fsd s.moment piece m;
+  tells = λ place piece. bytes_fsd s.moment place s.tracking piece m;
   takes = λ n x. cond_both (driver_may_take n x) _ x (λ z. z.fsd ≡ x.fsd) (λ may. refl) (λ never. refl);
   goes = λ x. cond_both x.report.connected (after_loss x) x (λ z. z.fsd ≡ x.fsd) (λ here. refl) (λ away. refl);
 }
@@ -81,9 +82,9 @@ unfolding opened
 by_plain u s e m =
     of_parts s m Keeps (drivers_keep s m)
     (λ e t. IsPlain e → is_shut_down u t ≡ is_shut_down u s)
-    (λ e v f its apart keeps plain. changed_keeps f keeps v.place u.place s.upses)
+    (λ e v f lines its apart keeps plain. changed_keeps f keeps v.place u.place s.upses)
     (λ seconds plain. tick_keeps u s seconds)
-    (λ address plain. opens address m) (λ c piece plain. absurd plain) (λ c n plain. absurd plain) (λ c plain. refl) e
+    (λ address plain. opens address m) (λ c piece plain. absurd plain) (λ c n plain. absurd plain) (λ c plain. refl) (λ id plain. refl) e
   where
     opens : (address : List ℕ) (m : Option ℕ) → is_shut_down u (opened s address m) ≡ is_shut_down u s
     opens address None = cond_both (may_open s) _ s (λ t. is_shut_down u t ≡ is_shut_down u s) (λ may. refl) (λ full. refl)

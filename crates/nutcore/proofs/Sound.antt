@@ -3,7 +3,11 @@ use Rattle.std.proofs.Common.{◌≡◌, ◌≤◌, ◌<◌, ◌+◌, ◌-◌, �
 use Rattle.std.specs.Prelude.{nat_lt}
 use Rattle.nutdriver.specs.Tree.{empty_tree}
 use Rattle.nutdriver.specs.Sound.{IsSoundTree, EachLineKeepsTheTreeSound}
-use Rattle.nutcore.proofs.Common.{ltb-true, cond_both, and_parts, length-map, length-replicate, same_Some, UpsId, Change, ServerState, changed_at, with_session, with_session_changed, with_ups_changed}
+use Rattle.nutcore.proofs.Common.{ltb-true, cond_both, and_parts, length-map, length-replicate, same_Some, UpsId, Change, ServerState, changed_at, with_session, with_session_changed, with_ups_changed, with_tracking}
+use Rattle.nuttracking.specs.Acts.{after_act}
+use Rattle.nuttracking.specs.Laws.{ActsKeepItSound}
+use Rattle.nuttracking.specs.Sound.{IsSoundTracking}
+use Rattle.nuttracking.specs.Tracking.{TrackingState, nothing_tracked}
 use Rattle.nutanswer.specs.Command.{read_command}
 use Rattle.nutcore.specs.declared.TheConstants.{HELD_LIMIT}
 use Rattle.nutlisting.specs.declared.listing.clients.TheConstants.{SESSION_LIMIT}
@@ -62,6 +66,7 @@ sessions_sound s sessions next_id few ids all h = record {
   ids = ids;
   sessions = all;
   upses = h.upses;
+  tracking = h.tracking;
 }
 
 pub upses_sound : (s : ServerState) (moment : ℕ) (upses : List UpsState) → length upses ≡ length s.upses → Each (IsSoundUps moment) upses → IsSound s
@@ -74,6 +79,20 @@ upses_sound s moment upses same all h = record {
   ids = h.ids;
   sessions = h.sessions;
   upses = all;
+  tracking = h.tracking;
+}
+
+-- with other ids and orders
+pub tracking_sound : (s : ServerState) (t : TrackingState) → IsSoundTracking t → IsSound s → IsSound (with_tracking t s)
+tracking_sound s t sound h = record {
+  max_age = h.max_age;
+  list = h.list;
+  named = h.named;
+  few = h.few;
+  ids = h.ids;
+  sessions = h.sessions;
+  upses = h.upses;
+  tracking = sound;
 }
 
 -- sessions
@@ -150,7 +169,7 @@ pub sound_opening : (s t : ServerState) (address : List ℕ) (c : ℕ) → Step 
 unfolding after_by
 sound_opening s t address c step h = subst IsSound (sym step.leaves) (of_opened IsSound s address None h (λ room. sound_opened s address room h))
 
-module _ (empty : IsSoundTree empty_tree) (line_keeps : EachLineKeepsTheTreeSound) where
+module _ (empty : IsSoundTree empty_tree) (line_keeps : EachLineKeepsTheTreeSound) (none : IsSoundTracking nothing_tracked) (acts_keep : ActsKeepItSound) where
   sound_kept : IsKept IsSound IsAny
   sound_kept = record {
     pumped = record {
@@ -161,10 +180,11 @@ module _ (empty : IsSoundTree empty_tree) (line_keeps : EachLineKeepsTheTreeSoun
     };
     driver = λ s m. record {
       comes = λ u h. sound_upses (connected s.moment) u s (λ x at k. cond_both x.report.connected x (after_connecting s.moment x) (IsSoundUps s.moment) (λ e. k) (λ e. sound_connecting empty line_keeps s.moment x)) h;
-      tells = λ piece u h. sound_upses (ups_after_bytes s.moment piece m) u s (λ x at. sound_driver_bytes empty line_keeps s.moment piece m x) h;
+      tells = λ place piece u h. sound_upses (ups_after_bytes s.moment place s.tracking piece m) u s (λ x at. sound_driver_bytes empty line_keeps s.moment place s.tracking piece m x) h;
       takes = λ n u h. sound_upses (after_driver_took n) u s (λ x at. sound_took s.moment n x) h;
       goes = λ u h. sound_upses disconnected u s (λ x at k. cond_both x.report.connected (after_loss x) x (IsSoundUps s.moment) (λ e. sound_loss empty line_keeps s.moment x) (λ e. k)) h;
     };
+    tracks = λ s act h. tracking_sound s (after_act s.tracking act) (acts_keep s.tracking (act ∷ []) h.tracking) h;
     ticks = sound_ticked;
     opens = λ s address may own h. sound_opened s address may h;
     closes = sound_closed;
@@ -185,6 +205,7 @@ module _ (empty : IsSoundTree empty_tree) (line_keeps : EachLineKeepsTheTreeSoun
     ids = omega arith;
     sessions = tt;
     upses = each_same (IsSoundUps 0) new_ups (sound_loss empty line_keeps 0 new_ups) (length list);
+    tracking = none;
   }
 
 pub sound_lawful : ASoundServerIsLawful

@@ -6,7 +6,6 @@ use Rattle.nutwords.specs.declared.limits.TheConstants.{LINE_LIMIT, LINE_ROOM}
 use Rattle.std.specs.Prelude.{slice_get, nat_le}
 use Rattle.nutdriver.specs.declared.report.Report.{Report}
 use Rattle.nutdriver.specs.declared.report.LineOutcome.{LineOutcome}
-use Rattle.nutdriver.specs.declared.report.LineOutcome.TheVariants.{Accepted, Refused}
 use Rattle.nutdriver.specs.declared.effect.Effect.{Effect}
 use Rattle.nutdriver.specs.declared.effect.Effect.TheVariants as effects
 use Rattle.nutdriver.specs.declared.line.DriverLine.{DriverLine}
@@ -16,16 +15,17 @@ use Rattle.nutdriver.specs.DriverLine.{read_driver_line}
 use Rattle.nutdriver.specs.DriverStep.{driver_step}
 use Rattle.nutdriver.specs.Report.{after_effect, after_step, after_reading, after_line as report_after_line}
 use Rattle.nutdriver.specs.Sound.{IsSoundTree, EachLineKeepsTheTreeSound}
-use Rattle.nutcore.proofs.Common.{leb-true, cond_both, and_parts, Change, changed_at}
+use Rattle.nutcore.proofs.Common.{leb-true, cond_both, and_parts, TrackingState, Change, changed_at}
 use Rattle.nutcore.specs.declared.TheConstants.{DRIVER_OWED_LIMIT}
 use Rattle.nutcore.specs.Lines.{whole_lines, unfinished_after, is_too_long}
-use Rattle.nutcore.specs.Ups.{UpsState, new_ups, after_connecting, after_loss, with_fsd, with_order, ping_is_due, ping_line, after_tick, after_outcome, after_text, after_texts, with_unfinished}
+use Rattle.nutcore.specs.Reports.{end_in, with_end, is_unawaited}
+use Rattle.nutcore.specs.Ups.{UpsState, new_ups, after_connecting, after_loss, with_fsd, with_order, ping_is_due, ping_line, after_tick, is_refused, after_outcome, after_text, after_texts, with_unfinished}
 use Rattle.nutcore.specs.Reply.{changed_upses}
 use Rattle.nutcore.specs.Promises.{TakesLine, OrderFits}
 use Rattle.nutcore.proofs.Changes.{of_upses}
 use Rattle.nutcore.specs.Step.{driver_may_take, after_driver_took}
 use Rattle.nutcore.proofs.DriverText.{ups_after_text, ups_after_bytes}
-use Rattle.nutcore.proofs.DriverChanges.{no_loss, line_leaves}
+use Rattle.nutcore.proofs.DriverChanges.{no_loss}
 use Rattle.nutcore.specs.Sound.{Each, IsSoundUps}
 
 -- lists
@@ -90,13 +90,13 @@ sound_there m x tree heard pinged owed short is = record { is = record { tree = 
 pub sound_bytes : (m : ℕ) (bytes : List ℕ) (x : UpsState) → length bytes ≤ LINE_LIMIT → IsSoundConnected m x → IsSoundConnected m (record x { unfinished = bytes })
 sound_bytes m bytes x short h = sound_there m _ h.is.tree h.is.heard h.is.pinged h.is.owed short h.connected
 
-sound_outcome : (m : ℕ) (x : UpsState) (report : Report) (outcome : LineOutcome) → IsSoundConnected m x → IsSoundTree report.tree → report.heard ≤ m → report.connected ≡ true → IsSoundConnected m (after_outcome x (report, outcome))
-sound_outcome m x report Accepted h tree heard is = sound_there m _ tree heard h.is.pinged h.is.owed h.is.unfinished is
-sound_outcome m x report (Refused fault) h tree heard is = sound_there m _ tree heard h.is.pinged h.is.owed h.is.unfinished is
+sound_counted : (m : ℕ) (unawaited : Bool) (x : UpsState) (r : Report × LineOutcome) → (let y : UpsState = record x { report = r.0 } in IsSoundConnected m y) → IsSoundConnected m (after_outcome unawaited x r)
+sound_counted m unawaited x r h =
+    cond_both (is_refused unawaited r.1) _ _ (IsSoundConnected m) (λ refused. sound_there m _ h.is.tree h.is.heard h.is.pinged h.is.owed h.is.unfinished h.connected) (λ accepted. h)
 
 -- a line loses no driver
-pub text_connected : (m : ℕ) (x : UpsState) (line : List ℕ) → (after_text m x line).report.connected ≡ x.report.connected
-text_connected m x line = ap (λ (r : Report). r.connected) (line_leaves x (report_after_line m x.report line)).report ∙ ap (λ (z : ℕ × Bool). z.1) (heard_line m x.report line)
+pub report_connected : (m : ℕ) (x : UpsState) (line : List ℕ) → (report_after_line m x.report line).0.connected ≡ x.report.connected
+report_connected m x line = ap (λ (z : ℕ × Bool). z.1) (heard_line m x.report line)
 
 -- bytes are taken from what is owed
 pub sound_fewer : (m n : ℕ) (x : UpsState) → IsSoundUps m x → IsSoundUps m (record x { owed = drop n x.owed })
@@ -155,29 +155,33 @@ module _ (empty : IsSoundTree empty_tree) (line_keeps : EachLineKeepsTheTreeSoun
   pub sound_connecting : (m : ℕ) (x : UpsState) → IsSoundUps m (after_connecting m x)
   sound_connecting m x = record { tree = empty; heard = omega arith; pinged = omega arith; owed = omega arith; unfinished = omega arith; lost = λ e. cc e }
 
-  pub sound_text : (m : ℕ) (x : UpsState) (line : List ℕ) → IsSoundConnected m x → IsSoundConnected m (after_text m x line)
-  sound_text m x line h =
-      let r = report_after_line m x.report line in
+  pub sound_report : (m : ℕ) (x : UpsState) (line : List ℕ) → IsSoundConnected m x → (let y : UpsState = record x { report = (report_after_line m x.report line).0 } in IsSoundConnected m y)
+  sound_report m x line h =
       let heard = heard_line m x.report line in
-      sound_outcome m x r.0 r.1 h (line_keeps m x.report line h.is.tree) (let e = ap (λ (z : ℕ × Bool). z.0) heard in omega (arith, e)) (ap (λ (z : ℕ × Bool). z.1) heard ∙ h.connected)
+      sound_there m _ (line_keeps m x.report line h.is.tree) (let e = ap (λ (z : ℕ × Bool). z.0) heard in omega (arith, e)) h.is.pinged h.is.owed h.is.unfinished (ap (λ (z : ℕ × Bool). z.1) heard ∙ h.connected)
+
+  sound_text : (m : ℕ) (unawaited : Bool) (x : UpsState) (line : List ℕ) → IsSoundConnected m x → IsSoundConnected m (after_text m unawaited x line)
+  sound_text m unawaited x line h = sound_counted m unawaited x (report_after_line m x.report line) (sound_report m x line h)
 
   -- whole lines of a connected driver
-  sound_texts : (lines : List (List ℕ)) (m : ℕ) (x : UpsState) → IsSoundConnected m x → IsSoundConnected m (after_texts m lines x)
-  sound_texts [] m x h = h
-  sound_texts (line ∷ lines) m x h = sound_texts lines m (after_text m x line) (sound_text m x line h)
+  sound_texts : (lines : List (List ℕ)) (m place : ℕ) (t : TrackingState) (x : UpsState) → IsSoundConnected m x → IsSoundConnected m (after_texts m place t lines x)
+  sound_texts [] m place t x h = h
+  sound_texts (line ∷ lines) m place t x h =
+      let b : Bool = is_unawaited place (end_in line) t in
+      sound_texts lines m place (with_end place (end_in line) t) (after_text m b x line) (sound_text m b x line h)
 
-  pub sound_connected_text : (m : ℕ) (text : List ℕ) (x : UpsState) → is_too_long (unfinished_after text) ≡ false → x.report.connected ≡ true → IsSoundUps m x → IsSoundUps m (with_unfinished (unfinished_after text) (after_texts m (whole_lines text) x))
-  sound_connected_text m text x short e h = (sound_bytes m (unfinished_after text) (after_texts m (whole_lines text) x) (let fits = leb-false LINE_ROOM (length (unfinished_after text)) short in omega (arith, fits)) (sound_texts (whole_lines text) m x (record { is = h; connected = e }))).is
+  pub sound_connected_text : (m place : ℕ) (t : TrackingState) (text : List ℕ) (x : UpsState) → is_too_long (unfinished_after text) ≡ false → x.report.connected ≡ true → IsSoundUps m x → IsSoundUps m (with_unfinished (unfinished_after text) (after_texts m place t (whole_lines text) x))
+  sound_connected_text m place t text x short e h = (sound_bytes m (unfinished_after text) (after_texts m place t (whole_lines text) x) (let fits = leb-false LINE_ROOM (length (unfinished_after text)) short in omega (arith, fits)) (sound_texts (whole_lines text) m place t x (record { is = h; connected = e }))).is
 
-  pub sound_driver_bytes : (m : ℕ) (piece : List ℕ) (refused : Option ℕ) (x : UpsState) → IsSoundUps m x → IsSoundUps m (ups_after_bytes m piece refused x)
-  sound_driver_bytes m piece refused x h = by_connection x.report.connected refl refused
+  pub sound_driver_bytes : (m place : ℕ) (t : TrackingState) (piece : List ℕ) (refused : Option ℕ) (x : UpsState) → IsSoundUps m x → IsSoundUps m (ups_after_bytes m place t piece refused x)
+  sound_driver_bytes m place t piece refused x h = by_connection x.report.connected refl refused
     where
       text : List ℕ
       text = x.unfinished ++ piece
 
-      by_connection : (b : Bool) → x.report.connected ≡ b → (r : Option ℕ) → IsSoundUps m (cond b (ups_after_text m text r x) x)
+      by_connection : (b : Bool) → x.report.connected ≡ b → (r : Option ℕ) → IsSoundUps m (cond b (ups_after_text m place t text r x) x)
       by_connection true e None =
-          let y : UpsState = after_texts m (whole_lines text) x in
-          cond_both (is_too_long (unfinished_after text)) (after_loss y) (with_unfinished (unfinished_after text) y) (IsSoundUps m) (λ long. sound_loss m y) (λ short. sound_connected_text m text x short e h)
-      by_connection true e (Some k) = sound_loss m (after_texts m (take k (whole_lines text)) x)
+          let y : UpsState = after_texts m place t (whole_lines text) x in
+          cond_both (is_too_long (unfinished_after text)) (after_loss y) (with_unfinished (unfinished_after text) y) (IsSoundUps m) (λ long. sound_loss m y) (λ short. sound_connected_text m place t text x short e h)
+      by_connection true e (Some k) = sound_loss m (after_texts m place t (take k (whole_lines text)) x)
       by_connection false e r = h

@@ -1,6 +1,6 @@
 -- What a driver reported in a run, from the events alone: the other half of the headline.
 use Rattle.std.specs.Prelude.{◌≡◌, ◌≤◌, ◌+◌, ℕ, Bool, true, false, List, [], ◌∷◌, ◌++◌, Option}
-use Rattle.std.specs.Prelude.{Some, None, ◌==◌, ◌&&◌, if◌then◌else◌, length, map, take, min}
+use Rattle.std.specs.Prelude.{Some, None, ◌==◌, ◌&&◌, if◌then◌else◌, length, take, min}
 use Rattle.std.specs.List.{flat_map}
 use Rattle.std.specs.Option.{option_map_or}
 use Rattle.nutwords.specs.SplitLine.{split_line}
@@ -8,15 +8,16 @@ use Rattle.nutwords.specs.declared.limits.TheConstants.{LINE_LIMIT}
 use Rattle.nutusers.specs.declared.ups_list.UpsId.{UpsId}
 use Rattle.nutdriver.specs.declared.report.Report.{Report}
 use Rattle.nutdriver.specs.declared.report.LineOutcome.{LineOutcome}
-use Rattle.nutdriver.specs.declared.report.LineOutcome.TheVariants.{Accepted, Refused}
 use Rattle.nutdriver.specs.Report.{after_line}
 pub use Rattle.nutdriver.specs.Report.{Heard, after_heard}
 use Rattle.nutcore.specs.declared.event.Event.{Event}
 use Rattle.nutcore.specs.declared.event.Event.TheVariants.{DriverBytes}
 use Rattle.nutcore.specs.declared.event.Outcome.{Outcome}
 use Rattle.nutwords.specs.Text.{with_lf}
+use Rattle.nuttracking.specs.Tracking.{TrackingState}
 use Rattle.nutcore.specs.Lines.{whole_lines}
-use Rattle.nutcore.specs.Ups.{UpsState, greatest_count}
+use Rattle.nutcore.specs.Reports.{end_in, with_end, is_unawaited}
+use Rattle.nutcore.specs.Ups.{UpsState, greatest_count, is_refused}
 use Rattle.nutcore.specs.Server.{ServerState, ups_at}
 use Rattle.nutcore.specs.Step.{after, refused_after}
 use Rattle.nutcore.specs.Run.{Run}
@@ -27,14 +28,13 @@ abbrev pub bytes_heard : List Heard → List ℕ
 bytes_heard lines = flat_map (λ x. with_lf x.line) lines
 
 -- How many of the lines are refused, each on the report that those before it made.
-abbrev pub refusals : LineOutcome → ℕ
-refusals Accepted = 0
-refusals (Refused fault) = 1
+abbrev pub refusals : Bool → LineOutcome → ℕ
+refusals unawaited outcome = if is_refused unawaited outcome then 1 else 0
 
 abbrev pub refused_among : Report → List Heard → ℕ
 refused_among report [] = 0
 refused_among report (x ∷ lines) =
-    refusals (after_line x.moment report x.line).1
+    refusals x.unawaited (after_line x.moment report x.line).1
     + refused_among (after_line x.moment report x.line).0 lines
 
 -- A line has no LF, and at most 1,023 bytes.
@@ -68,8 +68,14 @@ unfinished_of u s = option_map_or (λ x. x.unfinished) (ups_at u.place s) []
 
 -- The lines that are executed in an event, and in a run: where the driver is connected, the whole
 -- lines of what was unfinished and of what came, at the event's moment; or as many as memory let.
-abbrev pub heard_at : ℕ → List ℕ → Heard
-heard_at moment line = record { moment = moment; line = line }
+abbrev pub heard_at : ℕ → ℕ → TrackingState → List (List ℕ) → List Heard
+heard_at moment place t [] = []
+heard_at moment place t (line ∷ lines) =
+    (record {
+      moment = moment;
+      line = line;
+      unawaited = is_unawaited place (end_in line) t;
+    }) ∷ heard_at moment place (with_end place (end_in line) t) lines
 
 abbrev pub as_far : Option ℕ → List (List ℕ) → List (List ℕ)
 as_far None lines = lines
@@ -78,7 +84,7 @@ as_far (Some k) lines = take k lines
 abbrev pub heard_in_event : UpsId → ServerState → Event → Outcome → List Heard
 heard_in_event u s (DriverBytes v piece) outcome =
     if v.place == u.place && has_driver u s
-    then map (heard_at s.moment)
+    then heard_at s.moment u.place s.tracking
     (as_far (refused_after outcome) (whole_lines (unfinished_of u s ++ piece)))
     else []
 heard_in_event u s _ outcome = []

@@ -7,7 +7,7 @@ use Rattle.nutlisting.specs.declared.outbox.TheConstants.{OWED_LIMIT}
 use Rattle.nutcore.specs.declared.event.Event.{Event}
 use Rattle.nutcore.specs.declared.event.Event.TheVariants.{DriverUp, DriverBytes, DriverTook}
 use Rattle.nutcore.specs.declared.event.Event.TheVariants.{DriverDown, Tick, Open, Feed, Took}
-use Rattle.nutcore.specs.declared.event.Event.TheVariants.{Close}
+use Rattle.nutcore.specs.declared.event.Event.TheVariants.{Close, Id}
 use Rattle.nutcore.specs.declared.event.Outcome.{Outcome}
 use Rattle.nutcore.specs.declared.event.Outcome.TheVariants.{Done, Fed, Refused}
 use Rattle.nutcore.specs.declared.event.Fault.TheVariants.{Memory}
@@ -93,6 +93,7 @@ IsInEvent s (Open address) x = ⊥
 IsInEvent s (Feed c piece) x = IsInPump (with_input s c piece) c x
 IsInEvent s (Took c n) x = IsInPump (without_output s c n) c x
 IsInEvent s (Close c) x = ⊥
+IsInEvent s (Id id) x = ⊥
 
 -- It belongs to an event of the run, on the server to which the run's own beginning before that
 -- event leads.

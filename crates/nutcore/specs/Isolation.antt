@@ -1,14 +1,17 @@
 -- What an event doesn't touch.
-use Rattle.std.specs.Prelude.{◌≡◌, ◌≢◌, ◌≤◌, ℕ, false, [], Option, Some, None, map}
+use Rattle.std.specs.Prelude.{◌≡◌, ◌≢◌, ◌⊎◌, ℕ, Bool, true, false, List, [], ◌∷◌, Option, Some}
+use Rattle.std.specs.Prelude.{None, map}
+use Rattle.nuttracking.specs.declared.order.Progress.TheVariants.{Pending}
+use Rattle.nuttracking.specs.declared.order.TrackedOrder.{TrackedOrder}
 use Rattle.nutusers.specs.declared.ups_list.UpsId.{UpsId}
 use Rattle.nutcore.specs.declared.event.Event.{Event}
 use Rattle.nutcore.specs.declared.event.Event.TheVariants.{DriverUp, DriverBytes, DriverTook}
 use Rattle.nutcore.specs.declared.event.Event.TheVariants.{DriverDown, Tick, Open, Feed, Took}
-use Rattle.nutcore.specs.declared.event.Event.TheVariants.{Close}
+use Rattle.nutcore.specs.declared.event.Event.TheVariants.{Close, Id}
 use Rattle.nutcore.specs.declared.event.Outcome.{Outcome}
 use Rattle.nutcore.specs.declared.event.Outcome.TheVariants.{Refused}
 use Rattle.nutcore.specs.declared.event.Fault.{Fault}
-use Rattle.nutcore.specs.Numbers.{number_of_fault}
+use Rattle.nutcore.specs.declared.event.Fault.TheVariants.{LineTooLong, Memory}
 use Rattle.nutcore.specs.Ups.{UpsState}
 use Rattle.nutcore.specs.Server.{ServerState, session, ups_at}
 use Rattle.nutcore.specs.Cost.{cost_of, no_cost}
@@ -25,6 +28,7 @@ client_of (Open address) = None
 client_of (Feed c piece) = Some c
 client_of (Took c n) = Some c
 client_of (Close c) = Some c
+client_of (Id id) = None
 
 -- The UPS whose driver's event it is.
 abbrev pub ups_of : Event → Option UpsId
@@ -37,6 +41,7 @@ ups_of (Open address) = None
 ups_of (Feed c piece) = None
 ups_of (Took c n) = None
 ups_of (Close c) = None
+ups_of (Id id) = None
 
 -- A UPS but for what commands change of it: its forced shutdown, and what its driver is owed.
 abbrev pub without_commands : UpsState → UpsState
@@ -57,29 +62,50 @@ AClientTouchesNoOther =
     (old new : ServerState) (event : Event) (outcome : Outcome) (c : ℕ) → Step old event outcome new
     → client_of event ≡ Some c → LeavesOtherClients c old new
 
--- What a driver does leaves every session as it is, every other UPS, and the rest of the server.
+-- An order as what the driver of the UPS at this place reports may leave it: as it was; or, where
+-- it is an order to that driver and pending, with another progress.
+abbrev pub MaySettle : ℕ → TrackedOrder → TrackedOrder → Type 0
+MaySettle place old new =
+    (new ≡ old)
+    ⊎ ((old.place ≡ place) × (old.progress ≡ Pending)
+    × (new ≡ record old { progress = new.progress }))
+
+-- So is each of these, in their places.
+abbrev pub MaySettleEach : ℕ → List TrackedOrder → List TrackedOrder → Type 0
+MaySettleEach place [] [] = Unit {0}
+MaySettleEach place (x ∷ xs) (y ∷ ys) = MaySettle place x y × MaySettleEach place xs ys
+MaySettleEach place [] (y ∷ ys) = ⊥
+MaySettleEach place (x ∷ xs) [] = ⊥
+
+-- What a driver does leaves every session as it is, every other UPS, each tracked order but pending
+-- ones of its own UPS, and the rest of the server.
 pub record LeavesOtherUpses (u : UpsId) (old new : ServerState) : Type 0 where
   pub upses : (place : ℕ) → place ≢ u.place → ups_at place new ≡ ups_at place old
-  pub server : (let but : ServerState = record new { upses = old.upses } in but) ≡ old
+  pub ids : new.tracking.ids ≡ old.tracking.ids
+  pub orders : MaySettleEach u.place old.tracking.orders new.tracking.orders
+  pub server : (let but : ServerState
+      = record new { upses = old.upses; tracking = old.tracking } in but)
+      ≡ old
 
 abbrev pub ADriverTouchesNoOther : Type 0
 ADriverTouchesNoOther =
     (old new : ServerState) (event : Event) (outcome : Outcome) (u : UpsId)
     → Step old event outcome new → ups_of event ≡ Some u → LeavesOtherUpses u old new
 
--- The greatest number of a fault that changes nothing: a line that is too long, and being out of
--- memory, are 7 and 8.
-abbrev pub greatest_harmless : ℕ
-greatest_harmless = 6
+-- A fault that changes nothing: each but a line that is too long, and being out of memory.
+abbrev pub is_harmless : Fault → Bool
+is_harmless LineTooLong = false
+is_harmless (Memory k) = false
+is_harmless _ = true
 
--- An event that is refused by one of the faults 1 to 6 changes nothing.
+-- An event that is refused by such a fault changes nothing.
 abbrev pub ARefusedEventChangesNothing : Type 0
 ARefusedEventChangesNothing =
     (old new : ServerState) (event : Event) (fault : Fault) → Step old event (Refused fault) new
-    → number_of_fault fault ≤ greatest_harmless → new ≡ old
+    → is_harmless fault ≡ true → new ≡ old
 
 -- Nor does it cost anything.
 abbrev pub ARefusedEventCostsNothing : Type 0
 ARefusedEventCostsNothing =
     (old new : ServerState) (event : Event) (fault : Fault) → Step old event (Refused fault) new
-    → number_of_fault fault ≤ greatest_harmless → cost_of old event new ≡ no_cost
+    → is_harmless fault ≡ true → cost_of old event new ≡ no_cost

@@ -23,7 +23,11 @@ use Rattle.nutlisting.specs.Items.{text_of, client_listing}
 use Rattle.nutanswer.specs.View.{addresses_at}
 use Rattle.nutcore.specs.Session.{SessionState}
 use Rattle.nutcore.specs.Lines.{unfinished_after, is_too_long}
-use Rattle.nutcore.specs.Ups.{UpsState, free_room, after_loss, after_text, with_unfinished}
+use Rattle.nutdriver.specs.declared.report.LineOutcome.{LineOutcome}
+use Rattle.nutdriver.specs.declared.report.LineOutcome.TheVariants.{Tracked}
+use Rattle.nutdriver.specs.Report.{after_line}
+use Rattle.nutcore.specs.Reports.{OrderEnd}
+use Rattle.nutcore.specs.Ups.{UpsState, free_room, after_loss, with_unfinished}
 use Rattle.nutcore.specs.Step.{after_driver_line, after_driver_text, wants_driver_memory}
 use Rattle.nutusers.specs.declared.ups_list.UpsId.{UpsId}
 use Rattle.std.specs.Option.{option_map, option_and_then}
@@ -63,13 +67,20 @@ pub record IsCut (piece : List ℕ) (old : UpsState) (result : Found) (new : Ups
   pub finds : Finds old.unfinished piece result new.unfinished
   pub leaves : new ≡ with_unfinished new.unfinished old
 
--- What a line does to the UPS of its driver: it is done, and nothing is held; or it would change
--- the tree, and memory was refused, and it was heard, no more.
-abbrev pub DoesLine : ℕ → List ℕ → UpsState → Result (Unit {0}) AllocError → UpsState → Type 0
-DoesLine moment line old (Ok t) new = new ≡ after_text moment (with_unfinished [] old) line
+-- What a line does to the UPS of its driver: it is done, its outcome told, and nothing is held; or
+-- it would change the tree, and memory was refused, and it was heard, no more.
+abbrev pub DoesLine : ℕ → List ℕ → UpsState → Result LineOutcome AllocError → UpsState → Type 0
+DoesLine moment line old (Ok outcome) new =
+    let r = after_line moment old.report line in
+    (outcome ≡ r.1) × (new ≡ record (with_unfinished [] old) { report = r.0 })
 DoesLine moment line old (Err e) new =
     (line_changes old.report.tree line ≡ true)
     × (new ≡ record old { report = record old.report { heard = moment } })
+
+-- What the outcome of a line says of an order.
+abbrev pub end_told : LineOutcome → Option OrderEnd
+end_told (Tracked id number) = Some (record { id = id; number = number })
+end_told _ = None
 
 -- What a driver's taking of n bytes leaves of its UPS: it took no more than it is owed, or nothing
 -- changed.

@@ -8,11 +8,12 @@ use Rattle.nutusers.specs.Descriptions.{Descriptions}
 use Rattle.nutusers.specs.declared.ups_list.UpsId.{UpsId}
 use Rattle.nutcore.specs.declared.max_age.TheConstants.{MAX_AGE_LEAST, MAX_AGE_MOST}
 use Rattle.nutcore.specs.Session.{SessionState, find, put}
+use Rattle.nuttracking.specs.Tracking.{TrackingState, nothing_tracked}
 use Rattle.nutcore.specs.Ups.{UpsState, new_ups}
 
 -- moment, max_age: in seconds. list, users, descriptions: what the files say; the UPSs in the byte
 -- order of their names. upses: a state for each UPS of the list. sessions: in the order of opening.
--- next_id: the id of the next session.
+-- next_id: the id of the next session. tracking: the ids at hand, and the tracked orders.
 pub record ServerState : Type 0 where
   pub moment : ℕ
   pub max_age : ℕ
@@ -22,8 +23,10 @@ pub record ServerState : Type 0 where
   pub upses : List UpsState
   pub sessions : List SessionState
   pub next_id : ℕ
+  pub tracking : TrackingState
 
--- A new server: no driver is connected, no session is open, and ids begin at 1.
+-- A new server: no driver is connected, no session is open, ids begin at 1, and no order
+-- is tracked.
 abbrev pub new_server : List Ups → List User → Descriptions → ℕ → ServerState
 new_server list users descriptions max_age =
     record {
@@ -35,6 +38,7 @@ new_server list users descriptions max_age =
       upses = replicate (length list) new_ups;
       sessions = [];
       next_id = 1;
+      tracking = nothing_tracked;
     }
 
 -- The session of this id.
@@ -54,6 +58,10 @@ with_session_changed f c s = option_map_or (λ x. with_session s (f x)) (session
 abbrev pub read_max_age : ℕ → Option ℕ
 read_max_age seconds =
     if nat_le MAX_AGE_LEAST seconds && nat_le seconds MAX_AGE_MOST then Some seconds else None
+
+-- The server with these ids and orders.
+abbrev pub with_tracking : TrackingState → ServerState → ServerState
+with_tracking t s = record s { tracking = t }
 
 -- The UPS at a place.
 abbrev pub ups_at : ℕ → ServerState → Option UpsState

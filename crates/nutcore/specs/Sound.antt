@@ -1,6 +1,7 @@
 -- Sound servers: what every server is that events have made of a new one.
 use Rattle.std.specs.Prelude.{◌≡◌, ◌≤◌, ℕ, true, false, List, [], ◌∷◌, None, length}
 use Rattle.nutwords.specs.declared.limits.TheConstants.{LINE_LIMIT}
+use Rattle.nuttracking.specs.Sound.{IsSoundTracking}
 use Rattle.nutdriver.specs.Sound.{IsSoundTree}
 use Rattle.nutlisting.specs.declared.listing.clients.TheConstants.{SESSION_LIMIT}
 use Rattle.nutusers.specs.UpsList.{Ups, IsList}
@@ -47,7 +48,7 @@ IsMaxAge seconds = (MAX_AGE_LEAST ≤ seconds) × (seconds ≤ MAX_AGE_MOST)
 
 -- A server: its greatest age is one; the UPSs of its list are lawful, their names rise, and there
 -- are no more than there may be; a state for each UPS of the list; at most 64 sessions, whose ids
--- rise from 1; and all of them sound.
+-- rise from 1; all of them sound; and an id stands for one order.
 pub record IsSound (s : ServerState) : Type 0 where
   pub max_age : IsMaxAge s.max_age
   pub list : IsList s.list
@@ -56,6 +57,7 @@ pub record IsSound (s : ServerState) : Type 0 where
   pub ids : IdsRise 1 s.next_id s.sessions
   pub sessions : Each IsSoundSession s.sessions
   pub upses : Each (IsSoundUps s.moment) s.upses
+  pub tracking : IsSoundTracking s.tracking
 
 -- Of every list of UPSs, as each that was read is one, and every greatest age, as each `MaxAge` is.
 abbrev pub ANewServerIsSound : Type 0

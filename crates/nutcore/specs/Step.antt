@@ -10,18 +10,23 @@ use Rattle.nutlisting.specs.declared.listing.clients.TheConstants.{SESSION_LIMIT
 use Rattle.nutcore.specs.declared.event.Event.{Event}
 use Rattle.nutcore.specs.declared.event.Event.TheVariants.{DriverUp, DriverBytes, DriverTook}
 use Rattle.nutcore.specs.declared.event.Event.TheVariants.{DriverDown, Tick, Open, Feed, Took}
-use Rattle.nutcore.specs.declared.event.Event.TheVariants.{Close}
+use Rattle.nutcore.specs.declared.event.Event.TheVariants.{Close, Id}
 use Rattle.nutcore.specs.declared.event.Outcome.{Outcome}
 use Rattle.nutcore.specs.declared.event.Outcome.TheVariants.{Done, Fed, Opened, Refused}
 use Rattle.nutcore.specs.declared.event.Fault.TheVariants.{NoSuchUps, NoSuchClient, TooManyClients}
 use Rattle.nutcore.specs.declared.event.Fault.TheVariants.{TookTooMuch, NotConnected}
 use Rattle.nutcore.specs.declared.event.Fault.TheVariants.{AlreadyConnected, LineTooLong, Memory}
+use Rattle.nutcore.specs.declared.event.Fault.TheVariants.{KnownId, TooManyIds}
+use Rattle.nuttracking.specs.declared.tracking.IdFault.{IdFault}
+use Rattle.nuttracking.specs.declared.tracking.IdFault.TheVariants.{Known, TooMany}
+use Rattle.nuttracking.specs.Tracking.{id_fault, with_id}
 use Rattle.nutcore.specs.Session.{SessionState, new_session, without}
 use Rattle.nutcore.specs.Lines.{whole_lines, unfinished_after, is_too_long}
+use Rattle.nutcore.specs.Reports.{end_in, with_end, is_unawaited}
 use Rattle.nutcore.specs.Ups.{UpsState, after_connecting, after_loss, after_tick, after_text}
 use Rattle.nutcore.specs.Ups.{with_unfinished, wants_memory_for}
 use Rattle.nutcore.specs.Server.{ServerState, session, with_session_changed, ups_at}
-use Rattle.nutcore.specs.Server.{with_ups_changed}
+use Rattle.nutcore.specs.Server.{with_ups_changed, with_tracking}
 use Rattle.nutcore.specs.Pump.{pumped, after_all_lines, after_lines, is_overlong, wants_memory}
 use Rattle.nutcore.specs.Pump.{owed_of}
 
@@ -80,9 +85,12 @@ abbrev pub disconnected : UpsState → UpsState
 disconnected x = if x.report.connected then after_loss x else x
 
 -- Drivers report. A whole line of a driver is a step of the server, at its moment: it changes the
--- driver's UPS.
+-- driver's UPS, and where it tells how an order ended that this UPS waits for, that order.
 unfoldable pub after_driver_line : UpsId → List ℕ → ServerState → ServerState
-after_driver_line u line s = with_ups_changed (λ x. after_text s.moment x line) u s
+after_driver_line u line s =
+    with_tracking (with_end u.place (end_in line) s.tracking)
+    (with_ups_changed
+    (λ x. after_text s.moment (is_unawaited u.place (end_in line) s.tracking) x line) u s)
 
 -- The server after these lines, one by one.
 abbrev pub after_driver_lines : UpsId → List (List ℕ) → ServerState → ServerState
@@ -121,6 +129,10 @@ ticked seconds s =
     let moment = max seconds s.moment in
     record s { moment = moment; upses = map (after_tick s.max_age moment) s.upses }
 
+-- An id for an order is handed in.
+abbrev pub handed_in : ℕ → ServerState → ServerState
+handed_in id s = with_tracking (with_id id s.tracking) s
+
 -- Out of memory.
 
 -- After how many lines of the event memory was refused, if it was.
@@ -145,6 +157,7 @@ after_by s (Feed c piece) m = pumped_until (with_input s c piece) c m
 after_by s (Took c n) m =
     if may_take (session c s) n then pumped_until (without_output s c n) c m else s
 after_by s (Close c) m = record s { sessions = without c s.sessions }
+after_by s (Id id) m = handed_in id s
 
 -- What an event leaves, by its outcome.
 abbrev pub after : ServerState → Event → Outcome → ServerState
@@ -193,6 +206,11 @@ abbrev pub closed_by : Option SessionState → Outcome
 closed_by None = Refused NoSuchClient
 closed_by (Some x) = Done
 
+abbrev pub id_outcome : Option IdFault → Outcome
+id_outcome None = Done
+id_outcome (Some Known) = Refused KnownId
+id_outcome (Some TooMany) = Refused TooManyIds
+
 unfoldable pub outcome_of : ServerState → Event → Outcome
 outcome_of s (DriverUp u) = connected_by (ups_at u.place s)
 outcome_of s (DriverBytes u piece) = driver_bytes_by piece (ups_at u.place s)
@@ -205,6 +223,7 @@ outcome_of s (Feed c piece) =
 outcome_of s (Took c n) =
     took_by (session c s) n (is_overlong (after_all_lines (without_output s c n) c) c)
 outcome_of s (Close c) = closed_by (session c s)
+outcome_of s (Id id) = id_outcome (id_fault id s.tracking)
 
 -- There is a whole line after the first k of what a driver reported, and it would change the tree.
 unfoldable pub wants_driver_memory : UpsId → List ℕ → ℕ → ServerState → Bool
@@ -231,6 +250,7 @@ MayLackMemory s (Took c n) k =
     IsTrue (may_take (session c s) n)
     × IsTrue (wants_memory (after_lines k (without_output s c n) c) c)
 MayLackMemory s (Close c) k = ⊥
+MayLackMemory s (Id id) k = ⊥
 
 -- Beside the one outcome there is only being out of memory.
 abbrev pub MayAnswer : ServerState → Event → Outcome → Type 0

@@ -1,12 +1,14 @@
 -- A UPS as the server keeps it: its driver's connection, and what the driver reported.
 use Rattle.std.specs.Prelude.{ℕ, ◌+◌, ◌-◌, ◌^◌, Bool, true, false, List, [], ◌∷◌, ◌++◌, Option}
-use Rattle.std.specs.Prelude.{Some, None, codes, length, fold, min, nat_le, ◌&&◌, ◌/◌}
+use Rattle.std.specs.Prelude.{Some, None, codes, length, min, nat_le, ◌&&◌, ◌/◌}
 use Rattle.std.specs.Prelude.{if◌then◌else◌}
 use Rattle.nutcore.specs.declared.TheConstants.{DRIVER_OWED_LIMIT}
 use Rattle.nutdriver.specs.declared.report.Report.{Report}
 use Rattle.nutdriver.specs.declared.report.LineOutcome.{LineOutcome}
-use Rattle.nutdriver.specs.declared.report.LineOutcome.TheVariants.{Accepted, Refused}
+use Rattle.nutdriver.specs.declared.report.LineOutcome.TheVariants.{Accepted, Tracked, Refused}
 use Rattle.nutdriver.specs.Report.{lost_report, connected_report, after_line, line_changes}
+use Rattle.nuttracking.specs.Tracking.{TrackingState}
+use Rattle.nutcore.specs.Reports.{end_in, with_end, is_unawaited}
 
 -- report: what its driver has reported. pinged: the moment of the last PING to it, in seconds. fsd:
 -- a forced shutdown is set. owed: what the driver is still to be sent. unfinished: what came of its
@@ -77,17 +79,28 @@ greatest_count = 2 ^ 64 - 1
 abbrev pub with_faulty_line : UpsState → UpsState
 with_faulty_line x = record x { faulty = min (x.faulty + 1) greatest_count }
 
-abbrev pub after_outcome : UpsState → Report × LineOutcome → UpsState
-after_outcome x (report, Accepted) = record x { report = report }
-after_outcome x (report, Refused fault) = with_faulty_line (record x { report = report })
+-- The line is refused: so is a report on an order that isn't awaited.
+abbrev pub is_refused : Bool → LineOutcome → Bool
+is_refused unawaited Accepted = false
+is_refused unawaited (Tracked id number) = unawaited
+is_refused unawaited (Refused fault) = true
+
+abbrev pub after_outcome : Bool → UpsState → Report × LineOutcome → UpsState
+after_outcome unawaited x r =
+    let y : UpsState = record x { report = r.0 } in
+    if is_refused unawaited r.1 then with_faulty_line y else y
 
 -- A whole line does what it says of the report, and is counted where it is refused.
-abbrev pub after_text : ℕ → UpsState → List ℕ → UpsState
-after_text moment x line = after_outcome x (after_line moment x.report line)
+abbrev pub after_text : ℕ → Bool → UpsState → List ℕ → UpsState
+after_text moment unawaited x line = after_outcome unawaited x (after_line moment x.report line)
 
--- The UPS after these lines of its driver, one by one.
-abbrev pub after_texts : ℕ → List (List ℕ) → UpsState → UpsState
-after_texts moment lines x = fold (after_text moment) x lines
+-- The UPS at this place after these lines of its driver, one by one, where these are the orders
+-- before them.
+abbrev pub after_texts : ℕ → ℕ → TrackingState → List (List ℕ) → UpsState → UpsState
+after_texts moment place t [] x = x
+after_texts moment place t (line ∷ lines) x =
+    after_texts moment place (with_end place (end_in line) t) lines
+    (after_text moment (is_unawaited place (end_in line) t) x line)
 
 -- These bytes of its driver's next line have come.
 abbrev pub with_unfinished : List ℕ → UpsState → UpsState

@@ -38,6 +38,8 @@ pub enum Event {
     Took(ClientId, usize),
     /// A client's connection is gone.
     Close(ClientId),
+    /// An id for a tracked order is handed in.
+    Id(u128),
 }
 
 /// Why an event is refused. Of two that fit, that of the UPS or the client that isn't there is
@@ -68,6 +70,12 @@ pub enum Fault {
     /// Memory was refused after so many lines of the call.
     #[error("out of memory after {0} lines")]
     Memory(usize),
+    /// The id is at hand already, or a tracked order has it.
+    #[error("the id is known")]
+    KnownId,
+    /// 64 ids are at hand.
+    #[error("too many ids")]
+    TooManyIds,
 }
 
 impl Fault {
@@ -86,6 +94,8 @@ impl Fault {
             Fault::AlreadyConnected => 6,
             Fault::LineTooLong => 7,
             Fault::Memory(_) => 8,
+            Fault::KnownId => 9,
+            Fault::TooManyIds => 10,
         }
     }
 }

@@ -31,6 +31,7 @@ use nutdriver::laws::{
     each_line_keeps_the_tree_sound, lawful_lines_keep_trees_sound,
     the_last_line_on_a_variable_decides_it,
 };
+use nuttracking::laws::an_id_stands_for_one_order;
 use nutwords::laws::listing_is_read_back;
 
 /// Over every run, what each client was sent, followed by what it is still owed, is exactly the
@@ -144,7 +145,7 @@ pub fn time_and_newcomers_touch_no_session()
 
 /// Every server is sound: a new one is, and each event and each run keeps it so. The tree of each UPS is sound (names
 /// strictly rise, and all that was reported is lawful and within its limits), nothing was heard later than now, what is
-/// held and owed is within its limits, and the ids of sessions rise. So the premise of the laws of every run holds.
+/// held and owed is within its limits, the ids of sessions rise, and an id stands for one order. So the premise of the laws of every run holds.
 pub fn every_server_is_sound()
     ensures opening { ANewServerIsSound }
     ensures event { EachEventKeepsTheServerSound }
@@ -153,6 +154,7 @@ pub fn every_server_is_sound()
 {
     lawful_lines_keep_trees_sound();
     each_line_keeps_the_tree_sound();
+    an_id_stands_for_one_order();
 }
 
 /// Of a sound server, each listing is the frame of exactly what the server holds, each once in its order: variables, those
@@ -348,7 +350,8 @@ pub fn a_reply_comes_of_what_is_seen()
     ensures { AReplyComesOfWhatIsSeen }
 {}
 
-/// What a driver does touches no session, no other UPS, and nothing else of the server.
+/// What a driver does touches no session, no other UPS, no tracked order but pending ones of its own UPS, and nothing else of
+/// the server.
 pub fn a_driver_touches_no_other()
     ensures { ADriverTouchesNoOther }
 {}

@@ -5,7 +5,7 @@ ghost use Rattle.std.specs.Io.BufRead.{Rests};
 ghost use Rattle.std.specs.Borrow.{sem};
 ghost use Rattle.nutcore.specs.Server.{session, ups_at, new_server};
 ghost use Rattle.nutusers.specs.UpsList.{place_of, id_at};
-ghost use Rattle.nutcore.specs.Step.{Step, offered};
+ghost use Rattle.nutcore.specs.Step.{Step, offered, id_outcome};
 ghost use Rattle.nutcore.specs.Run.{Run};
 ghost use Rattle.nutcore.specs.Cost.{begun, no_cost, last_cost, Costs};
 ghost use Rattle.nutcore.specs.Deeds.{IsNoted};
@@ -33,6 +33,8 @@ use crate::session::Session;
 use crate::ups::Ups;
 use nutdriver::laws::{each_line_keeps_the_tree_sound, lawful_lines_keep_trees_sound};
 use nutlisting::{Outbox, Renders, SESSION_LIMIT};
+use nuttracking::laws::an_id_stands_for_one_order;
+use nuttracking::{IdFault, Tracking};
 use nutusers::{Descriptions, UpsId, UpsList, Users};
 use nutwords::Address;
 use std::alloc::{AllocError, Global};
@@ -50,6 +52,7 @@ pub struct Server {
     upses: Vec<Ups>,
     sessions: Vec<Session>,
     last_id: u64,
+    tracking: Tracking,
     scratch: Scratch,
     /// How many bytes the last event placed.
     placed: usize,
@@ -65,17 +68,17 @@ impl Model for Server {
 
     ghost Value = { RunningServer };
 
-    ghost view = { λ s. record { state = record { moment = s.moment; max_age = s.max_age; list = s.list; users = s.users; descriptions = s.descriptions; upses = s.upses.items; sessions = s.sessions.items; next_id = s.last_id + 1 }; cost = record { rendered = s.scratch.renders; placed = s.placed }; deeds = s.deeds } };
+    ghost view = { λ s. record { state = record { moment = s.moment; max_age = s.max_age; list = s.list; users = s.users; descriptions = s.descriptions; upses = s.upses.items; sessions = s.sessions.items; next_id = s.last_id + 1; tracking = s.tracking }; cost = record { rendered = s.scratch.renders; placed = s.placed }; deeds = s.deeds } };
 
     ghost invariant = { λ s. record {
-      sound : IsSound (record { moment = s.moment; max_age = s.max_age; list = s.list; users = s.users; descriptions = s.descriptions; upses = s.upses.items; sessions = s.sessions.items; next_id = s.last_id + 1 });
+      sound : IsSound (record { moment = s.moment; max_age = s.max_age; list = s.list; users = s.users; descriptions = s.descriptions; upses = s.upses.items; sessions = s.sessions.items; next_id = s.last_id + 1; tracking = s.tracking });
       room : SESSION_LIMIT ≤ vec_capacity s.sessions;
     } };
 }
 
 impl Server {
     /// A server over these UPSs: no driver is connected, no session is open, and the moment is 0.
-    /// It makes the places of the UPSs and of 64 sessions.
+    /// It makes the places of the UPSs, of 64 sessions, and of the ids and orders that are tracked.
     pub fn new(
         alloc: Global,
         list: UpsList,
@@ -87,11 +90,13 @@ impl Server {
     {
         lawful_lines_keep_trees_sound();
         each_line_keeps_the_tree_sound();
+        an_id_stands_for_one_order();
         let mut upses = Vec::with_capacity(alloc, list.len())?;
         for _ in 0..list.len() {
             upses.push(Ups::new(alloc)).unwrap();
         }
         let sessions = Vec::with_capacity(alloc, SESSION_LIMIT)?;
+        let tracking = Tracking::new(alloc)?;
         let scratch = Scratch::new(alloc)?;
         let deeds = Deeds::new(alloc)?;
         Ok(Server {
@@ -104,6 +109,7 @@ impl Server {
             upses,
             sessions,
             last_id: 0,
+            tracking,
             scratch,
             placed: 0,
             deeds,
@@ -443,6 +449,23 @@ impl Server {
         Ok(())
     }
 
+    /// An id is handed in, which a tracked order may use: the first one first. Takes no memory.
+    ///
+    /// # Errors
+    ///
+    /// `KnownId`, where it is at hand or a tracked order has it, and then `TooManyIds`, where 64 are at hand. Both change
+    /// nothing but the cost.
+    pub fn id(&mut self, id: u128) -> Result<(), Fault>
+        ensures served { Serves self.old.state (Event.Id id) (done result) self.new.state }
+        ensures cost { Costs self.old (Event.Id id) self.new }
+        ensures deeds { self.new.deeds ≡ [] }
+        ensures no_memory { (k : ℕ) → result ≢ Err (Fault.Memory k) }
+    {
+        self.forget_cost();
+        an_id_stands_for_one_order();
+        self.tracking.take_in(id).map_err(fault_of_id)
+    }
+
     /// One event.
     fn step(&mut self, event: &Event) -> Outcome
         ensures step { Step self.old.state event.now result self.new.state }
@@ -461,6 +484,7 @@ impl Server {
             },
             Event::Took(c, n) => done(self.took(*c, *n)),
             Event::Close(c) => done(self.close(*c)),
+            Event::Id(id) => done(self.id(*id)),
         }
     }
 
@@ -513,6 +537,16 @@ impl Server {
             outcomes.push(outcome).unwrap();
         }
         Ok(outcomes)
+    }
+}
+
+/// Why an id is refused.
+fn fault_of_id(fault: IdFault) -> Fault
+    ensures { Outcome.Refused result ≡ id_outcome (Some fault) }
+{
+    match fault {
+        IdFault::Known => Fault::KnownId,
+        IdFault::TooMany => Fault::TooManyIds,
     }
 }
 

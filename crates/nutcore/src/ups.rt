@@ -1,6 +1,6 @@
 //! A UPS as the server keeps it: its driver's connection, and what the driver reported.
 ghost use Rattle.std.specs.Prelude.{◌≡◌, ◌≤◌, length};
-ghost use Rattle.nutcore.specs.Ups.{new_ups, after_connecting, after_loss, after_tick, with_fsd, free_room, with_order, after_outcome};
+ghost use Rattle.nutcore.specs.Ups.{new_ups, after_connecting, after_loss, after_tick, with_fsd, free_room, with_order, with_faulty_line};
 ghost use Rattle.nutanswer.specs.View.{ups_seen};
 ghost use Rattle.nutcore.specs.Reply.{seen_ups};
 ghost use Rattle.nutcore.specs.Promises.{IsTaken, IsCut, DoesLine, IsFront, front_or};
@@ -178,7 +178,7 @@ impl Ups {
     }
 
     /// Does what a whole line of its driver says: so many bytes at the front of the piece, or else what it holds. It holds
-    /// nothing any more. A refused line is counted.
+    /// nothing any more. The answer tells whether the line is refused, or what it reports of an order.
     ///
     /// # Errors
     ///
@@ -189,7 +189,7 @@ impl Ups {
         moment: u64,
         piece: &[u8],
         length: Option<usize>,
-    ) -> Result<(), AllocError>
+    ) -> Result<LineOutcome, AllocError>
         requires front { IsFront length piece.now }
         ensures { DoesLine moment (front_or length piece.now self.old.unfinished)
             self.old result self.new }
@@ -197,18 +197,14 @@ impl Ups {
         let line = front_or(piece, length, self.cut.held());
         let outcome = self.report.execute(moment, line, &mut Meter::new())?;
         self.cut.clear();
-        self.count(outcome);
-        Ok(())
+        Ok(outcome)
     }
 
-    /// A line was done so: a refused one is counted. The count stops at its greatest number.
-    fn count(&mut self, outcome: LineOutcome)
-        ensures { self.new ≡ after_outcome self.old (self.old.report, outcome) }
+    /// A line of its driver is refused. The count stops at its greatest number.
+    pub(crate) fn count_refused(&mut self)
+        ensures { self.new ≡ with_faulty_line self.old }
     {
-        match outcome {
-            LineOutcome::Accepted => {}
-            LineOutcome::Refused(_) => self.faulty = self.faulty.saturating_add(1),
-        }
+        self.faulty = self.faulty.saturating_add(1);
     }
 }
 

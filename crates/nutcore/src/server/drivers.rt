@@ -3,15 +3,22 @@ ghost use Rattle.std.specs.Prelude.{◌≡◌, ◌<◌, ◌≤◌, ◌++◌, len
 ghost use Rattle.std.specs.Option.{option_map};
 ghost use Rattle.nutcore.specs.Server.{ups_at};
 ghost use Rattle.nutcore.specs.Headline.{IsLawful};
-ghost use Rattle.nutcore.specs.Ups.{after_tick};
-ghost use Rattle.nutcore.specs.Promises.{OfUps, MayChangeUps, KeepsUpsSound, ChangesUps, IsNotConnected, ExecutesDriverLine, ReadsDriverLine, IsStopped, IsTold, IsFront, front_or};
+ghost use Rattle.nutcore.specs.Ups.{after_tick, is_refused};
+ghost use Rattle.nutcore.specs.Server.{with_tracking};
+ghost use Rattle.nutcore.specs.Reports.{with_end, is_unawaited};
+ghost use Rattle.nutdriver.specs.Report.{HasLawfulNumber};
+ghost use Rattle.nutcore.specs.Promises.{OfUps, MayChangeUps, KeepsUpsSound, ChangesUps, IsNotConnected, ExecutesDriverLine, ReadsDriverLine, IsStopped, IsTold, IsFront, front_or, end_told};
 ghost use Rattle.nutcore.specs.Calls.{is_connected};
 ghost use Rattle.nutcore.specs.declared.event.Fault.TheVariants.{NoSuchUps};
 
 use super::Server;
 use crate::event::Fault;
 use crate::ups::Ups;
-use nutdriver::laws::{each_line_keeps_the_tree_sound, lawful_lines_keep_trees_sound};
+use nutdriver::LineOutcome;
+use nutdriver::laws::{
+    each_line_keeps_the_tree_sound, lawful_lines_keep_trees_sound, told_numbers_are_lawful,
+};
+use nuttracking::laws::an_id_stands_for_one_order;
 use nutusers::UpsId;
 use nutwords::Found;
 use std::alloc::AllocError;
@@ -83,8 +90,34 @@ impl Server {
     {
         lawful_lines_keep_trees_sound();
         each_line_keeps_the_tree_sound();
+        told_numbers_are_lawful();
         let moment = self.moment;
-        self.with_ups(u, |ups| ups.execute(moment, piece, length))
+        let outcome = self.with_ups(u, |ups| ups.execute(moment, piece, length))?;
+        if self.is_refused(u, outcome) {
+            self.with_ups(u, |ups| ups.count_refused());
+        }
+        Ok(())
+    }
+
+    /// Whether a line of the driver is refused that came to this. So is a report on an order that isn't awaited; one that
+    /// is awaited is done.
+    fn is_refused(&mut self, u: UpsId, outcome: LineOutcome) -> bool
+        requires { HasLawfulNumber outcome }
+        ensures answer { result
+            ≡ is_refused (is_unawaited u.place (end_told outcome) self.old.state.tracking) outcome }
+        ensures after { self.new.state ≡ with_tracking
+            (with_end u.place (end_told outcome) self.old.state.tracking) self.old.state }
+        ensures cost { self.new.cost ≡ self.old.cost }
+        ensures deeds { self.new.deeds ≡ self.old.deeds }
+    {
+        an_id_stands_for_one_order();
+        match outcome {
+            LineOutcome::Accepted => false,
+            LineOutcome::Tracked(id, number) => {
+                !self.tracking.settle(u.place as usize, id, number)
+            }
+            LineOutcome::Refused(_) => true,
+        }
     }
 
     /// Does what the next line of the driver says, before which so many were done, and tells how many bytes of the piece

@@ -1,0 +1,36 @@
+-- What drivers report of how orders ended.
+use Rattle.std.specs.Prelude.{ℕ, Bool, false, not, List, [], ◌∷◌, Option, Some, None, Result, Ok}
+use Rattle.nuttracking.specs.Tracking.{TrackingState, is_awaited, with_report}
+use Rattle.nutdriver.specs.declared.fault.DriverFault.{DriverFault}
+use Rattle.nutdriver.specs.declared.line.DriverLine.{DriverLine}
+use Rattle.nutdriver.specs.declared.line.DriverLine.TheVariants.{Tracking}
+use Rattle.nutdriver.specs.DriverLine.{read_driver_line}
+
+-- How an order ended: its id, and the number that its driver tells.
+pub record OrderEnd : Type 0 where
+  pub id : ℕ
+  pub number : ℕ
+
+-- What a driver's line says of an order, if it is such a line.
+abbrev pub end_read : Result DriverLine DriverFault → Option OrderEnd
+end_read (Ok (Tracking id number)) = Some (record { id = id; number = number })
+end_read _ = None
+
+abbrev pub end_in : List ℕ → Option OrderEnd
+end_in line = end_read (read_driver_line line)
+
+-- The orders once the driver of the UPS at this place has told that: the one that waits for it is
+-- done.
+abbrev pub with_end : ℕ → Option OrderEnd → TrackingState → TrackingState
+with_end place None t = t
+with_end place (Some told) t = with_report place told.id told.number t
+
+-- No order waits for it.
+abbrev pub is_unawaited : ℕ → Option OrderEnd → TrackingState → Bool
+is_unawaited place None t = false
+is_unawaited place (Some told) t = not (is_awaited place told.id t)
+
+-- The orders after these lines of the driver, one by one.
+abbrev pub after_ends : ℕ → List (List ℕ) → TrackingState → TrackingState
+after_ends place [] t = t
+after_ends place (line ∷ lines) t = after_ends place lines (with_end place (end_in line) t)
