@@ -30,6 +30,7 @@ pub fn push_driver_fault(answer: &mut String, fault: DriverFault) -> Result<(), 
 fn call_laws() {
     laws::limits();
     laws::read_lines_are_lawful();
+    laws::told_numbers_are_lawful();
     laws::lawful_lines_keep_trees_sound();
     laws::each_line_keeps_the_tree_sound();
 }

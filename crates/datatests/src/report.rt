@@ -3,6 +3,7 @@ use crate::driver::push_driver_fault;
 use crate::kept::Kept;
 use crate::row::{Row, natural, parted};
 use crate::shown::{push_number, push_yes};
+use crate::tracking::push_tracked;
 use crate::variable::push_mode;
 use nutdriver::{LineOutcome, Report};
 use nutmap::Meter;
@@ -37,12 +38,11 @@ fn push_outcome(answer: &mut String, report: &mut Report, text: &[u8]) -> Result
     }
     let mut meter = Meter::new();
     match report.execute(natural(moment), line, &mut meter)? {
-        LineOutcome::Accepted => answer.push_str("accepted, nodes made: ")?,
-        LineOutcome::Refused(fault) => {
-            push_driver_fault(answer, fault)?;
-            answer.push_str(", nodes made: ")?;
-        }
+        LineOutcome::Accepted => answer.push_str("accepted")?,
+        LineOutcome::Tracked(id, number) => push_tracked(answer, id, number)?,
+        LineOutcome::Refused(fault) => push_driver_fault(answer, fault)?,
     }
+    answer.push_str(", nodes made: ")?;
     push_number(answer, meter.made())?;
     answer.push_str(", ")
 }

@@ -55,6 +55,13 @@ fn push_id(answer: &mut String, id: Option<u128>) -> Result<(), AllocError> {
     }
 }
 
+/// What a driver reports of the order of an id.
+pub fn push_tracked(answer: &mut String, id: u128, number: u32) -> Result<(), AllocError> {
+    answer.push_str("tracked ")?;
+    push_word(answer, &id_text(id))?;
+    write!(answer, " {number}")
+}
+
 fn push_taken_in(answer: &mut String, taken: Result<(), IdFault>) -> Result<(), AllocError> {
     match taken {
         Ok(()) => answer.push_str("taken in"),

@@ -3,6 +3,7 @@ use crate::driver::push_driver_fault;
 use crate::kept::Kept;
 use crate::row::{Row, natural, parted};
 use crate::shown::push_yes;
+use crate::tracking::push_tracked;
 use crate::variable::push_mode;
 use nutdriver::{DriverFault, DriverLine, Effect, Tree};
 use nutmap::Meter;
@@ -40,6 +41,7 @@ fn done(tree: &mut Tree, line: &[u8]) -> Result<Effect, DriverFault> {
 /// What the line does, or why it is refused.
 fn push_effect(answer: &mut String, effect: Result<Effect, DriverFault>) -> Result<(), AllocError> {
     match effect {
+        Ok(Effect::Tracked(id, number)) => push_tracked(answer, id, number),
         Ok(effect) => answer.push_str(name_of(effect)),
         Err(fault) => push_driver_fault(answer, fault),
     }
@@ -53,6 +55,7 @@ fn name_of(effect: Effect) -> &'static str {
         Effect::DataOk => "data ok",
         Effect::DataStale => "data stale",
         Effect::Pong => "pong",
+        Effect::Tracked(_, _) => "tracked",
     }
 }
 

@@ -18,11 +18,11 @@ use Rattle.nutmap.specs.Entries.{HasRisingKeys, value_at}
 use Rattle.nutmap.specs.FiniteMap.{ChangesOneKey}
 use Rattle.nutdriver.specs.declared.limits.TheConstants.{VARIABLE_LIMIT, COMMAND_LIMIT, ENUM_LIMIT, RANGE_LIMIT}
 use Rattle.nutdriver.specs.declared.effect.Effect.{Effect}
-use Rattle.nutdriver.specs.declared.effect.Effect.TheVariants.{Nothing, Changed, DumpDone as DumpIsDone, DataOk as DataAreOk, DataStale as DataAreStale, Pong as PongCame}
+use Rattle.nutdriver.specs.declared.effect.Effect.TheVariants.{Nothing, Changed, DumpDone as DumpIsDone, DataOk as DataAreOk, DataStale as DataAreStale, Pong as PongCame, Tracked}
 use Rattle.nutdriver.specs.declared.fault.DriverFault.{DriverFault}
 use Rattle.nutdriver.specs.declared.fault.DriverFault.TheVariants.{NoSuchItem, Full}
 use Rattle.nutdriver.specs.declared.line.DriverLine.{DriverLine}
-use Rattle.nutdriver.specs.declared.line.DriverLine.TheVariants.{Blank, SetInfo, DelInfo, AddEnum, DelEnum, AddRange, DelRange, SetAux, SetFlags, AddCmd, DelCmd, DumpDone, DataOk, DataStale, Pong}
+use Rattle.nutdriver.specs.declared.line.DriverLine.TheVariants.{Blank, SetInfo, DelInfo, AddEnum, DelEnum, AddRange, DelRange, SetAux, SetFlags, AddCmd, DelCmd, DumpDone, DataOk, DataStale, Pong, Tracking}
 use Rattle.nutdriver.specs.declared.range.Range.{Range}
 use Rattle.nutdriver.specs.declared.report.Report.{Report}
 use Rattle.nutdriver.specs.Variable.{VariableState, new_variable, has_value, has_range, is_same_range, with_value, add_enum, delete_enum, add_range, delete_range, with_aux, with_flags}
@@ -229,6 +229,7 @@ module _ (laws : ChangeLaws) (tree : TreeState) (rise : HasRisingKeys byte_order
   values_move DataOk = refl
   values_move DataStale = refl
   values_move Pong = refl
+  values_move (Tracking id number) = refl
 
   ranges_move : (line : DriverLine) → StepMoves ranges (λ name. takes_range name line) (λ name. added_range name line) tree (driver_step tree line)
   ranges_move Blank = refl
@@ -256,6 +257,7 @@ module _ (laws : ChangeLaws) (tree : TreeState) (rise : HasRisingKeys byte_order
   ranges_move DataOk = refl
   ranges_move DataStale = refl
   ranges_move Pong = refl
+  ranges_move (Tracking id number) = refl
 
 -- ---- lines one after another
 module _ {X : Type 0} (items : VariableState → List X) (adds : List ℕ → DriverLine → Option X) (takes : List ℕ → DriverLine → X → Bool) (moves : (tree : TreeState) → HasRisingKeys byte_order tree.variables → (line : DriverLine) → StepMoves items (λ name. takes name line) (λ name. adds name line) tree (driver_step tree line)) (kept : EachLineKeepsTheTreeSound) where
@@ -275,6 +277,7 @@ module _ {X : Type 0} (items : VariableState → List X) (adds : List ℕ → Dr
   step_kept report line done h (Ok (tree, DataAreOk)) m = as_before tree done (subst (λ (t : TreeState). HasKept t done) (sym m) h)
   step_kept report line done h (Ok (tree, DataAreStale)) m = as_before tree done (subst (λ (t : TreeState). HasKept t done) (sym m) h)
   step_kept report line done h (Ok (tree, PongCame)) m = as_before tree done (subst (λ (t : TreeState). HasKept t done) (sym m) h)
+  step_kept report line done h (Ok (tree, Tracked id number)) m = as_before tree done (subst (λ (t : TreeState). HasKept t done) (sym m) h)
 
   reading_kept : (report : Report) (reading : Result DriverLine DriverFault) (done : List DriverLine) → HasRisingKeys byte_order report.tree.variables → HasKept report.tree done
       → HasKept (after_reading report reading).0.tree (done ++ change_of report.tree reading)

@@ -10,11 +10,11 @@ use Rattle.nutmap.specs.Entries.{HasRisingKeys, value_at}
 use Rattle.nutmap.specs.FiniteMap.{ChangesOneKey}
 use Rattle.nutdriver.specs.declared.limits.TheConstants.{VARIABLE_LIMIT, COMMAND_LIMIT, ENUM_LIMIT, RANGE_LIMIT}
 use Rattle.nutdriver.specs.declared.effect.Effect.{Effect}
-use Rattle.nutdriver.specs.declared.effect.Effect.TheVariants.{Nothing, Changed, DumpDone as DumpIsDone, DataOk as DataAreOk, DataStale as DataAreStale, Pong as PongCame}
+use Rattle.nutdriver.specs.declared.effect.Effect.TheVariants.{Nothing, Changed, DumpDone as DumpIsDone, DataOk as DataAreOk, DataStale as DataAreStale, Pong as PongCame, Tracked}
 use Rattle.nutdriver.specs.declared.fault.DriverFault.{DriverFault}
 use Rattle.nutdriver.specs.declared.fault.DriverFault.TheVariants.{NoSuchItem, Full}
 use Rattle.nutdriver.specs.declared.line.DriverLine.{DriverLine}
-use Rattle.nutdriver.specs.declared.line.DriverLine.TheVariants.{Blank, SetInfo, DelInfo, AddEnum, DelEnum, AddRange, DelRange, SetAux, SetFlags, AddCmd, DelCmd, DumpDone, DataOk, DataStale, Pong}
+use Rattle.nutdriver.specs.declared.line.DriverLine.TheVariants.{Blank, SetInfo, DelInfo, AddEnum, DelEnum, AddRange, DelRange, SetAux, SetFlags, AddCmd, DelCmd, DumpDone, DataOk, DataStale, Pong, Tracking}
 use Rattle.nutdriver.specs.declared.report.Report.{Report}
 use Rattle.nutdriver.specs.Variable.{VariableState, new_variable, has_value, has_range, with_value, add_enum, delete_enum, add_range, delete_range, with_aux, with_flags}
 use Rattle.nutdriver.specs.Tree.{TreeState, byte_order, variable_at, with_variable, without_variable, has_command, with_command, without_command}
@@ -154,6 +154,7 @@ module _ (laws : ChangeLaws) (tree : TreeState) (rise : HasRisingKeys byte_order
   line_gives DataOk = refl
   line_gives DataStale = refl
   line_gives Pong = refl
+  line_gives (Tracking id number) = refl
 
 -- lines one after another
 module _ (laws : ChangeLaws) (kept : EachLineKeepsTheTreeSound) where
@@ -173,6 +174,7 @@ module _ (laws : ChangeLaws) (kept : EachLineKeepsTheTreeSound) where
   step_has report line done h (Ok (tree, DataAreOk)) m = as_before tree done (subst (λ (t : TreeState). Has t done) (sym m) h)
   step_has report line done h (Ok (tree, DataAreStale)) m = as_before tree done (subst (λ (t : TreeState). Has t done) (sym m) h)
   step_has report line done h (Ok (tree, PongCame)) m = as_before tree done (subst (λ (t : TreeState). Has t done) (sym m) h)
+  step_has report line done h (Ok (tree, Tracked id number)) m = as_before tree done (subst (λ (t : TreeState). Has t done) (sym m) h)
 
   reading_has : (report : Report) (reading : Result DriverLine DriverFault) (done : List DriverLine) → HasRisingKeys byte_order report.tree.variables → Has report.tree done
       → Has (after_reading report reading).0.tree (done ++ change_of report.tree reading)

@@ -6,6 +6,7 @@ use Rattle.std.specs.Str.Parse.{digits_value}
 use Rattle.std.proofs.lemmas.Bool.Decides.{nat_tests}
 use Rattle.std.proofs.lemmas.Grind.{common_steps}
 use Rattle.std.proofs.lemmas.Int.{ints}
+use Rattle.nuttracking.specs.Id.{read_id}
 use Rattle.nutwords.specs.Bytes.{is_lawful, is_name_byte}
 use Rattle.nutwords.specs.Reading.{read_text, read_name, read_value, is_name, is_value}
 use Rattle.nutwords.specs.Natural.{is_natural, up_to, read_natural}
@@ -17,11 +18,11 @@ use Rattle.nutwords.specs.declared.faults.BadName.TheVariants.{Empty, TooLong, A
 use Rattle.nutdriver.specs.declared.limits.TheConstants.{NUMBER_LIMIT}
 use Rattle.nutdriver.specs.declared.fault.DriverFault.{DriverFault}
 use Rattle.nutdriver.specs.declared.line.DriverLine.{DriverLine}
-use Rattle.nutdriver.specs.declared.line.DriverLine.TheVariants.{SetInfo, DelInfo, AddEnum, DelEnum, AddRange, DelRange, SetAux, SetFlags, AddCmd, DelCmd, DumpDone, DataOk, DataStale, Pong}
+use Rattle.nutdriver.specs.declared.line.DriverLine.TheVariants.{SetInfo, DelInfo, AddEnum, DelEnum, AddRange, DelRange, SetAux, SetFlags, AddCmd, DelCmd, DumpDone, DataOk, DataStale, Pong, Tracking}
 use Rattle.nutdriver.specs.Number.{read_number, below_zero, not_below_zero}
 use Rattle.nutdriver.specs.Flags.{flags_of}
 use Rattle.nutwords.specs.Keyword.{is_word}
-use Rattle.nutdriver.specs.Arguments.{beside, lawful_name, lawful_value, lawful_number, lawful_range, name_alone, name_and_value, name_and_range, name_and_aux, name_and_flags}
+use Rattle.nutdriver.specs.Arguments.{beside, lawful_name, lawful_value, lawful_id, lawful_number, lawful_range, name_alone, name_and_value, name_and_range, name_and_aux, name_and_flags, id_and_number}
 use Rattle.nutdriver.specs.DriverLine.{line_of, alone, driver_line_of, driver_line_from, read_driver_line}
 use Rattle.nutdriver.specs.Sound.{IsSoundRange, IsLawfulLine}
 
@@ -105,10 +106,10 @@ range_ok (Some least) None low high = tt
 range_ok (Some least) (Some greatest) low high = range_cases (int_le least greatest) least greatest refl low high
 
 -- ---- what stands after the first word
-beside_ok : {X : Type 0} (Q : X → Type 0) (name : Result (List ℕ) DriverFault) (x : Result X DriverFault) → IfOk name IsName → IfOk x Q → IfOk (beside name x) (λ a. IsName a.0 × Q a.1)
-beside_ok Q (Err fault) x h k = tt
-beside_ok Q (Ok name) (Err fault) h k = tt
-beside_ok Q (Ok name) (Ok x) h k = (h, k)
+beside_ok : {A X : Type 0} (P : A → Type 0) (Q : X → Type 0) (first : Result A DriverFault) (x : Result X DriverFault) → IfOk first P → IfOk x Q → IfOk (beside first x) (λ a. P a.0 × Q a.1)
+beside_ok P Q (Err fault) x h k = tt
+beside_ok P Q (Ok first) (Err fault) h k = tt
+beside_ok P Q (Ok first) (Ok x) h k = (h, k)
 
 name_alone_ok : (words : List (List ℕ)) → IfOk (name_alone words) IsName
 name_alone_ok [] = tt
@@ -118,20 +119,20 @@ name_alone_ok (name ∷ other ∷ words) = tt
 name_and_value_ok : (words : List (List ℕ)) → IfOk (name_and_value words) (λ a. IsName a.0 × IsValue a.1)
 name_and_value_ok [] = tt
 name_and_value_ok (name ∷ []) = tt
-name_and_value_ok (name ∷ value ∷ []) = beside_ok IsValue (lawful_name (read_name name)) (lawful_value (read_value value)) (name_ok name) (value_ok value)
+name_and_value_ok (name ∷ value ∷ []) = beside_ok IsName IsValue (lawful_name (read_name name)) (lawful_value (read_value value)) (name_ok name) (value_ok value)
 name_and_value_ok (name ∷ value ∷ other ∷ words) = tt
 
 name_and_range_ok : (words : List (List ℕ)) → IfOk (name_and_range words) (λ a. IsName a.0 × IsSoundRange a.1)
 name_and_range_ok [] = tt
 name_and_range_ok (name ∷ []) = tt
 name_and_range_ok (name ∷ least ∷ []) = tt
-name_and_range_ok (name ∷ least ∷ greatest ∷ []) = beside_ok (λ range. IsSoundRange range) (lawful_name (read_name name)) (lawful_range (read_number least) (read_number greatest)) (name_ok name) (range_ok (read_number least) (read_number greatest) (number_ok least) (number_ok greatest))
+name_and_range_ok (name ∷ least ∷ greatest ∷ []) = beside_ok IsName (λ range. IsSoundRange range) (lawful_name (read_name name)) (lawful_range (read_number least) (read_number greatest)) (name_ok name) (range_ok (read_number least) (read_number greatest) (number_ok least) (number_ok greatest))
 name_and_range_ok (name ∷ least ∷ greatest ∷ other ∷ words) = tt
 
 name_and_aux_ok : (words : List (List ℕ)) → IfOk (name_and_aux words) (λ a. IsName a.0 × (a.1 ≤ NUMBER_LIMIT))
 name_and_aux_ok [] = tt
 name_and_aux_ok (name ∷ []) = tt
-name_and_aux_ok (name ∷ aux ∷ []) = beside_ok (λ n. n ≤ NUMBER_LIMIT) (lawful_name (read_name name)) (lawful_number (read_natural NUMBER_LIMIT aux)) (name_ok name) (aux_ok (read_natural NUMBER_LIMIT aux) (natural_ok aux))
+name_and_aux_ok (name ∷ aux ∷ []) = beside_ok IsName (λ n. n ≤ NUMBER_LIMIT) (lawful_name (read_name name)) (lawful_number (read_natural NUMBER_LIMIT aux)) (name_ok name) (aux_ok (read_natural NUMBER_LIMIT aux) (natural_ok aux))
 name_and_aux_ok (name ∷ aux ∷ other ∷ words) = tt
 
 any_ok : {X : Type 0} (r : Result X DriverFault) → IfOk r (λ x. ⊤)
@@ -140,7 +141,13 @@ any_ok (Err fault) = tt
 
 name_and_flags_ok : (words : List (List ℕ)) → IfOk (name_and_flags words) (λ a. IsName a.0 × ⊤)
 name_and_flags_ok [] = tt
-name_and_flags_ok (name ∷ words) = beside_ok (λ flags. ⊤) (lawful_name (read_name name)) (flags_of words) (name_ok name) (any_ok (flags_of words))
+name_and_flags_ok (name ∷ words) = beside_ok IsName (λ flags. ⊤) (lawful_name (read_name name)) (flags_of words) (name_ok name) (any_ok (flags_of words))
+
+id_and_number_ok : (words : List (List ℕ)) → IfOk (id_and_number words) (λ a. ⊤ × (a.1 ≤ NUMBER_LIMIT))
+id_and_number_ok [] = tt
+id_and_number_ok (id ∷ []) = tt
+id_and_number_ok (id ∷ number ∷ []) = beside_ok (λ id. ⊤) (λ n. n ≤ NUMBER_LIMIT) (lawful_id (read_id id)) (lawful_number (read_natural NUMBER_LIMIT number)) (any_ok (lawful_id (read_id id))) (aux_ok (read_natural NUMBER_LIMIT number) (natural_ok number))
+id_and_number_ok (id ∷ number ∷ other ∷ words) = tt
 
 -- ---- the line
 abbrev Lawful : Result DriverLine DriverFault → Type 0
@@ -174,7 +181,8 @@ lawful_of (first ∷ words) =
     (pick (is_word first (codes "DUMPDONE")) _ _ (alone_ok DumpDone words tt)
     (pick (is_word first (codes "DATAOK")) _ _ (alone_ok DataOk words tt)
     (pick (is_word first (codes "DATASTALE")) _ _ (alone_ok DataStale words tt)
-    (pick (is_word first (codes "PONG")) _ _ (alone_ok Pong words tt) tt)))))))))))))
+    (pick (is_word first (codes "PONG")) _ _ (alone_ok Pong words tt)
+    (pick (is_word first (codes "TRACKING")) _ _ (line_ok _ (λ a. Tracking a.0 a.1) (id_and_number words) (λ a h. h.1) (id_and_number_ok words)) tt))))))))))))))
 
 lawful_from : (r : Result (List (List ℕ)) BadLine) → Lawful (driver_line_from r)
 lawful_from (Err bad) = tt

@@ -3,5 +3,6 @@ pub mod TreeLemmas
 pub mod LawfulLines
 pub mod SoundTrees
 pub mod LineLemmas
+pub mod ToldNumbers
 pub mod AddingOrder
 mod LastLine

@@ -2,7 +2,7 @@
 use Rattle.std.proofs.Common.{ℕ, List}
 use Rattle.std.specs.Prelude.{Result, Ok, Err, IfOk}
 use Rattle.nutdriver.specs.declared.effect.Effect.{Effect}
-use Rattle.nutdriver.specs.declared.effect.Effect.TheVariants.{Nothing, Changed, DumpDone, DataOk, DataStale, Pong}
+use Rattle.nutdriver.specs.declared.effect.Effect.TheVariants.{Nothing, Changed, DumpDone, DataOk, DataStale, Pong, Tracked}
 use Rattle.nutdriver.specs.declared.fault.DriverFault.{DriverFault}
 use Rattle.nutdriver.specs.declared.line.DriverLine.{DriverLine}
 use Rattle.nutdriver.specs.declared.report.Report.{Report}
@@ -19,6 +19,7 @@ effect_sound report DumpDone tree s = s
 effect_sound report DataOk tree s = s
 effect_sound report DataStale tree s = s
 effect_sound report Pong tree s = s
+effect_sound report (Tracked id number) tree s = s
 
 step_sound : (report : Report) (step : Result (TreeState × Effect) DriverFault) → IsSoundTree report.tree → IfOk step (λ after. IsSoundTree after.0) → IsSoundTree (after_step report step).0.tree
 step_sound report (Ok (tree, effect)) s h = effect_sound report effect tree h

@@ -27,7 +27,7 @@ use Rattle.nutdriver.specs.declared.fault.DriverFault.TheVariants.{NoSuchItem, F
 use Rattle.nutdriver.specs.declared.effect.Effect.{Effect}
 use Rattle.nutdriver.specs.declared.effect.Effect.TheVariants.{Nothing, Changed}
 use Rattle.nutdriver.specs.declared.line.DriverLine.{DriverLine}
-use Rattle.nutdriver.specs.declared.line.DriverLine.TheVariants.{Blank, SetInfo, DelInfo, AddEnum, DelEnum, AddRange, DelRange, SetAux, SetFlags, AddCmd, DelCmd, DumpDone, DataOk, DataStale, Pong}
+use Rattle.nutdriver.specs.declared.line.DriverLine.TheVariants.{Blank, SetInfo, DelInfo, AddEnum, DelEnum, AddRange, DelRange, SetAux, SetFlags, AddCmd, DelCmd, DumpDone, DataOk, DataStale, Pong, Tracking}
 use Rattle.nutdriver.specs.declared.flags.Flags.{Flags}
 use Rattle.nutdriver.specs.declared.range.Range.{Range}
 use Rattle.nutdriver.specs.Variable.{VariableState, new_variable, has_value, has_range, is_same_range, with_value, add_enum, delete_enum, add_range, delete_range, with_aux, with_flags}
@@ -278,6 +278,7 @@ module _ (laws : MapLaws VariableState) (units_laws : MapLaws ⊤) (tree : TreeS
   step_sound DataOk lawful = s
   step_sound DataStale lawful = s
   step_sound Pong lawful = s
+  step_sound (Tracking id number) lawful = s
 
 none_rise : IsStrictlySortedBy byte_order []
 unfolding IsStrictlySortedBy

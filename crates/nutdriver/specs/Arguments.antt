@@ -1,7 +1,8 @@
--- What stands after the first word of a driver's line. Their number and the name are looked at
--- before what follows the name.
+-- What stands after the first word of a driver's line. Their number and the name, or the id, are
+-- looked at before what follows it.
 use Rattle.std.specs.Prelude.{ℕ, ℤ, List, [], ◌∷◌, Option, Some, None, Result, Ok, Err, int_le}
 use Rattle.std.specs.Prelude.{if◌then◌else◌}
+use Rattle.nuttracking.specs.Id.{read_id}
 use Rattle.nutwords.specs.Natural.{read_natural}
 use Rattle.nutwords.specs.Reading.{read_name, read_value}
 use Rattle.nutwords.specs.declared.faults.BadName.{BadName}
@@ -13,12 +14,13 @@ use Rattle.nutdriver.specs.declared.limits.TheConstants.{NUMBER_LIMIT}
 use Rattle.nutdriver.specs.Number.{read_number}
 use Rattle.nutdriver.specs.Flags.{flags_of}
 
--- A name beside what follows it, each of which may be refused: the name's refusal comes first.
-abbrev pub beside : {X : Type 0} → Result (List ℕ) DriverFault → Result X DriverFault
-    → Result (List ℕ × X) DriverFault
+-- A name, or an id, beside what follows it, each of which may be refused: the first one's refusal
+-- comes first.
+abbrev pub beside : {A X : Type 0} → Result A DriverFault → Result X DriverFault
+    → Result (A × X) DriverFault
 beside (Err fault) x = Err fault
-beside (Ok name) (Err fault) = Err fault
-beside (Ok name) (Ok x) = Ok (name, x)
+beside (Ok first) (Err fault) = Err fault
+beside (Ok first) (Ok x) = Ok (first, x)
 
 abbrev pub lawful_name : Result (List ℕ) BadName → Result (List ℕ) DriverFault
 lawful_name (Err bad) = Err Malformed
@@ -28,6 +30,10 @@ lawful_name (Ok name) = Ok name
 abbrev pub lawful_value : Result (List ℕ) BadName → Result (List ℕ) DriverFault
 lawful_value (Err bad) = Err TooLong
 lawful_value (Ok value) = Ok value
+
+abbrev pub lawful_id : Option ℕ → Result ℕ DriverFault
+lawful_id None = Err Malformed
+lawful_id (Some id) = Ok id
 
 abbrev pub lawful_number : Option ℕ → Result ℕ DriverFault
 lawful_number None = Err BadNumber
@@ -62,6 +68,12 @@ abbrev pub name_and_aux : List (List ℕ) → Result (List ℕ × ℕ) DriverFau
 name_and_aux (name ∷ aux ∷ []) =
     beside (lawful_name (read_name name)) (lawful_number (read_natural NUMBER_LIMIT aux))
 name_and_aux _ = Err Malformed
+
+-- `id number`, of which the number isn't negative
+abbrev pub id_and_number : List (List ℕ) → Result (ℕ × ℕ) DriverFault
+id_and_number (id ∷ number ∷ []) =
+    beside (lawful_id (read_id id)) (lawful_number (read_natural NUMBER_LIMIT number))
+id_and_number _ = Err Malformed
 
 -- `name flag ..`
 abbrev pub name_and_flags : List (List ℕ) → Result (List ℕ × Flags) DriverFault

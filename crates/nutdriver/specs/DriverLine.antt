@@ -8,11 +8,12 @@ use Rattle.nutdriver.specs.declared.line.DriverLine.TheVariants.{Blank, SetInfo,
 use Rattle.nutdriver.specs.declared.line.DriverLine.TheVariants.{DelEnum, AddRange, DelRange}
 use Rattle.nutdriver.specs.declared.line.DriverLine.TheVariants.{SetAux, SetFlags, AddCmd, DelCmd}
 use Rattle.nutdriver.specs.declared.line.DriverLine.TheVariants.{DumpDone, DataOk, DataStale, Pong}
+use Rattle.nutdriver.specs.declared.line.DriverLine.TheVariants.{Tracking}
 use Rattle.nutdriver.specs.declared.fault.DriverFault.{DriverFault}
 use Rattle.nutdriver.specs.declared.fault.DriverFault.TheVariants.{Malformed, Unknown}
 use Rattle.nutwords.specs.Keyword.{is_word}
 use Rattle.nutdriver.specs.Arguments.{name_alone, name_and_value, name_and_range, name_and_aux}
-use Rattle.nutdriver.specs.Arguments.{name_and_flags}
+use Rattle.nutdriver.specs.Arguments.{name_and_flags, id_and_number}
 
 -- The line of these arguments, or their refusal.
 abbrev pub line_of : {X : Type 0} → (X → DriverLine) → Result X DriverFault
@@ -25,14 +26,21 @@ abbrev pub alone : DriverLine → List (List ℕ) → Result DriverLine DriverFa
 alone line [] = Ok line
 alone line (word ∷ words) = Err Malformed
 
--- The lines of the driver's state: one case a first word, here and below.
+-- The report on an order: one case a first word, here and below.
+abbrev pub order_line : List ℕ → List (List ℕ) → Result DriverLine DriverFault
+order_line first words =
+    if is_word first (codes "TRACKING")
+    then line_of (λ a. Tracking a.0 a.1) (id_and_number words)
+    else Err Unknown
+
+-- The lines of the driver's state, and the one above.
 abbrev pub state_line : List ℕ → List (List ℕ) → Result DriverLine DriverFault
 state_line first words =
     if is_word first (codes "DUMPDONE") then alone DumpDone words
     else if is_word first (codes "DATAOK") then alone DataOk words
     else if is_word first (codes "DATASTALE") then alone DataStale words
     else if is_word first (codes "PONG") then alone Pong words
-    else Err Unknown
+    else order_line first words
 
 -- Those of a command, and the ones above.
 abbrev pub command_line : List ℕ → List (List ℕ) → Result DriverLine DriverFault

@@ -8,6 +8,7 @@ use Rattle.nutdriver.specs.declared.line.DriverLine.TheVariants.{Blank, SetInfo,
 use Rattle.nutdriver.specs.declared.line.DriverLine.TheVariants.{DelEnum, AddRange, DelRange}
 use Rattle.nutdriver.specs.declared.line.DriverLine.TheVariants.{SetAux, SetFlags, AddCmd, DelCmd}
 use Rattle.nutdriver.specs.declared.line.DriverLine.TheVariants.{DumpDone, DataOk, DataStale, Pong}
+use Rattle.nutdriver.specs.declared.line.DriverLine.TheVariants.{Tracking}
 use Rattle.nutdriver.specs.declared.fault.DriverFault.{DriverFault}
 use Rattle.nutdriver.specs.declared.fault.DriverFault.TheVariants.{NoSuchVar, NoSuchItem, Full}
 use Rattle.nutdriver.specs.declared.effect.Effect.{Effect}
@@ -16,6 +17,7 @@ use Rattle.nutdriver.specs.declared.effect.Effect.TheVariants.{DumpDone as DumpI
 use Rattle.nutdriver.specs.declared.effect.Effect.TheVariants.{DataOk as DataAreOk}
 use Rattle.nutdriver.specs.declared.effect.Effect.TheVariants.{DataStale as DataAreStale}
 use Rattle.nutdriver.specs.declared.effect.Effect.TheVariants.{Pong as PongCame}
+use Rattle.nutdriver.specs.declared.effect.Effect.TheVariants.{Tracked}
 use Rattle.nutdriver.specs.Variable.{VariableState, new_variable, with_value, add_enum, delete_enum}
 use Rattle.nutdriver.specs.Variable.{add_range, delete_range, with_aux, with_flags}
 use Rattle.nutdriver.specs.Tree.{TreeState, variable_at, with_variable, without_variable}
@@ -79,6 +81,7 @@ driver_step tree DumpDone = Ok (tree, DumpIsDone)
 driver_step tree DataOk = Ok (tree, DataAreOk)
 driver_step tree DataStale = Ok (tree, DataAreStale)
 driver_step tree Pong = Ok (tree, PongCame)
+driver_step tree (Tracking id number) = Ok (tree, Tracked id number)
 
 -- The line would change the tree.
 abbrev pub is_change : Result (TreeState × Effect) DriverFault → Bool

@@ -1,13 +1,16 @@
 -- What a driver has reported, and what a whole line of it does to that.
-use Rattle.std.specs.Prelude.{ℕ, Bool, true, false, List, [], ◌∷◌, Result, Ok, Err}
+use Rattle.std.specs.Prelude.{◌≤◌, ⊤, ℕ, Bool, true, false, List, [], ◌∷◌, Result, Ok}
+use Rattle.std.specs.Prelude.{Err}
+use Rattle.nuttracking.specs.declared.limits.TheConstants.{DONE_LIMIT}
 use Rattle.nutdriver.specs.declared.line.DriverLine.{DriverLine}
 use Rattle.nutdriver.specs.declared.fault.DriverFault.{DriverFault}
 use Rattle.nutdriver.specs.declared.effect.Effect.{Effect}
 use Rattle.nutdriver.specs.declared.effect.Effect.TheVariants.{Nothing, Changed, DumpDone, DataOk}
 use Rattle.nutdriver.specs.declared.effect.Effect.TheVariants.{DataStale, Pong}
+use Rattle.nutdriver.specs.declared.effect.Effect.TheVariants.{Tracked as OrderTracked}
 use Rattle.nutdriver.specs.declared.report.Report.{Report}
 use Rattle.nutdriver.specs.declared.report.LineOutcome.{LineOutcome}
-use Rattle.nutdriver.specs.declared.report.LineOutcome.TheVariants.{Accepted, Refused}
+use Rattle.nutdriver.specs.declared.report.LineOutcome.TheVariants.{Accepted, Tracked, Refused}
 use Rattle.nutdriver.specs.Tree.{TreeState, empty_tree}
 use Rattle.nutdriver.specs.DriverLine.{read_driver_line}
 use Rattle.nutdriver.specs.DriverStep.{driver_step, changes_tree, entries_before}
@@ -29,10 +32,16 @@ after_effect DumpDone report = record report { dumped = true }
 after_effect DataOk report = record report { ok = true }
 after_effect DataStale report = record report { ok = false }
 after_effect Pong report = report
+after_effect (OrderTracked id number) report = report
+
+-- What is told of a line that was done.
+abbrev pub told_of : Effect → LineOutcome
+told_of (OrderTracked id number) = Tracked id number
+told_of _ = Accepted
 
 abbrev pub after_step : Report → Result (TreeState × Effect) DriverFault → Report × LineOutcome
 after_step report (Ok (tree, effect)) =
-    (after_effect effect (record report { tree = tree }), Accepted)
+    (after_effect effect (record report { tree = tree }), told_of effect)
 after_step report (Err fault) = (report, Refused fault)
 
 abbrev pub after_reading : Report → Result DriverLine DriverFault → Report × LineOutcome
@@ -43,6 +52,16 @@ after_reading report (Err fault) = (report, Refused fault)
 abbrev pub after_line : ℕ → Report → List ℕ → Report × LineOutcome
 after_line moment report line =
     after_reading (record report { heard = moment }) (read_driver_line line)
+
+-- The number of a report on an order is one that an order may be done with.
+abbrev pub HasLawfulNumber : LineOutcome → Type 0
+HasLawfulNumber (Tracked id number) = number ≤ DONE_LIMIT
+HasLawfulNumber _ = ⊤
+
+abbrev pub ToldNumbersAreLawful : Type 0
+ToldNumbersAreLawful =
+    (moment : ℕ) (report : Report) (line : List ℕ)
+    → HasLawfulNumber (after_line moment report line).1
 
 -- A whole line of a driver, and the moment at which it is heard.
 pub record Heard : Type 0 where

@@ -10,7 +10,7 @@ use Rattle.nutdriver.specs.declared.limits.TheConstants.{RANGE_LIMIT, NUMBER_LIM
 use Rattle.nutdriver.specs.declared.line.DriverLine.{DriverLine}
 use Rattle.nutdriver.specs.declared.line.DriverLine.TheVariants.{SetInfo, DelInfo, AddEnum, DelEnum}
 use Rattle.nutdriver.specs.declared.line.DriverLine.TheVariants.{AddRange, DelRange, SetAux}
-use Rattle.nutdriver.specs.declared.line.DriverLine.TheVariants.{SetFlags, AddCmd, DelCmd}
+use Rattle.nutdriver.specs.declared.line.DriverLine.TheVariants.{SetFlags, AddCmd, DelCmd, Tracking}
 use Rattle.nutdriver.specs.declared.range.Range.{Range}
 use Rattle.nutdriver.specs.declared.report.Report.{Report}
 use Rattle.nutdriver.specs.Variable.{VariableState}
@@ -62,6 +62,7 @@ IsLawfulLine (SetAux name aux) = IsTrue (is_name name) × (aux ≤ NUMBER_LIMIT)
 IsLawfulLine (SetFlags name flags) = IsTrue (is_name name)
 IsLawfulLine (AddCmd name) = IsTrue (is_name name)
 IsLawfulLine (DelCmd name) = IsTrue (is_name name)
+IsLawfulLine (Tracking id number) = number ≤ NUMBER_LIMIT
 IsLawfulLine _ = ⊤
 
 abbrev pub ReadLinesAreLawful : Type 0

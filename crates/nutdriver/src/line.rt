@@ -5,7 +5,9 @@ ghost use Rattle.nutwords.specs.declared.limits.TheConstants.{LINE_LIMIT};
 mod arguments;
 
 use crate::{DriverFault, Flags, Range};
-use arguments::{name_alone, name_and_aux, name_and_flags, name_and_range, name_and_value};
+use arguments::{
+    id_and_number, name_alone, name_and_aux, name_and_flags, name_and_range, name_and_value,
+};
 use nutwords::{Name, SpelledWord, SpelledWords, Value, spelled_words};
 
 /// A line of a driver.
@@ -41,17 +43,19 @@ pub enum DriverLine {
     DataStale,
     /// `PONG`: the answer to a PING.
     Pong,
+    /// `TRACKING`: how the order of this id ended, a number from 0 to 1,000,000,000.
+    Tracking(u128, u32),
 }
 
 impl DriverLine {
     ghost use Rattle.nutwords.specs.Spelled.{spelled};
-    ghost use Rattle.nutdriver.specs.DriverLine.{read_driver_line, driver_line_of, value_line, limit_line, command_line, state_line, alone};
+    ghost use Rattle.nutdriver.specs.DriverLine.{read_driver_line, driver_line_of, value_line, limit_line, command_line, state_line, order_line, alone};
 
     /// Reads a line without its LF, of at most 1,023 bytes. Takes no memory.
     ///
     /// The first word and flags are read in capitals or not. Refused, in this order: a line that doesn't read as words
-    /// (1); an unknown first word (2); another number of words or an unlawful name (1); a value above 256 bytes (7); a
-    /// bad number, or a range whose ends are the wrong way round (5); an unknown flag (6).
+    /// (1); an unknown first word (2); another number of words, an unlawful name or a word that is no id (1); a value above
+    /// 256 bytes (7); a bad number, or a range whose ends are the wrong way round (5); an unknown flag (6).
     pub fn read(line: &[u8]) -> Result<DriverLine, DriverFault>
         requires { length line.now ≤ LINE_LIMIT }
         ensures { result ≡ read_driver_line line.now }
@@ -135,7 +139,7 @@ impl DriverLine {
         }
     }
 
-    /// The line of the driver's state.
+    /// The line of the driver's state, or else a report on an order.
     fn of_state(first: &SpelledWord<'_>, words: SpelledWords<'_>) -> Result<DriverLine, DriverFault>
         ensures { result ≡ state_line (spelled first.now) words.entry }
     {
@@ -147,6 +151,18 @@ impl DriverLine {
             DriverLine::DataStale.alone(words)
         } else if first.is_word(b"PONG") {
             DriverLine::Pong.alone(words)
+        } else {
+            DriverLine::of_order(first, words)
+        }
+    }
+
+    /// The report on an order.
+    fn of_order(first: &SpelledWord<'_>, words: SpelledWords<'_>) -> Result<DriverLine, DriverFault>
+        ensures { result ≡ order_line (spelled first.now) words.entry }
+    {
+        if first.is_word(b"TRACKING") {
+            let (id, number) = id_and_number(words)?;
+            Ok(DriverLine::Tracking(id, number))
         } else {
             Err(DriverFault::Unknown)
         }
