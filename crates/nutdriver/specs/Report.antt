@@ -63,10 +63,12 @@ ToldNumbersAreLawful =
     (moment : ℕ) (report : Report) (line : List ℕ)
     → HasLawfulNumber (after_line moment report line).1
 
--- A whole line of a driver, and the moment at which it is heard.
+-- A whole line of a driver, the moment at which it is heard, and whether it reports on an order that
+-- isn't awaited then.
 pub record Heard : Type 0 where
   pub moment : ℕ
   pub line : List ℕ
+  pub unawaited : Bool
 
 -- The report once the lines are heard, one after another.
 abbrev pub after_heard : Report → List Heard → Report
