@@ -5,7 +5,7 @@ ghost use Rattle.std.specs.Io.BufRead.{Rests};
 ghost use Rattle.std.specs.Borrow.{sem};
 ghost use Rattle.nutcore.specs.Server.{session, ups_at, new_server};
 ghost use Rattle.nutusers.specs.UpsList.{place_of, id_at};
-ghost use Rattle.nutcore.specs.Step.{Step, offered, id_outcome};
+ghost use Rattle.nutcore.specs.Step.{Step, offered};
 ghost use Rattle.nutcore.specs.Run.{Run};
 ghost use Rattle.nutcore.specs.Cost.{begun, no_cost, last_cost, Costs};
 ghost use Rattle.nutcore.specs.Deeds.{IsNoted};
@@ -463,7 +463,11 @@ impl Server {
     {
         self.forget_cost();
         an_id_stands_for_one_order();
-        self.tracking.take_in(id).map_err(fault_of_id)
+        match self.tracking.take_in(id) {
+            Ok(()) => Ok(()),
+            Err(IdFault::Known) => Err(Fault::KnownId),
+            Err(IdFault::TooMany) => Err(Fault::TooManyIds),
+        }
     }
 
     /// One event.
@@ -537,16 +541,6 @@ impl Server {
             outcomes.push(outcome).unwrap();
         }
         Ok(outcomes)
-    }
-}
-
-/// Why an id is refused.
-fn fault_of_id(fault: IdFault) -> Fault
-    ensures { Outcome.Refused result ≡ id_outcome (Some fault) }
-{
-    match fault {
-        IdFault::Known => Fault::KnownId,
-        IdFault::TooMany => Fault::TooManyIds,
     }
 }
 
