@@ -4,12 +4,14 @@ use Rattle.std.specs.Prelude.{IsTrue, is_none, option_and_then}
 use Rattle.std.specs.Option.{option_map_or}
 use Rattle.std.proofs.lemmas.Bool.{cond-true, cond-false}
 use Rattle.nutcore.proofs.Common.{Event, Fault, Outcome, SessionState, ServerState, session, Step}
-use Rattle.nutcore.specs.declared.event.Event.TheVariants.{Open, Feed, Took, Close}
+use Rattle.nutcore.specs.declared.event.Event.TheVariants.{Open, Feed, Took, Close, Id}
 use Rattle.nutcore.specs.declared.event.Outcome.TheVariants.{Done, Fed, Opened, Refused}
 use Rattle.nutcore.specs.declared.event.Fault.TheVariants.{NoSuchClient, TooManyClients, TookTooMuch, LineTooLong, Memory}
 use Rattle.nutcore.specs.Session.{without, new_session}
 use Rattle.nutcore.specs.Pump.{next_line, pump_stops, held_of, after_all_lines, after_lines, pumped, after_notice, is_overlong, holds_overlong, wants_memory}
-use Rattle.nutcore.specs.Step.{joined, with_input, taken_from, without_output, may_take, may_open, pumped_until, opened, after_by, fed_by, took_by, closed_by, outcome_of, MayLackMemory}
+use Rattle.nuttracking.specs.declared.tracking.IdFault.{IdFault}
+use Rattle.nuttracking.specs.Tracking.{id_fault}
+use Rattle.nutcore.specs.Step.{joined, with_input, taken_from, without_output, may_take, may_open, pumped_until, opened, handed_in, after_by, fed_by, took_by, closed_by, id_outcome, outcome_of, MayLackMemory}
 use Rattle.nutcore.specs.Calls.{done}
 use Rattle.nutcore.specs.Promises.{IsAt, PumpGives}
 use Rattle.nutcore.proofs.Changed.{change_absent}
@@ -134,3 +136,8 @@ open_done s address xs may e = record {
 -- a step from a state seen otherwise
 pub step_from : (s s' t t' : ServerState) (e : Event) (o : Outcome) → s ≡ s' → t ≡ t' → Step s e o t → Step s' e o t'
 step_from s s' t t' e o es et h = subst (λ (z : ServerState). Step z e o t') es (subst (λ (z : ServerState). Step s e o z) et h)
+
+-- an id is handed in
+pub id_handed : (s : ServerState) (id : ℕ) (o : Option IdFault) → id_fault id s.tracking ≡ o → Step s (Id id) (id_outcome o) (handed_in id s)
+unfolding outcome_of after_by
+id_handed s id o is = record { allowed = inl (sym (ap id_outcome is)); leaves = refl }

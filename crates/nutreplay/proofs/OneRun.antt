@@ -6,7 +6,7 @@ use Rattle.std.proofs.lemmas.Bool.{eqb-true, and_left}
 use Rattle.std.specs.Option.{option_map_or}
 use Rattle.nutusers.specs.declared.ups_list.UpsId.{UpsId}
 use Rattle.nutcore.specs.declared.event.Event.{Event}
-use Rattle.nutcore.specs.declared.event.Event.TheVariants.{DriverUp, DriverBytes, DriverTook, DriverDown, Tick, Open, Feed, Took, Close}
+use Rattle.nutcore.specs.declared.event.Event.TheVariants.{DriverUp, DriverBytes, DriverTook, DriverDown, Tick, Open, Feed, Took, Close, Id}
 use Rattle.nutusers.specs.UpsList.{Ups}
 use Rattle.nutusers.specs.Users.{User}
 use Rattle.nutusers.specs.Descriptions.{Descriptions}
@@ -85,6 +85,7 @@ sent_by c s (Open address) = refl
 sent_by c s (Feed d piece) = refl
 sent_by c s (Took d n) = append-nil (if eqb d c then taken_in_event d s (Took d n) else []) ∙ took_if c d n s (eqb d c) refl
 sent_by c s (Close d) = refl
+sent_by c s (Id id) = refl
 
 driver_took_if : (u v : UpsId) (n : ℕ) (s : ServerState) (b : Bool) → eqb v.place u.place ≡ b → (if eqb v.place u.place then driver_taken_in_event v s (DriverTook v n) else []) ≡ driver_taken_in_event u s (DriverTook v n)
 driver_took_if u v n s true e =
@@ -104,6 +105,7 @@ driver_sent_by u s (Open address) = refl
 driver_sent_by u s (Feed c piece) = refl
 driver_sent_by u s (Took c n) = refl
 driver_sent_by u s (Close c) = refl
+driver_sent_by u s (Id id) = refl
 
 opened_joined : (hs is : List Happening) → flat_map opened_by (outcomes_of (hs ++ is)) ≡ flat_map opened_by (outcomes_of hs) ++ flat_map opened_by (outcomes_of is)
 opened_joined [] is = refl
@@ -176,6 +178,7 @@ line_runs line (asked.Took c n) old new h = once_runs line (Took c n) old new h
 line_runs line (asked.TookAll c) old new h =
     joined (once line (Took c (count_offered c old)) old h.0 h.1) (takings line c h.0 new h.2) old h.0 new (once_runs line (Took c (count_offered c old)) old h.0 h.1) (takings_run line c h.0 new h.2)
 line_runs line (asked.Close c) old new h = once_runs line (Close c) old new h
+line_runs line (asked.Id id) old new h = once_runs line (Id id) old new h
 
 pub lines_run : (lines : List ScriptLine) (old new : TranscriptState) (h : AreDone lines old new) → IsRun (of_lines lines old new h) old new
 lines_run [] old new h = nothing old new (ap (λ (t : TranscriptState). t.server) h) (ap (λ (t : TranscriptState). t.clients) h) (ap (λ (t : TranscriptState). t.taken) h)

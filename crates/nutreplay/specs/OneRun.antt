@@ -8,7 +8,7 @@ use Rattle.nutusers.specs.Descriptions.{Descriptions}
 use Rattle.nutcore.specs.declared.event.Event.{Event}
 use Rattle.nutcore.specs.declared.event.Event.TheVariants.{DriverUp, DriverBytes, DriverTook}
 use Rattle.nutcore.specs.declared.event.Event.TheVariants.{DriverDown, Tick, Open, Feed, Took}
-use Rattle.nutcore.specs.declared.event.Event.TheVariants.{Close}
+use Rattle.nutcore.specs.declared.event.Event.TheVariants.{Close, Id}
 use Rattle.nutcore.specs.declared.event.Peer.TheVariants.{Client, Driver}
 use Rattle.nutcore.specs.declared.event.Outcome.{Outcome}
 use Rattle.nutcore.specs.Server.{ServerState, new_server}
@@ -72,6 +72,7 @@ of_line line (asked.Took c n) old new h = once line (Took c n) old new h
 of_line line (asked.TookAll c) old new h =
     once line (Took c (count_offered c old)) old h.0 h.1 ++ takings line c h.0 new h.2
 of_line line (asked.Close c) old new h = once line (Close c) old new h
+of_line line (asked.Id id) old new h = once line (Id id) old new h
 
 -- The events of the lines.
 abbrev pub of_lines : (lines : List ScriptLine) (old new : TranscriptState) → AreDone lines old new

@@ -5,6 +5,7 @@ use Rattle.std.specs.Option.{option_map}
 use Rattle.std.specs.Result.{result_ok}
 use Rattle.std.specs.Str.{bytes_eq}
 use Rattle.hex.specs.Hex.{decode_of}
+use Rattle.nuttracking.specs.Id.{read_id}
 use Rattle.nutwords.specs.Natural.{read_natural}
 use Rattle.nutwords.specs.Reading.{read_ups_name, read_address}
 use Rattle.nutwords.specs.Text.{lines_of, is_silent}
@@ -13,7 +14,7 @@ use Rattle.nutreplay.specs.declared.script.action.Action.{Action}
 use Rattle.nutreplay.specs.declared.script.action.Action.TheVariants.{DriverUp, DriverBytes}
 use Rattle.nutreplay.specs.declared.script.action.Action.TheVariants.{DriverTook, DriverTookAll}
 use Rattle.nutreplay.specs.declared.script.action.Action.TheVariants.{DriverDown, Tick, Open, Feed}
-use Rattle.nutreplay.specs.declared.script.action.Action.TheVariants.{Took, TookAll, Close}
+use Rattle.nutreplay.specs.declared.script.action.Action.TheVariants.{Took, TookAll, Close, Id}
 use Rattle.nutreplay.specs.declared.script.Meaning.{Meaning}
 use Rattle.nutreplay.specs.declared.script.Meaning.TheVariants.{Nothing, Does, Bad}
 use Rattle.nutreplay.specs.declared.script.ScriptLine.{ScriptLine}
@@ -118,11 +119,12 @@ driver_action verb text =
     else if bytes_eq verb (codes "driver-took") then driver_taking_by (ups_and_rest text)
     else client_action verb text
 
--- Those of the clock and of newcomers, and the ones above.
+-- Those of the clock, of newcomers and of ids, and the ones above.
 abbrev pub action_of : List ℕ → List ℕ → Option Action
 action_of verb text =
     if bytes_eq verb (codes "tick") then option_map (λ n. Tick n) (number text)
     else if bytes_eq verb (codes "open") then option_map (λ a. Open a) (address text)
+    else if bytes_eq verb (codes "id") then option_map (λ id. Id id) (read_id text)
     else driver_action verb text
 
 abbrev pub read_action : Option (List ℕ × List ℕ) → Option Action

@@ -11,7 +11,7 @@ use Rattle.nutusers.specs.Descriptions.{Descriptions}
 use Rattle.nutcore.specs.declared.event.Event.{Event}
 use Rattle.nutcore.specs.declared.event.Event.TheVariants.{DriverUp, DriverBytes, DriverTook}
 use Rattle.nutcore.specs.declared.event.Event.TheVariants.{DriverDown, Tick, Open, Feed, Took}
-use Rattle.nutcore.specs.declared.event.Event.TheVariants.{Close}
+use Rattle.nutcore.specs.declared.event.Event.TheVariants.{Close, Id}
 use Rattle.nutcore.specs.declared.event.Peer.{Peer}
 use Rattle.nutcore.specs.declared.event.Peer.TheVariants.{Client, Driver}
 use Rattle.nutcore.specs.declared.event.Outcome.{Outcome}
@@ -153,6 +153,7 @@ IsDone line (asked.Feed c piece) old new = Happens line (Feed c piece) old new
 IsDone line (asked.Took c n) old new = Happens line (Took c n) old new
 IsDone line (asked.TookAll c) old new = TakesAll line c old new
 IsDone line (asked.Close c) old new = Happens line (Close c) old new
+IsDone line (asked.Id id) old new = Happens line (Id id) old new
 
 -- The lines are done, one after another.
 abbrev pub AreDone : List ScriptLine → TranscriptState → TranscriptState → Type 0

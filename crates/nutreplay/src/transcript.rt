@@ -98,6 +98,7 @@ impl Transcript {
             Action::Took(c, n) => self.event(line, &Event::Took(c, n)),
             Action::TookAll(c) => self.take_all(line, c),
             Action::Close(c) => self.event(line, &Event::Close(c)),
+            Action::Id(id) => self.event(line, &Event::Id(id)),
         }
     }
 

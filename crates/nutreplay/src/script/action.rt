@@ -5,6 +5,7 @@ ghost use Rattle.nutreplay.specs.Script.{split_at_space, number, ups_name, addre
 
 use hex::FromHexError;
 use nutcore::{Bytes, ClientId};
+use nuttracking::read_id;
 use nutwords::{Address, UpsName, read_natural};
 use std::alloc::{AllocError, Global};
 
@@ -33,6 +34,8 @@ pub enum Action {
     TookAll(ClientId),
     /// `close N`: a client's connection is gone.
     Close(ClientId),
+    /// `id I`: an id for a tracked order is handed in.
+    Id(u128),
 }
 
 /// What a line asks for, if it is one of a script's.
@@ -45,7 +48,7 @@ pub(super) fn read_action(alloc: Global, line: &[u8]) -> Result<Option<Action>, 
     }
 }
 
-/// What a verb asks for, with the bytes after its space: of the clock, a newcomer, or else of a driver. Case matters.
+/// What a verb asks for, with the bytes after its space: of the clock, a newcomer, an id, or else of a driver. Case matters.
 fn action_of(alloc: Global, verb: &[u8], text: &[u8]) -> Result<Option<Action>, AllocError>
     ensures { IfOk result (λ action. action ≡ action_of verb.now text.now) }
 {
@@ -53,6 +56,8 @@ fn action_of(alloc: Global, verb: &[u8], text: &[u8]) -> Result<Option<Action>, 
         Ok(read_number(text).map(|seconds| Action::Tick(seconds)))
     } else if verb == b"open".as_slice() {
         Ok(address(text).map(|from| Action::Open(from)))
+    } else if verb == b"id".as_slice() {
+        Ok(read_id(text).map(|id| Action::Id(id)))
     } else {
         driver_action(alloc, verb, text)
     }
