@@ -1,21 +1,23 @@
 -- The number of a report on an order, as it is told, is one that an order may be done with.
-use Rattle.std.proofs.Common.{ℕ, Bool, true, false, List, Option, Some, None, length, arith}
+use Rattle.std.proofs.Common.{◌≡◌, ℕ, Bool, true, false, List, Option, Some, None, length, arith, sym, subst}
 use Rattle.std.specs.Prelude.{◌≤◌, ⊤, nat_le, Result, Ok, Err, IfOk, if◌then◌else◌}
 use Rattle.nuttracking.specs.declared.limits.TheConstants.{DONE_LIMIT}
 use Rattle.nutdriver.specs.declared.limits.TheConstants.{VARIABLE_LIMIT, COMMAND_LIMIT, NUMBER_LIMIT}
 use Rattle.nutdriver.specs.declared.effect.Effect.{Effect}
-use Rattle.nutdriver.specs.declared.effect.Effect.TheVariants.{Nothing, Changed, DumpDone as DumpIsDone, DataOk as DataAreOk, DataStale as DataAreStale, Pong as PongCame, Tracked}
+use Rattle.nutdriver.specs.declared.effect.Effect.TheVariants.{Nothing, Changed}
 use Rattle.nutdriver.specs.declared.fault.DriverFault.{DriverFault}
 use Rattle.nutdriver.specs.declared.fault.DriverFault.TheVariants.{NoSuchItem, Full}
 use Rattle.nutdriver.specs.declared.line.DriverLine.{DriverLine}
 use Rattle.nutdriver.specs.declared.line.DriverLine.TheVariants.{Blank, SetInfo, DelInfo, AddEnum, DelEnum, AddRange, DelRange, SetAux, SetFlags, AddCmd, DelCmd, DumpDone, DataOk, DataStale, Pong, Tracking}
 use Rattle.nutdriver.specs.declared.report.Report.{Report}
+use Rattle.nutdriver.specs.declared.report.LineOutcome.{LineOutcome}
 use Rattle.nutdriver.specs.Variable.{VariableState, new_variable, add_enum, delete_enum, add_range, delete_range, with_aux, with_flags}
 use Rattle.nutdriver.specs.Tree.{TreeState, variable_at, with_variable, has_command, with_command, without_command}
 use Rattle.nutdriver.specs.DriverLine.{read_driver_line}
 use Rattle.nutdriver.specs.DriverStep.{driver_step, put_back, if_there, on_variable, set_info, delete_info}
 use Rattle.nutdriver.specs.Report.{after_step, after_reading, told_of, HasLawfulNumber, ToldNumbersAreLawful}
 use Rattle.nutdriver.specs.Sound.{IsLawfulLine, ReadLinesAreLawful}
+use Rattle.nutdriver.proofs.LawfulLines.{read_lawful}
 
 abbrev Lawful : Result (TreeState × Effect) DriverFault → Type 0
 Lawful step = IfOk step (λ after. HasLawfulNumber (told_of after.1))
@@ -82,3 +84,11 @@ reading_lawful report (Err fault) h = tt
 
 pub numbers_lawful : ReadLinesAreLawful → ToldNumbersAreLawful
 numbers_lawful lawful moment report line = reading_lawful (record report { heard = moment }) (read_driver_line line) (lawful line)
+
+-- a line that was read and done
+pub number_told : {E : Type 0} (report : Report) (text : List ℕ) (line : DriverLine) (result : Result LineOutcome E) (after : Report) → Ok line ≡ read_driver_line text
+    → IfOk result (λ outcome. after_reading report (Ok line) ≡ (after, outcome)) → IfOk result (λ outcome. HasLawfulNumber outcome)
+number_told report text line (Ok outcome) after is h =
+    let lawful : IfOk {E = DriverFault} (Ok line) IsLawfulLine = subst (λ (r : Result DriverLine DriverFault). IfOk r IsLawfulLine) (sym is) (read_lawful text) in
+    subst (λ (told : Report × LineOutcome). HasLawfulNumber told.1) h (reading_lawful report (Ok line) lawful)
+number_told report text line (Err e) after is h = tt
