@@ -10,7 +10,8 @@ use Rattle.nutcore.specs.Pump.{next_line_for, after_line, after_lines, after_all
 use Rattle.nutcore.specs.Step.{joined, with_input, taken_from, without_output, may_take, connected, disconnected, driver_may_take, after_driver_took, ticked, pumped_until, after_by, after, refused_after}
 use Rattle.nutcore.specs.History.{of_notice, next_execution, lines_executed, notice, pump_executions, executions_until, executions_by}
 use Rattle.nutcore.specs.Isolation.{without_commands}
-use Rattle.nutcore.specs.DriverHistory.{came_in_event, heard_in_event}
+use Rattle.nutcore.specs.Lines.{whole_lines}
+use Rattle.nutcore.specs.DriverHistory.{Heard, heard_at, as_far, came_in_event, heard_in_event}
 use Rattle.nutcore.specs.DriverOrders.{Telling, texts_of, told_by_change, told_by_line, told_in_event, taken_in_event}
 use Rattle.nutcore.proofs.Changed.{by_change}
 use Rattle.nutcore.proofs.Changes.{of_upses}
@@ -103,9 +104,10 @@ event_leaves u s (DriverUp v) o x there =
 event_leaves u s (DriverBytes v piece) o x there =
     let e : Event = DriverBytes v piece in
     let m : Option ℕ = refused_after o in
+    let lines : List Heard = cond x.report.connected (heard_at s.moment u.place s.tracking (as_far m (whole_lines (x.unfinished ++ piece)))) [] in
     subst (λ (t : ServerState). Stands u.place t.upses (Does s.moment u e x (came_in_event u e) (heard_in_event u s e o) [] [])) (sym (bytes_change v piece m s))
     (of_place (ups_after_bytes s.moment v.place s.tracking piece m) u v s.upses x (Does s.moment u e x (came_in_event u e) (heard_in_event u s e o) [] []) there
-    (λ k same. rw (k, there) (subst (λ (w : UpsId). Does s.moment u e x piece _ [] [] (ups_after_bytes s.moment w.place s.tracking piece m x)) (sym same) (bytes_do s.moment u e x s.tracking piece m))) (λ k. rw k (stays_so s.moment u e x)))
+    (λ k same. rw (k, there) (subst (λ (w : UpsId). Does s.moment u e x piece lines [] [] (ups_after_bytes s.moment w.place s.tracking piece m x)) (sym same) (bytes_do s.moment u e x s.tracking piece m))) (λ k. rw k (stays_so s.moment u e x)))
 event_leaves u s (DriverTook v n) o x there =
     let e : Event = DriverTook v n in
     of_place (after_driver_took n) u v s.upses x (Does s.moment u e x [] [] [] (taken_in_event u s e)) there

@@ -37,7 +37,7 @@ ups_after_bytes m place t piece refused x = cond x.report.connected (ups_after_t
 abbrev lines_of : List ℕ → Option ℕ → UpsState → List (List ℕ)
 lines_of piece refused x = cond x.report.connected (as_far refused (whole_lines (x.unfinished ++ piece))) []
 
-pub lines_read : UpsId → List ℕ → Option ℕ → ServerState → List (List ℕ)
+unfoldable pub lines_read : UpsId → List ℕ → Option ℕ → ServerState → List (List ℕ)
 lines_read u piece refused s = option_map_or (lines_of piece refused) (ups_at u.place s) []
 
 text_changes : (u : UpsId) (text : List ℕ) (refused : Option ℕ) (s : ServerState) → after_driver_text u text refused s ≡ changed_both (ups_after_text s.moment u.place s.tracking text refused) (as_far refused (whole_lines text)) u s

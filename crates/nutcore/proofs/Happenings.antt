@@ -17,7 +17,7 @@ use Rattle.nutcore.specs.Step.{joined, with_input, taken_from, without_output, m
 use Rattle.nutcore.specs.History.{Execution, of_line, of_notice, client_of, text_of, executions_until, executions_by, executions, of_client, texts_of}
 use Rattle.nutcore.specs.Happenings.{Happening, line_is_executed, notice_is_told, event_comes, happening_of, happened_in_event, happenings, without_bytes, apart_from_bytes, AnswersComeOfWhatHappens, AQuietTakeChangesWhatIsOwedAlone, IsAlike, AReplyComesOfWhatIsSeen}
 use Rattle.nutcore.proofs.Changed.{by_change, change_is}
-use Rattle.nutcore.proofs.DriverText.{bytes_change}
+use Rattle.nutcore.proofs.DriverText.{lines_read, bytes_change}
 use Rattle.nutcore.proofs.Events.{IsPlain}
 use Rattle.nutcore.proofs.Found.{find_id}
 use Rattle.nutcore.proofs.Histories.{IsOfPump, until_keeps, two_lists, later}
@@ -206,7 +206,7 @@ core_opened s address None =
     by_room false = refl
 
 core_event : (s : ServerState) (e : Event) (m : Option ℕ) → IsPlain e → after_by (apart_from_bytes s) e m ≡ apart_from_bytes (after_by s e m)
-unfolding after_by ticked
+unfolding after_by ticked lines_read
 core_event s (DriverUp u) m plain = refl
 core_event s (DriverBytes u piece) m plain = bytes_change u piece m (apart_from_bytes s) ∙ ap apart_from_bytes (sym (bytes_change u piece m s))
 core_event s (DriverTook u n) m plain = refl

@@ -3,7 +3,7 @@ use Rattle.std.proofs.Common.{◌≡◌, ◌+◌, ℕ, zero, suc, true, List, []
 use Rattle.std.proofs.lemmas.List.Elements.{All-head, All-tail}
 use Rattle.nutcore.proofs.Common.{cond_both, UpsId, Event, Outcome, ServerState, session, with_session_changed, with_ups_changed, with_tracking, Run}
 use Rattle.nuttracking.specs.Acts.{Act, after_act}
-use Rattle.nuttracking.specs.Acts.Act as acts
+use Rattle.nuttracking.specs.Acts.Act.{handed_in, reported}
 use Rattle.nutcore.specs.Reports.{OrderEnd, end_in, with_end, after_ends}
 use Rattle.nutcore.specs.Session.{without, new_session}
 use Rattle.nutcore.specs.Pump.{next_line_for, after_line, after_lines, after_all_lines, after_notice, with_notice, pumped, held_of}
@@ -60,7 +60,7 @@ module _ (P : ServerState → Type 0) (Opens : List ℕ → Type 0) (kept : IsKe
 
   by_end : (u : UpsId) (o : Option OrderEnd) (s : ServerState) → P s → P (with_tracking (with_end u.place o s.tracking) s)
   by_end u None s h = h
-  by_end u (Some told) s h = kept.tracks s (acts.reported u.place told.id told.number) h
+  by_end u (Some told) s h = kept.tracks s (reported u.place told.id told.number) h
 
   by_ends : (u : UpsId) (lines : List (List ℕ)) (s : ServerState) → P s → P (with_tracking (after_ends u.place lines s.tracking) s)
   by_ends u [] s h = h
@@ -70,7 +70,7 @@ module _ (P : ServerState → Type 0) (Opens : List ℕ → Type 0) (kept : IsKe
   by_event s e m =
       of_parts s m (λ f. (u : UpsId) → P s → P (with_ups_changed f u s)) (kept.driver s m) (λ e t. OpensFrom e → P s → P t)
       (λ e u f lines its apart keeps own h. by_ends u lines (with_ups_changed f u s) (keeps u h)) (λ seconds own h. kept.ticks s seconds h) (λ address own h. of_opened P s address m h (λ room. kept.opens s address room own h))
-      (λ c piece own h. by_feed P kept.pumped s c piece m h) (λ c n own h. by_take P kept.pumped s c n m h) (λ c own h. kept.closes s c h) (λ id own h. kept.tracks s (acts.handed_in id) h) e
+      (λ c piece own h. by_feed P kept.pumped s c piece m h) (λ c n own h. by_take P kept.pumped s c n m h) (λ c own h. kept.closes s c h) (λ id own h. kept.tracks s (handed_in id) h) e
 
   pub by_run : (s t : ServerState) (es : List Event) (os : List Outcome) → Run s es os t → All OpensFrom es → P s → P t
   by_run s t [] [] r own h = subst P (sym r) h

@@ -103,12 +103,7 @@ PumpGives old c (Err LineTooLong) new =
     (is_overlong (after_all_lines old c) c ≡ true) × (new ≡ pumped old c)
 PumpGives old c (Err (Memory k)) new =
     IsTrue (wants_memory (after_lines k old c) c) × (new ≡ after_lines k old c)
-PumpGives old c (Err NoSuchUps) new = ⊥
-PumpGives old c (Err NoSuchClient) new = ⊥
-PumpGives old c (Err TooManyClients) new = ⊥
-PumpGives old c (Err TookTooMuch) new = ⊥
-PumpGives old c (Err NotConnected) new = ⊥
-PumpGives old c (Err AlreadyConnected) new = ⊥
+PumpGives old c (Err fault) new = ⊥
 
 -- whether the session was told that its line is too long
 abbrev pub refused_overlong : Bool → Result (Unit {0}) Fault
