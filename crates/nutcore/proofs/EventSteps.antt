@@ -138,6 +138,6 @@ pub step_from : (s s' t t' : ServerState) (e : Event) (o : Outcome) → s ≡ s'
 step_from s s' t t' e o es et h = subst (λ (z : ServerState). Step z e o t') es (subst (λ (z : ServerState). Step s e o z) et h)
 
 -- an id is handed in
-pub id_handed : (s : ServerState) (id : ℕ) (o : Option IdFault) → id_fault id s.tracking ≡ o → Step s (Id id) (id_outcome o) (handed_in id s)
+pub id_handed : (s : ServerState) (id : ℕ) (o : Option IdFault) → id_fault id s.tracking ≡ o → (outcome : Outcome) → outcome ≡ id_outcome o → Step s (Id id) outcome (handed_in id s)
 unfolding outcome_of after_by
-id_handed s id o is = record { allowed = inl (sym (ap id_outcome is)); leaves = refl }
+id_handed s id o is outcome told = record { allowed = inl (told ∙ sym (ap id_outcome is)); leaves = refl }
