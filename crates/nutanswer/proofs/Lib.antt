@@ -10,3 +10,4 @@ mod RightLemmas
 mod OrderFits
 pub mod PublicLaws
 mod Carried
+mod Ids

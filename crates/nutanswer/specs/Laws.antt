@@ -2,15 +2,15 @@
 use Rattle.std.specs.Prelude.{◌≡◌, ◌≤◌, ℕ, Bool, true, false, List, [], ◌∷◌, codes, length}
 use Rattle.std.specs.Prelude.{slice_get, Option, Some, Result, Ok, Err}
 use Rattle.std.specs.Str.{bytes_eq}
-use Rattle.arrayvec.specs.ArrayVec.{ArrayVec}
 use Rattle.nutusers.specs.declared.ups_list.UpsId.{UpsId}
 use Rattle.nutanswer.specs.declared.command.Command.{Command}
 use Rattle.nutanswer.specs.declared.err_word.ErrWord.{ErrWord}
-use Rattle.nutanswer.specs.declared.reply.Change.TheVariants.{Nothing, Order}
+use Rattle.nutanswer.specs.declared.reply.Change.TheVariants.{Nothing}
 use Rattle.nutlisting.specs.Lines.{IsWholeLine}
 use Rattle.nutanswer.specs.ErrWord.{error_line}
 use Rattle.nutanswer.specs.View.{Seen, AskerSeen, UpsSeen}
 use Rattle.nutanswer.specs.Checks.{KnownUps, ups_named}
+use Rattle.nutanswer.specs.Orders.{order}
 use Rattle.nutanswer.specs.Answer.{Answer, one_line, listing, listing_of_clients, answer_to}
 use Rattle.nutanswer.specs.Answer.{change_of_answer}
 
@@ -54,12 +54,14 @@ pub record TakesOrder (line : List ℕ) (x : UpsSeen) : Type 0 where
   pub connected : x.report.connected ≡ true
   pub fits : length line ≤ x.free
 
--- An order is for a driver that is connected, and fits in what it may still be owed.
+-- An order, tracked or not, is for a driver that is connected, and fits in what it may still be
+-- owed.
 abbrev pub OrdersFit : Type 0
 OrdersFit =
-    (s : Seen) (asker : AskerSeen) (command : Command) (u : UpsId) (line : ArrayVec ℕ) (x : UpsSeen)
-    → change_of_answer (answer_to s asker command) ≡ Order u line
-    → slice_get s.upses u.place ≡ Some x → TakesOrder line.items x
+    (s : Seen) (asker : AskerSeen) (command : Command) (u : UpsId) (line : List ℕ) (id : Option ℕ)
+    (x : UpsSeen)
+    → change_of_answer (answer_to s asker command) ≡ order u line id
+    → slice_get s.upses u.place ≡ Some x → TakesOrder line x
 
 -- The line of an error is one whole line.
 abbrev pub ErrorLinesAreWhole : Type 0
