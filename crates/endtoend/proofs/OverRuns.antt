@@ -28,7 +28,7 @@ module _ (opening : ANewServerIsSound) (lawful : ASoundServerIsLawful) (one : On
   answered : (old : ServerState) (events : List Event) (outcomes : List Outcome) (c : ℕ) (line : List ℕ) (request : Request) → IsServed old events outcomes c line request → WasAnswered c old events outcomes line
   answered old events outcomes c line request h =
       let n = h.begins in
-      let sound : IsSound old = subst IsSound (sym n.is) (opening n.list n.users n.descriptions n.max_age n.is_list n.is_max_age) in
+      let sound : IsSound old = subst IsSound (sym n.is) (opening n.list n.users n.descriptions n.max_age n.is_list n.are_lawful n.is_max_age) in
       one old h.new events outcomes c line (lawful old sound) (ap (session c) n.is) h.run h.asks h.one h.going h.done h.taken_all
 
   is_answered : (old : ServerState) (events : List Event) (outcomes : List Outcome) (c : ℕ) (line : List ℕ) (request : Request) (h : IsServed old events outcomes c line request)

@@ -11,7 +11,7 @@ use Rattle.nutlisting.specs.Lines.{IsAnswerLine}
 use Rattle.nutanswer.specs.ErrWord.{spelling_of}
 use Rattle.nutanswer.specs.Laws.{ErrorLinesAreWhole}
 
-error_lawful : (word : ErrWord) → list_all is_lawful (join_with_byte 32 (codes "ERR" ∷ spelling_of word ∷ [])) ≡ true
+pub error_lawful : (word : ErrWord) → list_all is_lawful (join_with_byte 32 (codes "ERR" ∷ spelling_of word ∷ [])) ≡ true
 error_lawful AccessDenied = refl
 error_lawful UnknownUps = refl
 error_lawful VarNotSupported = refl

@@ -91,9 +91,6 @@ instcmd_words (ups ∷ v ∷ w ∷ []) a e =
     one value k = cc k
 instcmd_words (ups ∷ v ∷ w ∷ x ∷ words) a e = cc e
 
-of_two : (f : Option (List ℕ) × Option (List ℕ) → Command) (words : List (List ℕ)) → ((a : Option (List ℕ) × Option (List ℕ)) → IsLawfulCommand (f a)) → IsLawfulResult (command_with f (ups_and_name words))
-of_two f words h = with_lawful f (ups_and_name words) (λ a e. h a)
-
 of_ups : (f : Option (List ℕ) → Command) (words : List (List ℕ)) → ((ups : Option (List ℕ)) → IsLawfulCommand (f ups)) → IsLawfulResult (command_with f (ups_alone words))
 of_ups f words h = with_lawful f (ups_alone words) (λ ups e. h ups)
 
@@ -121,13 +118,13 @@ tracking_lawful (id ∷ other ∷ words) = none_lawful _
 get_lawful : (words : List (List ℕ)) → IsLawfulResult (read_get words)
 get_lawful [] = none_lawful _
 get_lawful (kind ∷ words) =
-    either_lawful (is_word kind (codes "VAR")) (of_two (λ a. GetVar a.0 a.1) words (λ a. tt))
-    (either_lawful (is_word kind (codes "TYPE")) (of_two (λ a. GetType a.0 a.1) words (λ a. tt))
-    (either_lawful (is_word kind (codes "DESC")) (of_two (λ a. GetDesc a.0 a.1) words (λ a. tt))
-    (either_lawful (is_word kind (codes "CMDDESC")) (of_two (λ a. GetCmdDesc a.0 a.1) words (λ a. tt))
-    (either_lawful (is_word kind (codes "UPSDESC")) (of_ups (λ ups. GetUpsDesc ups) words (λ ups. tt))
-    (either_lawful (is_word kind (codes "NUMLOGINS")) (of_ups (λ ups. GetNumLogins ups) words (λ ups. tt))
-    (either_lawful (is_word kind (codes "NUMATTACH")) (of_ups (λ ups. GetNumAttach ups) words (λ ups. tt))
+    either_lawful (is_word kind (codes "VAR")) (with_lawful (λ a. GetVar a.0 a.1) (ups_and_name words) (two_words words))
+    (either_lawful (is_word kind (codes "TYPE")) (with_lawful (λ a. GetType a.0 a.1) (ups_and_name words) (two_words words))
+    (either_lawful (is_word kind (codes "DESC")) (with_lawful (λ a. GetDesc a.0 a.1) (ups_and_name words) (two_words words))
+    (either_lawful (is_word kind (codes "CMDDESC")) (with_lawful (λ a. GetCmdDesc a.0 a.1) (ups_and_name words) (two_words words))
+    (either_lawful (is_word kind (codes "UPSDESC")) (with_lawful (λ ups. GetUpsDesc ups) (ups_alone words) (ups_words words))
+    (either_lawful (is_word kind (codes "NUMLOGINS")) (with_lawful (λ ups. GetNumLogins ups) (ups_alone words) (ups_words words))
+    (either_lawful (is_word kind (codes "NUMATTACH")) (with_lawful (λ ups. GetNumAttach ups) (ups_alone words) (ups_words words))
     (either_lawful (is_word kind (codes "TRACKING")) (tracking_lawful words)
     (none_lawful _))))))))
 

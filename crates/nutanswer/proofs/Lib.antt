@@ -6,6 +6,8 @@ mod Changes
 mod LawfulCommands
 mod ErrorLemmas
 mod Quoted
+mod Plain
+mod Shapes
 mod RightLemmas
 mod OrderFits
 pub mod PublicLaws

@@ -1,11 +1,12 @@
 -- The laws of this crate that a proof in a crate above may cite: each is what a function of src/laws.rt ensures.
-use Rattle.nutanswer.specs.Laws.{ANamedUpsIsSeen, OrdersFit, ErrorLinesAreWhole}
+use Rattle.nutanswer.specs.Laws.{ANamedUpsIsSeen, OrdersFit, ErrorLinesAreWhole, EachAnswerIsALineOrAListing, EachErrorIsALine}
 use Rattle.nutanswer.specs.Lawful.{WhatIsReadIsLawful}
 use Rattle.nutanswer.specs.Rows.{EachChangeComesOfItsCommand, EachOrderAnsweredOkIsGiven}
 use Rattle.nutanswer.proofs.Named as named
 use Rattle.nutanswer.proofs.OrderFits as fits
 use Rattle.nutanswer.proofs.ErrorLemmas as errors
 use Rattle.nutanswer.proofs.LawfulCommands as lawful
+use Rattle.nutanswer.proofs.Shapes as shapes
 use Rattle.nutanswer.proofs.TableRows as rows
 
 -- each_change_comes_of_its_command
@@ -31,3 +32,10 @@ orders_fit = fits.orders_fit
 -- error_lines_are_whole
 pub error_lines_are_whole : ErrorLinesAreWhole
 error_lines_are_whole = errors.error_lines_are_whole
+
+-- each_answer_is_a_line_or_a_listing
+pub each_answer_is_a_line_or_a_listing : EachAnswerIsALineOrAListing
+each_answer_is_a_line_or_a_listing = shapes.each_answer_shaped
+
+pub each_error_is_a_line : EachErrorIsALine
+each_error_is_a_line = shapes.refused_shaped

@@ -58,7 +58,7 @@ has_right s asker right e = by_given asker.username asker.password refl refl e
 
 -- what holds of each refusal, and of what the checks let through, holds of the row
 module _ (P : Result Answer ErrWord → Type 0) (no : (word : ErrWord) → P (Err word)) where
-  found : {A : Type 0} (r : Result A ErrWord) (next : A → Result Answer ErrWord) → ((a : A) → r ≡ Ok a → P (next a)) → P (r >>= next)
+  pub found : {A : Type 0} (r : Result A ErrWord) (next : A → Result Answer ErrWord) → ((a : A) → r ≡ Ok a → P (next a)) → P (r >>= next)
   found (Err word) next h = no word
   found (Ok a) next h = h a refl
 
@@ -82,7 +82,7 @@ module _ (P : Result Answer ErrWord → Type 0) (no : (word : ErrWord) → P (Er
 
   module _ (s : Seen) (ups : Option (List ℕ)) where
     -- of a UPS that is there
-    of_ups : (next : KnownUps → Result Answer ErrWord) → ((u : KnownUps) → ups_named s ups ≡ Some u → P (next u)) → P (unknown_ups s ups >>= next)
+    pub of_ups : (next : KnownUps → Result Answer ErrWord) → ((u : KnownUps) → ups_named s ups ≡ Some u → P (next u)) → P (unknown_ups s ups >>= next)
     of_ups next h = found (unknown_ups s ups) next (λ u is. h u (ok_found (ups_named s ups) UnknownUps u is))
 
     -- and is usable

@@ -2,9 +2,11 @@
 use Rattle.std.specs.Prelude.{◌≡◌, ℕ, List, Option, Some, None, Result, Ok, Err, IsTrue}
 use Rattle.nutwords.specs.Reading.{is_name, is_ups_name, is_value}
 use Rattle.nutanswer.specs.declared.command.Command.{Command}
-use Rattle.nutanswer.specs.declared.command.Command.TheVariants.{SetVar, InstCmd, ListVar, ListRw}
-use Rattle.nutanswer.specs.declared.command.Command.TheVariants.{ListCmd, ListEnum, ListRange}
-use Rattle.nutanswer.specs.declared.command.Command.TheVariants.{ListClient}
+use Rattle.nutanswer.specs.declared.command.Command.TheVariants.{SetVar, InstCmd, GetVar, GetType}
+use Rattle.nutanswer.specs.declared.command.Command.TheVariants.{GetDesc, GetCmdDesc, GetUpsDesc}
+use Rattle.nutanswer.specs.declared.command.Command.TheVariants.{GetNumLogins, GetNumAttach}
+use Rattle.nutanswer.specs.declared.command.Command.TheVariants.{ListVar, ListRw, ListCmd, ListEnum}
+use Rattle.nutanswer.specs.declared.command.Command.TheVariants.{ListRange, ListClient}
 use Rattle.nutanswer.specs.declared.err_word.ErrWord.{ErrWord}
 use Rattle.nutanswer.specs.Command.{read_command}
 
@@ -20,11 +22,18 @@ HasLawfulValue word = (value : List ℕ) → word ≡ Some value → IsTrue (is_
 abbrev pub HasLawfulValueIfAny : Option (Option (List ℕ)) → Type 0
 HasLawfulValueIfAny word = (value : List ℕ) → word ≡ Some (Some value) → IsTrue (is_value value)
 
--- The names and values of a command are lawful: of those that give orders, and of those that list
--- what is known of a UPS.
+-- The names and values of a command are lawful: of those that give orders, and of those that get or
+-- list what is known of a UPS.
 abbrev pub IsLawfulCommand : Command → Type 0
 IsLawfulCommand (SetVar ups v word) = HasLawfulName v × HasLawfulValue word
 IsLawfulCommand (InstCmd ups v word) = HasLawfulName v × HasLawfulValueIfAny word
+IsLawfulCommand (GetVar ups v) = HasLawfulUpsName ups × HasLawfulName v
+IsLawfulCommand (GetType ups v) = HasLawfulUpsName ups × HasLawfulName v
+IsLawfulCommand (GetDesc ups v) = HasLawfulUpsName ups × HasLawfulName v
+IsLawfulCommand (GetCmdDesc ups v) = HasLawfulUpsName ups × HasLawfulName v
+IsLawfulCommand (GetUpsDesc ups) = HasLawfulUpsName ups
+IsLawfulCommand (GetNumLogins ups) = HasLawfulUpsName ups
+IsLawfulCommand (GetNumAttach ups) = HasLawfulUpsName ups
 IsLawfulCommand (ListVar ups) = HasLawfulUpsName ups
 IsLawfulCommand (ListRw ups) = HasLawfulUpsName ups
 IsLawfulCommand (ListCmd ups) = HasLawfulUpsName ups

@@ -1,6 +1,6 @@
 //! Laws of the table of answers.
 ghost use Rattle.nutanswer.specs.Fresh.{WhatIsToldIsFresh};
-ghost use Rattle.nutanswer.specs.Laws.{RefusedLinesChangeNothing, OnlyOkChanges, ANamedUpsIsSeen, OrdersFit, ErrorLinesAreWhole};
+ghost use Rattle.nutanswer.specs.Laws.{RefusedLinesChangeNothing, OnlyOkChanges, ANamedUpsIsSeen, OrdersFit, ErrorLinesAreWhole, EachAnswerIsALineOrAListing, EachErrorIsALine};
 ghost use Rattle.nutanswer.specs.Lawful.{WhatIsReadIsLawful};
 ghost use Rattle.nutanswer.specs.Rows.{EachChangeComesOfItsCommand, EachOrderAnsweredOkIsGiven};
 
@@ -46,4 +46,11 @@ pub fn orders_fit()
 /// The line of an error is one whole line, of lawful bytes.
 pub fn error_lines_are_whole()
     ensures { ErrorLinesAreWhole }
+{}
+
+/// Where what may be looked at is lawful, the answer to a lawful command, as each that was read is, has the shape of one
+/// answer: it is one line, which doesn't begin a listing, or a listing to its END. The line of an error is such a line.
+pub fn each_answer_is_a_line_or_a_listing()
+    ensures answer { EachAnswerIsALineOrAListing }
+    ensures error { EachErrorIsALine }
 {}

@@ -57,13 +57,13 @@ module _ (P : ServerState → Type 0) (Opens : List ℕ → Type 0) (apart : IsA
   }
 
 -- addresses
-abbrev HaveLawfulAddresses : ServerState → Type 0
+abbrev pub HaveLawfulAddresses : ServerState → Type 0
 HaveLawfulAddresses s = Each HasLawfulAddress s.sessions
 
-abbrev IsLawfulAddress : List ℕ → Type 0
+abbrev pub IsLawfulAddress : List ℕ → Type 0
 IsLawfulAddress address = IsTrue (is_address address)
 
-addresses_kept : IsKept HaveLawfulAddresses IsLawfulAddress
+pub addresses_kept : IsKept HaveLawfulAddresses IsLawfulAddress
 addresses_kept =
     kept_apart HaveLawfulAddresses IsLawfulAddress
     (record {
@@ -77,7 +77,7 @@ each_of : (xs : List SessionState) → All HasLawfulAddress xs → Each HasLawfu
 each_of [] all = tt
 each_of (x ∷ xs) all = (All-head HasLawfulAddress x xs all, each_of xs (All-tail HasLawfulAddress x xs all))
 
-all_of : (xs : List SessionState) → Each HasLawfulAddress xs → All HasLawfulAddress xs
+pub all_of : (xs : List SessionState) → Each HasLawfulAddress xs → All HasLawfulAddress xs
 all_of [] each = All-nil HasLawfulAddress
 all_of (x ∷ xs) each = All-cons HasLawfulAddress x xs each.0 (all_of xs each.1)
 

@@ -108,7 +108,7 @@ since_connecting opening keeps old new es os u is_new few r = record {
     end = stands old new es os u new_ups at r
 
     sound : IsSound new
-    sound = keeps old new es os r (subst IsSound (sym is_new.is) (opening is_new.list is_new.users is_new.descriptions is_new.max_age is_new.is_list is_new.is_max_age))
+    sound = keeps old new es os r (subst IsSound (sym is_new.is) (opening is_new.list is_new.users is_new.descriptions is_new.max_age is_new.is_list is_new.are_lawful is_new.is_max_age))
 
     by_how : How u old es os end.ups → end.ups.report.connected ≡ true → ConnectedInRun u old es os end.ups
     by_how (inl gone) is = no_loss end.ups.report.connected is gone

@@ -173,7 +173,7 @@ answer_there s c line command read kind = by_answer (answer_to (seen s) (asker c
 
 module _ (told : WhatIsToldIsFresh) (opening : ANewServerIsSound) (keeps : EveryRunKeepsTheServerSound) (old : ServerState) (is_new : IsNewServer old) where
   sound_old : IsSound old
-  sound_old = subst IsSound (sym is_new.is) (opening is_new.list is_new.users is_new.descriptions is_new.max_age is_new.is_list is_new.is_max_age)
+  sound_old = subst IsSound (sym is_new.is) (opening is_new.list is_new.users is_new.descriptions is_new.max_age is_new.is_list is_new.are_lawful is_new.is_max_age)
 
   -- a UPS that is there after a run was there before it
   there_before : (t : ServerState) (es : List Event) (os : List Outcome) (p : ℕ) (x : UpsState) → Run old es os t → ups_at p t ≡ Some x → p < length old.upses

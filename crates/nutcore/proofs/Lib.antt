@@ -58,4 +58,5 @@ mod Written
 mod TellingLines
 mod ReadsBack
 mod Addresses
+mod AnswersApart
 mod Costs

@@ -57,6 +57,7 @@ sessions_sound : (s : ServerState) (sessions : List SessionState) (next_id : ℕ
 sessions_sound s sessions next_id few ids all h = record {
   max_age = h.max_age;
   list = h.list;
+  descriptions = h.descriptions;
   named = h.named;
   few = few;
   ids = ids;
@@ -69,6 +70,7 @@ pub upses_sound : (s : ServerState) (moment : ℕ) (upses : List UpsState) → l
 upses_sound s moment upses same all h = record {
   max_age = h.max_age;
   list = h.list;
+  descriptions = h.descriptions;
   named = same ∙ h.named;
   few = h.few;
   ids = h.ids;
@@ -151,7 +153,7 @@ unfolding after_by
 sound_opening s t address c step h = subst IsSound (sym step.leaves) (of_opened IsSound s address None h (λ room. sound_opened s address room h))
 
 module _ (empty : IsSoundTree empty_tree) (line_keeps : EachLineKeepsTheTreeSound) where
-  sound_kept : IsKept IsSound IsAny
+  pub sound_kept : IsKept IsSound IsAny
   sound_kept = record {
     pumped = record {
       line = sound_line;
@@ -177,9 +179,10 @@ module _ (empty : IsSoundTree empty_tree) (line_keeps : EachLineKeepsTheTreeSoun
   every_run_sound old new es os r h = by_run IsSound IsAny sound_kept old new es os r (any_event es) h
 
   pub new_sound : ANewServerIsSound
-  new_sound list users descriptions max_age lawful age = record {
+  new_sound list users descriptions max_age lawful described age = record {
     max_age = age;
     list = lawful;
+    descriptions = described;
     named = length-replicate (length list) new_ups;
     few = omega arith;
     ids = omega arith;

@@ -5,7 +5,7 @@ use Rattle.std.specs.Prelude.{Ok, Err, length, min}
 use Rattle.std.specs.Option.{option_map_or}
 use Rattle.nutusers.specs.UpsList.{Ups, IsList}
 use Rattle.nutusers.specs.Users.{User}
-use Rattle.nutusers.specs.Descriptions.{Descriptions}
+use Rattle.nutusers.specs.Descriptions.{Descriptions, AreLawful}
 use Rattle.nutusers.specs.declared.ups_list.UpsId.{UpsId}
 use Rattle.nutdriver.specs.declared.line.DriverLine.{DriverLine}
 use Rattle.nutdriver.specs.declared.fault.DriverFault.{DriverFault}
@@ -28,13 +28,14 @@ use Rattle.nutcore.specs.DriverHistory.{has_driver, StaysConnected, came, came_i
 use Rattle.nutcore.specs.DriverHistory.{heard_in_event, unfinished_of, bytes_heard, refused_among}
 use Rattle.nutcore.specs.DriverHistory.{IsHeard}
 
--- A new server, of a list that was read and a greatest age.
+-- A new server, of a list and descriptions that were read, and a greatest age.
 pub record IsNewServer (s : ServerState) : Type 0 where
   pub list : List Ups
   pub users : List User
   pub descriptions : Descriptions
   pub max_age : ℕ
   pub is_list : IsList list
+  pub are_lawful : AreLawful descriptions
   pub is_max_age : IsMaxAge max_age
   pub is : s ≡ new_server list users descriptions max_age
 

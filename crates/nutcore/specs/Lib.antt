@@ -33,6 +33,7 @@ pub mod Endings
 pub mod ReadsBack
 pub mod Addresses
 pub mod TellingLines
+pub mod AnswersApart
 pub mod Limits
 pub mod Calls
 pub mod Status

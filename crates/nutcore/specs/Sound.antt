@@ -5,7 +5,7 @@ use Rattle.nutdriver.specs.Sound.{IsSoundTree}
 use Rattle.nutlisting.specs.declared.listing.clients.TheConstants.{SESSION_LIMIT}
 use Rattle.nutusers.specs.UpsList.{Ups, IsList}
 use Rattle.nutusers.specs.Users.{User}
-use Rattle.nutusers.specs.Descriptions.{Descriptions}
+use Rattle.nutusers.specs.Descriptions.{Descriptions, AreLawful}
 use Rattle.nutcore.specs.declared.TheConstants.{HELD_LIMIT, DRIVER_OWED_LIMIT}
 use Rattle.nutcore.specs.declared.max_age.TheConstants.{MAX_AGE_LEAST, MAX_AGE_MOST}
 use Rattle.nutcore.specs.declared.event.Event.{Event}
@@ -46,22 +46,25 @@ abbrev pub IsMaxAge : ℕ → Type 0
 IsMaxAge seconds = (MAX_AGE_LEAST ≤ seconds) × (seconds ≤ MAX_AGE_MOST)
 
 -- A server: its greatest age is one; the UPSs of its list are lawful, their names rise, and there
--- are no more than there may be; a state for each UPS of the list; at most 64 sessions, whose ids
--- rise from 1; and all of them sound.
+-- are no more than there may be; its descriptions are lawful; a state for each UPS of the list; at
+-- most 64 sessions, whose ids rise from 1; and all of them sound.
 pub record IsSound (s : ServerState) : Type 0 where
   pub max_age : IsMaxAge s.max_age
   pub list : IsList s.list
+  pub descriptions : AreLawful s.descriptions
   pub named : length s.upses ≡ length s.list
   pub few : length s.sessions ≤ SESSION_LIMIT
   pub ids : IdsRise 1 s.next_id s.sessions
   pub sessions : Each IsSoundSession s.sessions
   pub upses : Each (IsSoundUps s.moment) s.upses
 
--- Of every list of UPSs, as each that was read is one, and every greatest age, as each `MaxAge` is.
+-- Of every list of UPSs, as each that was read is one, all lawful descriptions, as those that were
+-- read are, and every greatest age, as each `MaxAge` is.
 abbrev pub ANewServerIsSound : Type 0
 ANewServerIsSound =
     (list : List Ups) (users : List User) (descriptions : Descriptions) (max_age : ℕ) → IsList list
-    → IsMaxAge max_age → IsSound (new_server list users descriptions max_age)
+    → AreLawful descriptions → IsMaxAge max_age
+    → IsSound (new_server list users descriptions max_age)
 
 abbrev pub EachEventKeepsTheServerSound : Type 0
 EachEventKeepsTheServerSound =

@@ -23,6 +23,7 @@ ghost use Rattle.nutcore.specs.FreshRuns.{TheMomentIsTheGreatestTick, WhateverIs
 ghost use Rattle.nutcore.specs.DriverOrders.{WhatADriverWasSentAndIsOwedIsWhatItWasTold};
 ghost use Rattle.nutcore.specs.Listed.{EachIsListedOnce, WhatIsListedIsWhatIsHeld};
 ghost use Rattle.nutcore.specs.ReadsBack.{EachListingReadsBack};
+ghost use Rattle.nutcore.specs.AnswersApart.{TheAnswersOfARunAreCutInOneWay};
 ghost use Rattle.nutcore.specs.Addresses.{ANewServerHasLawfulAddresses, EveryRunKeepsAddressesLawful, EveryRunKeepsTheList};
 ghost use Rattle.nutcore.specs.Sound.{ANewServerIsSound, EachEventKeepsTheServerSound, EveryRunKeepsTheServerSound, ASoundServerIsLawful};
 
@@ -185,6 +186,17 @@ pub fn addresses_are_lawful()
     ensures run { EveryRunKeepsAddressesLawful }
     ensures list { EveryRunKeepsTheList }
 {}
+
+/// The answers of a run can be told apart, over every run from `Server::new` whose sessions are opened from lawful addresses,
+/// of every client: each is one line, which doesn't begin a listing, or a listing to its END; and the text of all of them is
+/// the join of no other list of answers. So whatever answers are cut off what a client took are the first of its lines that
+/// have one, in their order.
+pub fn the_answers_of_a_run_are_cut_in_one_way()
+    ensures { TheAnswersOfARunAreCutInOneWay }
+{
+    lawful_lines_keep_trees_sound();
+    each_line_keeps_the_tree_sound();
+}
 
 /// The whole lines of what a driver reported, and what is after them, are those into which each text is cut, and of which it
 /// has one list alone.

@@ -87,6 +87,7 @@ impl Server {
     {
         lawful_lines_keep_trees_sound();
         each_line_keeps_the_tree_sound();
+        descriptions.texts_are_lawful();
         let mut upses = Vec::with_capacity(alloc, list.len())?;
         for _ in 0..list.len() {
             upses.push(Ups::new(alloc)).unwrap();

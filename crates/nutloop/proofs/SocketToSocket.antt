@@ -186,7 +186,7 @@ what_a_socket_gave_is_answered {S} calls failures sent up timely never opening s
     from : (old new : ServerState) (sockets after : S) (before now : List Call) → IsNewServer old → Moves calls old sockets new after → calls sockets ≡ Some before → calls after ≡ Some now
         → (since : List Call) × (now ≡ before ++ since) × AreAnswered since old new
     from old new sockets after before now n m told told_after =
-        let s : IsSound old = subst IsSound (sym n.is) (opening n.list n.users n.descriptions n.max_age n.is_list n.is_max_age) in (
+        let s : IsSound old = subst IsSound (sym n.is) (opening n.list n.users n.descriptions n.max_age n.is_list n.are_lawful n.is_max_age) in (
           m.since,
           told_since (calls sockets) (calls after) before now m.since m.grown told told_after,
           record {

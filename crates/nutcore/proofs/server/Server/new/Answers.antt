@@ -14,5 +14,5 @@ invariant_of-result c =
     let count : c.loop.counter ≡ length c.args.list = omega (arith, c.len-end.ensures.value, c.loop-test.false, c.loop.auto.counter-end) in
     let upses : c.loop.upses.items ≡ replicate (length c.args.list) new_ups = c.loop.invariant.made ∙ ap (λ n. replicate n new_ups) count in
     let sessions : c.in_ok-sessions.sessions.items ≡ [] = c.in_ok-sessions.ensures.items in
-    let new = new_sound c.lawful_lines_keep_trees_sound.ensures.empty c.each_line_keeps_the_tree_sound.ensures c.args.list c.args.users c.args.descriptions c.args.max_age list age in
+    let new = new_sound c.lawful_lines_keep_trees_sound.ensures.empty c.each_line_keeps_the_tree_sound.ensures c.args.list c.args.users c.args.descriptions c.args.max_age list c.texts_are_lawful.ensures age in
     record { sound = rw (upses, sessions) new; room = first_of (search rules, grind (arith, common_steps)) }
