@@ -130,6 +130,7 @@ fn push_progress(answer: &mut String, progress: Option<Progress>) -> Result<(), 
 fn call_laws() {
     laws::limits();
     laws::ids_are_read_back();
+    laws::ids_are_plain();
     laws::ids_are_used_in_their_order();
     laws::an_id_stands_for_one_order();
     laws::the_last_orders_are_kept();

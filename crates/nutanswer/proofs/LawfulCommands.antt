@@ -7,13 +7,14 @@ use Rattle.nutwords.specs.declared.faults.BadName.{BadName}
 use Rattle.nutwords.specs.declared.faults.BadName.TheVariants.{Empty, TooLong, AnotherByte}
 use Rattle.nutwords.specs.declared.faults.BadLine.{BadLine}
 use Rattle.nutwords.specs.Scan.{read_line}
+use Rattle.nuttracking.specs.Id.{read_id}
 use Rattle.nutwords.specs.Bytes.{is_name_byte, is_lawful}
 use Rattle.nutwords.specs.Reading.{read_text, is_value}
 use Rattle.nutanswer.specs.declared.command.Command.{Command}
-use Rattle.nutanswer.specs.declared.command.Command.TheVariants.{Username, Password, Login, Logout, Primary, Fsd, SetVar, InstCmd, GetVar, GetType, GetDesc, GetCmdDesc, GetUpsDesc, GetNumLogins, GetNumAttach, ListUps, ListVar, ListRw, ListCmd, ListEnum, ListRange, ListClient, Help, Ver, NetVer, ProtVer, StartTls}
+use Rattle.nutanswer.specs.declared.command.Command.TheVariants.{Username, Password, Login, Logout, Primary, Fsd, SetVar, InstCmd, GetVar, GetType, GetDesc, GetCmdDesc, GetUpsDesc, GetNumLogins, GetNumAttach, ListUps, ListVar, ListRw, ListCmd, ListEnum, ListRange, ListClient, Help, Ver, NetVer, ProtVer, StartTls, SetTracking, GetTracking, GetProgress}
 use Rattle.nutanswer.specs.declared.err_word.ErrWord.{ErrWord}
 use Rattle.nutwords.specs.Keyword.{is_word}
-use Rattle.nutanswer.specs.Command.{command_with, alone, user_name_alone, password_alone, ups_alone, ups_and_name, Names, value_of, ups_name_and_value, ups_name_and_value_if_any, read_set, read_instcmd, read_get, read_list, command_named, some_command, command_of, command_from}
+use Rattle.nutanswer.specs.Command.{command_with, alone, user_name_alone, password_alone, ups_alone, ups_and_name, Names, value_of, ups_name_and_value, ups_name_and_value_if_any, on_or_off, read_set, tracking_asked, read_instcmd, read_get, read_list, command_named, some_command, command_of, command_from}
 use Rattle.nutanswer.specs.Lawful.{HasLawfulName, HasLawfulUpsName, HasLawfulValue, HasLawfulValueIfAny, IsLawfulCommand, IsLawfulReading, WhatIsReadIsLawful}
 use Rattle.nutwords.specs.declared.limits.TheConstants.{NAME_LIMIT, VALUE_LIMIT, UPS_NAME_LIMIT}
 
@@ -109,6 +110,11 @@ two_words (u ∷ v ∷ []) a e =
     (λ name is. read_is is_name_byte false UPS_NAME_LIMIT u name (first ∙ is), λ name is. read_is is_name_byte false NAME_LIMIT v name (second ∙ is))
 two_words (u ∷ v ∷ w ∷ words) a e = cc e
 
+tracking_lawful : (words : List (List ℕ)) → IsLawfulResult (tracking_asked words)
+tracking_lawful [] = one_lawful GetTracking tt
+tracking_lawful (id ∷ []) = one_lawful (GetProgress (read_id id)) tt
+tracking_lawful (id ∷ other ∷ words) = none_lawful _
+
 get_lawful : (words : List (List ℕ)) → IsLawfulResult (read_get words)
 get_lawful [] = none_lawful _
 get_lawful (kind ∷ words) =
@@ -119,7 +125,8 @@ get_lawful (kind ∷ words) =
     (either_lawful (is_word kind (codes "UPSDESC")) (with_lawful (λ ups. GetUpsDesc ups) (ups_alone words) (ups_words words))
     (either_lawful (is_word kind (codes "NUMLOGINS")) (with_lawful (λ ups. GetNumLogins ups) (ups_alone words) (ups_words words))
     (either_lawful (is_word kind (codes "NUMATTACH")) (with_lawful (λ ups. GetNumAttach ups) (ups_alone words) (ups_words words))
-    (none_lawful _)))))))
+    (either_lawful (is_word kind (codes "TRACKING")) (tracking_lawful words)
+    (none_lawful _))))))))
 
 list_lawful : (words : List (List ℕ)) → IsLawfulResult (read_list words)
 list_lawful [] = none_lawful _
@@ -137,7 +144,8 @@ set_lawful : (words : List (List ℕ)) → IsLawfulResult (read_set words)
 set_lawful [] = none_lawful _
 set_lawful (kind ∷ words) =
     either_lawful (is_word kind (codes "VAR")) (with_lawful (λ (a : Names (Option (List ℕ))). SetVar a.0 a.1 a.2) (ups_name_and_value words) (set_words words))
-    (none_lawful _)
+    (either_lawful (is_word kind (codes "TRACKING")) (with_lawful (λ (on : Bool). SetTracking on) (on_or_off words) (λ on e. tt))
+    (none_lawful _))
 
 instcmd_lawful : (words : List (List ℕ)) → IsLawfulResult (read_instcmd words)
 instcmd_lawful words = with_lawful (λ (a : Names (Option (Option (List ℕ)))). InstCmd a.0 a.1 a.2) (ups_name_and_value_if_any words) (instcmd_words words)

@@ -12,3 +12,4 @@ mod RightLemmas
 mod OrderFits
 pub mod PublicLaws
 mod Carried
+mod Ids

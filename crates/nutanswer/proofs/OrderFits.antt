@@ -1,12 +1,13 @@
 -- An order fits in what its driver may still be owed.
-use Rattle.std.proofs.Common.{◌≡◌, ◌∙◌, ◌≤◌, ℕ, length, Bool, true, false, List, Option, Some, refl, sym, ap, subst, not, inl, inr}
+use Rattle.std.proofs.Common.{◌≡◌, ◌∙◌, ◌≤◌, ℕ, length, Bool, true, false, List, Option, Some, None, refl, sym, ap, subst, not, inl, inr, ◌⊎◌}
 use Rattle.std.specs.Prelude.{slice_get}
 use Rattle.std.proofs.lemmas.Bool.{cond-true}
 use Rattle.nutdriver.specs.declared.report.Report.{Report}
 use Rattle.nutusers.specs.declared.ups_list.UpsId.{UpsId}
-use Rattle.nutanswer.specs.View.{Seen, UpsSeen, not_connected, usable, readiness}
+use Rattle.nutanswer.specs.declared.command.Command.{Command}
+use Rattle.nutanswer.specs.View.{Seen, AskerSeen, UpsSeen, not_connected, usable, readiness}
 use Rattle.nutanswer.specs.Checks.{KnownUps, ups_named}
-use Rattle.nutanswer.specs.Rows.{ComesOf}
+use Rattle.nutanswer.specs.Rows.{IsSet, IsInstCmd, ComesOf}
 use Rattle.nutanswer.specs.Laws.{TakesOrder, OrdersFit}
 use Rattle.nutanswer.proofs.Named.{named_is_seen}
 use Rattle.nutanswer.proofs.TableRows.{each_change}
@@ -30,9 +31,13 @@ module _ (s : Seen) where
       one : (y z : UpsSeen) → Some y ≡ Some z → y ≡ z
       one y z e = cc e
 
+  fitting : (asker : AskerSeen) (command : Command) (u : UpsId) (line : List ℕ) (id : Option ℕ) (x : UpsSeen) → IsSet s asker command u id line ⊎ IsInstCmd s asker command u id line
+      → slice_get s.upses u.place ≡ Some x → TakesOrder line x
+  fitting asker command u line id x h at = elim h [
+    | inl set ↦ takes line set.by_right.ups set.by_right.known u x set.by_right.named set.by_right.this set.ready set.fits at
+    | inr order ↦ takes line order.by_right.ups order.by_right.known u x order.by_right.named order.by_right.this order.ready order.fits at
+  ]
+
 pub orders_fit : OrdersFit
-orders_fit s asker command u line x e at =
-    elim (subst (ComesOf s asker command) e (each_change s asker command)) [
-      | inl set ↦ takes s line.items set.by_right.ups set.by_right.known u x set.by_right.named set.by_right.this set.ready set.fits at
-      | inr order ↦ takes s line.items order.by_right.ups order.by_right.known u x order.by_right.named order.by_right.this order.ready order.fits at
-    ]
+orders_fit s asker command u line None x e at = fitting s asker command u line None x (subst (ComesOf s asker command) e (each_change s asker command)) at
+orders_fit s asker command u line (Some id) x e at = fitting s asker command u line (Some id) x (subst (ComesOf s asker command) e (each_change s asker command)) at

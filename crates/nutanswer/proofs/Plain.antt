@@ -1,6 +1,6 @@
 -- Texts without an LF: the words of answers.
 use Rattle.std.proofs.Common.{◌≡◌, ℕ, ℤ, pos, negsuc, suc, ◌+◌, ◌^◌, ◌<◌, ◌≤◌, ◌%◌, Bool, true, false, eqb, List, [], ◌∷◌, ◌++◌, Option, Some, None, refl, arith}
-use Rattle.std.specs.Prelude.{◌||◌, ◌&&◌, ◌≤ℤ◌, neg_ℤ, not, is_ok, IsTrue, IfSome, codes}
+use Rattle.std.specs.Prelude.{◌==◌, if◌then◌else◌, ◌||◌, ◌&&◌, ◌≤ℤ◌, neg_ℤ, not, is_ok, IsTrue, IfSome, codes}
 use Rattle.std.specs.Fmt.{decimal, signed_decimal}
 use Rattle.std.specs.List.{AllByRecursion, list_all, join_with_byte}
 use Rattle.std.specs.Str.{bytes_eq}
@@ -20,6 +20,10 @@ use Rattle.nutdriver.specs.declared.limits.TheConstants.{NUMBER_LIMIT}
 use Rattle.nutusers.specs.Texts.{is_description}
 use Rattle.nutlisting.specs.Shown.{shown, description_of, text_or_unavailable}
 use Rattle.nutlisting.specs.Types.{word_if, else_number, kind_words, type_words}
+use Rattle.nutlisting.specs.Tracked.{progress_words}
+use Rattle.nuttracking.specs.Sound.{IsLawfulProgress}
+use Rattle.nuttracking.specs.declared.order.Progress.{Progress}
+use Rattle.nuttracking.specs.declared.order.Progress.TheVariants.{Pending, Done}
 
 abbrev pub IsPlain : List ℕ → Type 0
 IsPlain text = has_lf text ≡ false
@@ -133,3 +137,12 @@ type_plain v few =
     (join_words (word_if (not (is_empty v.enum_values)) (codes "ENUM")) _ (if_plain (not (is_empty v.enum_values)) (codes "ENUM") refl)
     (join_words (word_if (not (is_empty v.ranges)) (codes "RANGE")) _ (if_plain (not (is_empty v.ranges)) (codes "RANGE") refl)
     (if_plain v.flags.string (codes "STRING:" ++ decimal v.aux) (join_plain (codes "STRING:") (decimal v.aux) refl (decimal_plain v.aux (omega (arith, few))))))))
+
+-- how far an order has come
+pub progress_plain : (progress : Progress) → IsLawfulProgress progress → ArePlain (progress_words progress)
+progress_plain Pending h = (refl, tt)
+progress_plain (Done number) h = by_number (number == 0)
+  where
+    by_number : (b : Bool) → ArePlain (if b then codes "SUCCESS" ∷ [] else codes "FAILED" ∷ decimal number ∷ [])
+    by_number true = (refl, tt)
+    by_number false = (refl, (decimal_plain number (omega (arith, h)), tt))

@@ -1,8 +1,8 @@
 -- The answer of each row of the table is one line, which begins no listing, or a listing to its END.
 use Rattle.std.proofs.Common.{◌≡◌, ◌<◌, ◌^◌, ℕ, Bool, true, false, List, [], ◌∷◌, ◌++◌, Option, Some, None, Result, Ok, Err, refl, sym, ap, subst, arith}
-use Rattle.std.specs.Prelude.{codes, map, filter, slice_get, All, IsTrue, IfSome}
+use Rattle.std.specs.Prelude.{codes, map, filter, slice_get, All, IsTrue, IfSome, if◌then◌else◌}
 use Rattle.std.specs.Fmt.{decimal, signed_decimal}
-use Rattle.std.specs.List.{AllByRecursion, concat, join_with_byte}
+use Rattle.std.specs.List.{AllByRecursion, concat, find, join_with_byte}
 use Rattle.std.specs.Map.{keys_of, values_of}
 use Rattle.std.specs.BTreeMap.{is_at}
 use Rattle.std.specs.Option.{ok_or, option_map, option_and_then}
@@ -16,6 +16,11 @@ use Rattle.nutwords.specs.Answers.{begins_listing, ends_listing, GoesToEnd, ends
 use Rattle.nutwords.specs.Frame.{line_of, frame}
 use Rattle.nutwords.specs.Reading.{is_name, is_value, is_address}
 use Rattle.nutwords.specs.Spelling.{quoted}
+use Rattle.nuttracking.specs.Id.{id_text}
+use Rattle.nuttracking.specs.Sound.{IsLawfulProgress, HaveLawfulNumbers}
+use Rattle.nuttracking.specs.Tracking.{has_id}
+use Rattle.nuttracking.specs.declared.order.Progress.{Progress}
+use Rattle.nuttracking.specs.declared.order.TrackedOrder.{TrackedOrder}
 use Rattle.nutdriver.specs.Sound.{IsSoundRange, IsSoundVariable, IsSoundTree}
 use Rattle.nutdriver.specs.Tree.{TreeState, byte_order, variable_at}
 use Rattle.nutdriver.specs.Variable.{VariableState}
@@ -27,20 +32,22 @@ use Rattle.nutusers.specs.declared.rights.Right.TheVariants as rights
 use Rattle.nutlisting.specs.Items.{is_rw, ups_item, variable_item, command_item, enum_item, range_item, client_item}
 use Rattle.nutlisting.specs.Shown.{shown, description_of, ups_description}
 use Rattle.nutlisting.specs.Types.{type_words}
+use Rattle.nutlisting.specs.Tracked.{progress_words}
+use Rattle.nutlisting.proofs.PublicLaws.{ids_are_lawful}
 use Rattle.nutanswer.specs.declared.command.Command.{Command}
-use Rattle.nutanswer.specs.declared.command.Command.TheVariants.{Username, Password, Login, Logout, Primary, Fsd, SetVar, InstCmd, GetVar, GetType, GetDesc, GetCmdDesc, GetUpsDesc, GetNumLogins, GetNumAttach, ListUps, ListVar, ListRw, ListCmd, ListEnum, ListRange, ListClient, Help, Ver, NetVer, ProtVer, StartTls}
+use Rattle.nutanswer.specs.declared.command.Command.TheVariants.{Username, Password, Login, Logout, Primary, Fsd, SetVar, InstCmd, GetVar, GetType, GetDesc, GetCmdDesc, GetUpsDesc, GetNumLogins, GetNumAttach, ListUps, ListVar, ListRw, ListCmd, ListEnum, ListRange, ListClient, Help, Ver, NetVer, ProtVer, StartTls, SetTracking, GetTracking, GetProgress}
 use Rattle.nutanswer.specs.declared.err_word.ErrWord.{ErrWord}
-use Rattle.nutanswer.specs.declared.err_word.ErrWord.TheVariants.{VarNotSupported, CmdNotSupported, FeatureNotConfigured}
+use Rattle.nutanswer.specs.declared.err_word.ErrWord.TheVariants.{VarNotSupported, CmdNotSupported, FeatureNotConfigured, InvalidArgument, SetFailed, InstcmdFailed}
 use Rattle.nutanswer.specs.ErrWord.{spelling_of}
 use Rattle.nutanswer.specs.View.{Seen, AskerSeen, UpsSeen, ClientSeen, is_logged_in, login_count}
-use Rattle.nutanswer.specs.Checks.{◌>>=◌, ◌>>◌, KnownUps, known, ups_at, ups_named, unknown_ups, live, user, variable_named, var_not_supported, cmd_not_supported, already_set_username, already_set_password, already_logged_in, invalid_argument, readonly, too_long, too_long_of_command, invalid_value, set_failed, instcmd_failed}
-use Rattle.nutanswer.specs.Orders.{instcmd_right, set_line, instcmd_line}
-use Rattle.nutanswer.specs.Answer.{Answer, ok, help_text, answer_to, text_of_answer}
+use Rattle.nutanswer.specs.Checks.{◌>>=◌, ◌>>◌, KnownUps, known, ups_at, ups_named, unknown_ups, live, user, variable_named, var_not_supported, cmd_not_supported, already_set_username, already_set_password, already_logged_in, invalid_argument, readonly, too_long, too_long_of_command, invalid_value, no_id, set_failed, instcmd_failed, unknown_id}
+use Rattle.nutanswer.specs.Orders.{instcmd_right, set_line, instcmd_line, ok_words}
+use Rattle.nutanswer.specs.Answer.{Answer, ok, help_text, on_or_off_word, answer_to, text_of_answer}
 use Rattle.nutanswer.specs.Lawful.{HasLawfulName, HasLawfulUpsName, IsLawfulCommand}
 use Rattle.nutanswer.specs.Laws.{IsLawfulSeen, EachAnswerIsALineOrAListing}
 use Rattle.nutanswer.proofs.ErrorLemmas.{error_lawful}
 use Rattle.nutanswer.proofs.Named.{named_is_seen}
-use Rattle.nutanswer.proofs.Plain.{IsPlain, ArePlain, joined_plain, lawful_plain, name_plain, ups_name_plain, address_plain, value_plain, quoted_plain, shown_plain, told_plain, ups_text_plain, decimal_plain, number_plain, type_plain}
+use Rattle.nutanswer.proofs.Plain.{IsPlain, ArePlain, joined_plain, lawful_plain, name_plain, ups_name_plain, address_plain, value_plain, quoted_plain, shown_plain, told_plain, ups_text_plain, decimal_plain, number_plain, type_plain, progress_plain}
 use Rattle.nutanswer.proofs.TableRows.{found, held, of_ups, of_usable}
 
 -- an item of a listing: its line has no LF, and doesn't end the listing
@@ -75,6 +82,37 @@ refused_shaped word = one_line_alone (join_with_byte 32 (codes "ERR" ∷ spellin
 
 ok_shaped : IsAnswer (line_of ok)
 ok_shaped = line_shaped ok (refl, tt) refl
+
+-- an order, tracked or not
+id_plain : (id : ℕ) → IsPlain (id_text id)
+id_plain id = lawful_plain (id_text id) (ids_are_lawful.lawful id)
+
+order_shaped : (id : Option ℕ) → IsAnswer (line_of (ok_words id))
+order_shaped None = ok_shaped
+order_shaped (Some id) = line_shaped (ok_words (Some id)) (refl, (refl, (id_plain id, tt))) refl
+
+on_or_off_plain : (on : Bool) → IsPlain (on_or_off_word on)
+on_or_off_plain true = refl
+on_or_off_plain false = refl
+
+-- an order that is found is done with a lawful number
+found_all : {X : Type 0} (P : X → Type 0) (test : X → Bool) (xs : List X) → All P xs → IfSome (find test xs) P
+found_all P test [] all = tt
+found_all {X} P test (x ∷ xs) all = by_test (test x) (found_all P test xs (All-tail P x xs all))
+  where
+    by_test : (b : Bool) → IfSome (find test xs) P → IfSome (if b then Some x else find test xs) P
+    by_test true later = All-head P x xs all
+    by_test false later = later
+
+progress_found : (s : Seen) (id : Option ℕ) (k : ℕ × Progress) → HaveLawfulNumbers s.tracking.orders → unknown_id s id ≡ Ok k → IsLawfulProgress k.1
+progress_found s None k numbers e = cc e
+progress_found s (Some id) k numbers e =
+    by_found (find (has_id id) s.tracking.orders) (found_all (λ (order : TrackedOrder). IsLawfulProgress order.progress) (has_id id) s.tracking.orders numbers) e
+  where
+    by_found : (o : Option TrackedOrder) → IfSome o (λ order. IsLawfulProgress order.progress)
+        → ok_or (option_map (λ (progress : Progress). (id, progress)) (option_map (λ (order : TrackedOrder). order.progress) o)) InvalidArgument ≡ Ok k → IsLawfulProgress k.1
+    by_found None h e = cc e
+    by_found (Some order) h e = let same : (id, order.progress) ≡ k = cc e in subst (λ (k : ℕ × Progress). IsLawfulProgress k.1) same h
 
 -- the variables of a sound tree
 abbrev IsLawfulEntry : List ℕ × VariableState → Type 0
@@ -214,11 +252,12 @@ module _ (s : Seen) (lawful : IsLawfulSeen s) where
         held IsShaped refused_shaped (user s asker rights.Set) _ (λ right. of_usable IsShaped refused_shaped s ups _ (λ u named going.
         found IsShaped refused_shaped (var_not_supported u name) _ (λ v is. held IsShaped refused_shaped (readonly v.1) _ (λ writable.
         found IsShaped refused_shaped (too_long v.1 word) _ (λ value short. held IsShaped refused_shaped (invalid_value v.1 value) _ (λ may_be.
-        held IsShaped refused_shaped (set_failed u (set_line v.0 value)) _ (λ fits. ok_shaped)))))))
+        found IsShaped refused_shaped (no_id s asker SetFailed) _ (λ id is. held IsShaped refused_shaped (set_failed u (set_line v.0 value id)) _ (λ fits. order_shaped id))))))))
     shaped (InstCmd ups name word) h =
         held IsShaped refused_shaped (user s asker (instcmd_right name)) _ (λ right. of_usable IsShaped refused_shaped s ups _ (λ u named going.
         found IsShaped refused_shaped (cmd_not_supported u name) _ (λ c is. found IsShaped refused_shaped (too_long_of_command word) _ (λ value short.
-        held IsShaped refused_shaped (instcmd_failed u (instcmd_line c value)) _ (λ fits. ok_shaped)))))
+        found IsShaped refused_shaped (no_id s asker InstcmdFailed) _ (λ id is. held IsShaped refused_shaped (instcmd_failed u (instcmd_line c value id)) _ (λ fits. order_shaped id))))))
+    shaped (SetTracking on) h = ok_shaped
     shaped (GetVar ups name) h =
         shaped_of_variable ups name _ h (λ u v k n x. line_shaped (codes "VAR" ∷ u.name ∷ v.0 ∷ quoted (shown u.state.fsd v.0 v.1) ∷ []) (refl, (k.name, (n, (quoted_plain (shown u.state.fsd v.0 v.1) (shown_plain u.state.fsd v.0 v.1 x.1.value), tt)))) refl)
     shaped (GetType ups name) h = shaped_of_variable ups name _ h (λ u v k n x. line_shaped (codes "TYPE" ∷ u.name ∷ v.0 ∷ type_words v.1) (refl, (k.name, (n, type_plain v.1 x.1.aux))) refl)
@@ -229,6 +268,9 @@ module _ (s : Seen) (lawful : IsLawfulSeen s) where
     shaped (GetUpsDesc ups) h = shaped_of_ups ups _ h (λ u k. line_shaped (codes "UPSDESC" ∷ u.name ∷ quoted u.description ∷ []) (refl, (k.name, (quoted_plain u.description k.description, tt))) refl)
     shaped (GetNumLogins ups) h = shaped_of_ups ups _ h (λ u k. line_shaped (codes "NUMLOGINS" ∷ u.name ∷ decimal (login_count u.id s.clients) ∷ []) (refl, (k.name, (decimal_plain (login_count u.id s.clients) (few_logged_in u), tt))) refl)
     shaped (GetNumAttach ups) h = shaped_of_ups ups _ h (λ u k. line_shaped (codes "NUMATTACH" ∷ u.name ∷ decimal (login_count u.id s.clients) ∷ []) (refl, (k.name, (decimal_plain (login_count u.id s.clients) (few_logged_in u), tt))) refl)
+    shaped GetTracking h = line_shaped (codes "TRACKING" ∷ on_or_off_word asker.tracking ∷ []) (refl, (on_or_off_plain asker.tracking, tt)) refl
+    shaped (GetProgress id) h =
+        found IsShaped refused_shaped (unknown_id s id) _ (λ k is. line_shaped (codes "TRACKING" ∷ id_text k.0 ∷ progress_words k.1) (refl, (id_plain k.0, progress_plain k.1 (progress_found s id k lawful.numbers is))) refl)
     shaped ListUps h = listing_shaped (codes "UPS") [] _ (refl, tt) (items_of IsLawfulUps ups_item ups_inside s.list lawful.list)
     shaped (ListVar ups) h =
         shaped_of_usable ups _ h (λ u k. listing_shaped (codes "VAR") (u.name ∷ []) _ (refl, (k.name, tt))

@@ -1,25 +1,29 @@
 -- The rows of the table of answers: of each command, what it may be answered, and where which checks held.
-use Rattle.std.proofs.Common.{◌≡◌, ◌≤◌, ℕ, Bool, true, false, List, [], ◌∷◌, Option, Some, None, Result, Ok, Err, refl, sym, ◌∙◌, ap, ◌&&◌, length, inl, inr}
-use Rattle.std.specs.Prelude.{codes, is_none}
+use Rattle.std.proofs.Common.{◌≡◌, ◌≤◌, ℕ, Bool, true, false, List, [], ◌∷◌, Option, Some, None, Result, Ok, Err, refl, sym, ◌∙◌, ap, ◌&&◌, length, inl, inr, ◌⊎◌, arith}
+use Rattle.std.specs.Prelude.{codes, is_none, if◌then◌else◌}
 use Rattle.std.specs.Option.{ok_or, option_map}
 use Rattle.std.proofs.lemmas.Bool.{leb-true}
 use Rattle.nutwords.specs.Frame.{line_of}
+use Rattle.nuttracking.specs.Tracking.{next_id}
 use Rattle.nutdriver.specs.Variable.{VariableState}
 use Rattle.nutdriver.specs.Tree.{variable_at, has_command}
 use Rattle.nutlisting.specs.Items.{ListingState}
 use Rattle.nutusers.specs.Users.{may}
 use Rattle.nutusers.specs.declared.rights.Right.{Right}
 use Rattle.nutusers.specs.declared.rights.Right.TheVariants as rights
+use Rattle.nutusers.specs.declared.ups_list.UpsId.{UpsId}
 use Rattle.nutanswer.specs.declared.command.Command.{Command}
-use Rattle.nutanswer.specs.declared.command.Command.TheVariants.{Username, Password, Login, Logout, Primary, Fsd, SetVar, InstCmd, GetVar, GetType, GetDesc, GetCmdDesc, GetUpsDesc, GetNumLogins, GetNumAttach, ListUps, ListVar, ListRw, ListCmd, ListEnum, ListRange, ListClient, Help, Ver, NetVer, ProtVer, StartTls}
+use Rattle.nutanswer.specs.declared.command.Command.TheVariants.{Username, Password, Login, Logout, Primary, Fsd, SetVar, InstCmd, GetVar, GetType, GetDesc, GetCmdDesc, GetUpsDesc, GetNumLogins, GetNumAttach, ListUps, ListVar, ListRw, ListCmd, ListEnum, ListRange, ListClient, Help, Ver, NetVer, ProtVer, StartTls, SetTracking, GetTracking, GetProgress}
 use Rattle.nutanswer.specs.declared.err_word.ErrWord.{ErrWord}
 use Rattle.nutanswer.specs.declared.err_word.ErrWord.TheVariants.{AccessDenied, UnknownUps, UsernameRequired, PasswordRequired, AlreadySetUsername, AlreadySetPassword, AlreadyLoggedIn, VarNotSupported, CmdNotSupported, Readonly, TooLong, InvalidValue, SetFailed, InstcmdFailed}
+use Rattle.nutanswer.specs.declared.reply.Change.{Change}
 use Rattle.nutanswer.specs.declared.reply.Change.TheVariants as changes
+use Rattle.nutanswer.specs.ErrWord.{error_line}
 use Rattle.nutanswer.specs.View.{Seen, AskerSeen, Readiness, not_connected, stale, usable, readiness}
-use Rattle.nutanswer.specs.Checks.{◌>>=◌, ◌>>◌, unless, KnownUps, ups_named, unknown_ups, ready, live, driver_not_connected, data_stale, user, access_denied, var_not_supported, var_not_lawful, cmd_not_lawful, already_set_username, already_set_password, already_logged_in, readonly, too_long_of_command, invalid_value, set_failed, instcmd_failed}
-use Rattle.nutanswer.specs.Orders.{is_short_enough, is_listed, is_in_ranges, right_to, set_line, instcmd_line, order}
+use Rattle.nutanswer.specs.Checks.{◌>>=◌, ◌>>◌, unless, KnownUps, ups_named, unknown_ups, ready, live, driver_not_connected, data_stale, user, access_denied, var_not_supported, var_not_lawful, cmd_not_lawful, already_set_username, already_set_password, already_logged_in, readonly, too_long_of_command, invalid_value, first_id, no_id, set_failed, instcmd_failed, unknown_id}
+use Rattle.nutanswer.specs.Orders.{is_short_enough, is_listed, is_in_ranges, right_to, set_line, instcmd_line, order, ok_words}
 use Rattle.nutanswer.specs.Answer.{Answer, one_line, listing, listing_of_clients, told, ok, answer_to, change_of_answer, text_of_answer}
-use Rattle.nutanswer.specs.Rows.{HasRight, value_given, ComesOf, EachChangeComesOfItsCommand, EachOrderAnsweredOkIsGiven}
+use Rattle.nutanswer.specs.Rows.{HasRight, value_given, IsIdOfOrder, IsSet, IsInstCmd, ComesOf, EachChangeComesOfItsCommand, EachOrderAnsweredOkIsGiven}
 
 -- what a check that holds says
 unless_ok : (b : Bool) (word : ErrWord) → unless b word ≡ Ok tt → b ≡ true
@@ -67,6 +71,15 @@ module _ (P : Result Answer ErrWord → Type 0) (no : (word : ErrWord) → P (Er
   tested true word a next h = h refl
   tested false word a next h = no word
 
+  -- of the id of an order, where there is one for it
+  with_id : (s : Seen) (asker : AskerSeen) (word : ErrWord) (next : Option ℕ → Result Answer ErrWord) → ((id : Option ℕ) → IsIdOfOrder s asker id → P (next id)) → P (no_id s asker word >>= next)
+  with_id s asker word next h = by_flag asker.tracking (next_id s.tracking) refl refl
+    where
+      by_flag : (on : Bool) (o : Option ℕ) → asker.tracking ≡ on → next_id s.tracking ≡ o → P ((if on then first_id o word else Ok None) >>= next)
+      by_flag true None e f = no word
+      by_flag true (Some id) e f = h (Some id) (e, f)
+      by_flag false o e f = h None e
+
   module _ (s : Seen) (ups : Option (List ℕ)) where
     -- of a UPS that is there
     pub of_ups : (next : KnownUps → Result Answer ErrWord) → ((u : KnownUps) → ups_named s ups ≡ Some u → P (next u)) → P (unknown_ups s ups >>= next)
@@ -89,38 +102,38 @@ module _ (P : Result Answer ErrWord → Type 0) (no : (word : ErrWord) → P (Er
         looked_up u (Some x) h = h x refl
 
   -- SET VAR, where its checks hold
-  abbrev SetGoes : Seen → AskerSeen → Option (List ℕ) → List ℕ → List ℕ → KnownUps → VariableState → Type 0
-  SetGoes s asker ups name value u x =
+  abbrev SetGoes : Seen → AskerSeen → Option (List ℕ) → List ℕ → List ℕ → KnownUps → VariableState → Option ℕ → Type 0
+  SetGoes s asker ups name value u x id =
       HasRight s asker rights.Set → ups_named s ups ≡ Some u → readiness s.moment s.max_age u.state.report ≡ usable
       → variable_at u.state.report.tree name ≡ Some x → x.flags.rw ≡ true → is_short_enough x value ≡ true
-      → (is_listed x.enum_values value && is_in_ranges x.ranges value) ≡ true → length (set_line name value) ≤ u.state.free
-      → P (Ok (one_line ok (order u.id (set_line name value))))
+      → (is_listed x.enum_values value && is_in_ranges x.ranges value) ≡ true → IsIdOfOrder s asker id → length (set_line name value id) ≤ u.state.free
+      → P (Ok (one_line (ok_words id) (order u.id (set_line name value id) id)))
 
   set_row : (s : Seen) (asker : AskerSeen) (ups : Option (List ℕ)) (name value : List ℕ)
-      → ((u : KnownUps) (x : VariableState) → SetGoes s asker ups name value u x) → P (answer_to s asker (SetVar ups (Some name) (Some value)))
+      → ((u : KnownUps) (x : VariableState) (id : Option ℕ) → SetGoes s asker ups name value u x id) → P (answer_to s asker (SetVar ups (Some name) (Some value)))
   set_row s asker ups name value goes =
       held (user s asker rights.Set) _ (λ right. of_variable s ups name _ (λ u x named going there.
       held (readonly x) _ (λ writable. tested (is_short_enough x value) TooLong value _ (λ short. held (invalid_value x value) _ (λ may_be.
-      held (set_failed u (set_line name value)) _ (λ fits.
-      goes u x (has_right s asker rights.Set right) named going there (unless_ok x.flags.rw Readonly writable) short (unless_ok _ InvalidValue may_be) (leb-true _ _ (unless_ok _ SetFailed fits))))))))
+      with_id s asker SetFailed _ (λ id id_is. held (set_failed u (set_line name value id)) _ (λ fits.
+      goes u x id (has_right s asker rights.Set right) named going there (unless_ok x.flags.rw Readonly writable) short (unless_ok _ InvalidValue may_be) id_is (leb-true _ _ (unless_ok _ SetFailed fits)))))))))
 
   -- INSTCMD
-  abbrev CommandGoes : Seen → AskerSeen → Option (List ℕ) → List ℕ → Option (List ℕ) → KnownUps → Type 0
-  CommandGoes s asker ups name value u =
+  abbrev CommandGoes : Seen → AskerSeen → Option (List ℕ) → List ℕ → Option (List ℕ) → KnownUps → Option ℕ → Type 0
+  CommandGoes s asker ups name value u id =
       HasRight s asker (right_to name) → ups_named s ups ≡ Some u → readiness s.moment s.max_age u.state.report ≡ usable
-      → has_command u.state.report.tree name ≡ true → length (instcmd_line name value) ≤ u.state.free
-      → P (Ok (one_line ok (order u.id (instcmd_line name value))))
+      → has_command u.state.report.tree name ≡ true → IsIdOfOrder s asker id → length (instcmd_line name value id) ≤ u.state.free
+      → P (Ok (one_line (ok_words id) (order u.id (instcmd_line name value id) id)))
 
   command_row : (s : Seen) (asker : AskerSeen) (ups : Option (List ℕ)) (name : List ℕ) (value : Option (List ℕ))
-      → ((u : KnownUps) → CommandGoes s asker ups name value u) → P (answer_to s asker (InstCmd ups (Some name) (value_given value)))
+      → ((u : KnownUps) (id : Option ℕ) → CommandGoes s asker ups name value u id) → P (answer_to s asker (InstCmd ups (Some name) (value_given value)))
   command_row s asker ups name value goes =
       held (user s asker (right_to name)) _ (λ right. of_usable s ups _ (λ u named going.
-      tested (has_command u.state.report.tree name) CmdNotSupported name _ (λ there. by_value value u (λ fits. goes u (has_right s asker (right_to name) right) named going there fits))))
+      tested (has_command u.state.report.tree name) CmdNotSupported name _ (λ there. by_value value u (λ id id_is fits. goes u id (has_right s asker (right_to name) right) named going there id_is fits))))
     where
-      by_value : (value : Option (List ℕ)) (u : KnownUps) → (length (instcmd_line name value) ≤ u.state.free → P (Ok (one_line ok (order u.id (instcmd_line name value)))))
-          → P (too_long_of_command (value_given value) >>= (λ v. instcmd_failed u (instcmd_line name v) >> Ok (one_line ok (order u.id (instcmd_line name v)))))
-      by_value None u h = held (instcmd_failed u (instcmd_line name None)) _ (λ fits. h (leb-true _ _ (unless_ok _ InstcmdFailed fits)))
-      by_value (Some value) u h = held (instcmd_failed u (instcmd_line name (Some value))) _ (λ fits. h (leb-true _ _ (unless_ok _ InstcmdFailed fits)))
+      by_value : (value : Option (List ℕ)) (u : KnownUps) → ((id : Option ℕ) → IsIdOfOrder s asker id → length (instcmd_line name value id) ≤ u.state.free → P (Ok (one_line (ok_words id) (order u.id (instcmd_line name value id) id))))
+          → P (too_long_of_command (value_given value) >>= (λ v. no_id s asker InstcmdFailed >>= (λ id. instcmd_failed u (instcmd_line name v id) >> Ok (one_line (ok_words id) (order u.id (instcmd_line name v id) id)))))
+      by_value None u h = with_id s asker InstcmdFailed _ (λ id id_is. held (instcmd_failed u (instcmd_line name None id)) _ (λ fits. h id id_is (leb-true _ _ (unless_ok _ InstcmdFailed fits))))
+      by_value (Some value) u h = with_id s asker InstcmdFailed _ (λ id id_is. held (instcmd_failed u (instcmd_line name (Some value) id)) _ (λ fits. h id id_is (leb-true _ _ (unless_ok _ InstcmdFailed fits))))
 
 -- of each command, what it may be answered
 pub data IsRow (s : Seen) (asker : AskerSeen) : Command → Result Answer ErrWord → Type 0 where
@@ -133,12 +146,13 @@ pub data IsRow (s : Seen) (asker : AskerSeen) : Command → Result Answer ErrWor
   logs_in : (ups : Option (List ℕ)) (u : KnownUps) → HasRight s asker rights.Login → ups_named s ups ≡ Some u → asker.login ≡ None → IsRow s asker (Login ups) (Ok (one_line ok (changes.Login u.id)))
   ends : IsRow s asker Logout (Ok (one_line (codes "OK" ∷ codes "Goodbye" ∷ []) changes.Ending))
   shuts_down : (ups : Option (List ℕ)) (u : KnownUps) → HasRight s asker rights.Fsd → ups_named s ups ≡ Some u → IsRow s asker (Fsd ups) (Ok (one_line (codes "OK" ∷ codes "FSD-SET" ∷ []) (changes.Fsd u.id)))
-  sets : (ups : Option (List ℕ)) (name value : List ℕ) (u : KnownUps) (x : VariableState) → HasRight s asker rights.Set → ups_named s ups ≡ Some u → readiness s.moment s.max_age u.state.report ≡ usable
-      → variable_at u.state.report.tree name ≡ Some x → x.flags.rw ≡ true → is_short_enough x value ≡ true → (is_listed x.enum_values value && is_in_ranges x.ranges value) ≡ true → length (set_line name value) ≤ u.state.free
-      → IsRow s asker (SetVar ups (Some name) (Some value)) (Ok (one_line ok (order u.id (set_line name value))))
-  commands : (ups : Option (List ℕ)) (name : List ℕ) (value : Option (List ℕ)) (u : KnownUps) → HasRight s asker (right_to name) → ups_named s ups ≡ Some u → readiness s.moment s.max_age u.state.report ≡ usable
-      → has_command u.state.report.tree name ≡ true → length (instcmd_line name value) ≤ u.state.free
-      → IsRow s asker (InstCmd ups (Some name) (value_given value)) (Ok (one_line ok (order u.id (instcmd_line name value))))
+  sets : (ups : Option (List ℕ)) (name value : List ℕ) (u : KnownUps) (x : VariableState) (id : Option ℕ) → HasRight s asker rights.Set → ups_named s ups ≡ Some u → readiness s.moment s.max_age u.state.report ≡ usable
+      → variable_at u.state.report.tree name ≡ Some x → x.flags.rw ≡ true → is_short_enough x value ≡ true → (is_listed x.enum_values value && is_in_ranges x.ranges value) ≡ true → IsIdOfOrder s asker id → length (set_line name value id) ≤ u.state.free
+      → IsRow s asker (SetVar ups (Some name) (Some value)) (Ok (one_line (ok_words id) (order u.id (set_line name value id) id)))
+  commands : (ups : Option (List ℕ)) (name : List ℕ) (value : Option (List ℕ)) (u : KnownUps) (id : Option ℕ) → HasRight s asker (right_to name) → ups_named s ups ≡ Some u → readiness s.moment s.max_age u.state.report ≡ usable
+      → has_command u.state.report.tree name ≡ true → IsIdOfOrder s asker id → length (instcmd_line name value id) ≤ u.state.free
+      → IsRow s asker (InstCmd ups (Some name) (value_given value)) (Ok (one_line (ok_words id) (order u.id (instcmd_line name value id) id)))
+  tracks : (on : Bool) → IsRow s asker (SetTracking on) (Ok (one_line ok (changes.Tracking on)))
 
 module _ (s : Seen) (asker : AskerSeen) where
   -- of a variable, whatever it is called
@@ -181,6 +195,7 @@ module _ (s : Seen) (asker : AskerSeen) where
       held (IsRow s asker (InstCmd ups (Some name) (Some None))) (refused _) (user s asker (right_to name)) _ (λ right. of_usable (IsRow s asker (InstCmd ups (Some name) (Some None))) (refused _) s ups _ (λ u named going.
       tested (IsRow s asker (InstCmd ups (Some name) (Some None))) (refused _) (has_command u.state.report.tree name) CmdNotSupported name _ (λ there. refused _ _)))
   row (InstCmd ups (Some name) (Some (Some value))) = command_row (IsRow s asker (InstCmd ups (Some name) (Some (Some value)))) (refused _) s asker ups name (Some value) (commands ups name (Some value))
+  row (SetTracking on) = tracks on
   row (GetVar ups v) = row_of_variable (GetVar ups v) ups v _ (λ u x. tells _ _)
   row (GetType ups v) = row_of_variable (GetType ups v) ups v _ (λ u x. tells _ _)
   row (GetDesc ups v) = row_of_name (GetDesc ups v) ups (var_not_lawful v) _
@@ -188,6 +203,8 @@ module _ (s : Seen) (asker : AskerSeen) where
   row (GetUpsDesc ups) = row_of_ups (GetUpsDesc ups) ups _
   row (GetNumLogins ups) = row_of_ups (GetNumLogins ups) ups _
   row (GetNumAttach ups) = row_of_ups (GetNumAttach ups) ups _
+  row GetTracking = tells _ _
+  row (GetProgress id) = found (IsRow s asker (GetProgress id)) (refused _) (unknown_id s id) _ (λ k is. tells _ _)
   row ListUps = lists _ _
   row (ListVar ups) = row_of_usable (ListVar ups) ups _
   row (ListRw ups) = row_of_usable (ListRw ups) ups _
@@ -201,6 +218,11 @@ module _ (s : Seen) (asker : AskerSeen) where
   row ProtVer = tells _ _
   row StartTls = refused _ _
 
+  -- an order, tracked or not
+  of_order : (command : Command) (u : UpsId) (line : List ℕ) (id : Option ℕ) → IsSet s asker command u id line ⊎ IsInstCmd s asker command u id line → ComesOf s asker command (order u line id)
+  of_order command u line None h = h
+  of_order command u line (Some id) h = h
+
   -- what changes by it
   comes_of : (command : Command) (answer : Result Answer ErrWord) → IsRow s asker command answer → text_of_answer (answer_to s asker command) ≡ text_of_answer answer → ComesOf s asker command (change_of_answer answer)
   comes_of command _ (refused _ word) e = tt
@@ -212,9 +234,9 @@ module _ (s : Seen) (asker : AskerSeen) where
   comes_of _ _ (logs_in ups u right named free) e = record { by_right = record { ups = ups; known = u; is = refl; named = named; this = refl; has = right; text = e }; fresh = free }
   comes_of _ _ ends e = refl
   comes_of _ _ (shuts_down ups u right named) e = record { ups = ups; known = u; is = refl; named = named; this = refl; has = right; text = e }
-  comes_of _ _ (sets ups name value u x right named going there writable short may_be fits) e =
+  comes_of _ _ (sets ups name value u x id right named going there writable short may_be id_is fits) e =
       let both = both_true _ _ may_be in
-      inl (record {
+      of_order _ _ _ id (inl (record {
         name = name;
         value = value;
         variable = x;
@@ -225,37 +247,67 @@ module _ (s : Seen) (asker : AskerSeen) where
         short = short;
         listed = both.0;
         in_range = both.1;
+        id_is = id_is;
         fits = fits;
         line_is = refl;
-      })
-  comes_of _ _ (commands ups name value u right named going there fits) e =
-      inr (record {
+      }))
+  comes_of _ _ (commands ups name value u id right named going there id_is fits) e =
+      of_order _ _ _ id (inr (record {
         name = name;
         value = value;
         by_right = record { ups = ups; known = u; is = refl; named = named; this = refl; has = right; text = e };
         ready = going;
         there = there;
+        id_is = id_is;
         fits = fits;
         line_is = refl;
-      })
+      }))
+  comes_of _ _ (tracks on) e = refl
 
 pub each_change : EachChangeComesOfItsCommand
 each_change s asker command = comes_of s asker command (answer_to s asker command) (row s asker command) refl
 
--- an order that OK answers is given
-abbrev OrdersIfOk : KnownUps → List ℕ → Result Answer ErrWord → Type 0
-OrdersIfOk known line answer = text_of_answer answer ≡ line_of ok → change_of_answer answer ≡ order known.id line
+-- an order that these words answer is given
+abbrev OrdersIfOk : List (List ℕ) → Change → Result Answer ErrWord → Type 0
+OrdersIfOk words change answer = text_of_answer answer ≡ line_of words → change_of_answer answer ≡ change
 
 one_ups : (o : Option KnownUps) (k l : KnownUps) → o ≡ Some k → o ≡ Some l → k ≡ l
 one_ups None k l e f = cc e
 one_ups (Some u) k l e f = let same : Some k ≡ Some l = sym e ∙ f in cc same
 
+module _ (s : Seen) (asker : AskerSeen) (u known : KnownUps) (same : u ≡ known) (line : Option ℕ → List ℕ) where
+  -- the bare OK
+  untracked : (id : Option ℕ) → OrdersIfOk ok (order known.id (line None) None) (Ok (one_line (ok_words id) (order u.id (line id) id)))
+  untracked None e = ap (λ (k : KnownUps). order k.id (line None) None) same
+  untracked (Some id) e = cc e
+
+  -- OK and the first id at hand
+  tracked : (id : ℕ) → next_id s.tracking ≡ Some id → (used : Option ℕ) → IsIdOfOrder s asker used
+      → OrdersIfOk (ok_words (Some id)) (order known.id (line (Some id)) (Some id)) (Ok (one_line (ok_words used) (order u.id (line used) used)))
+  tracked id next None is e = cc e
+  tracked id next (Some used) is e =
+      ap (λ (k : KnownUps). order k.id (line (Some used)) (Some used)) same ∙ ap (λ (o : Option ℕ). order known.id (line o) o) (sym is.1 ∙ next)
+
+-- and no error is told so
+abbrev first_of : List ℕ → ℕ
+first_of [] = 0
+first_of (b ∷ bytes) = b
+
+no_error : (word : ErrWord) (id : ℕ) → error_line word ≡ line_of (ok_words (Some id)) → ⊥
+no_error word id e = let first : 69 ≡ 79 = ap first_of e in omega (arith, first)
+
 pub ok_orders : EachOrderAnsweredOkIsGiven
 ok_orders = record {
   set = λ s asker ups name value known named.
-      set_row (OrdersIfOk known (set_line name value)) (λ word e. cc e) s asker ups name value
-      (λ u x right found going there writable short may_be fits e. ap (λ (k : KnownUps). order k.id (set_line name value)) (one_ups (ups_named s ups) u known found named));
+      set_row (OrdersIfOk ok (order known.id (set_line name value None) None)) (λ word e. cc e) s asker ups name value
+      (λ u x id right found going there writable short may_be id_is fits. untracked s asker u known (one_ups (ups_named s ups) u known found named) (λ id. set_line name value id) id);
   command = λ s asker ups name value known named.
-      command_row (OrdersIfOk known (instcmd_line name value)) (λ word e. cc e) s asker ups name value
-      (λ u right found going there fits e. ap (λ (k : KnownUps). order k.id (instcmd_line name value)) (one_ups (ups_named s ups) u known found named));
+      command_row (OrdersIfOk ok (order known.id (instcmd_line name value None) None)) (λ word e. cc e) s asker ups name value
+      (λ u id right found going there id_is fits. untracked s asker u known (one_ups (ups_named s ups) u known found named) (λ id. instcmd_line name value id) id);
+  tracked_set = λ s asker ups name value known id named next.
+      set_row (OrdersIfOk (ok_words (Some id)) (order known.id (set_line name value (Some id)) (Some id))) (λ word e. absurd (no_error word id e)) s asker ups name value
+      (λ u x used right found going there writable short may_be id_is fits. tracked s asker u known (one_ups (ups_named s ups) u known found named) (λ id. set_line name value id) id next used id_is);
+  tracked_command = λ s asker ups name value known id named next.
+      command_row (OrdersIfOk (ok_words (Some id)) (order known.id (instcmd_line name value (Some id)) (Some id))) (λ word e. absurd (no_error word id e)) s asker ups name value
+      (λ u used right found going there id_is fits. tracked s asker u known (one_ups (ups_named s ups) u known found named) (λ id. instcmd_line name value id) id next used id_is);
 }

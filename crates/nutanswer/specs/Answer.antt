@@ -1,9 +1,10 @@
 -- What is answered to a command (RFC 9271): one row a command, its checks from left to right, here
 -- from above, and then the answer and what it changes.
 use Rattle.std.specs.Prelude.{◌≡◌, ℕ, Bool, true, false, List, [], ◌∷◌, codes, Option, Some}
-use Rattle.std.specs.Prelude.{Result, Ok, Err}
+use Rattle.std.specs.Prelude.{Result, Ok, Err, if◌then◌else◌}
 use Rattle.std.specs.Fmt.{decimal}
 use Rattle.nutwords.specs.Frame.{line_of}
+use Rattle.nuttracking.specs.Id.{id_text}
 use Rattle.nutwords.specs.Spelling.{quoted}
 use Rattle.nutusers.specs.Descriptions.{text_at}
 use Rattle.nutusers.specs.declared.rights.Right.TheVariants as rights
@@ -17,8 +18,11 @@ use Rattle.nutanswer.specs.declared.command.Command.TheVariants.{ListUps, ListVa
 use Rattle.nutanswer.specs.declared.command.Command.TheVariants.{ListRw, ListCmd, ListEnum}
 use Rattle.nutanswer.specs.declared.command.Command.TheVariants.{ListRange, ListClient, Help, Ver}
 use Rattle.nutanswer.specs.declared.command.Command.TheVariants.{NetVer, ProtVer, StartTls}
+use Rattle.nutanswer.specs.declared.command.Command.TheVariants.{SetTracking, GetTracking}
+use Rattle.nutanswer.specs.declared.command.Command.TheVariants.{GetProgress}
 use Rattle.nutanswer.specs.declared.err_word.ErrWord.{ErrWord}
 use Rattle.nutanswer.specs.declared.err_word.ErrWord.TheVariants.{FeatureNotConfigured}
+use Rattle.nutanswer.specs.declared.err_word.ErrWord.TheVariants.{SetFailed, InstcmdFailed}
 use Rattle.nutanswer.specs.declared.reply.Change.{Change}
 use Rattle.nutanswer.specs.declared.reply.Change.TheVariants as changes
 use Rattle.nutanswer.specs.declared.reply.Reply.{Reply}
@@ -28,14 +32,16 @@ use Rattle.nutlisting.specs.Lines.{IsWholeLine}
 use Rattle.nutanswer.specs.View.{Seen, AskerSeen, login_count, addresses_at}
 use Rattle.nutlisting.specs.Shown.{shown, description_of}
 use Rattle.nutlisting.specs.Types.{type_words}
+use Rattle.nutlisting.specs.Tracked.{progress_words}
 use Rattle.nutlisting.specs.Items.{ListingState, text_of, ups_listing, variable_listing, rw_listing}
 use Rattle.nutlisting.specs.Items.{command_listing, enum_listing, range_listing, client_listing}
 use Rattle.nutanswer.specs.Checks.{◌>>=◌, ◌>>◌, user, unknown_ups, live, var_not_supported}
 use Rattle.nutanswer.specs.Checks.{var_not_lawful, cmd_not_lawful, cmd_not_supported}
 use Rattle.nutanswer.specs.Checks.{already_set_username, already_set_password, already_logged_in}
 use Rattle.nutanswer.specs.Checks.{invalid_argument, readonly, too_long, too_long_of_command}
-use Rattle.nutanswer.specs.Checks.{invalid_value, set_failed, instcmd_failed}
+use Rattle.nutanswer.specs.Checks.{invalid_value, no_id, set_failed, instcmd_failed, unknown_id}
 use Rattle.nutanswer.specs.Orders.{instcmd_right, set_line, instcmd_line, order}
+use Rattle.nutanswer.specs.Orders.{ok_words}
 
 -- The words of a line, as they are spelled, and what the command changes; or a listing, that of
 -- clients apart: it copies what it lists.
@@ -60,6 +66,10 @@ abbrev pub count_of_logins : List ℕ → Seen → Option (List ℕ) → Result 
 count_of_logins kind s ups = do
   u ← unknown_ups s ups
   told (kind ∷ u.name ∷ decimal (login_count u.id s.clients) ∷ [])
+
+-- Whether a session's orders are tracked, in a word.
+abbrev pub on_or_off_word : Bool → List ℕ
+on_or_off_word on = if on then codes "ON" else codes "OFF"
 
 -- The table.
 abbrev pub answer_to : Seen → AskerSeen → Command → Result Answer ErrWord
@@ -93,16 +103,19 @@ answer_to s asker (SetVar ups name word) = do
   readonly x
   value ← too_long x word
   invalid_value x value
-  set_failed u (set_line v value)
-  Ok (one_line ok (order u.id (set_line v value)))
+  id ← no_id s asker SetFailed
+  set_failed u (set_line v value id)
+  Ok (one_line (ok_words id) (order u.id (set_line v value id) id))
 answer_to s asker (InstCmd ups name word) = do
   user s asker (instcmd_right name)
   u ← unknown_ups s ups
   live s u
   c ← cmd_not_supported u name
   value ← too_long_of_command word
-  instcmd_failed u (instcmd_line c value)
-  Ok (one_line ok (order u.id (instcmd_line c value)))
+  id ← no_id s asker InstcmdFailed
+  instcmd_failed u (instcmd_line c value id)
+  Ok (one_line (ok_words id) (order u.id (instcmd_line c value id) id))
+answer_to s asker (SetTracking on) = Ok (one_line ok (changes.Tracking on))
 answer_to s asker (GetVar ups name) = do
   u ← unknown_ups s ups
   live s u
@@ -126,6 +139,10 @@ answer_to s asker (GetUpsDesc ups) = do
   told (codes "UPSDESC" ∷ u.name ∷ quoted u.description ∷ [])
 answer_to s asker (GetNumLogins ups) = count_of_logins (codes "NUMLOGINS") s ups
 answer_to s asker (GetNumAttach ups) = count_of_logins (codes "NUMATTACH") s ups
+answer_to s asker GetTracking = told (codes "TRACKING" ∷ on_or_off_word asker.tracking ∷ [])
+answer_to s asker (GetProgress id) = do
+  (i, progress) ← unknown_id s id
+  told (codes "TRACKING" ∷ id_text i ∷ progress_words progress)
 answer_to s asker ListUps = Ok (listing (ups_listing s.list))
 answer_to s asker (ListVar ups) = do
   u ← unknown_ups s ups

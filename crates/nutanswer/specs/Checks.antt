@@ -3,6 +3,8 @@
 use Rattle.std.specs.Prelude.{ℕ, Bool, ◌&&◌, nat_le, length, is_none, List, Option, Some, None}
 use Rattle.std.specs.Prelude.{Result, Ok, Err, slice_get, if◌then◌else◌}
 use Rattle.std.specs.Option.{ok_or, option_map, option_and_then}
+use Rattle.nuttracking.specs.Tracking.{next_id, progress_of}
+use Rattle.nuttracking.specs.declared.order.Progress.{Progress}
 use Rattle.nutdriver.specs.Tree.{TreeState, variable_at, has_command}
 use Rattle.nutdriver.specs.Variable.{VariableState}
 use Rattle.nutusers.specs.UpsList.{Ups, place_of, id_at}
@@ -163,6 +165,15 @@ abbrev pub invalid_value : VariableState → List ℕ → Result (Unit {0}) ErrW
 invalid_value x value =
     unless (is_listed x.enum_values value && is_in_ranges x.ranges value) InvalidValue
 
+-- The id at hand that an order uses, or the word where there is none.
+abbrev pub first_id : Option ℕ → ErrWord → Result (Option ℕ) ErrWord
+first_id None word = Err word
+first_id (Some id) word = Ok (Some id)
+
+-- The id of an order, where its session's orders are tracked.
+abbrev pub no_id : Seen → AskerSeen → ErrWord → Result (Option ℕ) ErrWord
+no_id s asker word = if asker.tracking then first_id (next_id s.tracking) word else Ok None
+
 -- The line fits in what the driver may still be owed.
 abbrev pub set_failed : KnownUps → List ℕ → Result (Unit {0}) ErrWord
 set_failed u line = unless (nat_le (length line) u.state.free) SetFailed
@@ -170,3 +181,12 @@ set_failed u line = unless (nat_le (length line) u.state.free) SetFailed
 -- The same, of INSTCMD.
 abbrev pub instcmd_failed : KnownUps → List ℕ → Result (Unit {0}) ErrWord
 instcmd_failed u line = unless (nat_le (length line) u.state.free) InstcmdFailed
+
+-- The id of an order that is kept, with how far the order has come. The word is none where it is no
+-- id.
+abbrev pub progress_at : Seen → Option ℕ → Option (ℕ × Progress)
+progress_at s None = None
+progress_at s (Some id) = option_map (λ progress. (id, progress)) (progress_of id s.tracking)
+
+abbrev pub unknown_id : Seen → Option ℕ → Result (ℕ × Progress) ErrWord
+unknown_id s id = ok_or (progress_at s id) InvalidArgument

@@ -1,11 +1,12 @@
 -- Reading a line of a client (RFC 9271): the first refusal that fits, from the line's words to its
 -- command and the command's words.
-use Rattle.std.specs.Prelude.{ℕ, List, [], ◌∷◌, Option, Some, None, Result, Ok, Err, codes}
-use Rattle.std.specs.Prelude.{if◌then◌else◌, ◌||◌}
+use Rattle.std.specs.Prelude.{ℕ, Bool, true, false, List, [], ◌∷◌, Option, Some, None, Result, Ok}
+use Rattle.std.specs.Prelude.{Err, codes, if◌then◌else◌, ◌||◌}
 use Rattle.std.specs.Result.{result_ok}
 use Rattle.nutwords.specs.Scan.{read_line}
 use Rattle.nutwords.specs.Reading.{read_name, read_ups_name, read_value}
 use Rattle.nutwords.specs.declared.faults.BadLine.{BadLine}
+use Rattle.nuttracking.specs.Id.{read_id}
 use Rattle.nutusers.specs.Credentials.{read_user_name, read_password}
 use Rattle.nutdriver.specs.Spelling.{is_word}
 use Rattle.nutanswer.specs.declared.command.Command.{Command}
@@ -18,6 +19,8 @@ use Rattle.nutanswer.specs.declared.command.Command.TheVariants.{ListUps, ListVa
 use Rattle.nutanswer.specs.declared.command.Command.TheVariants.{ListRw, ListCmd, ListEnum}
 use Rattle.nutanswer.specs.declared.command.Command.TheVariants.{ListRange, ListClient, Help, Ver}
 use Rattle.nutanswer.specs.declared.command.Command.TheVariants.{NetVer, ProtVer, StartTls}
+use Rattle.nutanswer.specs.declared.command.Command.TheVariants.{SetTracking, GetTracking}
+use Rattle.nutanswer.specs.declared.command.Command.TheVariants.{GetProgress}
 use Rattle.nutanswer.specs.declared.err_word.ErrWord.{ErrWord}
 use Rattle.nutanswer.specs.declared.err_word.ErrWord.TheVariants.{InvalidArgument, UnknownCommand}
 
@@ -76,11 +79,24 @@ ups_name_and_value_if_any (ups ∷ name ∷ value ∷ []) =
     Ok (result_ok (read_ups_name ups), result_ok (read_name name), Some (value_of value))
 ups_name_and_value_if_any _ = Err InvalidArgument
 
+-- `ON` or `OFF`
+abbrev pub is_on : List ℕ → Result Bool ErrWord
+is_on word =
+    if is_word word (codes "ON") then Ok true
+    else if is_word word (codes "OFF") then Ok false
+    else Err InvalidArgument
+
+abbrev pub on_or_off : List (List ℕ) → Result Bool ErrWord
+on_or_off (word ∷ []) = is_on word
+on_or_off _ = Err InvalidArgument
+
 -- SET: one case a second word.
 abbrev pub set_of : List ℕ → List (List ℕ) → Result Command ErrWord
 set_of kind words =
     if is_word kind (codes "VAR")
     then command_with (λ a. SetVar a.0 a.1 a.2) (ups_name_and_value words)
+    else if is_word kind (codes "TRACKING")
+    then command_with (λ on. SetTracking on) (on_or_off words)
     else Err InvalidArgument
 
 abbrev pub read_instcmd : List (List ℕ) → Result Command ErrWord
@@ -89,6 +105,12 @@ read_instcmd words = command_with (λ a. InstCmd a.0 a.1 a.2) (ups_name_and_valu
 abbrev pub read_set : List (List ℕ) → Result Command ErrWord
 read_set [] = Err InvalidArgument
 read_set (kind ∷ words) = set_of kind words
+
+-- GET TRACKING: alone, or with a word that is to be an id, and is none where it isn't one.
+abbrev pub tracking_asked : List (List ℕ) → Result Command ErrWord
+tracking_asked [] = Ok GetTracking
+tracking_asked (id ∷ []) = Ok (GetProgress (read_id id))
+tracking_asked _ = Err InvalidArgument
 
 -- GET: one case a second word.
 abbrev pub get_of : List ℕ → List (List ℕ) → Result Command ErrWord
@@ -106,6 +128,7 @@ get_of kind words =
     then command_with (λ ups. GetNumLogins ups) (ups_alone words)
     else if is_word kind (codes "NUMATTACH")
     then command_with (λ ups. GetNumAttach ups) (ups_alone words)
+    else if is_word kind (codes "TRACKING") then tracking_asked words
     else Err InvalidArgument
 
 abbrev pub read_get : List (List ℕ) → Result Command ErrWord

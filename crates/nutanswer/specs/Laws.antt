@@ -2,21 +2,22 @@
 use Rattle.std.specs.Prelude.{◌≡◌, ◌≤◌, ℕ, Bool, true, false, List, [], ◌∷◌, codes, length}
 use Rattle.std.specs.Prelude.{slice_get, Option, Some, Result, Ok, Err, All, IsTrue}
 use Rattle.std.specs.Str.{bytes_eq}
-use Rattle.arrayvec.specs.ArrayVec.{ArrayVec}
 use Rattle.nutwords.specs.Answers.{IsAnswer}
 use Rattle.nutwords.specs.Reading.{is_address}
+use Rattle.nuttracking.specs.Sound.{HaveLawfulNumbers}
 use Rattle.nutdriver.specs.Sound.{IsSoundTree}
 use Rattle.nutusers.specs.UpsList.{IsLawfulUps}
 use Rattle.nutusers.specs.Descriptions.{AreLawful}
 use Rattle.nutusers.specs.declared.ups_list.UpsId.{UpsId}
 use Rattle.nutanswer.specs.declared.command.Command.{Command}
 use Rattle.nutanswer.specs.declared.err_word.ErrWord.{ErrWord}
-use Rattle.nutanswer.specs.declared.reply.Change.TheVariants.{Nothing, Order}
+use Rattle.nutanswer.specs.declared.reply.Change.TheVariants.{Nothing}
 use Rattle.nutlisting.specs.Lines.{IsWholeLine}
 use Rattle.nutlisting.specs.declared.listing.clients.TheConstants.{SESSION_LIMIT}
 use Rattle.nutanswer.specs.ErrWord.{error_line}
 use Rattle.nutanswer.specs.View.{Seen, AskerSeen, UpsSeen}
 use Rattle.nutanswer.specs.Checks.{KnownUps, ups_named}
+use Rattle.nutanswer.specs.Orders.{order}
 use Rattle.nutanswer.specs.Answer.{Answer, one_line, listing, listing_of_clients, answer_to}
 use Rattle.nutanswer.specs.Answer.{change_of_answer, text_of_answer}
 use Rattle.nutanswer.specs.Lawful.{IsLawfulCommand}
@@ -61,25 +62,29 @@ pub record TakesOrder (line : List ℕ) (x : UpsSeen) : Type 0 where
   pub connected : x.report.connected ≡ true
   pub fits : length line ≤ x.free
 
--- An order is for a driver that is connected, and fits in what it may still be owed.
+-- An order, tracked or not, is for a driver that is connected, and fits in what it may still be
+-- owed.
 abbrev pub OrdersFit : Type 0
 OrdersFit =
-    (s : Seen) (asker : AskerSeen) (command : Command) (u : UpsId) (line : ArrayVec ℕ) (x : UpsSeen)
-    → change_of_answer (answer_to s asker command) ≡ Order u line
-    → slice_get s.upses u.place ≡ Some x → TakesOrder line.items x
+    (s : Seen) (asker : AskerSeen) (command : Command) (u : UpsId) (line : List ℕ) (id : Option ℕ)
+    (x : UpsSeen)
+    → change_of_answer (answer_to s asker command) ≡ order u line id
+    → slice_get s.upses u.place ≡ Some x → TakesOrder line x
 
 -- The line of an error is one whole line.
 abbrev pub ErrorLinesAreWhole : Type 0
 ErrorLinesAreWhole = (word : ErrWord) → IsWholeLine (error_line word)
 
 -- What an answer may look at is lawful: the UPSs of the list, the trees that drivers reported, the
--- descriptions, and the addresses of clients, of which there are no more than there may be.
+-- descriptions, the addresses of clients, of which there are no more than there may be, and the
+-- numbers that tracked orders are done with.
 pub record IsLawfulSeen (s : Seen) : Type 0 where
   pub list : All IsLawfulUps s.list
   pub trees : All (λ u. IsSoundTree u.report.tree) s.upses
   pub descriptions : AreLawful s.descriptions
   pub addresses : All (λ client. IsTrue (is_address client.address)) s.clients
   pub few : length s.clients ≤ SESSION_LIMIT
+  pub numbers : HaveLawfulNumbers s.tracking.orders
 
 -- Then the answer to a lawful command, as each that was read is, has the shape of one answer: it is
 -- one line, which begins no listing, or a listing to its END.

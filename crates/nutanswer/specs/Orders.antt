@@ -1,11 +1,12 @@
 -- Orders to drivers (RFC 9271: SET, INSTCMD): which values a variable may be set to, and the line
 -- that tells the driver.
 use Rattle.std.specs.Prelude.{ℕ, ℤ, ◌==◌, ◌&&◌, ◌||◌, Bool, false, not, nat_le, int_le, List, []}
-use Rattle.std.specs.Prelude.{◌∷◌, codes, length, Option, Some, None}
+use Rattle.std.specs.Prelude.{◌∷◌, ◌++◌, codes, length, Option, Some, None}
 use Rattle.std.specs.List.{list_any}
 use Rattle.nutwords.specs.Frame.{line_of}
 use Rattle.nutwords.specs.Natural.{is_empty}
 use Rattle.nutwords.specs.Spelling.{quoted}
+use Rattle.nuttracking.specs.Id.{id_text}
 use Rattle.nutdriver.specs.Number.{read_number}
 use Rattle.nutdriver.specs.Variable.{VariableState, has_value}
 use Rattle.nutdriver.specs.declared.range.Range.{Range}
@@ -36,23 +37,37 @@ is_within_one ranges (Some n) = list_any (is_within n) ranges
 abbrev pub is_in_ranges : List Range → List ℕ → Bool
 is_in_ranges ranges value = is_empty ranges || is_within_one ranges (read_number value)
 
--- The line of an order with its LF: its verb, the name of a variable or a command, and the value in
--- quotes, if there is one.
-abbrev pub order_line : List ℕ → List ℕ → Option (List ℕ) → List ℕ
-order_line verb name None = line_of (verb ∷ name ∷ [])
-order_line verb name (Some value) = line_of (verb ∷ name ∷ quoted value ∷ [])
+-- The words of an order: its verb, the name of a variable or a command, and the value in quotes, if
+-- there is one.
+abbrev pub order_words : List ℕ → List ℕ → Option (List ℕ) → List (List ℕ)
+order_words verb name None = verb ∷ name ∷ []
+order_words verb name (Some value) = verb ∷ name ∷ quoted value ∷ []
+
+-- The words by which a line names the id of an order, if it is tracked.
+abbrev pub tracking_words : Option ℕ → List (List ℕ)
+tracking_words None = []
+tracking_words (Some id) = codes "TRACKING" ∷ id_text id ∷ []
+
+-- The line of an order with its LF: its words, and behind them its id, if it is tracked.
+abbrev pub order_line : List ℕ → List ℕ → Option (List ℕ) → Option ℕ → List ℕ
+order_line verb name value id = line_of (order_words verb name value ++ tracking_words id)
 
 -- The line by which a driver is told to set a variable,
-abbrev pub set_line : List ℕ → List ℕ → List ℕ
-set_line name value = order_line (codes "SET") name (Some value)
+abbrev pub set_line : List ℕ → List ℕ → Option ℕ → List ℕ
+set_line name value id = order_line (codes "SET") name (Some value) id
 
 -- and that by which it is told a command.
-abbrev pub instcmd_line : List ℕ → Option (List ℕ) → List ℕ
-instcmd_line name value = order_line (codes "INSTCMD") name value
+abbrev pub instcmd_line : List ℕ → Option (List ℕ) → Option ℕ → List ℕ
+instcmd_line name value id = order_line (codes "INSTCMD") name value id
 
--- The driver of the UPS is owed this line.
-abbrev pub order : UpsId → List ℕ → Change
-order u line = changes.Order u (record { items = line })
+-- The driver of the UPS is owed this line, which names the id, if the order is tracked.
+abbrev pub order : UpsId → List ℕ → Option ℕ → Change
+order u line None = changes.Order u (record { items = line })
+order u line (Some id) = changes.Tracked u id (record { items = line })
+
+-- The words that answer an order: OK, and behind it the id, if the order is tracked.
+abbrev pub ok_words : Option ℕ → List (List ℕ)
+ok_words id = codes "OK" ∷ tracking_words id
 
 -- The right to the command that this word names. What is asked of a right is its bytes alone, not
 -- where they stand.

@@ -1,6 +1,6 @@
 -- What the private parts of the code promise one another. A reader of the public contracts needs
 -- none of it.
-use Rattle.std.specs.Prelude.{◌≡◌, ℕ, List, Option, None, Result, Ok, Err}
+use Rattle.std.specs.Prelude.{◌≡◌, ℕ, false, List, Option, None, Result, Ok, Err}
 use Rattle.std.specs.Option.{option_copied}
 use Rattle.nutdriver.specs.Variable.{VariableState}
 use Rattle.nutusers.specs.UpsList.{new_ups}
@@ -90,7 +90,7 @@ GivesReply s answer (Err word) = answer ≡ Err word
 
 -- A session that has given nothing.
 abbrev pub nobody : AskerSeen
-nobody = record { username = None; password = None; login = None }
+nobody = record { username = None; password = None; login = None; tracking = false }
 
 -- The answer to a command that is the same whoever asks.
 abbrev pub row : Seen → Command → Result Answer ErrWord

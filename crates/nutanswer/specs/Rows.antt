@@ -1,8 +1,9 @@
 -- What each change comes of: its command, the checks that held, and its answer (RFC 9271;
 -- upsd.users(5)).
-use Rattle.std.specs.Prelude.{◌≡◌, ◌≤◌, ℕ, true, List, [], ◌∷◌, codes, length, Option, Some, None}
-use Rattle.std.specs.Prelude.{◌⊎◌}
+use Rattle.std.specs.Prelude.{◌≡◌, ◌≤◌, ℕ, true, false, List, [], ◌∷◌, codes, length, Option, Some}
+use Rattle.std.specs.Prelude.{None, ◌⊎◌}
 use Rattle.nutwords.specs.Frame.{line_of}
+use Rattle.nuttracking.specs.Tracking.{next_id}
 use Rattle.nutdriver.specs.Variable.{VariableState}
 use Rattle.nutdriver.specs.Tree.{variable_at, has_command}
 use Rattle.nutusers.specs.Users.{may}
@@ -13,11 +14,11 @@ use Rattle.nutanswer.specs.declared.command.Command.{Command}
 use Rattle.nutanswer.specs.declared.command.Command.TheVariants as commands
 use Rattle.nutanswer.specs.declared.reply.Change.{Change}
 use Rattle.nutanswer.specs.declared.reply.Change.TheVariants.{Nothing, Username, Password, Login}
-use Rattle.nutanswer.specs.declared.reply.Change.TheVariants.{Ending, Fsd, Order}
+use Rattle.nutanswer.specs.declared.reply.Change.TheVariants.{Ending, Fsd, Order, Tracking, Tracked}
 use Rattle.nutanswer.specs.View.{Seen, AskerSeen, readiness, usable}
 use Rattle.nutanswer.specs.Checks.{KnownUps, ups_named}
 use Rattle.nutanswer.specs.Orders.{is_short_enough, is_listed, is_in_ranges, right_to, set_line}
-use Rattle.nutanswer.specs.Orders.{instcmd_line, order}
+use Rattle.nutanswer.specs.Orders.{instcmd_line, order, ok_words}
 use Rattle.nutanswer.specs.Answer.{ok, answer_to, text_of_answer, change_of_answer}
 
 -- The session has given the name and the password of a user to whom the right is granted.
@@ -59,41 +60,53 @@ abbrev pub IsShutdown : Seen → AskerSeen → Command → UpsId → Type 0
 IsShutdown s asker command u =
     IsByRight s asker command commands.Fsd rights.Fsd (codes "OK" ∷ codes "FSD-SET" ∷ []) u
 
+-- The id of an order: none where its session's orders aren't tracked, else the first of those at
+-- hand.
+abbrev pub IsIdOfOrder : Seen → AskerSeen → Option ℕ → Type 0
+IsIdOfOrder s asker None = asker.tracking ≡ false
+IsIdOfOrder s asker (Some id) = (asker.tracking ≡ true) × (next_id s.tracking ≡ Some id)
+
 -- SET VAR by right: its UPS is usable, and has the variable, which clients may set, and which may
--- have the value. The line fits in what the driver may still be owed.
+-- have the value. The line names the order's id, if it is tracked, and fits in what the driver may
+-- still be owed.
 pub record IsSet
-    (s : Seen) (asker : AskerSeen) (command : Command) (u : UpsId) (line : List ℕ) : Type 0 where
+    (s : Seen) (asker : AskerSeen) (command : Command) (u : UpsId) (id : Option ℕ) (line : List ℕ)
+    : Type 0 where
   pub name : List ℕ
   pub value : List ℕ
   pub variable : VariableState
   pub by_right : IsByRight s asker command
-      (λ ups. commands.SetVar ups (Some name) (Some value)) rights.Set ok u
+      (λ ups. commands.SetVar ups (Some name) (Some value)) rights.Set (ok_words id) u
   pub ready : readiness s.moment s.max_age by_right.known.state.report ≡ usable
   pub there : variable_at by_right.known.state.report.tree name ≡ Some variable
   pub writable : variable.flags.rw ≡ true
   pub short : is_short_enough variable value ≡ true
   pub listed : is_listed variable.enum_values value ≡ true
   pub in_range : is_in_ranges variable.ranges value ≡ true
+  pub id_is : IsIdOfOrder s asker id
   pub fits : length line ≤ by_right.known.state.free
-  pub line_is : line ≡ set_line name value
+  pub line_is : line ≡ set_line name value id
 
 -- The value of a command as a line gives it, if it gives one.
 abbrev pub value_given : Option (List ℕ) → Option (Option (List ℕ))
 value_given None = None
 value_given (Some value) = Some (Some value)
 
--- INSTCMD by right: its UPS is usable, and has the command. The line fits in what the driver may
--- still be owed.
+-- INSTCMD by right: its UPS is usable, and has the command. The line names the order's id, if it is
+-- tracked, and fits in what the driver may still be owed.
 pub record IsInstCmd
-    (s : Seen) (asker : AskerSeen) (command : Command) (u : UpsId) (line : List ℕ) : Type 0 where
+    (s : Seen) (asker : AskerSeen) (command : Command) (u : UpsId) (id : Option ℕ) (line : List ℕ)
+    : Type 0 where
   pub name : List ℕ
   pub value : Option (List ℕ)
   pub by_right : IsByRight s asker command
-      (λ ups. commands.InstCmd ups (Some name) (value_given value)) (right_to name) ok u
+      (λ ups. commands.InstCmd ups (Some name) (value_given value)) (right_to name)
+      (ok_words id) u
   pub ready : readiness s.moment s.max_age by_right.known.state.report ≡ usable
   pub there : has_command by_right.known.state.report.tree name ≡ true
+  pub id_is : IsIdOfOrder s asker id
   pub fits : length line ≤ by_right.known.state.free
-  pub line_is : line ≡ instcmd_line name value
+  pub line_is : line ≡ instcmd_line name value id
 
 -- What a change comes of.
 abbrev pub ComesOf : Seen → AskerSeen → Command → Change → Type 0
@@ -106,7 +119,10 @@ ComesOf s asker command (Login u) = IsLogin s asker command u
 ComesOf s asker command Ending = command ≡ commands.Logout
 ComesOf s asker command (Fsd u) = IsShutdown s asker command u
 ComesOf s asker command (Order u line) =
-    IsSet s asker command u line.items ⊎ IsInstCmd s asker command u line.items
+    IsSet s asker command u None line.items ⊎ IsInstCmd s asker command u None line.items
+ComesOf s asker command (Tracking on) = command ≡ commands.SetTracking on
+ComesOf s asker command (Tracked u id line) =
+    IsSet s asker command u (Some id) line.items ⊎ IsInstCmd s asker command u (Some id) line.items
 
 -- Each change comes of its own command, where the checks of its row held.
 abbrev pub EachChangeComesOfItsCommand : Type 0
@@ -114,7 +130,8 @@ EachChangeComesOfItsCommand =
     (s : Seen) (asker : AskerSeen) (command : Command)
     → ComesOf s asker command (change_of_answer (answer_to s asker command))
 
--- An order that OK answers is given to the driver of its UPS.
+-- An order that OK answers is given to the driver of its UPS. Where OK TRACKING and the first id at
+-- hand answer it, it is given with that id.
 pub record EachOrderAnsweredOkIsGiven : Type 0 where
   pub set : (s : Seen) (asker : AskerSeen) (ups : Option (List ℕ)) (name value : List ℕ)
       (known : KnownUps)
@@ -122,11 +139,25 @@ pub record EachOrderAnsweredOkIsGiven : Type 0 where
       → text_of_answer (answer_to s asker (commands.SetVar ups (Some name) (Some value)))
       ≡ line_of ok
       → change_of_answer (answer_to s asker (commands.SetVar ups (Some name) (Some value)))
-      ≡ order known.id (set_line name value)
+      ≡ order known.id (set_line name value None) None
   pub command : (s : Seen) (asker : AskerSeen) (ups : Option (List ℕ)) (name : List ℕ)
       (value : Option (List ℕ)) (known : KnownUps)
       → ups_named s ups ≡ Some known
       → text_of_answer (answer_to s asker (commands.InstCmd ups (Some name) (value_given value)))
       ≡ line_of ok
       → change_of_answer (answer_to s asker (commands.InstCmd ups (Some name) (value_given value)))
-      ≡ order known.id (instcmd_line name value)
+      ≡ order known.id (instcmd_line name value None) None
+  pub tracked_set : (s : Seen) (asker : AskerSeen) (ups : Option (List ℕ)) (name value : List ℕ)
+      (known : KnownUps) (id : ℕ)
+      → ups_named s ups ≡ Some known → next_id s.tracking ≡ Some id
+      → text_of_answer (answer_to s asker (commands.SetVar ups (Some name) (Some value)))
+      ≡ line_of (ok_words (Some id))
+      → change_of_answer (answer_to s asker (commands.SetVar ups (Some name) (Some value)))
+      ≡ order known.id (set_line name value (Some id)) (Some id)
+  pub tracked_command : (s : Seen) (asker : AskerSeen) (ups : Option (List ℕ)) (name : List ℕ)
+      (value : Option (List ℕ)) (known : KnownUps) (id : ℕ)
+      → ups_named s ups ≡ Some known → next_id s.tracking ≡ Some id
+      → text_of_answer (answer_to s asker (commands.InstCmd ups (Some name) (value_given value)))
+      ≡ line_of (ok_words (Some id))
+      → change_of_answer (answer_to s asker (commands.InstCmd ups (Some name) (value_given value)))
+      ≡ order known.id (instcmd_line name value (Some id)) (Some id)

@@ -2,6 +2,7 @@
 use Rattle.std.specs.Prelude.{ℕ, ◌-◌, ◌==◌, Bool, false, not, ◌||◌, nat_lt, count_by, map, filter}
 use Rattle.std.specs.Prelude.{List, Option, if◌then◌else◌}
 use Rattle.std.specs.Option.{option_copied, option_map_or}
+use Rattle.nuttracking.specs.Tracking.{TrackingState}
 use Rattle.nutdriver.specs.declared.report.Report.{Report}
 use Rattle.nutusers.specs.UpsList.{Ups}
 use Rattle.nutusers.specs.Users.{User}
@@ -24,7 +25,7 @@ pub record ClientSeen : Type 0 where
 
 -- The moment and the greatest age, in seconds; the list of UPSs, and what is known of each, in the
 -- order of the list; the users; the descriptions of variables and commands; the open sessions, in
--- the order of opening.
+-- the order of opening; the ids at hand, and the tracked orders that are kept.
 pub record Seen : Type 0 where
   pub moment : ℕ
   pub max_age : ℕ
@@ -33,13 +34,15 @@ pub record Seen : Type 0 where
   pub users : List User
   pub descriptions : Descriptions
   pub clients : List ClientSeen
+  pub tracking : TrackingState
 
--- The session that asks: the user name and the password that it has given, and the UPS that it is
--- logged in to.
+-- The session that asks: the user name and the password that it has given, the UPS that it is
+-- logged in to, and whether its orders are tracked.
 pub record AskerSeen : Type 0 where
   pub username : Option (List ℕ)
   pub password : Option (List ℕ)
   pub login : Option UpsId
+  pub tracking : Bool
 
 -- The UPS that a view shows.
 abbrev pub ups_seen : UpsView → UpsSeen
@@ -52,6 +55,7 @@ asker_seen a =
       username = option_copied a.username;
       password = option_copied a.password;
       login = a.login;
+      tracking = a.tracking;
     }
 
 abbrev pub is_logged_in : UpsId → ClientSeen → Bool

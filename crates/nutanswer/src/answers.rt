@@ -51,6 +51,7 @@ pub fn answer<'a, V: View>(
         Command::InstCmd(ups, name, value) => {
             orders::inst_cmd(view, asker, ups, name, value, line)
         }
+        Command::SetTracking(on) => session::set_tracking(*on),
         Command::GetVar(ups, name) => get_var(view, ups, name, line),
         Command::GetType(ups, name) => get_type(view, ups, name, line),
         Command::GetDesc(ups, name) => get_desc(view, ups, name, line),
@@ -58,6 +59,8 @@ pub fn answer<'a, V: View>(
         Command::GetUpsDesc(ups) => get_ups_desc(view, ups, line),
         Command::GetNumLogins(ups) => session::count_of_logins(view, b"NUMLOGINS", ups, line),
         Command::GetNumAttach(ups) => session::count_of_logins(view, b"NUMATTACH", ups, line),
+        Command::GetTracking => session::get_tracking(asker, line),
+        Command::GetProgress(id) => orders::progress(view, id, line),
         Command::ListUps => return list_ups(view),
         Command::ListVar(ups) => return list_var(view, ups),
         Command::ListRw(ups) => return list_rw(view, ups),

@@ -1,7 +1,7 @@
 //! The checks of commands (RFC 9271: error responses), each in the order of the table.
 ghost use Rattle.std.specs.Prelude.{◌≡◌};
 ghost use Rattle.nutanswer.specs.View.{asker_seen};
-ghost use Rattle.nutanswer.specs.Checks.{unknown_ups, user, too_long_of_command};
+ghost use Rattle.nutanswer.specs.Checks.{unknown_ups, user, too_long_of_command, no_id};
 ghost use Rattle.nutanswer.specs.Orders.{instcmd_right, is_short_enough, is_listed, is_in_ranges, is_within_one, is_within};
 ghost use Rattle.nutanswer.specs.Promises.{known_ups, known_variable, known_command, found, live_ups, live_variable, live_command, settable};
 
@@ -157,6 +157,23 @@ pub(crate) fn command_value(value: &Option<ValueWord<'_>>) -> Result<Option<Valu
     match word.read() {
         Some(value) => Ok(Some(value)),
         None => Err(ErrWord::TooLong),
+    }
+}
+
+/// The id of an order of this session, where its orders are tracked, or this word where none is at hand.
+pub(crate) fn order_id<V: View>(
+    view: &V,
+    asker: Asker<'_>,
+    failed: ErrWord,
+) -> Result<Option<u128>, ErrWord>
+    ensures { result ≡ no_id (V.seen view.now) (asker_seen asker.entry) failed }
+{
+    if !asker.tracking {
+        return Ok(None);
+    }
+    match view.next_id() {
+        Some(id) => Ok(Some(id)),
+        None => Err(failed),
     }
 }
 

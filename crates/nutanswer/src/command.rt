@@ -7,11 +7,11 @@ mod words;
 
 use crate::ErrWord;
 use arguments::{
-    alone, password_alone, ups_alone, ups_and_name, ups_name_and_value, ups_name_and_value_if_any,
-    user_name_alone,
+    alone, on_or_off, password_alone, tracking_asked, ups_alone, ups_and_name, ups_name_and_value,
+    ups_name_and_value_if_any, user_name_alone,
 };
 use nutwords::{SpelledWord, SpelledWords, spelled_words};
-pub use words::{NameWord, PasswordWord, UpsWord, UserWord, ValueWord};
+pub use words::{IdWord, NameWord, PasswordWord, UpsWord, UserWord, ValueWord};
 
 /// A command of a client, whose words are those of its line. A word that is no lawful name names nothing.
 #[derive(Debug, Drop)]
@@ -33,6 +33,8 @@ pub enum Command<'a> {
     /// `INSTCMD`: the UPS is to do this command, with this value, if one is given; none where it isn't as short as one
     /// may be.
     InstCmd(UpsWord<'a>, NameWord<'a>, Option<ValueWord<'a>>),
+    /// `SET TRACKING`: the session's orders are to be tracked, or not.
+    SetTracking(bool),
     /// `GET VAR`: the value of a variable.
     GetVar(UpsWord<'a>, NameWord<'a>),
     /// `GET TYPE`: what kind of variable it is.
@@ -47,6 +49,10 @@ pub enum Command<'a> {
     GetNumLogins(UpsWord<'a>),
     /// `GET NUMATTACH`: the same number, under the other name.
     GetNumAttach(UpsWord<'a>),
+    /// `GET TRACKING`: whether the session's orders are tracked.
+    GetTracking,
+    /// `GET TRACKING` of an id: how far its order has come; none where it isn't an id.
+    GetProgress(IdWord<'a>),
     /// `LIST UPS`: the UPSs of the server.
     ListUps,
     /// `LIST VAR`: the variables of a UPS.
@@ -81,7 +87,8 @@ impl<'a> Command<'a> {
     ///
     /// The first word, and the second one of GET, LIST and SET, are read in capitals or not; names byte for byte. Refused, in
     /// this order: a line that doesn't read as words (INVALID-ARGUMENT); a first word that is no command
-    /// (UNKNOWN-COMMAND); a second word of GET, LIST or SET that isn't known, or another number of words (INVALID-ARGUMENT).
+    /// (UNKNOWN-COMMAND); a second word of GET, LIST or SET that isn't known, another number of words, or a third word of
+    /// SET TRACKING that isn't ON or OFF, in capitals or not (INVALID-ARGUMENT).
     pub fn read(line: &'a [u8]) -> Result<Option<Command<'a>>, ErrWord>
         requires { length line.now ≤ LINE_LIMIT }
         ensures { result ≡ read_command line.now }
@@ -201,6 +208,9 @@ impl<'a> Command<'a> {
         if kind.is_word(b"VAR") {
             let (ups, name, value) = ups_name_and_value(words)?;
             Ok(Command::SetVar(ups, name, value))
+        } else if kind.is_word(b"TRACKING") {
+            let on = on_or_off(words)?;
+            Ok(Command::SetTracking(on))
         } else {
             Err(ErrWord::InvalidArgument)
         }
@@ -241,6 +251,8 @@ impl<'a> Command<'a> {
         } else if kind.is_word(b"NUMATTACH") {
             let ups = ups_alone(words)?;
             Ok(Command::GetNumAttach(ups))
+        } else if kind.is_word(b"TRACKING") {
+            tracking_asked(words)
         } else {
             Err(ErrWord::InvalidArgument)
         }

@@ -93,6 +93,11 @@ pub enum Change<'a> {
     Fsd(UpsId),
     /// The driver of this UPS is owed this line, with its LF (RFC 9271: SET, INSTCMD).
     Order(UpsId, OrderLine<'a>),
+    /// The session's orders are tracked from now on, or they aren't.
+    Tracking(bool),
+    /// The driver of this UPS is owed this line, with its LF, which names the id: the first one at hand, which is used for
+    /// the order.
+    Tracked(UpsId, u128, OrderLine<'a>),
 }
 
 /// The answer to a command. Its line, that of an order and a password stand where they were made.

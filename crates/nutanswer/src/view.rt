@@ -2,6 +2,7 @@
 ghost use Rattle.std.specs.Prelude.{◌≡◌, slice_get};
 
 use nutdriver::Report;
+use nuttracking::Progress;
 use nutusers::{Descriptions, Password, UpsId, UpsList, UserName, Users};
 
 /// The session that asks, as answers see it.
@@ -13,6 +14,8 @@ pub struct Asker<'a> {
     pub password: Option<&'a Password>,
     /// The UPS that it is logged in to.
     pub login: Option<UpsId>,
+    /// Whether its orders are tracked.
+    pub tracking: bool,
 }
 
 /// A UPS as answers see it.
@@ -29,6 +32,7 @@ pub struct UpsView<'a> {
 /// What an answer may look at of a server.
 pub trait View {
     ghost use Rattle.std.specs.Option.{option_map};
+    ghost use Rattle.nuttracking.specs.Tracking.{next_id, progress_of};
     ghost use Rattle.nutanswer.specs.View.{Seen, ups_seen, login_count};
 
     /// What is seen.
@@ -61,4 +65,12 @@ pub trait View {
     /// How many of the open sessions are logged in to the UPS.
     fn login_count(&self, u: UpsId) -> usize
         ensures { result ≡ login_count u (seen self.now).clients };
+
+    /// The id that the next tracked order uses, if one is at hand.
+    fn next_id(&self) -> Option<u128>
+        ensures { result ≡ next_id (seen self.now).tracking };
+
+    /// How far the order of this id has come, if it is kept.
+    fn progress(&self, id: u128) -> Option<Progress>
+        ensures { result ≡ progress_of id (seen self.now).tracking };
 }

@@ -8,6 +8,8 @@ use Rattle.std.proofs.lemmas.Bool.Decides.{nat_tests}
 use Rattle.std.proofs.lemmas.Fmt.{decimal_by_steps}
 use Rattle.std.proofs.lemmas.Grind.{common_steps}
 use Rattle.std.proofs.lemmas.List.Folds.{list_all-append}
+use Rattle.nuttracking.specs.Id.{is_id_byte, id_text}
+use Rattle.nuttracking.proofs.PublicLaws.{ids_are_plain}
 use Rattle.nutwords.specs.Bytes.{is_lawful, is_name_byte, is_address_byte}
 use Rattle.nutwords.specs.Reading.{read_text, is_name, is_ups_name, is_address, is_value}
 use Rattle.nutwords.specs.Spelling.{with_backslashes, quoted}
@@ -56,6 +58,18 @@ address_bytes (b ∷ bytes) h =
 
 pub address_lawful : (bytes : List ℕ) → IsTrue (is_address bytes) → Lawful bytes
 address_lawful bytes h = address_bytes bytes (text_all is_address_byte false ADDRESS_LIMIT bytes h)
+
+id_byte : (b : ℕ) → is_id_byte b ≡ true → is_lawful b ≡ true
+id_byte b h = grind (arith, nat_tests)
+
+id_bytes : (bytes : List ℕ) → list_all is_id_byte bytes ≡ true → list_all is_lawful bytes ≡ true
+id_bytes [] h = refl
+id_bytes (b ∷ bytes) h =
+    let p = and_parts (is_id_byte b) (list_all is_id_byte bytes) h in
+    and_from (is_lawful b) (list_all is_lawful bytes) (id_byte b p.0) (id_bytes bytes p.1)
+
+pub id_lawful : (id : ℕ) → Lawful (id_text id)
+id_lawful id = id_bytes (id_text id) (ids_are_plain.digits id)
 
 spelled : (v : Bool) (b : ℕ) → is_lawful b ≡ true → Lawful (cond v (92 ∷ b ∷ []) (b ∷ []))
 spelled true b h = byte_lawful 92 (b ∷ []) refl (byte_lawful b [] h refl)

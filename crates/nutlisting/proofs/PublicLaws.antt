@@ -4,6 +4,9 @@ use Rattle.nutlisting.proofs.Writing as writing
 use Rattle.nutlisting.proofs.Ended as ended
 use Rattle.nutlisting.proofs.AddingUp as adding
 use Rattle.nutlisting.proofs.Owing as owing
+use Rattle.nutlisting.specs.Tracked.{IdsAreLawful}
+use Rattle.nutlisting.proofs.Lawful as lawful
+use Rattle.nuttracking.proofs.PublicLaws.{ids_are_plain}
 
 -- lines_are_the_text
 pub lines_are_the_text : LinesAreTheText
@@ -20,3 +23,7 @@ lines_add_up = adding.lines_add_up
 -- what_is_offered_is_the_ring
 pub what_is_offered_is_the_ring : WhatIsOfferedIsTheRing
 what_is_offered_is_the_ring = owing.offered_is
+
+-- ids_are_lawful
+pub ids_are_lawful : IdsAreLawful
+ids_are_lawful = record { long = ids_are_plain.long; lawful = lawful.id_lawful }

@@ -1,6 +1,7 @@
 pub mod Lines
 pub mod Shown
 pub mod Types
+pub mod Tracked
 pub mod Items
 pub mod Content
 pub mod Spaced

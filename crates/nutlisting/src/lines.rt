@@ -3,6 +3,7 @@ ghost use Rattle.std.specs.Prelude.{◌≡◌, ◌+◌, ◌*◌, ◌≤◌, [], 
 ghost use Rattle.std.specs.Fmt.{decimal, signed_decimal};
 ghost use Rattle.std.specs.List.{list_all, join_with_byte};
 ghost use Rattle.std.specs.Option.{option_copied};
+ghost use Rattle.nuttracking.specs.Id.{id_text};
 ghost use Rattle.nutwords.specs.Bytes.{is_lawful};
 ghost use Rattle.nutwords.specs.Frame.{line_of};
 ghost use Rattle.nutwords.specs.Spelling.{quoted};
@@ -10,15 +11,18 @@ ghost use Rattle.nutwords.specs.declared.limits.TheConstants.{LINE_LIMIT};
 ghost use Rattle.nutlisting.specs.Shown.{description_of, text_or_unavailable};
 ghost use Rattle.nutlisting.specs.Items.{variable_item, command_item, range_item, client_item};
 ghost use Rattle.nutlisting.specs.Lines.{IsWholeLine};
+ghost use Rattle.nutlisting.specs.Tracked.{progress_words};
 ghost use Rattle.nutlisting.specs.Types.{type_words};
 ghost use Rattle.nutlisting.specs.declared.lines.shown.TheConstants.{SHOWN_LIMIT};
 
 mod shown;
+mod tracked;
 mod types;
 
 use arrayvec::ArrayVec;
 use itoa::Buffer;
 use nutdriver::{Range, Variable};
+use nuttracking::{Progress, id_text};
 use nutwords::{Address, Line, NAME_LIMIT, Name, UPS_NAME_LIMIT, UpsName, Value, quote_into};
 
 /// The most bytes of a line's kind: `NUMLOGINS`, `NUMATTACH`.
@@ -177,6 +181,19 @@ pub fn count_line_into(kind: &[u8], ups: &UpsName, count: usize, line: &mut Line
     let mut digits = Buffer::new();
     front(line, kind, ups);
     push_word(line, digits.format(count).as_bytes());
+    finish(line);
+}
+
+/// Makes the line of how far the order of an id has come.
+#[tactic(auto, using(crate::proofs::Lawful::lawful_steps, crate::proofs::Lawful::id_lawful))]
+pub fn progress_line_into(id: u128, progress: Progress, line: &mut Line)
+    ensures text { line.new.items
+        ≡ line_of (codes "TRACKING" ∷ id_text id ∷ progress_words progress) }
+    ensures whole { IsWholeLine line.new.items }
+{
+    begin(line, b"TRACKING");
+    push_word(line, &id_text(id));
+    tracked::push_progress(line, progress);
     finish(line);
 }
 

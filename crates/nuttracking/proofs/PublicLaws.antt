@@ -1,13 +1,16 @@
 -- The laws of this crate that a proof in a crate above may cite: each is what a function of src/laws.rt ensures.
 use Rattle.std.proofs.Common.{◌≡◌, ℕ, ◌-◌, List, [], ◌∷◌, ◌++◌, length, map, drop, Bool, true, false, true≢false, if◌then◌else◌, Option, Some, None, is_some, unwrap_or, arith, refl, sym, ap, ◌∙◌, append_assoc, append-nil, length-append}
+use Rattle.std.proofs.lemmas.List.{length-map}
 use Rattle.std.proofs.lemmas.Slice.Eq.{bytes_eq-Decides}
+use Rattle.std.specs.Char.{to_ascii_lowercase}
 use Rattle.std.specs.Str.{bytes_eq, str_to_ascii_lowercase}
 use Rattle.circular_buffer.specs.Buffer.{keep_last}
 use Rattle.nuttracking.proofs.ReadBack.{reads_text}
-use Rattle.nuttracking.proofs.Reading.{text_is_lower}
+use Rattle.nuttracking.proofs.Reading.{text_is_lower, text_plain}
+use Rattle.nuttracking.proofs.Texts.{id_text_length}
 use Rattle.nuttracking.specs.Acts.{Given, after_act, after_acts, taken_by, taken_in, given_by, given}
 use Rattle.nuttracking.specs.Acts.Act.{ordered}
-use Rattle.nuttracking.specs.Id.{id_text, digits_number, read_id, WrittenIsRead, ReadIsWritten}
+use Rattle.nuttracking.specs.Id.{id_text, digits_number, read_id, WrittenIsRead, ReadIsWritten, IdsArePlain}
 use Rattle.nuttracking.specs.Laws.{FirstInFirstOut, TheLastAreKept, ActsKeepItSound, ItsDriverSettlesItOnce, as_given}
 use Rattle.nuttracking.specs.Sound.{IsSoundTracking}
 use Rattle.nuttracking.specs.Tracking.{TrackingState, nothing_tracked, pending, with_order}
@@ -31,6 +34,14 @@ read_is_written text id small = (text_read text id, reads_text text id small)
 
 pub written_is_read : WrittenIsRead
 written_is_read id small = reads_text (id_text id) id small (text_is_lower id)
+
+-- ids_are_plain
+pub ids_are_plain : IdsArePlain
+ids_are_plain = record {
+  long = id_text_length;
+  digits = text_plain;
+  read = λ text id e. sym (length-map text to_ascii_lowercase) ∙ ap length (text_read text id e) ∙ id_text_length id;
+}
 
 -- an_id_stands_for_one_order
 pub nothing_is_sound : IsSoundTracking nothing_tracked

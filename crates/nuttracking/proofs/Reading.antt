@@ -7,7 +7,7 @@ use Rattle.std.specs.Char.{to_ascii_lowercase}
 use Rattle.std.specs.Int.{w128, to_be_bytes, from_be_bytes}
 use Rattle.std.specs.List.{list_all}
 use Rattle.std.specs.Str.{str_to_ascii_lowercase}
-use Rattle.nuttracking.specs.Id.{id_text}
+use Rattle.nuttracking.specs.Id.{id_text, is_id_byte}
 use Rattle.nuttracking.proofs.Digits.{bytes_of_number}
 use Rattle.nuttracking.proofs.Texts.{hyphenated_is_text, id_text_length}
 use Rattle.uuid.proofs.TextLemmas.{by_index_length, by_index_at, by_index_same, nibble_even, nibble_odd, nibble_small}
@@ -217,3 +217,22 @@ text_is_lower n =
     by_index_same (str_to_ascii_lowercase text) 36 (text_at u) len
     (λ k d h. get_or-map to_ascii_lowercase text k 0 d (omega (arith, by_index_length 36 (text_at u))) ∙ ap to_ascii_lowercase (by_index_at 36 (text_at u) k 0 h) ∙ place_stays u k) in
     ap str_to_ascii_lowercase (sym (hyphenated_is_text n)) ∙ same ∙ hyphenated_is_text n
+
+-- ---- each byte that uuid writes is a digit or a hyphen
+
+digit_plain : (d : ℕ) → d < 16 → is_id_byte (hex_digit lower d) ≡ true
+digit_plain d small = grind (arith, nat_tests)
+
+place_plain : (u : List ℕ) (k : ℕ) → is_id_byte (text_at u k) ≡ true
+place_plain u k = elim (either (is_hyphen_place k)) [
+  | inl hyphen ↦ rw hyphen refl
+  | inr digit ↦ rw digit (digit_plain (nibble u (digit_place k)) (nibble_small u (digit_place k)))
+]
+
+pub text_plain : (n : ℕ) → list_all is_id_byte (id_text n) ≡ true
+text_plain n =
+    let u : List ℕ = to_be_bytes w128 n in
+    let all : list_all is_id_byte (hyphenated_text lower u) ≡ true =
+    all_from is_id_byte (hyphenated_text lower u)
+    (λ k h. ap is_id_byte (by_index_at 36 (text_at u) k 0 (omega (arith, h, by_index_length 36 (text_at u)))) ∙ place_plain u k) in
+    ap (list_all is_id_byte) (sym (hyphenated_is_text n)) ∙ all

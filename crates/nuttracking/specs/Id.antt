@@ -2,8 +2,9 @@
 -- 4, 4, 4 and 12 with a hyphen between each two (RFC 9562, section 4).
 use Rattle.std.specs.Prelude.{◌≡◌, ◌<◌, ◌^◌, ◌/◌, ◌%◌, ◌↔◌, ℕ, zero, suc, List, [], ◌∷◌, ◌++◌}
 use Rattle.std.specs.Prelude.{take, drop, slice_range, Option, Some, None, if◌then◌else◌}
+use Rattle.std.specs.Prelude.{◌==◌, ◌||◌, Bool, length, IsTrue}
 use Rattle.std.specs.Char.{digit_char, is_ascii_hexdigit}
-use Rattle.std.specs.List.{filter, join_with_byte}
+use Rattle.std.specs.List.{filter, join_with_byte, list_all}
 use Rattle.std.specs.Str.{bytes_eq, str_to_ascii_lowercase}
 use Rattle.std.specs.Str.Parse.{digits_value}
 
@@ -45,3 +46,14 @@ abbrev pub ReadIsWritten : Type 0
 ReadIsWritten =
     (text : List ℕ) (id : ℕ) → id < 2 ^ 128
     → (read_id text ≡ Some id ↔ str_to_ascii_lowercase text ≡ id_text id)
+
+-- A digit of base sixteen, or a hyphen.
+abbrev pub is_id_byte : ℕ → Bool
+is_id_byte b = b == hyphen || is_ascii_hexdigit b
+
+-- An id is written in 36 bytes, each a digit of base sixteen or a hyphen, and read of no other
+-- number of bytes.
+pub record IdsArePlain : Type 0 where
+  pub long : (id : ℕ) → length (id_text id) ≡ 36
+  pub digits : (id : ℕ) → IsTrue (list_all is_id_byte (id_text id))
+  pub read : (text : List ℕ) (id : ℕ) → read_id text ≡ Some id → length text ≡ 36

@@ -1,6 +1,6 @@
 //! Laws of the definitions that the contracts of this crate cite. No program calls them.
 ghost use Rattle.std.specs.Prelude.{◌≡◌};
-ghost use Rattle.nuttracking.specs.Id.{WrittenIsRead, ReadIsWritten};
+ghost use Rattle.nuttracking.specs.Id.{WrittenIsRead, ReadIsWritten, IdsArePlain};
 ghost use Rattle.nuttracking.specs.Laws.{FirstInFirstOut, TheLastAreKept, ActsKeepItSound, ItsDriverSettlesItOnce};
 ghost use Rattle.nuttracking.specs.Sound.{IsSoundTracking};
 ghost use Rattle.nuttracking.specs.Tracking.{nothing_tracked};
@@ -17,6 +17,11 @@ pub fn limits()
 pub fn ids_are_read_back()
     ensures written { WrittenIsRead }
     ensures read { ReadIsWritten }
+{}
+
+/// An id is written in 36 bytes, each a digit of base sixteen or a hyphen, and read of no other number of bytes.
+pub fn ids_are_plain()
+    ensures { IdsArePlain }
 {}
 
 /// The ids that were used, in order, and then those at hand are those that were at hand and were taken in, in order. So an

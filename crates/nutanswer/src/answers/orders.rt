@@ -1,16 +1,20 @@
-//! Orders to drivers: SET VAR and INSTCMD (RFC 9271).
-ghost use Rattle.std.specs.Prelude.{Ok};
+//! Orders to drivers: SET VAR and INSTCMD (RFC 9271), and how far they have come.
+ghost use Rattle.std.specs.Prelude.{◌≤◌, Ok, Some, length};
 ghost use Rattle.nutanswer.specs.View.{asker_seen};
-ghost use Rattle.nutanswer.specs.Answer.{answer_to, one_line, ok};
-ghost use Rattle.nutanswer.specs.Orders.{order};
-ghost use Rattle.nutanswer.specs.Promises.{CarriesAnswer, Gives};
-ghost use Rattle.nutanswer.specs.declared.command.Command.TheVariants.{SetVar, InstCmd};
+ghost use Rattle.nutanswer.specs.Answer.{answer_to, one_line};
+ghost use Rattle.nutanswer.specs.Orders.{order, ok_words};
+ghost use Rattle.nutanswer.specs.Promises.{CarriesAnswer, Gives, row};
+ghost use Rattle.nutanswer.specs.declared.command.Command.TheVariants.{SetVar, InstCmd, GetProgress};
+ghost use Rattle.nutanswer.specs.declared.lines.TheConstants.{ORDER_LINE_LIMIT};
 
 use super::ok;
-use crate::checks::{command_value, live_command, live_variable, settable, user, user_of_command};
+use crate::checks::{
+    command_value, live_command, live_variable, order_id, settable, user, user_of_command,
+};
 use crate::known::KnownCommand;
-use crate::lines::order_line_into;
-use crate::{Asker, Change, ErrWord, NameWord, OrderLine, Reply, UpsWord, ValueWord, View};
+use crate::lines::{order_line_into, push_answer};
+use crate::{Asker, Change, ErrWord, IdWord, NameWord, OrderLine, Reply, UpsWord, ValueWord, View};
+use nutlisting::progress_line_into;
 use nutusers::{Right, UpsId};
 use nutwords::Line;
 
@@ -33,11 +37,12 @@ pub(crate) fn set_var<'a, V: View>(
     let name = name.read();
     let found = live_variable(view, &ups, &name)?;
     let value = settable(found.variable, value)?;
-    order_line_into(b"SET", found.name, Some(&value), line);
+    let id = order_id(view, asker, ErrWord::SetFailed)?;
+    order_line_into(b"SET", found.name, Some(&value), id, line);
     if line.len() > found.ups.state.free {
         return Err(ErrWord::SetFailed);
     }
-    Ok(ordered(found.ups.id, line))
+    Ok(ordered(found.ups.id, id, line))
 }
 
 /// INSTCMD.
@@ -59,16 +64,52 @@ pub(crate) fn inst_cmd<'a, V: View>(
     user_of_command(view, asker, &name)?;
     let KnownCommand { ups, name } = live_command(view, &ups, &name)?;
     let value = command_value(value)?;
-    order_line_into(b"INSTCMD", name, value.as_ref(), line);
+    let id = order_id(view, asker, ErrWord::InstcmdFailed)?;
+    order_line_into(b"INSTCMD", name, value.as_ref(), id, line);
     if line.len() > ups.state.free {
         return Err(ErrWord::InstcmdFailed);
     }
-    Ok(ordered(ups.id, line))
+    Ok(ordered(ups.id, id, line))
 }
 
-/// The bare OK, of a command by which the driver of this UPS is owed this line.
-fn ordered<'a>(u: UpsId, line: &'a Line) -> Reply<'a>
-    ensures { CarriesAnswer (Ok (one_line ok (order u line.now.items))) result }
+/// The OK of a command by which the driver of this UPS is owed this line.
+fn ordered<'a>(u: UpsId, id: Option<u128>, line: &'a mut Line) -> Reply<'a>
+    requires { length line.old.items ≤ ORDER_LINE_LIMIT }
+    ensures { CarriesAnswer (Ok (one_line (ok_words id) (order u line.old.items id))) result }
 {
-    ok(Change::Order(u, OrderLine::of(line.as_slice())))
+    match id {
+        Some(id) => tracked(u, id, line),
+        None => ok(Change::Order(u, OrderLine::of(line.as_slice()))),
+    }
+}
+
+/// The same of a tracked order. The answer, which tells its id, is made behind its line.
+fn tracked<'a>(u: UpsId, id: u128, line: &'a mut Line) -> Reply<'a>
+    requires { length line.old.items ≤ ORDER_LINE_LIMIT }
+    ensures { CarriesAnswer (Ok
+        (one_line (ok_words (Some id)) (order u line.old.items (Some id)))) result }
+{
+    let length = line.len();
+    push_answer(line, id);
+    let (order, answer) = line.as_slice().split_at(length);
+    Reply::One(answer, Change::Tracked(u, id, OrderLine::of(order)))
+}
+
+/// GET TRACKING of an id.
+#[inline(never)]
+pub(crate) fn progress<'a, V: View>(
+    view: &V,
+    id: &IdWord<'_>,
+    line: &'a mut Line,
+) -> Result<Reply<'a>, ErrWord>
+    ensures { Gives (row (V.seen view.now) (GetProgress id.now)) result }
+{
+    let Some(id) = id.read() else {
+        return Err(ErrWord::InvalidArgument);
+    };
+    let Some(progress) = view.progress(id) else {
+        return Err(ErrWord::InvalidArgument);
+    };
+    progress_line_into(id, progress, line);
+    Ok(Reply::One(line.as_slice(), Change::Nothing))
 }

@@ -1,4 +1,5 @@
-//! The commands of sessions: who asks, what it is logged in to, and the forced shutdown (RFC 9271).
+//! The commands of sessions: who asks, what it is logged in to, the forced shutdown (RFC 9271), and whether its orders are
+//! tracked.
 ghost use Rattle.std.specs.Prelude.{◌≡◌, ◌≤◌, ◌∷◌, [], Ok, codes, length, IsTrue};
 ghost use Rattle.std.specs.List.{list_all};
 ghost use Rattle.nutwords.specs.Bytes.{is_lawful};
@@ -6,7 +7,7 @@ ghost use Rattle.nutlisting.specs.declared.lines.TheConstants.{KIND_LIMIT};
 ghost use Rattle.nutanswer.specs.View.{Seen, AskerSeen, asker_seen};
 ghost use Rattle.nutanswer.specs.Answer.{answer_to, count_of_logins, one_line, ok};
 ghost use Rattle.nutanswer.specs.Promises.{CarriesAnswer, Gives, GivesReply, row};
-ghost use Rattle.nutanswer.specs.declared.command.Command.TheVariants.{Username, Password, Login, Logout, Primary, Fsd, ListClient};
+ghost use Rattle.nutanswer.specs.declared.command.Command.TheVariants.{Username, Password, Login, Logout, Primary, Fsd, SetTracking, GetTracking, ListClient};
 
 use super::ok;
 use crate::checks::{known_ups, user};
@@ -108,6 +109,26 @@ pub(crate) fn fsd<'a, V: View>(
     let ups = known_ups(view, &ups)?;
     plain_line_into(b"OK FSD-SET", line);
     Ok(Reply::One(line.as_slice(), Change::Fsd(ups.id)))
+}
+
+/// SET TRACKING.
+pub(crate) fn set_tracking<'a>(on: bool) -> Result<Reply<'a>, ErrWord>
+    ensures { (s : Seen) (a : AskerSeen) → Gives (answer_to s a (SetTracking on)) result }
+{
+    Ok(ok(Change::Tracking(on)))
+}
+
+/// GET TRACKING.
+pub(crate) fn get_tracking<'a>(asker: Asker<'_>, line: &'a mut Line) -> Result<Reply<'a>, ErrWord>
+    ensures { (s : Seen) → Gives (answer_to s (asker_seen asker.entry) GetTracking) result }
+{
+    let text: &[u8] = if asker.tracking {
+        b"TRACKING ON"
+    } else {
+        b"TRACKING OFF"
+    };
+    plain_line_into(text, line);
+    Ok(Reply::One(line.as_slice(), Change::Nothing))
 }
 
 /// GET NUMLOGINS and GET NUMATTACH, by the word that their line begins with.

@@ -1,10 +1,11 @@
 //! What stands after the words that say which command it is.
 ghost use Rattle.std.specs.Prelude.{◌≡◌};
-ghost use Rattle.nutanswer.specs.Command.{alone, user_name_alone, password_alone, ups_alone, ups_and_name, ups_name_and_value, ups_name_and_value_if_any};
+ghost use Rattle.nutwords.specs.Spelled.{spelled};
+ghost use Rattle.nutanswer.specs.Command.{alone, user_name_alone, password_alone, ups_alone, ups_and_name, ups_name_and_value, ups_name_and_value_if_any, tracking_asked, is_on, on_or_off};
 
-use super::{Command, NameWord, PasswordWord, UpsWord, UserWord, ValueWord};
+use super::{Command, IdWord, NameWord, PasswordWord, UpsWord, UserWord, ValueWord};
 use crate::ErrWord;
-use nutwords::SpelledWords;
+use nutwords::{SpelledWord, SpelledWords};
 
 /// The command, where no further word stands after it.
 pub(crate) fn alone<'a>(
@@ -101,5 +102,42 @@ pub(crate) fn ups_name_and_value_if_any(
             Ok((ups, name, Some(value)))
         }
         _ => Err(ErrWord::InvalidArgument),
+    }
+}
+
+/// What a GET TRACKING asks for: whether orders are tracked, or, with one more word, how far the order of that id has come.
+pub(crate) fn tracking_asked(mut words: SpelledWords<'_>) -> Result<Command<'_>, ErrWord>
+    ensures { result ≡ tracking_asked words.entry }
+{
+    match (words.next(), words.next()) {
+        (None, _) => Ok(Command::GetTracking),
+        (Some(id), None) => {
+            let id = IdWord::of(id);
+            Ok(Command::GetProgress(id))
+        }
+        _ => Err(ErrWord::InvalidArgument),
+    }
+}
+
+/// Whether the word, and no other, is ON; it is to be ON or OFF.
+pub(crate) fn on_or_off(mut words: SpelledWords<'_>) -> Result<bool, ErrWord>
+    ensures { result ≡ on_or_off words.entry }
+{
+    match (words.next(), words.next()) {
+        (Some(word), None) => is_on(&word),
+        _ => Err(ErrWord::InvalidArgument),
+    }
+}
+
+/// Whether the word is ON; it is to be ON or OFF.
+fn is_on(word: &SpelledWord<'_>) -> Result<bool, ErrWord>
+    ensures { result ≡ is_on (spelled word.now) }
+{
+    if word.is_word(b"ON") {
+        Ok(true)
+    } else if word.is_word(b"OFF") {
+        Ok(false)
+    } else {
+        Err(ErrWord::InvalidArgument)
     }
 }

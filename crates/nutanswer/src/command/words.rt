@@ -1,5 +1,6 @@
 //! The words of a command that name something or are a value. Each borrows its spelling from the line, and is read where the
 //! command's row needs it: a command is small, whatever its words may be read as.
+use nuttracking::{ID_LENGTH, read_id};
 use nutusers::{PASSWORD_LIMIT, Password, USER_NAME_LIMIT, UserName};
 use nutwords::{Name, SpelledWord, UpsName, Value};
 use std::marker::Model;
@@ -189,5 +190,42 @@ impl<'a> PasswordWord<'a> {
     {
         let bytes = self.word.held::<PASSWORD_LIMIT>()?;
         Password::read(bytes.as_slice())
+    }
+}
+
+/// The word that is the id of a tracked order, none where it isn't one.
+#[derive(Debug, Drop)]
+pub struct IdWord<'a> {
+    word: SpelledWord<'a>,
+}
+
+impl<'a> Model for IdWord<'a> {
+    ghost use Rattle.std.specs.Prelude.{ℕ, Option};
+    ghost use Rattle.nuttracking.specs.Id.{read_id};
+    ghost use Rattle.nutwords.specs.Spelled.{spelled};
+
+    ghost Value = { Option ℕ };
+
+    ghost view = { λ w. read_id (spelled w.word) };
+}
+
+impl<'a> IdWord<'a> {
+    ghost use Rattle.std.specs.Prelude.{◌≡◌};
+    ghost use Rattle.nuttracking.specs.Id.{read_id};
+    ghost use Rattle.nutwords.specs.Spelled.{spelled};
+
+    /// The word that is to be an id.
+    pub(crate) fn of(word: SpelledWord<'a>) -> IdWord<'a>
+        ensures { result ≡ read_id (spelled word.entry) }
+    {
+        IdWord { word }
+    }
+
+    /// The id.
+    pub(crate) fn read(&self) -> Option<u128>
+        ensures { result ≡ self.now }
+    {
+        let bytes = self.word.held::<ID_LENGTH>()?;
+        read_id(bytes.as_slice())
     }
 }

@@ -3,7 +3,7 @@ use Rattle.nutanswer.specs.View.{asker_seen}
 use Rattle.nutanswer.specs.Answer.{answer_to}
 use Rattle.nutanswer.proofs.Carried.{given, given_seen}
 use Rattle.nutanswer.proofs.answers.answer.Goals as goal
-use Rattle.nutanswer.proofs.answers.answer.Goals.{in-Username, in-Password, in-Login, in-Logout, in-Primary, in-Fsd, in-SetVar, in-InstCmd, in-GetVar, in-GetType, in-GetDesc, in-GetCmdDesc, in-GetUpsDesc, in-GetNumLogins, in-GetNumAttach, in-ListClient, in-Help, in-Ver, in-StartTls, in-NetVer}
+use Rattle.nutanswer.proofs.answers.answer.Goals.{in-Username, in-Password, in-Login, in-Logout, in-Primary, in-Fsd, in-SetVar, in-InstCmd, in-SetTracking, in-GetVar, in-GetType, in-GetDesc, in-GetCmdDesc, in-GetUpsDesc, in-GetNumLogins, in-GetNumAttach, in-GetTracking, in-GetProgress, in-ListClient, in-Help, in-Ver, in-StartTls, in-NetVer}
 
 pub returns-clause-ok : goal.returns-clause-ok
 returns-clause-ok g c =
@@ -18,6 +18,7 @@ returns-clause-ok g c =
       | in-Fsd w ↦ given s a _ _ _ _ w.in-Fsd.is w.row-is w.fsd-row.ensures
       | in-SetVar w ↦ given s a _ _ _ _ w.in-SetVar.is w.row-is w.set_var-row.ensures
       | in-InstCmd w ↦ given s a _ _ _ _ w.in-InstCmd.is w.row-is w.inst_cmd-row.ensures
+      | in-SetTracking w ↦ given s a _ _ _ _ w.in-SetTracking.is w.row-is (w.set_tracking-row.ensures s a)
       | in-GetVar w ↦ given s a _ _ _ _ w.in-GetVar.is w.row-is w.get_var-row.ensures
       | in-GetType w ↦ given s a _ _ _ _ w.in-GetType.is w.row-is w.get_type-row.ensures
       | in-GetDesc w ↦ given s a _ _ _ _ w.in-GetDesc.is w.row-is w.get_desc-row.ensures
@@ -25,6 +26,8 @@ returns-clause-ok g c =
       | in-GetUpsDesc w ↦ given s a _ _ _ _ w.in-GetUpsDesc.is w.row-is w.get_ups_desc-row.ensures
       | in-GetNumLogins w ↦ given s a _ _ _ _ w.in-GetNumLogins.is w.row-is w.count_of_logins-row.ensures
       | in-GetNumAttach w ↦ given s a _ _ _ _ w.in-GetNumAttach.is w.row-is w.count_of_logins-row-in-GetNumAttach.ensures
+      | in-GetTracking w ↦ given s a _ _ _ _ w.in-GetTracking.is w.row-is (w.get_tracking-row.ensures s)
+      | in-GetProgress w ↦ given s a _ _ _ _ w.in-GetProgress.is w.row-is w.progress-row.ensures
       | in-Help w ↦ given s a _ _ _ _ w.in-Help.is w.row-is w.plain-row.ensures
       | in-Ver w ↦ given s a _ _ _ _ w.in-Ver.is w.row-is w.plain-row-in-Ver.ensures
       | in-NetVer w ↦ elim w.in-NetVer.is [
