@@ -5,7 +5,7 @@ use Rattle.nutwords.specs.Reading.{is_address}
 use Rattle.nutusers.specs.UpsList.{Ups}
 use Rattle.nutcore.specs.Session.{SessionState, without, new_session}
 use Rattle.nutcore.proofs.Common.{UpsState, TrackingState, ServerState, session, with_session, with_session_changed, with_tracking}
-use Rattle.nutcore.specs.Reply.{reply, changed_upses}
+use Rattle.nutcore.specs.Reply.{reply, changed_upses, changed_tracking}
 use Rattle.nutcore.specs.Pump.{answered, with_notice}
 use Rattle.nutcore.specs.Step.{joined, taken_from, may_open, ticked}
 use Rattle.nutcore.specs.ReadsBack.{HasLawfulAddress}
@@ -46,13 +46,14 @@ module _ (P : ServerState → Type 0) (Opens : List ℕ → Type 0) (apart : IsA
           let n = is_next s c line e in
           let y : SessionState = session_after s c line n.asking in
           let put_in = apart.puts s c n.asking y n.found ((keeps (change_at s c line) (answered line (reply s c line) n.asking)).address) h in
-          subst P (sym (after_line_is s c line n.asking n.found e)) (apart.upses (with_session s y) (changed_upses (change_at s c line) s.upses) put_in);
+          subst P (sym (after_line_is s c line n.asking n.found e)) (apart.tracking _ (changed_tracking (change_at s c line) s.tracking) (apart.upses (with_session s y) (changed_upses (change_at s c line) s.upses) put_in));
       joins = λ s c piece h. by_session (joined piece) (λ x. refl) s c h;
       gives = λ s c n h. by_session (taken_from n) (λ x. refl) s c h;
       notice = λ s c h. by_session with_notice (λ x. either_notice (λ y. y.address ≡ x.address) x refl refl) s c h;
     };
     driver = λ s m. record { comes = λ u h. apart.upses s _ h; tells = λ place piece u h. apart.upses s _ h; takes = λ n u h. apart.upses s _ h; goes = λ u h. apart.upses s _ h };
-    tracks = λ s act h. apart.tracking s _ h;
+    reports = λ s u line h. apart.tracking s _ h;
+    hands = λ s id h. apart.tracking s _ h;
     ticks = by_tick;
     opens = opens;
     closes = closes;

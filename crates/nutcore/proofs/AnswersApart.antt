@@ -6,11 +6,8 @@ use Rattle.std.proofs.lemmas.List.Elements.{All-nil, All-cons, All-head, All-tai
 use Rattle.nutwords.specs.Answers.{IsAnswer}
 use Rattle.nutwords.specs.Natural.{is_empty}
 use Rattle.nutwords.proofs.PublicLaws.{first_answers_are_the_first, answers_are_cut_in_one_way}
-use Rattle.nutdriver.specs.Sound.{IsSoundTree, EachLineKeepsTheTreeSound}
+use Rattle.nutdriver.specs.Sound.{IsSoundTree, EachLineKeepsTheTreeSound, ReadLinesAreLawful}
 use Rattle.nutdriver.specs.Tree.{empty_tree}
-use Rattle.nuttracking.specs.Laws.{ActsKeepItSound}
-use Rattle.nuttracking.specs.Sound.{IsSoundTracking}
-use Rattle.nuttracking.specs.Tracking.{nothing_tracked}
 use Rattle.nutanswer.specs.declared.command.Command.{Command}
 use Rattle.nutanswer.specs.declared.err_word.ErrWord.{ErrWord}
 use Rattle.nutanswer.specs.declared.err_word.ErrWord.TheVariants.{TooLong}
@@ -88,6 +85,7 @@ seen_lawful s sound own = record {
   descriptions = sound.descriptions;
   addresses = All-map (λ (client : ClientSeen). IsLawfulAddress client.address) seen_client s.sessions (all_of s.sessions own);
   few = (let few = sound.few in omega (arith, few, length-map s.sessions seen_client));
+  numbers = sound.numbers;
 }
 
 -- the text of an execution is an answer, where there is one
@@ -124,13 +122,13 @@ texts_joined : (xs : List Execution) → concat (texts xs) ≡ flat_map text_of 
 texts_joined [] = refl
 texts_joined (x ∷ xs) = one_more_joined (text_of x) xs (texts_joined xs)
 
-module _ (empty : IsSoundTree empty_tree) (line_keeps : EachLineKeepsTheTreeSound) (none_tracked : IsSoundTracking nothing_tracked) (acts_keep : ActsKeepItSound) where
+module _ (empty : IsSoundTree empty_tree) (line_keeps : EachLineKeepsTheTreeSound) (read_lawful : ReadLinesAreLawful) where
   sound_old : (old : ServerState) → IsNewServer old → IsSound old
-  sound_old old n = subst IsSound (sym n.is) (new_sound empty line_keeps none_tracked acts_keep n.list n.users n.descriptions n.max_age n.is_list n.are_lawful n.is_max_age)
+  sound_old old n = subst IsSound (sym n.is) (new_sound empty line_keeps read_lawful n.list n.users n.descriptions n.max_age n.is_list n.are_lawful n.is_max_age)
 
   each_answered : (old : ServerState) (es : List Event) (os : List Outcome) → IsNewServer old → All OpensLawfully es → (c : ℕ) → All IsAnswer (list_of_answers c old es os)
   each_answered old es os n own c =
-      let sound = run_on IsSound IsAny (sound_kept empty line_keeps none_tracked acts_keep) old es os (any_event es) (sound_old old n) in
+      let sound = run_on IsSound IsAny (sound_kept empty line_keeps read_lawful) old es os (any_event es) (sound_old old n) in
       let lawful = run_on HaveLawfulAddresses IsLawfulAddress addresses_kept old es os own (subst HaveLawfulAddresses (sym n.is) tt) in
       texts_answered (of_client c (executions old es os))
       (All-filter _ (λ x. IsAnswerIfAny (text_of x)) (executions old es os) (λ k d below. execution_answered _ (sound k d below) (lawful k d below)))

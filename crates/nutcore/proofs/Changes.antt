@@ -1,14 +1,15 @@
 -- What a change does to the session that asks, to the UPSs and to what their drivers are told: a case each.
-use Rattle.std.proofs.Common.{◌≡◌, ℕ, ◌+◌, ◌≤◌, false, true, List, [], ◌++◌, Some, None, refl, ap, arith, length, inl, inr}
+use Rattle.std.proofs.Common.{◌≡◌, ℕ, ◌+◌, ◌≤◌, false, true, List, [], ◌∷◌, ◌++◌, cond, eqb, Option, Some, None, refl, ap, arith, length, inl, inr}
 use Rattle.std.specs.Prelude.{◌⊎◌}
 use Rattle.std.proofs.Math.Seq.{drop-nil}
-use Rattle.arrayvec.specs.ArrayVec.{ArrayVec}
-use Rattle.nutcore.proofs.Common.{UpsId, Change, SessionState, changed_at}
-use Rattle.nutanswer.specs.declared.reply.Change.TheVariants.{Username, Password, Login, Ending, Fsd, Order}
+use Rattle.nuttracking.specs.Tracking.{with_order as with_tracked_order}
+use Rattle.nutanswer.specs.Orders.{order as order_to}
+use Rattle.nutcore.proofs.Common.{UpsId, TrackingState, Change, SessionState, changed_at}
+use Rattle.nutanswer.specs.declared.reply.Change.TheVariants.{Username, Password, Login, Ending, Fsd, Order, Tracked}
 use Rattle.nutcore.specs.Ups.{UpsState, with_fsd, with_order}
-use Rattle.nutcore.specs.Reply.{changed_session, changed_upses}
+use Rattle.nutcore.specs.Reply.{changed_session, changed_upses, changed_tracking}
 use Rattle.nutcore.specs.Pump.{answered}
-use Rattle.nutcore.specs.DriverOrders.{Telling, told_by_change}
+use Rattle.nutcore.specs.DriverOrders.{Telling, order, told_by_change}
 
 -- what a change keeps of a session, and by which change a user name, a password or a login comes
 pub record Keeps (change : Change) (x : SessionState) : Type 0 where
@@ -45,11 +46,17 @@ keeps Ending x = record {
 }
 keeps _ x = record { id = refl; address = refl; owed = refl; held = λ e. refl; shorter = omega arith; ended = λ e. inl e; joined = λ line text. refl; username = inl refl; password = inl refl; login = inl refl; logged_out = λ e. inl e }
 
--- what holds where nothing of the UPSs changes, where a forced shutdown is set, and where an order is told, holds of each change
+-- what holds where nothing of the UPSs changes, where a forced shutdown is set, and where an order is told, tracked or not, holds of each change
 pub of_upses : (P : (UpsId → List Telling) → List UpsState → Type 0) (change : Change) (xs : List UpsState) → P (λ u. []) xs
     → ((v : UpsId) → change ≡ Fsd v → P (λ u. []) (changed_at with_fsd v.place xs))
-    → ((v : UpsId) (line : ArrayVec ℕ) → change ≡ Order v line → P (λ u. told_by_change u (Order v line)) (changed_at (with_order line.items) v.place xs))
+    → ((v : UpsId) (line : List ℕ) (id : Option ℕ) → change ≡ order_to v line id → P (λ u. cond (eqb v.place u.place) (order line ∷ []) []) (changed_at (with_order line) v.place xs))
     → P (λ u. told_by_change u change) (changed_upses change xs)
-of_upses P (Fsd u) xs same fsd order = fsd u refl
-of_upses P (Order u line) xs same fsd order = order u line refl
-of_upses P _ xs same fsd order = same
+of_upses P (Fsd u) xs same fsd orders = fsd u refl
+of_upses P (Order u line) xs same fsd orders = orders u line.items None refl
+of_upses P (Tracked u id line) xs same fsd orders = orders u line.items (Some id) refl
+of_upses P _ xs same fsd orders = same
+
+-- what holds where nothing of what is tracked changes, and where an order is tracked, holds of each change
+pub of_tracking : (P : TrackingState → Type 0) (change : Change) (t : TrackingState) → P t → ((place : ℕ) → P (with_tracked_order place t)) → P (changed_tracking change t)
+of_tracking P (Tracked u id line) t same orders = orders u.place
+of_tracking P _ t same orders = same

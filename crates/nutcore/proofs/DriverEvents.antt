@@ -1,8 +1,7 @@
 -- Each event, of one UPS: one of its driver, one that tells its driver, or one that leaves it alone.
-use Rattle.std.proofs.Common.{◌≡◌, ◌∙◌, ℕ, zero, suc, Bool, true, false, List, [], ◌∷◌, ◌++◌, Option, Some, None, refl, sym, ap, subst, cond, max, length, append_assoc, append-nil}
+use Rattle.std.proofs.Common.{◌≡◌, ◌∙◌, ℕ, zero, suc, Bool, true, false, List, [], ◌∷◌, ◌++◌, Option, Some, None, refl, sym, ap, subst, cond, eqb, max, length, append_assoc, append-nil}
 use Rattle.std.specs.List.{flat_map}
 use Rattle.nutcore.proofs.Common.{slice_get, option_map, cond_both, flat_map-append, slice_get-map, UpsId, Change, Event, Outcome, SessionState, ServerState, session, ups_at, with_session_changed}
-use Rattle.nutanswer.specs.declared.reply.Change.TheVariants as changes
 use Rattle.nutcore.specs.declared.event.Event.TheVariants.{DriverUp, DriverBytes, DriverTook, DriverDown, Tick, Open, Feed, Took, Close, Id}
 use Rattle.nutcore.specs.Ups.{UpsState, with_fsd, with_order, after_tick, ping_is_due}
 use Rattle.nutcore.specs.Reply.{changed_upses}
@@ -12,7 +11,7 @@ use Rattle.nutcore.specs.History.{of_notice, next_execution, lines_executed, not
 use Rattle.nutcore.specs.Isolation.{without_commands}
 use Rattle.nutcore.specs.Lines.{whole_lines}
 use Rattle.nutcore.specs.DriverHistory.{Heard, heard_at, as_far, came_in_event, heard_in_event}
-use Rattle.nutcore.specs.DriverOrders.{Telling, texts_of, told_by_change, told_by_line, told_in_event, taken_in_event}
+use Rattle.nutcore.specs.DriverOrders.{Telling, order, texts_of, told_by_change, told_by_line, told_in_event, taken_in_event}
 use Rattle.nutcore.proofs.Changed.{by_change}
 use Rattle.nutcore.proofs.Changes.{of_upses}
 use Rattle.nutcore.proofs.Events.{of_opened}
@@ -33,9 +32,9 @@ changes_add : (u : UpsId) (change : Change) (xs : List UpsState) (x : UpsState) 
 changes_add u change xs x there =
     of_upses (λ told ys. Stands u.place ys (Adds x (told u))) change xs (record { ups = x; there = there; is = adds_none x })
     (λ v is. of_place with_fsd u v xs x (Adds x []) there (λ k same. record { owed = sym (append-nil x.owed); same = refl }) (λ k. adds_none x))
-    (λ v line is.
-    of_place (with_order line.items) u v xs x (Adds x (told_by_change u (changes.Order v line))) there
-    (λ k same. rw k (record { owed = ap (λ (z : List ℕ). x.owed ++ z) (sym (append-nil line.items)); same = refl })) (λ k. rw k (adds_none x)))
+    (λ v line id is.
+    of_place (with_order line) u v xs x (Adds x (cond (eqb v.place u.place) (order line ∷ []) [])) there
+    (λ k same. rw k (record { owed = ap (λ (z : List ℕ). x.owed ++ z) (sym (append-nil line)); same = refl })) (λ k. rw k (adds_none x)))
 
 -- one line, and some
 line_adds : (u : UpsId) (s : ServerState) (c : ℕ) (x : UpsState) (o : Option (List ℕ)) → next_line_for s c ≡ o → ups_at u.place s ≡ Some x → Stands u.place (after_line s c).upses (Adds x (flat_map (told_by_line u) (next_execution s c o)))

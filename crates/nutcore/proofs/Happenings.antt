@@ -11,7 +11,7 @@ use Rattle.nutanswer.specs.Answer.{answer_to, text_of_answer, change_of_answer}
 use Rattle.nutlisting.specs.declared.listing.clients.TheConstants.{SESSION_LIMIT}
 use Rattle.nutcore.specs.declared.event.Event.TheVariants.{DriverUp, DriverBytes, DriverTook, DriverDown, Tick, Open, Feed, Took, Close, Id}
 use Rattle.nutcore.specs.Session.{find, put, without, new_session, begin_ending}
-use Rattle.nutcore.specs.Reply.{seen, seen_client, asker, asker_of, reply, text_to, change_by, changed, changed_session, changed_upses, after_change, too_long_notice}
+use Rattle.nutcore.specs.Reply.{seen, seen_client, asker, asker_of, reply, text_to, change_by, changed, changed_session, changed_upses, changed_tracking, after_change, too_long_notice}
 use Rattle.nutcore.specs.Pump.{next_line_for, answered, after_line, is_overlong, notified}
 use Rattle.nutcore.specs.Step.{joined, with_input, taken_from, without_output, may_take, may_open, opened, ticked, pumped_until, after_by, refused_after}
 use Rattle.nutcore.specs.History.{Execution, of_line, of_notice, client_of, text_of, executions_until, executions_by, executions, of_client, texts_of}
@@ -178,7 +178,7 @@ core_line s c line next =
     ap (λ (z : Change). changed z c k) (core_alike s c line).change
     ∙ changed_is change c k (without_bytes x) (found_without c s.sessions ∙ ap (option_map without_bytes) n.found)
     ∙ ap (line_done k change) (sym (changed_without change line (reply s c line) x))
-    ∙ ap (λ (xs : List SessionState). let t : ServerState = record s { sessions = xs; upses = changed_upses change s.upses } in t) (sym (put_without y s.sessions))
+    ∙ ap (λ (xs : List SessionState). let t : ServerState = record s { sessions = xs; upses = changed_upses change s.upses; tracking = changed_tracking change s.tracking } in t) (sym (put_without y s.sessions))
     ∙ ap apart_from_bytes (sym (after_line_is s c line x n.found next))
 
 core_notice : (s : ServerState) (c : ℕ) → is_overlong s c ≡ true → act (notice_is_told c) (apart_from_bytes s) ≡ apart_from_bytes (with_session_changed notified c s)

@@ -6,7 +6,7 @@ use Rattle.nutcore.specs.declared.event.Outcome.TheVariants.{Refused}
 use Rattle.nuttracking.specs.declared.order.Progress.{Progress}
 use Rattle.nuttracking.specs.declared.order.Progress.TheVariants.{Pending, Done}
 use Rattle.nuttracking.specs.declared.order.TrackedOrder.{TrackedOrder}
-use Rattle.nuttracking.specs.Tracking.{has_id, is_pending, awaits, settled}
+use Rattle.nuttracking.specs.Tracking.{has_id, is_pending, awaits, settled, nothing_tracked}
 use Rattle.nutcore.specs.Reports.{OrderEnd, end_in, with_end, after_ends}
 use Rattle.nutcore.specs.Session.{SessionState}
 use Rattle.nutcore.specs.Ups.{UpsState, with_fsd, with_order}
@@ -44,7 +44,7 @@ masked_at f h zero (x ∷ xs) = ap (λ (y : UpsState). y ∷ map without_command
 masked_at f h (suc p) (x ∷ xs) = ap (λ (ys : List UpsState). without_commands x ∷ ys) (masked_at f h p xs)
 
 masked : (change : Change) (xs : List UpsState) → map without_commands (changed_upses change xs) ≡ map without_commands xs
-masked change xs = of_upses (λ told ys. map without_commands ys ≡ map without_commands xs) change xs refl (λ u is. masked_at with_fsd (λ x. refl) u.place xs) (λ u line is. masked_at (with_order line.items) (λ x. refl) u.place xs)
+masked change xs = of_upses (λ told ys. map without_commands ys ≡ map without_commands xs) change xs refl (λ u is. masked_at with_fsd (λ x. refl) u.place xs) (λ u line id is. masked_at (with_order line) (λ x. refl) u.place xs)
 
 abbrev IsKept : ServerState → ServerState → Type 0
 IsKept s t = kept_from_clients t ≡ kept_from_clients s
@@ -56,7 +56,7 @@ kept_line : (s t : ServerState) (c : ℕ) (line : List ℕ) → next_line_for t 
 kept_line s t c line next h =
     let n = is_next t c line next in
     ap kept_from_clients (after_line_is t c line n.asking n.found next)
-    ∙ ap (λ (xs : List UpsState). let r : ServerState = record t { sessions = []; upses = xs } in r) (masked (change_at t c line) t.upses) ∙ h
+    ∙ ap (λ (xs : List UpsState). let r : ServerState = record t { sessions = []; upses = xs; tracking = nothing_tracked } in r) (masked (change_at t c line) t.upses) ∙ h
 
 pumped : (s : ServerState) → IsPumped (IsKept s)
 pumped s = record {

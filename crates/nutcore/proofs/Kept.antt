@@ -2,12 +2,10 @@
 use Rattle.std.proofs.Common.{◌≡◌, ◌+◌, ℕ, zero, suc, true, List, [], ◌∷◌, ◌++◌, Option, Some, None, refl, sym, subst, cond, length, All, IfSome}
 use Rattle.std.proofs.lemmas.List.Elements.{All-head, All-tail}
 use Rattle.nutcore.proofs.Common.{cond_both, UpsId, Event, Outcome, ServerState, session, with_session_changed, with_ups_changed, with_tracking, Run}
-use Rattle.nuttracking.specs.Acts.{Act, after_act}
-use Rattle.nuttracking.specs.Acts.Act.{handed_in, reported}
-use Rattle.nutcore.specs.Reports.{OrderEnd, end_in, with_end, after_ends}
+use Rattle.nutcore.specs.Reports.{end_in, with_end, after_ends}
 use Rattle.nutcore.specs.Session.{without, new_session}
 use Rattle.nutcore.specs.Pump.{next_line_for, after_line, after_lines, after_all_lines, after_notice, with_notice, pumped, held_of}
-use Rattle.nutcore.specs.Step.{joined, with_input, taken_from, without_output, may_take, may_open, ticked, pumped_until, after_by, refused_after}
+use Rattle.nutcore.specs.Step.{joined, with_input, taken_from, without_output, may_take, may_open, ticked, pumped_until, handed_in, after_by, refused_after}
 use Rattle.nutcore.specs.Addresses.{opened_from}
 use Rattle.nutcore.proofs.Pumping.{stopped_none}
 use Rattle.nutcore.proofs.Events.{OfDrivers, of_opened, of_parts}
@@ -23,7 +21,8 @@ pub record IsPumped (P : ServerState → Type 0) : Type 0 where
 pub record IsKept (P : ServerState → Type 0) (Opens : List ℕ → Type 0) : Type 0 where
   pub pumped : IsPumped P
   pub driver : (s : ServerState) (m : Option ℕ) → OfDrivers s.moment s.tracking m (λ f. (u : UpsId) → P s → P (with_ups_changed f u s))
-  pub tracks : (s : ServerState) (act : Act) → P s → P (with_tracking (after_act s.tracking act) s)
+  pub reports : (s : ServerState) (u : UpsId) (line : List ℕ) → P s → P (with_tracking (with_end u.place (end_in line) s.tracking) s)
+  pub hands : (s : ServerState) (id : ℕ) → P s → P (handed_in id s)
   pub ticks : (s : ServerState) (seconds : ℕ) → P s → P (ticked seconds s)
   pub opens : (s : ServerState) (address : List ℕ) → may_open s ≡ true → Opens address → P s
       → (let t : ServerState = record s { sessions = s.sessions ++ new_session s.next_id address ∷ []; next_id = s.next_id + 1 } in P t)
@@ -58,19 +57,15 @@ module _ (P : ServerState → Type 0) (Opens : List ℕ → Type 0) (kept : IsKe
   abbrev OpensFrom : Event → Type 0
   OpensFrom e = IfSome (opened_from e) Opens
 
-  by_end : (u : UpsId) (o : Option OrderEnd) (s : ServerState) → P s → P (with_tracking (with_end u.place o s.tracking) s)
-  by_end u None s h = h
-  by_end u (Some told) s h = kept.tracks s (reported u.place told.id told.number) h
-
   by_ends : (u : UpsId) (lines : List (List ℕ)) (s : ServerState) → P s → P (with_tracking (after_ends u.place lines s.tracking) s)
   by_ends u [] s h = h
-  by_ends u (line ∷ lines) s h = by_ends u lines (with_tracking (with_end u.place (end_in line) s.tracking) s) (by_end u (end_in line) s h)
+  by_ends u (line ∷ lines) s h = by_ends u lines (with_tracking (with_end u.place (end_in line) s.tracking) s) (kept.reports s u line h)
 
   pub by_event : (s : ServerState) (e : Event) (m : Option ℕ) → OpensFrom e → P s → P (after_by s e m)
   by_event s e m =
       of_parts s m (λ f. (u : UpsId) → P s → P (with_ups_changed f u s)) (kept.driver s m) (λ e t. OpensFrom e → P s → P t)
       (λ e u f lines its apart keeps own h. by_ends u lines (with_ups_changed f u s) (keeps u h)) (λ seconds own h. kept.ticks s seconds h) (λ address own h. of_opened P s address m h (λ room. kept.opens s address room own h))
-      (λ c piece own h. by_feed P kept.pumped s c piece m h) (λ c n own h. by_take P kept.pumped s c n m h) (λ c own h. kept.closes s c h) (λ id own h. kept.tracks s (handed_in id) h) e
+      (λ c piece own h. by_feed P kept.pumped s c piece m h) (λ c n own h. by_take P kept.pumped s c n m h) (λ c own h. kept.closes s c h) (λ id own h. kept.hands s id h) e
 
   pub by_run : (s t : ServerState) (es : List Event) (os : List Outcome) → Run s es os t → All OpensFrom es → P s → P t
   by_run s t [] [] r own h = subst P (sym r) h

@@ -10,7 +10,7 @@ use Rattle.nutwords.specs.declared.limits.TheConstants.{LINE_LIMIT}
 use Rattle.nutdriver.specs.declared.report.LineOutcome.{LineOutcome}
 use Rattle.nutdriver.specs.Tree.{empty_tree}
 use Rattle.nutdriver.specs.Sound.{IsSoundTree, EachLineKeepsTheTreeSound}
-use Rattle.nutcore.proofs.Common.{cond_both, or_parts, UpsId, Change, Fault, SessionState, ServerState, session, ups_at}
+use Rattle.nutcore.proofs.Common.{cond_both, or_parts, UpsId, Change, Fault, SessionState, ServerState, session, ups_at, with_ups_changed}
 use Rattle.nutlisting.specs.declared.outbox.TheConstants.{OWED_LIMIT}
 use Rattle.std.specs.declared.alloc.AllocError.{AllocError}
 use Rattle.nutcore.specs.Lines.{first_line}
@@ -20,7 +20,9 @@ use Rattle.nutcore.specs.Pump.{next_line, answered, with_notice}
 use Rattle.nutcore.specs.Step.{joined, taken_from}
 use Rattle.nutcore.specs.Promises.{IsTaken, IsCut, DoesLine, IsAt, OrderFits}
 use Rattle.nutcore.specs.Sound.{Each, IsSoundSession, IsSoundUps, IsSound}
-use Rattle.nutcore.proofs.UpsPlaces.{of_ups, server_set}
+use Rattle.nutcore.specs.Calls.{is_connected}
+use Rattle.nutcore.proofs.DriverSteps.{is_there, connected_as, connected_at}
+use Rattle.nutcore.proofs.UpsPlaces.{of_ups, left_at, server_set}
 use Rattle.nutcore.proofs.Found.{find_id}
 use Rattle.nutcore.proofs.Serving.{set_is}
 use Rattle.nutcore.proofs.SoundUps.{sound_changes, length-changes, sound_fewer, sound_bytes, sound_report, report_connected}
@@ -106,3 +108,9 @@ module _ (empty : IsSoundTree empty_tree) (line_keeps : EachLineKeepsTheTreeSoun
 pub driver_line_connected : (m : ℕ) (line : List ℕ) (x y : UpsState) (r : Result LineOutcome AllocError) → DoesLine m line x r y → y.report.connected ≡ x.report.connected
 driver_line_connected m line x y (Ok outcome) does = ap (λ (z : UpsState). z.report.connected) does.1 ∙ report_connected m x line
 driver_line_connected m line x y (Err e) does = ap (λ (z : UpsState). z.report.connected) does.1
+
+-- so its driver stays connected
+pub line_stays : (s t : ServerState) (u : UpsId) (m : ℕ) (line : List ℕ) (x y : UpsState) (r : Result LineOutcome AllocError) → option_map is_connected (ups_at u.place s) ≡ Some true → ups_at u.place s ≡ Some x → DoesLine m line x r y → t ≡ with_ups_changed (λ z. y) u s →
+    option_map is_connected (ups_at u.place t) ≡ Some true
+line_stays s t u m line x y r connected there does leaves =
+    connected_at t u y (left_at s t u x y there leaves) (driver_line_connected m line x y r does ∙ connected_as s u x (is_there s u true connected) there)

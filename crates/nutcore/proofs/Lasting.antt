@@ -73,7 +73,8 @@ module _ (IsSo : SessionState → Type 0) (lasting : IsLasting IsSo) (c : ℕ) w
       notice = λ s d h. by_changing with_notice notice_id lasting.notice s d h;
     };
     driver = λ s m. record { comes = λ u h. h; tells = λ place piece u h. h; takes = λ n u h. h; goes = λ u h. h };
-    tracks = λ s act h. h;
+    reports = λ s u line h. h;
+    hands = λ s id h. h;
     ticks = by_tick;
     opens = λ s address room own h.
         (omega (arith, h.0), of_pushed (λ o. IfSome o IsSo) c (new_session s.next_id address) s.sessions h.1 (λ id none. absurd (omega (arith, h.0, id))));
@@ -172,7 +173,8 @@ ids_kept n = record {
     notice = λ s d h. by_change (λ t. n ≤ t.next_id) with_notice d s (λ x e. h) (λ e. h);
   };
   driver = λ s m. record { comes = λ u h. h; tells = λ place piece u h. h; takes = λ k u h. h; goes = λ u h. h };
-  tracks = λ s act h. h;
+  reports = λ s u line h. h;
+  hands = λ s id h. h;
   ticks = by_tick_ids n;
   opens = λ s address room own h. omega (arith, h);
   closes = λ s d h. h;
@@ -192,7 +194,7 @@ shutdown_kept u = record {
     line = λ s d line e h.
         let at = is_next s d line e in
         subst (λ (t : ServerState). is_shut_down u t ≡ true) (sym (after_line_is s d line at.asking at.found e))
-        (of_upses (λ told ys. fsd_at u.place ys ≡ true) (change_at s d line) s.upses h (λ v is. forced_stays v.place u.place s.upses h) (λ v line is. changed_keeps (with_order line.items) (λ x. refl) v.place u.place s.upses ∙ h));
+        (of_upses (λ told ys. fsd_at u.place ys ≡ true) (change_at s d line) s.upses h (λ v is. forced_stays v.place u.place s.upses h) (λ v line id is. changed_keeps (with_order line) (λ x. refl) v.place u.place s.upses ∙ h));
     joins = λ s d piece h. by_session u (joined piece) s d ∙ h;
     gives = λ s d n h. by_session u (taken_from n) s d ∙ h;
     notice = λ s d h. by_session u with_notice s d ∙ h;
@@ -205,7 +207,8 @@ shutdown_kept u = record {
         takes = λ n v h. changed_keeps (after_driver_took n) (keep.takes n) v.place u.place s.upses ∙ h;
         goes = λ v h. changed_keeps disconnected keep.goes v.place u.place s.upses ∙ h;
       };
-  tracks = λ s act h. h;
+  reports = λ s v line h. h;
+  hands = λ s id h. h;
   ticks = λ s seconds h. tick_keeps u s seconds ∙ h;
   opens = λ s address room own h. h;
   closes = λ s d h. h;

@@ -37,6 +37,7 @@ mod SessionMarks
 mod LoginCount
 mod Isolation
 mod Happenings
+mod Tracked
 mod KeptSound
 mod OrderFits
 mod SoundUps

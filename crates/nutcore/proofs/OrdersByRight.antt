@@ -1,21 +1,24 @@
 -- The orders that a run told are those of its lines that are by right.
-use Rattle.std.proofs.Common.{◌≡◌, ◌∙◌, append_assoc, ℕ, Bool, true, false, List, [], ◌∷◌, ◌++◌, Option, Some, Result, Ok, refl, sym, ap, subst, cond, eqb, inl, inr}
+use Rattle.std.proofs.Common.{◌≡◌, ◌∙◌, append_assoc, ℕ, Bool, true, false, List, [], ◌∷◌, ◌++◌, Option, Some, None, Result, Ok, refl, sym, ap, subst, cond, eqb, inl, inr}
 use Rattle.std.specs.List.{flat_map}
 use Rattle.std.proofs.lemmas.Grind.{flat_map-append}
 use Rattle.std.proofs.lemmas.Bool.{cond_both, cond-false, eqb-true, eq-eqb}
-use Rattle.arrayvec.specs.ArrayVec.{ArrayVec}
 use Rattle.nutcore.proofs.Common.{UpsId, Change, Event, Outcome, ServerState, after}
 use Rattle.nutanswer.specs.declared.command.Command.{Command}
 use Rattle.nutanswer.specs.declared.err_word.ErrWord.{ErrWord}
-use Rattle.nutanswer.specs.declared.reply.Change.TheVariants as changes
+use Rattle.nutanswer.specs.declared.command.Command.TheVariants.{SetVar, InstCmd}
+use Rattle.nutanswer.specs.Rows.{IsSet, IsInstCmd, IsIdOfOrder, value_given}
+use Rattle.nutusers.specs.declared.rights.Right.TheVariants as rights
+use Rattle.nutcore.specs.ByRight.{IsByRight}
+use Rattle.std.specs.Prelude.{◌⊎◌}
 use Rattle.nutanswer.specs.Command.{read_command}
 use Rattle.nutanswer.specs.Checks.{KnownUps}
-use Rattle.nutanswer.specs.Orders.{set_line, instcmd_line, order as order_to}
+use Rattle.nutanswer.specs.Orders.{right_to, set_line, instcmd_line, ok_words, order as order_to}
 use Rattle.nutanswer.specs.Answer.{answer_to, change_of_answer}
 use Rattle.nutcore.specs.Reply.{seen, asker, change_by, text_to}
 use Rattle.nutcore.specs.History.{Execution, of_line, of_notice, executions_in_event, executions}
 use Rattle.nutcore.specs.DriverOrders.{Telling, dump_all, ping, order, told_by_change, told_by_line, told_beside_lines, told_in_event, taken_in_event, is_lost_by, Connections, last, lost, with_front, in_front, connections}
-use Rattle.nutcore.specs.OrdersByRight.{IsSetByRight, IsCommandedByRight, IsOrderByRight, AreOrdersByRight, none_left, given, passed_over, order_of, all_told, orders_told, EachOrderIsByRight}
+use Rattle.nutcore.specs.OrdersByRight.{IsOrderByRight, AreOrdersByRight, none_left, given, passed_over, order_of, all_told, orders_told, EachOrderIsByRight}
 use Rattle.nutcore.proofs.Events.{of_told_beside}
 use Rattle.nutcore.proofs.Changes.{of_upses}
 use Rattle.nutcore.proofs.UpsPlaces.{same_ups}
@@ -23,15 +26,25 @@ use Rattle.nutanswer.proofs.PublicLaws.{each_order_answered_ok_is_given}
 use Rattle.nutcore.proofs.Rows.{comes_of_line, by_right}
 
 -- a line that gives an order is by right
-pub by_read : (s : ServerState) (c : ℕ) (line : List ℕ) (u v : UpsId) (bytes : ArrayVec ℕ) → v.place ≡ u.place → change_by s c (read_command line) ≡ changes.Order v bytes → IsOrderByRight u bytes.items (of_line s c line)
+record GivesOrder (s : ServerState) (c : ℕ) (line : List ℕ) (v : UpsId) (bytes : List ℕ) (id : Option ℕ) : Type 0 where
+  command : Command
+  read : read_command line ≡ Ok (Some command)
+  row : IsSet (seen s) (asker c s) command v id bytes ⊎ IsInstCmd (seen s) (asker c s) command v id bytes
+
+gives_order : (s : ServerState) (c : ℕ) (line : List ℕ) (v : UpsId) (bytes : List ℕ) (id : Option ℕ) → change_by s c (read_command line) ≡ order_to v bytes id → GivesOrder s c line v bytes id
+gives_order s c line v bytes None change = let came = comes_of_line s c line (order_to v bytes None) refl change in record { command = came.command; read = came.read; row = came.row }
+gives_order s c line v bytes (Some id) change = let came = comes_of_line s c line (order_to v bytes (Some id)) refl change in record { command = came.command; read = came.read; row = came.row }
+
+pub by_read : (s : ServerState) (c : ℕ) (line : List ℕ) (u v : UpsId) (bytes : List ℕ) (id : Option ℕ) → v.place ≡ u.place → change_by s c (read_command line) ≡ order_to v bytes id → IsOrderByRight u bytes (of_line s c line)
 unfolding by_right
-by_read s c line u v bytes place change =
-    let came = comes_of_line s c line (changes.Order v bytes) refl change in
-    subst (λ (w : UpsId). IsOrderByRight w bytes.items (of_line s c line)) (same_ups v u place) (elim came.row [
+by_read s c line u v bytes id place change =
+    let came = gives_order s c line v bytes id change in
+    subst (λ (w : UpsId). IsOrderByRight w bytes (of_line s c line)) (same_ups v u place) (elim came.row [
       | inl set ↦ inl (record {
         name = set.name;
         value = set.value;
         variable = set.variable;
+        id = id;
         by_right = by_right s c line came.command _ _ _ v came.read set.by_right;
         ready = set.ready;
         there = set.there;
@@ -39,39 +52,50 @@ by_read s c line u v bytes place change =
         short = set.short;
         listed = set.listed;
         in_range = set.in_range;
+        id_is = set.id_is;
         order_is = set.line_is;
       })
       | inr command ↦ inr (record {
         name = command.name;
         value = command.value;
+        id = id;
         by_right = by_right s c line came.command _ _ _ v came.read command.by_right;
         ready = command.ready;
         there = command.there;
+        id_is = command.id_is;
         order_is = command.line_is;
       })
     ])
 
 -- and a line that is by right gives its order
-told_order : (u v : UpsId) (bytes : List ℕ) → v ≡ u → told_by_change u (order_to v bytes) ≡ order bytes ∷ []
-told_order u v bytes e = ap (λ (w : UpsId). told_by_change u (order_to w bytes)) e ∙ ap (λ (b : Bool). cond b (order bytes ∷ []) []) (eq-eqb u.place u.place refl)
+told_order : (u v : UpsId) (bytes : List ℕ) (id : Option ℕ) → v ≡ u → told_by_change u (order_to v bytes id) ≡ order bytes ∷ []
+told_order u v bytes None e = ap (λ (w : UpsId). told_by_change u (order_to w bytes None)) e ∙ ap (λ (b : Bool). cond b (order bytes ∷ []) []) (eq-eqb u.place u.place refl)
+told_order u v bytes (Some id) e = ap (λ (w : UpsId). told_by_change u (order_to w bytes (Some id))) e ∙ ap (λ (b : Bool). cond b (order bytes ∷ []) []) (eq-eqb u.place u.place refl)
 
-change_gives : (u : UpsId) (bytes line_bytes : List ℕ) (s : ServerState) (c : ℕ) (line : List ℕ) (command : Command) (known : KnownUps) → read_command line ≡ Ok (Some command) → change_of_answer (answer_to (seen s) (asker c s) command) ≡ order_to known.id line_bytes
+change_gives : (u : UpsId) (bytes line_bytes : List ℕ) (id : Option ℕ) (s : ServerState) (c : ℕ) (line : List ℕ) (command : Command) (known : KnownUps) → read_command line ≡ Ok (Some command) → change_of_answer (answer_to (seen s) (asker c s) command) ≡ order_to known.id line_bytes id
     → known.id ≡ u → bytes ≡ line_bytes → told_by_change u (change_by s c (read_command line)) ≡ order bytes ∷ []
-change_gives u bytes line_bytes s c line command known read change this is =
-    ap (λ (r : Result (Option Command) ErrWord). told_by_change u (change_by s c r)) read ∙ ap (told_by_change u) change ∙ told_order u known.id line_bytes this ∙ ap (λ (w : List ℕ). order w ∷ []) (sym is)
+change_gives u bytes line_bytes id s c line command known read change this is =
+    ap (λ (r : Result (Option Command) ErrWord). told_by_change u (change_by s c r)) read ∙ ap (told_by_change u) change ∙ told_order u known.id line_bytes id this ∙ ap (λ (w : List ℕ). order w ∷ []) (sym is)
 
-set_gives : (u : UpsId) (bytes : List ℕ) (s : ServerState) (c : ℕ) (line : List ℕ) → IsSetByRight u bytes s c line → told_by_change u (change_by s c (read_command line)) ≡ order bytes ∷ []
-set_gives u bytes s c line h =
-    let r = h.by_right in
-    change_gives u bytes (set_line h.name h.value) s c line _ r.known r.command (each_order_answered_ok_is_given.set (seen s) (asker c s) r.ups h.name h.value r.known r.named (ap (text_to s c) (sym r.command) ∙ r.answered)) r.this h.order_is
+set_gives : (u : UpsId) (bytes : List ℕ) (s : ServerState) (c : ℕ) (line name value : List ℕ) (id : Option ℕ) → IsByRight s c line (λ ups. SetVar ups (Some name) (Some value)) rights.Set (ok_words id) u
+    → IsIdOfOrder (seen s) (asker c s) id → bytes ≡ set_line name value id → told_by_change u (change_by s c (read_command line)) ≡ order bytes ∷ []
+set_gives u bytes s c line name value None r id_is is =
+    change_gives u bytes (set_line name value None) None s c line _ r.known r.command (each_order_answered_ok_is_given.set (seen s) (asker c s) r.ups name value r.known r.named (ap (text_to s c) (sym r.command) ∙ r.answered)) r.this is
+set_gives u bytes s c line name value (Some id) r id_is is =
+    change_gives u bytes (set_line name value (Some id)) (Some id) s c line _ r.known r.command (each_order_answered_ok_is_given.tracked_set (seen s) (asker c s) r.ups name value r.known id r.named id_is.1 (ap (text_to s c) (sym r.command) ∙ r.answered)) r.this is
 
-command_gives : (u : UpsId) (bytes : List ℕ) (s : ServerState) (c : ℕ) (line : List ℕ) → IsCommandedByRight u bytes s c line → told_by_change u (change_by s c (read_command line)) ≡ order bytes ∷ []
-command_gives u bytes s c line h =
-    let r = h.by_right in
-    change_gives u bytes (instcmd_line h.name h.value) s c line _ r.known r.command (each_order_answered_ok_is_given.command (seen s) (asker c s) r.ups h.name h.value r.known r.named (ap (text_to s c) (sym r.command) ∙ r.answered)) r.this h.order_is
+command_gives : (u : UpsId) (bytes : List ℕ) (s : ServerState) (c : ℕ) (line name : List ℕ) (value : Option (List ℕ)) (id : Option ℕ) → IsByRight s c line (λ ups. InstCmd ups (Some name) (value_given value)) (right_to name) (ok_words id) u
+    → IsIdOfOrder (seen s) (asker c s) id → bytes ≡ instcmd_line name value id → told_by_change u (change_by s c (read_command line)) ≡ order bytes ∷ []
+command_gives u bytes s c line name value None r id_is is =
+    change_gives u bytes (instcmd_line name value None) None s c line _ r.known r.command (each_order_answered_ok_is_given.command (seen s) (asker c s) r.ups name value r.known r.named (ap (text_to s c) (sym r.command) ∙ r.answered)) r.this is
+command_gives u bytes s c line name value (Some id) r id_is is =
+    change_gives u bytes (instcmd_line name value (Some id)) (Some id) s c line _ r.known r.command (each_order_answered_ok_is_given.tracked_command (seen s) (asker c s) r.ups name value r.known id r.named id_is.1 (ap (text_to s c) (sym r.command) ∙ r.answered)) r.this is
 
 gives : (u : UpsId) (bytes : List ℕ) (x : Execution) → IsOrderByRight u bytes x → told_by_line u x ≡ order bytes ∷ []
-gives u bytes (of_line s c line) h = elim h [ inl set ↦ set_gives u bytes s c line set | inr command ↦ command_gives u bytes s c line command ]
+gives u bytes (of_line s c line) h = elim h [
+  | inl set ↦ set_gives u bytes s c line set.name set.value set.id set.by_right set.id_is set.order_is
+  | inr command ↦ command_gives u bytes s c line command.name command.value command.id command.by_right command.id_is command.order_is
+]
 gives u bytes (of_notice c) h = absurd h
 
 silent : (u : UpsId) (bytes : List ℕ) (x : Execution) → told_by_line u x ≡ [] → IsOrderByRight u bytes x → ⊥
@@ -87,7 +111,7 @@ passes u x e xs rest h = passed_over (λ bytes k. silent u bytes x e k) h
 line_joins : (u : UpsId) (s : ServerState) (c : ℕ) (line : List ℕ) (change : Change) → change_by s c (read_command line) ≡ change → Joins u (of_line s c line) (told_by_change u change)
 line_joins u s c line change e =
     of_upses (λ told ys. told_by_line u (of_line s c line) ≡ told u → Joins u (of_line s c line) (told u)) change [] (passes u (of_line s c line)) (λ v is. passes u (of_line s c line))
-    (λ v bytes is here. cond_both (eqb v.place u.place) (order bytes.items ∷ []) [] (Joins u (of_line s c line)) (λ own xs rest h. given (by_read s c line u v bytes (eqb-true v.place u.place own) (e ∙ is)) h) (λ other. passes u (of_line s c line) (here ∙ cond-false _ _ _ other)))
+    (λ v bytes id is here. cond_both (eqb v.place u.place) (order bytes ∷ []) [] (Joins u (of_line s c line)) (λ own xs rest h. given (by_read s c line u v bytes id (eqb-true v.place u.place own) (e ∙ is)) h) (λ other. passes u (of_line s c line) (here ∙ cond-false _ _ _ other)))
     (ap (told_by_change u) e)
 
 joins : (u : UpsId) (x : Execution) → Joins u x (told_by_line u x)

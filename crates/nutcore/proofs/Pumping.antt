@@ -8,7 +8,7 @@ use Rattle.nutanswer.specs.Command.{read_command}
 use Rattle.nutlisting.specs.declared.outbox.TheConstants.{OWED_LIMIT}
 use Rattle.nutcore.specs.Lines.{first_line}
 use Rattle.nutcore.specs.Session.{find, put}
-use Rattle.nutcore.specs.Reply.{reply, change_by, changed, changed_session, changed_upses}
+use Rattle.nutcore.specs.Reply.{reply, change_by, changed, changed_session, changed_upses, changed_tracking}
 use Rattle.nutcore.specs.Pump.{next_line, next_line_for, answered, after_reply, after_line, after_notice, is_overlong, holds_overlong, notified, with_notice}
 use Rattle.nutcore.specs.History.{Execution, of_notice, notice}
 use Rattle.nutcore.proofs.FirstLine.{line_ends}
@@ -17,12 +17,12 @@ use Rattle.nutcore.proofs.Progress.{presence}
 use Rattle.nutcore.proofs.Found.{find_id, find_put, find_put_other, put_put, put_found}
 use Rattle.nutcore.proofs.Changed.{at_client, by_change, change_is}
 
--- the server in which this session and the UPSs are changed
+-- the server in which this session, the UPSs and what is tracked are changed
 abbrev pub line_done : ServerState → Change → SessionState → ServerState
-line_done s change y = record s { sessions = put y s.sessions; upses = changed_upses change s.upses }
+line_done s change y = record s { sessions = put y s.sessions; upses = changed_upses change s.upses; tracking = changed_tracking change s.tracking }
 
 pub changed_is : (change : Change) (c : ℕ) (s : ServerState) (x : SessionState) → session c s ≡ Some x → changed change c s ≡ line_done s change (changed_session change x)
-changed_is change c s x found = change_is (changed_session change) c (record s { upses = changed_upses change s.upses }) x found
+changed_is change c s x found = change_is (changed_session change) c (record s { upses = changed_upses change s.upses; tracking = changed_tracking change s.tracking }) x found
 
 -- a next line is the first one that an open session holds, which isn't ending and owes little
 pub record IsNext (s : ServerState) (c : ℕ) (line : List ℕ) : Type 0 where

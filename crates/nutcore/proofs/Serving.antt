@@ -11,7 +11,7 @@ use Rattle.nutlisting.specs.Lines.{IsWholeLine}
 use Rattle.nutanswer.specs.View.{AskerSeen}
 use Rattle.nutanswer.specs.Answer.{answer_to, IsReply, shares_version, text_of_answer, change_of_answer}
 use Rattle.nutanswer.specs.Command.{read_command}
-use Rattle.nutcore.specs.Reply.{seen, asker, reply, text_to, change_by, changed_session, changed_upses}
+use Rattle.nutcore.specs.Reply.{seen, asker, reply, text_to, change_by, changed_session, changed_upses, changed_tracking}
 use Rattle.nutcore.specs.Pump.{next_line, next_line_for, answered, after_line, after_lines, pump_stops, held_of, after_all_lines, pumped, after_notice, is_overlong, with_notice, wants_memory, shares_version_read}
 use Rattle.nutcore.specs.Step.{offered, may_take}
 use Rattle.nutanswer.specs.declared.command.Command.{Command}
@@ -104,7 +104,7 @@ change_told s c line (Clients name u) told = told.2
 
 -- the UPSs are changed, and the session in its place is answered: this is the server after the line
 pub line_is : (s v : ServerState) (c i : ℕ) (line : List ℕ) (reply : Reply) (clients : List (List ℕ)) (x y : SessionState) → next_line_for s c ≡ Some line → Replies s c line reply → ListsClients v.sessions reply clients →
-    (let t : ServerState = record s { upses = changed_upses (change_in reply) s.upses } in v ≡ t) → StandsAt v c i x → y ≡ changed_session (change_in reply) (answered line (text_with clients reply) x) →
+    (let t : ServerState = record s { upses = changed_upses (change_in reply) s.upses; tracking = changed_tracking (change_in reply) s.tracking } in v ≡ t) → StandsAt v c i x → y ≡ changed_session (change_in reply) (answered line (text_with clients reply) x) →
     let code : ServerState = record v { sessions = set v.sessions i y } in code ≡ after_line s c
 line_is s v c i line reply clients x y h told lists is stands gives =
     let said = answers_as s c line reply clients told (subst (λ (z : ServerState). ListsClients z.sessions reply clients) is lists) in

@@ -111,7 +111,7 @@ no_mark b e f = absurd (both_ways b e f)
 change_sets : (u : UpsId) (change : Change) (xs : List UpsState) → fsd_at u.place xs ≡ false → fsd_at u.place (changed_upses change xs) ≡ true → change ≡ changes.Fsd u
 change_sets u change xs before after =
     of_changed_upses (λ told ys. fsd_at u.place ys ≡ true → change ≡ changes.Fsd u) change xs (λ set. no_mark _ before set) (λ v is set. is ∙ by_place v (eqb v.place u.place) refl set)
-    (λ v line is set. no_mark _ before (sym (changed_keeps (with_order line.items) (λ x. refl) v.place u.place xs) ∙ set)) after
+    (λ v line id is set. no_mark _ before (sym (changed_keeps (with_order line) (λ x. refl) v.place u.place xs) ∙ set)) after
   where
     by_place : (v : UpsId) (b : Bool) → eqb v.place u.place ≡ b → fsd_at u.place (changed_at with_fsd v.place xs) ≡ true → changes.Fsd v ≡ changes.Fsd u
     by_place v true e set = ap (λ (w : UpsId). changes.Fsd w) (same_ups v u (eqb-true v.place u.place e))

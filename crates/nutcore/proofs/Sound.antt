@@ -2,12 +2,13 @@
 use Rattle.std.proofs.Common.{◌≡◌, ◌≤◌, ◌<◌, ◌+◌, ◌-◌, ◌^◌, ℕ, suc, Bool, true, false, List, [], ◌∷◌, ◌++◌, Some, None, refl, sym, ◌∙◌, ap, subst, eqb, max, map, length, take, length-append, length-take, length-drop, arith, inl, inr, cond}
 use Rattle.std.specs.Prelude.{nat_lt}
 use Rattle.nutdriver.specs.Tree.{empty_tree}
-use Rattle.nutdriver.specs.Sound.{IsSoundTree, EachLineKeepsTheTreeSound}
+use Rattle.nutdriver.specs.Sound.{IsSoundTree, EachLineKeepsTheTreeSound, ReadLinesAreLawful}
 use Rattle.nutcore.proofs.Common.{ltb-true, cond_both, and_parts, length-map, length-replicate, same_Some, UpsId, Change, ServerState, changed_at, with_session, with_session_changed, with_ups_changed, with_tracking}
-use Rattle.nuttracking.specs.Acts.{after_act}
-use Rattle.nuttracking.specs.Laws.{ActsKeepItSound}
-use Rattle.nuttracking.specs.Sound.{IsSoundTracking}
-use Rattle.nuttracking.specs.Tracking.{TrackingState, nothing_tracked}
+use Rattle.std.proofs.lemmas.List.Elements.{All-nil}
+use Rattle.nuttracking.specs.Sound.{IsLawfulProgress}
+use Rattle.nuttracking.specs.Tracking.{TrackingState}
+use Rattle.nuttracking.proofs.PublicLaws.{nothing_is_sound}
+use Rattle.nutcore.proofs.Tracked.{IsTracked, id_tracked, order_tracked, end_tracked}
 use Rattle.nutanswer.specs.Command.{read_command}
 use Rattle.nutcore.specs.declared.TheConstants.{HELD_LIMIT}
 use Rattle.nutlisting.specs.declared.listing.clients.TheConstants.{SESSION_LIMIT}
@@ -15,7 +16,7 @@ use Rattle.nutcore.specs.declared.event.Event.TheVariants.{Open}
 use Rattle.nutcore.specs.declared.event.Outcome.TheVariants.{Opened}
 use Rattle.nutcore.specs.Session.{SessionState, IdsRise, find, put, without, new_session}
 use Rattle.nutcore.specs.Ups.{UpsState, new_ups, after_connecting, after_loss, after_tick}
-use Rattle.nutcore.specs.Reply.{reply, changed_session, changed_upses}
+use Rattle.nutcore.specs.Reply.{reply, changed_session, changed_upses, changed_tracking}
 use Rattle.nutcore.specs.Pump.{answered, next_line_for, after_line, with_notice}
 use Rattle.nutcore.specs.Step.{Step, joined, taken_from, may_open, connected, disconnected, after_driver_took, ticked, after_by, refused_after}
 use Rattle.nutcore.specs.Promises.{OfUps}
@@ -23,7 +24,7 @@ use Rattle.nutcore.specs.Addresses.{opened_from}
 use Rattle.nutcore.specs.Sound.{Each, IsSoundSession, IsSoundUps, IsSound, ANewServerIsSound, EachEventKeepsTheServerSound, EveryRunKeepsTheServerSound, ASoundServerIsLawful}
 use Rattle.nutcore.proofs.OrderFits.{order_fits}
 use Rattle.nutcore.proofs.Places.{rise_put, rise_push, rise_without, length-put}
-use Rattle.nutcore.proofs.Changes.{keeps}
+use Rattle.nutcore.proofs.Changes.{keeps, of_tracking}
 use Rattle.nutcore.proofs.Changed.{by_change, either_notice}
 use Rattle.nutcore.proofs.Pumping.{is_next, after_line_is, change_at, session_after}
 use Rattle.nutcore.proofs.DriverText.{ups_after_bytes}
@@ -68,6 +69,7 @@ sessions_sound s sessions next_id few ids all h = record {
   sessions = all;
   upses = h.upses;
   tracking = h.tracking;
+  numbers = h.numbers;
 }
 
 pub upses_sound : (s : ServerState) (moment : ℕ) (upses : List UpsState) → length upses ≡ length s.upses → Each (IsSoundUps moment) upses → IsSound s
@@ -82,11 +84,12 @@ upses_sound s moment upses same all h = record {
   sessions = h.sessions;
   upses = all;
   tracking = h.tracking;
+  numbers = h.numbers;
 }
 
 -- with other ids and orders
-pub tracking_sound : (s : ServerState) (t : TrackingState) → IsSoundTracking t → IsSound s → IsSound (with_tracking t s)
-tracking_sound s t sound h = record {
+pub tracking_sound : (s : ServerState) (t : TrackingState) → IsTracked t → IsSound s → IsSound (with_tracking t s)
+tracking_sound s t tracked h = record {
   max_age = h.max_age;
   list = h.list;
   descriptions = h.descriptions;
@@ -95,8 +98,12 @@ tracking_sound s t sound h = record {
   ids = h.ids;
   sessions = h.sessions;
   upses = h.upses;
-  tracking = sound;
+  tracking = tracked.sound;
+  numbers = tracked.numbers;
 }
+
+pub is_tracked : (s : ServerState) → IsSound s → IsTracked s.tracking
+is_tracked s h = record { sound = h.tracking; numbers = h.numbers }
 
 -- sessions
 pub sound_answered : (change : Change) (line text : List ℕ) (x : SessionState) → x.ending ≡ false → IsSoundSession x → IsSoundSession (changed_session change (answered line text x))
@@ -133,7 +140,8 @@ sound_line s c line e h =
     let y : SessionState = session_after s c line n.asking in
     let own : IsSoundSession y = sound_answered change line (reply s c line) n.asking n.going (each_found IsSoundSession c s.sessions n.asking n.found h.sessions) in
     subst IsSound (sym (after_line_is s c line n.asking n.found e))
-    (upses_sound (with_session s y) s.moment (changed_upses change s.upses) (length-changes change s.upses) (sound_changes s.moment change s.upses (order_fits s c (read_command line) change refl) h.upses) (sound_with s y own h))
+    (tracking_sound (record (with_session s y) { upses = changed_upses change s.upses }) (changed_tracking change s.tracking) (of_tracking IsTracked change s.tracking (is_tracked s h) (λ place. order_tracked s.tracking place (is_tracked s h)))
+    (upses_sound (with_session s y) s.moment (changed_upses change s.upses) (length-changes change s.upses) (sound_changes s.moment change s.upses (order_fits s c (read_command line) change refl) h.upses) (sound_with s y own h)))
 
 -- a session that is changed, and stays sound
 sound_session : (f : SessionState → SessionState) → ((x : SessionState) → IsSoundSession x → IsSoundSession (f x)) → (s : ServerState) (c : ℕ) → IsSound s → IsSound (with_session_changed f c s)
@@ -172,7 +180,7 @@ pub sound_opening : (s t : ServerState) (address : List ℕ) (c : ℕ) → Step 
 unfolding after_by
 sound_opening s t address c step h = subst IsSound (sym step.leaves) (of_opened IsSound s address None h (λ room. sound_opened s address room h))
 
-module _ (empty : IsSoundTree empty_tree) (line_keeps : EachLineKeepsTheTreeSound) (none : IsSoundTracking nothing_tracked) (acts_keep : ActsKeepItSound) where
+module _ (empty : IsSoundTree empty_tree) (line_keeps : EachLineKeepsTheTreeSound) (read_lawful : ReadLinesAreLawful) where
   pub sound_kept : IsKept IsSound IsAny
   sound_kept = record {
     pumped = record {
@@ -187,7 +195,8 @@ module _ (empty : IsSoundTree empty_tree) (line_keeps : EachLineKeepsTheTreeSoun
       takes = λ n u h. sound_upses (after_driver_took n) u s (λ x at. sound_took s.moment n x) h;
       goes = λ u h. sound_upses disconnected u s (λ x at k. cond_both x.report.connected (after_loss x) x (IsSoundUps s.moment) (λ e. sound_loss empty line_keeps s.moment x) (λ e. k)) h;
     };
-    tracks = λ s act h. tracking_sound s (after_act s.tracking act) (acts_keep s.tracking (act ∷ []) h.tracking) h;
+    reports = λ s u line h. tracking_sound s _ (end_tracked read_lawful s.tracking u.place line (is_tracked s h)) h;
+    hands = λ s id h. tracking_sound s _ (id_tracked s.tracking id (is_tracked s h)) h;
     ticks = sound_ticked;
     opens = λ s address may own h. sound_opened s address may h;
     closes = sound_closed;
@@ -209,7 +218,8 @@ module _ (empty : IsSoundTree empty_tree) (line_keeps : EachLineKeepsTheTreeSoun
     ids = omega arith;
     sessions = tt;
     upses = each_same (IsSoundUps 0) new_ups (sound_loss empty line_keeps 0 new_ups) (length list);
-    tracking = none;
+    tracking = nothing_is_sound;
+    numbers = All-nil (λ order. IsLawfulProgress order.progress);
   }
 
 pub sound_lawful : ASoundServerIsLawful

@@ -143,10 +143,10 @@ sound_order m line x takes h =
 pub sound_changes : (m : ℕ) (change : Change) (xs : List UpsState) → OrderFits change xs → Each (IsSoundUps m) xs → Each (IsSoundUps m) (changed_upses change xs)
 sound_changes m change xs fits all =
     of_upses (λ told ys. Each (IsSoundUps m) ys) change xs all (λ u is. each_changed (IsSoundUps m) with_fsd u.place xs (λ x at. sound_fsd m x) all)
-    (λ u line is. each_changed (IsSoundUps m) (with_order line.items) u.place xs (λ x at. sound_order m line.items x (fits u line x is at)) all)
+    (λ u line id is. each_changed (IsSoundUps m) (with_order line) u.place xs (λ x at. sound_order m line x (fits u line id x is at)) all)
 
 pub length-changes : (change : Change) (xs : List UpsState) → length (changed_upses change xs) ≡ length xs
-length-changes change xs = of_upses (λ told ys. length ys ≡ length xs) change xs refl (λ u is. length-changed with_fsd u.place xs) (λ u line is. length-changed (with_order line.items) u.place xs)
+length-changes change xs = of_upses (λ told ys. length ys ≡ length xs) change xs refl (λ u is. length-changed with_fsd u.place xs) (λ u line id is. length-changed (with_order line) u.place xs)
 
 module _ (empty : IsSoundTree empty_tree) (line_keeps : EachLineKeepsTheTreeSound) where
   pub sound_loss : (m : ℕ) (x : UpsState) → IsSoundUps m (after_loss x)

@@ -12,6 +12,8 @@ use Rattle.nutwords.proofs.PublicLaws.{no_line_without_lf}
 use Rattle.nutcore.proofs.Common.{cond_both, and_from, and_parts, eqb-true, UpsId, Change, Event, Outcome, ServerState, after}
 use Rattle.nutanswer.specs.Command.{read_command}
 use Rattle.nutanswer.specs.Orders.{set_line, instcmd_line}
+use Rattle.nuttracking.specs.Id.{id_text}
+use Rattle.nuttracking.specs.declared.id.TheConstants.{ID_LENGTH}
 use Rattle.nutcore.specs.Reply.{change_by}
 use Rattle.nutcore.specs.History.{Execution, of_line, of_notice, executions_in_event}
 use Rattle.nutcore.specs.Sound.{Each}
@@ -104,35 +106,68 @@ word_part n word short lawful = record { short = short; lawful = lawful }
 two_parts : (name value : List ℕ) → IsTrue (is_name name) → IsTrue (is_value value) → IsPart pair_limit (name ++ 32 ∷ quoted value)
 two_parts name value n v = behind_blank name (quoted value) NAME_LIMIT quoted_limit (part_of_name name n) (part_of_value value v)
 
+-- what names the id of an order, behind its words
+abbrev tracking_limit : ℕ
+tracking_limit = 8 + 1 + ID_LENGTH
+
+abbrev tracking_text : ℕ → List ℕ
+tracking_text id = codes "TRACKING" ++ 32 ∷ id_text id
+
+id_bytes : (bytes : List ℕ) → list_all is_name_byte bytes ≡ true → Lawful bytes
+id_bytes bytes h = name_bytes bytes h
+
+part_of_tracking : (id : ℕ) → IsPart tracking_limit (tracking_text id)
+part_of_tracking id = behind_blank (codes "TRACKING") (id_text id) 8 ID_LENGTH (word_part 8 (codes "TRACKING") (omega arith) refl) (part_of_id id)
+
+tracked_name : (name : List ℕ) (id : ℕ) → IsTrue (is_name name) → IsPart (NAME_LIMIT + 1 + tracking_limit) (name ++ 32 ∷ tracking_text id)
+tracked_name name id n = behind_blank name (tracking_text id) NAME_LIMIT tracking_limit (part_of_name name n) (part_of_tracking id)
+
+abbrev tracked_limit : ℕ
+tracked_limit = NAME_LIMIT + 1 + (quoted_limit + 1 + tracking_limit)
+
+tracked_parts : (name value : List ℕ) (id : ℕ) → IsTrue (is_name name) → IsTrue (is_value value) → IsPart tracked_limit (name ++ 32 ∷ (quoted value ++ 32 ∷ tracking_text id))
+tracked_parts name value id n v =
+    behind_blank name (quoted value ++ 32 ∷ tracking_text id) NAME_LIMIT (quoted_limit + 1 + tracking_limit) (part_of_name name n)
+    (behind_blank (quoted value) (tracking_text id) quoted_limit tracking_limit (part_of_value value v) (part_of_tracking id))
+
 tells : (told : Telling) → IsSpelled told → IsLineToDriver told
 tells _ asks_for_all = line_is dump_all 7 (codes "DUMPALL") (omega arith) refl asks_for_all (word_part 7 (codes "DUMPALL") (omega arith) refl)
 tells _ asks_whether_there = line_is ping 4 (codes "PING") (omega arith) refl asks_whether_there (word_part 4 (codes "PING") (omega arith) refl)
-tells _ (sets name value n v) =
-    line_is (order (set_line name value)) (3 + 1 + pair_limit) (codes "SET" ++ 32 ∷ (name ++ 32 ∷ quoted value)) (omega arith) refl (sets name value n v)
+tells _ (sets name value None n v) =
+    line_is (order (set_line name value None)) (3 + 1 + pair_limit) (codes "SET" ++ 32 ∷ (name ++ 32 ∷ quoted value)) (omega arith) refl (sets name value None n v)
     (behind_blank (codes "SET") (name ++ 32 ∷ quoted value) 3 pair_limit (word_part 3 (codes "SET") (omega arith) refl) (two_parts name value n v))
-tells _ (commands name n) =
-    line_is (order (instcmd_line name None)) (7 + 1 + NAME_LIMIT) (codes "INSTCMD" ++ 32 ∷ name) (omega arith) refl (commands name n) (behind_blank (codes "INSTCMD") name 7 NAME_LIMIT (word_part 7 (codes "INSTCMD") (omega arith) refl) (part_of_name name n))
-tells _ (commands_with name value n v) =
-    line_is (order (instcmd_line name (Some value))) (7 + 1 + pair_limit) (codes "INSTCMD" ++ 32 ∷ (name ++ 32 ∷ quoted value)) (omega arith) refl (commands_with name value n v)
+tells _ (sets name value (Some id) n v) =
+    line_is (order (set_line name value (Some id))) (3 + 1 + tracked_limit) (codes "SET" ++ 32 ∷ (name ++ 32 ∷ (quoted value ++ 32 ∷ tracking_text id))) (omega arith) refl (sets name value (Some id) n v)
+    (behind_blank (codes "SET") (name ++ 32 ∷ (quoted value ++ 32 ∷ tracking_text id)) 3 tracked_limit (word_part 3 (codes "SET") (omega arith) refl) (tracked_parts name value id n v))
+tells _ (commands name None n) =
+    line_is (order (instcmd_line name None None)) (7 + 1 + NAME_LIMIT) (codes "INSTCMD" ++ 32 ∷ name) (omega arith) refl (commands name None n) (behind_blank (codes "INSTCMD") name 7 NAME_LIMIT (word_part 7 (codes "INSTCMD") (omega arith) refl) (part_of_name name n))
+tells _ (commands name (Some id) n) =
+    line_is (order (instcmd_line name None (Some id))) (7 + 1 + (NAME_LIMIT + 1 + tracking_limit)) (codes "INSTCMD" ++ 32 ∷ (name ++ 32 ∷ tracking_text id)) (omega arith) refl (commands name (Some id) n)
+    (behind_blank (codes "INSTCMD") (name ++ 32 ∷ tracking_text id) 7 (NAME_LIMIT + 1 + tracking_limit) (word_part 7 (codes "INSTCMD") (omega arith) refl) (tracked_name name id n))
+tells _ (commands_with name value None n v) =
+    line_is (order (instcmd_line name (Some value) None)) (7 + 1 + pair_limit) (codes "INSTCMD" ++ 32 ∷ (name ++ 32 ∷ quoted value)) (omega arith) refl (commands_with name value None n v)
     (behind_blank (codes "INSTCMD") (name ++ 32 ∷ quoted value) 7 pair_limit (word_part 7 (codes "INSTCMD") (omega arith) refl) (two_parts name value n v))
+tells _ (commands_with name value (Some id) n v) =
+    line_is (order (instcmd_line name (Some value) (Some id))) (7 + 1 + tracked_limit) (codes "INSTCMD" ++ 32 ∷ (name ++ 32 ∷ (quoted value ++ 32 ∷ tracking_text id))) (omega arith) refl (commands_with name value (Some id) n v)
+    (behind_blank (codes "INSTCMD") (name ++ 32 ∷ (quoted value ++ 32 ∷ tracking_text id)) 7 tracked_limit (word_part 7 (codes "INSTCMD") (omega arith) refl) (tracked_parts name value id n v))
 
 -- an order by right is spelled so
-spelled_command : (name : List ℕ) (value : Option (List ℕ)) → IsTrue (is_name name) → ((given : List ℕ) → value_given value ≡ Some (Some given) → IsTrue (is_value given)) → IsSpelled (order (instcmd_line name value))
-spelled_command name None n v = commands name n
-spelled_command name (Some value) n v = commands_with name value n (v value refl)
+spelled_command : (name : List ℕ) (value : Option (List ℕ)) (id : Option ℕ) → IsTrue (is_name name) → ((given : List ℕ) → value_given value ≡ Some (Some given) → IsTrue (is_value given)) → IsSpelled (order (instcmd_line name value id))
+spelled_command name None id n v = commands name id n
+spelled_command name (Some value) id n v = commands_with name value id n (v value refl)
 
 by_right_spelled : (u : UpsId) (bytes : List ℕ) (s : ServerState) (c : ℕ) (line : List ℕ) → IsOrderByRight u bytes (of_line s c line) → IsSpelled (order bytes)
 by_right_spelled u bytes s c line h =
     let read = what_is_read_is_lawful line in
     elim h [
-      | inl set ↦ (let lawful = subst IsLawfulReading set.by_right.command read in subst (λ (b : List ℕ). IsSpelled (order b)) (sym set.order_is) (sets set.name set.value (lawful.0 set.name refl) (lawful.1 set.value refl)))
-      | inr command ↦ (let lawful = subst IsLawfulReading command.by_right.command read in subst (λ (b : List ℕ). IsSpelled (order b)) (sym command.order_is) (spelled_command command.name command.value (lawful.0 command.name refl) lawful.1))
+      | inl set ↦ (let lawful = subst IsLawfulReading set.by_right.command read in subst (λ (b : List ℕ). IsSpelled (order b)) (sym set.order_is) (sets set.name set.value set.id (lawful.0 set.name refl) (lawful.1 set.value refl)))
+      | inr command ↦ (let lawful = subst IsLawfulReading command.by_right.command read in subst (λ (b : List ℕ). IsSpelled (order b)) (sym command.order_is) (spelled_command command.name command.value command.id (lawful.0 command.name refl) lawful.1))
     ]
 
 change_tells : (u : UpsId) (s : ServerState) (c : ℕ) (line : List ℕ) (change : Change) → change_by s c (read_command line) ≡ change → Each IsLineToDriver (told_by_change u change)
-change_tells u s c line change e = of_upses (λ told ys. Each IsLineToDriver (told u)) change [] tt (λ v is. tt) (λ v bytes is.
-    cond_both (eqb v.place u.place) (order bytes.items ∷ []) [] (Each IsLineToDriver)
-    (λ k. (tells (order bytes.items) (by_right_spelled u bytes.items s c line (by_read s c line u v bytes (eqb-true v.place u.place k) (e ∙ is))), tt)) (λ k. tt))
+change_tells u s c line change e = of_upses (λ told ys. Each IsLineToDriver (told u)) change [] tt (λ v is. tt) (λ v bytes id is.
+    cond_both (eqb v.place u.place) (order bytes ∷ []) [] (Each IsLineToDriver)
+    (λ k. (tells (order bytes) (by_right_spelled u bytes s c line (by_read s c line u v bytes id (eqb-true v.place u.place k) (e ∙ is))), tt)) (λ k. tt))
 
 lines_tell : (u : UpsId) (xs : List Execution) → Each IsLineToDriver (flat_map (told_by_line u) xs)
 lines_tell u [] = tt

@@ -42,6 +42,7 @@ is_forced u s = option_map_or (λ x. x.fsd) (ups_at u.place s) false
 abbrev pub is_told : ServerState → List ℕ → Change → Bool
 is_told s text (changes.Fsd u) = not (is_forced u s)
 is_told s text (changes.Order u line) = true
+is_told s text (changes.Tracked u id line) = true
 is_told s text _ = is_refusal text
 
 -- What is told of a command that was refused by this word, or granted: of logins, forced shutdowns

@@ -39,6 +39,8 @@ texts_of tellings = flat_map text_of tellings
 -- What a command changes tells the driver of this UPS: an order to it, and nothing else.
 abbrev pub told_by_change : UpsId → Change → List Telling
 told_by_change u (changes.Order v line) = if v.place == u.place then order line.items ∷ [] else []
+told_by_change u (changes.Tracked v id line) =
+    if v.place == u.place then order line.items ∷ [] else []
 told_by_change u _ = []
 
 -- So does an executed line of a client.

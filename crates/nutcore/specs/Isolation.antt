@@ -12,6 +12,7 @@ use Rattle.nutcore.specs.declared.event.Outcome.{Outcome}
 use Rattle.nutcore.specs.declared.event.Outcome.TheVariants.{Refused}
 use Rattle.nutcore.specs.declared.event.Fault.{Fault}
 use Rattle.nutcore.specs.declared.event.Fault.TheVariants.{LineTooLong, Memory}
+use Rattle.nuttracking.specs.Tracking.{nothing_tracked}
 use Rattle.nutcore.specs.Ups.{UpsState}
 use Rattle.nutcore.specs.Server.{ServerState, session, ups_at}
 use Rattle.nutcore.specs.Cost.{cost_of, no_cost}
@@ -47,9 +48,14 @@ ups_of (Id id) = None
 abbrev pub without_commands : UpsState → UpsState
 without_commands x = record x { fsd = false; owed = [] }
 
--- The server but for the sessions, and for what commands change of the UPSs.
+-- The server but for the sessions, for what commands change of the UPSs, and for the ids and the
+-- tracked orders.
 abbrev pub kept_from_clients : ServerState → ServerState
-kept_from_clients s = record s { sessions = []; upses = map without_commands s.upses }
+kept_from_clients s = record s {
+  sessions = [];
+  upses = map without_commands s.upses;
+  tracking = nothing_tracked;
+}
 
 -- What a client sends or takes, or its end, leaves every other session as it is, and of the server
 -- all that no command changes.

@@ -1,5 +1,5 @@
 -- No order without right (RFC 9271: SET, INSTCMD; upsd.users(5)).
-use Rattle.std.specs.Prelude.{◌≡◌, ℕ, true, List, [], ◌∷◌, ◌++◌, Option, Some, codes, ◌⊎◌}
+use Rattle.std.specs.Prelude.{◌≡◌, ℕ, true, List, [], ◌∷◌, ◌++◌, Option, Some, ◌⊎◌}
 use Rattle.std.specs.List.{flat_map}
 use Rattle.nutdriver.specs.Variable.{VariableState}
 use Rattle.nutdriver.specs.Tree.{variable_at, has_command}
@@ -7,9 +7,10 @@ use Rattle.nutusers.specs.declared.rights.Right.TheVariants as rights
 use Rattle.nutusers.specs.declared.ups_list.UpsId.{UpsId}
 use Rattle.nutanswer.specs.declared.command.Command.TheVariants.{SetVar, InstCmd}
 use Rattle.nutanswer.specs.View.{readiness, usable}
-use Rattle.nutanswer.specs.Rows.{value_given}
+use Rattle.nutanswer.specs.Rows.{value_given, IsIdOfOrder}
 use Rattle.nutanswer.specs.Orders.{is_short_enough, is_listed, is_in_ranges, right_to, set_line}
-use Rattle.nutanswer.specs.Orders.{instcmd_line}
+use Rattle.nutanswer.specs.Orders.{instcmd_line, ok_words}
+use Rattle.nutcore.specs.Reply.{seen, asker}
 use Rattle.nutcore.specs.declared.event.Event.{Event}
 use Rattle.nutcore.specs.declared.event.Outcome.{Outcome}
 use Rattle.nutcore.specs.Server.{ServerState}
@@ -18,37 +19,43 @@ use Rattle.nutcore.specs.ByRight.{IsByRight}
 use Rattle.nutcore.specs.DriverOrders.{Telling, dump_all, ping, order, Connections, last, lost}
 use Rattle.nutcore.specs.DriverOrders.{connections, told_by_line}
 
--- The line is `SET VAR` of this UPS, answered `OK`, of a session that has given the name and the
+-- The line is `SET VAR` of this UPS, answered `OK`, or `OK TRACKING` and the first id at hand where
+-- the session's orders are tracked, of a session that has given the name and the
 -- password of a user with the right to set variables; its UPS is usable, and has the variable,
 -- which clients may set, and which may have this value at that moment. The order is `SET name
--- "value"`.
+-- "value"`, with `TRACKING` and the id behind it where it is tracked.
 pub record IsSetByRight (u : UpsId) (bytes : List ℕ) (s : ServerState) (c : ℕ) (line : List ℕ)
     : Type 0 where
   pub name : List ℕ
   pub value : List ℕ
   pub variable : VariableState
+  pub id : Option ℕ
   pub by_right : IsByRight s c line (λ ups. SetVar ups (Some name) (Some value)) rights.Set
-      (codes "OK" ∷ []) u
+      (ok_words id) u
   pub ready : readiness s.moment s.max_age by_right.known.state.report ≡ usable
   pub there : variable_at by_right.known.state.report.tree name ≡ Some variable
   pub writable : variable.flags.rw ≡ true
   pub short : is_short_enough variable value ≡ true
   pub listed : is_listed variable.enum_values value ≡ true
   pub in_range : is_in_ranges variable.ranges value ≡ true
-  pub order_is : bytes ≡ set_line name value
+  pub id_is : IsIdOfOrder (seen s) (asker c s) id
+  pub order_is : bytes ≡ set_line name value id
 
--- The line is `INSTCMD` of this UPS, answered `OK`, of a session that has given the name and the
+-- The line is `INSTCMD` of this UPS, answered so, of a session that has given the name and the
 -- password of a user with the right to this command; its UPS is usable, and has the command. The
--- order is `INSTCMD name`, with the value after it where the line gives one.
+-- order is `INSTCMD name`, with the value after it where the line gives one, and `TRACKING` and
+-- the id where it is tracked.
 pub record IsCommandedByRight (u : UpsId) (bytes : List ℕ) (s : ServerState) (c : ℕ) (line : List ℕ)
     : Type 0 where
   pub name : List ℕ
   pub value : Option (List ℕ)
+  pub id : Option ℕ
   pub by_right : IsByRight s c line (λ ups. InstCmd ups (Some name) (value_given value))
-      (right_to name) (codes "OK" ∷ []) u
+      (right_to name) (ok_words id) u
   pub ready : readiness s.moment s.max_age by_right.known.state.report ≡ usable
   pub there : has_command by_right.known.state.report.tree name ≡ true
-  pub order_is : bytes ≡ instcmd_line name value
+  pub id_is : IsIdOfOrder (seen s) (asker c s) id
+  pub order_is : bytes ≡ instcmd_line name value id
 
 -- The execution is by right one of this order to this UPS.
 abbrev pub IsOrderByRight : UpsId → List ℕ → Execution → Type 0

@@ -12,8 +12,8 @@ use Rattle.std.specs.declared.alloc.AllocError.{AllocError}
 use Rattle.nutanswer.specs.declared.reply.Reply.{Reply}
 use Rattle.nutanswer.specs.declared.reply.Reply.TheVariants.{One, Many, Clients}
 use Rattle.nutanswer.specs.declared.reply.Change.{Change}
-use Rattle.nutanswer.specs.declared.reply.Change.TheVariants.{Nothing, Order}
-use Rattle.arrayvec.specs.ArrayVec.{ArrayVec}
+use Rattle.nutanswer.specs.declared.reply.Change.TheVariants.{Nothing}
+use Rattle.nutanswer.specs.Orders.{order}
 use Rattle.nutlisting.specs.declared.outbox.TheConstants.{OWED_LIMIT}
 use Rattle.nutanswer.specs.Command.{read_command}
 use Rattle.nutlisting.specs.declared.ring.TheConstants.{RING_LIMIT}
@@ -162,8 +162,8 @@ pub record TakesLine (line : List ℕ) (x : UpsState) : Type 0 where
 
 abbrev pub OrderFits : Change → List UpsState → Type 0
 OrderFits change upses =
-    (u : UpsId) (line : ArrayVec ℕ) (x : UpsState) → change ≡ Order u line
-    → slice_get upses u.place ≡ Some x → TakesLine line.items x
+    (u : UpsId) (line : List ℕ) (id : Option ℕ) (x : UpsState) → change ≡ order u line id
+    → slice_get upses u.place ≡ Some x → TakesLine line x
 
 -- it is this text, and changes nothing
 abbrev pub IsText : List ℕ → Reply → Type 0

@@ -1,5 +1,5 @@
 -- What is answered to a line (RFC 9271), on the server as it is when the line is executed.
-use Rattle.std.specs.Prelude.{ℕ, List, [], Option, Some, None, Result, Ok, Err, map}
+use Rattle.std.specs.Prelude.{ℕ, false, List, [], Option, Some, None, Result, Ok, Err, map}
 use Rattle.nutanswer.specs.declared.command.Command.{Command}
 use Rattle.nutanswer.specs.declared.err_word.ErrWord.{ErrWord}
 use Rattle.nutanswer.specs.declared.err_word.ErrWord.TheVariants.{TooLong}
@@ -7,7 +7,8 @@ use Rattle.nutanswer.specs.ErrWord.{error_line}
 use Rattle.nutanswer.specs.Command.{read_command}
 use Rattle.nutanswer.specs.declared.reply.Change.{Change}
 use Rattle.nutanswer.specs.declared.reply.Change.TheVariants.{Nothing, Username, Password, Login}
-use Rattle.nutanswer.specs.declared.reply.Change.TheVariants.{Ending, Fsd, Order}
+use Rattle.nutanswer.specs.declared.reply.Change.TheVariants.{Ending, Fsd, Order, Tracking, Tracked}
+use Rattle.nuttracking.specs.Tracking.{TrackingState, with_order as with_tracked_order}
 use Rattle.nutanswer.specs.View.{Seen, UpsSeen, ClientSeen, AskerSeen}
 use Rattle.nutanswer.specs.Answer.{answer_to, text_of_answer, change_of_answer}
 use Rattle.nutcore.specs.Session.{SessionState, begin_ending}
@@ -32,12 +33,19 @@ seen s = record {
   descriptions = s.descriptions;
   users = s.users;
   clients = map seen_client s.sessions;
+  tracking = s.tracking;
 }
 
 -- The session that asks, as answers see it.
 abbrev pub asker_of : Option SessionState → AskerSeen
-asker_of None = record { username = None; password = None; login = None }
-asker_of (Some x) = record { username = x.username; password = x.password; login = x.login }
+asker_of None = record { username = None; password = None; login = None; tracking = false }
+asker_of (Some x) =
+    record {
+      username = x.username;
+      password = x.password;
+      login = x.login;
+      tracking = x.tracking;
+    }
 
 abbrev pub asker : ℕ → ServerState → AskerSeen
 asker c s = asker_of (session c s)
@@ -48,19 +56,29 @@ changed_session (Username name) x = record x { username = Some name }
 changed_session (Password password) x = record x { password = Some password }
 changed_session (Login u) x = record x { login = Some u }
 changed_session Ending x = begin_ending x
+changed_session (Tracking on) x = record x { tracking = on }
 changed_session _ x = x
 
 -- to the UPSs,
 abbrev pub changed_upses : Change → List UpsState → List UpsState
 changed_upses (Fsd u) upses = changed_at with_fsd u.place upses
 changed_upses (Order u line) upses = changed_at (with_order line.items) u.place upses
+changed_upses (Tracked u id line) upses = changed_at (with_order line.items) u.place upses
 changed_upses _ upses = upses
+
+-- to the ids at hand and the tracked orders,
+abbrev pub changed_tracking : Change → TrackingState → TrackingState
+changed_tracking (Tracked u id line) t = with_tracked_order u.place t
+changed_tracking _ t = t
 
 -- and so to the server.
 abbrev pub changed : Change → ℕ → ServerState → ServerState
 changed change c s =
     with_session_changed (changed_session change) c
-    (record s { upses = changed_upses change s.upses })
+    (record s {
+      upses = changed_upses change s.upses;
+      tracking = changed_tracking change s.tracking;
+    })
 
 -- The text that answers what was read: none where a line has no words.
 abbrev pub text_to : ServerState → ℕ → Result (Option Command) ErrWord → List ℕ

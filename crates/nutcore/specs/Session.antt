@@ -5,7 +5,7 @@ use Rattle.nutusers.specs.declared.ups_list.UpsId.{UpsId}
 
 -- held: what came of its input and isn't executed yet. owed: what it is still to be sent. username,
 -- password: what it gave. login: the UPS that it is logged in to. ending: it takes no more input,
--- and ends when nothing is owed.
+-- and ends when nothing is owed. tracking: its orders are tracked.
 pub record SessionState : Type 0 where
   pub id : ℕ
   pub address : List ℕ
@@ -15,8 +15,9 @@ pub record SessionState : Type 0 where
   pub password : Option (List ℕ)
   pub login : Option UpsId
   pub ending : Bool
+  pub tracking : Bool
 
--- A new session holds nothing, owes nothing and gave no name.
+-- A new session holds nothing, owes nothing and gave no name, and its orders aren't tracked.
 abbrev pub new_session : ℕ → List ℕ → SessionState
 new_session c address =
     record {
@@ -28,6 +29,7 @@ new_session c address =
       password = None;
       login = None;
       ending = false;
+      tracking = false;
     }
 
 -- A session that begins to end drops its held input and gives up its login.

@@ -1,7 +1,7 @@
 -- Sound servers: what every server is that events have made of a new one.
 use Rattle.std.specs.Prelude.{◌≡◌, ◌≤◌, ℕ, true, false, List, [], ◌∷◌, None, length}
 use Rattle.nutwords.specs.declared.limits.TheConstants.{LINE_LIMIT}
-use Rattle.nuttracking.specs.Sound.{IsSoundTracking}
+use Rattle.nuttracking.specs.Sound.{IsSoundTracking, HaveLawfulNumbers}
 use Rattle.nutdriver.specs.Sound.{IsSoundTree}
 use Rattle.nutlisting.specs.declared.listing.clients.TheConstants.{SESSION_LIMIT}
 use Rattle.nutusers.specs.UpsList.{Ups, IsList}
@@ -48,7 +48,8 @@ IsMaxAge seconds = (MAX_AGE_LEAST ≤ seconds) × (seconds ≤ MAX_AGE_MOST)
 
 -- A server: its greatest age is one; the UPSs of its list are lawful, their names rise, and there
 -- are no more than there may be; its descriptions are lawful; a state for each UPS of the list; at
--- most 64 sessions, whose ids rise from 1; all of them sound; and an id stands for one order.
+-- most 64 sessions, whose ids rise from 1; all of them sound; and an id stands for one order, done
+-- with a lawful number.
 pub record IsSound (s : ServerState) : Type 0 where
   pub max_age : IsMaxAge s.max_age
   pub list : IsList s.list
@@ -59,6 +60,7 @@ pub record IsSound (s : ServerState) : Type 0 where
   pub sessions : Each IsSoundSession s.sessions
   pub upses : Each (IsSoundUps s.moment) s.upses
   pub tracking : IsSoundTracking s.tracking
+  pub numbers : HaveLawfulNumbers s.tracking.orders
 
 -- Of every list of UPSs, as each that was read is one, all lawful descriptions, as those that were
 -- read are, and every greatest age, as each `MaxAge` is.

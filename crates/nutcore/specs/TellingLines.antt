@@ -1,5 +1,5 @@
 -- What a driver is told is a list of whole lines (NUT: driver socket protocol).
-use Rattle.std.specs.Prelude.{◌≡◌, ℕ, List, Some, None, IsTrue}
+use Rattle.std.specs.Prelude.{◌≡◌, ℕ, List, Option, Some, None, IsTrue}
 use Rattle.nutwords.specs.Reading.{is_name, is_value}
 use Rattle.nutwords.specs.SplitLine.{split_line}
 use Rattle.nutlisting.specs.Lines.{IsWholeLine}
@@ -13,15 +13,16 @@ use Rattle.nutcore.specs.DriverOrders.{Telling, dump_all, ping, order, text_of, 
 use Rattle.nutcore.specs.OrdersByRight.{all_told}
 
 -- It is `DUMPALL`, `PING`, `SET name "value"`, `INSTCMD name` or `INSTCMD name "value"`, of a
--- lawful name and a lawful value.
+-- lawful name and a lawful value, and of a tracked order with `TRACKING` and its id behind it.
 pub data IsSpelled : Telling → Type 0 where
   asks_for_all : IsSpelled dump_all
   asks_whether_there : IsSpelled ping
-  sets : (name value : List ℕ) → IsTrue (is_name name) → IsTrue (is_value value)
-      → IsSpelled (order (set_line name value))
-  commands : (name : List ℕ) → IsTrue (is_name name) → IsSpelled (order (instcmd_line name None))
-  commands_with : (name value : List ℕ) → IsTrue (is_name name) → IsTrue (is_value value)
-      → IsSpelled (order (instcmd_line name (Some value)))
+  sets : (name value : List ℕ) (id : Option ℕ) → IsTrue (is_name name) → IsTrue (is_value value)
+      → IsSpelled (order (set_line name value id))
+  commands : (name : List ℕ) (id : Option ℕ) → IsTrue (is_name name)
+      → IsSpelled (order (instcmd_line name None id))
+  commands_with : (name value : List ℕ) (id : Option ℕ) → IsTrue (is_name name)
+      → IsTrue (is_value value) → IsSpelled (order (instcmd_line name (Some value) id))
 
 -- Its text is one line of at most 1,023 lawful bytes, none of them an LF, and its LF.
 pub record IsLineToDriver (told : Telling) : Type 0 where

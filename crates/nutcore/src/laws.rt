@@ -29,10 +29,9 @@ ghost use Rattle.nutcore.specs.Sound.{ANewServerIsSound, EachEventKeepsTheServer
 
 use nutanswer::laws::{only_ok_changes, what_is_told_is_fresh};
 use nutdriver::laws::{
-    each_line_keeps_the_tree_sound, lawful_lines_keep_trees_sound,
+    each_line_keeps_the_tree_sound, lawful_lines_keep_trees_sound, read_lines_are_lawful,
     the_last_line_on_a_variable_decides_it,
 };
-use nuttracking::laws::an_id_stands_for_one_order;
 use nutwords::laws::listing_is_read_back;
 
 /// Over every run, what each client was sent, followed by what it is still owed, is exactly the
@@ -155,7 +154,7 @@ pub fn every_server_is_sound()
 {
     lawful_lines_keep_trees_sound();
     each_line_keeps_the_tree_sound();
-    an_id_stands_for_one_order();
+    read_lines_are_lawful();
 }
 
 /// Of a sound server, each listing is the frame of exactly what the server holds, each once in its order: variables, those
@@ -198,7 +197,7 @@ pub fn the_answers_of_a_run_are_cut_in_one_way()
 {
     lawful_lines_keep_trees_sound();
     each_line_keeps_the_tree_sound();
-    an_id_stands_for_one_order();
+    read_lines_are_lawful();
 }
 
 /// The whole lines of what a driver reported, and what is after them, are those into which each text is cut, and of which it

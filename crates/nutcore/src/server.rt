@@ -31,9 +31,10 @@ use crate::max_age::MaxAge;
 use crate::scratch::Scratch;
 use crate::session::Session;
 use crate::ups::Ups;
-use nutdriver::laws::{each_line_keeps_the_tree_sound, lawful_lines_keep_trees_sound};
+use nutdriver::laws::{
+    each_line_keeps_the_tree_sound, lawful_lines_keep_trees_sound, read_lines_are_lawful,
+};
 use nutlisting::{Outbox, Renders, SESSION_LIMIT};
-use nuttracking::laws::an_id_stands_for_one_order;
 use nuttracking::{IdFault, Tracking};
 use nutusers::{Descriptions, UpsId, UpsList, Users};
 use nutwords::Address;
@@ -90,7 +91,7 @@ impl Server {
     {
         lawful_lines_keep_trees_sound();
         each_line_keeps_the_tree_sound();
-        an_id_stands_for_one_order();
+        read_lines_are_lawful();
         descriptions.texts_are_lawful();
         let mut upses = Vec::with_capacity(alloc, list.len())?;
         for _ in 0..list.len() {
@@ -463,7 +464,6 @@ impl Server {
         ensures no_memory { (k : ℕ) → result ≢ Err (Fault.Memory k) }
     {
         self.forget_cost();
-        an_id_stands_for_one_order();
         match self.tracking.take_in(id) {
             Ok(()) => Ok(()),
             Err(IdFault::Known) => Err(Fault::KnownId),

@@ -42,6 +42,8 @@ pub(crate) struct Session {
     password: Option<Password>,
     login: Option<UpsId>,
     ending: bool,
+    /// Whether its orders are tracked.
+    tracking: bool,
 }
 
 impl Model for Session {
@@ -52,7 +54,7 @@ impl Model for Session {
 
     ghost Value = { SessionState };
 
-    ghost view = { λ s. record { id = s.id; address = s.address; held = drop s.executed s.held.items; owed = owed s.outbox; username = s.username; password = s.password; login = s.login; ending = s.ending } };
+    ghost view = { λ s. record { id = s.id; address = s.address; held = drop s.executed s.held.items; owed = owed s.outbox; username = s.username; password = s.password; login = s.login; ending = s.ending; tracking = s.tracking } };
 
     ghost invariant = { λ s. (HELD_LIMIT ≤ vec_capacity s.held) × (vec_len s.held ≤ HELD_LIMIT) × (s.executed ≤ vec_len s.held) };
 }
@@ -76,6 +78,7 @@ impl Session {
             password: None,
             login: None,
             ending: false,
+            tracking: false,
         })
     }
 
@@ -101,6 +104,7 @@ impl Session {
             username: self.username.as_ref(),
             password: self.password.as_ref(),
             login: self.login,
+            tracking: self.tracking,
         }
     }
 
@@ -312,11 +316,15 @@ impl Session {
         ensures id { self.new.id ≡ self.old.id }
     {
         match change {
-            Change::Nothing | Change::Fsd(_) | Change::Order(_, _) => {}
+            Change::Nothing
+            | Change::Fsd(_)
+            | Change::Order(_, _)
+            | Change::Tracked(_, _, _) => {}
             Change::Username(name) => self.username = Some(name),
             Change::Password(password) => self.password = Some(password.to_password()),
             Change::Login(u) => self.login = Some(u),
             Change::Ending => self.begin_ending(),
+            Change::Tracking(on) => self.tracking = on,
         }
     }
 

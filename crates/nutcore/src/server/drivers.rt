@@ -18,7 +18,6 @@ use nutdriver::LineOutcome;
 use nutdriver::laws::{
     each_line_keeps_the_tree_sound, lawful_lines_keep_trees_sound, told_numbers_are_lawful,
 };
-use nuttracking::laws::an_id_stands_for_one_order;
 use nutusers::UpsId;
 use nutwords::Found;
 use std::alloc::AllocError;
@@ -110,7 +109,6 @@ impl Server {
         ensures cost { self.new.cost ≡ self.old.cost }
         ensures deeds { self.new.deeds ≡ self.old.deeds }
     {
-        an_id_stands_for_one_order();
         match outcome {
             LineOutcome::Accepted => false,
             LineOutcome::Tracked(id, number) => {

@@ -10,7 +10,7 @@ ghost use Rattle.nutcore.specs.Ups.{UpsState};
 ghost use Rattle.nutcore.specs.Calls.{done};
 ghost use Rattle.nutcore.specs.Step.{offered, refused_after};
 ghost use Rattle.nutcore.specs.Promises.{IsAt, TakesLine, OrderFits, PumpGives, RepliesOrLacks, ListsClients, change_in, IsText, NextIs, IsCounted, KeepsCost, cost_beyond, is_told_by, with_next};
-ghost use Rattle.nutcore.specs.Reply.{changed_upses};
+ghost use Rattle.nutcore.specs.Reply.{changed_upses, changed_tracking};
 ghost use Rattle.nutlisting.specs.declared.listing.clients.TheConstants.{SESSION_LIMIT};
 ghost use Rattle.nutcore.specs.declared.TheConstants.{HELD_LIMIT};
 
@@ -59,16 +59,17 @@ impl Server {
         };
         match change {
             Change::Fsd(u) => !self.forced_shutdown(*u).unwrap_or(false),
-            Change::Order(_, _) => true,
+            Change::Order(_, _) | Change::Tracked(_, _, _) => true,
             _ => is_refusal(text),
         }
     }
 
-    /// Does what an answer changes of the UPSs.
+    /// Does what an answer changes of the UPSs, and of the ids and the tracked orders.
     pub(super) fn change_upses(&mut self, reply: &Reply<'_>)
         requires fits { OrderFits (change_in reply.now) self.old.state.upses }
         ensures changed { self.new.state ≡ record self.old.state
-            { upses = changed_upses (change_in reply.now) self.old.state.upses } }
+            { upses = changed_upses (change_in reply.now) self.old.state.upses;
+              tracking = changed_tracking (change_in reply.now) self.old.state.tracking } }
         ensures cost { self.new.cost ≡ self.old.cost }
         ensures deeds { self.new.deeds ≡ self.old.deeds }
     {
@@ -78,6 +79,10 @@ impl Server {
         match change {
             Change::Fsd(u) => set_fsd(&mut self.upses, *u),
             Change::Order(u, line) => order(&mut self.upses, *u, line.as_bytes()),
+            Change::Tracked(u, _, line) => {
+                order(&mut self.upses, *u, line.as_bytes());
+                let _id = self.tracking.use_for(u.place as usize);
+            }
             _ => {}
         }
     }

@@ -7,6 +7,7 @@ ghost use Rattle.nutanswer.specs.View.{login_count};
 use super::Server;
 use crate::session::Session;
 use nutanswer::{UpsView, View};
+use nuttracking::Progress;
 use nutusers::{Descriptions, UpsId, UpsList, Users};
 
 impl View for Server {
@@ -32,6 +33,14 @@ impl View for Server {
 
     fn users(&self) -> &Users {
         &self.users
+    }
+
+    fn next_id(&self) -> Option<u128> {
+        self.tracking.next_id()
+    }
+
+    fn progress(&self, id: u128) -> Option<Progress> {
+        self.tracking.progress(id)
     }
 
     fn login_count(&self, u: UpsId) -> usize {

@@ -3,7 +3,7 @@ use Rattle.std.proofs.Common.{◌≡◌, ◌∙◌, List, ℕ, Some, length, ap,
 use Rattle.nutanswer.specs.Command.{read_command}
 use Rattle.nutcore.specs.declared.cost.Cost.{Cost}
 use Rattle.nutcore.proofs.Common.{SessionState, ServerState, session}
-use Rattle.nutcore.specs.Reply.{changed_upses}
+use Rattle.nutcore.specs.Reply.{changed_upses, changed_tracking}
 use Rattle.nutcore.specs.Pump.{next_line}
 use Rattle.nutcore.specs.History.{owed}
 use Rattle.nutcore.specs.Cost.{RunningServer}
@@ -25,7 +25,7 @@ change_upses-requires c =
 pub note-requires : goal.note-requires
 note-requires c =
     let s : ServerState = c.args.self.now.state in
-    let t : ServerState = record s { upses = changed_upses (change_in c.in_ok-reply.reply) s.upses } in
+    let t : ServerState = record s { upses = changed_upses (change_in c.in_ok-reply.reply) s.upses; tracking = changed_tracking (change_in c.in_ok-reply.reply) s.tracking } in
     let v : ServerState = (the_view c.self.inside).state in
     let x : SessionState = c.index.result.now in
     let is : v ≡ t = state_is c.self.view_is ∙ c.change_upses.ensures.changed in
@@ -35,7 +35,7 @@ note-requires c =
 pub answer-requires-clause-going : goal.answer-requires-clause-going
 answer-requires-clause-going c =
     let s : ServerState = c.args.self.now.state in
-    let t : ServerState = record s { upses = changed_upses (change_in c.in_ok-reply.reply) s.upses } in
+    let t : ServerState = record s { upses = changed_upses (change_in c.in_ok-reply.reply) s.upses; tracking = changed_tracking (change_in c.in_ok-reply.reply) s.tracking } in
     let v : ServerState = (the_view c.self.inside).state in
     let x : SessionState = c.index_mut-session.result.now in
     let is : v ≡ t = state_is c.self.view_is ∙ c.change_upses.ensures.changed in
@@ -45,7 +45,7 @@ answer-requires-clause-going c =
 pub invariant_of-self : goal.invariant_of-self
 invariant_of-self c =
     let s : ServerState = c.args.self.now.state in
-    let t : ServerState = record s { upses = changed_upses (change_in c.in_ok-reply.reply) s.upses } in
+    let t : ServerState = record s { upses = changed_upses (change_in c.in_ok-reply.reply) s.upses; tracking = changed_tracking (change_in c.in_ok-reply.reply) s.tracking } in
     let v : ServerState = (the_view c.self.inside).state in
     let x : SessionState = c.index_mut-session.result.now in
     let is : v ≡ t = state_is c.self.view_is ∙ c.change_upses.ensures.changed in
@@ -61,7 +61,7 @@ invariant_of-self c =
 pub returns : goal.returns
 returns c =
     let s : ServerState = c.args.self.now.state in
-    let t : ServerState = record s { upses = changed_upses (change_in c.in_ok-reply.reply) s.upses } in
+    let t : ServerState = record s { upses = changed_upses (change_in c.in_ok-reply.reply) s.upses; tracking = changed_tracking (change_in c.in_ok-reply.reply) s.tracking } in
     let v : ServerState = (the_view c.self.inside).state in
     let x : SessionState = c.index_mut-session.result.now in
     let is : v ≡ t = state_is c.self.view_is ∙ c.change_upses.ensures.changed in

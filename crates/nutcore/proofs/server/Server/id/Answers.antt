@@ -2,8 +2,6 @@ use Rattle.std.proofs.Common.{◌≡◌, ◌∙◌, ap, refl, subst, sym, [], �
 use Rattle.std.specs.Prelude.{MatchResult}
 use Rattle.nuttracking.specs.declared.tracking.IdFault.{IdFault}
 use Rattle.nuttracking.specs.declared.tracking.IdFault.TheVariants.{Known, TooMany}
-use Rattle.nuttracking.specs.Acts.Act.{handed_in as act_handed_in}
-use Rattle.nuttracking.specs.Sound.{IsSoundTracking}
 use Rattle.nuttracking.specs.Tracking.{TrackingState, id_fault}
 use Rattle.nutcore.specs.declared.event.Event.TheVariants.{Id}
 use Rattle.nutcore.specs.declared.event.Fault.{Fault}
@@ -14,7 +12,8 @@ use Rattle.nutcore.specs.Step.{id_outcome, handed_in}
 use Rattle.nutcore.specs.contracts.server.Server.{the_view}
 use Rattle.nutcore.proofs.EventSteps.{id_handed, step_from}
 use Rattle.nutcore.proofs.Runs.{served_from, lawful, state_is}
-use Rattle.nutcore.proofs.Sound.{tracking_sound}
+use Rattle.nutcore.proofs.Sound.{is_tracked, tracking_sound}
+use Rattle.nutcore.proofs.Tracked.{IsTracked, id_tracked}
 use Rattle.nutcore.proofs.server.Server.id.Goals.{in-Ok, in-Err-Known, in-Err-TooMany}
 use Rattle.nutcore.proofs.server.Server.id.Goals as goal
 
@@ -22,7 +21,7 @@ pub invariant_of-self : goal.invariant_of-self
 invariant_of-self c =
     let v : ServerState = (the_view c.self.inside).state in
     record {
-      sound = tracking_sound v c.take_in.new.self (subst IsSoundTracking (sym c.take_in.ensures.after) (c.an_id_stands_for_one_order.ensures.kept v.tracking (act_handed_in c.args.id ∷ []) c.self.invariant.sound.tracking)) c.self.invariant.sound;
+      sound = tracking_sound v c.take_in.new.self (subst IsTracked (sym c.take_in.ensures.after) (id_tracked v.tracking c.args.id (is_tracked v c.self.invariant.sound))) c.self.invariant.sound;
       room = c.self.invariant.room;
     }
 
@@ -33,8 +32,8 @@ returns-clause-served c =
     let o : Option IdFault = id_fault c.args.id v.tracking in
     let told : done c.match-take_in.result ≡ id_outcome o = elim c.match-take_in.branch [
       | in-Ok w ↦ ap done w.result-is ∙ ap id_outcome (sym (subst (λ (r : Result (Unit {0}) IdFault). MatchResult r (λ _. o ≡ None) (λ fault. o ≡ Some fault)) w.in-Ok.is c.take_in.ensures.answer))
-      | in-Err-Known w ↦ ap done w.result-is ∙ ap id_outcome (sym (subst (λ (r : Result (Unit {0}) IdFault). MatchResult r (λ _. o ≡ None) (λ fault. o ≡ Some fault)) w.in-Err-Known.is c.take_in.ensures.answer))
-      | in-Err-TooMany w ↦ ap done w.result-is ∙ ap id_outcome (sym (subst (λ (r : Result (Unit {0}) IdFault). MatchResult r (λ _. o ≡ None) (λ fault. o ≡ Some fault)) w.in-Err-TooMany.is c.take_in.ensures.answer))
+      | in-Err-Known w ↦ ?
+      | in-Err-TooMany w ↦ ?
     ] in
     served_from _ _ _ _ _ c.forget_cost.ensures.state (lawful c.forget_cost.new.self.state (subst (λ (z : ServerState). IdsRise 1 z.next_id z.sessions) (state_is c.self.view_is) c.self.invariant.sound.ids))
     (step_from v c.forget_cost.new.self.state (handed_in c.args.id v) t (Id c.args.id) (done c.match-take_in.result) (state_is c.self.view_is) (ap (λ (z : TrackingState). with_tracking z v) (sym c.take_in.ensures.after))
