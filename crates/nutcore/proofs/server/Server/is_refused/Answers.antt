@@ -1,4 +1,4 @@
-use Rattle.std.proofs.Common.{sym, subst}
+use Rattle.std.proofs.Common.{rules, sym, subst}
 use Rattle.nutcore.specs.contracts.server.Server.{the_view}
 use Rattle.nutcore.specs.Server.{ServerState}
 use Rattle.nutcore.proofs.Sound.{is_tracked, tracking_sound}
@@ -9,6 +9,6 @@ pub invariant_of-self : goal.invariant_of-self
 invariant_of-self c =
     let v : ServerState = (the_view c.self.inside).state in
     record {
-      sound = tracking_sound v c.settle.new.self (subst IsTracked (sym c.settle.ensures.after) (report_tracked v.tracking c.args.u.place c.in-Tracked.id c.in-Tracked.number ? (is_tracked v c.self.invariant.sound))) c.self.invariant.sound;
+      sound = tracking_sound v c.settle.new.self (subst IsTracked (sym c.settle.ensures.after) (report_tracked v.tracking c.args.u.place c.in-Tracked.id c.in-Tracked.number (search rules) (is_tracked v c.self.invariant.sound))) c.self.invariant.sound;
       room = c.self.invariant.room;
     }
