@@ -1,8 +1,8 @@
 #!/usr/bin/env bash
 # What `upsd replay` prints of scripts: the cases of scripts/*.cases, byte for byte.
 #
-# A case begins with a line `== TITLE`. Behind a line `-- list` stands the file of UPSs, if the case has one; behind
-# `-- script` the script; behind `-- output` what is printed. A blank line before the next title says nothing. `N* LINE` is the
+# A case begins with a line `== TITLE`. Behind a line `-- list` stands the file of UPSs, behind `-- users` that of users, if the
+# case has one; behind `-- script` the script; behind `-- output` what is printed. A blank line before the next title says nothing. `N* LINE` is the
 # line N times; `<N>` stands for N bytes x, `<TAB>` and `<CR>` for those bytes.
 set -euo pipefail
 # shellcheck source=tests/built.bash
@@ -35,6 +35,7 @@ awk -v folder="$folder" '
         next
     }
     /^-- list$/ { file = folder "/files/" name ".conf"; printf "" >file; next }
+    /^-- users$/ { file = folder "/files/" name ".users"; printf "" >file; next }
     /^-- script$/ {
         file = folder "/scripts/" name; printf "" >file
         next
@@ -53,6 +54,7 @@ for wanted in "$folder"/scripts/*.stdout; do
     name=$(basename "$wanted" .stdout)
     words=(replay)
     [[ ! -e $folder/files/$name.conf ]] || words+=(--ups "$name.conf")
+    [[ ! -e $folder/files/$name.users ]] || words+=(--users "$name.users")
     prints_what_stands_beside "$folder/scripts" "$name" "${words[@]}"
 done
 is 'cases that have an output' "$(cat "$top"/tests/scripts/*.cases | grep -c '^== ')" "$cases"

@@ -54,6 +54,7 @@ mod DriverHistory
 mod DriverRuns
 mod FreshRuns
 mod DriverOrders
+mod TrackedRuns
 mod OrdersByRight
 mod Written
 mod TellingLines

@@ -25,6 +25,7 @@ use Rattle.nutcore.proofs.Changes.{of_upses}
 use Rattle.nutcore.proofs.SoundUps.{each_join}
 use Rattle.nutanswer.specs.Lawful.{IsLawfulReading}
 use Rattle.nutanswer.specs.Rows.{value_given}
+use Rattle.nutlisting.proofs.PublicLaws.{ids_are_lawful}
 use Rattle.nutanswer.proofs.PublicLaws.{what_is_read_is_lawful}
 use Rattle.nutcore.proofs.OrdersByRight.{by_read, all_in_front}
 use Rattle.nutcore.proofs.Written.{text_short, text_all, backslashes_short}
@@ -113,8 +114,8 @@ tracking_limit = 8 + 1 + ID_LENGTH
 abbrev tracking_text : ℕ → List ℕ
 tracking_text id = codes "TRACKING" ++ 32 ∷ id_text id
 
-id_bytes : (bytes : List ℕ) → list_all is_name_byte bytes ≡ true → Lawful bytes
-id_bytes bytes h = name_bytes bytes h
+part_of_id : (id : ℕ) → IsPart ID_LENGTH (id_text id)
+part_of_id id = record { short = (let long = ids_are_lawful.long id in omega (arith, long)); lawful = ids_are_lawful.lawful id }
 
 part_of_tracking : (id : ℕ) → IsPart tracking_limit (tracking_text id)
 part_of_tracking id = behind_blank (codes "TRACKING") (id_text id) 8 ID_LENGTH (word_part 8 (codes "TRACKING") (omega arith) refl) (part_of_id id)

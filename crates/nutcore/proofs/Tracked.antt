@@ -1,6 +1,7 @@
 -- What every event keeps of the ids and the tracked orders: an id stands for one order, and numbers stay lawful.
-use Rattle.std.proofs.Common.{◌≡◌, ◌≤◌, ℕ, Bool, true, false, cond, List, [], ◌∷◌, ◌++◌, Option, Some, None, is_some, refl, sym, ap, subst, map, drop, length, slice_get, All, arith, Result, Ok}
+use Rattle.std.proofs.Common.{◌≡◌, ◌≤◌, ℕ, zero, suc, Bool, true, false, cond, List, [], ◌∷◌, ◌++◌, Option, Some, None, is_some, refl, sym, ap, subst, map, drop, length, slice_get, All, arith, Result, Ok}
 use Rattle.std.proofs.lemmas.List.Elements.{All-nil, All-cons, All-head, All-tail, All-append}
+use Rattle.circular_buffer.specs.Buffer.{keep_last}
 use Rattle.nuttracking.specs.declared.limits.TheConstants.{ID_LIMIT, ORDER_LIMIT, DONE_LIMIT}
 use Rattle.nuttracking.specs.declared.order.Progress.TheVariants.{Done}
 use Rattle.nuttracking.specs.declared.order.TrackedOrder.{TrackedOrder}
@@ -13,7 +14,8 @@ use Rattle.nutdriver.specs.declared.line.DriverLine.{DriverLine}
 use Rattle.nutdriver.specs.declared.line.DriverLine.TheVariants.{Tracking}
 use Rattle.nutdriver.specs.declared.fault.DriverFault.{DriverFault}
 use Rattle.nutdriver.specs.DriverLine.{read_driver_line}
-use Rattle.nutdriver.specs.Sound.{ReadLinesAreLawful}
+use Rattle.std.specs.Result.{IfOk}
+use Rattle.nutdriver.specs.Sound.{IsLawfulLine, ReadLinesAreLawful}
 use Rattle.nutcore.specs.Reports.{OrderEnd, end_read, end_in, with_end}
 use Rattle.nutcore.proofs.Common.{cond_both, option_map_or, TrackingState}
 
@@ -62,5 +64,5 @@ pub end_tracked : ReadLinesAreLawful → (t : TrackingState) (place : ℕ) (line
 end_tracked lawful t place line h = by_reading (read_driver_line line) refl
   where
     by_reading : (r : Result DriverLine DriverFault) → read_driver_line line ≡ r → IsTracked (with_end place (end_read r) t)
-    by_reading (Ok (Tracking id number)) e = report_tracked t place id number (let few = lawful line (Tracking id number) e in omega (arith, few)) h
+    by_reading (Ok (Tracking id number)) e = report_tracked t place id number (let few : IsLawfulLine (Tracking id number) = subst (λ (r : Result DriverLine DriverFault). IfOk r IsLawfulLine) e (lawful line) in few) h
     by_reading _ e = h

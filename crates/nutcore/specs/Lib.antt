@@ -27,6 +27,7 @@ pub mod DriverHistory
 pub mod DriverRuns
 pub mod FreshRuns
 pub mod DriverOrders
+pub mod TrackedRuns
 pub mod ByRight
 pub mod OrdersByRight
 pub mod Lasting

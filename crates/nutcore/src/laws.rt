@@ -21,6 +21,7 @@ ghost use Rattle.nutcore.specs.DriverHistory.{WhatADriverToldIsExecuted};
 ghost use Rattle.nutcore.specs.DriverRuns.{WhatCameSinceConnectingIsExecuted, ALostDriversLinesAreABeginning, WhichLinesAreRefused, RefusedLinesAreCounted, ANewServerCountsAllRefusedLines};
 ghost use Rattle.nutcore.specs.FreshRuns.{TheMomentIsTheGreatestTick, WhateverIsToldIsFresh, WhatADriverSetLastIsHeld};
 ghost use Rattle.nutcore.specs.DriverOrders.{WhatADriverWasSentAndIsOwedIsWhatItWasTold};
+ghost use Rattle.nutcore.specs.TrackedRuns.{WhatIsTrackedComesOfTheActs, EachRunTracksItsOrders};
 ghost use Rattle.nutcore.specs.Listed.{EachIsListedOnce, WhatIsListedIsWhatIsHeld};
 ghost use Rattle.nutcore.specs.ReadsBack.{EachListingReadsBack};
 ghost use Rattle.nutcore.specs.AnswersApart.{TheAnswersOfARunAreCutInOneWay};
@@ -276,8 +277,18 @@ pub fn the_orders_told_are_those_of_the_lines()
     ensures { TheOrdersToldAreThoseOfTheLines }
 {}
 
+/// What is tracked comes of what a run did: the ids that were handed in, the tracked orders of the lines that it executed, and
+/// what whole lines of drivers reported, each at its time. So over every run from `Server::new`: an id stands for one order,
+/// and there are at most 64 ids at hand and 256 orders; each id that was taken in is used at most once, the first one first;
+/// the last 256 orders are kept; and what is told of an order is that it is pending, up to the first report on its id by the
+/// driver of its UPS, and from then on what that said, for as long as the order is kept.
+pub fn each_run_tracks_its_orders()
+    ensures acts { WhatIsTrackedComesOfTheActs }
+    ensures from_new { EachRunTracksItsOrders }
+{}
+
 /// Whatever a run tells a driver is whole lines: `DUMPALL`, `PING`, `SET name "value"`, `INSTCMD name` or
-/// `INSTCMD name "value"`, of lawful names and values, each of at most 1,023 lawful bytes without an LF, and its LF.
+/// `INSTCMD name "value"`, of a tracked order with `TRACKING` and its id behind it, of lawful names and values, each of at most 1,023 lawful bytes without an LF, and its LF.
 pub fn each_telling_is_a_whole_line()
     ensures { EachTellingIsAWholeLine }
 {}
