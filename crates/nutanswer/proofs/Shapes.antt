@@ -41,8 +41,8 @@ use Rattle.nutanswer.specs.declared.err_word.ErrWord.TheVariants.{VarNotSupporte
 use Rattle.nutanswer.specs.ErrWord.{spelling_of}
 use Rattle.nutanswer.specs.View.{Seen, AskerSeen, UpsSeen, ClientSeen, is_logged_in, login_count}
 use Rattle.nutanswer.specs.Checks.{◌>>=◌, ◌>>◌, KnownUps, known, ups_at, ups_named, unknown_ups, live, user, variable_named, var_not_supported, cmd_not_supported, already_set_username, already_set_password, already_logged_in, invalid_argument, readonly, too_long, too_long_of_command, invalid_value, no_id, set_failed, instcmd_failed, unknown_id}
-use Rattle.nutanswer.specs.Orders.{instcmd_right, set_line, instcmd_line, ok_words}
-use Rattle.nutanswer.specs.Answer.{Answer, ok, help_text, on_or_off_word, answer_to, text_of_answer}
+use Rattle.nutanswer.specs.Orders.{instcmd_right, set_line, instcmd_line, ok_words, on_or_off_word}
+use Rattle.nutanswer.specs.Answer.{Answer, ok, help_text, answer_to, text_of_answer}
 use Rattle.nutanswer.specs.Lawful.{HasLawfulName, HasLawfulUpsName, IsLawfulCommand}
 use Rattle.nutanswer.specs.Laws.{IsLawfulSeen, EachAnswerIsALineOrAListing}
 use Rattle.nutanswer.proofs.ErrorLemmas.{error_lawful}

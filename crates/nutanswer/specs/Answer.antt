@@ -1,7 +1,7 @@
 -- What is answered to a command (RFC 9271): one row a command, its checks from left to right, here
 -- from above, and then the answer and what it changes.
 use Rattle.std.specs.Prelude.{◌≡◌, ℕ, Bool, true, false, List, [], ◌∷◌, codes, Option, Some}
-use Rattle.std.specs.Prelude.{Result, Ok, Err, if◌then◌else◌}
+use Rattle.std.specs.Prelude.{Result, Ok, Err}
 use Rattle.std.specs.Fmt.{decimal}
 use Rattle.nutwords.specs.Frame.{line_of}
 use Rattle.nuttracking.specs.Id.{id_text}
@@ -41,7 +41,7 @@ use Rattle.nutanswer.specs.Checks.{already_set_username, already_set_password, a
 use Rattle.nutanswer.specs.Checks.{invalid_argument, readonly, too_long, too_long_of_command}
 use Rattle.nutanswer.specs.Checks.{invalid_value, no_id, set_failed, instcmd_failed, unknown_id}
 use Rattle.nutanswer.specs.Orders.{instcmd_right, set_line, instcmd_line, order}
-use Rattle.nutanswer.specs.Orders.{ok_words}
+use Rattle.nutanswer.specs.Orders.{ok_words, on_or_off_word}
 
 -- The words of a line, as they are spelled, and what the command changes; or a listing, that of
 -- clients apart: it copies what it lists.
@@ -66,10 +66,6 @@ abbrev pub count_of_logins : List ℕ → Seen → Option (List ℕ) → Result 
 count_of_logins kind s ups = do
   u ← unknown_ups s ups
   told (kind ∷ u.name ∷ decimal (login_count u.id s.clients) ∷ [])
-
--- Whether a session's orders are tracked, in a word.
-abbrev pub on_or_off_word : Bool → List ℕ
-on_or_off_word on = if on then codes "ON" else codes "OFF"
 
 -- The table.
 abbrev pub answer_to : Seen → AskerSeen → Command → Result Answer ErrWord

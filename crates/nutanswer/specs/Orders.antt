@@ -1,7 +1,7 @@
 -- Orders to drivers (RFC 9271: SET, INSTCMD): which values a variable may be set to, and the line
 -- that tells the driver.
 use Rattle.std.specs.Prelude.{ℕ, ℤ, ◌==◌, ◌&&◌, ◌||◌, Bool, false, not, nat_le, int_le, List, []}
-use Rattle.std.specs.Prelude.{◌∷◌, ◌++◌, codes, length, Option, Some, None}
+use Rattle.std.specs.Prelude.{◌∷◌, ◌++◌, codes, length, Option, Some, None, if◌then◌else◌}
 use Rattle.std.specs.List.{list_any}
 use Rattle.nutwords.specs.Frame.{line_of}
 use Rattle.nutwords.specs.Natural.{is_empty}
@@ -68,6 +68,10 @@ order u line (Some id) = changes.Tracked u id (record { items = line })
 -- The words that answer an order: OK, and behind it the id, if the order is tracked.
 abbrev pub ok_words : Option ℕ → List (List ℕ)
 ok_words id = codes "OK" ∷ tracking_words id
+
+-- Whether a session's orders are tracked, in a word.
+abbrev pub on_or_off_word : Bool → List ℕ
+on_or_off_word on = if on then codes "ON" else codes "OFF"
 
 -- The right to the command that this word names. What is asked of a right is its bytes alone, not
 -- where they stand.
