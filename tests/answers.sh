@@ -8,7 +8,8 @@
 #
 # and a session of its own: it gives the user name and the password, and logs in to the UPS, `-` for none, which are each
 # answered by OK; it sends the line, and takes the answer. What the driver of `su` is owed for it stands behind the last
-# bar, which may be left out. `$` stands for an LF within an answer, `<TAB>` and `<CR>` for those bytes, and `<N>` for N bytes x.
+# bar, which may be left out. `$` stands for an LF, so that a row may have several lines, and answers of several; `<TAB>` and
+# `<CR>` stand for those bytes, and `<N>` for N bytes x.
 # A line `> EVENT` is an event of the script as it stands there, and `< LINE` a line more that the driver of `su` is owed.
 set -euo pipefail
 # shellcheck source=tests/built.bash
@@ -53,7 +54,7 @@ row() {
     [[ $username == - ]] || script+="client $client USERNAME \"$username\""$'\n' got+=$'OK\n'
     [[ $password == - ]] || script+="client $client PASSWORD \"$password\""$'\n' got+=$'OK\n'
     [[ $login == - ]] || script+="client $client LOGIN $login"$'\n' got+=$'OK\n'
-    script+="client $client $(plain "$line")"$'\n'"took $client all"$'\n'
+    script+="client $client $(plain "${line//\$/$'\n'client $client }")"$'\n'"took $client all"$'\n'
     [[ -z $answer ]] || got+=$(plain "${answer//\$/$'\n'}")$'\n'
     want+=$(sent "client $client" "$got"; printf .)
     want=${want%.}

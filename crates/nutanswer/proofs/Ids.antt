@@ -1,5 +1,5 @@
 -- The ids of orders, as they are read and written.
-use Rattle.std.proofs.Common.{◌≡◌, ◌<◌, ℕ, List, ◌∷◌, ◌++◌, Option, Some, None, length, take, drop, refl, arith}
+use Rattle.std.proofs.Common.{◌≡◌, ◌<◌, ℕ, List, ◌++◌, Option, Some, None, length, take, drop, refl, arith}
 use Rattle.std.proofs.Math.Seq.{drop-append_seam, take-append_seam}
 use Rattle.std.specs.List.{join_with_byte}
 use Rattle.nutwords.specs.Frame.{line_of}

@@ -1,8 +1,7 @@
 -- The number of a report on an order, as it is told, is one that an order may be done with.
 use Rattle.std.proofs.Common.{◌≡◌, ℕ, Bool, true, false, List, Option, Some, None, length, arith, sym, subst}
-use Rattle.std.specs.Prelude.{◌≤◌, ⊤, nat_le, Result, Ok, Err, IfOk, if◌then◌else◌}
-use Rattle.nuttracking.specs.declared.limits.TheConstants.{DONE_LIMIT}
-use Rattle.nutdriver.specs.declared.limits.TheConstants.{VARIABLE_LIMIT, COMMAND_LIMIT, NUMBER_LIMIT}
+use Rattle.std.specs.Prelude.{nat_le, Result, Ok, Err, IfOk, if◌then◌else◌}
+use Rattle.nutdriver.specs.declared.limits.TheConstants.{VARIABLE_LIMIT, COMMAND_LIMIT}
 use Rattle.nutdriver.specs.declared.effect.Effect.{Effect}
 use Rattle.nutdriver.specs.declared.effect.Effect.TheVariants.{Nothing, Changed}
 use Rattle.nutdriver.specs.declared.fault.DriverFault.{DriverFault}
