@@ -243,12 +243,14 @@ def words_and_files_are_told_as_faults():
         assert (status, out, told[:7]) == (2, b"", b"error: "), words
     assert run_to_end("--ups", ups)[0] == 2
     absent = path("absent")
-    # The first fault is told, in the order of the words, the list, the users, the descriptions, the address.
+    # The first fault is told, in the order of the words, the list, the users, the descriptions, the ids, the address.
     for words, told in [
             (["--ups", bad, "--users", absent], f"{bad}:1: cause 1"),
             (["--ups", ups, "--users", absent, "--vars", bad], f"{absent}: cannot read"),
             (["--ups", ups, "--users", users, "--vars", bad], f"{bad}:1: cause 1"),
             (["--ups", bad, "--users", users, "--listen", "192.0.2.1:1"], f"{bad}:1: cause 1"),
+            (files + ["--vars", bad, "--ids", absent], f"{bad}:1: cause 1"),
+            (files + ["--ids", absent, "--listen", "192.0.2.1:1"], f"{absent}: cannot read"),
             (files + ["--listen", "192.0.2.1:1"], "cannot listen")]:
         assert run_to_end(*words) == (1, b"", f"upsd: {told}\n".encode()), words
 
