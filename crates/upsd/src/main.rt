@@ -78,7 +78,7 @@ A line of a file that is refused is told as PATH:LINE: cause N:
   1 malformed line, 2 setting outside of a section, 3 bad name, 4 duplicate,
   5 unknown key, 6 bad value
 
-Example: upsd serve --ups upses.conf --users upsd.users --listen 127.0.0.1:3493";
+Example: upsd serve --ups upses.conf --users upsd.users --ids /dev/urandom";
 
 /// The words of `serve`.
 fn serve_command<'a>(alloc: Global) -> Result<Command<'a>, AllocError>
@@ -96,6 +96,7 @@ fn serve_command<'a>(alloc: Global) -> Result<Command<'a>, AllocError>
         .required(true))?
         .arg(file(alloc, "users", "The file of the users").required(true))?
         .arg(vars(alloc))?
+        .arg(ids(alloc))?
         .arg(listen(alloc))?
         .arg(max_age(alloc))
 }
@@ -122,6 +123,18 @@ fn vars<'a>(alloc: Global) -> Arg<'a>
         alloc,
         "vars",
         "The file of the descriptions [without it: none]",
+    )
+}
+
+/// The word that names the file whose bytes make ids.
+fn ids<'a>(alloc: Global) -> Arg<'a>
+    ensures word { rule_of result ≡ option_word (codes "ids") }
+    ensures local { result.global ≡ false }
+{
+    file(
+        alloc,
+        "ids",
+        "The file whose bytes make the ids of tracked orders [without it: none]",
     )
 }
 
