@@ -373,6 +373,37 @@ def orders_are_told_once_and_no_value():
         assert server.journal() == told, server.journal()
 
 
+def printed(*words):
+    """What a client prints, and what it tells of a fault."""
+    got = subprocess.run(words, capture_output=True, timeout=10, check=False)
+    return got.stdout + got.stderr
+
+
+@case
+def clients_follow_an_order_to_its_end():
+    with served(ORDERS, "--ids", "/dev/urandom") as (server, driver, _):
+        ups = f"su@127.0.0.1:{server.port}"
+        user = ("--track", "-u", "admin", "-p", "s3 cret")
+        for order, number, ended in [
+                ((UPSRW, *user, "-s", "ups.delay=30", ups), 0, b"SUCCESS\n"),
+                ((UPSCMD, *user, ups, "test.battery.start"), 7, b"FAILED 7\n")]:
+            known = printed(*order).strip()
+            assert driver.line().endswith(b" TRACKING %s\n" % known), known
+            progress = (UPSC, "--tracked", known.decode(), ups)
+            assert printed(*progress) == b"PENDING\n"
+            driver.send(b"TRACKING %s %d\n" % (known, number))
+            assert comes(lambda: printed(*progress) == ended)
+
+
+@case
+def an_order_without_an_id_is_not_given():
+    with served(ORDERS) as (server, driver, good):
+        words = ("--track", "-u", "admin", "-p", "s3 cret", "-s", "ups.delay=30", f"su@127.0.0.1:{server.port}")
+        assert printed(UPSRW, *words) == b"upsrw: server answered ERR SET-FAILED\n"
+        assert good.ask(ADMIN + b"INSTCMD su test.battery.start\n") == b"OK\n" * 3
+        assert driver.line() == b"INSTCMD test.battery.start\n"
+
+
 @case
 def refused_logins_are_told_once_a_second():
     with served() as (server, _, good):
