@@ -148,18 +148,29 @@ printf '%s\n' '[admin]' 'password = secret' 'actions = SET' 'instcmds = load.off
 printf '%s\n' 'VARDESC ups.id "Name of the UPS"' 'CMDDESC load.off "Turn off the load"' >"$folder/ours.vars"
 
 start_driver su "$folder/su.dev"
-start upsd "$(ours upsd)" serve --ups "$folder/ours.conf" --users "$folder/ours.users" --vars "$folder/ours.vars" \
-    --listen 127.0.0.1:0 --maxage 3
-for _ in {1..50}; do
-    grep -qs listening "$folder/upsd.log" && break
-    sleep 0.1
-done
-port=$(sed -n 's/^upsd: listening on 127.0.0.1:\([0-9]*\)$/\1/p' "$folder/upsd.log")
-[[ -n $port ]] || { cat "$folder/upsd.log"; echo "peers: FAILED: upsd doesn't listen"; exit 1; }
+# Starts our server under a name, with further words, and has `port` be its port.
+serve() {
+    start "$1" "$(ours upsd)" serve --ups "$folder/ours.conf" --users "$folder/ours.users" --vars "$folder/ours.vars" \
+        --listen 127.0.0.1:0 --maxage 3 "${@:2}"
+    for _ in {1..50}; do
+        grep -qs listening "$folder/$1.log" && break
+        sleep 0.1
+    done
+    port=$(sed -n 's/^upsd: listening on 127.0.0.1:\([0-9]*\)$/\1/p' "$folder/$1.log")
+    [[ -n $port ]] || { cat "$folder/$1.log"; echo "peers: FAILED: $1 doesn't listen"; exit 1; }
+}
+# One has ids for tracked orders, and one has none. That ends with the driver: dummy-ups aborts where it writes to a server
+# that is gone.
+serve 'upsd without ids'
+idless=su@127.0.0.1:$port
+serve upsd --ids /dev/urandom
 su=su@127.0.0.1:$port
+four='[0-9a-f][0-9a-f][0-9a-f][0-9a-f]'
+id="$four$four-$four-$four-$four-$four$four$four"
 
 # The driver, and the clients that ask once.
 comes 'dummy-ups is connected to' 'OL \[0\]' 5 upsc "$su" ups.status
+comes 'dummy-ups is connected to by the server without ids, too' 'OL \[0\]' 5 upsc "$idless" ups.status
 says 'upsc UPS' 'battery.charge: 100*driver.name: dummy-ups*ups.id: rack*ups.status: OL \[0\]' upsc "$su"
 says 'upsc UPS VAR' 'rack \[0\]' upsc "$su" ups.id
 says 'upsc UPS, of an unknown UPS' 'Error: Unknown UPS \[1\]' upsc "nope@127.0.0.1:$port"
@@ -177,14 +188,35 @@ comes 'the driver has set it, blank and all' 'bay 2 \[0\]' 3 upsc "$su" ups.id
 says 'upsrw -s, a wrong password' '*ACCESS-DENIED \[1\]' upsrw -s ups.id=x -u admin -p no "$su"
 says 'upsrw -s, a user without the right' '*ACCESS-DENIED \[1\]' upsrw -s ups.id=x -u mon -p pw "$su"
 says 'upsrw -s, a password with a blank' '*ERR PASSWORD-REQUIRED \[1\]' upsrw -s ups.id=x -u admin -p 's3 cret' "$su"
-says 'upsrw -s -w' 'Enabling set variable status tracking failed.*INVALID-ARGUMENT \[1\]' upsrw -w -s ups.id=x -u admin -p secret "$su"
+says 'upsrw -s -w takes the first answer for the last' "*TRACKING $id [PS]* \[0\]" upsrw -w -s 'ups.id=bay 3' -u admin -p secret "$su"
+comes 'the driver has set it, though' 'bay 3 \[0\]' 3 upsc "$su" ups.id
+says 'upsrw -s -w, without ids' '*SET-FAILED \[1\]' upsrw -w -s ups.id=x -u admin -p secret "$idless"
 says 'upscmd -l' '*load.off - Turn off the load \[0\]' upscmd -l "$su"
 says 'upscmd UPS CMD' 'OK \[0\]' upscmd -u admin -p secret "$su" load.off
 comes 'the driver was told it' 'instcmd: unknown command \[load.off\]* \[0\]' 3 grep load.off "$folder/driver of su.log"
 says 'upscmd UPS CMD VALUE' 'OK \[0\]' upscmd -u admin -p secret "$su" load.off 30
 says 'upscmd UPS CMD, a value with a blank' '*INVALID-ARGUMENT \[1\]' upscmd -u admin -p secret "$su" load.off '1 0'
 says 'upscmd UPS CMD, without the right' '*ACCESS-DENIED \[1\]' upscmd -u mon -p pw "$su" load.off
-says 'upscmd -w' 'Enabling command status tracking failed.*INVALID-ARGUMENT \[1\]' upscmd -w -u admin -p secret "$su" load.off
+says 'upscmd -w takes the first answer for the last' "*TRACKING $id [PF]* \[0\]" upscmd -w -u admin -p secret "$su" load.off
+says 'upscmd -w, without ids' '*INSTCMD-FAILED \[1\]' upscmd -w -u admin -p secret "$idless" load.off
+
+# Our clients ask how the driver's orders ended. A check: the order is given an id, and comes to this end.
+ends_as() {
+    local given
+    given=$(answer_of "${@:3}")
+    is "$1: has an id" "$id \[0\]" "$given"
+    comes "$1" "$2 \[0\]" 3 "$(ours upsc)" --tracked "${given% *}" "$su"
+}
+ends_as 'our upsrw --track, and the driver tells that it did it' SUCCESS \
+    "$(ours upsrw)" --track -s 'ups.id=bay 2' -u admin -p secret "$su"
+ends_as 'our upscmd --track, and the driver tells that it failed' 'FAILED 1' \
+    "$(ours upscmd)" --track -u admin -p secret "$su" load.off
+says 'our upsc --tracked, of an id that no order has' 'upsc: server answered ERR INVALID-ARGUMENT \[1\]' \
+    "$(ours upsc)" --tracked 00000000-0000-0000-0000-000000000000 "$su"
+says 'our upsrw --track, without ids' 'upsrw: server answered ERR SET-FAILED \[1\]' \
+    "$(ours upsrw)" --track -s ups.id=x -u admin -p secret "$idless"
+says 'our upscmd --track, without ids' 'upscmd: server answered ERR INSTCMD-FAILED \[1\]' \
+    "$(ours upscmd)" --track -u admin -p secret "$idless" load.off
 
 # PyNUT. A line a call.
 pynut() {
@@ -265,6 +297,7 @@ kill -CONT "${ids[driver of su]}" || true
 told primary COMMOK 1 'the driver speaks again'
 told secondary COMMOK 1 'the driver speaks again'
 end 'driver of su'
+end 'upsd without ids'
 comes 'a lost driver is not connected' 'Error: Driver not connected \[1\]' 3 upsc "$su" ups.status
 told primary COMMBAD 2 'a lost driver'
 told secondary COMMBAD 2 'a lost driver'
@@ -309,11 +342,9 @@ says "our upsrw -s at NUT's upsd, a password and a value with blanks" 'OK \[0\]'
 comes "NUT's driver has set it" 'a* \[0\]' 3 "$(ours upsc)" "$nu" ups.id
 says "our upsrw -s at NUT's upsd, a wrong password" 'upsrw: server answered ERR ACCESS-DENIED \[1\]' \
     "$(ours upsrw)" -s ups.id=x -u admin -p no "$nu"
-four='[0-9a-f][0-9a-f][0-9a-f][0-9a-f]'
-is_id="$four$four-$four-$four-$four-$four$four$four \\[0\\]"
-says "our upsrw --track at NUT's upsd" "$is_id" "$(ours upsrw)" --track -s ups.id=y -u admin -p 's3 cret' "$nu"
+says "our upsrw --track at NUT's upsd" "$id \[0\]" "$(ours upsrw)" --track -s ups.id=y -u admin -p 's3 cret' "$nu"
 comes "NUT's driver has set that, too" 'y \[0\]' 3 "$(ours upsc)" "$nu" ups.id
-says "our upscmd --track at NUT's upsd" "$is_id" "$(ours upscmd)" --track -u admin -p 's3 cret' "$nu" load.off
+says "our upscmd --track at NUT's upsd" "$id \[0\]" "$(ours upscmd)" --track -u admin -p 's3 cret' "$nu" load.off
 says "our upsc --tracked at NUT's upsd" 'upsc: server answered ERR FEATURE-NOT-CONFIGURED \[1\]' \
     "$(ours upsc)" --tracked 2ddc5036-f665-4d29-be4c-0374d091d263 "$nu"
 says "our upscmd -l at NUT's upsd" 'load.off \[0\]' "$(ours upscmd)" -l "$nu"

@@ -15,8 +15,7 @@ use Rattle.nutlisting.proofs.PublicLaws.{lines_add_up, begun_lines_are_ended, li
 use Rattle.nutcore.specs.declared.cost.Cost.{Cost}
 use Rattle.nutcore.proofs.Common.{Event, SessionState, ServerState, session}
 use Rattle.nutcore.specs.declared.event.Event.TheVariants.{Feed, Took}
-use Rattle.nutcore.specs.declared.TheConstants.{HELD_LIMIT}
-use Rattle.nutcore.specs.Pump.{held_of, owed_of}
+use Rattle.nutcore.specs.Pump.{owed_of}
 use Rattle.nutcore.specs.Step.{offered, may_take}
 use Rattle.nutcore.specs.History.{owed, taken_in_event}
 use Rattle.nutcore.specs.Cost.{no_cost, cost_between, client_cost}

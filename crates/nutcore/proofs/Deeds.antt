@@ -13,10 +13,7 @@ use Rattle.nutlisting.specs.Items.{ListingState, text_of, client_listing}
 use Rattle.nutcore.proofs.Common.{Change, Fault, ServerState, SessionState, session}
 use Rattle.nutcore.specs.declared.deed.Deed.{Deed}
 use Rattle.nutcore.specs.declared.deed.TheConstants.{DEED_LIMIT}
-use Rattle.nutcore.specs.declared.event.Event.{Event}
 use Rattle.nutcore.specs.declared.event.Event.TheVariants.{Feed, Took}
-use Rattle.nutcore.specs.declared.event.Fault.TheVariants.{Memory}
-use Rattle.nutcore.specs.declared.event.Outcome.TheVariants.{Refused}
 use Rattle.nutcore.specs.Calls.{done}
 use Rattle.nutcore.specs.Reply.{reply, change_by, seen_client}
 use Rattle.nutcore.specs.Step.{with_input, without_output, may_take, refused_after}

@@ -1,6 +1,6 @@
 -- What each event of a driver does to its UPS: what was told, what is owed, whether the driver stays, and the count.
 use Rattle.std.proofs.Common.{◌≡◌, ◌≤◌, ◌∙◌, ◌+◌, ℕ, Bool, true, false, ◌&&◌, not, List, [], ◌∷◌, ◌++◌, Option, Some, None, refl, sym, ap, cond, min, take, drop, append_assoc, append-nil, arith}
-use Rattle.nutcore.proofs.Common.{and_from, flat_map-append, take-append-drop, cond_both, UpsId, TrackingState, Event}
+use Rattle.nutcore.proofs.Common.{and_from, flat_map-append, take-append-drop, UpsId, TrackingState, Event}
 use Rattle.nutdriver.specs.declared.report.Report.{Report}
 use Rattle.nutdriver.specs.declared.report.LineOutcome.{LineOutcome}
 use Rattle.nutdriver.specs.Report.{after_line}

@@ -19,7 +19,7 @@ use Rattle.nutdriver.specs.declared.limits.TheConstants.{VARIABLE_LIMIT, COMMAND
 use Rattle.nutdriver.specs.declared.report.Report.{Report}
 use Rattle.nutdriver.specs.declared.report.LineOutcome.{LineOutcome}
 use Rattle.nutdriver.specs.Variable.{VariableState, new_variable, add_enum, delete_enum, add_range, delete_range, with_aux, with_flags}
-use Rattle.nutdriver.specs.Tree.{TreeState, variable_at, with_variable, without_variable, has_command, with_command, without_command}
+use Rattle.nutdriver.specs.Tree.{TreeState, variable_at, with_variable, has_command, with_command, without_command}
 use Rattle.nutdriver.specs.DriverLine.{read_driver_line}
 use Rattle.nutdriver.specs.DriverStep.{put_back, if_there, set_info, delete_info, driver_step}
 use Rattle.nutdriver.specs.Report.{after_step, after_reading, after_line, line_changes}

@@ -1,6 +1,6 @@
 -- Events by what they do: most execute nothing, and leave the sessions as they are.
 use Rattle.std.proofs.Common.{◌≡◌, ◌+◌, ℕ, Bool, true, false, List, [], ◌∷◌, ◌++◌, Option, Some, None, refl, sym, ap, subst, cond, eqb, ◌&&◌, not}
-use Rattle.nutcore.proofs.Common.{option_map_or, cond_both, UpsId, TrackingState, Event, ServerState, session, ups_at, with_ups_changed, with_tracking}
+use Rattle.nutcore.proofs.Common.{option_map_or, cond_both, UpsId, TrackingState, Event, ServerState, session, ups_at}
 use Rattle.nutcore.specs.declared.event.Event.TheVariants.{DriverUp, DriverBytes, DriverTook, DriverDown, Tick, Open, Feed, Took, Close, Id}
 use Rattle.nutcore.specs.Session.{without, new_session}
 use Rattle.nutcore.specs.Ups.{UpsState, ping_is_due}

@@ -1,6 +1,6 @@
 -- What an event doesn't touch.
 use Rattle.std.proofs.Common.{◌≡◌, ◌≢◌, ℕ, zero, suc, Bool, true, false, ◌&&◌, eqb, inl, inr, List, [], ◌∷◌, Option, Some, None, refl, sym, ◌∙◌, ap, subst, cond, map, IfSome}
-use Rattle.nutcore.proofs.Common.{cond_both, and_parts, eqb-true, same_Some, UpsId, TrackingState, Change, Event, Fault, Outcome, ServerState, session, changed_at, with_session_changed, with_ups_changed}
+use Rattle.nutcore.proofs.Common.{cond_both, and_parts, eqb-true, same_Some, UpsId, TrackingState, Change, Event, Fault, Outcome, ServerState, session, changed_at, with_session_changed}
 use Rattle.nutcore.specs.declared.event.Event.TheVariants.{Feed, Took, Close}
 use Rattle.nutcore.specs.declared.event.Outcome.TheVariants.{Refused}
 use Rattle.nuttracking.specs.declared.order.Progress.{Progress}

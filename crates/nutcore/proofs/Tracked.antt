@@ -1,11 +1,10 @@
 -- What every event keeps of the ids and the tracked orders: an id stands for one order, and numbers stay lawful.
-use Rattle.std.proofs.Common.{◌≡◌, ◌≤◌, ℕ, zero, suc, Bool, true, false, cond, List, [], ◌∷◌, ◌++◌, Option, Some, None, is_some, refl, sym, ap, subst, map, drop, length, slice_get, All, arith, Result, Ok}
+use Rattle.std.proofs.Common.{◌≡◌, ◌≤◌, ℕ, zero, suc, List, [], ◌∷◌, ◌++◌, Option, Some, None, is_some, refl, subst, map, drop, Result, Ok}
 use Rattle.std.proofs.lemmas.List.Elements.{All-nil, All-cons, All-head, All-tail, All-append}
 use Rattle.circular_buffer.specs.Buffer.{keep_last}
-use Rattle.nuttracking.specs.declared.limits.TheConstants.{ID_LIMIT, ORDER_LIMIT, DONE_LIMIT}
+use Rattle.nuttracking.specs.declared.limits.TheConstants.{ORDER_LIMIT, DONE_LIMIT}
 use Rattle.nuttracking.specs.declared.order.Progress.TheVariants.{Done}
 use Rattle.nuttracking.specs.declared.order.TrackedOrder.{TrackedOrder}
-use Rattle.nuttracking.specs.Acts.{Act, after_act}
 use Rattle.nuttracking.specs.Acts.Act.{handed_in, ordered, reported}
 use Rattle.nuttracking.specs.Sound.{IsSoundTracking, IsLawfulProgress, HaveLawfulNumbers}
 use Rattle.nuttracking.specs.Tracking.{id_fault, with_id, next_id, pending, with_order, awaits, settled, with_report}
@@ -16,7 +15,7 @@ use Rattle.nutdriver.specs.declared.fault.DriverFault.{DriverFault}
 use Rattle.nutdriver.specs.DriverLine.{read_driver_line}
 use Rattle.std.specs.Result.{IfOk}
 use Rattle.nutdriver.specs.Sound.{IsLawfulLine, ReadLinesAreLawful}
-use Rattle.nutcore.specs.Reports.{OrderEnd, end_read, end_in, with_end}
+use Rattle.nutcore.specs.Reports.{end_read, end_in, with_end}
 use Rattle.nutcore.proofs.Common.{cond_both, option_map_or, TrackingState}
 
 abbrev Lawful : TrackedOrder → Type 0

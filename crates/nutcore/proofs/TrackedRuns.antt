@@ -1,22 +1,21 @@
 -- What is tracked comes of what a run did.
-use Rattle.std.proofs.Common.{◌≡◌, ◌∙◌, ◌<◌, ℕ, Bool, true, false, ◌&&◌, cond, List, [], ◌∷◌, ◌++◌, Option, Some, None, refl, sym, ap, subst, map, length, append-nil, append_assoc}
+use Rattle.std.proofs.Common.{◌≡◌, ◌∙◌, ℕ, Bool, true, false, ◌&&◌, cond, List, [], ◌∷◌, ◌++◌, Option, Some, None, refl, sym, ap, subst, map, append-nil}
 use Rattle.std.specs.List.{flat_map}
-use Rattle.nuttracking.specs.declared.limits.TheConstants.{ORDER_LIMIT}
-use Rattle.nuttracking.specs.Acts.{Act, after_act, after_acts, given, first_report}
-use Rattle.nuttracking.specs.Acts.Act.{handed_in, ordered, reported}
+use Rattle.nuttracking.specs.Acts.{Act, after_act, after_acts, given}
+use Rattle.nuttracking.specs.Acts.Act.{ordered}
 use Rattle.nuttracking.specs.Laws.{as_given}
 use Rattle.nuttracking.specs.Sound.{IsSoundTracking}
-use Rattle.nuttracking.specs.Tracking.{nothing_tracked, next_id, with_order, progress_of}
+use Rattle.nuttracking.specs.Tracking.{nothing_tracked, progress_of}
 use Rattle.nuttracking.proofs.PublicLaws.{nothing_is_sound, acts_keep_it_sound, first_in_first_out, the_last_are_kept, its_driver_settles_it_once}
-use Rattle.nutcore.proofs.Common.{option_map_or, cond_both, flat_map-append, UpsId, TrackingState, Change, Event, Outcome, UpsState, ServerState, session, ups_at, with_session_changed, after, Run}
+use Rattle.nutcore.proofs.Common.{option_map_or, flat_map-append, UpsId, TrackingState, Change, Event, Outcome, UpsState, ServerState, session, ups_at, after}
 use Rattle.nutanswer.specs.declared.reply.Change.TheVariants.{Tracked}
-use Rattle.nutcore.specs.declared.event.Event.TheVariants.{DriverUp, DriverBytes, DriverTook, DriverDown, Tick, Open, Feed, Took, Close, Id}
+use Rattle.nutcore.specs.declared.event.Event.TheVariants.{DriverBytes, Open, Feed, Took, Id}
 use Rattle.nutcore.specs.Lines.{whole_lines}
 use Rattle.nutcore.specs.Reports.{OrderEnd, end_in, with_end, after_ends}
 use Rattle.nutcore.specs.Reply.{changed_tracking}
-use Rattle.nutcore.specs.Pump.{next_line_for, after_line, is_overlong, notified}
+use Rattle.nutcore.specs.Pump.{notified}
 use Rattle.nutcore.specs.Step.{joined, with_input, taken_from, without_output, may_take, pumped_until, ticked, after_by, refused_after}
-use Rattle.nutcore.specs.History.{Execution, of_line, of_notice, executions_until, executions_by}
+use Rattle.nutcore.specs.History.{Execution, executions_until, executions_by}
 use Rattle.nutcore.specs.DriverHistory.{Heard, heard_at, as_far, has_driver}
 use Rattle.nutcore.specs.TrackedRuns.{act_of_end, act_of_change, act_of, acts_in_event, acts, WhatIsTrackedComesOfTheActs, EachRunTracksItsOrders}
 use Rattle.nutcore.proofs.Changed.{by_change}

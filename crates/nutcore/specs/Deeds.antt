@@ -1,7 +1,7 @@
 -- What an event did that is told beside its answers, for whoever keeps a journal: which lines are
 -- told, and what is told of each. No value and no password is.
-use Rattle.std.specs.Prelude.{◌≡◌, ℕ, Bool, true, false, not, List, [], ◌∷◌, Option, Some, None}
-use Rattle.std.specs.Prelude.{Result, Ok, Err, codes, drop, nat_eq, take, if◌then◌else◌}
+use Rattle.std.specs.Prelude.{◌≡◌, ℕ, Bool, true, false, not, List, Option, Some, None}
+use Rattle.std.specs.Prelude.{Result, Ok, codes, drop, nat_eq, take, if◌then◌else◌}
 use Rattle.std.specs.List.{starts_with, filter_map}
 use Rattle.std.specs.Option.{option_map_or, option_and_then}
 use Rattle.std.specs.Result.{result_ok}

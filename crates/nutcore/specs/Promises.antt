@@ -5,9 +5,9 @@ use Rattle.std.specs.Prelude.{List, [], Option, Some, None, Result, Ok, Err, IsT
 use Rattle.std.specs.Prelude.{take, map, slice_get, ◌++◌, ◌∷◌}
 use Rattle.std.specs.List.{position_or_len}
 use Rattle.nutcore.specs.declared.event.Fault.{Fault}
-use Rattle.nutcore.specs.declared.event.Fault.TheVariants.{NoSuchUps, NoSuchClient, TooManyClients}
+use Rattle.nutcore.specs.declared.event.Fault.TheVariants.{NoSuchUps}
 use Rattle.nutcore.specs.declared.event.Fault.TheVariants.{TookTooMuch, NotConnected}
-use Rattle.nutcore.specs.declared.event.Fault.TheVariants.{AlreadyConnected, LineTooLong, Memory}
+use Rattle.nutcore.specs.declared.event.Fault.TheVariants.{LineTooLong, Memory}
 use Rattle.std.specs.declared.alloc.AllocError.{AllocError}
 use Rattle.nutanswer.specs.declared.reply.Reply.{Reply}
 use Rattle.nutanswer.specs.declared.reply.Reply.TheVariants.{One, Many, Clients}

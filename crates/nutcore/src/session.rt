@@ -316,10 +316,7 @@ impl Session {
         ensures id { self.new.id ≡ self.old.id }
     {
         match change {
-            Change::Nothing
-            | Change::Fsd(_)
-            | Change::Order(_, _)
-            | Change::Tracked(_, _, _) => {}
+            Change::Nothing | Change::Fsd(_) | Change::Order(_, _) | Change::Tracked(_, _, _) => {}
             Change::Username(name) => self.username = Some(name),
             Change::Password(password) => self.password = Some(password.to_password()),
             Change::Login(u) => self.login = Some(u),

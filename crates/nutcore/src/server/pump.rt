@@ -67,9 +67,10 @@ impl Server {
     /// Does what an answer changes of the UPSs, and of the ids and the tracked orders.
     pub(super) fn change_upses(&mut self, reply: &Reply<'_>)
         requires fits { OrderFits (change_in reply.now) self.old.state.upses }
-        ensures changed { self.new.state ≡ record self.old.state
-            { upses = changed_upses (change_in reply.now) self.old.state.upses;
-              tracking = changed_tracking (change_in reply.now) self.old.state.tracking } }
+        ensures changed { self.new.state ≡ record self.old.state {
+          upses = changed_upses (change_in reply.now) self.old.state.upses;
+          tracking = changed_tracking (change_in reply.now) self.old.state.tracking;
+        } }
         ensures cost { self.new.cost ≡ self.old.cost }
         ensures deeds { self.new.deeds ≡ self.old.deeds }
     {

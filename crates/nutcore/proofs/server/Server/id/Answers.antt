@@ -1,10 +1,8 @@
-use Rattle.std.proofs.Common.{◌≡◌, ◌∙◌, ap, refl, subst, sym, [], ◌∷◌, Ok, Err, Option, Some, None, Result}
+use Rattle.std.proofs.Common.{◌≡◌, ◌∙◌, ap, refl, subst, sym, Option, Some, None, Result}
 use Rattle.std.specs.Prelude.{MatchResult}
 use Rattle.nuttracking.specs.declared.tracking.IdFault.{IdFault}
-use Rattle.nuttracking.specs.declared.tracking.IdFault.TheVariants.{Known, TooMany}
 use Rattle.nuttracking.specs.Tracking.{TrackingState, id_fault}
 use Rattle.nutcore.specs.declared.event.Event.TheVariants.{Id}
-use Rattle.nutcore.specs.declared.event.Fault.{Fault}
 use Rattle.nutcore.specs.Session.{IdsRise}
 use Rattle.nutcore.specs.Calls.{done}
 use Rattle.nutcore.specs.Server.{ServerState, with_tracking}
