@@ -1,6 +1,6 @@
 -- The ids of tracked orders: as the server writes them, and as a client reads them.
-use Rattle.std.proofs.Common.{◌≡◌, ◌∙◌, ℕ, zero, suc, ◌/◌, ◌%◌, ◌<◌, Bool, true, false, true≢false, List, [], ◌∷◌, ◌++◌, length, take, drop, Option, Some, None, is_some, unwrap_or, if◌then◌else◌, ◌⊎◌, inl, inr, refl, sym, ap, arith}
-use Rattle.std.specs.Prelude.{codes, IsTrue, option_map}
+use Rattle.std.proofs.Common.{◌≡◌, ◌∙◌, ℕ, zero, suc, ◌/◌, ◌%◌, ◌<◌, Bool, true, false, true≢false, List, [], ◌∷◌, ◌++◌, take, drop, Option, Some, None, is_some, unwrap_or, if◌then◌else◌, ◌⊎◌, inl, inr, refl, sym, ap, arith}
+use Rattle.std.specs.Prelude.{codes, option_map}
 use Rattle.std.specs.Char.{digit_char, to_ascii_lowercase}
 use Rattle.std.specs.List.{join_with_byte, list_all}
 use Rattle.std.specs.Str.{bytes_eq, str_to_ascii_lowercase}
@@ -16,7 +16,7 @@ use Rattle.nuttracking.proofs.PublicLaws.{ids_are_plain}
 use Rattle.nutanswer.specs.Orders.{ok_words}
 use Rattle.nutrequest.specs.declared.request.Request.{Request}
 use Rattle.nutrequest.specs.declared.request.Request.TheVariants.{List as ListOf, GetVar, GetNumAttach, TrackedSetVar, TrackedInstcmd, GetTracking}
-use Rattle.nutrequest.specs.Reply.{Reply, Bad, Whole, reply, first_or, first_of, after_first, after_expected, expected_of, refusal_of, granted_id, one_item}
+use Rattle.nutrequest.specs.Reply.{Bad, Whole, reply, first_or, first_of, after_first, after_expected, expected_of, refusal_of, granted_id, one_item}
 use Rattle.endtoend.specs.Refused.{is_granted_by_ok}
 use Rattle.endtoend.proofs.Refused.{first_read}
 use Rattle.endtoend.proofs.Requests.{line_of_three}
@@ -92,12 +92,12 @@ granting_written id = record {
 
 -- is no reply to a request that the bare OK grants
 no_id_wanted : (request : Request) (id : ℕ) (more : List ℕ) → is_granted_by_ok request ≡ true → after_first request (first_of request (ok_words (Some id))) more ≡ Bad
-no_id_wanted (ListOf query) id more h = cc h
-no_id_wanted (GetVar ups name) id more h = cc h
-no_id_wanted (GetNumAttach ups) id more h = cc h
+no_id_wanted (ListOf query) id more h = refl
+no_id_wanted (GetVar ups name) id more h = refl
+no_id_wanted (GetNumAttach ups) id more h = refl
 no_id_wanted (TrackedSetVar ups name value) id more h = cc h
 no_id_wanted (TrackedInstcmd ups name value) id more h = cc h
-no_id_wanted (GetTracking of) id more h = cc h
+no_id_wanted (GetTracking of) id more h = refl
 no_id_wanted _ id more h = refl
 
 pub unwanted_id : (request : Request) (id : ℕ) (more : List ℕ) → is_granted_by_ok request ≡ true → reply request (line_of (ok_words (Some id)) ++ more) ≡ Bad

@@ -44,9 +44,9 @@ pub record AnOrderThatIsPrintedIsGiven : Type 0 where
       → printed (Instcmd ups name value ∷ []) forms.Value (reply s c line ++ more) ≡ Prints text
       → IsOrdered s c line ups (instcmd_line name value None) text
 
--- The line was answered by OK and an id, the first at hand; it tells the driver of this UPS the order
--- with that id, once, and no other driver anything, and the order is kept. What was printed is the
--- id.
+-- The line was answered by OK and an id, the first at hand; it tells the driver of this UPS the
+-- order with that id, once, and no other driver anything, and the order is kept, pending, with that
+-- id. What was printed is the id.
 pub record IsOrderedWithId (s : ServerState) (c : ℕ) (line ups : List ℕ) (bytes : ℕ → List ℕ)
     (text : List ℕ) : Type 0 where
   pub known : KnownUps

@@ -2,9 +2,9 @@
 ghost use Rattle.endtoend.specs.Frames.{AFrameIsReadAsItsItems};
 ghost use Rattle.endtoend.specs.FromDriver.{UpscPrintsWhatTheDriverSetLast, UpscPrintsAllThatTheDriverSetLast};
 ghost use Rattle.endtoend.specs.Refused.{ARefusalIsTold};
-ghost use Rattle.endtoend.specs.Ordered.{AnOrderThatIsPrintedIsGiven};
+ghost use Rattle.endtoend.specs.Ordered.{AnOrderThatIsPrintedIsGiven, ATrackedOrderThatIsPrintedIsGiven};
 ghost use Rattle.endtoend.specs.OverRuns.{UpscPrintsWhatItTook};
-ghost use Rattle.endtoend.specs.OrdersOverRuns.{AnOrderThatIsPrintedIsToldInTheRun};
+ghost use Rattle.endtoend.specs.OrdersOverRuns.{AnOrderThatIsPrintedIsToldInTheRun, ATrackedOrderThatIsPrintedIsToldInTheRun};
 ghost use Rattle.endtoend.specs.Printed.{UpscPrintsTheVariables, UpscPrintsTheVariable, UpscPrintsHowManyAreLoggedIn, UpscPrintsTheUpses, UpsrwPrintsTheVariables, UpscmdPrintsTheCommands};
 
 use nutanswer::laws::each_order_answered_ok_is_given;
@@ -99,7 +99,27 @@ pub fn an_order_that_is_printed_is_told_in_the_run()
     an_order_that_is_printed_is_given();
 }
 
-/// The same over a run, of any clients and drivers, from a new server: where the server took in of a client the line of
+/// A tracked order too: where `upsrw --track -s` or `upscmd --track` prints a text of what the server answers to its order,
+/// that is an id, the server answered `OK TRACKING` and that id, the first at hand, and the line that it executed told the
+/// driver of that UPS the order with the id behind it, once, and no other driver anything; and the order is kept, pending,
+/// with that id.
+pub fn a_tracked_order_that_is_printed_is_given()
+    ensures { ATrackedOrderThatIsPrintedIsGiven }
+{
+    each_order_answered_ok_is_given();
+}
+
+/// The same over a run: the order with its id stands among those that the run told the driver of that UPS. Where the run
+/// began with a new server, `each_run_tracks_its_orders` of nutcore says that the id stands for this one order, and what is
+/// told of it later.
+pub fn a_tracked_order_that_is_printed_is_told_in_the_run()
+    ensures { ATrackedOrderThatIsPrintedIsToldInTheRun }
+{
+    the_orders_told_are_those_of_the_lines();
+    a_tracked_order_that_is_printed_is_given();
+}
+
+/// Over a run, of any clients and drivers, from a new server: where the server took in of a client the line of
 /// `upsc UPS VAR` or `upsc UPS`, and the client took all that it was owed, which doesn't begin with `ERR`, then what it took is
 /// the server's reply, of which the law above tells what is printed.
 pub fn upsc_prints_what_it_took()
