@@ -9,6 +9,7 @@ pub mod Handing
 pub mod FromDriver
 pub mod Refused
 pub mod Ids
+pub mod Progress
 pub mod Ordered
 pub mod OverRuns
 pub mod OrdersOverRuns

@@ -5,7 +5,7 @@ ghost use Rattle.endtoend.specs.Refused.{ARefusalIsTold};
 ghost use Rattle.endtoend.specs.Ordered.{AnOrderThatIsPrintedIsGiven, ATrackedOrderThatIsPrintedIsGiven};
 ghost use Rattle.endtoend.specs.OverRuns.{UpscPrintsWhatItTook};
 ghost use Rattle.endtoend.specs.OrdersOverRuns.{AnOrderThatIsPrintedIsToldInTheRun, ATrackedOrderThatIsPrintedIsToldInTheRun};
-ghost use Rattle.endtoend.specs.Printed.{UpscPrintsTheVariables, UpscPrintsTheVariable, UpscPrintsHowManyAreLoggedIn, UpscPrintsTheUpses, UpsrwPrintsTheVariables, UpscmdPrintsTheCommands};
+ghost use Rattle.endtoend.specs.Printed.{UpscPrintsTheVariables, UpscPrintsTheVariable, UpscPrintsHowManyAreLoggedIn, UpscPrintsTheUpses, UpsrwPrintsTheVariables, UpscmdPrintsTheCommands, UpscPrintsHowFarAnOrderHasCome};
 
 use nutanswer::laws::each_order_answered_ok_is_given;
 use nutcore::laws::{
@@ -57,6 +57,13 @@ pub fn upsrw_prints_the_variables()
 /// in the order of the names.
 pub fn upscmd_prints_the_commands()
     ensures { UpscmdPrintsTheCommands }
+{}
+
+/// `upsc --tracked ID UPS`: what is printed of the server's answer to `GET TRACKING` and an id is how far the order of that id
+/// has come, where the order is kept: `PENDING`, `SUCCESS`, or `FAILED` and the driver's number. Where none that is kept has
+/// the id, nothing is printed, and the job ends with `INVALID-ARGUMENT`.
+pub fn upsc_prints_how_far_an_order_has_come()
+    ensures { UpscPrintsHowFarAnOrderHasCome }
 {}
 
 /// From the driver to the screen. Over every run from a new server: where `upsc UPS VAR` was answered, not by `ERR`, the UPS
