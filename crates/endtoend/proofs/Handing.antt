@@ -11,8 +11,8 @@ use Rattle.nutrequest.specs.declared.faults.ClientFault.TheVariants.{Memory}
 use Rattle.nutrequest.specs.declared.request.Query.{Query}
 use Rattle.nutrequest.specs.declared.request.Query.TheVariants as queries
 use Rattle.nutrequest.specs.declared.request.Request.{Request}
-use Rattle.nutrequest.specs.declared.request.Request.TheVariants.{List as ListOf, GetVar, GetNumAttach}
-use Rattle.nutclient.specs.Job.{UpsPlace, JobParts, listing_of, variable_of, upses_of, parts_of, count_of}
+use Rattle.nutrequest.specs.declared.request.Request.TheVariants.{List as ListOf, GetVar, GetNumAttach, GetTracking}
+use Rattle.nutclient.specs.Job.{UpsPlace, JobParts, listing_of, variable_of, upses_of, parts_of, count_of, tracked_of}
 use Rattle.nutclient.specs.Printed.{Prints, printed, Answers}
 use Rattle.nutclient.specs.Requests.{requests_in}
 use Rattle.nutclient.specs.Target.{lawful, both, ups_of, has_byte, server_of, local_server, ups_place_of}
@@ -92,6 +92,10 @@ asks_variable o name place job h at k =
 
 pub asks_number : (o : Option UpsPlace) (place : UpsPlace) (job : Job) → count_of o ≡ Some (parts_of job) → o ≡ Some place → Asks (GetNumAttach place.0 ∷ []) forms.Value job
 asks_number o place job h at = asks_parts place.1 (GetNumAttach place.0 ∷ []) forms.Value job (sym (ap count_of at) ∙ h)
+
+pub asks_tracked : (o : Option UpsPlace) (i : Option ℕ) (id : ℕ) (job : Job) → tracked_of o i ≡ Some (parts_of job) → i ≡ Some id → Asks (GetTracking id ∷ []) forms.Value job
+asks_tracked None i id job h is = absurd (none-not_some h)
+asks_tracked (Some place) i id job h is = asks_parts place.1 (GetTracking id ∷ []) forms.Value job (sym (ap (tracked_of (Some place)) is) ∙ h)
 
 pub asks_upses : (form : Form) (o : Option Target) (job : Job) → upses_of form o ≡ Some (parts_of job) → Asks (ListOf queries.Ups ∷ []) form job
 asks_upses form None job h = absurd (none-not_some h)

@@ -8,6 +8,8 @@ pub mod Printing
 pub mod Handing
 pub mod FromDriver
 pub mod Refused
+pub mod Ids
+pub mod Progress
 pub mod Ordered
 pub mod OverRuns
 pub mod OrdersOverRuns

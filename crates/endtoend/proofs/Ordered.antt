@@ -1,8 +1,8 @@
--- An order whose OK a client printed was given.
-use Rattle.std.proofs.Common.{◌≡◌, ◌⊎◌, ◌∙◌, ◌+◌, ℕ, true, false, List, [], ◌∷◌, ◌++◌, length, length-append, Option, Some, None, Result, Ok, Err, IfSome, refl, sym, ap, subst, inl, inr, arith}
+-- An order whose OK a client printed was given, and one whose id it printed was given with that id.
+use Rattle.std.proofs.Common.{◌≡◌, ◌⊎◌, ◌∙◌, ◌+◌, ℕ, true, false, List, [], ◌∷◌, ◌++◌, length, length-append, append-nil, if◌then◌else◌, Bool, Option, Some, None, Result, Ok, Err, IfSome, refl, sym, ap, subst, inl, inr, arith}
 use Rattle.std.specs.Prelude.{codes, IsTrue}
 use Rattle.std.specs.Result.{result_ok}
-use Rattle.std.specs.Option.{ok_or}
+use Rattle.std.specs.Option.{ok_or, option_map_or}
 use Rattle.std.proofs.lemmas.List.{append_cancel_right}
 use Rattle.nutwords.specs.Bytes.{is_name_byte, is_lawful}
 use Rattle.nutwords.specs.Frame.{line_of}
@@ -11,32 +11,36 @@ use Rattle.nutwords.specs.Listing.{as_it_is, IsWrittenLine}
 use Rattle.nutwords.specs.Reading.{read_name, read_value, is_name, is_ups_name, is_value}
 use Rattle.nutwords.specs.Spelling.{quoted}
 use Rattle.nutwords.proofs.PublicLaws.{read_line_is_the_grammar}
+use Rattle.nuttracking.specs.Id.{id_text}
+use Rattle.nuttracking.specs.Tracking.{next_id}
 use Rattle.nutusers.specs.declared.rights.Right.TheVariants as rights
 use Rattle.nutanswer.specs.declared.command.Command.{Command}
 use Rattle.nutanswer.specs.declared.command.Command.TheVariants as commands
 use Rattle.nutanswer.specs.declared.err_word.ErrWord.{ErrWord}
-use Rattle.nutanswer.specs.declared.err_word.ErrWord.TheVariants.{UnknownUps}
+use Rattle.nutanswer.specs.declared.err_word.ErrWord.TheVariants.{UnknownUps, SetFailed, InstcmdFailed}
 use Rattle.nutanswer.specs.declared.reply.Change.{Change}
 use Rattle.nutanswer.specs.Command.{read_command, command_from}
-use Rattle.nutanswer.specs.Checks.{◌>>=◌, ◌>>◌, KnownUps, ups_named, unknown_ups, user, live, var_not_supported, readonly, too_long, invalid_value, set_failed, cmd_not_supported, too_long_of_command, instcmd_failed}
-use Rattle.nutanswer.specs.Orders.{instcmd_right, set_line, instcmd_line, order as order_to}
+use Rattle.nutanswer.specs.Checks.{◌>>=◌, ◌>>◌, KnownUps, ups_named, unknown_ups, user, live, var_not_supported, readonly, too_long, invalid_value, first_id, no_id, set_failed, cmd_not_supported, too_long_of_command, instcmd_failed}
+use Rattle.nutanswer.specs.Orders.{instcmd_right, set_line, instcmd_line, ok_words, order as order_to}
 use Rattle.nutanswer.specs.Answer.{Answer, one_line, answer_to, text_of_answer, change_of_answer, ok}
-use Rattle.nutanswer.specs.Rows.{EachOrderAnsweredOkIsGiven, value_given}
+use Rattle.nutanswer.specs.Rows.{EachOrderAnsweredOkIsGiven, IsIdOfOrder, value_given}
 use Rattle.nutanswer.specs.View.{Seen, AskerSeen}
-use Rattle.nutcore.specs.Server.{ServerState}
-use Rattle.nutcore.specs.Reply.{seen, asker, text_to, change_by}
+use Rattle.nutcore.specs.Server.{ServerState, session, with_session, with_session_changed}
+use Rattle.nutcore.specs.Session.{SessionState}
+use Rattle.nutcore.specs.Reply.{seen, asker, text_to, change_by, changed, changed_session, changed_upses, changed_tracking}
 use Rattle.nutcore.specs.Reply as server
 use Rattle.nutcore.specs.DriverOrders.{told_by_change}
 use Rattle.nutrequest.specs.Request.{request_words}
-use Rattle.nutrequest.specs.Reply.{Reply, Whole}
+use Rattle.nutrequest.specs.Reply.{Reply, Whole, Bad, reply as client_reply, one_item}
 use Rattle.nutrequest.specs.declared.request.Request.{Request}
 use Rattle.nutrequest.specs.declared.request.Request.TheVariants as requests
 use Rattle.nutclient.specs.Requests.{reply_behind}
-use Rattle.nutclient.specs.Printed.{Prints, printed, printed_of}
+use Rattle.nutclient.specs.Printed.{Printed, Prints, printed, printed_of}
 use Rattle.nutclient.specs.declared.form.Form.TheVariants as forms
 use Rattle.endtoend.specs.Served.{IsLineOf}
 use Rattle.endtoend.specs.Refused.{is_granted_by_ok}
-use Rattle.endtoend.specs.Ordered.{IsOrdered, AnOrderThatIsPrintedIsGiven}
+use Rattle.endtoend.specs.Ordered.{IsOrdered, AnOrderThatIsPrintedIsGiven, IsOrderedWithId, ATrackedOrderThatIsPrintedIsGiven}
+use Rattle.endtoend.proofs.Ids.{WantsId, unwanted_id, missing_id, wanted_id}
 use Rattle.endtoend.proofs.LineReading.{written_line}
 use Rattle.endtoend.proofs.Refused.{refused_read, granted_read}
 use Rattle.endtoend.proofs.Requests.{line_of_three, line_of_four}
@@ -102,50 +106,73 @@ command_read ups name (Some value) line h k v e =
     ∙ ap (λ r. Ok (Some (commands.InstCmd (Some ups) (result_ok r) (Some (result_ok (read_value value)))))) (text_itself is_name_byte false NAME_LIMIT name k)
     ∙ ap (λ r. Ok (Some (commands.InstCmd (Some ups) (Some name) (Some (result_ok r))))) (text_itself is_lawful true VALUE_LIMIT value v)
 
--- a row of an order is answered by an error, or its UPS is there and OK answers it
-abbrev IsEither : Seen → Option (List ℕ) → Result Answer ErrWord → Type 0
-IsEither s ups r = ((word : ErrWord) × (r ≡ Err word)) ⊎ ((known : KnownUps) × (ups_named s ups ≡ Some known) × (text_of_answer r ≡ line_of ok))
+-- a row of an order is answered by an error, or its UPS is there and it is answered by OK, behind which the id stands where the order is tracked
+abbrev IsEither : Seen → AskerSeen → Option (List ℕ) → Result Answer ErrWord → Type 0
+IsEither s a ups r = ((word : ErrWord) × (r ≡ Err word)) ⊎ ((known : KnownUps) × (id : Option ℕ) × (ups_named s ups ≡ Some known) × IsIdOfOrder s a id × (text_of_answer r ≡ line_of (ok_words id)))
 
-module _ (s : Seen) (ups : Option (List ℕ)) where
-  refused_so : (word : ErrWord) → IsEither s ups (Err word)
+module _ (s : Seen) (a : AskerSeen) (ups : Option (List ℕ)) where
+  refused_so : (word : ErrWord) → IsEither s a ups (Err word)
   refused_so word = inl (word, refl)
 
-  behind_check : (r : Result (Unit {0}) ErrWord) (next : Result Answer ErrWord) → IsEither s ups next → IsEither s ups (r >> next)
+  behind_check : (r : Result (Unit {0}) ErrWord) (next : Result Answer ErrWord) → IsEither s a ups next → IsEither s a ups (r >> next)
   behind_check (Err word) next h = refused_so word
   behind_check (Ok none) next h = h
 
-  behind_found : {A : Type 0} (r : Result A ErrWord) (next : A → Result Answer ErrWord) → ((a : A) → IsEither s ups (next a)) → IsEither s ups (r >>= next)
+  behind_found : {A : Type 0} (r : Result A ErrWord) (next : A → Result Answer ErrWord) → ((x : A) → IsEither s a ups (next x)) → IsEither s a ups (r >>= next)
   behind_found (Err word) next h = refused_so word
-  behind_found (Ok a) next h = h a
+  behind_found (Ok x) next h = h x
 
-  behind_ups : (next : KnownUps → Result Answer ErrWord) → ((known : KnownUps) → ups_named s ups ≡ Some known → IsEither s ups (next known)) → IsEither s ups (unknown_ups s ups >>= next)
+  behind_ups : (next : KnownUps → Result Answer ErrWord) → ((known : KnownUps) → ups_named s ups ≡ Some known → IsEither s a ups (next known)) → IsEither s a ups (unknown_ups s ups >>= next)
   behind_ups next h = by_name (ups_named s ups) refl
     where
-      by_name : (o : Option KnownUps) → ups_named s ups ≡ o → IsEither s ups (ok_or o UnknownUps >>= next)
+      by_name : (o : Option KnownUps) → ups_named s ups ≡ o → IsEither s a ups (ok_or o UnknownUps >>= next)
       by_name None e = refused_so UnknownUps
       by_name (Some known) e = h known e
 
-  answered_ok : (known : KnownUps) (change : Change) → ups_named s ups ≡ Some known → IsEither s ups (Ok (one_line ok change))
-  answered_ok known change e = inr (known, e, refl)
+  behind_id : (word : ErrWord) (next : Option ℕ → Result Answer ErrWord) → ((id : Option ℕ) → IsIdOfOrder s a id → IsEither s a ups (next id)) → IsEither s a ups (no_id s a word >>= next)
+  behind_id word next h = by_flag a.tracking (next_id s.tracking) refl refl
+    where
+      by_flag : (on : Bool) (o : Option ℕ) → a.tracking ≡ on → next_id s.tracking ≡ o → IsEither s a ups ((if on then first_id o word else Ok None) >>= next)
+      by_flag true None e f = refused_so word
+      by_flag true (Some id) e f = h (Some id) (e, f)
+      by_flag false o e f = h None e
 
-set_either : (s : Seen) (a : AskerSeen) (ups name word : Option (List ℕ)) → IsEither s ups (answer_to s a (commands.SetVar ups name word))
+  answered_ok : (known : KnownUps) (id : Option ℕ) (change : Change) → ups_named s ups ≡ Some known → IsIdOfOrder s a id → IsEither s a ups (Ok (one_line (ok_words id) change))
+  answered_ok known id change e is = inr (known, id, e, is, refl)
+
+set_either : (s : Seen) (a : AskerSeen) (ups name word : Option (List ℕ)) → IsEither s a ups (answer_to s a (commands.SetVar ups name word))
 set_either s a ups name word =
-    behind_check s ups (user s a rights.Set) _
-    (behind_ups s ups _ (λ u e. behind_check s ups (live s u) _
-    (behind_found s ups (var_not_supported u name) _ (λ p. behind_check s ups (readonly p.1) _
-    (behind_found s ups (too_long p.1 word) _ (λ value. behind_check s ups (invalid_value p.1 value) _
-    (behind_check s ups (set_failed u (set_line p.0 value)) _ (answered_ok s ups u _ e))))))))
+    behind_check s a ups (user s a rights.Set) _
+    (behind_ups s a ups _ (λ u e. behind_check s a ups (live s u) _
+    (behind_found s a ups (var_not_supported u name) _ (λ p. behind_check s a ups (readonly p.1) _
+    (behind_found s a ups (too_long p.1 word) _ (λ value. behind_check s a ups (invalid_value p.1 value) _
+    (behind_id s a ups SetFailed _ (λ id is. behind_check s a ups (set_failed u (set_line p.0 value id)) _ (answered_ok s a ups u id _ e is)))))))))
 
-command_either : (s : Seen) (a : AskerSeen) (ups name : Option (List ℕ)) (word : Option (Option (List ℕ))) → IsEither s ups (answer_to s a (commands.InstCmd ups name word))
+command_either : (s : Seen) (a : AskerSeen) (ups name : Option (List ℕ)) (word : Option (Option (List ℕ))) → IsEither s a ups (answer_to s a (commands.InstCmd ups name word))
 command_either s a ups name word =
-    behind_check s ups (user s a (instcmd_right name)) _
-    (behind_ups s ups _ (λ u e. behind_check s ups (live s u) _
-    (behind_found s ups (cmd_not_supported u name) _ (λ c.
-    behind_found s ups (too_long_of_command word) _ (λ value.
-    behind_check s ups (instcmd_failed u (instcmd_line c value)) _ (answered_ok s ups u _ e))))))
+    behind_check s a ups (user s a (instcmd_right name)) _
+    (behind_ups s a ups _ (λ u e. behind_check s a ups (live s u) _
+    (behind_found s a ups (cmd_not_supported u name) _ (λ c.
+    behind_found s a ups (too_long_of_command word) _ (λ value.
+    behind_id s a ups InstcmdFailed _ (λ id is. behind_check s a ups (instcmd_failed u (instcmd_line c value id)) _ (answered_ok s a ups u id _ e is)))))))
+
+-- what a change does to the kept orders, whether or not its session is there
+tracking_kept : (f : SessionState → SessionState) (c : ℕ) (s : ServerState) → (with_session_changed f c s).tracking ≡ s.tracking
+unfolding with_session_changed
+tracking_kept f c s = by_session (session c s)
+  where
+    by_session : (o : Option SessionState) → (option_map_or (λ x. with_session s (f x)) o s).tracking ≡ s.tracking
+    by_session None = refl
+    by_session (Some x) = refl
+
+tracking_changed : (change : Change) (c : ℕ) (s : ServerState) → (changed change c s).tracking ≡ changed_tracking change s.tracking
+tracking_changed change c s = tracking_kept (changed_session change) c (record s { upses = changed_upses change s.upses; tracking = changed_tracking change s.tracking })
 
 -- what is printed of each
-module _ (s : ServerState) (c : ℕ) (line ups : List ℕ) (command : Command) (request : Request) (bytes more text : List ℕ) (read : read_command line ≡ Ok (Some command)) (by_ok : is_granted_by_ok request ≡ true) where
+prints_same : (a b : List ℕ) → Prints a ≡ Prints b → a ≡ b
+prints_same a b e = cc e
+
+module _ (s : ServerState) (c : ℕ) (line ups : List ℕ) (command : Command) (request : Request) (more text : List ℕ) (read : read_command line ≡ Ok (Some command)) where
   answer : Result Answer ErrWord
   answer = answer_to (seen s) (asker c s) command
 
@@ -153,39 +180,85 @@ module _ (s : ServerState) (c : ℕ) (line ups : List ℕ) (command : Command) (
   unfolding answer
   text_is_of = ap (text_to s c) read
 
-  refusal_prints_nothing : (word : ErrWord) → answer ≡ Err word → printed (request ∷ []) forms.Value (server.reply s c line ++ more) ≡ Prints text → ⊥
-  refusal_prints_nothing word e h =
-      let faults = ap (λ t. printed (request ∷ []) forms.Value (t ++ more)) (text_is_of ∙ ap text_of_answer e)
-      ∙ ap (λ (r : Reply). printed_of forms.Value (reply_behind r (λ items rest. Whole items rest))) (refused_read request word more) in
-      absurd (cc (sym faults ∙ h))
-
-  ok_prints : text_of_answer answer ≡ line_of ok → printed (request ∷ []) forms.Value (server.reply s c line ++ more) ≡ Prints (line_of ok)
-  ok_prints e =
-      ap (λ t. printed (request ∷ []) forms.Value (t ++ more)) (text_is_of ∙ e)
-      ∙ ap (λ (r : Reply). printed_of forms.Value (reply_behind r (λ items rest. Whole items rest))) (granted_read request more by_ok)
-
-  prints_same : (a b : List ℕ) → Prints a ≡ Prints b → a ≡ b
-  prints_same a b e = cc e
-
-  ordered : IsEither (seen s) (Some ups) answer → ((known : KnownUps) → ups_named (seen s) (Some ups) ≡ Some known → text_of_answer answer ≡ line_of ok → change_of_answer answer ≡ order_to known.id bytes)
-      → printed (request ∷ []) forms.Value (server.reply s c line ++ more) ≡ Prints text → IsOrdered s c line ups bytes text
+  change_is_of : change_by s c (read_command line) ≡ change_of_answer answer
   unfolding answer
-  ordered (inl (word, e)) gives h = absurd (refusal_prints_nothing word e h)
-  ordered (inr (known, named, e)) gives h = record {
+  change_is_of = ap (change_by s c) read
+
+  prints : Printed
+  prints = printed (request ∷ []) forms.Value (server.reply s c line ++ more)
+
+  -- what is printed of a reply
+  printed_by : (bytes : List ℕ) (r : Reply) → text_of_answer answer ≡ bytes → client_reply request (bytes ++ more) ≡ r → prints ≡ printed_of forms.Value (reply_behind r (λ items rest. Whole items rest))
+  unfolding prints
+  printed_by bytes r e f =
+      ap (λ t. printed (request ∷ []) forms.Value (t ++ more)) (text_is_of ∙ e)
+      ∙ ap (λ (r : Reply). printed_of forms.Value (reply_behind r (λ items rest. Whole items rest))) f
+
+  refusal_prints_nothing : (word : ErrWord) → answer ≡ Err word → prints ≡ Prints text → ⊥
+  refusal_prints_nothing word e h = absurd (cc (sym (printed_by _ _ (ap text_of_answer e) (refused_read request word more)) ∙ h))
+
+  bad_prints_nothing : (bytes : List ℕ) → text_of_answer answer ≡ bytes → client_reply request (bytes ++ more) ≡ Bad → prints ≡ Prints text → ⊥
+  bad_prints_nothing bytes e f h = absurd (cc (sym (printed_by bytes Bad e f) ∙ h))
+
+  -- of a request that OK grants
+  ordered : (bytes : List ℕ) → is_granted_by_ok request ≡ true → IsEither (seen s) (asker c s) (Some ups) answer
+      → ((known : KnownUps) → ups_named (seen s) (Some ups) ≡ Some known → text_of_answer answer ≡ line_of ok → change_of_answer answer ≡ order_to known.id bytes None)
+      → prints ≡ Prints text → IsOrdered s c line ups bytes text
+  ordered bytes by_ok (inl (word, e)) gives h = absurd (refusal_prints_nothing word e h)
+  ordered bytes by_ok (inr (known, Some id, named, is, e)) gives h = absurd (bad_prints_nothing _ e (unwanted_id request id more by_ok) h)
+  ordered bytes by_ok (inr (known, None, named, is, e)) gives h = record {
     known = known;
     named = named;
     answered = text_is_of ∙ e;
-    told = λ u. ap (λ r. told_by_change u (change_by s c r)) read ∙ ap (told_by_change u) (gives known named e);
-    text_is = prints_same text (line_of ok) (sym h ∙ ok_prints e);
+    told = λ u. ap (told_by_change u) (change_is_of ∙ gives known named e);
+    text_is = prints_same text (line_of ok) (sym h ∙ printed_by _ _ e (granted_read request more by_ok));
   }
 
+  -- of one that an id grants
+  ordered_with_id : (bytes : ℕ → List ℕ) → WantsId request → IsEither (seen s) (asker c s) (Some ups) answer
+      → ((known : KnownUps) (id : ℕ) → ups_named (seen s) (Some ups) ≡ Some known → next_id s.tracking ≡ Some id → text_of_answer answer ≡ line_of (ok_words (Some id)) → change_of_answer answer ≡ order_to known.id (bytes id) (Some id))
+      → prints ≡ Prints text → IsOrderedWithId s c line ups bytes text
+  ordered_with_id bytes wants (inl (word, e)) gives h = absurd (refusal_prints_nothing word e h)
+  ordered_with_id bytes wants (inr (known, None, named, is, e)) gives h = absurd (bad_prints_nothing _ e (missing_id request wants more) h)
+  ordered_with_id bytes wants (inr (known, Some id, named, is, e)) gives h = by_reply (wanted_id request wants more id)
+    where
+      change : change_by s c (read_command line) ≡ order_to known.id (bytes id) (Some id)
+      change = change_is_of ∙ gives known id named is.1 e
+
+      by_reply : (client_reply request (line_of (ok_words (Some id)) ++ more) ≡ Bad) ⊎ (client_reply request (line_of (ok_words (Some id)) ++ more) ≡ Whole (one_item (id_text id)) more) → IsOrderedWithId s c line ups bytes text
+      by_reply (inl bad) = absurd (bad_prints_nothing _ e bad h)
+      by_reply (inr whole) = record {
+        known = known;
+        id = id;
+        named = named;
+        first = is.1;
+        answered = text_is_of ∙ e;
+        told = λ u. ap (told_by_change u) change;
+        kept = tracking_changed (change_by s c (read_command line)) c s ∙ ap (λ (x : Change). changed_tracking x s.tracking) change;
+        text_is = prints_same text (line_of (id_text id ∷ [])) (sym h ∙ printed_by _ _ e whole ∙ ap Prints (append-nil (id_text id ++ 10 ∷ [])));
+      }
+
 pub orders_given : EachOrderAnsweredOkIsGiven → AnOrderThatIsPrintedIsGiven
-unfolding answer
+unfolding answer prints
 orders_given given = record {
   set = λ s c line ups name value more text n m v e h.
-      ordered s c line ups (commands.SetVar (Some ups) (Some name) (Some value)) (requests.SetVar ups name value) (set_line name value) more text (set_read ups name value line n m v e) refl
+      ordered s c line ups (commands.SetVar (Some ups) (Some name) (Some value)) (requests.SetVar ups name value) more text (set_read ups name value line n m v e) (set_line name value None) refl
       (set_either (seen s) (asker c s) (Some ups) (Some name) (Some value)) (λ known named is. given.set (seen s) (asker c s) (Some ups) name value known named is) h;
   command = λ s c line ups name value more text n m v e h.
-      ordered s c line ups (commands.InstCmd (Some ups) (Some name) (value_given value)) (requests.Instcmd ups name value) (instcmd_line name value) more text (command_read ups name value line n m v e) refl
+      ordered s c line ups (commands.InstCmd (Some ups) (Some name) (value_given value)) (requests.Instcmd ups name value) more text (command_read ups name value line n m v e) (instcmd_line name value None) refl
       (command_either (seen s) (asker c s) (Some ups) (Some name) (value_given value)) (λ known named is. given.command (seen s) (asker c s) (Some ups) name value known named is) h;
+}
+
+-- a tracked order is sent as any other
+pub tracked_orders_given : EachOrderAnsweredOkIsGiven → ATrackedOrderThatIsPrintedIsGiven
+unfolding answer prints
+tracked_orders_given given = record {
+  set = λ s c line ups name value more text n m v e h.
+      ordered_with_id s c line ups (commands.SetVar (Some ups) (Some name) (Some value)) (requests.TrackedSetVar ups name value) more text (set_read ups name value line n m v e) (λ id. set_line name value (Some id))
+      (record { expected = λ words. refl; whole = λ value rest. refl }) (set_either (seen s) (asker c s) (Some ups) (Some name) (Some value))
+      (λ known id named next is. given.tracked_set (seen s) (asker c s) (Some ups) name value known id named next is) h;
+  command = λ s c line ups name value more text n m v e h.
+      ordered_with_id s c line ups (commands.InstCmd (Some ups) (Some name) (value_given value)) (requests.TrackedInstcmd ups name value) more text (command_read ups name value line n m v e) (λ id. instcmd_line name value (Some id))
+      (record { expected = λ words. refl; whole = λ value rest. refl }) (command_either (seen s) (asker c s) (Some ups) (Some name) (value_given value))
+      (λ known id named next is. given.tracked_command (seen s) (asker c s) (Some ups) name value known id named next is) h;
 }

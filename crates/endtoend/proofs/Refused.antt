@@ -45,7 +45,7 @@ spelled UnknownCommand = record { some = omega arith; bare = refl; short = omega
 spelled InvalidValue = record { some = omega arith; bare = refl; short = omega arith; refusal = λ request more. refl }
 
 -- a line of words that a client reads first
-first_read : (request : Request) (texts words : List (List ℕ)) (more : List ℕ) → IsWrittenLine texts words → reply request (line_of texts ++ more) ≡ after_first request (first_of request words) more
+pub first_read : (request : Request) (texts words : List (List ℕ)) (more : List ℕ) → IsWrittenLine texts words → reply request (line_of texts ++ more) ≡ after_first request (first_of request words) more
 first_read request texts words more h =
     let r = written_line texts words h in
     ap (reply_from request) (line_before texts words more r) ∙ ap (λ ws. after_first request (first_of request ws) more) (words_read r.line words r.reads)

@@ -29,7 +29,7 @@ line_of_four a b c d =
     omega (arith, length-append (a ++ 32 ∷ (b ++ 32 ∷ (c ++ 32 ∷ d))) (10 ∷ []), length-append a (32 ∷ (b ++ 32 ∷ (c ++ 32 ∷ d))), length-append b (32 ∷ (c ++ 32 ∷ d)), length-append c (32 ∷ d))
 
 -- a request that is written so is read as these words
-words_sent : (request : Request) (line : List ℕ) → IsWrittenLine (request_words request) (request_words request) → IsLineOf request line → read_command line ≡ command_from (Ok (request_words request))
+pub words_sent : (request : Request) (line : List ℕ) → IsWrittenLine (request_words request) (request_words request) → IsLineOf request line → read_command line ≡ command_from (Ok (request_words request))
 words_sent request line h e =
     let r = written_line (request_words request) (request_words request) h in
     let same : r.line ≡ line = append_cancel_right r.line line (10 ∷ []) (sym r.whole ∙ sym e) in

@@ -1,12 +1,18 @@
 -- A program over a session that is handed what the server answers.
-use Rattle.std.specs.Prelude.{◌≡◌, ◌≢◌, ◌≤◌, ℕ, List, [], ◌++◌, false, length, Option, Some}
-use Rattle.std.specs.Prelude.{Result, Ok, Err}
+use Rattle.std.specs.Prelude.{◌≡◌, ◌≢◌, ◌≤◌, ◌<◌, ◌^◌, ℕ, List, [], ◌++◌, false, length, Option}
+use Rattle.std.specs.Prelude.{Some, Result, Ok, Err}
 use Rattle.std.specs.Io.KnownBytes.{Appends}
 use denote.Ref.{Bor}
+use Rattle.nutwords.specs.Frame.{line_of}
 use Rattle.nutwords.specs.Text.{with_lf}
+use Rattle.nuttracking.specs.Id.{read_id}
+use Rattle.nuttracking.specs.Sound.{HaveLawfulNumbers}
+use Rattle.nuttracking.specs.Tracking.{progress_of}
+use Rattle.nuttracking.specs.declared.order.Progress.{Progress}
 use Rattle.nutdriver.specs.Variable.{VariableState}
 use Rattle.nutusers.specs.UpsList.{IsList}
 use Rattle.nutlisting.specs.Shown.{shown}
+use Rattle.nutlisting.specs.Tracked.{progress_words}
 use Rattle.nutlisting.specs.declared.listing.clients.TheConstants.{SESSION_LIMIT}
 use Rattle.nutanswer.specs.Checks.{KnownUps, ups_named}
 use Rattle.nutcore.specs.Reply.{seen, reply}
@@ -17,13 +23,13 @@ use Rattle.nutrequest.specs.declared.faults.ClientFault.{ClientFault}
 use Rattle.nutrequest.specs.declared.faults.ClientFault.TheVariants.{Memory}
 use Rattle.nutrequest.specs.declared.request.Query.TheVariants as queries
 use Rattle.nutrequest.specs.declared.request.Request.TheVariants.{List as ListOf, GetVar}
-use Rattle.nutrequest.specs.declared.request.Request.TheVariants.{GetNumAttach}
+use Rattle.nutrequest.specs.declared.request.Request.TheVariants.{GetNumAttach, GetTracking}
 use Rattle.nutrequest.specs.declared.session.Session.{Session}
 use Rattle.nutclient.specs.Job.{UpsPlace, job_of, parts_of}
 use Rattle.nutclient.specs.Target.{ups_place_of}
 use Rattle.nutclient.specs.declared.given.Given.TheVariants.{Variables, Variable, Upses}
 use Rattle.nutclient.specs.declared.given.Given.TheVariants.{Descriptions, Attached, Writable}
-use Rattle.nutclient.specs.declared.given.Given.TheVariants.{Commands}
+use Rattle.nutclient.specs.declared.given.Given.TheVariants.{Commands, Tracked}
 use Rattle.nutclient.specs.declared.job.Job.{Job}
 use Rattle.endtoend.specs.Served.{IsLineOf, IsUsable, HasVariable}
 use Rattle.endtoend.specs.Printed.{variable_lines, setting_lines, command_lines, name_lines}
@@ -98,6 +104,18 @@ module _ {R W O : Type 0} (remaining : R → Option (List ℕ)) (failures : R �
       → length s.sessions ≤ SESSION_LIMIT → ups_named (seen s) (Some place.0) ≡ Some known
       → IsLineOf (GetNumAttach place.0) line
       → IsHanded (reply s client line ++ more) r → IsPrinted (number_line s known) r
+
+  -- `upsc --tracked id ups`, handed the answer to GET TRACKING, prints how far the order of this id
+  -- has come.
+  abbrev pub PrintsTheProgress : Job → ProgramRun R W O → Type 0
+  PrintsTheProgress job r =
+      (s : ServerState) (client : ℕ) (words word : Bor (List ℕ)) (id : ℕ) (line : List ℕ)
+      (progress : Progress) (more : List ℕ)
+      → job_of (Tracked words word) ≡ Some (parts_of job) → read_id word.now ≡ Some id
+      → id < 2 ^ 128 → HaveLawfulNumbers s.tracking.orders
+      → progress_of id s.tracking ≡ Some progress → IsLineOf (GetTracking id) line
+      → IsHanded (reply s client line ++ more) r
+      → IsPrinted (line_of (progress_words progress)) r
 
   -- `upsrw ups`, handed the answer to LIST RW, prints a line for each variable of the UPS that may
   -- be set.

@@ -2,10 +2,10 @@
 ghost use Rattle.endtoend.specs.Frames.{AFrameIsReadAsItsItems};
 ghost use Rattle.endtoend.specs.FromDriver.{UpscPrintsWhatTheDriverSetLast, UpscPrintsAllThatTheDriverSetLast};
 ghost use Rattle.endtoend.specs.Refused.{ARefusalIsTold};
-ghost use Rattle.endtoend.specs.Ordered.{AnOrderThatIsPrintedIsGiven};
+ghost use Rattle.endtoend.specs.Ordered.{AnOrderThatIsPrintedIsGiven, ATrackedOrderThatIsPrintedIsGiven};
 ghost use Rattle.endtoend.specs.OverRuns.{UpscPrintsWhatItTook};
-ghost use Rattle.endtoend.specs.OrdersOverRuns.{AnOrderThatIsPrintedIsToldInTheRun};
-ghost use Rattle.endtoend.specs.Printed.{UpscPrintsTheVariables, UpscPrintsTheVariable, UpscPrintsHowManyAreLoggedIn, UpscPrintsTheUpses, UpsrwPrintsTheVariables, UpscmdPrintsTheCommands};
+ghost use Rattle.endtoend.specs.OrdersOverRuns.{AnOrderThatIsPrintedIsToldInTheRun, ATrackedOrderThatIsPrintedIsToldInTheRun};
+ghost use Rattle.endtoend.specs.Printed.{UpscPrintsTheVariables, UpscPrintsTheVariable, UpscPrintsHowManyAreLoggedIn, UpscPrintsTheUpses, UpsrwPrintsTheVariables, UpscmdPrintsTheCommands, UpscPrintsHowFarAnOrderHasCome};
 
 use nutanswer::laws::each_order_answered_ok_is_given;
 use nutcore::laws::{
@@ -59,6 +59,13 @@ pub fn upscmd_prints_the_commands()
     ensures { UpscmdPrintsTheCommands }
 {}
 
+/// `upsc --tracked ID UPS`: what is printed of the server's answer to `GET TRACKING` and an id is how far the order of that id
+/// has come, where the order is kept: `PENDING`, `SUCCESS`, or `FAILED` and the driver's number. Where none that is kept has
+/// the id, nothing is printed, and the job ends with `INVALID-ARGUMENT`.
+pub fn upsc_prints_how_far_an_order_has_come()
+    ensures { UpscPrintsHowFarAnOrderHasCome }
+{}
+
 /// From the driver to the screen. Over every run from a new server: where `upsc UPS VAR` was answered, not by `ERR`, the UPS
 /// was fresh then, and where the last of its driver's lines since it connected that decides the variable gave it a value, that
 /// value is what is printed, as clients see it. What `upsc UPS` prints is a line for each variable that the UPS holds, and the
@@ -99,7 +106,27 @@ pub fn an_order_that_is_printed_is_told_in_the_run()
     an_order_that_is_printed_is_given();
 }
 
-/// The same over a run, of any clients and drivers, from a new server: where the server took in of a client the line of
+/// A tracked order too: where `upsrw --track -s` or `upscmd --track` prints a text of what the server answers to its order,
+/// that is an id, the server answered `OK TRACKING` and that id, the first at hand, and the line that it executed told the
+/// driver of that UPS the order with the id behind it, once, and no other driver anything; and the order is kept, pending,
+/// with that id.
+pub fn a_tracked_order_that_is_printed_is_given()
+    ensures { ATrackedOrderThatIsPrintedIsGiven }
+{
+    each_order_answered_ok_is_given();
+}
+
+/// The same over a run: the order with its id stands among those that the run told the driver of that UPS. Where the run
+/// began with a new server, `each_run_tracks_its_orders` of nutcore says that the id stands for this one order, and what is
+/// told of it later.
+pub fn a_tracked_order_that_is_printed_is_told_in_the_run()
+    ensures { ATrackedOrderThatIsPrintedIsToldInTheRun }
+{
+    the_orders_told_are_those_of_the_lines();
+    a_tracked_order_that_is_printed_is_given();
+}
+
+/// Over a run, of any clients and drivers, from a new server: where the server took in of a client the line of
 /// `upsc UPS VAR` or `upsc UPS`, and the client took all that it was owed, which doesn't begin with `ERR`, then what it took is
 /// the server's reply, of which the law above tells what is printed.
 pub fn upsc_prints_what_it_took()

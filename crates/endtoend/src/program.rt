@@ -1,9 +1,10 @@
 //! A client's program, handed what the server answers to it.
-ghost use Rattle.endtoend.specs.Handed.{run_by, PrintsTheVariables, PrintsTheVariable, PrintsTheNumber, PrintsTheSettings, PrintsTheCommands, PrintsTheNames, PrintsTheDescriptions};
+ghost use Rattle.endtoend.specs.Handed.{run_by, PrintsTheVariables, PrintsTheVariable, PrintsTheNumber, PrintsTheProgress, PrintsTheSettings, PrintsTheCommands, PrintsTheNames, PrintsTheDescriptions};
 
 use crate::laws::{
-    upsc_prints_how_many_are_logged_in, upsc_prints_the_upses, upsc_prints_the_variable,
-    upsc_prints_the_variables, upscmd_prints_the_commands, upsrw_prints_the_variables,
+    upsc_prints_how_far_an_order_has_come, upsc_prints_how_many_are_logged_in,
+    upsc_prints_the_upses, upsc_prints_the_variable, upsc_prints_the_variables,
+    upscmd_prints_the_commands, upsrw_prints_the_variables,
 };
 use nutclient::{Job, run};
 use nutio::{Sink, Source};
@@ -25,6 +26,9 @@ pub fn print_what_is_held<R: Source, W: Sink, O: Sink>(
     ensures number { PrintsTheNumber
         R.remaining R.failures W.failures O.contents O.failures job.now
         (run_by session.old out.old result session.new out.new) }
+    ensures progress { PrintsTheProgress
+        R.remaining R.failures W.failures O.contents O.failures job.now
+        (run_by session.old out.old result session.new out.new) }
     ensures settings { PrintsTheSettings
         R.remaining R.failures W.failures O.contents O.failures job.now
         (run_by session.old out.old result session.new out.new) }
@@ -41,6 +45,7 @@ pub fn print_what_is_held<R: Source, W: Sink, O: Sink>(
     upsc_prints_the_variables();
     upsc_prints_the_variable();
     upsc_prints_how_many_are_logged_in();
+    upsc_prints_how_far_an_order_has_come();
     upsrw_prints_the_variables();
     upscmd_prints_the_commands();
     upsc_prints_the_upses();

@@ -1,8 +1,9 @@
 use Rattle.nutrequest.specs.declared.request.Query.TheVariants as queries
+use Rattle.nuttracking.specs.Id.{read_id}
 use Rattle.nutclient.specs.Job.{server_or_local}
 use Rattle.nutclient.specs.Target.{ups_place_of}
 use Rattle.nutclient.specs.declared.form.Form.TheVariants as forms
-use Rattle.endtoend.proofs.Handing.{place_lawful, name_asked, asks_listing, asks_variable, asks_number, asks_upses, handed}
+use Rattle.endtoend.proofs.Handing.{place_lawful, name_asked, asks_listing, asks_variable, asks_number, asks_tracked, asks_upses, handed}
 use Rattle.endtoend.proofs.program.print_what_is_held.Goals as goal
 
 pub returns-clause-variables : goal.returns-clause-variables
@@ -22,6 +23,12 @@ returns-clause-number g c = λ s client words place line known more job at few n
     handed _ _ _ _ _ c.args.job.now _ _ _ _ _ c.run.ensures.printed
     (asks_number (ups_place_of words.now) place c.args.job.now job at)
     (c.upsc_prints_how_many_are_logged_in.ensures s client place.0 line known more few (place_lawful words.now place at) named sent) h
+
+pub returns-clause-progress : goal.returns-clause-progress
+returns-clause-progress g c = λ s client words word id line progress more job is small lawful at sent h.
+    handed _ _ _ _ _ c.args.job.now _ _ _ _ _ c.run.ensures.printed
+    (asks_tracked (ups_place_of words.now) (read_id word.now) id c.args.job.now job is)
+    (c.upsc_prints_how_far_an_order_has_come.ensures.told s client id line progress more small lawful at sent) h
 
 pub returns-clause-settings : goal.returns-clause-settings
 returns-clause-settings g c = λ s client words place line known more job at usable sent h.

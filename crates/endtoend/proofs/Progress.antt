@@ -1,0 +1,166 @@
+-- How far a tracked order has come, as the server tells it and as a client prints it.
+use Rattle.std.proofs.Common.{◌≡◌, ◌∙◌, ℕ, ◌^◌, ◌<◌, ◌≤◌, Bool, true, false, eqb, leb, ltb, List, [], ◌∷◌, ◌++◌, length, append-nil, Option, Some, None, Ok, if◌then◌else◌, get_or, refl, ap, subst, arith}
+use Rattle.std.specs.Prelude.{codes, option_map, ◌==◌}
+use Rattle.std.specs.Fmt.{decimal}
+use Rattle.std.specs.List.{list_all, find}
+use Rattle.std.specs.Option.{ok_or}
+use Rattle.std.specs.Str.Parse.{AllDigits, digits_value}
+use Rattle.std.proofs.lemmas.Bool.{and_from, eq-eqb}
+use Rattle.std.proofs.lemmas.Bool.Decides.{nat_tests}
+use Rattle.std.proofs.lemmas.Fmt.{decimal_is_IsNumeral, first_decimal, length-decimal-le}
+use Rattle.std.proofs.lemmas.List.Elements.{All-head, All-tail}
+use Rattle.std.proofs.lemmas.Str.Parse.{digit_from_value}
+use Rattle.nutwords.specs.Bytes.{is_bare}
+use Rattle.nutwords.specs.Frame.{line_of}
+use Rattle.nutwords.specs.Listing.{as_it_is, IsWrittenLine}
+use Rattle.nutwords.specs.Natural.{is_digit, is_natural, up_to, read_natural}
+use Rattle.nuttracking.specs.Id.{id_text}
+use Rattle.nuttracking.specs.Sound.{IsLawfulProgress, HaveLawfulNumbers}
+use Rattle.nuttracking.specs.Tracking.{has_id, progress_of}
+use Rattle.nuttracking.specs.declared.limits.TheConstants.{DONE_LIMIT}
+use Rattle.nuttracking.specs.declared.order.Progress.{Progress}
+use Rattle.nuttracking.specs.declared.order.Progress.TheVariants.{Pending, Done}
+use Rattle.nuttracking.specs.declared.order.TrackedOrder.{TrackedOrder}
+use Rattle.nuttracking.proofs.PublicLaws.{ids_are_plain, written_is_read}
+use Rattle.nutlisting.specs.Tracked.{progress_words}
+use Rattle.nutanswer.specs.Answer.{told, text_of_answer}
+use Rattle.nutanswer.specs.Checks.{◌>>=◌}
+use Rattle.nutanswer.specs.Command.{read_command}
+use Rattle.nutanswer.specs.declared.command.Command.TheVariants as commands
+use Rattle.nutanswer.specs.declared.err_word.ErrWord.TheVariants.{InvalidArgument}
+use Rattle.nutcore.specs.Server.{ServerState}
+use Rattle.nutcore.specs.Reply.{text_to}
+use Rattle.nutcore.specs.Reply as server
+use Rattle.nutrequest.specs.declared.request.Request.TheVariants as requests
+use Rattle.nutrequest.specs.Reply.{Reply, Whole, reply, after_first, first_or, refusal_of, one_item, is_that, is_some_number, progress_in}
+use Rattle.nutrequest.specs.Reply as client
+use Rattle.nutclient.specs.Requests.{reply_behind}
+use Rattle.nutclient.specs.Printed.{Prints, printed, printed_of}
+use Rattle.nutclient.specs.declared.form.Form.TheVariants as forms
+use Rattle.endtoend.specs.Printed.{UpscPrintsHowFarAnOrderHasCome}
+use Rattle.endtoend.specs.Served.{IsLineOf}
+use Rattle.endtoend.proofs.Ids.{id_written}
+use Rattle.endtoend.proofs.Refused.{first_read, refused_read}
+use Rattle.endtoend.proofs.Requests.{words_sent, line_of_three, line_of_four}
+
+-- the line of the request
+get_tracking_read : (id : ℕ) (line : List ℕ) → id < 2 ^ 128 → IsLineOf (requests.GetTracking id) line → read_command line ≡ Ok (Some (commands.GetProgress (Some id)))
+get_tracking_read id line small e =
+    let words : List (List ℕ) = codes "GET" ∷ codes "TRACKING" ∷ id_text id ∷ [] in
+    let written : IsWrittenLine words words = record {
+      written = (as_it_is (omega arith) refl, (as_it_is (omega arith) refl, (id_written id, tt)));
+      fits = omega (arith, ids_are_plain.long id, line_of_three (codes "GET") (codes "TRACKING") (id_text id));
+    } in
+    words_sent (requests.GetTracking id) line written e ∙ ap (λ (o : Option ℕ). Ok (Some (commands.GetProgress o))) (written_is_read id small)
+
+-- what the server answers
+answered_by : (s : ServerState) (c id : ℕ) (line : List ℕ) (o : Option Progress) → read_command line ≡ Ok (Some (commands.GetProgress (Some id))) → progress_of id s.tracking ≡ o
+    → server.reply s c line ≡ text_of_answer (ok_or (option_map (λ (progress : Progress). (id, progress)) o) InvalidArgument >>= (λ (p : ℕ × Progress). told (codes "TRACKING" ∷ id_text p.0 ∷ progress_words p.1)))
+answered_by s c id line o read is =
+    ap (text_to s c) read
+    ∙ ap (λ (o : Option Progress). text_of_answer (ok_or (option_map (λ (progress : Progress). (id, progress)) o) InvalidArgument >>= (λ (p : ℕ × Progress). told (codes "TRACKING" ∷ id_text p.0 ∷ progress_words p.1)))) is
+
+-- numbers, as they are written
+digits_all : (ds : List ℕ) → AllDigits 10 ds → (list_all is_digit ds ≡ true) × (list_all is_bare ds ≡ true)
+digits_all [] all = (refl, refl)
+digits_all (d ∷ ds) all =
+    let here = digit_from_value d all.0 in
+    let rest = digits_all ds all.1 in
+    (and_from (is_digit d) (list_all is_digit ds) (grind (arith, nat_tests)) rest.0, and_from (is_bare d) (list_all is_bare ds) (grind (arith, nat_tests)) rest.1)
+
+natural_of : (ds : List ℕ) → list_all is_digit ds ≡ true → 48 < get_or ds 0 0 → is_natural ds ≡ true
+natural_of [] all first = absurd (omega (arith, first))
+natural_of (d ∷ ds) all first = and_from (list_all is_digit (d ∷ ds)) _ all (grind (arith, nat_tests))
+
+number_read : (n : ℕ) → 0 < n → n ≤ 1000000000 → is_some_number (read_natural DONE_LIMIT (decimal n)) ≡ true
+number_read n some few =
+    let numeral = decimal_is_IsNumeral n (omega arith) in
+    let natural : is_natural (decimal n) ≡ true = natural_of (decimal n) (digits_all (decimal n) numeral.0.1).0 (first_decimal n some (omega arith)) in
+    let most : leb n DONE_LIMIT ≡ true = grind (arith, nat_tests) in
+    let more : ltb 0 n ≡ true = grind (arith, nat_tests) in
+    ap (λ (b : Bool). is_some_number (if b then up_to DONE_LIMIT (digits_value 10 (decimal n)) else None)) natural
+    ∙ ap (λ (k : ℕ). is_some_number (up_to DONE_LIMIT k)) numeral.1
+    ∙ ap (λ (b : Bool). is_some_number (if b then Some n else None)) most ∙ more
+
+-- what a client makes of the words
+abbrev told_text : Progress → List ℕ
+told_text Pending = codes "PENDING"
+told_text (Done number) = if number == 0 then codes "SUCCESS" else codes "FAILED " ++ decimal number
+
+words_told : (progress : Progress) → IsLawfulProgress progress → progress_in (Some (progress_words progress)) ≡ Some (told_text progress)
+words_told Pending lawful = refl
+words_told (Done n) lawful = by_zero (eqb n 0) refl
+  where
+    by_zero : (b : Bool) → eqb n 0 ≡ b → progress_in (Some (if b then codes "SUCCESS" ∷ [] else codes "FAILED" ∷ decimal n ∷ [])) ≡ Some (if b then codes "SUCCESS" else codes "FAILED " ++ decimal n)
+    by_zero true e = refl
+    by_zero false e =
+        let some : 0 < n = grind (arith, nat_tests) in
+        ap (λ (b : Bool). if b then Some (codes "FAILED " ++ decimal n) else None) (number_read n some lawful)
+
+abbrev all_words : ℕ → Progress → List (List ℕ)
+all_words id progress = codes "TRACKING" ∷ id_text id ∷ progress_words progress
+
+progress_told : (id : ℕ) (progress : Progress) → id < 2 ^ 128 → IsLawfulProgress progress → client.progress_of id (all_words id progress) ≡ Some (told_text progress)
+progress_told id progress small lawful =
+    ap (λ (o : Option ℕ). progress_in (if is_that id o then Some (progress_words progress) else None)) (written_is_read id small)
+    ∙ ap (λ (b : Bool). progress_in (if b then Some (progress_words progress) else None)) (eq-eqb id id refl)
+    ∙ words_told progress lawful
+
+-- they are written as they are
+words_written : (id : ℕ) (progress : Progress) → IsLawfulProgress progress → IsWrittenLine (all_words id progress) (all_words id progress)
+words_written id Pending lawful = record {
+  written = (as_it_is (omega arith) refl, (id_written id, (as_it_is (omega arith) refl, tt)));
+  fits = omega (arith, ids_are_plain.long id, line_of_three (codes "TRACKING") (id_text id) (codes "PENDING"));
+}
+words_written id (Done n) lawful = by_zero (eqb n 0)
+  where
+    by_zero : (b : Bool) → IsWrittenLine (codes "TRACKING" ∷ id_text id ∷ (if b then codes "SUCCESS" ∷ [] else codes "FAILED" ∷ decimal n ∷ [])) (codes "TRACKING" ∷ id_text id ∷ (if b then codes "SUCCESS" ∷ [] else codes "FAILED" ∷ decimal n ∷ []))
+    by_zero true = record {
+      written = (as_it_is (omega arith) refl, (id_written id, (as_it_is (omega arith) refl, tt)));
+      fits = omega (arith, ids_are_plain.long id, line_of_three (codes "TRACKING") (id_text id) (codes "SUCCESS"));
+    }
+    by_zero false =
+        let numeral = decimal_is_IsNumeral n (omega arith) in
+        let short : length (decimal n) ≤ 10 = length-decimal-le 10 n (omega arith) (omega arith) (omega arith) in
+        record {
+          written = (as_it_is (omega arith) refl, (id_written id, (as_it_is (omega arith) refl, (as_it_is numeral.0.0 (digits_all (decimal n) numeral.0.1).1, tt))));
+          fits = omega (arith, ids_are_plain.long id, short, line_of_four (codes "TRACKING") (id_text id) (codes "FAILED") (decimal n));
+        }
+
+-- and printed as they are
+printed_text : (progress : Progress) → (told_text progress ++ 10 ∷ []) ++ [] ≡ line_of (progress_words progress)
+printed_text Pending = refl
+printed_text (Done n) = by_zero (eqb n 0)
+  where
+    by_zero : (b : Bool) → ((if b then codes "SUCCESS" else codes "FAILED " ++ decimal n) ++ 10 ∷ []) ++ [] ≡ line_of (if b then codes "SUCCESS" ∷ [] else codes "FAILED" ∷ decimal n ∷ [])
+    by_zero true = refl
+    by_zero false = append-nil (codes "FAILED " ++ (decimal n ++ 10 ∷ []))
+
+-- a number that is told is lawful
+lawful_found : (id : ℕ) (progress : Progress) (orders : List TrackedOrder) → HaveLawfulNumbers orders → option_map (λ (order : TrackedOrder). order.progress) (find (has_id id) orders) ≡ Some progress → IsLawfulProgress progress
+lawful_found id progress [] all e = cc e
+lawful_found id progress (order ∷ orders) all e =
+    by_id (has_id id order) e (λ k. lawful_found id progress orders (All-tail (λ (order : TrackedOrder). IsLawfulProgress order.progress) order orders all) k)
+  where
+    by_id : (b : Bool) → option_map (λ (order : TrackedOrder). order.progress) (if b then Some order else find (has_id id) orders) ≡ Some progress
+        → (option_map (λ (order : TrackedOrder). order.progress) (find (has_id id) orders) ≡ Some progress → IsLawfulProgress progress) → IsLawfulProgress progress
+    by_id true k later = let same : order.progress ≡ progress = cc k in subst IsLawfulProgress same (All-head (λ (order : TrackedOrder). IsLawfulProgress order.progress) order orders all)
+    by_id false k later = later k
+
+pub prints_progress : UpscPrintsHowFarAnOrderHasCome
+prints_progress = record {
+  told = λ s c id line progress more small lawful is e.
+      let mine = lawful_found id progress s.tracking.orders lawful is in
+      let text = answered_by s c id line (Some progress) (get_tracking_read id line small e) is in
+      let words = all_words id progress in
+      let read : reply (requests.GetTracking id) (line_of words ++ more) ≡ Whole (one_item (told_text progress)) more =
+      first_read (requests.GetTracking id) words words more (words_written id progress mine)
+      ∙ ap (λ (o : Option (List ℕ)). after_first (requests.GetTracking id) (first_or o (refusal_of words)) more) (progress_told id progress small mine) in
+      ap (λ (t : List ℕ). printed (requests.GetTracking id ∷ []) forms.Value (t ++ more)) text
+      ∙ ap (λ (r : Reply). printed_of forms.Value (reply_behind r (λ items rest. Whole items rest))) read
+      ∙ ap Prints (printed_text progress);
+  unknown = λ s c id line more small is e.
+      let text = answered_by s c id line None (get_tracking_read id line small e) is in
+      ap (λ (t : List ℕ). printed (requests.GetTracking id ∷ []) forms.Value (t ++ more)) text
+      ∙ ap (λ (r : Reply). printed_of forms.Value (reply_behind r (λ items rest. Whole items rest))) (refused_read (requests.GetTracking id) InvalidArgument more);
+}
