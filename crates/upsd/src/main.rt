@@ -5,6 +5,7 @@ ghost use Rattle.std.specs.Prelude.{◌≡◌, ◌≢◌, ◌⊎◌, [], Err, If
 ghost use Rattle.std.specs.Process.{exit_status};
 ghost use Rattle.clap.specs.Words.{app_of, kind_of, rule_of, subcommand_name_of};
 ghost use Rattle.upsd.specs.Ending.{status_of};
+ghost use Rattle.upsd.specs.Task.{AsksNothing};
 ghost use Rattle.upsd.specs.Words.{AreRead, listen_word, max_age_word, option_word, replay_shape, script_word, serve_shape};
 
 mod ending;
@@ -198,7 +199,9 @@ fn end(rt: &HostRuntime, error: &Error) -> ExitCode
 
 /// Does what the words ask for.
 fn run<'a>(rt: &HostRuntime, matches: &ArgMatches<'a>) -> Result<(), Ending<'a>>
-    ensures { subcommand_name_of matches.now ≡ None → result ≡ Err Ending.BadArgument }
+    ensures unnamed { subcommand_name_of matches.now ≡ None → result ≡ Err Ending.BadArgument }
+    // Nothing that is to be done is refused as a bad argument.
+    ensures refused { result ≡ Err Ending.BadArgument → AsksNothing matches.now }
 {
     let Some((name, found)) = matches.subcommand() else {
         return Err(Ending::BadArgument);

@@ -4,7 +4,7 @@ ghost use Rattle.std.specs.IoError.{error_kind};
 ghost use Rattle.nutloop.specs.declared.fault.LoopFault.{LoopFault};
 ghost use Rattle.nutloop.specs.Serving.{IsOneRun, TurnsUpTo};
 ghost use Rattle.upsd.specs.Configuration.{FirstFails, IsServerOf};
-ghost use Rattle.upsd.specs.Ending.{IsEndOfServing};
+ghost use Rattle.upsd.specs.Ending.{IsEndOfServing, TellsAddress};
 ghost use Rattle.upsd.specs.Reading.{CantBeOpened, anything};
 
 use crate::ending::Ending;
@@ -14,9 +14,11 @@ use crate::reading::{FileReader, open};
 use crate::task::Service;
 use crate::warnings::warn;
 use nutcore::{MaxAge, Server};
+use nutio::{CountedWriter, Sink, send};
 use nutloop::{MioSockets, ReadIds, Sockets, WithIds};
 use std::alloc::Global;
 use std::fs::File;
+use std::io;
 use std::io::{Error, ErrorKind};
 use std::net::SocketAddr;
 
@@ -86,7 +88,7 @@ fn serve<'a>(
     ensures { IfErr result IsEndOfServing }
 {
     match MioSockets::new(rt, rt.alloc(), address, &server) {
-        Ok(sockets) => match tell_address(rt, &sockets) {
+        Ok(sockets) => match tell(rt, &sockets) {
             Ok(()) => serve_over(rt, &mut server, sockets, ids),
             Err(ending) => Err(ending),
         },
@@ -135,17 +137,29 @@ fn go_round<'a, S: Sockets>(
     }
 }
 
-/// Tells at which address clients are listened for.
-fn tell_address<'a>(
-    rt: &HostRuntime,
-    sockets: &MioSockets<'_, HostRuntime>,
-) -> Result<(), Ending<'a>>
-    ensures { IfErr result (λ ending. (ending ≡ Ending.Listen) ⊎ (ending ≡ Ending.Write)) }
+/// Tells on standard output at which address clients are listened for.
+fn tell<'a>(rt: &HostRuntime, sockets: &MioSockets<'_, HostRuntime>) -> Result<(), Ending<'a>>
+    ensures { IfErr result IsEndOfServing }
 {
     let Ok(bound) = sockets.local_addr() else {
         return Err(Ending::Listen);
     };
-    match println!(rt; "upsd: listening on {bound}") {
+    let mut out = CountedWriter::new(io::writer(rt));
+    tell_address(rt.alloc(), &mut out, bound)
+}
+
+/// Tells that clients are listened for at the address.
+fn tell_address<'a, W: Sink>(
+    alloc: Global,
+    out: &mut W,
+    address: SocketAddr,
+) -> Result<(), Ending<'a>>
+    ensures { TellsAddress W.contents W.failures address out.old result out.new }
+{
+    let Ok(line) = format!(in alloc; "upsd: listening on {address}\n") else {
+        return Err(Ending::Memory);
+    };
+    match send(out, line.as_bytes()) {
         Ok(()) => Ok(()),
         Err(_) => Err(Ending::Write),
     }
