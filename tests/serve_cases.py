@@ -13,6 +13,7 @@ import sys
 import tempfile
 import threading
 import time
+import uuid
 
 UPSD, UPSC, UPSRW, UPSCMD = sys.argv[1:5]
 FOLDER = tempfile.mkdtemp()
@@ -346,6 +347,32 @@ def orders_reach_the_driver():
         assert driver.line() == b"INSTCMD test.battery.start\n"
         driver.send(b'SETINFO ups.delay "30"\n')
         assert comes(lambda: good.ask(b"GET VAR su ups.delay\n") == b'VAR su ups.delay "30"\n')
+
+
+def put_ids(name, *numbers):
+    """Appends ids to a file, each as its bytes."""
+    with open(path(name), "ab") as out:
+        out.write(b"".join(number.to_bytes(16, "big") for number in numbers))
+    return path(name)
+
+
+def given(number):
+    """The answer to an order that is tracked by this id."""
+    return f"OK TRACKING {uuid.UUID(int=number)}\n".encode()
+
+
+@case
+def ids_are_those_of_their_file():
+    first, order = 0x0102030405060708090A0B0C0D0E0F10, b"SET VAR su ups.delay 30\n"
+    with served(ORDERS, "--ids", put_ids("ids", first, 7)) as (_, _, good):
+        assert good.ask(ADMIN + b"SET TRACKING ON\n") == b"OK\n" * 3
+        assert good.ask(order) == given(first)
+        assert good.ask(order) == given(7)
+        assert good.ask(order) == b"ERR SET-FAILED\n"
+        # What the file gains is read at the next second.
+        put_ids("ids", 8)
+        assert comes(lambda: good.ask(order) == given(8))
+        assert good.ask(order) == b"ERR SET-FAILED\n"
 
 
 @case
