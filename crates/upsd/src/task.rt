@@ -54,7 +54,9 @@ fn serving<'a>(found: &ArgMatches<'a>) -> Option<Task<'a>>
     ensures { MatchOption result
         ((service : Service) → ¬ (IsServiceIn found.now service)) (IsServing found.now) }
 {
-    let service = service_named(found)?;
+    let Some(service) = service_named(found) else {
+        return None;
+    };
     Some(Task::Serve(files_named(found), service))
 }
 
