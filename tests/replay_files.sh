@@ -349,7 +349,7 @@ fails_at_a_full_output replay "$folder/files/script"
 
 # The help is printed, and names each word.
 ends help 0 '*serve*replay*' '' --help
-ends help_of_serve 0 '*--ups <F>*--users <F>*--vars <F>*--listen <A:P>*127.0.0.1:3493*--maxage <N>*cause N:*1 malformed line,*6 bad value*' '' serve --help
+ends help_of_serve 0 '*--ups <F>*--users <F>*--vars <F>*--ids <F>*--listen <A:P>*127.0.0.1:3493*--maxage <N>*cause N:*1 malformed line,*6 bad value*' '' serve --help
 ends help_of_replay 0 '*<SCRIPT>*--ups <F>*--users <F>*--vars <F>*' '' replay --help
 
 ends word_that_is_no_text 2 '' 'upsd: bad argument' replay $'\xff'

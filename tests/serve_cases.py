@@ -13,6 +13,7 @@ import sys
 import tempfile
 import threading
 import time
+import uuid
 
 UPSD, UPSC, UPSRW, UPSCMD = sys.argv[1:5]
 FOLDER = tempfile.mkdtemp()
@@ -243,12 +244,14 @@ def words_and_files_are_told_as_faults():
         assert (status, out, told[:7]) == (2, b"", b"error: "), words
     assert run_to_end("--ups", ups)[0] == 2
     absent = path("absent")
-    # The first fault is told, in the order of the words, the list, the users, the descriptions, the address.
+    # The first fault is told, in the order of the words, the list, the users, the descriptions, the ids, the address.
     for words, told in [
             (["--ups", bad, "--users", absent], f"{bad}:1: cause 1"),
             (["--ups", ups, "--users", absent, "--vars", bad], f"{absent}: cannot read"),
             (["--ups", ups, "--users", users, "--vars", bad], f"{bad}:1: cause 1"),
             (["--ups", bad, "--users", users, "--listen", "192.0.2.1:1"], f"{bad}:1: cause 1"),
+            (files + ["--vars", bad, "--ids", absent], f"{bad}:1: cause 1"),
+            (files + ["--ids", absent, "--listen", "192.0.2.1:1"], f"{absent}: cannot read"),
             (files + ["--listen", "192.0.2.1:1"], "cannot listen")]:
         assert run_to_end(*words) == (1, b"", f"upsd: {told}\n".encode()), words
 
@@ -346,6 +349,32 @@ def orders_reach_the_driver():
         assert comes(lambda: good.ask(b"GET VAR su ups.delay\n") == b'VAR su ups.delay "30"\n')
 
 
+def put_ids(name, *numbers):
+    """Appends ids to a file, each as its bytes."""
+    with open(path(name), "ab") as out:
+        out.write(b"".join(number.to_bytes(16, "big") for number in numbers))
+    return path(name)
+
+
+def given(number):
+    """The answer to an order that is tracked by this id."""
+    return f"OK TRACKING {uuid.UUID(int=number)}\n".encode()
+
+
+@case
+def ids_are_those_of_their_file():
+    first, order = 0x0102030405060708090A0B0C0D0E0F10, b"SET VAR su ups.delay 30\n"
+    with served(ORDERS, "--ids", put_ids("ids", first, 7)) as (_, _, good):
+        assert good.ask(ADMIN + b"SET TRACKING ON\n") == b"OK\n" * 3
+        assert good.ask(order) == given(first)
+        assert good.ask(order) == given(7)
+        assert good.ask(order) == b"ERR SET-FAILED\n"
+        # What the file gains is read at the next second.
+        put_ids("ids", 8)
+        assert comes(lambda: good.ask(order) == given(8))
+        assert good.ask(order) == b"ERR SET-FAILED\n"
+
+
 @case
 def a_forced_shutdown_is_seen_and_told_once():
     with served() as (server, _, good):
@@ -369,6 +398,37 @@ def orders_are_told_once_and_no_value():
         )
         assert good.ask(GET) == b'VAR su ups.status "OL"\n'
         assert server.journal() == told, server.journal()
+
+
+def printed(*words):
+    """What a client prints, and what it tells of a fault."""
+    got = subprocess.run(words, capture_output=True, timeout=10, check=False)
+    return got.stdout + got.stderr
+
+
+@case
+def clients_follow_an_order_to_its_end():
+    with served(ORDERS, "--ids", "/dev/urandom") as (server, driver, _):
+        ups = f"su@127.0.0.1:{server.port}"
+        user = ("--track", "-u", "admin", "-p", "s3 cret")
+        for order, number, ended in [
+                ((UPSRW, *user, "-s", "ups.delay=30", ups), 0, b"SUCCESS\n"),
+                ((UPSCMD, *user, ups, "test.battery.start"), 7, b"FAILED 7\n")]:
+            known = printed(*order).strip()
+            assert driver.line().endswith(b" TRACKING %s\n" % known), known
+            progress = (UPSC, "--tracked", known.decode(), ups)
+            assert printed(*progress) == b"PENDING\n"
+            driver.send(b"TRACKING %s %d\n" % (known, number))
+            assert comes(lambda: printed(*progress) == ended)
+
+
+@case
+def an_order_without_an_id_is_not_given():
+    with served(ORDERS) as (server, driver, good):
+        words = ("--track", "-u", "admin", "-p", "s3 cret", "-s", "ups.delay=30", f"su@127.0.0.1:{server.port}")
+        assert printed(UPSRW, *words) == b"upsrw: server answered ERR SET-FAILED\n"
+        assert good.ask(ADMIN + b"INSTCMD su test.battery.start\n") == b"OK\n" * 3
+        assert driver.line() == b"INSTCMD test.battery.start\n"
 
 
 @case

@@ -1,6 +1,6 @@
 #!/usr/bin/env bash
-# How many tracked orders are kept: of 257 the last 256, so that the first one's id is told of no more, and may be handed in
-# again. The script is made here; shorter ones are the cases of scripts/tracking.cases.
+# How many tracked orders are kept: of 257 the last 256, so that nothing is told of the first one's id any more, and it may
+# be handed in again. The script is made here; shorter ones are the cases of scripts/tracking.cases.
 set -euo pipefail
 # shellcheck source=tests/built.bash
 source "$(dirname "${BASH_SOURCE[0]}")/built.bash"

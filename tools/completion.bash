@@ -5,11 +5,11 @@
 # before, and the subcommand of upsd.
 _voqarchay_words() {
     case $1:$2 in
-    upsd:--ups | upsd:--users | upsd:--vars) echo FILE ;;
+    upsd:--ups | upsd:--users | upsd:--vars | upsd:--ids) echo FILE ;;
     upsd:--listen | upsd:--maxage | upsrw:-[sup] | upscmd:-[up]) ;;
     upsd:*)
         case $3 in
-        serve) printf '%s\n' --ups --users --vars --listen --maxage -h --help ;;
+        serve) printf '%s\n' --ups --users --vars --ids --listen --maxage -h --help ;;
         replay) printf '%s\n' --ups --users --vars -h --help FILE ;;
         help) printf '%s\n' serve replay ;;
         *) printf '%s\n' serve replay help -h --help -V --version ;;

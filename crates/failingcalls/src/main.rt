@@ -1,11 +1,13 @@
 //! Turns of the loop over sockets in memory, with two clients and a driver: once as they are, and then once for each call
-//! of the sockets, which fails. It prints a line for each.
+//! of the sockets, which fails. It prints a line for each, and one of ids that are handed in.
 #![tactic(auto)]
 
+mod ids;
 mod rows;
 mod run;
 mod seen;
 
+use crate::ids::tell_ids;
 use crate::rows::{Row, SU, rows};
 use crate::run::{Failing, Part, Ran, run};
 use crate::seen::{bytes_taken, other_calls, shuts};
@@ -22,7 +24,8 @@ fn main(rt: HostRuntime) -> Result<()> {
 fn run_all(rt: &HostRuntime, rows: &[Row]) -> Result<()> {
     let as_ever = run(rt.alloc(), rows, None)?;
     tell_as_ever(rt, &as_ever)?;
-    fail_each(rt, rows, &as_ever)
+    fail_each(rt, rows, &as_ever)?;
+    tell_ids(rt, &as_ever.server)
 }
 
 /// A run for each call, which fails.

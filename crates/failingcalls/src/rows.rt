@@ -43,13 +43,14 @@ pub enum Reply {
 /// A turn: what is ready, and what is answered then.
 pub type Row = (Ready, Reply);
 
-/// The turns of a run.
+/// The turns of a run. At last an id is handed in.
 pub fn rows(alloc: Global) -> Result<Vec<Row>, AllocError> {
     let mut rows = Vec::new(alloc);
     rows.extend_from_slice(&connecting())?;
     rows.extend_from_slice(&asking())?;
     rows.extend_from_slice(&going_on())?;
     rows.extend_from_slice(&ending())?;
+    rows.push((Ready::Id(1), Reply::Unasked))?;
     Ok(rows)
 }
 

@@ -1,7 +1,7 @@
 -- What a program's words ask for: the server, the requests, and how the items of the last reply are
 -- printed.
-use Rattle.std.specs.Prelude.{ℕ, Bool, true, false, List, [], ◌∷◌, ◌++◌, ◌==◌, ◌&&◌, nat_le, length, Option, Some}
-use Rattle.std.specs.Prelude.{None, option_map, if◌then◌else◌}
+use Rattle.std.specs.Prelude.{ℕ, Bool, true, false, List, [], ◌∷◌, ◌++◌, ◌==◌, ◌&&◌, nat_le}
+use Rattle.std.specs.Prelude.{length, Option, Some, None, option_map, if◌then◌else◌}
 use Rattle.std.specs.List.{before_first, after_first}
 use denote.Ref.{Bor}
 use Rattle.nutwords.specs.Reading.{read_name, read_value}
@@ -11,8 +11,8 @@ use Rattle.nutrequest.specs.declared.request.Query.TheVariants.{Ups, Var, Rw, Cm
 use Rattle.nutrequest.specs.declared.request.Request.{Request}
 use Rattle.nutrequest.specs.declared.request.Request.TheVariants.{List as ListOf, GetVar}
 use Rattle.nutrequest.specs.declared.request.Request.TheVariants.{GetNumAttach}
-use Rattle.nutrequest.specs.declared.request.Request.TheVariants.{Username, Password, SetVar, Instcmd}
-use Rattle.nutrequest.specs.declared.request.Request.TheVariants.{SetTracking, TrackedSetVar}
+use Rattle.nutrequest.specs.declared.request.Request.TheVariants.{Username, Password, SetVar}
+use Rattle.nutrequest.specs.declared.request.Request.TheVariants.{Instcmd, SetTracking, TrackedSetVar}
 use Rattle.nutrequest.specs.declared.request.Request.TheVariants.{TrackedInstcmd, GetTracking}
 use Rattle.nutclient.specs.Target.{lawful, both, has_byte, server_of, local_server, ups_place_of}
 use Rattle.nutclient.specs.declared.limits.TheConstants.{USER_LIMIT, PASSWORD_LIMIT}
@@ -23,8 +23,8 @@ use Rattle.nutclient.specs.declared.form.Form.{Form}
 use Rattle.nutclient.specs.declared.form.Form.TheVariants.{Name, Value, Colon, Equals}
 use Rattle.nutclient.specs.declared.given.Given.{Given}
 use Rattle.nutclient.specs.declared.given.Given.TheVariants.{Variables, Variable, Upses}
-use Rattle.nutclient.specs.declared.given.Given.TheVariants.{Descriptions, Clients, Attached, Tracked}
-use Rattle.nutclient.specs.declared.given.Given.TheVariants.{Writable, Set, Commands, Command}
+use Rattle.nutclient.specs.declared.given.Given.TheVariants.{Descriptions, Clients, Attached}
+use Rattle.nutclient.specs.declared.given.Given.TheVariants.{Tracked, Writable, Set, Commands, Command}
 
 -- A UPS and its server.
 abbrev pub UpsPlace : Type 0

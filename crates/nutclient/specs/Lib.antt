@@ -4,3 +4,4 @@ pub mod Target
 pub mod Job
 pub mod Ending
 pub mod Words
+pub mod Start

@@ -1,6 +1,7 @@
-//! The numbers of the clients. No program calls this.
+//! The numbers of the clients, and laws of their words. No program calls these.
 ghost use Rattle.std.specs.Prelude.{◌≡◌};
 ghost use Rattle.nutclient.specs.declared.limits.TheConstants.{HOST_LIMIT, USER_LIMIT, PASSWORD_LIMIT, PORT_LIMIT, DEFAULT_PORT, WAIT_SECONDS, WORD_FAULT};
+ghost use Rattle.nutclient.specs.Words.{ExcludingBinds, NeedingBinds, StandingUnlessBinds};
 
 /// The limits of the words, the port of the protocol, how long a server is waited for, and the status of a fault of the
 /// words.
@@ -12,4 +13,11 @@ pub fn numbers()
     ensures default_port { DEFAULT_PORT ≡ 3493 }
     ensures wait { WAIT_SECONDS ≡ 5 }
     ensures words { WORD_FAULT ≡ 2 }
+{}
+
+/// A word that excludes others, needs them or has to be there unless they are is read by the same rule else.
+pub fn bound_words_keep_their_rules()
+    ensures excluding { ExcludingBinds }
+    ensures needing { NeedingBinds }
+    ensures standing { StandingUnlessBinds }
 {}

@@ -1,12 +1,15 @@
 //! What the `main` of each program does: it takes the words, the network and the two outputs from the system, and hands
 //! them on.
-ghost use Rattle.std.specs.Prelude.{◌≡◌, ◌≢◌, ◌≤◌, ◌⊎◌, ◌↔◌, None, Err, IfErr, Result};
+ghost use Rattle.std.specs.Prelude.{◌≡◌, ◌≢◌, ◌≤◌, ◌⊎◌, ◌↔◌, None, Err, IfErr, IfOk, MatchResult, Result, map, string_bytes};
 ghost use Rattle.std.specs.Process.{exit_status};
-ghost use Rattle.clap.specs.Words.{kind_of};
+ghost use Rattle.clap.specs.Words.{HasMatchesOf};
+ghost use Rattle.clap.specs.declared.error.Error.{Error};
+ghost use Rattle.clap.specs.declared.parser.matches.ArgMatches.{ArgMatches};
 ghost use Rattle.nutrequest.specs.Fault.{status_of};
 ghost use Rattle.nutrequest.specs.declared.faults.ClientFault.{ClientFault};
 ghost use Rattle.nutclient.specs.Job.{job_of};
 ghost use Rattle.nutclient.specs.Ending.{EndsBy};
+ghost use Rattle.nutclient.specs.Start.{EndsAsAsked, EndsAsRefused};
 
 use crate::ending::{conclude, finish};
 use crate::limits::WORD_FAULT;
@@ -23,12 +26,24 @@ use std::{env, io};
 pub fn main_of<C: Client>(rt: &HostRuntime) -> ExitCode
     ensures { exit_status result ≤ WORD_FAULT }
 {
-    let words = match words_of(rt) {
-        Ok(words) => words,
-        Err(fault) => return tell(rt, C::program(), fault),
-    };
-    match matches_of::<C>(rt.alloc(), &words) {
-        Ok(matches) => perform(rt, C::program(), &C::given(&matches)),
+    match words_of(rt) {
+        Ok(words) => obey::<C>(rt, &words),
+        Err(fault) => tell(rt, C::program(), fault),
+    }
+}
+
+/// Does what these words ask for.
+fn obey<C: Client>(rt: &HostRuntime, words: &[String]) -> ExitCode
+    // The program ends by what was found in the words, or by why they were refused.
+    ensures ends { (parsed : Result ArgMatches Error)
+        × IfOk parsed (HasMatchesOf C.words (map string_bytes words.now))
+        × MatchResult parsed
+        (λ found. EndsAsAsked C.asks found (exit_status result))
+        (λ error. EndsAsRefused error (exit_status result)) }
+    ensures most { exit_status result ≤ WORD_FAULT }
+{
+    match matches_of::<C>(rt.alloc(), words) {
+        Ok(found) => perform(rt, C::program(), &C::given(&found)),
         Err(error) => end(rt, C::program(), &error),
     }
 }
@@ -51,7 +66,9 @@ fn words_of(rt: &HostRuntime) -> Result<Vec<String>, ClientFault>
 }
 
 /// What the words say.
-fn matches_of<C: Client>(alloc: Global, words: &[String]) -> Result<ArgMatches<'_>, Error> {
+fn matches_of<C: Client>(alloc: Global, words: &[String]) -> Result<ArgMatches<'_>, Error>
+    ensures { IfOk result (HasMatchesOf C.words (map string_bytes words.entry.now)) }
+{
     C::command(alloc)?.try_get_matches_from(words)
 }
 
@@ -108,12 +125,7 @@ fn tell(rt: &HostRuntime, program: Program, fault: ClientFault) -> ExitCode
 
 /// Prints what the parser of the words says: the help, the version, or a fault of the words.
 fn end(rt: &HostRuntime, program: Program, error: &Error) -> ExitCode
-    ensures memory { kind_of error.now ≡ ErrorKind.OutOfMemory → exit_status result ≡ 1 }
-    ensures help { kind_of error.now ≡ ErrorKind.DisplayHelp → exit_status result ≡ 0 }
-    ensures version { kind_of error.now ≡ ErrorKind.DisplayVersion → exit_status result ≡ 0 }
-    ensures words { kind_of error.now ≢ ErrorKind.OutOfMemory
-        → kind_of error.now ≢ ErrorKind.DisplayHelp
-        → kind_of error.now ≢ ErrorKind.DisplayVersion → exit_status result ≡ WORD_FAULT }
+    ensures ends { EndsAsRefused error.now (exit_status result) }
     ensures most { exit_status result ≤ WORD_FAULT }
 {
     if error.kind() == ErrorKind::OutOfMemory {

@@ -15,7 +15,7 @@ use Rattle.nutcore.specs.Step.{offered}
 use Rattle.nutcore.specs.Run.{Run}
 use Rattle.nutcore.specs.DriverHistory.{has_driver}
 use Rattle.nutloop.specs.declared.sockets.Ready.{Ready}
-use Rattle.nutloop.specs.declared.sockets.Ready.TheVariants.{Nothing, Tick, Newcomer, DriverUp, Read, Write}
+use Rattle.nutloop.specs.declared.sockets.Ready.TheVariants.{Nothing, Tick, Newcomer, Id, DriverUp, Read, Write}
 use Rattle.nutloop.specs.declared.sockets.Call.{Call}
 use Rattle.nutloop.specs.declared.sockets.Call.TheVariants.{Readied, Accepted, Named, Refused, Gave, Waits, Ended, Wrote, Shut}
 use Rattle.nutloop.specs.declared.turns.TheConstants.{DRIVER_READ_LIMIT}
@@ -34,6 +34,7 @@ pub record Fit (g : Call → List ℕ) (f : ServerState → Event → List ℕ) 
   pub ups : (s : ServerState) (u : UpsId) → f s (event.DriverUp u) ≡ []
   pub downs : (s : ServerState) (u : UpsId) → f s (event.DriverDown u) ≡ []
   pub ticks : (s : ServerState) (n : ℕ) → f s (event.Tick n) ≡ []
+  pub ids : (s : ServerState) (n : ℕ) → f s (event.Id n) ≡ []
   pub opens : (s : ServerState) (a : List ℕ) → f s (event.Open a) ≡ []
   pub closes : (s : ServerState) (c : ℕ) → f s (event.Close c) ≡ []
   pub tries : (s : ServerState) (c : ℕ) → f s (event.Feed c []) ≡ []
@@ -76,6 +77,7 @@ behind g f fit (event.Tick n) o = refl
 behind g f fit (event.Open a) o = behind_open g f fit a o
 behind g f fit (event.Feed c piece) o = refl
 behind g f fit (event.Took c n) o = refl
+behind g f fit (event.Id n) o = refl
 behind g f fit (event.Close c) o = one_call g (Shut (Client c)) [] (fit.shut (Client c))
 
 pub behind_all : (g : Call → List ℕ) (f : ServerState → Event → List ℕ) → Fit g f → (es : List Event) (os : List Outcome) → flat_map g (calls_behind_all es os) ≡ []
@@ -180,6 +182,7 @@ pub row_moves : (g : Call → List ℕ) (f : ServerState → Event → List ℕ)
     → MayAnswer (ask s ready) answer → Run s (row_events s ready answer) os mid → flat_map g (answered (ask s ready) answer) ≡ along f s (row_events s ready answer) os
 row_moves g f fit s mid Nothing answer os may r = of_nobody g answer may
 row_moves g f fit s mid (Tick n) answer os may r = of_nobody g answer may ∙ sym (one_event f s mid (event.Tick n) os r ∙ fit.ticks s n)
+row_moves g f fit s mid (Id n) answer os may r = of_nobody g answer may ∙ sym (one_event f s mid (event.Id n) os r ∙ fit.ids s n)
 row_moves g f fit s mid Newcomer answer os may r = of_newcomer g f fit s mid answer os may r
 row_moves g f fit s mid (DriverUp u) answer os may r = of_nobody g answer may ∙ sym (one_event f s mid (event.DriverUp u) os r ∙ fit.ups s u)
 row_moves g f fit s mid (Read (Client c)) answer os may r = from_client g f fit s mid c (room_at c s) (room_at c s == 0) answer os refl may r
@@ -205,6 +208,7 @@ pub last_moves : (g : Call → List ℕ) (f : ServerState → Event → List ℕ
 last_moves g f fit s new Nothing answer os r = refl
 last_moves g f fit s new (Tick n) answer os r = refl
 last_moves g f fit s new Newcomer answer os r = refl
+last_moves g f fit s new (Id n) answer os r = refl
 last_moves g f fit s new (DriverUp u) answer os r = refl
 last_moves g f fit s new (Read p) answer os r = refl
 last_moves g f fit s new (Write (Client c)) answer os r = last_of_client g f fit s new c answer os r

@@ -9,7 +9,7 @@ use Rattle.nutcore.specs.declared.event.Peer.TheVariants.{Client, Driver}
 use Rattle.nutcore.specs.Server.{ServerState, session}
 use Rattle.nutcore.specs.Addresses.{OpensLawfully}
 use Rattle.nutloop.specs.declared.sockets.Ready.{Ready}
-use Rattle.nutloop.specs.declared.sockets.Ready.TheVariants.{Nothing, Tick, Newcomer, DriverUp, Read, Write}
+use Rattle.nutloop.specs.declared.sockets.Ready.TheVariants.{Nothing, Tick, Newcomer, Id, DriverUp, Read, Write}
 use Rattle.nutloop.specs.Turn.{accepts, Answer, unasked, newcomer, gave, later, ended, took, failed, ask, is_finished_at, MayAnswer, row_events, read_of_client, read_of_driver, write_to_client, write_to_driver, opening, last_events}
 
 none : All OpensLawfully []
@@ -77,6 +77,7 @@ pub row_opens : (s : ServerState) (ready : Ready) (answer : Answer) → MayAnswe
 row_opens s Nothing answer may = none
 row_opens s (Tick n) answer may = one (event.Tick n) tt
 row_opens s Newcomer answer may = of_newcomer answer may
+row_opens s (Id n) answer may = one (event.Id n) tt
 row_opens s (DriverUp u) answer may = one (event.DriverUp u) tt
 row_opens s (Read (Client c)) answer may = of_client s c answer
 row_opens s (Read (Driver u)) answer may = of_driver u answer
@@ -96,6 +97,7 @@ pub last_opens : (s : ServerState) (ready : Ready) (answer : Answer) → All Ope
 last_opens s Nothing answer = none
 last_opens s (Tick n) answer = none
 last_opens s Newcomer answer = none
+last_opens s (Id n) answer = none
 last_opens s (DriverUp u) answer = none
 last_opens s (Read p) answer = none
 last_opens s (Write (Client c)) answer = last_of_client s c answer

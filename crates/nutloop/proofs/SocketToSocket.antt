@@ -52,6 +52,7 @@ room_fits c = record {
   ups = λ s u. refl;
   downs = λ s u. refl;
   ticks = λ s n. refl;
+  ids = λ s n. refl;
   opens = λ s a. refl;
   closes = λ s d. refl;
   tries = λ s d. none_of (d == c) (room_at d s);
@@ -89,6 +90,7 @@ asked_goes_on c s (event.Tick n) going = refl
 asked_goes_on c s (event.Open a) going = refl
 asked_goes_on c s (event.Took d n) going = refl
 asked_goes_on c s (event.Close d) going = refl
+asked_goes_on c s (event.Id n) going = refl
 
 asked_when_over : (c : ℕ) (s : ServerState) (e : Event) → is_over c s ≡ true → asked_in_event c s e ≡ []
 unfolding asked_in_event
@@ -101,6 +103,7 @@ asked_when_over c s (event.Tick n) over = refl
 asked_when_over c s (event.Open a) over = refl
 asked_when_over c s (event.Took d n) over = refl
 asked_when_over c s (event.Close d) over = refl
+asked_when_over c s (event.Id n) over = refl
 
 never_both : {A : Type 0} (b : Bool) → b ≡ true → b ≡ false → A
 never_both true e f = cc f
@@ -229,6 +232,7 @@ took_fits u = record {
   ups = λ s v. refl;
   downs = λ s v. refl;
   ticks = λ s n. refl;
+  ids = λ s n. refl;
   opens = λ s a. refl;
   closes = λ s d. refl;
   tries = λ s d. refl;
@@ -252,6 +256,7 @@ took_is u s (event.Open a) h = refl
 took_is u s (event.Feed d piece) h = refl
 took_is u s (event.Took d n) h = refl
 took_is u s (event.Close d) h = refl
+took_is u s (event.Id n) h = refl
 
 -- While a driver isn't lost, it has one connection.
 is_there : (u : UpsId) (s : ServerState) (es : List Event) (os : List Outcome) → StaysConnected u s es os → has_driver u s ≡ true

@@ -1,4 +1,5 @@
 pub mod Fault
+pub mod Ids
 pub mod Moved
 pub mod Pace
 pub mod Peers

@@ -20,8 +20,8 @@ use Rattle.nutcore.specs.Calls.{room_of, is_finished}
 use Rattle.nutcore.specs.DriverHistory.{has_driver}
 use Rattle.nutcore.specs.DriverOrders.{owed_to_driver}
 use Rattle.nutloop.specs.declared.sockets.Ready.{Ready}
-use Rattle.nutloop.specs.declared.sockets.Ready.TheVariants.{Nothing, Tick, Newcomer, DriverUp}
-use Rattle.nutloop.specs.declared.sockets.Ready.TheVariants.{Read, Write}
+use Rattle.nutloop.specs.declared.sockets.Ready.TheVariants.{Nothing, Tick, Newcomer, Id}
+use Rattle.nutloop.specs.declared.sockets.Ready.TheVariants.{DriverUp, Read, Write}
 use Rattle.nutloop.specs.declared.sockets.Call.{Call}
 use Rattle.nutloop.specs.declared.sockets.Call.TheVariants.{Readied, Accepted, Named, Refused, Gave}
 use Rattle.nutloop.specs.declared.sockets.Call.TheVariants.{Waits, Ended, Wrote, Shut}
@@ -69,6 +69,7 @@ abbrev pub ask : ServerState → Ready → Ask
 ask s Nothing = nobody
 ask s (Tick seconds) = nobody
 ask s Newcomer = accepts
+ask s (Id id) = nobody
 ask s (DriverUp u) = nobody
 ask s (Read (Client c)) = read_of (Client c) (room_at c s)
 ask s (Read (Driver u)) = if has_driver u s then reads (Driver u) DRIVER_READ_LIMIT else nobody
@@ -132,6 +133,7 @@ abbrev pub row_events : ServerState → Ready → Answer → List Event
 row_events s Nothing answer = []
 row_events s (Tick seconds) answer = event.Tick seconds ∷ []
 row_events s Newcomer answer = opening answer
+row_events s (Id id) answer = event.Id id ∷ []
 row_events s (DriverUp u) answer = event.DriverUp u ∷ []
 row_events s (Read (Client c)) answer = read_of_client s c answer
 row_events s (Read (Driver u)) answer = read_of_driver u answer

@@ -2,6 +2,7 @@
 #![tactic(auto)]
 
 mod fault;
+mod ids;
 pub mod laws;
 mod over_mio;
 mod pace;
@@ -11,10 +12,13 @@ mod serving;
 mod sockets;
 mod standing;
 mod turns;
+mod with_ids;
 
 pub use fault::LoopFault;
+pub use ids::{ID_SIZE, IdSource, ReadIds};
 pub use over_mio::MioSockets;
 pub use scripted::{Act, Scripted};
 pub use serving::{TURN_LIMIT, serve};
 pub use sockets::{Broken, Call, Got, Ready, Sockets};
 pub use turns::{DRIVER_READ_LIMIT, turn};
+pub use with_ids::WithIds;

@@ -18,6 +18,8 @@ pub enum Ready {
     Tick(u64),
     /// A client may be there to be accepted.
     Newcomer,
+    /// This id is handed in, which a tracked order may use.
+    Id(u128),
     /// The driver of the UPS is there.
     DriverUp(UpsId),
     /// The peer may have sent something.

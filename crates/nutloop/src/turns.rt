@@ -203,6 +203,9 @@ pub fn turn<S: Sockets>(server: &mut Server, sockets: &mut S) -> Result<(), Loop
         Ready::Nothing => {}
         Ready::Tick(seconds) => server.tick(seconds),
         Ready::Newcomer => return newcomer(server, sockets),
+        Ready::Id(id) => {
+            let _ = server.id(id);
+        }
         Ready::DriverUp(u) => {
             let _ = server.driver_up(u);
         }

@@ -1,5 +1,9 @@
 //! The words of upsc, and what they ask for.
+ghost use Rattle.std.specs.Prelude.{◌≡◌, ◌∷◌, [], codes, false};
+ghost use Rattle.clap.specs.Words.{new_rule, rule_of};
+ghost use Rattle.nutclient.specs.Words.{Excludes, IsWord, StandsUnless, Takes, bound, long_flag, long_option, named, program_with, short_flag};
 ghost use Rattle.nutclient.specs.declared.program.Program.TheVariants as program;
+ghost use Rattle.upsc.specs.Words.{IsAsked, upsc_words};
 
 use clap::{Arg, ArgAction, ArgMatches, Command};
 use nutclient::{Client, Given, Program, with};
@@ -14,6 +18,10 @@ pub struct Upsc;
 
 impl Client for Upsc {
     ghost which = { program.Upsc };
+
+    ghost words = { upsc_words };
+
+    ghost asks = { IsAsked };
 
     fn program() -> Program {
         Program::Upsc
@@ -56,7 +64,9 @@ impl Client for Upsc {
 }
 
 /// The command before its words are added.
-fn described<'a>(alloc: Global) -> Result<Command<'a>, AllocError> {
+fn described<'a>(alloc: Global) -> Result<Command<'a>, AllocError>
+    ensures { Takes (program_with (codes "upsc") []) result }
+{
     Command::new(alloc, PROGRAM)
         .about("Prints what a UPS server tells of a UPS (RFC 9271)")
         .version(VERSION)
@@ -64,7 +74,10 @@ fn described<'a>(alloc: Global) -> Result<Command<'a>, AllocError> {
         .bin_name(PROGRAM)
 }
 
-fn names(alloc: Global) -> Result<Arg<'static>, AllocError> {
+fn names(alloc: Global) -> Result<Arg<'static>, AllocError>
+    ensures word { IsWord (bound (short_flag (codes "l") 108)) result }
+    ensures alone { Excludes (codes "L" ∷ codes "c" ∷ codes "attached" ∷ codes "tracked" ∷ codes "VAR" ∷ []) result }
+{
     Arg::new(alloc, "l")
         .short('l')
         .action(ArgAction::SetTrue)
@@ -72,7 +85,10 @@ fn names(alloc: Global) -> Result<Arg<'static>, AllocError> {
         .conflicts_with_all(&["L", "c", "attached", "tracked", "VAR"])
 }
 
-fn descriptions(alloc: Global) -> Result<Arg<'static>, AllocError> {
+fn descriptions(alloc: Global) -> Result<Arg<'static>, AllocError>
+    ensures word { IsWord (bound (short_flag (codes "L") 76)) result }
+    ensures alone { Excludes (codes "c" ∷ codes "attached" ∷ codes "tracked" ∷ codes "VAR" ∷ []) result }
+{
     Arg::new(alloc, "L")
         .short('L')
         .action(ArgAction::SetTrue)
@@ -80,7 +96,10 @@ fn descriptions(alloc: Global) -> Result<Arg<'static>, AllocError> {
         .conflicts_with_all(&["c", "attached", "tracked", "VAR"])
 }
 
-fn clients(alloc: Global) -> Result<Arg<'static>, AllocError> {
+fn clients(alloc: Global) -> Result<Arg<'static>, AllocError>
+    ensures word { IsWord (bound (short_flag (codes "c") 99)) result }
+    ensures alone { Excludes (codes "attached" ∷ codes "tracked" ∷ codes "VAR" ∷ []) result }
+{
     Arg::new(alloc, "c")
         .short('c')
         .action(ArgAction::SetTrue)
@@ -88,7 +107,10 @@ fn clients(alloc: Global) -> Result<Arg<'static>, AllocError> {
         .conflicts_with_all(&["attached", "tracked", "VAR"])
 }
 
-fn attached(alloc: Global) -> Result<Arg<'static>, AllocError> {
+fn attached(alloc: Global) -> Result<Arg<'static>, AllocError>
+    ensures word { IsWord (bound (long_flag (codes "attached"))) result }
+    ensures alone { Excludes (codes "tracked" ∷ codes "VAR" ∷ []) result }
+{
     Arg::new(alloc, "attached")
         .long("attached")
         .action(ArgAction::SetTrue)
@@ -96,7 +118,10 @@ fn attached(alloc: Global) -> Result<Arg<'static>, AllocError> {
         .conflicts_with_all(&["tracked", "VAR"])
 }
 
-fn tracked(alloc: Global) -> Result<Arg<'static>, AllocError> {
+fn tracked(alloc: Global) -> Result<Arg<'static>, AllocError>
+    ensures word { IsWord (bound (long_option (codes "tracked"))) result }
+    ensures alone { Excludes (codes "VAR" ∷ []) result }
+{
     Arg::new(alloc, "tracked")
         .long("tracked")
         .value_name("ID")
@@ -104,13 +129,19 @@ fn tracked(alloc: Global) -> Result<Arg<'static>, AllocError> {
         .conflicts_with("VAR")
 }
 
-fn target(alloc: Global) -> Result<Arg<'static>, AllocError> {
+fn target(alloc: Global) -> Result<Arg<'static>, AllocError>
+    ensures word { IsWord (bound (named (codes "UPS"))) result }
+    ensures demanded { StandsUnless (codes "l" ∷ codes "L" ∷ []) result }
+{
     Arg::new(alloc, "UPS")
         .value_name("UPS|HOST")
         .help("The UPS, as ups[@host[:port]]; with -l and -L the server, as host[:port]")
         .required_unless_present_any(&["l", "L"])
 }
 
-fn variable(alloc: Global) -> Arg<'static> {
+fn variable(alloc: Global) -> Arg<'static>
+    ensures word { rule_of result ≡ new_rule (codes "VAR") }
+    ensures local { result.global ≡ false }
+{
     Arg::new(alloc, "VAR").help("Prints the value of this variable alone")
 }

@@ -1,5 +1,9 @@
 //! The words of upscmd, and what they ask for.
+ghost use Rattle.std.specs.Prelude.{◌≡◌, ◌∷◌, [], codes, false};
+ghost use Rattle.clap.specs.Words.{new_rule, rule_of};
+ghost use Rattle.nutclient.specs.Words.{Excludes, IsWord, StandsUnless, Takes, bound, long_flag, program_with, required, short_flag, short_option};
 ghost use Rattle.nutclient.specs.declared.program.Program.TheVariants as program;
+ghost use Rattle.upscmd.specs.Words.{IsAsked, upscmd_words};
 
 use clap::{Arg, ArgAction, ArgMatches, Command};
 use nutclient::{Client, Given, Program, with};
@@ -14,6 +18,10 @@ pub struct Upscmd;
 
 impl Client for Upscmd {
     ghost which = { program.Upscmd };
+
+    ghost words = { upscmd_words };
+
+    ghost asks = { IsAsked };
 
     fn program() -> Program {
         Program::Upscmd
@@ -47,7 +55,9 @@ impl Client for Upscmd {
 }
 
 /// The command before its words are added.
-fn described<'a>(alloc: Global) -> Result<Command<'a>, AllocError> {
+fn described<'a>(alloc: Global) -> Result<Command<'a>, AllocError>
+    ensures { Takes (program_with (codes "upscmd") []) result }
+{
     Command::new(alloc, PROGRAM)
         .about("Lists the commands of a UPS, or does one (RFC 9271)")
         .version(VERSION)
@@ -55,7 +65,10 @@ fn described<'a>(alloc: Global) -> Result<Command<'a>, AllocError> {
         .bin_name(PROGRAM)
 }
 
-fn list(alloc: Global) -> Result<Arg<'static>, AllocError> {
+fn list(alloc: Global) -> Result<Arg<'static>, AllocError>
+    ensures word { IsWord (bound (short_flag (codes "l") 108)) result }
+    ensures alone { Excludes (codes "u" ∷ codes "p" ∷ codes "track" ∷ codes "CMD" ∷ codes "VALUE" ∷ []) result }
+{
     Arg::new(alloc, "l")
         .short('l')
         .action(ArgAction::SetTrue)
@@ -63,7 +76,10 @@ fn list(alloc: Global) -> Result<Arg<'static>, AllocError> {
         .conflicts_with_all(&["u", "p", "track", "CMD", "VALUE"])
 }
 
-fn user(alloc: Global) -> Result<Arg<'static>, AllocError> {
+fn user(alloc: Global) -> Result<Arg<'static>, AllocError>
+    ensures word { IsWord (bound (short_option (codes "u") 117)) result }
+    ensures demanded { StandsUnless (codes "l" ∷ []) result }
+{
     Arg::new(alloc, "u")
         .short('u')
         .value_name("USER")
@@ -71,7 +87,10 @@ fn user(alloc: Global) -> Result<Arg<'static>, AllocError> {
         .required_unless_present("l")
 }
 
-fn password(alloc: Global) -> Result<Arg<'static>, AllocError> {
+fn password(alloc: Global) -> Result<Arg<'static>, AllocError>
+    ensures word { IsWord (bound (short_option (codes "p") 112)) result }
+    ensures demanded { StandsUnless (codes "l" ∷ []) result }
+{
     Arg::new(alloc, "p")
         .short('p')
         .value_name("PASS")
@@ -79,25 +98,37 @@ fn password(alloc: Global) -> Result<Arg<'static>, AllocError> {
         .required_unless_present("l")
 }
 
-fn track(alloc: Global) -> Arg<'static> {
+fn track(alloc: Global) -> Arg<'static>
+    ensures word { rule_of result ≡ long_flag (codes "track") }
+    ensures local { result.global ≡ false }
+{
     Arg::new(alloc, "track")
         .long("track")
         .action(ArgAction::SetTrue)
         .help("Prints the order's id in place of OK")
 }
 
-fn target(alloc: Global) -> Arg<'static> {
+fn target(alloc: Global) -> Arg<'static>
+    ensures word { rule_of result ≡ required (new_rule (codes "UPS")) }
+    ensures local { result.global ≡ false }
+{
     Arg::new(alloc, "UPS")
         .required(true)
         .help("The UPS, as ups[@host[:port]]")
 }
 
-fn name(alloc: Global) -> Result<Arg<'static>, AllocError> {
+fn name(alloc: Global) -> Result<Arg<'static>, AllocError>
+    ensures word { IsWord (bound (new_rule (codes "CMD"))) result }
+    ensures demanded { StandsUnless (codes "l" ∷ []) result }
+{
     Arg::new(alloc, "CMD")
         .help("The command to be done")
         .required_unless_present("l")
 }
 
-fn value(alloc: Global) -> Arg<'static> {
+fn value(alloc: Global) -> Arg<'static>
+    ensures word { rule_of result ≡ new_rule (codes "VALUE") }
+    ensures local { result.global ≡ false }
+{
     Arg::new(alloc, "VALUE").help("A value for the command")
 }

@@ -1,6 +1,10 @@
 -- How the program ends by what it meets.
-use Rattle.std.specs.Prelude.{◌≡◌, ◌≢◌, ◌⊎◌, ℕ, Bool, List, Result, Ok, Err}
+use Rattle.std.specs.Prelude.{◌≡◌, ◌≢◌, ◌⊎◌, ◌++◌, ◌∷◌, [], ℕ, Bool, List, Option, Result, Ok, Err}
+use Rattle.std.specs.Prelude.{codes}
+use Rattle.std.specs.Net.Text.{socket_text}
+use Rattle.std.specs.declared.net.socket_addr.SocketAddr.{SocketAddr}
 use denote.Ref.{Bor}
+use Rattle.nutio.specs.Ends.{WriteFailed, Written}
 use Rattle.nutusers.specs.File.{Format, IsRefused, number_of_cause}
 use Rattle.nutusers.specs.declared.fault.Cause.TheVariants as causes
 use Rattle.nutusers.specs.declared.fault.ConfFault.{ConfFault}
@@ -33,6 +37,21 @@ ending_of_replay script faults.Write = endings.Write
 abbrev pub IsEndOfServing : Ending → Type 0
 IsEndOfServing ending = (ending ≡ endings.Memory) ⊎ ((ending ≡ endings.Listen)
     ⊎ ((ending ≡ endings.Write) ⊎ ((fault : LoopFault) × (ending ≡ endings.Loop fault))))
+
+-- The line that tells at which address clients are listened for.
+abbrev pub listening_line : SocketAddr → List ℕ
+listening_line address = codes "upsd: listening on " ++ socket_text address ++ 10 ∷ []
+
+-- The output took all of that line; or a beginning of it, and then a write failed; or nothing,
+-- memory being refused.
+abbrev pub TellsAddress : {W : Type 0} → (W → Option (List ℕ)) → (W → ℕ) → SocketAddr → W
+    → Result (Unit {0}) Ending → W → Type 0
+TellsAddress contents failures address out (Ok done) after =
+    Written contents failures out (listening_line address) after
+TellsAddress contents failures address out (Err endings.Write) after =
+    WriteFailed contents failures out (listening_line address) after
+TellsAddress contents failures address out (Err endings.Memory) after = after ≡ out
+TellsAddress contents failures address out result after = ⊥
 
 -- The status with which the program ends.
 abbrev pub status_of : Result (Unit {0}) Ending → ℕ

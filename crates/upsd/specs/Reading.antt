@@ -1,5 +1,5 @@
 -- What reading files gives.
-use Rattle.std.specs.Prelude.{◌≡◌, ℕ, ⊤, List, Result, Err}
+use Rattle.std.specs.Prelude.{◌≡◌, ℕ, ⊤, List, Option, Some, Result, Err}
 use denote.Ref.{Bor}
 use Rattle.upsd.specs.declared.ending.Ending.{Ending}
 use Rattle.upsd.specs.declared.ending.Ending.TheVariants as endings
@@ -19,7 +19,12 @@ abbrev pub ending_of_unread : Bor (List ℕ) → ReadFault → Ending
 ending_of_unread path faults.Memory = endings.Memory
 ending_of_unread path faults.Failed = endings.Unread path
 
--- The file of this path can't be read, which the ending tells.
+-- The file of this path can't be read or opened, which the ending tells.
 abbrev pub CantBeRead : Readings → Bor (List ℕ) → Ending → Type 0
 CantBeRead gives path ending =
     (fault : ReadFault) × gives path.now (Err fault) × (ending ≡ ending_of_unread path fault)
+
+-- A file is named, and can't be opened, which the ending tells.
+abbrev pub CantBeOpened : Option (Bor (List ℕ)) → Ending → Type 0
+CantBeOpened named ending =
+    (path : Bor (List ℕ)) × (named ≡ Some path) × CantBeRead anything path ending

@@ -1,9 +1,12 @@
 -- What the program is to do, by the words that were found after a subcommand.
-use Rattle.std.specs.Prelude.{◌≡◌, ℕ, List, Option, Some, None, codes, unwrap_or}
+use Rattle.std.specs.Prelude.{◌≡◌, ◌⊎◌, ℕ, List, Option, Some, None, codes, unwrap_or}
+use Rattle.std.specs.Option.{option_map}
 use Rattle.std.specs.Str.Parse.{IsNumeral, digits_value, without_leading_plus}
 use Rattle.std.specs.Net.Grammar.{IsSocketText}
 use Rattle.std.specs.declared.net.socket_addr.SocketAddr.{SocketAddr}
-use Rattle.clap.specs.Words.{found_of, first_value, one_text}
+use denote.Ref.{Bor}
+use Rattle.clap.specs.Words.{found_of, first_value, one_text, rows_of, subcommand_name_of}
+use Rattle.clap.specs.Words.{subcommand_rows_of}
 use Rattle.clap.specs.declared.parser.matches.ArgMatches.{ArgMatches}
 use Rattle.nutcore.specs.Server.{read_max_age}
 use Rattle.nutcore.specs.declared.max_age.TheConstants.{MAX_AGE_DEFAULT}
@@ -30,11 +33,18 @@ IsMaxAge (Some text) age = IsNumeral 10 (without_leading_plus text)
 abbrev pub IsMaxAgeIn : ArgMatches → ℕ → Type 0
 IsMaxAgeIn found age = IsMaxAge (one_text (found_of found) (codes "maxage")) age
 
+-- The file of ids is that of the path after --ids.
+abbrev pub AreIdsIn : ArgMatches → Option (Bor (List ℕ)) → Type 0
+AreIdsIn found path =
+    option_map (λ s. s.now) path ≡ first_value (found_of found) (codes "ids")
+
 pub record IsServiceIn (found : ArgMatches) (service : Service) : Type 0 where
   pub address : IsAddressIn found service.address
   pub max_age : IsMaxAgeIn found service.max_age
+  pub ids : AreIdsIn found service.ids
 
--- The task is to serve over the files, at the address and with the greatest age that were found.
+-- The task is to serve over the files, at the address, with the greatest age and the ids
+-- that were found.
 abbrev pub IsServing : ArgMatches → Task → Type 0
 IsServing found (Serve files service) = AreNamedIn found files × IsServiceIn found service
 IsServing found (Replay files script) = ⊥
@@ -44,3 +54,19 @@ abbrev pub IsReplaying : ArgMatches → Task → Type 0
 IsReplaying found (Serve files service) = ⊥
 IsReplaying found (Replay files script) = AreNamedIn found files
     × (first_value (found_of found) (codes "SCRIPT") ≡ Some script.now)
+
+-- By this name and what was found after it nothing is asked for.
+pub record IsNoTask (name : List ℕ) (found : ArgMatches) : Type 0 where
+  pub serve : name ≡ codes "serve" → (service : Service) → ¬ (IsServiceIn found service)
+  pub replay : name ≡ codes "replay" → first_value (found_of found) (codes "SCRIPT") ≡ None
+
+-- This was found after the name of the subcommand, which is this one.
+pub record IsFoundAfter (text : List ℕ) (words found : ArgMatches) : Type 0 where
+  pub name : subcommand_name_of words ≡ Some text
+  pub rows : option_map (λ p. p.1) (subcommand_rows_of words) ≡ Some (rows_of (found_of found))
+
+-- No task is named, or what was found after its name doesn't ask for it.
+abbrev pub AsksNothing : ArgMatches → Type 0
+AsksNothing words = (subcommand_name_of words ≡ None)
+    ⊎ ((name : List ℕ) × ((found : ArgMatches) × IsFoundAfter name words found
+    × IsNoTask name found))

@@ -29,14 +29,15 @@ max_age_word =
 abbrev pub script_word : Rule
 script_word = required (new_rule (codes "SCRIPT"))
 
--- `serve --ups F --users F [--vars F] [--listen A:P] [--maxage N]`.
+-- `serve --ups F --users F [--vars F] [--ids F] [--listen A:P] [--maxage N]`.
 abbrev pub serve_shape : Shape
 serve_shape =
     record (new_shape (codes "serve")) {
       rules =
           required (option_word (codes "ups"))
           ∷ required (option_word (codes "users"))
-          ∷ option_word (codes "vars") ∷ listen_word ∷ max_age_word ∷ [];
+          ∷ option_word (codes "vars") ∷ option_word (codes "ids")
+          ∷ listen_word ∷ max_age_word ∷ [];
     }
 
 -- `replay [--ups F] [--users F] [--vars F] SCRIPT`.

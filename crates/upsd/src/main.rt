@@ -5,6 +5,7 @@ ghost use Rattle.std.specs.Prelude.{◌≡◌, ◌≢◌, ◌⊎◌, [], Err, If
 ghost use Rattle.std.specs.Process.{exit_status};
 ghost use Rattle.clap.specs.Words.{app_of, kind_of, rule_of, subcommand_name_of};
 ghost use Rattle.upsd.specs.Ending.{status_of};
+ghost use Rattle.upsd.specs.Task.{AsksNothing};
 ghost use Rattle.upsd.specs.Words.{AreRead, listen_word, max_age_word, option_word, replay_shape, script_word, serve_shape};
 
 mod ending;
@@ -78,7 +79,7 @@ A line of a file that is refused is told as PATH:LINE: cause N:
   1 malformed line, 2 setting outside of a section, 3 bad name, 4 duplicate,
   5 unknown key, 6 bad value
 
-Example: upsd serve --ups upses.conf --users upsd.users --listen 127.0.0.1:3493";
+Example: upsd serve --ups upses.conf --users upsd.users --ids /dev/urandom";
 
 /// The words of `serve`.
 fn serve_command<'a>(alloc: Global) -> Result<Command<'a>, AllocError>
@@ -96,6 +97,7 @@ fn serve_command<'a>(alloc: Global) -> Result<Command<'a>, AllocError>
         .required(true))?
         .arg(file(alloc, "users", "The file of the users").required(true))?
         .arg(vars(alloc))?
+        .arg(ids(alloc))?
         .arg(listen(alloc))?
         .arg(max_age(alloc))
 }
@@ -122,6 +124,18 @@ fn vars<'a>(alloc: Global) -> Arg<'a>
         alloc,
         "vars",
         "The file of the descriptions [without it: none]",
+    )
+}
+
+/// The word that names the file whose bytes make ids.
+fn ids<'a>(alloc: Global) -> Arg<'a>
+    ensures word { rule_of result ≡ option_word (codes "ids") }
+    ensures local { result.global ≡ false }
+{
+    file(
+        alloc,
+        "ids",
+        "The file whose bytes make the ids of tracked orders [without it: none]",
     )
 }
 
@@ -185,7 +199,9 @@ fn end(rt: &HostRuntime, error: &Error) -> ExitCode
 
 /// Does what the words ask for.
 fn run<'a>(rt: &HostRuntime, matches: &ArgMatches<'a>) -> Result<(), Ending<'a>>
-    ensures { subcommand_name_of matches.now ≡ None → result ≡ Err Ending.BadArgument }
+    ensures unnamed { subcommand_name_of matches.now ≡ None → result ≡ Err Ending.BadArgument }
+    // Nothing that is to be done is refused as a bad argument.
+    ensures refused { result ≡ Err Ending.BadArgument → AsksNothing matches.now }
 {
     let Some((name, found)) = matches.subcommand() else {
         return Err(Ending::BadArgument);

@@ -1,11 +1,11 @@
 //! Reading files by their paths.
-ghost use Rattle.std.specs.Prelude.{◌≡◌, ◌≢◌, ℕ, List, Result, Ok, Err, MatchResult};
+ghost use Rattle.std.specs.Prelude.{◌≡◌, ◌≢◌, ℕ, List, Result, Ok, Err, IfErr, MatchResult};
 ghost use Rattle.std.specs.IoError.{error_kind};
 ghost use Rattle.upsd.specs.declared.reading.ReadFault.{ReadFault};
-ghost use Rattle.upsd.specs.Reading.{CantBeRead};
+ghost use Rattle.upsd.specs.Reading.{CantBeRead, anything};
 
 use crate::ending::Ending;
-use std::fs;
+use std::fs::{self, File};
 use std::io::{Error, ErrorKind};
 
 /// Why a file can't be read.
@@ -64,5 +64,18 @@ pub fn read<'a, R: FileReader>(reader: &R, path: &'a str) -> Result<Vec<u8>, End
         Ok(bytes) => Ok(bytes),
         Err(ReadFault::Memory) => Err(Ending::Memory),
         Err(ReadFault::Failed) => Err(Ending::Unread { path }),
+    }
+}
+
+/// Opens the file of this path, which is read later; or tells how the program ends without it.
+pub fn open<'a>(rt: &HostRuntime, path: &'a str) -> Result<File, Ending<'a>>
+    ensures { IfErr result (CantBeRead anything path.entry) }
+{
+    match fs::open(rt, path) {
+        Ok(file) => Ok(file),
+        Err(error) => match fault_of(&error) {
+            ReadFault::Memory => Err(Ending::Memory),
+            ReadFault::Failed => Err(Ending::Unread { path }),
+        },
     }
 }

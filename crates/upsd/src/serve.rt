@@ -1,21 +1,24 @@
 //! Serving clients and drivers.
-ghost use Rattle.std.specs.Prelude.{◌≡◌, ◌≢◌, ◌⊎◌, MatchResult, IfOk, IfErr, Ok, Err};
+ghost use Rattle.std.specs.Prelude.{◌≡◌, ◌≢◌, ◌⊎◌, MatchResult, IfOk, IfErr, Ok, Err, is_some};
 ghost use Rattle.std.specs.IoError.{error_kind};
 ghost use Rattle.nutloop.specs.declared.fault.LoopFault.{LoopFault};
 ghost use Rattle.nutloop.specs.Serving.{IsOneRun, TurnsUpTo};
 ghost use Rattle.upsd.specs.Configuration.{FirstFails, IsServerOf};
-ghost use Rattle.upsd.specs.Ending.{IsEndOfServing};
-ghost use Rattle.upsd.specs.Reading.{anything};
+ghost use Rattle.upsd.specs.Ending.{IsEndOfServing, TellsAddress};
+ghost use Rattle.upsd.specs.Reading.{CantBeOpened, anything};
 
 use crate::ending::Ending;
 use crate::files::{Configuration, Files, configuration_in};
 use crate::journal::Journal;
-use crate::reading::FileReader;
+use crate::reading::{FileReader, open};
 use crate::task::Service;
 use crate::warnings::warn;
 use nutcore::{MaxAge, Server};
-use nutloop::{MioSockets, Sockets};
+use nutio::{CountedWriter, Sink, send};
+use nutloop::{MioSockets, ReadIds, Sockets, WithIds};
 use std::alloc::Global;
+use std::fs::File;
+use std::io;
 use std::io::{Error, ErrorKind};
 use std::net::SocketAddr;
 
@@ -23,18 +26,34 @@ use std::net::SocketAddr;
 ///
 /// # Errors
 ///
-/// The first file that can't be read or is refused; `Listen`; `Loop`; `Memory`; `Write`.
+/// The first file that can't be read or is refused, that of the ids last; `Listen`; `Loop`; `Memory`; `Write`.
 pub fn serve_files<'a>(
     rt: &HostRuntime,
     files: Files<'a>,
-    service: Service,
+    service: Service<'a>,
 ) -> Result<(), Ending<'a>>
     ensures { IfErr result (λ ending.
-        FirstFails anything files.entry ending ⊎ IsEndOfServing ending) }
+        FirstFails anything files.entry ending
+        ⊎ (CantBeOpened service.entry.ids ending ⊎ IsEndOfServing ending)) }
 {
     let server = server_of(rt.alloc(), rt, files, service.max_age)?;
+    let ids = ids_in(rt, service.ids)?;
     warn(rt, files.users);
-    serve(rt, server, service.address)
+    serve(rt, server, service.address, ids)
+}
+
+/// The ids of the file of this path, which is opened, and read while it is served. Without a path there are none.
+fn ids_in<'a>(rt: &HostRuntime, path: Option<&'a str>) -> Result<Option<ReadIds<File>>, Ending<'a>>
+    ensures named { IfOk result (λ ids. is_some ids ≡ is_some path.entry) }
+    ensures fails { IfErr result (CantBeOpened path.entry) }
+{
+    let Some(path) = path else {
+        return Ok(None);
+    };
+    match open(rt, path) {
+        Ok(file) => Ok(Some(ReadIds::new(file))),
+        Err(ending) => Err(ending),
+    }
 }
 
 /// A server of what the files mean, with this greatest age.
@@ -60,15 +79,36 @@ fn server_of<'a, R: FileReader>(
 }
 
 /// Listens at the address, tells it, and serves from then on.
-fn serve<'a>(rt: &HostRuntime, mut server: Server, address: SocketAddr) -> Result<(), Ending<'a>>
+fn serve<'a>(
+    rt: &HostRuntime,
+    mut server: Server,
+    address: SocketAddr,
+    ids: Option<ReadIds<File>>,
+) -> Result<(), Ending<'a>>
     ensures { IfErr result IsEndOfServing }
 {
     match MioSockets::new(rt, rt.alloc(), address, &server) {
-        Ok(mut sockets) => match tell_address(rt, &sockets) {
-            Ok(()) => go_round(rt, &mut server, &mut sockets),
+        Ok(sockets) => match tell(rt, &sockets) {
+            Ok(()) => serve_over(rt, &mut server, sockets, ids),
             Err(ending) => Err(ending),
         },
         Err(error) => Err(ending_of_listening(&error)),
+    }
+}
+
+/// Serves over these sockets, and hands in the ids, if there are any.
+fn serve_over<'a>(
+    rt: &HostRuntime,
+    server: &mut Server,
+    mut sockets: MioSockets<'_, HostRuntime>,
+    ids: Option<ReadIds<File>>,
+) -> Result<(), Ending<'a>>
+    ensures ending { IfErr result IsEndOfServing }
+    ensures run { IsOneRun server.old.state server.new.state }
+{
+    match ids {
+        Some(ids) => go_round(rt, server, &mut WithIds::new(sockets, ids)),
+        None => go_round(rt, server, &mut sockets),
     }
 }
 
@@ -97,17 +137,29 @@ fn go_round<'a, S: Sockets>(
     }
 }
 
-/// Tells at which address clients are listened for.
-fn tell_address<'a>(
-    rt: &HostRuntime,
-    sockets: &MioSockets<'_, HostRuntime>,
-) -> Result<(), Ending<'a>>
-    ensures { IfErr result (λ ending. (ending ≡ Ending.Listen) ⊎ (ending ≡ Ending.Write)) }
+/// Tells on standard output at which address clients are listened for.
+fn tell<'a>(rt: &HostRuntime, sockets: &MioSockets<'_, HostRuntime>) -> Result<(), Ending<'a>>
+    ensures { IfErr result IsEndOfServing }
 {
     let Ok(bound) = sockets.local_addr() else {
         return Err(Ending::Listen);
     };
-    match println!(rt; "upsd: listening on {bound}") {
+    let mut out = CountedWriter::new(io::writer(rt));
+    tell_address(rt.alloc(), &mut out, bound)
+}
+
+/// Tells that clients are listened for at the address.
+fn tell_address<'a, W: Sink>(
+    alloc: Global,
+    out: &mut W,
+    address: SocketAddr,
+) -> Result<(), Ending<'a>>
+    ensures { TellsAddress W.contents W.failures address out.old result out.new }
+{
+    let Ok(line) = format!(in alloc; "upsd: listening on {address}\n") else {
+        return Err(Ending::Memory);
+    };
+    match send(out, line.as_bytes()) {
         Ok(()) => Ok(()),
         Err(_) => Err(Ending::Write),
     }

@@ -16,16 +16,18 @@ pub const DEFAULT_ADDRESS: &str = "127.0.0.1:3493";
 
 /// How to serve.
 #[derive(Clone, Copy)]
-pub struct Service {
+pub struct Service<'a> {
     pub address: SocketAddr,
     pub max_age: MaxAge,
+    /// The path of the file whose bytes make the ids of tracked orders.
+    pub ids: Option<&'a str>,
 }
 
 /// What the program is to do.
 #[derive(Clone, Copy)]
 pub enum Task<'a> {
     /// It serves over what these files mean.
-    Serve(Files<'a>, Service),
+    Serve(Files<'a>, Service<'a>),
     /// It replays the script of this path over what these files mean.
     Replay(Files<'a>, &'a str),
 }
@@ -66,13 +68,17 @@ fn replaying<'a>(found: &ArgMatches<'a>) -> Option<Task<'a>>
 }
 
 /// How the words say to serve, or `None` where one of them can't be read.
-fn service_named(found: &ArgMatches<'_>) -> Option<Service>
+fn service_named<'a>(found: &ArgMatches<'a>) -> Option<Service<'a>>
     ensures { MatchOption result
         ((service : Service) → ¬ (IsServiceIn found.now service)) (IsServiceIn found.now) }
 {
     let address = address_named(found)?;
     let max_age = max_age_named(found)?;
-    Some(Service { address, max_age })
+    Some(Service {
+        address,
+        max_age,
+        ids: found.get_str("ids"),
+    })
 }
 
 /// The address after `--listen`.

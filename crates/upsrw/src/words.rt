@@ -1,5 +1,9 @@
 //! The words of upsrw, and what they ask for.
+ghost use Rattle.std.specs.Prelude.{◌≡◌, ◌∷◌, [], codes, false};
+ghost use Rattle.clap.specs.Words.{new_rule, rule_of};
+ghost use Rattle.nutclient.specs.Words.{IsWord, Needs, Takes, bound, long_flag, program_with, required, short_option};
 ghost use Rattle.nutclient.specs.declared.program.Program.TheVariants as program;
+ghost use Rattle.upsrw.specs.Words.{IsAsked, upsrw_words};
 
 use clap::{Arg, ArgAction, ArgMatches, Command};
 use nutclient::{Client, Given, Program, with};
@@ -14,6 +18,10 @@ pub struct Upsrw;
 
 impl Client for Upsrw {
     ghost which = { program.Upsrw };
+
+    ghost words = { upsrw_words };
+
+    ghost asks = { IsAsked };
 
     fn program() -> Program {
         Program::Upsrw
@@ -44,7 +52,9 @@ impl Client for Upsrw {
 }
 
 /// The command before its words are added.
-fn described<'a>(alloc: Global) -> Result<Command<'a>, AllocError> {
+fn described<'a>(alloc: Global) -> Result<Command<'a>, AllocError>
+    ensures { Takes (program_with (codes "upsrw") []) result }
+{
     Command::new(alloc, PROGRAM)
         .about("Prints the variables of a UPS that may be set, or sets one (RFC 9271)")
         .version(VERSION)
@@ -52,7 +62,10 @@ fn described<'a>(alloc: Global) -> Result<Command<'a>, AllocError> {
         .bin_name(PROGRAM)
 }
 
-fn setting(alloc: Global) -> Result<Arg<'static>, AllocError> {
+fn setting(alloc: Global) -> Result<Arg<'static>, AllocError>
+    ensures word { IsWord (bound (short_option (codes "s") 115)) result }
+    ensures needs { Needs (codes "u" ∷ codes "p" ∷ []) result }
+{
     Arg::new(alloc, "s")
         .short('s')
         .value_name("VAR=VALUE")
@@ -60,7 +73,10 @@ fn setting(alloc: Global) -> Result<Arg<'static>, AllocError> {
         .requires_all(&["u", "p"])
 }
 
-fn user(alloc: Global) -> Result<Arg<'static>, AllocError> {
+fn user(alloc: Global) -> Result<Arg<'static>, AllocError>
+    ensures word { IsWord (bound (short_option (codes "u") 117)) result }
+    ensures needs { Needs (codes "s" ∷ []) result }
+{
     Arg::new(alloc, "u")
         .short('u')
         .value_name("USER")
@@ -68,7 +84,10 @@ fn user(alloc: Global) -> Result<Arg<'static>, AllocError> {
         .requires_arg("s")
 }
 
-fn password(alloc: Global) -> Result<Arg<'static>, AllocError> {
+fn password(alloc: Global) -> Result<Arg<'static>, AllocError>
+    ensures word { IsWord (bound (short_option (codes "p") 112)) result }
+    ensures needs { Needs (codes "s" ∷ []) result }
+{
     Arg::new(alloc, "p")
         .short('p')
         .value_name("PASS")
@@ -76,7 +95,10 @@ fn password(alloc: Global) -> Result<Arg<'static>, AllocError> {
         .requires_arg("s")
 }
 
-fn track(alloc: Global) -> Result<Arg<'static>, AllocError> {
+fn track(alloc: Global) -> Result<Arg<'static>, AllocError>
+    ensures word { IsWord (bound (long_flag (codes "track"))) result }
+    ensures needs { Needs (codes "s" ∷ []) result }
+{
     Arg::new(alloc, "track")
         .long("track")
         .action(ArgAction::SetTrue)
@@ -84,7 +106,10 @@ fn track(alloc: Global) -> Result<Arg<'static>, AllocError> {
         .requires_arg("s")
 }
 
-fn target(alloc: Global) -> Arg<'static> {
+fn target(alloc: Global) -> Arg<'static>
+    ensures word { rule_of result ≡ required (new_rule (codes "UPS")) }
+    ensures local { result.global ≡ false }
+{
     Arg::new(alloc, "UPS")
         .required(true)
         .help("The UPS, as ups[@host[:port]]")

@@ -98,7 +98,8 @@ impl Door {
             (option_map (λ x. x.token) self.new.newcomer ≡ Some (record { 0 = self.old.count })) }
         ensures left { OnErr result (self.new.newcomer ≡ self.old.newcomer) }
         ensures knocked { self.new.is_knocked_at ≡ self.old.is_knocked_at }
-        ensures count { self.new.count ≡ (if is_ok result then counted self.old.count else self.old.count) }
+        ensures count { self.new.count
+            ≡ (if is_ok result then counted self.old.count else self.old.count) }
     {
         let text = format!(in self.alloc; "{ip}")?;
         let Ok(address) = Address::read(text.as_bytes()) else {

@@ -2,7 +2,7 @@ use Rattle.std.proofs.Common.{[], ◌∷◌, refl}
 use Rattle.nutcore.specs.declared.event.Event.TheVariants as event
 use Rattle.nutcore.specs.declared.event.Outcome.TheVariants.{Done}
 use Rattle.nutcore.specs.Calls.{done}
-use Rattle.nutloop.specs.declared.sockets.Ready.TheVariants.{Nothing, Tick, DriverUp, Read, Write}
+use Rattle.nutloop.specs.declared.sockets.Ready.TheVariants.{Nothing, Tick, Id, DriverUp, Read, Write}
 use Rattle.nutloop.specs.Turn.{nobody, unasked}
 use Rattle.nutloop.proofs.Rows.{row_of, row_behind, does_nothing, does_quietly, grows_nothing}
 use Rattle.nutloop.proofs.turns.turn.Goals as goal
@@ -21,6 +21,14 @@ returns-in-Tick g c = (
   row_behind g.S.Sockets.calls g.S.Sockets.failures (Tick c.in-Tick.seconds) c.args.server.now.state c.args.sockets.now c.ready.new.self c.tick.new.self.state c.ready.new.self (rw c.in-Tick.is at c.in-Ok.ensures.told) c.in-Ok.ensures.count
       (row_of g.S.Sockets.calls g.S.Sockets.failures (Tick c.in-Tick.seconds) unasked nobody (event.Tick c.in-Tick.seconds ∷ []) c.args.server.now.state c.ready.new.self c.ready.new.self c.tick.new.self.state c.ready.new.self refl refl refl tt (grows_nothing (g.S.Sockets.calls c.ready.new.self)) refl
       (does_quietly g.S.Sockets.calls g.S.Sockets.failures (event.Tick c.in-Tick.seconds) Done c.args.server.now.state c.ready.new.self c.tick.new.self.state refl c.tick.ensures.served.step)),
+)
+
+pub returns-in-Id : goal.returns-in-Id
+returns-in-Id g c = (
+  Id c.in-Id.id,
+  row_behind g.S.Sockets.calls g.S.Sockets.failures (Id c.in-Id.id) c.args.server.now.state c.args.sockets.now c.ready.new.self c.id.new.self.state c.ready.new.self (rw c.in-Id.is at c.in-Ok.ensures.told) c.in-Ok.ensures.count
+      (row_of g.S.Sockets.calls g.S.Sockets.failures (Id c.in-Id.id) unasked nobody (event.Id c.in-Id.id ∷ []) c.args.server.now.state c.ready.new.self c.ready.new.self c.id.new.self.state c.ready.new.self refl refl refl tt (grows_nothing (g.S.Sockets.calls c.ready.new.self)) refl
+      (does_quietly g.S.Sockets.calls g.S.Sockets.failures (event.Id c.in-Id.id) (done c.id.result) c.args.server.now.state c.ready.new.self c.id.new.self.state refl c.id.ensures.served.step)),
 )
 
 pub returns-in-DriverUp : goal.returns-in-DriverUp

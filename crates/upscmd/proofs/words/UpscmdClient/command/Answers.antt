@@ -1,0 +1,11 @@
+use Rattle.upscmd.proofs.words.UpscmdClient.command.Goals as goal
+
+pub returns : goal.returns
+returns c =
+    let one = c.with-command.ensures.takes _ _ c.described.ensures c.list.ensures.word in
+    let two = c.with-command-2.ensures.takes _ _ one c.user.ensures.word in
+    let three = c.with-command-3.ensures.takes _ _ two c.password.ensures.word in
+    let four = c.with-command-4.ensures.takes _ _ three (c.track.ensures.word, c.track.ensures.local) in
+    let five = c.with-command-5.ensures.takes _ _ four (c.target.ensures.word, c.target.ensures.local) in
+    let six = c.with-command-6.ensures.takes _ _ five c.name.ensures.word in
+    c.with.ensures.takes _ _ six (c.value.ensures.word, c.value.ensures.local)

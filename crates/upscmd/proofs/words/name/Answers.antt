@@ -1,0 +1,18 @@
+use Rattle.std.proofs.Common.{◌≡◌, ◌∙◌, ap, Bool, refl}
+use Rattle.clap.specs.Words.{Rule, rule_of}
+use Rattle.clap.specs.declared.builder.arg.Arg.{Arg}
+use Rattle.nutclient.proofs.PublicLaws.{standing_unless_binds}
+use Rattle.upscmd.proofs.words.name.Goals as goal
+
+abbrev is_global : Arg → Bool
+is_global a = a.global
+
+pub returns : goal.returns
+returns c =
+    let read = ap rule_of c.help.ensures ∙ c.new.ensures.rule in
+    let local = ap is_global c.help.ensures ∙ c.new.ensures.optional.1 in
+    let both = standing_unless_binds _ c.help.result c.required_unless_present.result _ _ (read, local) refl c.required_unless_present.ensures in
+    record {
+      word = both.0;
+      demanded = both.1;
+    }

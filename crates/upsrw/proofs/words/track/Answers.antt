@@ -1,0 +1,19 @@
+use Rattle.std.proofs.Common.{◌≡◌, ◌∙◌, ap, Bool, Some, codes, refl}
+use Rattle.clap.specs.Words.{Rule, rule_of}
+use Rattle.clap.specs.declared.builder.action.ArgAction.TheVariants.{SetTrue}
+use Rattle.clap.specs.declared.builder.arg.Arg.{Arg}
+use Rattle.nutclient.proofs.PublicLaws.{needing_binds}
+use Rattle.upsrw.proofs.words.track.Goals as goal
+
+abbrev is_global : Arg → Bool
+is_global a = a.global
+
+pub returns : goal.returns
+returns c =
+    let read = ap rule_of c.help.ensures ∙ ap rule_of c.action.ensures ∙ ap (λ (r : Rule). record r { action = Some SetTrue }) (ap rule_of c.long.ensures ∙ ap (λ (r : Rule). record r { long = Some (codes "track") }) (c.new.ensures.rule)) in
+    let local = ap is_global c.help.ensures ∙ ap is_global c.action.ensures ∙ ap is_global c.long.ensures ∙ c.new.ensures.optional.1 in
+    let both = needing_binds _ c.help.result c.requires_arg.result _ _ (read, local) refl c.requires_arg.ensures in
+    record {
+      word = both.0;
+      needs = both.1;
+    }
