@@ -39,7 +39,8 @@ use Rattle.nutclient.specs.Printed.{Printed, Prints, printed, printed_of}
 use Rattle.nutclient.specs.declared.form.Form.TheVariants as forms
 use Rattle.endtoend.specs.Served.{IsLineOf}
 use Rattle.endtoend.specs.Refused.{is_granted_by_ok}
-use Rattle.endtoend.specs.Ordered.{IsOrdered, AnOrderThatIsPrintedIsGiven, IsOrderedWithId, ATrackedOrderThatIsPrintedIsGiven}
+use Rattle.endtoend.specs.Ordered.{IsOrdered, AnOrderThatIsPrintedIsGiven}
+use Rattle.endtoend.specs.Tracked.{IsOrderedWithId, ATrackedOrderThatIsPrintedIsGiven}
 use Rattle.endtoend.proofs.Ids.{WantsId, unwanted_id, missing_id, wanted_id}
 use Rattle.endtoend.proofs.LineReading.{written_line}
 use Rattle.endtoend.proofs.Refused.{refused_read, granted_read}

@@ -11,7 +11,8 @@ use Rattle.nutcore.specs.History.{Execution, of_line, executions}
 use Rattle.nutcore.specs.ByRight.{IsAmong}
 use Rattle.nutcore.specs.DriverOrders.{Telling, order, told_by_line}
 use Rattle.nutcore.specs.OrdersByRight.{order_of, orders_told, TheOrdersToldAreThoseOfTheLines}
-use Rattle.endtoend.specs.Ordered.{IsOrdered, AnOrderThatIsPrintedIsGiven, IsOrderedWithId, ATrackedOrderThatIsPrintedIsGiven}
+use Rattle.endtoend.specs.Ordered.{IsOrdered, AnOrderThatIsPrintedIsGiven}
+use Rattle.endtoend.specs.Tracked.{IsOrderedWithId, ATrackedOrderThatIsPrintedIsGiven}
 use Rattle.endtoend.specs.OrdersOverRuns.{IsToldInRun, AnOrderThatIsPrintedIsToldInTheRun, IsToldWithId, ATrackedOrderThatIsPrintedIsToldInTheRun}
 
 -- these bytes are one of the orders that the run told the driver

@@ -37,7 +37,7 @@ use Rattle.nutrequest.specs.Reply as client
 use Rattle.nutclient.specs.Requests.{reply_behind}
 use Rattle.nutclient.specs.Printed.{Prints, printed, printed_of}
 use Rattle.nutclient.specs.declared.form.Form.TheVariants as forms
-use Rattle.endtoend.specs.Printed.{UpscPrintsHowFarAnOrderHasCome}
+use Rattle.endtoend.specs.Tracked.{UpscPrintsHowFarAnOrderHasCome}
 use Rattle.endtoend.specs.Served.{IsLineOf}
 use Rattle.endtoend.proofs.Ids.{id_written}
 use Rattle.endtoend.proofs.Refused.{first_read, refused_read}

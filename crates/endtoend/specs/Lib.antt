@@ -5,5 +5,6 @@ pub mod Handed
 pub mod FromDriver
 pub mod Refused
 pub mod Ordered
+pub mod Tracked
 pub mod OverRuns
 pub mod OrdersOverRuns

@@ -16,7 +16,8 @@ use Rattle.nutrequest.specs.declared.request.Request.TheVariants.{TrackedSetVar,
 use Rattle.nutclient.specs.Printed.{Prints, printed}
 use Rattle.nutclient.specs.declared.form.Form.TheVariants as forms
 use Rattle.endtoend.specs.Served.{IsLineOf}
-use Rattle.endtoend.specs.Ordered.{IsOrdered, IsOrderedWithId}
+use Rattle.endtoend.specs.Ordered.{IsOrdered}
+use Rattle.endtoend.specs.Tracked.{IsOrderedWithId}
 
 -- The run executed this line on this server, it is that of the request, and this text is printed of
 -- its answer, whatever comes after that.

@@ -1,31 +1,23 @@
 -- What a client prints of what the server answers to it.
 use Rattle.std.specs.Prelude.{◌≡◌, ◌≤◌, ℕ, Bool, List, [], ◌∷◌, ◌++◌, Some, codes, filter}
-use Rattle.std.specs.Prelude.{length, IsTrue, ◌<◌, ◌^◌, None}
+use Rattle.std.specs.Prelude.{length, IsTrue}
 use Rattle.std.specs.Fmt.{decimal}
 use Rattle.std.specs.List.{flat_map}
-use Rattle.nutwords.specs.Frame.{line_of}
 use Rattle.nutwords.specs.Reading.{is_name, is_ups_name}
 use Rattle.nutwords.specs.Text.{with_lf}
-use Rattle.nuttracking.specs.Sound.{HaveLawfulNumbers}
-use Rattle.nuttracking.specs.Tracking.{progress_of}
-use Rattle.nuttracking.specs.declared.order.Progress.{Progress}
 use Rattle.nutdriver.specs.Variable.{VariableState}
 use Rattle.nutusers.specs.UpsList.{Ups, IsList}
 use Rattle.nutlisting.specs.Items.{is_rw}
 use Rattle.nutlisting.specs.Shown.{shown, ups_description}
-use Rattle.nutlisting.specs.Tracked.{progress_words}
 use Rattle.nutlisting.specs.declared.listing.clients.TheConstants.{SESSION_LIMIT}
 use Rattle.nutanswer.specs.Checks.{KnownUps, ups_named}
-use Rattle.nutanswer.specs.ErrWord.{spelling_of}
-use Rattle.nutanswer.specs.declared.err_word.ErrWord.TheVariants.{InvalidArgument}
 use Rattle.nutcore.specs.ByRight.{logged_in}
 use Rattle.nutcore.specs.Reply.{seen, reply}
 use Rattle.nutcore.specs.Server.{ServerState}
-use Rattle.nutrequest.specs.declared.faults.ClientFault.TheVariants.{ErrWord as ServerRefused}
 use Rattle.nutrequest.specs.declared.request.Query.TheVariants as queries
 use Rattle.nutrequest.specs.declared.request.Request.TheVariants.{List as ListOf, GetVar}
-use Rattle.nutrequest.specs.declared.request.Request.TheVariants.{GetNumAttach, GetTracking}
-use Rattle.nutclient.specs.Printed.{Prints, Faults, printed}
+use Rattle.nutrequest.specs.declared.request.Request.TheVariants.{GetNumAttach}
+use Rattle.nutclient.specs.Printed.{Prints, printed}
 use Rattle.nutclient.specs.declared.form.Form.TheVariants as forms
 use Rattle.endtoend.specs.Served.{IsLineOf, IsUsable, HasVariable}
 
@@ -119,18 +111,3 @@ abbrev pub UpscPrintsTheUpses : Type 0
 UpscPrintsTheUpses =
     (s : ServerState) (client : ℕ) (line more : List ℕ) → IsList s.list
     → IsLineOf (ListOf queries.Ups) line → PrintsTheUpses s client line more
-
--- `upsc --tracked id`. told: how far the order of this id has come is printed, where the order is
--- kept, and the numbers of the kept orders are lawful, as those of every server that events made
--- are. unknown: where no order that is kept has the id, nothing is printed, and the job ends with
--- INVALID-ARGUMENT.
-pub record UpscPrintsHowFarAnOrderHasCome : Type 0 where
-  pub told : (s : ServerState) (client id : ℕ) (line : List ℕ) (progress : Progress)
-      (more : List ℕ) → id < 2 ^ 128 → HaveLawfulNumbers s.tracking.orders
-      → progress_of id s.tracking ≡ Some progress → IsLineOf (GetTracking id) line
-      → printed (GetTracking id ∷ []) forms.Value (reply s client line ++ more)
-      ≡ Prints (line_of (progress_words progress))
-  pub unknown : (s : ServerState) (client id : ℕ) (line more : List ℕ) → id < 2 ^ 128
-      → progress_of id s.tracking ≡ None → IsLineOf (GetTracking id) line
-      → printed (GetTracking id ∷ []) forms.Value (reply s client line ++ more)
-      ≡ Faults (ServerRefused (spelling_of InvalidArgument))

@@ -2,10 +2,11 @@
 ghost use Rattle.endtoend.specs.Frames.{AFrameIsReadAsItsItems};
 ghost use Rattle.endtoend.specs.FromDriver.{UpscPrintsWhatTheDriverSetLast, UpscPrintsAllThatTheDriverSetLast};
 ghost use Rattle.endtoend.specs.Refused.{ARefusalIsTold};
-ghost use Rattle.endtoend.specs.Ordered.{AnOrderThatIsPrintedIsGiven, ATrackedOrderThatIsPrintedIsGiven};
+ghost use Rattle.endtoend.specs.Ordered.{AnOrderThatIsPrintedIsGiven};
+ghost use Rattle.endtoend.specs.Tracked.{ATrackedOrderThatIsPrintedIsGiven, UpscPrintsHowFarAnOrderHasCome};
 ghost use Rattle.endtoend.specs.OverRuns.{UpscPrintsWhatItTook};
 ghost use Rattle.endtoend.specs.OrdersOverRuns.{AnOrderThatIsPrintedIsToldInTheRun, ATrackedOrderThatIsPrintedIsToldInTheRun};
-ghost use Rattle.endtoend.specs.Printed.{UpscPrintsTheVariables, UpscPrintsTheVariable, UpscPrintsHowManyAreLoggedIn, UpscPrintsTheUpses, UpsrwPrintsTheVariables, UpscmdPrintsTheCommands, UpscPrintsHowFarAnOrderHasCome};
+ghost use Rattle.endtoend.specs.Printed.{UpscPrintsTheVariables, UpscPrintsTheVariable, UpscPrintsHowManyAreLoggedIn, UpscPrintsTheUpses, UpsrwPrintsTheVariables, UpscmdPrintsTheCommands};
 
 use nutanswer::laws::each_order_answered_ok_is_given;
 use nutcore::laws::{

@@ -1,0 +1,73 @@
+-- Tracked orders at both ends: an order whose id a client printed was given with that id, and what
+-- `upsc --tracked` prints of it.
+use Rattle.std.specs.Prelude.{◌≡◌, ◌==◌, ◌<◌, ◌^◌, ℕ, List, [], ◌∷◌, ◌++◌, Option, Some, None}
+use Rattle.std.specs.Prelude.{IsTrue, IfSome, if◌then◌else◌}
+use Rattle.nutwords.specs.Frame.{line_of}
+use Rattle.nutwords.specs.Reading.{is_name, is_ups_name, is_value}
+use Rattle.nuttracking.specs.Id.{id_text}
+use Rattle.nuttracking.specs.Sound.{HaveLawfulNumbers}
+use Rattle.nuttracking.specs.Tracking.{next_id, with_order, progress_of}
+use Rattle.nuttracking.specs.declared.order.Progress.{Progress}
+use Rattle.nutusers.specs.declared.ups_list.UpsId.{UpsId}
+use Rattle.nutlisting.specs.Tracked.{progress_words}
+use Rattle.nutanswer.specs.Checks.{KnownUps, ups_named}
+use Rattle.nutanswer.specs.ErrWord.{spelling_of}
+use Rattle.nutanswer.specs.Orders.{set_line, instcmd_line, ok_words}
+use Rattle.nutanswer.specs.declared.err_word.ErrWord.TheVariants.{InvalidArgument}
+use Rattle.nutcore.specs.DriverOrders.{order, told_by_line}
+use Rattle.nutcore.specs.History.{of_line}
+use Rattle.nutcore.specs.Reply.{seen, reply, after_change}
+use Rattle.nutcore.specs.Server.{ServerState}
+use Rattle.nutrequest.specs.declared.faults.ClientFault.TheVariants.{ErrWord as ServerRefused}
+use Rattle.nutrequest.specs.declared.request.Request.TheVariants.{TrackedSetVar, TrackedInstcmd}
+use Rattle.nutrequest.specs.declared.request.Request.TheVariants.{GetTracking}
+use Rattle.nutclient.specs.Printed.{Prints, Faults, printed}
+use Rattle.nutclient.specs.declared.form.Form.TheVariants as forms
+use Rattle.endtoend.specs.Served.{IsLineOf}
+
+-- The line was answered by OK and an id, the first at hand; it tells the driver of this UPS the
+-- order with that id, once, and no other driver anything, and the order is kept, pending, with that
+-- id. What was printed is the id.
+pub record IsOrderedWithId (s : ServerState) (c : ℕ) (line ups : List ℕ) (bytes : ℕ → List ℕ)
+    (text : List ℕ) : Type 0 where
+  pub known : KnownUps
+  pub id : ℕ
+  pub named : ups_named (seen s) (Some ups) ≡ Some known
+  pub first : next_id s.tracking ≡ Some id
+  pub answered : reply s c line ≡ line_of (ok_words (Some id))
+  pub told : (u : UpsId) → told_by_line u (of_line s c line)
+      ≡ (if known.id.place == u.place then order (bytes id) ∷ [] else [])
+  pub kept : (after_change s c line).tracking ≡ with_order known.id.place s.tracking
+  pub text_is : text ≡ line_of (id_text id ∷ [])
+
+-- Whatever comes after the server's answer to the order of `upsrw --track -s` or
+-- `upscmd --track`: where a text is printed, the order was given with an id.
+pub record ATrackedOrderThatIsPrintedIsGiven : Type 0 where
+  pub set : (s : ServerState) (c : ℕ) (line ups name value more text : List ℕ)
+      → IsTrue (is_ups_name ups) → IsTrue (is_name name) → IsTrue (is_value value)
+      → IsLineOf (TrackedSetVar ups name value) line
+      → printed (TrackedSetVar ups name value ∷ []) forms.Value (reply s c line ++ more)
+      ≡ Prints text
+      → IsOrderedWithId s c line ups (λ id. set_line name value (Some id)) text
+  pub command : (s : ServerState) (c : ℕ) (line ups name : List ℕ) (value : Option (List ℕ))
+      (more text : List ℕ)
+      → IsTrue (is_ups_name ups) → IsTrue (is_name name)
+      → IfSome value (λ v. IsTrue (is_value v)) → IsLineOf (TrackedInstcmd ups name value) line
+      → printed (TrackedInstcmd ups name value ∷ []) forms.Value (reply s c line ++ more)
+      ≡ Prints text
+      → IsOrderedWithId s c line ups (λ id. instcmd_line name value (Some id)) text
+
+-- `upsc --tracked id`. told: how far the order of this id has come is printed, where the order is
+-- kept, and the numbers of the kept orders are lawful, as those of every server that events made
+-- are. unknown: where no order that is kept has the id, nothing is printed, and the job ends with
+-- INVALID-ARGUMENT.
+pub record UpscPrintsHowFarAnOrderHasCome : Type 0 where
+  pub told : (s : ServerState) (client id : ℕ) (line : List ℕ) (progress : Progress)
+      (more : List ℕ) → id < 2 ^ 128 → HaveLawfulNumbers s.tracking.orders
+      → progress_of id s.tracking ≡ Some progress → IsLineOf (GetTracking id) line
+      → printed (GetTracking id ∷ []) forms.Value (reply s client line ++ more)
+      ≡ Prints (line_of (progress_words progress))
+  pub unknown : (s : ServerState) (client id : ℕ) (line more : List ℕ) → id < 2 ^ 128
+      → progress_of id s.tracking ≡ None → IsLineOf (GetTracking id) line
+      → printed (GetTracking id ∷ []) forms.Value (reply s client line ++ more)
+      ≡ Faults (ServerRefused (spelling_of InvalidArgument))
