@@ -54,8 +54,10 @@ fn serving<'a>(found: &ArgMatches<'a>) -> Option<Task<'a>>
     ensures { MatchOption result
         ((service : Service) → ¬ (IsServiceIn found.now service)) (IsServing found.now) }
 {
-    let service = service_named(found)?;
-    Some(Task::Serve(files_named(found), service))
+    match service_named(found) {
+        Some(service) => Some(Task::Serve(files_named(found), service)),
+        None => None,
+    }
 }
 
 /// What the words of `replay` ask for.
