@@ -76,7 +76,8 @@ fn described<'a>(alloc: Global) -> Result<Command<'a>, AllocError>
 
 fn names(alloc: Global) -> Result<Arg<'static>, AllocError>
     ensures word { IsWord (bound (short_flag (codes "l") 108)) result }
-    ensures alone { Excludes (codes "L" ∷ codes "c" ∷ codes "attached" ∷ codes "tracked" ∷ codes "VAR" ∷ []) result }
+    ensures alone { Excludes
+        (codes "L" ∷ codes "c" ∷ codes "attached" ∷ codes "tracked" ∷ codes "VAR" ∷ []) result }
 {
     Arg::new(alloc, "l")
         .short('l')
@@ -87,7 +88,8 @@ fn names(alloc: Global) -> Result<Arg<'static>, AllocError>
 
 fn descriptions(alloc: Global) -> Result<Arg<'static>, AllocError>
     ensures word { IsWord (bound (short_flag (codes "L") 76)) result }
-    ensures alone { Excludes (codes "c" ∷ codes "attached" ∷ codes "tracked" ∷ codes "VAR" ∷ []) result }
+    ensures alone { Excludes
+        (codes "c" ∷ codes "attached" ∷ codes "tracked" ∷ codes "VAR" ∷ []) result }
 {
     Arg::new(alloc, "L")
         .short('L')

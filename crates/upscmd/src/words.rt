@@ -67,7 +67,8 @@ fn described<'a>(alloc: Global) -> Result<Command<'a>, AllocError>
 
 fn list(alloc: Global) -> Result<Arg<'static>, AllocError>
     ensures word { IsWord (bound (short_flag (codes "l") 108)) result }
-    ensures alone { Excludes (codes "u" ∷ codes "p" ∷ codes "track" ∷ codes "CMD" ∷ codes "VALUE" ∷ []) result }
+    ensures alone { Excludes
+        (codes "u" ∷ codes "p" ∷ codes "track" ∷ codes "CMD" ∷ codes "VALUE" ∷ []) result }
 {
     Arg::new(alloc, "l")
         .short('l')
