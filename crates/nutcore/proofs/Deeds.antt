@@ -4,6 +4,8 @@ use Rattle.std.specs.Prelude.{is_none, option_and_then, if◌then◌else◌}
 use Rattle.std.specs.List.{filter_map, cons_option}
 use Rattle.std.proofs.lemmas.List.Elements.{filter_map-append}
 use Rattle.std.proofs.lemmas.Bool.{cond_both, cond-true, cond-false}
+use Rattle.nutanswer.specs.declared.command.Command.{Command}
+use Rattle.nutanswer.specs.declared.err_word.ErrWord.{ErrWord}
 use Rattle.nutanswer.specs.Command.{read_command}
 use Rattle.nutanswer.specs.View.{addresses_at}
 use Rattle.nutanswer.specs.declared.reply.Change.TheVariants.{Nothing}
@@ -120,20 +122,23 @@ listing_told l = refl
 
 listed : (s : ServerState) (c : ℕ) (line : List ℕ) (l : ListingState) → reply s c line ≡ text_of l → change_by s c (read_command line) ≡ Nothing → None ≡ deed_of (of_line s c line)
 listed s c line l text change =
-    sym (cond-false _ _ _ (ap (λ (z : Change). is_told s (reply s c line) z) change ∙ ap is_refusal text ∙ listing_told l))
+    sym (cond-false _ _ _ (ap (λ (z : Change). is_told s.upses (reply s c line) z) change ∙ ap is_refusal text ∙ listing_told l))
 
 -- what is told of a reply is told of its line
-of_reply : (s : ServerState) (c : ℕ) (line : List ℕ) (r : Reply) → Replies s c line r → deed_in_reply (is_told_by s r) c line r ≡ deed_of (of_line s c line)
+of_reply : (s : ServerState) (c : ℕ) (line : List ℕ) (r : Reply) → Replies s c line r → (if is_told_by s.upses r then deed_in_reply c (read_command line) r else None) ≡ deed_of (of_line s c line)
 of_reply s c line (One text change) is =
-    ap (λ (z : Change). if is_told s text.now z then deed_read c (read_command line) text.now else None) (sym is.2)
-    ∙ ap (λ (t : List ℕ). if is_told s t (change_by s c (read_command line)) then deed_read c (read_command line) t else None) (sym is.1)
+    ap (λ (z : Change). if is_told s.upses text.now z then deed_read c (read_command line) text.now else None) (sym is.2)
+    ∙ ap (λ (t : List ℕ). if is_told s.upses t (change_by s c (read_command line)) then deed_read c (read_command line) t else None) (sym is.1)
 of_reply s c line (Many l) is = listed s c line l is.1 is.2
 of_reply s c line (Clients name u) is = listed s c line (client_listing name (addresses_at u (map seen_client s.sessions))) is.1 is.2
 
-pub noted_reply : (s : ServerState) (c : ℕ) (line : List ℕ) (r : Reply) (told : Bool) (before deeds : List Deed) → next_line_for s c ≡ Some line → Replies s c line r → told ≡ is_told_by s r → deeds ≡ with_deed (deed_in_reply told c line r) before → deeds ≡ with_next s c before
-noted_reply s c line r told before deeds next is e noted =
+-- so it is noted, where it is told, and else nothing is
+pub noted_reply : (s : ServerState) (c : ℕ) (line : List ℕ) (r : Reply) (told : Bool) (read : Result (Option Command) ErrWord) (before deeds : List Deed) → next_line_for s c ≡ Some line → Replies s c line r → told ≡ is_told_by s.upses r → read_command line ≡ read →
+    deeds ≡ with_deed (if told then deed_in_reply c read r else None) before → deeds ≡ with_next s c before
+noted_reply s c line r told read before deeds next is e reads noted =
     noted
-    ∙ ap (λ (b : Bool). with_deed (deed_in_reply b c line r) before) e
+    ∙ ap (λ (b : Bool). with_deed (if b then deed_in_reply c read r else None) before) e
+    ∙ ap (λ (z : Result (Option Command) ErrWord). with_deed (if is_told_by s.upses r then deed_in_reply c z r else None) before) (sym reads)
     ∙ ap (λ (o : Option Deed). with_deed o before) (of_reply s c line r is)
     ∙ ap (λ (o : Option (List ℕ)). with_deed (told_next s c o) before) (sym next)
 

@@ -15,7 +15,8 @@ use Rattle.nutlisting.specs.declared.outbox.TheConstants.{OWED_LIMIT}
 use Rattle.std.specs.declared.alloc.AllocError.{AllocError}
 use Rattle.nutcore.specs.Lines.{first_line}
 use Rattle.nutcore.specs.Ups.{UpsState, with_faulty_line, with_unfinished}
-use Rattle.nutcore.specs.Reply.{changed_session, changed_upses}
+use Rattle.nuttracking.specs.Tracking.{TrackingState}
+use Rattle.nutcore.specs.Reply.{changed_session, changed_upses, changed_tracking}
 use Rattle.nutcore.specs.Pump.{next_line, answered, with_notice}
 use Rattle.nutcore.specs.Step.{joined, taken_from}
 use Rattle.nutcore.specs.Promises.{IsTaken, IsCut, DoesLine, IsAt, OrderFits}
@@ -23,11 +24,13 @@ use Rattle.nutcore.specs.Sound.{Each, IsSoundSession, IsSoundUps, IsSound}
 use Rattle.nutcore.specs.Calls.{is_connected}
 use Rattle.nutcore.proofs.DriverSteps.{is_there, connected_as, connected_at}
 use Rattle.nutcore.proofs.UpsPlaces.{of_ups, left_at, server_set}
+use Rattle.nutcore.proofs.Changes.{of_tracking}
+use Rattle.nutcore.proofs.Tracked.{IsTracked, order_tracked}
 use Rattle.nutcore.proofs.Found.{find_id}
 use Rattle.nutcore.proofs.Serving.{set_is}
 use Rattle.nutcore.proofs.SoundUps.{sound_changes, length-changes, sound_fewer, sound_bytes, sound_report, report_connected}
 use Rattle.nutcore.proofs.DriverChanges.{no_loss}
-use Rattle.nutcore.proofs.Sound.{each_found, sound_with, sound_upses, upses_sound, sound_answered, sound_notice, sound_input, sound_output}
+use Rattle.nutcore.proofs.Sound.{each_found, sound_with, sound_upses, upses_sound, sound_answered, sound_notice, sound_input, sound_output, is_tracked, tracking_sound}
 
 -- a session in place of the one that stands there
 pub session_kept : (v : ServerState) (c i : ℕ) (x y : SessionState) → IsAt c i v.sessions → session c v ≡ Some x → y.id ≡ x.id → (IsSoundSession x → IsSoundSession y) → IsSound v →
@@ -74,6 +77,13 @@ pub upses_kept : (v : ServerState) (change : Change) (xs : List UpsState) → xs
     let code : ServerState = record v { upses = xs } in IsSound code
 upses_kept v change xs e fits h =
     upses_sound v v.moment xs (ap length e ∙ length-changes change v.upses) (subst (Each (IsSoundUps v.moment)) (sym e) (sound_changes v.moment change v.upses fits h.upses)) h
+
+-- and the ids and orders that are tracked
+pub changes_kept : (v : ServerState) (change : Change) (xs : List UpsState) (t : TrackingState) → xs ≡ changed_upses change v.upses → t ≡ changed_tracking change v.tracking → OrderFits change v.upses → IsSound v →
+    let code : ServerState = record v { upses = xs; tracking = t } in IsSound code
+changes_kept v change xs t e f fits h =
+    let tracked : IsTracked v.tracking = is_tracked v h in
+    tracking_sound (record v { upses = xs }) t (subst IsTracked (sym f) (of_tracking IsTracked change v.tracking tracked (λ place. order_tracked v.tracking place tracked))) (upses_kept v change xs e fits h)
 
 -- its driver takes bytes
 pub driver_taken_kept : (m n : ℕ) (x y : UpsState) (r : Result (Unit {0}) Fault) → IsTaken n x r y → IsSoundUps m x → IsSoundUps m y

@@ -8,10 +8,12 @@ use Rattle.nutcore.specs.Session.{find, without, IdsRise, new_session}
 use Rattle.std.specs.declared.alloc.AllocError.{AllocError}
 use Rattle.nutwords.specs.declared.limits.TheConstants.{LINE_LIMIT}
 use Rattle.nutlisting.specs.Lines.{IsWholeLine}
-use Rattle.nutanswer.specs.View.{AskerSeen}
+use Rattle.nutanswer.specs.View.{Seen, AskerSeen}
 use Rattle.nutanswer.specs.Answer.{answer_to, IsReply, shares_version, text_of_answer, change_of_answer}
 use Rattle.nutanswer.specs.Command.{read_command}
-use Rattle.nutcore.specs.Reply.{seen, asker, reply, text_to, change_by, changed_session, changed_upses, changed_tracking}
+use Rattle.nuttracking.specs.Tracking.{TrackingState}
+use Rattle.nutcore.specs.Ups.{UpsState}
+use Rattle.nutcore.specs.Reply.{seen, asker, asker_of, reply, text_to, change_by, changed_session, changed_upses, changed_tracking}
 use Rattle.nutcore.specs.Pump.{next_line, next_line_for, answered, after_line, after_lines, pump_stops, held_of, after_all_lines, pumped, after_notice, is_overlong, with_notice, wants_memory, shares_version_read}
 use Rattle.nutcore.specs.Step.{offered, may_take}
 use Rattle.nutanswer.specs.declared.command.Command.{Command}
@@ -21,7 +23,7 @@ use Rattle.nutanswer.specs.declared.reply.Reply.TheVariants.{One, Many, Clients}
 use Rattle.nutanswer.specs.declared.reply.Change.TheVariants.{Nothing}
 use Rattle.nutlisting.specs.Items.{text_of, client_listing}
 use Rattle.nutlisting.specs.declared.outbox.TheConstants.{OWED_LIMIT}
-use Rattle.nutcore.specs.Promises.{place, IsAt, PumpGives, refused_overlong, IsText, IsLineOrNone, Replies, RepliesOrLacks, text_with, change_in, ListsClients}
+use Rattle.nutcore.specs.Promises.{place, IsAt, PumpGives, refused_overlong, IsText, IsLineOrNone, IsShort, Replies, RepliesOrLacks, AnswersEach, text_with, change_in, ListsClients}
 use Rattle.nutcore.proofs.Found.{find_id}
 use Rattle.nutcore.proofs.Changed.{change_is, session_put, notice_id}
 use Rattle.nutcore.proofs.Pumping.{after_line_is, is_next, session_after, session_after_id, line_done}
@@ -35,6 +37,10 @@ ok_when (Err x) P e p = let k : true ≡ false = e in cc k
 pub err_when : {T E : Type 0} (r : Result T E) (P : Type 0) → is_err r ≡ true → OnErr r P → P
 err_when (Ok v) P e p = let k : false ≡ true = e in cc k
 err_when (Err x) P e p = p
+
+pub on_err : {T E : Type 0} (r : Result T E) (P : Type 0) → P → OnErr r P
+on_err (Ok v) P p = tt
+on_err (Err x) P p = p
 
 -- the session that stands at the place, where a view of the server is known
 pub found_in : (c i : ℕ) (s t : ServerState) (x : SessionState) → s ≡ t → IsAt c i t.sessions → x ≡ get_or s.sessions i x → session c t ≡ Some x
@@ -101,6 +107,34 @@ pub change_told : (s : ServerState) (c : ℕ) (line : List ℕ) (reply : Reply) 
 change_told s c line (One text change) told = told.2
 change_told s c line (Many listing) told = told.2
 change_told s c line (Clients name u) told = told.2
+
+pub short_told : (s : ServerState) (c : ℕ) (line : List ℕ) (reply : Reply) → Replies s c line reply → IsShort reply
+short_told s c line (One text change) told = (told.3, told.4)
+short_told s c line (Many listing) told = tt
+short_told s c line (Clients name u) told = tt
+
+-- what an answer changes of the UPSs, of the ids and of the tracked orders, where a view of the server is known
+pub changes_made : (v s : ServerState) (change : Change) (upses : List UpsState) (t : TrackingState) → v ≡ s → upses ≡ changed_upses change v.upses → t ≡ changed_tracking change v.tracking →
+    let made : ServerState = record v { upses = upses; tracking = t } in
+    let after : ServerState = record s { upses = changed_upses change s.upses; tracking = changed_tracking change s.tracking } in made ≡ after
+changes_made v s change upses t is e f =
+    ap (λ (xs : List UpsState). let z : ServerState = record v { upses = xs; tracking = t } in z) e
+    ∙ ap (λ (u : TrackingState). let z : ServerState = record v { upses = changed_upses change v.upses; tracking = u } in z) f
+    ∙ ap (λ (z : ServerState). let after : ServerState = record z { upses = changed_upses change z.upses; tracking = changed_tracking change z.tracking } in after) is
+
+-- what the next line of a session is answered, where a view of the server is known
+pub record HeardAt (s : ServerState) (c : ℕ) (line : List ℕ) (r : Result Reply AllocError) : Type 0 where
+  pub next : next_line_for s c ≡ Some line
+  pub told : RepliesOrLacks s c line r
+
+pub heard : (v s : ServerState) (c i : ℕ) (x : SessionState) (line : List ℕ) (who : AskerSeen) (read : Result (Option Command) ErrWord) (r : Result Reply AllocError) → v ≡ s → IsAt c i s.sessions → x ≡ get_or v.sessions i x → next_line x ≡ Some line →
+    who ≡ asker_of (Some x) → read ≡ read_command line → AnswersEach (seen v) who read r → HeardAt s c line r
+heard v s c i x line who read r is at stands next asks reads told =
+    let found : session c s ≡ Some x = found_in c i v s x is at stands in
+    record {
+      next = ap (option_and_then next_line) found ∙ next;
+      told = told s c line (ap seen is) (asks ∙ ap asker_of (sym found)) (sym reads);
+    }
 
 -- the UPSs are changed, and the session in its place is answered: this is the server after the line
 pub line_is : (s v : ServerState) (c i : ℕ) (line : List ℕ) (reply : Reply) (clients : List (List ℕ)) (x y : SessionState) → next_line_for s c ≡ Some line → Replies s c line reply → ListsClients v.sessions reply clients →
@@ -194,7 +228,9 @@ answer_replies s c line command (Ok (Many listing)) e is lacks = (ap (shares_ver
 answer_replies s c line command (Ok (Clients name u)) e is lacks = (ap (shares_version_read s c) e ∙ ap shares_version is, ap (text_to s c) e ∙ ap text_of_answer is, ap (change_by s c) e ∙ ap change_of_answer is)
 answer_replies s c line command (Err refused) e is lacks = ap (shares_version_read s c) e ∙ lacks
 
-pub replies_as : (s : ServerState) (c : ℕ) (line : List ℕ) (command : Command) (who : AskerSeen) (r : Result Reply AllocError) → who ≡ asker c s → read_command line ≡ Ok (Some command) → IfOk r (IsReply (seen s) (answer_to (seen s) who command)) →
-    OnErr r (IsTrue (shares_version (answer_to (seen s) who command))) → RepliesOrLacks s c line r
-replies_as s c line command who r asks e is lacks =
-    answer_replies s c line command r e (subst (λ (z : AskerSeen). IfOk r (IsReply (seen s) (answer_to (seen s) z command))) asks is) (subst (λ (z : AskerSeen). OnErr r (IsTrue (shares_version (answer_to (seen s) z command)))) asks lacks)
+pub answers_each : (view : Seen) (who : AskerSeen) (command : Command) (r : Result Reply AllocError) → IfOk r (IsReply view (answer_to view who command)) → OnErr r (IsTrue (shares_version (answer_to view who command))) →
+    AnswersEach view who (Ok (Some command)) r
+answers_each view who command r is lacks s c line sees asks e =
+    answer_replies s c line command r e
+    (subst (λ (z : Seen). IfOk r (IsReply z (answer_to z (asker c s) command))) sees (subst (λ (z : AskerSeen). IfOk r (IsReply view (answer_to view z command))) asks is))
+    (subst (λ (z : Seen). OnErr r (IsTrue (shares_version (answer_to z (asker c s) command)))) sees (subst (λ (z : AskerSeen). OnErr r (IsTrue (shares_version (answer_to view z command)))) asks lacks))

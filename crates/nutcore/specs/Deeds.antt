@@ -1,7 +1,7 @@
 -- What an event did that is told beside its answers, for whoever keeps a journal: which lines are
 -- told, and what is told of each. No value and no password is.
 use Rattle.std.specs.Prelude.{◌≡◌, ℕ, Bool, true, false, not, List, Option, Some, None}
-use Rattle.std.specs.Prelude.{Result, Ok, codes, drop, nat_eq, take, if◌then◌else◌}
+use Rattle.std.specs.Prelude.{Result, Ok, codes, drop, nat_eq, slice_get, take, if◌then◌else◌}
 use Rattle.std.specs.List.{starts_with, filter_map}
 use Rattle.std.specs.Option.{option_map_or, option_and_then}
 use Rattle.std.specs.Result.{result_ok}
@@ -19,7 +19,8 @@ use Rattle.nutcore.specs.declared.deed.TheConstants.{DEED_LIMIT}
 use Rattle.nutcore.specs.declared.event.Event.{Event}
 use Rattle.nutcore.specs.declared.event.Outcome.{Outcome}
 use Rattle.nutcore.specs.Lines.{first_line}
-use Rattle.nutcore.specs.Server.{ServerState, ups_at}
+use Rattle.nutcore.specs.Ups.{UpsState}
+use Rattle.nutcore.specs.Server.{ServerState}
 use Rattle.nutcore.specs.Reply.{reply, change_by}
 use Rattle.nutcore.specs.History.{Execution, of_line, of_notice, executions_in_event}
 
@@ -34,16 +35,16 @@ refusal_in text =
     then option_and_then (λ word. result_ok (read_name word)) (first_line (drop 4 text)) else None
 
 -- A forced shutdown of the UPS is set.
-abbrev pub is_forced : UpsId → ServerState → Bool
-is_forced u s = option_map_or (λ x. x.fsd) (ups_at u.place s) false
+abbrev pub is_forced : UpsId → List UpsState → Bool
+is_forced u upses = option_map_or (λ x. x.fsd) (slice_get upses u.place) false
 
 -- A line that is answered so, and changes this, is told: where it sets a forced shutdown that isn't
 -- set, where it is an order to a driver, and where it is refused.
-abbrev pub is_told : ServerState → List ℕ → Change → Bool
-is_told s text (changes.Fsd u) = not (is_forced u s)
-is_told s text (changes.Order u line) = true
-is_told s text (changes.Tracked u id line) = true
-is_told s text _ = is_refusal text
+abbrev pub is_told : List UpsState → List ℕ → Change → Bool
+is_told upses text (changes.Fsd u) = not (is_forced u upses)
+is_told upses text (changes.Order u line) = true
+is_told upses text (changes.Tracked u id line) = true
+is_told upses text _ = is_refusal text
 
 -- What is told of a command that was refused by this word, or granted: of logins, forced shutdowns
 -- and orders who asked for what, of which UPS, and the name of the variable or command.
@@ -68,7 +69,7 @@ deed_read c _ text = None
 -- What is told of what was executed, on the server as it was at that moment.
 abbrev pub deed_of : Execution → Option Deed
 deed_of (of_line s c line) =
-    if is_told s (reply s c line) (change_by s c (read_command line))
+    if is_told s.upses (reply s c line) (change_by s c (read_command line))
     then deed_read c (read_command line) (reply s c line) else None
 deed_of (of_notice c) = None
 

@@ -20,7 +20,9 @@ use Rattle.nutlisting.specs.declared.ring.TheConstants.{RING_LIMIT}
 use Rattle.nutlisting.specs.Counts.{is_open, lines}
 use Rattle.nutlisting.specs.Lines.{IsWholeLine}
 use Rattle.nutlisting.specs.Items.{text_of, client_listing}
-use Rattle.nutanswer.specs.View.{addresses_at}
+use Rattle.nutanswer.specs.View.{Seen, AskerSeen, addresses_at}
+use Rattle.nutanswer.specs.declared.command.Command.{Command}
+use Rattle.nutanswer.specs.declared.err_word.ErrWord.{ErrWord}
 use Rattle.nutcore.specs.Session.{SessionState}
 use Rattle.nutcore.specs.Lines.{unfinished_after, is_too_long}
 use Rattle.nutdriver.specs.declared.report.LineOutcome.{LineOutcome}
@@ -36,7 +38,7 @@ use Rattle.std.specs.Fn.{Once, FnOnceTakesAtMut, FnOnceReturnsAtMut}
 use Rattle.nutcore.specs.Sound.{IsSoundUps}
 use Rattle.nutcore.specs.Calls.{is_connected}
 use Rattle.nutcore.specs.Server.{ServerState, ups_at, with_ups_changed}
-use Rattle.nutcore.specs.Reply.{text_to, change_by, seen_client}
+use Rattle.nutcore.specs.Reply.{seen, asker, text_to, change_by, seen_client}
 use Rattle.nutcore.specs.declared.cost.Cost.{Cost}
 use Rattle.nutcore.specs.History.{owed, of_line}
 use Rattle.nutcore.specs.declared.deed.Deed.{Deed}
@@ -176,9 +178,13 @@ abbrev pub RepliesOrLacks : ServerState → ℕ → List ℕ → Result Reply Al
 RepliesOrLacks s c line (Ok answer) = Replies s c line answer
 RepliesOrLacks s c line (Err e) = shares_version_read s c (read_command line) ≡ true
 
--- the client's next line may be executed, and this holds of it
-abbrev pub NextIs : ServerState → ℕ → (List ℕ → Type 0) → Type 0
-NextIs s c P = (line : List ℕ) × (next_line_for s c ≡ Some line) × P line
+-- so is answered, or lacks memory, each line that is read so of a client that is seen so, on each
+-- server that is seen so
+abbrev pub AnswersEach : Seen → AskerSeen → Result (Option Command) ErrWord
+    → Result Reply AllocError → Type 0
+AnswersEach view who read result =
+    (s : ServerState) (c : ℕ) (line : List ℕ) → view ≡ seen s → who ≡ asker c s
+    → read_command line ≡ read → RepliesOrLacks s c line result
 
 -- what a driver reported leaves of the server: all its whole lines and the rest, or what its first
 -- k lines leave, where the next wants memory that is refused
@@ -284,18 +290,17 @@ KeepsCost c old new =
 abbrev pub cost_beyond : ℕ → List ℕ → Cost
 cost_beyond kept after = record { rendered = lines (drop kept after); placed = length after - kept }
 
--- a line that is answered so is told
-abbrev pub is_told_by : ServerState → Reply → Bool
-is_told_by s (One text change) = is_told s text.now change
-is_told_by s (Many listing) = false
-is_told_by s (Clients name u) = false
+-- a line that is answered so is told, where the UPSs are these
+abbrev pub is_told_by : List UpsState → Reply → Bool
+is_told_by upses (One text change) = is_told upses text.now change
+is_told_by upses (Many listing) = false
+is_told_by upses (Clients name u) = false
 
--- what is told of it, where it is
-abbrev pub deed_in_reply : Bool → ℕ → List ℕ → Reply → Option Deed
-deed_in_reply told c line (One text change) =
-    if told then deed_read c (read_command line) text.now else None
-deed_in_reply told c line (Many listing) = None
-deed_in_reply told c line (Clients name u) = None
+-- the deed of a line that was read and answered so, and is told
+abbrev pub deed_in_reply : ℕ → Result (Option Command) ErrWord → Reply → Option Deed
+deed_in_reply c read (One text change) = deed_read c read text.now
+deed_in_reply c read (Many listing) = None
+deed_in_reply c read (Clients name u) = None
 
 -- the deeds, and one more, as many as are noted
 abbrev pub with_deed : Option Deed → List Deed → List Deed

@@ -1,16 +1,11 @@
 //! What clients did that is told beside its answer: forced shutdowns, orders to drivers, and what was refused.
-ghost use Rattle.std.specs.Prelude.{◌≡◌, ◌≤◌, ◌++◌, ℕ, List, [], ◌∷◌, length, take, true, IfOk, Some};
-ghost use Rattle.std.specs.Option.{option_map};
-ghost use Rattle.nutanswer.specs.Command.{read_command};
-ghost use Rattle.nutcore.specs.Deeds.{is_refusal, refusal_in, deed_read, deed_of_command};
+ghost use Rattle.std.specs.Prelude.{◌≡◌, ◌≤◌, ◌++◌, [], ◌∷◌, length, take, true, if◌then◌else◌, IfOk, None};
+ghost use Rattle.nutcore.specs.Deeds.{is_refusal, refusal_in, deed_of_command};
 ghost use Rattle.nutcore.specs.Promises.{deed_in_reply, with_deed};
-ghost use Rattle.nutcore.specs.Pump.{next_line};
-ghost use Rattle.nutwords.specs.declared.limits.TheConstants.{LINE_LIMIT};
 
 use crate::event::ClientId;
 use crate::lines::line_end;
-use crate::session::Session;
-use nutanswer::{Command, Reply};
+use nutanswer::{Command, ErrWord, Reply};
 use nutwords::{Name, UpsName};
 use std::alloc::{AllocError, Global};
 use std::marker::Model;
@@ -107,48 +102,51 @@ impl Deeds {
     }
 }
 
-/// Notes what the session's next line did, which ends there and is answered so, where that is to be told.
+/// Notes what a line did that was read and answered so, where that is to be told.
 pub(crate) fn note(
     is_told: bool,
     c: ClientId,
-    session: &Session,
-    end: usize,
+    read: &Result<Option<Command<'_>>, ErrWord>,
     reply: &Reply<'_>,
     deeds: &mut Deeds,
 )
-    requires { option_map length (next_line session.now) ≡ Some end }
-    ensures { (line : List ℕ) → next_line session.now ≡ Some line
-        → deeds.new ≡ with_deed (deed_in_reply is_told c line reply.now) deeds.old }
+    ensures { deeds.new ≡ with_deed
+        (if is_told then deed_in_reply c read.now reply.now else None) deeds.old }
 {
-    let Reply::One(text, _) = reply else {
-        return;
-    };
     if is_told {
-        note_line(c, session.next_line(end), text, deeds);
+        note_told(c, read, reply, deeds);
     }
 }
 
-/// Notes what the client's line did, which is answered so. It is a call of its own, so that no other line pays for the room of
-/// a deed.
+/// Notes what a line did that is to be told. It is a call of its own, so that no other line pays for the room of a deed.
 #[inline(never)]
-fn note_line(c: ClientId, line: &[u8], text: &[u8], deeds: &mut Deeds)
-    requires { length line.now ≤ LINE_LIMIT }
-    ensures { deeds.new ≡ with_deed (deed_read c (read_command line.now) text.now) deeds.old }
+fn note_told(
+    c: ClientId,
+    read: &Result<Option<Command<'_>>, ErrWord>,
+    reply: &Reply<'_>,
+    deeds: &mut Deeds,
+)
+    ensures { deeds.new ≡ with_deed (deed_in_reply c read.now reply.now) deeds.old }
 {
-    if let Some(deed) = deed_of(c, line, text) {
+    if let Some(deed) = deed_in_reply(c, read, reply) {
         deeds.note(deed);
     }
 }
 
-/// What the client's line did, which is answered so.
-fn deed_of(c: ClientId, line: &[u8], text: &[u8]) -> Option<Deed>
-    requires { length line.now ≤ LINE_LIMIT }
-    ensures { result ≡ deed_read c (read_command line.now) text.now }
+/// What a line did that was read and answered so, and is told.
+fn deed_in_reply(
+    c: ClientId,
+    read: &Result<Option<Command<'_>>, ErrWord>,
+    reply: &Reply<'_>,
+) -> Option<Deed>
+    ensures { result ≡ deed_in_reply c read.now reply.now }
 {
-    match Command::read(line) {
-        Ok(Some(command)) => deed_of_command(c, &command, refusal_in(text)),
-        Ok(None) => None,
-        Err(_) => None,
+    let Reply::One(text, _) = reply else {
+        return None;
+    };
+    match read {
+        Ok(Some(command)) => deed_of_command(c, command, refusal_in(text)),
+        _ => None,
     }
 }
 

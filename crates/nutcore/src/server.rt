@@ -37,7 +37,7 @@ use nutdriver::laws::{
 use nutlisting::{Outbox, Renders, SESSION_LIMIT};
 use nuttracking::{IdFault, Tracking};
 use nutusers::{Descriptions, UpsId, UpsList, Users};
-use nutwords::Address;
+use nutwords::{Address, Line};
 use std::alloc::{AllocError, Global};
 use std::marker::Model;
 
@@ -54,6 +54,8 @@ pub struct Server {
     sessions: Vec<Session>,
     last_id: u64,
     tracking: Tracking,
+    /// Where the line of an answer is made, so that none is cleared for it.
+    reply_line: Line,
     scratch: Scratch,
     /// How many bytes the last event placed.
     placed: usize,
@@ -112,6 +114,7 @@ impl Server {
             sessions,
             last_id: 0,
             tracking,
+            reply_line: Line::new(),
             scratch,
             placed: 0,
             deeds,

@@ -9,87 +9,26 @@ ghost use Rattle.nutcore.specs.Ups.{with_fsd, with_order};
 ghost use Rattle.nutcore.specs.Ups.{UpsState};
 ghost use Rattle.nutcore.specs.Calls.{done};
 ghost use Rattle.nutcore.specs.Step.{offered, refused_after};
-ghost use Rattle.nutcore.specs.Promises.{IsAt, TakesLine, OrderFits, PumpGives, RepliesOrLacks, ListsClients, change_in, IsText, NextIs, IsCounted, KeepsCost, cost_beyond, is_told_by, with_next};
+ghost use Rattle.nutcore.specs.Promises.{IsAt, TakesLine, OrderFits, PumpGives, ListsClients, change_in, IsCounted, KeepsCost, cost_beyond, is_told_by, with_next};
 ghost use Rattle.nutcore.specs.Reply.{changed_upses, changed_tracking};
 ghost use Rattle.nutlisting.specs.declared.listing.clients.TheConstants.{SESSION_LIMIT};
 ghost use Rattle.nutcore.specs.declared.TheConstants.{HELD_LIMIT};
 
 use super::Server;
+use super::view::ServerView;
 use crate::deed::{is_refusal, note};
 use crate::event::{ClientId, Fault};
 use crate::session::Session;
 use crate::ups::Ups;
-use nutanswer::{Change, Command, Reply, answer};
+use nutanswer::{Change, Command, Reply};
 use nutlisting::Clients;
+use nuttracking::Tracking;
 use nutusers::UpsId;
-use nutwords::Line;
 use std::alloc::AllocError;
 
 impl Server {
-    /// What answers the session's next line, which ends there, as the server is now. The answer's line is made in the one
-    /// that is lent. Memory is asked for by a listing alone.
-    pub(super) fn next_reply<'a>(
-        &self,
-        c: ClientId,
-        place: usize,
-        end: usize,
-        lent: &'a mut Line,
-    ) -> Result<Reply<'a>, AllocError>
-        requires at { IsAt c place self.now.state.sessions }
-        requires next { option_map length (next_line_for self.now.state c) ≡ Some end }
-        ensures next { NextIs self.now.state c
-            (λ line. RepliesOrLacks self.now.state c line result) }
-    {
-        let session = &self.sessions[place];
-        let line = session.next_line(end);
-        match Command::read(line) {
-            Err(word) => Ok(one_line(word.line())),
-            Ok(None) => Ok(one_line(b"")),
-            Ok(Some(command)) => answer(self, session.asker(), &command, lent),
-        }
-    }
-
-    /// Whether a line that is answered so is told: it sets a forced shutdown that isn't set, it is an order to a driver, or it
-    /// is refused.
-    fn is_told(&self, reply: &Reply<'_>) -> bool
-        ensures { result ≡ is_told_by self.now.state reply.now }
-    {
-        let Reply::One(text, change) = reply else {
-            return false;
-        };
-        match change {
-            Change::Fsd(u) => !self.forced_shutdown(*u).unwrap_or(false),
-            Change::Order(_, _) | Change::Tracked(_, _, _) => true,
-            _ => is_refusal(text),
-        }
-    }
-
-    /// Does what an answer changes of the UPSs, and of the ids and the tracked orders.
-    pub(super) fn change_upses(&mut self, reply: &Reply<'_>)
-        requires fits { OrderFits (change_in reply.now) self.old.state.upses }
-        ensures changed { self.new.state ≡ record self.old.state {
-          upses = changed_upses (change_in reply.now) self.old.state.upses;
-          tracking = changed_tracking (change_in reply.now) self.old.state.tracking;
-        } }
-        ensures cost { self.new.cost ≡ self.old.cost }
-        ensures deeds { self.new.deeds ≡ self.old.deeds }
-    {
-        let Reply::One(_, change) = reply else {
-            return;
-        };
-        match change {
-            Change::Fsd(u) => set_fsd(&mut self.upses, *u),
-            Change::Order(u, line) => order(&mut self.upses, *u, line.as_bytes()),
-            Change::Tracked(u, _, line) => {
-                order(&mut self.upses, *u, line.as_bytes());
-                let _id = self.tracking.use_for(u.place as usize);
-            }
-            _ => {}
-        }
-    }
-
-    /// Executes the next line, which ends there. Without memory nothing changes. It alone has a line of an answer, which is
-    /// cleared where the function begins: so it is a call of its own, and a session without a line pays for none.
+    /// Executes the next line, which ends there. Without memory nothing changes. The view is for this line alone, so a session
+    /// without a line doesn't pay for one.
     #[inline(never)]
     pub(super) fn execute(
         &mut self,
@@ -106,18 +45,22 @@ impl Server {
         ensures noted { OnOk result (self.new.deeds ≡ with_next self.old.state c self.old.deeds) }
         ensures unnoted { OnErr result (self.new.deeds ≡ self.old.deeds) }
     {
-        let mut line = Line::new();
-        let reply = self.next_reply(c, place, end, &mut line)?;
-        let is_told = self.is_told(&reply);
-        self.change_upses(&reply);
-        note(
-            is_told,
-            c,
-            &self.sessions[place],
-            end,
-            &reply,
-            &mut self.deeds,
-        );
+        let view = ServerView {
+            moment: self.moment,
+            max_age: self.max_age,
+            list: &self.list,
+            users: &self.users,
+            descriptions: &self.descriptions,
+            upses: &self.upses,
+            sessions: &self.sessions,
+            tracking: &self.tracking,
+        };
+        let session = &self.sessions[place];
+        let read = Command::read(session.next_line(end));
+        let reply = view.reply_to(session.asker(), &read, &mut self.reply_line)?;
+        let is_told = is_told(&self.upses, &reply);
+        note(is_told, c, &read, &reply, &mut self.deeds);
+        change_upses(&mut self.upses, &mut self.tracking, &reply);
         list_clients(&self.sessions, &reply, &mut self.scratch.clients);
         let session = &mut self.sessions[place];
         session.answer(reply, end, &mut self.scratch);
@@ -167,6 +110,44 @@ impl Server {
     }
 }
 
+/// Whether a line that is answered so is told: it sets a forced shutdown that isn't set, it is an order to a driver, or it
+/// is refused.
+fn is_told(upses: &Vec<Ups>, reply: &Reply<'_>) -> bool
+    ensures { result ≡ is_told_by upses.now.items reply.now }
+{
+    let Reply::One(text, change) = reply else {
+        return false;
+    };
+    match change {
+        Change::Fsd(u) => match upses.get(u.place as usize) {
+            Some(ups) => !ups.fsd(),
+            None => true,
+        },
+        Change::Order(_, _) | Change::Tracked(_, _, _) => true,
+        _ => is_refusal(text),
+    }
+}
+
+/// Does what an answer changes of the UPSs, and of the ids and the tracked orders.
+fn change_upses(upses: &mut Vec<Ups>, tracking: &mut Tracking, reply: &Reply<'_>)
+    requires fits { OrderFits (change_in reply.now) upses.old.items }
+    ensures upses { upses.new.items ≡ changed_upses (change_in reply.now) upses.old.items }
+    ensures tracking { tracking.new ≡ changed_tracking (change_in reply.now) tracking.old }
+{
+    let Reply::One(_, change) = reply else {
+        return;
+    };
+    match change {
+        Change::Fsd(u) => set_fsd(upses, *u),
+        Change::Order(u, line) => order(upses, *u, line.as_bytes()),
+        Change::Tracked(u, _, line) => {
+            order(upses, *u, line.as_bytes());
+            let _id = tracking.use_for(u.place as usize);
+        }
+        _ => {}
+    }
+}
+
 /// Where the reply lists the clients of a UPS, puts together the addresses of the sessions that are logged in to it, in
 /// the order of opening.
 fn list_clients(sessions: &Vec<Session>, reply: &Reply<'_>, clients: &mut Clients)
@@ -204,11 +185,4 @@ fn order(upses: &mut Vec<Ups>, u: UpsId, line: &[u8])
         let ups = &mut upses[u.place as usize];
         ups.order(line);
     }
-}
-
-/// A reply of at most one line, which changes nothing.
-fn one_line<'a>(text: &'a [u8]) -> Reply<'a>
-    ensures { IsText text.now result }
-{
-    Reply::One(text, Change::Nothing)
 }

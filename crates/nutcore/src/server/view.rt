@@ -2,18 +2,76 @@
 ghost use Rattle.std.specs.Prelude.{◌≡◌, ◌<◌, map, Some, None};
 ghost use Rattle.nutcore.specs.Server.{session};
 ghost use Rattle.nutcore.specs.Reply.{seen_client};
-ghost use Rattle.nutanswer.specs.View.{login_count};
+ghost use Rattle.nutcore.specs.Promises.{AnswersEach, IsText};
+ghost use Rattle.nutanswer.specs.View.{login_count, asker_seen};
 
-use super::Server;
+use crate::max_age::MaxAge;
 use crate::session::Session;
-use nutanswer::{UpsView, View};
-use nuttracking::Progress;
+use crate::ups::Ups;
+use nutanswer::{Asker, Change, Command, ErrWord, Reply, UpsView, View, answer};
+use nuttracking::{Progress, Tracking};
 use nutusers::{Descriptions, UpsId, UpsList, Users};
+use nutwords::Line;
+use std::alloc::AllocError;
+use std::marker::Model;
 
-impl View for Server {
-    ghost use Rattle.nutcore.specs.Reply.{seen};
+/// A line as it was read: a command, nothing where it has no words, or the word of an error.
+pub(super) type ReadLine<'a> = Result<Option<Command<'a>>, ErrWord>;
 
-    ghost seen = { λ s. seen s.state };
+/// What answers see of a server. It borrows those parts alone, so that an answer can be made in another. Contracts see what
+/// is seen.
+#[derive(Drop)]
+pub(super) struct ServerView<'a> {
+    pub(super) moment: u64,
+    pub(super) max_age: MaxAge,
+    pub(super) list: &'a UpsList,
+    pub(super) users: &'a Users,
+    pub(super) descriptions: &'a Descriptions,
+    pub(super) upses: &'a Vec<Ups>,
+    pub(super) sessions: &'a Vec<Session>,
+    pub(super) tracking: &'a Tracking,
+}
+
+impl<'a> Model for ServerView<'a> {
+    ghost use Rattle.std.specs.Prelude.{map};
+    ghost use Rattle.nutanswer.specs.View.{Seen};
+    ghost use Rattle.nutcore.specs.Reply.{seen_ups, seen_client};
+
+    ghost Value = { Seen };
+
+    ghost view = { λ v. record { moment = v.moment; max_age = v.max_age; list = v.list.now; upses = map seen_ups v.upses.now.items; descriptions = v.descriptions.now; users = v.users.now; clients = map seen_client v.sessions.now.items; tracking = v.tracking.now } };
+}
+
+impl<'a> ServerView<'a> {
+    /// What answers a line that was read so, of the session that asks. The answer's line is made in the one that is lent.
+    /// Memory is asked for by a listing alone.
+    pub(super) fn reply_to<'l>(
+        &self,
+        asker: Asker<'_>,
+        read: &ReadLine<'_>,
+        lent: &'l mut Line,
+    ) -> Result<Reply<'l>, AllocError>
+        ensures { AnswersEach self.now (asker_seen asker.entry) read.now result }
+    {
+        match read {
+            Err(word) => Ok(one_line(word.line())),
+            Ok(command) => match command {
+                None => Ok(one_line(b"")),
+                Some(command) => answer(self, asker, command, lent),
+            },
+        }
+    }
+}
+
+/// A reply of at most one line, which changes nothing.
+fn one_line<'a>(text: &'a [u8]) -> Reply<'a>
+    ensures { IsText text.now result }
+{
+    Reply::One(text, Change::Nothing)
+}
+
+impl<'a> View for ServerView<'a> {
+    ghost seen = { λ v. v };
 
     fn moment(&self) -> u64 {
         self.moment
@@ -24,15 +82,15 @@ impl View for Server {
     }
 
     fn list(&self) -> &UpsList {
-        &self.list
+        self.list
     }
 
     fn descriptions(&self) -> &Descriptions {
-        &self.descriptions
+        self.descriptions
     }
 
     fn users(&self) -> &Users {
-        &self.users
+        self.users
     }
 
     fn next_id(&self) -> Option<u128> {
@@ -44,7 +102,7 @@ impl View for Server {
     }
 
     fn login_count(&self, u: UpsId) -> usize {
-        login_count(&self.sessions, u)
+        login_count(self.sessions, u)
     }
 
     fn ups(&self, u: UpsId) -> Option<UpsView<'_>> {
