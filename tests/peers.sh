@@ -335,6 +335,7 @@ says "our upsc UPS VAR at NUT's upsd, server.info" '*upsd 2.8*\[0\]' "$(ours ups
 says "our upsc -l at NUT's upsd" 'nu \[0\]' "$(ours upsc)" -l "127.0.0.1:$nut_port"
 says "our upsc -L at NUT's upsd" 'nu: Server room \[0\]' "$(ours upsc)" -L "127.0.0.1:$nut_port"
 says "our upsc -c at NUT's upsd" '\[0\]' "$(ours upsc)" -c "$nu"
+says "our upsc --attached at NUT's upsd" 'upsc: server answered ERR INVALID-ARGUMENT \[1\]' "$(ours upsc)" --attached "$nu"
 says "our upsc at NUT's upsd, an unknown UPS" 'upsc: server answered ERR UNKNOWN-UPS \[1\]' "$(ours upsc)" "x@127.0.0.1:$nut_port"
 says "our upsrw UPS at NUT's upsd" '*ups.id=rack*\[0\]' "$(ours upsrw)" "$nu"
 says "our upsrw -s at NUT's upsd, a password and a value with blanks" 'OK \[0\]' \

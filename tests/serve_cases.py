@@ -478,6 +478,27 @@ def who_logs_in_and_out_is_told_within_a_second():
 
 
 @case
+def who_attaches_is_told_as_who_logs_in():
+    with served() as (server, _, good):
+        other = server.client("127.0.0.2")
+        attached = (UPSC, "--attached", f"su@127.0.0.1:{server.port}")
+        assert other.ask(b"ATTACH su\n") == b"ERR USERNAME-REQUIRED\n"
+        told = COME + "upsd: su: 127.0.0.2 was refused LOGIN: USERNAME-REQUIRED\n"
+        assert server.journal() == told, server.journal()
+        assert printed(*attached) == b"0\n"
+        assert other.ask(MON + b"ATTACH su\nLOGIN su\n") == b"OK\n" * 3 + b"ERR ALREADY-LOGGED-IN\n"
+        assert printed(*attached) == b"1\n"
+        assert good.ask(b"GET NUMLOGINS su\n") == b"NUMLOGINS su 1\n"
+        told = "upsd: su: mon@127.0.0.2 logged in\n"
+        assert comes(lambda: told in server.journal(), 1.5), server.journal()
+        assert other.ask(b"DETACH\n") == b"OK Goodbye\n"
+        told = "upsd: su: mon@127.0.0.2 logged out\n"
+        assert comes(lambda: told in server.journal(), 1.5), server.journal()
+        assert printed(*attached) == b"0\n"
+        other.close()
+
+
+@case
 def a_client_is_listed_by_the_address_that_it_comes_from():
     with served() as (server, _, good):
         others = [server.client(f"127.0.0.{i}") for i in range(2, 5)]

@@ -11,6 +11,8 @@ use Rattle.nutcore.specs.Server.{ServerState, new_server, ups_at}
 use Rattle.nutcore.specs.Reply.{reply}
 use Rattle.nutusers.specs.UpsList.{Ups, new_ups, id_at}
 use Rattle.nutusers.specs.Descriptions.{Descriptions, no_descriptions}
+use Rattle.nutusers.specs.Users.{User}
+use Rattle.nutusers.specs.declared.rights.Grant.TheVariants.{UpsmonSecondary}
 use Rattle.nutcore.specs.Lines.{whole_lines, unfinished_after, is_too_long}
 use Rattle.nutcore.specs.Ups.{new_ups as no_driver}
 use Rattle.nutcore.specs.Step.{after_by, outcome_of, wants_driver_memory}
@@ -212,6 +214,34 @@ pub record Described : Type 0 where
       ≡ codes "BEGIN LIST UPS\nUPS su \"Rack 1\"\nEND LIST UPS\n"
   pub variable : told described (codes "GET DESC su ups.status")
       ≡ codes "DESC su ups.status \"UPS status\"\n"
+
+-- A server whose file has a user, as whom client 1 asks, and to which client 2 came.
+abbrev pub with_a_user : ServerState
+with_a_user =
+    let mon : User = record {
+      name = codes "mon";
+      password = Some (codes "pw");
+      grants = UpsmonSecondary ∷ [];
+    } in
+    after_events (new_server (new_ups (codes "su") ∷ []) (mon ∷ []) no_descriptions 15)
+    (Open (codes "192.0.2.1") ∷ ask (codes "USERNAME mon") ∷ ask (codes "PASSWORD pw")
+    ∷ Open (codes "192.0.2.2") ∷ [])
+
+abbrev pub after_attach : ServerState
+after_attach = after_events with_a_user (ask (codes "ATTACH su") ∷ [])
+
+abbrev pub after_detach : ServerState
+after_detach = after_events after_attach (ask (codes "detach") ∷ [])
+
+-- Who attaches is logged in, and is counted by both names until it detaches.
+pub record CountedByBothNames : Type 0 where
+  pub attach : told with_a_user (codes "ATTACH su") ≡ codes "OK\n"
+  pub login : told after_attach (codes "LOGIN su") ≡ codes "ERR ALREADY-LOGGED-IN\n"
+  pub attached : reply after_attach 2 (codes "GET NUMATTACH su") ≡ codes "NUMATTACH su 1\n"
+  pub logged_in : reply after_attach 2 (codes "GET NUMLOGINS su") ≡ codes "NUMLOGINS su 1\n"
+  pub detach : told after_attach (codes "detach") ≡ codes "OK Goodbye\n"
+  pub none_attached : reply after_detach 2 (codes "GET NUMATTACH su")
+      ≡ codes "NUMATTACH su 0\n"
 
 -- A server whose variable has so many bytes that after its listing more than 2,048 are owed, and
 -- whose client asks for it and then for another.

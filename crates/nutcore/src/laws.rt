@@ -7,7 +7,7 @@ ghost use Rattle.nutcore.specs.Waiting.{ALineIsAnswered};
 ghost use Rattle.nutcore.specs.Alone.{OneLineIsAnswered};
 ghost use Rattle.nutcore.specs.OrdersByRight.{EachOrderIsByRight, TheOrdersToldAreThoseOfTheLines};
 ghost use Rattle.nutcore.specs.TellingLines.{EachTellingIsAWholeLine};
-ghost use Rattle.nutcore.specs.Examples.{TwoVariables, EmptyListing, TakenInFour, LongestLine, ThreeLines, EscapedValue, FaultyLines, CasesAndFaults, NotConnected, Described, PipelinedGet, CutLines, ToldInPieces};
+ghost use Rattle.nutcore.specs.Examples.{TwoVariables, EmptyListing, TakenInFour, LongestLine, ThreeLines, EscapedValue, FaultyLines, CasesAndFaults, NotConnected, Described, PipelinedGet, CutLines, ToldInPieces, CountedByBothNames};
 ghost use Rattle.nutcore.specs.Isolation.{AClientTouchesNoOther, ADriverTouchesNoOther, ARefusedEventChangesNothing, ARefusedEventCostsNothing};
 ghost use Rattle.nutcore.specs.Happenings.{AnswersComeOfWhatHappens, AQuietTakeChangesWhatIsOwedAlone, AReplyComesOfWhatIsSeen};
 ghost use Rattle.nutcore.specs.Limits.{Limits};
@@ -404,4 +404,5 @@ pub fn sessions_worked_by_hand()
     ensures pipelined_get { PipelinedGet }
     ensures cut_lines { CutLines }
     ensures told_in_pieces { ToldInPieces }
+    ensures counted_by_both_names { CountedByBothNames }
 {}
