@@ -7,6 +7,7 @@ ghost use Rattle.nutcore.specs.Promises.{deed_in_reply, with_deed};
 ghost use Rattle.nutcore.specs.Pump.{next_line};
 ghost use Rattle.nutwords.specs.declared.limits.TheConstants.{LINE_LIMIT};
 
+use crate::HELD_LIMIT;
 use crate::event::ClientId;
 use crate::lines::line_end;
 use crate::session::Session;
@@ -15,8 +16,11 @@ use nutwords::{Name, UpsName};
 use std::alloc::{AllocError, Global};
 use std::marker::Model;
 
-/// The most deeds that an event notes. A line of one has at least six bytes with its LF, and a session holds at most 1,024.
-pub const DEED_LIMIT: usize = 171;
+/// The fewest bytes of a line that does a deed, with its LF.
+const SHORTEST_DEED: usize = 6;
+
+/// The most deeds that an event notes: a session holds at most so many lines of them.
+pub const DEED_LIMIT: usize = HELD_LIMIT / SHORTEST_DEED + 1;
 
 /// How many bytes of the line of a refusal stand before its word: `ERR` and a blank.
 const ERR_LEN: usize = 4;
