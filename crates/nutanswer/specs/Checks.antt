@@ -147,14 +147,14 @@ cmd_not_supported u name = do
 abbrev pub readonly : VariableState → Result (Unit {0}) ErrWord
 readonly x = unless x.flags.rw Readonly
 
--- A value as long as the variable may have. The word is none where it has more than 256 bytes.
+-- A value as long as the variable may have. The word is none where it has more than 512 bytes.
 abbrev pub too_long : VariableState → Option (List ℕ) → Result (List ℕ) ErrWord
 too_long x word = do
   value ← ok_or word TooLong
   unless (is_short_enough x value) TooLong
   Ok value
 
--- The value of a command, which may be left out. The word is none where it has more than 256 bytes.
+-- The value of a command, which may be left out. The word is none where it has more than 512 bytes.
 abbrev pub too_long_of_command : Option (Option (List ℕ)) → Result (Option (List ℕ)) ErrWord
 too_long_of_command None = Ok None
 too_long_of_command (Some None) = Err TooLong

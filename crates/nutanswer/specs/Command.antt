@@ -59,7 +59,7 @@ ups_and_name _ = Err InvalidArgument
 abbrev pub Names : Type 0 → Type 0
 Names A = Option (List ℕ) × Option (List ℕ) × A
 
--- The value that a word is. A word of more than 256 bytes is none; its bytes are lawful, as the
+-- The value that a word is. A word of more than 512 bytes is none; its bytes are lawful, as the
 -- line's are.
 abbrev pub value_of : List ℕ → Option (List ℕ)
 value_of word = result_ok (read_value word)

@@ -83,7 +83,7 @@ impl<'a> Command<'a> {
     ghost use Rattle.nutwords.specs.Spelled.{spelled};
     ghost use Rattle.nutanswer.specs.Command.{read_command, command_of, command_named, user_command, login_command, order_command, server_command, read_set, set_of, read_get, get_of, read_list, list_of};
 
-    /// Reads a line without its LF, of at most 1,023 bytes. A line without words is no command.
+    /// Reads a line without its LF, of at most 2,047 bytes. A line without words is no command.
     ///
     /// The first word, and the second one of GET, LIST and SET, are read in capitals or not; names byte for byte. Refused, in
     /// this order: a line that doesn't read as words (INVALID-ARGUMENT); a first word that is no command

@@ -48,7 +48,7 @@ pub enum ErrWord {
 impl ErrWord {
     ghost use Rattle.nutanswer.specs.ErrWord.{error_line};
 
-    /// The line that tells the refusal, with its LF: at most 1,024 bytes.
+    /// The line that tells the refusal, with its LF: at most 2,048 bytes.
     pub fn line(self) -> &'static [u8]
         ensures line { result.now ≡ error_line self }
         ensures short { length result.now ≤ LINE_ROOM }

@@ -36,7 +36,7 @@ pub whole_none : (text : List ℕ) → split_line text ≡ None → whole_lines 
 unfolding whole_lines
 whole_none text h = ap (take_while is_short) (ended_nowhere text ((no_line_without_lf text).0 h))
 
--- none where 1,024 bytes stand without an LF
+-- none where 2,048 bytes stand without an LF
 pub whole_too_long : (text : List ℕ) → split_line (take LINE_ROOM text) ≡ None → whole_lines text ≡ []
 unfolding whole_lines
 whole_too_long text h = by_first (split_line text) refl
@@ -73,7 +73,7 @@ unfinished_first text line rest h short =
     ∙ ap (λ (bytes : List ℕ). drop (length (with_lf line) + length more) bytes) whole
     ∙ drop-append-add (with_lf line) rest (length more)
 
--- a line has no LF, and at most 1,023 bytes
+-- a line has no LF, and at most 2,047 bytes
 abbrev pub IsWhole : List ℕ → Type 0
 IsWhole line = (split_line line ≡ None) × (length line < LINE_ROOM)
 

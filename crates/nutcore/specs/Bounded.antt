@@ -13,8 +13,8 @@ use Rattle.nutcore.specs.Sound.{IsSound}
 
 -- lines: the event executes no more lines of a client, the notice counted with them, than bytes of
 -- its input were held and came. in_all: nor more than a session may hold. placed: what is offered
--- to a client after it, and what the client took, is at most 4,096 bytes more than was offered
--- before. bytes, renders: so the event costs at most 4,096 bytes placed, and no more lines rendered
+-- to a client after it, and what the client took, is at most 8,192 bytes more than was offered
+-- before. bytes, renders: so the event costs at most 8,192 bytes placed, and no more lines rendered
 -- than bytes placed.
 pub record IsBounded (old : ServerState) (event : Event) (outcome : Outcome) (new : ServerState)
     : Type 0 where

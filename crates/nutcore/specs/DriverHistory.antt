@@ -37,7 +37,7 @@ refused_among report (x ∷ lines) =
     refusals x.unawaited (after_line x.moment report x.line).1
     + refused_among (after_line x.moment report x.line).0 lines
 
--- A line has no LF, and at most 1,023 bytes.
+-- A line has no LF, and at most 2,047 bytes.
 pub record IsWholeLine (x : Heard) : Type 0 where
   pub one : split_line x.line ≡ None
   pub short : length x.line ≤ LINE_LIMIT

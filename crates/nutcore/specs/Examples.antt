@@ -17,6 +17,7 @@ use Rattle.nutcore.specs.Lines.{whole_lines, unfinished_after, is_too_long}
 use Rattle.nutcore.specs.Ups.{new_ups as no_driver}
 use Rattle.nutcore.specs.Step.{after_by, outcome_of, wants_driver_memory}
 use Rattle.nutcore.specs.History.{owed, held, taken_in_event, is_over}
+use Rattle.nutlisting.specs.declared.outbox.TheConstants.{OWED_LIMIT}
 use Rattle.nutwords.specs.declared.limits.TheConstants.{LINE_LIMIT, LINE_ROOM, VALUE_LIMIT}
 
 -- What events leave, where memory is there.
@@ -243,7 +244,7 @@ pub record CountedByBothNames : Type 0 where
   pub none_attached : reply after_detach 2 (codes "GET NUMATTACH su")
       ≡ codes "NUMATTACH su 0\n"
 
--- A server whose variable has so many bytes that after its listing more than 2,048 are owed, and
+-- A server whose variable has so many bytes that after its listing more than 4,096 are owed, and
 -- whose client asks for it and then for another.
 abbrev pub pipelined : ServerState
 pipelined =
@@ -258,7 +259,7 @@ pipelined =
 
 -- The line after a listing is answered after it, on the server as it is once the line is executed.
 pub record PipelinedGet : Type 0 where
-  pub listed : length (owed 1 pipelined) ≡ 2201
+  pub listed : length (owed 1 pipelined) ≡ OWED_LIMIT + 153
   pub held_back : held 1 pipelined ≡ codes "GET VAR su ups.status\n"
-  pub told_behind : drop 2048 (owed 1 (after_events pipelined (Took 1 153 ∷ [])))
+  pub told_behind : drop OWED_LIMIT (owed 1 (after_events pipelined (Took 1 153 ∷ [])))
       ≡ codes "VAR su ups.status \"OB\"\n"

@@ -127,7 +127,7 @@ pub record NothingIsLeftToExecute : Type 0 where
   pub took : (old new : ServerState) (c n : ℕ) → Step old (Took c n) Done new
       → pump_stops new c ≡ true
 
--- A line is executed only while at most 2,048 bytes are owed to its client, and its answer is
+-- A line is executed only while at most 4,096 bytes are owed to its client, and its answer is
 -- joined after them: so what is owed is at most that, and one answer.
 abbrev pub OneAnswerAtMostIsOwedAbove : Type 0
 OneAnswerAtMostIsOwedAbove =

@@ -8,9 +8,9 @@ use Rattle.nutcore.specs.declared.max_age.TheConstants.{MAX_AGE_LEAST, MAX_AGE_M
 use Rattle.nutcore.specs.declared.max_age.TheConstants.{MAX_AGE_DEFAULT}
 
 pub record Limits : Type 0 where
-  pub held : HELD_LIMIT ≡ 1024
-  pub owed : OWED_LIMIT ≡ 2048
-  pub offered : RING_LIMIT ≡ 4096
+  pub held : HELD_LIMIT ≡ 2048
+  pub owed : OWED_LIMIT ≡ 4096
+  pub offered : RING_LIMIT ≡ 8192
   pub sessions : SESSION_LIMIT ≡ 64
   pub driver_owed : DRIVER_OWED_LIMIT ≡ 2048
   pub max_age_least : MAX_AGE_LEAST ≡ 3

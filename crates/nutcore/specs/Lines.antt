@@ -30,7 +30,7 @@ unfoldable pub ended_lines : List ℕ → List (List ℕ)
 ended_lines [] = []
 ended_lines (b ∷ bytes) = if b == 10 then [] ∷ ended_lines bytes else in_first b (ended_lines bytes)
 
--- The line has at most 1,023 bytes.
+-- The line has at most 2,047 bytes.
 abbrev pub is_short : List ℕ → Bool
 is_short line = nat_lt (length line) LINE_ROOM
 
@@ -42,7 +42,7 @@ whole_lines bytes = take_while is_short (ended_lines bytes)
 unfoldable pub unfinished_after : List ℕ → List ℕ
 unfinished_after bytes = drop (length (joined (whole_lines bytes))) bytes
 
--- It can't become a line: 1,024 bytes stand without an LF.
+-- It can't become a line: 2,048 bytes stand without an LF.
 abbrev pub is_too_long : List ℕ → Bool
 is_too_long rest = nat_le LINE_ROOM (length rest)
 

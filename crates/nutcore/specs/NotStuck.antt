@@ -28,7 +28,7 @@ pub record HasRoom (x : SessionState) : Type 0 where
   pub room : length x.held < HELD_LIMIT
 
 -- Of a client that opened in a run, as of any in a run from a new server: where its session isn't
--- ending, and at most 2,048 bytes are owed to it, it has room for input.
+-- ending, and at most 4,096 bytes are owed to it, it has room for input.
 abbrev pub WhoIsOwedLittleHasRoom : Type 0
 WhoIsOwedLittleHasRoom =
     (old new : ServerState) (events : List Event) (outcomes : List Outcome) (c : ℕ)

@@ -14,7 +14,7 @@ use Rattle.nutcore.specs.Session.{SessionState, begin_ending}
 use Rattle.nutcore.specs.Server.{ServerState, session, with_session_changed}
 use Rattle.nutcore.specs.Reply.{seen, asker, reply, after_change, too_long_notice}
 
--- The session's next line, if it may be executed: the session isn't ending, and at most 2,048 bytes
+-- The session's next line, if it may be executed: the session isn't ending, and at most 4,096 bytes
 -- are owed.
 abbrev pub next_line : SessionState → Option (List ℕ)
 next_line x = if x.ending || nat_lt OWED_LIMIT (length x.owed) then None else first_line x.held
@@ -58,7 +58,7 @@ owed_of (Some x) = x.owed
 unfoldable pub after_all_lines : ServerState → ℕ → ServerState
 after_all_lines s c = after_lines (length (held_of (session c s))) s c
 
--- The session may go on, but holds 1,024 bytes without an LF.
+-- The session may go on, but holds 2,048 bytes without an LF.
 abbrev pub holds_overlong : SessionState → Bool
 holds_overlong x =
     not x.ending

@@ -100,6 +100,6 @@ reply s c line = text_to s c (read_command line)
 abbrev pub after_change : ServerState → ℕ → List ℕ → ServerState
 after_change s c line = changed (change_by s c (read_command line)) c s
 
--- The notice to a client of which 1,024 bytes came without an LF.
+-- The notice to a client of which 2,048 bytes came without an LF.
 abbrev pub too_long_notice : List ℕ
 too_long_notice = error_line TooLong

@@ -48,7 +48,7 @@ with_input s c piece = with_session_changed (joined piece) c s
 
 -- Clients: bytes are taken.
 
--- What is offered: the first 4,096 bytes of what is owed, or all.
+-- What is offered: the first 8,192 bytes of what is owed, or all.
 abbrev pub offered : Option SessionState → List ℕ
 offered x = take RING_LIMIT (owed_of x)
 

@@ -30,7 +30,7 @@ TakesAll c s (e ∷ es) [] = ⊥
 abbrev pub lines_done : ℕ → ServerState → List Event → List Outcome → ℕ
 lines_done c s es os = length (of_client c (executions s es os))
 
--- So many takes are enough: one for each 4,096 bytes of what is owed and is answered, one for each
+-- So many takes are enough: one for each 8,192 bytes of what is owed and is answered, one for each
 -- line that is executed, and one more.
 abbrev pub enough_takes : ℕ → ServerState → List Event → List Outcome → ℕ
 enough_takes c s es os =

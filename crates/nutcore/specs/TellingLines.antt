@@ -24,7 +24,7 @@ pub data IsSpelled : Telling → Type 0 where
   commands_with : (name value : List ℕ) (id : Option ℕ) → IsTrue (is_name name)
       → IsTrue (is_value value) → IsSpelled (order (instcmd_line name (Some value) id))
 
--- Its text is one line of at most 1,023 lawful bytes, none of them an LF, and its LF.
+-- Its text is one line of at most 2,047 lawful bytes, none of them an LF, and its LF.
 pub record IsLineToDriver (told : Telling) : Type 0 where
   pub spelled : IsSpelled told
   pub whole : IsWholeLine (text_of told)

@@ -19,7 +19,7 @@ pub record IsWaiting (c : ℕ) (s : ServerState) : Type 0 where
   pub owed : x.owed ≡ []
   pub going : x.ending ≡ false
 
--- A session that was opened is waiting; and where one that waits is fed one line, of at most 1,023
+-- A session that was opened is waiting; and where one that waits is fed one line, of at most 2,047
 -- bytes, and memory is there, it is owed exactly the reply to it, and holds nothing.
 pub record ALineIsAnswered : Type 0 where
   pub opened : (s : ServerState) (address : List ℕ) → IsSound s → may_open s ≡ true

@@ -3,6 +3,7 @@ ghost use Rattle.std.specs.Prelude.{◌≡◌, ◌≤◌, ◌++◌, [], ◌∷�
 ghost use Rattle.nutcore.specs.Deeds.{is_refusal, refusal_in, deed_of_command};
 ghost use Rattle.nutcore.specs.Promises.{deed_in_reply, with_deed};
 
+use crate::HELD_LIMIT;
 use crate::event::ClientId;
 use crate::lines::line_end;
 use nutanswer::{Command, ErrWord, Reply};
@@ -10,8 +11,11 @@ use nutwords::{Name, UpsName};
 use std::alloc::{AllocError, Global};
 use std::marker::Model;
 
-/// The most deeds that an event notes. A line of one has at least six bytes with its LF, and a session holds at most 1,024.
-pub const DEED_LIMIT: usize = 171;
+/// The fewest bytes of a line that does a deed, with its LF.
+const SHORTEST_DEED: usize = 6;
+
+/// The most deeds that an event notes: a session holds at most so many lines of them.
+pub const DEED_LIMIT: usize = HELD_LIMIT / SHORTEST_DEED + 1;
 
 /// How many bytes of the line of a refusal stand before its word: `ERR` and a blank.
 const ERR_LEN: usize = 4;

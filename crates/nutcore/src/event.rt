@@ -64,7 +64,7 @@ pub enum Fault {
     /// The driver is connected already.
     #[error("the driver is connected already")]
     AlreadyConnected,
-    /// 1,024 bytes came without an LF: the client's session ends, or the driver is lost.
+    /// 2,048 bytes came without an LF: the client's session ends, or the driver is lost.
     #[error("line too long")]
     LineTooLong,
     /// Memory was refused after so many lines of the call.

@@ -58,7 +58,7 @@ pub fn nothing_is_left_to_execute()
     ensures { NothingIsLeftToExecute }
 {}
 
-/// A line is executed only while at most 2,048 bytes are owed to its client, and its answer is joined after them.
+/// A line is executed only while at most 4,096 bytes are owed to its client, and its answer is joined after them.
 pub fn one_answer_at_most_is_owed_above()
     ensures { OneAnswerAtMostIsOwedAbove }
 {}
@@ -100,7 +100,7 @@ pub fn what_is_counted_is_who_is_there()
 {}
 
 /// A session that was opened holds nothing and is owed nothing; and where such a one, which isn't ending, is fed one line of
-/// at most 1,023 bytes and memory is there, it is owed exactly the reply to that line, and holds nothing.
+/// at most 2,047 bytes and memory is there, it is owed exactly the reply to that line, and holds nothing.
 pub fn a_line_is_answered()
     ensures { ALineIsAnswered }
 {}
@@ -288,7 +288,7 @@ pub fn each_run_tracks_its_orders()
 {}
 
 /// Whatever a run tells a driver is whole lines: `DUMPALL`, `PING`, `SET name "value"`, `INSTCMD name` or
-/// `INSTCMD name "value"`, of a tracked order with `TRACKING` and its id behind it, of lawful names and values, each of at most 1,023 lawful bytes without an LF, and its LF.
+/// `INSTCMD name "value"`, of a tracked order with `TRACKING` and its id behind it, of lawful names and values, each of at most 2,047 lawful bytes without an LF, and its LF.
 pub fn each_telling_is_a_whole_line()
     ensures { EachTellingIsAWholeLine }
 {}
@@ -299,22 +299,22 @@ pub fn the_pump_executes_the_least()
 {}
 
 /// What one event executes and offers is bounded, however much a server holds and lists: of each client it executes no more
-/// lines than bytes of its input were held and came, in all at most 1,024; and what is offered to a client after it, with
-/// what the client took, is at most 4,096 bytes more than what was offered before.
+/// lines than bytes of its input were held and came, in all at most 2,048; and what is offered to a client after it, with
+/// what the client took, is at most 8,192 bytes more than what was offered before.
 pub fn each_event_is_bounded()
     ensures { EachEventIsBounded }
 {}
 
 /// Of every server and every client there is a number of takes of all that is offered, one after another and with memory
 /// there, after which the client is owed nothing, and no line of it is held that may be executed. There are at most one for
-/// each 4,096 bytes of what is owed and is answered, one for each line that is executed, and one more; and no more lines
+/// each 8,192 bytes of what is owed and is answered, one for each line that is executed, and one more; and no more lines
 /// are executed than bytes were held. So many takes are enough too where drivers and other clients do anything between.
 pub fn who_takes_gets_everything()
     ensures alone { WhoTakesGetsEverything }
     ensures among_others { WhoTakesAmongOthersGetsEverything }
 {}
 
-/// Nobody is stuck. Of a client that opened in a run, whose session isn't ending and to which at most 2,048 bytes are owed,
+/// Nobody is stuck. Of a client that opened in a run, whose session isn't ending and to which at most 4,096 bytes are owed,
 /// memory was there whenever it sent or took: then it holds no whole line, and fewer bytes than it may. A session that is
 /// ending is finished once as many bytes are taken as it was owed. `who_takes_gets_everything` says how many takes that is.
 pub fn nobody_is_stuck()
@@ -322,15 +322,15 @@ pub fn nobody_is_stuck()
     ensures finished { WhoEndsIsFinished }
 {}
 
-/// The whole server in numbers: its sessions hold at most 64 times 1,024 bytes together, and are offered at most 64 times
-/// 4,096; the drivers of its UPSs are owed at most 32 times 2,048, and have at most 32 times 1,023 unfinished; its trees
+/// The whole server in numbers: its sessions hold at most 64 times 2,048 bytes together, and are offered at most 64 times
+/// 8,192; the drivers of its UPSs are owed at most 32 times 2,048, and have at most 32 times 2,047 unfinished; its trees
 /// together have at most 32 times as many variables, commands, enum values and ranges as one may; and at most 96 versions of
 /// trees are alive, one a UPS and one a listing that goes on.
 pub fn a_server_is_bounded_in_all()
     ensures { AServerIsBoundedInAll }
 {}
 
-/// So many takes are enough of a client that takes k bytes at a time, from 1 to 4,096, or all that it is offered where those
+/// So many takes are enough of a client that takes k bytes at a time, from 1 to 8,192, or all that it is offered where those
 /// are fewer: one for each k bytes of what is owed and is answered, one for each line that is executed, and one more. Drivers
 /// and other clients do anything between.
 pub fn who_takes_some_gets_everything()

@@ -188,7 +188,7 @@ impl Server {
         Ok(())
     }
 
-    /// Bytes come from a driver. Each whole line is done, a refused one counted; where 1,024 bytes
+    /// Bytes come from a driver. Each whole line is done, a refused one counted; where 2,048 bytes
     /// stand without an LF, or memory is refused, the driver is lost and the rest is dropped.
     ///
     /// # Errors
@@ -322,7 +322,7 @@ impl Server {
         Ok(id)
     }
 
-    /// How many bytes of input the session takes in now: 1,024 less what it holds, and 1,024 where
+    /// How many bytes of input the session takes in now: 2,048 less what it holds, and 2,048 where
     /// it is ending.
     ///
     /// # Errors
@@ -359,7 +359,7 @@ impl Server {
         Ok(count)
     }
 
-    /// What is offered to the client: the first 4,096 bytes of what it is owed, or all. It changes
+    /// What is offered to the client: the first 8,192 bytes of what it is owed, or all. It changes
     /// nothing.
     ///
     /// # Errors

@@ -276,7 +276,7 @@ impl Session {
         self.executed = self.executed + end + 1;
     }
 
-    /// A session that holds 1,024 bytes without an LF is told so, and begins to end.
+    /// A session that holds 2,048 bytes without an LF is told so, and begins to end.
     ///
     /// # Errors
     ///
@@ -325,7 +325,7 @@ impl Session {
         }
     }
 
-    /// What is offered to the client now: the first 4,096 bytes of what it is owed, or all. Nothing
+    /// What is offered to the client now: the first 8,192 bytes of what it is owed, or all. Nothing
     /// changes.
     pub(crate) fn offer(&mut self) -> &[u8]
         ensures value { result.now ≡ take RING_LIMIT self.old.owed }

@@ -51,11 +51,11 @@ impl DriverLine {
     ghost use Rattle.nutwords.specs.Spelled.{spelled};
     ghost use Rattle.nutdriver.specs.DriverLine.{read_driver_line, driver_line_of, value_line, limit_line, command_line, state_line, order_line, alone};
 
-    /// Reads a line without its LF, of at most 1,023 bytes. Takes no memory.
+    /// Reads a line without its LF, of at most 2,047 bytes. Takes no memory.
     ///
     /// The first word and flags are read in capitals or not. Refused, in this order: a line that doesn't read as words
     /// (1); an unknown first word (2); another number of words, an unlawful name or a word that is no id (1); a value above
-    /// 256 bytes (7); a bad number, or a range whose ends are the wrong way round (5); an unknown flag (6).
+    /// 512 bytes (7); a bad number, or a range whose ends are the wrong way round (5); an unknown flag (6).
     pub fn read(line: &[u8]) -> Result<DriverLine, DriverFault>
         requires { length line.now ≤ LINE_LIMIT }
         ensures { result ≡ read_driver_line line.now }

@@ -4,7 +4,7 @@ use Rattle.std.specs.List.{list_all, flat_map, AllByRecursion}
 use Rattle.nutwords.specs.Bytes.{is_lawful}
 use Rattle.nutwords.specs.declared.limits.TheConstants.{LINE_LIMIT}
 
--- A line of an answer, without its LF: at most 1,023 bytes, each of them lawful.
+-- A line of an answer, without its LF: at most 2,047 bytes, each of them lawful.
 pub record IsAnswerLine (line : List ℕ) : Type 0 where
   pub fits : length line ≤ LINE_LIMIT
   pub lawful : IsTrue (list_all is_lawful line)

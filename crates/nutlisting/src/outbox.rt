@@ -21,7 +21,7 @@ use std::alloc::{AllocError, Global};
 use std::marker::Model;
 
 /// The next line of a client is executed while at most so many bytes are owed to it.
-pub const OWED_LIMIT: usize = 2048;
+pub const OWED_LIMIT: usize = 4096;
 
 /// What a session owes its client: a ring of bytes, and one cursor for what doesn't fit in it yet.
 ///
@@ -75,7 +75,7 @@ impl Outbox {
         self.ring.len()
     }
 
-    /// What is offered to the client now: the first 4,096 bytes that are owed, or all. Nothing changes.
+    /// What is offered to the client now: the first 8,192 bytes that are owed, or all. Nothing changes.
     pub fn offer(&mut self) -> &[u8]
         ensures value { result.now ≡ take RING_LIMIT (owed self.old) }
         ensures ring { result.now ≡ self.old.ring }
@@ -93,7 +93,7 @@ impl Outbox {
         self.ring.len() == 0
     }
 
-    /// Whether the next line may be executed: at most 2,048 bytes are owed.
+    /// Whether the next line may be executed: at most 4,096 bytes are owed.
     pub fn is_ready(&self) -> bool
         ensures { result ≡ nat_le (length (owed self.now)) OWED_LIMIT }
     {

@@ -13,10 +13,10 @@ use Rattle.nutusers.specs.declared.ups_list.UpsId.{UpsId}
 use Rattle.nutcore.specs.Ups.{UpsState}
 use Rattle.nutcore.specs.Server.{ServerState, session, ups_at}
 use Rattle.nutcore.specs.Pump.{owed_of}
-use Rattle.nutcore.specs.Step.{may_take, driver_may_take}
+use Rattle.nutcore.specs.Step.{may_take, driver_may_take, offered}
 use Rattle.nutcore.specs.Calls.{is_connected, owed_to}
 use Rattle.nutcore.specs.DriverOrders.{taken_in_event as driver_taken_in_event, owed_to_driver}
-use Rattle.nutcore.specs.History.{owed, taken_in_event}
+use Rattle.nutcore.specs.History.{taken_in_event}
 use Rattle.nutcore.specs.declared.event.Event.TheVariants.{Took, DriverTook}
 use Rattle.nutreplay.specs.declared.transcript.sent.Taken.{Taken}
 use Rattle.nutreplay.specs.Transcript.{TranscriptState, Happens, TakesAgain, count_offered}
@@ -53,25 +53,26 @@ pub when_false : (b : Bool) (xs : List ℕ) → b ≡ false → (if b then xs el
 when_false true xs e = cc e
 when_false false xs e = refl
 
-within_offer : (n : ℕ) (owed : List ℕ) → n ≤ length (take 4096 owed) → n ≤ 4096
-within_offer n owed h = omega (arith, h, length-take 4096 owed)
+-- n bytes of the first ones are the first n
+within_offer : (limit n : ℕ) (owed : List ℕ) → n ≤ length (take limit owed) → take n (take limit owed) ≡ take n owed
+within_offer limit n owed h = take-take n limit owed (omega (arith, h, length-take limit owed))
 
-taken_open : (c n : ℕ) (s : ServerState) (o : Option SessionState) (bytes : List ℕ) → session c s ≡ o → is_some o ≡ true → bytes ≡ take 4096 (owed_of o) → n ≤ length bytes → taken_in_event c s (Took c n) ≡ take n bytes
+taken_open : (c n : ℕ) (s : ServerState) (o : Option SessionState) (bytes : List ℕ) → session c s ≡ o → is_some o ≡ true → bytes ≡ offered o → n ≤ length bytes → taken_in_event c s (Took c n) ≡ take n bytes
 taken_open c n s None bytes e is_open b h = cc is_open
 taken_open c n s (Some x) bytes e is_open b h =
-    let few : n ≤ length (take 4096 x.owed) = subst (λ (xs : List ℕ). n ≤ length xs) b h in
-    client_taken_of c n s (Some x) e ∙ when_true (may_take (Some x) n) (take n x.owed) (le-leb _ _ few) ∙ sym (take-take n 4096 x.owed (within_offer n x.owed few)) ∙ sym (ap (λ (xs : List ℕ). take n xs) b)
+    let few : n ≤ length (offered (Some x)) = subst (λ (xs : List ℕ). n ≤ length xs) b h in
+    client_taken_of c n s (Some x) e ∙ when_true (may_take (Some x) n) (take n x.owed) (le-leb _ _ few) ∙ sym (within_offer _ n x.owed few) ∙ sym (ap (λ (xs : List ℕ). take n xs) b)
 
-pub taken_some : (c n : ℕ) (s : ServerState) (bytes : List ℕ) → is_some (session c s) ≡ true → bytes ≡ take 4096 (owed c s) → n ≤ length bytes → taken_in_event c s (Took c n) ≡ take n bytes
+pub taken_some : (c n : ℕ) (s : ServerState) (bytes : List ℕ) → is_some (session c s) ≡ true → bytes ≡ offered (session c s) → n ≤ length bytes → taken_in_event c s (Took c n) ≡ take n bytes
 taken_some c n s bytes is_open b h = taken_open c n s (session c s) bytes refl is_open b h
 
-taken_fewer : (c n : ℕ) (s : ServerState) (o : Option SessionState) (bytes : List ℕ) → session c s ≡ o → is_some o ≡ true → bytes ≡ take 4096 (owed_of o) → length bytes < n → taken_in_event c s (Took c n) ≡ []
+taken_fewer : (c n : ℕ) (s : ServerState) (o : Option SessionState) (bytes : List ℕ) → session c s ≡ o → is_some o ≡ true → bytes ≡ offered o → length bytes < n → taken_in_event c s (Took c n) ≡ []
 taken_fewer c n s None bytes e is_open b h = cc is_open
 taken_fewer c n s (Some x) bytes e is_open b h =
-    let more : length (take 4096 x.owed) < n = subst (λ (xs : List ℕ). length xs < n) b h in
+    let more : length (offered (Some x)) < n = subst (λ (xs : List ℕ). length xs < n) b h in
     client_taken_of c n s (Some x) e ∙ when_false (may_take (Some x) n) (take n x.owed) (lt-leb _ _ more)
 
-pub taken_too_few : (c n : ℕ) (s : ServerState) (bytes : List ℕ) → is_some (session c s) ≡ true → bytes ≡ take 4096 (owed c s) → length bytes < n → taken_in_event c s (Took c n) ≡ []
+pub taken_too_few : (c n : ℕ) (s : ServerState) (bytes : List ℕ) → is_some (session c s) ≡ true → bytes ≡ offered (session c s) → length bytes < n → taken_in_event c s (Took c n) ≡ []
 taken_too_few c n s bytes is_open b h = taken_fewer c n s (session c s) bytes refl is_open b h
 
 -- what a driver takes, by its UPS

@@ -75,7 +75,7 @@ lines_open held (b ∷ bs) h few =
     let shorter : length (held ++ b ∷ []) + length bs < LINE_ROOM = omega (arith, length-append held (b ∷ [])) in
     held_more held b bs k.0 (omega arith) ∙ lines_open (held ++ b ∷ []) bs k.1 shorter
 
--- 1,024 bytes stand without LF
+-- 2,048 bytes stand without LF
 pub lines_too_long : (n : ℕ) (held bs more : List ℕ) → split_line (take n bs) ≡ None → length held + n ≡ LINE_ROOM → 0 < n → n ≤ length bs → lines_from held (bs ++ more) ≡ TooLong ∷ []
 lines_too_long zero held bs more h e some within = absurd (omega arith)
 lines_too_long (suc n) held [] more h e some within = absurd (omega arith)

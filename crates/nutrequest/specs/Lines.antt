@@ -2,7 +2,7 @@
 use Rattle.std.specs.Prelude.{ℕ, List, [], ◌∷◌, ◌++◌, ◌==◌, length, nat_le, if◌then◌else◌}
 use Rattle.nutwords.specs.declared.limits.TheConstants.{LINE_LIMIT}
 
--- A line without its LF and the bytes that follow it, or 1,024 bytes without LF.
+-- A line without its LF and the bytes that follow it, or 2,048 bytes without LF.
 pub data FoundLine : Type 0 where
   Line : (line rest : List ℕ) → FoundLine
   TooLong : FoundLine
@@ -15,7 +15,7 @@ lines_from held (b ∷ bytes) =
     else if nat_le LINE_LIMIT (length held) then TooLong ∷ []
     else lines_from (held ++ b ∷ []) bytes
 
--- The lines that are whole. After 1,024 bytes without LF no line is looked for, and an unfinished
+-- The lines that are whole. After 2,048 bytes without LF no line is looked for, and an unfinished
 -- last line is none.
 abbrev pub lines : List ℕ → List FoundLine
 lines bytes = lines_from [] bytes

@@ -10,7 +10,7 @@ use Rattle.nutwords.specs.declared.cut.Cut.TheVariants.{Line}
 use Rattle.nutwords.specs.declared.cut.Found.{Found}
 use Rattle.nutwords.specs.declared.cut.Found.TheVariants.{InPiece, Joined, NeedsMore, TooLong}
 
--- What is held, followed by the piece, has this first line, of at most 1,023 bytes, and it takes so
+-- What is held, followed by the piece, has this first line, of at most 2,047 bytes, and it takes so
 -- many bytes of the piece, its LF included.
 abbrev pub FindsLine : List ℕ → List ℕ → List ℕ → ℕ → Type 0
 FindsLine held piece line used =
@@ -19,7 +19,7 @@ FindsLine held piece line used =
 
 -- What a cutter answers that holds these bytes and is lent this piece, and what it holds
 -- afterwards: the line stands at the front of the piece, and nothing is held; or the line is what
--- is held now; or all of the piece is held, and no line is whole; or 1,024 bytes stand without LF.
+-- is held now; or all of the piece is held, and no line is whole; or 2,048 bytes stand without LF.
 abbrev pub Finds : List ℕ → List ℕ → Found → List ℕ → Type 0
 Finds held piece (InPiece n) after = FindsLine held piece (take n piece) (n + 1) × (after ≡ [])
 Finds held piece (Joined used) after = FindsLine held piece after used

@@ -14,8 +14,8 @@ pub data Tail : Type 0 where
   Unfinished : List ℕ → Tail
   Overlong : Tail
 
--- The text is these lines, each of at most 1,023 bytes and ended by LF, and then this tail: at most
--- 1,023 bytes without an LF, or 1,024 bytes without one and whatever follows them.
+-- The text is these lines, each of at most 2,047 bytes and ended by LF, and then this tail: at most
+-- 2,047 bytes without an LF, or 2,048 bytes without one and whatever follows them.
 pub data IsCutInto : List ℕ → List (List ℕ) → Tail → Type 0 where
   line : {text rest first : List ℕ} {lines : List (List ℕ)} {tail : Tail}
       → split_line text ≡ Some (first, rest) → length first < LINE_ROOM → IsCutInto rest lines tail

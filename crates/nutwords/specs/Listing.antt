@@ -17,7 +17,7 @@ pub data IsWritten : List ℕ → List ℕ → Type 0 where
   in_quotes : {word : List ℕ} → IsTrue (list_all is_lawful word) → IsWritten (quoted word) word
 
 -- The texts write these words, and with a space between them and LF they are a line of at most
--- 1,023 bytes and its LF.
+-- 2,047 bytes and its LF.
 pub record IsWrittenLine (texts words : List (List ℕ)) : Type 0 where
   pub written : AllZip IsWritten texts words
   pub fits : length (line_of texts) ≤ LINE_ROOM

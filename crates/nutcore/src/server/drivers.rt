@@ -174,7 +174,7 @@ impl Server {
         }
     }
 
-    /// Does what the lines of the driver say, as far as they came. Where 1,024 bytes stand without an LF, or memory is
+    /// Does what the lines of the driver say, as far as they came. Where 2,048 bytes stand without an LF, or memory is
     /// refused, the driver is lost, and the rest is dropped.
     ///
     /// # Errors
