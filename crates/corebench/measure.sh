@@ -47,6 +47,10 @@ for paused in 0 64; do
     tell "SETINFO, $paused listings paused" 10000 \
         "$(instructions report 10 $paused 1000)" "$(instructions report 10 $paused 11000)"
 done
+# Before each SETINFO a listing begins, which costs the same beside a variable without enum values.
+without=$(($(instructions share 0 1100) - $(instructions share 0 100)))
+tell '256 enum values of a variable, at a SETINFO under a listing' 1000 \
+    $(($(instructions share 256 100) + without)) "$(instructions share 256 1100)"
 tell 'bytes of heap of a session with a paused listing' 63 "$(heap report 256 1 0)" "$(heap report 256 64 0)"
 if [[ -x $upsd ]]; then
     for connections in 1 64; do

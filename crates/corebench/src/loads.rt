@@ -28,6 +28,8 @@ pub enum Load {
     List(u32),
     /// The driver reports a variable again, so often, while so many listings wait.
     Report { paused: u32, count: u32 },
+    /// The driver reports a variable of so many enum values again, so often, each time under a listing that waits since.
+    Share { enum_values: u32, count: u32 },
 }
 
 /// Does the load on a new server whose variables have values of so many bytes.
@@ -44,6 +46,7 @@ impl Sample {
             Load::Set(count) => self.set_values(count),
             Load::List(count) => self.list_variables(count),
             Load::Report { paused, count } => self.report_values(paused, count),
+            Load::Share { enum_values, count } => self.report_shared(enum_values, count),
         }
     }
 
@@ -123,5 +126,20 @@ impl Sample {
             _ => 1,
         };
         self.take(client)
+    }
+
+    /// The driver reports a variable of so many enum values again, so often, each time while a client waits who has asked
+    /// for all variables since, and takes what it is offered at once.
+    fn report_shared(&mut self, enum_values: u32, count: u32) -> Result<u64> {
+        self.add_enum_values(enum_values)?;
+        let mut taken = 0u64;
+        for _ in 0..count {
+            let client = self.open()?;
+            self.send(client, b"LIST VAR su\n")?;
+            self.tell(b"SETINFO v2048 \"12\"\n")?;
+            taken = taken.saturating_add(self.take_offered(client)? as u64);
+            self.close(client)?;
+        }
+        Ok(taken)
     }
 }

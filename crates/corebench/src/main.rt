@@ -36,6 +36,9 @@ fn print_a_little(rt: &impl Print, alloc: Global) -> Result<()> {
     let (paused, count) = (2, 100);
     let taken = run(alloc, SHORT, Load::Report { paused, count })?;
     println!(rt; "a listing that waited for 100 values: {taken} bytes")?;
+    let (enum_values, count) = (2, 10);
+    let taken = run(alloc, SHORT, Load::Share { enum_values, count })?;
+    println!(rt; "10 values, each after a listing began: {taken} bytes")?;
     Ok(())
 }
 
@@ -56,7 +59,8 @@ fn read_load(words: &[String]) -> Result<(usize, Load)> {
         "set" => Ok((SHORT, Load::Set(number(words, 1)?))),
         "list" => Ok((number(words, 1)? as usize, Load::List(number(words, 2)?))),
         "report" => Ok((number(words, 1)? as usize, read_report(words)?)),
-        _ => Err(Error::msg("get, pipeline, flood, set, list or report")),
+        "share" => Ok((SHORT, read_share(words)?)),
+        _ => Err(Error::msg("get, pipeline, flood, set, list, report or share")),
     }
 }
 
@@ -64,6 +68,12 @@ fn read_load(words: &[String]) -> Result<(usize, Load)> {
 fn read_report(words: &[String]) -> Result<Load> {
     let (paused, count) = (number(words, 2)?, number(words, 3)?);
     Ok(Load::Report { paused, count })
+}
+
+/// How many enum values the variable has, and how often it is reported.
+fn read_share(words: &[String]) -> Result<Load> {
+    let (enum_values, count) = (number(words, 1)?, number(words, 2)?);
+    Ok(Load::Share { enum_values, count })
 }
 
 /// The word at a place.

@@ -1,7 +1,7 @@
 //! A server whose UPS has 4,096 variables.
 use anyhow::{Error, Result};
 use nutcore::{ClientId, Descriptions, MaxAge, Server, UpsId, UpsList, Users};
-use nutwords::{Address, UpsName};
+use nutwords::{Address, UpsName, VALUE_LIMIT};
 use std::alloc::Global;
 use std::fmt::Write;
 
@@ -26,6 +26,7 @@ actions = SET
 /// A server of one UPS, and what its driver reports of each variable, a line each of the same length.
 #[derive(Drop)]
 pub struct Sample {
+    alloc: Global,
     server: Server,
     lines: Vec<u8>,
     line_length: usize,
@@ -75,6 +76,7 @@ impl Sample {
     pub fn new(alloc: Global, width: usize) -> Result<Sample> {
         let lines = all_lines(alloc, width)?;
         let mut sample = Sample {
+            alloc,
             server: new_server(alloc)?,
             lines,
             line_length: width.saturating_add(AROUND_A_VALUE),
@@ -96,8 +98,19 @@ impl Sample {
         Ok(())
     }
 
+    /// The variable that clients may set may have so many values, each as long as one may be.
+    pub fn add_enum_values(&mut self, count: u32) -> Result<()> {
+        let mut line = String::new(self.alloc);
+        for number in 0..count {
+            line.clear();
+            writeln!(line, "ADDENUM v2048 \"{number:0VALUE_LIMIT$}\"")?;
+            self.tell(line.as_bytes())?;
+        }
+        Ok(())
+    }
+
     /// The driver reports these lines.
-    fn tell(&mut self, lines: &[u8]) -> Result<()> {
+    pub fn tell(&mut self, lines: &[u8]) -> Result<()> {
         self.server.driver_bytes(SU, lines)?;
         Ok(())
     }
@@ -141,6 +154,12 @@ impl Sample {
     /// A client's session.
     pub fn open(&mut self) -> Result<ClientId> {
         Ok(self.server.open(Address::read(b"192.0.2.1")?)?)
+    }
+
+    /// The client is gone.
+    pub fn close(&mut self, client: ClientId) -> Result<()> {
+        self.server.close(client)?;
+        Ok(())
     }
 
     /// The client sends these lines.

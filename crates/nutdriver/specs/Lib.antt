@@ -5,6 +5,7 @@ pub mod Flags
 pub mod Arguments
 pub mod DriverLine
 pub mod Variable
+pub mod Lists
 pub mod Tree
 pub mod DriverStep
 pub mod Promises

@@ -1,39 +1,39 @@
 //! A variable of a UPS.
 ghost use Rattle.std.specs.Prelude.{◌≡◌, ◌≤◌, length, IfOk};
 ghost use Rattle.nutdriver.specs.Variable.{VariableState, new_variable, with_value, with_aux, with_flags, add_enum, delete_enum, add_range, delete_range, has_value, has_range};
+ghost use Rattle.nutdriver.specs.Lists.{lists_in, with_lists};
 ghost use Rattle.nutdriver.specs.Promises.{AnswersChange, variable_step};
 
-use crate::lists::{has_range, has_value, take_range_out, take_value_out};
+use crate::lists::{Lists, has_range, has_value, shared, take_range_out, take_value_out};
 use crate::{DriverFault, DriverLine, ENUM_LIMIT, Flags, RANGE_LIMIT, Range};
 use nutwords::Value;
 use std::alloc::{AllocError, Global};
 use std::marker::Model;
+use std::rc::Rc;
 
 /// What becomes of a variable: `None` where it stays as it is.
 pub(crate) type Change = Result<Option<Variable>, DriverFault>;
 
 /// A variable of a UPS: its value, and what values it may have (RFC 9271: GET TYPE, LIST ENUM, LIST RANGE).
 ///
-/// The versions of a tree share a variable, which isn't changed while they do. Contracts see the record of what it has.
+/// The versions of a tree share a variable, which isn't changed while they do. A variable that another one becomes shares
+/// its lists, unless they are what changes. Contracts see the record of what it has.
 #[derive(Drop)]
 pub struct Variable {
+    alloc: Global,
     value: Value,
     flags: Flags,
     aux: u32,
-    enum_values: Vec<Value>,
-    ranges: Vec<Range>,
+    lists: Option<Rc<Lists>>,
 }
 
 impl Model for Variable {
-    ghost use Rattle.std.specs.Prelude.{◌≤◌, length};
     ghost use Rattle.nutdriver.specs.Variable.{VariableState};
-    ghost use Rattle.nutdriver.specs.declared.limits.TheConstants.{ENUM_LIMIT, RANGE_LIMIT};
+    ghost use Rattle.nutdriver.specs.Lists.{lists_of};
 
     ghost Value = { VariableState };
 
-    ghost view = { λ v. record { value = v.value; flags = v.flags; aux = v.aux; enum_values = v.enum_values.items; ranges = v.ranges.items } };
-
-    ghost invariant = { λ v. (length v.enum_values.items ≤ ENUM_LIMIT) × (length v.ranges.items ≤ RANGE_LIMIT) };
+    ghost view = { λ v. record { value = v.value; flags = v.flags; aux = v.aux; enum_values = (lists_of v.lists).enum_values; ranges = (lists_of v.lists).ranges } };
 }
 
 impl Variable {
@@ -42,11 +42,11 @@ impl Variable {
         ensures { result ≡ new_variable value.now }
     {
         Variable {
+            alloc,
             value: value.copied(),
             flags: Flags::none(),
             aux: 0,
-            enum_values: Vec::new(alloc),
-            ranges: Vec::new(alloc),
+            lists: None,
         }
     }
 
@@ -76,7 +76,10 @@ impl Variable {
         ensures value { result.now ≡ self.now.enum_values }
         ensures few { length result.now ≤ ENUM_LIMIT }
     {
-        self.enum_values.as_slice()
+        match &self.lists {
+            None => &[],
+            Some(lists) => lists.enum_values(),
+        }
     }
 
     /// The ranges of numbers that it may have, in the order in which the driver added them. Where there are none, any
@@ -85,27 +88,56 @@ impl Variable {
         ensures value { result.now ≡ self.now.ranges }
         ensures few { length result.now ≤ RANGE_LIMIT }
     {
-        self.ranges.as_slice()
+        match &self.lists {
+            None => &[],
+            Some(lists) => lists.ranges(),
+        }
     }
 
-    /// An equal variable, which shares nothing with this one.
+    /// An equal variable, which shares its lists with this one.
     fn copied(&self) -> Result<Variable, AllocError>
         ensures { IfOk result (λ copy. copy ≡ self.now) }
     {
         self.holding(&self.value)
     }
 
-    /// The same with another value.
+    /// The same with another value, and the same lists, which both share.
     fn holding(&self, value: &Value) -> Result<Variable, AllocError>
         ensures { IfOk result (λ copy. copy ≡ with_value value.now self.now) }
     {
         Ok(Variable {
+            alloc: self.alloc,
             value: value.copied(),
             flags: self.flags,
             aux: self.aux,
-            enum_values: self.enum_values.clone()?,
-            ranges: self.ranges.clone()?,
+            lists: shared(&self.lists)?,
         })
+    }
+
+    /// Equal lists, which share nothing with its own.
+    fn copied_lists(&self) -> Result<Lists, AllocError>
+        ensures { IfOk result (λ copy. copy ≡ lists_in self.now) }
+    {
+        match &self.lists {
+            None => Ok(Lists::none(self.alloc)),
+            Some(lists) => lists.copied(),
+        }
+    }
+
+    /// The variable with other lists.
+    fn with_lists(&self, lists: Lists) -> Change
+        ensures { AnswersChange (Ok (Some (with_lists lists self.now))) result }
+    {
+        let Ok(lists) = Rc::new(self.alloc, lists) else {
+            return Err(DriverFault::Memory);
+        };
+        let Ok(copy) = self.copied() else {
+            return Err(DriverFault::Memory);
+        };
+        Ok(Some(Variable {
+            lists: Some(lists),
+            ..copy
+        }))
     }
 
     /// Sets its value. All else stays.
@@ -164,65 +196,65 @@ impl Variable {
     fn add_enum(&self, value: &Value) -> Change
         ensures { AnswersChange (add_enum value.now self.now) result }
     {
-        if has_value(&self.enum_values, value) {
+        if has_value(self.enum_values(), value) {
             return Ok(None);
         }
-        if self.enum_values.len() >= ENUM_LIMIT {
+        if self.enum_values().len() >= ENUM_LIMIT {
             return Err(DriverFault::Full);
         }
-        let Ok(mut copy) = self.copied() else {
+        let Ok(mut lists) = self.copied_lists() else {
             return Err(DriverFault::Memory);
         };
-        let Ok(()) = copy.enum_values.push(value.copied()) else {
+        let Ok(()) = lists.enum_values.push(value.copied()) else {
             return Err(DriverFault::Memory);
         };
-        Ok(Some(copy))
+        self.with_lists(lists)
     }
 
     /// The variable without an enum value.
     fn delete_enum(&self, value: &Value) -> Change
         ensures { AnswersChange (delete_enum value.now self.now) result }
     {
-        if !has_value(&self.enum_values, value) {
+        if !has_value(self.enum_values(), value) {
             return Err(DriverFault::NoSuchItem);
         }
-        let Ok(mut copy) = self.copied() else {
+        let Ok(mut lists) = self.copied_lists() else {
             return Err(DriverFault::Memory);
         };
-        take_value_out(&mut copy.enum_values, value);
-        Ok(Some(copy))
+        take_value_out(&mut lists.enum_values, value);
+        self.with_lists(lists)
     }
 
     /// The variable with one more range, unless it has it.
     fn add_range(&self, range: Range) -> Change
         ensures { AnswersChange (add_range range self.now) result }
     {
-        if has_range(&self.ranges, range) {
+        if has_range(self.ranges(), range) {
             return Ok(None);
         }
-        if self.ranges.len() >= RANGE_LIMIT {
+        if self.ranges().len() >= RANGE_LIMIT {
             return Err(DriverFault::Full);
         }
-        let Ok(mut copy) = self.copied() else {
+        let Ok(mut lists) = self.copied_lists() else {
             return Err(DriverFault::Memory);
         };
-        let Ok(()) = copy.ranges.push(range) else {
+        let Ok(()) = lists.ranges.push(range) else {
             return Err(DriverFault::Memory);
         };
-        Ok(Some(copy))
+        self.with_lists(lists)
     }
 
     /// The variable without a range.
     fn delete_range(&self, range: Range) -> Change
         ensures { AnswersChange (delete_range range self.now) result }
     {
-        if !has_range(&self.ranges, range) {
+        if !has_range(self.ranges(), range) {
             return Err(DriverFault::NoSuchItem);
         }
-        let Ok(mut copy) = self.copied() else {
+        let Ok(mut lists) = self.copied_lists() else {
             return Err(DriverFault::Memory);
         };
-        take_range_out(&mut copy.ranges, range);
-        Ok(Some(copy))
+        take_range_out(&mut lists.ranges, range);
+        self.with_lists(lists)
     }
 }
