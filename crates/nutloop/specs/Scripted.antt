@@ -1,8 +1,10 @@
 -- What scripted sockets tell.
-use Rattle.std.specs.Prelude.{◌≡◌, ◌⊎◌, ℕ, Bool, true, false, List, [], ◌∷◌, ◌++◌, Option, Some}
-use Rattle.std.specs.Prelude.{None, ◌&&◌, if◌then◌else◌, Result, Ok, Err, length, take, min}
+use Rattle.std.specs.Prelude.{◌≡◌, ◌⊎◌, ◌≤◌, ℕ, Bool, true, false, List, [], ◌∷◌, ◌++◌, ⊤}
+use Rattle.std.specs.Prelude.{Option, Some, None, ◌&&◌, if◌then◌else◌, Result, Ok, Err, length}
+use Rattle.std.specs.Prelude.{min, take}
 use Rattle.nutloop.specs.declared.scripted.Act.{Act}
-use Rattle.nutloop.specs.declared.scripted.Act.TheVariants.{Gives, Waits, Ends, Takes}
+use Rattle.nutloop.specs.declared.scripted.Act.TheVariants.{Ready, Comes, Gives, Waits, Ends}
+use Rattle.nutloop.specs.declared.scripted.Act.TheVariants.{Takes}
 use Rattle.nutloop.specs.declared.sockets.Call.{Call}
 use Rattle.nutloop.specs.declared.sockets.Got.{Got}
 use Rattle.nutloop.specs.declared.sockets.Got.TheVariants.{Bytes, Later, End}
@@ -32,3 +34,24 @@ AnswersRead into End next = next ≡ Ends
 
 abbrev pub AnswersWrite : List ℕ → ℕ → Act → Type 0
 AnswersWrite from n next = (most : ℕ) × (next ≡ Takes most) × (n ≡ min most (length from))
+
+-- There is a next act, and it is one of these.
+abbrev pub NextIs : (Act → Type 0) → List Act → Type 0
+NextIs these [] = ⊥
+NextIs these (next ∷ rest) = these next
+
+-- Those by which it can be told what is ready and who comes, and those by which a read with so much
+-- room can be answered.
+abbrev pub MayBeReady : Act → Type 0
+MayBeReady (Ready ready) = ⊤
+MayBeReady _ = ⊥
+
+abbrev pub MayCome : Act → Type 0
+MayCome (Comes address) = ⊤
+MayCome _ = ⊥
+
+abbrev pub MayBeRead : ℕ → Act → Type 0
+MayBeRead room (Gives bytes) = length bytes ≤ room
+MayBeRead room Waits = ⊤
+MayBeRead room Ends = ⊤
+MayBeRead room _ = ⊥

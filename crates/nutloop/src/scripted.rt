@@ -1,11 +1,13 @@
 //! Sockets in memory: they answer from a script, and keep every call that was answered.
-ghost use Rattle.std.specs.Prelude.{◌≡◌, ◌≤◌, ◌∷◌, [], true, IfOk, None, length};
+ghost use Rattle.std.specs.Prelude.{◌≡◌, ◌<◌, ◌≤◌, ◌++◌, ◌∷◌, [], true, IfOk, None, OnErr, length};
+ghost use Rattle.std.specs.Prelude.{vec_capacity, vec_len};
 ghost use Rattle.std.specs.Vec.Iter.{into_iter_items};
 ghost use Rattle.nutloop.specs.declared.scripted.Act.TheVariants as act;
 ghost use Rattle.nutloop.specs.declared.sockets.Call.TheVariants.{Readied, Accepted, Named, Refused, Wrote, Shut};
 ghost use Rattle.nutio.specs.Ends.{IsCounted, counted};
 ghost use Rattle.nutloop.specs.Sockets.{Grows, Logs, AtMost, read_call};
-ghost use Rattle.nutloop.specs.Scripted.{AnswersRead, AnswersWrite, Follows, IsKeptOrNot, told_while};
+ghost use Rattle.nutloop.specs.Scripted.{AnswersRead, AnswersWrite, Follows, IsKeptOrNot};
+ghost use Rattle.nutloop.specs.Scripted.{MayBeRead, MayBeReady, MayCome, NextIs, told_while};
 
 use crate::{Broken, Call, Got, Ready, Sockets};
 use nutcore::{Bytes, ClientId, Peer, Server, UpsId};
@@ -79,7 +81,8 @@ impl Scripted {
     fn next(&mut self) -> Result<Act, Broken>
         ensures script { Follows (λ x next. next ≡ x)
             (into_iter_items self.old.script) result (into_iter_items self.new.script) }
-        ensures calls { self.new.calls.items ≡ self.old.calls.items }
+        ensures end { OnErr result (into_iter_items self.old.script ≡ []) }
+        ensures calls { self.new.calls ≡ self.old.calls }
         ensures whole { self.new.is_whole ≡ self.old.is_whole }
         ensures count { self.new.failures ≡ self.old.failures }
         ensures refusals { self.new.refusals ≡ self.old.refusals }
@@ -95,6 +98,7 @@ impl Scripted {
         ensures whole { self.new.is_whole ≡ self.old.is_whole }
         ensures count { self.new.failures ≡ self.old.failures }
         ensures refusals { self.new.refusals ≡ self.old.refusals }
+        ensures full { OnErr result (vec_capacity self.old.calls ≤ vec_len self.old.calls) }
     {
         match self.calls.push(call) {
             Ok(()) => Ok(()),
@@ -109,6 +113,8 @@ impl Scripted {
             (told_while self.new.is_whole self.new.calls.items) (call ∷ []) }
         ensures kept { IsKeptOrNot self.old.is_whole self.old.calls.items
             self.new.is_whole self.new.calls.items call }
+        ensures room { vec_len self.old.calls < vec_capacity self.old.calls
+            → self.new.calls.items ≡ self.old.calls.items ++ call ∷ [] }
         ensures count { self.new.failures ≡ self.old.failures }
         ensures refusals { self.new.refusals ≡ self.old.refusals }
     {
@@ -140,6 +146,8 @@ impl Scripted {
         ensures whole { self.new.is_whole ≡ self.old.is_whole }
         ensures count { self.new.failures ≡ self.old.failures }
         ensures refusals { self.new.refusals ≡ self.old.refusals }
+        ensures full { OnErr result (NextIs MayBeReady (into_iter_items self.old.script)
+            → vec_capacity self.old.calls ≤ vec_len self.old.calls) }
     {
         let Act::Ready(ready) = self.next()? else {
             return Err(Broken);
@@ -156,12 +164,15 @@ impl Scripted {
         ensures whole { self.new.is_whole ≡ self.old.is_whole }
         ensures count { self.new.failures ≡ self.old.failures }
         ensures refusals { self.new.refusals ≡ self.old.refusals }
+        ensures full { OnErr result (NextIs MayCome (into_iter_items self.old.script)
+            → vec_capacity self.old.calls ≤ vec_len self.old.calls) }
     {
         let Act::Comes(address) = self.next()? else {
             return Err(Broken);
         };
-        let Ok(copy) = address.clone() else {
-            return Err(Broken);
+        let copy = match &address {
+            Some(address) => Some(address.copied()),
+            None => None,
         };
         self.keep(Call::Accepted(copy))?;
         Ok(address)
@@ -177,6 +188,8 @@ impl Scripted {
         ensures whole { self.new.is_whole ≡ self.old.is_whole }
         ensures count { self.new.failures ≡ self.old.failures }
         ensures refusals { self.new.refusals ≡ self.old.refusals }
+        ensures full { OnErr result (length bytes ≤ length into.old
+            → vec_capacity self.old.calls ≤ vec_len self.old.calls) }
     {
         let n = bytes.as_slice().len();
         if n > into.len() {
@@ -196,6 +209,9 @@ impl Scripted {
         ensures whole { self.new.is_whole ≡ self.old.is_whole }
         ensures count { self.new.failures ≡ self.old.failures }
         ensures refusals { self.new.refusals ≡ self.old.refusals }
+        ensures full { OnErr result
+            (NextIs (MayBeRead (length into.old)) (into_iter_items self.old.script)
+            → vec_capacity self.old.calls ≤ vec_len self.old.calls) }
     {
         match self.next()? {
             Act::Gives(bytes) => self.give(p, bytes, into),
@@ -250,6 +266,8 @@ impl Sockets for Scripted {
         ensures whole { self.new.is_whole ≡ self.old.is_whole }
         ensures count { IsCounted self.old.failures self.new.failures result }
         ensures refusals { self.new.refusals ≡ self.old.refusals }
+        ensures full { OnErr result (NextIs MayBeReady (into_iter_items self.old.script)
+            → vec_capacity self.old.calls ≤ vec_len self.old.calls) }
     {
         let answer = self.next_ready();
         self.count(answer)
@@ -263,6 +281,8 @@ impl Sockets for Scripted {
         ensures whole { self.new.is_whole ≡ self.old.is_whole }
         ensures count { IsCounted self.old.failures self.new.failures result }
         ensures refusals { self.new.refusals ≡ self.old.refusals }
+        ensures full { OnErr result (NextIs MayCome (into_iter_items self.old.script)
+            → vec_capacity self.old.calls ≤ vec_len self.old.calls) }
     {
         let answer = self.next_newcomer();
         self.count(answer)
@@ -274,6 +294,8 @@ impl Sockets for Scripted {
             (told_while self.new.is_whole self.new.calls.items) (Named c ∷ []) }
         ensures kept { IsKeptOrNot self.old.is_whole self.old.calls.items
             self.new.is_whole self.new.calls.items (Named c) }
+        ensures room { vec_len self.old.calls < vec_capacity self.old.calls
+            → self.new.calls.items ≡ self.old.calls.items ++ Named c ∷ [] }
         ensures count { self.new.failures ≡ self.old.failures }
         ensures refusals { self.new.refusals ≡ self.old.refusals }
     {
@@ -286,6 +308,8 @@ impl Sockets for Scripted {
             (told_while self.new.is_whole self.new.calls.items) (Refused ∷ []) }
         ensures kept { IsKeptOrNot self.old.is_whole self.old.calls.items
             self.new.is_whole self.new.calls.items Refused }
+        ensures room { vec_len self.old.calls < vec_capacity self.old.calls
+            → self.new.calls.items ≡ self.old.calls.items ++ Refused ∷ [] }
         ensures count { self.new.failures ≡ self.old.failures }
         ensures refusals { self.new.refusals ≡ counted self.old.refusals }
     {
@@ -302,6 +326,9 @@ impl Sockets for Scripted {
         ensures whole { self.new.is_whole ≡ self.old.is_whole }
         ensures count { IsCounted self.old.failures self.new.failures result }
         ensures refusals { self.new.refusals ≡ self.old.refusals }
+        ensures full { OnErr result
+            (NextIs (MayBeRead (length into.old)) (into_iter_items self.old.script)
+            → vec_capacity self.old.calls ≤ vec_len self.old.calls) }
     {
         let answer = self.next_read(p, into);
         self.count(answer)
@@ -336,6 +363,8 @@ impl Sockets for Scripted {
             (told_while self.new.is_whole self.new.calls.items) (Shut p ∷ []) }
         ensures kept { IsKeptOrNot self.old.is_whole self.old.calls.items
             self.new.is_whole self.new.calls.items (Shut p) }
+        ensures room { vec_len self.old.calls < vec_capacity self.old.calls
+            → self.new.calls.items ≡ self.old.calls.items ++ Shut p ∷ [] }
         ensures count { self.new.failures ≡ self.old.failures }
         ensures refusals { self.new.refusals ≡ self.old.refusals }
     {
