@@ -296,8 +296,8 @@ def bad_replies():
 
 
 def long_lines():
-    yield Row(LIST, b"x" * 1023, ASKED, fault=EARLY)
-    yield Row(LIST, b"x" * 1024, ASKED, fault=BAD, ending=STAYS)
+    yield Row(LIST, b"x" * 2047, ASKED, fault=EARLY)
+    yield Row(LIST, b"x" * 2048, ASKED, fault=BAD, ending=STAYS)
 
 
 def more_behind_a_reply():
@@ -387,7 +387,7 @@ def main():
     BENCH.case("a number of clients is 0 to 64", check, counts())
     BENCH.case("a tracked order has an id", check, granted_orders())
     BENCH.case("an order is pending, a success or a failure", check, progress())
-    BENCH.case("a line has at most 1023 bytes", check, long_lines())
+    BENCH.case("a line has at most 2047 bytes", check, long_lines())
     BENCH.case("what stands behind a reply is left", check, more_behind_a_reply())
     BENCH.case("a server that takes less is told", check, servers_that_take_less())
     BENCH.case("a full output holds a beginning", check, outputs_that_take_less())

@@ -1,6 +1,7 @@
 """The cases of tests/hostile.sh: hostile lines and slow readers, over the built `upsd replay`. Word: the program."""
 import sys
 
+from plain_server import HOLD, LINE
 from replaying import VERSION, Bench, hexed, lines, ready, sent
 
 BENCH = Bench("hostile", sys.argv[1])
@@ -48,19 +49,19 @@ def every_byte_alone():
 
 
 def line_feeds_alone():
-    feeds = b"\n" * 1024
+    feeds = b"\n" * HOLD
     client_sends(feeds, want=b"")
-    client_sends(feeds, feeds, b"\n" * 1020 + b"VER\n", want=VERSION)
+    client_sends(feeds, feeds, b"\n" * (HOLD - 4) + b"VER\n", want=VERSION)
 
 
 def more_than_there_is_room_for():
-    script = lines("open 192.0.2.1", "", hexed("client", 1, b"\n" * 1025), hexed("client", 1, b"VER\n"))
-    want = b"line 3: 1024 of 1025 bytes held\n" + sent("client 1", VERSION) + DRIVER
+    script = lines("open 192.0.2.1", "", hexed("client", 1, b"\n" * (HOLD + 1)), hexed("client", 1, b"VER\n"))
+    want = b"line 3: %d of %d bytes held\n" % (HOLD, HOLD + 1) + sent("client 1", VERSION) + DRIVER
     BENCH.prints(script + b"took 1 all\n", want)
 
 
 def driver_without_end_of_line():
-    flood = hexed("driver", "su", b'SETINFO a "1"\n' + b"x" * 1024)
+    flood = hexed("driver", "su", b'SETINFO a "1"\n' + b"x" * (LINE + 1))
     script = lines(ready(told=['SETINFO a "0"']), "open 192.0.2.1", "client 1 GET VAR su a", flood, "client 1 GET VAR su a",
                    "down su", ready(), "client 1 LIST VAR su", "took 1 all")  # fmt: skip
     want = b'VAR su a "0"\nERR DRIVER-NOT-CONNECTED\nBEGIN LIST VAR su\nEND LIST VAR su\n'
@@ -68,7 +69,7 @@ def driver_without_end_of_line():
 
 
 def driver_with_the_longest_line():
-    piece = b'SETINFO a "1"\n' + b"x" * 1023
+    piece = b'SETINFO a "1"\n' + b"x" * LINE
     script = lines(ready(), hexed("driver", "su", piece), hexed("driver", "su", b"\n"), "open 192.0.2.1",
                    "client 1 GET VAR su a", "took 1 all")  # fmt: skip
     BENCH.prints(script, sent("client 1", b'VAR su a "1"\n') + DRIVER)

@@ -1,12 +1,13 @@
 """The cases of tests/hostile.sh at the limits, with ample memory: nothing answers want of it. Word: the program upsd."""
 import sys
 
-from plain_server import Server, Ups, User
+from plain_server import LINE, VALUE, VARIABLES, Server, Ups, User
 from replaying import Bench, hexed, lines, ready, sent
 
 BENCH = Bench("limits", sys.argv[1])
-QUOTES = '\\"' * 256  # a value of 256 bytes, each of which is written as two
-NAMES = [f"{number:04}".rjust(64, "n") for number in range(1, 4097)]
+QUOTES = '\\"' * VALUE  # a value of the most bytes, each of which is written as two
+TEXT = '\\"' * 256  # the same of a description and a password
+NAMES = [f"{number:05}".rjust(64, "n") for number in range(1, VARIABLES + 1)]
 UPSES = [f"{number:02}".rjust(32, "u") for number in range(1, 33)]
 
 
@@ -16,7 +17,7 @@ def asking(*asks, ups="su"):
 
 
 def thirty_two_upses():
-    file = BENCH.file("ups.conf", lines(f"[{name}]\ndesc = \"{QUOTES}\"\nsocket = /{'s' * 99}" for name in UPSES))
+    file = BENCH.file("ups.conf", lines(f"[{name}]\ndesc = \"{TEXT}\"\nsocket = /{'s' * 99}" for name in UPSES))
     script = [line for name in UPSES for line in ready(name, [f'SETINFO ups.id "{name}"'])]
     script += ["open 192.0.2.1", *(f"client 1 LIST VAR {name}" for name in UPSES), "client 1 LIST UPS", "took 1 all"]
     script += [f"driver-took {name} all" for name in UPSES]
@@ -27,7 +28,7 @@ def thirty_two_upses():
 
 def sixty_four_sessions_list():
     clients = range(1, 65)
-    script = [*ready(told=[f'SETINFO v{number:03} "{"x" * 256}"' for number in range(100)]), *("open 192.0.2.1" for _ in clients)]
+    script = [*ready(told=[f'SETINFO v{number:03} "{"x" * VALUE}"' for number in range(100)]), *("open 192.0.2.1" for _ in clients)]
     script += [f"client {client} LIST VAR su" for client in clients] + [f"took {client} all" for client in clients]
     told = BENCH.agrees(lines(script))
     assert told.count(b"END LIST VAR su") == 64
@@ -59,7 +60,7 @@ def one_more_is_not_held():
     full = [f"SETINFO {name} 1" for name in NAMES] + ["SETINFO other 2", f"SETINFO {NAMES[0]} 3"]
     full += [f"ADDCMD {name}" for name in NAMES[:1024]] + ["ADDCMD other", f"ADDCMD {NAMES[0]}"]
     full += [f"ADDENUM {NAMES[1]} {number}" for number in range(257)] + [f"ADDRANGE {NAMES[1]} {number} {number}" for number in range(33)]
-    asks = asking("GET VAR su other", f"GET VAR su {NAMES[0]}", f"GET VAR su {NAMES[4095]}", "LIST CMD su",
+    asks = asking("GET VAR su other", f"GET VAR su {NAMES[0]}", f"GET VAR su {NAMES[-1]}", "LIST CMD su",
                   f"LIST ENUM su {NAMES[1]}", f"LIST RANGE su {NAMES[1]}")  # fmt: skip
     after = [f"driver su DELINFO {NAMES[7]}", "driver su SETINFO other 2", f"driver su DELCMD {NAMES[7]}", "driver su ADDCMD other"]
     after += ["client 1 GET VAR su other", "client 1 LIST CMD su", "took 1 all"]
@@ -80,16 +81,29 @@ def greatest_listing(kind, told, items):
     return case
 
 
+def greatest_variables(kind, told=()):
+    """The listing of all variables, where all that it shows is as long as it may be: its text as the protocol says it."""
+    def case():
+        ups = UPSES[0]
+        file = BENCH.file("one.conf", f"[{ups}]\n".encode())
+        script = lines(ready(ups, [*VALUES, *told]), asking(f"LIST {kind} UPS", ups=ups), f"driver-took {ups} all")
+        items = "".join(f'{kind} {ups} {name} "{QUOTES}"\n' for name in NAMES)
+        text = f"BEGIN LIST {kind} {ups}\n{items}END LIST {kind} {ups}\n".encode()
+        kilobytes = BENCH.prints(script, sent("client 1", text) + sent(f"driver {ups}", b"DUMPALL\n"), "--ups", file)
+        return f"{len(text)} bytes, {kilobytes // 1024} MiB resident at most"
+    return case
+
+
 def greatest_list_of_upses():
-    file = BENCH.file("ups.conf", lines(f'[{name}]\ndesc = "{QUOTES}"' for name in UPSES))
+    file = BENCH.file("ups.conf", lines(f'[{name}]\ndesc = "{TEXT}"' for name in UPSES))
     text = BENCH.agrees(lines(asking("LIST UPS".replace("UPS", "UPS"), ups="UPS")), Server([Ups(name.encode(), b'"' * 256) for name in UPSES]), ["--ups", file])
     return f"{len(text)} bytes"
 
 
 def files_at_their_limits():
     """Each file with its longest name, value and line; and by one more it is refused, with its line and cause."""
-    name, text, comment = "n" * 64, QUOTES, "#" + "c" * 5000
-    blanks = " " * (1023 - len('desc = ""'))
+    name, text, comment = "n" * 64, TEXT, "#" + "c" * 5000
+    blanks = " " * (LINE - len('desc = ""'))
     fits = {
         "--ups": [comment, f"[{'u' * 32}]", f'desc = "{text}"', f"socket = {'s' * 100}", "[a]", f'desc = {blanks}""'],
         "--users": [comment, f"[{name}]", f'password = "{text}"', "actions = SET", f"instcmds = {name}", "upsmon primary"],
@@ -114,15 +128,15 @@ def files_at_their_limits():
 
 
 def longest_lines():
-    """1,023 bytes before LF are a line of a client and of a driver, 1,024 aren't."""
-    for size, want in ((1023, b"ERR INVALID-ARGUMENT\n"), (1024, b"ERR TOO-LONG\n")):
+    """2,047 bytes before LF are a line of a client and of a driver, 2,048 aren't."""
+    for size, want in ((LINE, b"ERR INVALID-ARGUMENT\n"), (LINE + 1, b"ERR TOO-LONG\n")):
         line = b"VER " + b"x" * (size - 4) + b"\n"
         told = BENCH.agrees(lines("open 192.0.2.1", hexed("client", 1, line), "client 1 VER", "took 1 all"))
         assert want in told
-    longest = b"SETINFO a " + b" " * 1012 + b"1"
+    longest = b"SETINFO a " + b" " * (LINE - 11) + b"1"
     for line, want in ((longest, b'VAR su a "1"\n'), (longest + b" ", b"ERR DRIVER-NOT-CONNECTED\n")):
         told = BENCH.agrees(lines(ready(), hexed("driver", "su", line + b"\n"), asking("GET VAR su a")))
-        assert len(longest) == 1023 and want in told
+        assert len(longest) == LINE and want in told
 
 
 CASES = {call.__name__: call for call in (
@@ -130,11 +144,11 @@ CASES = {call.__name__: call for call in (
     the_only_variable_is_deleted, one_more_is_not_held, files_at_their_limits, longest_lines, greatest_list_of_upses)}  # fmt: skip
 VALUES = [f'SETINFO {name} "{QUOTES}"' for name in NAMES]
 CASES |= {
-    "greatest_list_of_variables": greatest_listing("VAR", VALUES, 4096),
-    "greatest_list_of_writable_variables": greatest_listing("RW", VALUES + [f"SETFLAGS {name} RW" for name in NAMES], 4096),
+    "greatest_list_of_variables": greatest_variables("VAR"),
+    "greatest_list_of_writable_variables": greatest_variables("RW", [f"SETFLAGS {name} RW" for name in NAMES]),
     "greatest_list_of_commands": greatest_listing("CMD", [f"ADDCMD {name}" for name in NAMES[:1024]], 1024),
     "greatest_list_of_values": greatest_listing(
-        "ENUM", [f"SETINFO {NAMES[0]} x"] + [f'ADDENUM {NAMES[0]} "{QUOTES[:506]}{number:03}"' for number in range(256)], 256),
+        "ENUM", [f"SETINFO {NAMES[0]} x"] + [f'ADDENUM {NAMES[0]} "{QUOTES[:-6]}{number:03}"' for number in range(256)], 256),
     "greatest_list_of_ranges": greatest_listing(
         "RANGE", [f"SETINFO {NAMES[0]} x"] + [f"ADDRANGE {NAMES[0]} -{10**9 - number} 1000000000" for number in range(32)], 32),
 }  # fmt: skip

@@ -5,7 +5,8 @@ its line is executed, and what is owed is one text. Where memory is refused it i
 """
 
 MAX_AGE = 15
-LINE, HOLD, OWED, RING, DRIVER_OWED = 1023, 1024, 2048, 4096, 2048
+LINE, VALUE, VARIABLES = 2047, 512, 32_768
+HOLD, OWED, RING, DRIVER_OWED = LINE + 1, 4096, 8192, 2048
 LETTERS = frozenset(b"ABCDEFGHIJKLMNOPQRSTUVWXYZabcdefghijklmnopqrstuvwxyz0123456789.-_")
 BLANKS = b" \t"
 
@@ -96,7 +97,7 @@ class Variable:
         return not self.ranges or (number is not None and any(a <= number <= b for a, b in self.ranges))
 
     def is_too_long(self, value):
-        return len(value) > 256 or (b"STRING" in self.flags and 0 < self.aux < len(value))
+        return len(value) > VALUE or (b"STRING" in self.flags and 0 < self.aux < len(value))
 
     def type_words(self):
         words = [b"RW"] if b"RW" in self.flags else []
@@ -167,7 +168,7 @@ class Ups:
             self.commands.add(name)
 
     def set_value(self, name, value):
-        if len(value) <= 256 and (name in self.variables or len(self.variables) < 4096):
+        if len(value) <= VALUE and (name in self.variables or len(self.variables) < VARIABLES):
             self.variables.setdefault(name, Variable()).value = value
 
     def change_variable(self, verb, name, rest):
@@ -183,7 +184,7 @@ class Ups:
             if number is not None and number >= 0:
                 variable.aux = number
         elif verb in (b"ADDENUM", b"DELENUM"):
-            if len(rest[0]) <= 256:
+            if len(rest[0]) <= VALUE:
                 change_list(verb, variable.enums, rest[0], 256)
         else:
             ends = tuple(number_of(word) for word in rest)
@@ -471,7 +472,7 @@ class Server:
     def start(ups, name, value=None):
         if name not in ups.commands:
             raise Error(b"CMD-NOT-SUPPORTED")
-        if value is not None and len(value) > 256:
+        if value is not None and len(value) > VALUE:
             raise Error(b"TOO-LONG")
         if not ups.owe(b"INSTCMD " + name + (b"" if value is None else b" " + quoted(value))):
             raise Error(b"INSTCMD-FAILED")

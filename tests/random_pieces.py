@@ -6,7 +6,7 @@ in one script, over one server, so that a run begins where another one left the 
 import random
 import sys
 
-from plain_server import Server, Ups, User
+from plain_server import LINE, RING, VALUE, Server, Ups, User
 from replaying import Bench, lines
 
 RUNS, IN_A_SCRIPT = 10_000, 250
@@ -29,7 +29,7 @@ VARS = b'VARDESC a "the \\"a\\""\nCMDDESC test.start ""\n'
 UPSES = b'[su]\ndesc = "Room 1"\n[bay]\n'
 
 NAMES = [b"a", b"b", b"ups.status", b"test.start"] * 6 + [b"nope", b"A", b"x/y", b"", b"n" * 64, b"n" * 65]
-VALUES = [b"1", b"OL", b"20", b"8", b"030", b"-5", b"s3 cret", b"pw", b"go", b'q"u\\o', b"", b"v" * 256, b"v" * 257, b"\xff\t "]
+VALUES = [b"1", b"OL", b"20", b"8", b"030", b"-5", b"s3 cret", b"pw", b"go", b'q"u\\o', b"", b"v" * VALUE, b"v" * (VALUE + 1), b"\xff\t "]
 UPS = [b"su"] * 9 + [b"bay", b"SU", b"none"]
 OF_NAME = [b"GET VAR", b"GET TYPE", b"GET DESC", b"GET CMDDESC", b"LIST ENUM", b"LIST RANGE"]
 OF_UPS = [b"LIST VAR", b"LIST RW", b"LIST CMD", b"LIST CLIENT", b"GET NUMLOGINS", b"GET UPSDESC", b"LOGIN", b"PRIMARY",
@@ -117,7 +117,7 @@ class Pieces:
         if kind == 2:
             return text[:at] + text[at + 1 :]
         if kind == 3 and self.chance() < 0.3:
-            return text[:at] + bytes([self.pick(b"x \n")]) * self.random.randrange(900, 1100) + text[at:]
+            return text[:at] + bytes([self.pick(b"x \n")]) * self.random.randrange(LINE - 123, LINE + 77) + text[at:]
         if kind == 4:
             return self.random.randbytes(self.random.randrange(40))
         return text
@@ -129,7 +129,7 @@ class Pieces:
         """The text in pieces; a good many are whole."""
         pieces = []
         while text:
-            size = self.pick([1, 2, 7, 20, 60, 300, 1024, 2000])
+            size = self.pick([1, 2, 7, 20, 60, 300, LINE + 1, 4000])
             pieces.append(text[:size])
             text = text[size:]
         return pieces
@@ -152,7 +152,7 @@ class Pieces:
     def between(self, client, moment):
         if self.chance() < 0.6:
             return []
-        count = self.pick([0, 1, 30, 100, 1000, 4096])
+        count = self.pick([0, 1, 30, 100, 1000, RING])
         kinds = [b"took %d all" % client, b"took %d all" % client, b"took %d %d" % (client, count), b"driver-took su all"]
         kinds += [b"driver-took su %d" % count, b"tick %d" % (moment + self.pick([0, 1, 5, 16])), b"up su"]
         return [self.pick(kinds)]

@@ -335,7 +335,7 @@ def is_silent(wire, seconds=0.3):
 def a_listing_that_began_asks_for_no_memory():
     """From the first byte that a client has taken of it on, every request is refused: the listing comes whole."""
     names = [b"%064d" % number for number in range(1, MANY)]
-    value = b'"' + b'\\"' * 256 + b'"'
+    value = b'"' + b'\\"' * 512 + b'"'
     items = [b"VAR su %b %b\n" % (name, value) for name in names] + [b'VAR su ups.status "OL"\n']
     want = b"BEGIN LIST VAR su\n" + b"".join(items) + b"END LIST VAR su\n"
     with Serving(b"".join(b"SETINFO %b %b\n" % (name, value) for name in names) + STATUS) as serving:

@@ -58,7 +58,7 @@ file starting 'up su' 'driver su ADDCMD test.battery.start' 'driver su DUMPDONE'
 file driver-takes 'driver-took su 0' 'driver-took nope all' 'up su' 'driver-took su 9' 'driver-took su 3' \
     'driver-took su all' 'driver-took su all' 'down su' 'driver-took su all' 'up su' 'driver-took su all'
 
-overlong=$(printf 'x%.0s' {1..1024})
+overlong=$(printf 'x%.0s' {1..2048})
 file refusals 'driver su PONG' 'down su' 'up nope' 'driver nope PONG' 'down nope' 'up su' 'up su' 'client 1 VER' \
     'took 1 0' 'close 1' 'open 192.0.2.1' 'took 1 1' 'took 1 0' "client 1 ${overlong:1}" 'took 1 all' \
     "client 1 $overlong" 'client 1 VER' 'took 1 all' 'close 1' 'client 1 VER' 'down su' 'down su'
@@ -84,33 +84,38 @@ file shutting-down 'up su' "${reported[@]}" 'driver su SETINFO ups.status "OL"' 
 ready() { printf '%s\n' 'up su' "$@" 'driver su DUMPDONE' 'driver su DATAOK' 'open 192.0.2.1'; }
 mapfile -t two_variables < <(ready 'driver su SETINFO ups.status "OL"' 'driver su SETINFO battery.charge "100"')
 file four-parts "${two_variables[@]}" 'client 1 LIST VAR su' 'took 1 86' 'took 1 17' 'took 1 1' 'took 1 1' 'took 1 66'
-mapfile -t many < <(seq -f 'v%04g' 4096)
+mapfile -t many < <(seq -f 'v%05g' 32768)
 mapfile -t many_reported < <(printf 'driver su SETINFO %s "x"\n' "${many[@]}")
 mapfile -t all_of_many < <(ready "${many_reported[@]}")
-mapfile -t growing < <(printf 'took 1 %s\n' {1..372} 288)
-file growing-parts "${all_of_many[@]}" 'client 1 LIST VAR su' "${growing[@]}"
+mapfile -t offers < <(for _ in {1..72}; do echo 'took 1 8192'; done)
+file whole-offers "${all_of_many[@]}" 'client 1 LIST VAR su' "${offers[@]}" 'took 1 34'
 mapfile -t numbered < <(seq -f 'v%03g' 100)
 mapfile -t named_reported < <(printf "driver su SETINFO %s $long\\n" "${numbered[@]}")
 mapfile -t paused < <(ready "${named_reported[@]}"; printf '%s\n' 'client 1 LIST VAR su' 'took 1 4000' 'took 1 4000' 'took 1 4004')
-file deleted "${paused[@]}" 'driver su DELINFO v060' 'driver su SETINFO v000 "new"' 'took 1 all' 'open 192.0.2.2' \
+file deleted "${paused[@]}" 'driver su DELINFO v075' 'driver su SETINFO v000 "new"' 'took 1 all' 'open 192.0.2.2' \
     'client 2 LIST VAR su' 'took 2 all'
 file lost "${paused[@]}" 'down su' 'took 1 all' 'client 1 LIST VAR su' 'took 1 all'
 mapfile -t with_status < <(ready "${reported[@]}" 'driver su SETINFO ups.status "OL"')
 file pipelined "${with_status[@]}" 'client 1 LIST VAR su' 'client 1 GET VAR su ups.status' \
     'driver su SETINFO ups.status "OB"' 'took 1 all'
+# Its GET is executed once 23,061 bytes are taken, since 4,096 are owed then.
+file pipelined-then "${with_status[@]}" 'client 1 LIST VAR su' 'client 1 GET VAR su ups.status' 'took 1 8192' 'took 1 8192' \
+    'took 1 6676' 'driver su SETINFO ups.status "OB"' 'took 1 1' 'driver su SETINFO ups.status "OFF"' 'took 1 all'
 
-# A line is executed while at most 2,048 bytes are owed, and not at one more.
-mapfile -t seven < <(ready "${named_reported[@]:0:7}" "driver su SETINFO v008 ${long:0:102}")
-file at-the-limit "${seven[@]}" 'client 1 LIST VAR su' 'client 1 VER' 'took 1 2082' \
-    "driver su SETINFO v008 ${long:0:103}" 'client 1 LIST VAR su' 'client 1 VER' 'took 1 2050' 'took 1 1' 'took 1 2082' 'took 1 1'
+# A line is executed while at most 4,096 bytes are owed, and not at one more.
+mapfile -t fifteen < <(ready "${named_reported[@]:0:14}" "driver su SETINFO v015 ${long:0:253}")
+file at-the-limit "${fifteen[@]}" 'client 1 LIST VAR su' 'client 1 VER' 'took 1 4130' \
+    "driver su SETINFO v015 ${long:0:254}" 'client 1 LIST VAR su' 'client 1 VER' 'took 1 4098' 'took 1 1' 'took 1 4130' 'took 1 1'
 
-# Sixty-three clients log in; the last one leaves, and another one comes, while the list of them waits to be taken.
+# Sixty-three clients log in; the last one leaves, and another one comes, while the list of them waits to be taken, behind
+# one of 4,096 bytes.
 mapfile -t far < <(for id in {2..64}; do printf 'a%.0s' {1..61}; printf '%03d\n' "$id"; done)
 newcomer=$(printf 'b%.0s' {1..64})
 logs_in() { printf 'client %s %s\n' "$1" 'USERNAME mon' "$1" 'PASSWORD pw' "$1" 'LOGIN su'; }
 mapfile -t all_log_in < <(for id in {2..64}; do echo "open ${far[id - 2]}"; logs_in "$id"; done)
 mapfile -t one_logs_in < <(echo "open $newcomer"; logs_in 65)
-file sixty-four 'open 192.0.2.1' "${all_log_in[@]}" 'client 1 LIST CLIENT su' 'close 64' "${one_logs_in[@]}" \
+file sixty-four "${fifteen[@]}" "${all_log_in[@]}" 'client 1 LIST VAR su' 'client 1 LIST CLIENT su' 'took 1 8193' \
+    'close 64' "${one_logs_in[@]}" \
     'took 1 all' 'client 1 LIST CLIENT su' 'took 1 all'
 
 of_two=$'line 3: refused 1\nclient 1 sent 40 bytes\nBEGIN LIST VAR bay-1\nEND LIST VAR bay-1\ndriver bay-1 sent 0 bytes\ndriver su sent 0 bytes'
@@ -208,14 +213,14 @@ of_four_parts=$(
     echo 'driver su sent 0 bytes'
 )
 mapfile -t many_items < <(printf 'VAR su %s "x"\n' "${many[@]}")
-of_growing_parts=$(
+of_whole_offers=$(
     sent 1 'BEGIN LIST VAR su' "${many_items[@]}" 'END LIST VAR su'
     echo 'driver su sent 0 bytes'
 )
 mapfile -t named_items < <(printf "VAR su %s \"$long\"\n" "${numbered[@]}")
 of_deleted=$(
     sent 1 'BEGIN LIST VAR su' "${named_items[@]}" 'END LIST VAR su'
-    sent 2 'BEGIN LIST VAR su' 'VAR su v000 "new"' "${named_items[@]:0:59}" "${named_items[@]:60}" 'END LIST VAR su'
+    sent 2 'BEGIN LIST VAR su' 'VAR su v000 "new"' "${named_items[@]:0:74}" "${named_items[@]:75}" 'END LIST VAR su'
     echo 'driver su sent 0 bytes'
 )
 of_lost=$(
@@ -228,14 +233,16 @@ of_pipelined=$(
 )
 version='Network UPS Tools upsd, profile 1'
 of_at_the_limit=$(
-    printf '%s\n' 'line 19: refused 4' 'line 22: refused 4'
-    sent 1 'BEGIN LIST VAR su' "${named_items[@]:0:7}" "VAR su v008 \"${long:0:102}\"" 'END LIST VAR su' "$version" \
-        'BEGIN LIST VAR su' "${named_items[@]:0:7}" "VAR su v008 \"${long:0:103}\"" 'END LIST VAR su' "$version"
+    printf '%s\n' 'line 26: refused 4' 'line 29: refused 4'
+    sent 1 'BEGIN LIST VAR su' "${named_items[@]:0:14}" "VAR su v015 \"${long:0:253}\"" 'END LIST VAR su' "$version" \
+        'BEGIN LIST VAR su' "${named_items[@]:0:14}" "VAR su v015 \"${long:0:254}\"" 'END LIST VAR su' "$version"
     echo 'driver su sent 0 bytes'
 )
 of_sixty_four=$(
     listed=("${far[@]/#/CLIENT su }")
-    sent 1 'BEGIN LIST CLIENT su' "${listed[@]}" 'END LIST CLIENT su' \
+    echo 'line 274: refused 4'
+    sent 1 'BEGIN LIST VAR su' "${named_items[@]:0:14}" "VAR su v015 \"${long:0:253}\"" 'END LIST VAR su' \
+        'BEGIN LIST CLIENT su' "${listed[@]}" 'END LIST CLIENT su' \
         'BEGIN LIST CLIENT su' "${listed[@]:0:62}" "CLIENT su $newcomer" 'END LIST CLIENT su'
     for id in {2..65}; do echo "client $id sent 0 bytes"; done
     echo 'driver su sent 0 bytes'
@@ -286,11 +293,12 @@ replays logins_are_counted "$of_counting" --users admins counting
 replays forced_shutdown_while_a_listing_waits "$of_shutting_down" --users admins shutting-down
 replays sixty_four_clients_listed "$of_sixty_four" --users admins sixty-four
 replays listing_taken_in_four_parts "$of_four_parts" four-parts
-replays listing_of_4096_variables_taken_in_growing_parts "$of_growing_parts" growing-parts
+replays listing_of_32768_variables_taken_in_whole_offers "$of_whole_offers" whole-offers
 replays deleted_variable_stays_in_a_paused_listing "$of_deleted" deleted
 replays listing_survives_driver_loss "$of_lost" lost
 replays pipelined_get_is_answered_behind_the_listing "$of_pipelined" pipelined
-replays line_is_executed_at_2048_bytes_owed "$of_at_the_limit" at-the-limit
+replays pipelined_get_is_answered_at_4096_bytes_owed "$of_pipelined" pipelined-then
+replays line_is_executed_at_4096_bytes_owed "$of_at_the_limit" at-the-limit
 replays a_user_logs_in "$of_login" --users monitors login
 replays three_files "$of_login_described" --ups two.conf --users monitors --vars texts login-described
 replays nobody_logs_in_without_users "$of_stranger" login

@@ -10,7 +10,7 @@ pub const SHORT: usize = 10;
 /// The line that asks for a value.
 const GET: &[u8] = b"GET VAR su v2048\n";
 
-/// How many such lines are sent at once: 1,020 bytes, of which a session may hold 1,024.
+/// How many such lines are sent at once.
 const AT_ONCE: usize = 60;
 
 /// A load, and how often it is done.
@@ -18,7 +18,7 @@ const AT_ONCE: usize = 60;
 pub enum Load {
     /// A value is asked for.
     Get(u32),
-    /// Values are asked for, as many at once as a session may hold.
+    /// Values are asked for, many at once.
     Pipeline(u32),
     /// A value is asked for after each read of a driver that never pauses.
     Flood(u32),

@@ -1,4 +1,4 @@
-//! A server whose UPS has as many variables as one may have.
+//! A server whose UPS has 4,096 variables.
 use anyhow::{Error, Result};
 use nutcore::{ClientId, Descriptions, MaxAge, Server, UpsId, UpsList, Users};
 use nutwords::{Address, UpsName};
@@ -70,7 +70,7 @@ fn all_lines(alloc: Global, width: usize) -> Result<Vec<u8>> {
 }
 
 impl Sample {
-    /// A server whose UPS `su` has all variables, `v0000` to `v4095`, with values of so many bytes. Clients may set
+    /// A server whose UPS `su` has the variables `v0000` to `v4095`, with values of so many bytes. Clients may set
     /// `v2048`.
     pub fn new(alloc: Global, width: usize) -> Result<Sample> {
         let lines = all_lines(alloc, width)?;

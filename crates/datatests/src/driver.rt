@@ -29,6 +29,7 @@ pub fn push_driver_fault(answer: &mut String, fault: DriverFault) -> Result<(), 
 
 fn call_laws() {
     laws::limits();
+    laws::most_nodes_of_a_change();
     laws::read_lines_are_lawful();
     laws::told_numbers_are_lawful();
     laws::lawful_lines_keep_trees_sound();

@@ -9,10 +9,11 @@ use std::os::unix::net::UnixStream;
 use std::time::{Duration, Instant};
 use std::{io, str};
 
-/// How many bytes are read at once, and the longest line of a server: more without an LF ends the connection.
+/// How many bytes are read at once.
 const PIECE: usize = 1024;
 
-const LINE: usize = 1024;
+/// The longest line of a server, with its LF: more without one ends the connection.
+const LINE: usize = 2048;
 
 /// How long a read waits, in milliseconds: so late may a second be told.
 const PAUSE: u64 = 100;

@@ -1,9 +1,10 @@
 //! What no clause says of the server: that with ample memory its calls are done. Whole runs of it are shown on the built
 //! program.
 use nutcore::{
-    ClientId, Cost, Descriptions, Event, Fault, MaxAge, Outcome, Server, UpsId, UpsList, Users,
+    ClientId, Cost, Descriptions, Event, Fault, MaxAge, Outcome, RING_LIMIT, Server, UpsId,
+    UpsList, Users,
 };
-use nutwords::{Address, UpsName};
+use nutwords::{Address, LINE_ROOM, UpsName};
 use std::alloc::{AllocError, Global};
 use std::test::Fail;
 
@@ -54,7 +55,7 @@ fn flood(alloc: Global) -> Result<(Fault, u64), Fail> {
 fn flood_of(server: &mut Server) -> Result<(Fault, u64), Fail> {
     faults_of(server, b"SETINFO a \"1\"\n")?;
     let fault = server
-        .driver_bytes(SU, &[b'x'; 1024])
+        .driver_bytes(SU, &[b'x'; LINE_ROOM])
         .err()
         .ok_or("a fault")?;
     Ok((fault, server.driver_faults(SU)?))
@@ -168,7 +169,7 @@ fn long_listing_costs_what_fits(rt: HostRuntime) -> Result<(), Fail> {
     let told = hundred_variables(rt.alloc())?;
     assert_eq!(rt;
         costs(rt.alloc(), &told, 4000)?,
-        [cost(17, 4096), cost(15, 4000)]
+        [cost(32, RING_LIMIT), cost(15, 4000)]
     );
     Ok(())
 }
