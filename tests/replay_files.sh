@@ -114,7 +114,8 @@ newcomer=$(printf 'b%.0s' {1..64})
 logs_in() { printf 'client %s %s\n' "$1" 'USERNAME mon' "$1" 'PASSWORD pw' "$1" 'LOGIN su'; }
 mapfile -t all_log_in < <(for id in {2..64}; do echo "open ${far[id - 2]}"; logs_in "$id"; done)
 mapfile -t one_logs_in < <(echo "open $newcomer"; logs_in 65)
-file sixty-four "${fifteen[@]}" "${all_log_in[@]}" 'client 1 LIST VAR su' 'client 1 LIST CLIENT su' 'took 1 8193' 'close 64' "${one_logs_in[@]}" \
+file sixty-four "${fifteen[@]}" "${all_log_in[@]}" 'client 1 LIST VAR su' 'client 1 LIST CLIENT su' 'took 1 8193' \
+    'close 64' "${one_logs_in[@]}" \
     'took 1 all' 'client 1 LIST CLIENT su' 'took 1 all'
 
 of_two=$'line 3: refused 1\nclient 1 sent 40 bytes\nBEGIN LIST VAR bay-1\nEND LIST VAR bay-1\ndriver bay-1 sent 0 bytes\ndriver su sent 0 bytes'
