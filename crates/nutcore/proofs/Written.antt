@@ -16,6 +16,7 @@ use Rattle.nutwords.specs.Frame.{line_of}
 use Rattle.nutwords.specs.Listing.{IsWritten, IsWrittenLine, as_it_is, in_quotes}
 use Rattle.nutwords.specs.Reading.{read_text, is_name, is_ups_name, is_address, is_value}
 use Rattle.nutwords.specs.Spelling.{with_backslashes, quoted}
+use Rattle.nutusers.specs.declared.limits.TheConstants.{DESCRIPTION_LIMIT}
 use Rattle.nutwords.specs.declared.limits.TheConstants.{LINE_ROOM, VALUE_LIMIT, NAME_LIMIT, UPS_NAME_LIMIT}
 use Rattle.nutdriver.specs.Variable.{VariableState}
 use Rattle.nutdriver.specs.declared.limits.TheConstants.{NUMBER_LIMIT}
@@ -109,7 +110,7 @@ shown_word fsd name variable h = text_word SHOWN_LIMIT (shown fsd name variable)
 pub description_lawful : (desc : Option (List ℕ)) → IfSome desc (λ text. IsTrue (is_description text)) → (list_all is_lawful (text_or_unavailable desc) ≡ true) × (length (text_or_unavailable desc) ≤ VALUE_LIMIT)
 description_lawful None h = (refl, omega arith)
 description_lawful (Some text) h =
-    let value = (and_parts (leb (length text) VALUE_LIMIT) (is_value text) h).1 in
+    let value = (and_parts (leb (length text) DESCRIPTION_LIMIT) (is_value text) h).1 in
     (text_all is_lawful true VALUE_LIMIT text value, text_short is_lawful true VALUE_LIMIT text value)
 
 abbrev pub description_word : (desc : Option (List ℕ)) → IfSome desc (λ text. IsTrue (is_description text)) → Word
