@@ -15,6 +15,7 @@ use Rattle.nutusers.specs.Texts.{is_description}
 use Rattle.nutusers.specs.UpsList.{Ups}
 use Rattle.nutlisting.specs.Shown.{shown, ups_description}
 use Rattle.nutlisting.specs.declared.lines.shown.TheConstants.{SHOWN_LIMIT}
+use Rattle.nutusers.specs.declared.limits.TheConstants.{DESCRIPTION_LIMIT}
 use Rattle.nutwords.specs.declared.limits.TheConstants.{VALUE_LIMIT, NAME_LIMIT, UPS_NAME_LIMIT}
 
 -- what is read as a text: its length, its bytes, and itself
@@ -73,5 +74,5 @@ description_lawful ups h = by ups.desc refl
     by None e = rw e (refl, omega arith)
     by (Some text) e =
         let k : is_description text ≡ true = rw e at h in
-        let v : is_value text ≡ true = (and_parts (leb (length text) VALUE_LIMIT) (is_value text) k).1 in
+        let v : is_value text ≡ true = (and_parts (leb (length text) DESCRIPTION_LIMIT) (is_value text) k).1 in
         rw e (text_all is_lawful true VALUE_LIMIT text v, omega (arith, text_short is_lawful true VALUE_LIMIT text v))
