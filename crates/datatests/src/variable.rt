@@ -15,7 +15,7 @@ pub fn push_mode(answer: &mut String, tree: &Tree) -> Result<(), AllocError> {
 fn push_variable(answer: &mut String, variable: Option<&Variable>) -> Result<(), AllocError> {
     match variable {
         Some(variable) => {
-            push_word(answer, variable.value().as_bytes())?;
+            push_word(answer, variable.value())?;
             push_flags(answer, variable.flags())?;
             answer.push(' ')?;
             push_number(answer, u64::from(variable.aux()))?;

@@ -2,6 +2,7 @@ pub mod Fault
 pub mod Spelling
 pub mod Number
 pub mod Flags
+pub mod Kind
 pub mod Arguments
 pub mod DriverLine
 pub mod Variable

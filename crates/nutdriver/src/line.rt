@@ -4,25 +4,25 @@ ghost use Rattle.nutwords.specs.declared.limits.TheConstants.{LINE_LIMIT};
 
 mod arguments;
 
-use crate::{DriverFault, Flags, Range};
+use crate::{DriverFault, Flags, Range, ValueWord};
 use arguments::{
     id_and_number, name_alone, name_and_aux, name_and_flags, name_and_range, name_and_value,
 };
-use nutwords::{Name, SpelledWord, SpelledWords, Value, spelled_words};
+use nutwords::{Name, SpelledWord, SpelledWords, spelled_words};
 
-/// A line of a driver.
-#[derive(Debug, PartialEq, Eq, Drop)]
-pub enum DriverLine {
+/// A line of a driver. Its values borrow the line.
+#[derive(Debug, Drop)]
+pub enum DriverLine<'a> {
     /// A line without words.
     Blank,
     /// `SETINFO`: the variable has this value.
-    SetInfo(Name, Value),
+    SetInfo(Name, ValueWord<'a>),
     /// `DELINFO`: the UPS no longer has the variable.
     DelInfo(Name),
     /// `ADDENUM`: the variable may have this value.
-    AddEnum(Name, Value),
+    AddEnum(Name, ValueWord<'a>),
     /// `DELENUM`: it may no longer have this value.
-    DelEnum(Name, Value),
+    DelEnum(Name, ValueWord<'a>),
     /// `ADDRANGE`: the variable may have the numbers of this range.
     AddRange(Name, Range),
     /// `DELRANGE`: it no longer has this range.
@@ -47,7 +47,7 @@ pub enum DriverLine {
     Tracking(u128, u32),
 }
 
-impl DriverLine {
+impl<'a> DriverLine<'a> {
     ghost use Rattle.nutwords.specs.Spelled.{spelled};
     ghost use Rattle.nutdriver.specs.DriverLine.{read_driver_line, driver_line_of, value_line, limit_line, command_line, state_line, order_line, alone};
 
@@ -56,7 +56,7 @@ impl DriverLine {
     /// The first word and flags are read in capitals or not. Refused, in this order: a line that doesn't read as words
     /// (1); an unknown first word (2); another number of words, an unlawful name or a word that is no id (1); a value above
     /// 512 bytes (7); a bad number, or a range whose ends are the wrong way round (5); an unknown flag (6).
-    pub fn read(line: &[u8]) -> Result<DriverLine, DriverFault>
+    pub fn read(line: &'a [u8]) -> Result<DriverLine<'a>, DriverFault>
         requires { length line.now ≤ LINE_LIMIT }
         ensures { result ≡ read_driver_line line.now }
     {
@@ -67,7 +67,7 @@ impl DriverLine {
     }
 
     /// The line that the words are.
-    fn of(mut words: SpelledWords<'_>) -> Result<DriverLine, DriverFault>
+    fn of(mut words: SpelledWords<'a>) -> Result<DriverLine<'a>, DriverFault>
         ensures { result ≡ driver_line_of words.entry }
     {
         match words.next() {
@@ -77,7 +77,10 @@ impl DriverLine {
     }
 
     /// The line with this first word: one of a variable's value or enum values, or else of another kind.
-    fn of_value(first: &SpelledWord<'_>, words: SpelledWords<'_>) -> Result<DriverLine, DriverFault>
+    fn of_value(
+        first: &SpelledWord<'_>,
+        words: SpelledWords<'a>,
+    ) -> Result<DriverLine<'a>, DriverFault>
         ensures { result ≡ value_line (spelled first.now) words.entry }
     {
         if first.is_word(b"SETINFO") {
@@ -101,7 +104,10 @@ impl DriverLine {
 
     /// The line of a variable's ranges, aux or flags, or else of another kind.
     #[inline(never)]
-    fn of_limit(first: &SpelledWord<'_>, words: SpelledWords<'_>) -> Result<DriverLine, DriverFault>
+    fn of_limit(
+        first: &SpelledWord<'_>,
+        words: SpelledWords<'a>,
+    ) -> Result<DriverLine<'a>, DriverFault>
         ensures { result ≡ limit_line (spelled first.now) words.entry }
     {
         if first.is_word(b"ADDRANGE") {
@@ -124,8 +130,8 @@ impl DriverLine {
     /// The line of a command, or else of the driver's state.
     fn of_command(
         first: &SpelledWord<'_>,
-        words: SpelledWords<'_>,
-    ) -> Result<DriverLine, DriverFault>
+        words: SpelledWords<'a>,
+    ) -> Result<DriverLine<'a>, DriverFault>
         ensures { result ≡ command_line (spelled first.now) words.entry }
     {
         if first.is_word(b"ADDCMD") {
@@ -140,7 +146,10 @@ impl DriverLine {
     }
 
     /// The line of the driver's state, or else a report on an order.
-    fn of_state(first: &SpelledWord<'_>, words: SpelledWords<'_>) -> Result<DriverLine, DriverFault>
+    fn of_state(
+        first: &SpelledWord<'_>,
+        words: SpelledWords<'a>,
+    ) -> Result<DriverLine<'a>, DriverFault>
         ensures { result ≡ state_line (spelled first.now) words.entry }
     {
         if first.is_word(b"DUMPDONE") {
@@ -157,7 +166,10 @@ impl DriverLine {
     }
 
     /// The report on an order.
-    fn of_order(first: &SpelledWord<'_>, words: SpelledWords<'_>) -> Result<DriverLine, DriverFault>
+    fn of_order(
+        first: &SpelledWord<'_>,
+        words: SpelledWords<'a>,
+    ) -> Result<DriverLine<'a>, DriverFault>
         ensures { result ≡ order_line (spelled first.now) words.entry }
     {
         if first.is_word(b"TRACKING") {
@@ -169,8 +181,8 @@ impl DriverLine {
     }
 
     /// The line, where no further word stands on it.
-    fn alone(self, mut words: SpelledWords<'_>) -> Result<DriverLine, DriverFault>
-        ensures { result ≡ alone self words.entry }
+    fn alone(self, mut words: SpelledWords<'a>) -> Result<DriverLine<'a>, DriverFault>
+        ensures { result ≡ alone self.entry words.entry }
     {
         match words.next() {
             None => Ok(self),

@@ -1,11 +1,15 @@
 //! A variable of a UPS.
-ghost use Rattle.std.specs.Prelude.{◌≡◌, ◌≤◌, length, IfOk};
+ghost use Rattle.std.specs.Prelude.{◌≡◌, ◌≤◌, length, IfOk, IsTrue};
+ghost use Rattle.nutwords.specs.Reading.{is_value};
 ghost use Rattle.nutdriver.specs.Variable.{VariableState, new_variable, with_value, with_aux, with_flags, add_enum, delete_enum, add_range, delete_range, has_value, has_range};
+ghost use Rattle.nutdriver.specs.Kind.{kind_in, with_kind};
 ghost use Rattle.nutdriver.specs.Lists.{lists_in, with_lists};
 ghost use Rattle.nutdriver.specs.Promises.{AnswersChange, variable_step};
 
-use crate::lists::{Lists, has_range, has_value, shared, take_range_out, take_value_out};
-use crate::{DriverFault, DriverLine, ENUM_LIMIT, Flags, RANGE_LIMIT, Range};
+use crate::kept::KeptValue;
+use crate::kind::{Kind, shared};
+use crate::lists::{Lists, has_range, has_value, take_range_out, take_value_out};
+use crate::{DriverFault, DriverLine, ENUM_LIMIT, Flags, RANGE_LIMIT, Range, ValueWord};
 use nutwords::Value;
 use std::alloc::{AllocError, Global};
 use std::marker::Model;
@@ -17,58 +21,61 @@ pub(crate) type Change = Result<Option<Variable>, DriverFault>;
 /// A variable of a UPS: its value, and what values it may have (RFC 9271: GET TYPE, LIST ENUM, LIST RANGE).
 ///
 /// The versions of a tree share a variable, which isn't changed while they do. A variable that another one becomes shares
-/// its lists, unless they are what changes. Contracts see the record of what it has.
+/// what isn't changed: all but the value, or the lists. Contracts see the record of what it has.
 #[derive(Drop)]
 pub struct Variable {
     alloc: Global,
-    value: Value,
-    flags: Flags,
-    aux: u32,
-    lists: Option<Rc<Lists>>,
+    value: KeptValue,
+    kind: Option<Rc<Kind>>,
 }
 
 impl Model for Variable {
     ghost use Rattle.nutdriver.specs.Variable.{VariableState};
-    ghost use Rattle.nutdriver.specs.Lists.{lists_of};
+    ghost use Rattle.nutdriver.specs.Kind.{kind_of};
 
     ghost Value = { VariableState };
 
-    ghost view = { λ v. record { value = v.value; flags = v.flags; aux = v.aux; enum_values = (lists_of v.lists).enum_values; ranges = (lists_of v.lists).ranges } };
+    ghost view = { λ v. record { value = v.value; flags = (kind_of v.kind).flags; aux = (kind_of v.kind).aux; enum_values = (kind_of v.kind).lists.enum_values; ranges = (kind_of v.kind).lists.ranges } };
 }
 
 impl Variable {
     /// A variable without flags, enum values and ranges, whose aux is 0.
-    pub(crate) fn new(alloc: Global, value: &Value) -> Variable
-        ensures { result ≡ new_variable value.now }
+    pub(crate) fn new(alloc: Global, value: &ValueWord<'_>) -> Result<Variable, AllocError>
+        ensures { IfOk result (λ variable. variable ≡ new_variable value.now) }
     {
-        Variable {
+        Ok(Variable {
             alloc,
-            value: value.copied(),
-            flags: Flags::none(),
-            aux: 0,
-            lists: None,
-        }
+            value: value.kept(alloc)?,
+            kind: None,
+        })
     }
 
-    /// Its value.
-    pub fn value(&self) -> &Value
-        ensures { result.now ≡ self.now.value }
+    /// The bytes of its value.
+    pub fn value(&self) -> &[u8]
+        ensures value { result.now ≡ self.now.value }
+        ensures lawful { IsTrue (is_value self.now.value) }
     {
-        &self.value
+        self.value.as_bytes()
     }
 
     /// Its flags.
     pub fn flags(&self) -> Flags
         ensures { result ≡ self.now.flags }
     {
-        self.flags
+        match &self.kind {
+            None => Flags::none(),
+            Some(kind) => kind.flags,
+        }
     }
 
     /// Its aux, from 0 to 1,000,000,000: of a text, the most bytes, where it isn't 0.
     pub fn aux(&self) -> u32
         ensures { result ≡ self.now.aux }
     {
-        self.aux
+        match &self.kind {
+            None => 0,
+            Some(kind) => kind.aux,
+        }
     }
 
     /// The values that it may have, in the order in which the driver added them. Where there are none, any will do.
@@ -76,9 +83,9 @@ impl Variable {
         ensures value { result.now ≡ self.now.enum_values }
         ensures few { length result.now ≤ ENUM_LIMIT }
     {
-        match &self.lists {
+        match &self.kind {
             None => &[],
-            Some(lists) => lists.enum_values(),
+            Some(kind) => kind.enum_values(),
         }
     }
 
@@ -88,72 +95,79 @@ impl Variable {
         ensures value { result.now ≡ self.now.ranges }
         ensures few { length result.now ≤ RANGE_LIMIT }
     {
-        match &self.lists {
+        match &self.kind {
             None => &[],
-            Some(lists) => lists.ranges(),
+            Some(kind) => kind.ranges(),
         }
     }
 
-    /// An equal variable, which shares its lists with this one.
-    fn copied(&self) -> Result<Variable, AllocError>
-        ensures { IfOk result (λ copy. copy ≡ self.now) }
+    /// All but its value, in a kind of its own, which shares the lists.
+    fn copied_kind(&self) -> Result<Kind, AllocError>
+        ensures { IfOk result (λ copy. copy ≡ kind_in self.now) }
     {
-        self.holding(&self.value)
-    }
-
-    /// The same with another value, and the same lists, which both share.
-    fn holding(&self, value: &Value) -> Result<Variable, AllocError>
-        ensures { IfOk result (λ copy. copy ≡ with_value value.now self.now) }
-    {
-        Ok(Variable {
-            alloc: self.alloc,
-            value: value.copied(),
-            flags: self.flags,
-            aux: self.aux,
-            lists: shared(&self.lists)?,
-        })
+        match &self.kind {
+            None => Ok(Kind::plain()),
+            Some(kind) => kind.copied(),
+        }
     }
 
     /// Equal lists, which share nothing with its own.
     fn copied_lists(&self) -> Result<Lists, AllocError>
         ensures { IfOk result (λ copy. copy ≡ lists_in self.now) }
     {
-        match &self.lists {
+        match &self.kind {
             None => Ok(Lists::none(self.alloc)),
-            Some(lists) => lists.copied(),
+            Some(kind) => kind.copied_lists(self.alloc),
         }
+    }
+
+    /// The variable with all of this but its value.
+    fn of_kind(&self, kind: Kind) -> Change
+        ensures { AnswersChange (Ok (Some (with_kind kind self.now))) result }
+    {
+        let Ok(value) = self.value.copied(self.alloc) else {
+            return Err(DriverFault::Memory);
+        };
+        let Ok(kind) = Rc::new(self.alloc, kind) else {
+            return Err(DriverFault::Memory);
+        };
+        Ok(Some(Variable {
+            alloc: self.alloc,
+            value,
+            kind: Some(kind),
+        }))
     }
 
     /// The variable with other lists.
     fn with_lists(&self, lists: Lists) -> Change
         ensures { AnswersChange (Ok (Some (with_lists lists self.now))) result }
     {
+        let Ok(kind) = self.copied_kind() else {
+            return Err(DriverFault::Memory);
+        };
         let Ok(lists) = Rc::new(self.alloc, lists) else {
             return Err(DriverFault::Memory);
         };
-        let Ok(copy) = self.copied() else {
-            return Err(DriverFault::Memory);
-        };
-        Ok(Some(Variable {
+        self.of_kind(Kind {
             lists: Some(lists),
-            ..copy
-        }))
+            ..kind
+        })
     }
 
     /// Sets its value. All else stays.
-    pub(crate) fn set_value(&mut self, value: &Value)
-        ensures { self.new ≡ with_value value.now self.old }
+    pub(crate) fn set_value(&mut self, value: KeptValue)
+        ensures { self.new ≡ with_value value self.old }
     {
-        self.value = value.copied();
+        self.value = value;
     }
 
     /// What becomes of the variable by a line that names it.
-    pub(crate) fn after(&self, line: &DriverLine) -> Change
+    pub(crate) fn after(&self, line: &DriverLine<'_>) -> Change
         ensures { AnswersChange (variable_step line.now self.now) result }
     {
         match line {
-            DriverLine::AddEnum(_, value) => self.add_enum(value),
-            DriverLine::DelEnum(_, value) => self.delete_enum(value),
+            DriverLine::AddEnum(_, value) => self.add_enum(&value.read()),
+            DriverLine::DelEnum(_, value) => self.delete_enum(&value.read()),
             DriverLine::AddRange(_, range) => self.add_range(*range),
             DriverLine::DelRange(_, range) => self.delete_range(*range),
             DriverLine::SetAux(_, aux) => self.with_aux(*aux),
@@ -163,33 +177,40 @@ impl Variable {
     }
 
     /// The variable with another value.
-    pub(crate) fn with_value(&self, value: &Value) -> Change
+    pub(crate) fn with_value(&self, value: &ValueWord<'_>) -> Change
         ensures { AnswersChange (Ok (Some (with_value value.now self.now))) result }
     {
-        match self.holding(value) {
-            Ok(variable) => Ok(Some(variable)),
-            Err(_) => Err(DriverFault::Memory),
-        }
+        let Ok(value) = value.kept(self.alloc) else {
+            return Err(DriverFault::Memory);
+        };
+        let Ok(kind) = shared(&self.kind) else {
+            return Err(DriverFault::Memory);
+        };
+        Ok(Some(Variable {
+            alloc: self.alloc,
+            value,
+            kind,
+        }))
     }
 
     /// The variable with another aux.
     fn with_aux(&self, aux: u32) -> Change
         ensures { AnswersChange (Ok (Some (with_aux aux self.now))) result }
     {
-        let Ok(copy) = self.copied() else {
+        let Ok(kind) = self.copied_kind() else {
             return Err(DriverFault::Memory);
         };
-        Ok(Some(Variable { aux, ..copy }))
+        self.of_kind(Kind { aux, ..kind })
     }
 
     /// The variable with exactly these flags.
     fn with_flags(&self, flags: Flags) -> Change
         ensures { AnswersChange (Ok (Some (with_flags flags self.now))) result }
     {
-        let Ok(copy) = self.copied() else {
+        let Ok(kind) = self.copied_kind() else {
             return Err(DriverFault::Memory);
         };
-        Ok(Some(Variable { flags, ..copy }))
+        self.of_kind(Kind { flags, ..kind })
     }
 
     /// The variable with one more enum value, unless it has it.

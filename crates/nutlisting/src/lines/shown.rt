@@ -22,7 +22,7 @@ pub(crate) fn value_of(variable: &Variable) -> &[u8]
     ensures short { length result.now ≤ SHOWN_LIMIT }
     ensures lawful { IsTrue (list_all is_lawful result.now) }
 {
-    variable.value().as_bytes()
+    variable.value()
 }
 
 /// The status as clients see it while a forced shutdown is set: `FSD ` stands before it.
@@ -34,7 +34,7 @@ pub(crate) fn marked(variable: &Variable) -> ArrayVec<u8, SHOWN_LIMIT>
     let mut shown = ArrayVec::new();
     shown.try_extend_from_slice(b"FSD ").unwrap();
     shown
-        .try_extend_from_slice(variable.value().as_bytes())
+        .try_extend_from_slice(variable.value())
         .unwrap();
     shown
 }

@@ -1,0 +1,111 @@
+//! A value as a driver's line spells it, and as a variable keeps it.
+ghost use Rattle.std.specs.Prelude.{◌≡◌, IfOk, IsTrue};
+ghost use Rattle.nutwords.specs.Reading.{is_value, read_value};
+ghost use Rattle.nutwords.specs.Spelled.{spelled};
+ghost use Rattle.nutdriver.specs.Arguments.{lawful_value};
+
+use crate::DriverFault;
+use nutwords::{SpelledWord, VALUE_LIMIT, Value};
+use smallvec::SmallVec;
+use std::alloc::{AllocError, Global};
+use std::marker::Model;
+
+/// How many bytes of a value stand in the variable itself, in bytes. A longer value has memory of its own, in its size.
+const SHORT_LENGTH: usize = 16;
+
+/// The word of a driver's line that is a value. It borrows the line, and is unescaped where it is kept. Contracts see the
+/// value.
+#[derive(Debug, Drop)]
+pub struct ValueWord<'a> {
+    word: SpelledWord<'a>,
+}
+
+impl<'a> Model for ValueWord<'a> {
+    ghost use Rattle.std.specs.Prelude.{ℕ, List, IsTrue};
+    ghost use Rattle.nutwords.specs.Reading.{is_value};
+    ghost use Rattle.nutwords.specs.Spelled.{spelled};
+
+    ghost Value = { List ℕ };
+
+    ghost view = { λ v. spelled v.word };
+
+    ghost invariant = { λ v. IsTrue (is_value (spelled v.word)) };
+}
+
+impl<'a> ValueWord<'a> {
+    /// The word, where it is a value. The bytes of a word are lawful, so the one thing that can be wrong with it is its
+    /// length.
+    pub(crate) fn of(word: SpelledWord<'a>) -> Result<ValueWord<'a>, DriverFault>
+        ensures { result ≡ lawful_value (read_value (spelled word.entry)) }
+    {
+        match word.value() {
+            Ok(_) => Ok(ValueWord { word }),
+            Err(_) => Err(DriverFault::TooLong),
+        }
+    }
+
+    /// The value.
+    pub(crate) fn read(&self) -> Value
+        ensures { result ≡ self.now }
+    {
+        self.word.value().unwrap()
+    }
+
+    /// The value as a variable keeps it. Only a long one asks for memory.
+    pub(crate) fn kept(&self, alloc: Global) -> Result<KeptValue, AllocError>
+        ensures { IfOk result (λ kept. kept ≡ self.now) }
+    {
+        match self.word.as_plain() {
+            Some(bytes) => KeptValue::of(alloc, bytes),
+            None => {
+                let bytes = self.word.held::<VALUE_LIMIT>().unwrap();
+                KeptValue::of(alloc, bytes.as_slice())
+            }
+        }
+    }
+}
+
+/// A value in its own size: most are a few bytes, and a whole `Value` takes the place of the longest. Contracts see its
+/// bytes.
+#[derive(Drop)]
+pub(crate) struct KeptValue {
+    bytes: SmallVec<u8, SHORT_LENGTH>,
+}
+
+impl Model for KeptValue {
+    ghost use Rattle.std.specs.Prelude.{ℕ, List, IsTrue};
+    ghost use Rattle.nutwords.specs.Reading.{is_value};
+
+    ghost Value = { List ℕ };
+
+    ghost view = { λ v. v.bytes.items };
+
+    ghost invariant = { λ v. IsTrue (is_value v.bytes.items) };
+}
+
+impl KeptValue {
+    /// The value of these bytes.
+    fn of(alloc: Global, bytes: &[u8]) -> Result<KeptValue, AllocError>
+        requires { IsTrue (is_value bytes.now) }
+        ensures { IfOk result (λ kept. kept ≡ bytes.now) }
+    {
+        Ok(KeptValue {
+            bytes: SmallVec::from_slice(alloc, bytes)?,
+        })
+    }
+
+    /// Its bytes.
+    pub(crate) fn as_bytes(&self) -> &[u8]
+        ensures value { result.now ≡ self.now }
+        ensures lawful { IsTrue (is_value self.now) }
+    {
+        self.bytes.as_slice()
+    }
+
+    /// An equal one, which shares nothing with this one.
+    pub(crate) fn copied(&self, alloc: Global) -> Result<KeptValue, AllocError>
+        ensures { IfOk result (λ copy. copy ≡ self.now) }
+    {
+        KeptValue::of(alloc, self.as_bytes())
+    }
+}

@@ -1,0 +1,94 @@
+//! What a variable has beside its value.
+ghost use Rattle.std.specs.Prelude.{◌≡◌, ◌≤◌, length, IfOk};
+ghost use Rattle.nutdriver.specs.Kind.{held_in, plain};
+
+use crate::lists::Lists;
+use crate::{ENUM_LIMIT, Flags, RANGE_LIMIT, Range};
+use nutwords::Value;
+use std::alloc::{AllocError, Global};
+use std::marker::Model;
+use std::rc::Rc;
+
+/// What a variable has beside its value. Variables may share it, by `Rc`, and kinds that differ in flags and aux alone
+/// may share their lists.
+#[derive(Drop)]
+pub(crate) struct Kind {
+    pub(crate) flags: Flags,
+    pub(crate) aux: u32,
+    pub(crate) lists: Option<Rc<Lists>>,
+}
+
+impl Model for Kind {
+    ghost use Rattle.nutdriver.specs.Kind.{KindState};
+    ghost use Rattle.nutdriver.specs.Lists.{lists_of};
+
+    ghost Value = { KindState };
+
+    ghost view = { λ k. record { flags = k.flags; aux = k.aux; lists = lists_of k.lists } };
+}
+
+impl Kind {
+    /// No flags, enum values and ranges, and an aux of 0. Takes no memory.
+    pub(crate) fn plain() -> Kind
+        ensures { result ≡ plain }
+    {
+        Kind {
+            flags: Flags::none(),
+            aux: 0,
+            lists: None,
+        }
+    }
+
+    /// The enum values.
+    pub(crate) fn enum_values(&self) -> &[Value]
+        ensures value { result.now ≡ self.now.lists.enum_values }
+        ensures few { length result.now ≤ ENUM_LIMIT }
+    {
+        match &self.lists {
+            None => &[],
+            Some(lists) => lists.enum_values(),
+        }
+    }
+
+    /// The ranges.
+    pub(crate) fn ranges(&self) -> &[Range]
+        ensures value { result.now ≡ self.now.lists.ranges }
+        ensures few { length result.now ≤ RANGE_LIMIT }
+    {
+        match &self.lists {
+            None => &[],
+            Some(lists) => lists.ranges(),
+        }
+    }
+
+    /// An equal kind, which shares its lists with this one.
+    pub(crate) fn copied(&self) -> Result<Kind, AllocError>
+        ensures { IfOk result (λ copy. copy ≡ self.now) }
+    {
+        Ok(Kind {
+            flags: self.flags,
+            aux: self.aux,
+            lists: shared(&self.lists)?,
+        })
+    }
+
+    /// Equal lists, which share nothing with its own.
+    pub(crate) fn copied_lists(&self, alloc: Global) -> Result<Lists, AllocError>
+        ensures { IfOk result (λ copy. copy ≡ self.now.lists) }
+    {
+        match &self.lists {
+            None => Ok(Lists::none(alloc)),
+            Some(lists) => lists.copied(),
+        }
+    }
+}
+
+/// The same, shared. It asks for no memory.
+pub(crate) fn shared<T: Drop>(held: &Option<Rc<T>>) -> Result<Option<Rc<T>>, AllocError>
+    ensures { IfOk result (λ copy. held_in copy ≡ held_in held.now) }
+{
+    match held {
+        None => Ok(None),
+        Some(held) => Ok(Some(held.clone()?)),
+    }
+}
