@@ -2,7 +2,6 @@
 use Rattle.std.specs.Prelude.{ℕ, List, [], Option, Some, None}
 use Rattle.std.specs.declared.rc.Rc.{Rc}
 use Rattle.nutdriver.specs.declared.range.Range.{Range}
-use Rattle.nutdriver.specs.Variable.{VariableState}
 
 pub record ListsState : Type 0 where
   pub enum_values : List (List ℕ)
@@ -15,12 +14,3 @@ no_lists = record { enum_values = []; ranges = [] }
 abbrev pub lists_of : {A : Type 0} → Option (Rc ListsState A) → ListsState
 lists_of None = no_lists
 lists_of (Some lists) = lists.value
-
--- The variable with these lists.
-abbrev pub with_lists : ListsState → VariableState → VariableState
-with_lists lists v =
-    record v { enum_values = lists.enum_values; ranges = lists.ranges }
-
--- The lists of the variable.
-abbrev pub lists_in : VariableState → ListsState
-lists_in v = record { enum_values = v.enum_values; ranges = v.ranges }

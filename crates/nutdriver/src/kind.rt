@@ -1,6 +1,7 @@
 //! What a variable has beside its value.
 ghost use Rattle.std.specs.Prelude.{◌≡◌, ◌≤◌, length, IfOk};
-ghost use Rattle.nutdriver.specs.Kind.{held_in, plain};
+ghost use Rattle.nutdriver.specs.Kind.{plain};
+ghost use Rattle.nutdriver.specs.Lists.{lists_of};
 
 use crate::lists::Lists;
 use crate::{ENUM_LIMIT, Flags, RANGE_LIMIT, Range};
@@ -68,8 +69,18 @@ impl Kind {
         Ok(Kind {
             flags: self.flags,
             aux: self.aux,
-            lists: shared(&self.lists)?,
+            lists: self.shared_lists()?,
         })
+    }
+
+    /// The same lists, shared. It asks for no memory.
+    fn shared_lists(&self) -> Result<Option<Rc<Lists>>, AllocError>
+        ensures { IfOk result (λ copy. lists_of copy ≡ self.now.lists) }
+    {
+        match &self.lists {
+            None => Ok(None),
+            Some(lists) => Ok(Some(lists.clone()?)),
+        }
     }
 
     /// Equal lists, which share nothing with its own.
@@ -80,15 +91,5 @@ impl Kind {
             None => Ok(Lists::none(alloc)),
             Some(lists) => lists.copied(),
         }
-    }
-}
-
-/// The same, shared. It asks for no memory.
-pub(crate) fn shared<T: Drop>(held: &Option<Rc<T>>) -> Result<Option<Rc<T>>, AllocError>
-    ensures { IfOk result (λ copy. held_in copy ≡ held_in held.now) }
-{
-    match held {
-        None => Ok(None),
-        Some(held) => Ok(Some(held.clone()?)),
     }
 }

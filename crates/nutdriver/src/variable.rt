@@ -1,13 +1,12 @@
 //! A variable of a UPS.
 ghost use Rattle.std.specs.Prelude.{◌≡◌, ◌≤◌, length, IfOk, IsTrue};
 ghost use Rattle.nutwords.specs.Reading.{is_value};
-ghost use Rattle.nutdriver.specs.Variable.{VariableState, new_variable, with_value, with_aux, with_flags, add_enum, delete_enum, add_range, delete_range, has_value, has_range};
-ghost use Rattle.nutdriver.specs.Kind.{kind_in, with_kind};
-ghost use Rattle.nutdriver.specs.Lists.{lists_in, with_lists};
+ghost use Rattle.nutdriver.specs.Variable.{VariableState, with_value, with_aux, with_flags, add_enum, delete_enum, add_range, delete_range, has_value, has_range};
+ghost use Rattle.nutdriver.specs.Kind.{variable_of, with_kind, with_lists};
 ghost use Rattle.nutdriver.specs.Promises.{AnswersChange, variable_step};
 
 use crate::kept::KeptValue;
-use crate::kind::{Kind, shared};
+use crate::kind::Kind;
 use crate::lists::{Lists, has_range, has_value, take_range_out, take_value_out};
 use crate::{DriverFault, DriverLine, ENUM_LIMIT, Flags, RANGE_LIMIT, Range, ValueWord};
 use nutwords::Value;
@@ -26,27 +25,31 @@ pub(crate) type Change = Result<Option<Variable>, DriverFault>;
 pub struct Variable {
     alloc: Global,
     value: KeptValue,
-    kind: Option<Rc<Kind>>,
+    kind: Rc<Kind>,
 }
 
 impl Model for Variable {
     ghost use Rattle.nutdriver.specs.Variable.{VariableState};
-    ghost use Rattle.nutdriver.specs.Kind.{kind_of};
+    ghost use Rattle.nutdriver.specs.Kind.{variable_of};
 
     ghost Value = { VariableState };
 
-    ghost view = { λ v. record { value = v.value; flags = (kind_of v.kind).flags; aux = (kind_of v.kind).aux; enum_values = (kind_of v.kind).lists.enum_values; ranges = (kind_of v.kind).lists.ranges } };
+    ghost view = { λ v. variable_of v.value v.kind.value };
 }
 
 impl Variable {
-    /// A variable without flags, enum values and ranges, whose aux is 0.
-    pub(crate) fn new(alloc: Global, value: &ValueWord<'_>) -> Result<Variable, AllocError>
-        ensures { IfOk result (λ variable. variable ≡ new_variable value.now) }
+    /// A variable with this value and all of this beside it.
+    pub(crate) fn new(
+        alloc: Global,
+        value: &ValueWord<'_>,
+        kind: Rc<Kind>,
+    ) -> Result<Variable, AllocError>
+        ensures { IfOk result (λ variable. variable ≡ variable_of value.now kind.value) }
     {
         Ok(Variable {
             alloc,
             value: value.kept(alloc)?,
-            kind: None,
+            kind,
         })
     }
 
@@ -62,20 +65,14 @@ impl Variable {
     pub fn flags(&self) -> Flags
         ensures { result ≡ self.now.flags }
     {
-        match &self.kind {
-            None => Flags::none(),
-            Some(kind) => kind.flags,
-        }
+        self.kind.flags
     }
 
     /// Its aux, from 0 to 1,000,000,000: of a text, the most bytes, where it isn't 0.
     pub fn aux(&self) -> u32
         ensures { result ≡ self.now.aux }
     {
-        match &self.kind {
-            None => 0,
-            Some(kind) => kind.aux,
-        }
+        self.kind.aux
     }
 
     /// The values that it may have, in the order in which the driver added them. Where there are none, any will do.
@@ -83,10 +80,7 @@ impl Variable {
         ensures value { result.now ≡ self.now.enum_values }
         ensures few { length result.now ≤ ENUM_LIMIT }
     {
-        match &self.kind {
-            None => &[],
-            Some(kind) => kind.enum_values(),
-        }
+        self.kind.enum_values()
     }
 
     /// The ranges of numbers that it may have, in the order in which the driver added them. Where there are none, any
@@ -95,30 +89,7 @@ impl Variable {
         ensures value { result.now ≡ self.now.ranges }
         ensures few { length result.now ≤ RANGE_LIMIT }
     {
-        match &self.kind {
-            None => &[],
-            Some(kind) => kind.ranges(),
-        }
-    }
-
-    /// All but its value, in a kind of its own, which shares the lists.
-    fn copied_kind(&self) -> Result<Kind, AllocError>
-        ensures { IfOk result (λ copy. copy ≡ kind_in self.now) }
-    {
-        match &self.kind {
-            None => Ok(Kind::plain()),
-            Some(kind) => kind.copied(),
-        }
-    }
-
-    /// Equal lists, which share nothing with its own.
-    fn copied_lists(&self) -> Result<Lists, AllocError>
-        ensures { IfOk result (λ copy. copy ≡ lists_in self.now) }
-    {
-        match &self.kind {
-            None => Ok(Lists::none(self.alloc)),
-            Some(kind) => kind.copied_lists(self.alloc),
-        }
+        self.kind.ranges()
     }
 
     /// The variable with all of this but its value.
@@ -134,7 +105,7 @@ impl Variable {
         Ok(Some(Variable {
             alloc: self.alloc,
             value,
-            kind: Some(kind),
+            kind,
         }))
     }
 
@@ -142,7 +113,7 @@ impl Variable {
     fn with_lists(&self, lists: Lists) -> Change
         ensures { AnswersChange (Ok (Some (with_lists lists self.now))) result }
     {
-        let Ok(kind) = self.copied_kind() else {
+        let Ok(kind) = self.kind.copied() else {
             return Err(DriverFault::Memory);
         };
         let Ok(lists) = Rc::new(self.alloc, lists) else {
@@ -183,7 +154,7 @@ impl Variable {
         let Ok(value) = value.kept(self.alloc) else {
             return Err(DriverFault::Memory);
         };
-        let Ok(kind) = shared(&self.kind) else {
+        let Ok(kind) = self.kind.clone() else {
             return Err(DriverFault::Memory);
         };
         Ok(Some(Variable {
@@ -197,7 +168,7 @@ impl Variable {
     fn with_aux(&self, aux: u32) -> Change
         ensures { AnswersChange (Ok (Some (with_aux aux self.now))) result }
     {
-        let Ok(kind) = self.copied_kind() else {
+        let Ok(kind) = self.kind.copied() else {
             return Err(DriverFault::Memory);
         };
         self.of_kind(Kind { aux, ..kind })
@@ -207,7 +178,7 @@ impl Variable {
     fn with_flags(&self, flags: Flags) -> Change
         ensures { AnswersChange (Ok (Some (with_flags flags self.now))) result }
     {
-        let Ok(kind) = self.copied_kind() else {
+        let Ok(kind) = self.kind.copied() else {
             return Err(DriverFault::Memory);
         };
         self.of_kind(Kind { flags, ..kind })
@@ -223,7 +194,7 @@ impl Variable {
         if self.enum_values().len() >= ENUM_LIMIT {
             return Err(DriverFault::Full);
         }
-        let Ok(mut lists) = self.copied_lists() else {
+        let Ok(mut lists) = self.kind.copied_lists(self.alloc) else {
             return Err(DriverFault::Memory);
         };
         let Ok(()) = lists.enum_values.push(value.copied()) else {
@@ -239,7 +210,7 @@ impl Variable {
         if !has_value(self.enum_values(), value) {
             return Err(DriverFault::NoSuchItem);
         }
-        let Ok(mut lists) = self.copied_lists() else {
+        let Ok(mut lists) = self.kind.copied_lists(self.alloc) else {
             return Err(DriverFault::Memory);
         };
         take_value_out(&mut lists.enum_values, value);
@@ -256,7 +227,7 @@ impl Variable {
         if self.ranges().len() >= RANGE_LIMIT {
             return Err(DriverFault::Full);
         }
-        let Ok(mut lists) = self.copied_lists() else {
+        let Ok(mut lists) = self.kind.copied_lists(self.alloc) else {
             return Err(DriverFault::Memory);
         };
         let Ok(()) = lists.ranges.push(range) else {
@@ -272,7 +243,7 @@ impl Variable {
         if !has_range(self.ranges(), range) {
             return Err(DriverFault::NoSuchItem);
         }
-        let Ok(mut lists) = self.copied_lists() else {
+        let Ok(mut lists) = self.kind.copied_lists(self.alloc) else {
             return Err(DriverFault::Memory);
         };
         take_range_out(&mut lists.ranges, range);

@@ -6,7 +6,7 @@ use Rattle.nutdriver.proofs.tree.Tree.set_in_place.Goals as goal
 
 pub invariant_of-self : goal.invariant_of-self
 invariant_of-self c =
-    (few_changed c.changes_count_one_entry.ensures.replaced c.args.name.now VARIABLE_LIMIT c.change_in_place.result c.self.inside.variables _ c.change_in_place.ensures.rising c.change_in_place.ensures.changed c.change_in_place.ensures.unchanged c.self.invariant.0, c.self.invariant.1)
+    (few_changed c.changes_count_one_entry.ensures.replaced c.args.name.now VARIABLE_LIMIT c.change_in_place.result c.self.inside.variables _ c.change_in_place.ensures.rising c.change_in_place.ensures.changed c.change_in_place.ensures.unchanged c.self.invariant.0, c.self.invariant.1, c.self.invariant.2)
 
 pub returns-clause-changed : goal.returns-clause-changed
 returns-clause-changed c = λ is.
