@@ -128,20 +128,23 @@ pub(crate) fn live_command<'a, V: View>(
     Ok(KnownCommand { ups: live, name })
 }
 
-/// The value that the variable may be set to.
-pub(crate) fn settable(variable: &Variable, value: &ValueWord<'_>) -> Result<Value, ErrWord>
-    ensures { result ≡ settable variable.now value.now }
+/// The value, where it is one, and the variable may be set to it.
+pub(crate) fn settable<'v>(
+    variable: &Variable,
+    value: &'v Option<Value>,
+) -> Result<&'v Value, ErrWord>
+    ensures { found (λ value. value.now) result ≡ settable variable.now value.now }
 {
     if !variable.flags().rw {
         return Err(ErrWord::Readonly);
     }
-    let Some(value) = value.read() else {
+    let Some(value) = value else {
         return Err(ErrWord::TooLong);
     };
-    if !is_short_enough(variable, &value) {
+    if !is_short_enough(variable, value) {
         return Err(ErrWord::TooLong);
     }
-    if !is_listed(variable.enum_values(), &value) || !is_in_ranges(variable.ranges(), &value) {
+    if !is_listed(variable.enum_values(), value) || !is_in_ranges(variable.ranges(), value) {
         return Err(ErrWord::InvalidValue);
     }
     Ok(value)

@@ -36,9 +36,10 @@ pub(crate) fn set_var<'a, V: View>(
     let ups = ups.read();
     let name = name.read();
     let found = live_variable(view, &ups, &name)?;
-    let value = settable(found.variable, value)?;
+    let value = value.read();
+    let value = settable(found.variable, &value)?;
     let id = order_id(view, asker, ErrWord::SetFailed)?;
-    order_line_into(b"SET", found.name, Some(&value), id, line);
+    order_line_into(b"SET", found.name, Some(value), id, line);
     if line.len() > found.ups.state.free {
         return Err(ErrWord::SetFailed);
     }
