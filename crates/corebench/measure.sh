@@ -33,10 +33,10 @@ tell() {
 
 tell 'GET VAR, from line to taken answer' 10000 "$(instructions get 1000)" "$(instructions get 11000)"
 tell 'GET VAR, of 60 that are sent at once' $((60 * 200)) "$(instructions pipeline 100)" "$(instructions pipeline 300)"
-tell "GET VAR and the 1,024 bytes of a driver's read before it" 1000 "$(instructions flood 100)" "$(instructions flood 1100)"
+tell "GET VAR and the 512 bytes of a driver's read before it" 1000 "$(instructions flood 100)" "$(instructions flood 1100)"
 # Those 1,000 reads hold lines of 27 bytes, and a GET beside them is counted as one alone.
 gets=$(($(instructions get 2000) - $(instructions get 1000)))
-tell "a line of such a read, of 27 bytes, without the GET" $((1000 * 1024 / 27)) \
+tell "a line of such a read, of 27 bytes, without the GET" $((1000 * 512 / 27)) \
     $(($(instructions flood 100) + gets)) "$(instructions flood 1100)"
 tell 'SET VAR, from line to taken answer and order' 10000 "$(instructions set 1000)" "$(instructions set 11000)"
 for width in 10 256; do

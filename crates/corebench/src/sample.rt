@@ -12,7 +12,7 @@ const SU: UpsId = UpsId { place: 0 };
 pub const VARIABLES: u32 = 4096;
 
 /// How many bytes a server reads of a driver at a time.
-const DRIVER_READ: usize = 1024;
+const DRIVER_READ: usize = 512;
 
 /// How many bytes a line of a driver has beside its value.
 const AROUND_A_VALUE: usize = 17;
@@ -23,7 +23,8 @@ password = pw
 actions = SET
 ";
 
-/// A server of one UPS, and what its driver reports of each variable, a line each of the same length.
+/// A server of one UPS, and what its driver reports of each variable, a line each of the same
+/// length.
 #[derive(Drop)]
 pub struct Sample {
     alloc: Global,
@@ -71,8 +72,8 @@ fn all_lines(alloc: Global, width: usize) -> Result<Vec<u8>> {
 }
 
 impl Sample {
-    /// A server whose UPS `su` has the variables `v0000` to `v4095`, with values of so many bytes. Clients may set
-    /// `v2048`.
+    /// A server whose UPS `su` has the variables `v0000` to `v4095`, with values of so many bytes.
+    /// Clients may set `v2048`.
     pub fn new(alloc: Global, width: usize) -> Result<Sample> {
         let lines = all_lines(alloc, width)?;
         let mut sample = Sample {
@@ -134,7 +135,8 @@ impl Sample {
         Ok(())
     }
 
-    /// A driver reports its variables again, and this is what one read of it gives. Reads go round all lines.
+    /// A driver reports its variables again, and this is what one read of it gives. Reads go round
+    /// all lines.
     pub fn report_a_read(&mut self, number: usize) -> Result<()> {
         let reads = self.lines.len() / DRIVER_READ;
         let read = self.lines.chunks(DRIVER_READ).nth(number % reads.max(1));

@@ -87,7 +87,14 @@ impl Connection {
         Ok(())
     }
 
-    /// Reads a listing, and answers how many bytes it has. Its end is looked for at the ends of pieces alone.
+    /// Leaves by `LOGOUT`, and waits for the answer to it.
+    pub fn leave(&mut self) -> io::Result<()> {
+        self.send(b"LOGOUT\n")?;
+        self.take_answers(1)
+    }
+
+    /// Reads a listing, and answers how many bytes it has. Its end is looked for at the ends of
+    /// pieces alone.
     pub fn take_listing(&mut self, server: &Server) -> io::Result<usize> {
         let mut length = 0usize;
         let mut tail = Vec::new(server.alloc);

@@ -13,8 +13,8 @@ pub struct Waits {
     pub worst: u128,
 }
 
-/// Sends so many requests at once on each connection and takes their answers, again and again. Answers how many were
-/// asked.
+/// Sends so many requests at once on each connection and takes their answers, again and again.
+/// Answers how many were asked.
 pub fn gets(
     clients: &mut [Connection],
     server: &Server,
@@ -24,25 +24,50 @@ pub fn gets(
     let text = server.get.repeat(server.alloc, depth)?;
     let once = clients.len().saturating_mul(depth).max(1);
     let mut asked = 0usize;
-    for _ in 0..requests / once {
+    for round in 0..requests / once {
         for client in clients.iter_mut() {
             client.send(text.as_bytes())?;
         }
-        for client in clients.iter_mut() {
-            client.take_answers(depth)?;
-        }
+        take_answers(clients, depth, round % 2 == 1)?;
         asked = asked.saturating_add(once);
     }
     Ok(asked)
 }
 
-/// Takes so many listings, each on a fresh connection. Answers how many bytes they have.
+/// Takes so many answers on each connection, on the first one first or on the last one. A load that
+/// always began at the same end would favour a server by the order in which it answers.
+fn take_answers(clients: &mut [Connection], depth: usize, is_backward: bool) -> io::Result<()> {
+    let last = clients.len().saturating_sub(1);
+    for place in 0..clients.len() {
+        let next = if is_backward { last - place } else { place };
+        clients[next].take_answers(depth)?;
+    }
+    Ok(())
+}
+
+/// These clients leave.
+pub fn leave(clients: &mut [Connection]) -> io::Result<()> {
+    for client in clients.iter_mut() {
+        client.leave()?;
+    }
+    Ok(())
+}
+
+/// Takes so many listings, each on a fresh connection, which is left. Answers how many bytes they
+/// have.
 pub fn lists_anew(rt: &HostRuntime, server: &Server, listings: usize) -> io::Result<usize> {
     let mut bytes = 0usize;
     for _ in 0..listings {
         let mut client = server.connect(rt)?;
-        bytes = bytes.saturating_add(lists(&mut client, server, 1)?);
+        bytes = bytes.saturating_add(list_and_leave(&mut client, server)?);
     }
+    Ok(bytes)
+}
+
+/// Takes a listing, and leaves. Answers how many bytes it has.
+fn list_and_leave(client: &mut Connection, server: &Server) -> io::Result<usize> {
+    let bytes = lists(client, server, 1)?;
+    client.leave()?;
     Ok(bytes)
 }
 
@@ -64,7 +89,7 @@ pub fn slow_readers(
     bytes: usize,
 ) -> io::Result<Vec<Connection>> {
     let mut first = server.connect(rt)?;
-    let length = lists(&mut first, server, 1)?.max(1);
+    let length = list_and_leave(&mut first, server)?.max(1);
     let text = server
         .list
         .repeat(server.alloc, (bytes / length).saturating_add(1))?;
@@ -75,7 +100,7 @@ pub fn slow_readers(
     Ok(clients)
 }
 
-/// How long a client waits for one answer at a time.
+/// How long a client waits for one answer at a time. Then it leaves.
 pub fn waits_of(
     rt: &HostRuntime,
     client: &mut Connection,
@@ -89,6 +114,7 @@ pub fn waits_of(
         client.take_answers(1)?;
         micros.push(start.elapsed(rt)?.as_micros())?;
     }
+    client.leave()?;
     micros.sort_unstable();
     let high = micros.len().saturating_sub(micros.len() / 100 + 1);
     Ok(Waits {

@@ -1,13 +1,14 @@
-//! Measures a UPS server over the network, by the protocol alone: requests and listings a second, and how long a good
-//! client waits, alone and beside slow ones. With a third word it measures how long a client waits that is alone, and no
-//! more: `flood.py` beside it is the driver of that UPS, and never pauses.
+//! Measures a UPS server over the network, by the protocol alone: requests and listings a second,
+//! and how long a good client waits, alone and beside slow ones. With a third word it measures how
+//! long a client waits that is alone, and no more: `flood.py` beside it is the driver of that UPS,
+//! and never pauses.
 #![tactic(auto)]
 
 mod connection;
 mod loads;
 
-use crate::connection::Server;
-use crate::loads::{Waits, gets, lists, lists_anew, slow_readers, waits_of};
+use crate::connection::{Connection, Server};
+use crate::loads::{Waits, gets, leave, lists, lists_anew, slow_readers, waits_of};
 use std::time::{Duration, Instant};
 use std::{env, io};
 
@@ -55,14 +56,24 @@ fn measure_all(rt: &HostRuntime, server: &Server) -> io::Result<()> {
 fn requests(rt: &HostRuntime, server: &Server) -> io::Result<()> {
     for (connections, depth) in [(1, 1), (MANY, 1), (1, 512), (MANY, 32)] {
         let mut clients = server.connections(rt, connections)?;
-        let start = Instant::now(rt)?;
-        let asked = gets(&mut clients, server, REQUESTS, depth)?;
-        let rate = a_second(asked, start.elapsed(rt)?);
-        println!(rt;
-            "GET VAR   {connections:>3} connections, {depth:>3} at once: {rate:>9} a second"
-        )?;
+        requests_of(rt, server, &mut clients, depth)?;
     }
     Ok(())
+}
+
+/// GET VAR by these clients, so many at once, who then leave.
+fn requests_of(
+    rt: &HostRuntime,
+    server: &Server,
+    clients: &mut [Connection],
+    depth: usize,
+) -> io::Result<()> {
+    let start = Instant::now(rt)?;
+    let asked = gets(clients, server, REQUESTS, depth)?;
+    let rate = a_second(asked, start.elapsed(rt)?);
+    leave(clients)?;
+    let connections = clients.len();
+    println!(rt; "GET VAR   {connections:>3} connections, {depth:>3} at once: {rate:>9} a second")
 }
 
 /// LIST VAR on fresh connections, and on one that stands.
@@ -73,7 +84,8 @@ fn listings(rt: &HostRuntime, server: &Server) -> io::Result<()> {
     let mut client = server.connect(rt)?;
     let start = Instant::now(rt)?;
     let bytes = lists(&mut client, server, LISTINGS)?;
-    tell_listings(rt, "one connection:   ", bytes, start.elapsed(rt)?)
+    tell_listings(rt, "one connection:   ", bytes, start.elapsed(rt)?)?;
+    client.leave()
 }
 
 fn tell_listings(rt: &HostRuntime, kind: &str, bytes: usize, time: Duration) -> io::Result<()> {

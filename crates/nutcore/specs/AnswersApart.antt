@@ -18,7 +18,8 @@ list_of_answers c s es os =
     filter (λ text. not (is_empty text)) (map text_of (of_client c (executions s es os)))
 
 -- Each of them has the shape of an answer, and joined they are the text of the run's answers: no
--- other list of answers is. The answers that are cut off what the client took are the first of them.
+-- other list of answers is. The answers that are cut off what the client took are the first of
+-- them.
 pub record AreCutInOneWay (c : ℕ) (old : ServerState) (events : List Event)
     (outcomes : List Outcome) : Type 0 where
   pub each : All IsAnswer (list_of_answers c old events outcomes)
@@ -30,7 +31,8 @@ pub record AreCutInOneWay (c : ℕ) (old : ServerState) (events : List Event)
       → concat firsts ++ rest ≡ taken c old events outcomes
       → (others : List (List ℕ)) × (firsts ++ others ≡ list_of_answers c old events outcomes)
 
--- Over every run from a new server whose sessions are opened from lawful addresses, of every client.
+-- Over every run from a new server whose sessions are opened from lawful addresses, of every
+-- client.
 abbrev pub TheAnswersOfARunAreCutInOneWay : Type 0
 TheAnswersOfARunAreCutInOneWay =
     (old new : ServerState) (events : List Event) (outcomes : List Outcome) → IsNewServer old

@@ -8,7 +8,8 @@ use Rattle.std.specs.Result.{result_ok}
 use Rattle.nutwords.specs.Reading.{read_name}
 use Rattle.nutusers.specs.declared.ups_list.UpsId.{UpsId}
 use Rattle.nutanswer.specs.declared.command.Command.{Command}
-use Rattle.nutanswer.specs.declared.command.Command.TheVariants.{Login, Primary, Fsd, SetVar, InstCmd}
+use Rattle.nutanswer.specs.declared.command.Command.TheVariants.{Login, Primary, Fsd, SetVar}
+use Rattle.nutanswer.specs.declared.command.Command.TheVariants.{InstCmd}
 use Rattle.nutanswer.specs.declared.err_word.ErrWord.{ErrWord}
 use Rattle.nutanswer.specs.declared.reply.Change.{Change}
 use Rattle.nutanswer.specs.declared.reply.Change.TheVariants as changes

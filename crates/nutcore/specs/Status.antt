@@ -1,12 +1,15 @@
 -- What is told of a server beside the answers to its clients.
-use Rattle.std.specs.Prelude.{ℕ, Bool, true, false, List, Option}
-use Rattle.std.specs.Option.{option_copied}
+use Rattle.std.specs.Prelude.{ℕ, Bool, true, false, not, List, Option, ◌==◌, length}
+use Rattle.std.specs.Option.{option_copied, option_map_or}
 use Rattle.nutusers.specs.declared.ups_list.UpsId.{UpsId}
 use Rattle.nutanswer.specs.View.{Readiness, not_connected, stale, usable, readiness}
+use Rattle.nutcore.specs.declared.standing.Standing.{Standing}
 use Rattle.nutcore.specs.declared.visitor.Visitor.{Visitor}
 use Rattle.nutcore.specs.Session.{SessionState}
 use Rattle.nutcore.specs.Ups.{UpsState}
-use Rattle.nutcore.specs.Server.{ServerState}
+use Rattle.nutcore.specs.Server.{ServerState, session}
+use Rattle.nutcore.specs.Step.{offered}
+use Rattle.nutcore.specs.Calls.{is_finished, room_of}
 
 -- Clients are told what a driver has reported,
 abbrev pub is_usable : Readiness → Bool
@@ -17,6 +20,16 @@ is_usable usable = true
 -- of this UPS, at the server's moment.
 abbrev pub has_usable_data : ServerState → UpsState → Bool
 has_usable_data s x = is_usable (readiness s.moment s.max_age x.report)
+
+-- How a client stands: whether it is offered something, whether its session takes in bytes, and
+-- whether that is ending and owes nothing. None of this holds of one without a session.
+abbrev pub standing_of : ℕ → ServerState → Standing
+standing_of c s =
+    record {
+      is_owed = not (length (offered (session c s)) == 0);
+      has_room = not (option_map_or room_of (session c s) 0 == 0);
+      is_finished = option_map_or is_finished (session c s) false;
+    }
 
 -- Who has an open session: its id, the client's address, the user name that it gave, and the UPS
 -- that it is logged in to.

@@ -1,5 +1,5 @@
--- Tracked orders over whole runs: what happens to the ids and the orders is told from the events and
--- the lines that they executed.
+-- Tracked orders over whole runs: what happens to the ids and the orders is told from the events
+-- and the lines that they executed.
 use Rattle.std.specs.Prelude.{◌≡◌, ◌<◌, ℕ, List, [], ◌∷◌, ◌++◌, Option, Some, None, length, map}
 use Rattle.std.specs.List.{flat_map}
 use Rattle.circular_buffer.specs.Buffer.{keep_last}
@@ -55,14 +55,15 @@ acts s (e ∷ es) (o ∷ os) = acts_in_event s e o ++ acts (after s e o) es os
 abbrev pub WhatIsTrackedComesOfTheActs : Type 0
 WhatIsTrackedComesOfTheActs =
     (old new : ServerState) (events : List Event) (outcomes : List Outcome)
-    → Run old events outcomes new → new.tracking ≡ after_acts old.tracking (acts old events outcomes)
+    → Run old events outcomes new
+    → new.tracking ≡ after_acts old.tracking (acts old events outcomes)
 
--- Of a run from a new server. once: an id stands for one order, and there are at most 64 ids and 256
--- orders. in_order: the ids that were used, in order, and then those at hand are those that were
--- taken in, in order: each is used once, the first one first. last: the orders that are kept are the
--- last 256 that were given. settled: what is told of an order, from when it was given with an id, for
--- as long as it is kept, is pending, up to the first report on it by the driver of its UPS, and from
--- then on what that said.
+-- Of a run from a new server. once: an id stands for one order, and there are at most 64 ids and
+-- 256 orders. in_order: the ids that were used, in order, and then those at hand are those that
+-- were taken in, in order: each is used once, the first one first. last: the orders that are kept
+-- are the last 256 that were given. settled: what is told of an order, from when it was given with
+-- an id, for as long as it is kept, is pending, up to the first report on it by the driver of its
+-- UPS, and from then on what that said.
 pub record IsTrackedInRun (acts : List Act) (new : ServerState) : Type 0 where
   pub once : IsSoundTracking new.tracking
   pub in_order : map (λ order. order.id) (given nothing_tracked acts) ++ new.tracking.ids

@@ -1,12 +1,13 @@
-//! What clients did that is told beside its answer: forced shutdowns, orders to drivers, and what was refused.
+//! What clients did that is told beside its answer: forced shutdowns, orders to drivers, and what
+//! was refused.
 ghost use Rattle.std.specs.Prelude.{◌≡◌, ◌≤◌, ◌++◌, [], ◌∷◌, length, take, true, if◌then◌else◌, IfOk, None};
 ghost use Rattle.nutcore.specs.Deeds.{is_refusal, refusal_in, deed_of_command};
 ghost use Rattle.nutcore.specs.Promises.{deed_in_reply, with_deed};
 
 use crate::HELD_LIMIT;
 use crate::event::ClientId;
-use crate::lines::line_end;
-use nutanswer::{Command, ErrWord, Reply};
+use crate::lines::{ReadLine, line_end};
+use nutanswer::{Command, Reply};
 use nutwords::{Name, UpsName};
 use std::alloc::{AllocError, Global};
 use std::marker::Model;
@@ -35,8 +36,8 @@ pub enum Verb {
     InstCmd,
 }
 
-/// What a line of a client did: it set a forced shutdown or gave an order to a driver; or it was refused. No value and no
-/// password is told.
+/// What a line of a client did: it set a forced shutdown or gave an order to a driver; or it was
+/// refused. No value and no password is told.
 #[derive(Debug, Drop)]
 pub struct Deed {
     /// The session's id.
@@ -110,7 +111,7 @@ impl Deeds {
 pub(crate) fn note(
     is_told: bool,
     c: ClientId,
-    read: &Result<Option<Command<'_>>, ErrWord>,
+    read: &ReadLine<'_>,
     reply: &Reply<'_>,
     deeds: &mut Deeds,
 )
@@ -122,14 +123,10 @@ pub(crate) fn note(
     }
 }
 
-/// Notes what a line did that is to be told. It is a call of its own, so that no other line pays for the room of a deed.
+/// Notes what a line did that is to be told. It is a call of its own, so that no other line pays
+/// for the room of a deed.
 #[inline(never)]
-fn note_told(
-    c: ClientId,
-    read: &Result<Option<Command<'_>>, ErrWord>,
-    reply: &Reply<'_>,
-    deeds: &mut Deeds,
-)
+fn note_told(c: ClientId, read: &ReadLine<'_>, reply: &Reply<'_>, deeds: &mut Deeds)
     ensures { deeds.new ≡ with_deed (deed_in_reply c read.now reply.now) deeds.old }
 {
     if let Some(deed) = deed_in_reply(c, read, reply) {
@@ -138,11 +135,7 @@ fn note_told(
 }
 
 /// What a line did that was read and answered so, and is told.
-fn deed_in_reply(
-    c: ClientId,
-    read: &Result<Option<Command<'_>>, ErrWord>,
-    reply: &Reply<'_>,
-) -> Option<Deed>
+fn deed_in_reply(c: ClientId, read: &ReadLine<'_>, reply: &Reply<'_>) -> Option<Deed>
     ensures { result ≡ deed_in_reply c read.now reply.now }
 {
     let Reply::One(text, _) = reply else {

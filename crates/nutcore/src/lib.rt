@@ -10,6 +10,7 @@ mod max_age;
 mod scratch;
 mod server;
 mod session;
+mod standing;
 mod ups;
 mod visitor;
 
@@ -22,6 +23,7 @@ pub use nutusers::{Descriptions, UpsId, UpsList, Users};
 pub use nutwords::Bytes;
 use nutwords::LINE_ROOM;
 pub use server::Server;
+pub use standing::Standing;
 pub use visitor::Visitor;
 
 /// The most bytes of input that a session holds: those of the longest line with its LF.

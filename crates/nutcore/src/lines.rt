@@ -1,8 +1,12 @@
-//! Lines in a run of bytes.
+//! Lines: in a run of bytes, and as they are read.
 ghost use Rattle.std.specs.Prelude.{◌≡◌, ◌≤◌, ◌<◌, drop, take, vec_len, vec_capacity, length, MatchOption, None, Some};
 ghost use Rattle.nutcore.specs.Lines.{first_line};
 
 use bstr::ByteSlice;
+use nutanswer::{Command, ErrWord};
+
+/// A line as it was read: a command, nothing where it has no words, or the word of an error.
+pub(crate) type ReadLine<'a> = Result<Option<Command<'a>>, ErrWord>;
 
 /// Where the first whole line ends.
 pub(crate) fn line_end(bytes: &[u8]) -> Option<usize>

@@ -15,9 +15,10 @@ use Rattle.nutusers.specs.declared.ups_list.UpsId.{UpsId}
 use Rattle.nutcore.specs.declared.event.Peer.{Peer}
 use Rattle.nutcore.specs.declared.event.Peer.TheVariants as peer
 use Rattle.nutcore.specs.Server.{ServerState}
+use Rattle.nutcore.specs.Status.{standing_of}
 use Rattle.nutloop.specs.Round.{Notes}
 use Rattle.nutloop.specs.Standing.{IsAnswer, after_read, after_write, client_flags, driver_flags}
-use Rattle.nutloop.specs.Standing.{got_by, heard, is_driver_owed, standing_of, took_by}
+use Rattle.nutloop.specs.Standing.{got_by, heard, is_driver_owed, took_by}
 use Rattle.nutloop.specs.declared.over_mio.door.Newcomer.{Newcomer}
 use Rattle.nutloop.specs.declared.over_mio.clients.ClientSocket.{ClientSocket}
 use Rattle.nutloop.specs.declared.over_mio.drivers.DriverSocket.{DriverSocket}

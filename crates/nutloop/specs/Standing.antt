@@ -7,12 +7,11 @@ use Rattle.std.specs.IoError.{error_kind}
 use Rattle.nutusers.specs.declared.ups_list.UpsId.{UpsId}
 use Rattle.nutcore.specs.declared.event.Peer.{Peer}
 use Rattle.nutcore.specs.declared.event.Peer.TheVariants as peer
-use Rattle.nutcore.specs.Server.{ServerState, session}
-use Rattle.nutcore.specs.Step.{offered}
+use Rattle.nutcore.specs.declared.standing.Standing.{Standing}
+use Rattle.nutcore.specs.Server.{ServerState}
 use Rattle.nutcore.specs.DriverOrders.{owed_to_driver}
 use Rattle.nutloop.specs.Pace.{Ticks, after_turn}
 use Rattle.nutloop.specs.Round.{NobodyIsReady, TakesTurn}
-use Rattle.nutloop.specs.Turn.{room_at, is_finished_at}
 use Rattle.nutloop.specs.declared.pace.Pace.{Pace}
 use Rattle.nutloop.specs.declared.round.Flags.{Flags}
 use Rattle.nutloop.specs.declared.round.Place.{Place}
@@ -29,7 +28,6 @@ use Rattle.nutloop.specs.declared.sockets.Ready.TheVariants.{Nothing, Tick, Newc
 use Rattle.nutloop.specs.declared.standing.Answer.{Answer}
 use Rattle.nutloop.specs.declared.standing.Answer.TheVariants.{Moved, WouldBlock, Failed}
 use Rattle.nutloop.specs.declared.standing.Readiness.{Readiness}
-use Rattle.nutloop.specs.declared.standing.Standing.{Standing}
 
 -- What the system answered to a read or a write.
 abbrev pub IsAnswer : Result ℕ Error → Answer → Type 0
@@ -38,15 +36,7 @@ IsAnswer (Err error) answer =
     ((error_kind error ≡ kind.WouldBlock) × (answer ≡ WouldBlock))
     ⊎ ((error_kind error ≢ kind.WouldBlock) × (answer ≡ Failed))
 
--- How a client stands with the server, and whether a driver is owed anything.
-abbrev pub standing_of : ℕ → ServerState → Standing
-standing_of c s =
-    record {
-      is_owed = not (length (offered (session c s)) == 0);
-      has_room = not (room_at c s == 0);
-      is_finished = is_finished_at c s;
-    }
-
+-- Whether a driver is owed anything.
 abbrev pub is_driver_owed : UpsId → ServerState → Bool
 is_driver_owed u s = not (length (owed_to_driver u s) == 0)
 

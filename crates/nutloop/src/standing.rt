@@ -1,11 +1,11 @@
 //! What may be done with a peer, by its socket and by the server, and what is told of its turn.
 ghost use Rattle.std.specs.Prelude.{◌≡◌, true, false};
 ghost use Rattle.nutloop.specs.Standing.{IsAnswer, after_read, after_write, client_flags, driver_flags, got_by};
-ghost use Rattle.nutloop.specs.Standing.{heard, is_driver_owed, ready_of, standing_of, took_by};
+ghost use Rattle.nutloop.specs.Standing.{heard, is_driver_owed, ready_of, took_by};
 
 use crate::round::{Flags, Seat, Turn, Way};
 use crate::sockets::{Broken, Got, Ready};
-use nutcore::{ClientId, Peer, Server, UpsId};
+use nutcore::{Peer, Server, Standing, UpsId};
 use std::io;
 use std::io::ErrorKind;
 
@@ -14,7 +14,8 @@ use std::io::ErrorKind;
 pub(crate) struct Readiness {
     pub readable: bool,
     pub writable: bool,
-    /// The peer sends no more, or its connection is broken: a short read doesn't mean that the socket is emptied.
+    /// The peer sends no more, or its connection is broken: a short read doesn't mean that the
+    /// socket is emptied.
     pub ended: bool,
 }
 
@@ -28,17 +29,6 @@ pub(crate) enum Answer {
     Failed,
 }
 
-/// How a client stands with the server.
-#[derive(Clone, Copy)]
-pub(crate) struct Standing {
-    /// It is offered something.
-    pub is_owed: bool,
-    /// Its session takes in bytes.
-    pub has_room: bool,
-    /// Its session is over, and has told all.
-    pub is_finished: bool,
-}
-
 impl Answer {
     /// What this answer is.
     pub fn of(moved: io::Result<usize>) -> Answer
@@ -50,19 +40,6 @@ impl Answer {
                 ErrorKind::WouldBlock => Answer::WouldBlock,
                 _ => Answer::Failed,
             },
-        }
-    }
-}
-
-impl Standing {
-    /// How this client stands.
-    pub fn of(server: &Server, c: ClientId) -> Standing
-        ensures { result ≡ standing_of c server.now.state }
-    {
-        Standing {
-            is_owed: server.offered(c).unwrap_or(0) != 0,
-            has_room: server.room(c).unwrap_or(0) != 0,
-            is_finished: server.finished(c).unwrap_or(false),
         }
     }
 }
@@ -88,8 +65,9 @@ impl Readiness {
         self.ended |= told.ended;
     }
 
-    /// What a read gave, that had room for so many bytes. One that gives less has emptied the socket, unless the peer
-    /// has ended. An end is told once nothing is owed to the peer: it would lose that.
+    /// What a read gave, that had room for so many bytes. One that gives less has emptied the
+    /// socket, unless the peer has ended. An end is told once nothing is owed to the peer: it would
+    /// lose that.
     pub fn read(&mut self, answer: Answer, room: usize, is_owed: bool) -> Result<Got, Broken>
         ensures socket { self.new ≡ after_read answer room self.old }
         ensures told { result ≡ got_by answer is_owed }
@@ -136,8 +114,8 @@ impl Readiness {
     }
 }
 
-/// What may be done with a client. While it is owed something, it is read where its session has room, unless it has
-/// ended. One that is finished is written to, which closes it.
+/// What may be done with a client. While it is owed something, it is read where its session has
+/// room, unless it has ended. One that is finished is written to, which closes it.
 pub(crate) fn client_flags(socket: Readiness, standing: Standing) -> Flags
     ensures { result ≡ client_flags socket standing }
 {

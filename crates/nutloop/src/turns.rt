@@ -10,8 +10,9 @@ use crate::{Got, LoopFault, Ready, Sockets};
 use nutcore::{ClientId, Fault, HELD_LIMIT, Peer, Server, UpsId};
 use nutwords::Address;
 
-/// The most bytes that one read of a driver takes in.
-pub const DRIVER_READ_LIMIT: usize = 1024;
+/// The most bytes that one read of a driver takes in. It bounds how long one turn of a driver keeps
+/// clients waiting.
+pub const DRIVER_READ_LIMIT: usize = 512;
 
 /// A client's session ends, and its connection is shut.
 fn close<S: Sockets>(server: &mut Server, sockets: &mut S, c: ClientId)
@@ -187,7 +188,8 @@ fn write<S: Sockets>(server: &mut Server, sockets: &mut S, p: Peer)
     }
 }
 
-/// One turn: asks once what is ready, and does that row: at most one read or write, and at most two events of the server.
+/// One turn: asks once what is ready, and does that row: at most one read or write, and at most two
+/// events of the server.
 ///
 /// # Errors
 ///

@@ -1,4 +1,5 @@
-//! The UPSs: what their drivers do to them, and the drivers' pump: which of their lines are executed.
+//! The UPSs: what their drivers do to them, and the drivers' pump: which of their lines are
+//! executed.
 ghost use Rattle.std.specs.Prelude.{◌≡◌, ◌<◌, ◌≤◌, ◌++◌, length, drop, map, MatchResult, OnOk, IfErr, Some, None, true};
 ghost use Rattle.std.specs.Option.{option_map};
 ghost use Rattle.nutcore.specs.Server.{ups_at};
@@ -66,13 +67,13 @@ impl Server {
         f(&mut self.upses[u.place as usize])
     }
 
-    /// Does what a whole line of the driver says, at this moment: so many bytes at the front of the piece, or else what its
-    /// UPS holds.
+    /// Does what a whole line of the driver says, at this moment: so many bytes at the front of the
+    /// piece, or else what its UPS holds.
     ///
     /// # Errors
     ///
-    /// Memory was refused, for which only a line that would change the tree asks. What a loss of the driver leaves is the
-    /// same as before.
+    /// Memory was refused, for which only a line that would change the tree asks. What a loss of
+    /// the driver leaves is the same as before.
     fn execute_driver_line(
         &mut self,
         u: UpsId,
@@ -92,15 +93,16 @@ impl Server {
         told_numbers_are_lawful();
         let moment = self.moment;
         let outcome = self.with_ups(u, |ups| ups.execute(moment, piece, length))?;
-        if self.is_refused(u, outcome) {
+        let is_refused = self.settle(u, outcome);
+        if is_refused {
             self.with_ups(u, |ups| ups.count_refused());
         }
         Ok(())
     }
 
-    /// Whether a line of the driver is refused that came to this. So is a report on an order that isn't awaited; one that
-    /// is awaited is done.
-    fn is_refused(&mut self, u: UpsId, outcome: LineOutcome) -> bool
+    /// Settles the order on which a line of the driver that came to this reports, and tells whether
+    /// the line is refused: so is a report on an order that isn't awaited.
+    fn settle(&mut self, u: UpsId, outcome: LineOutcome) -> bool
         requires { HasLawfulNumber outcome }
         ensures answer { result
             ≡ is_refused (is_unawaited u.place (end_told outcome) self.old.state.tracking) outcome }
@@ -118,8 +120,9 @@ impl Server {
         }
     }
 
-    /// Does what the next line of the driver says, before which so many were done, and tells how many bytes of the piece
-    /// it takes. It isn't copied where it stands in the piece. Where none is whole, all of the piece is held.
+    /// Does what the next line of the driver says, before which so many were done, and tells how
+    /// many bytes of the piece it takes. It isn't copied where it stands in the piece. Where none
+    /// is whole, all of the piece is held.
     ///
     /// # Errors
     ///
@@ -174,8 +177,8 @@ impl Server {
         }
     }
 
-    /// Does what the lines of the driver say, as far as they came. Where 2,048 bytes stand without an LF, or memory is
-    /// refused, the driver is lost, and the rest is dropped.
+    /// Does what the lines of the driver say, as far as they came. Where 2,048 bytes stand without
+    /// an LF, or memory is refused, the driver is lost, and the rest is dropped.
     ///
     /// # Errors
     ///

@@ -2,11 +2,12 @@
 ghost use Rattle.std.specs.Prelude.{◌≡◌, option_map, slice_get};
 ghost use Rattle.nutcore.specs.Calls.{ReadsUps};
 ghost use Rattle.nutcore.specs.Server.{session, ups_at};
-ghost use Rattle.nutcore.specs.Status.{has_usable_data, visitor_of, visitor_seen};
+ghost use Rattle.nutcore.specs.Status.{has_usable_data, standing_of, visitor_of, visitor_seen};
 
 use super::Server;
 use crate::event::{ClientId, Fault};
 use crate::session::Session;
+use crate::standing::Standing;
 use crate::visitor::Visitor;
 use nutusers::UpsId;
 
@@ -39,8 +40,9 @@ impl Server {
     {
         Ok(self.ups_of(u)?.fsd())
     }
-    /// Whether clients are told the data of the UPS: its driver is connected, has reported all that it knows, says that its
-    /// data are right, and was heard no longer ago than the greatest age.
+
+    /// Whether clients are told the data of the UPS: its driver is connected, has reported all that
+    /// it knows, says that its data are right, and was heard no longer ago than the greatest age.
     ///
     /// # Errors
     ///
@@ -57,6 +59,24 @@ impl Server {
                 && report.ok
                 && age <= u64::from(self.max_age.seconds()),
         )
+    }
+
+    /// How the client stands: what `offered`, `room` and `finished` answer of it, by one look.
+    pub fn standing(&self, c: ClientId) -> Standing
+        ensures { result ≡ standing_of c self.now.state }
+    {
+        match self.session(c) {
+            Ok(session) => Standing {
+                is_owed: session.offered() != 0,
+                has_room: session.room() != 0,
+                is_finished: session.is_finished(),
+            },
+            Err(_) => Standing {
+                is_owed: false,
+                has_room: false,
+                is_finished: false,
+            },
+        }
     }
 
     /// Who has the open session at this place, in the order of opening.

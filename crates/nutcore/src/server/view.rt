@@ -5,21 +5,19 @@ ghost use Rattle.nutcore.specs.Reply.{seen_client};
 ghost use Rattle.nutcore.specs.Promises.{AnswersEach, IsText};
 ghost use Rattle.nutanswer.specs.View.{login_count, asker_seen};
 
+use crate::lines::ReadLine;
 use crate::max_age::MaxAge;
 use crate::session::Session;
 use crate::ups::Ups;
-use nutanswer::{Asker, Change, Command, ErrWord, Reply, UpsView, View, answer};
+use nutanswer::{Asker, Change, Reply, UpsView, View, answer};
 use nuttracking::{Progress, Tracking};
 use nutusers::{Descriptions, UpsId, UpsList, Users};
 use nutwords::Line;
 use std::alloc::AllocError;
 use std::marker::Model;
 
-/// A line as it was read: a command, nothing where it has no words, or the word of an error.
-pub(super) type ReadLine<'a> = Result<Option<Command<'a>>, ErrWord>;
-
-/// What answers see of a server. It borrows those parts alone, so that an answer can be made in another. Contracts see what
-/// is seen.
+/// What answers see of a server. It borrows those parts alone, so that an answer can be made in
+/// another. Contracts see what is seen.
 #[derive(Drop)]
 pub(super) struct ServerView<'a> {
     pub(super) moment: u64,
@@ -43,8 +41,8 @@ impl<'a> Model for ServerView<'a> {
 }
 
 impl<'a> ServerView<'a> {
-    /// What answers a line that was read so, of the session that asks. The answer's line is made in the one that is lent.
-    /// Memory is asked for by a listing alone.
+    /// What answers a line that was read so, of the session that asks. The answer's line is made in
+    /// the one that is lent. Memory is asked for by a listing alone.
     pub(super) fn reply_to<'l>(
         &self,
         asker: Asker<'_>,

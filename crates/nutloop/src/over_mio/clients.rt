@@ -1,13 +1,14 @@
 //! The sockets of clients.
 ghost use Rattle.std.specs.Prelude.{◌≡◌, ◌≤◌, length, IfOk};
+ghost use Rattle.nutcore.specs.Status.{standing_of};
 ghost use Rattle.nutloop.specs.Peers.{IsClientNoted, IsRead, IsSameClient, IsWritten, client_place, client_with};
 ghost use Rattle.nutloop.specs.Sockets.{AtMost};
-ghost use Rattle.nutloop.specs.Standing.{client_flags, heard, standing_of};
+ghost use Rattle.nutloop.specs.Standing.{client_flags, heard};
 
 use super::readiness;
 use crate::round::{Flags, Round, Seat};
 use crate::sockets::{Broken, Got};
-use crate::standing::{Readiness, Standing, client_flags};
+use crate::standing::{Readiness, client_flags};
 use mio::Token;
 use mio::net::TcpStream;
 use nutcore::{ClientId, Server};
@@ -33,7 +34,7 @@ impl ClientSocket {
         ensures id { self.new.id ≡ self.old.id }
         ensures token { self.new.token ≡ self.old.token }
     {
-        let standing = Standing::of(server, self.id);
+        let standing = server.standing(self.id);
         self.is_owed = standing.is_owed;
         client_flags(self.readiness, standing)
     }

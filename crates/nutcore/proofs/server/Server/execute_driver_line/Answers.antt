@@ -63,8 +63,8 @@ with_ups-requires-then-is_refused-clause-there c =
     let told : DoesLine c.self.inside.moment line d.before r d.after = of_call (λ x y. DoesLine c.self.inside.moment (front_or c.args.length c.args.piece.now x.unfinished) x r y) d.called (search rules) in
     let does : DoesLine s.moment line d.before r d.after = subst (λ m. DoesLine m line d.before r d.after) moment told in
     let stays = line_stays s t c.args.u s.moment line d.before d.after r c.requires.connected d.there does d.leaves in
-    let mid = c.is_refused.new.self.state in
-    let there : option_map is_connected (ups_at c.args.u.place mid) ≡ Some true = subst (λ (z : ServerState). option_map is_connected (ups_at c.args.u.place z) ≡ Some true) (sym c.is_refused.ensures.after) stays in
+    let mid = c.settle-is_refused.new.self.state in
+    let there : option_map is_connected (ups_at c.args.u.place mid) ≡ Some true = subst (λ (z : ServerState). option_map is_connected (ups_at c.args.u.place z) ≡ Some true) (sym c.settle-is_refused.ensures.after) stays in
     there_within mid c.args.u true (is_there mid c.args.u true there)
 
 pub returns-then-is_refused-clause-executes : goal.returns-then-is_refused-clause-executes
@@ -79,9 +79,9 @@ returns-then-is_refused-clause-executes c =
     let does : DoesLine s.moment line d.before r d.after = subst (λ m. DoesLine m line d.before r d.after) moment told in
     let outcome = c.in_ok-outcome.outcome in
     let done : DoesLine s.moment line d.before (Ok outcome) d.after = subst (λ q. DoesLine s.moment line d.before q d.after) c.in_ok-outcome.was does in
-    let tracked = c.is_refused.ensures.after ∙ ap (λ (z : ServerState). with_tracking (with_end c.args.u.place (end_told outcome) z.tracking) z) d.leaves in
-    let answer = c.is_refused.ensures.answer ∙ ap (λ (z : ServerState). is_refused (is_unawaited c.args.u.place (end_told outcome) z.tracking) outcome) d.leaves in
-    let mid = c.is_refused.new.self.state in
+    let tracked = c.settle-is_refused.ensures.after ∙ ap (λ (z : ServerState). with_tracking (with_end c.args.u.place (end_told outcome) z.tracking) z) d.leaves in
+    let answer = c.settle-is_refused.ensures.answer ∙ ap (λ (z : ServerState). is_refused (is_unawaited c.args.u.place (end_told outcome) z.tracking) outcome) d.leaves in
+    let mid = c.settle-is_refused.new.self.state in
     let after = c.with_ups-then-is_refused.new.self.state in
     let e = c.with_ups-then-is_refused.ensures.changes in
     let is : e.after ≡ with_faulty_line e.before = of_call (λ x y. y ≡ with_faulty_line x) e.called (search rules) in
@@ -99,8 +99,8 @@ returns-then-is_refused-clause-connected c =
     let told : DoesLine c.self.inside.moment line d.before r d.after = of_call (λ x y. DoesLine c.self.inside.moment (front_or c.args.length c.args.piece.now x.unfinished) x r y) d.called (search rules) in
     let does : DoesLine s.moment line d.before r d.after = subst (λ m. DoesLine m line d.before r d.after) moment told in
     let stays = line_stays s t c.args.u s.moment line d.before d.after r c.requires.connected d.there does d.leaves in
-    let mid = c.is_refused.new.self.state in
-    let there : option_map is_connected (ups_at c.args.u.place mid) ≡ Some true = subst (λ (z : ServerState). option_map is_connected (ups_at c.args.u.place z) ≡ Some true) (sym c.is_refused.ensures.after) stays in
+    let mid = c.settle-is_refused.new.self.state in
+    let there : option_map is_connected (ups_at c.args.u.place mid) ≡ Some true = subst (λ (z : ServerState). option_map is_connected (ups_at c.args.u.place z) ≡ Some true) (sym c.settle-is_refused.ensures.after) stays in
     let after = c.with_ups-then-is_refused.new.self.state in
     let e = c.with_ups-then-is_refused.ensures.changes in
     let is : e.after ≡ with_faulty_line e.before = of_call (λ x y. y ≡ with_faulty_line x) e.called (search rules) in
@@ -119,9 +119,9 @@ returns-else-is_refused-clause-executes c =
     let does : DoesLine s.moment line d.before r d.after = subst (λ m. DoesLine m line d.before r d.after) moment told in
     let outcome = c.in_ok-outcome.outcome in
     let done : DoesLine s.moment line d.before (Ok outcome) d.after = subst (λ q. DoesLine s.moment line d.before q d.after) c.in_ok-outcome.was does in
-    let tracked = c.is_refused.ensures.after ∙ ap (λ (z : ServerState). with_tracking (with_end c.args.u.place (end_told outcome) z.tracking) z) d.leaves in
-    let answer = c.is_refused.ensures.answer ∙ ap (λ (z : ServerState). is_refused (is_unawaited c.args.u.place (end_told outcome) z.tracking) outcome) d.leaves in
-    let mid = c.is_refused.new.self.state in
+    let tracked = c.settle-is_refused.ensures.after ∙ ap (λ (z : ServerState). with_tracking (with_end c.args.u.place (end_told outcome) z.tracking) z) d.leaves in
+    let answer = c.settle-is_refused.ensures.answer ∙ ap (λ (z : ServerState). is_refused (is_unawaited c.args.u.place (end_told outcome) z.tracking) outcome) d.leaves in
+    let mid = c.settle-is_refused.new.self.state in
     of_ups s c.args.u d.before (λ x. ExecutesDriverLine c.args.u (front_or c.args.length c.args.piece.now x.unfinished) x s (Ok tt) mid) d.there
     (executes c.args.u line s mid mid d.before d.after outcome false d.there done tracked (sym c.if-is_refused.false ∙ answer) refl)
 
@@ -136,6 +136,6 @@ returns-else-is_refused-clause-connected c =
     let told : DoesLine c.self.inside.moment line d.before r d.after = of_call (λ x y. DoesLine c.self.inside.moment (front_or c.args.length c.args.piece.now x.unfinished) x r y) d.called (search rules) in
     let does : DoesLine s.moment line d.before r d.after = subst (λ m. DoesLine m line d.before r d.after) moment told in
     let stays = line_stays s t c.args.u s.moment line d.before d.after r c.requires.connected d.there does d.leaves in
-    let mid = c.is_refused.new.self.state in
-    let there : option_map is_connected (ups_at c.args.u.place mid) ≡ Some true = subst (λ (z : ServerState). option_map is_connected (ups_at c.args.u.place z) ≡ Some true) (sym c.is_refused.ensures.after) stays in
+    let mid = c.settle-is_refused.new.self.state in
+    let there : option_map is_connected (ups_at c.args.u.place mid) ≡ Some true = subst (λ (z : ServerState). option_map is_connected (ups_at c.args.u.place z) ≡ Some true) (sym c.settle-is_refused.ensures.after) stays in
     there

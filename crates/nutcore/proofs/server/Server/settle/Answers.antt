@@ -3,7 +3,7 @@ use Rattle.nutcore.specs.contracts.server.Server.{the_view}
 use Rattle.nutcore.specs.Server.{ServerState}
 use Rattle.nutcore.proofs.Sound.{is_tracked, tracking_sound}
 use Rattle.nutcore.proofs.Tracked.{IsTracked, report_tracked}
-use Rattle.nutcore.proofs.server.Server.is_refused.Goals as goal
+use Rattle.nutcore.proofs.server.Server.settle.Goals as goal
 
 pub invariant_of-self : goal.invariant_of-self
 invariant_of-self c =
