@@ -8,3 +8,5 @@ pub mod NextTurn
 pub mod Fairness
 pub mod NotedDrivers
 pub mod TriedDrivers
+pub mod Telling
+pub mod Parting

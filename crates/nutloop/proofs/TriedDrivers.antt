@@ -2,6 +2,7 @@
 use Rattle.std.proofs.Common.{◌≡◌, ◌≢◌, ◌+◌, ◌++◌, ◌∙◌, ◌==◌, ◌||◌, ℕ, ℤ, zero, suc, List, [], ◌∷◌, Option, Bool, true, false, is_some, slice_get, set, inl, inr, refl, ap, append_assoc, arith}
 use Rattle.std.specs.Option.{option_and_then}
 use Rattle.std.proofs.lemmas.Bool.{cases_eq, eq-eqb}
+use Rattle.std.proofs.lemmas.List.Elements.{All-append}
 use Rattle.std.proofs.lemmas.List.Folds.{list_any-append}
 use Rattle.std.proofs.lemmas.Option.{IfSome_then}
 use Rattle.nutusers.specs.UpsList.{Ups, id_at}
@@ -42,8 +43,11 @@ still_tried u list xs ys before after grown same tried =
     ])
 
 pub grown_twice : (xs ys zs : List DriverSocket) → GrowsBehind xs ys → GrowsBehind ys zs → GrowsBehind xs zs
-grown_twice xs ys zs one two =
-    (one.0 ++ two.0, two.1 ∙ ap (λ v. v ++ two.0) one.1 ∙ append_assoc xs one.0 two.0)
+grown_twice xs ys zs one two = (
+  one.0 ++ two.0,
+  two.1 ∙ ap (λ v. v ++ two.0) one.1 ∙ append_assoc xs one.0 two.0,
+  All-append (λ x. x.is_told ≡ false) one.0 two.0 one.2 two.2,
+)
 
 -- what is noted of one changes nothing of the others
 pub elsewhere : (u v : UpsId) (before : List (Option ℤ)) (error : Option ℤ) → v.place ≢ u.place

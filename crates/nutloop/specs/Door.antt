@@ -1,5 +1,5 @@
 -- Where clients come in.
-use Rattle.std.specs.Prelude.{◌≡◌, ℕ, List, Option, Some, None, Result, Ok, Err, option_map}
+use Rattle.std.specs.Prelude.{◌≡◌, ◌⊎◌, ℕ, false, List, Option, Some, None, Result, Ok, Err, option_map}
 use Rattle.std.specs.Net.Text.{ip_text}
 use Rattle.std.specs.declared.net.ip_addr.IpAddr.{IpAddr}
 use Rattle.nutio.specs.Ends.{counted}
@@ -12,12 +12,11 @@ pub record HasComeIn (old new : Door) (address : List ℕ) : Type 0 where
   pub from : address ≡ ip_text ip
   pub newcomer : option_map (λ x. x.token) new.newcomer ≡ Some (record { 0 = old.count })
   pub count : new.count ≡ counted old.count
-  pub knocked : new.is_knocked_at ≡ old.is_knocked_at
+  pub same : new ≡ record old { newcomer = new.newcomer; count = new.count }
 
--- The next newcomer has come in; or there is none, and who stood there before still does; or the
--- listener listens no more, and all is as it was.
+-- The next newcomer has come in; or there is none, and who stood there before still does, though
+-- newcomers may be looked for no more; or the listener listens no more, and all is as it was.
 abbrev pub ComesIn : Door → Door → Result (Option (List ℕ)) Broken → Type 0
 ComesIn old new (Ok (Some address)) = HasComeIn old new address
-ComesIn old new (Ok None) = (new.newcomer ≡ old.newcomer) × (new.count ≡ old.count)
-ComesIn old new (Err broken) = (new.newcomer ≡ old.newcomer) × (new.count ≡ old.count)
-    × (new.is_knocked_at ≡ old.is_knocked_at)
+ComesIn old new (Ok None) = (new ≡ old) ⊎ (new ≡ record old { is_knocked_at = false })
+ComesIn old new (Err broken) = new ≡ old

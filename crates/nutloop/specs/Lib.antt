@@ -2,6 +2,7 @@ pub mod Fault
 pub mod Ids
 pub mod Moved
 pub mod Pace
+pub mod Partings
 pub mod Peers
 pub mod Door
 pub mod Round
@@ -10,4 +11,5 @@ pub mod Serving
 pub mod SocketToSocket
 pub mod Sockets
 pub mod Standing
+pub mod Told
 pub mod Turn

@@ -4,7 +4,7 @@ use Rattle.std.specs.Prelude.{List, Option, Some, None, IfSome, is_some}
 use Rattle.std.specs.Prelude.{Result, Ok, Err, MatchOption, length, slice_get, slice_set}
 use Rattle.std.specs.Io.{ReadsAtMost, WritesAtMost}
 use Rattle.std.specs.Io.KnownBytes.{ReadConsumes, WriteAppends}
-use Rattle.std.specs.List.{list_any, position, remove}
+use Rattle.std.specs.List.{All, list_any, position, remove}
 use Rattle.std.specs.Option.{option_and_then}
 use Rattle.std.specs.declared.io.Error.{Error}
 use Rattle.mio.specs.declared.event.event.Event.{Event}
@@ -176,19 +176,14 @@ told_by event =
 -- What may be done with a client is noted, as it stands with the server now.
 pub record IsClientNoted (s : ServerState) (old new : ClientSocket) (places noted : List Place)
     : Type 0 where
-  pub owed : new.is_owed ≡ (standing_of old.id s).is_owed
-  pub readiness : new.readiness ≡ old.readiness
-  pub id : new.id ≡ old.id
-  pub token : new.token ≡ old.token
+  pub leaves : new ≡ record old { is_owed = (standing_of old.id s).is_owed }
   pub flags : Notes (Client old.id) (client_flags old.readiness (standing_of old.id s)) places noted
 
 -- The same of a driver. Where nothing has changed it may be left as it was.
 pub record IsDriverNoted (s : ServerState) (old new : DriverSocket) (places noted : List Place)
     : Type 0 where
-  pub flags : new.flags ≡ driver_flags old.readiness old.is_told (is_driver_owed old.u s)
-  pub readiness : new.readiness ≡ old.readiness
-  pub is_told : new.is_told ≡ old.is_told
-  pub ups : new.u ≡ old.u
+  pub leaves : new
+      ≡ record old { flags = driver_flags old.readiness old.is_told (is_driver_owed old.u s) }
   pub seat : Notes (Driver old.u) new.flags places noted
       ⊎ ((new.flags ≡ old.flags) × (noted ≡ places))
 
@@ -280,9 +275,10 @@ AreTriedUpTo count list drivers errors =
 abbrev pub AreTried : List Ups → List DriverSocket → List (Option ℤ) → Type 0
 AreTried list drivers errors = AreTriedUpTo (length list) list drivers errors
 
--- The drivers that were there before are there, and others behind them.
+-- The drivers that were there before are there, and others behind them, of whom it wasn't told.
 abbrev pub GrowsBehind : List DriverSocket → List DriverSocket → Type 0
-GrowsBehind old new = (more : List DriverSocket) × (new ≡ old ++ more)
+GrowsBehind old new =
+    (more : List DriverSocket) × (new ≡ old ++ more) × All (λ x. x.is_told ≡ false) more
 
 -- The token by which events tell of a UPS's driver.
 abbrev pub driver_token : UpsId → Token

@@ -124,6 +124,10 @@ pub record TakesIn (seat : Seat) (old new : List Place) : Type 0 where
   pub within : at ≤ length old
   pub leaves : new ≡ insert old at (fresh seat)
 
+-- The same, or there is no room for one more, and all is as it was.
+abbrev pub MayTakeSeat : Seat → List Place → List Place → Type 0
+MayTakeSeat seat old new = TakesIn seat old new ⊎ (new ≡ old)
+
 -- Nobody has this seat.
 abbrev pub IsFree : Seat → List Place → Type 0
 IsFree seat places = All (λ p. p.seat ≢ seat) places

@@ -1,6 +1,6 @@
 -- What may be done with a peer, by its socket and by the server, and what is told of its turn.
 use Rattle.std.specs.Prelude.{◌≡◌, ◌≢◌, ◌⊎◌, ◌||◌, ◌&&◌, ◌==◌, ℕ, zero, suc, Bool, true, false}
-use Rattle.std.specs.Prelude.{not, if◌then◌else◌, List, Option, Some, None, Result, Ok, Err, length}
+use Rattle.std.specs.Prelude.{not, if◌then◌else◌, Result, Ok, Err, length}
 use Rattle.std.specs.declared.io.Error.{Error}
 use Rattle.std.specs.declared.io.ErrorKind.TheVariants as kind
 use Rattle.std.specs.IoError.{error_kind}
@@ -10,21 +10,16 @@ use Rattle.nutcore.specs.declared.event.Peer.TheVariants as peer
 use Rattle.nutcore.specs.declared.standing.Standing.{Standing}
 use Rattle.nutcore.specs.Server.{ServerState}
 use Rattle.nutcore.specs.DriverOrders.{owed_to_driver}
-use Rattle.nutloop.specs.Pace.{Ticks, after_turn}
-use Rattle.nutloop.specs.Round.{NobodyIsReady, TakesTurn}
-use Rattle.nutloop.specs.declared.pace.Pace.{Pace}
 use Rattle.nutloop.specs.declared.round.Flags.{Flags}
-use Rattle.nutloop.specs.declared.round.Place.{Place}
 use Rattle.nutloop.specs.declared.round.Seat.{Seat}
 use Rattle.nutloop.specs.declared.round.Seat.TheVariants.{Client, Driver, Listener}
-use Rattle.nutloop.specs.declared.round.Turn.{Turn}
 use Rattle.nutloop.specs.declared.round.Way.{Way}
 use Rattle.nutloop.specs.declared.round.Way.TheVariants as way
 use Rattle.nutloop.specs.declared.sockets.Broken.{Broken}
 use Rattle.nutloop.specs.declared.sockets.Got.{Got}
 use Rattle.nutloop.specs.declared.sockets.Got.TheVariants.{Bytes, Later, End}
 use Rattle.nutloop.specs.declared.sockets.Ready.{Ready}
-use Rattle.nutloop.specs.declared.sockets.Ready.TheVariants.{Nothing, Tick, Newcomer, DriverUp, Read, Write}
+use Rattle.nutloop.specs.declared.sockets.Ready.TheVariants.{Newcomer, DriverUp, Read, Write}
 use Rattle.nutloop.specs.declared.standing.Answer.{Answer}
 use Rattle.nutloop.specs.declared.standing.Answer.TheVariants.{Moved, WouldBlock, Failed}
 use Rattle.nutloop.specs.declared.standing.Readiness.{Readiness}
@@ -104,26 +99,6 @@ ready_of (Client c) way.Write is_told = Write (peer.Client c)
 ready_of (Driver u) way false = DriverUp u
 ready_of (Driver u) way.Read true = Read (peer.Driver u)
 ready_of (Driver u) way.Write true = Write (peer.Driver u)
-
--- The next one has its turn, which is counted and told, or nobody is ready.
-abbrev pub TellsTurn : Seat → List Place → Pace → Option Ready → Seat → List Place → Pace
-    → Type 0
-TellsTurn last places pace None new_last new after =
-    TakesTurn last places None new_last new × (after ≡ pace)
-TellsTurn last places pace (Some ready) new_last new after =
-    (turn : Turn)
-    × ((is_told : Bool) × TakesTurn last places (Some turn) new_last new
-    × (after ≡ after_turn turn pace) × (ready ≡ ready_of turn.seat turn.way is_told))
-
--- What is told is the second of a tick that is due, nothing where nobody is ready, or else the
--- turn of the next one.
-abbrev pub IsTold : Ready → Pace → Pace → Seat → List Place → Type 0
-IsTold (Tick second) pace after last places = Ticks (Some second) pace.second after.second
-IsTold Nothing pace after last places = NobodyIsReady places
-IsTold ready pace after last places =
-    (had_last : Seat)
-    × ((had : List Place) × ((before : Pace)
-    × TellsTurn had_last had before (Some ready) last places after))
 
 -- The seat of a peer.
 abbrev pub seat_of : Peer → Seat

@@ -1,13 +1,16 @@
 //! The sockets over `mio`: clients come over TCP, and drivers are connected to over Unix sockets.
-ghost use Rattle.std.specs.Prelude.{◌≡◌, ◌≤◌, ◌∷◌, [], ◌⊎◌, length, IfOk, None};
+ghost use Rattle.std.specs.Prelude.{◌≡◌, ◌≤◌, ◌∷◌, [], ◌⊎◌, length, IfOk, None, OnOk, false, true};
 ghost use Rattle.std.specs.Prelude.{vec_capacity, vec_len};
 ghost use Rattle.nutio.specs.Ends.{IsCounted, counted};
-ghost use Rattle.nutloop.specs.Peers.{AreTried, ReadsPeer, ShutsPeer, TakesNewcomer, WritesPeer, error_of};
+ghost use Rattle.nutloop.specs.Peers.{AreTried, GrowsBehind, ReadsPeer, ShutsPeer, TakesNewcomer, WritesPeer, error_of};
 ghost use Rattle.nutloop.specs.Door.{ComesIn};
-ghost use Rattle.nutloop.specs.Round.{LeavesOut};
+ghost use Rattle.nutloop.specs.Round.{LeavesOut, MayTakeSeat};
+ghost use Rattle.nutloop.specs.declared.round.Seat.TheVariants.{Client, Listener};
 ghost use Rattle.nutloop.specs.Sockets.{AtMost, Grows, Logs, read_call};
 ghost use Rattle.nutloop.specs.declared.sockets.Call.TheVariants.{Accepted, Named, Readied, Refused, Shut, Wrote};
-ghost use Rattle.nutloop.specs.Standing.{IsTold, seat_of};
+ghost use Rattle.nutloop.specs.Partings.{PartsPeer};
+ghost use Rattle.nutloop.specs.Standing.{seat_of};
+ghost use Rattle.nutloop.specs.Told.{IsTold};
 
 mod clients;
 mod door;
@@ -46,6 +49,12 @@ impl<'a, R: Net + Clock> MioSockets<'a, R> {
         ensures tried { IfOk result (λ s. AreTried server.now.state.list
             s.rounds.peers.drivers.items s.rounds.peers.driver_errors) }
         ensures clients { IfOk result (λ s. s.rounds.peers.clients.items ≡ []) }
+        ensures drivers { IfOk result (λ s. GrowsBehind [] s.rounds.peers.drivers.items) }
+        ensures last { IfOk result (λ s. s.rounds.peers.round.last ≡ Listener) }
+        ensures door { IfOk result (λ s. (s.rounds.door.newcomer ≡ None)
+            × (s.rounds.door.is_knocked_at ≡ true)) }
+        ensures pace { IfOk result (λ s. s.rounds.pace
+            ≡ record { second = 0; turns = 0; was_driver_read = false }) }
     {
         let mut rounds = Rounds::new(rt, alloc, address)?;
         rounds.connect(server);
@@ -86,9 +95,12 @@ impl<'a, R: Net + Clock> Sockets for MioSockets<'a, R> {
     ghost refused = { λ s. s.refusals };
 
     fn ready(&mut self, server: &Server) -> Result<Ready, Broken>
-        ensures is_told { IfOk result (λ ready. IsTold ready
-            self.old.rounds.pace self.new.rounds.pace
-            self.new.rounds.peers.round.last self.new.rounds.peers.round.places.items) }
+        ensures is_told { IfOk result (λ ready.
+            IsTold server.now.state self.old.rounds.door.is_knocked_at ready
+            self.old.rounds.peers self.old.rounds.pace
+            self.new.rounds.peers self.new.rounds.pace) }
+        ensures newcomer { OnOk result
+            (self.new.rounds.door.newcomer ≡ self.old.rounds.door.newcomer) }
         ensures told { Logs None None Readied result }
         ensures count { IsCounted self.old.failures self.new.failures result }
         ensures refusals { self.new.refusals ≡ self.old.refusals }
@@ -101,7 +113,8 @@ impl<'a, R: Net + Clock> Sockets for MioSockets<'a, R> {
 
     fn accept(&mut self) -> Result<Option<Address>, Broken>
         ensures takes { ComesIn self.old.rounds.door self.new.rounds.door result }
-        ensures peers { self.new.rounds.peers ≡ self.old.rounds.peers }
+        ensures same { self.new.rounds
+            ≡ record self.old.rounds { door = self.new.rounds.door } }
         ensures told { Logs None None Accepted result }
         ensures count { IsCounted self.old.failures self.new.failures result }
         ensures refusals { self.new.refusals ≡ self.old.refusals }
@@ -113,11 +126,22 @@ impl<'a, R: Net + Clock> Sockets for MioSockets<'a, R> {
     }
 
     fn name(&mut self, c: ClientId)
-        ensures left { self.new.rounds.door.newcomer ≡ None }
-        ensures taken { (vec_capacity self.old.rounds.peers.clients
+        ensures left { self.new.rounds.door ≡ record self.old.rounds.door { newcomer = None } }
+        ensures taken { ((vec_capacity self.old.rounds.peers.clients
             ≤ vec_len self.old.rounds.peers.clients)
+            × (self.new.rounds.peers.clients.items ≡ self.old.rounds.peers.clients.items))
             ⊎ TakesNewcomer self.old.rounds.door.newcomer c
             self.old.rounds.peers.clients.items self.new.rounds.peers.clients.items }
+        ensures seated { MayTakeSeat (Client c) self.old.rounds.peers.round.places.items
+            self.new.rounds.peers.round.places.items }
+        ensures last { self.new.rounds.peers.round.last ≡ self.old.rounds.peers.round.last }
+        ensures same { self.new.rounds ≡ record self.old.rounds {
+          door = self.new.rounds.door;
+          peers = record self.old.rounds.peers {
+            round = self.new.rounds.peers.round;
+            clients = self.new.rounds.peers.clients;
+          };
+        } }
         ensures told { Grows None None (Named c ∷ []) }
         ensures count { self.new.failures ≡ self.old.failures }
         ensures refusals { self.new.refusals ≡ self.old.refusals }
@@ -126,8 +150,8 @@ impl<'a, R: Net + Clock> Sockets for MioSockets<'a, R> {
     }
 
     fn refuse(&mut self)
-        ensures left { self.new.rounds.door.newcomer ≡ None }
-        ensures peers { self.new.rounds.peers ≡ self.old.rounds.peers }
+        ensures left { self.new.rounds ≡ record self.old.rounds
+            { door = record self.old.rounds.door { newcomer = None } } }
         ensures told { Grows None None (Refused ∷ []) }
         ensures count { self.new.failures ≡ self.old.failures }
         ensures refusals { self.new.refusals ≡ counted self.old.refusals }
@@ -141,6 +165,12 @@ impl<'a, R: Net + Clock> Sockets for MioSockets<'a, R> {
         ensures reads { ReadsPeer p (length into.new) result
             self.old.rounds.peers.clients.items self.old.rounds.peers.drivers.items
             self.new.rounds.peers.clients.items self.new.rounds.peers.drivers.items }
+        ensures same { self.new.rounds ≡ record self.old.rounds {
+          peers = record self.old.rounds.peers {
+            clients = self.new.rounds.peers.clients;
+            drivers = self.new.rounds.peers.drivers;
+          };
+        } }
         ensures told { Logs None None (read_call p into.new) result }
         ensures count { IsCounted self.old.failures self.new.failures result }
         ensures refusals { self.new.refusals ≡ self.old.refusals }
@@ -156,6 +186,12 @@ impl<'a, R: Net + Clock> Sockets for MioSockets<'a, R> {
         ensures writes { WritesPeer p (length from.now) result
             self.old.rounds.peers.clients.items self.old.rounds.peers.drivers.items
             self.new.rounds.peers.clients.items self.new.rounds.peers.drivers.items }
+        ensures same { self.new.rounds ≡ record self.old.rounds {
+          peers = record self.old.rounds.peers {
+            clients = self.new.rounds.peers.clients;
+            drivers = self.new.rounds.peers.drivers;
+          };
+        } }
         ensures told { Logs None None (Wrote p from.now) result }
         ensures count { IsCounted self.old.failures self.new.failures result }
         ensures refusals { self.new.refusals ≡ self.old.refusals }
@@ -180,6 +216,17 @@ impl<'a, R: Net + Clock> Sockets for MioSockets<'a, R> {
         ensures shuts { ShutsPeer p
             self.old.rounds.peers.clients.items self.old.rounds.peers.drivers.items
             self.new.rounds.peers.clients.items self.new.rounds.peers.drivers.items }
+        ensures partings { PartsPeer p self.old.rounds.pace self.old.rounds.peers.clients.items
+            self.old.rounds.peers.partings.items self.new.rounds.peers.partings.items }
+        ensures last { self.new.rounds.peers.round.last ≡ self.old.rounds.peers.round.last }
+        ensures same { self.new.rounds ≡ record self.old.rounds {
+          peers = record self.old.rounds.peers {
+            round = self.new.rounds.peers.round;
+            clients = self.new.rounds.peers.clients;
+            drivers = self.new.rounds.peers.drivers;
+            partings = self.new.rounds.peers.partings;
+          };
+        } }
         ensures told { Grows None None (Shut p ∷ []) }
         ensures count { self.new.failures ≡ self.old.failures }
         ensures refusals { self.new.refusals ≡ self.old.refusals }

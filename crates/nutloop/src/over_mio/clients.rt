@@ -29,10 +29,8 @@ impl ClientSocket {
     pub fn flags(&mut self, server: &Server) -> Flags
         ensures flags { result ≡ client_flags self.old.readiness
             (standing_of self.old.id server.now.state) }
-        ensures owed { self.new.is_owed ≡ (standing_of self.old.id server.now.state).is_owed }
-        ensures readiness { self.new.readiness ≡ self.old.readiness }
-        ensures id { self.new.id ≡ self.old.id }
-        ensures token { self.new.token ≡ self.old.token }
+        ensures leaves { self.new ≡ record self.old
+            { is_owed = (standing_of self.old.id server.now.state).is_owed } }
     {
         let standing = server.standing(self.id);
         self.is_owed = standing.is_owed;

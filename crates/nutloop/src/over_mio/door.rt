@@ -1,5 +1,5 @@
 //! The listener, and the newcomer that it took in last.
-ghost use Rattle.std.specs.Prelude.{◌≡◌, IfOk, None, OnErr, OnOk, Some, if◌then◌else◌, is_ok, option_map, true};
+ghost use Rattle.std.specs.Prelude.{◌≡◌, IfOk, None, OnErr, OnOk, Some, if◌then◌else◌, is_ok, true};
 ghost use Rattle.nutio.specs.Ends.{counted};
 ghost use Rattle.std.specs.Net.Text.{ip_text};
 ghost use Rattle.nutloop.specs.Door.{ComesIn};
@@ -94,12 +94,14 @@ impl Door {
         ip: IpAddr,
     ) -> io::Result<Address>
         ensures address { IfOk result (λ address. address ≡ ip_text ip) }
-        ensures taken { OnOk result
-            (option_map (λ x. x.token) self.new.newcomer ≡ Some (record { 0 = self.old.count })) }
+        ensures taken { OnOk result (self.new.newcomer
+            ≡ Some (record { token = record { 0 = self.old.count }; stream = stream })) }
         ensures left { OnErr result (self.new.newcomer ≡ self.old.newcomer) }
         ensures knocked { self.new.is_knocked_at ≡ self.old.is_knocked_at }
         ensures count { self.new.count
             ≡ (if is_ok result then counted self.old.count else self.old.count) }
+        ensures same { self.new ≡ record self.old
+            { newcomer = self.new.newcomer; count = self.new.count } }
     {
         let text = format!(in self.alloc; "{ip}")?;
         let Ok(address) = Address::read(text.as_bytes()) else {
@@ -116,9 +118,7 @@ impl Door {
     /// The newcomer that was taken in last. There is none from then on.
     pub fn take_newcomer(&mut self) -> Option<Newcomer>
         ensures taken { result ≡ self.old.newcomer }
-        ensures left { self.new.newcomer ≡ None }
-        ensures knocked { self.new.is_knocked_at ≡ self.old.is_knocked_at }
-        ensures count { self.new.count ≡ self.old.count }
+        ensures left { self.new ≡ record self.old { newcomer = None } }
     {
         self.newcomer.take()
     }

@@ -61,9 +61,7 @@ impl DriverSocket {
             (is_driver_owed self.old.u server.now.state) }
         ensures told { MatchOption result (self.new.flags ≡ self.old.flags)
             (λ flags. flags ≡ self.new.flags) }
-        ensures readiness { self.new.readiness ≡ self.old.readiness }
-        ensures is_told { self.new.is_told ≡ self.old.is_told }
-        ensures ups { self.new.u ≡ self.old.u }
+        ensures same { self.new ≡ record self.old { flags = self.new.flags } }
     {
         let flags = driver_flags(self.readiness, self.is_told, is_driver_owed(server, self.u));
         if flags == self.flags {

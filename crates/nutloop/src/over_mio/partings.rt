@@ -1,5 +1,6 @@
 //! The sockets of clients whose sessions have ended.
-ghost use Rattle.std.specs.Prelude.{◌≤◌, vec_len};
+ghost use Rattle.std.specs.Prelude.{◌≡◌, ◌≤◌, ◌⊎◌, false, true, vec_len};
+ghost use Rattle.nutloop.specs.Partings.{AreReadOn, GoesOn, Parts, parting_with};
 
 use super::clients::ClientSocket;
 use crate::pace::Pace;
@@ -27,7 +28,9 @@ pub(super) struct Parting {
 
 impl Parting {
     /// Reads a piece and drops it. Whether the client has ended.
-    fn drain(&mut self) -> bool {
+    fn drain(&mut self) -> bool
+        ensures { (self.new ≡ self.old) ⊎ (self.new ≡ record self.old { readable = false }) }
+    {
         let mut bytes = [0; PIECE];
         match self.stream.read(&mut bytes) {
             Ok(0) => true,
@@ -38,11 +41,32 @@ impl Parting {
             }
         }
     }
+
+    /// Reads a piece, where there may be one, and drops it. Whether the client is read on: it hasn't ended, and its time
+    /// isn't over.
+    fn goes_on(&mut self, pace: &Pace) -> bool
+        ensures { GoesOn pace.now.second self.old self.new result }
+    {
+        let has_ended = self.readable && self.drain();
+        pace.keeps(self.until, has_ended)
+    }
+}
+
+/// Where the socket is that has this token, of a client that left.
+pub(super) fn parting_with(partings: &[Parting], token: Token) -> Option<usize>
+    ensures { result ≡ parting_with token partings.now }
+{
+    partings
+        .iter()
+        .position(|parting| parting.token.0 == token.0)
 }
 
 /// Tells the client that nothing more is sent, and reads on up to its end, until this second at the latest. Where it has
 /// ended its socket is closed.
-pub(super) fn part(partings: &mut Vec<Parting>, client: ClientSocket, until: u64) {
+pub(super) fn part(partings: &mut Vec<Parting>, client: ClientSocket, until: u64)
+    ensures parts { Parts client until partings.old.items partings.new.items }
+    ensures ended { client.readiness.ended ≡ true → partings.new.items ≡ partings.old.items }
+{
     if client.readiness.ended || client.stream.shutdown(Shutdown::Write).is_err() {
         return;
     }
@@ -59,10 +83,8 @@ pub(super) fn part(partings: &mut Vec<Parting>, client: ClientSocket, until: u64
 
 /// Reads a piece of each that may be read, and closes those that have ended, or whose time is over.
 pub(super) fn drain_all(partings: &mut Vec<Parting>, pace: &Pace)
-    ensures { vec_len partings.new ≤ vec_len partings.old }
+    ensures on { AreReadOn pace.now.second partings.old.items partings.new.items }
+    ensures fewer { vec_len partings.new ≤ vec_len partings.old }
 {
-    partings.retain_mut(|parting| {
-        let has_ended = parting.readable && parting.drain();
-        pace.keeps(parting.until, has_ended)
-    });
+    partings.retain_mut(|parting| parting.goes_on(pace));
 }

@@ -1,5 +1,5 @@
 //! The sockets of all peers, and their places in the round.
-ghost use Rattle.std.specs.Prelude.{◌≡◌, ◌≢◌, ◌≤◌, ◌<◌, ◌⊎◌, ◌++◌, ◌∷◌, [], ℤ, Option, None, false, length, slice_set, true};
+ghost use Rattle.std.specs.Prelude.{◌≡◌, ◌≢◌, ◌≤◌, ◌<◌, ◌⊎◌, ◌++◌, ◌∷◌, [], ℤ, List, Option, None, false, length, slice_set, true};
 ghost use Rattle.std.specs.Prelude.{replicate, IfOk, MatchOption, MatchResult, OnOk};
 ghost use Rattle.std.specs.Prelude.{vec_capacity, vec_len};
 ghost use Rattle.std.specs.IoError.{raw_os_error};
@@ -10,15 +10,19 @@ ghost use Rattle.nutloop.specs.Peers.{NotesBefore, NotesLast, ReadsPeer, ShutsPe
 ghost use Rattle.nutloop.specs.Peers.{AreTried, GrowsBehind, HearsClient, HearsPeer, IsTried, client_of, client_place};
 ghost use Rattle.nutloop.specs.Peers.{error_of, is_there, socket_of, told_by};
 ghost use Rattle.nutloop.specs.declared.over_mio.drivers.DriverSocket.{DriverSocket};
-ghost use Rattle.nutloop.specs.Round.{LeavesOut, Notes, TakesIn};
+ghost use Rattle.nutloop.specs.Round.{LeavesOut, MayTakeSeat, Notes, TakesIn};
 ghost use Rattle.nutloop.specs.Sockets.{AtMost};
-ghost use Rattle.nutloop.specs.Standing.{TellsTurn, seat_of};
+ghost use Rattle.nutloop.specs.Partings.{AreReadOn, HearsParting, PartsPeer};
+ghost use Rattle.nutloop.specs.Standing.{seat_of};
+ghost use Rattle.nutloop.specs.Told.{TakeSeats, TellsThere, TellsTurn};
+ghost use Rattle.nutcore.specs.declared.event.Peer.TheVariants as peer;
+ghost use Rattle.nutusers.specs.declared.ups_list.UpsId.{UpsId};
 ghost use Rattle.nutloop.specs.declared.round.Seat.TheVariants.{Client, Driver, Listener};
 
 use super::clients::{ClientSocket, client_place, client_with};
 use super::door::Newcomer;
 use super::drivers::{DriverSocket, driver_place, driver_with, is_there, note_drivers};
-use super::partings::{PARTING_LIMIT, Parting, drain_all, part};
+use super::partings::{PARTING_LIMIT, Parting, drain_all, part, parting_with};
 use super::readiness::told_by;
 use crate::pace::Pace;
 use crate::round::{Flags, Round, Seat};
@@ -80,6 +84,8 @@ impl Peers {
         ensures tried { AreTried server.now.state.list
             self.new.drivers.items self.new.driver_errors }
         ensures drivers { GrowsBehind self.old.drivers.items self.new.drivers.items }
+        ensures seats { (who : List UpsId)
+            × TakeSeats who self.old.round.places.items self.new.round.places.items }
         ensures clients { self.new.clients.items ≡ self.old.clients.items }
         ensures partings { self.new.partings.items ≡ self.old.partings.items }
         ensures last { self.new.round.last ≡ self.old.round.last }
@@ -99,6 +105,8 @@ impl Peers {
         ensures errors { (error : Option ℤ)
             × ((self.new.driver_errors ≡ self.old.driver_errors)
             ⊎ (self.new.driver_errors ≡ slice_set self.old.driver_errors u.place error)) }
+        ensures seat { MayTakeSeat (Driver u)
+            self.old.round.places.items self.new.round.places.items }
         ensures clients { self.new.clients.items ≡ self.old.clients.items }
         ensures partings { self.new.partings.items ≡ self.old.partings.items }
         ensures last { self.new.round.last ≡ self.old.round.last }
@@ -122,6 +130,8 @@ impl Peers {
         ensures tried { MatchOption result (is_there u self.new.drivers.items ≡ true)
             (λ _. self.new.drivers.items ≡ self.old.drivers.items) }
         ensures drivers { GrowsBehind self.old.drivers.items self.new.drivers.items }
+        ensures seat { MayTakeSeat (Driver u)
+            self.old.round.places.items self.new.round.places.items }
         ensures errors { self.new.driver_errors ≡ self.old.driver_errors }
         ensures clients { self.new.clients.items ≡ self.old.clients.items }
         ensures partings { self.new.partings.items ≡ self.old.partings.items }
@@ -173,12 +183,14 @@ impl Peers {
         path: &str,
     ) -> io::Result<()>
         ensures taken { MatchResult result
-            (λ _. (x : DriverSocket) × (x.u ≡ u)
+            (λ _. (x : DriverSocket) × (x.u ≡ u) × (x.is_told ≡ false)
             × (self.new.drivers.items ≡ self.old.drivers.items ++ x ∷ []))
             (λ _. self.new.drivers.items ≡ self.old.drivers.items) }
         ensures seat { OnOk result
             ((vec_capacity self.old.round.places ≤ vec_len self.old.round.places)
             ⊎ TakesIn (Driver u) self.old.round.places.items self.new.round.places.items) }
+        ensures seated { MayTakeSeat (Driver u)
+            self.old.round.places.items self.new.round.places.items }
         ensures errors { self.new.driver_errors ≡ self.old.driver_errors }
         ensures clients { self.new.clients.items ≡ self.old.clients.items }
         ensures partings { self.new.partings.items ≡ self.old.partings.items }
@@ -195,12 +207,17 @@ impl Peers {
 
     /// Takes the newcomer in as the client of this session.
     pub fn take_client(&mut self, newcomer: Newcomer, c: ClientId)
-        ensures taken { (vec_capacity self.old.clients ≤ vec_len self.old.clients)
+        ensures taken { ((vec_capacity self.old.clients ≤ vec_len self.old.clients)
+            × (self.new.clients.items ≡ self.old.clients.items))
             ⊎ (self.new.clients.items ≡ self.old.clients.items ++ client_of newcomer c ∷ []) }
         ensures seat { (vec_capacity self.old.clients ≤ vec_len self.old.clients)
             ⊎ ((vec_capacity self.old.round.places ≤ vec_len self.old.round.places)
             ⊎ TakesIn (Client c) self.old.round.places.items self.new.round.places.items) }
-        ensures known { self.new.is_knocked_at ≡ self.old.is_knocked_at }
+        ensures seated { MayTakeSeat (Client c)
+            self.old.round.places.items self.new.round.places.items }
+        ensures last { self.new.round.last ≡ self.old.round.last }
+        ensures same { self.new
+            ≡ record self.old { round = self.new.round; clients = self.new.clients } }
     {
         let socket = ClientSocket {
             id: c,
@@ -221,7 +238,12 @@ impl Peers {
             self.old.drivers.items self.new.drivers.items
             self.old.round.places.items self.new.round.places.items }
         ensures last { self.new.round.last ≡ self.old.round.last }
-        ensures known { self.new.is_knocked_at ≡ self.old.is_knocked_at }
+        ensures same { self.new ≡ record self.old {
+          round = self.new.round;
+          clients = self.new.clients;
+          drivers = self.new.drivers;
+          partings = self.new.partings;
+        } }
     {
         let (token, told) = (event.token(), told_by(event));
         match driver_with(&self.drivers, token) {
@@ -235,9 +257,12 @@ impl Peers {
         ensures heard { HearsClient token told server.now.state
             self.old.clients.items self.new.clients.items
             self.old.round.places.items self.new.round.places.items }
-        ensures drivers { self.new.drivers.items ≡ self.old.drivers.items }
         ensures last { self.new.round.last ≡ self.old.round.last }
-        ensures known { self.new.is_knocked_at ≡ self.old.is_knocked_at }
+        ensures same { self.new ≡ record self.old {
+          round = self.new.round;
+          clients = self.new.clients;
+          partings = self.new.partings;
+        } }
     {
         match client_with(&self.clients, token) {
             Some(at) => self.clients[at].hear(told, &mut self.round, server),
@@ -247,9 +272,10 @@ impl Peers {
 
     /// Notes that a client that left may be read.
     fn hear_parting(&mut self, token: Token)
-        ensures { self.new ≡ record self.old { partings = self.new.partings } }
+        ensures heard { HearsParting token self.old.partings.items self.new.partings.items }
+        ensures same { self.new ≡ record self.old { partings = self.new.partings } }
     {
-        if let Some(at) = self.partings.iter().position(|x| x.token == token) {
+        if let Some(at) = parting_with(&self.partings, token) {
             self.partings[at].readable = true;
         }
     }
@@ -261,7 +287,11 @@ impl Peers {
             self.old.drivers.items self.new.drivers.items
             self.old.round.places.items self.new.round.places.items }
         ensures last { self.new.round.last ≡ self.old.round.last }
-        ensures known { self.new.is_knocked_at ≡ self.old.is_knocked_at }
+        ensures same { self.new ≡ record self.old {
+          round = self.new.round;
+          clients = self.new.clients;
+          drivers = self.new.drivers;
+        } }
     {
         self.note_last(server);
         note_drivers(&mut self.drivers, &mut self.round, server);
@@ -272,9 +302,9 @@ impl Peers {
         ensures noted { NotesLast self.old.round.last server.now.state
             self.old.clients.items self.new.clients.items
             self.old.round.places.items self.new.round.places.items }
-        ensures drivers { self.new.drivers.items ≡ self.old.drivers.items }
         ensures last { self.new.round.last ≡ self.old.round.last }
-        ensures known { self.new.is_knocked_at ≡ self.old.is_knocked_at }
+        ensures same { self.new
+            ≡ record self.old { round = self.new.round; clients = self.new.clients } }
     {
         let Seat::Client(c) = self.round.last() else {
             return;
@@ -290,9 +320,11 @@ impl Peers {
         ensures noted { is_knocked_at ≢ self.old.is_knocked_at
             → Notes Listener (record { readable = is_knocked_at; writable = false })
             self.old.round.places.items self.new.round.places.items }
+        ensures unchanged { is_knocked_at ≡ self.old.is_knocked_at
+            → self.new.round ≡ self.old.round }
         ensures last { self.new.round.last ≡ self.old.round.last }
-        ensures drivers { self.new.drivers.items ≡ self.old.drivers.items }
-        ensures errors { self.new.driver_errors ≡ self.old.driver_errors }
+        ensures same { self.new ≡ record self.old
+            { round = self.new.round; is_knocked_at = self.new.is_knocked_at } }
     {
         if is_knocked_at == self.is_knocked_at {
             return;
@@ -307,8 +339,9 @@ impl Peers {
 
     /// What the next turn is, if anybody is ready.
     pub fn take_turn(&mut self, pace: &mut Pace) -> Option<Ready>
-        ensures { TellsTurn self.old.round.last self.old.round.places.items pace.old result
-            self.new.round.last self.new.round.places.items pace.new }
+        ensures tells { TellsTurn self.old pace.old result self.new pace.new }
+        ensures same { self.new
+            ≡ record self.old { round = self.new.round; drivers = self.new.drivers } }
     {
         let turn = self.round.take_turn()?;
         pace.count(turn);
@@ -318,7 +351,8 @@ impl Peers {
 
     /// Whether it was told before that who has this seat is there. From now on it was.
     fn is_told(&mut self, seat: Seat) -> bool
-        ensures round { self.new.round ≡ self.old.round }
+        ensures there { TellsThere seat result self.old.drivers.items self.new.drivers.items }
+        ensures same { self.new ≡ record self.old { drivers = self.new.drivers } }
     {
         let Seat::Driver(u) = seat else {
             return true;
@@ -337,6 +371,8 @@ impl Peers {
         ensures reads { ReadsPeer p (length into.new) result
             self.old.clients.items self.old.drivers.items
             self.new.clients.items self.new.drivers.items }
+        ensures same { self.new
+            ≡ record self.old { clients = self.new.clients; drivers = self.new.drivers } }
     {
         match p {
             Peer::Client(c) => match client_place(&self.clients, c) {
@@ -356,6 +392,8 @@ impl Peers {
         ensures writes { WritesPeer p (length from.now) result
             self.old.clients.items self.old.drivers.items
             self.new.clients.items self.new.drivers.items }
+        ensures same { self.new
+            ≡ record self.old { clients = self.new.clients; drivers = self.new.drivers } }
     {
         match p {
             Peer::Client(c) => match client_place(&self.clients, c) {
@@ -376,7 +414,14 @@ impl Peers {
         ensures last { self.new.round.last ≡ self.old.round.last }
         ensures shuts { ShutsPeer p self.old.clients.items self.old.drivers.items
             self.new.clients.items self.new.drivers.items }
-        ensures known { self.new.is_knocked_at ≡ self.old.is_knocked_at }
+        ensures partings { PartsPeer p pace.now self.old.clients.items
+            self.old.partings.items self.new.partings.items }
+        ensures same { self.new ≡ record self.old {
+          round = self.new.round;
+          clients = self.new.clients;
+          drivers = self.new.drivers;
+          partings = self.new.partings;
+        } }
     {
         match p {
             Peer::Client(c) => self.shut_client(c, pace),
@@ -396,8 +441,13 @@ impl Peers {
         ensures shuts { MatchOption (client_place c self.old.clients.items)
             (self.new.clients.items ≡ self.old.clients.items)
             (λ at. self.new.clients.items ≡ remove self.old.clients.items at) }
-        ensures drivers { self.new.drivers.items ≡ self.old.drivers.items }
-        ensures known { self.new.is_knocked_at ≡ self.old.is_knocked_at }
+        ensures partings { PartsPeer (peer.Client c) pace.now self.old.clients.items
+            self.old.partings.items self.new.partings.items }
+        ensures same { self.new ≡ record self.old {
+          round = self.new.round;
+          clients = self.new.clients;
+          partings = self.new.partings;
+        } }
     {
         self.round.leave(Seat::Client(c));
         if let Some(at) = client_place(&self.clients, c) {
@@ -416,6 +466,8 @@ impl Peers {
     /// Reads and drops what such clients sent.
     pub fn drain(&mut self, pace: &Pace)
         ensures same { self.new ≡ record self.old { partings = self.new.partings } }
+        ensures on { AreReadOn pace.now.second
+            self.old.partings.items self.new.partings.items }
         ensures kept { vec_len self.new.partings ≤ vec_len self.old.partings }
     {
         drain_all(&mut self.partings, pace);

@@ -1,7 +1,8 @@
 //! What events and calls tell of a peer's socket.
-ghost use Rattle.std.specs.Prelude.{◌≡◌, ◌≤◌, length, IfOk};
+ghost use Rattle.std.specs.Prelude.{◌≡◌, ◌≤◌, length, IfOk, true};
 ghost use Rattle.nutloop.specs.Peers.{ReadsOnce, WritesOnce, told_by};
 ghost use Rattle.nutloop.specs.Sockets.{AtMost};
+ghost use Rattle.mio.specs.Interest.{is_readable, is_writable};
 
 use crate::sockets::{Broken, Got};
 use crate::standing::{Answer, Readiness};
@@ -10,7 +11,10 @@ use mio::event::Event;
 use std::io::{Read, Write};
 
 /// What is told of a peer's socket.
-pub(super) fn both_ways() -> Interest {
+pub(super) fn both_ways() -> Interest
+    ensures read { is_readable result ≡ true }
+    ensures written { is_writable result ≡ true }
+{
     Interest::READABLE | Interest::WRITABLE
 }
 

@@ -1,14 +1,16 @@
 //! Going round the peers, and asking the system what is ready.
-ghost use Rattle.std.specs.Prelude.{◌≡◌, ◌≤◌, ◌⊎◌, [], length, IfOk, IfSome, None, OnOk, false, replicate, true};
+ghost use Rattle.std.specs.Prelude.{◌≡◌, ◌≤◌, ◌⊎◌, [], List, length, IfOk, IfSome, None, OnOk, false, replicate, true};
 ghost use Rattle.std.specs.Prelude.{vec_capacity, vec_len};
 ghost use Rattle.nutloop.specs.Door.{ComesIn};
 ghost use Rattle.nutloop.specs.Peers.{AreTried, GrowsBehind, ReadsPeer, ShutsPeer, TakesNewcomer, WritesPeer, error_of};
-ghost use Rattle.nutloop.specs.Pace.{Ticks};
-ghost use Rattle.nutloop.specs.Round.{LeavesOut, TakesIn};
-ghost use Rattle.nutloop.specs.declared.round.Seat.TheVariants.{Listener};
+ghost use Rattle.nutloop.specs.Partings.{PartsPeer};
+ghost use Rattle.nutloop.specs.Round.{LeavesOut, MayTakeSeat, TakesIn};
+ghost use Rattle.nutloop.specs.declared.round.Seat.TheVariants.{Client, Listener};
 ghost use Rattle.nutusers.specs.declared.limits.TheConstants.{UPS_LIMIT};
 ghost use Rattle.nutloop.specs.Sockets.{AtMost};
-ghost use Rattle.nutloop.specs.Standing.{IsTold, seat_of};
+ghost use Rattle.nutloop.specs.Standing.{seat_of};
+ghost use Rattle.nutloop.specs.Told.{IsNotedNow, IsTold, Looks, LooksWhereDue, NobodyMoves, TakeSeats};
+ghost use Rattle.nutusers.specs.declared.ups_list.UpsId.{UpsId};
 
 use super::door::{Door, LISTENER};
 use super::peers::Peers;
@@ -38,7 +40,11 @@ pub(super) struct Rounds<'a, R> {
 }
 
 /// Notes what the system tells.
-fn hear_all(events: &Events, door: &mut Door, peers: &mut Peers, server: &Server) {
+fn hear_all(events: &Events, door: &mut Door, peers: &mut Peers, server: &Server)
+    ensures still { NobodyMoves peers.old peers.new }
+    ensures door { door.new ≡ record door.old { is_knocked_at = door.new.is_knocked_at } }
+    ensures knocked { door.old.is_knocked_at ≡ true → door.new.is_knocked_at ≡ true }
+{
     for event in events.iter() {
         if event.token() == LISTENER {
             door.is_knocked_at = true;
@@ -79,35 +85,74 @@ impl<'a, R: Net + Clock> Rounds<'a, R> {
         ensures tried { AreTried server.now.state.list
             self.new.peers.drivers.items self.new.peers.driver_errors }
         ensures drivers { GrowsBehind self.old.peers.drivers.items self.new.peers.drivers.items }
+        ensures seats { (who : List UpsId) × TakeSeats who
+            self.old.peers.round.places.items self.new.peers.round.places.items }
+        ensures last { self.new.peers.round.last ≡ self.old.peers.round.last }
         ensures clients { self.new.peers.clients.items ≡ self.old.peers.clients.items }
-        ensures door { self.new.door ≡ self.old.door }
-        ensures pace { self.new.pace ≡ self.old.pace }
+        ensures partings { self.new.peers.partings.items ≡ self.old.peers.partings.items }
+        ensures same { self.new ≡ record self.old { peers = self.new.peers } }
     {
         self.peers.connect(self.rt, self.poll.registry(), server);
     }
 
     /// What is ready next. The system is asked first where that is due, and waited for where nobody is ready.
     pub fn next(&mut self, server: &Server) -> io::Result<Ready>
-        ensures told { IfOk result (λ ready. IsTold ready self.old.pace self.new.pace
-            self.new.peers.round.last self.new.peers.round.places.items) }
+        ensures told { IfOk result (λ ready.
+            IsTold server.now.state self.old.door.is_knocked_at ready
+            self.old.peers self.old.pace self.new.peers self.new.pace) }
+        ensures newcomer { OnOk result (self.new.door.newcomer ≡ self.old.door.newcomer) }
+        ensures count { OnOk result (self.new.door.count ≡ self.old.door.count) }
     {
-        self.peers.refresh(server);
-        self.peers.note_newcomers(self.door.is_knocked_at);
-        if self.pace.is_due(&self.peers.round) {
-            if let Some(second) = self.look(server, Duration::ZERO)? {
-                return Ok(Ready::Tick(second));
-            }
+        self.refresh(server);
+        if let Some(second) = self.look_where_due(server)? {
+            return Ok(Ready::Tick(second));
         }
         if let Some(ready) = self.peers.take_turn(&mut self.pace) {
             return Ok(ready);
         }
-        let elapsed = self.start.elapsed(self.rt)?;
-        let wait = self.pace.wait(self.peers.is_draining(), elapsed);
-        if let Some(second) = self.look(server, wait)? {
+        if let Some(second) = self.look_and_wait(server)? {
             return Ok(Ready::Tick(second));
         }
-        let ready = self.peers.take_turn(&mut self.pace);
-        Ok(ready.unwrap_or(Ready::Nothing))
+        match self.peers.take_turn(&mut self.pace) {
+            Some(ready) => Ok(ready),
+            None => Ok(Ready::Nothing),
+        }
+    }
+
+    /// Notes what may be done now with those with whom that may have changed since the last turn, and newcomers.
+    fn refresh(&mut self, server: &Server)
+        ensures noted { IsNotedNow server.now.state self.old.door.is_knocked_at
+            self.old.peers self.new.peers }
+        ensures same { self.new ≡ record self.old { peers = self.new.peers } }
+    {
+        self.peers.refresh(server);
+        self.peers.note_newcomers(self.door.is_knocked_at);
+    }
+
+    /// Looks, where that is due. The second of a tick.
+    fn look_where_due(&mut self, server: &Server) -> io::Result<Option<u64>>
+        ensures looks { IfOk result (λ tick. LooksWhereDue tick
+            self.old.peers self.old.pace self.new.peers self.new.pace) }
+        ensures newcomer { OnOk result (self.new.door.newcomer ≡ self.old.door.newcomer) }
+        ensures count { OnOk result (self.new.door.count ≡ self.old.door.count) }
+    {
+        if self.pace.is_due(&self.peers.round) {
+            self.look(server, Duration::ZERO)
+        } else {
+            Ok(None)
+        }
+    }
+
+    /// Looks, and waits for the system up to the next tick. The second of a tick.
+    fn look_and_wait(&mut self, server: &Server) -> io::Result<Option<u64>>
+        ensures looks { IfOk result (λ tick.
+            Looks tick self.old.peers self.old.pace self.new.peers self.new.pace) }
+        ensures newcomer { OnOk result (self.new.door.newcomer ≡ self.old.door.newcomer) }
+        ensures count { OnOk result (self.new.door.count ≡ self.old.door.count) }
+    {
+        let elapsed = self.start.elapsed(self.rt)?;
+        let wait = self.pace.wait(self.peers.is_draining(), elapsed);
+        self.look(server, wait)
     }
 
     /// Asks the system what is ready, and the clock. The second where it is a new one, at which the drivers that aren't
@@ -115,8 +160,10 @@ impl<'a, R: Net + Clock> Rounds<'a, R> {
     fn look(&mut self, server: &Server, wait: Duration) -> io::Result<Option<u64>>
         ensures noted { OnOk result
             (self.new.peers.is_knocked_at ≡ self.new.door.is_knocked_at) }
-        ensures ticks { IfOk result (λ tick.
-            Ticks tick self.old.pace.second self.new.pace.second) }
+        ensures looks { IfOk result (λ tick.
+            Looks tick self.old.peers self.old.pace self.new.peers self.new.pace) }
+        ensures newcomer { OnOk result (self.new.door.newcomer ≡ self.old.door.newcomer) }
+        ensures count { OnOk result (self.new.door.count ≡ self.old.door.count) }
         ensures tried { IfOk result (λ tick. IfSome tick (λ _. AreTried server.now.state.list
             self.new.peers.drivers.items self.new.peers.driver_errors)) }
         ensures knocked { IfOk result (λ tick. IfSome tick
@@ -137,18 +184,25 @@ impl<'a, R: Net + Clock> Rounds<'a, R> {
     /// The next newcomer.
     pub fn accept(&mut self) -> Result<Option<Address>, Broken>
         ensures takes { ComesIn self.old.door self.new.door result }
-        ensures peers { self.new.peers ≡ self.old.peers }
-        ensures pace { self.new.pace ≡ self.old.pace }
+        ensures same { self.new ≡ record self.old { door = self.new.door } }
     {
         self.door.accept(self.poll.registry())
     }
 
     /// Takes the newcomer in as the client of this session.
     pub fn name(&mut self, c: ClientId)
-        ensures left { self.new.door.newcomer ≡ None }
-        ensures taken { (vec_capacity self.old.peers.clients ≤ vec_len self.old.peers.clients)
+        ensures left { self.new.door ≡ record self.old.door { newcomer = None } }
+        ensures taken { ((vec_capacity self.old.peers.clients ≤ vec_len self.old.peers.clients)
+            × (self.new.peers.clients.items ≡ self.old.peers.clients.items))
             ⊎ TakesNewcomer self.old.door.newcomer c
             self.old.peers.clients.items self.new.peers.clients.items }
+        ensures seated { MayTakeSeat (Client c)
+            self.old.peers.round.places.items self.new.peers.round.places.items }
+        ensures last { self.new.peers.round.last ≡ self.old.peers.round.last }
+        ensures peers { self.new.peers ≡ record self.old.peers
+            { round = self.new.peers.round; clients = self.new.peers.clients } }
+        ensures same { self.new
+            ≡ record self.old { door = self.new.door; peers = self.new.peers } }
     {
         if let Some(newcomer) = self.door.take_newcomer() {
             self.peers.take_client(newcomer, c);
@@ -160,6 +214,9 @@ impl<'a, R: Net + Clock> Rounds<'a, R> {
         ensures reads { ReadsPeer p (length into.new) result
             self.old.peers.clients.items self.old.peers.drivers.items
             self.new.peers.clients.items self.new.peers.drivers.items }
+        ensures peers { self.new.peers ≡ record self.old.peers
+            { clients = self.new.peers.clients; drivers = self.new.peers.drivers } }
+        ensures same { self.new ≡ record self.old { peers = self.new.peers } }
     {
         self.peers.read(p, into)
     }
@@ -169,6 +226,9 @@ impl<'a, R: Net + Clock> Rounds<'a, R> {
         ensures writes { WritesPeer p (length from.now) result
             self.old.peers.clients.items self.old.peers.drivers.items
             self.new.peers.clients.items self.new.peers.drivers.items }
+        ensures peers { self.new.peers ≡ record self.old.peers
+            { clients = self.new.peers.clients; drivers = self.new.peers.drivers } }
+        ensures same { self.new ≡ record self.old { peers = self.new.peers } }
     {
         self.peers.write(p, from)
     }
@@ -185,6 +245,16 @@ impl<'a, R: Net + Clock> Rounds<'a, R> {
             self.old.peers.round.places.items self.new.peers.round.places.items }
         ensures shuts { ShutsPeer p self.old.peers.clients.items self.old.peers.drivers.items
             self.new.peers.clients.items self.new.peers.drivers.items }
+        ensures partings { PartsPeer p self.old.pace self.old.peers.clients.items
+            self.old.peers.partings.items self.new.peers.partings.items }
+        ensures last { self.new.peers.round.last ≡ self.old.peers.round.last }
+        ensures peers { self.new.peers ≡ record self.old.peers {
+          round = self.new.peers.round;
+          clients = self.new.peers.clients;
+          drivers = self.new.peers.drivers;
+          partings = self.new.peers.partings;
+        } }
+        ensures same { self.new ≡ record self.old { peers = self.new.peers } }
     {
         self.peers.shut(p, &self.pace);
     }

@@ -3,6 +3,7 @@ use Rattle.nutusers.specs.UpsList.{Ups, id_at}
 use Rattle.nutusers.specs.declared.ups_list.UpsId.{UpsId}
 use Rattle.nutloop.specs.Peers.{error_of}
 use Rattle.nutloop.specs.declared.over_mio.drivers.DriverSocket.{DriverSocket}
+use Rattle.nutloop.proofs.Telling.{one_more_seat}
 use Rattle.nutloop.proofs.TriedDrivers.{elsewhere, grown_twice, one_more}
 use Rattle.nutloop.proofs.over_mio.peers.Peers.connect.Goals as goal
 
@@ -24,6 +25,7 @@ loop-place-preserved g c =
     record {
       tried = one_more p list old new before after so_far.tried one.drivers same one.tried;
       drivers = grown_twice _ old new so_far.drivers one.drivers;
+      seats = one_more_seat so_far.seats.0 (id_at p) _ _ _ so_far.seats.1 one.seat;
       clients = one.clients ∙ so_far.clients;
       partings = one.partings ∙ so_far.partings;
       last = one.last ∙ so_far.last;
