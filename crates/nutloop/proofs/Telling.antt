@@ -1,5 +1,5 @@
 -- What a call of the loop tells, from what the parts of it say. Who is there and who sits where stays, but where drivers come.
-use Rattle.std.proofs.Common.{◌≡◌, ◌≢◌, ◌∙◌, ◌++◌, ◌∷◌, ◌≤◌, ◌<◌, ◌⊎◌, [], ℕ, Bool, true, false, List, Option, Some, None, refl, sym, ap, subst, inl, inr, set, slice_get, MatchOption, map, take, drop, length, is_some, arith, Vec, Global}
+use Rattle.std.proofs.Common.{◌≡◌, ◌≢◌, ◌∙◌, ◌++◌, ◌∷◌, ◌≤◌, ◌<◌, ◌⊎◌, [], ℕ, Bool, true, false, List, Option, Some, None, refl, sym, ap, subst, inl, inr, set, slice_get, MatchOption, map, take, drop, is_some, Vec, Global}
 use Rattle.std.specs.List.{insert}
 use Rattle.std.proofs.lemmas.Bool.{true≢false, false≢true}
 use Rattle.std.proofs.lemmas.List.{length-map, map-append, take-map, drop-map}
@@ -9,7 +9,7 @@ use Rattle.std.proofs.Math.Seq.{map-set_same}
 use Rattle.nutusers.specs.declared.ups_list.UpsId.{UpsId}
 use Rattle.nutcore.specs.Server.{ServerState}
 use Rattle.mio.specs.declared.token.Token.{Token}
-use Rattle.nutloop.specs.Peers.{GrowsBehind, HearsClient, HearsClientAt, HearsDriverAt, HearsPeer, IsClientNoted, IsDriverNoted, NotesBefore, NotesClientAt, NotesDrivers, NotesLast, client_place, client_with, driver_with}
+use Rattle.nutloop.specs.Peers.{GrowsBehind, HearsClient, HearsClientAt, HearsDriverAt, HearsPeer, IsDriverNoted, NotesBefore, NotesClientAt, NotesDrivers, NotesLast, client_place, client_with, driver_with}
 use Rattle.nutloop.specs.Round.{MayTakeSeat, NobodyIsReady, Notes, TakesIn, fresh}
 use Rattle.nutloop.specs.Pace.{Ticks, after_look}
 use Rattle.nutloop.specs.Standing.{ready_of}

@@ -1,6 +1,7 @@
 -- The sockets of clients whose sessions have ended.
-use Rattle.std.specs.Prelude.{◌≡◌, ◌⊎◌, ◌<◌, ◌==◌, ◌++◌, ◌∷◌, [], ℕ, Bool, true, false, List, Option}
-use Rattle.std.specs.Prelude.{MatchOption, Some, if◌then◌else◌, length, nat_lt, slice_get, slice_set}
+use Rattle.std.specs.Prelude.{◌≡◌, ◌⊎◌, ◌<◌, ◌==◌, ◌++◌, ◌∷◌, [], ℕ, Bool, true, false}
+use Rattle.std.specs.Prelude.{List, Option, MatchOption, Some, if◌then◌else◌, length, nat_lt}
+use Rattle.std.specs.Prelude.{slice_get, slice_set}
 use Rattle.std.specs.List.{position, remove}
 use Rattle.mio.specs.declared.token.Token.{Token}
 use Rattle.nutcore.specs.declared.event.Peer.{Peer}
@@ -19,7 +20,8 @@ parting_of client until =
 
 -- Where so many have left, the oldest one is closed.
 abbrev pub without_oldest : List Parting → List Parting
-without_oldest partings = if nat_lt (length partings) PARTING_LIMIT then partings else remove partings 0
+without_oldest partings =
+    if nat_lt (length partings) PARTING_LIMIT then partings else remove partings 0
 
 -- A client that leaves is read on behind the others; or it is closed at once, where it has ended or
 -- there is no memory.

@@ -1,6 +1,6 @@
 -- What each call of the sockets over the system's leaves of what is known of them.
-use Rattle.std.specs.Prelude.{◌≡◌, ◌<◌, ◌⊎◌, ◌+◌, ◌||◌, ◌==◌, ◌++◌, ◌∷◌, [], ℕ, ℤ, Bool, true, false}
-use Rattle.std.specs.Prelude.{List, Option, Some, None, IfSome, is_some}
+use Rattle.std.specs.Prelude.{◌≡◌, ◌<◌, ◌⊎◌, ◌+◌, ◌||◌, ◌==◌, ◌++◌, ◌∷◌, [], ℕ, ℤ, Bool}
+use Rattle.std.specs.Prelude.{true, false, List, Option, Some, None, IfSome, is_some}
 use Rattle.std.specs.Prelude.{Result, Ok, Err, MatchOption, length, slice_get, slice_set}
 use Rattle.std.specs.Io.{ReadsAtMost, WritesAtMost}
 use Rattle.std.specs.Io.KnownBytes.{ReadConsumes, WriteAppends}

@@ -99,8 +99,12 @@ impl<'a, R: Net + Clock> Sockets for MioSockets<'a, R> {
             IsTold server.now.state self.old.rounds.door.is_knocked_at ready
             self.old.rounds.peers self.old.rounds.pace
             self.new.rounds.peers self.new.rounds.pace) }
-        ensures newcomer { OnOk result
-            (self.new.rounds.door.newcomer ≡ self.old.rounds.door.newcomer) }
+        ensures noted { OnOk result
+            (self.new.rounds.peers.is_knocked_at ≡ self.new.rounds.door.is_knocked_at) }
+        ensures knock { OnOk result (self.old.rounds.door.is_knocked_at ≡ true
+            → self.new.rounds.door.is_knocked_at ≡ true) }
+        ensures door { OnOk result (self.new.rounds.door ≡ record self.old.rounds.door
+            { is_knocked_at = self.new.rounds.door.is_knocked_at }) }
         ensures told { Logs None None Readied result }
         ensures count { IsCounted self.old.failures self.new.failures result }
         ensures refusals { self.new.refusals ≡ self.old.refusals }

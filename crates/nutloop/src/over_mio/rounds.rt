@@ -100,8 +100,12 @@ impl<'a, R: Net + Clock> Rounds<'a, R> {
         ensures told { IfOk result (λ ready.
             IsTold server.now.state self.old.door.is_knocked_at ready
             self.old.peers self.old.pace self.new.peers self.new.pace) }
-        ensures newcomer { OnOk result (self.new.door.newcomer ≡ self.old.door.newcomer) }
-        ensures count { OnOk result (self.new.door.count ≡ self.old.door.count) }
+        ensures noted { OnOk result
+            (self.new.peers.is_knocked_at ≡ self.new.door.is_knocked_at) }
+        ensures knock { OnOk result
+            (self.old.door.is_knocked_at ≡ true → self.new.door.is_knocked_at ≡ true) }
+        ensures door { OnOk result (self.new.door
+            ≡ record self.old.door { is_knocked_at = self.new.door.is_knocked_at }) }
     {
         self.refresh(server);
         if let Some(second) = self.look_where_due(server)? {
@@ -133,8 +137,13 @@ impl<'a, R: Net + Clock> Rounds<'a, R> {
     fn look_where_due(&mut self, server: &Server) -> io::Result<Option<u64>>
         ensures looks { IfOk result (λ tick. LooksWhereDue tick
             self.old.peers self.old.pace self.new.peers self.new.pace) }
-        ensures newcomer { OnOk result (self.new.door.newcomer ≡ self.old.door.newcomer) }
-        ensures count { OnOk result (self.new.door.count ≡ self.old.door.count) }
+        ensures noted { OnOk result
+            (self.old.peers.is_knocked_at ≡ self.old.door.is_knocked_at
+            → self.new.peers.is_knocked_at ≡ self.new.door.is_knocked_at) }
+        ensures knock { OnOk result
+            (self.old.door.is_knocked_at ≡ true → self.new.door.is_knocked_at ≡ true) }
+        ensures door { OnOk result (self.new.door
+            ≡ record self.old.door { is_knocked_at = self.new.door.is_knocked_at }) }
     {
         if self.pace.is_due(&self.peers.round) {
             self.look(server, Duration::ZERO)
@@ -147,8 +156,12 @@ impl<'a, R: Net + Clock> Rounds<'a, R> {
     fn look_and_wait(&mut self, server: &Server) -> io::Result<Option<u64>>
         ensures looks { IfOk result (λ tick.
             Looks tick self.old.peers self.old.pace self.new.peers self.new.pace) }
-        ensures newcomer { OnOk result (self.new.door.newcomer ≡ self.old.door.newcomer) }
-        ensures count { OnOk result (self.new.door.count ≡ self.old.door.count) }
+        ensures noted { OnOk result
+            (self.new.peers.is_knocked_at ≡ self.new.door.is_knocked_at) }
+        ensures knock { OnOk result
+            (self.old.door.is_knocked_at ≡ true → self.new.door.is_knocked_at ≡ true) }
+        ensures door { OnOk result (self.new.door
+            ≡ record self.old.door { is_knocked_at = self.new.door.is_knocked_at }) }
     {
         let elapsed = self.start.elapsed(self.rt)?;
         let wait = self.pace.wait(self.peers.is_draining(), elapsed);
@@ -162,8 +175,10 @@ impl<'a, R: Net + Clock> Rounds<'a, R> {
             (self.new.peers.is_knocked_at ≡ self.new.door.is_knocked_at) }
         ensures looks { IfOk result (λ tick.
             Looks tick self.old.peers self.old.pace self.new.peers self.new.pace) }
-        ensures newcomer { OnOk result (self.new.door.newcomer ≡ self.old.door.newcomer) }
-        ensures count { OnOk result (self.new.door.count ≡ self.old.door.count) }
+        ensures knock { OnOk result
+            (self.old.door.is_knocked_at ≡ true → self.new.door.is_knocked_at ≡ true) }
+        ensures door { OnOk result (self.new.door
+            ≡ record self.old.door { is_knocked_at = self.new.door.is_knocked_at }) }
         ensures tried { IfOk result (λ tick. IfSome tick (λ _. AreTried server.now.state.list
             self.new.peers.drivers.items self.new.peers.driver_errors)) }
         ensures knocked { IfOk result (λ tick. IfSome tick

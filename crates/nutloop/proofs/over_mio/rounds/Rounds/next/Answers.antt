@@ -1,4 +1,4 @@
-use Rattle.std.proofs.Common.{◌≡◌, ◌∙◌, None, Option, ap, rules, subst, inr}
+use Rattle.std.proofs.Common.{◌≡◌, ◌∙◌, None, ap, rules, subst, inr}
 use Rattle.nutloop.specs.Told.{IsAskedWhereDue, TellsTurn, just_asked}
 use Rattle.nutloop.specs.declared.pace.Pace.{Pace}
 use Rattle.nutloop.proofs.Telling.{asked_again, no_tick, no_tick_due, nothing_is_told, still_twice, still_unready, turn_is_told}
