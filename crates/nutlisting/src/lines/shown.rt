@@ -33,9 +33,7 @@ pub(crate) fn marked(variable: &Variable) -> ArrayVec<u8, SHOWN_LIMIT>
 {
     let mut shown = ArrayVec::new();
     shown.try_extend_from_slice(b"FSD ").unwrap();
-    shown
-        .try_extend_from_slice(variable.value())
-        .unwrap();
+    shown.try_extend_from_slice(variable.value()).unwrap();
     shown
 }
 
