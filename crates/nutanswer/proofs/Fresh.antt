@@ -1,17 +1,13 @@
 -- What is told of a UPS's data is fresh.
-use Rattle.std.proofs.Common.{◌≡◌, ◌≤◌, ◌-◌, ◌∙◌, ℕ, Bool, true, false, List, Option, Some, None, Result, Ok, Err, refl, sym, ap, subst, cond, not, ltb, ◌||◌, arith}
+use Rattle.std.proofs.Common.{◌≡◌, ◌≤◌, ◌-◌, ℕ, Bool, true, false, List, Option, Some, Result, Ok, Err, refl, subst, cond, not, ltb, ◌||◌, arith}
 use Rattle.std.proofs.lemmas.Bool.Decides.{nat_tests}
 use Rattle.nutdriver.specs.declared.report.Report.{Report}
-use Rattle.nutusers.specs.declared.rights.Right.TheVariants as rights
-use Rattle.nutanswer.specs.declared.command.Command.{Command}
-use Rattle.nutanswer.specs.declared.command.Command.TheVariants.{Username, Password, Login, Logout, Primary, Fsd, SetVar, InstCmd, GetVar, GetType, GetDesc, GetCmdDesc, GetUpsDesc, GetNumLogins, ListUps, ListVar, ListRw, ListCmd, ListEnum, ListRange, ListClient, Help, Ver, NetVer, ProtVer, StartTls}
 use Rattle.nutanswer.specs.declared.err_word.ErrWord.{ErrWord}
-use Rattle.nutanswer.specs.View.{Seen, AskerSeen, readiness, usable, not_connected, stale}
-use Rattle.nutanswer.specs.Checks.{◌>>=◌, ◌>>◌, KnownUps, ups_named, unknown_ups, live, user}
-use Rattle.nutanswer.specs.Orders.{instcmd_right}
-use Rattle.nutanswer.specs.Answer.{Answer, answer_to}
-use Rattle.nutanswer.specs.Fresh.{asks_data_of, IsFresh, WhatIsToldIsFresh}
-use Rattle.nutanswer.proofs.TableRows.{held, of_usable}
+use Rattle.nutanswer.specs.View.{Seen, readiness, usable, not_connected, stale}
+use Rattle.nutanswer.specs.Checks.{◌>>=◌, ◌>>◌, KnownUps, ups_named, unknown_ups, live}
+use Rattle.nutanswer.specs.Answer.{Answer}
+use Rattle.nutanswer.specs.Fresh.{IsFresh}
+use Rattle.nutanswer.proofs.CheckLemmas.{of_usable}
 
 -- a report that is usable
 record IsUsable (moment max_age : ℕ) (x : Report) : Type 0 where
@@ -33,10 +29,10 @@ usable_is moment max_age x h = by x.connected x.dumped x.ok (ltb max_age (moment
 
 module _ (s : Seen) (ups : Option (List ℕ)) where
   -- whatever is answered, the UPS is there and fresh
-  abbrev TellsFresh : Result Answer ErrWord → Type 0
+  abbrev pub TellsFresh : Result Answer ErrWord → Type 0
   TellsFresh r = (answer : Answer) → r ≡ Ok answer → (known : KnownUps) × (ups_named s ups ≡ Some known) × IsFresh s known
 
-  no_answer : (word : ErrWord) → TellsFresh (Err word)
+  pub no_answer : (word : ErrWord) → TellsFresh (Err word)
   no_answer word answer e = cc e
 
   fresh : (u : KnownUps) (r : Result Answer ErrWord) → ups_named s ups ≡ Some u → readiness s.moment s.max_age u.state.report ≡ usable → TellsFresh r
@@ -44,23 +40,8 @@ module _ (s : Seen) (ups : Option (List ℕ)) where
       let is = usable_is s.moment s.max_age u.state.report going in
       (u, named, record { connected = is.connected; dumped = is.dumped; ok = is.ok; heard = is.heard })
 
-  row : (next : KnownUps → Result Answer ErrWord) → TellsFresh (unknown_ups s ups >>= (λ u. live s u >> next u))
+  pub row : (next : KnownUps → Result Answer ErrWord) → TellsFresh (unknown_ups s ups >>= (λ u. live s u >> next u))
   row next = of_usable TellsFresh no_answer s ups next (λ u named going. fresh u (next u) named going)
 
-moved : (s : Seen) (ups other : Option (List ℕ)) (r : Result Answer ErrWord) → Some ups ≡ Some other → TellsFresh s ups r → TellsFresh s other r
+pub moved : (s : Seen) (ups other : Option (List ℕ)) (r : Result Answer ErrWord) → Some ups ≡ Some other → TellsFresh s ups r → TellsFresh s other r
 moved s ups other r h tells = let same : ups ≡ other = cc h in subst (λ (o : Option (List ℕ)). TellsFresh s o r) same tells
-
--- each command by its row
-pub told_fresh : WhatIsToldIsFresh
-told_fresh s asker (SetVar ups name value) other answer h e =
-    moved s ups other _ h (held (TellsFresh s ups) (no_answer s ups) (user s asker rights.Set) _ (λ right. row s ups _)) answer e
-told_fresh s asker (InstCmd ups name value) other answer h e =
-    moved s ups other _ h (held (TellsFresh s ups) (no_answer s ups) (user s asker (instcmd_right name)) _ (λ right. row s ups _)) answer e
-told_fresh s asker (GetVar ups name) other answer h e = moved s ups other _ h (row s ups _) answer e
-told_fresh s asker (GetType ups name) other answer h e = moved s ups other _ h (row s ups _) answer e
-told_fresh s asker (ListVar ups) other answer h e = moved s ups other _ h (row s ups _) answer e
-told_fresh s asker (ListRw ups) other answer h e = moved s ups other _ h (row s ups _) answer e
-told_fresh s asker (ListCmd ups) other answer h e = moved s ups other _ h (row s ups _) answer e
-told_fresh s asker (ListEnum ups name) other answer h e = moved s ups other _ h (row s ups _) answer e
-told_fresh s asker (ListRange ups name) other answer h e = moved s ups other _ h (row s ups _) answer e
-told_fresh s asker command other answer h e = cc h

@@ -1,9 +1,10 @@
 mod Rows
+mod CheckLemmas
 mod TableRows
 mod Fresh
 mod Named
-mod Changes
-mod LawfulCommands
+mod Commands
+mod LawfulWords
 mod ErrorLemmas
 mod Quoted
 mod Plain

@@ -10,7 +10,7 @@ use Rattle.nutanswer.specs.Checks.{KnownUps, ups_named}
 use Rattle.nutanswer.specs.Rows.{IsSet, IsInstCmd, ComesOf}
 use Rattle.nutanswer.specs.Laws.{TakesOrder, OrdersFit}
 use Rattle.nutanswer.proofs.Named.{named_is_seen}
-use Rattle.nutanswer.proofs.TableRows.{each_change}
+use Rattle.nutanswer.proofs.Commands.{each_change}
 
 -- a usable UPS has a driver
 connected : (moment max_age : ℕ) (x : Report) → readiness moment max_age x ≡ usable → x.connected ≡ true

@@ -2,24 +2,23 @@
 use Rattle.nutanswer.specs.Laws.{ANamedUpsIsSeen, OrdersFit, ErrorLinesAreWhole, EachAnswerIsALineOrAListing, EachErrorIsALine}
 use Rattle.nutanswer.specs.Lawful.{WhatIsReadIsLawful}
 use Rattle.nutanswer.specs.Rows.{EachChangeComesOfItsCommand, EachOrderAnsweredOkIsGiven}
+use Rattle.nutanswer.proofs.Commands as commands
 use Rattle.nutanswer.proofs.Named as named
 use Rattle.nutanswer.proofs.OrderFits as fits
 use Rattle.nutanswer.proofs.ErrorLemmas as errors
-use Rattle.nutanswer.proofs.LawfulCommands as lawful
 use Rattle.nutanswer.proofs.Shapes as shapes
-use Rattle.nutanswer.proofs.TableRows as rows
 
 -- each_change_comes_of_its_command
 pub each_change_comes_of_its_command : EachChangeComesOfItsCommand
-each_change_comes_of_its_command = rows.each_change
+each_change_comes_of_its_command = commands.each_change
 
 -- each_order_answered_ok_is_given
 pub each_order_answered_ok_is_given : EachOrderAnsweredOkIsGiven
-each_order_answered_ok_is_given = rows.ok_orders
+each_order_answered_ok_is_given = commands.ok_orders
 
 -- what_is_read_is_lawful
 pub what_is_read_is_lawful : WhatIsReadIsLawful
-what_is_read_is_lawful = lawful.reading_is_lawful
+what_is_read_is_lawful = commands.reading_is_lawful
 
 -- a_named_ups_is_seen
 pub a_named_ups_is_seen : ANamedUpsIsSeen
@@ -35,7 +34,7 @@ error_lines_are_whole = errors.error_lines_are_whole
 
 -- each_answer_is_a_line_or_a_listing
 pub each_answer_is_a_line_or_a_listing : EachAnswerIsALineOrAListing
-each_answer_is_a_line_or_a_listing = shapes.each_answer_shaped
+each_answer_is_a_line_or_a_listing = commands.each_answer_shaped
 
 pub each_error_is_a_line : EachErrorIsALine
 each_error_is_a_line = shapes.refused_shaped

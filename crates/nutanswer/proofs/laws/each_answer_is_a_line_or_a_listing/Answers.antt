@@ -1,4 +1,5 @@
-use Rattle.nutanswer.proofs.Shapes.{each_answer_shaped, refused_shaped}
+use Rattle.nutanswer.proofs.Commands.{each_answer_shaped}
+use Rattle.nutanswer.proofs.Shapes.{refused_shaped}
 use Rattle.nutanswer.proofs.laws.each_answer_is_a_line_or_a_listing.Goals as goal
 
 pub returns-clause-answer : goal.returns-clause-answer

@@ -1,4 +1,4 @@
-use Rattle.nutanswer.proofs.Changes.{only_ok, refused_none}
+use Rattle.nutanswer.proofs.Commands.{only_ok, refused_none}
 use Rattle.nutanswer.proofs.laws.only_ok_changes.Goals as goal
 
 pub returns-clause-refused : goal.returns-clause-refused

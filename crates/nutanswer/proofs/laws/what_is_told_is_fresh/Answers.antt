@@ -1,4 +1,4 @@
-use Rattle.nutanswer.proofs.Fresh.{told_fresh}
+use Rattle.nutanswer.proofs.Commands.{told_fresh}
 use Rattle.nutanswer.proofs.laws.what_is_told_is_fresh.Goals as goal
 
 pub returns : goal.returns

@@ -1,0 +1,341 @@
+-- What is proved of each command, a case each: what its row says, what it tells is fresh, and that what is read for it is lawful.
+use Rattle.std.proofs.Common.{◌≡◌, ◌≤◌, ℕ, Bool, true, List, [], ◌∷◌, Option, Some, None, Result, Ok, Err, refl, sym, ◌∙◌, ap, ◌&&◌, length, inl, inr, arith}
+use Rattle.std.specs.Prelude.{codes, IsTrue, ◌||◌}
+use Rattle.std.proofs.lemmas.Bool.{leb-true}
+use Rattle.nutwords.specs.Frame.{line_of}
+use Rattle.nuttracking.specs.Tracking.{next_id}
+use Rattle.nutdriver.specs.Variable.{VariableState}
+use Rattle.nutdriver.specs.Tree.{variable_at, has_command}
+use Rattle.nutlisting.specs.Items.{is_rw, ups_item, variable_item, command_item, enum_item, range_item, client_item}
+use Rattle.nutusers.specs.declared.rights.Right.TheVariants as rights
+use Rattle.nutanswer.specs.declared.command.Command.{Command}
+use Rattle.nutanswer.specs.declared.command.Command.TheVariants.{Username, Password, Login, Logout, Primary, Fsd, SetVar, InstCmd, GetVar, GetType, GetDesc, GetCmdDesc, GetUpsDesc, GetNumLogins, GetNumAttach, ListUps, ListVar, ListRw, ListCmd, ListEnum, ListRange, ListClient, Help, Ver, NetVer, ProtVer, StartTls, SetTracking, GetTracking, GetProgress}
+use Rattle.nutanswer.specs.declared.err_word.ErrWord.{ErrWord}
+use Rattle.nutanswer.specs.declared.err_word.ErrWord.TheVariants.{AlreadySetUsername, AlreadySetPassword, AlreadyLoggedIn, VarNotSupported, CmdNotSupported, Readonly, TooLong, InvalidValue, SetFailed, InstcmdFailed}
+use Rattle.nutanswer.specs.declared.reply.Change.{Change}
+use Rattle.nutanswer.specs.declared.reply.Change.TheVariants as changes
+use Rattle.nutanswer.specs.ErrWord.{error_line}
+use Rattle.nutanswer.specs.View.{Seen, AskerSeen, usable, readiness}
+use Rattle.nutanswer.specs.Checks.{◌>>=◌, ◌>>◌, KnownUps, ups_named, user, var_not_lawful, cmd_not_lawful, already_set_username, already_set_password, already_logged_in, readonly, too_long_of_command, invalid_value, no_id, set_failed, instcmd_failed, unknown_id, cmd_not_supported}
+use Rattle.nutanswer.specs.Orders.{is_short_enough, is_listed, is_in_ranges, right_to, set_line, instcmd_line, order, ok_words, instcmd_right}
+use Rattle.nutanswer.specs.Answer.{Answer, one_line, ok, answer_to, change_of_answer, text_of_answer}
+use Rattle.nutanswer.specs.Rows.{HasRight, value_given, IsIdOfOrder, EachChangeComesOfItsCommand, EachOrderAnsweredOkIsGiven}
+use Rattle.nutanswer.specs.declared.reply.Change.TheVariants.{Nothing}
+use Rattle.nutanswer.specs.Laws.{OnlyOkChanges, RefusedLinesChangeNothing, EachAnswerIsALineOrAListing}
+use Rattle.nutanswer.specs.Fresh.{WhatIsToldIsFresh}
+use Rattle.nutwords.specs.declared.faults.BadLine.{BadLine}
+use Rattle.nutwords.specs.Scan.{read_line}
+use Rattle.nuttracking.specs.Id.{read_id}
+use Rattle.nutwords.specs.Reading.{is_value, is_name, is_address}
+use Rattle.nutwords.specs.Keyword.{is_word}
+use Rattle.nutanswer.specs.Command.{user_name_alone, password_alone, ups_alone, ups_and_name, Names, ups_name_and_value, ups_name_and_value_if_any, on_or_off, read_set, tracking_asked, read_instcmd, read_get, read_list, command_named, some_command, command_of, command_from}
+use Rattle.nutanswer.specs.Lawful.{IsLawfulReading, WhatIsReadIsLawful}
+use Rattle.std.proofs.lemmas.List.Elements.{All-filter}
+use Rattle.nutdriver.specs.Sound.{IsSoundRange}
+use Rattle.nutusers.specs.Descriptions.{text_at}
+use Rattle.nutusers.specs.UpsList.{IsLawfulUps}
+use Rattle.nutlisting.specs.Shown.{shown, description_of}
+use Rattle.nutanswer.proofs.CheckLemmas as checks
+use Rattle.nutanswer.proofs.CheckLemmas.{unless_ok, none_given, both_true, has_right}
+use Rattle.nutanswer.proofs.Fresh as fresh
+use Rattle.nutanswer.proofs.LawfulWords.{IsLawfulResult, none_lawful, one_lawful, with_lawful, alone_lawful, either_lawful, ups_lawful, set_words, instcmd_words, ups_words, two_words}
+use Rattle.nutanswer.proofs.Plain.{quoted_plain, shown_plain, type_plain, progress_plain}
+use Rattle.nutanswer.proofs.Shapes.{IsLawfulEntry, listing_shaped, items_of, line_shaped, ok_shaped, id_plain, on_or_off_plain, progress_found, entry_item, command_inside, enum_inside, range_inside, ups_inside, client_inside, text_plain, name_found, lawful_known, lawful_found, variables_of, count_plain, lawful_clients}
+use Rattle.nutanswer.proofs.TableRows.{IsRow, refused, tells, lists, lists_clients, does, orders, held, found, of_ups, of_usable, of_variable}
+
+-- SET VAR and INSTCMD, where their checks hold: what holds of each refusal, and of what the checks let through, holds of the row
+module _ (P : Result Answer ErrWord → Type 0) (no : (word : ErrWord) → P (Err word)) where
+  -- SET VAR, where its checks hold
+  abbrev SetGoes : Seen → AskerSeen → Option (List ℕ) → List ℕ → List ℕ → KnownUps → VariableState → Option ℕ → Type 0
+  SetGoes s asker ups name value u x id =
+      HasRight s asker rights.Set → ups_named s ups ≡ Some u → readiness s.moment s.max_age u.state.report ≡ usable
+      → variable_at u.state.report.tree name ≡ Some x → x.flags.rw ≡ true → is_short_enough x value ≡ true
+      → (is_listed x.enum_values value && is_in_ranges x.ranges value) ≡ true → IsIdOfOrder s asker id → length (set_line name value id) ≤ u.state.free
+      → P (Ok (one_line (ok_words id) (order u.id (set_line name value id) id)))
+
+  set_row : (s : Seen) (asker : AskerSeen) (ups : Option (List ℕ)) (name value : List ℕ)
+      → ((u : KnownUps) (x : VariableState) (id : Option ℕ) → SetGoes s asker ups name value u x id) → P (answer_to s asker (SetVar ups (Some name) (Some value)))
+  set_row s asker ups name value goes =
+      checks.held P no (user s asker rights.Set) _ (λ right. checks.of_variable P no s ups name _ (λ u x named going there.
+      checks.held P no (readonly x) _ (λ writable. checks.tested P no (is_short_enough x value) TooLong value _ (λ short. checks.held P no (invalid_value x value) _ (λ may_be.
+      checks.with_id P no s asker SetFailed _ (λ id id_is. checks.held P no (set_failed u (set_line name value id)) _ (λ fits.
+      goes u x id (has_right s asker rights.Set right) named going there (unless_ok x.flags.rw Readonly writable) short (unless_ok _ InvalidValue may_be) id_is (leb-true _ _ (unless_ok _ SetFailed fits)))))))))
+
+  -- INSTCMD
+  abbrev CommandGoes : Seen → AskerSeen → Option (List ℕ) → List ℕ → Option (List ℕ) → KnownUps → Option ℕ → Type 0
+  CommandGoes s asker ups name value u id =
+      HasRight s asker (right_to name) → ups_named s ups ≡ Some u → readiness s.moment s.max_age u.state.report ≡ usable
+      → has_command u.state.report.tree name ≡ true → IsIdOfOrder s asker id → length (instcmd_line name value id) ≤ u.state.free
+      → P (Ok (one_line (ok_words id) (order u.id (instcmd_line name value id) id)))
+
+  command_row : (s : Seen) (asker : AskerSeen) (ups : Option (List ℕ)) (name : List ℕ) (value : Option (List ℕ))
+      → ((u : KnownUps) (id : Option ℕ) → CommandGoes s asker ups name value u id) → P (answer_to s asker (InstCmd ups (Some name) (value_given value)))
+  command_row s asker ups name value goes =
+      checks.held P no (user s asker (right_to name)) _ (λ right. checks.of_usable P no s ups _ (λ u named going.
+      checks.tested P no (has_command u.state.report.tree name) CmdNotSupported name _ (λ there. by_value value u (λ id id_is fits. goes u id (has_right s asker (right_to name) right) named going there id_is fits))))
+    where
+      by_value : (value : Option (List ℕ)) (u : KnownUps) → ((id : Option ℕ) → IsIdOfOrder s asker id → length (instcmd_line name value id) ≤ u.state.free → P (Ok (one_line (ok_words id) (order u.id (instcmd_line name value id) id))))
+          → P (too_long_of_command (value_given value) >>= (λ v. no_id s asker InstcmdFailed >>= (λ id. instcmd_failed u (instcmd_line name v id) >> Ok (one_line (ok_words id) (order u.id (instcmd_line name v id) id)))))
+      by_value None u h = checks.with_id P no s asker InstcmdFailed _ (λ id id_is. checks.held P no (instcmd_failed u (instcmd_line name None id)) _ (λ fits. h id id_is (leb-true _ _ (unless_ok _ InstcmdFailed fits))))
+      by_value (Some value) u h = checks.with_id P no s asker InstcmdFailed _ (λ id id_is. checks.held P no (instcmd_failed u (instcmd_line name (Some value) id)) _ (λ fits. h id id_is (leb-true _ _ (unless_ok _ InstcmdFailed fits))))
+
+commanded : (s : Seen) (asker : AskerSeen) (ups : Option (List ℕ)) (name : List ℕ) (value : Option (List ℕ)) (u : KnownUps) (id : Option ℕ)
+    → CommandGoes (IsRow s asker (InstCmd ups (Some name) (value_given value))) refused s asker ups name value u id
+commanded s asker ups name value u id right named going there id_is fits =
+    orders u.id (instcmd_line name value id) id (λ e. inr (record {
+      name = name;
+      value = value;
+      by_right = record { ups = ups; known = u; is = refl; named = named; this = refl; has = right; text = e };
+      ready = going;
+      there = there;
+      id_is = id_is;
+      fits = fits;
+      line_is = refl;
+    }))
+
+-- the row of each
+module _ (s : Seen) (asker : AskerSeen) where
+  pub row : (command : Command) → IsRow s asker command (answer_to s asker command)
+  row (Username None) = held (already_set_username asker) (λ free. refused _)
+  row (Username (Some name)) = held (already_set_username asker) (λ free. does ok (changes.Username name) refl ok_shaped (λ e. record { is = refl; fresh = none_given asker.username AlreadySetUsername free; text = e }))
+  row (Password None) = held (already_set_password asker) (λ free. refused _)
+  row (Password (Some word)) = held (already_set_password asker) (λ free. does ok (changes.Password word) refl ok_shaped (λ e. record { is = refl; fresh = none_given asker.password AlreadySetPassword free; text = e }))
+  row (Login ups) =
+      held (user s asker rights.Login) (λ right. of_ups ups (λ u named. held (already_logged_in asker) (λ free. does ok (changes.Login u.id) refl ok_shaped (λ e. record {
+        by_right = record { ups = ups; known = u; is = refl; named = named; this = refl; has = has_right s asker rights.Login right; text = e };
+        fresh = none_given asker.login AlreadyLoggedIn free;
+      }))))
+  row Logout = does (codes "OK" ∷ codes "Goodbye" ∷ []) changes.Ending refl (line_shaped (codes "OK" ∷ codes "Goodbye" ∷ []) (refl, (refl, tt)) refl) (λ e. refl)
+  row (Primary ups) = held (user s asker rights.Primary) (λ right. of_ups ups (λ u named. tells ok refl (λ seen h. (refl, tt))))
+  row (Fsd ups) =
+      held (user s asker rights.Fsd) (λ right. of_ups ups (λ u named. does (codes "OK" ∷ codes "FSD-SET" ∷ []) (changes.Fsd u.id) refl (line_shaped (codes "OK" ∷ codes "FSD-SET" ∷ []) (refl, (refl, tt)) refl)
+      (λ e. record { ups = ups; known = u; is = refl; named = named; this = refl; has = has_right s asker rights.Fsd right; text = e })))
+  row (SetVar ups None word) = held (user s asker rights.Set) (λ right. of_usable ups (λ u named. refused _))
+  row (SetVar ups (Some name) None) = held (user s asker rights.Set) (λ right. of_variable ups (Some name) (λ u v named is. held (readonly v.1) (λ writable. refused _)))
+  row (SetVar ups (Some name) (Some value)) =
+      set_row (IsRow s asker (SetVar ups (Some name) (Some value))) refused s asker ups name value (λ u x id right named going there writable short may_be id_is fits.
+      let both = both_true _ _ may_be in
+      orders u.id (set_line name value id) id (λ e. inl (record {
+        name = name;
+        value = value;
+        variable = x;
+        by_right = record { ups = ups; known = u; is = refl; named = named; this = refl; has = right; text = e };
+        ready = going;
+        there = there;
+        writable = writable;
+        short = short;
+        listed = both.0;
+        in_range = both.1;
+        id_is = id_is;
+        fits = fits;
+        line_is = refl;
+      })))
+  row (InstCmd ups None word) = held (user s asker (right_to [])) (λ right. of_usable ups (λ u named. refused _))
+  row (InstCmd ups (Some name) (Some None)) = held (user s asker (right_to name)) (λ right. of_usable ups (λ u named. found (cmd_not_supported u (Some name)) (λ c is. refused _)))
+  row (InstCmd ups (Some name) None) = command_row (IsRow s asker (InstCmd ups (Some name) None)) refused s asker ups name None (commanded s asker ups name None)
+  row (InstCmd ups (Some name) (Some (Some value))) = command_row (IsRow s asker (InstCmd ups (Some name) (Some (Some value)))) refused s asker ups name (Some value) (commanded s asker ups name (Some value))
+  row (SetTracking on) = does ok (changes.Tracking on) refl ok_shaped (λ e. refl)
+  row (GetVar ups name) =
+      of_variable ups name (λ u v named is. tells _ refl (λ seen h.
+      let f = lawful_found s seen ups name u v h named is in
+      (refl, (f.ups.name, (f.name, (quoted_plain (shown u.state.fsd v.0 v.1) (shown_plain u.state.fsd v.0 v.1 f.entry.1.value), tt))))))
+  row (GetType ups name) =
+      of_variable ups name (λ u v named is. tells _ refl (λ seen h.
+      let f = lawful_found s seen ups name u v h named is in
+      (refl, (f.ups.name, (f.name, type_plain v.1 f.entry.1.aux)))))
+  row (GetDesc ups name) =
+      of_ups ups (λ u named. found (var_not_lawful name) (λ v is. tells _ refl (λ seen h.
+      (refl, ((lawful_known s seen ups u h.0 named).name, (name_found name VarNotSupported v h.1 is, (quoted_plain (description_of (text_at s.descriptions.vars v)) (text_plain s.descriptions.vars v seen.descriptions.vars), tt)))))))
+  row (GetCmdDesc ups name) =
+      of_ups ups (λ u named. found (cmd_not_lawful name) (λ c is. tells _ refl (λ seen h.
+      (refl, ((lawful_known s seen ups u h.0 named).name, (name_found name CmdNotSupported c h.1 is, (quoted_plain (description_of (text_at s.descriptions.cmds c)) (text_plain s.descriptions.cmds c seen.descriptions.cmds), tt)))))))
+  row (GetUpsDesc ups) =
+      of_ups ups (λ u named. tells _ refl (λ seen h.
+      let k = lawful_known s seen ups u h named in
+      (refl, (k.name, (quoted_plain u.description k.description, tt)))))
+  row (GetNumLogins ups) = of_ups ups (λ u named. tells _ refl (λ seen h. (refl, count_plain s seen ups u h named)))
+  row (GetNumAttach ups) = of_ups ups (λ u named. tells _ refl (λ seen h. (refl, count_plain s seen ups u h named)))
+  row GetTracking = tells _ refl (λ seen h. (refl, (on_or_off_plain asker.tracking, tt)))
+  row (GetProgress id) = found (unknown_id s id) (λ k is. tells _ refl (λ seen h. (refl, (id_plain k.0, progress_plain k.1 (progress_found s id k seen.numbers is)))))
+  row ListUps = lists _ (λ seen h. listing_shaped (codes "UPS") [] _ (refl, tt) (items_of IsLawfulUps ups_item ups_inside s.list seen.list))
+  row (ListVar ups) =
+      of_usable ups (λ u named. lists _ (λ seen h.
+      let k = lawful_known s seen ups u h named in
+      listing_shaped (codes "VAR") (u.name ∷ []) _ (refl, (k.name, tt))
+      (items_of IsLawfulEntry (variable_item (codes "VAR") u.name u.state.fsd) (entry_item (codes "VAR") u.name u.state.fsd refl k.name (λ name text. refl)) _ (variables_of s seen u k))))
+  row (ListRw ups) =
+      of_usable ups (λ u named. lists _ (λ seen h.
+      let k = lawful_known s seen ups u h named in
+      listing_shaped (codes "RW") (u.name ∷ []) _ (refl, (k.name, tt))
+      (items_of IsLawfulEntry (variable_item (codes "RW") u.name u.state.fsd) (entry_item (codes "RW") u.name u.state.fsd refl k.name (λ name text. refl)) _ (All-filter is_rw IsLawfulEntry _ (variables_of s seen u k)))))
+  row (ListCmd ups) =
+      of_usable ups (λ u named. lists _ (λ seen h.
+      let k = lawful_known s seen ups u h named in
+      listing_shaped (codes "CMD") (u.name ∷ []) _ (refl, (k.name, tt)) (items_of (λ name. IsTrue (is_name name)) (command_item u.name) (command_inside u.name k.name) _ k.tree.commands)))
+  row (ListEnum ups name) =
+      of_variable ups name (λ u v named is. lists _ (λ seen h.
+      let f = lawful_found s seen ups name u v h named is in
+      listing_shaped (codes "ENUM") (u.name ∷ v.0 ∷ []) _ (refl, (f.ups.name, (f.name, tt)))
+      (items_of (λ value. IsTrue (is_value value)) (enum_item u.name v.0) (enum_inside u.name v.0 f.ups.name f.name) v.1.enum_values f.entry.1.enum_values)))
+  row (ListRange ups name) =
+      of_variable ups name (λ u v named is. lists _ (λ seen h.
+      let f = lawful_found s seen ups name u v h named is in
+      listing_shaped (codes "RANGE") (u.name ∷ v.0 ∷ []) _ (refl, (f.ups.name, (f.name, tt)))
+      (items_of IsSoundRange (range_item u.name v.0) (range_inside u.name v.0 f.ups.name f.name) v.1.ranges f.entry.1.ranges)))
+  row (ListClient ups) =
+      of_ups ups (λ u named. lists_clients _ (λ seen h.
+      let k = lawful_known s seen ups u h named in
+      listing_shaped (codes "CLIENT") (u.name ∷ []) _ (refl, (k.name, tt))
+      (items_of (λ address. IsTrue (is_address address)) (client_item u.name) (client_inside u.name k.name) _ (lawful_clients s seen u))))
+  row Help = tells _ refl (λ seen h. (refl, tt))
+  row Ver = tells _ refl (λ seen h. (refl, tt))
+  row NetVer = tells _ refl (λ seen h. (refl, tt))
+  row ProtVer = tells _ refl (λ seen h. (refl, tt))
+  row StartTls = refused _
+
+pub each_change : EachChangeComesOfItsCommand
+each_change s asker command = (row s asker command).comes refl
+
+pub only_ok : OnlyOkChanges
+only_ok s asker command h = (row s asker command).by_ok h
+
+pub refused_none : RefusedLinesChangeNothing
+refused_none s asker command word e = ap change_of_answer e
+
+pub each_answer_shaped : EachAnswerIsALineOrAListing
+each_answer_shaped s asker command seen lawful = (row s asker command).shape seen lawful
+
+-- an order that these words answer is given
+abbrev OrdersIfOk : List (List ℕ) → Change → Result Answer ErrWord → Type 0
+OrdersIfOk words change answer = text_of_answer answer ≡ line_of words → change_of_answer answer ≡ change
+
+one_ups : (o : Option KnownUps) (k l : KnownUps) → o ≡ Some k → o ≡ Some l → k ≡ l
+one_ups None k l e f = cc e
+one_ups (Some u) k l e f = let same : Some k ≡ Some l = sym e ∙ f in cc same
+
+module _ (s : Seen) (asker : AskerSeen) (u known : KnownUps) (same : u ≡ known) (line : Option ℕ → List ℕ) where
+  -- the bare OK
+  untracked : (id : Option ℕ) → OrdersIfOk ok (order known.id (line None) None) (Ok (one_line (ok_words id) (order u.id (line id) id)))
+  untracked None e = ap (λ (k : KnownUps). order k.id (line None) None) same
+  untracked (Some id) e = cc e
+
+  -- OK and the first id at hand
+  tracked : (id : ℕ) → next_id s.tracking ≡ Some id → (used : Option ℕ) → IsIdOfOrder s asker used
+      → OrdersIfOk (ok_words (Some id)) (order known.id (line (Some id)) (Some id)) (Ok (one_line (ok_words used) (order u.id (line used) used)))
+  tracked id next None is e = cc e
+  tracked id next (Some used) is e =
+      ap (λ (k : KnownUps). order k.id (line (Some used)) (Some used)) same ∙ ap (λ (o : Option ℕ). order known.id (line o) o) (sym is.1 ∙ next)
+
+-- and no error is told so
+abbrev first_of : List ℕ → ℕ
+first_of [] = 0
+first_of (b ∷ bytes) = b
+
+no_error : (word : ErrWord) (id : ℕ) → error_line word ≡ line_of (ok_words (Some id)) → ⊥
+no_error word id e = let first : 69 ≡ 79 = ap first_of e in omega (arith, first)
+
+pub ok_orders : EachOrderAnsweredOkIsGiven
+ok_orders = record {
+  set = λ s asker ups name value known named.
+      set_row (OrdersIfOk ok (order known.id (set_line name value None) None)) (λ word e. cc e) s asker ups name value
+      (λ u x id right found going there writable short may_be id_is fits. untracked s asker u known (one_ups (ups_named s ups) u known found named) (λ id. set_line name value id) id);
+  command = λ s asker ups name value known named.
+      command_row (OrdersIfOk ok (order known.id (instcmd_line name value None) None)) (λ word e. cc e) s asker ups name value
+      (λ u id right found going there id_is fits. untracked s asker u known (one_ups (ups_named s ups) u known found named) (λ id. instcmd_line name value id) id);
+  tracked_set = λ s asker ups name value known id named next.
+      set_row (OrdersIfOk (ok_words (Some id)) (order known.id (set_line name value (Some id)) (Some id))) (λ word e. absurd (no_error word id e)) s asker ups name value
+      (λ u x used right found going there writable short may_be id_is fits. tracked s asker u known (one_ups (ups_named s ups) u known found named) (λ id. set_line name value id) id next used id_is);
+  tracked_command = λ s asker ups name value known id named next.
+      command_row (OrdersIfOk (ok_words (Some id)) (order known.id (instcmd_line name value (Some id)) (Some id))) (λ word e. absurd (no_error word id e)) s asker ups name value
+      (λ u used right found going there id_is fits. tracked s asker u known (one_ups (ups_named s ups) u known found named) (λ id. instcmd_line name value id) id next used id_is);
+}
+
+-- what is told of the data of a UPS is fresh
+pub told_fresh : WhatIsToldIsFresh
+told_fresh s asker (SetVar ups name value) other answer h e =
+    fresh.moved s ups other _ h (checks.held (fresh.TellsFresh s ups) (fresh.no_answer s ups) (user s asker rights.Set) _ (λ right. fresh.row s ups _)) answer e
+told_fresh s asker (InstCmd ups name value) other answer h e =
+    fresh.moved s ups other _ h (checks.held (fresh.TellsFresh s ups) (fresh.no_answer s ups) (user s asker (instcmd_right name)) _ (λ right. fresh.row s ups _)) answer e
+told_fresh s asker (GetVar ups name) other answer h e = fresh.moved s ups other _ h (fresh.row s ups _) answer e
+told_fresh s asker (GetType ups name) other answer h e = fresh.moved s ups other _ h (fresh.row s ups _) answer e
+told_fresh s asker (ListVar ups) other answer h e = fresh.moved s ups other _ h (fresh.row s ups _) answer e
+told_fresh s asker (ListRw ups) other answer h e = fresh.moved s ups other _ h (fresh.row s ups _) answer e
+told_fresh s asker (ListCmd ups) other answer h e = fresh.moved s ups other _ h (fresh.row s ups _) answer e
+told_fresh s asker (ListEnum ups name) other answer h e = fresh.moved s ups other _ h (fresh.row s ups _) answer e
+told_fresh s asker (ListRange ups name) other answer h e = fresh.moved s ups other _ h (fresh.row s ups _) answer e
+told_fresh s asker command other answer h e = cc h
+
+-- what is read for it is lawful
+tracking_lawful : (words : List (List ℕ)) → IsLawfulResult (tracking_asked words)
+tracking_lawful [] = one_lawful GetTracking tt
+tracking_lawful (id ∷ []) = one_lawful (GetProgress (read_id id)) tt
+tracking_lawful (id ∷ other ∷ words) = none_lawful _
+
+get_lawful : (words : List (List ℕ)) → IsLawfulResult (read_get words)
+get_lawful [] = none_lawful _
+get_lawful (kind ∷ words) =
+    either_lawful (is_word kind (codes "VAR")) (with_lawful (λ a. GetVar a.0 a.1) (ups_and_name words) (two_words words))
+    (either_lawful (is_word kind (codes "TYPE")) (with_lawful (λ a. GetType a.0 a.1) (ups_and_name words) (two_words words))
+    (either_lawful (is_word kind (codes "DESC")) (with_lawful (λ a. GetDesc a.0 a.1) (ups_and_name words) (two_words words))
+    (either_lawful (is_word kind (codes "CMDDESC")) (with_lawful (λ a. GetCmdDesc a.0 a.1) (ups_and_name words) (two_words words))
+    (either_lawful (is_word kind (codes "UPSDESC")) (with_lawful (λ ups. GetUpsDesc ups) (ups_alone words) (ups_words words))
+    (either_lawful (is_word kind (codes "NUMLOGINS")) (with_lawful (λ ups. GetNumLogins ups) (ups_alone words) (ups_words words))
+    (either_lawful (is_word kind (codes "NUMATTACH")) (with_lawful (λ ups. GetNumAttach ups) (ups_alone words) (ups_words words))
+    (either_lawful (is_word kind (codes "TRACKING")) (tracking_lawful words)
+    (none_lawful _))))))))
+
+list_lawful : (words : List (List ℕ)) → IsLawfulResult (read_list words)
+list_lawful [] = none_lawful _
+list_lawful (kind ∷ words) =
+    either_lawful (is_word kind (codes "UPS")) (alone_lawful ListUps words tt)
+    (either_lawful (is_word kind (codes "VAR")) (with_lawful (λ ups. ListVar ups) (ups_alone words) (ups_words words))
+    (either_lawful (is_word kind (codes "RW")) (with_lawful (λ ups. ListRw ups) (ups_alone words) (ups_words words))
+    (either_lawful (is_word kind (codes "CMD")) (with_lawful (λ ups. ListCmd ups) (ups_alone words) (ups_words words))
+    (either_lawful (is_word kind (codes "ENUM")) (with_lawful (λ a. ListEnum a.0 a.1) (ups_and_name words) (two_words words))
+    (either_lawful (is_word kind (codes "RANGE")) (with_lawful (λ a. ListRange a.0 a.1) (ups_and_name words) (two_words words))
+    (either_lawful (is_word kind (codes "CLIENT")) (with_lawful (λ ups. ListClient ups) (ups_alone words) (ups_words words))
+    (none_lawful _)))))))
+
+set_lawful : (words : List (List ℕ)) → IsLawfulResult (read_set words)
+set_lawful [] = none_lawful _
+set_lawful (kind ∷ words) =
+    either_lawful (is_word kind (codes "VAR")) (with_lawful (λ (a : Names (Option (List ℕ))). SetVar a.0 a.1 a.2) (ups_name_and_value words) (set_words words))
+    (either_lawful (is_word kind (codes "TRACKING")) (with_lawful (λ (on : Bool). SetTracking on) (on_or_off words) (λ on e. tt))
+    (none_lawful _))
+
+instcmd_lawful : (words : List (List ℕ)) → IsLawfulResult (read_instcmd words)
+instcmd_lawful words = with_lawful (λ (a : Names (Option (Option (List ℕ)))). InstCmd a.0 a.1 a.2) (ups_name_and_value_if_any words) (instcmd_words words)
+
+named_lawful : (first : List ℕ) (words : List (List ℕ)) → IsLawfulResult (command_named first words)
+named_lawful first words =
+    either_lawful (is_word first (codes "GET")) (get_lawful words)
+    (either_lawful (is_word first (codes "LIST")) (list_lawful words)
+    (either_lawful (is_word first (codes "USERNAME")) (with_lawful (λ (name : Option (List ℕ)). Username name) (user_name_alone words) (λ a e. tt))
+    (either_lawful (is_word first (codes "PASSWORD")) (with_lawful (λ (name : Option (List ℕ)). Password name) (password_alone words) (λ a e. tt))
+    (either_lawful (is_word first (codes "LOGIN") || is_word first (codes "ATTACH")) (ups_lawful (λ ups. Login ups) words (λ ups. tt))
+    (either_lawful (is_word first (codes "LOGOUT") || is_word first (codes "DETACH")) (alone_lawful Logout words tt)
+    (either_lawful (is_word first (codes "PRIMARY")) (ups_lawful (λ ups. Primary ups) words (λ ups. tt))
+    (either_lawful (is_word first (codes "FSD")) (ups_lawful (λ ups. Fsd ups) words (λ ups. tt))
+    (either_lawful (is_word first (codes "SET")) (set_lawful words)
+    (either_lawful (is_word first (codes "INSTCMD")) (instcmd_lawful words)
+    (either_lawful (is_word first (codes "HELP")) (alone_lawful Help words tt)
+    (either_lawful (is_word first (codes "VER")) (alone_lawful Ver words tt)
+    (either_lawful (is_word first (codes "NETVER")) (alone_lawful NetVer words tt)
+    (either_lawful (is_word first (codes "PROTVER")) (alone_lawful ProtVer words tt)
+    (either_lawful (is_word first (codes "STARTTLS")) (alone_lawful StartTls words tt)
+    (none_lawful _)))))))))))))))
+
+some_lawful : (r : Result Command ErrWord) → IsLawfulResult r → IsLawfulReading (some_command r)
+some_lawful (Err word) h = tt
+some_lawful (Ok command) h = h.lawful command refl
+
+command_of_lawful : (words : List (List ℕ)) → IsLawfulReading (command_of words)
+command_of_lawful [] = tt
+command_of_lawful (first ∷ words) = some_lawful (command_named first words) (named_lawful first words)
+
+from_lawful : (r : Result (List (List ℕ)) BadLine) → IsLawfulReading (command_from r)
+from_lawful (Err bad) = tt
+from_lawful (Ok words) = command_of_lawful words
+
+pub reading_is_lawful : WhatIsReadIsLawful
+reading_is_lawful line = from_lawful (read_line line)
