@@ -1,12 +1,14 @@
 -- What changing a session leaves of the server, of that session and of the others.
-use Rattle.std.proofs.Common.{◌≡◌, ◌≢◌, ℕ, Bool, true, false, Option, Some, None, refl, sym, ◌∙◌, ap, cond, ltb}
+use Rattle.std.proofs.Common.{◌≡◌, ◌≢◌, ℕ, Bool, true, false, Option, Some, None, refl, sym, ◌∙◌, ap, cond, ltb, ◌+◌, List, [], ◌∷◌, ◌++◌}
 use Rattle.std.specs.Prelude.{option_map}
 use Rattle.std.specs.Option.{option_map_or}
-use Rattle.nutcore.specs.Session.{SessionState, find, put}
+use Rattle.nutcore.specs.Session.{SessionState, find, put, new_session}
 use Rattle.nutcore.specs.Server.{ServerState, session, with_session, with_session_changed}
 use Rattle.nutcore.specs.Pump.{holds_overlong, notified, with_notice}
 use Rattle.nutcore.proofs.Found.{find_id, find_put, find_put_other}
 use Rattle.nutcore.proofs.Progress.{Presence, presence}
+use Rattle.nutcore.proofs.Common.{cond_both}
+use Rattle.nutcore.specs.Step.{may_open, opened}
 
 -- a session that is put
 pub session_put : (s : ServerState) (c : ℕ) (x y : SessionState) → session c s ≡ Some x → y.id ≡ c → session c (with_session s y) ≡ Some y
@@ -60,3 +62,10 @@ either_notice P x told quiet = by_length (holds_overlong x)
 
 pub notice_id : (x : SessionState) → (with_notice x).id ≡ x.id
 notice_id x = either_notice (λ y. y.id ≡ x.id) x refl refl
+
+-- what an opening leaves: one session more, or all as it was
+pub of_opened : (P : ServerState → Type 0) (s : ServerState) (address : List ℕ) (m : Option ℕ) → P s
+    → (may_open s ≡ true → let t : ServerState = record s { sessions = s.sessions ++ new_session s.next_id address ∷ []; next_id = s.next_id + 1 } in P t) → P (opened s address m)
+unfolding opened
+of_opened P s address None same more = cond_both (may_open s) _ s P more (λ full. same)
+of_opened P s address (Some k) same more = same

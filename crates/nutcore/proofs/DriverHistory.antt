@@ -8,7 +8,7 @@ use Rattle.nutcore.specs.Ups.{UpsState, greatest_count}
 use Rattle.nutcore.specs.DriverHistory.{Heard, heard_in_event, heard, bytes_heard, after_heard, refused_among, IsWholeLine, came_in_event, came, has_driver, StaysConnected, IsHeard, WhatADriverToldIsExecuted}
 use Rattle.nutcore.proofs.UpsPlaces.{read_off}
 use Rattle.nutcore.proofs.DriverChanges.{count_is_few, both_counts}
-use Rattle.nutcore.proofs.DriverEvents.{event_leaves}
+use Rattle.nutcore.proofs.Events.{each}
 use Rattle.nutcore.proofs.DriverSteps.{IsThere}
 use Rattle.nutcore.proofs.SoundUps.{each_join}
 
@@ -64,7 +64,7 @@ told_is_executed old new [] [] u r stays =
 told_is_executed old new (e ∷ es) (o ∷ os) u (mid, step, r) stays =
     let next : ServerState = after old e o in
     let x = driver_there u old stays.0 in
-    let first = event_leaves u old e o x.ups x.there in
+    let first = (each old e).leaves u o x.ups x.there in
     let still : first.ups.report.connected ≡ true = sym (has_it u next first.ups first.there) ∙ first_stays u next es os stays.1 in
     let rest = told_is_executed next new es os u (subst (λ (z : ServerState). Run z es os new) step.leaves r) stays.1 in
     let same : rest.before ≡ first.ups = same_Some rest.before first.ups (sym rest.there_before ∙ first.there) in

@@ -6,7 +6,7 @@ use Rattle.nutcore.specs.DriverHistory.{has_driver, came_in_event, heard_in_even
 use Rattle.nutcore.specs.DriverOrders.{Telling, texts_of, told_in_event, owed_to_driver, taken_in_event, is_lost_by, Connections, last, lost, with_front, in_front, connections, IsSentAndOwed, WhatADriverWasSentAndIsOwedIsWhatItWasTold}
 use Rattle.nutcore.proofs.UpsPlaces.{Stands, within, read_off}
 use Rattle.nutcore.proofs.DriverChanges.{Does}
-use Rattle.nutcore.proofs.DriverEvents.{event_leaves}
+use Rattle.nutcore.proofs.Events.{each}
 use Rattle.nutcore.proofs.DriverHistory.{has_it}
 use Rattle.nutcore.proofs.SoundUps.{each_get}
 
@@ -44,7 +44,7 @@ run_sent keeps old new [] [] u x sound there r = append-nil x.owed ∙ sym (read
 run_sent keeps old new (e ∷ es) (o ∷ os) u x sound there (mid, step, r) =
     let next : ServerState = after old e o in
     let sound_next : IsSound next = subst IsSound step.leaves (keeps old mid e o step sound) in
-    let l = event_leaves u old e o x there in
+    let l = (each old e).leaves u o x there in
     let rest = run_sent keeps next new es os u l.ups sound_next l.there (subst (λ (z : ServerState). Run z es os new) step.leaves r) in
     event_sent u old e o x (owed_to_driver u new) (connections u next es os) there l (owed_nothing u old x sound there) (owed_nothing u next l.ups sound_next l.there) rest
 run_sent keeps old new es os u x sound there r = absurd r

@@ -22,7 +22,7 @@ use Rattle.nutcore.specs.DriverRuns.{IsNewServer, ConnectsHere, ConnectedInRun, 
 use Rattle.nutcore.proofs.UpsPlaces.{Stands, within, read_off}
 use Rattle.nutcore.proofs.SoundUps.{each_get, each_same}
 use Rattle.nutcore.proofs.DriverChanges.{no_loss, count_is_few, both_counts}
-use Rattle.nutcore.proofs.DriverEvents.{event_leaves}
+use Rattle.nutcore.proofs.Events.{each}
 use Rattle.nutcore.proofs.DriverHistory.{has_it, bytes_both, first_stays, told_is_executed}
 
 -- a new server
@@ -62,7 +62,7 @@ earlier u s new e o es os x now there at step run (inr (inl stays)) = by_driver 
     by_driver true is = inr (inl (has_it u s x there ∙ is, stays))
     by_driver false absent =
         let next : ServerState = after s e o in
-        let l = event_leaves u s e o x there in
+        let l = (each s e).leaves u o x there in
         let still : l.ups.report.connected ≡ true = sym (has_it u next l.ups l.there) ∙ first_stays u next es os stays in
         let begun = l.is.begins absent still in
         let told = told_is_executed next new es os u run stays in
@@ -88,7 +88,7 @@ stands old new [] [] u x there r = record { ups = x; there = ap (ups_at u.place)
     by_driver false gone = inl gone
 stands old new (e ∷ es) (o ∷ os) u x there (mid, step, r) =
     let next : ServerState = after old e o in
-    let l = event_leaves u old e o x there in
+    let l = (each old e).leaves u o x there in
     let run : Run next es os new = subst (λ (t : ServerState). Run t es os new) step.leaves r in
     let rest = stands next new es os u l.ups l.there run in
     record { ups = rest.ups; there = rest.there; is = earlier u old new e o es os x rest.ups there rest.there (subst (Step old e o) step.leaves step) run rest.is }
@@ -125,7 +125,7 @@ last_stays u old new es os r stays = absurd r
 pub lost_lines_begin : ALostDriversLinesAreABeginning
 lost_lines_begin old mid new es os e o u r stays step gone =
     let told = told_is_executed old mid es os u r stays in
-    let l = event_leaves u mid e o told.after told.there_after in
+    let l = (each mid e).leaves u o told.after told.there_after in
     let was : told.after.report.connected ≡ true = sym (has_it u mid told.after told.there_after) ∙ last_stays u old mid es os r stays in
     let lost : l.ups.report.connected ≡ false = sym (has_it u (after mid e o) l.ups l.there) ∙ ap (has_driver u) (sym step.leaves) ∙ gone in
     let begins = l.is.loses was lost in
@@ -164,7 +164,7 @@ run_counts old new [] [] u x there few r = let same = read_off (λ (y : UpsState
 run_counts old new (e ∷ es) (o ∷ os) u x there few (mid, step, r) =
     let next : ServerState = after old e o in
     let lines : List Heard = heard_in_event u old e o in
-    let l = event_leaves u old e o x there in
+    let l = (each old e).leaves u o x there in
     let one : l.ups.faulty ≡ min (x.faulty + refused_among x.report lines) greatest_count = l.is.counted few in
     let rest = run_counts next new es os u l.ups l.there (count_is_few (x.faulty + refused_among x.report lines) l.ups.faulty greatest_count one) (subst (λ (t : ServerState). Run t es os new) step.leaves r) in
     both_counts x.faulty l.ups.faulty (count_of u new) (refused_among x.report lines) (refused_lines u next es os) greatest_count one rest

@@ -9,7 +9,7 @@ use Rattle.nutcore.specs.Step.{Step, connected, disconnected, after_driver_text,
 use Rattle.nutcore.specs.Calls.{is_connected, done}
 use Rattle.nutcore.specs.Promises.{OfUps, IsTaken, IsTold, IsNotConnected}
 use Rattle.nutcore.proofs.UpsPlaces.{Stands, of_ups, server_agree, changed_to}
-use Rattle.nutcore.proofs.Refused.{refused}
+use Rattle.nutcore.proofs.Events.{refused}
 
 -- what its connection says of a UPS
 abbrev pub IsThere : ServerState → UpsId → Bool → Type 0

@@ -1,9 +1,9 @@
 -- What is over stays over, and what ticks and newcomers leave as it is.
-use Rattle.std.proofs.Common.{◌≡◌, ◌≤◌, ◌+◌, ◌⊎◌, ◌∙◌, ℕ, Bool, true, false, not, List, [], ◌∷◌, ◌++◌, Option, Some, None, Result, Ok, IfSome, refl, sym, ap, subst, cond, eqb, ltb, leb, length, inl, inr, arith, append-nil}
+use Rattle.std.proofs.Common.{◌≡◌, ◌≤◌, ◌+◌, ◌⊎◌, ◌∙◌, ℕ, Bool, true, false, not, List, [], ◌∷◌, ◌++◌, Option, Some, None, Result, Ok, IfSome, refl, sym, ap, subst, cond, eqb, ltb, inl, inr, arith, append-nil}
 use Rattle.std.specs.Prelude.{slice_get, is_some, codes}
 use Rattle.std.specs.Option.{option_map_or, ok_or}
 use Rattle.std.proofs.lemmas.Bool.{eqb-true, ltb-true, and_parts}
-use Rattle.nutcore.proofs.Common.{cond_both, UpsId, Change, Event, Outcome, SessionState, UpsState, ServerState, session, ups_at, after, Run}
+use Rattle.nutcore.proofs.Common.{cond_both, UpsId, Change, Event, Outcome, SessionState, UpsState, ServerState, session, after, Run}
 use Rattle.nutanswer.specs.declared.command.Command.TheVariants.{Fsd}
 use Rattle.nutanswer.specs.declared.err_word.ErrWord.{ErrWord}
 use Rattle.nutanswer.specs.declared.err_word.ErrWord.TheVariants.{UnknownUps, UsernameRequired, PasswordRequired, AccessDenied}
@@ -13,25 +13,20 @@ use Rattle.nutanswer.specs.Answer.{one_line, change_of_answer}
 use Rattle.nutanswer.proofs.PublicLaws.{a_named_ups_is_seen}
 use Rattle.nutusers.specs.Users.{may}
 use Rattle.nutusers.specs.declared.rights.Right.TheVariants as rights
-use Rattle.nutcore.specs.declared.event.Event.TheVariants.{DriverUp, DriverBytes, DriverTook, DriverDown, Tick, Open, Feed, Took, Close, Id}
-use Rattle.nutcore.specs.declared.event.Outcome.TheVariants.{Done, Fed, Opened, Refused}
-use Rattle.nutcore.specs.declared.event.Fault.TheVariants.{TooManyClients, TookTooMuch, NotConnected, AlreadyConnected, LineTooLong}
+use Rattle.nutcore.specs.declared.event.Event.TheVariants.{Open}
+use Rattle.nutcore.specs.declared.event.Outcome.TheVariants.{Opened, Refused}
+use Rattle.nutcore.specs.declared.event.Fault.TheVariants.{TooManyClients}
 use Rattle.nutcore.specs.Session.{new_session}
 use Rattle.nutcore.specs.Ups.{with_fsd}
-use Rattle.nutcore.specs.Lines.{is_too_long, unfinished_after}
 use Rattle.nutcore.specs.Reply.{seen, seen_ups, asker, change_by, changed_upses}
 use Rattle.nutcore.specs.Pump.{next_line_for, after_line, after_notice, holds_overlong}
-use Rattle.nutcore.specs.Step.{with_input, without_output, may_take, may_open, opened, ticked, after_by, refused_after, outcome_of, MayAnswer, connected_by, driver_text_outcome, driver_bytes_by, driver_took_by, disconnected_by, accepted, fed_by, took_by, closed_by, id_outcome}
-use Rattle.nuttracking.specs.declared.tracking.IdFault.{IdFault}
-use Rattle.nuttracking.specs.declared.tracking.IdFault.TheVariants.{Known, TooMany}
-use Rattle.nuttracking.specs.Tracking.{id_fault}
+use Rattle.nutcore.specs.Step.{with_input, without_output, may_open, opened, ticked, after_by, refused_after, outcome_of, MayAnswer}
 use Rattle.nutcore.specs.History.{Execution, of_line, of_notice, executions, of_client, texts_of, owed, is_over}
 use Rattle.nutcore.specs.Headline.{IsLawful}
 use Rattle.nutcore.specs.Addresses.{opened_from}
 use Rattle.nutcore.specs.ByRight.{IsByRight, SetsShutdownByRight, is_shut_down}
 use Rattle.nutcore.specs.Endings.{WhoIsOverIsAskedNoMore, id_given, ids_given, RiseFrom, IdsThatAreGivenRise, AGrantedShutdownIsSet, ATickTouchesNoSession, LeavesOlderSessions, AnOpeningTouchesNoOther}
-use Rattle.nutcore.proofs.Changed.{either_notice}
-use Rattle.nutcore.proofs.Events.{of_opened}
+use Rattle.nutcore.proofs.Changed.{either_notice, of_opened}
 use Rattle.nutcore.proofs.Found.{of_pushed}
 use Rattle.nutcore.proofs.FreshRuns.{mapped_at}
 use Rattle.nutcore.proofs.Histories.{IsOfEvents, run_keeps, two_clients}
@@ -40,6 +35,7 @@ use Rattle.nutcore.proofs.Lasting.{IsLasting, IsThere, kept, ids_kept, shutdown_
 use Rattle.nutcore.proofs.Pumping.{is_next, after_line_is, change_at, overlong_there, notice_there}
 use Rattle.nutcore.proofs.Stepping.{run_sent}
 use Rattle.nutcore.proofs.UpsPlaces.{at_changed}
+use Rattle.nutcore.proofs.Events.{each}
 
 never_ends : {A : Type 0} (b : Bool) → b ≡ true → b ≡ false → A
 never_ends true e f = cc f
@@ -115,42 +111,6 @@ asked_no_more old new es os c lawful over r =
 pub stays_ending : (old new : ServerState) (es : List Event) (os : List Outcome) (c : ℕ) (y : SessionState) → IsLawful old → is_over c old ≡ true → Run old es os new → session c new ≡ Some y → y.ending ≡ true
 stays_ending old new es os c y lawful over r found = found_ending c c new y refl found (run_keeps c (AsksNoMore c) (asks_no_more c) old new es os r (over_there c old lawful over)).1
 
--- ids: an outcome where memory is there gives none, but that of an opening
-gives_none : (b : Bool) (o p : Outcome) → id_given o ≡ [] → id_given p ≡ [] → id_given (cond b o p) ≡ []
-gives_none true o p e f = e
-gives_none false o p e f = f
-
-up_gives : (o : Option UpsState) → id_given (connected_by o) ≡ []
-up_gives None = refl
-up_gives (Some x) = gives_none x.report.connected (Refused AlreadyConnected) Done refl refl
-
-bytes_give : (piece : List ℕ) (o : Option UpsState) → id_given (driver_bytes_by piece o) ≡ []
-bytes_give piece None = refl
-bytes_give piece (Some x) =
-    let text : List ℕ = x.unfinished ++ piece in
-    gives_none x.report.connected (driver_text_outcome text) (Refused NotConnected) (gives_none (is_too_long (unfinished_after text)) (Refused LineTooLong) Done refl refl) refl
-
-driver_took_gives : (n : ℕ) (o : Option UpsState) → id_given (driver_took_by n o) ≡ []
-driver_took_gives n None = refl
-driver_took_gives n (Some x) =
-    gives_none (not x.report.connected) (Refused NotConnected) (cond (leb n (length x.owed)) Done (Refused TookTooMuch)) refl (gives_none (leb n (length x.owed)) Done (Refused TookTooMuch) refl refl)
-
-down_gives : (o : Option UpsState) → id_given (disconnected_by o) ≡ []
-down_gives None = refl
-down_gives (Some x) = gives_none x.report.connected Done (Refused NotConnected) refl refl
-
-feed_gives : (o : Option SessionState) (piece : List ℕ) (b : Bool) → id_given (fed_by o piece b) ≡ []
-feed_gives None piece b = refl
-feed_gives (Some x) piece b = gives_none b (Refused LineTooLong) (Fed (accepted x piece)) refl refl
-
-took_gives : (o : Option SessionState) (n : ℕ) (b : Bool) → id_given (took_by o n b) ≡ []
-took_gives None n b = refl
-took_gives (Some x) n b = gives_none (may_take (Some x) n) (cond b (Refused LineTooLong) Done) (Refused TookTooMuch) (gives_none b (Refused LineTooLong) Done refl refl) refl
-
-close_gives : (o : Option SessionState) → id_given (closed_by o) ≡ []
-close_gives None = refl
-close_gives (Some x) = refl
-
 joined_rise : (a b c : ℕ) (xs ys : List ℕ) → RiseFrom a b xs → RiseFrom b c ys → RiseFrom a c (xs ++ ys)
 joined_rise a b c [] ys least rest = lower a b c ys least rest
   where
@@ -173,27 +133,14 @@ rises_by_none : (s : ServerState) (e : Event) (o : Outcome) → id_given o ≡ [
 unfolding Rises
 rises_by_none s e o none = subst (RiseFrom s.next_id (after s e o).next_id) (sym none) (next_is_no_less s e (refused_after o))
 
-id_gives : (o : Option IdFault) → id_given (id_outcome o) ≡ []
-id_gives None = refl
-id_gives (Some Known) = refl
-id_gives (Some TooMany) = refl
-
 told_rises : (s : ServerState) (e : Event) → Rises s e (outcome_of s e)
 unfolding outcome_of Rises
-told_rises s (DriverUp u) = rises_by_none s _ _ (up_gives (ups_at u.place s))
-told_rises s (DriverBytes u piece) = rises_by_none s _ _ (bytes_give piece (ups_at u.place s))
-told_rises s (DriverTook u n) = rises_by_none s _ _ (driver_took_gives n (ups_at u.place s))
-told_rises s (DriverDown u) = rises_by_none s _ _ (down_gives (ups_at u.place s))
-told_rises s (Tick seconds) = rises_by_none s (Tick seconds) Done refl
 told_rises s (Open address) = by_room (may_open s) refl
   where
     by_room : (b : Bool) → may_open s ≡ b → Rises s (Open address) (cond b (Opened s.next_id) (Refused TooManyClients))
     by_room true room = let next = opened_next s address room in (omega arith, omega (arith, next))
     by_room false full = rises_by_none s (Open address) (Refused TooManyClients) refl
-told_rises s (Feed c piece) = rises_by_none s _ _ (feed_gives (session c s) piece _)
-told_rises s (Took c n) = rises_by_none s _ _ (took_gives (session c s) n _)
-told_rises s (Close c) = rises_by_none s _ _ (close_gives (session c s))
-told_rises s (Id id) = rises_by_none s _ _ (id_gives (id_fault id s.tracking))
+told_rises s e = rises_by_none s e (outcome_of s e) ((each s e).gives refl)
 
 event_rises : (s : ServerState) (e : Event) (o : Outcome) → MayAnswer s e o → Rises s e o
 event_rises s e o (inl is) = subst (Rises s e) (sym is) (told_rises s e)

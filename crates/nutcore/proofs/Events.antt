@@ -1,16 +1,32 @@
--- Events by what they do: most execute nothing, and leave the sessions as they are.
-use Rattle.std.proofs.Common.{◌≡◌, ◌+◌, ℕ, Bool, true, false, List, [], ◌∷◌, ◌++◌, Option, Some, None, refl, sym, ap, subst, cond, eqb, ◌&&◌, not}
-use Rattle.nutcore.proofs.Common.{option_map_or, cond_both, UpsId, TrackingState, Event, ServerState, session, ups_at}
+-- All that is proved by going through the events, a case each: what they leave, in its parts; what is said of each alone; and which execute nothing, and leave the sessions as they are.
+use Rattle.std.proofs.Common.{◌≡◌, ℕ, Bool, true, false, List, [], ◌∷◌, ◌++◌, Option, Some, None, refl, sym, ap, subst, cond, eqb, ◌&&◌, not, ◌∙◌, max, length, append-nil, inl}
+use Rattle.nutcore.proofs.Common.{option_map_or, UpsId, TrackingState, Event, ServerState, session, ups_at, slice_get, option_map, slice_get-map, Outcome, SessionState, cond-false, Fault, UpsState, after}
 use Rattle.nutcore.specs.declared.event.Event.TheVariants.{DriverUp, DriverBytes, DriverTook, DriverDown, Tick, Open, Feed, Took, Close, Id}
-use Rattle.nutcore.specs.Session.{without, new_session}
-use Rattle.nutcore.specs.Ups.{UpsState, ping_is_due}
-use Rattle.nutcore.specs.Step.{with_input, without_output, may_take, may_open, after_by, ticked, connected, disconnected, after_driver_took, opened, pumped_until, handed_in}
-use Rattle.nutcore.specs.Isolation.{client_of, ups_of}
+use Rattle.nutcore.specs.Session.{without}
+use Rattle.nutcore.specs.Ups.{ping_is_due, after_tick, after_loss}
+use Rattle.nutcore.specs.Step.{with_input, without_output, may_take, may_open, after_by, ticked, connected, disconnected, after_driver_took, opened, pumped_until, handed_in, joined, driver_may_take, refused_after, Step, outcome_of, after_driver_bytes, connected_by, driver_took_by, disconnected_by}
+use Rattle.nutcore.specs.Isolation.{client_of, ups_of, is_harmless}
 use Rattle.nutcore.specs.History.{Execution, executions_until, executions_by, taken_in_event, asked_in_event}
 use Rattle.nutcore.specs.Cost.{cost_of, no_cost}
-use Rattle.nutcore.specs.DriverHistory.{has_driver}
-use Rattle.nutcore.specs.DriverOrders.{Telling, dump_all, ping, told_beside_lines, moment_of}
+use Rattle.nutcore.specs.DriverHistory.{has_driver, Heard, heard_at, as_far, came_in_event, heard_in_event}
+use Rattle.nutcore.specs.DriverOrders as telling
+use Rattle.nutcore.specs.DriverOrders.{Telling, dump_all, ping, told_beside_lines, moment_of, told_in_event}
 use Rattle.nutcore.proofs.DriverText.{ups_after_bytes, changed_both, lines_read, bytes_change}
+use Rattle.nutcore.specs.Pump.{after_all_lines, is_overlong}
+use Rattle.nutcore.specs.Lines.{whole_lines}
+use Rattle.nutcore.proofs.Changed.{of_opened}
+use Rattle.nutcore.proofs.UpsPlaces.{Stands, of_place, server_same}
+use Rattle.nutcore.proofs.DriverChanges.{Does, stays_so, up_does, bytes_do, took_does, down_does, tick_does}
+use Rattle.std.specs.Prelude.{nat_le}
+use Rattle.nutcore.specs.declared.event.Outcome.TheVariants.{Done, Opened, Refused}
+use Rattle.nutcore.specs.declared.event.Fault.TheVariants.{TooManyClients, NotConnected}
+use Rattle.nuttracking.specs.Tracking.{id_fault}
+use Rattle.nutcore.specs.Addresses.{opened_from}
+use Rattle.nutcore.specs.Endings.{id_given}
+use Rattle.nutcore.specs.Happenings.{apart_from_bytes}
+use Rattle.nutcore.proofs.Adding.{session_keeps, pump_adds, took_adds, by_client}
+use Rattle.nutcore.proofs.ApartFromBytes.{core_opened, closed_without}
+use Rattle.nutcore.proofs.Outcomes.{is_quiet, not_memory, may_not, stays, up_stays, took_stays, bytes_stay, feed_stays, close_stays, id_stays, up_gives, bytes_give, driver_took_gives, down_gives, feed_gives, took_gives, close_gives, id_gives}
 
 -- what one client executes in an event
 unfoldable pub given_by : ℕ → ServerState → Event → Option ℕ → List Execution
@@ -96,13 +112,112 @@ of_parts s m Q drivers P ups tick opens feed took closes hands (Took c n) = took
 of_parts s m Q drivers P ups tick opens feed took closes hands (Close c) = closes c
 of_parts s m Q drivers P ups tick opens feed took closes hands (Id id) = hands id
 
--- what an opening leaves: one session more, or all as it was
-pub of_opened : (P : ServerState → Type 0) (s : ServerState) (address : List ℕ) (m : Option ℕ) → P s
-    → (may_open s ≡ true → let t : ServerState = record s { sessions = s.sessions ++ new_session s.next_id address ∷ []; next_id = s.next_id + 1 } in P t) → P (opened s address m)
-unfolding opened
-of_opened P s address None same more = cond_both (may_open s) _ s P more (λ full. same)
-of_opened P s address (Some k) same more = same
-
 -- what asks nothing of these changes
 pub any_driver : (moment : ℕ) (t : TrackingState) (m : Option ℕ) → OfDrivers moment t m (λ f. Unit {0})
 any_driver moment t m = record { comes = tt; tells = λ place piece. tt; takes = λ n. tt; goes = tt }
+
+-- what a driver's bytes leave of a UPS
+bytes_leave : (s : ServerState) (v : UpsId) (piece : List ℕ) (u : UpsId) (o : Outcome) (x : UpsState) → ups_at u.place s ≡ Some x → let e : Event = DriverBytes v piece in
+    Stands u.place (after s e o).upses (Does s.moment u e x (came_in_event u e) (heard_in_event u s e o) [] [])
+unfolding after_by executions_by
+bytes_leave s v piece u o x there =
+    let e : Event = DriverBytes v piece in
+    let m : Option ℕ = refused_after o in
+    let lines : List Heard = cond x.report.connected (heard_at s.moment u.place s.tracking (as_far m (whole_lines (x.unfinished ++ piece)))) [] in
+    subst (λ (t : ServerState). Stands u.place t.upses (Does s.moment u e x (came_in_event u e) (heard_in_event u s e o) [] [])) (sym (bytes_change v piece m s))
+    (of_place (ups_after_bytes s.moment v.place s.tracking piece m) u v s.upses x (Does s.moment u e x (came_in_event u e) (heard_in_event u s e o) [] []) there
+    (λ k same. rw (k, there) (subst (λ (w : UpsId). Does s.moment u e x piece lines [] [] (ups_after_bytes s.moment w.place s.tracking piece m x)) (sym same) (bytes_do s.moment u e x s.tracking piece m))) (λ k. rw k (stays_so s.moment u e x)))
+
+-- what is said of each alone: where a fault that changes nothing refuses it, all is as it was; it gives no id, but where it opens a session; what sessions hold and are owed matters to it only where a client sends or takes; and what it leaves of a UPS
+pub record OfEvent (s : ServerState) (e : Event) : Type 0 where
+  pub quiet : is_quiet (outcome_of s e) ≡ true → after_by s e None ≡ s
+  pub gives : opened_from e ≡ None → id_given (outcome_of s e) ≡ []
+  pub core : (m : Option ℕ) → IsPlain e → after_by (apart_from_bytes s) e m ≡ apart_from_bytes (after_by s e m)
+  pub leaves : (u : UpsId) (o : Outcome) (x : UpsState) → ups_at u.place s ≡ Some x → Stands u.place (after s e o).upses (Does s.moment u e x (came_in_event u e) (heard_in_event u s e o) (told_in_event u s e o) (telling.taken_in_event u s e))
+
+-- a UPS that it leaves alone
+left_alone : (s : ServerState) (u : UpsId) (e : Event) (x : UpsState) (xs : List UpsState) → slice_get xs u.place ≡ Some x → Stands u.place xs (Does s.moment u e x [] [] [] [])
+left_alone s u e x xs there = record { ups = x; there = there; is = stays_so s.moment u e x }
+
+pub each : (s : ServerState) (e : Event) → OfEvent s e
+unfolding outcome_of after_by executions_by pumped_until after_driver_bytes opened ticked with_input lines_read
+each s (DriverUp v) =
+    let e : Event = DriverUp v in record {
+      quiet = λ h. sym (server_same s v (connected s.moment) (λ x there. up_stays s.moment x x.report.connected (subst (λ (o : Option UpsState). is_quiet (connected_by o) ≡ true) there h)));
+      gives = λ none. up_gives (ups_at v.place s);
+      core = λ m plain. refl;
+      leaves = λ u o x there.
+          of_place (connected s.moment) u v s.upses x (Does s.moment u e x [] [] (told_in_event u s e o) []) there
+          (λ k same. rw (append-nil, k, there) (up_does s.moment u e x x.report.connected refl (ap (λ (w : UpsId). DriverUp w) same))) (λ k. rw (append-nil, k) (stays_so s.moment u e x));
+    }
+each s (DriverBytes v piece) =
+    let e : Event = DriverBytes v piece in record {
+      quiet = λ h. bytes_stay s v piece (ups_at v.place s) h;
+      gives = λ none. bytes_give piece (ups_at v.place s);
+      core = λ m plain. bytes_change v piece m (apart_from_bytes s) ∙ ap apart_from_bytes (sym (bytes_change v piece m s));
+      leaves = λ u o x there. bytes_leave s v piece u o x there;
+    }
+each s (DriverTook v n) =
+    let e : Event = DriverTook v n in record {
+      quiet = λ h. sym (server_same s v (after_driver_took n) (λ x there. took_stays x _ x.report.connected (nat_le n (length x.owed)) (subst (λ (o : Option UpsState). is_quiet (driver_took_by n o) ≡ true) there h)));
+      gives = λ none. driver_took_gives n (ups_at v.place s);
+      core = λ m plain. refl;
+      leaves = λ u o x there.
+          of_place (after_driver_took n) u v s.upses x (Does s.moment u e x [] [] [] (telling.taken_in_event u s e)) there
+          (λ k same. rw (k, there) (took_does s.moment u e x n (driver_may_take n x))) (λ k. rw k (stays_so s.moment u e x));
+    }
+each s (DriverDown v) =
+    let e : Event = DriverDown v in record {
+      quiet = λ h. sym (server_same s v disconnected (λ x there. stays x.report.connected Done (Refused NotConnected) (after_loss x) x refl (subst (λ (o : Option UpsState). is_quiet (disconnected_by o) ≡ true) there h)));
+      gives = λ none. down_gives (ups_at v.place s);
+      core = λ m plain. refl;
+      leaves = λ u o x there. of_place disconnected u v s.upses x (Does s.moment u e x [] [] [] []) there (λ k same. down_does s.moment u e x x.report.connected refl) (λ k. stays_so s.moment u e x);
+    }
+each s (Tick seconds) =
+    let now : ℕ = max seconds s.moment in record {
+      quiet = λ h. cc h;
+      gives = λ none. refl;
+      core = λ m plain. refl;
+      leaves = λ u o x there. record {
+        ups = after_tick s.max_age now x;
+        there = slice_get-map (after_tick s.max_age now) s.upses u.place ∙ ap (option_map (after_tick s.max_age now)) there;
+        is = rw (append-nil, there) (tick_does s.moment u (Tick seconds) x now (ping_is_due s.max_age now x));
+      };
+    }
+each s (Open address) = record {
+  quiet = λ h. stays (may_open s) (Opened s.next_id) (Refused TooManyClients) _ s refl h;
+  gives = λ none. cc none;
+  core = λ m plain. core_opened s address m;
+  leaves = λ u o x there. left_alone s u (Open address) x _ (of_opened (λ t. ups_at u.place t ≡ Some x) s address (refused_after o) there (λ room. there));
+}
+each s (Feed c piece) = record {
+  quiet = λ h. feed_stays s c piece (session c s) (is_overlong (after_all_lines (with_input s c piece) c) c) refl h;
+  gives = λ none. feed_gives (session c s) piece _;
+  core = λ m plain. absurd plain;
+  leaves = λ u o x there. by_client s.moment u (Feed c piece) x _ _ (pump_adds u (with_input s c piece) c (refused_after o) x (session_keeps u (joined piece) s c x there));
+}
+each s (Took c n) = record {
+  quiet = λ h. cond-false _ _ _ (may_not (session c s) n (is_overlong (after_all_lines (without_output s c n) c) c) h);
+  gives = λ none. took_gives (session c s) n _;
+  core = λ m plain. absurd plain;
+  leaves = λ u o x there. by_client s.moment u (Took c n) x _ _ (took_adds u s c n (refused_after o) x (may_take (session c s) n) there);
+}
+each s (Close c) = record {
+  quiet = λ h. close_stays s c (session c s) refl h;
+  gives = λ none. close_gives (session c s);
+  core = λ m plain. ap (λ (xs : List SessionState). let t : ServerState = record s { sessions = xs } in t) (sym (closed_without c s.sessions));
+  leaves = λ u o x there. left_alone s u (Close c) x _ there;
+}
+each s (Id id) = record {
+  quiet = λ h. id_stays s id (id_fault id s.tracking) refl h;
+  gives = λ none. id_gives (id_fault id s.tracking);
+  core = λ m plain. refl;
+  leaves = λ u o x there. left_alone s u (Id id) x _ there;
+}
+
+-- so a refused event
+pub refused : (s : ServerState) (e : Event) (fault : Fault) → outcome_of s e ≡ Refused fault → is_harmless fault ≡ true → Step s e (Refused fault) s
+refused s e fault is few = record {
+  allowed = inl (sym is);
+  leaves = sym (ap (after_by s e) (not_memory fault few) ∙ (each s e).quiet (subst (λ (o : Outcome). is_quiet o ≡ true) (sym is) few));
+}

@@ -8,7 +8,7 @@ use Rattle.nutcore.proofs.Common.{same_Some, slice_get_within, UpsId, Event, Out
 use Rattle.nutdriver.specs.declared.line.DriverLine.{DriverLine}
 use Rattle.nutdriver.specs.declared.fault.DriverFault.{DriverFault}
 use Rattle.nutdriver.specs.declared.effect.Effect.{Effect}
-use Rattle.nutdriver.specs.declared.effect.Effect.TheVariants.{Nothing, Changed, DumpDone, DataOk, DataStale, Pong, Tracked}
+use Rattle.nutdriver.specs.declared.effect.Effect.TheVariants.{Nothing}
 use Rattle.nutdriver.specs.declared.report.Report.{Report}
 use Rattle.nutdriver.specs.Tree.{TreeState}
 use Rattle.nutdriver.specs.Sound.{IsSoundTree}
@@ -37,7 +37,8 @@ use Rattle.nutcore.specs.DriverRuns.{IsNewServer, ConnectedInRun}
 use Rattle.nutcore.specs.FreshRuns.{tick_of, greatest_tick, TheMomentIsTheGreatestTick, lines_since, IsToldFresh, WhateverIsToldIsFresh, WhatADriverSetLastIsHeld}
 use Rattle.nutcore.proofs.Addresses.{run_keeps_list}
 use Rattle.nutcore.proofs.DriverRuns.{since_connecting}
-use Rattle.nutcore.proofs.Events.{of_parts, of_opened, any_driver}
+use Rattle.nutcore.proofs.Changed.{of_opened}
+use Rattle.nutcore.proofs.Events.{of_parts, any_driver}
 use Rattle.nutcore.proofs.Executions.{each_answer_timely}
 use Rattle.nutcore.proofs.SoundUps.{each_get}
 use Rattle.nutcore.proofs.Isolation.{own, kept_in_lines, kept_in_input, kept_in_output}
@@ -95,12 +96,7 @@ heard_now moment report line = by_reading (read_driver_line line)
 
     by_effect : (tree : TreeState) (effect : Effect) → (after_effect effect (record at { tree = tree })).heard ≡ moment
     by_effect tree Nothing = refl
-    by_effect tree Changed = refl
-    by_effect tree DumpDone = refl
-    by_effect tree DataOk = refl
-    by_effect tree DataStale = refl
-    by_effect tree Pong = refl
-    by_effect tree (Tracked id number) = refl
+    by_effect tree effect = refl
 
     by_step : (r : Result (TreeState × Effect) DriverFault) → (after_step at r).0.heard ≡ moment
     by_step (Ok (tree, effect)) = by_effect tree effect

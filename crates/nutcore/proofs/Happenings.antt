@@ -1,27 +1,26 @@
 -- Answers come of what happens, and not of bytes that come and go.
-use Rattle.std.proofs.Common.{◌≡◌, ◌∙◌, ◌+◌, ℕ, Bool, true, false, List, [], ◌∷◌, ◌++◌, Option, Some, None, Result, Ok, Err, refl, sym, ap, subst, cond, eqb, ltb, ◌&&◌, ◌^◌, map, append_assoc}
+use Rattle.std.proofs.Common.{◌≡◌, ◌∙◌, ℕ, Bool, true, false, List, [], ◌∷◌, ◌++◌, Option, Some, None, Result, Ok, Err, refl, sym, ap, subst, cond, eqb, map, append_assoc}
 use Rattle.std.specs.Prelude.{option_map}
-use Rattle.nutcore.proofs.Common.{length-map, Change, Event, Outcome, SessionState, ServerState, session, with_session_changed, after, Run}
+use Rattle.nutcore.proofs.Common.{Change, Event, Outcome, SessionState, ServerState, session, with_session_changed, after, Run}
 use Rattle.nutanswer.specs.declared.command.Command.{Command}
 use Rattle.nutanswer.specs.declared.err_word.ErrWord.{ErrWord}
-use Rattle.nutanswer.specs.declared.reply.Change.TheVariants.{Username, Password, Login, Ending}
+use Rattle.nutanswer.specs.declared.reply.Change.TheVariants.{Ending}
 use Rattle.nutanswer.specs.Command.{read_command}
 use Rattle.nutanswer.specs.View.{Seen, ClientSeen, AskerSeen}
 use Rattle.nutanswer.specs.Answer.{answer_to, text_of_answer, change_of_answer}
-use Rattle.nutlisting.specs.declared.listing.clients.TheConstants.{SESSION_LIMIT}
-use Rattle.nutcore.specs.declared.event.Event.TheVariants.{DriverUp, DriverBytes, DriverTook, DriverDown, Tick, Open, Feed, Took, Close, Id}
-use Rattle.nutcore.specs.Session.{find, put, without, new_session, begin_ending}
+use Rattle.nutcore.specs.declared.event.Event.TheVariants.{Feed, Took}
+use Rattle.nutcore.specs.Session.{find, begin_ending}
 use Rattle.nutcore.specs.Reply.{seen, seen_client, asker, asker_of, reply, text_to, change_by, changed, changed_session, changed_upses, changed_tracking, after_change, too_long_notice}
 use Rattle.nutcore.specs.Pump.{next_line_for, answered, after_line, is_overlong, notified}
-use Rattle.nutcore.specs.Step.{joined, with_input, taken_from, without_output, may_take, may_open, opened, ticked, pumped_until, after_by, refused_after}
+use Rattle.nutcore.specs.Step.{joined, with_input, taken_from, without_output, may_take, pumped_until, after_by, refused_after}
 use Rattle.nutcore.specs.History.{Execution, of_line, of_notice, client_of, text_of, executions_until, executions_by, executions, of_client, texts_of}
 use Rattle.nutcore.specs.Happenings.{Happening, line_is_executed, notice_is_told, event_comes, happening_of, happened_in_event, happenings, without_bytes, apart_from_bytes, AnswersComeOfWhatHappens, AQuietTakeChangesWhatIsOwedAlone, IsAlike, AReplyComesOfWhatIsSeen}
 use Rattle.nutcore.proofs.Changed.{by_change, change_is}
-use Rattle.nutcore.proofs.DriverText.{lines_read, bytes_change}
-use Rattle.nutcore.proofs.Events.{IsPlain}
+use Rattle.nutcore.proofs.Events.{each}
 use Rattle.nutcore.proofs.Found.{find_id}
 use Rattle.nutcore.proofs.Histories.{IsOfPump, until_keeps, two_lists, later}
 use Rattle.nutcore.proofs.Pumping.{is_next, after_line_is, change_at, changed_is, line_done, session_after, overlong_there}
+use Rattle.nutcore.proofs.ApartFromBytes.{found_without, put_without, put_same}
 
 -- what is answered comes of what is seen
 pub reply_of_seen : AReplyComesOfWhatIsSeen
@@ -58,45 +57,6 @@ quiet_take old new c n o step may quiet =
     let none : executions_until begun c m ≡ [] = ap (λ (b : Bool). cond b (executions_until begun c m) []) (sym may) ∙ quiet in
     step.leaves ∙ ap (λ (b : Bool). cond b (pumped_until begun c m) old) may ∙ until_keeps c (λ s xs t. xs ≡ [] → t ≡ s) (quiet_pump c) begun m none
 
--- sessions but for what they hold and are owed
-found_without : (c : ℕ) (xs : List SessionState) → find c (map without_bytes xs) ≡ option_map without_bytes (find c xs)
-found_without c [] = refl
-found_without c (x ∷ xs) = by_id (eqb x.id c) (found_without c xs)
-  where
-    by_id : (b : Bool) → find c (map without_bytes xs) ≡ option_map without_bytes (find c xs) → cond b (Some (without_bytes x)) (find c (map without_bytes xs)) ≡ option_map without_bytes (cond b (Some x) (find c xs))
-    by_id true more = refl
-    by_id false more = more
-
-put_without : (y : SessionState) (xs : List SessionState) → map without_bytes (put y xs) ≡ put (without_bytes y) (map without_bytes xs)
-put_without y [] = refl
-put_without y (x ∷ xs) = by_id (eqb x.id y.id) (put_without y xs)
-  where
-    by_id : (b : Bool) → map without_bytes (put y xs) ≡ put (without_bytes y) (map without_bytes xs)
-        → map without_bytes (cond b (y ∷ xs) (x ∷ put y xs)) ≡ cond b (without_bytes y ∷ map without_bytes xs) (without_bytes x ∷ put (without_bytes y) (map without_bytes xs))
-    by_id true more = refl
-    by_id false more = ap (λ (zs : List SessionState). without_bytes x ∷ zs) more
-
-put_same : (x y : SessionState) (xs : List SessionState) → find y.id xs ≡ Some x → without_bytes y ≡ without_bytes x → map without_bytes (put y xs) ≡ map without_bytes xs
-put_same x y [] found same = refl
-put_same x y (z ∷ xs) found same = by_id (eqb z.id y.id) found (λ e. put_same x y xs e same)
-  where
-    by_id : (b : Bool) → cond b (Some z) (find y.id xs) ≡ Some x → (find y.id xs ≡ Some x → map without_bytes (put y xs) ≡ map without_bytes xs) → map without_bytes (cond b (y ∷ xs) (z ∷ put y xs)) ≡ without_bytes z ∷ map without_bytes xs
-    by_id true e more = let is : z ≡ x = cc e in ap (λ (w : SessionState). w ∷ map without_bytes xs) (same ∙ ap without_bytes (sym is))
-    by_id false e more = ap (λ (zs : List SessionState). without_bytes z ∷ zs) (more e)
-
-closed_without : (c : ℕ) (xs : List SessionState) → map without_bytes (without c xs) ≡ without c (map without_bytes xs)
-closed_without c [] = refl
-closed_without c (x ∷ xs) = by_id (eqb x.id c) (closed_without c xs)
-  where
-    by_id : (b : Bool) → map without_bytes (without c xs) ≡ without c (map without_bytes xs)
-        → map without_bytes (cond b (without c xs) (x ∷ without c xs)) ≡ cond b (without c (map without_bytes xs)) (without_bytes x ∷ without c (map without_bytes xs))
-    by_id true more = more
-    by_id false more = ap (λ (zs : List SessionState). without_bytes x ∷ zs) more
-
-pushed_without : (xs ys : List SessionState) → map without_bytes (xs ++ ys) ≡ map without_bytes xs ++ map without_bytes ys
-pushed_without [] ys = refl
-pushed_without (x ∷ xs) ys = ap (λ (zs : List SessionState). without_bytes x ∷ zs) (pushed_without xs ys)
-
 seen_without : (xs : List SessionState) → map seen_client (map without_bytes xs) ≡ map seen_client xs
 seen_without [] = refl
 seen_without (x ∷ xs) = ap (λ (cs : List ClientSeen). seen_client x ∷ cs) (seen_without xs)
@@ -106,11 +66,8 @@ asker_without None = refl
 asker_without (Some x) = refl
 
 changed_without : (change : Change) (line text : List ℕ) (x : SessionState) → without_bytes (changed_session change (answered line text x)) ≡ changed_session change (without_bytes x)
-changed_without (Username name) line text x = refl
-changed_without (Password word) line text x = refl
-changed_without (Login u) line text x = refl
 changed_without Ending line text x = refl
-changed_without _ line text x = refl
+changed_without change line text x = refl
 
 -- the server: what is answered is the same
 core_alike : (s : ServerState) (c : ℕ) (line : List ℕ) → IsAlike (apart_from_bytes s) s c c line
@@ -189,35 +146,6 @@ core_notice s c long =
     ∙ ap (λ (xs : List SessionState). let t : ServerState = record s { sessions = xs } in t) (sym (put_without (notified x) s.sessions))
     ∙ ap apart_from_bytes (sym (change_is notified c s x due.1))
 
--- other events
-core_opened : (s : ServerState) (address : List ℕ) (m : Option ℕ) → opened (apart_from_bytes s) address m ≡ apart_from_bytes (opened s address m)
-unfolding opened
-core_opened s address (Some k) = refl
-core_opened s address None =
-    let k : ServerState = apart_from_bytes s in
-    let room : may_open k ≡ may_open s = ap (λ (n : ℕ). ltb n SESSION_LIMIT && ltb s.next_id (2 ^ 64)) (length-map s.sessions without_bytes) in
-    ap (λ (b : Bool). cond b (record k { sessions = k.sessions ++ new_session s.next_id address ∷ []; next_id = s.next_id + 1 }) k) room
-    ∙ by_room (may_open s)
-  where
-    by_room : (b : Bool) → let k : ServerState = apart_from_bytes s in
-        cond b (record k { sessions = k.sessions ++ new_session s.next_id address ∷ []; next_id = s.next_id + 1 }) k
-        ≡ apart_from_bytes (cond b (record s { sessions = s.sessions ++ new_session s.next_id address ∷ []; next_id = s.next_id + 1 }) s)
-    by_room true = ap (λ (xs : List SessionState). let t : ServerState = record s { sessions = xs; next_id = s.next_id + 1 } in t) (sym (pushed_without s.sessions (new_session s.next_id address ∷ [])))
-    by_room false = refl
-
-core_event : (s : ServerState) (e : Event) (m : Option ℕ) → IsPlain e → after_by (apart_from_bytes s) e m ≡ apart_from_bytes (after_by s e m)
-unfolding after_by ticked lines_read
-core_event s (DriverUp u) m plain = refl
-core_event s (DriverBytes u piece) m plain = bytes_change u piece m (apart_from_bytes s) ∙ ap apart_from_bytes (sym (bytes_change u piece m s))
-core_event s (DriverTook u n) m plain = refl
-core_event s (DriverDown u) m plain = refl
-core_event s (Tick seconds) m plain = refl
-core_event s (Open address) m plain = core_opened s address m
-core_event s (Feed c piece) m plain = absurd plain
-core_event s (Took c n) m plain = absurd plain
-core_event s (Close c) m plain = ap (λ (xs : List SessionState). let t : ServerState = record s { sessions = xs } in t) (sym (closed_without c s.sessions))
-core_event s (Id id) m plain = refl
-
 -- executions lead from a server to another so
 record Leads (s : ServerState) (hs : List Happening) (texts : ℕ → List ℕ) (t : ServerState) : Type 0 where
   server : left hs (apart_from_bytes s) ≡ apart_from_bytes t
@@ -273,7 +201,7 @@ event_leads s (Took d n) o =
         (told_by (cond b (executions_until (without_output s d n) d (refused_after o)) [])) (cond b (pumped_until (without_output s d n) d (refused_after o)) s)
     by_may true = taken
     by_may false = record { server = refl; told = λ c. refl }
-event_leads s e o = record { server = core_event s e (refused_after o) tt; told = λ c. refl }
+event_leads s e o = record { server = (each s e).core (refused_after o) tt; told = λ c. refl }
 
 run_leads : (s t : ServerState) (es : List Event) (os : List Outcome) → Run s es os t → Leads s (happenings s es os) (told_by (executions s es os)) t
 unfolding left said

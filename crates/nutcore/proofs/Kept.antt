@@ -8,7 +8,8 @@ use Rattle.nutcore.specs.Pump.{next_line_for, after_line, after_lines, after_all
 use Rattle.nutcore.specs.Step.{joined, with_input, taken_from, without_output, may_take, may_open, ticked, pumped_until, handed_in, after_by, refused_after}
 use Rattle.nutcore.specs.Addresses.{opened_from}
 use Rattle.nutcore.proofs.Pumping.{stopped_none}
-use Rattle.nutcore.proofs.Events.{OfDrivers, of_opened, of_parts}
+use Rattle.nutcore.proofs.Changed.{of_opened}
+use Rattle.nutcore.proofs.Events.{OfDrivers, of_parts}
 
 -- the parts of what a client sends and takes: a line is executed, and a session is changed
 pub record IsPumped (P : ServerState → Type 0) : Type 0 where

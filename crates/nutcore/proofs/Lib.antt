@@ -9,8 +9,6 @@ mod Histories
 mod Stepping
 mod Loops
 mod Least
-mod Events
-mod Kept
 mod Executions
 mod HeldFrames
 mod UpsPlaces
@@ -18,11 +16,14 @@ mod DriverLoops
 mod WholeLines
 mod DriverText
 mod DriverChanges
-mod DriverEvents
-mod Refused
 mod Places
 mod Serving
 mod EventSteps
+mod Outcomes
+mod Adding
+mod ApartFromBytes
+mod Events
+mod Kept
 mod Deeds
 mod Runs
 mod DriverSteps

@@ -25,10 +25,9 @@ use Rattle.nutcore.specs.Sound.{Each, IsSoundSession, IsSoundUps, IsSound, ANewS
 use Rattle.nutcore.proofs.OrderFits.{order_fits}
 use Rattle.nutcore.proofs.Places.{rise_put, rise_push, rise_without, length-put}
 use Rattle.nutcore.proofs.Changes.{keeps, of_tracking}
-use Rattle.nutcore.proofs.Changed.{by_change, either_notice}
+use Rattle.nutcore.proofs.Changed.{by_change, either_notice, of_opened}
 use Rattle.nutcore.proofs.Pumping.{is_next, after_line_is, change_at, session_after}
 use Rattle.nutcore.proofs.DriverText.{ups_after_bytes}
-use Rattle.nutcore.proofs.Events.{of_opened}
 use Rattle.nutcore.proofs.Kept.{IsKept, IsAny, any_address, any_event, by_event, by_run}
 use Rattle.nutcore.proofs.SoundUps.{each_map, each_last, each_same, length-changed, each_changed, length-changes, sound_loss, sound_connecting, sound_driver_bytes, sound_took, sound_tick, sound_changes}
 use Rattle.nutcore.proofs.DriverChanges.{no_loss}
