@@ -1,4 +1,5 @@
 -- The words that most proofs speak of: of the library, and of the server.
+use Rattle.std.proofs.Common.{◌≡◌, Bool, true, false}
 pub use Rattle.std.specs.Prelude.{slice_get}
 pub use Rattle.std.specs.Option.{option_map, option_map_or}
 pub use Rattle.std.proofs.lemmas.Bool.{cond_both, cond-true, cond-false, and_from, and_parts, or_parts, eqb-true, eqb-false, le-leb, lt-leb, ltb-true, leb-true}
@@ -16,3 +17,8 @@ pub use Rattle.nuttracking.specs.Tracking.{TrackingState}
 pub use Rattle.nutcore.specs.Server.{ServerState, session, ups_at, changed_at, with_session, with_session_changed, with_ups_changed, with_tracking}
 pub use Rattle.nutcore.specs.Step.{Step, after}
 pub use Rattle.nutcore.specs.Run.{Run}
+
+-- what is both true and false
+pub never_both : {A : Type 0} (b : Bool) → b ≡ true → b ≡ false → A
+never_both true e f = cc f
+never_both false e f = cc e

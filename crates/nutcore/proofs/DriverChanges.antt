@@ -1,6 +1,6 @@
--- What each event of a driver does to its UPS: what was told, what is owed, whether the driver stays, and the count.
+-- What an event does to a UPS: what its driver told, what is owed, whether the driver stays, and the count; and what bytes do.
 use Rattle.std.proofs.Common.{◌≡◌, ◌≤◌, ◌∙◌, ◌+◌, ℕ, Bool, true, false, ◌&&◌, not, List, [], ◌∷◌, ◌++◌, Option, Some, None, refl, sym, ap, cond, min, take, drop, append_assoc, append-nil, arith}
-use Rattle.nutcore.proofs.Common.{and_from, flat_map-append, take-append-drop, UpsId, TrackingState, Event}
+use Rattle.nutcore.proofs.Common.{never_both, and_from, flat_map-append, take-append-drop, UpsId, TrackingState, Event}
 use Rattle.nutdriver.specs.declared.report.Report.{Report}
 use Rattle.nutdriver.specs.declared.report.LineOutcome.{LineOutcome}
 use Rattle.nutdriver.specs.Report.{after_line}
@@ -8,18 +8,13 @@ use Rattle.nutcore.specs.declared.event.Event.TheVariants.{DriverUp}
 use Rattle.nutwords.specs.Text.{with_lf}
 use Rattle.nutcore.specs.Lines.{joined, whole_lines, unfinished_after, is_too_long}
 use Rattle.nutcore.specs.Reports.{end_in, with_end, is_unawaited}
-use Rattle.nutcore.specs.Ups.{UpsState, after_connecting, after_loss, ping_line, greatest_count, is_refused, with_faulty_line, after_outcome, after_text, after_texts, with_unfinished}
+use Rattle.nutcore.specs.Ups.{UpsState, after_connecting, after_loss, greatest_count, is_refused, with_faulty_line, after_outcome, after_text, after_texts, with_unfinished}
 use Rattle.nutcore.specs.Headline.{IsBeginning}
 use Rattle.nutcore.specs.Sound.{Each}
 use Rattle.nutcore.specs.DriverHistory.{Heard, heard_at, as_far, bytes_heard, after_heard, refusals, refused_among, IsWholeLine, CountsRefused, IsHeard}
-use Rattle.nutcore.specs.DriverOrders.{Telling, dump_all, ping, texts_of}
+use Rattle.nutcore.specs.DriverOrders.{Telling, texts_of}
 use Rattle.nutcore.proofs.WholeLines.{no_byte_is_lost, IsWhole, each_is_whole}
 use Rattle.nutcore.proofs.DriverText.{ups_after_text, ups_after_bytes}
-
--- driver is here and isn't
-pub no_loss : {A : Type 0} (b : Bool) → b ≡ true → b ≡ false → A
-no_loss true e f = cc f
-no_loss false e f = cc e
 
 -- counts: what one is at most, and one after two lists of lines
 pub count_is_few : (a b most : ℕ) → b ≡ min a most → b ≤ most
@@ -108,8 +103,8 @@ module _ (now : ℕ) (u : UpsId) (e : Event) (x : UpsState) where
       let counted : CountsRefused x [] y = λ few. omega (arith, count, few) in
       record {
         stays = λ is still. record { whole = tt; all = append-nil x.unfinished ∙ sym same; report = report; counted = counted };
-        loses = λ is gone. no_loss x.report.connected is (sym driver ∙ gone);
-        begins = λ gone is. no_loss y.report.connected is (driver ∙ gone);
+        loses = λ is gone. never_both x.report.connected is (sym driver ∙ gone);
+        begins = λ gone is. never_both y.report.connected is (driver ∙ gone);
         counted = counted;
         takes = (y.owed, sym owed);
         owes = λ nothing kept. owed;
@@ -118,42 +113,26 @@ module _ (now : ℕ) (u : UpsId) (e : Event) (x : UpsState) where
   pub stays_so : Does now u e x [] [] [] [] x
   stays_so = goes_on [] [] x refl refl refl (append-nil x.owed)
 
-  lost : (piece : List ℕ) (lines : List Heard) (y : UpsState) → x.report.connected ≡ true → IsBeginning (bytes_heard lines) (x.unfinished ++ piece) → CountsRefused x lines y → Does now u e x piece lines [] [] (after_loss y)
+  pub lost : (piece : List ℕ) (lines : List Heard) (y : UpsState) → x.report.connected ≡ true → IsBeginning (bytes_heard lines) (x.unfinished ++ piece) → CountsRefused x lines y → Does now u e x piece lines [] [] (after_loss y)
   lost piece lines y is begins counted = record {
     stays = λ was still. cc still;
     loses = λ was gone. begins;
     begins = λ gone is. cc is;
     counted = counted;
     takes = (x.owed ++ [], refl);
-    owes = λ nothing kept. no_loss (x.report.connected && true) (and_from x.report.connected true is refl) kept;
+    owes = λ nothing kept. never_both (x.report.connected && true) (and_from x.report.connected true is refl) kept;
   }
 
-  unconnected : (piece : List ℕ) (told : List Telling) (y : UpsState) → x.report.connected ≡ false → y.faulty ≡ x.faulty → (y.report.connected ≡ true → (e ≡ DriverUp u) × (y ≡ after_connecting now x))
+  pub unconnected : (piece : List ℕ) (told : List Telling) (y : UpsState) → x.report.connected ≡ false → y.faulty ≡ x.faulty → (y.report.connected ≡ true → (e ≡ DriverUp u) × (y ≡ after_connecting now x))
       → ((x.report.connected ≡ false → x.owed ≡ []) → x.owed ++ texts_of told ≡ y.owed) → Does now u e x piece [] told [] y
   unconnected piece told y absent count connects owes = record {
-    stays = λ was still. no_loss x.report.connected was absent;
-    loses = λ was gone. no_loss x.report.connected was absent;
+    stays = λ was still. never_both x.report.connected was absent;
+    loses = λ was gone. never_both x.report.connected was absent;
     begins = λ gone still. connects still;
     counted = λ few. omega (arith, count, few);
     takes = (x.owed ++ texts_of told, refl);
     owes = λ nothing kept. owes nothing;
   }
-
-  pub down_does : (b : Bool) → x.report.connected ≡ b → Does now u e x [] [] [] [] (cond b (after_loss x) x)
-  down_does true is = lost [] [] x is (x.unfinished ++ [], refl) (λ few. omega (arith, few))
-  down_does false gone = stays_so
-
-  pub took_does : (n : ℕ) (b : Bool) → Does now u e x [] [] [] (cond b (take n x.owed) []) (cond b (record x { owed = drop n x.owed }) x)
-  took_does n true = goes_on [] (take n x.owed) _ refl refl refl (append-nil x.owed ∙ sym (take-append-drop n x.owed))
-  took_does n false = stays_so
-
-  pub tick_does : (moment : ℕ) (b : Bool) → Does now u e x [] [] (cond b (ping ∷ []) []) [] (cond b (record x { pinged = moment; owed = x.owed ++ ping_line }) x)
-  tick_does moment true = goes_on (ping ∷ []) [] _ refl refl refl (ap (λ (z : List ℕ). x.owed ++ z) (append-nil ping_line))
-  tick_does moment false = stays_so
-
-  pub up_does : (b : Bool) → x.report.connected ≡ b → e ≡ DriverUp u → Does now u e x [] [] (cond (not b) (dump_all ∷ []) []) [] (cond b x (after_connecting now x))
-  up_does true there is = stays_so
-  up_does false absent is = unconnected [] (dump_all ∷ []) (after_connecting now x) absent refl (λ still. (is, refl)) (λ nothing. ap (λ (z : List ℕ). z ++ texts_of (dump_all ∷ [])) (nothing absent))
 
   pub bytes_do : (t : TrackingState) (piece : List ℕ) (refused : Option ℕ)
       → Does now u e x piece (cond x.report.connected (heard_at now u.place t (as_far refused (whole_lines (x.unfinished ++ piece)))) []) [] [] (ups_after_bytes now u.place t piece refused x)
@@ -181,7 +160,7 @@ module _ (now : ℕ) (u : UpsId) (e : Event) (x : UpsState) where
           counted = left.counted;
         };
         loses = λ was gone. begins_text now u.place t text None;
-        begins = λ gone still. no_loss x.report.connected is gone;
+        begins = λ gone still. never_both x.report.connected is gone;
         counted = left.counted;
         takes = (x.owed ++ [], refl);
         owes = λ nothing kept. append-nil x.owed ∙ sym left.owed;
@@ -190,4 +169,4 @@ module _ (now : ℕ) (u : UpsId) (e : Event) (x : UpsState) where
       by_connection : (b : Bool) → x.report.connected ≡ b → (r : Option ℕ) → Does now u e x piece (cond b (lines r) []) [] [] (cond b (ups_after_text now u.place t text r x) x)
       by_connection true is None = by_length is (is_too_long (unfinished_after text))
       by_connection true is (Some k) = by_loss is (Some k)
-      by_connection false absent r = unconnected piece [] x absent refl (λ is. no_loss x.report.connected is absent) (λ nothing. append-nil x.owed)
+      by_connection false absent r = unconnected piece [] x absent refl (λ is. never_both x.report.connected is absent) (λ nothing. append-nil x.owed)

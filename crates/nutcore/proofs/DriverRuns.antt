@@ -1,7 +1,7 @@
 -- Drivers in whole runs: since one connected, up to its loss, and the count of its refused lines.
 use Rattle.std.proofs.Common.{◌≡◌, ◌≤◌, ◌<◌, ◌∙◌, ◌+◌, ℕ, Bool, true, false, List, [], ◌∷◌, ◌++◌, Option, Some, Result, Ok, Err, refl, sym, ap, subst, min, length, append_assoc, inl, inr, arith}
 use Rattle.std.specs.Prelude.{◌⊎◌}
-use Rattle.nutcore.proofs.Common.{option_map_or, cond-false, same_Some, UpsId, Event, Outcome, ServerState, ups_at, Run}
+use Rattle.nutcore.proofs.Common.{never_both, option_map_or, cond-false, same_Some, UpsId, Event, Outcome, ServerState, ups_at, Run}
 use Rattle.nutdriver.specs.declared.line.DriverLine.{DriverLine}
 use Rattle.nutdriver.specs.declared.fault.DriverFault.{DriverFault}
 use Rattle.nutdriver.specs.declared.effect.Effect.{Effect}
@@ -21,7 +21,7 @@ use Rattle.nutcore.specs.DriverHistory.{Heard, heard_in_event, heard, bytes_hear
 use Rattle.nutcore.specs.DriverRuns.{IsNewServer, ConnectsHere, ConnectedInRun, WhatCameSinceConnectingIsExecuted, ALostDriversLinesAreABeginning, IsRefusedFor, WhichLinesAreRefused, count_of, refused_lines, RefusedLinesAreCounted, ANewServerCountsAllRefusedLines}
 use Rattle.nutcore.proofs.UpsPlaces.{Stands, within, read_off}
 use Rattle.nutcore.proofs.SoundUps.{each_get, each_same}
-use Rattle.nutcore.proofs.DriverChanges.{no_loss, count_is_few, both_counts}
+use Rattle.nutcore.proofs.DriverChanges.{count_is_few, both_counts}
 use Rattle.nutcore.proofs.Events.{each}
 use Rattle.nutcore.proofs.DriverHistory.{has_it, bytes_both, first_stays, told_is_executed}
 
@@ -112,8 +112,8 @@ since_connecting opening keeps old new es os u is_new few r = record {
     sound = keeps old new es os r (subst IsSound (sym is_new.is) (opening is_new.list is_new.users is_new.descriptions is_new.max_age is_new.is_list is_new.are_lawful is_new.is_max_age))
 
     by_how : How u old es os end.ups → end.ups.report.connected ≡ true → ConnectedInRun u old es os end.ups
-    by_how (inl gone) is = no_loss end.ups.report.connected is gone
-    by_how (inr (inl stays)) is = no_loss (has_driver u old) (first_stays u old es os stays) (has_it u old new_ups at)
+    by_how (inl gone) is = never_both end.ups.report.connected is gone
+    by_how (inr (inl stays)) is = never_both (has_driver u old) (first_stays u old es os stays) (has_it u old new_ups at)
     by_how (inr (inr h)) is = h
 
 -- up to a loss

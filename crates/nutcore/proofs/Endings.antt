@@ -3,7 +3,7 @@ use Rattle.std.proofs.Common.{◌≡◌, ◌≤◌, ◌+◌, ◌⊎◌, ◌∙�
 use Rattle.std.specs.Prelude.{slice_get, is_some, codes}
 use Rattle.std.specs.Option.{option_map_or, ok_or}
 use Rattle.std.proofs.lemmas.Bool.{eqb-true, ltb-true, and_parts}
-use Rattle.nutcore.proofs.Common.{cond_both, UpsId, Change, Event, Outcome, SessionState, UpsState, ServerState, session, after, Run}
+use Rattle.nutcore.proofs.Common.{never_both, cond_both, UpsId, Change, Event, Outcome, SessionState, UpsState, ServerState, session, after, Run}
 use Rattle.nutanswer.specs.declared.command.Command.TheVariants.{Fsd}
 use Rattle.nutanswer.specs.declared.err_word.ErrWord.{ErrWord}
 use Rattle.nutanswer.specs.declared.err_word.ErrWord.TheVariants.{UnknownUps, UsernameRequired, PasswordRequired, AccessDenied}
@@ -37,17 +37,13 @@ use Rattle.nutcore.proofs.Stepping.{run_sent}
 use Rattle.nutcore.proofs.UpsPlaces.{at_changed}
 use Rattle.nutcore.proofs.Events.{each}
 
-never_ends : {A : Type 0} (b : Bool) → b ≡ true → b ≡ false → A
-never_ends true e f = cc f
-never_ends false e f = cc e
-
 -- a session that is ending goes on ending
 abbrev Ends : SessionState → Type 0
 Ends x = x.ending ≡ true
 
 ending_goes_on : IsLasting Ends
 ending_goes_on = record {
-  line = λ s c line x found going so. never_ends x.ending so going;
+  line = λ s c line x found going so. never_both x.ending so going;
   joins = λ piece x so. so;
   gives = λ n x so. so;
   notice = λ x so. either_notice Ends x refl so;
@@ -71,7 +67,7 @@ found_ending : (c d : ℕ) (s : ServerState) (x : SessionState) → d ≡ c → 
 found_ending c d s x same found over = subst (λ o. IfSome o Ends) (ap (λ k. session k s) (sym same) ∙ found) over.1
 
 no_notice_to : (x : SessionState) → x.ending ≡ true → holds_overlong x ≡ true → ⊥
-no_notice_to x ends long = let parts = and_parts (not x.ending) _ long in never_ends (not x.ending) parts.0 (ap not ends)
+no_notice_to x ends long = let parts = and_parts (not x.ending) _ long in never_both (not x.ending) parts.0 (ap not ends)
 
 asks_no_more : (c : ℕ) → IsOfEvents c (AsksNoMore c)
 unfolding with_input without_output after_notice
@@ -83,7 +79,7 @@ asks_no_more c = record {
       (two_clients c xs ys ∙ ap (λ (zs : List Execution). zs ++ of_client c ys) first.0 ∙ more.0, more.1);
   by_line = λ d s line next over.
       let n = is_next s d line next in
-      (one_other c (of_line s d line) d (λ (e : d ≡ c). never_ends n.asking.ending (found_ending c d s n.asking e n.found over) n.going), (is_kept c).pumped.line s d line next over);
+      (one_other c (of_line s d line) d (λ (e : d ≡ c). never_both n.asking.ending (found_ending c d s n.asking e n.found over) n.going), (is_kept c).pumped.line s d line next over);
   by_notice = λ d s long over.
       let due = overlong_there (session d s) long in
       (one_other c (of_notice d) d (λ (e : d ≡ c). no_notice_to due.0 (found_ending c d s due.0 e due.1 over) due.2), subst (IsOver c) (notice_there s d long) ((is_kept c).pumped.notice s d over));
@@ -124,7 +120,7 @@ next_is_no_less s e m = by_event (λ t. s.next_id ≤ t.next_id) IsAny (ids_kept
 
 opened_next : (s : ServerState) (address : List ℕ) → may_open s ≡ true → (after_by s (Open address) None).next_id ≡ s.next_id + 1
 unfolding after_by opened
-opened_next s address room = cond_both (may_open s) _ s (λ t. t.next_id ≡ s.next_id + 1) (λ may. refl) (λ full. never_ends (may_open s) room full)
+opened_next s address room = cond_both (may_open s) _ s (λ t. t.next_id ≡ s.next_id + 1) (λ may. refl) (λ full. never_both (may_open s) room full)
 
 Rises : ServerState → Event → Outcome → Type 0
 Rises s e o = RiseFrom s.next_id (after s e o).next_id (id_given o)

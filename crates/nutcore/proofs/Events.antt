@@ -1,32 +1,34 @@
 -- All that is proved by going through the events, a case each: what they leave, in its parts; what is said of each alone; and which execute nothing, and leave the sessions as they are.
-use Rattle.std.proofs.Common.{◌≡◌, ℕ, Bool, true, false, List, [], ◌∷◌, ◌++◌, Option, Some, None, refl, sym, ap, subst, cond, eqb, ◌&&◌, not, ◌∙◌, max, length, append-nil, inl}
-use Rattle.nutcore.proofs.Common.{option_map_or, UpsId, TrackingState, Event, ServerState, session, ups_at, slice_get, option_map, slice_get-map, Outcome, SessionState, cond-false, Fault, UpsState, after}
+use Rattle.std.proofs.Common.{◌≡◌, ℕ, Bool, true, false, List, [], ◌∷◌, ◌++◌, Option, Some, None, refl, sym, ap, subst, cond, eqb, ◌&&◌, not, ◌∙◌, max, length, append-nil, inl, is_some, arith, take, drop}
+use Rattle.nutcore.proofs.Common.{option_map_or, UpsId, TrackingState, Event, ServerState, session, ups_at, slice_get, option_map, slice_get-map, Outcome, SessionState, cond-false, Fault, UpsState, after, cond_both, with_tracking, take-append-drop}
 use Rattle.nutcore.specs.declared.event.Event.TheVariants.{DriverUp, DriverBytes, DriverTook, DriverDown, Tick, Open, Feed, Took, Close, Id}
 use Rattle.nutcore.specs.Session.{without}
-use Rattle.nutcore.specs.Ups.{ping_is_due, after_tick, after_loss}
-use Rattle.nutcore.specs.Step.{with_input, without_output, may_take, may_open, after_by, ticked, connected, disconnected, after_driver_took, opened, pumped_until, handed_in, joined, driver_may_take, refused_after, Step, outcome_of, after_driver_bytes, connected_by, driver_took_by, disconnected_by}
+use Rattle.nutcore.specs.Ups.{ping_is_due, after_tick, after_loss, after_connecting, ping_line}
+use Rattle.nutcore.specs.Step.{with_input, without_output, may_take, may_open, after_by, ticked, connected, disconnected, after_driver_took, opened, pumped_until, handed_in, joined, driver_may_take, refused_after, Step, outcome_of, after_driver_bytes, connected_by, driver_took_by, disconnected_by, after_driver_text, driver_bytes_by, driver_text_outcome, fed_by, took_by, closed_by, accepted, id_outcome}
 use Rattle.nutcore.specs.Isolation.{client_of, ups_of, is_harmless}
 use Rattle.nutcore.specs.History.{Execution, executions_until, executions_by, taken_in_event, asked_in_event}
 use Rattle.nutcore.specs.Cost.{cost_of, no_cost}
 use Rattle.nutcore.specs.DriverHistory.{has_driver, Heard, heard_at, as_far, came_in_event, heard_in_event}
 use Rattle.nutcore.specs.DriverOrders as telling
-use Rattle.nutcore.specs.DriverOrders.{Telling, dump_all, ping, told_beside_lines, moment_of, told_in_event}
+use Rattle.nutcore.specs.DriverOrders.{Telling, dump_all, ping, told_beside_lines, moment_of, told_in_event, texts_of}
 use Rattle.nutcore.proofs.DriverText.{ups_after_bytes, changed_both, lines_read, bytes_change}
-use Rattle.nutcore.specs.Pump.{after_all_lines, is_overlong}
-use Rattle.nutcore.specs.Lines.{whole_lines}
+use Rattle.nutcore.specs.Pump.{after_all_lines, is_overlong, pumped}
+use Rattle.nutcore.specs.Lines.{whole_lines, unfinished_after, is_too_long}
 use Rattle.nutcore.proofs.Changed.{of_opened}
 use Rattle.nutcore.proofs.UpsPlaces.{Stands, of_place, server_same}
-use Rattle.nutcore.proofs.DriverChanges.{Does, stays_so, up_does, bytes_do, took_does, down_does, tick_does}
+use Rattle.nutcore.proofs.DriverChanges.{Does, stays_so, bytes_do, lost, unconnected, goes_on}
 use Rattle.std.specs.Prelude.{nat_le}
-use Rattle.nutcore.specs.declared.event.Outcome.TheVariants.{Done, Opened, Refused}
-use Rattle.nutcore.specs.declared.event.Fault.TheVariants.{TooManyClients, NotConnected}
+use Rattle.nutcore.specs.declared.event.Outcome.TheVariants.{Done, Opened, Refused, Fed}
+use Rattle.nutcore.specs.declared.event.Fault.TheVariants.{TooManyClients, NotConnected, TookTooMuch, AlreadyConnected, LineTooLong, Memory}
 use Rattle.nuttracking.specs.Tracking.{id_fault}
 use Rattle.nutcore.specs.Addresses.{opened_from}
 use Rattle.nutcore.specs.Endings.{id_given}
 use Rattle.nutcore.specs.Happenings.{apart_from_bytes}
 use Rattle.nutcore.proofs.Adding.{session_keeps, pump_adds, took_adds, by_client}
 use Rattle.nutcore.proofs.ApartFromBytes.{core_opened, closed_without}
-use Rattle.nutcore.proofs.Outcomes.{is_quiet, not_memory, may_not, stays, up_stays, took_stays, bytes_stay, feed_stays, close_stays, id_stays, up_gives, bytes_give, driver_took_gives, down_gives, feed_gives, took_gives, close_gives, id_gives}
+use Rattle.nuttracking.specs.declared.tracking.IdFault.{IdFault}
+use Rattle.nutcore.proofs.Places.{without_none}
+use Rattle.nutcore.proofs.EventSteps.{pump_absent, input_absent}
 
 -- what one client executes in an event
 unfoldable pub given_by : ℕ → ServerState → Event → Option ℕ → List Execution
@@ -115,6 +117,105 @@ of_parts s m Q drivers P ups tick opens feed took closes hands (Id id) = hands i
 -- what asks nothing of these changes
 pub any_driver : (moment : ℕ) (t : TrackingState) (m : Option ℕ) → OfDrivers moment t m (λ f. Unit {0})
 any_driver moment t m = record { comes = tt; tells = λ place piece. tt; takes = λ n. tt; goes = tt }
+
+-- what is answered to each, and what it leaves where it is refused
+-- it was refused, by a fault that changes nothing
+abbrev pub is_quiet : Outcome → Bool
+is_quiet (Refused fault) = is_harmless fault
+is_quiet _ = false
+
+not_memory : (fault : Fault) → is_harmless fault ≡ true → refused_after (Refused fault) ≡ None
+not_memory (Memory k) h = cc h
+not_memory _ h = refl
+
+never_quiet : {A : Type 0} (o : Outcome) → is_quiet o ≡ false → is_quiet o ≡ true → A
+never_quiet o e h = let never : false ≡ true = sym e ∙ h in cc never
+
+-- what is done or stopped at a line that is too long is none of these refusals
+goes : (b : Bool) (o : Outcome) → is_quiet o ≡ false → is_quiet (cond b (Refused LineTooLong) o) ≡ false
+goes b o done = cond_both b (Refused LineTooLong) o (λ z. is_quiet z ≡ false) (λ e. refl) (λ e. done)
+
+-- what is done unless it is refused
+stays : {A : Type 0} (b : Bool) (o p : Outcome) (t s : A) → is_quiet o ≡ false → is_quiet (cond b o p) ≡ true → cond b t s ≡ s
+stays true o p t s done h = never_quiet o done h
+stays false o p t s done h = refl
+
+up_stays : (now : ℕ) (x : UpsState) (b : Bool) → is_quiet (cond b (Refused AlreadyConnected) Done) ≡ true → cond b x (after_connecting now x) ≡ x
+up_stays now x true h = refl
+up_stays now x false h = cc h
+
+took_stays : (x y : UpsState) (b d : Bool) → is_quiet (cond (not b) (Refused NotConnected) (cond d Done (Refused TookTooMuch))) ≡ true → cond (b && d) y x ≡ x
+took_stays x y true d h = stays d Done (Refused TookTooMuch) y x refl h
+took_stays x y false d h = refl
+
+bytes_stay : (s : ServerState) (u : UpsId) (piece : List ℕ) (o : Option UpsState) → is_quiet (driver_bytes_by piece o) ≡ true → option_map_or (λ x. cond x.report.connected (after_driver_text u (x.unfinished ++ piece) None s) s) o s ≡ s
+bytes_stay s u piece None h = refl
+bytes_stay s u piece (Some x) h =
+    let text : List ℕ = x.unfinished ++ piece in
+    stays x.report.connected (driver_text_outcome text) (Refused NotConnected) (after_driver_text u text None s) s (goes (is_too_long (unfinished_after text)) Done refl) h
+
+feed_stays : (s : ServerState) (c : ℕ) (piece : List ℕ) (o : Option SessionState) (b : Bool) → session c s ≡ o → is_quiet (fed_by o piece b) ≡ true → pumped (with_input s c piece) c ≡ s
+feed_stays s c piece None b e h = ap (λ (z : ServerState). pumped z c) (input_absent s c piece e) ∙ sym (pump_absent s c e)
+feed_stays s c piece (Some x) b e h = never_quiet _ (goes b (Fed (accepted x piece)) refl) h
+
+-- where a take is refused, nothing may be taken
+pub may_not : (o : Option SessionState) (n : ℕ) (b : Bool) → is_quiet (took_by o n b) ≡ true → may_take o n ≡ false
+may_not None n b h = refl
+may_not (Some x) n b h = by_room (may_take (Some x) n) h
+  where
+    by_room : (d : Bool) → is_quiet (cond d (cond b (Refused LineTooLong) Done) (Refused TookTooMuch)) ≡ true → d ≡ false
+    by_room true k = never_quiet _ (goes b Done refl) k
+    by_room false k = refl
+
+close_stays : (s : ServerState) (c : ℕ) (o : Option SessionState) → session c s ≡ o → is_quiet (closed_by o) ≡ true → (let t : ServerState = record s { sessions = without c s.sessions } in t) ≡ s
+close_stays s c None e h = ap (λ (xs : List SessionState). let t : ServerState = record s { sessions = xs } in t) (without_none c s.sessions e)
+close_stays s c (Some x) e h = cc h
+
+id_stays : (s : ServerState) (id : ℕ) (o : Option IdFault) → id_fault id s.tracking ≡ o → is_quiet (id_outcome o) ≡ true → handed_in id s ≡ s
+id_stays s id None e h = cc h
+id_stays s id (Some fault) e h = ap (λ (o : Option IdFault). with_tracking (cond (is_some o) s.tracking (record s.tracking { ids = s.tracking.ids ++ id ∷ [] })) s) e
+
+-- no outcome but an opening's gives an id
+up_gives : (o : Option UpsState) → id_given (connected_by o) ≡ []
+up_gives o = grind arith
+
+bytes_give : (piece : List ℕ) (o : Option UpsState) → id_given (driver_bytes_by piece o) ≡ []
+bytes_give piece o = grind arith
+
+driver_took_gives : (n : ℕ) (o : Option UpsState) → id_given (driver_took_by n o) ≡ []
+driver_took_gives n o = grind arith
+
+down_gives : (o : Option UpsState) → id_given (disconnected_by o) ≡ []
+down_gives o = grind arith
+
+feed_gives : (o : Option SessionState) (piece : List ℕ) (b : Bool) → id_given (fed_by o piece b) ≡ []
+feed_gives o piece b = grind arith
+
+took_gives : (o : Option SessionState) (n : ℕ) (b : Bool) → id_given (took_by o n b) ≡ []
+took_gives o n b = grind arith
+
+close_gives : (o : Option SessionState) → id_given (closed_by o) ≡ []
+close_gives o = grind arith
+
+id_gives : (o : Option IdFault) → id_given (id_outcome o) ≡ []
+id_gives o = grind arith
+
+-- what each event of a driver does to its UPS
+down_does : (now : ℕ) (u : UpsId) (e : Event) (x : UpsState) (b : Bool) → x.report.connected ≡ b → Does now u e x [] [] [] [] (cond b (after_loss x) x)
+down_does now u e x true is = lost now u e x [] [] x is (x.unfinished ++ [], refl) (λ few. omega (arith, few))
+down_does now u e x false gone = stays_so now u e x
+
+took_does : (now : ℕ) (u : UpsId) (e : Event) (x : UpsState) (n : ℕ) (b : Bool) → Does now u e x [] [] [] (cond b (take n x.owed) []) (cond b (record x { owed = drop n x.owed }) x)
+took_does now u e x n true = goes_on now u e x [] (take n x.owed) _ refl refl refl (append-nil x.owed ∙ sym (take-append-drop n x.owed))
+took_does now u e x n false = stays_so now u e x
+
+tick_does : (now : ℕ) (u : UpsId) (e : Event) (x : UpsState) (moment : ℕ) (b : Bool) → Does now u e x [] [] (cond b (ping ∷ []) []) [] (cond b (record x { pinged = moment; owed = x.owed ++ ping_line }) x)
+tick_does now u e x moment true = goes_on now u e x (ping ∷ []) [] _ refl refl refl (ap (λ (z : List ℕ). x.owed ++ z) (append-nil ping_line))
+tick_does now u e x moment false = stays_so now u e x
+
+up_does : (now : ℕ) (u : UpsId) (e : Event) (x : UpsState) (b : Bool) → x.report.connected ≡ b → e ≡ DriverUp u → Does now u e x [] [] (cond (not b) (dump_all ∷ []) []) [] (cond b x (after_connecting now x))
+up_does now u e x true there is = stays_so now u e x
+up_does now u e x false absent is = unconnected now u e x [] (dump_all ∷ []) (after_connecting now x) absent refl (λ still. (is, refl)) (λ nothing. ap (λ (z : List ℕ). z ++ texts_of (dump_all ∷ [])) (nothing absent))
 
 -- what a driver's bytes leave of a UPS
 bytes_leave : (s : ServerState) (v : UpsId) (piece : List ℕ) (u : UpsId) (o : Outcome) (x : UpsState) → ups_at u.place s ≡ Some x → let e : Event = DriverBytes v piece in

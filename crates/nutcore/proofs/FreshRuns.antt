@@ -1,10 +1,10 @@
 -- What is told of a UPS's data is fresh, over every run from a new server.
 use Rattle.std.proofs.Common.{◌≡◌, ◌≤◌, ◌<◌, ◌-◌, ◌∙◌, ℕ, zero, suc, Bool, true, false, List, [], ◌∷◌, ◌++◌, Option, Some, Result, Ok, Err, refl, sym, ap, subst, map, max, length, arith, cond, not, ltb, ◌||◌}
-use Rattle.std.specs.Prelude.{codes, nat_eq, slice_get}
+use Rattle.std.specs.Prelude.{codes, nat_eq, slice_get, option_map}
 use Rattle.std.specs.List.{starts_with}
 use Rattle.std.proofs.lemmas.Bool.Decides.{nat_tests}
 use Rattle.std.proofs.lemmas.List.Elements.{All-weaker}
-use Rattle.nutcore.proofs.Common.{same_Some, slice_get_within, UpsId, Event, Outcome, UpsState, ServerState, ups_at, Run}
+use Rattle.nutcore.proofs.Common.{same_Some, slice_get_within, UpsId, Event, Outcome, UpsState, ServerState, ups_at, Run, slice_get-map}
 use Rattle.nutdriver.specs.declared.line.DriverLine.{DriverLine}
 use Rattle.nutdriver.specs.declared.fault.DriverFault.{DriverFault}
 use Rattle.nutdriver.specs.declared.effect.Effect.{Effect}
@@ -146,9 +146,7 @@ mapped_at f (x ∷ xs) zero b h = record { of = x; there = refl; is = same_Some 
 mapped_at f (x ∷ xs) (suc p) b h = let more = mapped_at f xs p b h in record { of = more.of; there = more.there; is = more.is }
 
 at_mapped : {A B : Type 0} (f : A → B) (xs : List A) (p : ℕ) (a : A) → slice_get xs p ≡ Some a → slice_get (map f xs) p ≡ Some (f a)
-at_mapped f [] p a h = cc h
-at_mapped f (x ∷ xs) zero a h = ap (λ z. Some (f z)) (same_Some x a h)
-at_mapped f (x ∷ xs) (suc p) a h = at_mapped f xs p a h
+at_mapped f xs p a h = slice_get-map f xs p ∙ ap (option_map f) h
 
 -- what lines leave as it was before their event
 kept_until : (s : ServerState) (e : Event) (t : ServerState) (c : ℕ) (line : List ℕ) → IsInEvent s e (of_line t c line) → kept_from_clients t ≡ kept_from_clients s

@@ -21,6 +21,7 @@ use Rattle.nutcore.proofs.Found.{find_id}
 use Rattle.nutcore.proofs.Histories.{IsOfPump, until_keeps, two_lists, later}
 use Rattle.nutcore.proofs.Pumping.{is_next, after_line_is, change_at, changed_is, line_done, session_after, overlong_there}
 use Rattle.nutcore.proofs.ApartFromBytes.{found_without, put_without, put_same}
+use Rattle.std.proofs.lemmas.List.{map-append}
 
 -- what is answered comes of what is seen
 pub reply_of_seen : AReplyComesOfWhatIsSeen
@@ -120,10 +121,6 @@ unfolding left said
 said_both c [] gs k = refl
 said_both c (h ∷ hs) gs k = ap (λ (w : List ℕ). says c h k ++ w) (said_both c hs gs (act h k)) ∙ sym (append_assoc (says c h k) (said c hs (act h k)) (said c gs (left hs (act h k))))
 
-happened_both : (xs ys : List Execution) → map happening_of (xs ++ ys) ≡ map happening_of xs ++ map happening_of ys
-happened_both [] ys = refl
-happened_both (x ∷ xs) ys = ap (λ (hs : List Happening). happening_of x ∷ hs) (happened_both xs ys)
-
 -- the line and the notice
 core_line : (s : ServerState) (c : ℕ) (line : List ℕ) → next_line_for s c ≡ Some line → act (line_is_executed c line) (apart_from_bytes s) ≡ apart_from_bytes (after_line s c)
 core_line s c line next =
@@ -174,7 +171,7 @@ unfolding left said
 pump_leads d = record {
   stays = λ s. record { server = refl; told = λ c. refl };
   joins = λ s m t xs ys f g.
-      subst (λ (hs : List Happening). Leads s hs (told_by (xs ++ ys)) t) (sym (happened_both xs ys))
+      subst (λ (hs : List Happening). Leads s hs (told_by (xs ++ ys)) t) (sym (map-append happening_of xs ys))
       (both_lead s m t (map happening_of xs) (map happening_of ys) (told_by xs) (told_by ys) (told_by (xs ++ ys)) (λ c. two_lists text_of c xs ys) f g);
   by_line = λ s line next. record { server = core_line s d line next; told = λ c. one_told (of_line s d line) (reply (apart_from_bytes s) d line) c (core_alike s d line).reply };
   by_notice = λ s long. record { server = core_notice s d long; told = λ c. one_told (of_notice d) too_long_notice c refl };

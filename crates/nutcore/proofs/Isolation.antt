@@ -15,7 +15,7 @@ use Rattle.nutcore.specs.Pump.{next_line_for, after_line, after_lines, after_all
 use Rattle.nutcore.specs.Step.{Step, joined, with_input, taken_from, without_output, may_take, pumped_until, after_by, refused_after, outcome_of}
 use Rattle.nutcore.specs.Isolation.{client_of, ups_of, without_commands, kept_from_clients, LeavesOtherClients, MaySettle, MaySettleEach, LeavesOtherUpses, AClientTouchesNoOther, ADriverTouchesNoOther, ARefusedEventChangesNothing, ARefusedEventCostsNothing, is_harmless}
 use Rattle.nutcore.specs.Cost.{cost_of, no_cost}
-use Rattle.nutcore.proofs.Events.{of_event, of_parts, any_driver, refused}
+use Rattle.nutcore.proofs.Events.{is_quiet, may_not, of_event, of_parts, any_driver, refused}
 use Rattle.nutcore.proofs.Changed.{by_change}
 use Rattle.nutcore.proofs.DriverText.{changed_both}
 use Rattle.nutcore.proofs.Changes.{of_upses}
@@ -24,7 +24,6 @@ use Rattle.nutcore.proofs.Found.{find_without_other}
 use Rattle.nutcore.proofs.Kept.{IsPumped, by_lines, by_feed, by_take}
 use Rattle.nutcore.proofs.Progress.{Presence}
 use Rattle.nutcore.proofs.Pumping.{is_next, after_line_is, change_at}
-use Rattle.nutcore.proofs.Outcomes.{is_quiet, may_not}
 use Rattle.nutcore.proofs.Stepping.{until_other, input_other, output_other}
 use Rattle.nutcore.proofs.UpsPlaces.{other_ups}
 

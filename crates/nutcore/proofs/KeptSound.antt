@@ -10,7 +10,7 @@ use Rattle.nutwords.specs.declared.limits.TheConstants.{LINE_LIMIT}
 use Rattle.nutdriver.specs.declared.report.LineOutcome.{LineOutcome}
 use Rattle.nutdriver.specs.Tree.{empty_tree}
 use Rattle.nutdriver.specs.Sound.{IsSoundTree, EachLineKeepsTheTreeSound}
-use Rattle.nutcore.proofs.Common.{cond_both, or_parts, UpsId, Change, Fault, SessionState, ServerState, session, ups_at, with_ups_changed}
+use Rattle.nutcore.proofs.Common.{never_both, cond_both, or_parts, UpsId, Change, Fault, SessionState, ServerState, session, ups_at, with_ups_changed}
 use Rattle.nutlisting.specs.declared.outbox.TheConstants.{OWED_LIMIT}
 use Rattle.std.specs.declared.alloc.AllocError.{AllocError}
 use Rattle.nutcore.specs.Lines.{first_line}
@@ -29,7 +29,6 @@ use Rattle.nutcore.proofs.Tracked.{IsTracked, order_tracked}
 use Rattle.nutcore.proofs.Found.{find_id}
 use Rattle.nutcore.proofs.Serving.{set_is}
 use Rattle.nutcore.proofs.SoundUps.{sound_changes, length-changes, sound_fewer, sound_bytes, sound_report, report_connected}
-use Rattle.nutcore.proofs.DriverChanges.{no_loss}
 use Rattle.nutcore.proofs.Sound.{each_found, sound_with, sound_upses, upses_sound, sound_answered, sound_notice, sound_input, sound_output, is_tracked, tracking_sound}
 
 -- a session in place of the one that stands there
@@ -113,7 +112,7 @@ module _ (empty : IsSoundTree empty_tree) (line_keeps : EachLineKeepsTheTreeSoun
   driver_line_kept m line x y (Ok outcome) does connected h =
       subst (IsSoundUps m) (sym does.1) (sound_report empty line_keeps m (with_unfinished [] x) line (sound_bytes m [] x (omega arith) (record { is = h; connected = connected }))).is
   driver_line_kept m line x y (Err e) does connected h =
-      subst (IsSoundUps m) (sym does.1) (record { tree = h.tree; heard = omega arith; pinged = h.pinged; owed = h.owed; unfinished = h.unfinished; lost = λ lost. no_loss x.report.connected connected lost })
+      subst (IsSoundUps m) (sym does.1) (record { tree = h.tree; heard = omega arith; pinged = h.pinged; owed = h.owed; unfinished = h.unfinished; lost = λ lost. never_both x.report.connected connected lost })
 
 pub driver_line_connected : (m : ℕ) (line : List ℕ) (x y : UpsState) (r : Result LineOutcome AllocError) → DoesLine m line x r y → y.report.connected ≡ x.report.connected
 driver_line_connected m line x y (Ok outcome) does = ap (λ (z : UpsState). z.report.connected) does.1 ∙ report_connected m x line

@@ -1,4 +1,5 @@
 -- What never goes back.
+use Rattle.nutcore.proofs.Common.{never_both}
 use Rattle.std.proofs.Common.{◌≡◌, ℕ, ◌+◌, ◌<◌, ◌≤◌, Bool, true, false, List, [], ◌∷◌, zero, suc, Option, Some, None, refl, sym, ◌∙◌, ap, subst, cond, eqb, not, ◌&&◌, IfSome, drop, length, inl, inr, ◌⊎◌, arith}
 use Rattle.std.specs.Prelude.{is_none, nat_le}
 use Rattle.std.proofs.lemmas.Bool.{eqb-true, eqb-false}
@@ -110,11 +111,6 @@ password_lasts word = record {
   gives = λ n x so. so;
   notice = λ x so. either_notice (λ y. y.password ≡ Some word) x so so;
 }
-
--- a session that ends is no one's whose line is executed
-never_both : {A : Type 0} (b : Bool) → b ≡ true → b ≡ false → A
-never_both true e f = cc f
-never_both false e f = cc e
 
 abbrev IsIn : UpsId → SessionState → Type 0
 IsIn u x = (x.ending ≡ true) ⊎ (x.login ≡ Some u)

@@ -19,7 +19,6 @@ mod DriverChanges
 mod Places
 mod Serving
 mod EventSteps
-mod Outcomes
 mod Adding
 mod ApartFromBytes
 mod Events
@@ -47,7 +46,6 @@ mod Bounded
 mod Takes
 mod Taking
 mod TakingAmongOthers
-mod TakingSome
 mod NotStuck
 mod Totals
 mod Listed

@@ -3,7 +3,7 @@ use Rattle.std.proofs.Common.{◌≡◌, ◌≤◌, ◌<◌, ◌+◌, ◌-◌, �
 use Rattle.std.specs.Prelude.{nat_lt}
 use Rattle.nutdriver.specs.Tree.{empty_tree}
 use Rattle.nutdriver.specs.Sound.{IsSoundTree, EachLineKeepsTheTreeSound, ReadLinesAreLawful}
-use Rattle.nutcore.proofs.Common.{ltb-true, cond_both, and_parts, length-map, length-replicate, same_Some, UpsId, Change, ServerState, changed_at, with_session, with_session_changed, with_ups_changed, with_tracking}
+use Rattle.nutcore.proofs.Common.{never_both, ltb-true, cond_both, and_parts, length-map, length-replicate, same_Some, UpsId, Change, ServerState, changed_at, with_session, with_session_changed, with_ups_changed, with_tracking}
 use Rattle.std.proofs.lemmas.List.Elements.{All-nil}
 use Rattle.nuttracking.specs.Sound.{IsLawfulProgress}
 use Rattle.nuttracking.specs.Tracking.{TrackingState}
@@ -30,7 +30,6 @@ use Rattle.nutcore.proofs.Pumping.{is_next, after_line_is, change_at, session_af
 use Rattle.nutcore.proofs.DriverText.{ups_after_bytes}
 use Rattle.nutcore.proofs.Kept.{IsKept, IsAny, any_address, any_event, by_event, by_run}
 use Rattle.nutcore.proofs.SoundUps.{each_map, each_last, each_same, length-changed, each_changed, length-changes, sound_loss, sound_connecting, sound_driver_bytes, sound_took, sound_tick, sound_changes}
-use Rattle.nutcore.proofs.DriverChanges.{no_loss}
 use Rattle.nutcore.proofs.Runs.{lawful}
 
 pub each_put : (P : SessionState → Type 0) (y : SessionState) → P y → (xs : List SessionState) → Each P xs → Each P (put y xs)
@@ -111,7 +110,7 @@ sound_answered change line text x going h =
     let kept = keeps change y in
     record {
       held = (let few = h.held in let less = kept.shorter in omega (arith, few, less, length-drop (length line + 1) x.held));
-      ending = λ e. elim (kept.ended e) [ inl already ↦ no_loss x.ending already going | inr ends ↦ ends ];
+      ending = λ e. elim (kept.ended e) [ inl already ↦ never_both x.ending already going | inr ends ↦ ends ];
     }
 
 pub sound_input : (piece : List ℕ) (x : SessionState) → IsSoundSession x → IsSoundSession (joined piece x)
@@ -124,7 +123,7 @@ sound_input piece x h = by_ending x.ending refl
     }
     by_ending false e = record {
       held = (let few = h.held in omega (arith, few, length-append x.held (take (HELD_LIMIT - length x.held) piece), length-take (HELD_LIMIT - length x.held) piece));
-      ending = λ k. no_loss x.ending k e;
+      ending = λ k. never_both x.ending k e;
     }
 
 pub sound_with : (s : ServerState) (y : SessionState) → IsSoundSession y → IsSound s → IsSound (with_session s y)

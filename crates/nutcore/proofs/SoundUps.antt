@@ -15,7 +15,7 @@ use Rattle.nutdriver.specs.DriverLine.{read_driver_line}
 use Rattle.nutdriver.specs.DriverStep.{driver_step}
 use Rattle.nutdriver.specs.Report.{after_effect, after_step, after_reading, after_line as report_after_line}
 use Rattle.nutdriver.specs.Sound.{IsSoundTree, EachLineKeepsTheTreeSound}
-use Rattle.nutcore.proofs.Common.{leb-true, cond_both, and_parts, TrackingState, Change, changed_at}
+use Rattle.nutcore.proofs.Common.{never_both, leb-true, cond_both, and_parts, TrackingState, Change, changed_at}
 use Rattle.nutcore.specs.declared.TheConstants.{DRIVER_OWED_LIMIT}
 use Rattle.nutcore.specs.Lines.{whole_lines, unfinished_after, is_too_long}
 use Rattle.nutcore.specs.Reports.{end_in, with_end, is_unawaited}
@@ -25,7 +25,6 @@ use Rattle.nutcore.specs.Promises.{TakesLine, OrderFits}
 use Rattle.nutcore.proofs.Changes.{of_upses}
 use Rattle.nutcore.specs.Step.{driver_may_take, after_driver_took}
 use Rattle.nutcore.proofs.DriverText.{ups_after_text, ups_after_bytes}
-use Rattle.nutcore.proofs.DriverChanges.{no_loss}
 use Rattle.nutcore.specs.Sound.{Each, IsSoundUps}
 
 -- lists
@@ -85,7 +84,7 @@ pub record IsSoundConnected (m : ℕ) (x : UpsState) : Type 0 where
   pub connected : x.report.connected ≡ true
 
 sound_there : (m : ℕ) (x : UpsState) → IsSoundTree x.report.tree → x.report.heard ≤ m → x.pinged ≤ m → length x.owed ≤ DRIVER_OWED_LIMIT → length x.unfinished ≤ LINE_LIMIT → x.report.connected ≡ true → IsSoundConnected m x
-sound_there m x tree heard pinged owed short is = record { is = record { tree = tree; heard = heard; pinged = pinged; owed = owed; unfinished = short; lost = λ e. no_loss x.report.connected is e }; connected = is }
+sound_there m x tree heard pinged owed short is = record { is = record { tree = tree; heard = heard; pinged = pinged; owed = owed; unfinished = short; lost = λ e. never_both x.report.connected is e }; connected = is }
 
 pub sound_bytes : (m : ℕ) (bytes : List ℕ) (x : UpsState) → length bytes ≤ LINE_LIMIT → IsSoundConnected m x → IsSoundConnected m (record x { unfinished = bytes })
 sound_bytes m bytes x short h = sound_there m _ h.is.tree h.is.heard h.is.pinged h.is.owed short h.connected

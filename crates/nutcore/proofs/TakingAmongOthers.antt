@@ -1,5 +1,5 @@
--- The same among the events of others.
-use Rattle.std.proofs.Common.{◌≡◌, ◌≢◌, ◌⊎◌, ℕ, suc, ◌+◌, ◌/◌, ◌≤◌, Bool, true, false, List, [], ◌∷◌, ◌++◌, Option, Some, None, refl, sym, ◌∙◌, ap, subst, cond, eqb, inl, inr, arith, length}
+-- A client that takes, among the events of others, gets everything: all that it is offered, or some bytes at a time.
+use Rattle.std.proofs.Common.{◌≡◌, ◌≢◌, ℕ, suc, ◌+◌, ◌≤◌, Bool, true, false, List, [], ◌∷◌, Option, Some, None, refl, sym, ◌∙◌, ap, subst, cond, eqb, inl, inr, arith, length, zero, ◌*◌, ◌<◌}
 use Rattle.std.specs.Prelude.{is_none, option_and_then}
 use Rattle.std.specs.List.{filter}
 use Rattle.std.specs.Option.{option_map_or}
@@ -9,16 +9,16 @@ use Rattle.nutcore.proofs.Common.{Event, Outcome, SessionState, ServerState, ses
 use Rattle.nutcore.specs.declared.event.Event.TheVariants.{Feed, Took, Close}
 use Rattle.nutcore.specs.Session.{find, new_session}
 use Rattle.nutcore.specs.Pump.{next_line, pump_stops, held_of, owed_of, holds_overlong}
-use Rattle.nutcore.specs.Step.{with_input, without_output, may_take, offered, after_by, refused_after, outcome_of}
-use Rattle.nutcore.specs.History.{Execution, texts_of, executions_until, executions_by, executions, executions_in_event, of_client, owed}
+use Rattle.nutcore.specs.Step.{with_input, without_output, may_take, after_by, refused_after, outcome_of}
+use Rattle.nutcore.specs.History.{Execution, texts_of, executions_until, executions_by, executions, executions_in_event, of_client, owed, answers, held}
 use Rattle.nutcore.specs.Isolation.{client_of}
-use Rattle.nutcore.specs.Taking.{IsTakeOfAll, enough_takes, TakesAmongOthers, is_event_of, events_of, IsServed, WhoTakesAmongOthersGetsEverything}
+use Rattle.nutcore.specs.Taking.{TakesAmongOthers, is_event_of, events_of, WhoTakesAmongOthersGetsEverything, lines_done}
 use Rattle.nutcore.proofs.Events.{of_session_event}
 use Rattle.nutcore.proofs.Histories.{later, lines_more, answers_more, of_opened}
 use Rattle.nutcore.proofs.Isolation.{own}
 use Rattle.nutcore.proofs.Stepping.{until_apart}
-use Rattle.nutcore.proofs.Takes.{HasNothingLeft, all_taken, outcome_then, server_then, done_then, IsTake, one_take, take_does, idle_take}
-use Rattle.nutcore.proofs.Taking.{take_counts}
+use Rattle.nutcore.proofs.Takes.{HasNothingLeft, outcome_then, server_then, done_then, IsTake, one_take, take_does, idle_take, size, some_taken, all_is_ring}
+use Rattle.nutcore.specs.TakingSome.{IsTakeOf, TakesSomeAmongOthers, WhoTakesSomeGetsEverything}
 
 -- what a client holds and owes stays: its session does, or one is opened for it
 pub record IsUntouched (old new : Option SessionState) : Type 0 where
@@ -71,76 +71,109 @@ pub not_its_own : (c : ℕ) (d : Option ℕ) → option_map_or (λ k. eqb k c) d
 not_its_own c None e = λ h. cc h
 not_its_own c (Some k) e = λ h. let same : k ≡ c = cc h in let yes_same = eq-eqb k c same in cc
 
--- a take of all is the event of a server
-as_take : (c : ℕ) (s : ServerState) (e : Event) (o : Outcome) (P : Event → Outcome → Type 0) → IsTakeOfAll c s e o → P (all_taken s c) (outcome_then s c) → P e o
-as_take c s e o P (event_is, outcome_is) p = subst (λ (z : Event). P z o) (sym event_is) (subst (P (all_taken s c)) (sym (outcome_is ∙ ap (outcome_of s) event_is)) p)
-
 -- where nothing is left, it stays so
-pub left_after : (c : ℕ) (s t : ServerState) → IsUntouched (session c s) (session c t) → HasNothingLeft c s → HasNothingLeft c t
+left_after : (c : ℕ) (s t : ServerState) → IsUntouched (session c s) (session c t) → HasNothingLeft c s → HasNothingLeft c t
 left_after c s t same h = record { none = same.owes ∙ h.none; ended = record { stopped = same.stops ∙ h.ended.stopped; short = same.long ∙ h.ended.short } }
 
-stays_left : (c : ℕ) (s t : ServerState) (es : List Event) (os : List Outcome) → Run s es os t → TakesAmongOthers c s es os → HasNothingLeft c s → HasNothingLeft c t
-stays_left c s t [] [] r among h = subst (HasNothingLeft c) (sym r) h
-stays_left c s t (e ∷ es) (o ∷ os) (mid, step, r) among h = stays_left c (after s e o) t es os (later t es os step r) among.1 (left_by (is_event_of c e) refl)
-  where
-    left_by : (b : Bool) → is_event_of c e ≡ b → HasNothingLeft c (after s e o)
-    left_by true its = as_take c s e o (λ e o. HasNothingLeft c (after s e o)) (among.0 (its_own c (client_of e) its)) (subst (HasNothingLeft c) (sym (idle_take s c h)) h)
-    left_by false other = left_after c s (after s e o) (anothers c s e (refused_after o) (not_its_own c (client_of e) other)).untouched h
-stays_left c s t es os r among h = absurd r
+times_more : (a b k : ℕ) → (a + b) * k ≡ a * k + b * k
+times_more zero b k = omega arith
+times_more (suc a) b k = let more = times_more a b k in omega (arith, more)
 
--- a take, and the run after it
-served_take : (c : ℕ) (s t : ServerState) (es : List Event) (os : List Outcome) → (HasNothingLeft c (server_then s c) → HasNothingLeft c t) → IsServed c (server_then s c) es os t →
-    IsServed c s (all_taken s c ∷ es) (outcome_then s c ∷ os) t
-served_take c s t es os stays h = record {
-  lines = (let now = is.fewer in let few = h.lines in omega (arith, now, few, lines_more c (executions_in_event s (all_taken s c) (outcome_then s c)) (executions (server_then s c) es os)));
-  served = λ enough. elim (take_does s c) [
-    | inl one ↦ counts enough (inr one)
-    | inr (inl (full, less)) ↦ counts enough (inl full)
-    | inr (inr none) ↦ (let last = stays (record { none = none; ended = is.ended }) in (last.none, last.ended.stopped))
-  ];
-}
-  where
-    is : IsTake s c (server_then s c) (done_then s c)
-    is = one_take s c
+at_least : (a k : ℕ) → 1 ≤ a → k ≤ a * k
+at_least zero k some = absurd (omega (arith, some))
+at_least (suc a) k some = omega arith
 
-    event_more : events_of c (all_taken s c ∷ es) ≡ suc (events_of c es)
-    event_more = ap (λ (b : Bool). length (cond b (all_taken s c ∷ filter (is_event_of c) es) (filter (is_event_of c) es))) (eq-eqb c c refl)
+module _ (k : ℕ) (few : k ≤ RING_LIMIT) (c : ℕ) where
+  as_take : (s : ServerState) (e : Event) (o : Outcome) (P : Event → Outcome → Type 0) → IsTakeOf k c s e o → P (some_taken k c s) (outcome_then k c s) → P e o
+  as_take s e o P (event_is, outcome_is) p = subst (λ (z : Event). P z o) (sym event_is) (subst (P (some_taken k c s)) (sym (outcome_is ∙ ap (outcome_of s) event_is)) p)
 
-    counts : enough_takes c s (all_taken s c ∷ es) (outcome_then s c ∷ os) ≤ events_of c (all_taken s c ∷ es) → (RING_LIMIT ≤ length (offered (session c s))) ⊎ (1 ≤ length (done_then s c)) → (owed c t ≡ []) × (pump_stops t c ≡ true)
-    counts enough moves = let more = take_counts s c es os moves in h.served (omega (arith, enough, more, event_more))
+  stays_left : (s t : ServerState) (es : List Event) (os : List Outcome) → Run s es os t → TakesSomeAmongOthers k c s es os → HasNothingLeft c s → HasNothingLeft c t
+  stays_left s t [] [] r among h = subst (HasNothingLeft c) (sym r) h
+  stays_left s t (e ∷ es) (o ∷ os) (mid, step, r) among h = stays_left (after s e o) t es os (later t es os step r) among.1 (left_by (is_event_of c e) refl)
+    where
+      left_by : (b : Bool) → is_event_of c e ≡ b → HasNothingLeft c (after s e o)
+      left_by true its = as_take s e o (λ e o. HasNothingLeft c (after s e o)) (among.0 (its_own c (client_of e) its)) (subst (HasNothingLeft c) (sym (idle_take k c s h)) h)
+      left_by false other = left_after c s (after s e o) (anothers c s e (refused_after o) (not_its_own c (client_of e) other)).untouched h
+  stays_left s t es os r among h = absurd r
 
--- one event, and the run after it
-served_run : (c : ℕ) (s t : ServerState) (es : List Event) (os : List Outcome) → Run s es os t → TakesAmongOthers c s es os → IsServed c s es os t
-served_run c s t [] [] r among = record { lines = omega arith; served = λ h. absurd (omega (arith, h)) }
-served_run c s t (e ∷ es) (o ∷ os) (mid, step, r) among = served_by (is_event_of c e) refl (served_run c (after s e o) t es os (later t es os step r) among.1)
-  where
-    now : List Execution
-    now = executions_in_event s e o
+  -- so many takes are enough
+  record IsServedSo (s : ServerState) (es : List Event) (os : List Outcome) (t : ServerState) : Type 0 where
+    lines : lines_done c s es os ≤ length (held c s)
+    served : length (owed c s) + length (answers c s es os) + lines_done c s es os * k < events_of c es * k → (owed c t ≡ []) × (pump_stops t c ≡ true)
 
-    behind : List Execution
-    behind = executions (after s e o) es os
+  -- a take, and the run after it
+  served_take : (s t : ServerState) (es : List Event) (os : List Outcome) → (HasNothingLeft c (server_then k c s) → HasNothingLeft c t) → IsServedSo (server_then k c s) es os t → IsServedSo s (some_taken k c s ∷ es) (outcome_then k c s ∷ os) t
+  served_take s t es os stays h = record {
+    lines = (let fewer = is.fewer in let few = h.lines in omega (arith, fewer, few, more));
+    served = λ enough. elim (take_does k c few s) [
+      | inl one ↦ (let once = at_least (length (done_then k c s)) k one in h.served (omega (arith, enough, once, moved, lines, texts, event_more)))
+      | inr (inl (full, less)) ↦ h.served (omega (arith, enough, full, moved, lines, texts, event_more))
+      | inr (inr none) ↦ (let last = stays (record { none = none; ended = is.ended }) in (last.none, last.ended.stopped))
+    ];
+  }
+    where
+      is : IsTake k c s (server_then k c s) (done_then k c s)
+      is = one_take k c s
 
-    by_another : IsAnothers c s (after s e o) (of_client c now) → IsServed c (after s e o) es os t → is_event_of c e ≡ false → IsServed c s (e ∷ es) (o ∷ os) t
-    by_another other h not_its =
-        let owes = ap (λ (z : List ℕ). length z) other.untouched.owes in
-        let holds = ap (λ (z : List ℕ). length z) other.untouched.holds in
-        let none = ap (λ (z : List Execution). length z) other.nothing in
-        let no_text = ap (λ (z : List Execution). length (texts_of z)) other.nothing in
-        let few = h.lines in
-        let total : length (owed c s) + length (texts_of (of_client c (now ++ behind))) ≡ length (owed c (after s e o)) + length (texts_of (of_client c behind)) = omega (arith, owes, no_text, answers_more c now behind) in
-        let rings = ap (λ (n : ℕ). n / RING_LIMIT) total in
-        let events = ap (λ (b : Bool). length (cond b (e ∷ filter (is_event_of c) es) (filter (is_event_of c) es))) not_its in
-        record {
-          lines = omega (arith, few, holds, none, lines_more c now behind);
-          served = λ enough. h.served (omega (arith, enough, rings, none, events, lines_more c now behind));
-        }
+      moved : length (owed c (server_then k c s)) + size k c s ≤ length (owed c s) + length (texts_of (done_then k c s))
+      moved = is.moved
 
-    served_by : (b : Bool) → is_event_of c e ≡ b → IsServed c (after s e o) es os t → IsServed c s (e ∷ es) (o ∷ os) t
-    served_by true its h =
-        as_take c s e o (λ e o. Run (after s e o) es os t → TakesAmongOthers c (after s e o) es os → IsServed c (after s e o) es os t → IsServed c s (e ∷ es) (o ∷ os) t) (among.0 (its_own c (client_of e) its))
-        (λ rest others then. served_take c s t es os (stays_left c (server_then s c) t es os rest others) then) (later t es os step r) among.1 h
-    served_by false other h = by_another (anothers c s e (refused_after o) (not_its_own c (client_of e) other)) h other
-served_run c s t es os r among = absurd r
+      texts : length (answers c s (some_taken k c s ∷ es) (outcome_then k c s ∷ os)) ≡ length (texts_of (done_then k c s)) + length (answers c (server_then k c s) es os)
+      texts = answers_more c (executions_in_event s (some_taken k c s) (outcome_then k c s)) (executions (server_then k c s) es os)
+
+      more : lines_done c s (some_taken k c s ∷ es) (outcome_then k c s ∷ os) ≡ length (done_then k c s) + lines_done c (server_then k c s) es os
+      more = lines_more c (executions_in_event s (some_taken k c s) (outcome_then k c s)) (executions (server_then k c s) es os)
+
+      lines : lines_done c s (some_taken k c s ∷ es) (outcome_then k c s ∷ os) * k ≡ length (done_then k c s) * k + lines_done c (server_then k c s) es os * k
+      lines = ap (λ (n : ℕ). n * k) more ∙ times_more (length (done_then k c s)) (lines_done c (server_then k c s) es os) k
+
+      event_more : events_of c (some_taken k c s ∷ es) * k ≡ k + events_of c es * k
+      event_more =
+          let one : events_of c (some_taken k c s ∷ es) * k ≡ suc (events_of c es) * k = ap (λ (b : Bool). length (cond b (some_taken k c s ∷ filter (is_event_of c) es) (filter (is_event_of c) es)) * k) (eq-eqb c c refl) in
+          omega (arith, one)
+
+  served_run : (s t : ServerState) (es : List Event) (os : List Outcome) → Run s es os t → TakesSomeAmongOthers k c s es os → IsServedSo s es os t
+  served_run s t [] [] r among = record { lines = omega arith; served = λ h. absurd (omega (arith, h)) }
+  served_run s t (e ∷ es) (o ∷ os) (mid, step, r) among = served_by (is_event_of c e) refl (served_run (after s e o) t es os (later t es os step r) among.1)
+    where
+      now : List Execution
+      now = executions_in_event s e o
+
+      behind : List Execution
+      behind = executions (after s e o) es os
+
+      by_another : IsAnothers c s (after s e o) (of_client c now) → IsServedSo (after s e o) es os t → is_event_of c e ≡ false → IsServedSo s (e ∷ es) (o ∷ os) t
+      by_another other h not_its =
+          let owes = ap (λ (z : List ℕ). length z) other.untouched.owes in
+          let holds = ap (λ (z : List ℕ). length z) other.untouched.holds in
+          let none = ap (λ (z : List Execution). length z) other.nothing in
+          let no_text = ap (λ (z : List Execution). length (texts_of z)) other.nothing in
+          let texts : length (answers c s (e ∷ es) (o ∷ os)) ≡ length (answers c (after s e o) es os) = omega (arith, answers_more c now behind, no_text) in
+          let same : lines_done c s (e ∷ es) (o ∷ os) ≡ lines_done c (after s e o) es os = omega (arith, lines_more c now behind, none) in
+          let lines = ap (λ (n : ℕ). n * k) same in
+          let events = ap (λ (b : Bool). length (cond b (e ∷ filter (is_event_of c) es) (filter (is_event_of c) es)) * k) not_its in
+          let fewer = h.lines in
+          record { lines = omega (arith, fewer, holds, same); served = λ enough. h.served (omega (arith, enough, owes, texts, lines, events)) }
+
+      served_by : (b : Bool) → is_event_of c e ≡ b → IsServedSo (after s e o) es os t → IsServedSo s (e ∷ es) (o ∷ os) t
+      served_by true its h =
+          as_take s e o (λ e o. Run (after s e o) es os t → TakesSomeAmongOthers k c (after s e o) es os → IsServedSo (after s e o) es os t → IsServedSo s (e ∷ es) (o ∷ os) t) (among.0 (its_own c (client_of e) its))
+          (λ rest others then. served_take s t es os (stays_left (server_then k c s) t es os rest others) then) (later t es os step r) among.1 h
+      served_by false other h = by_another (anothers c s e (refused_after o) (not_its_own c (client_of e) other)) h other
+  served_run s t es os r among = absurd r
+
+pub takes_some : WhoTakesSomeGetsEverything
+takes_some old new es os c k some few r among enough =
+    let lines = times_more (lines_done c old es os) 1 k in
+    (served_run k few c old new es os r among).served (omega (arith, enough, some, lines))
+
+-- all that is offered is a whole ring, or less
+takes_rings : (c : ℕ) (s : ServerState) (es : List Event) (os : List Outcome) → TakesAmongOthers c s es os → TakesSomeAmongOthers RING_LIMIT c s es os
+takes_rings c s [] os among = tt
+takes_rings c s (e ∷ es) [] among = tt
+takes_rings c s (e ∷ es) (o ∷ os) (own, others) = (λ its. ((own its).0 ∙ ap (λ (n : ℕ). Took c n) (sym (all_is_ring c s)), (own its).1), takes_rings c (after s e o) es os others)
 
 pub among_others : WhoTakesAmongOthersGetsEverything
-among_others old new es os c r among = served_run c old new es os r among
+among_others old new es os c r among =
+    let h = served_run RING_LIMIT (omega arith) c old new es os r (takes_rings c old es os among) in
+    record { lines = h.lines; served = λ enough. h.served (omega (arith, enough)) }

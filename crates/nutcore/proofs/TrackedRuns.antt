@@ -9,7 +9,7 @@ use Rattle.nuttracking.specs.Tracking.{nothing_tracked, progress_of}
 use Rattle.nuttracking.proofs.PublicLaws.{nothing_is_sound, acts_keep_it_sound, first_in_first_out, the_last_are_kept, its_driver_settles_it_once}
 use Rattle.nutcore.proofs.Common.{option_map_or, flat_map-append, UpsId, TrackingState, Change, Event, Outcome, UpsState, ServerState, session, ups_at, after}
 use Rattle.nutanswer.specs.declared.reply.Change.TheVariants.{Tracked}
-use Rattle.nutcore.specs.declared.event.Event.TheVariants.{DriverBytes, Open, Feed, Took, Id}
+use Rattle.nutcore.specs.declared.event.Event.TheVariants.{DriverBytes, Open, Feed, Took}
 use Rattle.nutcore.specs.Lines.{whole_lines}
 use Rattle.nutcore.specs.Reports.{OrderEnd, end_in, with_end, after_ends}
 use Rattle.nutcore.specs.Reply.{changed_tracking}
@@ -112,7 +112,6 @@ event_acts s (DriverBytes u piece) o = ap (λ (z : ServerState). z.tracking) (by
 event_acts s (Open address) o = of_opened (λ t. t.tracking ≡ s.tracking) s address (refused_after o) refl (λ room. refl)
 event_acts s (Feed c piece) o = fed_acts s c piece (refused_after o)
 event_acts s (Took c n) o = took_acts s c n (refused_after o) (may_take (session c s) n)
-event_acts s (Id id) o = refl
 event_acts s e o = refl
 
 pub run_acts : WhatIsTrackedComesOfTheActs

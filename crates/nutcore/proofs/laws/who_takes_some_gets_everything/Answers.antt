@@ -1,4 +1,4 @@
-use Rattle.nutcore.proofs.TakingSome.{takes_some}
+use Rattle.nutcore.proofs.TakingAmongOthers.{takes_some}
 use Rattle.nutcore.proofs.laws.who_takes_some_gets_everything.Goals as goal
 
 pub returns : goal.returns
