@@ -1,5 +1,5 @@
 -- A client that asks one line, in a run of any others.
-use Rattle.std.proofs.Common.{◌≡◌, ◌⊎◌, ◌∙◌, ℕ, Bool, true, false, List, [], ◌∷◌, ◌++◌, Option, Some, None, refl, sym, ap, subst, cond, eqb, ltb, inl, inr, append_assoc, append-nil}
+use Rattle.std.proofs.Common.{◌≡◌, ◌⊎◌, ◌∙◌, ℕ, Bool, true, false, List, [], ◌∷◌, ◌++◌, Option, Some, None, refl, sym, ap, subst, eqb, ltb, inl, inr, append_assoc, append-nil}
 use Rattle.std.specs.Prelude.{option_map}
 use Rattle.std.specs.Option.{option_map_or}
 use Rattle.std.proofs.lemmas.Bool.{both_ways, eqb-true, lt-ltb}
@@ -92,11 +92,7 @@ tells c =
 -- executions of one client
 all_its : (c : ℕ) (xs : List Execution) → Each (λ x. client_of x ≡ c) (of_client c xs)
 all_its c [] = tt
-all_its c (x ∷ xs) = by_own (eqb (client_of x) c) refl (all_its c xs)
-  where
-    by_own : (b : Bool) → eqb (client_of x) c ≡ b → Each (λ y. client_of y ≡ c) (of_client c xs) → Each (λ y. client_of y ≡ c) (cond b (x ∷ of_client c xs) (of_client c xs))
-    by_own true e rest = (eqb-true (client_of x) c e, rest)
-    by_own false e rest = rest
+all_its c (x ∷ xs) = cond_both (eqb (client_of x) c) (x ∷ of_client c xs) (of_client c xs) (Each (λ y. client_of y ≡ c)) (λ e. (eqb-true (client_of x) c e, all_its c xs)) (λ e. all_its c xs)
 
 -- bytes that are one line are one line alone
 no_bytes : (line : List ℕ) (rest : List ℕ) → with_lf line ++ rest ≡ [] → ⊥

@@ -1,5 +1,5 @@
 -- What changing a session leaves of the server, of that session and of the others.
-use Rattle.std.proofs.Common.{◌≡◌, ◌≢◌, ℕ, Bool, true, false, Option, Some, None, refl, sym, ◌∙◌, ap, cond, ltb, ◌+◌, List, [], ◌∷◌, ◌++◌}
+use Rattle.std.proofs.Common.{◌≡◌, ◌≢◌, ℕ, true, Option, Some, None, refl, sym, ◌∙◌, ap, ltb, ◌+◌, List, [], ◌∷◌, ◌++◌}
 use Rattle.std.specs.Prelude.{option_map}
 use Rattle.std.specs.Option.{option_map_or}
 use Rattle.nutcore.specs.Session.{SessionState, find, put, new_session}
@@ -54,11 +54,7 @@ presence_other f keeps c d s differ = by_change (λ t. presence c t ≡ presence
 
 -- the notice, where it is due, and where it isn't
 pub either_notice : (P : SessionState → Type 0) (x : SessionState) → P (notified x) → P x → P (with_notice x)
-either_notice P x told quiet = by_length (holds_overlong x)
-  where
-    by_length : (b : Bool) → P (cond b (notified x) x)
-    by_length true = told
-    by_length false = quiet
+either_notice P x told quiet = cond_both (holds_overlong x) (notified x) x P (λ long. told) (λ short. quiet)
 
 pub notice_id : (x : SessionState) → (with_notice x).id ≡ x.id
 notice_id x = either_notice (λ y. y.id ≡ x.id) x refl refl

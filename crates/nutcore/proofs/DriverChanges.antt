@@ -1,6 +1,6 @@
 -- What an event does to a UPS: what its driver told, what is owed, whether the driver stays, and the count; and what bytes do.
 use Rattle.std.proofs.Common.{◌≡◌, ◌≤◌, ◌∙◌, ◌+◌, ℕ, Bool, true, false, ◌&&◌, not, List, [], ◌∷◌, ◌++◌, Option, Some, None, refl, sym, ap, cond, min, take, drop, append_assoc, append-nil, arith}
-use Rattle.nutcore.proofs.Common.{never_both, and_from, flat_map-append, take-append-drop, UpsId, TrackingState, Event}
+use Rattle.nutcore.proofs.Common.{never_both, and_from, flat_map-append, take-append-drop, UpsId, TrackingState, Event, cond_both}
 use Rattle.nutdriver.specs.declared.report.Report.{Report}
 use Rattle.nutdriver.specs.declared.report.LineOutcome.{LineOutcome}
 use Rattle.nutdriver.specs.Report.{after_line}
@@ -34,14 +34,11 @@ pub record LineLeaves (unawaited : Bool) (x : UpsState) (r : Report × LineOutco
   pub beside : (bytes : List ℕ) → with_unfinished bytes y ≡ after_outcome unawaited (with_unfinished bytes x) r
 
 pub line_leaves : (unawaited : Bool) (x : UpsState) (r : Report × LineOutcome) → LineLeaves unawaited x r (after_outcome unawaited x r)
-line_leaves unawaited x r = by_refusal (is_refused unawaited r.1) refl
-  where
-    y : UpsState
-    y = record x { report = r.0 }
-
-    by_refusal : (b : Bool) → is_refused unawaited r.1 ≡ b → LineLeaves unawaited x r (cond b (with_faulty_line y) y)
-    by_refusal true is = record { report = refl; pinged = refl; owed = refl; unfinished = refl; counted = λ few. rw is refl; beside = λ bytes. rw is refl }
-    by_refusal false is = record { report = refl; pinged = refl; owed = refl; unfinished = refl; counted = λ few. rw is (omega (arith, few)); beside = λ bytes. rw is refl }
+line_leaves unawaited x r =
+    let y : UpsState = record x { report = r.0 } in
+    cond_both (is_refused unawaited r.1) (with_faulty_line y) y (LineLeaves unawaited x r)
+    (λ is. record { report = refl; pinged = refl; owed = refl; unfinished = refl; counted = λ few. rw is refl; beside = λ bytes. rw is refl })
+    (λ is. record { report = refl; pinged = refl; owed = refl; unfinished = refl; counted = λ few. rw is (omega (arith, few)); beside = λ bytes. rw is refl })
 
 -- whole lines, all at one moment
 record LinesLeave (lines : List Heard) (x y : UpsState) : Type 0 where

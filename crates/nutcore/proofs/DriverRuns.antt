@@ -24,6 +24,7 @@ use Rattle.nutcore.proofs.SoundUps.{each_get, each_same}
 use Rattle.nutcore.proofs.DriverChanges.{count_is_few, both_counts}
 use Rattle.nutcore.proofs.Events.{each}
 use Rattle.nutcore.proofs.DriverHistory.{has_it, bytes_both, first_stays, told_is_executed}
+use Rattle.std.proofs.lemmas.Bool.{cases_Bool}
 
 -- a new server
 abbrev IsNew : UpsState → Type 0
@@ -81,11 +82,7 @@ earlier u s new e o es os x now there at step run (inr (inl stays)) = by_driver 
         })))
 
 stands : (old new : ServerState) (es : List Event) (os : List Outcome) (u : UpsId) (x : UpsState) → ups_at u.place old ≡ Some x → Run old es os new → Stands u.place new.upses (How u old es os)
-stands old new [] [] u x there r = record { ups = x; there = ap (ups_at u.place) r ∙ there; is = by_driver x.report.connected refl }
-  where
-    by_driver : (b : Bool) → x.report.connected ≡ b → How u old [] [] x
-    by_driver true is = inr (inl (has_it u old x there ∙ is))
-    by_driver false gone = inl gone
+stands old new [] [] u x there r = record { ups = x; there = ap (ups_at u.place) r ∙ there; is = elim (cases_Bool x.report.connected) [ inl is ↦ inr (inl (has_it u old x there ∙ is)) | inr gone ↦ inl gone ] }
 stands old new (e ∷ es) (o ∷ os) u x there (mid, step, r) =
     let next : ServerState = after old e o in
     let l = (each old e).leaves u o x there in

@@ -131,11 +131,8 @@ rises_by_none s e o none = subst (RiseFrom s.next_id (after s e o).next_id) (sym
 
 told_rises : (s : ServerState) (e : Event) → Rises s e (outcome_of s e)
 unfolding outcome_of Rises
-told_rises s (Open address) = by_room (may_open s) refl
-  where
-    by_room : (b : Bool) → may_open s ≡ b → Rises s (Open address) (cond b (Opened s.next_id) (Refused TooManyClients))
-    by_room true room = let next = opened_next s address room in (omega arith, omega (arith, next))
-    by_room false full = rises_by_none s (Open address) (Refused TooManyClients) refl
+told_rises s (Open address) =
+    cond_both (may_open s) (Opened s.next_id) (Refused TooManyClients) (Rises s (Open address)) (λ room. let next = opened_next s address room in (omega arith, omega (arith, next))) (λ full. rises_by_none s (Open address) (Refused TooManyClients) refl)
 told_rises s e = rises_by_none s e (outcome_of s e) ((each s e).gives refl)
 
 event_rises : (s : ServerState) (e : Event) (o : Outcome) → MayAnswer s e o → Rises s e o

@@ -17,10 +17,10 @@ use Rattle.nutcore.specs.History.{Execution, of_line, of_notice, client_of, text
 use Rattle.nutcore.specs.Happenings.{Happening, line_is_executed, notice_is_told, event_comes, happening_of, happened_in_event, happenings, without_bytes, apart_from_bytes, AnswersComeOfWhatHappens, AQuietTakeChangesWhatIsOwedAlone, IsAlike, AReplyComesOfWhatIsSeen}
 use Rattle.nutcore.proofs.Changed.{by_change, change_is}
 use Rattle.nutcore.proofs.Events.{each}
-use Rattle.nutcore.proofs.Found.{find_id}
+use Rattle.nutcore.proofs.Found.{find_id, mapped_put}
 use Rattle.nutcore.proofs.Histories.{IsOfPump, until_keeps, two_lists, later}
 use Rattle.nutcore.proofs.Pumping.{is_next, after_line_is, change_at, changed_is, line_done, session_after, overlong_there}
-use Rattle.nutcore.proofs.ApartFromBytes.{found_without, put_without, put_same}
+use Rattle.nutcore.proofs.ApartFromBytes.{found_without, put_without}
 use Rattle.std.proofs.lemmas.List.{map-append}
 
 -- what is answered comes of what is seen
@@ -81,7 +81,7 @@ core_alike s c line =
 core_bytes : (f : SessionState → SessionState) → ((x : SessionState) → (f x).id ≡ x.id) → ((x : SessionState) → without_bytes (f x) ≡ without_bytes x) → (s : ServerState) (c : ℕ) → apart_from_bytes (with_session_changed f c s) ≡ apart_from_bytes s
 core_bytes f id same s c =
     by_change (λ t. apart_from_bytes t ≡ apart_from_bytes s) f c s
-    (λ x e. ap (λ (xs : List SessionState). let t : ServerState = record s { sessions = xs } in t) (put_same x (f x) s.sessions (ap (λ k. find k s.sessions) (id x ∙ find_id c s.sessions x e) ∙ e) (same x)))
+    (λ x e. ap (λ (xs : List SessionState). let t : ServerState = record s { sessions = xs } in t) (mapped_put without_bytes x (f x) s.sessions (ap (λ k. find k s.sessions) (id x ∙ find_id c s.sessions x e) ∙ e) (same x)))
     (λ e. refl)
 
 core_input : (s : ServerState) (c : ℕ) (piece : List ℕ) → apart_from_bytes (with_input s c piece) ≡ apart_from_bytes s

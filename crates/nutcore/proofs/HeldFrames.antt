@@ -1,5 +1,5 @@
 -- A listing is the frame of what is held.
-use Rattle.std.proofs.Common.{◌≡◌, ℕ, Bool, true, false, List, [], ◌∷◌, Option, Some, Result, Ok, refl, sym, ◌∙◌, ap}
+use Rattle.std.proofs.Common.{◌≡◌, ℕ, true, List, [], ◌∷◌, Option, Some, Result, Ok, refl, sym, ◌∙◌, ap, inl, inr}
 use Rattle.std.specs.Prelude.{codes, nat_eq}
 use Rattle.std.specs.List.{starts_with}
 use Rattle.std.proofs.lemmas.Slice.Eq.{bytes_eq-Decides}
@@ -8,7 +8,7 @@ use Rattle.nutanswer.specs.declared.command.Command.{Command}
 use Rattle.nutanswer.specs.declared.err_word.ErrWord.{ErrWord}
 use Rattle.nutanswer.specs.Command.{read_command}
 use Rattle.nutlisting.specs.Items.{ListingState}
-use Rattle.nutanswer.specs.Answer.{Answer, one_line, answer_to, listing, text_of_answer, change_of_answer}
+use Rattle.nutanswer.specs.Answer.{Answer, one_line, answer_to, listing, text_of_answer}
 use Rattle.nutcore.proofs.Common.{Change, SessionState, ServerState, session, with_session}
 use Rattle.nutcore.specs.Reply.{seen, asker, reply, text_to, change_by, changed_session}
 use Rattle.nutcore.specs.Pump.{next_line_for, after_line, answered as answered_line}
@@ -17,6 +17,7 @@ use Rattle.nutanswer.specs.declared.reply.Change.TheVariants.{Nothing}
 use Rattle.nutanswer.specs.Laws.{is_ok_line, OnlyOkChanges}
 use Rattle.nutcore.specs.Headline.{AListingIsWhatIsHeld}
 use Rattle.nutcore.proofs.Listed.{usable_row, lists, variables_of}
+use Rattle.std.proofs.lemmas.Bool.{cases_Bool}
 
 framed : (s : ServerState) (c : ℕ) (line : List ℕ) (command : Command) (l : ListingState) → read_command line ≡ Ok (Some command) → answer_to (seen s) (asker c s) command ≡ Ok (listing l) → (reply s c line) ≡ frame l.kind l.names l.items
 framed s c line command l read answer = ap (text_to s c) read ∙ ap text_of_answer answer
@@ -40,11 +41,10 @@ ok_text answer ok e = cc ok
 
 -- so what begins with ERR changes nothing
 refused_change : OnlyOkChanges → (s : ServerState) (c : ℕ) (r : Result (Option Command) ErrWord) → starts_with nat_eq (text_to s c r) (codes "ERR") ≡ true → change_by s c r ≡ Nothing
-refused_change only_ok s c (Ok (Some command)) e = by_ok (is_ok_line (answer_to (seen s) (asker c s) command)) refl
-  where
-    by_ok : (b : Bool) → is_ok_line (answer_to (seen s) (asker c s) command) ≡ b → change_of_answer (answer_to (seen s) (asker c s) command) ≡ Nothing
-    by_ok true ok = absurd (ok_text (answer_to (seen s) (asker c s) command) ok e)
-    by_ok false not_ok = only_ok (seen s) (asker c s) command not_ok
+refused_change only_ok s c (Ok (Some command)) e = elim (cases_Bool (is_ok_line (answer_to (seen s) (asker c s) command))) [
+  | inl ok ↦ absurd (ok_text (answer_to (seen s) (asker c s) command) ok e)
+  | inr not_ok ↦ only_ok (seen s) (asker c s) command not_ok
+]
 refused_change only_ok s c r e = refl
 
 pub refused_line : OnlyOkChanges → (s : ServerState) (c : ℕ) (line : List ℕ) (x : SessionState) → session c s ≡ Some x → next_line_for s c ≡ Some line → starts_with nat_eq (reply s c line) (codes "ERR") ≡ true → after_line s c ≡ with_session s (answered_line line (reply s c line) x)

@@ -20,7 +20,7 @@ use Rattle.nutcore.proofs.Found.{find_without}
 use Rattle.nutcore.proofs.Histories.{later}
 use Rattle.nutcore.proofs.Least.{HasStopped, pump_ended}
 use Rattle.nutcore.proofs.Takes.{none_owed}
-use Rattle.nutcore.proofs.TakingAmongOthers.{anothers, its_own, not_its_own}
+use Rattle.nutcore.proofs.TakingAmongOthers.{anothers, own_or_not}
 
 -- a client without a session has stopped
 absent_stops : (s : ServerState) (c : ℕ) → session c s ≡ None → HasStopped s c
@@ -49,13 +49,9 @@ others_stop s e m c h differ =
 
 run_stops : (s t : ServerState) (es : List Event) (os : List Outcome) (c : ℕ) → Run s es os t → HadMemory c es os → HasStopped s c → HasStopped t c
 run_stops s t [] [] c r had h = subst (λ (z : ServerState). HasStopped z c) (sym r) h
-run_stops s t (e ∷ es) (o ∷ os) c (mid, step, r) had h = run_stops (after s e o) t es os c (later t es os step r) had.1 (by_own (option_map_or (λ k. eqb k c) (client_of e) false) refl)
-  where
-    by_own : (b : Bool) → option_map_or (λ k. eqb k c) (client_of e) false ≡ b → HasStopped (after s e o) c
-    by_own true own =
-        let its = its_own c (client_of e) own in
-        subst (λ (m : Option ℕ). HasStopped (after_by s e m) c) (sym (had.0 its)) (own_stops s e c h its)
-    by_own false other = others_stop s e (refused_after o) c h (not_its_own c (client_of e) other)
+run_stops s t (e ∷ es) (o ∷ os) c (mid, step, r) had h =
+    run_stops (after s e o) t es os c (later t es os step r) had.1 (own_or_not c e
+    (λ yes its. subst (λ (m : Option ℕ). HasStopped (after_by s e m) c) (sym (had.0 its)) (own_stops s e c h its)) (λ no other. others_stop s e (refused_after o) c h other))
 run_stops s t es os c r had h = absurd r
 
 -- so where little is owed, there is room

@@ -3,7 +3,7 @@ use Rattle.std.proofs.Common.{◌≡◌, ◌≢◌, ℕ, Bool, true, false, List
 use Rattle.std.specs.Prelude.{◌||◌, option_map, option_and_then}
 use Rattle.std.specs.Option.{option_map_or}
 use Rattle.std.proofs.lemmas.Bool.{or_parts, cond-true, cond-false}
-use Rattle.nutcore.proofs.Common.{Change, SessionState, ServerState, session, with_session, with_session_changed}
+use Rattle.nutcore.proofs.Common.{Change, SessionState, ServerState, session, with_session, with_session_changed, cond_both}
 use Rattle.nutanswer.specs.Command.{read_command}
 use Rattle.nutlisting.specs.declared.outbox.TheConstants.{OWED_LIMIT}
 use Rattle.nutcore.specs.Lines.{first_line}
@@ -125,8 +125,5 @@ notice_there s c over =
 
 -- what holds where it is due, and where it isn't, holds after it
 pub of_notice_due : (P : List Execution → ServerState → Type 0) (s : ServerState) (c : ℕ) → (is_overlong s c ≡ true → P (of_notice c ∷ []) (with_session_changed notified c s)) → (is_overlong s c ≡ false → P [] s) → P (notice s c) (after_notice s c)
-of_notice_due P s c due quiet = by_length (is_overlong s c) refl
-  where
-    by_length : (b : Bool) → is_overlong s c ≡ b → P (cond b (of_notice c ∷ []) []) (after_notice s c)
-    by_length true e = subst (P (of_notice c ∷ [])) (sym (notice_there s c e)) (due e)
-    by_length false e = subst (P []) (sym (no_notice s c e)) (quiet e)
+of_notice_due P s c due quiet =
+    cond_both (is_overlong s c) (of_notice c ∷ []) [] (λ xs. P xs (after_notice s c)) (λ e. subst (P (of_notice c ∷ [])) (sym (notice_there s c e)) (due e)) (λ e. subst (P []) (sym (no_notice s c e)) (quiet e))

@@ -3,7 +3,7 @@ use Rattle.std.proofs.Common.{◌≡◌, ◌≢◌, ℕ, suc, ◌+◌, ◌≤◌
 use Rattle.std.specs.Prelude.{is_none, option_and_then}
 use Rattle.std.specs.List.{filter}
 use Rattle.std.specs.Option.{option_map_or}
-use Rattle.std.proofs.lemmas.Bool.{cond_both, eqb-true, eq-eqb}
+use Rattle.std.proofs.lemmas.Bool.{cond_both, eqb-true, eq-eqb, cases_Bool}
 use Rattle.nutlisting.specs.declared.ring.TheConstants.{RING_LIMIT}
 use Rattle.nutcore.proofs.Common.{Event, Outcome, SessionState, ServerState, session, after, Run}
 use Rattle.nutcore.specs.declared.event.Event.TheVariants.{Feed, Took, Close}
@@ -63,13 +63,12 @@ anothers c s e m =
     e
 
 -- whose the event is
-pub its_own : (c : ℕ) (d : Option ℕ) → option_map_or (λ k. eqb k c) d false ≡ true → d ≡ Some c
-its_own c None e = cc e
-its_own c (Some k) e = ap Some (eqb-true k c e)
-
-pub not_its_own : (c : ℕ) (d : Option ℕ) → option_map_or (λ k. eqb k c) d false ≡ false → d ≢ Some c
-not_its_own c None e = λ h. cc h
-not_its_own c (Some k) e = λ h. let same : k ≡ c = cc h in let yes_same = eq-eqb k c same in cc
+pub own_or_not : {A : Type 0} (c : ℕ) (e : Event) → (is_event_of c e ≡ true → client_of e ≡ Some c → A) → (is_event_of c e ≡ false → client_of e ≢ Some c → A) → A
+own_or_not c e own other = by_client (client_of e) own other
+  where
+    by_client : {A : Type 0} (d : Option ℕ) → (option_map_or (λ k. eqb k c) d false ≡ true → d ≡ Some c → A) → (option_map_or (λ k. eqb k c) d false ≡ false → d ≢ Some c → A) → A
+    by_client None own other = other refl (λ h. cc h)
+    by_client (Some k) own other = elim (cases_Bool (eqb k c)) [ inl e ↦ own e (ap Some (eqb-true k c e)) | inr e ↦ other e (λ h. let same : k ≡ c = cc h in let yes_same = eq-eqb k c same in cc) ]
 
 -- where nothing is left, it stays so
 left_after : (c : ℕ) (s t : ServerState) → IsUntouched (session c s) (session c t) → HasNothingLeft c s → HasNothingLeft c t
@@ -89,11 +88,10 @@ module _ (k : ℕ) (few : k ≤ RING_LIMIT) (c : ℕ) where
 
   stays_left : (s t : ServerState) (es : List Event) (os : List Outcome) → Run s es os t → TakesSomeAmongOthers k c s es os → HasNothingLeft c s → HasNothingLeft c t
   stays_left s t [] [] r among h = subst (HasNothingLeft c) (sym r) h
-  stays_left s t (e ∷ es) (o ∷ os) (mid, step, r) among h = stays_left (after s e o) t es os (later t es os step r) among.1 (left_by (is_event_of c e) refl)
-    where
-      left_by : (b : Bool) → is_event_of c e ≡ b → HasNothingLeft c (after s e o)
-      left_by true its = as_take s e o (λ e o. HasNothingLeft c (after s e o)) (among.0 (its_own c (client_of e) its)) (subst (HasNothingLeft c) (sym (idle_take k c s h)) h)
-      left_by false other = left_after c s (after s e o) (anothers c s e (refused_after o) (not_its_own c (client_of e) other)).untouched h
+  stays_left s t (e ∷ es) (o ∷ os) (mid, step, r) among h =
+      stays_left (after s e o) t es os (later t es os step r) among.1 (own_or_not c e
+      (λ yes its. as_take s e o (λ e o. HasNothingLeft c (after s e o)) (among.0 its) (subst (HasNothingLeft c) (sym (idle_take k c s h)) h))
+      (λ no other. left_after c s (after s e o) (anothers c s e (refused_after o) other).untouched h))
   stays_left s t es os r among h = absurd r
 
   -- so many takes are enough
@@ -134,7 +132,10 @@ module _ (k : ℕ) (few : k ≤ RING_LIMIT) (c : ℕ) where
 
   served_run : (s t : ServerState) (es : List Event) (os : List Outcome) → Run s es os t → TakesSomeAmongOthers k c s es os → IsServedSo s es os t
   served_run s t [] [] r among = record { lines = omega arith; served = λ h. absurd (omega (arith, h)) }
-  served_run s t (e ∷ es) (o ∷ os) (mid, step, r) among = served_by (is_event_of c e) refl (served_run (after s e o) t es os (later t es os step r) among.1)
+  served_run s t (e ∷ es) (o ∷ os) (mid, step, r) among = own_or_not c e
+      (λ yes its. as_take s e o (λ e o. Run (after s e o) es os t → TakesSomeAmongOthers k c (after s e o) es os → IsServedSo s (e ∷ es) (o ∷ os) t) (among.0 its)
+      (λ rest others. served_take s t es os (stays_left (server_then k c s) t es os rest others) (served_run (server_then k c s) t es os rest others)) (later t es os step r) among.1)
+      (λ no other. by_another (anothers c s e (refused_after o) other) (served_run (after s e o) t es os (later t es os step r) among.1) no)
     where
       now : List Execution
       now = executions_in_event s e o
@@ -154,12 +155,6 @@ module _ (k : ℕ) (few : k ≤ RING_LIMIT) (c : ℕ) where
           let events = ap (λ (b : Bool). length (cond b (e ∷ filter (is_event_of c) es) (filter (is_event_of c) es)) * k) not_its in
           let fewer = h.lines in
           record { lines = omega (arith, fewer, holds, same); served = λ enough. h.served (omega (arith, enough, owes, texts, lines, events)) }
-
-      served_by : (b : Bool) → is_event_of c e ≡ b → IsServedSo (after s e o) es os t → IsServedSo s (e ∷ es) (o ∷ os) t
-      served_by true its h =
-          as_take s e o (λ e o. Run (after s e o) es os t → TakesSomeAmongOthers k c (after s e o) es os → IsServedSo (after s e o) es os t → IsServedSo s (e ∷ es) (o ∷ os) t) (among.0 (its_own c (client_of e) its))
-          (λ rest others then. served_take s t es os (stays_left (server_then k c s) t es os rest others) then) (later t es os step r) among.1 h
-      served_by false other h = by_another (anothers c s e (refused_after o) (not_its_own c (client_of e) other)) h other
   served_run s t es os r among = absurd r
 
 pub takes_some : WhoTakesSomeGetsEverything

@@ -1,7 +1,8 @@
 -- The UPS at a place, and what a change of one UPS leaves of it and of the others.
-use Rattle.std.proofs.Common.{◌≡◌, ◌≢◌, ◌<◌, ◌∙◌, ℕ, zero, suc, Bool, true, false, eqb, List, [], ◌∷◌, Option, Some, None, refl, sym, ap, subst, length, set, get_or, arith}
+use Rattle.std.proofs.Common.{◌≡◌, ◌≢◌, ◌<◌, ◌∙◌, ℕ, zero, suc, true, false, eqb, List, [], ◌∷◌, Option, Some, None, refl, sym, ap, subst, length, set, get_or, arith, inl, inr}
 use Rattle.nutcore.proofs.Common.{slice_get, option_map_or, eqb-true, eqb-false, same_Some, slice_get_read, UpsId, UpsState, ServerState, ups_at, changed_at, with_ups_changed}
 use Rattle.nutcore.specs.Promises.{OfUps}
+use Rattle.std.proofs.lemmas.Bool.{cases_Bool}
 
 -- a UPS stands there, of which this holds
 pub record Stands (p : ℕ) (xs : List UpsState) (P : UpsState → Type 0) : Type 0 where
@@ -67,13 +68,11 @@ other_ups f p q (x ∷ xs) differ = refl
 
 pub of_place : (f : UpsState → UpsState) (u v : UpsId) (xs : List UpsState) (x : UpsState) (P : UpsState → Type 0) → slice_get xs u.place ≡ Some x
     → (eqb v.place u.place ≡ true → v ≡ u → P (f x)) → (eqb v.place u.place ≡ false → P x) → Stands u.place (changed_at f v.place xs) P
-of_place f u v xs x P there here other = by_place (eqb v.place u.place) refl
-  where
-    by_place : (b : Bool) → eqb v.place u.place ≡ b → Stands u.place (changed_at f v.place xs) P
-    by_place true k =
-        let same : v.place ≡ u.place = eqb-true v.place u.place k in
-        record { ups = f x; there = ap (λ (p : ℕ). slice_get (changed_at f p xs) u.place) same ∙ at_changed f u.place xs x there; is = here k (same_ups v u same) }
-    by_place false k = record { ups = x; there = other_ups f v.place u.place xs (λ (e : u.place ≡ v.place). eqb-false v.place u.place k (sym e)) ∙ there; is = other k }
+of_place f u v xs x P there here other = elim (cases_Bool (eqb v.place u.place)) [
+  | inl k ↦ (let same : v.place ≡ u.place = eqb-true v.place u.place k in
+      record { ups = f x; there = ap (λ (p : ℕ). slice_get (changed_at f p xs) u.place) same ∙ at_changed f u.place xs x there; is = here k (same_ups v u same) })
+  | inr k ↦ record { ups = x; there = other_ups f v.place u.place xs (λ (e : u.place ≡ v.place). eqb-false v.place u.place k (sym e)) ∙ there; is = other k }
+]
 
 -- the same of the server
 abbrev with_upses : ServerState → List UpsState → ServerState

@@ -1,5 +1,5 @@
 -- A client that asks one line, and waits for its answer.
-use Rattle.std.proofs.Common.{◌≡◌, ℕ, zero, suc, ◌+◌, ◌-◌, ◌<◌, ◌≤◌, Bool, true, false, List, [], ◌∷◌, ◌++◌, Option, Some, None, refl, sym, ◌∙◌, ap, cond, eqb, ltb, leb, not, ◌&&◌, ◌||◌, length, take, map, Result, Ok, Err, arith, length-append, length-drop}
+use Rattle.std.proofs.Common.{◌≡◌, ℕ, zero, suc, ◌+◌, ◌-◌, ◌<◌, ◌≤◌, Bool, true, false, List, [], ◌∷◌, ◌++◌, Option, Some, None, refl, sym, ◌∙◌, ap, cond, ltb, leb, not, ◌&&◌, ◌||◌, length, take, Result, Ok, Err, arith, length-append, length-drop}
 use Rattle.std.specs.Prelude.{is_none, is_some, option_map, option_and_then}
 use Rattle.std.proofs.lemmas.Bool.Decides.{nat_tests}
 use Rattle.std.proofs.lemmas.List.{take_all}
@@ -16,7 +16,7 @@ use Rattle.nutcore.specs.declared.TheConstants.{HELD_LIMIT}
 use Rattle.nutcore.specs.declared.event.Event.TheVariants.{Feed, Open}
 use Rattle.nutwords.specs.Text.{with_lf}
 use Rattle.nutcore.specs.Lines.{first_line}
-use Rattle.nutcore.specs.Session.{SessionState, find, put, new_session}
+use Rattle.nutcore.specs.Session.{SessionState, find, new_session}
 use Rattle.nutcore.specs.Server.{ServerState, session, with_session, with_session_changed}
 use Rattle.nutcore.specs.Reply.{seen, seen_client, asker_of, text_to, reply}
 use Rattle.nutcore.specs.Pump.{next_line, next_line_for, answered, after_line, after_lines, after_all_lines, after_notice, pumped, notified, with_notice, held_of, owed_of}
@@ -25,18 +25,10 @@ use Rattle.nutcore.specs.Sound.{IsSound}
 use Rattle.nutcore.specs.Waiting.{IsWaiting, ALineIsAnswered}
 use Rattle.nutcore.proofs.Changed.{session_put, change_is, session_changed, notice_id}
 use Rattle.nutcore.proofs.Changes.{keeps}
-use Rattle.nutcore.proofs.Found.{find_id}
+use Rattle.nutcore.proofs.Found.{find_id, mapped_put}
 use Rattle.nutcore.proofs.Pumping.{after_line_is, stopped_none, change_at, session_after, session_after_id}
 use Rattle.nutcore.proofs.Runs.{lawful}
-
--- what answers see of a session that is put with its address and its login
-seen_put : (x y : SessionState) (xs : List SessionState) → find y.id xs ≡ Some x → seen_client y ≡ seen_client x → map seen_client (put y xs) ≡ map seen_client xs
-seen_put x y [] found same = refl
-seen_put x y (z ∷ xs) found same = by_id (eqb z.id y.id) found (λ e. seen_put x y xs e same)
-  where
-    by_id : (b : Bool) → cond b (Some z) (find y.id xs) ≡ Some x → (find y.id xs ≡ Some x → map seen_client (put y xs) ≡ map seen_client xs) → map seen_client (cond b (y ∷ xs) (z ∷ put y xs)) ≡ seen_client z ∷ map seen_client xs
-    by_id true e more = let is : z ≡ x = cc e in ap (λ (w : ClientSeen). w ∷ map seen_client xs) (same ∙ ap seen_client (sym is))
-    by_id false e more = ap (λ (ws : List ClientSeen). seen_client z ∷ ws) (more e)
+use Rattle.nutcore.proofs.Common.{cond_both}
 
 no_more : (k : ℕ) (s : ServerState) (c : ℕ) → next_line_for s c ≡ None → after_lines k s c ≡ s
 unfolding after_lines
@@ -54,11 +46,7 @@ never false b = refl
 
 -- a session that holds nothing has no next line, and no notice is due to it
 holds_none : (z : SessionState) → z.held ≡ [] → next_line z ≡ None
-holds_none z e = by (z.ending || ltb OWED_LIMIT (length z.owed))
-  where
-    by : (b : Bool) → cond b None (first_line z.held) ≡ None
-    by true = refl
-    by false = ap first_line e
+holds_none z e = cond_both (z.ending || ltb OWED_LIMIT (length z.owed)) None (first_line z.held) (λ (o : Option (List ℕ)). o ≡ None) (λ waits. refl) (λ asks. ap first_line e)
 
 no_notice_due : (z : SessionState) → z.held ≡ [] → with_notice z ≡ z
 no_notice_due z e =
@@ -108,7 +96,7 @@ module _ (s : ServerState) (c : ℕ) (line : List ℕ) (w : IsWaiting c s) (whol
       by_read (Err word) = refl
       by_read (Ok None) = refl
       by_read (Ok (Some command)) =
-          ap (λ (clients : List ClientSeen). let t : Seen = record (seen s) { clients = clients } in text_of_answer (answer_to t (asker_of (session c begun)) command)) (seen_put w.x fed s.sessions (ap (λ d. find d s.sessions) fed_id ∙ w.there) refl)
+          ap (λ (clients : List ClientSeen). let t : Seen = record (seen s) { clients = clients } in text_of_answer (answer_to t (asker_of (session c begun)) command)) (mapped_put seen_client w.x fed s.sessions (ap (λ d. find d s.sessions) fed_id ∙ w.there) refl)
           ∙ ap (λ (a : AskerSeen). text_of_answer (answer_to (seen s) a command)) (ap asker_of begun_has ∙ ap asker_of (sym w.there))
 
   abbrev after : SessionState
