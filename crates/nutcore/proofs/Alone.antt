@@ -1,5 +1,5 @@
 -- A client that asks one line, in a run of any others.
-use Rattle.std.proofs.Common.{◌≡◌, ◌⊎◌, ◌∙◌, ℕ, Bool, true, false, List, [], ◌∷◌, ◌++◌, Option, Some, None, refl, sym, ap, subst, eqb, ltb, inl, inr, append_assoc, append-nil}
+use Rattle.std.proofs.Common.{arith, ◌≡◌, ◌⊎◌, ◌∙◌, ℕ, Bool, true, false, List, [], ◌∷◌, ◌++◌, Option, Some, None, refl, sym, ap, subst, eqb, ltb, inl, inr, append_assoc, append-nil}
 use Rattle.std.specs.Prelude.{option_map}
 use Rattle.std.specs.Option.{option_map_or}
 use Rattle.std.proofs.lemmas.Bool.{both_ways, eqb-true, lt-ltb}
@@ -127,8 +127,7 @@ one_line c line (of_line s d l ∷ xs) none whole its quiet e =
 one_line c line (of_notice d ∷ xs) none whole its quiet e = absurd (quiet tt)
 
 not_closed : (o : Option SessionState) (used : Bool) → option_map_or (λ x. x.ending) o used ≡ false → option_map_or (λ x. false) o used ≡ false
-not_closed None used h = h
-not_closed (Some x) used h = refl
+not_closed o used h = grind arith
 
 pub one_line_answered : OneLineIsAnswered
 one_line_answered old new es os c line lawful absent r asks whole going none_held none_owed =

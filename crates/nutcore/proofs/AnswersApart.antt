@@ -115,8 +115,7 @@ texts_answered (x ∷ xs) all =
     one_more_answered (text_of x) xs (All-head (λ y. IsAnswerIfAny (text_of y)) x xs all) (texts_answered xs (All-tail (λ y. IsAnswerIfAny (text_of y)) x xs all))
 
 one_more_joined : (text : List ℕ) (xs : List Execution) → concat (texts xs) ≡ flat_map text_of xs → concat (filter (λ t. not (is_empty t)) (text ∷ map text_of xs)) ≡ text ++ flat_map text_of xs
-one_more_joined [] xs e = e
-one_more_joined (b ∷ text) xs e = ap (λ (more : List ℕ). (b ∷ text) ++ more) e
+one_more_joined text xs e = grind arith
 
 texts_joined : (xs : List Execution) → concat (texts xs) ≡ flat_map text_of xs
 texts_joined [] = refl

@@ -75,8 +75,7 @@ one_noted xs None deeds e = e ∙ ap (take DEED_LIMIT) (sym (append-nil xs))
 one_noted xs (Some deed) deeds e = ap (λ (zs : List Deed). take DEED_LIMIT (zs ++ deed ∷ [])) e ∙ take_onto DEED_LIMIT xs (deed ∷ [])
 
 next_deeds : (s : ServerState) (c : ℕ) (o : Option (List ℕ)) → cons_option (told_next s c o) [] ≡ filter_map deed_of (next_execution s c o)
-next_deeds s c None = refl
-next_deeds s c (Some line) = refl
+next_deeds s c o = grind arith
 
 noted_more : (s : ServerState) (c : ℕ) (xs : List Execution) (deeds : List Deed) → deeds ≡ deeds_of xs → with_next s c deeds ≡ deeds_of (xs ++ next_execution s c (next_line_for s c))
 noted_more s c xs deeds e =
@@ -106,8 +105,7 @@ unfolding executions_until
 noted_until s c k deeds e = e
 
 never_memory : (b : Bool) → refused_after (done (refused_overlong b)) ≡ None
-never_memory true = refl
-never_memory false = refl
+never_memory b = grind arith
 
 pub noted_all : (s t : ServerState) (c k : ℕ) (b : Bool) (r : Result (Unit {0}) Fault) (deeds : List Deed) → t ≡ after_lines k s c → k ≤ length (held_of (session c s)) → next_line_for t c ≡ None → r ≡ refused_overlong b → deeds ≡ deeds_of (lines_executed k s c) →
     deeds ≡ deeds_of (executions_until s c (refused_after (done r)))

@@ -229,8 +229,7 @@ told_is_read moment report line = by_reading (read_driver_line line)
     by_line _ = refl
 
     by_reading : (r : Result DriverLine DriverFault) → end_told (after_reading at r).1 ≡ end_read r
-    by_reading (Err fault) = refl
-    by_reading (Ok said) = by_line said
+    by_reading r = grind arith
 
 -- What a line does to a UPS, said of the server: it is done, and is counted where it is refused.
 pub executes : (u : UpsId) (line : List ℕ) (s mid t : ServerState) (x y : UpsState) (outcome : LineOutcome) (b : Bool) → ups_at u.place s ≡ Some x → DoesLine s.moment line x (Ok outcome) y

@@ -1,5 +1,5 @@
 -- What a driver was sent and is owed is what it was told.
-use Rattle.std.proofs.Common.{◌≡◌, ◌∙◌, ℕ, Bool, true, false, not, ◌&&◌, List, [], ◌∷◌, ◌++◌, Some, refl, sym, ap, subst, append_assoc, append-nil}
+use Rattle.std.proofs.Common.{arith, ◌≡◌, ◌∙◌, ℕ, Bool, true, false, not, ◌&&◌, List, [], ◌∷◌, ◌++◌, Some, refl, sym, ap, subst, append_assoc, append-nil}
 use Rattle.nutcore.proofs.Common.{flat_map-append, UpsId, Event, Outcome, UpsState, ServerState, ups_at, after, Run}
 use Rattle.nutcore.specs.Sound.{IsSoundUps, IsSound, EachEventKeepsTheServerSound}
 use Rattle.nutcore.specs.DriverHistory.{has_driver, came_in_event, heard_in_event}
@@ -14,8 +14,7 @@ owed_nothing : (u : UpsId) (s : ServerState) (x : UpsState) → IsSound s → up
 owed_nothing u s x sound there gone = ap (λ (y : UpsState). y.owed) ((each_get (IsSoundUps s.moment) s.upses u.place x there sound.upses).lost gone)
 
 lost_is : (a b : Bool) → (a && not b) ≡ true → b ≡ false
-lost_is true false e = refl
-lost_is a b e = cc e
+lost_is a b e = grind arith
 
 joined : (before : List ℕ) (told more : List Telling) (taken between : List ℕ) → before ++ texts_of told ≡ taken ++ between → before ++ texts_of (told ++ more) ≡ taken ++ (between ++ texts_of more)
 joined before told more taken between e =

@@ -143,8 +143,7 @@ which_are_refused = record { refused = is; only = λ moment report line fault h.
     at moment report = record report { heard = moment }
 
     is : (moment : ℕ) (report : Report) (line : List ℕ) (fault : DriverFault) → IsRefusedFor report line fault → after_reading (at moment report) (read_driver_line line) ≡ (at moment report, Refused fault)
-    is moment report line fault (inl unread) = ap (after_reading (at moment report)) unread
-    is moment report line fault (inr (said, read, refused)) = ap (after_reading (at moment report)) read ∙ ap (after_step (at moment report)) refused
+    is moment report line fault h = grind arith
 
     by_step : (moment : ℕ) (report : Report) (line : List ℕ) (fault : DriverFault) (said : DriverLine) → read_driver_line line ≡ Ok said → (r : Result (TreeState × Effect) DriverFault) → driver_step report.tree said ≡ r → (after_step (at moment report) r).1 ≡ Refused fault → IsRefusedFor report line fault
     by_step moment report line fault said read (Ok (tree, Tracked id number)) e h = cc h

@@ -35,7 +35,6 @@ use Rattle.nutcore.proofs.Lasting.{IsLasting, IsThere, kept, ids_kept, shutdown_
 use Rattle.nutcore.proofs.Pumping.{is_next, after_line_is, change_at, overlong_there, notice_there}
 use Rattle.nutcore.proofs.Stepping.{run_sent}
 use Rattle.nutcore.proofs.UpsPlaces.{at_changed}
-use Rattle.nutcore.proofs.Events.{each}
 
 -- a session that is ending goes on ending
 abbrev Ends : SessionState → Type 0
@@ -133,7 +132,7 @@ told_rises : (s : ServerState) (e : Event) → Rises s e (outcome_of s e)
 unfolding outcome_of Rises
 told_rises s (Open address) =
     cond_both (may_open s) (Opened s.next_id) (Refused TooManyClients) (Rises s (Open address)) (λ room. let next = opened_next s address room in (omega arith, omega (arith, next))) (λ full. rises_by_none s (Open address) (Refused TooManyClients) refl)
-told_rises s e = rises_by_none s e (outcome_of s e) ((each s e).gives refl)
+told_rises s e = rises_by_none s e (outcome_of s e) (grind arith)
 
 event_rises : (s : ServerState) (e : Event) (o : Outcome) → MayAnswer s e o → Rises s e o
 event_rises s e o (inl is) = subst (Rises s e) (sym is) (told_rises s e)

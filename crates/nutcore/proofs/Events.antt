@@ -1,6 +1,6 @@
 -- All that is proved by going through the events, a case each: what they leave, in its parts; what is said of each alone; and which execute nothing, and leave the sessions as they are.
-use Rattle.std.proofs.Common.{◌≡◌, ℕ, Bool, true, false, List, [], ◌∷◌, ◌++◌, Option, Some, None, refl, sym, ap, subst, cond, eqb, ◌&&◌, not, ◌∙◌, max, length, append-nil, inl, is_some, arith, take, drop}
-use Rattle.nutcore.proofs.Common.{option_map_or, UpsId, TrackingState, Event, ServerState, session, ups_at, slice_get, option_map, slice_get-map, Outcome, SessionState, cond-false, Fault, UpsState, after, cond_both, with_tracking, take-append-drop}
+use Rattle.std.proofs.Common.{◌≡◌, ℕ, Bool, true, false, List, [], ◌∷◌, ◌++◌, Option, Some, None, refl, sym, ap, subst, cond, eqb, ◌&&◌, not, ◌∙◌, max, length, append-nil, inl, arith, take, drop}
+use Rattle.nutcore.proofs.Common.{option_map_or, UpsId, TrackingState, Event, ServerState, session, ups_at, slice_get, option_map, slice_get-map, Outcome, SessionState, cond-false, Fault, UpsState, after, cond_both, take-append-drop}
 use Rattle.nutcore.specs.declared.event.Event.TheVariants.{DriverUp, DriverBytes, DriverTook, DriverDown, Tick, Open, Feed, Took, Close, Id}
 use Rattle.nutcore.specs.Session.{without}
 use Rattle.nutcore.specs.Ups.{ping_is_due, after_tick, after_loss, after_connecting, ping_line}
@@ -19,10 +19,8 @@ use Rattle.nutcore.proofs.UpsPlaces.{Stands, of_place, server_same}
 use Rattle.nutcore.proofs.DriverChanges.{Does, stays_so, bytes_do, lost, unconnected, goes_on}
 use Rattle.std.specs.Prelude.{nat_le}
 use Rattle.nutcore.specs.declared.event.Outcome.TheVariants.{Done, Opened, Refused, Fed}
-use Rattle.nutcore.specs.declared.event.Fault.TheVariants.{TooManyClients, NotConnected, TookTooMuch, AlreadyConnected, LineTooLong, Memory}
+use Rattle.nutcore.specs.declared.event.Fault.TheVariants.{TooManyClients, NotConnected, TookTooMuch, AlreadyConnected, LineTooLong}
 use Rattle.nuttracking.specs.Tracking.{id_fault}
-use Rattle.nutcore.specs.Addresses.{opened_from}
-use Rattle.nutcore.specs.Endings.{id_given}
 use Rattle.nutcore.specs.Happenings.{apart_from_bytes}
 use Rattle.nutcore.proofs.Adding.{session_keeps, pump_adds, took_adds, by_client}
 use Rattle.nutcore.proofs.ApartFromBytes.{core_opened, closed_without}
@@ -125,8 +123,7 @@ is_quiet (Refused fault) = is_harmless fault
 is_quiet _ = false
 
 not_memory : (fault : Fault) → is_harmless fault ≡ true → refused_after (Refused fault) ≡ None
-not_memory (Memory k) h = cc h
-not_memory _ h = refl
+not_memory fault h = grind arith
 
 never_quiet : {A : Type 0} (o : Outcome) → is_quiet o ≡ false → is_quiet o ≡ true → A
 never_quiet o e h = let never : false ≡ true = sym e ∙ h in cc never
@@ -137,16 +134,13 @@ goes b o done = cond_both b (Refused LineTooLong) o (λ z. is_quiet z ≡ false)
 
 -- what is done unless it is refused
 stays : {A : Type 0} (b : Bool) (o p : Outcome) (t s : A) → is_quiet o ≡ false → is_quiet (cond b o p) ≡ true → cond b t s ≡ s
-stays true o p t s done h = never_quiet o done h
-stays false o p t s done h = refl
+stays b o p t s done h = grind arith
 
 up_stays : (now : ℕ) (x : UpsState) (b : Bool) → is_quiet (cond b (Refused AlreadyConnected) Done) ≡ true → cond b x (after_connecting now x) ≡ x
-up_stays now x true h = refl
-up_stays now x false h = cc h
+up_stays now x b h = grind arith
 
 took_stays : (x y : UpsState) (b d : Bool) → is_quiet (cond (not b) (Refused NotConnected) (cond d Done (Refused TookTooMuch))) ≡ true → cond (b && d) y x ≡ x
-took_stays x y true d h = stays d Done (Refused TookTooMuch) y x refl h
-took_stays x y false d h = refl
+took_stays x y b d h = grind arith
 
 bytes_stay : (s : ServerState) (u : UpsId) (piece : List ℕ) (o : Option UpsState) → is_quiet (driver_bytes_by piece o) ≡ true → option_map_or (λ x. cond x.report.connected (after_driver_text u (x.unfinished ++ piece) None s) s) o s ≡ s
 bytes_stay s u piece None h = refl
@@ -160,45 +154,14 @@ feed_stays s c piece (Some x) b e h = never_quiet _ (goes b (Fed (accepted x pie
 
 -- where a take is refused, nothing may be taken
 pub may_not : (o : Option SessionState) (n : ℕ) (b : Bool) → is_quiet (took_by o n b) ≡ true → may_take o n ≡ false
-may_not None n b h = refl
-may_not (Some x) n b h = by_room (may_take (Some x) n) h
-  where
-    by_room : (d : Bool) → is_quiet (cond d (cond b (Refused LineTooLong) Done) (Refused TookTooMuch)) ≡ true → d ≡ false
-    by_room true k = never_quiet _ (goes b Done refl) k
-    by_room false k = refl
+may_not o n b h = grind arith
 
 close_stays : (s : ServerState) (c : ℕ) (o : Option SessionState) → session c s ≡ o → is_quiet (closed_by o) ≡ true → (let t : ServerState = record s { sessions = without c s.sessions } in t) ≡ s
 close_stays s c None e h = ap (λ (xs : List SessionState). let t : ServerState = record s { sessions = xs } in t) (without_none c s.sessions e)
 close_stays s c (Some x) e h = cc h
 
 id_stays : (s : ServerState) (id : ℕ) (o : Option IdFault) → id_fault id s.tracking ≡ o → is_quiet (id_outcome o) ≡ true → handed_in id s ≡ s
-id_stays s id None e h = cc h
-id_stays s id (Some fault) e h = ap (λ (o : Option IdFault). with_tracking (cond (is_some o) s.tracking (record s.tracking { ids = s.tracking.ids ++ id ∷ [] })) s) e
-
--- no outcome but an opening's gives an id
-up_gives : (o : Option UpsState) → id_given (connected_by o) ≡ []
-up_gives o = grind arith
-
-bytes_give : (piece : List ℕ) (o : Option UpsState) → id_given (driver_bytes_by piece o) ≡ []
-bytes_give piece o = grind arith
-
-driver_took_gives : (n : ℕ) (o : Option UpsState) → id_given (driver_took_by n o) ≡ []
-driver_took_gives n o = grind arith
-
-down_gives : (o : Option UpsState) → id_given (disconnected_by o) ≡ []
-down_gives o = grind arith
-
-feed_gives : (o : Option SessionState) (piece : List ℕ) (b : Bool) → id_given (fed_by o piece b) ≡ []
-feed_gives o piece b = grind arith
-
-took_gives : (o : Option SessionState) (n : ℕ) (b : Bool) → id_given (took_by o n b) ≡ []
-took_gives o n b = grind arith
-
-close_gives : (o : Option SessionState) → id_given (closed_by o) ≡ []
-close_gives o = grind arith
-
-id_gives : (o : Option IdFault) → id_given (id_outcome o) ≡ []
-id_gives o = grind arith
+id_stays s id o e h = grind arith
 
 -- what each event of a driver does to its UPS
 down_does : (now : ℕ) (u : UpsId) (e : Event) (x : UpsState) (b : Bool) → x.report.connected ≡ b → Does now u e x [] [] [] [] (cond b (after_loss x) x)
@@ -229,11 +192,9 @@ bytes_leave s v piece u o x there =
     (of_place (ups_after_bytes s.moment v.place s.tracking piece m) u v s.upses x (Does s.moment u e x (came_in_event u e) (heard_in_event u s e o) [] []) there
     (λ k same. rw (k, there) (subst (λ (w : UpsId). Does s.moment u e x piece lines [] [] (ups_after_bytes s.moment w.place s.tracking piece m x)) (sym same) (bytes_do s.moment u e x s.tracking piece m))) (λ k. rw k (stays_so s.moment u e x)))
 
--- what is said of each alone: where a fault that changes nothing refuses it, all is as it was; it gives no id, but where it opens a session; what sessions hold and are owed matters to it only where a client sends or takes; and what it leaves of a UPS
+-- what is said of each alone: where a fault that changes nothing refuses it, all is as it was; and what it leaves of a UPS
 pub record OfEvent (s : ServerState) (e : Event) : Type 0 where
   pub quiet : is_quiet (outcome_of s e) ≡ true → after_by s e None ≡ s
-  pub gives : opened_from e ≡ None → id_given (outcome_of s e) ≡ []
-  pub core : (m : Option ℕ) → IsPlain e → after_by (apart_from_bytes s) e m ≡ apart_from_bytes (after_by s e m)
   pub leaves : (u : UpsId) (o : Outcome) (x : UpsState) → ups_at u.place s ≡ Some x → Stands u.place (after s e o).upses (Does s.moment u e x (came_in_event u e) (heard_in_event u s e o) (told_in_event u s e o) (telling.taken_in_event u s e))
 
 -- a UPS that it leaves alone
@@ -245,8 +206,6 @@ unfolding outcome_of after_by executions_by pumped_until after_driver_bytes open
 each s (DriverUp v) =
     let e : Event = DriverUp v in record {
       quiet = λ h. sym (server_same s v (connected s.moment) (λ x there. up_stays s.moment x x.report.connected (subst (λ (o : Option UpsState). is_quiet (connected_by o) ≡ true) there h)));
-      gives = λ none. up_gives (ups_at v.place s);
-      core = λ m plain. refl;
       leaves = λ u o x there.
           of_place (connected s.moment) u v s.upses x (Does s.moment u e x [] [] (told_in_event u s e o) []) there
           (λ k same. rw (append-nil, k, there) (up_does s.moment u e x x.report.connected refl (ap (λ (w : UpsId). DriverUp w) same))) (λ k. rw (append-nil, k) (stays_so s.moment u e x));
@@ -254,15 +213,11 @@ each s (DriverUp v) =
 each s (DriverBytes v piece) =
     let e : Event = DriverBytes v piece in record {
       quiet = λ h. bytes_stay s v piece (ups_at v.place s) h;
-      gives = λ none. bytes_give piece (ups_at v.place s);
-      core = λ m plain. bytes_change v piece m (apart_from_bytes s) ∙ ap apart_from_bytes (sym (bytes_change v piece m s));
       leaves = λ u o x there. bytes_leave s v piece u o x there;
     }
 each s (DriverTook v n) =
     let e : Event = DriverTook v n in record {
       quiet = λ h. sym (server_same s v (after_driver_took n) (λ x there. took_stays x _ x.report.connected (nat_le n (length x.owed)) (subst (λ (o : Option UpsState). is_quiet (driver_took_by n o) ≡ true) there h)));
-      gives = λ none. driver_took_gives n (ups_at v.place s);
-      core = λ m plain. refl;
       leaves = λ u o x there.
           of_place (after_driver_took n) u v s.upses x (Does s.moment u e x [] [] [] (telling.taken_in_event u s e)) there
           (λ k same. rw (k, there) (took_does s.moment u e x n (driver_may_take n x))) (λ k. rw k (stays_so s.moment u e x));
@@ -270,15 +225,11 @@ each s (DriverTook v n) =
 each s (DriverDown v) =
     let e : Event = DriverDown v in record {
       quiet = λ h. sym (server_same s v disconnected (λ x there. stays x.report.connected Done (Refused NotConnected) (after_loss x) x refl (subst (λ (o : Option UpsState). is_quiet (disconnected_by o) ≡ true) there h)));
-      gives = λ none. down_gives (ups_at v.place s);
-      core = λ m plain. refl;
       leaves = λ u o x there. of_place disconnected u v s.upses x (Does s.moment u e x [] [] [] []) there (λ k same. down_does s.moment u e x x.report.connected refl) (λ k. stays_so s.moment u e x);
     }
 each s (Tick seconds) =
     let now : ℕ = max seconds s.moment in record {
       quiet = λ h. cc h;
-      gives = λ none. refl;
-      core = λ m plain. refl;
       leaves = λ u o x there. record {
         ups = after_tick s.max_age now x;
         there = slice_get-map (after_tick s.max_age now) s.upses u.place ∙ ap (option_map (after_tick s.max_age now)) there;
@@ -287,34 +238,34 @@ each s (Tick seconds) =
     }
 each s (Open address) = record {
   quiet = λ h. stays (may_open s) (Opened s.next_id) (Refused TooManyClients) _ s refl h;
-  gives = λ none. cc none;
-  core = λ m plain. core_opened s address m;
   leaves = λ u o x there. left_alone s u (Open address) x _ (of_opened (λ t. ups_at u.place t ≡ Some x) s address (refused_after o) there (λ room. there));
 }
 each s (Feed c piece) = record {
   quiet = λ h. feed_stays s c piece (session c s) (is_overlong (after_all_lines (with_input s c piece) c) c) refl h;
-  gives = λ none. feed_gives (session c s) piece _;
-  core = λ m plain. absurd plain;
   leaves = λ u o x there. by_client s.moment u (Feed c piece) x _ _ (pump_adds u (with_input s c piece) c (refused_after o) x (session_keeps u (joined piece) s c x there));
 }
 each s (Took c n) = record {
   quiet = λ h. cond-false _ _ _ (may_not (session c s) n (is_overlong (after_all_lines (without_output s c n) c) c) h);
-  gives = λ none. took_gives (session c s) n _;
-  core = λ m plain. absurd plain;
   leaves = λ u o x there. by_client s.moment u (Took c n) x _ _ (took_adds u s c n (refused_after o) x (may_take (session c s) n) there);
 }
 each s (Close c) = record {
   quiet = λ h. close_stays s c (session c s) refl h;
-  gives = λ none. close_gives (session c s);
-  core = λ m plain. ap (λ (xs : List SessionState). let t : ServerState = record s { sessions = xs } in t) (sym (closed_without c s.sessions));
   leaves = λ u o x there. left_alone s u (Close c) x _ there;
 }
 each s (Id id) = record {
   quiet = λ h. id_stays s id (id_fault id s.tracking) refl h;
-  gives = λ none. id_gives (id_fault id s.tracking);
-  core = λ m plain. refl;
   leaves = λ u o x there. left_alone s u (Id id) x _ there;
 }
+
+-- and what sessions hold and are owed matters to none, but where a client sends or takes
+pub core_event : (s : ServerState) (e : Event) (m : Option ℕ) → IsPlain e → after_by (apart_from_bytes s) e m ≡ apart_from_bytes (after_by s e m)
+unfolding after_by ticked lines_read
+core_event s (DriverBytes u piece) m plain = bytes_change u piece m (apart_from_bytes s) ∙ ap apart_from_bytes (sym (bytes_change u piece m s))
+core_event s (Open address) m plain = core_opened s address m
+core_event s (Feed c piece) m plain = absurd plain
+core_event s (Took c n) m plain = absurd plain
+core_event s (Close c) m plain = ap (λ (xs : List SessionState). let t : ServerState = record s { sessions = xs } in t) (sym (closed_without c s.sessions))
+core_event s e m plain = refl
 
 -- so a refused event
 pub refused : (s : ServerState) (e : Event) (fault : Fault) → outcome_of s e ≡ Refused fault → is_harmless fault ≡ true → Step s e (Refused fault) s

@@ -1,5 +1,5 @@
 -- Finding sessions after a change.
-use Rattle.std.proofs.Common.{◌≡◌, ◌≢◌, ℕ, Bool, true, false, List, [], ◌∷◌, ◌++◌, Option, Some, None, refl, arith, cond, eqb, map, ap, sym, ◌∙◌}
+use Rattle.std.proofs.Common.{◌≡◌, ◌≢◌, ℕ, Bool, true, false, List, [], ◌∷◌, ◌++◌, Option, Some, None, refl, arith, cond, eqb, map}
 use Rattle.std.proofs.lemmas.Bool.{cond_both, eqb-true}
 use Rattle.std.proofs.lemmas.Bool.Decides.{nat_tests}
 use Rattle.nutcore.specs.Session.{SessionState, find, put, without}
@@ -50,5 +50,4 @@ mapped_put f x y [] found same = refl
 mapped_put {A} f x y (z ∷ xs) found same = by_id (eqb z.id y.id) found (λ e. mapped_put f x y xs e same)
   where
     by_id : (b : Bool) → cond b (Some z) (find y.id xs) ≡ Some x → (find y.id xs ≡ Some x → map f (put y xs) ≡ map f xs) → map f (cond b (y ∷ xs) (z ∷ put y xs)) ≡ f z ∷ map f xs
-    by_id true e more = let is : z ≡ x = cc e in ap (λ (w : A). w ∷ map f xs) (same ∙ ap f (sym is))
-    by_id false e more = ap (λ (ws : List A). f z ∷ ws) (more e)
+    by_id b e more = grind arith

@@ -8,14 +8,12 @@ use Rattle.nutcore.proofs.Common.{same_Some, slice_get_within, UpsId, Event, Out
 use Rattle.nutdriver.specs.declared.line.DriverLine.{DriverLine}
 use Rattle.nutdriver.specs.declared.fault.DriverFault.{DriverFault}
 use Rattle.nutdriver.specs.declared.effect.Effect.{Effect}
-use Rattle.nutdriver.specs.declared.effect.Effect.TheVariants.{Nothing}
 use Rattle.nutdriver.specs.declared.report.Report.{Report}
 use Rattle.nutdriver.specs.Tree.{TreeState}
 use Rattle.nutdriver.specs.Sound.{IsSoundTree}
 use Rattle.nutdriver.specs.LastLine.{TheLastLineDecides, TheLastLineOnAVariableDecidesIt}
 use Rattle.nutdriver.specs.Additions.{changes}
 use Rattle.nutdriver.specs.DriverLine.{read_driver_line}
-use Rattle.nutdriver.specs.DriverStep.{driver_step}
 use Rattle.nutdriver.specs.Report.{Heard, connected_report, after_effect, after_step, after_reading, after_line, after_heard}
 use Rattle.nutanswer.specs.declared.command.Command.{Command}
 use Rattle.nutanswer.specs.declared.err_word.ErrWord.{ErrWord}
@@ -25,7 +23,7 @@ use Rattle.nutanswer.specs.View.{UpsSeen, readiness, usable, stale, not_connecte
 use Rattle.nutanswer.specs.Answer.{Answer, answer_to, text_of_answer}
 use Rattle.nutanswer.specs.Fresh.{WhatIsToldIsFresh}
 use Rattle.nutanswer.proofs.PublicLaws.{a_named_ups_is_seen}
-use Rattle.nutcore.specs.declared.event.Event.TheVariants.{Tick, Feed, Took}
+use Rattle.nutcore.specs.declared.event.Event.TheVariants.{Feed, Took}
 use Rattle.nutcore.specs.Reply.{seen, seen_ups, asker, text_to, reply}
 use Rattle.nutcore.specs.Step.{after_by, refused_after, ticked}
 use Rattle.nutcore.specs.History.{Execution, of_line, of_notice}
@@ -54,8 +52,7 @@ kept_timed s t kept =
     record { moment = omega (arith, moment); max_age = ap (λ (z : ServerState). z.max_age) kept }
 
 no_tick : (e : Event) (u : UpsId) → ups_of e ≡ Some u → tick_of e ≡ 0
-no_tick (Tick seconds) u h = cc h
-no_tick e u h = refl
+no_tick e u h = grind arith
 
 tick_timed : (s : ServerState) (seconds : ℕ) → IsTimed seconds s (ticked seconds s)
 unfolding ticked
@@ -95,27 +92,20 @@ heard_now moment report line = by_reading (read_driver_line line)
     at = record report { heard = moment }
 
     by_effect : (tree : TreeState) (effect : Effect) → (after_effect effect (record at { tree = tree })).heard ≡ moment
-    by_effect tree Nothing = refl
-    by_effect tree effect = refl
+    by_effect tree effect = grind arith
 
     by_step : (r : Result (TreeState × Effect) DriverFault) → (after_step at r).0.heard ≡ moment
-    by_step (Ok (tree, effect)) = by_effect tree effect
-    by_step (Err fault) = refl
+    by_step r = grind arith
 
     by_reading : (r : Result DriverLine DriverFault) → (after_reading at r).0.heard ≡ moment
-    by_reading (Ok said) = by_step (driver_step report.tree said)
-    by_reading (Err fault) = refl
+    by_reading r = grind arith
 
 -- a report that is fresh is usable
 ready_is : (moment max_age : ℕ) (x : Report) → x.connected ≡ true → x.dumped ≡ true → x.ok ≡ true → moment - x.heard ≤ max_age → readiness moment max_age x ≡ usable
 ready_is moment max_age x connected dumped right recent = by x.connected x.dumped x.ok (ltb max_age (moment - x.heard)) connected dumped right (grind (arith, nat_tests))
   where
     by : (a b c d : Bool) → a ≡ true → b ≡ true → c ≡ true → d ≡ false → cond (not a) not_connected (cond (not b || (not c || d)) stale usable) ≡ usable
-    by true true true false e f g h = refl
-    by true true true true e f g h = cc h
-    by true true false d e f g h = cc g
-    by true false c d e f g h = cc f
-    by false b c d e f g h = cc e
+    by a b c d e f g h = grind arith
 
 -- so a report was heard when the last of its lines was
 record IsLast (report : Report) (lines : List Heard) : Type 0 where

@@ -1,22 +1,20 @@
 -- Answers come of what happens, and not of bytes that come and go.
-use Rattle.std.proofs.Common.{◌≡◌, ◌∙◌, ℕ, Bool, true, false, List, [], ◌∷◌, ◌++◌, Option, Some, None, Result, Ok, Err, refl, sym, ap, subst, cond, eqb, map, append_assoc}
+use Rattle.std.proofs.Common.{arith, ◌≡◌, ◌∙◌, ℕ, Bool, true, false, List, [], ◌∷◌, ◌++◌, Option, Some, Result, refl, sym, ap, subst, cond, eqb, map, append_assoc}
 use Rattle.std.specs.Prelude.{option_map}
 use Rattle.nutcore.proofs.Common.{Change, Event, Outcome, SessionState, ServerState, session, with_session_changed, after, Run}
 use Rattle.nutanswer.specs.declared.command.Command.{Command}
 use Rattle.nutanswer.specs.declared.err_word.ErrWord.{ErrWord}
-use Rattle.nutanswer.specs.declared.reply.Change.TheVariants.{Ending}
 use Rattle.nutanswer.specs.Command.{read_command}
-use Rattle.nutanswer.specs.View.{Seen, ClientSeen, AskerSeen}
-use Rattle.nutanswer.specs.Answer.{answer_to, text_of_answer, change_of_answer}
+use Rattle.nutanswer.specs.View.{Seen, ClientSeen}
 use Rattle.nutcore.specs.declared.event.Event.TheVariants.{Feed, Took}
 use Rattle.nutcore.specs.Session.{find, begin_ending}
-use Rattle.nutcore.specs.Reply.{seen, seen_client, asker, asker_of, reply, text_to, change_by, changed, changed_session, changed_upses, changed_tracking, after_change, too_long_notice}
+use Rattle.nutcore.specs.Reply.{seen, seen_client, asker_of, reply, text_to, change_by, changed, changed_session, changed_upses, changed_tracking, after_change, too_long_notice}
 use Rattle.nutcore.specs.Pump.{next_line_for, answered, after_line, is_overlong, notified}
 use Rattle.nutcore.specs.Step.{joined, with_input, taken_from, without_output, may_take, pumped_until, after_by, refused_after}
 use Rattle.nutcore.specs.History.{Execution, of_line, of_notice, client_of, text_of, executions_until, executions_by, executions, of_client, texts_of}
 use Rattle.nutcore.specs.Happenings.{Happening, line_is_executed, notice_is_told, event_comes, happening_of, happened_in_event, happenings, without_bytes, apart_from_bytes, AnswersComeOfWhatHappens, AQuietTakeChangesWhatIsOwedAlone, IsAlike, AReplyComesOfWhatIsSeen}
 use Rattle.nutcore.proofs.Changed.{by_change, change_is}
-use Rattle.nutcore.proofs.Events.{each}
+use Rattle.nutcore.proofs.Events.{core_event}
 use Rattle.nutcore.proofs.Found.{find_id, mapped_put}
 use Rattle.nutcore.proofs.Histories.{IsOfPump, until_keeps, two_lists, later}
 use Rattle.nutcore.proofs.Pumping.{is_next, after_line_is, change_at, changed_is, line_done, session_after, overlong_there}
@@ -28,14 +26,10 @@ pub reply_of_seen : AReplyComesOfWhatIsSeen
 reply_of_seen s t c d line same asks = record { reply = by_text (read_command line); change = by_change_of (read_command line) }
   where
     by_text : (r : Result (Option Command) ErrWord) → text_to s c r ≡ text_to t d r
-    by_text (Err word) = refl
-    by_text (Ok None) = refl
-    by_text (Ok (Some command)) = ap (λ (v : Seen). text_of_answer (answer_to v (asker c s) command)) same ∙ ap (λ (a : AskerSeen). text_of_answer (answer_to (seen t) a command)) asks
+    by_text r = grind arith
 
     by_change_of : (r : Result (Option Command) ErrWord) → change_by s c r ≡ change_by t d r
-    by_change_of (Err word) = refl
-    by_change_of (Ok None) = refl
-    by_change_of (Ok (Some command)) = ap (λ (v : Seen). change_of_answer (answer_to v (asker c s) command)) same ∙ ap (λ (a : AskerSeen). change_of_answer (answer_to (seen t) a command)) asks
+    by_change_of r = grind arith
 
 -- a take by which nothing is executed
 nothing_both : (xs ys : List Execution) → xs ++ ys ≡ [] → (xs ≡ []) × (ys ≡ [])
@@ -63,12 +57,10 @@ seen_without [] = refl
 seen_without (x ∷ xs) = ap (λ (cs : List ClientSeen). seen_client x ∷ cs) (seen_without xs)
 
 asker_without : (o : Option SessionState) → asker_of (option_map without_bytes o) ≡ asker_of o
-asker_without None = refl
-asker_without (Some x) = refl
+asker_without o = grind arith
 
 changed_without : (change : Change) (line text : List ℕ) (x : SessionState) → without_bytes (changed_session change (answered line text x)) ≡ changed_session change (without_bytes x)
-changed_without Ending line text x = refl
-changed_without change line text x = refl
+changed_without change line text x = grind arith
 
 -- the server: what is answered is the same
 core_alike : (s : ServerState) (c : ℕ) (line : List ℕ) → IsAlike (apart_from_bytes s) s c c line
@@ -163,8 +155,7 @@ one_told : (x : Execution) (text : List ℕ) (c : ℕ) → text ≡ text_of x �
 one_told x text c is = by_own (eqb (client_of x) c)
   where
     by_own : (b : Bool) → cond b text [] ++ [] ≡ texts_of (cond b (x ∷ []) [])
-    by_own true = ap (λ (w : List ℕ). w ++ []) is
-    by_own false = refl
+    by_own b = grind arith
 
 pump_leads : (d : ℕ) → IsOfPump d (λ s xs t. Leads s (map happening_of xs) (told_by xs) t)
 unfolding left said
@@ -198,7 +189,7 @@ event_leads s (Took d n) o =
         (told_by (cond b (executions_until (without_output s d n) d (refused_after o)) [])) (cond b (pumped_until (without_output s d n) d (refused_after o)) s)
     by_may true = taken
     by_may false = record { server = refl; told = λ c. refl }
-event_leads s e o = record { server = (each s e).core (refused_after o) tt; told = λ c. refl }
+event_leads s e o = record { server = core_event s e (refused_after o) tt; told = λ c. refl }
 
 run_leads : (s t : ServerState) (es : List Event) (os : List Outcome) → Run s es os t → Leads s (happenings s es os) (told_by (executions s es os)) t
 unfolding left said

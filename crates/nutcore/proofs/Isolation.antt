@@ -1,5 +1,5 @@
 -- What an event doesn't touch.
-use Rattle.std.proofs.Common.{◌≡◌, ◌≢◌, ℕ, zero, suc, Bool, true, false, ◌&&◌, eqb, inl, inr, List, [], ◌∷◌, Option, Some, None, refl, sym, ◌∙◌, ap, subst, cond, map, IfSome}
+use Rattle.std.proofs.Common.{arith, ◌≡◌, ◌≢◌, ℕ, zero, suc, Bool, true, false, ◌&&◌, eqb, inl, inr, List, [], ◌∷◌, Option, Some, None, refl, sym, ◌∙◌, ap, subst, cond, map, IfSome}
 use Rattle.nutcore.proofs.Common.{cond_both, and_parts, eqb-true, same_Some, UpsId, TrackingState, Change, Event, Fault, Outcome, ServerState, session, changed_at, with_session_changed}
 use Rattle.nutcore.specs.declared.event.Event.TheVariants.{Feed, Took, Close}
 use Rattle.nutcore.specs.declared.event.Outcome.TheVariants.{Refused}
@@ -97,8 +97,7 @@ may_settle place id number x = by_awaits (awaits place id x) refl
     y = record x { progress = Done number }
 
     pending : (p : Progress) → is_pending p ≡ true → p ≡ Pending
-    pending Pending e = refl
-    pending (Done n) e = cc e
+    pending p e = grind arith
 
     by_awaits : (b : Bool) → awaits place id x ≡ b → MaySettle place x (cond b y x)
     by_awaits true e =
@@ -139,8 +138,7 @@ ends_settle place (line ∷ lines) t =
     each_twice place t.orders next.orders (after_ends place lines next).orders (end_settles place (end_in line) t) (ends_settle place lines next)
 
 end_keeps_ids : (place : ℕ) (o : Option OrderEnd) (t : TrackingState) → (with_end place o t).ids ≡ t.ids
-end_keeps_ids place None t = refl
-end_keeps_ids place (Some told) t = refl
+end_keeps_ids place o t = grind arith
 
 ends_keep_ids : (place : ℕ) (lines : List (List ℕ)) (t : TrackingState) → (after_ends place lines t).ids ≡ t.ids
 ends_keep_ids place [] t = refl

@@ -28,7 +28,7 @@ use Rattle.nutcore.proofs.Changes.{of_tracking}
 use Rattle.nutcore.proofs.Tracked.{IsTracked, order_tracked}
 use Rattle.nutcore.proofs.Found.{find_id}
 use Rattle.nutcore.proofs.Serving.{set_is}
-use Rattle.nutcore.proofs.SoundUps.{sound_changes, length-changes, sound_fewer, sound_bytes, sound_report, report_connected}
+use Rattle.nutcore.proofs.SoundUps.{sound_changes, length-changes, sound_fewer, sound_bytes, sound_report}
 use Rattle.nutcore.proofs.Sound.{each_found, sound_with, sound_upses, upses_sound, sound_answered, sound_notice, sound_input, sound_output, is_tracked, tracking_sound}
 
 -- a session in place of the one that stands there
@@ -115,8 +115,7 @@ module _ (empty : IsSoundTree empty_tree) (line_keeps : EachLineKeepsTheTreeSoun
       subst (IsSoundUps m) (sym does.1) (record { tree = h.tree; heard = omega arith; pinged = h.pinged; owed = h.owed; unfinished = h.unfinished; lost = λ lost. never_both x.report.connected connected lost })
 
 pub driver_line_connected : (m : ℕ) (line : List ℕ) (x y : UpsState) (r : Result LineOutcome AllocError) → DoesLine m line x r y → y.report.connected ≡ x.report.connected
-driver_line_connected m line x y (Ok outcome) does = ap (λ (z : UpsState). z.report.connected) does.1 ∙ report_connected m x line
-driver_line_connected m line x y (Err e) does = ap (λ (z : UpsState). z.report.connected) does.1
+driver_line_connected m line x y r does = grind arith
 
 -- so its driver stays connected
 pub line_stays : (s t : ServerState) (u : UpsId) (m : ℕ) (line : List ℕ) (x y : UpsState) (r : Result LineOutcome AllocError) → option_map is_connected (ups_at u.place s) ≡ Some true → ups_at u.place s ≡ Some x → DoesLine m line x r y → t ≡ with_ups_changed (λ z. y) u s →

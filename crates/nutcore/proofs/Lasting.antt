@@ -152,8 +152,7 @@ none_lasting : IsLasting (λ x. ⊥)
 none_lasting = record { line = λ s c line x found going so. so; joins = λ piece x so. so; gives = λ n x so. so; notice = λ x so. so }
 
 no_one : (o : Option SessionState) → IfSome o (λ x. ⊥) → o ≡ None
-no_one None h = refl
-no_one (Some x) h = absurd h
+no_one o h = grind arith
 
 -- ids
 by_tick_ids : (n : ℕ) (s : ServerState) (seconds : ℕ) → n ≤ s.next_id → n ≤ (ticked seconds s).next_id

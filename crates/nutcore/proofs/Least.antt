@@ -56,8 +56,7 @@ least zero s c stop = (0, record { within = omega arith; there = stop; before = 
 least (suc n) s c stop = least_by (pump_stops s c) refl (least n (after_line s c) c stop)
   where
     before_by : (k : ℕ) → pump_stops s c ≡ false → ((j : ℕ) → j < k → pump_stops (after_lines j (after_line s c) c) c ≡ false) → (j : ℕ) → j < suc k → pump_stops (after_lines j s c) c ≡ false
-    before_by k going rest zero lt = going
-    before_by k going rest (suc j) lt = rest j (omega arith)
+    before_by k going rest j lt = grind arith
 
     least_by : (b : Bool) → pump_stops s c ≡ b → (k : ℕ) × Least (after_line s c) c k n → (k : ℕ) × Least s c k (suc n)
     least_by true now rest = (0, record { within = omega arith; there = now; before = λ j (lt : j < 0). absurd (omega arith) })
@@ -76,8 +75,7 @@ pub record HasStopped (s : ServerState) (c : ℕ) : Type 0 where
   pub short : is_overlong s c ≡ false
 
 told_ends : (o : Option SessionState) → (is_none (option_and_then next_line (option_map notified o)) ≡ true) × (option_map_or holds_overlong (option_map notified o) false ≡ false)
-told_ends None = (refl, refl)
-told_ends (Some x) = (refl, refl)
+told_ends o = grind arith
 
 pub pump_ended : (s : ServerState) (c : ℕ) → HasStopped (pumped s c) c
 unfolding pumped after_all_lines
@@ -98,12 +96,10 @@ unfolding after_by pumped_until
 fed_stops old new c n piece step = subst (λ (z : ServerState). pump_stops z c ≡ true) (sym step.leaves) (pump_ended (with_input old c piece) c).stopped
 
 may_by : (may overlong : Bool) → Done ≡ cond may (cond overlong (Refused LineTooLong) Done) (Refused TookTooMuch) → may ≡ true
-may_by true overlong h = refl
-may_by false overlong h = cc h
+may_by may overlong h = grind arith
 
 may_of : (o : Option SessionState) (n : ℕ) (overlong : Bool) → Done ≡ took_by o n overlong → may_take o n ≡ true
-may_of None n overlong h = cc h
-may_of (Some x) n overlong h = may_by (may_take (Some x) n) overlong h
+may_of o n overlong h = grind arith
 
 took_stops : (old new : ServerState) (c n : ℕ) → Step old (Took c n) Done new → pump_stops new c ≡ true
 unfolding outcome_of after_by pumped_until

@@ -1,5 +1,5 @@
 -- What a sound server lists comes once, in the stated order.
-use Rattle.std.proofs.Common.{◌≡◌, ◌↔◌, ◌∙◌, ◌<◌, ℕ, Bool, true, false, List, [], ◌∷◌, Option, Some, None, Result, Ok, refl, sym, ap, subst, arith, inl, inr}
+use Rattle.std.proofs.Common.{◌≡◌, ◌↔◌, ◌∙◌, ◌<◌, ℕ, Bool, true, false, List, [], ◌∷◌, Option, Some, None, Result, Ok, sym, ap, subst, arith, inl, inr}
 use Rattle.std.specs.Prelude.{codes, IfSome}
 use Rattle.std.specs.List.{Contains, filter, AllByRecursion}
 use Rattle.std.specs.List.Sorted.{IsStrictlySortedBy}
@@ -7,7 +7,7 @@ use Rattle.std.specs.Map.{keys_of}
 use Rattle.std.specs.BTreeMap.{is_at}
 use Rattle.std.specs.Ordering.{is_eq}
 use Rattle.std.specs.declared.cmp.Ordering.{Ordering}
-use Rattle.std.specs.declared.cmp.Ordering.TheVariants.{Less, Equal, Greater}
+use Rattle.std.specs.declared.cmp.Ordering.TheVariants.{Less, Equal}
 use Rattle.std.specs.Option.{ok_or, option_map}
 use Rattle.std.proofs.lemmas.Cmp.{nat_list_cmp_total, eq_by_cmp_equiv}
 use Rattle.std.proofs.lemmas.List.Elements.{All-contains, All-contains_itself, All-filter, filter_passes, Contains-push_cases, Contains-append_cases, Contains-append_left, Contains-append_right}
@@ -105,9 +105,7 @@ listed_once = record {
 
 -- what is held
 is_equal : (c : Ordering) → is_eq c ≡ true → c ≡ Equal
-is_equal Less h = cc h
-is_equal Equal h = refl
-is_equal Greater h = cc h
+is_equal c h = grind arith
 
 one_name : (name other : List ℕ) → is_at (byte_order name) other ≡ true → name ≡ other
 one_name name other h = exact_bytes name other (is_equal (byte_order name other) h)

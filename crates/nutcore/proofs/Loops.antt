@@ -18,8 +18,7 @@ after_lines-suc (suc k) s c = let e : suc k + 1 ≡ suc (k + 1) = omega arith in
 
 -- where the pump stops, nothing happens
 pub none_of : (o : Option (List ℕ)) → is_none o ≡ true → o ≡ None
-none_of None h = refl
-none_of (Some line) h = cc
+none_of o h = grind arith
 
 pub stopped_line : (s : ServerState) (c : ℕ) → pump_stops s c ≡ true → after_line s c ≡ s
 stopped_line s c stop = stopped_none s c (none_of (next_line_for s c) stop)

@@ -1,5 +1,5 @@
 -- Nobody is stuck.
-use Rattle.std.proofs.Common.{◌≡◌, ◌≢◌, ◌≤◌, ◌∙◌, ◌+◌, ℕ, Bool, true, false, not, ◌&&◌, ◌||◌, List, [], ◌∷◌, ◌++◌, Option, Some, None, refl, sym, ap, subst, cond, eqb, ltb, leb, length, length-append, arith}
+use Rattle.std.proofs.Common.{◌≡◌, ◌≢◌, ◌≤◌, ◌∙◌, ◌+◌, ℕ, Bool, true, false, not, ◌&&◌, ◌||◌, List, [], ◌∷◌, ◌++◌, Option, Some, None, sym, ap, subst, cond, eqb, ltb, leb, length, length-append, arith}
 use Rattle.std.specs.Prelude.{is_none, option_and_then}
 use Rattle.std.specs.Option.{option_map_or}
 use Rattle.std.proofs.lemmas.Bool.{cond_both, le-leb}
@@ -61,8 +61,7 @@ no_first x going few stopped =
     ap (λ (b : Bool). is_none (cond b None (first_line x.held))) (sym (ap (λ (b : Bool). b || ltb OWED_LIMIT (length x.owed)) going ∙ little)) ∙ stopped
 
 is_none_is : {A : Type 0} (o : Option A) → is_none o ≡ true → o ≡ None
-is_none_is None h = refl
-is_none_is (Some x) h = cc h
+is_none_is o h = grind arith
 
 short_of : (x : SessionState) → x.ending ≡ false → length x.owed ≤ OWED_LIMIT → is_none (first_line x.held) ≡ true → holds_overlong x ≡ false → leb HELD_LIMIT (length x.held) ≡ false
 short_of x going few none short =

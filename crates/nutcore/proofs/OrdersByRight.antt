@@ -1,8 +1,8 @@
 -- The orders that a run told are those of its lines that are by right.
-use Rattle.std.proofs.Common.{◌≡◌, ◌∙◌, append_assoc, ℕ, Bool, true, false, List, [], ◌∷◌, ◌++◌, Option, Some, None, Result, Ok, refl, sym, ap, subst, cond, eqb, inl, inr}
+use Rattle.std.proofs.Common.{arith, ◌≡◌, ◌∙◌, append_assoc, ℕ, Bool, true, false, List, [], ◌∷◌, ◌++◌, Option, Some, None, Result, Ok, refl, sym, ap, subst, cond, eqb, inl, inr}
 use Rattle.std.specs.List.{flat_map}
 use Rattle.std.proofs.lemmas.Grind.{flat_map-append}
-use Rattle.std.proofs.lemmas.Bool.{cond_both, cond-false, eqb-true, eq-eqb}
+use Rattle.std.proofs.lemmas.Bool.{cond_both, cond-false, eqb-true}
 use Rattle.nutcore.proofs.Common.{UpsId, Change, Event, Outcome, ServerState, after}
 use Rattle.nutanswer.specs.declared.command.Command.{Command}
 use Rattle.nutanswer.specs.declared.err_word.ErrWord.{ErrWord}
@@ -69,8 +69,7 @@ by_read s c line u v bytes id place change =
 
 -- and a line that is by right gives its order
 told_order : (u v : UpsId) (bytes : List ℕ) (id : Option ℕ) → v ≡ u → told_by_change u (order_to v bytes id) ≡ order bytes ∷ []
-told_order u v bytes None e = ap (λ (w : UpsId). told_by_change u (order_to w bytes None)) e ∙ ap (λ (b : Bool). cond b (order bytes ∷ []) []) (eq-eqb u.place u.place refl)
-told_order u v bytes (Some id) e = ap (λ (w : UpsId). told_by_change u (order_to w bytes (Some id))) e ∙ ap (λ (b : Bool). cond b (order bytes ∷ []) []) (eq-eqb u.place u.place refl)
+told_order u v bytes id e = grind arith
 
 change_gives : (u : UpsId) (bytes line_bytes : List ℕ) (id : Option ℕ) (s : ServerState) (c : ℕ) (line : List ℕ) (command : Command) (known : KnownUps) → read_command line ≡ Ok (Some command) → change_of_answer (answer_to (seen s) (asker c s) command) ≡ order_to known.id line_bytes id
     → known.id ≡ u → bytes ≡ line_bytes → told_by_change u (change_by s c (read_command line)) ≡ order bytes ∷ []

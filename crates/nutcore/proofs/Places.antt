@@ -138,8 +138,7 @@ module _ (l n c : ℕ) (xs : List SessionState) (rise : IdsRise l n xs) where
 
 -- and as the server answers it
 pub place_found : (c : ℕ) (xs : List SessionState) (r : Result ℕ ℕ) → MatchResult r (λ i. IsAt c i xs) (λ i. find c xs ≡ None) → MatchResult (result_or r (Err NoSuchClient)) (λ i. IsAt c i xs) (λ fault. (fault ≡ NoSuchClient) × (find c xs ≡ None))
-place_found c xs (Ok i) h = h
-place_found c xs (Err i) h = (refl, h)
+place_found c xs r h = grind arith
 
 pub found_at : (c i : ℕ) (xs : List SessionState) (x : SessionState) → IsAt c i xs → x ≡ get_or xs i x → find c xs ≡ Some x
 found_at c i xs x h at =

@@ -1,5 +1,5 @@
 -- What one line of a client leaves of the server, and the notice.
-use Rattle.std.proofs.Common.{◌≡◌, ◌≢◌, ℕ, Bool, true, false, List, [], ◌∷◌, Option, Some, None, refl, sym, ◌∙◌, ap, subst, cond, ltb, ◌<◌, length, take}
+use Rattle.std.proofs.Common.{arith, ◌≡◌, ◌≢◌, ℕ, Bool, true, false, List, [], ◌∷◌, Option, Some, None, refl, sym, ◌∙◌, ap, subst, cond, ltb, ◌<◌, length, take}
 use Rattle.std.specs.Prelude.{◌||◌, option_map, option_and_then}
 use Rattle.std.specs.Option.{option_map_or}
 use Rattle.std.proofs.lemmas.Bool.{or_parts, cond-true, cond-false}
@@ -33,8 +33,7 @@ pub record IsNext (s : ServerState) (c : ℕ) (line : List ℕ) : Type 0 where
   pub first : first_line asking.held ≡ Some line
 
 unless : (b : Bool) (o : Option (List ℕ)) (line : List ℕ) → cond b None o ≡ Some line → (b ≡ false) × (o ≡ Some line)
-unless true o line h = cc h
-unless false o line h = (refl, h)
+unless b o line h = grind arith
 
 next_of : (s : ServerState) (c : ℕ) (line : List ℕ) (o : Option SessionState) → session c s ≡ o → option_and_then next_line o ≡ Some line → IsNext s c line
 next_of s c line None found h = cc h
@@ -114,8 +113,7 @@ no_notice s c over = by_change (λ t. t ≡ s) with_notice c s
 
 -- where it is, there is a session that gets it
 pub overlong_there : (o : Option SessionState) → option_map_or holds_overlong o false ≡ true → (x : SessionState) × (o ≡ Some x) × (holds_overlong x ≡ true)
-overlong_there None h = cc h
-overlong_there (Some x) h = (x, refl, h)
+overlong_there o h = grind arith
 
 pub notice_there : (s : ServerState) (c : ℕ) → is_overlong s c ≡ true → after_notice s c ≡ with_session_changed notified c s
 unfolding after_notice

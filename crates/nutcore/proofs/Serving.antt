@@ -89,12 +89,10 @@ pub ends_at : (c i : ℕ) (s t : ServerState) (x : SessionState) (r : Option ℕ
 ends_at c i s t x r e at is end = sym (next_end_is t c x (found_in c i s t x e at is)) ∙ sym end
 
 pub line_there : (o : Option (List ℕ)) (end : ℕ) → option_map length o ≡ Some end → (line : List ℕ) × (o ≡ Some line)
-line_there None end h = cc h
-line_there (Some line) end h = (line, refl)
+line_there o end h = grind arith
 
 pub no_line_there : (o : Option (List ℕ)) → option_map length o ≡ None → o ≡ None
-no_line_there None h = refl
-no_line_there (Some line) h = cc h
+no_line_there o h = grind arith
 
 -- what an answer says, and what it changes
 answers_as : (s : ServerState) (c : ℕ) (line : List ℕ) (reply : Reply) (clients : List (List ℕ)) → Replies s c line reply → ListsClients s.sessions reply clients →
@@ -104,9 +102,7 @@ answers_as s c line (Many listing) clients told lists = (told.1, told.2)
 answers_as s c line (Clients name u) clients told lists = (told.1 ∙ ap (λ (addresses : List (List ℕ)). text_of (client_listing name addresses)) (sym lists), told.2)
 
 pub change_told : (s : ServerState) (c : ℕ) (line : List ℕ) (reply : Reply) → Replies s c line reply → change_by s c (read_command line) ≡ change_in reply
-change_told s c line (One text change) told = told.2
-change_told s c line (Many listing) told = told.2
-change_told s c line (Clients name u) told = told.2
+change_told s c line reply told = grind arith
 
 pub short_told : (s : ServerState) (c : ℕ) (line : List ℕ) (reply : Reply) → Replies s c line reply → IsShort reply
 short_told s c line (One text change) told = (told.3, told.4)

@@ -1,8 +1,8 @@
 -- What a session has given, and to what it is logged in, came by lines of its client.
-use Rattle.std.proofs.Common.{◌≡◌, ◌⊎◌, ◌∙◌, ℕ, true, false, List, [], ◌∷◌, ◌++◌, Option, Some, None, refl, sym, ap, subst, eqb, inl, inr}
+use Rattle.std.proofs.Common.{arith, ◌≡◌, ◌⊎◌, ◌∙◌, ℕ, true, false, List, [], ◌∷◌, ◌++◌, Option, Some, None, refl, sym, ap, subst, eqb, inl, inr}
 use Rattle.std.specs.Prelude.{option_map}
 use Rattle.std.specs.Option.{option_map_or}
-use Rattle.std.proofs.lemmas.Bool.{both_ways, eqb-true, eq-eqb}
+use Rattle.std.proofs.lemmas.Bool.{both_ways}
 use Rattle.nutcore.proofs.Common.{UpsId, SessionState, ServerState, session, with_session_changed}
 use Rattle.nutanswer.specs.declared.reply.Change.TheVariants as changes
 use Rattle.nutanswer.specs.View.{AskerSeen}
@@ -14,7 +14,6 @@ use Rattle.nutcore.specs.History.{Execution, of_line, of_notice}
 use Rattle.nutcore.specs.ByRight.{GivesUsername, GivesPassword, LogsInByRight, is_logged_in_of, CredentialsAreGivenByLines, ALoginIsByRight}
 use Rattle.nutcore.proofs.Changed.{session_changed, presence_other}
 use Rattle.nutcore.proofs.Changes.{keeps}
-use Rattle.nutcore.proofs.UpsPlaces.{same_ups}
 use Rattle.nutcore.proofs.Histories.{own_or_other, of_plain}
 use Rattle.nutcore.proofs.Loops.{found_after_line}
 use Rattle.nutcore.proofs.Marks.{OneIs, first_one, last_one, IsToldByLines, told_after, told_at}
@@ -138,12 +137,10 @@ logged_in u None h = cc h
 logged_in u (Some x) h = by_login x.login h
   where
     by_login : (login : Option UpsId) → option_map_or (λ v. eqb v.place u.place) login false ≡ true → login ≡ Some u
-    by_login None h = cc h
-    by_login (Some v) h = ap Some (same_ups v u (eqb-true v.place u.place h))
+    by_login login h = grind arith
 
 logs_in : (u : UpsId) (o : Option SessionState) → (asker_of o).login ≡ Some u → option_map_or (is_logged_in_of u) o false ≡ true
-logs_in u None e = cc e
-logs_in u (Some x) e = ap (λ (login : Option UpsId). option_map_or (λ v. eqb v.place u.place) login false) e ∙ eq-eqb u.place u.place refl
+logs_in u o e = grind arith
 
 pub logins : ALoginIsByRight
 logins old new events outcomes c u run before after =

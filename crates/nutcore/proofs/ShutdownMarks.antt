@@ -1,5 +1,5 @@
 -- A forced shutdown is set by lines alone, and by those that have the right.
-use Rattle.std.proofs.Common.{◌≡◌, ℕ, zero, suc, Bool, true, false, List, [], ◌∷◌, ◌++◌, Option, Some, None, refl, sym, ◌∙◌, ap, eqb, map, take, inl, inr}
+use Rattle.std.proofs.Common.{arith, ◌≡◌, ℕ, zero, suc, Bool, true, false, List, [], ◌∷◌, ◌++◌, Option, Some, None, refl, sym, ◌∙◌, ap, eqb, map, take, inl, inr}
 use Rattle.std.specs.Prelude.{slice_get}
 use Rattle.std.specs.Option.{option_map_or}
 use Rattle.std.proofs.lemmas.Bool.{both_ways, cond_both, cases_Bool, eqb-true, eqb-false}
@@ -13,7 +13,7 @@ use Rattle.nutcore.specs.Reports.{end_in, with_end, is_unawaited}
 use Rattle.nutcore.specs.Ups.{with_fsd, with_order, after_connecting, after_loss, is_refused, with_faulty_line, after_outcome, after_text, after_texts, with_unfinished, ping_is_due}
 use Rattle.nutcore.specs.Reply.{changed_upses}
 use Rattle.nutcore.specs.Pump.{next_line_for, after_line, notified}
-use Rattle.nutcore.specs.Step.{after_by, joined, with_input, taken_from, without_output, opened, may_open, ticked, driver_may_take}
+use Rattle.nutcore.specs.Step.{after_by, joined, with_input, taken_from, without_output, opened, ticked, driver_may_take}
 use Rattle.nutcore.specs.History.{Execution, of_line, of_notice}
 use Rattle.nutcore.specs.ByRight.{SetsShutdownByRight, is_shut_down, AForcedShutdownIsSetByRight}
 use Rattle.nutcore.proofs.Changed.{by_change}
@@ -89,8 +89,7 @@ by_plain u s e m =
     (λ address plain. opens address m) (λ c piece plain. absurd plain) (λ c n plain. absurd plain) (λ c plain. refl) (λ id plain. refl) e
   where
     opens : (address : List ℕ) (m : Option ℕ) → is_shut_down u (opened s address m) ≡ is_shut_down u s
-    opens address None = cond_both (may_open s) _ s (λ t. is_shut_down u t ≡ is_shut_down u s) (λ may. refl) (λ full. refl)
-    opens address (Some k) = refl
+    opens address m = grind arith
 
 -- nor does a session that is changed
 pub by_session : (u : UpsId) (f : SessionState → SessionState) (s : ServerState) (c : ℕ) → is_shut_down u (with_session_changed f c s) ≡ is_shut_down u s

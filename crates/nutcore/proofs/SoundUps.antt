@@ -1,5 +1,5 @@
 -- Sound UPSs, and what keeps them so.
-use Rattle.std.proofs.Common.{◌≡◌, ◌≤◌, ◌+◌, ◌-◌, ◌/◌, ℕ, zero, suc, Bool, true, false, ◌&&◌, List, [], ◌∷◌, ◌++◌, Option, Some, None, Result, Ok, Err, refl, ◌∙◌, ap, subst, cond, map, length, replicate, take, drop, length-append, length-drop, arith}
+use Rattle.std.proofs.Common.{◌≡◌, ◌≤◌, ◌+◌, ◌-◌, ◌/◌, ℕ, zero, suc, Bool, true, false, ◌&&◌, List, [], ◌∷◌, ◌++◌, Option, Some, None, Result, refl, ◌∙◌, ap, subst, cond, map, length, replicate, take, drop, length-append, length-drop, arith}
 use Rattle.std.proofs.Math.Seq.{drop-nil}
 use Rattle.std.proofs.lemmas.Bool.{leb-false}
 use Rattle.nutwords.specs.declared.limits.TheConstants.{LINE_LIMIT, LINE_ROOM}
@@ -7,12 +7,10 @@ use Rattle.std.specs.Prelude.{slice_get, nat_le}
 use Rattle.nutdriver.specs.declared.report.Report.{Report}
 use Rattle.nutdriver.specs.declared.report.LineOutcome.{LineOutcome}
 use Rattle.nutdriver.specs.declared.effect.Effect.{Effect}
-use Rattle.nutdriver.specs.declared.effect.Effect.TheVariants as effects
 use Rattle.nutdriver.specs.declared.line.DriverLine.{DriverLine}
 use Rattle.nutdriver.specs.declared.fault.DriverFault.{DriverFault}
 use Rattle.nutdriver.specs.Tree.{TreeState, empty_tree}
 use Rattle.nutdriver.specs.DriverLine.{read_driver_line}
-use Rattle.nutdriver.specs.DriverStep.{driver_step}
 use Rattle.nutdriver.specs.Report.{after_effect, after_step, after_reading, after_line as report_after_line}
 use Rattle.nutdriver.specs.Sound.{IsSoundTree, EachLineKeepsTheTreeSound}
 use Rattle.nutcore.proofs.Common.{never_both, leb-true, cond_both, and_parts, TrackingState, Change, changed_at}
@@ -64,16 +62,13 @@ abbrev heard_of : Report → ℕ × Bool
 heard_of report = (report.heard, report.connected)
 
 heard_effect : (effect : Effect) (report : Report) → heard_of (after_effect effect report) ≡ heard_of report
-heard_effect effects.Nothing report = refl
-heard_effect _ report = refl
+heard_effect effect report = grind arith
 
 heard_step : (report : Report) (r : Result (TreeState × Effect) DriverFault) → heard_of (after_step report r).0 ≡ heard_of report
-heard_step report (Ok (tree, effect)) = heard_effect effect (record report { tree = tree })
-heard_step report (Err fault) = refl
+heard_step report r = grind arith
 
 heard_reading : (report : Report) (r : Result DriverLine DriverFault) → heard_of (after_reading report r).0 ≡ heard_of report
-heard_reading report (Ok line) = heard_step report (driver_step report.tree line)
-heard_reading report (Err fault) = refl
+heard_reading report r = grind arith
 
 heard_line : (moment : ℕ) (report : Report) (line : List ℕ) → heard_of (report_after_line moment report line).0 ≡ (moment, report.connected)
 heard_line moment report line = heard_reading (record report { heard = moment }) (read_driver_line line)

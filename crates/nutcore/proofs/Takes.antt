@@ -74,8 +74,7 @@ module _ (k c : ℕ) where
 
   -- of a client that isn't open there is nothing to take
   taken_of : (o : Option SessionState) → may_take o (min k (length (offered o))) ≡ false → 0 ≡ min k (length (offered o))
-  taken_of None never = omega arith
-  taken_of (Some x) never = let h : true ≡ false = sym (may_take_some x) ∙ never in cc h
+  taken_of o never = grind arith
 
   some_is_taken : (s : ServerState) → length (taken_in_event c s (some_taken k c s)) ≡ size k c s
   some_is_taken s =

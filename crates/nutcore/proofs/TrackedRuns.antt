@@ -1,5 +1,5 @@
 -- What is tracked comes of what a run did.
-use Rattle.std.proofs.Common.{◌≡◌, ◌∙◌, ℕ, Bool, true, false, ◌&&◌, cond, List, [], ◌∷◌, ◌++◌, Option, Some, None, refl, sym, ap, subst, map, append-nil}
+use Rattle.std.proofs.Common.{arith, ◌≡◌, ◌∙◌, ℕ, Bool, true, false, ◌&&◌, cond, List, [], ◌∷◌, ◌++◌, Option, Some, None, refl, sym, ap, subst, map, append-nil}
 use Rattle.std.specs.List.{flat_map}
 use Rattle.nuttracking.specs.Acts.{Act, after_act, after_acts, given}
 use Rattle.nuttracking.specs.Acts.Act.{ordered}
@@ -8,7 +8,6 @@ use Rattle.nuttracking.specs.Sound.{IsSoundTracking}
 use Rattle.nuttracking.specs.Tracking.{nothing_tracked, progress_of}
 use Rattle.nuttracking.proofs.PublicLaws.{nothing_is_sound, acts_keep_it_sound, first_in_first_out, the_last_are_kept, its_driver_settles_it_once}
 use Rattle.nutcore.proofs.Common.{option_map_or, flat_map-append, UpsId, TrackingState, Change, Event, Outcome, UpsState, ServerState, session, ups_at, after}
-use Rattle.nutanswer.specs.declared.reply.Change.TheVariants.{Tracked}
 use Rattle.nutcore.specs.declared.event.Event.TheVariants.{DriverBytes, Open, Feed, Took}
 use Rattle.nutcore.specs.Lines.{whole_lines}
 use Rattle.nutcore.specs.Reports.{OrderEnd, end_in, with_end, after_ends}
@@ -31,8 +30,7 @@ after_both t (x ∷ xs) ys = after_both (after_act t x) xs ys
 
 -- lines of a driver
 one_end : (place : ℕ) (o : Option OrderEnd) (t : TrackingState) → with_end place o t ≡ after_acts t (act_of_end place o)
-one_end place None t = refl
-one_end place (Some told) t = refl
+one_end place o t = grind arith
 
 all_ends : (place : ℕ) (lines : List (List ℕ)) (t : TrackingState) → after_ends place lines t ≡ after_acts t (flat_map (λ line. act_of_end place (end_in line)) lines)
 all_ends place [] t = refl
@@ -47,8 +45,7 @@ ends_heard m place t (line ∷ lines) = ap (λ (z : List Act). act_of_end place 
 
 -- lines of a client
 change_acts : (change : Change) (t : TrackingState) → changed_tracking change t ≡ after_acts t (act_of_change change)
-change_acts (Tracked u id line) t = refl
-change_acts _ t = refl
+change_acts change t = grind arith
 
 abbrev Acted : ServerState → List Execution → ServerState → Type 0
 Acted s xs t = t.tracking ≡ after_acts s.tracking (flat_map act_of xs)

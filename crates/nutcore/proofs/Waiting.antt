@@ -40,9 +40,7 @@ nothing [] few = refl
 nothing (x ∷ xs) few = absurd (omega (arith, few))
 
 never : (a b : Bool) → (a && (b && false)) ≡ false
-never true true = refl
-never true false = refl
-never false b = refl
+never a b = grind arith
 
 -- a session that holds nothing has no next line, and no notice is due to it
 holds_none : (z : SessionState) → z.held ≡ [] → next_line z ≡ None
