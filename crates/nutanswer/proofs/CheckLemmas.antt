@@ -1,5 +1,5 @@
 -- What the checks of a command find, where they hold.
-use Rattle.std.proofs.Common.{◌≡◌, ℕ, Bool, true, false, List, Option, Some, None, Result, Ok, Err, refl, ap, ◌&&◌}
+use Rattle.std.proofs.Common.{arith, ◌≡◌, ℕ, Bool, true, false, List, Option, Some, None, Result, Ok, Err, refl, ◌&&◌}
 use Rattle.std.specs.Prelude.{is_none, if◌then◌else◌}
 use Rattle.std.specs.Option.{ok_or, option_map}
 use Rattle.nuttracking.specs.Tracking.{next_id}
@@ -9,32 +9,26 @@ use Rattle.nutusers.specs.Users.{may}
 use Rattle.nutusers.specs.declared.rights.Right.{Right}
 use Rattle.nutanswer.specs.declared.err_word.ErrWord.{ErrWord}
 use Rattle.nutanswer.specs.declared.err_word.ErrWord.TheVariants.{AccessDenied, UnknownUps, UsernameRequired, PasswordRequired, VarNotSupported}
-use Rattle.nutanswer.specs.View.{Seen, AskerSeen, Readiness, not_connected, stale, usable, readiness}
+use Rattle.nutanswer.specs.View.{Seen, AskerSeen, Readiness, usable, readiness}
 use Rattle.nutanswer.specs.Checks.{◌>>=◌, ◌>>◌, unless, KnownUps, ups_named, unknown_ups, ready, live, driver_not_connected, data_stale, user, access_denied, var_not_supported, first_id, no_id}
 use Rattle.nutanswer.specs.Answer.{Answer}
 use Rattle.nutanswer.specs.Rows.{HasRight, IsIdOfOrder}
 
 -- what a check that holds says
 pub unless_ok : (b : Bool) (word : ErrWord) → unless b word ≡ Ok tt → b ≡ true
-unless_ok true word e = refl
-unless_ok false word e = cc e
+unless_ok b word e = grind arith
 
 pub ok_found : {A : Type 0} (o : Option A) (word : ErrWord) (a : A) → ok_or o word ≡ Ok a → o ≡ Some a
-ok_found None word a h = cc h
-ok_found (Some b) word a h = let same : b ≡ a = cc h in ap Some same
+ok_found o word a h = grind arith
 
 pub none_given : {A : Type 0} (o : Option A) (word : ErrWord) → unless (is_none o) word ≡ Ok tt → o ≡ None
-none_given None word h = refl
-none_given (Some a) word h = cc h
+none_given o word h = grind arith
 
 is_usable : (r : Readiness) → (driver_not_connected r >> data_stale r) ≡ Ok tt → r ≡ usable
-is_usable not_connected h = cc h
-is_usable stale h = cc h
-is_usable usable h = refl
+is_usable r h = grind arith
 
 pub both_true : (a b : Bool) → (a && b) ≡ true → (a ≡ true) × (b ≡ true)
-both_true true b h = (refl, h)
-both_true false b h = cc h
+both_true a b h = grind arith
 
 pub has_right : (s : Seen) (asker : AskerSeen) (right : Right) → user s asker right ≡ Ok tt → HasRight s asker right
 has_right s asker right e = by_given asker.username asker.password refl refl e

@@ -210,8 +210,7 @@ abbrev OrdersIfOk : List (List ℕ) → Change → Result Answer ErrWord → Typ
 OrdersIfOk words change answer = text_of_answer answer ≡ line_of words → change_of_answer answer ≡ change
 
 one_ups : (o : Option KnownUps) (k l : KnownUps) → o ≡ Some k → o ≡ Some l → k ≡ l
-one_ups None k l e f = cc e
-one_ups (Some u) k l e f = let same : Some k ≡ Some l = sym e ∙ f in cc same
+one_ups o k l e f = grind arith
 
 module _ (s : Seen) (asker : AskerSeen) (u known : KnownUps) (same : u ≡ known) (line : Option ℕ → List ℕ) where
   -- the bare OK

@@ -1,23 +1,20 @@
 -- The lines of errors are lawful bytes.
-use Rattle.std.proofs.Common.{◌≡◌, true, refl, [], ◌∷◌, length, leb}
+use Rattle.std.proofs.Common.{arith, ◌≡◌, true, refl, [], ◌∷◌, length, leb}
 use Rattle.std.proofs.lemmas.Bool.{leb-true}
 use Rattle.std.specs.Prelude.{codes}
 use Rattle.std.specs.List.{list_all, join_with_byte}
 use Rattle.nutwords.specs.Bytes.{is_lawful}
 use Rattle.nutanswer.specs.declared.err_word.ErrWord.{ErrWord}
-use Rattle.nutanswer.specs.declared.err_word.ErrWord.TheVariants.{AccessDenied}
 use Rattle.nutwords.specs.declared.limits.TheConstants.{LINE_LIMIT}
 use Rattle.nutlisting.specs.Lines.{IsAnswerLine}
 use Rattle.nutanswer.specs.ErrWord.{spelling_of}
 use Rattle.nutanswer.specs.Laws.{ErrorLinesAreWhole}
 
 pub error_lawful : (word : ErrWord) → list_all is_lawful (join_with_byte 32 (codes "ERR" ∷ spelling_of word ∷ [])) ≡ true
-error_lawful AccessDenied = refl
-error_lawful word = refl
+error_lawful word = grind arith
 
 error_short : (word : ErrWord) → leb (length (join_with_byte 32 (codes "ERR" ∷ spelling_of word ∷ []))) LINE_LIMIT ≡ true
-error_short AccessDenied = refl
-error_short word = refl
+error_short word = grind arith
 
 error_answer : (word : ErrWord) → IsAnswerLine (join_with_byte 32 (codes "ERR" ∷ spelling_of word ∷ []))
 error_answer word = record { fits = leb-true _ _ (error_short word); lawful = error_lawful word }

@@ -1,5 +1,5 @@
 -- The words of a command that are read are lawful names and values.
-use Rattle.std.proofs.Common.{◌≡◌, ◌∙◌, ℕ, Bool, true, false, not, ◌&&◌, List, [], ◌∷◌, Option, Some, None, Result, Ok, Err, refl, sym, ap, subst, cond, eqb, length}
+use Rattle.std.proofs.Common.{arith, ◌≡◌, ◌∙◌, ℕ, Bool, true, false, not, ◌&&◌, List, [], ◌∷◌, Option, Some, None, Result, Ok, Err, refl, sym, ap, subst, cond, eqb, length}
 use Rattle.std.specs.Prelude.{IsTrue, is_ok, nat_lt}
 use Rattle.std.specs.Result.{result_ok}
 use Rattle.std.specs.List.{list_all}
@@ -21,14 +21,10 @@ read_is allowed may_be_empty most bytes text h =
     ap (λ (b : List ℕ). is_ok (read_text allowed may_be_empty most b)) (sym same) ∙ ap is_ok ok
   where
     by_result : (r : Result (List ℕ) BadName) → result_ok r ≡ Some text → r ≡ Ok text
-    by_result (Ok b) e = let k : b ≡ text = cc e in ap (λ (z : List ℕ). let r : Result (List ℕ) BadName = Ok z in r) k
-    by_result (Err bad) e = cc e
+    by_result r e = grind arith
 
     by_checks : (a b c : Bool) → cond a (Err Empty) (cond b (Err TooLong) (cond c (Ok bytes) (Err AnotherByte))) ≡ Ok text → bytes ≡ text
-    by_checks true b c e = cc e
-    by_checks false true c e = cc e
-    by_checks false false true e = cc e
-    by_checks false false false e = cc e
+    by_checks a b c e = grind arith
 
 pub record IsLawfulResult (r : Result Command ErrWord) : Type 0 where
   pub lawful : (command : Command) → r ≡ Ok command → IsLawfulCommand command

@@ -1,11 +1,10 @@
 -- An order fits in what its driver may still be owed.
-use Rattle.std.proofs.Common.{◌≡◌, ◌∙◌, ◌≤◌, ℕ, length, Bool, true, false, List, Option, Some, None, refl, sym, ap, subst, not, inl, inr, ◌⊎◌}
+use Rattle.std.proofs.Common.{arith, ◌≡◌, ◌∙◌, ◌≤◌, ℕ, length, Bool, true, List, Option, Some, None, refl, sym, subst, inl, inr, ◌⊎◌}
 use Rattle.std.specs.Prelude.{slice_get}
-use Rattle.std.proofs.lemmas.Bool.{cond-true}
 use Rattle.nutdriver.specs.declared.report.Report.{Report}
 use Rattle.nutusers.specs.declared.ups_list.UpsId.{UpsId}
 use Rattle.nutanswer.specs.declared.command.Command.{Command}
-use Rattle.nutanswer.specs.View.{Seen, AskerSeen, UpsSeen, not_connected, usable, readiness}
+use Rattle.nutanswer.specs.View.{Seen, AskerSeen, UpsSeen, usable, readiness}
 use Rattle.nutanswer.specs.Checks.{KnownUps, ups_named}
 use Rattle.nutanswer.specs.Rows.{IsSet, IsInstCmd, ComesOf}
 use Rattle.nutanswer.specs.Laws.{TakesOrder, OrdersFit}
@@ -17,8 +16,7 @@ connected : (moment max_age : ℕ) (x : Report) → readiness moment max_age x �
 connected moment max_age x h = by_connection x.connected refl
   where
     by_connection : (b : Bool) → x.connected ≡ b → b ≡ true
-    by_connection true e = refl
-    by_connection false e = let unready : readiness moment max_age x ≡ not_connected = cond-true _ _ _ (ap not e) in let never : not_connected ≡ usable = sym unready ∙ h in cc never
+    by_connection b e = grind arith
 
 module _ (s : Seen) where
   takes : (line : List ℕ) (ups : Option (List ℕ)) (u : KnownUps) (id : UpsId) (x : UpsSeen) → ups_named s ups ≡ Some u → u.id ≡ id → readiness s.moment s.max_age u.state.report ≡ usable

@@ -1,8 +1,7 @@
 -- A right to a command is that of its bytes.
-use Rattle.std.proofs.Common.{◌≡◌, ℕ, Bool, List, refl, ap, Bor}
+use Rattle.std.proofs.Common.{arith, ◌≡◌, ℕ, Bool, List, ap, Bor}
 use Rattle.nutusers.specs.Rights.{gives}
 use Rattle.nutusers.specs.declared.rights.Grant.{Grant}
-use Rattle.nutusers.specs.declared.rights.Grant.TheVariants.{EveryCommand}
 use Rattle.nutusers.specs.declared.rights.Right.TheVariants.{Instcmd}
 use Rattle.std.specs.List.{list_any}
 use Rattle.std.specs.Option.{option_map_or}
@@ -16,8 +15,7 @@ use Rattle.nutanswer.specs.Orders.{right_to}
 
 module _ (command : Bor (List ℕ)) where
   gives_by_bytes : (grant : Grant) → gives grant (Instcmd command) ≡ gives grant (right_to command.now)
-  gives_by_bytes EveryCommand = refl
-  gives_by_bytes grant = refl
+  gives_by_bytes grant = grind arith
 
   all_give : ◌≡◌ {A = Grant → Bool} (λ grant. gives grant (Instcmd command)) (λ grant. gives grant (right_to command.now))
   all_give = λ i grant. gives_by_bytes grant i

@@ -1,5 +1,5 @@
 -- A row of the table, by what its checks find together.
-use Rattle.std.proofs.Common.{◌≡◌, ℕ, List, Option, Result, Ok, Err, refl, sym, ap, ◌∙◌}
+use Rattle.std.proofs.Common.{arith, ◌≡◌, ℕ, List, Option, Result, Ok, Err, refl, sym, ap, ◌∙◌}
 use Rattle.nutdriver.specs.Variable.{VariableState}
 use Rattle.nutanswer.specs.declared.err_word.ErrWord.{ErrWord}
 use Rattle.nutusers.specs.declared.rights.Right.TheVariants.{Set}
@@ -28,14 +28,12 @@ refused_by answer word r h is = subst (λ (r : Result Reply ErrWord). Gives answ
 -- what comes after a check, in two parts
 after_check : {A B C : Type 0} (m : Result A ErrWord) (both : A → Result C ErrWord) (first : A → Result B ErrWord) (next : B → Result C ErrWord)
     → ((a : A) → both a ≡ (first a >>= next)) → (m >>= both) ≡ ((m >>= first) >>= next)
-after_check (Err word) both first next h = refl
-after_check (Ok a) both first next h = h a
+after_check m both first next h = grind arith
 
 -- the same of a check that finds nothing
 after_test : {B C : Type 0} (m : Result (Unit {0}) ErrWord) (both : Result C ErrWord) (first : Result B ErrWord) (next : B → Result C ErrWord)
     → both ≡ (first >>= next) → (m >> both) ≡ ((m >> first) >>= next)
-after_test (Err word) both first next h = refl
-after_test (Ok none) both first next h = h
+after_test m both first next h = grind arith
 
 -- the checks of a variable of a live UPS
 row_of_variable : {A : Type 0} (s : Seen) (ups name : Option (List ℕ)) (next : KnownUps → List ℕ → VariableState → Result A ErrWord)

@@ -163,8 +163,7 @@ variable_found tree None v e = cc e
 variable_found tree (Some name) v e = by_found (variable_at tree name) refl e
   where
     by_found : (o : Option VariableState) → variable_at tree name ≡ o → ok_or (option_map (λ (x : VariableState). (name, x)) o) VarNotSupported ≡ Ok v → (Some name ≡ Some v.0) × (variable_at tree v.0 ≡ Some v.1)
-    by_found None there e = cc e
-    by_found (Some x) there e = let same : (name, x) ≡ v = cc e in subst (λ (z : List ℕ × VariableState). (Some name ≡ Some z.0) × (variable_at tree z.0 ≡ Some z.1)) same (refl, there)
+    by_found o there e = grind arith
 
 pub name_found : (name : Option (List ℕ)) (word : ErrWord) (v : List ℕ) → HasLawfulName name → ok_or name word ≡ Ok v → IsPlain v
 name_found None word v h e = cc e
