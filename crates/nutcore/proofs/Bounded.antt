@@ -1,5 +1,5 @@
 -- How much one event makes a server do for its clients.
-use Rattle.std.proofs.Common.{sym, ◌≡◌, ℕ, ◌+◌, ◌-◌, ◌≤◌, Bool, true, false, List, [], ◌∷◌, ◌++◌, Option, Some, None, refl, ◌∙◌, ap, subst, cond, eqb, leb, not, ◌&&◌, arith, length, take, drop, length-append, length-take, length-drop}
+use Rattle.std.proofs.Common.{sym, ◌≡◌, ℕ, ◌+◌, ◌-◌, ◌≤◌, Bool, true, List, [], ◌∷◌, ◌++◌, Option, Some, None, refl, ◌∙◌, ap, subst, cond, eqb, leb, not, ◌&&◌, arith, length, take, drop, length-append, length-take, length-drop}
 use Rattle.std.specs.Prelude.{is_none, option_map}
 use Rattle.std.proofs.lemmas.Bool.{cond_both, cond-true, eq-eqb, leb-true}
 use Rattle.nutlisting.specs.declared.outbox.TheConstants.{OWED_LIMIT}
@@ -40,10 +40,7 @@ untouched c s t e = subst (λ (p : Presence). IsMeasured (session c s) [] [] [] 
 
 -- a session that is too long holds as much as it may
 long_by : (going ready : Bool) (none : Bool) (n : ℕ) → (not going && (ready && (none && leb HELD_LIMIT n))) ≡ true → HELD_LIMIT ≤ n
-long_by true ready none n h = cc h
-long_by false false none n h = cc h
-long_by false true false n h = cc h
-long_by false true true n h = leb-true _ _ h
+long_by going ready none n h = grind arith
 
 own_notice : (c : ℕ) (s : ServerState) → is_overlong s c ≡ true → IsMeasured (session c s) (of_notice c ∷ []) [] [] (session c (with_session_changed notified c s))
 own_notice c s long =

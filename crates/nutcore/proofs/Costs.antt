@@ -155,9 +155,7 @@ cost_kept v c i x y made made' at found id keeps kept counted =
 
 -- the cost of what is placed after so many bytes
 pub placed_behind : (after : List ℕ) (kept made n : ℕ) → made ≡ lines (drop kept after) → n ≡ length after → (let cost : Cost = record { rendered = made; placed = n - kept } in cost ≡ cost_beyond kept after)
-placed_behind after kept made n counted all =
-    ap (λ (k : ℕ). let z : Cost = record { rendered = k; placed = n - kept } in z) counted
-    ∙ ap (λ (k : ℕ). let z : Cost = record { rendered = lines (drop kept after); placed = k - kept } in z) all
+placed_behind after kept made n counted all = grind arith
 
 -- nothing is counted yet
 pub counts_none : (owed : List ℕ) (made : ℕ) → made ≡ 0 → IsCounted (length (take RING_LIMIT owed)) owed made
@@ -172,11 +170,7 @@ counts_none owed made none = record {
 
 -- what was placed after those that were there before is the cost
 cost_is : (before after : List ℕ) (n kept : ℕ) → n ≤ length before → kept ≡ length before - n → kept ≤ length after → cost_beyond kept after ≡ cost_between before n after
-cost_is before after n kept le e within =
-    let placed : length after - kept ≡ length after + n - length before = omega (arith, le, e, within) in
-    let back : kept ≡ length after - (length after - kept) = omega (arith, within) in
-    ap (λ (k : ℕ). let z : Cost = record { rendered = lines (drop k after); placed = length after - kept } in z) back
-    ∙ ap (λ (p : ℕ). let z : Cost = record { rendered = lines (drop (length after - p) after); placed = p } in z) placed
+cost_is before after n kept le e within = grind arith
 
 -- where nothing is taken and nothing changes
 same_costs : (bytes : List ℕ) → no_cost ≡ cost_between bytes 0 bytes

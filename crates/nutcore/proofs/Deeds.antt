@@ -1,5 +1,5 @@
 -- What is noted of an event.
-use Rattle.std.proofs.Common.{◌≡◌, ℕ, zero, suc, ◌+◌, ◌-◌, ◌≤◌, Bool, true, false, List, [], ◌∷◌, ◌++◌, Option, Some, None, Result, refl, sym, ◌∙◌, ap, subst, arith, length, map, take, zero-add, append-nil, append_assoc}
+use Rattle.std.proofs.Common.{◌≡◌, ℕ, zero, suc, ◌+◌, ◌-◌, ◌≤◌, Bool, true, false, List, [], ◌∷◌, ◌++◌, Option, Some, None, Result, refl, sym, ◌∙◌, ap, subst, arith, length, take, zero-add, append-nil, append_assoc}
 use Rattle.std.specs.Prelude.{is_none, option_and_then, if◌then◌else◌}
 use Rattle.std.specs.List.{filter_map, cons_option}
 use Rattle.std.proofs.lemmas.List.Elements.{filter_map-append}
@@ -7,21 +7,19 @@ use Rattle.std.proofs.lemmas.Bool.{cond_both, cond-true, cond-false}
 use Rattle.nutanswer.specs.declared.command.Command.{Command}
 use Rattle.nutanswer.specs.declared.err_word.ErrWord.{ErrWord}
 use Rattle.nutanswer.specs.Command.{read_command}
-use Rattle.nutanswer.specs.View.{addresses_at}
 use Rattle.nutanswer.specs.declared.reply.Change.TheVariants.{Nothing}
 use Rattle.nutanswer.specs.declared.reply.Reply.{Reply}
-use Rattle.nutanswer.specs.declared.reply.Reply.TheVariants.{One, Many, Clients}
-use Rattle.nutlisting.specs.Items.{ListingState, text_of, client_listing}
+use Rattle.nutlisting.specs.Items.{ListingState, text_of}
 use Rattle.nutcore.proofs.Common.{Change, Fault, ServerState, SessionState, session}
 use Rattle.nutcore.specs.declared.deed.Deed.{Deed}
 use Rattle.nutcore.specs.declared.deed.TheConstants.{DEED_LIMIT}
 use Rattle.nutcore.specs.declared.event.Event.TheVariants.{Feed, Took}
 use Rattle.nutcore.specs.Calls.{done}
-use Rattle.nutcore.specs.Reply.{reply, change_by, seen_client}
+use Rattle.nutcore.specs.Reply.{reply, change_by}
 use Rattle.nutcore.specs.Step.{with_input, without_output, may_take, refused_after}
 use Rattle.nutcore.specs.Pump.{next_line, next_line_for, after_line, after_lines, after_all_lines, pump_stops, is_overlong, held_of}
 use Rattle.nutcore.specs.History.{Execution, of_line, of_notice, next_execution, lines_executed, notice, pump_executions, executions_until, executions_by}
-use Rattle.nutcore.specs.Deeds.{is_refusal, is_told, deed_read, deed_of, deeds_of}
+use Rattle.nutcore.specs.Deeds.{is_refusal, is_told, deed_of, deeds_of}
 use Rattle.nutcore.specs.Promises.{Replies, refused_overlong, is_told_by, deed_in_reply, with_deed, told_next, with_next}
 use Rattle.nutcore.proofs.Loops.{none_of, stopped_line}
 use Rattle.nutcore.proofs.EventSteps.{input_absent}
@@ -124,11 +122,7 @@ listed s c line l text change =
 
 -- what is told of a reply is told of its line
 of_reply : (s : ServerState) (c : ℕ) (line : List ℕ) (r : Reply) → Replies s c line r → (if is_told_by s.upses r then deed_in_reply c (read_command line) r else None) ≡ deed_of (of_line s c line)
-of_reply s c line (One text change) is =
-    ap (λ (z : Change). if is_told s.upses text.now z then deed_read c (read_command line) text.now else None) (sym is.2)
-    ∙ ap (λ (t : List ℕ). if is_told s.upses t (change_by s c (read_command line)) then deed_read c (read_command line) t else None) (sym is.1)
-of_reply s c line (Many l) is = listed s c line l is.1 is.2
-of_reply s c line (Clients name u) is = listed s c line (client_listing name (addresses_at u (map seen_client s.sessions))) is.1 is.2
+of_reply s c line r is = grind arith
 
 -- so it is noted, where it is told, and else nothing is
 pub noted_reply : (s : ServerState) (c : ℕ) (line : List ℕ) (r : Reply) (told : Bool) (read : Result (Option Command) ErrWord) (before deeds : List Deed) → next_line_for s c ≡ Some line → Replies s c line r → told ≡ is_told_by s.upses r → read_command line ≡ read →

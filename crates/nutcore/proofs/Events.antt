@@ -4,7 +4,7 @@ use Rattle.nutcore.proofs.Common.{option_map_or, UpsId, TrackingState, Event, Se
 use Rattle.nutcore.specs.declared.event.Event.TheVariants.{DriverUp, DriverBytes, DriverTook, DriverDown, Tick, Open, Feed, Took, Close, Id}
 use Rattle.nutcore.specs.Session.{without}
 use Rattle.nutcore.specs.Ups.{ping_is_due, after_tick, after_loss, after_connecting, ping_line}
-use Rattle.nutcore.specs.Step.{with_input, without_output, may_take, may_open, after_by, ticked, connected, disconnected, after_driver_took, opened, pumped_until, handed_in, joined, driver_may_take, refused_after, Step, outcome_of, after_driver_bytes, connected_by, driver_took_by, disconnected_by, after_driver_text, driver_bytes_by, driver_text_outcome, fed_by, took_by, closed_by, accepted, id_outcome}
+use Rattle.nutcore.specs.Step.{with_input, without_output, may_take, may_open, after_by, ticked, connected, disconnected, after_driver_took, opened, pumped_until, handed_in, joined, driver_may_take, refused_after, Step, outcome_of, after_driver_bytes, connected_by, driver_took_by, disconnected_by, after_driver_text, driver_bytes_by, fed_by, took_by, closed_by, accepted, id_outcome}
 use Rattle.nutcore.specs.Isolation.{client_of, ups_of, is_harmless}
 use Rattle.nutcore.specs.History.{Execution, executions_until, executions_by, taken_in_event, asked_in_event}
 use Rattle.nutcore.specs.Cost.{cost_of, no_cost}
@@ -13,7 +13,7 @@ use Rattle.nutcore.specs.DriverOrders as telling
 use Rattle.nutcore.specs.DriverOrders.{Telling, dump_all, ping, told_beside_lines, moment_of, told_in_event, texts_of}
 use Rattle.nutcore.proofs.DriverText.{ups_after_bytes, changed_both, lines_read, bytes_change}
 use Rattle.nutcore.specs.Pump.{after_all_lines, is_overlong, pumped}
-use Rattle.nutcore.specs.Lines.{whole_lines, unfinished_after, is_too_long}
+use Rattle.nutcore.specs.Lines.{whole_lines}
 use Rattle.nutcore.proofs.Changed.{of_opened}
 use Rattle.nutcore.proofs.UpsPlaces.{Stands, of_place, server_same}
 use Rattle.nutcore.proofs.DriverChanges.{Does, stays_so, bytes_do, lost, unconnected, goes_on}
@@ -143,10 +143,7 @@ took_stays : (x y : UpsState) (b d : Bool) → is_quiet (cond (not b) (Refused N
 took_stays x y b d h = grind arith
 
 bytes_stay : (s : ServerState) (u : UpsId) (piece : List ℕ) (o : Option UpsState) → is_quiet (driver_bytes_by piece o) ≡ true → option_map_or (λ x. cond x.report.connected (after_driver_text u (x.unfinished ++ piece) None s) s) o s ≡ s
-bytes_stay s u piece None h = refl
-bytes_stay s u piece (Some x) h =
-    let text : List ℕ = x.unfinished ++ piece in
-    stays x.report.connected (driver_text_outcome text) (Refused NotConnected) (after_driver_text u text None s) s (goes (is_too_long (unfinished_after text)) Done refl) h
+bytes_stay s u piece o h = grind arith
 
 feed_stays : (s : ServerState) (c : ℕ) (piece : List ℕ) (o : Option SessionState) (b : Bool) → session c s ≡ o → is_quiet (fed_by o piece b) ≡ true → pumped (with_input s c piece) c ≡ s
 feed_stays s c piece None b e h = ap (λ (z : ServerState). pumped z c) (input_absent s c piece e) ∙ sym (pump_absent s c e)

@@ -1,25 +1,19 @@
 -- What is told of a UPS's data is fresh, over every run from a new server.
-use Rattle.std.proofs.Common.{◌≡◌, ◌≤◌, ◌<◌, ◌-◌, ◌∙◌, ℕ, zero, suc, Bool, true, false, List, [], ◌∷◌, ◌++◌, Option, Some, Result, Ok, Err, refl, sym, ap, subst, map, max, length, arith, cond, not, ltb, ◌||◌}
+use Rattle.std.proofs.Common.{◌≡◌, ◌≤◌, ◌<◌, ◌-◌, ◌∙◌, ℕ, zero, suc, true, false, List, [], ◌∷◌, ◌++◌, Option, Some, Result, Ok, Err, refl, sym, ap, subst, map, max, length, arith}
 use Rattle.std.specs.Prelude.{codes, nat_eq, slice_get, option_map}
 use Rattle.std.specs.List.{starts_with}
-use Rattle.std.proofs.lemmas.Bool.Decides.{nat_tests}
 use Rattle.std.proofs.lemmas.List.Elements.{All-weaker}
 use Rattle.nutcore.proofs.Common.{same_Some, slice_get_within, UpsId, Event, Outcome, UpsState, ServerState, ups_at, Run, slice_get-map}
-use Rattle.nutdriver.specs.declared.line.DriverLine.{DriverLine}
-use Rattle.nutdriver.specs.declared.fault.DriverFault.{DriverFault}
-use Rattle.nutdriver.specs.declared.effect.Effect.{Effect}
 use Rattle.nutdriver.specs.declared.report.Report.{Report}
-use Rattle.nutdriver.specs.Tree.{TreeState}
 use Rattle.nutdriver.specs.Sound.{IsSoundTree}
 use Rattle.nutdriver.specs.LastLine.{TheLastLineDecides, TheLastLineOnAVariableDecidesIt}
 use Rattle.nutdriver.specs.Additions.{changes}
-use Rattle.nutdriver.specs.DriverLine.{read_driver_line}
-use Rattle.nutdriver.specs.Report.{Heard, connected_report, after_effect, after_step, after_reading, after_line, after_heard}
+use Rattle.nutdriver.specs.Report.{Heard, connected_report, after_line, after_heard}
 use Rattle.nutanswer.specs.declared.command.Command.{Command}
 use Rattle.nutanswer.specs.declared.err_word.ErrWord.{ErrWord}
 use Rattle.nutanswer.specs.Command.{read_command}
 use Rattle.nutanswer.specs.ErrWord.{error_line}
-use Rattle.nutanswer.specs.View.{UpsSeen, readiness, usable, stale, not_connected}
+use Rattle.nutanswer.specs.View.{UpsSeen, readiness, usable}
 use Rattle.nutanswer.specs.Answer.{Answer, answer_to, text_of_answer}
 use Rattle.nutanswer.specs.Fresh.{WhatIsToldIsFresh}
 use Rattle.nutanswer.proofs.PublicLaws.{a_named_ups_is_seen}
@@ -86,26 +80,11 @@ moment_is_greatest_tick old new es os is_new r =
 
 -- a line is heard at its moment
 heard_now : (moment : ℕ) (report : Report) (line : List ℕ) → (after_line moment report line).0.heard ≡ moment
-heard_now moment report line = by_reading (read_driver_line line)
-  where
-    at : Report
-    at = record report { heard = moment }
-
-    by_effect : (tree : TreeState) (effect : Effect) → (after_effect effect (record at { tree = tree })).heard ≡ moment
-    by_effect tree effect = grind arith
-
-    by_step : (r : Result (TreeState × Effect) DriverFault) → (after_step at r).0.heard ≡ moment
-    by_step r = grind arith
-
-    by_reading : (r : Result DriverLine DriverFault) → (after_reading at r).0.heard ≡ moment
-    by_reading r = grind arith
+heard_now moment report line = grind arith
 
 -- a report that is fresh is usable
 ready_is : (moment max_age : ℕ) (x : Report) → x.connected ≡ true → x.dumped ≡ true → x.ok ≡ true → moment - x.heard ≤ max_age → readiness moment max_age x ≡ usable
-ready_is moment max_age x connected dumped right recent = by x.connected x.dumped x.ok (ltb max_age (moment - x.heard)) connected dumped right (grind (arith, nat_tests))
-  where
-    by : (a b c d : Bool) → a ≡ true → b ≡ true → c ≡ true → d ≡ false → cond (not a) not_connected (cond (not b || (not c || d)) stale usable) ≡ usable
-    by a b c d e f g h = grind arith
+ready_is moment max_age x connected dumped right recent = grind arith
 
 -- so a report was heard when the last of its lines was
 record IsLast (report : Report) (lines : List Heard) : Type 0 where

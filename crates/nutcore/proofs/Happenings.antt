@@ -152,10 +152,7 @@ both_lead s m t hs gs p q r is f g = record {
 }
 
 one_told : (x : Execution) (text : List ℕ) (c : ℕ) → text ≡ text_of x → cond (eqb (client_of x) c) text [] ++ [] ≡ texts_of (of_client c (x ∷ []))
-one_told x text c is = by_own (eqb (client_of x) c)
-  where
-    by_own : (b : Bool) → cond b text [] ++ [] ≡ texts_of (cond b (x ∷ []) [])
-    by_own b = grind arith
+one_told x text c is = grind arith
 
 pump_leads : (d : ℕ) → IsOfPump d (λ s xs t. Leads s (map happening_of xs) (told_by xs) t)
 unfolding left said

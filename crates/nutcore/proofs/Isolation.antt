@@ -161,10 +161,7 @@ driver_alone old new e o u step h = subst (λ (t : ServerState). LeavesOtherUpse
 
 -- a refused event
 refused_so : (old new : ServerState) (e : Event) (fault : Fault) → Step old e (Refused fault) new → is_harmless fault ≡ true → outcome_of old e ≡ Refused fault
-refused_so old new e fault step h = elim step.allowed [
-  | inl told ↦ sym told
-  | inr lack ↦ (let never : false ≡ true = sym (ap is_quiet lack.1) ∙ h in cc never)
-]
+refused_so old new e fault step h = grind arith
 
 pub refused_alone : ARefusedEventChangesNothing
 refused_alone old new e fault step h = step.leaves ∙ sym (refused old e fault (refused_so old new e fault step h) h).leaves

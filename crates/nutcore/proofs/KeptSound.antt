@@ -5,7 +5,6 @@ use denote.Ref.{MutBor}
 use Rattle.std.specs.Fn.{Once, FnOnceReturnsAtMut}
 use Rattle.nutwords.specs.Found.{Finds}
 use Rattle.nutwords.specs.declared.cut.Found.{Found}
-use Rattle.nutwords.specs.declared.cut.Found.TheVariants.{InPiece, Joined, NeedsMore, TooLong}
 use Rattle.nutwords.specs.declared.limits.TheConstants.{LINE_LIMIT}
 use Rattle.nutdriver.specs.declared.report.LineOutcome.{LineOutcome}
 use Rattle.nutdriver.specs.Tree.{empty_tree}
@@ -92,10 +91,7 @@ driver_taken_kept m n x y (Err fault) taken h = subst (IsSoundUps m) (sym taken.
 
 -- its next line is looked for: what is held after that is no longer than a line
 cut_short : (held piece after : List ℕ) (r : Found) → Finds held piece r after → length after ≤ LINE_LIMIT
-cut_short held piece after (InPiece n) finds = let none = finds.1 in subst (λ (bytes : List ℕ). length bytes ≤ LINE_LIMIT) (sym none) (omega arith)
-cut_short held piece after (Joined used) finds = let short = finds.3 in omega (arith, short)
-cut_short held piece after NeedsMore finds = let short = finds.1 in subst (λ (bytes : List ℕ). length bytes ≤ LINE_LIMIT) (sym finds.2) (omega (arith, short))
-cut_short held piece after TooLong finds = subst (λ (bytes : List ℕ). length bytes ≤ LINE_LIMIT) (sym finds.2) (omega arith)
+cut_short held piece after r finds = grind arith
 
 pub driver_cut_kept : (m : ℕ) (piece : List ℕ) (x y : UpsState) (r : Found) → IsCut piece x r y → x.report.connected ≡ true → IsSoundUps m x → IsSoundUps m y
 driver_cut_kept m piece x y r cut connected h =

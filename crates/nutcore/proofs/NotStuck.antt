@@ -1,8 +1,8 @@
 -- Nobody is stuck.
-use Rattle.std.proofs.Common.{◌≡◌, ◌≢◌, ◌≤◌, ◌∙◌, ◌+◌, ℕ, Bool, true, false, not, ◌&&◌, ◌||◌, List, [], ◌∷◌, ◌++◌, Option, Some, None, sym, ap, subst, cond, eqb, ltb, leb, length, length-append, arith}
+use Rattle.std.proofs.Common.{◌≡◌, ◌≢◌, ◌≤◌, ◌∙◌, ◌+◌, ℕ, Bool, true, false, ◌&&◌, List, [], ◌∷◌, ◌++◌, Option, Some, None, sym, ap, subst, eqb, ltb, leb, length, length-append, arith}
 use Rattle.std.specs.Prelude.{is_none, option_and_then}
 use Rattle.std.specs.Option.{option_map_or}
-use Rattle.std.proofs.lemmas.Bool.{cond_both, le-leb}
+use Rattle.std.proofs.lemmas.Bool.{cond_both}
 use Rattle.std.proofs.lemmas.Bool.Decides.{nat_tests}
 use Rattle.nutlisting.specs.declared.outbox.TheConstants.{OWED_LIMIT}
 use Rattle.nutcore.proofs.Common.{Event, Outcome, SessionState, ServerState, session, after, Run}
@@ -56,18 +56,13 @@ run_stops s t es os c r had h = absurd r
 
 -- so where little is owed, there is room
 no_first : (x : SessionState) → x.ending ≡ false → length x.owed ≤ OWED_LIMIT → is_none (next_line x) ≡ true → is_none (first_line x.held) ≡ true
-no_first x going few stopped =
-    let little : ltb OWED_LIMIT (length x.owed) ≡ false = grind (arith, nat_tests) in
-    ap (λ (b : Bool). is_none (cond b None (first_line x.held))) (sym (ap (λ (b : Bool). b || ltb OWED_LIMIT (length x.owed)) going ∙ little)) ∙ stopped
+no_first x going few stopped = grind arith
 
 is_none_is : {A : Type 0} (o : Option A) → is_none o ≡ true → o ≡ None
 is_none_is o h = grind arith
 
 short_of : (x : SessionState) → x.ending ≡ false → length x.owed ≤ OWED_LIMIT → is_none (first_line x.held) ≡ true → holds_overlong x ≡ false → leb HELD_LIMIT (length x.held) ≡ false
-short_of x going few none short =
-    sym (ap (λ (b : Bool). not b && (leb (length x.owed) OWED_LIMIT && (is_none (first_line x.held) && leb HELD_LIMIT (length x.held)))) going
-    ∙ ap (λ (b : Bool). b && (is_none (first_line x.held) && leb HELD_LIMIT (length x.held))) (le-leb (length x.owed) OWED_LIMIT few)
-    ∙ ap (λ (b : Bool). b && leb HELD_LIMIT (length x.held)) none) ∙ short
+short_of x going few none short = grind arith
 
 pub little_has_room : WhoIsOwedLittleHasRoom
 little_has_room old new es os c x absent r had found going few =

@@ -2,7 +2,6 @@
 use Rattle.std.proofs.Common.{◌≡◌, ℕ, ◌+◌, ◌<◌, ◌≤◌, Bool, true, false, List, [], ◌++◌, Option, Some, None, Result, Ok, Err, refl, sym, ◌∙◌, ap, subst, arith, length, get_or, set, take, drop, inl, length-append, ◌∷◌}
 use Rattle.std.specs.Prelude.{IsTrue, IfOk, OnOk, OnErr, is_err, is_none, option_and_then}
 use Rattle.std.specs.Option.{option_map, option_map_or}
-use Rattle.std.proofs.lemmas.Bool.{le-leb, lt-leb}
 use Rattle.nutcore.proofs.Common.{Change, Fault, SessionState, ServerState, session, with_session, with_session_changed}
 use Rattle.nutcore.specs.Session.{find, without, IdsRise, new_session}
 use Rattle.std.specs.declared.alloc.AllocError.{AllocError}
@@ -187,14 +186,10 @@ refused s t u c k e wants same = (subst (λ (z : ServerState). IsTrue (wants_mem
 
 -- how many bytes may be taken
 pub may_take_true : (o : Option SessionState) (x : SessionState) (n k : ℕ) → o ≡ Some x → k ≡ length (offered o) → n ≤ k → may_take o n ≡ true
-may_take_true o x n k e ek le =
-    let few : k ≡ length (offered (Some x)) = ek ∙ ap (λ (z : Option SessionState). length (offered z)) e in
-    ap (λ (z : Option SessionState). may_take z n) e ∙ le-leb _ _ (let l : n ≤ length (offered (Some x)) = omega (arith, few) in l)
+may_take_true o x n k e ek le = grind arith
 
 pub may_take_false : (o : Option SessionState) (x : SessionState) (n k : ℕ) → o ≡ Some x → k ≡ length (offered o) → k < n → may_take o n ≡ false
-may_take_false o x n k e ek lt =
-    let few : k ≡ length (offered (Some x)) = ek ∙ ap (λ (z : Option SessionState). length (offered z)) e in
-    ap (λ (z : Option SessionState). may_take z n) e ∙ lt-leb _ _ (let l : length (offered (Some x)) < n = omega (arith, few) in l)
+may_take_false o x n k e ek lt = grind arith
 
 -- what is left of the sessions where one is removed at its place
 pub left_out : (l n c i : ℕ) (xs : List SessionState) → IdsRise l n xs → IsAt c i xs → without c xs ≡ take i xs ++ drop (i + 1) xs

@@ -1,5 +1,5 @@
 -- What a session has given, and to what it is logged in, came by lines of its client.
-use Rattle.std.proofs.Common.{arith, ◌≡◌, ◌⊎◌, ◌∙◌, ℕ, true, false, List, [], ◌∷◌, ◌++◌, Option, Some, None, refl, sym, ap, subst, eqb, inl, inr}
+use Rattle.std.proofs.Common.{arith, ◌≡◌, ◌⊎◌, ◌∙◌, ℕ, true, false, List, [], ◌∷◌, ◌++◌, Option, Some, None, refl, sym, ap, subst, inl, inr}
 use Rattle.std.specs.Prelude.{option_map}
 use Rattle.std.specs.Option.{option_map_or}
 use Rattle.std.proofs.lemmas.Bool.{both_ways}
@@ -133,11 +133,7 @@ given_before old new events outcomes before after s c line empty run e =
 
 -- the login of an open session
 logged_in : (u : UpsId) (o : Option SessionState) → option_map_or (is_logged_in_of u) o false ≡ true → (asker_of o).login ≡ Some u
-logged_in u None h = cc h
-logged_in u (Some x) h = by_login x.login h
-  where
-    by_login : (login : Option UpsId) → option_map_or (λ v. eqb v.place u.place) login false ≡ true → login ≡ Some u
-    by_login login h = grind arith
+logged_in u o h = grind arith
 
 logs_in : (u : UpsId) (o : Option SessionState) → (asker_of o).login ≡ Some u → option_map_or (is_logged_in_of u) o false ≡ true
 logs_in u o e = grind arith

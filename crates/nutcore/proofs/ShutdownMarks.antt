@@ -10,7 +10,7 @@ use Rattle.nutdriver.specs.Report.{after_line as report_after}
 use Rattle.nutanswer.specs.declared.reply.Change.TheVariants as changes
 use Rattle.nutcore.specs.Lines.{whole_lines, unfinished_after, is_too_long}
 use Rattle.nutcore.specs.Reports.{end_in, with_end, is_unawaited}
-use Rattle.nutcore.specs.Ups.{with_fsd, with_order, after_connecting, after_loss, is_refused, with_faulty_line, after_outcome, after_text, after_texts, with_unfinished, ping_is_due}
+use Rattle.nutcore.specs.Ups.{with_fsd, with_order, after_connecting, after_loss, after_outcome, after_text, after_texts, with_unfinished, ping_is_due}
 use Rattle.nutcore.specs.Reply.{changed_upses}
 use Rattle.nutcore.specs.Pump.{next_line_for, after_line, notified}
 use Rattle.nutcore.specs.Step.{after_by, joined, with_input, taken_from, without_output, opened, ticked, driver_may_take}
@@ -45,9 +45,7 @@ map_keeps f k zero (x ∷ xs) = k x
 map_keeps f k (suc q) (x ∷ xs) = map_keeps f k q xs
 
 outcome_fsd : (unawaited : Bool) (x : UpsState) (r : Report × LineOutcome) → (after_outcome unawaited x r).fsd ≡ x.fsd
-outcome_fsd unawaited x r =
-    let y : UpsState = record x { report = r.0 } in
-    cond_both (is_refused unawaited r.1) (with_faulty_line y) y (λ (z : UpsState). z.fsd ≡ x.fsd) (λ refused. refl) (λ accepted. refl)
+outcome_fsd unawaited x r = grind arith
 
 texts_fsd : (moment place : ℕ) (t : TrackingState) (lines : List (List ℕ)) (x : UpsState) → (after_texts moment place t lines x).fsd ≡ x.fsd
 texts_fsd moment place t [] x = refl

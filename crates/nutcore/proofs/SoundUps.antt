@@ -1,9 +1,9 @@
 -- Sound UPSs, and what keeps them so.
-use Rattle.std.proofs.Common.{◌≡◌, ◌≤◌, ◌+◌, ◌-◌, ◌/◌, ℕ, zero, suc, Bool, true, false, ◌&&◌, List, [], ◌∷◌, ◌++◌, Option, Some, None, Result, refl, ◌∙◌, ap, subst, cond, map, length, replicate, take, drop, length-append, length-drop, arith}
+use Rattle.std.proofs.Common.{◌≡◌, ◌≤◌, ◌+◌, ℕ, zero, suc, Bool, true, false, List, [], ◌∷◌, ◌++◌, Option, Some, None, Result, refl, ◌∙◌, ap, subst, cond, map, length, replicate, take, drop, length-append, length-drop, arith}
 use Rattle.std.proofs.Math.Seq.{drop-nil}
 use Rattle.std.proofs.lemmas.Bool.{leb-false}
 use Rattle.nutwords.specs.declared.limits.TheConstants.{LINE_LIMIT, LINE_ROOM}
-use Rattle.std.specs.Prelude.{slice_get, nat_le}
+use Rattle.std.specs.Prelude.{slice_get}
 use Rattle.nutdriver.specs.declared.report.Report.{Report}
 use Rattle.nutdriver.specs.declared.report.LineOutcome.{LineOutcome}
 use Rattle.nutdriver.specs.declared.effect.Effect.{Effect}
@@ -13,7 +13,7 @@ use Rattle.nutdriver.specs.Tree.{TreeState, empty_tree}
 use Rattle.nutdriver.specs.DriverLine.{read_driver_line}
 use Rattle.nutdriver.specs.Report.{after_effect, after_step, after_reading, after_line as report_after_line}
 use Rattle.nutdriver.specs.Sound.{IsSoundTree, EachLineKeepsTheTreeSound}
-use Rattle.nutcore.proofs.Common.{never_both, leb-true, cond_both, and_parts, TrackingState, Change, changed_at}
+use Rattle.nutcore.proofs.Common.{never_both, cond_both, TrackingState, Change, changed_at}
 use Rattle.nutcore.specs.declared.TheConstants.{DRIVER_OWED_LIMIT}
 use Rattle.nutcore.specs.Lines.{whole_lines, unfinished_after, is_too_long}
 use Rattle.nutcore.specs.Reports.{end_in, with_end, is_unawaited}
@@ -110,12 +110,7 @@ sound_took m n x h = cond_both (driver_may_take n x) _ x (IsSoundUps m) (λ e. s
 
 -- a PING is due where the driver is connected, and the line fits
 due_parts : (ma now : ℕ) (x : UpsState) → ping_is_due ma now x ≡ true → (x.report.connected ≡ true) × (length x.owed + length ping_line ≤ DRIVER_OWED_LIMIT)
-due_parts ma now x e =
-    let unheard : Bool = nat_le (ma / 3) (now - x.report.heard) in
-    let unasked : Bool = nat_le (ma / 3) (now - x.pinged) in
-    let room : Bool = nat_le (length x.owed + length ping_line) DRIVER_OWED_LIMIT in
-    let parts = and_parts x.report.connected (unheard && (unasked && room)) e in
-    (parts.0, leb-true _ _ (and_parts unasked room (and_parts unheard (unasked && room) parts.1).1).1)
+due_parts ma now x e = grind arith
 
 pub sound_tick : (ma m now : ℕ) (x : UpsState) → m ≤ now → IsSoundUps m x → IsSoundUps now (after_tick ma now x)
 sound_tick ma m now x later h =

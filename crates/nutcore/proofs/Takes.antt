@@ -1,11 +1,9 @@
 -- One take of so many bytes, or of all that a client is offered where those are fewer: what it moves, and what it executes.
 use Rattle.std.proofs.Common.{◌≡◌, ◌⊎◌, ℕ, ◌+◌, ◌<◌, ◌≤◌, Bool, true, false, List, [], ◌∷◌, Option, Some, None, refl, sym, ◌∙◌, ap, subst, cond, inl, inr, arith, length, take, length-take, min}
-use Rattle.std.proofs.lemmas.Bool.{cond_both, cond-true, cases_Bool, cases_lt, le-leb}
+use Rattle.std.proofs.lemmas.Bool.{cond-true, cases_Bool, cases_lt, le-leb}
 use Rattle.nutlisting.specs.declared.ring.TheConstants.{RING_LIMIT}
 use Rattle.nutcore.proofs.Common.{Event, Outcome, SessionState, ServerState, session, with_session, after}
 use Rattle.nutcore.specs.declared.event.Event.TheVariants.{Took}
-use Rattle.nutcore.specs.declared.event.Outcome.TheVariants.{Done, Refused}
-use Rattle.nutcore.specs.declared.event.Fault.TheVariants.{LineTooLong, TookTooMuch}
 use Rattle.nutcore.specs.Pump.{after_all_lines, after_notice, pumped, held_of}
 use Rattle.nutcore.specs.Step.{taken_from, without_output, may_take, offered, pumped_until, after_by, refused_after, took_by, outcome_of}
 use Rattle.nutcore.specs.History.{Execution, executions_in_event, of_client, texts_of, taken_in_event, asked_in_event, owed, held}
@@ -38,10 +36,7 @@ pub all_is_ring : (c : ℕ) (s : ServerState) → size RING_LIMIT c s ≡ length
 all_is_ring c s = omega (arith, length-take RING_LIMIT (owed c s))
 
 there_is_memory : (o : Option SessionState) (n : ℕ) (b : Bool) → refused_after (took_by o n b) ≡ None
-there_is_memory None n b = refl
-there_is_memory (Some x) n b =
-    cond_both (may_take (Some x) n) (cond b (Refused LineTooLong) Done) (Refused TookTooMuch) (λ outcome. refused_after outcome ≡ None)
-    (λ may. cond_both b (Refused LineTooLong) Done (λ outcome. refused_after outcome ≡ None) (λ long. refl) (λ short. refl)) (λ never. refl)
+there_is_memory o n b = grind arith
 
 pub none_owed : (bytes : List ℕ) → length bytes ≤ 0 → bytes ≡ []
 none_owed [] le = refl

@@ -1,6 +1,6 @@
 -- A client that asks one line, and waits for its answer.
-use Rattle.std.proofs.Common.{◌≡◌, ℕ, zero, suc, ◌+◌, ◌-◌, ◌<◌, ◌≤◌, Bool, true, false, List, [], ◌∷◌, ◌++◌, Option, Some, None, refl, sym, ◌∙◌, ap, cond, ltb, leb, not, ◌&&◌, ◌||◌, length, take, Result, Ok, Err, arith, length-append, length-drop}
-use Rattle.std.specs.Prelude.{is_none, is_some, option_map, option_and_then}
+use Rattle.std.proofs.Common.{◌≡◌, ℕ, zero, suc, ◌+◌, ◌-◌, ◌<◌, ◌≤◌, Bool, true, false, List, [], ◌∷◌, ◌++◌, Option, Some, None, refl, sym, ◌∙◌, ap, cond, ltb, ◌&&◌, ◌||◌, length, take, Result, Ok, Err, arith, length-append, length-drop}
+use Rattle.std.specs.Prelude.{is_some, option_map, option_and_then}
 use Rattle.std.proofs.lemmas.Bool.Decides.{nat_tests}
 use Rattle.std.proofs.lemmas.List.{take_all}
 use Rattle.nutlisting.specs.declared.outbox.TheConstants.{OWED_LIMIT}
@@ -19,7 +19,7 @@ use Rattle.nutcore.specs.Lines.{first_line}
 use Rattle.nutcore.specs.Session.{SessionState, find, new_session}
 use Rattle.nutcore.specs.Server.{ServerState, session, with_session, with_session_changed}
 use Rattle.nutcore.specs.Reply.{seen, seen_client, asker_of, text_to, reply}
-use Rattle.nutcore.specs.Pump.{next_line, next_line_for, answered, after_line, after_lines, after_all_lines, after_notice, pumped, notified, with_notice, held_of, owed_of}
+use Rattle.nutcore.specs.Pump.{next_line, next_line_for, answered, after_line, after_lines, after_all_lines, after_notice, pumped, with_notice, held_of, owed_of}
 use Rattle.nutcore.specs.Step.{joined, with_input, accepted_bytes, opened, may_open, pumped_until, after_by}
 use Rattle.nutcore.specs.Sound.{IsSound}
 use Rattle.nutcore.specs.Waiting.{IsWaiting, ALineIsAnswered}
@@ -47,9 +47,7 @@ holds_none : (z : SessionState) → z.held ≡ [] → next_line z ≡ None
 holds_none z e = cond_both (z.ending || ltb OWED_LIMIT (length z.owed)) None (first_line z.held) (λ (o : Option (List ℕ)). o ≡ None) (λ waits. refl) (λ asks. ap first_line e)
 
 no_notice_due : (z : SessionState) → z.held ≡ [] → with_notice z ≡ z
-no_notice_due z e =
-    ap (λ (b : Bool). cond b (notified z) z)
-    (ap (λ (h : List ℕ). not z.ending && (leb (length z.owed) OWED_LIMIT && (is_none (first_line h) && leb HELD_LIMIT (length h)))) e ∙ never (not z.ending) (leb (length z.owed) OWED_LIMIT))
+no_notice_due z e = grind arith
 
 module _ (s : ServerState) (c : ℕ) (line : List ℕ) (w : IsWaiting c s) (whole : has_lf line ≡ false) (short : length line < LINE_ROOM) where
   abbrev fed : SessionState

@@ -1,5 +1,5 @@
 -- Words as listings write them, and how long their lines are.
-use Rattle.std.proofs.Common.{◌≡◌, ◌∙◌, ℕ, ℤ, pos, negsuc, suc, ◌+◌, ◌*◌, ◌%◌, ◌^◌, ◌<◌, ◌≤◌, Bool, true, false, eqb, leb, cond, List, [], ◌∷◌, ◌++◌, length, Option, Some, None, refl, arith, length-append}
+use Rattle.std.proofs.Common.{◌≡◌, ◌∙◌, ℕ, ℤ, pos, negsuc, suc, ◌+◌, ◌*◌, ◌%◌, ◌^◌, ◌<◌, ◌≤◌, Bool, true, false, eqb, cond, List, [], ◌∷◌, ◌++◌, length, Option, refl, arith, length-append}
 use Rattle.std.specs.Prelude.{◌||◌, ◌&&◌, ◌≤ℤ◌, neg_ℤ, is_ok, IsTrue, IfSome, codes, map}
 use Rattle.std.specs.Fmt.{decimal, signed_decimal}
 use Rattle.std.specs.Int.Signed.{mag}
@@ -16,7 +16,6 @@ use Rattle.nutwords.specs.Frame.{line_of}
 use Rattle.nutwords.specs.Listing.{IsWritten, IsWrittenLine, as_it_is, in_quotes}
 use Rattle.nutwords.specs.Reading.{read_text, is_name, is_ups_name, is_address, is_value}
 use Rattle.nutwords.specs.Spelling.{with_backslashes, quoted}
-use Rattle.nutusers.specs.declared.limits.TheConstants.{DESCRIPTION_LIMIT}
 use Rattle.nutwords.specs.declared.limits.TheConstants.{LINE_ROOM, VALUE_LIMIT, NAME_LIMIT, UPS_NAME_LIMIT}
 use Rattle.nutdriver.specs.Variable.{VariableState}
 use Rattle.nutdriver.specs.declared.limits.TheConstants.{NUMBER_LIMIT}
@@ -108,10 +107,7 @@ shown_word fsd name variable h = text_word SHOWN_LIMIT (shown fsd name variable)
 
 -- a description as clients see it
 pub description_lawful : (desc : Option (List ℕ)) → IfSome desc (λ text. IsTrue (is_description text)) → (list_all is_lawful (text_or_unavailable desc) ≡ true) × (length (text_or_unavailable desc) ≤ VALUE_LIMIT)
-description_lawful None h = (refl, omega arith)
-description_lawful (Some text) h =
-    let value = (and_parts (leb (length text) DESCRIPTION_LIMIT) (is_value text) h).1 in
-    (text_all is_lawful true VALUE_LIMIT text value, text_short is_lawful true VALUE_LIMIT text value)
+description_lawful desc h = grind arith
 
 abbrev pub description_word : (desc : Option (List ℕ)) → IfSome desc (λ text. IsTrue (is_description text)) → Word
 description_word desc h = text_word VALUE_LIMIT (text_or_unavailable desc) (description_lawful desc h).0 (description_lawful desc h).1
