@@ -13,10 +13,6 @@ use Rattle.nutwords.proofs.PublicLaws.{first_line_is_cut_off, no_line_without_lf
 use Rattle.nutwords.specs.Text.{with_lf}
 use Rattle.nutcore.specs.Lines.{first_line, rest_after}
 
--- a byte more before the first line
-abbrev pub with_byte : ℕ → Option (List ℕ × List ℕ) → Option (List ℕ × List ℕ)
-with_byte x o = option_map (λ s. (x ∷ s.0, s.1)) o
-
 -- two splits that are one have the same parts
 pub parts : (p q : List ℕ × List ℕ) → Some p ≡ Some q → (p.0 ≡ q.0) × (p.1 ≡ q.1)
 parts p q h = let e : p ≡ q = cc h in (ap (λ (z : List ℕ × List ℕ). z.0) e, ap (λ (z : List ℕ × List ℕ). z.1) e)

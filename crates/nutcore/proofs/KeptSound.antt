@@ -13,7 +13,7 @@ use Rattle.nutcore.proofs.Common.{never_both, cond_both, or_parts, UpsId, Change
 use Rattle.nutlisting.specs.declared.outbox.TheConstants.{OWED_LIMIT}
 use Rattle.std.specs.declared.alloc.AllocError.{AllocError}
 use Rattle.nutcore.specs.Lines.{first_line}
-use Rattle.nutcore.specs.Ups.{UpsState, with_faulty_line, with_unfinished}
+use Rattle.nutcore.specs.Ups.{UpsState, with_unfinished}
 use Rattle.nuttracking.specs.Tracking.{TrackingState}
 use Rattle.nutcore.specs.Reply.{changed_session, changed_upses, changed_tracking}
 use Rattle.nutcore.specs.Pump.{next_line, answered, with_notice}
@@ -96,11 +96,6 @@ cut_short held piece after r finds = grind arith
 pub driver_cut_kept : (m : ℕ) (piece : List ℕ) (x y : UpsState) (r : Found) → IsCut piece x r y → x.report.connected ≡ true → IsSoundUps m x → IsSoundUps m y
 driver_cut_kept m piece x y r cut connected h =
     subst (IsSoundUps m) (sym cut.leaves) (sound_bytes m y.unfinished x (cut_short x.unfinished piece y.unfinished r cut.finds) (record { is = h; connected = connected })).is
-
--- a line of its driver is refused
-pub counted_kept : (m : ℕ) (x y : UpsState) → y ≡ with_faulty_line x → IsSoundUps m x → IsSoundUps m y
-counted_kept m x y e h =
-    subst (IsSoundUps m) (sym e) (record { tree = h.tree; heard = h.heard; pinged = h.pinged; owed = h.owed; unfinished = h.unfinished; lost = λ lost. ap with_faulty_line (h.lost lost) })
 
 -- a line of its driver is done, or memory is refused
 module _ (empty : IsSoundTree empty_tree) (line_keeps : EachLineKeepsTheTreeSound) where

@@ -6,7 +6,7 @@ use Rattle.std.proofs.lemmas.Bool.{cond-true, ltb-false}
 use Rattle.nutlisting.specs.declared.outbox.TheConstants.{OWED_LIMIT}
 use Rattle.nutcore.specs.declared.event.Event.TheVariants.{Feed, Took}
 use Rattle.nutcore.specs.declared.event.Outcome.TheVariants.{Done, Fed, Refused}
-use Rattle.nutcore.specs.declared.event.Fault.TheVariants.{TookTooMuch, LineTooLong, Memory}
+use Rattle.nutcore.specs.declared.event.Fault.TheVariants.{Memory}
 use Rattle.nutcore.specs.Lines.{first_line}
 use Rattle.nutcore.proofs.Common.{SessionState, ServerState, session, Step}
 use Rattle.nutcore.specs.Reply.{reply}
@@ -94,9 +94,6 @@ pump_ended s c =
 fed_stops : (old new : ServerState) (c n : ℕ) (piece : List ℕ) → Step old (Feed c piece) (Fed n) new → pump_stops new c ≡ true
 unfolding after_by pumped_until
 fed_stops old new c n piece step = subst (λ (z : ServerState). pump_stops z c ≡ true) (sym step.leaves) (pump_ended (with_input old c piece) c).stopped
-
-may_by : (may overlong : Bool) → Done ≡ cond may (cond overlong (Refused LineTooLong) Done) (Refused TookTooMuch) → may ≡ true
-may_by may overlong h = grind arith
 
 may_of : (o : Option SessionState) (n : ℕ) (overlong : Bool) → Done ≡ took_by o n overlong → may_take o n ≡ true
 may_of o n overlong h = grind arith

@@ -6,12 +6,11 @@ use Rattle.nutwords.specs.declared.limits.TheConstants.{LINE_LIMIT, LINE_ROOM}
 use Rattle.std.specs.Prelude.{slice_get}
 use Rattle.nutdriver.specs.declared.report.Report.{Report}
 use Rattle.nutdriver.specs.declared.report.LineOutcome.{LineOutcome}
-use Rattle.nutdriver.specs.declared.effect.Effect.{Effect}
 use Rattle.nutdriver.specs.declared.line.DriverLine.{DriverLine}
 use Rattle.nutdriver.specs.declared.fault.DriverFault.{DriverFault}
-use Rattle.nutdriver.specs.Tree.{TreeState, empty_tree}
+use Rattle.nutdriver.specs.Tree.{empty_tree}
 use Rattle.nutdriver.specs.DriverLine.{read_driver_line}
-use Rattle.nutdriver.specs.Report.{after_effect, after_step, after_reading, after_line as report_after_line}
+use Rattle.nutdriver.specs.Report.{after_reading, after_line as report_after_line}
 use Rattle.nutdriver.specs.Sound.{IsSoundTree, EachLineKeepsTheTreeSound}
 use Rattle.nutcore.proofs.Common.{never_both, cond_both, TrackingState, Change, changed_at}
 use Rattle.nutcore.specs.declared.TheConstants.{DRIVER_OWED_LIMIT}
@@ -61,12 +60,6 @@ each_changed P f (suc p) (x ∷ xs) h all = (all.0, each_changed P f p xs h all.
 abbrev heard_of : Report → ℕ × Bool
 heard_of report = (report.heard, report.connected)
 
-heard_effect : (effect : Effect) (report : Report) → heard_of (after_effect effect report) ≡ heard_of report
-heard_effect effect report = grind arith
-
-heard_step : (report : Report) (r : Result (TreeState × Effect) DriverFault) → heard_of (after_step report r).0 ≡ heard_of report
-heard_step report r = grind arith
-
 heard_reading : (report : Report) (r : Result DriverLine DriverFault) → heard_of (after_reading report r).0 ≡ heard_of report
 heard_reading report r = grind arith
 
@@ -87,10 +80,6 @@ sound_bytes m bytes x short h = sound_there m _ h.is.tree h.is.heard h.is.pinged
 sound_counted : (m : ℕ) (unawaited : Bool) (x : UpsState) (r : Report × LineOutcome) → (let y : UpsState = record x { report = r.0 } in IsSoundConnected m y) → IsSoundConnected m (after_outcome unawaited x r)
 sound_counted m unawaited x r h =
     cond_both (is_refused unawaited r.1) _ _ (IsSoundConnected m) (λ refused. sound_there m _ h.is.tree h.is.heard h.is.pinged h.is.owed h.is.unfinished h.connected) (λ accepted. h)
-
--- a line loses no driver
-pub report_connected : (m : ℕ) (x : UpsState) (line : List ℕ) → (report_after_line m x.report line).0.connected ≡ x.report.connected
-report_connected m x line = ap (λ (z : ℕ × Bool). z.1) (heard_line m x.report line)
 
 -- bytes are taken from what is owed
 pub sound_fewer : (m n : ℕ) (x : UpsState) → IsSoundUps m x → IsSoundUps m (record x { owed = drop n x.owed })
