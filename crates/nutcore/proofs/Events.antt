@@ -116,8 +116,7 @@ of_parts s m Q drivers P ups tick opens feed took closes hands (Id id) = hands i
 pub any_driver : (moment : ℕ) (t : TrackingState) (m : Option ℕ) → OfDrivers moment t m (λ f. Unit {0})
 any_driver moment t m = record { comes = tt; tells = λ place piece. tt; takes = λ n. tt; goes = tt }
 
--- what is answered to each, and what it leaves where it is refused
--- it was refused, by a fault that changes nothing
+-- what is answered to each, and what it leaves where a fault that changes nothing refuses it
 abbrev pub is_quiet : Outcome → Bool
 is_quiet (Refused fault) = is_harmless fault
 is_quiet _ = false
