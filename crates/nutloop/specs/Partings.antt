@@ -1,8 +1,8 @@
 -- The sockets of clients whose sessions have ended.
 use Rattle.std.specs.Prelude.{◌≡◌, ◌⊎◌, ◌<◌, ◌==◌, ◌++◌, ◌∷◌, [], ℕ, Bool, true, false}
-use Rattle.std.specs.Prelude.{List, Option, MatchOption, Some, if◌then◌else◌, length, nat_lt}
+use Rattle.std.specs.Prelude.{List, Option, MatchOption, Some, if◌then◌else◌, length, nat_lt, ⊤}
 use Rattle.std.specs.Prelude.{slice_get, slice_set}
-use Rattle.std.specs.List.{position, remove}
+use Rattle.std.specs.List.{All, position, remove}
 use Rattle.mio.specs.declared.token.Token.{Token}
 use Rattle.nutcore.specs.declared.event.Peer.{Peer}
 use Rattle.nutcore.specs.declared.event.Peer.TheVariants as peer
@@ -62,6 +62,13 @@ abbrev pub HearsLeftPeer : Token → List ClientSocket → List DriverSocket →
 HearsLeftPeer token clients drivers old new =
     MatchOption (driver_with token drivers) (HearsLeft token clients old new) (λ at. new ≡ old)
 
+-- Of some of them it was heard that they may be read, and nobody came or went.
+abbrev pub AreHeard : List Parting → List Parting → Type 0
+AreHeard [] [] = ⊤
+AreHeard (x ∷ xs) (y ∷ ys) = ((y ≡ x) ⊎ (y ≡ record x { readable = true })) × AreHeard xs ys
+AreHeard [] (y ∷ ys) = ⊥
+AreHeard (x ∷ xs) [] = ⊥
+
 -- A socket of one that left was read or not, and is read on only up to its second. One of which
 -- nothing is known to read stays up to then.
 pub record GoesOn (second : ℕ) (old new : Parting) (goes_on : Bool) : Type 0 where
@@ -75,3 +82,13 @@ AreReadOn second [] new = new ≡ []
 AreReadOn second (x ∷ xs) new =
     (y : Parting) × (goes_on : Bool) × (rest : List Parting) × GoesOn second x y goes_on
     × AreReadOn second xs rest × (new ≡ (if goes_on then y ∷ rest else rest))
+
+-- At a look events are heard of them, and each is read on.
+pub record AreLookedAt (second : ℕ) (old new : List Parting) : Type 0 where
+  pub heard : List Parting
+  pub are_heard : AreHeard old heard
+  pub on : AreReadOn second heard new
+
+-- The time of none of them is over at this second.
+abbrev pub AreInTime : ℕ → List Parting → Type 0
+AreInTime second partings = All (λ x. second < x.until) partings
