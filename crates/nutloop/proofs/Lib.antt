@@ -10,3 +10,4 @@ pub mod NotedDrivers
 pub mod TriedDrivers
 pub mod Telling
 pub mod Parting
+pub mod Hearing

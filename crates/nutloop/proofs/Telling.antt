@@ -6,6 +6,7 @@ use Rattle.std.proofs.lemmas.List.{length-map, map-append, take-map, drop-map}
 use Rattle.std.proofs.lemmas.List.Elements.{All-map}
 use Rattle.std.proofs.lemmas.Option.{get_or_from_slice_get}
 use Rattle.std.proofs.Math.Seq.{map-set_same}
+use Rattle.nutusers.specs.UpsList.{Ups}
 use Rattle.nutusers.specs.declared.ups_list.UpsId.{UpsId}
 use Rattle.nutcore.specs.Server.{ServerState}
 use Rattle.mio.specs.declared.token.Token.{Token}
@@ -13,7 +14,7 @@ use Rattle.nutloop.specs.Peers.{GrowsBehind, HearsClient, HearsClientAt, HearsDr
 use Rattle.nutloop.specs.Round.{MayTakeSeat, NobodyIsReady, Notes, TakesIn, fresh}
 use Rattle.nutloop.specs.Pace.{Ticks, after_look}
 use Rattle.nutloop.specs.Standing.{ready_of}
-use Rattle.nutloop.specs.Told.{DriversComeIn, IsAskedWhereDue, IsNotedNow, IsTold, IsToldNothing, IsToldTurn, Looks, NobodyMoves, TakeSeats, TellsNext, TellsTurn, LooksWhereDue, just_asked, client_alone, clients_there, driver_alone, drivers_there, seat_alone, seats}
+use Rattle.nutloop.specs.Told.{DriversComeIn, IsAskedWhereDue, IsAtTick, IsNotedNow, IsTold, IsToldNothing, IsToldTurn, Looks, NobodyMoves, TakeSeats, TellsNext, TellsTurn, LooksWhereDue, just_asked, client_alone, clients_there, driver_alone, drivers_there, seat_alone, seats}
 use Rattle.nutloop.specs.declared.over_mio.clients.ClientSocket.{ClientSocket}
 use Rattle.nutloop.specs.declared.over_mio.drivers.DriverSocket.{DriverSocket}
 use Rattle.nutloop.specs.declared.over_mio.peers.Peers.{Peers}
@@ -333,3 +334,18 @@ nothing_is_told s knocked old noted before pace between new after now still aske
       asked = tells.2 ∙ asked;
       nobody = subst (λ (places : List Place). NobodyIsReady places) (sym tells.0.2) tells.0.0;
     }
+
+-- A turn that is told is no tick.
+no_tick_at : (list : List Ups) (knocked : Bool) (new : Peers) (seat : Seat) (way : Way) (is_told : Bool)
+    → IsAtTick (ready_of seat way is_told) list knocked new
+no_tick_at list knocked new Listener way is_told = tt
+no_tick_at list knocked new (Client c) Read is_told = tt
+no_tick_at list knocked new (Client c) Write is_told = tt
+no_tick_at list knocked new (Driver u) way false = tt
+no_tick_at list knocked new (Driver u) Read true = tt
+no_tick_at list knocked new (Driver u) Write true = tt
+
+pub turn_at_no_tick : (ready : Ready) (list : List Ups) (knocked : Bool) (old : Peers) (pace : Pace) (mid : Peers) (after : Pace) (new : Peers)
+    → TellsNext old pace ready mid after → IsAtTick ready list knocked new
+turn_at_no_tick ready list knocked old pace mid after new next =
+    subst (λ (r : Ready). IsAtTick r list knocked new) (sym next.told) (no_tick_at list knocked new next.turn.seat next.turn.way next.is_told)

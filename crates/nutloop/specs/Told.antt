@@ -1,13 +1,20 @@
 -- What a call of the loop tells, by what was known of the peers before it.
 use Rattle.std.specs.Prelude.{◌≡◌, ◌≢◌, ◌⊎◌, ◌∷◌, [], ℕ, Bool, true, false, List}
-use Rattle.std.specs.Prelude.{Option, Some, None, MatchOption, map, slice_get, slice_set}
+use Rattle.std.specs.Prelude.{Option, Some, None, MatchOption, map, slice_get, slice_set, ⊤}
+use Rattle.mio.specs.Event.{event_token}
+use Rattle.mio.specs.declared.event.event.Event.{Event}
+use Rattle.nutusers.specs.UpsList.{Ups}
 use Rattle.nutusers.specs.declared.ups_list.UpsId.{UpsId}
 use Rattle.nutcore.specs.Server.{ServerState}
 use Rattle.nutloop.specs.Pace.{IsDue, Ticks, after_turn}
-use Rattle.nutloop.specs.Peers.{GrowsBehind, NotesBefore, driver_place}
+use Rattle.nutloop.specs.Partings.{AreInTime, AreReadOn, HearsLeftPeer}
+use Rattle.nutloop.specs.Peers.{AreTried, GrowsBehind, HearsPeer, NotesBefore}
+use Rattle.nutloop.specs.Peers.{driver_place, told_by}
 use Rattle.nutloop.specs.Round.{NobodyIsReady, Notes, TakesIn, TakesTurn}
 use Rattle.nutloop.specs.Standing.{ready_of}
 use Rattle.nutloop.specs.declared.over_mio.clients.ClientSocket.{ClientSocket}
+use Rattle.nutloop.specs.declared.over_mio.door.Door.{Door}
+use Rattle.nutloop.specs.declared.over_mio.door.TheConstants.{LISTENER}
 use Rattle.nutloop.specs.declared.over_mio.drivers.DriverSocket.{DriverSocket}
 use Rattle.nutloop.specs.declared.over_mio.peers.Peers.{Peers}
 use Rattle.nutloop.specs.declared.pace.Pace.{Pace}
@@ -55,6 +62,46 @@ pub record NobodyMoves (old new : Peers) : Type 0 where
   pub clients : clients_there new.clients.items ≡ clients_there old.clients.items
   pub drivers : drivers_there new.drivers.items ≡ drivers_there old.drivers.items
   pub errors : new.driver_errors ≡ old.driver_errors
+
+-- An event tells of the peer that has its token, and nothing else is noted.
+pub record HearsOne (s : ServerState) (event : Event) (old new : Peers) : Type 0 where
+  pub peer : HearsPeer (event_token event) (told_by event) s old.clients.items new.clients.items
+      old.drivers.items new.drivers.items old.round.places.items new.round.places.items
+  pub left : HearsLeftPeer (event_token event) old.clients.items old.drivers.items
+      old.partings.items new.partings.items
+  pub last : new.round.last ≡ old.round.last
+  pub same : new ≡ record old {
+    round = new.round;
+    clients = new.clients;
+    drivers = new.drivers;
+    partings = new.partings;
+  }
+
+-- One of the listener tells that newcomers may be waiting.
+abbrev pub HearsEvent : ServerState → Event → Door → Peers → Door → Peers → Type 0
+HearsEvent s event door peers new_door new =
+    ((event_token event ≡ LISTENER) × (new_door ≡ record door { is_knocked_at = true })
+    × (new ≡ peers))
+    ⊎ ((event_token event ≢ LISTENER) × (new_door ≡ door) × HearsOne s event peers new)
+
+-- Each of these events is heard, one after another.
+abbrev pub HearsAll : ServerState → List Event → Door → Peers → Door → Peers → Type 0
+HearsAll s [] door peers new_door new = (new_door ≡ door) × (new ≡ peers)
+HearsAll s (event ∷ events) door peers new_door new =
+    (next_door : Door) × (next : Peers) × HearsEvent s event door peers next_door next
+    × HearsAll s events next_door next new_door new
+
+-- At a look each of these events is heard; then clients that left are read on, and drivers may come
+-- in.
+pub record HearsAtLook (s : ServerState) (events : List Event) (second : ℕ) (door : Door)
+    (peers : Peers) (new_door : Door) (new : Peers) : Type 0 where
+  pub heard_door : Door
+  pub heard : Peers
+  pub hears : HearsAll s events door peers heard_door heard
+  pub knocked : heard_door.is_knocked_at ≡ true → new_door.is_knocked_at ≡ true
+  pub clients : new.clients.items ≡ heard.clients.items
+  pub drivers : GrowsBehind heard.drivers.items new.drivers.items
+  pub left : AreReadOn second heard.partings.items new.partings.items
 
 -- These drivers take their seats, one after another. All others keep theirs.
 abbrev pub TakeSeats : List UpsId → List Place → List Place → Type 0
@@ -168,3 +215,11 @@ IsTold s is_knocked_at Nothing old pace new after =
     IsToldNothing s is_knocked_at old pace new after
 IsTold s is_knocked_at ready old pace new after =
     IsToldTurn s is_knocked_at ready old pace new after
+
+-- At a tick newcomers are looked for, the drivers that aren't connected are tried, and clients that
+-- left are closed whose time is over.
+abbrev pub IsAtTick : Ready → List Ups → Bool → Peers → Type 0
+IsAtTick (Tick second) list is_knocked_at new =
+    (is_knocked_at ≡ true) × AreTried list new.drivers.items new.driver_errors
+    × AreInTime second new.partings.items
+IsAtTick _ list is_knocked_at new = ⊤

@@ -1,16 +1,16 @@
 //! The sockets over `mio`: clients come over TCP, and drivers are connected to over Unix sockets.
-ghost use Rattle.std.specs.Prelude.{◌≡◌, ◌≤◌, ◌∷◌, [], ◌⊎◌, length, IfOk, None, OnOk, false, true};
+ghost use Rattle.std.specs.Prelude.{◌≡◌, ◌≤◌, ◌∷◌, [], ◌⊎◌, length, IfOk, IfSome, None, OnOk, false, true};
 ghost use Rattle.std.specs.Prelude.{vec_capacity, vec_len};
 ghost use Rattle.nutio.specs.Ends.{IsCounted, counted};
 ghost use Rattle.nutloop.specs.Peers.{AreTried, GrowsBehind, ReadsPeer, ShutsPeer, TakesNewcomer, WritesPeer, error_of};
 ghost use Rattle.nutloop.specs.Door.{ComesIn};
-ghost use Rattle.nutloop.specs.Round.{LeavesOut, MayTakeSeat};
+ghost use Rattle.nutloop.specs.Round.{LeavesOut, MayTakeSeat, TakesIn};
 ghost use Rattle.nutloop.specs.declared.round.Seat.TheVariants.{Client, Listener};
 ghost use Rattle.nutloop.specs.Sockets.{AtMost, Grows, Logs, read_call};
 ghost use Rattle.nutloop.specs.declared.sockets.Call.TheVariants.{Accepted, Named, Readied, Refused, Shut, Wrote};
 ghost use Rattle.nutloop.specs.Partings.{PartsPeer};
 ghost use Rattle.nutloop.specs.Standing.{seat_of};
-ghost use Rattle.nutloop.specs.Told.{IsTold};
+ghost use Rattle.nutloop.specs.Told.{IsAtTick, IsTold};
 
 mod clients;
 mod door;
@@ -105,6 +105,8 @@ impl<'a, R: Net + Clock> Sockets for MioSockets<'a, R> {
             → self.new.rounds.door.is_knocked_at ≡ true) }
         ensures door { OnOk result (self.new.rounds.door ≡ record self.old.rounds.door
             { is_knocked_at = self.new.rounds.door.is_knocked_at }) }
+        ensures tick { IfOk result (λ ready. IsAtTick ready server.now.state.list
+            self.new.rounds.door.is_knocked_at self.new.rounds.peers) }
         ensures told { Logs None None Readied result }
         ensures count { IsCounted self.old.failures self.new.failures result }
         ensures refusals { self.new.refusals ≡ self.old.refusals }
@@ -136,6 +138,12 @@ impl<'a, R: Net + Clock> Sockets for MioSockets<'a, R> {
             × (self.new.rounds.peers.clients.items ≡ self.old.rounds.peers.clients.items))
             ⊎ TakesNewcomer self.old.rounds.door.newcomer c
             self.old.rounds.peers.clients.items self.new.rounds.peers.clients.items }
+        ensures seat { IfSome self.old.rounds.door.newcomer (λ _.
+            (vec_capacity self.old.rounds.peers.clients ≤ vec_len self.old.rounds.peers.clients)
+            ⊎ ((vec_capacity self.old.rounds.peers.round.places
+            ≤ vec_len self.old.rounds.peers.round.places)
+            ⊎ TakesIn (Client c) self.old.rounds.peers.round.places.items
+            self.new.rounds.peers.round.places.items)) }
         ensures seated { MayTakeSeat (Client c) self.old.rounds.peers.round.places.items
             self.new.rounds.peers.round.places.items }
         ensures last { self.new.rounds.peers.round.last ≡ self.old.rounds.peers.round.last }

@@ -12,7 +12,7 @@ ghost use Rattle.nutloop.specs.Peers.{error_of, is_there, socket_of, told_by};
 ghost use Rattle.nutloop.specs.declared.over_mio.drivers.DriverSocket.{DriverSocket};
 ghost use Rattle.nutloop.specs.Round.{LeavesOut, MayTakeSeat, Notes, TakesIn};
 ghost use Rattle.nutloop.specs.Sockets.{AtMost};
-ghost use Rattle.nutloop.specs.Partings.{AreReadOn, HearsParting, PartsPeer};
+ghost use Rattle.nutloop.specs.Partings.{AreReadOn, HearsLeft, HearsLeftPeer, HearsParting, PartsPeer};
 ghost use Rattle.nutloop.specs.Standing.{seat_of};
 ghost use Rattle.nutloop.specs.Told.{TakeSeats, TellsThere, TellsTurn};
 ghost use Rattle.nutcore.specs.declared.event.Peer.TheVariants as peer;
@@ -237,6 +237,9 @@ impl Peers {
             self.old.clients.items self.new.clients.items
             self.old.drivers.items self.new.drivers.items
             self.old.round.places.items self.new.round.places.items }
+        ensures left { HearsLeftPeer (event_token event.now)
+            self.old.clients.items self.old.drivers.items
+            self.old.partings.items self.new.partings.items }
         ensures last { self.new.round.last ≡ self.old.round.last }
         ensures same { self.new ≡ record self.old {
           round = self.new.round;
@@ -257,6 +260,8 @@ impl Peers {
         ensures heard { HearsClient token told server.now.state
             self.old.clients.items self.new.clients.items
             self.old.round.places.items self.new.round.places.items }
+        ensures left { HearsLeft token self.old.clients.items
+            self.old.partings.items self.new.partings.items }
         ensures last { self.new.round.last ≡ self.old.round.last }
         ensures same { self.new ≡ record self.old {
           round = self.new.round;

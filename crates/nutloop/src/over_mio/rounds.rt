@@ -3,13 +3,15 @@ ghost use Rattle.std.specs.Prelude.{◌≡◌, ◌≤◌, ◌⊎◌, [], List, l
 ghost use Rattle.std.specs.Prelude.{vec_capacity, vec_len};
 ghost use Rattle.nutloop.specs.Door.{ComesIn};
 ghost use Rattle.nutloop.specs.Peers.{AreTried, GrowsBehind, ReadsPeer, ShutsPeer, TakesNewcomer, WritesPeer, error_of};
-ghost use Rattle.nutloop.specs.Partings.{PartsPeer};
+ghost use Rattle.nutloop.specs.Pace.{IsDue};
+ghost use Rattle.nutloop.specs.Partings.{AreHeard, AreInTime, AreLookedAt, PartsPeer};
 ghost use Rattle.nutloop.specs.Round.{LeavesOut, MayTakeSeat, TakesIn};
 ghost use Rattle.nutloop.specs.declared.round.Seat.TheVariants.{Client, Listener};
 ghost use Rattle.nutusers.specs.declared.limits.TheConstants.{UPS_LIMIT};
 ghost use Rattle.nutloop.specs.Sockets.{AtMost};
 ghost use Rattle.nutloop.specs.Standing.{seat_of};
-ghost use Rattle.nutloop.specs.Told.{IsNotedNow, IsTold, Looks, LooksWhereDue, NobodyMoves, TakeSeats};
+ghost use Rattle.nutloop.specs.Told.{HearsAll, HearsAtLook, IsAtTick, IsNotedNow, IsTold, Looks, LooksWhereDue, NobodyMoves, TakeSeats};
+ghost use Rattle.mio.specs.Events.{items};
 ghost use Rattle.nutusers.specs.declared.ups_list.UpsId.{UpsId};
 
 use super::door::{Door, LISTENER};
@@ -41,7 +43,10 @@ pub(super) struct Rounds<'a, R> {
 
 /// Notes what the system tells.
 fn hear_all(events: &Events, door: &mut Door, peers: &mut Peers, server: &Server)
+    ensures heard { HearsAll server.now.state (items events.now)
+        door.old peers.old door.new peers.new }
     ensures still { NobodyMoves peers.old peers.new }
+    ensures left { AreHeard peers.old.partings.items peers.new.partings.items }
     ensures door { door.new ≡ record door.old { is_knocked_at = door.new.is_knocked_at } }
     ensures knocked { door.old.is_knocked_at ≡ true → door.new.is_knocked_at ≡ true }
 {
@@ -106,6 +111,8 @@ impl<'a, R: Net + Clock> Rounds<'a, R> {
             (self.old.door.is_knocked_at ≡ true → self.new.door.is_knocked_at ≡ true) }
         ensures door { OnOk result (self.new.door
             ≡ record self.old.door { is_knocked_at = self.new.door.is_knocked_at }) }
+        ensures tick { IfOk result (λ ready. IsAtTick ready server.now.state.list
+            self.new.door.is_knocked_at self.new.peers) }
     {
         self.refresh(server);
         if let Some(second) = self.look_where_due(server)? {
@@ -137,6 +144,10 @@ impl<'a, R: Net + Clock> Rounds<'a, R> {
     fn look_where_due(&mut self, server: &Server) -> io::Result<Option<u64>>
         ensures looks { IfOk result (λ tick. LooksWhereDue tick
             self.old.peers self.old.pace self.new.peers self.new.pace) }
+        ensures left { OnOk result
+            ((self.new.peers.partings.items ≡ self.old.peers.partings.items)
+            ⊎ AreLookedAt self.new.pace.second
+            self.old.peers.partings.items self.new.peers.partings.items) }
         ensures noted { OnOk result
             (self.old.peers.is_knocked_at ≡ self.old.door.is_knocked_at
             → self.new.peers.is_knocked_at ≡ self.new.door.is_knocked_at) }
@@ -144,6 +155,15 @@ impl<'a, R: Net + Clock> Rounds<'a, R> {
             (self.old.door.is_knocked_at ≡ true → self.new.door.is_knocked_at ≡ true) }
         ensures door { OnOk result (self.new.door
             ≡ record self.old.door { is_knocked_at = self.new.door.is_knocked_at }) }
+        ensures tried { IfOk result (λ tick. IfSome tick (λ _. AreTried server.now.state.list
+            self.new.peers.drivers.items self.new.peers.driver_errors)) }
+        ensures knocked { IfOk result (λ tick. IfSome tick
+            (λ _. self.new.door.is_knocked_at ≡ true)) }
+        ensures in_time { IfOk result (λ tick. IfSome tick
+            (λ second. AreInTime second self.new.peers.partings.items)) }
+        ensures rests { OnOk result
+            ((IsDue self.old.pace self.old.peers.round.last self.old.peers.round.places.items → ⊥)
+            → self.new ≡ self.old) }
     {
         if self.pace.is_due(&self.peers.round) {
             self.look(server, Duration::ZERO)
@@ -156,12 +176,20 @@ impl<'a, R: Net + Clock> Rounds<'a, R> {
     fn look_and_wait(&mut self, server: &Server) -> io::Result<Option<u64>>
         ensures looks { IfOk result (λ tick.
             Looks tick self.old.peers self.old.pace self.new.peers self.new.pace) }
+        ensures left { OnOk result (AreLookedAt self.new.pace.second
+            self.old.peers.partings.items self.new.peers.partings.items) }
         ensures noted { OnOk result
             (self.new.peers.is_knocked_at ≡ self.new.door.is_knocked_at) }
         ensures knock { OnOk result
             (self.old.door.is_knocked_at ≡ true → self.new.door.is_knocked_at ≡ true) }
         ensures door { OnOk result (self.new.door
             ≡ record self.old.door { is_knocked_at = self.new.door.is_knocked_at }) }
+        ensures tried { IfOk result (λ tick. IfSome tick (λ _. AreTried server.now.state.list
+            self.new.peers.drivers.items self.new.peers.driver_errors)) }
+        ensures knocked { IfOk result (λ tick. IfSome tick
+            (λ _. self.new.door.is_knocked_at ≡ true)) }
+        ensures in_time { IfOk result (λ tick. IfSome tick
+            (λ second. AreInTime second self.new.peers.partings.items)) }
     {
         let elapsed = self.start.elapsed(self.rt)?;
         let wait = self.pace.wait(self.peers.is_draining(), elapsed);
@@ -183,6 +211,12 @@ impl<'a, R: Net + Clock> Rounds<'a, R> {
             self.new.peers.drivers.items self.new.peers.driver_errors)) }
         ensures knocked { IfOk result (λ tick. IfSome tick
             (λ _. self.new.door.is_knocked_at ≡ true)) }
+        ensures in_time { IfOk result (λ tick. IfSome tick
+            (λ second. AreInTime second self.new.peers.partings.items)) }
+        ensures heard { OnOk result (HearsAtLook server.now.state (items self.new.events)
+            self.new.pace.second self.old.door self.old.peers self.new.door self.new.peers) }
+        ensures left { OnOk result (AreLookedAt self.new.pace.second
+            self.old.peers.partings.items self.new.peers.partings.items) }
     {
         self.poll.poll(&mut self.events, Some(wait))?;
         hear_all(&self.events, &mut self.door, &mut self.peers, server);
@@ -211,6 +245,11 @@ impl<'a, R: Net + Clock> Rounds<'a, R> {
             × (self.new.peers.clients.items ≡ self.old.peers.clients.items))
             ⊎ TakesNewcomer self.old.door.newcomer c
             self.old.peers.clients.items self.new.peers.clients.items }
+        ensures seat { IfSome self.old.door.newcomer (λ _.
+            (vec_capacity self.old.peers.clients ≤ vec_len self.old.peers.clients)
+            ⊎ ((vec_capacity self.old.peers.round.places ≤ vec_len self.old.peers.round.places)
+            ⊎ TakesIn (Client c)
+            self.old.peers.round.places.items self.new.peers.round.places.items)) }
         ensures seated { MayTakeSeat (Client c)
             self.old.peers.round.places.items self.new.peers.round.places.items }
         ensures last { self.new.peers.round.last ≡ self.old.peers.round.last }

@@ -1,7 +1,7 @@
 use Rattle.std.proofs.Common.{◌≡◌, ◌∙◌, None, ap, rules, subst, inr}
 use Rattle.nutloop.specs.Told.{IsAskedWhereDue, TellsTurn, just_asked}
 use Rattle.nutloop.specs.declared.pace.Pace.{Pace}
-use Rattle.nutloop.proofs.Telling.{asked_again, no_tick, no_tick_due, nothing_is_told, still_twice, still_unready, turn_is_told}
+use Rattle.nutloop.proofs.Telling.{asked_again, no_tick, no_tick_due, nothing_is_told, still_twice, still_unready, turn_at_no_tick, turn_is_told}
 use Rattle.nutloop.proofs.over_mio.rounds.Rounds.next.Goals as goal
 
 pub returns-in-Some-take_turn-clause-told : goal.returns-in-Some-take_turn-clause-told
@@ -46,3 +46,9 @@ returns-in-None-clause-told g c =
     (subst (λ (p : Pace). IsAskedWhereDue c.look_where_due.new.self.peers p c.look_where_due.new.self.pace) pace due.1)
     (looks.1 ∙ ap just_asked nobody.2))
     unready c.take_turn-2.ensures.same
+
+pub returns-in-Some-take_turn-clause-tick : goal.returns-in-Some-take_turn-clause-tick
+returns-in-Some-take_turn-clause-tick g c = turn_at_no_tick _ _ _ _ _ _ _ _ c.in-Some-take_turn.ensures.tells
+
+pub returns-in-Some-take_turn-2-clause-tick : goal.returns-in-Some-take_turn-2-clause-tick
+returns-in-Some-take_turn-2-clause-tick g c = turn_at_no_tick _ _ _ _ _ _ _ _ c.in-Some-take_turn-2.ensures.tells
