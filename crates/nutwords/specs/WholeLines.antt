@@ -1,20 +1,11 @@
--- Lines in a run of bytes (RFC 9271: a line is ended by LF).
-use Rattle.std.specs.Prelude.{ℕ, Bool, List, [], ◌∷◌, ◌+◌, ◌==◌, Option, length, drop}
+-- The whole lines of some bytes, and what is after them, as functions of the bytes.
+use Rattle.std.specs.Prelude.{◌≡◌, ℕ, Bool, List, [], ◌∷◌, ◌++◌, ◌<◌, ◌==◌, Some, length, drop}
 use Rattle.std.specs.Prelude.{take_while, nat_le, nat_lt, if◌then◌else◌}
 use Rattle.std.specs.List.{flat_map}
-use Rattle.std.specs.Option.{option_map}
 use Rattle.nutwords.specs.SplitLine.{split_line}
 use Rattle.nutwords.specs.Text.{with_lf}
 use Rattle.nutwords.specs.Lines.{Tail, Unfinished, Overlong, IsCutInto}
 use Rattle.nutwords.specs.declared.limits.TheConstants.{LINE_ROOM}
-
--- The first whole line, without its LF.
-abbrev pub first_line : List ℕ → Option (List ℕ)
-first_line bytes = option_map (λ split. split.0) (split_line bytes)
-
--- What follows the first line and its LF.
-abbrev pub rest_after : List ℕ → List ℕ → List ℕ
-rest_after line bytes = drop (length line + 1) bytes
 
 -- The bytes of these lines, each with its LF.
 abbrev pub joined : List (List ℕ) → List ℕ
@@ -54,3 +45,14 @@ tail_after bytes =
 -- These are the lines and the tail into which each text is cut, and which it has alone.
 abbrev pub WholeLinesAreTheCut : Type 0
 WholeLinesAreTheCut = (bytes : List ℕ) → IsCutInto bytes (whole_lines bytes) (tail_after bytes)
+
+-- The whole lines, each with its LF, and what is unfinished after them are all of the bytes.
+abbrev pub WholeLinesAndTheRestAreAll : Type 0
+WholeLinesAndTheRestAreAll =
+    (bytes : List ℕ) → bytes ≡ joined (whole_lines bytes) ++ unfinished_after bytes
+
+-- What is unfinished after the first whole line and others is what is unfinished after the others.
+abbrev pub RestIsThatBehindTheFirst : Type 0
+RestIsThatBehindTheFirst =
+    (bytes line rest : List ℕ) → split_line bytes ≡ Some (line, rest) → length line < LINE_ROOM
+    → unfinished_after bytes ≡ unfinished_after rest
