@@ -9,7 +9,7 @@ use Rattle.nutcore.specs.declared.TheConstants.{HELD_LIMIT}
 use Rattle.nutcore.specs.declared.cost.Cost.{Cost}
 use Rattle.nutcore.proofs.Common.{Event, SessionState, ServerState, session, with_session_changed}
 use Rattle.nutcore.specs.declared.event.Event.TheVariants.{Feed, Took}
-use Rattle.nutcore.specs.Lines.{first_line}
+use Rattle.nutwords.specs.SplitLine.{first_line}
 use Rattle.nutcore.specs.Reply.{reply, too_long_notice}
 use Rattle.nutcore.specs.Pump.{next_line_for, after_line, held_of, owed_of, is_overlong, notified}
 use Rattle.nutcore.specs.Step.{accepted_bytes, joined, with_input, taken_from, without_output, may_take, offered, refused_after, after_by}

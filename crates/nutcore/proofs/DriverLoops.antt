@@ -23,18 +23,22 @@ use Rattle.nutdriver.specs.Tree.{TreeState, variable_at, with_variable, has_comm
 use Rattle.nutdriver.specs.DriverLine.{read_driver_line}
 use Rattle.nutdriver.specs.DriverStep.{put_back, if_there, set_info, delete_info, driver_step}
 use Rattle.nutdriver.specs.Report.{after_step, after_reading, after_line, line_changes}
-use Rattle.nutcore.specs.Reports.{OrderEnd, end_read, end_in, with_end, is_unawaited}
+use Rattle.nutdriver.specs.Report.{OrderEnd, end_read, end_in}
+use Rattle.nutcore.specs.Reports.{with_end, is_unawaited}
 use Rattle.nutcore.proofs.Common.{cond-true, cond-false, le-leb, lt-leb, take-append-drop, cond_both, same_Some, option_map, option_map_or, UpsId, TrackingState, Fault, ServerState, ups_at, changed_at, with_ups_changed, with_tracking}
 use Rattle.nutcore.specs.declared.event.Fault.TheVariants.{LineTooLong, Memory}
-use Rattle.nutcore.specs.Lines.{whole_lines, unfinished_after, is_too_long}
+use Rattle.nutwords.specs.Lines.{Tail, Unfinished, Overlong, IsCutInto}
+use Rattle.nutwords.specs.WholeLines.{joined, whole_lines, unfinished_after, is_too_long, tail_after}
 use Rattle.nutcore.specs.Ups.{UpsState, after_loss, is_refused, with_faulty_line, after_text, with_unfinished, wants_memory_for}
 use Rattle.nutcore.specs.Step.{after_driver_line, after_driver_lines, with_rest, after_driver_text, wants_driver_memory}
 use Rattle.nutcore.specs.Calls.{is_connected}
-use Rattle.nutcore.specs.Promises.{front_or, IsCut, ChangesUps, OfUps, DoesLine, end_told, IsTold, IsStopped, holding_nothing, ExecutesDriverLine, ReadsDriverLine}
+use Rattle.nutdriver.specs.Report.{end_told}
+use Rattle.nutcore.specs.Promises.{front_or, IsCut, ChangesUps, OfUps, DoesLine, IsTold, IsStopped, holding_nothing, ExecutesDriverLine, ReadsDriverLine}
 use Rattle.nutcore.proofs.UpsPlaces.{Stands, of_ups, at_changed, server_agree, server_twice, changed_to, left_at}
 use Rattle.nutcore.proofs.DriverSteps.{is_there, connected_as, connected_at}
 use Rattle.nutcore.proofs.DriverChanges.{line_leaves}
-use Rattle.nutcore.proofs.WholeLines.{whole_first, whole_none, whole_too_long, unfinished_all, unfinished_first}
+use Rattle.nutwords.proofs.PublicLaws.{whole_lines_are_the_cut, rest_is_that_behind_the_first, found_line_is_first, rest_is_unfinished, rest_is_overlong, one_cutting}
+use Rattle.nutdriver.proofs.PublicLaws.{what_is_told_of_an_order_is_read}
 
 -- one more of some lines
 pub one_more : {A : Type 0} (k : ℕ) (lines : List A) (line : A) (more : List A) → drop k lines ≡ line ∷ more → (take (k + 1) lines ≡ take k lines ++ line ∷ []) × (drop (k + 1) lines ≡ more) × (slice_get lines k ≡ Some line)
@@ -76,6 +80,20 @@ stood_at f i [] y e = cc e
 stood_at f zero (x ∷ xs) y e = record { ups = x; there = refl; is = same_Some (f x) y e }
 stood_at f (suc i) (x ∷ xs) y e = let s = stood_at f i xs y e in record { ups = s.ups; there = s.there; is = s.is }
 
+-- the next line that is found is the first whole one, and where none is whole all is unfinished
+next_whole : (held piece line : List ℕ) (used : ℕ) → FindsLine held piece line used → let left : List ℕ = drop used piece in (whole_lines (held ++ piece) ≡ line ∷ whole_lines left) × (unfinished_after (held ++ piece) ≡ unfinished_after left)
+next_whole held piece line used found =
+    let left : List ℕ = drop used piece in
+    let text : List ℕ = held ++ piece in (
+      (one_cutting text (line ∷ whole_lines left) (whole_lines text) (tail_after left) (tail_after text) (found_line_is_first held piece line used (whole_lines left) (tail_after left) found (whole_lines_are_the_cut left)) (whole_lines_are_the_cut text)).0,
+      rest_is_that_behind_the_first text line left found.0 found.3,
+    )
+
+none_whole : (text : List ℕ) (tail : Tail) → IsCutInto text [] tail → (whole_lines text ≡ []) × (unfinished_after text ≡ text)
+unfolding unfinished_after
+none_whole text tail cut =
+    let none : whole_lines text ≡ [] = (one_cutting text [] (whole_lines text) tail (tail_after text) cut (whole_lines_are_the_cut text)).0 in (none, ap (λ (lines : List (List ℕ)). drop (length (joined lines)) text) none)
+
 -- Where the reading stands: of what was told, k lines are done, and the rest begins with what is held.
 pub record IsAtLine (u : UpsId) (k : ℕ) (text : List ℕ) (old now : ServerState) (rest : List ℕ) : Type 0 where
   pub ups : UpsState
@@ -98,13 +116,14 @@ read_on u k used text old s t rest at o some reads =
     let b : Bool = is_unawaited u.place (end_in line) s.tracking in
     let z : UpsState = after_text s.moment b y line in
     let done : ServerState = after_driver_lines u (take k lines) old in
-    let next = one_more k lines line (whole_lines left) (at.ahead ∙ whole_first (at.ups.unfinished ++ rest) line left found.0 found.3) in
+    let whole = next_whole at.ups.unfinished rest line used found in
+    let next = one_more k lines line (whole_lines left) (at.ahead ∙ whole.0) in
     let held : z.unfinished ++ left ≡ left = ap (λ (b : List ℕ). b ++ left) (line_leaves b y (after_line s.moment y.report line)).unfinished in
     record {
       ups = z;
       there = ap (ups_at u.place) does ∙ at_changed (λ x. after_text s.moment b x line) u.place (holding_nothing u s).upses y (at_changed (with_unfinished []) u.place s.upses at.ups at.there);
       ahead = next.1 ∙ ap whole_lines (sym held);
-      unfinished = at.unfinished ∙ unfinished_first (at.ups.unfinished ++ rest) line left found.0 found.3 ∙ ap unfinished_after (sym held);
+      unfinished = at.unfinished ∙ whole.1 ∙ ap unfinished_after (sym held);
       told =
           ap (holding_nothing u) does
           ∙ line_beside u line (holding_nothing u s)
@@ -118,11 +137,13 @@ record IsAtEnd (u : UpsId) (text held : List ℕ) (old now : ServerState) : Type
   rest_is : unfinished_after text ≡ held
   told : holding_nothing u now ≡ holding_nothing u (after_driver_lines u (whole_lines text) old)
 
-ends : (u : UpsId) (k : ℕ) (text : List ℕ) (old s : ServerState) (rest : List ℕ) (at : IsAtLine u k text old s rest) → whole_lines (at.ups.unfinished ++ rest) ≡ [] → IsAtEnd u text (at.ups.unfinished ++ rest) old s
-ends u k text old s rest at none = record {
-  rest_is = at.unfinished ∙ unfinished_all (at.ups.unfinished ++ rest) none;
-  told = at.told ∙ ap (λ (ls : List (List ℕ)). holding_nothing u (after_driver_lines u ls old)) (no_more k (whole_lines text) (at.ahead ∙ none));
-}
+ends : (u : UpsId) (k : ℕ) (text : List ℕ) (old s : ServerState) (rest : List ℕ) (at : IsAtLine u k text old s rest) → (tail : Tail) → IsCutInto (at.ups.unfinished ++ rest) [] tail → IsAtEnd u text (at.ups.unfinished ++ rest) old s
+ends u k text old s rest at tail cut =
+    let none = none_whole (at.ups.unfinished ++ rest) tail cut in
+    record {
+      rest_is = at.unfinished ∙ none.1;
+      told = at.told ∙ ap (λ (ls : List (List ℕ)). holding_nothing u (after_driver_lines u ls old)) (no_more k (whole_lines text) (at.ahead ∙ none.0));
+    }
 
 -- how many bytes of the piece a line takes
 pub takes_some : (u : UpsId) (piece : List ℕ) (done used : ℕ) (s t : ServerState) (o : Option ℕ) → o ≡ Some used → option_map is_connected (ups_at u.place s) ≡ Some true → OfUps u s (λ x. ReadsDriverLine u piece done x s (Ok o) t) → (0 < used) × (used ≤ length piece)
@@ -137,7 +158,7 @@ unfolding after_driver_text
 stops_read u k text old s t rest at (kept, cut, leaves) =
     let held : List ℕ = at.ups.unfinished ++ rest in
     let bytes : List ℕ = unfinished_after text in
-    let end = ends u k text old s rest at (whole_none held cut.0) in
+    let end = ends u k text old s rest at (Unfinished kept) (rest_is_unfinished at.ups.unfinished rest kept cut) in
     let done : ServerState = after_driver_lines u (whole_lines text) old in
     let short : is_too_long bytes ≡ false = ap is_too_long end.rest_is ∙ lt-leb LINE_ROOM (length held) cut.1 in (
       short,
@@ -152,7 +173,7 @@ unfolding after_driver_text wants_driver_memory
 stops_refused u k text old s t rest LineTooLong at (kept, cut, leaves) =
     let held : List ℕ = at.ups.unfinished ++ rest in
     let bytes : List ℕ = unfinished_after text in
-    let end = ends u k text old s rest at (whole_too_long held cut.0) in
+    let end = ends u k text old s rest at Overlong (rest_is_overlong at.ups.unfinished rest kept cut) in
     let done : ServerState = after_driver_lines u (whole_lines text) old in
     let long : is_too_long bytes ≡ true = ap is_too_long end.rest_is ∙ le-leb LINE_ROOM (length held) cut.1 in (
       long,
@@ -164,7 +185,7 @@ stops_refused u k text old s t rest LineTooLong at (kept, cut, leaves) =
 stops_refused u k text old s t rest (Memory n) at (these, line, used, found, changes, lost) =
     let lines : List (List ℕ) = whole_lines text in
     let done : ServerState = after_driver_lines u (take k lines) old in
-    let next = one_more k lines line (whole_lines (drop used rest)) (at.ahead ∙ whole_first (at.ups.unfinished ++ rest) line (drop used rest) found.0 found.3) in
+    let next = one_more k lines line (whole_lines (drop used rest)) (at.ahead ∙ (next_whole at.ups.unfinished rest line used found).0) in
     let was : Stands u.place done.upses (λ x. with_unfinished [] x ≡ with_unfinished [] at.ups) = stood_at (with_unfinished []) u.place done.upses (with_unfinished [] at.ups) (ap (ups_at u.place) (sym at.told) ∙ at_changed (with_unfinished []) u.place s.upses at.ups at.there) in
     let same : line_changes was.ups.report.tree line ≡ line_changes at.ups.report.tree line = ap (λ (x : UpsState). line_changes x.report.tree line) was.is in
     subst (λ (m : ℕ). IsStopped u text old (Err (Memory m)) t) (sym these) (
@@ -182,55 +203,6 @@ pub told_kept : (u : UpsId) (text : List ℕ) (old s : ServerState) (r : Result 
 told_kept u text old s (Ok v) went stopped = stopped
 told_kept u text old s (Err fault) went stopped = cc went
 
--- What a line says of an order is what its outcome tells.
-told_is_read : (moment : ℕ) (report : Report) (line : List ℕ) → end_told (after_line moment report line).1 ≡ end_in line
-told_is_read moment report line = by_reading (read_driver_line line)
-  where
-    at : Report
-    at = record report { heard = moment }
-
-    tree : TreeState
-    tree = report.tree
-
-    IsUntold : Result (TreeState × Effect) DriverFault → Type 0
-    IsUntold r = end_told (after_step at r).1 ≡ None
-
-    by_back : (name : List ℕ) (r : Result (Option VariableState) DriverFault) → IsUntold (put_back tree name r)
-    by_back name (Err fault) = refl
-    by_back name (Ok None) = refl
-    by_back name (Ok (Some variable)) = refl
-
-    by_there : (name : List ℕ) (f : VariableState → Result (Option VariableState) DriverFault) (o : Option VariableState) → IsUntold (if_there tree name o f)
-    by_there name f None = refl
-    by_there name f (Some variable) = by_back name (f variable)
-
-    by_set : (name value : List ℕ) (o : Option VariableState) → IsUntold (set_info tree name value o)
-    by_set name value None = cond_both (nat_le VARIABLE_LIMIT (length tree.variables)) (Err Full) (Ok (with_variable tree name (new_variable value), Changed)) IsUntold (λ e. refl) (λ e. refl)
-    by_set name value (Some variable) = refl
-
-    by_delete : (name : List ℕ) (o : Option VariableState) → IsUntold (delete_info tree name o)
-    by_delete name None = refl
-    by_delete name (Some variable) = refl
-
-    by_line : (said : DriverLine) → end_told (after_step at (driver_step tree said)).1 ≡ end_read (Ok said)
-    by_line (SetInfo name value) = by_set name value (variable_at tree name)
-    by_line (DelInfo name) = by_delete name (variable_at tree name)
-    by_line (AddEnum name value) = by_there name (add_enum value) (variable_at tree name)
-    by_line (DelEnum name value) = by_there name (delete_enum value) (variable_at tree name)
-    by_line (AddRange name range) = by_there name (add_range range) (variable_at tree name)
-    by_line (DelRange name range) = by_there name (delete_range range) (variable_at tree name)
-    by_line (SetAux name aux) = by_there name (λ variable. Ok (Some (with_aux aux variable))) (variable_at tree name)
-    by_line (SetFlags name flags) = by_there name (λ variable. Ok (Some (with_flags flags variable))) (variable_at tree name)
-    by_line (AddCmd name) =
-        let more : Result (TreeState × Effect) DriverFault = cond (nat_le COMMAND_LIMIT (length tree.commands)) (Err Full) (Ok (with_command tree name, Changed)) in
-        cond_both (has_command tree name) (Ok (tree, Nothing)) more IsUntold (λ e. refl) (λ e. cond_both (nat_le COMMAND_LIMIT (length tree.commands)) (Err Full) (Ok (with_command tree name, Changed)) IsUntold (λ e. refl) (λ e. refl))
-    by_line (DelCmd name) = cond_both (has_command tree name) (Ok (without_command tree name, Changed)) (Err NoSuchItem) IsUntold (λ e. refl) (λ e. refl)
-    by_line (Tracking id number) = refl
-    by_line _ = refl
-
-    by_reading : (r : Result DriverLine DriverFault) → end_told (after_reading at r).1 ≡ end_read r
-    by_reading r = grind arith
-
 -- What a line does to a UPS, said of the server: it is done, and is counted where it is refused.
 pub executes : (u : UpsId) (line : List ℕ) (s mid t : ServerState) (x y : UpsState) (outcome : LineOutcome) (b : Bool) → ups_at u.place s ≡ Some x → DoesLine s.moment line x (Ok outcome) y
     → mid ≡ with_tracking (with_end u.place (end_told outcome) s.tracking) (with_ups_changed (λ z. y) u s) → b ≡ is_refused (is_unawaited u.place (end_told outcome) s.tracking) outcome
@@ -238,7 +210,7 @@ pub executes : (u : UpsId) (line : List ℕ) (s mid t : ServerState) (x y : UpsS
 unfolding after_driver_line
 executes u line s mid t x y outcome b there (is, leaves) told refused counted =
     let r : Report × LineOutcome = after_line s.moment x.report line in
-    let read : end_told outcome ≡ end_in line = ap end_told is ∙ told_is_read s.moment x.report line in
+    let read : end_told outcome ≡ end_in line = ap end_told is ∙ what_is_told_of_an_order_is_read s.moment x.report line in
     let unawaited : Bool = is_unawaited u.place (end_in line) s.tracking in
     let next : TrackingState = with_end u.place (end_in line) s.tracking in
     let done : UpsState = record (with_unfinished [] x) { report = r.0 } in

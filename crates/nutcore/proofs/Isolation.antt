@@ -7,7 +7,8 @@ use Rattle.nuttracking.specs.declared.order.Progress.{Progress}
 use Rattle.nuttracking.specs.declared.order.Progress.TheVariants.{Pending, Done}
 use Rattle.nuttracking.specs.declared.order.TrackedOrder.{TrackedOrder}
 use Rattle.nuttracking.specs.Tracking.{has_id, is_pending, awaits, settled, nothing_tracked}
-use Rattle.nutcore.specs.Reports.{OrderEnd, end_in, with_end, after_ends}
+use Rattle.nutdriver.specs.Report.{OrderEnd, end_in}
+use Rattle.nutcore.specs.Reports.{with_end, after_ends}
 use Rattle.nutcore.specs.Session.{SessionState}
 use Rattle.nutcore.specs.Ups.{UpsState, with_fsd, with_order}
 use Rattle.nutcore.specs.Reply.{changed_upses}

@@ -12,7 +12,7 @@ use Rattle.nutdriver.specs.Sound.{IsSoundTree, EachLineKeepsTheTreeSound}
 use Rattle.nutcore.proofs.Common.{never_both, cond_both, or_parts, UpsId, Change, Fault, SessionState, ServerState, session, ups_at, with_ups_changed}
 use Rattle.nutlisting.specs.declared.outbox.TheConstants.{OWED_LIMIT}
 use Rattle.std.specs.declared.alloc.AllocError.{AllocError}
-use Rattle.nutcore.specs.Lines.{first_line}
+use Rattle.nutwords.specs.SplitLine.{first_line}
 use Rattle.nutcore.specs.Ups.{UpsState, with_unfinished}
 use Rattle.nuttracking.specs.Tracking.{TrackingState}
 use Rattle.nutcore.specs.Reply.{changed_session, changed_upses, changed_tracking}
@@ -24,7 +24,8 @@ use Rattle.nutcore.specs.Calls.{is_connected}
 use Rattle.nutcore.proofs.DriverSteps.{is_there, connected_as, connected_at}
 use Rattle.nutcore.proofs.UpsPlaces.{of_ups, left_at, server_set}
 use Rattle.nutcore.proofs.Changes.{of_tracking}
-use Rattle.nutcore.proofs.Tracked.{IsTracked, order_tracked}
+use Rattle.nuttracking.specs.Acts.Act.{ordered}
+use Rattle.nutcore.proofs.Tracked.{IsTracked, act_tracked}
 use Rattle.nutcore.proofs.Found.{find_id}
 use Rattle.nutcore.proofs.Serving.{set_is}
 use Rattle.nutcore.proofs.SoundUps.{sound_changes, length-changes, sound_fewer, sound_bytes, sound_report}
@@ -81,7 +82,7 @@ pub changes_kept : (v : ServerState) (change : Change) (xs : List UpsState) (t :
     let code : ServerState = record v { upses = xs; tracking = t } in IsSound code
 changes_kept v change xs t e f fits h =
     let tracked : IsTracked v.tracking = is_tracked v h in
-    tracking_sound (record v { upses = xs }) t (subst IsTracked (sym f) (of_tracking IsTracked change v.tracking tracked (λ place. order_tracked v.tracking place tracked))) (upses_kept v change xs e fits h)
+    tracking_sound (record v { upses = xs }) t (subst IsTracked (sym f) (of_tracking IsTracked change v.tracking tracked (λ place. act_tracked v.tracking (ordered place) tt tracked))) (upses_kept v change xs e fits h)
 
 -- its driver takes bytes
 pub driver_taken_kept : (m n : ℕ) (x y : UpsState) (r : Result (Unit {0}) Fault) → IsTaken n x r y → IsSoundUps m x → IsSoundUps m y

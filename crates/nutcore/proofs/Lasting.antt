@@ -9,7 +9,7 @@ use Rattle.nutusers.specs.declared.ups_list.UpsId.{UpsId}
 use Rattle.nutanswer.specs.declared.reply.Change.TheVariants as changes
 use Rattle.nutcore.specs.declared.TheConstants.{HELD_LIMIT}
 use Rattle.nutcore.specs.Lasting.{Lasts, IsEnding, WhatNeverGoesBack}
-use Rattle.nutcore.specs.Lines.{first_line}
+use Rattle.nutwords.specs.SplitLine.{first_line}
 use Rattle.nutcore.specs.Reply.{reply, asker_of}
 use Rattle.nutcore.specs.Pump.{answered, notified, with_notice}
 use Rattle.nutcore.specs.ByRight.{is_shut_down}

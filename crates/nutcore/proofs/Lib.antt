@@ -1,5 +1,4 @@
 mod Common
-mod FirstLine
 mod Found
 mod Progress
 mod Changed
@@ -13,7 +12,6 @@ mod Executions
 mod HeldFrames
 mod UpsPlaces
 mod DriverLoops
-mod WholeLines
 mod DriverText
 mod DriverChanges
 mod Places

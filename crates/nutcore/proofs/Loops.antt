@@ -1,11 +1,13 @@
 -- The pump, line by line.
-use Rattle.std.proofs.Common.{◌≡◌, ℕ, zero, suc, ◌+◌, ◌-◌, ◌<◌, ◌≤◌, true, List, Option, Some, None, refl, sym, ◌∙◌, ap, arith, length, zero-add}
+use Rattle.std.proofs.Common.{◌≡◌, ℕ, zero, suc, ◌+◌, ◌-◌, ◌<◌, ◌≤◌, true, List, [], ◌∷◌, Option, Some, None, refl, sym, ◌∙◌, ap, arith, length, length-append, zero-add}
 use Rattle.std.specs.Prelude.{is_none}
 use Rattle.nutcore.specs.Session.{SessionState, find, put}
 use Rattle.nutcore.specs.Server.{ServerState, session}
 use Rattle.nutcore.specs.Reply.{reply}
 use Rattle.nutcore.specs.Pump.{next_line_for, answered, after_line, after_lines, pump_stops, held_of, after_all_lines}
-use Rattle.nutcore.proofs.FirstLine.{behind_shorter}
+use Rattle.nutwords.specs.SplitLine.{rest_after}
+use Rattle.nutwords.specs.Text.{with_lf}
+use Rattle.nutwords.proofs.PublicLaws.{first_line_and_the_rest_are_all}
 use Rattle.nutcore.proofs.Found.{find_put}
 use Rattle.nutcore.proofs.Changes.{keeps}
 use Rattle.nutcore.proofs.Pumping.{is_next, stopped_none, after_line_is, change_at, session_after, session_after_id}
@@ -53,5 +55,5 @@ pub line_shortens : (s : ServerState) (c : ℕ) (line : List ℕ) → next_line_
 line_shortens s c line h =
     let n = is_next s c line h in
     let y : SessionState = answered line (reply s c line) n.asking in
-    let less : length (session_after s c line n.asking).held < length n.asking.held = let e = behind_shorter n.asking.held line n.first in let k = (keeps (change_at s c line) y).shorter in omega (arith, e, k) in
+    let less : length (session_after s c line n.asking).held < length n.asking.held = let e = ap length (first_line_and_the_rest_are_all n.asking.held line n.first) in let k = (keeps (change_at s c line) y).shorter in omega (arith, e, k, length-append (with_lf line) (rest_after line n.asking.held), length-append line (10 ∷ [])) in
     rw (found_after_line s c line n.asking n.found h, n.found) less

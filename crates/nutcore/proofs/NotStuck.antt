@@ -8,7 +8,7 @@ use Rattle.nutlisting.specs.declared.outbox.TheConstants.{OWED_LIMIT}
 use Rattle.nutcore.proofs.Common.{Event, Outcome, SessionState, ServerState, session, after, Run}
 use Rattle.nutcore.specs.declared.TheConstants.{HELD_LIMIT}
 use Rattle.nutcore.specs.declared.event.Event.TheVariants.{Feed, Took, Close}
-use Rattle.nutcore.specs.Lines.{first_line}
+use Rattle.nutwords.specs.SplitLine.{first_line}
 use Rattle.nutcore.specs.Session.{without}
 use Rattle.nutcore.specs.Pump.{next_line, pumped, holds_overlong, owed_of}
 use Rattle.nutcore.specs.Step.{with_input, without_output, may_take, pumped_until, after_by, refused_after}

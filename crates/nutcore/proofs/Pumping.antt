@@ -6,12 +6,12 @@ use Rattle.std.proofs.lemmas.Bool.{or_parts, cond-true, cond-false}
 use Rattle.nutcore.proofs.Common.{Change, SessionState, ServerState, session, with_session, with_session_changed, cond_both}
 use Rattle.nutanswer.specs.Command.{read_command}
 use Rattle.nutlisting.specs.declared.outbox.TheConstants.{OWED_LIMIT}
-use Rattle.nutcore.specs.Lines.{first_line}
+use Rattle.nutwords.specs.SplitLine.{first_line}
 use Rattle.nutcore.specs.Session.{find, put}
 use Rattle.nutcore.specs.Reply.{reply, change_by, changed, changed_session, changed_upses, changed_tracking}
 use Rattle.nutcore.specs.Pump.{next_line, next_line_for, answered, after_reply, after_line, after_notice, is_overlong, holds_overlong, notified, with_notice}
 use Rattle.nutcore.specs.History.{Execution, of_notice, notice}
-use Rattle.nutcore.proofs.FirstLine.{line_ends}
+use Rattle.nutwords.proofs.PublicLaws.{first_line_is_the_front_of_its_length}
 use Rattle.nutcore.proofs.Changes.{keeps}
 use Rattle.nutcore.proofs.Progress.{presence}
 use Rattle.nutcore.proofs.Found.{find_id, find_put, find_put_other, put_put, put_found}
@@ -48,7 +48,7 @@ is_next s c line h = next_of s c line (session c s) refl h
 -- where the next line ends says which one it is
 ends_unless : (b : Bool) (bytes : List ℕ) (end : ℕ) → option_map length (cond b None (first_line bytes)) ≡ Some end → (cond b None (first_line bytes) ≡ Some (take end bytes)) × (end < length bytes)
 ends_unless true bytes end h = cc h
-ends_unless false bytes end h = line_ends bytes end h
+ends_unless false bytes end h = first_line_is_the_front_of_its_length bytes end h
 
 pub next_line_ends : (x : SessionState) (end : ℕ) → option_map length (next_line x) ≡ Some end → (next_line x ≡ Some (take end x.held)) × (end < length x.held)
 next_line_ends x end h = ends_unless (x.ending || ltb OWED_LIMIT (length x.owed)) x.held end h

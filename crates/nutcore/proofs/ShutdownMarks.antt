@@ -8,8 +8,9 @@ use Rattle.nutdriver.specs.declared.report.Report.{Report}
 use Rattle.nutdriver.specs.declared.report.LineOutcome.{LineOutcome}
 use Rattle.nutdriver.specs.Report.{after_line as report_after}
 use Rattle.nutanswer.specs.declared.reply.Change.TheVariants as changes
-use Rattle.nutcore.specs.Lines.{whole_lines, unfinished_after, is_too_long}
-use Rattle.nutcore.specs.Reports.{end_in, with_end, is_unawaited}
+use Rattle.nutwords.specs.WholeLines.{whole_lines, unfinished_after, is_too_long}
+use Rattle.nutdriver.specs.Report.{end_in}
+use Rattle.nutcore.specs.Reports.{with_end, is_unawaited}
 use Rattle.nutcore.specs.Ups.{with_fsd, with_order, after_connecting, after_loss, after_outcome, after_text, after_texts, with_unfinished, ping_is_due}
 use Rattle.nutcore.specs.Reply.{changed_upses}
 use Rattle.nutcore.specs.Pump.{next_line_for, after_line, notified}

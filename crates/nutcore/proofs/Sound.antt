@@ -1,5 +1,5 @@
 -- Every server is sound.
-use Rattle.std.proofs.Common.{◌≡◌, ◌≤◌, ◌<◌, ◌+◌, ◌-◌, ◌^◌, ℕ, suc, Bool, true, false, List, [], ◌∷◌, ◌++◌, Some, None, refl, sym, ◌∙◌, ap, subst, eqb, max, map, length, take, length-append, length-take, length-drop, arith, inl, inr, cond}
+use Rattle.std.proofs.Common.{◌≡◌, ◌≤◌, ◌<◌, ◌+◌, ◌-◌, ◌^◌, ℕ, suc, Bool, true, false, List, [], ◌∷◌, ◌++◌, Some, None, refl, sym, ◌∙◌, ap, subst, eqb, max, map, length, take, length-append, length-take, length-drop, arith, inl, inr, cond, rules}
 use Rattle.std.specs.Prelude.{nat_lt}
 use Rattle.nutdriver.specs.Tree.{empty_tree}
 use Rattle.nutdriver.specs.Sound.{IsSoundTree, EachLineKeepsTheTreeSound, ReadLinesAreLawful}
@@ -8,7 +8,8 @@ use Rattle.std.proofs.lemmas.List.Elements.{All-nil}
 use Rattle.nuttracking.specs.Sound.{IsLawfulProgress}
 use Rattle.nuttracking.specs.Tracking.{TrackingState}
 use Rattle.nuttracking.proofs.PublicLaws.{nothing_is_sound}
-use Rattle.nutcore.proofs.Tracked.{IsTracked, id_tracked, order_tracked, end_tracked}
+use Rattle.nuttracking.specs.Acts.Act.{handed_in, ordered}
+use Rattle.nutcore.proofs.Tracked.{IsTracked, act_tracked, end_tracked}
 use Rattle.nutanswer.specs.Command.{read_command}
 use Rattle.nutcore.specs.declared.TheConstants.{HELD_LIMIT}
 use Rattle.nutlisting.specs.declared.listing.clients.TheConstants.{SESSION_LIMIT}
@@ -57,48 +58,15 @@ each_found P c (z ∷ xs) x e all =
 -- with other sessions, and with other UPSs
 sessions_sound : (s : ServerState) (sessions : List SessionState) (next_id : ℕ) → length sessions ≤ SESSION_LIMIT → IdsRise 1 next_id sessions → Each IsSoundSession sessions → IsSound s
     → (let t : ServerState = record s { sessions = sessions; next_id = next_id } in IsSound t)
-sessions_sound s sessions next_id few ids all h = record {
-  max_age = h.max_age;
-  list = h.list;
-  descriptions = h.descriptions;
-  named = h.named;
-  few = few;
-  ids = ids;
-  sessions = all;
-  upses = h.upses;
-  tracking = h.tracking;
-  numbers = h.numbers;
-}
+sessions_sound s sessions next_id few ids all h = search rules
 
 pub upses_sound : (s : ServerState) (moment : ℕ) (upses : List UpsState) → length upses ≡ length s.upses → Each (IsSoundUps moment) upses → IsSound s
     → (let t : ServerState = record s { moment = moment; upses = upses } in IsSound t)
-upses_sound s moment upses same all h = record {
-  max_age = h.max_age;
-  list = h.list;
-  descriptions = h.descriptions;
-  named = same ∙ h.named;
-  few = h.few;
-  ids = h.ids;
-  sessions = h.sessions;
-  upses = all;
-  tracking = h.tracking;
-  numbers = h.numbers;
-}
+upses_sound s moment upses same all h = let named = same ∙ h.named in search rules
 
 -- with other ids and orders
 pub tracking_sound : (s : ServerState) (t : TrackingState) → IsTracked t → IsSound s → IsSound (with_tracking t s)
-tracking_sound s t tracked h = record {
-  max_age = h.max_age;
-  list = h.list;
-  descriptions = h.descriptions;
-  named = h.named;
-  few = h.few;
-  ids = h.ids;
-  sessions = h.sessions;
-  upses = h.upses;
-  tracking = tracked.sound;
-  numbers = tracked.numbers;
-}
+tracking_sound s t tracked h = search rules
 
 pub is_tracked : (s : ServerState) → IsSound s → IsTracked s.tracking
 is_tracked s h = record { sound = h.tracking; numbers = h.numbers }
@@ -138,7 +106,7 @@ sound_line s c line e h =
     let y : SessionState = session_after s c line n.asking in
     let own : IsSoundSession y = sound_answered change line (reply s c line) n.asking n.going (each_found IsSoundSession c s.sessions n.asking n.found h.sessions) in
     subst IsSound (sym (after_line_is s c line n.asking n.found e))
-    (tracking_sound (record (with_session s y) { upses = changed_upses change s.upses }) (changed_tracking change s.tracking) (of_tracking IsTracked change s.tracking (is_tracked s h) (λ place. order_tracked s.tracking place (is_tracked s h)))
+    (tracking_sound (record (with_session s y) { upses = changed_upses change s.upses }) (changed_tracking change s.tracking) (of_tracking IsTracked change s.tracking (is_tracked s h) (λ place. act_tracked s.tracking (ordered place) tt (is_tracked s h)))
     (upses_sound (with_session s y) s.moment (changed_upses change s.upses) (length-changes change s.upses) (sound_changes s.moment change s.upses (order_fits s c (read_command line) change refl) h.upses) (sound_with s y own h)))
 
 -- a session that is changed, and stays sound
@@ -194,7 +162,7 @@ module _ (empty : IsSoundTree empty_tree) (line_keeps : EachLineKeepsTheTreeSoun
       goes = λ u h. sound_upses disconnected u s (λ x at k. cond_both x.report.connected (after_loss x) x (IsSoundUps s.moment) (λ e. sound_loss empty line_keeps s.moment x) (λ e. k)) h;
     };
     reports = λ s u line h. tracking_sound s _ (end_tracked read_lawful s.tracking u.place line (is_tracked s h)) h;
-    hands = λ s id h. tracking_sound s _ (id_tracked s.tracking id (is_tracked s h)) h;
+    hands = λ s id h. tracking_sound s _ (act_tracked s.tracking (handed_in id) tt (is_tracked s h)) h;
     ticks = sound_ticked;
     opens = λ s address may own h. sound_opened s address may h;
     closes = sound_closed;

@@ -1,5 +1,5 @@
 -- Sound UPSs, and what keeps them so.
-use Rattle.std.proofs.Common.{◌≡◌, ◌≤◌, ◌+◌, ℕ, zero, suc, Bool, true, false, List, [], ◌∷◌, ◌++◌, Option, Some, None, Result, refl, ◌∙◌, ap, subst, cond, map, length, replicate, take, drop, length-append, length-drop, arith}
+use Rattle.std.proofs.Common.{◌≡◌, ◌≤◌, ◌+◌, ℕ, zero, suc, Bool, true, false, List, [], ◌∷◌, ◌++◌, Option, Some, None, Result, refl, ◌∙◌, ap, subst, cond, map, length, replicate, take, drop, length-append, length-drop, arith, rules}
 use Rattle.std.proofs.Math.Seq.{drop-nil}
 use Rattle.std.proofs.lemmas.Bool.{leb-false}
 use Rattle.nutwords.specs.declared.limits.TheConstants.{LINE_LIMIT, LINE_ROOM}
@@ -14,8 +14,9 @@ use Rattle.nutdriver.specs.Report.{after_reading, after_line as report_after_lin
 use Rattle.nutdriver.specs.Sound.{IsSoundTree, EachLineKeepsTheTreeSound}
 use Rattle.nutcore.proofs.Common.{never_both, cond_both, TrackingState, Change, changed_at}
 use Rattle.nutcore.specs.declared.TheConstants.{DRIVER_OWED_LIMIT}
-use Rattle.nutcore.specs.Lines.{whole_lines, unfinished_after, is_too_long}
-use Rattle.nutcore.specs.Reports.{end_in, with_end, is_unawaited}
+use Rattle.nutwords.specs.WholeLines.{whole_lines, unfinished_after, is_too_long}
+use Rattle.nutdriver.specs.Report.{end_in}
+use Rattle.nutcore.specs.Reports.{with_end, is_unawaited}
 use Rattle.nutcore.specs.Ups.{UpsState, new_ups, after_connecting, after_loss, with_fsd, with_order, ping_is_due, ping_line, after_tick, is_refused, after_outcome, after_text, after_texts, with_unfinished}
 use Rattle.nutcore.specs.Reply.{changed_upses}
 use Rattle.nutcore.specs.Promises.{TakesLine, OrderFits}
@@ -110,7 +111,7 @@ sound_tick ma m now x later h =
     cond_both (ping_is_due ma now x) pinged x (IsSoundUps now) (λ e. let due = due_parts ma now x e in (sound_there now pinged h.tree stays.heard (omega arith) (omega (arith, due.1, length-append x.owed ping_line)) h.unfinished due.0).is) (λ e. stays)
 
 sound_fsd : (m : ℕ) (x : UpsState) → IsSoundUps m x → IsSoundUps m (with_fsd x)
-sound_fsd m x h = record { tree = h.tree; heard = h.heard; pinged = h.pinged; owed = h.owed; unfinished = h.unfinished; lost = λ e. ap with_fsd (h.lost e) }
+sound_fsd m x h = let lost = λ (e : x.report.connected ≡ false). ap with_fsd (h.lost e) in search rules
 
 sound_order : (m : ℕ) (line : List ℕ) (x : UpsState) → TakesLine line x → IsSoundUps m x → IsSoundUps m (with_order line x)
 sound_order m line x takes h =

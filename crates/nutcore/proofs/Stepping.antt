@@ -5,14 +5,14 @@ use Rattle.std.proofs.lemmas.Bool.{cond_both, cond-true, cond-false, ne_eqb, ltb
 use Rattle.std.proofs.lemmas.List.{take-append-drop}
 use Rattle.nutcore.proofs.Common.{Event, Outcome, SessionState, ServerState, session, with_session_changed, Run}
 use Rattle.nutwords.specs.Text.{with_lf}
-use Rattle.nutcore.specs.Lines.{rest_after}
+use Rattle.nutwords.specs.SplitLine.{rest_after}
 use Rattle.nutcore.specs.Session.{find, without, new_session}
 use Rattle.nutcore.specs.Reply.{reply, too_long_notice}
 use Rattle.nutcore.specs.Pump.{next_line_for, answered, after_line, is_overlong, notified, owed_of}
 use Rattle.nutcore.specs.Step.{accepted_bytes, joined, with_input, taken_from, without_output, may_take, may_open, pumped_until, opened, after_by}
 use Rattle.nutcore.specs.History.{Execution, of_line, of_notice, executions_until, of_client, answers, taken, asked, executed, texts_of, lines_of, text_of, line_of}
 use Rattle.nutcore.specs.Headline.{IsLawful, SentAndOwed, TakenUp}
-use Rattle.nutcore.proofs.FirstLine.{first_line_splits}
+use Rattle.nutwords.proofs.PublicLaws.{first_line_and_the_rest_are_all}
 use Rattle.nutcore.proofs.Changes.{keeps}
 use Rattle.nutcore.proofs.Changed.{at_client, presence_changed, presence_other}
 use Rattle.nutcore.proofs.Progress.{Presence, is_at, presence_is, presence, Progress, IsKept, joins, stays, moves, closes, stays_away, opens}
@@ -40,7 +40,7 @@ own_line c s line h =
     let text : List ℕ = (reply s c line) in
     let y : SessionState = answered line text x in
     let kept = keeps (change_at s c line) y in
-    let split = append-nil x.held ∙ first_line_splits x.held line n.first in
+    let split = append-nil x.held ∙ first_line_and_the_rest_are_all x.held line n.first in
     progress_at (presence c s) (at_client s c (Some x)) (presence c (after_line s c)) (at_client s c (Some (session_after s c line x))) (text ++ []) [] [] (with_lf line ++ [])
     (ap (at_client s c) n.found) (own_after_line s c line x n.found h)
     (progress_with _ _ (text ++ []) text [] [] (with_lf line ++ []) (with_lf line) (append-nil text) (append-nil (with_lf line))

@@ -9,8 +9,9 @@ use Rattle.nuttracking.specs.Tracking.{nothing_tracked, progress_of}
 use Rattle.nuttracking.proofs.PublicLaws.{nothing_is_sound, acts_keep_it_sound, first_in_first_out, the_last_are_kept, its_driver_settles_it_once}
 use Rattle.nutcore.proofs.Common.{option_map_or, flat_map-append, UpsId, TrackingState, Change, Event, Outcome, UpsState, ServerState, session, ups_at, after}
 use Rattle.nutcore.specs.declared.event.Event.TheVariants.{DriverBytes, Open, Feed, Took}
-use Rattle.nutcore.specs.Lines.{whole_lines}
-use Rattle.nutcore.specs.Reports.{OrderEnd, end_in, with_end, after_ends}
+use Rattle.nutwords.specs.WholeLines.{whole_lines}
+use Rattle.nutdriver.specs.Report.{OrderEnd, end_in}
+use Rattle.nutcore.specs.Reports.{with_end, after_ends}
 use Rattle.nutcore.specs.Reply.{changed_tracking}
 use Rattle.nutcore.specs.Pump.{notified}
 use Rattle.nutcore.specs.Step.{joined, with_input, taken_from, without_output, may_take, pumped_until, ticked, after_by, refused_after}

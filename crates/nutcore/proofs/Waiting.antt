@@ -15,7 +15,7 @@ use Rattle.nutanswer.specs.Command.{read_command}
 use Rattle.nutcore.specs.declared.TheConstants.{HELD_LIMIT}
 use Rattle.nutcore.specs.declared.event.Event.TheVariants.{Feed, Open}
 use Rattle.nutwords.specs.Text.{with_lf}
-use Rattle.nutcore.specs.Lines.{first_line}
+use Rattle.nutwords.specs.SplitLine.{first_line}
 use Rattle.nutcore.specs.Session.{SessionState, find, new_session}
 use Rattle.nutcore.specs.Server.{ServerState, session, with_session, with_session_changed}
 use Rattle.nutcore.specs.Reply.{seen, seen_client, asker_of, text_to, reply}

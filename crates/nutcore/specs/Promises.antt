@@ -24,11 +24,9 @@ use Rattle.nutanswer.specs.View.{Seen, AskerSeen, addresses_at}
 use Rattle.nutanswer.specs.declared.command.Command.{Command}
 use Rattle.nutanswer.specs.declared.err_word.ErrWord.{ErrWord}
 use Rattle.nutcore.specs.Session.{SessionState}
-use Rattle.nutcore.specs.Lines.{unfinished_after, is_too_long}
+use Rattle.nutwords.specs.WholeLines.{unfinished_after, is_too_long}
 use Rattle.nutdriver.specs.declared.report.LineOutcome.{LineOutcome}
-use Rattle.nutdriver.specs.declared.report.LineOutcome.TheVariants.{Tracked}
 use Rattle.nutdriver.specs.Report.{after_line}
-use Rattle.nutcore.specs.Reports.{OrderEnd}
 use Rattle.nutcore.specs.Ups.{UpsState, free_room, after_loss, with_unfinished}
 use Rattle.nutcore.specs.Step.{after_driver_line, after_driver_text, wants_driver_memory}
 use Rattle.nutusers.specs.declared.ups_list.UpsId.{UpsId}
@@ -78,11 +76,6 @@ DoesLine moment line old (Ok outcome) new =
 DoesLine moment line old (Err e) new =
     (line_changes old.report.tree line ≡ true)
     × (new ≡ record old { report = record old.report { heard = moment } })
-
--- What the outcome of a line says of an order.
-abbrev pub end_told : LineOutcome → Option OrderEnd
-end_told (Tracked id number) = Some (record { id = id; number = number })
-end_told _ = None
 
 -- What a driver's taking of n bytes leaves of its UPS: it took no more than it is owed, or nothing
 -- changed.

@@ -16,7 +16,6 @@ ghost use Rattle.nutcore.specs.Taking.{WhoTakesGetsEverything, WhoTakesAmongOthe
 ghost use Rattle.nutcore.specs.NotStuck.{WhoIsOwedLittleHasRoom, WhoEndsIsFinished};
 ghost use Rattle.nutcore.specs.Totals.{AServerIsBoundedInAll};
 ghost use Rattle.nutcore.specs.TakingSome.{WhoTakesSomeGetsEverything};
-ghost use Rattle.nutcore.specs.Lines.{WholeLinesAreTheCut};
 ghost use Rattle.nutcore.specs.DriverHistory.{WhatADriverToldIsExecuted};
 ghost use Rattle.nutcore.specs.DriverRuns.{WhatCameSinceConnectingIsExecuted, ALostDriversLinesAreABeginning, WhichLinesAreRefused, RefusedLinesAreCounted, ANewServerCountsAllRefusedLines};
 ghost use Rattle.nutcore.specs.FreshRuns.{TheMomentIsTheGreatestTick, WhateverIsToldIsFresh, WhatADriverSetLastIsHeld};
@@ -200,12 +199,6 @@ pub fn the_answers_of_a_run_are_cut_in_one_way()
     each_line_keeps_the_tree_sound();
     read_lines_are_lawful();
 }
-
-/// The whole lines of what a driver reported, and what is after them, are those into which each text is cut, and of which it
-/// has one list alone.
-pub fn whole_lines_are_the_cut()
-    ensures { WholeLinesAreTheCut }
-{}
 
 /// The drivers' half: while a driver isn't lost, what was unfinished of it, followed by all that came from it in a run, is
 /// its executed lines, followed by what is unfinished; its report is what these lines made of it, in order, each at its

@@ -1,6 +1,6 @@
 //! Lines: in a run of bytes, and as they are read.
 ghost use Rattle.std.specs.Prelude.{◌≡◌, ◌≤◌, ◌<◌, drop, take, vec_len, vec_capacity, length, MatchOption, None, Some};
-ghost use Rattle.nutcore.specs.Lines.{first_line};
+ghost use Rattle.nutwords.specs.SplitLine.{first_line};
 
 use bstr::ByteSlice;
 use nutanswer::{Command, ErrWord};

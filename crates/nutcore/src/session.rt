@@ -2,7 +2,7 @@
 ghost use Rattle.std.specs.Prelude.{◌≡◌, ◌≤◌, ◌<◌, ◌-◌, ◌++◌, ℕ, List, length, take, IfOk, true, false, Some, None, [], ◌∷◌, if◌then◌else◌};
 ghost use Rattle.std.specs.Option.{option_map};
 ghost use Rattle.nutcore.specs.Session.{new_session, begin_ending};
-ghost use Rattle.nutcore.specs.Lines.{first_line};
+ghost use Rattle.nutwords.specs.SplitLine.{first_line};
 ghost use Rattle.nutcore.specs.Pump.{next_line, answered, holds_overlong, with_notice};
 ghost use Rattle.nutcore.specs.Step.{joined, accepted, taken_from};
 ghost use Rattle.nutlisting.specs.Items.{text_of, client_listing};

@@ -1,5 +1,5 @@
-use Rattle.nutcore.proofs.FirstLine.{found_end}
+use Rattle.nutwords.proofs.PublicLaws.{first_lf_ends_the_first_line}
 use Rattle.nutcore.proofs.lines.line_end.Goals as goal
 
 pub returns : goal.returns
-returns c = found_end c.find_byte.result c.args.bytes.now c.find_byte.ensures
+returns c = first_lf_ends_the_first_line c.args.bytes.now c.find_byte.result c.find_byte.ensures

@@ -6,7 +6,8 @@ use Rattle.nutcore.specs.Server.{ServerState, ups_at, with_tracking}
 use Rattle.nutcore.specs.Ups.{UpsState, is_refused, with_faulty_line}
 use Rattle.nutcore.specs.Reports.{with_end, is_unawaited}
 use Rattle.nutcore.specs.Calls.{is_connected}
-use Rattle.nutcore.specs.Promises.{front_or, DoesLine, ExecutesDriverLine, end_told}
+use Rattle.nutdriver.specs.Report.{end_told}
+use Rattle.nutcore.specs.Promises.{front_or, DoesLine, ExecutesDriverLine}
 use Rattle.nutcore.proofs.DriverSteps.{is_there, there_within, connected_as, connected_at}
 use Rattle.nutcore.proofs.UpsPlaces.{of_ups, left_at, changed_to}
 use Rattle.nutcore.proofs.DriverLoops.{executes, lacks}
