@@ -1,6 +1,6 @@
 -- What a driver reported is executed.
 use Rattle.std.proofs.Common.{◌≡◌, ◌∙◌, ◌+◌, ℕ, true, false, List, [], ◌∷◌, ◌++◌, Option, Some, None, refl, sym, ap, subst, min, append_assoc, append-nil, arith}
-use Rattle.nutcore.proofs.Common.{option_map_or, flat_map-append, same_Some, UpsId, Event, Outcome, ServerState, ups_at, after, Run}
+use Rattle.nutcore.proofs.Common.{option_map, option_map_or, flat_map-append, same_Some, UpsId, Event, Outcome, ServerState, ups_at, after, Run}
 use Rattle.nutdriver.specs.declared.report.Report.{Report}
 use Rattle.nutdriver.specs.Report.{after_line}
 use Rattle.nutwords.specs.Text.{with_lf}
@@ -9,7 +9,8 @@ use Rattle.nutcore.specs.DriverHistory.{Heard, heard_in_event, heard, bytes_hear
 use Rattle.nutcore.proofs.UpsPlaces.{read_off}
 use Rattle.nutcore.proofs.DriverChanges.{count_is_few, both_counts}
 use Rattle.nutcore.proofs.Events.{each}
-use Rattle.nutcore.proofs.DriverSteps.{IsThere}
+use Rattle.nutcore.specs.Calls.{is_connected}
+use Rattle.nutcore.proofs.DriverSteps.{IsThere, is_there}
 use Rattle.nutcore.proofs.SoundUps.{each_join}
 
 pub has_it : (u : UpsId) (s : ServerState) (x : UpsState) → ups_at u.place s ≡ Some x → has_driver u s ≡ x.report.connected
@@ -46,11 +47,10 @@ heard_both x y z a b ls ms f g = record {
 }
 
 driver_there : (u : UpsId) (s : ServerState) → has_driver u s ≡ true → IsThere s u true
-driver_there u s h = by_ups (ups_at u.place s) refl
+driver_there u s h = is_there s u true (of_some (ups_at u.place s) h)
   where
-    by_ups : (o : Option UpsState) → ups_at u.place s ≡ o → IsThere s u true
-    by_ups None e = let never : false ≡ true = ap (λ (o : Option UpsState). option_map_or (λ (y : UpsState). y.report.connected) o false) (sym e) ∙ h in cc never
-    by_ups (Some x) e = record { ups = x; there = e; is = sym (has_it u s x e) ∙ h }
+    of_some : (o : Option UpsState) → option_map_or (λ (y : UpsState). y.report.connected) o false ≡ true → option_map is_connected o ≡ Some true
+    of_some o e = grind arith
 
 pub first_stays : (u : UpsId) (s : ServerState) (es : List Event) (os : List Outcome) → StaysConnected u s es os → has_driver u s ≡ true
 first_stays u s (e ∷ es) (o ∷ os) h = h.0

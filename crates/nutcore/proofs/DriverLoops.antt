@@ -37,6 +37,7 @@ use Rattle.nutcore.specs.Promises.{front_or, IsCut, ChangesUps, OfUps, DoesLine,
 use Rattle.nutcore.proofs.UpsPlaces.{Stands, of_ups, at_changed, server_agree, server_twice, changed_to, left_at}
 use Rattle.nutcore.proofs.DriverSteps.{is_there, connected_as, connected_at}
 use Rattle.nutcore.proofs.DriverChanges.{line_leaves}
+use Rattle.nutcore.proofs.KeptSound.{of_call, line_stays}
 use Rattle.nutwords.proofs.PublicLaws.{whole_lines_are_the_cut, rest_is_that_behind_the_first, found_line_is_first, rest_is_unfinished, rest_is_overlong, one_cutting}
 use Rattle.nutdriver.proofs.PublicLaws.{what_is_told_of_an_order_is_read}
 
@@ -203,39 +204,78 @@ pub told_kept : (u : UpsId) (text : List ℕ) (old s : ServerState) (r : Result 
 told_kept u text old s (Ok v) went stopped = stopped
 told_kept u text old s (Err fault) went stopped = cc went
 
--- What a line does to a UPS, said of the server: it is done, and is counted where it is refused.
-pub executes : (u : UpsId) (line : List ℕ) (s mid t : ServerState) (x y : UpsState) (outcome : LineOutcome) (b : Bool) → ups_at u.place s ≡ Some x → DoesLine s.moment line x (Ok outcome) y
-    → mid ≡ with_tracking (with_end u.place (end_told outcome) s.tracking) (with_ups_changed (λ z. y) u s) → b ≡ is_refused (is_unawaited u.place (end_told outcome) s.tracking) outcome
-    → t ≡ cond b (with_ups_changed with_faulty_line u mid) mid → ExecutesDriverLine u line x s (Ok tt) t
-unfolding after_driver_line
-executes u line s mid t x y outcome b there (is, leaves) told refused counted =
-    let r : Report × LineOutcome = after_line s.moment x.report line in
-    let read : end_told outcome ≡ end_in line = ap end_told is ∙ what_is_told_of_an_order_is_read s.moment x.report line in
-    let unawaited : Bool = is_unawaited u.place (end_in line) s.tracking in
-    let next : TrackingState = with_end u.place (end_in line) s.tracking in
-    let done : UpsState = record (with_unfinished [] x) { report = r.0 } in
-    let w : UpsState = cond b (with_faulty_line y) y in
-    let does : UpsState → UpsState = λ z. after_text s.moment unawaited (with_unfinished [] z) line in
-    let by : b ≡ is_refused unawaited r.1 = refused ∙ ap (λ (o : Option OrderEnd). is_refused (is_unawaited u.place o s.tracking) outcome) read ∙ ap (is_refused unawaited) is in
-    let same : w ≡ does x = ap (λ (z : UpsState). cond b (with_faulty_line z) z) leaves ∙ ap (λ (c : Bool). cond c (with_faulty_line done) done) by in
-    counted
-    ∙ ap (λ (v : ServerState). cond b (with_ups_changed with_faulty_line u v) v) (told ∙ ap (λ (o : Option OrderEnd). with_tracking (with_end u.place o s.tracking) (with_ups_changed (λ z. y) u s)) read)
-    ∙ by_refusal next b
-    ∙ ap (with_tracking next) (server_agree s u (λ z. w) does (of_ups s u x (λ z. w ≡ does z) there same) ∙ sym (server_twice (with_unfinished []) (λ z. after_text s.moment unawaited z line) u s))
-  where
-    by_refusal : (next : TrackingState) (c : Bool) → let v : ServerState = with_tracking next (with_ups_changed (λ z. y) u s) in
-        cond c (with_ups_changed with_faulty_line u v) v ≡ with_tracking next (with_ups_changed (λ z. cond c (with_faulty_line y) y) u s)
-    by_refusal next true = ap (with_tracking next) (server_twice (λ z. y) with_faulty_line u s)
-    by_refusal next false = refl
+-- What a line did to the UPS of its driver, said of the server.
+pub record HasDone (u : UpsId) (length : Option ℕ) (piece : List ℕ) (s : ServerState) (r : Result LineOutcome AllocError) (t : ServerState) : Type 0 where
+  pub before : UpsState
+  pub after : UpsState
+  pub there : ups_at u.place s ≡ Some before
+  pub does : DoesLine s.moment (front_or length piece before.unfinished) before r after
+  pub leaves : t ≡ with_ups_changed (λ z. after) u s
+  pub connected : option_map is_connected (ups_at u.place t) ≡ Some true
 
-pub lacks : (u : UpsId) (line : List ℕ) (s t : ServerState) (x y : UpsState) (e : AllocError) → ups_at u.place s ≡ Some x → DoesLine s.moment line x (Err e) y → t ≡ with_ups_changed (λ z. y) u s → ExecutesDriverLine u line x s (Err e) t
-lacks u line s t x y e there (changes, heard) leaves = (
-  changes,
-  ap (with_ups_changed after_loss u) leaves ∙ server_twice (λ z. y) after_loss u s ∙ server_agree s u (λ z. after_loss y) after_loss (of_ups s u x (λ z. after_loss y ≡ after_loss z) there (ap after_loss heard)),
-)
+pub has_done : {F : Type 0} {g : Once F (MutBor UpsState × Unit {0}) (Result LineOutcome AllocError × (MutBor UpsState × Unit {0}))} {f : F} {u : UpsId} {s t : ServerState} {r : Result LineOutcome AllocError} (v : ServerState) (length : Option ℕ) (piece : List ℕ) → v ≡ s
+    → option_map is_connected (ups_at u.place s) ≡ Some true → (d : ChangesUps g f u s r t) → DoesLine v.moment (front_or length piece d.called.shown.now.unfinished) d.called.shown.now r d.called.left.now → HasDone u length piece s r t
+has_done {u = u} {s = s} {t = t} {r = r} v length piece same connected d did =
+    let line : List ℕ = front_or length piece d.before.unfinished in
+    let does : DoesLine s.moment line d.before r d.after = subst (λ (z : ServerState). DoesLine z.moment line d.before r d.after) same (of_call (λ x y. DoesLine v.moment (front_or length piece x.unfinished) x r y) d.called did) in
+    record { before = d.before; after = d.after; there = d.there; does = does; leaves = d.leaves; connected = line_stays s t u s.moment line d.before d.after r connected d.there does d.leaves }
+
+module _ {u : UpsId} {length : Option ℕ} {piece : List ℕ} {s t : ServerState} {r : Result LineOutcome AllocError} (h : HasDone u length piece s r t) where
+  abbrev line : List ℕ
+  line = front_or length piece h.before.unfinished
+
+  -- It is done, and is counted where it is refused.
+  pub executes : (mid after : ServerState) (outcome : LineOutcome) (b : Bool) → r ≡ Ok outcome → mid ≡ with_tracking (with_end u.place (end_told outcome) t.tracking) t → b ≡ is_refused (is_unawaited u.place (end_told outcome) t.tracking) outcome
+      → after ≡ cond b (with_ups_changed with_faulty_line u mid) mid → OfUps u s (λ x. ExecutesDriverLine u (front_or length piece x.unfinished) x s (Ok tt) after)
+  unfolding after_driver_line
+  executes mid after outcome b was told refused counted =
+      let x : UpsState = h.before in
+      let y : UpsState = h.after in
+      let (is, leaves) = subst (λ (q : Result LineOutcome AllocError). DoesLine s.moment line x q y) was h.does in
+      let done : Report × LineOutcome = after_line s.moment x.report line in
+      let read : end_told outcome ≡ end_in line = ap end_told is ∙ what_is_told_of_an_order_is_read s.moment x.report line in
+      let unawaited : Bool = is_unawaited u.place (end_in line) s.tracking in
+      let next : TrackingState = with_end u.place (end_in line) s.tracking in
+      let z : UpsState = record (with_unfinished [] x) { report = done.0 } in
+      let w : UpsState = cond b (with_faulty_line y) y in
+      let does : UpsState → UpsState = λ z. after_text s.moment unawaited (with_unfinished [] z) line in
+      let by : b ≡ is_refused unawaited done.1 = refused ∙ ap (λ (v : ServerState). is_refused (is_unawaited u.place (end_told outcome) v.tracking) outcome) h.leaves ∙ ap (λ (o : Option OrderEnd). is_refused (is_unawaited u.place o s.tracking) outcome) read ∙ ap (is_refused unawaited) is in
+      let same : w ≡ does x = ap (λ (v : UpsState). cond b (with_faulty_line v) v) leaves ∙ ap (λ (c : Bool). cond c (with_faulty_line z) z) by in
+      of_ups s u x (λ v. ExecutesDriverLine u (front_or length piece v.unfinished) v s (Ok tt) after) h.there (
+      counted
+      ∙ ap (λ (v : ServerState). cond b (with_ups_changed with_faulty_line u v) v)
+      (told ∙ ap (λ (v : ServerState). with_tracking (with_end u.place (end_told outcome) v.tracking) v) h.leaves ∙ ap (λ (o : Option OrderEnd). with_tracking (with_end u.place o s.tracking) (with_ups_changed (λ z. y) u s)) read)
+      ∙ by_refusal y next b
+      ∙ ap (with_tracking next) (server_agree s u (λ z. w) does (of_ups s u x (λ z. w ≡ does z) h.there same) ∙ sym (server_twice (with_unfinished []) (λ z. after_text s.moment unawaited z line) u s)))
+    where
+      by_refusal : (y : UpsState) (next : TrackingState) (c : Bool) → let v : ServerState = with_tracking next (with_ups_changed (λ z. y) u s) in
+          cond c (with_ups_changed with_faulty_line u v) v ≡ with_tracking next (with_ups_changed (λ z. cond c (with_faulty_line y) y) u s)
+      by_refusal y next true = ap (with_tracking next) (server_twice (λ z. y) with_faulty_line u s)
+      by_refusal y next false = refl
+
+  -- Or memory was refused.
+  pub lacks : (e : AllocError) → r ≡ Err e → OfUps u s (λ x. ExecutesDriverLine u (front_or length piece x.unfinished) x s (Err e) t)
+  lacks e was =
+      let (changes, heard) = subst (λ (q : Result LineOutcome AllocError). DoesLine s.moment line h.before q h.after) was h.does in
+      of_ups s u h.before (λ v. ExecutesDriverLine u (front_or length piece v.unfinished) v s (Err e) t) h.there (
+        changes,
+        ap (with_ups_changed after_loss u) h.leaves ∙ server_twice (λ z. h.after) after_loss u s ∙ server_agree s u (λ z. after_loss h.after) after_loss (of_ups s u h.before (λ z. after_loss h.after ≡ after_loss z) h.there (ap after_loss heard)),
+      )
+
+-- Its driver stays connected where an order is settled, and where the line is counted.
+pub settled_stays : (u : UpsId) (s t : ServerState) (k : TrackingState) → t ≡ with_tracking k s → option_map is_connected (ups_at u.place s) ≡ Some true → option_map is_connected (ups_at u.place t) ≡ Some true
+settled_stays u s t k settled connected = ap (λ (z : ServerState). option_map is_connected (ups_at u.place z)) settled ∙ connected
+
+pub counted_stays : (u : UpsId) (s t : ServerState) → t ≡ with_ups_changed with_faulty_line u s → option_map is_connected (ups_at u.place s) ≡ Some true → option_map is_connected (ups_at u.place t) ≡ Some true
+counted_stays u s t counted connected =
+    let is = is_there s u true connected in
+    connected_at t u (with_faulty_line is.ups) (ap (ups_at u.place) counted ∙ at_changed with_faulty_line u.place s.upses is.ups is.there) is.is
 
 -- What a UPS does that looked for its next line.
-module _ {F R : Type 0} {g : Once F (MutBor UpsState × Unit {0}) (R × (MutBor UpsState × Unit {0}))} {f : F} {u : UpsId} {s mid : ServerState} {r : R} (piece : List ℕ) (found : Found) (d : ChangesUps g f u s r mid) (cut : IsCut piece d.before found d.after) where
+module _ {F R : Type 0} {g : Once F (MutBor UpsState × Unit {0}) (R × (MutBor UpsState × Unit {0}))} {f : F} {u : UpsId} {s mid : ServerState} {r : R} (piece : List ℕ) (found : Found) (d : ChangesUps g f u s r mid) (looked : IsCut piece d.called.shown.now found d.called.left.now) where
+  cut : IsCut piece d.before found d.after
+  cut = of_call (λ x y. IsCut piece x found y) d.called looked
+
   holds : mid ≡ with_ups_changed (with_unfinished d.after.unfinished) u s
   holds = changed_to s mid u (with_unfinished d.after.unfinished) d.before d.after d.there cut.leaves d.leaves
 
@@ -246,19 +286,21 @@ module _ {F R : Type 0} {g : Once F (MutBor UpsState × Unit {0}) (R × (MutBor 
   still_connected connected = connected_at mid u d.after there (ap (λ (z : UpsState). z.report.connected) cut.leaves ∙ connected_as s u d.before (is_there s u true connected) d.there)
 
   -- It is done, or memory was refused.
-  pub reads_done : (length : Option ℕ) (done used : ℕ) (t : ServerState) → FindsLine d.before.unfinished piece (front_or length piece d.after.unfinished) used
-      → OfUps u mid (λ y. ExecutesDriverLine u (front_or length piece y.unfinished) y mid (Ok tt) t) → OfUps u s (λ x. ReadsDriverLine u piece done x s (Ok (Some used)) t)
-  reads_done length done used t finds does =
-      let line : List ℕ = front_or length piece d.after.unfinished in
-      of_ups s u d.before (λ x. ReadsDriverLine u piece done x s (Ok (Some used)) t) d.there (line, finds, does d.after there ∙ ap (after_driver_line u line) (ap (holding_nothing u) holds ∙ server_twice (with_unfinished d.after.unfinished) (with_unfinished []) u s))
+  module _ (length : Option ℕ) (done used : ℕ) (t : ServerState) (finds : Finds d.before.unfinished piece found d.after.unfinished → FindsLine d.before.unfinished piece (front_or length piece d.after.unfinished) used) where
+    abbrev next : List ℕ
+    next = front_or length piece d.after.unfinished
 
-  pub reads_lacking : (length : Option ℕ) (done used : ℕ) (t : ServerState) (e : AllocError) → FindsLine d.before.unfinished piece (front_or length piece d.after.unfinished) used
-      → OfUps u mid (λ y. ExecutesDriverLine u (front_or length piece y.unfinished) y mid (Err e) t) → OfUps u s (λ x. ReadsDriverLine u piece done x s (Err (Memory done)) t)
-  reads_lacking length done used t e finds does =
-      let line : List ℕ = front_or length piece d.after.unfinished in
-      let lacks = does d.after there in
-      let changes = ap (λ (z : UpsState). line_changes z.report.tree line) (sym cut.leaves) ∙ lacks.0 in
-      of_ups s u d.before (λ x. ReadsDriverLine u piece done x s (Err (Memory done)) t) d.there (refl, line, used, finds, changes, lacks.1 ∙ ap (with_ups_changed after_loss u) holds ∙ server_twice (with_unfinished d.after.unfinished) after_loss u s)
+    pub reads_done : OfUps u mid (λ y. ExecutesDriverLine u (front_or length piece y.unfinished) y mid (Ok tt) t) → OfUps u s (λ x. ReadsDriverLine u piece done x s (Ok (Some used)) t)
+    reads_done does =
+        of_ups s u d.before (λ x. ReadsDriverLine u piece done x s (Ok (Some used)) t) d.there
+        (next, finds cut.finds, does d.after there ∙ ap (after_driver_line u next) (ap (holding_nothing u) holds ∙ server_twice (with_unfinished d.after.unfinished) (with_unfinished []) u s))
+
+    pub reads_lacking : (e : AllocError) → OfUps u mid (λ y. ExecutesDriverLine u (front_or length piece y.unfinished) y mid (Err e) t) → OfUps u s (λ x. ReadsDriverLine u piece done x s (Err (Memory done)) t)
+    reads_lacking e does =
+        let lacks = does d.after there in
+        let changes = ap (λ (z : UpsState). line_changes z.report.tree next) (sym cut.leaves) ∙ lacks.0 in
+        of_ups s u d.before (λ x. ReadsDriverLine u piece done x s (Err (Memory done)) t) d.there
+        (refl, next, used, finds cut.finds, changes, lacks.1 ∙ ap (with_ups_changed after_loss u) holds ∙ server_twice (with_unfinished d.after.unfinished) after_loss u s)
 
   -- None is whole.
   pub reads_none : (result : Result (Option ℕ) Fault) (done : ℕ) → ((kept : List ℕ) × Finds d.before.unfinished piece found kept × (mid ≡ with_ups_changed (with_unfinished kept) u s) → ReadsDriverLine u piece done d.before s result mid)

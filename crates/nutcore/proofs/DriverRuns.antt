@@ -148,11 +148,11 @@ which_are_refused = record { refused = is; only = λ moment report line fault h.
     by_step : (moment : ℕ) (report : Report) (line : List ℕ) (fault : DriverFault) (said : DriverLine) → read_driver_line line ≡ Ok said → (r : Result (TreeState × Effect) DriverFault) → driver_step report.tree said ≡ r → (after_step (at moment report) r).1 ≡ Refused fault → IsRefusedFor report line fault
     by_step moment report line fault said read (Ok (tree, Tracked id number)) e h = cc h
     by_step moment report line fault said read (Ok (tree, effect)) e h = cc h
-    by_step moment report line fault said read (Err f) e h = let same : f ≡ fault = cc h in inr (said, read, subst (λ (g : DriverFault). driver_step report.tree said ≡ Err g) same e)
+    by_step moment report line fault said read (Err f) e h = inr (said, read, (cc))
 
     by_reading : (moment : ℕ) (report : Report) (line : List ℕ) (fault : DriverFault) (r : Result DriverLine DriverFault) → read_driver_line line ≡ r → (after_reading (at moment report) r).1 ≡ Refused fault → IsRefusedFor report line fault
     by_reading moment report line fault (Ok said) e h = by_step moment report line fault said e (driver_step report.tree said) refl h
-    by_reading moment report line fault (Err f) e h = let same : f ≡ fault = cc h in inl (subst (λ (g : DriverFault). read_driver_line line ≡ Err g) same e)
+    by_reading moment report line fault (Err f) e h = inl (cc)
 
 -- they are counted
 run_counts : (old new : ServerState) (es : List Event) (os : List Outcome) (u : UpsId) (x : UpsState) → ups_at u.place old ≡ Some x → x.faulty ≤ greatest_count → Run old es os new → count_of u new ≡ min (x.faulty + refused_lines u old es os) greatest_count

@@ -41,9 +41,7 @@ record IsTimed (tick : ℕ) (s t : ServerState) : Type 0 where
   max_age : t.max_age ≡ s.max_age
 
 kept_timed : (s t : ServerState) → kept_from_clients t ≡ kept_from_clients s → IsTimed 0 s t
-kept_timed s t kept =
-    let moment : t.moment ≡ s.moment = ap (λ (z : ServerState). z.moment) kept in
-    record { moment = omega (arith, moment); max_age = ap (λ (z : ServerState). z.max_age) kept }
+kept_timed s t kept = let moment = ap (λ (z : ServerState). z.moment) kept in record { moment = omega (arith, moment); max_age = ap (λ (z : ServerState). z.max_age) kept }
 
 no_tick : (e : Event) (u : UpsId) → ups_of e ≡ Some u → tick_of e ≡ 0
 no_tick e u h = grind arith

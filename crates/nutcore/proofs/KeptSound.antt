@@ -18,11 +18,11 @@ use Rattle.nuttracking.specs.Tracking.{TrackingState}
 use Rattle.nutcore.specs.Reply.{changed_session, changed_upses, changed_tracking}
 use Rattle.nutcore.specs.Pump.{next_line, answered, with_notice}
 use Rattle.nutcore.specs.Step.{joined, taken_from}
-use Rattle.nutcore.specs.Promises.{IsTaken, IsCut, DoesLine, IsAt, OrderFits}
+use Rattle.nutcore.specs.Promises.{IsTaken, IsCut, DoesLine, IsAt, OrderFits, ChangesUps}
 use Rattle.nutcore.specs.Sound.{Each, IsSoundSession, IsSoundUps, IsSound}
 use Rattle.nutcore.specs.Calls.{is_connected}
 use Rattle.nutcore.proofs.DriverSteps.{is_there, connected_as, connected_at}
-use Rattle.nutcore.proofs.UpsPlaces.{of_ups, left_at, server_set}
+use Rattle.nutcore.proofs.UpsPlaces.{of_ups, left_at, changed_to, server_set}
 use Rattle.nutcore.proofs.Changes.{of_tracking}
 use Rattle.nuttracking.specs.Acts.Act.{ordered}
 use Rattle.nutcore.proofs.Tracked.{IsTracked, act_tracked}
@@ -70,6 +70,10 @@ ups_kept v u x y there keeps h =
 -- what a call does to a UPS is said of what it was lent and left
 pub of_call : {F R : Type 0} {g : Once F (MutBor UpsState × Unit {0}) (R × (MutBor UpsState × Unit {0}))} {f : F} {x y : UpsState} {r : R} (P : UpsState → UpsState → Type 0) (called : FnOnceReturnsAtMut g f x r y) → P called.shown.now called.left.now → P x y
 of_call {y = y} P called p = subst (λ (z : UpsState). P z y) called.shows (subst (P called.shown.now) called.leaves p)
+
+-- so a call that puts a UPS so changes the server so
+pub changed_by : {F R : Type 0} {g : Once F (MutBor UpsState × Unit {0}) (R × (MutBor UpsState × Unit {0}))} {f : F} {u : UpsId} {s t : ServerState} {r : R} (d : ChangesUps g f u s r t) (h : UpsState → UpsState) → d.called.left.now ≡ h d.called.shown.now → t ≡ with_ups_changed h u s
+changed_by {u = u} {s = s} {t = t} d h is = changed_to s t u h d.before d.after d.there (of_call (λ x y. y ≡ h x) d.called is) d.leaves
 
 -- an answer changes the UPSs
 pub upses_kept : (v : ServerState) (change : Change) (xs : List UpsState) → xs ≡ changed_upses change v.upses → OrderFits change v.upses → IsSound v →

@@ -84,16 +84,12 @@ sound_counted m unawaited x r h =
 
 -- bytes are taken from what is owed
 pub sound_fewer : (m n : ℕ) (x : UpsState) → IsSoundUps m x → IsSoundUps m (record x { owed = drop n x.owed })
-sound_fewer m n x h = record {
-  tree = h.tree;
-  heard = h.heard;
-  pinged = h.pinged;
-  owed = (let few = h.owed in omega (arith, few, length-drop n x.owed));
-  unfinished = h.unfinished;
-  lost = λ e.
-      ap (λ (y : UpsState). let z : UpsState = record y { owed = drop n y.owed } in z) (h.lost e)
-      ∙ ap (λ (bytes : List ℕ). let z : UpsState = record new_ups { fsd = x.fsd; faulty = x.faulty; owed = bytes } in z) (drop-nil n);
-}
+sound_fewer m n x h =
+    let owed : length (drop n x.owed) ≤ DRIVER_OWED_LIMIT = (let few = h.owed in omega (arith, few, length-drop n x.owed)) in
+    let lost = λ (e : x.report.connected ≡ false).
+    ap (λ (y : UpsState). let z : UpsState = record y { owed = drop n y.owed } in z) (h.lost e)
+    ∙ ap (λ (bytes : List ℕ). let z : UpsState = record new_ups { fsd = x.fsd; faulty = x.faulty; owed = bytes } in z) (drop-nil n) in
+    search rules
 
 pub sound_took : (m n : ℕ) (x : UpsState) → IsSoundUps m x → IsSoundUps m (after_driver_took n x)
 sound_took m n x h = cond_both (driver_may_take n x) _ x (IsSoundUps m) (λ e. sound_fewer m n x h) (λ e. h)
@@ -104,9 +100,7 @@ due_parts ma now x e = grind arith
 
 pub sound_tick : (ma m now : ℕ) (x : UpsState) → m ≤ now → IsSoundUps m x → IsSoundUps now (after_tick ma now x)
 sound_tick ma m now x later h =
-    let heard = h.heard in
-    let asked = h.pinged in
-    let stays : IsSoundUps now x = record { tree = h.tree; heard = omega (arith, heard, later); pinged = omega (arith, asked, later); owed = h.owed; unfinished = h.unfinished; lost = h.lost } in
+    let stays : IsSoundUps now x = search (rules, arith) in
     let pinged : UpsState = record x { pinged = now; owed = x.owed ++ ping_line } in
     cond_both (ping_is_due ma now x) pinged x (IsSoundUps now) (λ e. let due = due_parts ma now x e in (sound_there now pinged h.tree stays.heard (omega arith) (omega (arith, due.1, length-append x.owed ping_line)) h.unfinished due.0).is) (λ e. stays)
 
