@@ -1,6 +1,9 @@
 -- The driver's lines, one by one.
-use Rattle.std.proofs.Common.{None, ◌≡◌, ℕ, zero, suc, ◌+◌, ◌<◌, ◌≤◌, Bool, cond, true, false, List, [], ◌∷◌, ◌++◌, Option, Some, Result, Ok, Err, refl, sym, ◌∙◌, ap, subst, arith, length, take, drop, append-nil}
+use Rattle.std.proofs.Common.{None, ◌≡◌, ℕ, zero, suc, ◌+◌, ◌<◌, ◌≤◌, Bool, cond, true, false, List, [], ◌∷◌, ◌++◌, Option, Some, Result, Ok, Err, refl, sym, ◌∙◌, ap, subst, arith, length, length-drop, take, drop, get_or, append-nil}
+use Rattle.std.proofs.Math.Seq.{take-add, drop-cons}
+use Rattle.std.proofs.lemmas.List.{drop-drop}
 use Rattle.std.proofs.lemmas.List.Sums.{fold-append}
+use Rattle.std.proofs.lemmas.Option.{slice_get-get_or}
 use Rattle.std.specs.Prelude.{slice_get, is_err}
 use Rattle.std.specs.declared.alloc.AllocError.{AllocError}
 use denote.Ref.{MutBor}
@@ -43,13 +46,10 @@ use Rattle.nutdriver.proofs.PublicLaws.{what_is_told_of_an_order_is_read}
 
 -- one more of some lines
 pub one_more : {A : Type 0} (k : ℕ) (lines : List A) (line : A) (more : List A) → drop k lines ≡ line ∷ more → (take (k + 1) lines ≡ take k lines ++ line ∷ []) × (drop (k + 1) lines ≡ more) × (slice_get lines k ≡ Some line)
-one_more zero [] line more h = cc h
-one_more zero (x ∷ lines) line more h = let first : x ≡ line = cc h in let rest : lines ≡ more = cc h in (ap (λ z. z ∷ []) first, rest, ap (λ z. Some z) first)
-one_more (suc k) [] line more h = cc h
-one_more (suc k) (x ∷ lines) line more h =
-    let e : suc k + 1 ≡ suc (k + 1) = omega arith in
-    let n = one_more k lines line more h in
-    (ap (λ m. take m (x ∷ lines)) e ∙ ap (λ z. x ∷ z) n.0, ap (λ m. drop m (x ∷ lines)) e ∙ n.1, n.2)
+one_more k lines line more h =
+    let few : k < length lines = omega (arith, ap length h, length-drop k lines) in
+    let at : get_or lines k line ≡ line = cc (drop-cons lines k line few) in
+    (take-add k 1 lines ∙ ap (λ z. take k lines ++ take 1 z) h, sym (drop-drop 1 k lines) ∙ ap (drop 1) h, slice_get-get_or lines k line few ∙ ap Some at)
 
 pub no_more : {A : Type 0} (k : ℕ) (lines : List A) → drop k lines ≡ [] → take k lines ≡ lines
 no_more k lines h = sym (append-nil (take k lines)) ∙ ap (λ z. take k lines ++ z) (sym h) ∙ take-append-drop k lines

@@ -128,8 +128,8 @@ changed_so_far f p [] x lt e = absurd (omega arith)
 changed_so_far f zero (y ∷ xs) x lt e = ap (λ (z : UpsState). f z ∷ xs) e
 changed_so_far f (suc p) (y ∷ xs) x lt e = ap (λ (zs : List UpsState). f y ∷ zs) (changed_so_far f p xs x (omega (arith, lt)) e)
 
-pub ticked_is : (s : ServerState) (seconds moment : ℕ) (xs : List UpsState) → moment ≡ max seconds s.moment → xs ≡ map (after_tick s.max_age moment) s.upses → (let code : ServerState = record s { moment = moment; upses = xs } in code ≡ ticked seconds s)
+pub ticked_is : (s : ServerState) (seconds moment age : ℕ) (xs : List UpsState) → moment ≡ max seconds s.moment → age ≡ s.max_age → xs ≡ map (after_tick age moment) s.upses → (let code : ServerState = record s { moment = moment; upses = xs } in code ≡ ticked seconds s)
 unfolding ticked
-ticked_is s seconds moment xs em exs =
-    ap (λ (ys : List UpsState). let z : ServerState = record s { moment = moment; upses = ys } in z) exs
+ticked_is s seconds moment age xs em ea exs =
+    ap (λ (ys : List UpsState). let z : ServerState = record s { moment = moment; upses = ys } in z) (exs ∙ ap (λ (a : ℕ). map (after_tick a moment) s.upses) ea)
     ∙ ap (λ (m : ℕ). let z : ServerState = record s { moment = m; upses = map (after_tick s.max_age m) s.upses } in z) em

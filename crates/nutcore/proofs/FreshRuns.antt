@@ -188,7 +188,7 @@ module _ (told : WhatIsToldIsFresh) (opening : ANewServerIsSound) (keeps : Every
       (there_before t.server t.events_before t.outcomes_before u.place y t.reached was_at.there) t.reached in
       let same : stands.now ≡ y = same_Some stands.now y (sym stands.there ∙ was_at.there) in
       let connected : stands.now.report.connected ≡ true =
-      ap (λ (z : UpsState). z.report.connected) same ∙ ap (λ (z : UpsState). z.report.connected) was_at.is ∙ ap (λ (z : Report). z.connected) report ∙ fresh.connected in
+      ap (λ (z : UpsState). z.report.connected) (ap without_commands same ∙ was_at.is) ∙ ap (λ (z : Report). z.connected) report ∙ fresh.connected in
       let run = same_driver u t.events_before t.outcomes_before x stands.now (sym was_at.is ∙ ap without_commands (sym same)) (stands.connected connected) in
       let dumped : x.report.dumped ≡ true = ap (λ (z : Report). z.dumped) report ∙ fresh.dumped in
       let last = dumped_has_last run.server.moment (lines_since run) x.report run.connects.is_heard.report dumped in

@@ -108,7 +108,7 @@ module _ (empty : IsSoundTree empty_tree) (line_keeps : EachLineKeepsTheTreeSoun
   driver_line_kept m line x y (Ok outcome) does connected h =
       subst (IsSoundUps m) (sym does.1) (sound_report empty line_keeps m (with_unfinished [] x) line (sound_bytes m [] x (omega arith) (record { is = h; connected = connected }))).is
   driver_line_kept m line x y (Err e) does connected h =
-      subst (IsSoundUps m) (sym does.1) (record { tree = h.tree; heard = omega arith; pinged = h.pinged; owed = h.owed; unfinished = h.unfinished; lost = λ lost. never_both x.report.connected connected lost })
+      subst (IsSoundUps m) (sym does.1) (record { tree = h.tree; heard = omega arith; pinged = h.pinged; owed = h.owed; unfinished = h.unfinished; lost = never_both x.report.connected connected })
 
 pub driver_line_connected : (m : ℕ) (line : List ℕ) (x y : UpsState) (r : Result LineOutcome AllocError) → DoesLine m line x r y → y.report.connected ≡ x.report.connected
 driver_line_connected m line x y r does = grind arith

@@ -5,7 +5,7 @@ use Rattle.nutdriver.specs.Tree.{empty_tree}
 use Rattle.nutdriver.specs.Sound.{IsSoundTree, EachLineKeepsTheTreeSound, ReadLinesAreLawful}
 use Rattle.nutcore.proofs.Common.{never_both, ltb-true, cond_both, and_parts, length-map, length-replicate, same_Some, UpsId, Change, ServerState, changed_at, with_session, with_session_changed, with_ups_changed, with_tracking}
 use Rattle.std.proofs.lemmas.List.Elements.{All-nil}
-use Rattle.nuttracking.specs.Sound.{IsLawfulProgress}
+use Rattle.nuttracking.specs.Sound.{IsLawfulProgress, HaveLawfulNumbers}
 use Rattle.nuttracking.specs.Tracking.{TrackingState}
 use Rattle.nuttracking.proofs.PublicLaws.{nothing_is_sound}
 use Rattle.nuttracking.specs.Acts.Act.{handed_in, ordered}
@@ -45,9 +45,7 @@ each_without P c (x ∷ xs) all =
 
 fewer : (c : ℕ) (xs : List SessionState) → length (without c xs) ≤ length xs
 fewer c [] = omega arith
-fewer c (x ∷ xs) =
-    let rest = fewer c xs in
-    cond_both (eqb x.id c) (without c xs) (x ∷ without c xs) (λ ys. length ys ≤ suc (length xs)) (λ e. omega (arith, rest)) (λ e. omega (arith, rest))
+fewer c (x ∷ xs) = grind (arith, fewer c xs)
 
 pub each_found : (P : SessionState → Type 0) (c : ℕ) (xs : List SessionState) (x : SessionState) → find c xs ≡ Some x → Each P xs → P x
 each_found P c [] x e all = cc e
@@ -82,17 +80,10 @@ sound_answered change line text x going h =
     }
 
 pub sound_input : (piece : List ℕ) (x : SessionState) → IsSoundSession x → IsSoundSession (joined piece x)
-sound_input piece x h = by_ending x.ending refl
-  where
-    by_ending : (b : Bool) → x.ending ≡ b → IsSoundSession (record x { held = x.held ++ cond b [] (take (HELD_LIMIT - length x.held) piece) })
-    by_ending true e = record {
-      held = (let few = h.held in omega (arith, few, length-append x.held []));
-      ending = λ k. (ap (λ (bytes : List ℕ). bytes ++ []) (h.ending k).0, (h.ending k).1);
-    }
-    by_ending false e = record {
-      held = (let few = h.held in omega (arith, few, length-append x.held (take (HELD_LIMIT - length x.held) piece), length-take (HELD_LIMIT - length x.held) piece));
-      ending = λ k. never_both x.ending k e;
-    }
+sound_input piece x h = record {
+  held = (let few = h.held in grind (arith, length-append {A = ℕ}, length-take {A = ℕ}));
+  ending = λ k. rw k (ap (λ (bytes : List ℕ). bytes ++ []) (h.ending k).0, (h.ending k).1);
+}
 
 pub sound_with : (s : ServerState) (y : SessionState) → IsSoundSession y → IsSound s → IsSound (with_session s y)
 sound_with s y p h =
@@ -175,18 +166,11 @@ module _ (empty : IsSoundTree empty_tree) (line_keeps : EachLineKeepsTheTreeSoun
   every_run_sound old new es os r h = by_run IsSound IsAny sound_kept old new es os r (any_event es) h
 
   pub new_sound : ANewServerIsSound
-  new_sound list users descriptions max_age lawful described age = record {
-    max_age = age;
-    list = lawful;
-    descriptions = described;
-    named = length-replicate (length list) new_ups;
-    few = omega arith;
-    ids = omega arith;
-    sessions = tt;
-    upses = each_same (IsSoundUps 0) new_ups (sound_loss empty line_keeps 0 new_ups) (length list);
-    tracking = nothing_is_sound;
-    numbers = All-nil (λ order. IsLawfulProgress order.progress);
-  }
+  new_sound list users descriptions max_age lawful described age =
+      let named = length-replicate (length list) new_ups in
+      let upses = each_same (IsSoundUps 0) new_ups (sound_loss empty line_keeps 0 new_ups) (length list) in
+      let numbers : HaveLawfulNumbers [] = All-nil (λ order. IsLawfulProgress order.progress) in
+      search (rules, arith, nothing_is_sound)
 
 pub sound_lawful : ASoundServerIsLawful
 sound_lawful s h c there = lawful s h.ids c there

@@ -4,9 +4,6 @@ use Rattle.nutcore.specs.Ups.{UpsState, after_tick}
 use Rattle.nutcore.proofs.DriverSteps.{changed_so_far}
 use Rattle.nutcore.proofs.server.drivers.ping_upses.Goals as goal
 
-pub loop-place-init : goal.loop-place-init
-loop-place-init c = record { done = refl; same = refl }
-
 pub loop-place-preserved : goal.loop-place-preserved
 loop-place-preserved c =
     let p : ℕ = c.loop-place.place in
