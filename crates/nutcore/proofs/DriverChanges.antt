@@ -3,13 +3,12 @@ use Rattle.std.proofs.Common.{◌≡◌, ◌≤◌, ◌∙◌, ◌+◌, ℕ, Boo
 use Rattle.nutcore.proofs.Common.{never_both, and_from, flat_map-append, take-append-drop, UpsId, TrackingState, Event, cond_both}
 use Rattle.nutdriver.specs.declared.report.Report.{Report}
 use Rattle.nutdriver.specs.declared.report.LineOutcome.{LineOutcome}
-use Rattle.nutdriver.specs.Report.{after_line}
+use Rattle.nutdriver.specs.Report.{after_line, end_in}
 use Rattle.nutcore.specs.declared.event.Event.TheVariants.{DriverUp}
 use Rattle.nutwords.specs.Text.{with_lf}
 use Rattle.nutwords.specs.Lines.{Tail, IsCutInto, line as one_line, unfinished, overlong}
 use Rattle.nutwords.specs.WholeLines.{joined, whole_lines, unfinished_after, is_too_long, tail_after}
 use Rattle.nutwords.proofs.PublicLaws.{first_line_is_cut_off, no_line_without_lf, whole_lines_are_the_cut, whole_lines_and_the_rest_are_all}
-use Rattle.nutdriver.specs.Report.{end_in}
 use Rattle.nutcore.specs.Reports.{with_end, is_unawaited}
 use Rattle.nutcore.specs.Ups.{UpsState, after_connecting, after_loss, greatest_count, is_refused, with_faulty_line, after_outcome, after_text, after_texts, with_unfinished}
 use Rattle.nutcore.specs.Headline.{IsBeginning}

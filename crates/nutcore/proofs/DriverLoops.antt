@@ -11,31 +11,17 @@ use Rattle.std.specs.Fn.{Once}
 use Rattle.nutwords.specs.Found.{FindsLine, Finds}
 use Rattle.nutwords.specs.declared.cut.Found.{Found}
 use Rattle.nutwords.specs.declared.limits.TheConstants.{LINE_ROOM}
-use Rattle.std.specs.Prelude.{nat_le}
-use Rattle.nutdriver.specs.declared.line.DriverLine.{DriverLine}
-use Rattle.nutdriver.specs.declared.line.DriverLine.TheVariants.{SetInfo, DelInfo, AddEnum, DelEnum, AddRange, DelRange, SetAux, SetFlags, AddCmd, DelCmd, Tracking}
-use Rattle.nutdriver.specs.declared.fault.DriverFault.{DriverFault}
-use Rattle.nutdriver.specs.declared.fault.DriverFault.TheVariants.{NoSuchItem, Full}
-use Rattle.nutdriver.specs.declared.effect.Effect.{Effect}
-use Rattle.nutdriver.specs.declared.effect.Effect.TheVariants.{Nothing, Changed}
-use Rattle.nutdriver.specs.declared.limits.TheConstants.{VARIABLE_LIMIT, COMMAND_LIMIT}
 use Rattle.nutdriver.specs.declared.report.Report.{Report}
 use Rattle.nutdriver.specs.declared.report.LineOutcome.{LineOutcome}
-use Rattle.nutdriver.specs.Variable.{VariableState, new_variable, add_enum, delete_enum, add_range, delete_range, with_aux, with_flags}
-use Rattle.nutdriver.specs.Tree.{TreeState, variable_at, with_variable, has_command, with_command, without_command}
-use Rattle.nutdriver.specs.DriverLine.{read_driver_line}
-use Rattle.nutdriver.specs.DriverStep.{put_back, if_there, set_info, delete_info, driver_step}
-use Rattle.nutdriver.specs.Report.{after_step, after_reading, after_line, line_changes}
-use Rattle.nutdriver.specs.Report.{OrderEnd, end_read, end_in}
+use Rattle.nutdriver.specs.Report.{after_line, line_changes, OrderEnd, end_in, end_told}
 use Rattle.nutcore.specs.Reports.{with_end, is_unawaited}
-use Rattle.nutcore.proofs.Common.{cond-true, cond-false, le-leb, lt-leb, take-append-drop, cond_both, same_Some, option_map, option_map_or, UpsId, TrackingState, Fault, ServerState, ups_at, changed_at, with_ups_changed, with_tracking}
+use Rattle.nutcore.proofs.Common.{cond-true, cond-false, le-leb, lt-leb, take-append-drop, same_Some, option_map, option_map_or, UpsId, TrackingState, Fault, ServerState, ups_at, changed_at, with_ups_changed, with_tracking}
 use Rattle.nutcore.specs.declared.event.Fault.TheVariants.{LineTooLong, Memory}
 use Rattle.nutwords.specs.Lines.{Tail, Unfinished, Overlong, IsCutInto}
 use Rattle.nutwords.specs.WholeLines.{joined, whole_lines, unfinished_after, is_too_long, tail_after}
 use Rattle.nutcore.specs.Ups.{UpsState, after_loss, is_refused, with_faulty_line, after_text, with_unfinished, wants_memory_for}
 use Rattle.nutcore.specs.Step.{after_driver_line, after_driver_lines, with_rest, after_driver_text, wants_driver_memory}
 use Rattle.nutcore.specs.Calls.{is_connected}
-use Rattle.nutdriver.specs.Report.{end_told}
 use Rattle.nutcore.specs.Promises.{front_or, IsCut, ChangesUps, OfUps, DoesLine, IsTold, IsStopped, holding_nothing, ExecutesDriverLine, ReadsDriverLine}
 use Rattle.nutcore.proofs.UpsPlaces.{Stands, of_ups, at_changed, server_agree, server_twice, changed_to, left_at}
 use Rattle.nutcore.proofs.DriverSteps.{is_there, connected_as, connected_at}

@@ -1,5 +1,5 @@
 -- What is told of a UPS's data is fresh, over every run from a new server.
-use Rattle.std.proofs.Common.{◌≡◌, ◌≤◌, ◌<◌, ◌-◌, ◌∙◌, ℕ, zero, suc, true, false, List, [], ◌∷◌, ◌++◌, Option, Some, Result, Ok, Err, refl, sym, ap, subst, map, max, length, arith}
+use Rattle.std.proofs.Common.{◌≡◌, ◌≤◌, ◌<◌, ◌-◌, ◌∙◌, ℕ, Bool, zero, suc, true, false, List, [], ◌∷◌, ◌++◌, Option, Some, Result, Ok, Err, refl, sym, ap, subst, map, max, length, arith}
 use Rattle.std.specs.Prelude.{codes, nat_eq, slice_get, option_map}
 use Rattle.std.specs.List.{starts_with}
 use Rattle.std.proofs.lemmas.List.Elements.{All-weaker}
@@ -32,7 +32,7 @@ use Rattle.nutcore.proofs.DriverRuns.{since_connecting}
 use Rattle.nutcore.proofs.Changed.{of_opened}
 use Rattle.nutcore.proofs.Events.{of_parts, any_driver}
 use Rattle.nutcore.proofs.Executions.{each_answer_timely}
-use Rattle.nutcore.proofs.SoundUps.{each_get}
+use Rattle.nutcore.proofs.SoundUps.{each_get, heard_line}
 use Rattle.nutcore.proofs.Isolation.{own, kept_in_lines, kept_in_input, kept_in_output}
 
 -- the moment and the greatest age after an event, and after a run
@@ -76,10 +76,6 @@ moment_is_greatest_tick old new es os is_new r =
     let begins : old.moment ≡ 0 = ap (λ (z : ServerState). z.moment) is_new.is in
     record { moment = omega (arith, moment, begins); max_age = timed.max_age }
 
--- a line is heard at its moment
-heard_now : (moment : ℕ) (report : Report) (line : List ℕ) → (after_line moment report line).0.heard ≡ moment
-heard_now moment report line = grind arith
-
 -- a report that is fresh is usable
 ready_is : (moment max_age : ℕ) (x : Report) → x.connected ≡ true → x.dumped ≡ true → x.ok ≡ true → moment - x.heard ≤ max_age → readiness moment max_age x ≡ usable
 ready_is moment max_age x connected dumped right recent = grind arith
@@ -92,7 +88,7 @@ record IsLast (report : Report) (lines : List Heard) : Type 0 where
   at : report.heard ≡ last.moment
 
 last_of : (report : Report) (x : Heard) (xs : List Heard) → IsLast (after_heard report (x ∷ xs)) (x ∷ xs)
-last_of report x [] = record { earlier = []; last = x; lines_are = refl; at = heard_now x.moment report x.line }
+last_of report x [] = record { earlier = []; last = x; lines_are = refl; at = ap (λ (z : ℕ × Bool). z.0) (heard_line x.moment report x.line) }
 last_of report x (y ∷ ys) =
     let more = last_of (after_line x.moment report x.line).0 y ys in
     record { earlier = x ∷ more.earlier; last = more.last; lines_are = ap (λ (zs : List Heard). x ∷ zs) more.lines_are; at = more.at }

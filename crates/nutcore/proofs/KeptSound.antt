@@ -25,11 +25,10 @@ use Rattle.nutcore.proofs.DriverSteps.{is_there, connected_as, connected_at}
 use Rattle.nutcore.proofs.UpsPlaces.{of_ups, left_at, changed_to, server_set}
 use Rattle.nutcore.proofs.Changes.{of_tracking}
 use Rattle.nuttracking.specs.Acts.Act.{ordered}
-use Rattle.nutcore.proofs.Tracked.{IsTracked, act_tracked}
 use Rattle.nutcore.proofs.Found.{find_id}
 use Rattle.nutcore.proofs.Serving.{set_is}
 use Rattle.nutcore.proofs.SoundUps.{sound_changes, length-changes, sound_fewer, sound_bytes, sound_report}
-use Rattle.nutcore.proofs.Sound.{each_found, sound_with, sound_upses, upses_sound, sound_answered, sound_notice, sound_input, sound_output, is_tracked, tracking_sound}
+use Rattle.nutcore.proofs.Sound.{IsTracked, act_tracked, each_found, sound_with, sound_upses, upses_sound, sound_answered, sound_notice, sound_input, sound_output, is_tracked, tracking_sound}
 
 -- a session in place of the one that stands there
 pub session_kept : (v : ServerState) (c i : ℕ) (x y : SessionState) → IsAt c i v.sessions → session c v ≡ Some x → y.id ≡ x.id → (IsSoundSession x → IsSoundSession y) → IsSound v →

@@ -35,7 +35,6 @@ mod SessionMarks
 mod LoginCount
 mod Isolation
 mod Happenings
-mod Tracked
 mod KeptSound
 mod OrderFits
 mod SoundUps
@@ -47,10 +46,8 @@ mod TakingAmongOthers
 mod NotStuck
 mod Totals
 mod Listed
-mod DriverHistory
 mod DriverRuns
 mod FreshRuns
-mod DriverOrders
 mod TrackedRuns
 mod OrdersByRight
 mod Written

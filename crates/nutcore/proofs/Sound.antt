@@ -1,17 +1,15 @@
 -- Every server is sound.
-use Rattle.std.proofs.Common.{◌≡◌, ◌≤◌, ◌<◌, ◌+◌, ◌-◌, ◌^◌, ℕ, suc, Bool, true, false, List, [], ◌∷◌, ◌++◌, Some, None, refl, sym, ◌∙◌, ap, subst, eqb, max, map, length, take, length-append, length-take, length-drop, arith, inl, inr, cond, rules}
+use Rattle.std.proofs.Common.{◌≡◌, ◌≤◌, ◌<◌, ◌+◌, ◌-◌, ◌^◌, ℕ, true, false, List, [], ◌∷◌, ◌++◌, Some, None, refl, sym, ◌∙◌, ap, subst, eqb, max, map, length, length-append, length-take, length-drop, arith, inl, inr, rules, Result, Ok}
 use Rattle.std.specs.Prelude.{nat_lt}
 use Rattle.nutdriver.specs.Tree.{empty_tree}
-use Rattle.nutdriver.specs.Sound.{IsSoundTree, EachLineKeepsTheTreeSound, ReadLinesAreLawful}
-use Rattle.nutcore.proofs.Common.{never_both, ltb-true, cond_both, and_parts, length-map, length-replicate, same_Some, UpsId, Change, ServerState, changed_at, with_session, with_session_changed, with_ups_changed, with_tracking}
+use Rattle.nutdriver.specs.Sound.{IsSoundTree, EachLineKeepsTheTreeSound, ReadLinesAreLawful, IsLawfulLine}
+use Rattle.nutcore.proofs.Common.{never_both, ltb-true, cond_both, and_parts, length-map, length-replicate, same_Some, UpsId, Change, ServerState, changed_at, with_session, with_session_changed, with_ups_changed, with_tracking, TrackingState}
 use Rattle.std.proofs.lemmas.List.Elements.{All-nil}
-use Rattle.nuttracking.specs.Sound.{IsLawfulProgress, HaveLawfulNumbers}
+use Rattle.nuttracking.specs.Sound.{IsLawfulProgress, HaveLawfulNumbers, IsSoundTracking}
 use Rattle.nuttracking.specs.Tracking.{TrackingState}
-use Rattle.nuttracking.proofs.PublicLaws.{nothing_is_sound}
-use Rattle.nuttracking.specs.Acts.Act.{handed_in, ordered}
-use Rattle.nutcore.proofs.Tracked.{IsTracked, act_tracked, end_tracked}
+use Rattle.nuttracking.proofs.PublicLaws.{nothing_is_sound, acts_keep_it_sound, lawful_acts_keep_numbers_lawful}
+use Rattle.nuttracking.specs.Acts.Act.{handed_in, ordered, reported}
 use Rattle.nutanswer.specs.Command.{read_command}
-use Rattle.nutcore.specs.declared.TheConstants.{HELD_LIMIT}
 use Rattle.nutlisting.specs.declared.listing.clients.TheConstants.{SESSION_LIMIT}
 use Rattle.nutcore.specs.declared.event.Event.TheVariants.{Open}
 use Rattle.nutcore.specs.declared.event.Outcome.TheVariants.{Opened}
@@ -32,6 +30,32 @@ use Rattle.nutcore.proofs.DriverText.{ups_after_bytes}
 use Rattle.nutcore.proofs.Kept.{IsKept, IsAny, any_address, any_event, by_event, by_run}
 use Rattle.nutcore.proofs.SoundUps.{each_map, each_last, each_same, length-changed, each_changed, length-changes, sound_loss, sound_connecting, sound_driver_bytes, sound_took, sound_tick, sound_changes}
 use Rattle.nutcore.proofs.Runs.{lawful}
+use Rattle.nuttracking.specs.Acts.{Act, after_act}
+use Rattle.nuttracking.specs.Laws.{IsLawfulAct}
+use Rattle.nutdriver.specs.declared.line.DriverLine.{DriverLine}
+use Rattle.nutdriver.specs.declared.line.DriverLine.TheVariants.{Tracking}
+use Rattle.nutdriver.specs.declared.fault.DriverFault.{DriverFault}
+use Rattle.nutdriver.specs.DriverLine.{read_driver_line}
+use Rattle.std.specs.Result.{IfOk}
+use Rattle.nutdriver.specs.Report.{end_read, end_in}
+use Rattle.nutcore.specs.Reports.{with_end}
+
+-- the ids and the tracked orders: an id stands for one order, and numbers stay lawful
+pub record IsTracked (t : TrackingState) : Type 0 where
+  pub sound : IsSoundTracking t
+  pub numbers : HaveLawfulNumbers t.orders
+
+-- an id, an order or a report
+pub act_tracked : (t : TrackingState) (act : Act) → IsLawfulAct act → IsTracked t → IsTracked (after_act t act)
+act_tracked t act lawful h = record { sound = acts_keep_it_sound t (act ∷ []) h.sound; numbers = lawful_acts_keep_numbers_lawful t act lawful h.numbers }
+
+-- what a line reports
+pub end_tracked : ReadLinesAreLawful → (t : TrackingState) (place : ℕ) (line : List ℕ) → IsTracked t → IsTracked (with_end place (end_in line) t)
+end_tracked lawful t place line h = by_reading (read_driver_line line) (lawful line)
+  where
+    by_reading : (r : Result DriverLine DriverFault) → IfOk r IsLawfulLine → IsTracked (with_end place (end_read r) t)
+    by_reading (Ok (Tracking id number)) few = act_tracked t (reported place id number) few h
+    by_reading _ few = h
 
 pub each_put : (P : SessionState → Type 0) (y : SessionState) → P y → (xs : List SessionState) → Each P xs → Each P (put y xs)
 each_put P y p [] all = tt

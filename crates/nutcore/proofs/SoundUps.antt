@@ -1,21 +1,17 @@
 -- Sound UPSs, and what keeps them so.
-use Rattle.std.proofs.Common.{◌≡◌, ◌≤◌, ◌+◌, ℕ, zero, suc, Bool, true, false, List, [], ◌∷◌, ◌++◌, Option, Some, None, Result, refl, ◌∙◌, ap, subst, cond, map, length, replicate, take, drop, length-append, length-drop, arith, rules}
+use Rattle.std.proofs.Common.{◌≡◌, ◌≤◌, ◌+◌, ℕ, zero, suc, Bool, true, false, List, [], ◌∷◌, ◌++◌, Option, Some, None, refl, ◌∙◌, ap, subst, cond, map, length, replicate, take, drop, length-append, length-drop, arith, rules}
 use Rattle.std.proofs.Math.Seq.{drop-nil}
 use Rattle.std.proofs.lemmas.Bool.{leb-false}
 use Rattle.nutwords.specs.declared.limits.TheConstants.{LINE_LIMIT, LINE_ROOM}
 use Rattle.std.specs.Prelude.{slice_get}
 use Rattle.nutdriver.specs.declared.report.Report.{Report}
 use Rattle.nutdriver.specs.declared.report.LineOutcome.{LineOutcome}
-use Rattle.nutdriver.specs.declared.line.DriverLine.{DriverLine}
-use Rattle.nutdriver.specs.declared.fault.DriverFault.{DriverFault}
 use Rattle.nutdriver.specs.Tree.{empty_tree}
-use Rattle.nutdriver.specs.DriverLine.{read_driver_line}
-use Rattle.nutdriver.specs.Report.{after_reading, after_line as report_after_line}
+use Rattle.nutdriver.specs.Report.{after_line as report_after_line, end_in}
 use Rattle.nutdriver.specs.Sound.{IsSoundTree, EachLineKeepsTheTreeSound}
 use Rattle.nutcore.proofs.Common.{never_both, cond_both, TrackingState, Change, changed_at}
 use Rattle.nutcore.specs.declared.TheConstants.{DRIVER_OWED_LIMIT}
 use Rattle.nutwords.specs.WholeLines.{whole_lines, unfinished_after, is_too_long}
-use Rattle.nutdriver.specs.Report.{end_in}
 use Rattle.nutcore.specs.Reports.{with_end, is_unawaited}
 use Rattle.nutcore.specs.Ups.{UpsState, new_ups, after_connecting, after_loss, with_fsd, with_order, ping_is_due, ping_line, after_tick, is_refused, after_outcome, after_text, after_texts, with_unfinished}
 use Rattle.nutcore.specs.Reply.{changed_upses}
@@ -58,14 +54,11 @@ each_changed P f zero (x ∷ xs) h all = (h x refl all.0, all.1)
 each_changed P f (suc p) (x ∷ xs) h all = (all.0, each_changed P f p xs h all.1)
 
 -- what of a report no line changes but its moment: when it was heard, and whether the driver is connected
-abbrev heard_of : Report → ℕ × Bool
+abbrev pub heard_of : Report → ℕ × Bool
 heard_of report = (report.heard, report.connected)
 
-heard_reading : (report : Report) (r : Result DriverLine DriverFault) → heard_of (after_reading report r).0 ≡ heard_of report
-heard_reading report r = grind arith
-
-heard_line : (moment : ℕ) (report : Report) (line : List ℕ) → heard_of (report_after_line moment report line).0 ≡ (moment, report.connected)
-heard_line moment report line = heard_reading (record report { heard = moment }) (read_driver_line line)
+pub heard_line : (moment : ℕ) (report : Report) (line : List ℕ) → heard_of (report_after_line moment report line).0 ≡ (moment, report.connected)
+heard_line moment report line = grind arith
 
 -- a UPS whose driver is connected
 pub record IsSoundConnected (m : ℕ) (x : UpsState) : Type 0 where

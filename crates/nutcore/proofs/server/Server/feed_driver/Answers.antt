@@ -1,4 +1,4 @@
-use Rattle.std.proofs.Common.{◌≡◌, ◌∙◌, ◌++◌, sym, rules}
+use Rattle.std.proofs.Common.{◌∙◌, ◌++◌, sym, rules}
 use Rattle.nutcore.specs.Ups.{after_loss}
 use Rattle.nutcore.proofs.DriverLoops.{told_lost, told_kept}
 use Rattle.nutcore.proofs.KeptSound.{changed_by}

@@ -10,9 +10,8 @@ use Rattle.nutcore.specs.Step.{id_outcome, handed_in}
 use Rattle.nutcore.specs.contracts.server.Server.{the_view}
 use Rattle.nutcore.proofs.EventSteps.{id_handed, step_from}
 use Rattle.nutcore.proofs.Runs.{served_from, lawful, state_is}
-use Rattle.nutcore.proofs.Sound.{is_tracked, tracking_sound}
+use Rattle.nutcore.proofs.Sound.{IsTracked, act_tracked, is_tracked, tracking_sound}
 use Rattle.nuttracking.specs.Acts.Act.{handed_in as id_handed_in}
-use Rattle.nutcore.proofs.Tracked.{IsTracked, act_tracked}
 use Rattle.nutcore.proofs.server.Server.id.Goals.{in-Ok, in-Err-Known, in-Err-TooMany}
 use Rattle.nutcore.proofs.server.Server.id.Goals as goal
 

@@ -1,9 +1,8 @@
 use Rattle.std.proofs.Common.{rules, sym, subst}
 use Rattle.nutcore.specs.contracts.server.Server.{the_view}
 use Rattle.nutcore.specs.Server.{ServerState}
-use Rattle.nutcore.proofs.Sound.{is_tracked, tracking_sound}
+use Rattle.nutcore.proofs.Sound.{IsTracked, act_tracked, is_tracked, tracking_sound}
 use Rattle.nuttracking.specs.Acts.Act.{reported}
-use Rattle.nutcore.proofs.Tracked.{IsTracked, act_tracked}
 use Rattle.nutcore.proofs.server.Server.settle.Goals as goal
 
 pub invariant_of-self : goal.invariant_of-self

@@ -1,8 +1,8 @@
-use Rattle.std.proofs.Common.{◌≡◌, ◌∙◌, ℕ, List, refl, sym, ap, subst, map}
+use Rattle.std.proofs.Common.{ℕ, List, refl, sym, subst}
 use Rattle.nutcore.specs.declared.event.Event.TheVariants.{Tick}
 use Rattle.nutcore.specs.declared.event.Outcome.TheVariants.{Done}
 use Rattle.nutcore.specs.Session.{IdsRise}
-use Rattle.nutcore.specs.Ups.{UpsState, after_tick}
+use Rattle.nutcore.specs.Ups.{UpsState}
 use Rattle.nutcore.specs.Server.{ServerState}
 use Rattle.nutcore.specs.contracts.server.Server.{the_view}
 use Rattle.nutcore.proofs.DriverSteps.{ticked_is, tick_done}

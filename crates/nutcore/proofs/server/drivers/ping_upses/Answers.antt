@@ -1,4 +1,4 @@
-use Rattle.std.proofs.Common.{◌≡◌, ◌+◌, ◌<◌, ◌≤◌, ◌++◌, ◌∙◌, ℕ, suc, List, refl, ap, arith, length, map, take, drop, set, get_or, append-nil, length-set}
+use Rattle.std.proofs.Common.{◌≡◌, ◌+◌, ◌<◌, ◌≤◌, ◌++◌, ◌∙◌, ℕ, suc, List, ap, arith, length, map, take, drop, set, get_or, append-nil, length-set}
 use Rattle.std.proofs.lemmas.List.{take_all, drop_all}
 use Rattle.nutcore.specs.Ups.{UpsState, after_tick}
 use Rattle.nutcore.proofs.DriverSteps.{changed_so_far}
