@@ -1,9 +1,5 @@
 -- The driver's lines, one by one.
-use Rattle.std.proofs.Common.{None, ◌≡◌, ℕ, zero, suc, ◌+◌, ◌<◌, ◌≤◌, Bool, cond, true, false, List, [], ◌∷◌, ◌++◌, Option, Some, Result, Ok, Err, refl, sym, ◌∙◌, ap, subst, arith, length, length-drop, take, drop, get_or, append-nil}
-use Rattle.std.proofs.Math.Seq.{take-add, drop-cons}
-use Rattle.std.proofs.lemmas.List.{drop-drop}
-use Rattle.std.proofs.lemmas.List.Sums.{fold-append}
-use Rattle.std.proofs.lemmas.Option.{slice_get-get_or}
+use Rattle.std.proofs.Common.{None, ◌≡◌, ℕ, suc, ◌+◌, ◌<◌, ◌≤◌, Bool, cond, true, false, List, [], ◌∷◌, ◌++◌, Option, Some, Result, Ok, Err, refl, sym, ◌∙◌, ap, subst, arith, length, take, drop}
 use Rattle.std.specs.Prelude.{slice_get, is_err}
 use Rattle.std.specs.declared.alloc.AllocError.{AllocError}
 use denote.Ref.{MutBor}
@@ -15,7 +11,7 @@ use Rattle.nutdriver.specs.declared.report.Report.{Report}
 use Rattle.nutdriver.specs.declared.report.LineOutcome.{LineOutcome}
 use Rattle.nutdriver.specs.Report.{after_line, line_changes, OrderEnd, end_in, end_told}
 use Rattle.nutcore.specs.Reports.{with_end, is_unawaited}
-use Rattle.nutcore.proofs.Common.{cond-true, cond-false, le-leb, lt-leb, take-append-drop, same_Some, option_map, option_map_or, UpsId, TrackingState, Fault, ServerState, ups_at, changed_at, with_ups_changed, with_tracking}
+use Rattle.nutcore.proofs.Common.{cond-true, cond-false, le-leb, lt-leb, option_map, option_map_or, UpsId, TrackingState, Fault, ServerState, ups_at, with_ups_changed, with_tracking}
 use Rattle.nutcore.specs.declared.event.Fault.TheVariants.{LineTooLong, Memory}
 use Rattle.nutwords.specs.Lines.{Tail, Unfinished, Overlong, IsCutInto}
 use Rattle.nutwords.specs.WholeLines.{joined, whole_lines, unfinished_after, is_too_long, tail_after}
@@ -23,22 +19,12 @@ use Rattle.nutcore.specs.Ups.{UpsState, after_loss, is_refused, with_faulty_line
 use Rattle.nutcore.specs.Step.{after_driver_line, after_driver_lines, with_rest, after_driver_text, wants_driver_memory}
 use Rattle.nutcore.specs.Calls.{is_connected}
 use Rattle.nutcore.specs.Promises.{front_or, IsCut, ChangesUps, OfUps, DoesLine, IsTold, IsStopped, holding_nothing, ExecutesDriverLine, ReadsDriverLine}
-use Rattle.nutcore.proofs.UpsPlaces.{Stands, of_ups, at_changed, server_agree, server_twice, changed_to, left_at}
+use Rattle.nutcore.proofs.UpsPlaces.{of_ups, changed_there, at_changed, server_agree, server_twice, changed_to, left_at}
 use Rattle.nutcore.proofs.DriverSteps.{is_there, connected_as, connected_at}
 use Rattle.nutcore.proofs.DriverChanges.{line_leaves}
 use Rattle.nutcore.proofs.KeptSound.{of_call, line_stays}
 use Rattle.nutwords.proofs.PublicLaws.{whole_lines_are_the_cut, rest_is_that_behind_the_first, found_line_is_first, rest_is_unfinished, rest_is_overlong, one_cutting}
 use Rattle.nutdriver.proofs.PublicLaws.{what_is_told_of_an_order_is_read}
-
--- one more of some lines
-pub one_more : {A : Type 0} (k : ℕ) (lines : List A) (line : A) (more : List A) → drop k lines ≡ line ∷ more → (take (k + 1) lines ≡ take k lines ++ line ∷ []) × (drop (k + 1) lines ≡ more) × (slice_get lines k ≡ Some line)
-one_more k lines line more h =
-    let few : k < length lines = omega (arith, ap length h, length-drop k lines) in
-    let at : get_or lines k line ≡ line = cc (drop-cons lines k line few) in
-    (take-add k 1 lines ∙ ap (λ z. take k lines ++ take 1 z) h, sym (drop-drop 1 k lines) ∙ ap (drop 1) h, slice_get-get_or lines k line few ∙ ap Some at)
-
-pub no_more : {A : Type 0} (k : ℕ) (lines : List A) → drop k lines ≡ [] → take k lines ≡ lines
-no_more k lines h = sym (append-nil (take k lines)) ∙ ap (λ z. take k lines ++ z) (sym h) ∙ take-append-drop k lines
 
 -- what is unfinished changes nothing of what a line does to the server
 line_beside : (u : UpsId) (line : List ℕ) (s : ServerState) → holding_nothing u (after_driver_line u line s) ≡ after_driver_line u line (holding_nothing u s)
@@ -51,21 +37,36 @@ line_beside u line s =
     ∙ server_agree s u (λ x. with_unfinished [] (does x)) (λ x. does (with_unfinished [] x)) (λ x there. (line_leaves b x (after_line s.moment x.report line)).beside [])
     ∙ sym (server_twice (with_unfinished []) does u s))
 
-nothing_twice : (u : UpsId) (s : ServerState) → holding_nothing u (holding_nothing u s) ≡ holding_nothing u s
-nothing_twice u s = server_twice (with_unfinished []) (with_unfinished []) u s
+lines_beside : (u : UpsId) (lines : List (List ℕ)) (s : ServerState) → after_driver_lines u lines (holding_nothing u s) ≡ holding_nothing u (after_driver_lines u lines s)
+lines_beside u [] s = refl
+lines_beside u (line ∷ lines) s = ap (after_driver_lines u lines) (sym (line_beside u line s)) ∙ lines_beside u lines (after_driver_line u line s)
 
--- what a change leaves that doesn't look at what is unfinished
-left_alike : (f : UpsState → UpsState) → ((x : UpsState) → f (with_unfinished [] x) ≡ f x) → (u : UpsId) (s t : ServerState) → holding_nothing u s ≡ holding_nothing u t → with_ups_changed f u s ≡ with_ups_changed f u t
-left_alike f blind u s t same = sym (of_blind s) ∙ ap (with_ups_changed f u) same ∙ of_blind t
-  where
-    of_blind : (r : ServerState) → with_ups_changed f u (holding_nothing u r) ≡ with_ups_changed f u r
-    of_blind r = server_twice (with_unfinished []) f u r ∙ server_agree r u (λ x. f (with_unfinished [] x)) f (λ x there. blind x)
+-- nor of what is told of a text, or of the memory that it wants
+text_beside : (u : UpsId) (text : List ℕ) (refused : Option ℕ) (s : ServerState) → after_driver_text u text refused (holding_nothing u s) ≡ after_driver_text u text refused s
+unfolding after_driver_text
+text_beside u text None s =
+    let rest : UpsState → UpsState = with_rest (unfinished_after text) in
+    ap (with_ups_changed rest u) (lines_beside u (whole_lines text) s) ∙ server_twice (with_unfinished []) rest u (after_driver_lines u (whole_lines text) s)
+text_beside u text (Some k) s =
+    let lines : List (List ℕ) = take k (whole_lines text) in
+    ap (with_ups_changed after_loss u) (lines_beside u lines s) ∙ server_twice (with_unfinished []) after_loss u (after_driver_lines u lines s)
 
--- what stood at a place that was changed
-stood_at : (f : UpsState → UpsState) (i : ℕ) (xs : List UpsState) (y : UpsState) → slice_get (changed_at f i xs) i ≡ Some y → Stands i xs (λ x. f x ≡ y)
-stood_at f i [] y e = cc e
-stood_at f zero (x ∷ xs) y e = record { ups = x; there = refl; is = same_Some (f x) y e }
-stood_at f (suc i) (x ∷ xs) y e = let s = stood_at f i xs y e in record { ups = s.ups; there = s.there; is = s.is }
+wants_alike : (next : Option (List ℕ)) (o : Option UpsState) → option_map_or (wants_memory_for next) (option_map (with_unfinished []) o) false ≡ option_map_or (wants_memory_for next) o false
+wants_alike next o = grind arith
+
+wants_beside : (u : UpsId) (text : List ℕ) (k : ℕ) (s : ServerState) → wants_driver_memory u text k (holding_nothing u s) ≡ wants_driver_memory u text k s
+unfolding wants_driver_memory
+wants_beside u text k s =
+    let next : Option (List ℕ) = slice_get (whole_lines text) k in
+    let done : ServerState = after_driver_lines u (take k (whole_lines text)) s in
+    ap (λ (z : ServerState). option_map_or (wants_memory_for next) (ups_at u.place z) false) (lines_beside u (take k (whole_lines text)) s)
+    ∙ ap (λ (o : Option UpsState). option_map_or (wants_memory_for next) o false) (changed_there (with_unfinished []) u.place done.upses) ∙ wants_alike next (ups_at u.place done)
+
+stopped_beside : (u : UpsId) (text : List ℕ) (s : ServerState) (r : Result (Unit {0}) Fault) (t : ServerState) → IsStopped u text (holding_nothing u s) r t → IsStopped u text s r t
+stopped_beside u text s (Ok v) t (short, e) = (short, e ∙ text_beside u text None s)
+stopped_beside u text s (Err LineTooLong) t (long, e) = (long, e ∙ text_beside u text None s)
+stopped_beside u text s (Err (Memory k)) t (wants, e) = (sym (wants_beside u text k s) ∙ wants, e ∙ text_beside u text (Some k) s)
+stopped_beside u text s (Err fault) t never = absurd never
 
 -- the next line that is found is the first whole one, and where none is whole all is unfinished
 next_whole : (held piece line : List ℕ) (used : ℕ) → FindsLine held piece line used → let left : List ℕ = drop used piece in (whole_lines (held ++ piece) ≡ line ∷ whole_lines left) × (unfinished_after (held ++ piece) ≡ unfinished_after left)
@@ -81,16 +82,36 @@ unfolding unfinished_after
 none_whole text tail cut =
     let none : whole_lines text ≡ [] = (one_cutting text [] (whole_lines text) tail (tail_after text) cut (whole_lines_are_the_cut text)).0 in (none, ap (λ (lines : List (List ℕ)). drop (length (joined lines)) text) none)
 
--- Where the reading stands: of what was told, k lines are done, and the rest begins with what is held.
+-- what is told of the lines after a first one is told of all of them, one line later
+abbrev one_later : Result (Unit {0}) Fault → Result (Unit {0}) Fault
+one_later (Err (Memory k)) = Err (Memory (suc k))
+one_later r = r
+
+abbrev so_far : ℕ → Result (Unit {0}) Fault → Result (Unit {0}) Fault
+so_far done (Err (Memory k)) = Err (Memory (done + k))
+so_far done r = r
+
+stops_later : (u : UpsId) (held piece line : List ℕ) (used : ℕ) (s : ServerState) → FindsLine held piece line used → (r : Result (Unit {0}) Fault) (t : ServerState) → IsStopped u (drop used piece) (after_driver_line u line s) r t → IsStopped u (held ++ piece) s (one_later r) t
+unfolding after_driver_text wants_driver_memory
+stops_later u held piece line used s found (Ok v) t h = let whole = next_whole held piece line used found in rw (whole.0, whole.1) h
+stops_later u held piece line used s found (Err LineTooLong) t h = let whole = next_whole held piece line used found in rw (whole.0, whole.1) h
+stops_later u held piece line used s found (Err (Memory k)) t h = let whole = next_whole held piece line used found in rw whole.0 h
+stops_later u held piece line used s found (Err fault) t never = absurd never
+
+-- Where the reading stands: k lines are done, and what is told of what is held and the rest is told of the whole text.
 pub record IsAtLine (u : UpsId) (k : ℕ) (text : List ℕ) (old now : ServerState) (rest : List ℕ) : Type 0 where
   pub ups : UpsState
   pub there : ups_at u.place now ≡ Some ups
-  pub ahead : drop k (whole_lines text) ≡ whole_lines (ups.unfinished ++ rest)
-  pub unfinished : unfinished_after text ≡ unfinished_after (ups.unfinished ++ rest)
-  pub told : holding_nothing u now ≡ holding_nothing u (after_driver_lines u (take k (whole_lines text)) old)
+  pub goes_on : (r : Result (Unit {0}) Fault) (t : ServerState) → IsStopped u (ups.unfinished ++ rest) now r t → IsStopped u text old (so_far k r) t
+
+none_so_far : (r : Result (Unit {0}) Fault) → r ≡ so_far 0 r
+none_so_far r = grind arith
+
+one_so_far : (k : ℕ) (r : Result (Unit {0}) Fault) → so_far k (one_later r) ≡ so_far (k + 1) r
+one_so_far k r = grind arith
 
 pub begins : (u : UpsId) (s : ServerState) (x : UpsState) (piece : List ℕ) → ups_at u.place s ≡ Some x → IsAtLine u 0 (x.unfinished ++ piece) s s piece
-begins u s x piece there = record { ups = x; there = there; ahead = refl; unfinished = refl; told = refl }
+begins u s x piece there = record { ups = x; there = there; goes_on = λ r t h. subst (λ (q : Result (Unit {0}) Fault). IsStopped u (x.unfinished ++ piece) s q t) (none_so_far r) h }
 
 -- one line more was done
 pub read_on : (u : UpsId) (k used : ℕ) (text : List ℕ) (old s t : ServerState) (rest : List ℕ) (at : IsAtLine u k text old s rest) (o : Option ℕ) → o ≡ Some used → OfUps u s (λ x. ReadsDriverLine u rest k x s (Ok o) t) → IsAtLine u (k + 1) text old t (drop used rest)
@@ -98,38 +119,17 @@ unfolding after_driver_line
 read_on u k used text old s t rest at o some reads =
     let (line, found, does) = subst (λ (r : Option ℕ). ReadsDriverLine u rest k at.ups s (Ok r) t) some (reads at.ups at.there) in
     let left : List ℕ = drop used rest in
-    let lines : List (List ℕ) = whole_lines text in
     let y : UpsState = with_unfinished [] at.ups in
     let b : Bool = is_unawaited u.place (end_in line) s.tracking in
     let z : UpsState = after_text s.moment b y line in
-    let done : ServerState = after_driver_lines u (take k lines) old in
-    let whole = next_whole at.ups.unfinished rest line used found in
-    let next = one_more k lines line (whole_lines left) (at.ahead ∙ whole.0) in
     let held : z.unfinished ++ left ≡ left = ap (λ (b : List ℕ). b ++ left) (line_leaves b y (after_line s.moment y.report line)).unfinished in
     record {
       ups = z;
       there = ap (ups_at u.place) does ∙ at_changed (λ x. after_text s.moment b x line) u.place (holding_nothing u s).upses y (at_changed (with_unfinished []) u.place s.upses at.ups at.there);
-      ahead = next.1 ∙ ap whole_lines (sym held);
-      unfinished = at.unfinished ∙ whole.1 ∙ ap unfinished_after (sym held);
-      told =
-          ap (holding_nothing u) does
-          ∙ line_beside u line (holding_nothing u s)
-          ∙ ap (after_driver_line u line) (nothing_twice u s ∙ at.told)
-          ∙ sym (line_beside u line done)
-          ∙ ap (holding_nothing u) (sym (fold-append (λ t line. after_driver_line u line t) old (take k lines) (line ∷ [])) ∙ ap (λ (ls : List (List ℕ)). after_driver_lines u ls old) (sym next.0));
-    }
-
--- no line is whole any more
-record IsAtEnd (u : UpsId) (text held : List ℕ) (old now : ServerState) : Type 0 where
-  rest_is : unfinished_after text ≡ held
-  told : holding_nothing u now ≡ holding_nothing u (after_driver_lines u (whole_lines text) old)
-
-ends : (u : UpsId) (k : ℕ) (text : List ℕ) (old s : ServerState) (rest : List ℕ) (at : IsAtLine u k text old s rest) → (tail : Tail) → IsCutInto (at.ups.unfinished ++ rest) [] tail → IsAtEnd u text (at.ups.unfinished ++ rest) old s
-ends u k text old s rest at tail cut =
-    let none = none_whole (at.ups.unfinished ++ rest) tail cut in
-    record {
-      rest_is = at.unfinished ∙ none.1;
-      told = at.told ∙ ap (λ (ls : List (List ℕ)). holding_nothing u (after_driver_lines u ls old)) (no_more k (whole_lines text) (at.ahead ∙ none.0));
+      goes_on = λ r v h.
+          let left_so : IsStopped u left (after_driver_line u line (holding_nothing u s)) r v = subst (λ (w : ServerState). IsStopped u left w r v) does (subst (λ (bytes : List ℕ). IsStopped u bytes t r v) held h) in
+          subst (λ (q : Result (Unit {0}) Fault). IsStopped u text old q v) (one_so_far k r)
+          (at.goes_on (one_later r) v (stopped_beside u (at.ups.unfinished ++ rest) s (one_later r) v (stops_later u at.ups.unfinished rest line used (holding_nothing u s) found r v left_so)));
     }
 
 -- how many bytes of the piece a line takes
@@ -144,41 +144,22 @@ pub stops_read : (u : UpsId) (k : ℕ) (text : List ℕ) (old s t : ServerState)
 unfolding after_driver_text
 stops_read u k text old s t rest at (kept, cut, leaves) =
     let held : List ℕ = at.ups.unfinished ++ rest in
-    let bytes : List ℕ = unfinished_after text in
-    let end = ends u k text old s rest at (Unfinished kept) (rest_is_unfinished at.ups.unfinished rest kept cut) in
-    let done : ServerState = after_driver_lines u (whole_lines text) old in
-    let short : is_too_long bytes ≡ false = ap is_too_long end.rest_is ∙ lt-leb LINE_ROOM (length held) cut.1 in (
-      short,
-      leaves
-          ∙ ap (λ (b : List ℕ). with_ups_changed (with_unfinished b) u s) (cut.2 ∙ sym end.rest_is)
-          ∙ left_alike (with_unfinished bytes) (λ x. refl) u s done end.told
-          ∙ server_agree done u (with_unfinished bytes) (with_rest bytes) (λ x there. sym (cond-false _ _ _ short)),
-    )
+    let none = none_whole held (Unfinished kept) (rest_is_unfinished at.ups.unfinished rest kept cut) in
+    let short : is_too_long held ≡ false = lt-leb LINE_ROOM (length held) cut.1 in
+    at.goes_on (Ok tt) t
+    (rw (none.0, none.1) (short, leaves ∙ ap (λ (b : List ℕ). with_ups_changed (with_unfinished b) u s) cut.2 ∙ server_agree s u (with_unfinished held) (with_rest held) (λ x there. sym (cond-false _ _ _ short))))
 
 pub stops_refused : (u : UpsId) (k : ℕ) (text : List ℕ) (old s t : ServerState) (rest : List ℕ) (fault : Fault) (at : IsAtLine u k text old s rest) → ReadsDriverLine u rest k at.ups s (Err fault) t → IsStopped u text old (Err fault) t
 unfolding after_driver_text wants_driver_memory
 stops_refused u k text old s t rest LineTooLong at (kept, cut, leaves) =
     let held : List ℕ = at.ups.unfinished ++ rest in
-    let bytes : List ℕ = unfinished_after text in
-    let end = ends u k text old s rest at Overlong (rest_is_overlong at.ups.unfinished rest kept cut) in
-    let done : ServerState = after_driver_lines u (whole_lines text) old in
-    let long : is_too_long bytes ≡ true = ap is_too_long end.rest_is ∙ le-leb LINE_ROOM (length held) cut.1 in (
-      long,
-      ap (with_ups_changed after_loss u) leaves
-          ∙ server_twice (with_unfinished kept) after_loss u s
-          ∙ left_alike after_loss (λ x. refl) u s done end.told
-          ∙ server_agree done u after_loss (with_rest bytes) (λ x there. sym (cond-true _ _ _ long)),
-    )
+    let none = none_whole held Overlong (rest_is_overlong at.ups.unfinished rest kept cut) in
+    let long : is_too_long held ≡ true = le-leb LINE_ROOM (length held) cut.1 in
+    at.goes_on (Err LineTooLong) t
+    (rw (none.0, none.1) (long, ap (with_ups_changed after_loss u) leaves ∙ server_twice (with_unfinished kept) after_loss u s ∙ server_agree s u after_loss (with_rest held) (λ x there. sym (cond-true _ _ _ long))))
 stops_refused u k text old s t rest (Memory n) at (these, line, used, found, changes, lost) =
-    let lines : List (List ℕ) = whole_lines text in
-    let done : ServerState = after_driver_lines u (take k lines) old in
-    let next = one_more k lines line (whole_lines (drop used rest)) (at.ahead ∙ (next_whole at.ups.unfinished rest line used found).0) in
-    let was : Stands u.place done.upses (λ x. with_unfinished [] x ≡ with_unfinished [] at.ups) = stood_at (with_unfinished []) u.place done.upses (with_unfinished [] at.ups) (ap (ups_at u.place) (sym at.told) ∙ at_changed (with_unfinished []) u.place s.upses at.ups at.there) in
-    let same : line_changes was.ups.report.tree line ≡ line_changes at.ups.report.tree line = ap (λ (x : UpsState). line_changes x.report.tree line) was.is in
-    subst (λ (m : ℕ). IsStopped u text old (Err (Memory m)) t) (sym these) (
-      ap (λ (o : Option UpsState). option_map_or (wants_memory_for (slice_get lines k)) o false) was.there ∙ ap (λ (o : Option (List ℕ)). wants_memory_for o was.ups) next.2 ∙ same ∙ changes,
-      lost ∙ left_alike after_loss (λ x. refl) u s done at.told,
-    )
+    subst (λ (m : ℕ). IsStopped u text old (Err (Memory m)) t) (omega (arith, these))
+    (at.goes_on (Err (Memory 0)) t (rw (next_whole at.ups.unfinished rest line used found).0 (ap (λ (o : Option UpsState). option_map_or (wants_memory_for (Some line)) o false) at.there ∙ changes, lost)))
 stops_refused u k text old s t rest fault at never = absurd never
 
 -- where it was refused, the driver is lost

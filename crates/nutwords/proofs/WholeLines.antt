@@ -3,6 +3,7 @@ use Rattle.std.proofs.Common.{◌≡◌, ℕ, ◌<◌, ◌+◌, true, false, eqb
 use Rattle.std.specs.Prelude.{take_while}
 use Rattle.std.specs.Option.{option_map, option_map_or}
 use Rattle.std.proofs.lemmas.Bool.{cond-true, cond-false, lt-ltb, ltb-true, le-leb, lt-leb, false_from_ne_true}
+use Rattle.std.proofs.lemmas.Bool.Decides.{nat_tests}
 use Rattle.std.proofs.lemmas.List.Sums.{take_while-cons}
 use Rattle.std.proofs.Math.Seq.{drop-append-add, take-append_seam}
 use Rattle.nutwords.specs.SplitLine.{split_line, first_line, rest_after, FirstLineAndTheRestAreAll, FirstLineIsTheFrontOfItsLength, FirstLfEndsTheFirstLine}
@@ -20,14 +21,7 @@ first_and_more o = option_map_or (λ split. split.0 ∷ ended_lines split.1) o [
 ended_by : (text : List ℕ) → ended_lines text ≡ first_and_more (split_line text)
 unfolding ended_lines
 ended_by [] = refl
-ended_by (b ∷ text) = elim (eqb b 10) as (λ v. cond v ([] ∷ ended_lines text) (in_first b (ended_lines text)) ≡ first_and_more (cond v (Some ([], text)) (with_byte b (split_line text)))) [
-  | true ↦ refl
-  | false ↦ ap (in_first b) (ended_by text) ∙ behind (split_line text)
-]
-  where
-    behind : (o : Option (List ℕ × List ℕ)) → in_first b (first_and_more o) ≡ first_and_more (with_byte b o)
-    behind None = refl
-    behind (Some split) = refl
+ended_by (b ∷ text) = grind (arith, ended_by text)
 
 -- the whole lines: a first one that is short, and those of the rest
 whole_first : (text line rest : List ℕ) → split_line text ≡ Some (line, rest) → length line < LINE_ROOM → whole_lines text ≡ line ∷ whole_lines rest
@@ -51,8 +45,7 @@ no_whole text never = ap (take_while is_short) (ended_by text) ∙ by_first (spl
   where
     by_first : (o : Option (List ℕ × List ℕ)) → split_line text ≡ o → take_while is_short (first_and_more o) ≡ []
     by_first None e = refl
-    by_first (Some split) e =
-        take_while-cons is_short split.0 (ended_lines split.1) ∙ cond-false _ _ _ (false_from_ne_true (is_short split.0) (λ short. never split.0 split.1 e (ltb-true (length split.0) LINE_ROOM short)))
+    by_first (Some split) e = take_while-cons is_short split.0 (ended_lines split.1) ∙ grind (arith, nat_tests, never split.0 split.1 e)
 
 -- the lines and the tail of a text, of which no byte is lost
 pub record IsCutSo (text : List ℕ) (lines : List (List ℕ)) (tail : Tail) : Type 0 where
