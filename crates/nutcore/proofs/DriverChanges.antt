@@ -1,6 +1,6 @@
 -- What an event does to a UPS: what its driver told, what is owed, whether the driver stays, and the count; and what bytes do.
 use Rattle.std.proofs.Common.{◌≡◌, ◌≤◌, ◌∙◌, ◌+◌, ℕ, Bool, true, false, ◌&&◌, not, List, [], ◌∷◌, ◌++◌, Option, Some, None, refl, sym, ap, cond, min, take, drop, append_assoc, append-nil, arith}
-use Rattle.nutcore.proofs.Common.{never_both, and_from, flat_map-append, take-append-drop, UpsId, TrackingState, Event, cond_both}
+use Rattle.nutcore.proofs.Common.{never_both, and_from, flat_map-append, take-append-drop, UpsId, TrackingState, Event}
 use Rattle.nutdriver.specs.declared.report.Report.{Report}
 use Rattle.nutdriver.specs.declared.report.LineOutcome.{LineOutcome}
 use Rattle.nutdriver.specs.Report.{after_line, end_in}
@@ -10,7 +10,7 @@ use Rattle.nutwords.specs.Lines.{Tail, IsCutInto, line as one_line, unfinished, 
 use Rattle.nutwords.specs.WholeLines.{joined, whole_lines, unfinished_after, is_too_long, tail_after}
 use Rattle.nutwords.proofs.PublicLaws.{first_line_is_cut_off, no_line_without_lf, whole_lines_are_the_cut, whole_lines_and_the_rest_are_all}
 use Rattle.nutcore.specs.Reports.{with_end, is_unawaited}
-use Rattle.nutcore.specs.Ups.{UpsState, after_connecting, after_loss, greatest_count, is_refused, with_faulty_line, after_outcome, after_text, after_texts, with_unfinished}
+use Rattle.nutcore.specs.Ups.{UpsState, after_connecting, after_loss, greatest_count, after_outcome, after_text, after_texts, with_unfinished}
 use Rattle.nutcore.specs.Headline.{IsBeginning}
 use Rattle.nutcore.specs.Sound.{Each}
 use Rattle.nutcore.specs.DriverHistory.{Heard, heard_at, as_far, bytes_heard, after_heard, refusals, refused_among, IsWholeLine, CountsRefused, IsHeard}
@@ -35,11 +35,7 @@ pub record LineLeaves (unawaited : Bool) (x : UpsState) (r : Report × LineOutco
   pub beside : (bytes : List ℕ) → with_unfinished bytes y ≡ after_outcome unawaited (with_unfinished bytes x) r
 
 pub line_leaves : (unawaited : Bool) (x : UpsState) (r : Report × LineOutcome) → LineLeaves unawaited x r (after_outcome unawaited x r)
-line_leaves unawaited x r =
-    let y : UpsState = record x { report = r.0 } in
-    cond_both (is_refused unawaited r.1) (with_faulty_line y) y (LineLeaves unawaited x r)
-    (λ is. record { report = refl; pinged = refl; owed = refl; unfinished = refl; counted = λ few. rw is refl; beside = λ bytes. rw is refl })
-    (λ is. record { report = refl; pinged = refl; owed = refl; unfinished = refl; counted = λ few. rw is (omega (arith, few)); beside = λ bytes. rw is refl })
+line_leaves unawaited x r = grind arith
 
 -- whole lines, all at one moment
 record LinesLeave (lines : List Heard) (x y : UpsState) : Type 0 where

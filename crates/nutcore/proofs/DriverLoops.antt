@@ -164,12 +164,10 @@ stops_refused u k text old s t rest fault at never = absurd never
 
 -- where it was refused, the driver is lost
 pub told_lost : (u : UpsId) (text : List ℕ) (old s t : ServerState) (r : Result (Unit {0}) Fault) → is_err r ≡ true → IsStopped u text old r s → t ≡ with_ups_changed after_loss u s → IsTold u text old r t
-told_lost u text old s t (Ok v) failed stopped lost = cc failed
-told_lost u text old s t (Err fault) failed stopped lost = subst (IsTold u text old (Err fault)) (sym lost) stopped
+told_lost u text old s t r failed stopped lost = grind arith
 
 pub told_kept : (u : UpsId) (text : List ℕ) (old s : ServerState) (r : Result (Unit {0}) Fault) → is_err r ≡ false → IsStopped u text old r s → IsTold u text old r s
-told_kept u text old s (Ok v) went stopped = stopped
-told_kept u text old s (Err fault) went stopped = cc went
+told_kept u text old s r went stopped = grind arith
 
 -- What a line did to the UPS of its driver, said of the server.
 pub record HasDone (u : UpsId) (length : Option ℕ) (piece : List ℕ) (s : ServerState) (r : Result LineOutcome AllocError) (t : ServerState) : Type 0 where

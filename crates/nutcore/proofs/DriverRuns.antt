@@ -1,32 +1,23 @@
 -- What a driver told, was told and was sent over whole runs: since it connected, up to its loss, and the count of its refused lines.
-use Rattle.std.proofs.Common.{◌≡◌, ◌∙◌, ◌+◌, ℕ, true, false, List, [], ◌∷◌, ◌++◌, Option, Some, refl, sym, ap, subst, min, append_assoc, append-nil, arith, Bool, not, ◌&&◌, ◌≤◌, ◌<◌, Result, Ok, Err, length, inl, inr}
-use Rattle.nutcore.proofs.Common.{option_map, option_map_or, flat_map-append, same_Some, UpsId, Event, Outcome, ServerState, ups_at, after, Run, UpsState, never_both, cond-false}
+use Rattle.std.proofs.Common.{◌≡◌, ◌∙◌, ◌+◌, ℕ, true, false, List, [], ◌∷◌, ◌++◌, Option, Some, refl, sym, ap, subst, min, append_assoc, append-nil, arith, Bool, not, ◌&&◌, ◌≤◌, ◌<◌, length, inl, inr}
+use Rattle.nutcore.proofs.Common.{option_map_or, flat_map-append, same_Some, UpsId, Event, Outcome, ServerState, ups_at, after, Run, UpsState, never_both}
 use Rattle.nutdriver.specs.declared.report.Report.{Report}
-use Rattle.nutdriver.specs.Report.{after_line, lost_report, after_step, after_reading}
+use Rattle.nutdriver.specs.Report.{after_line, lost_report}
 use Rattle.nutwords.specs.Text.{with_lf}
 use Rattle.nutcore.specs.Ups.{UpsState, greatest_count, new_ups, after_connecting}
 use Rattle.nutcore.specs.DriverHistory.{Heard, heard_in_event, heard, bytes_heard, after_heard, refused_among, IsWholeLine, came_in_event, came, has_driver, StaysConnected, IsHeard, WhatADriverToldIsExecuted}
 use Rattle.nutcore.proofs.UpsPlaces.{read_off, Stands, within}
 use Rattle.nutcore.proofs.DriverChanges.{count_is_few, both_counts, Does}
 use Rattle.nutcore.proofs.Events.{each}
-use Rattle.nutcore.specs.Calls.{is_connected}
-use Rattle.nutcore.proofs.DriverSteps.{IsThere, is_there}
+use Rattle.nutcore.proofs.DriverSteps.{IsThere}
 use Rattle.nutcore.proofs.SoundUps.{each_join, each_get, each_same}
 use Rattle.nutcore.specs.Sound.{IsSoundUps, IsSound, EachEventKeepsTheServerSound, Each, ANewServerIsSound, EveryRunKeepsTheServerSound}
 use Rattle.nutcore.specs.DriverOrders.{Telling, texts_of, told_in_event, owed_to_driver, taken_in_event, is_lost_by, Connections, last, lost, with_front, in_front, connections, IsSentAndOwed, WhatADriverWasSentAndIsOwedIsWhatItWasTold}
 use Rattle.std.specs.Prelude.{◌⊎◌}
-use Rattle.nutdriver.specs.declared.line.DriverLine.{DriverLine}
-use Rattle.nutdriver.specs.declared.fault.DriverFault.{DriverFault}
-use Rattle.nutdriver.specs.declared.effect.Effect.{Effect}
-use Rattle.nutdriver.specs.declared.effect.Effect.TheVariants.{Tracked}
-use Rattle.nutdriver.specs.Tree.{TreeState}
-use Rattle.nutdriver.specs.DriverLine.{read_driver_line}
-use Rattle.nutdriver.specs.DriverStep.{driver_step}
-use Rattle.nutdriver.specs.declared.report.LineOutcome.TheVariants.{Refused}
 use Rattle.nutcore.specs.declared.event.Event.TheVariants.{DriverUp}
 use Rattle.nutcore.specs.declared.event.Outcome.TheVariants.{Done}
-use Rattle.nutcore.specs.Step.{Step, MayAnswer, MayLackMemory, connected_by, outcome_of, after}
-use Rattle.nutcore.specs.DriverRuns.{IsNewServer, ConnectsHere, ConnectedInRun, WhatCameSinceConnectingIsExecuted, ALostDriversLinesAreABeginning, IsRefusedFor, WhichLinesAreRefused, count_of, refused_lines, RefusedLinesAreCounted, ANewServerCountsAllRefusedLines}
+use Rattle.nutcore.specs.Step.{Step, MayAnswer, MayLackMemory, outcome_of, after}
+use Rattle.nutcore.specs.DriverRuns.{IsNewServer, ConnectsHere, ConnectedInRun, WhatCameSinceConnectingIsExecuted, ALostDriversLinesAreABeginning, WhichLinesAreRefused, count_of, refused_lines, RefusedLinesAreCounted, ANewServerCountsAllRefusedLines}
 use Rattle.std.proofs.lemmas.Bool.{cases_Bool}
 
 pub has_it : (u : UpsId) (s : ServerState) (x : UpsState) → ups_at u.place s ≡ Some x → has_driver u s ≡ x.report.connected
@@ -63,10 +54,7 @@ heard_both x y z a b ls ms f g = record {
 }
 
 driver_there : (u : UpsId) (s : ServerState) → has_driver u s ≡ true → IsThere s u true
-driver_there u s h = is_there s u true (of_some (ups_at u.place s) h)
-  where
-    of_some : (o : Option UpsState) → option_map_or (λ (y : UpsState). y.report.connected) o false ≡ true → option_map is_connected o ≡ Some true
-    of_some o e = grind arith
+driver_there u s h = grind arith
 
 pub first_stays : (u : UpsId) (s : ServerState) (es : List Event) (os : List Outcome) → StaysConnected u s es os → has_driver u s ≡ true
 first_stays u s (e ∷ es) (o ∷ os) h = h.0
@@ -151,8 +139,7 @@ new_at s u new few =
 -- a connection begins
 up_done : (u : UpsId) (s : ServerState) (o : Outcome) (x : UpsState) → ups_at u.place s ≡ Some x → x.report.connected ≡ false → MayAnswer s (DriverUp u) o → o ≡ Done
 unfolding outcome_of MayLackMemory
-up_done u s o x there absent (inl is) = is ∙ ap connected_by there ∙ cond-false _ _ _ absent
-up_done u s o x there absent (inr (k, is, never)) = absurd never
+up_done u s o x there absent may = grind arith
 
 begins_here : (u : UpsId) (s : ServerState) (e : Event) (o : Outcome) (es : List Event) (os : List Outcome) (now : UpsState) → e ≡ DriverUp u → o ≡ Done → ConnectsHere u s es os now → ConnectedInRun u s (e ∷ es) (o ∷ os) now
 begins_here u s e o es os now is done connects = record { events_before = []; outcomes_before = []; server = s; events_since = es; outcomes_since = os; events_are = ap (λ (z : Event). z ∷ es) is; outcomes_are = ap (λ (z : Outcome). z ∷ os) done; reached = refl; connects = connects }
@@ -249,22 +236,7 @@ lost_lines_begin old mid new es os e o u r stays step gone =
 
 -- which lines are refused
 pub which_are_refused : WhichLinesAreRefused
-which_are_refused = record { refused = is; only = λ moment report line fault h. by_reading moment report line fault (read_driver_line line) refl h }
-  where
-    at : ℕ → Report → Report
-    at moment report = record report { heard = moment }
-
-    is : (moment : ℕ) (report : Report) (line : List ℕ) (fault : DriverFault) → IsRefusedFor report line fault → after_reading (at moment report) (read_driver_line line) ≡ (at moment report, Refused fault)
-    is moment report line fault h = grind arith
-
-    by_step : (moment : ℕ) (report : Report) (line : List ℕ) (fault : DriverFault) (said : DriverLine) → read_driver_line line ≡ Ok said → (r : Result (TreeState × Effect) DriverFault) → driver_step report.tree said ≡ r → (after_step (at moment report) r).1 ≡ Refused fault → IsRefusedFor report line fault
-    by_step moment report line fault said read (Ok (tree, Tracked id number)) e h = cc h
-    by_step moment report line fault said read (Ok (tree, effect)) e h = cc h
-    by_step moment report line fault said read (Err f) e h = inr (said, read, (cc))
-
-    by_reading : (moment : ℕ) (report : Report) (line : List ℕ) (fault : DriverFault) (r : Result DriverLine DriverFault) → read_driver_line line ≡ r → (after_reading (at moment report) r).1 ≡ Refused fault → IsRefusedFor report line fault
-    by_reading moment report line fault (Ok said) e h = by_step moment report line fault said e (driver_step report.tree said) refl h
-    by_reading moment report line fault (Err f) e h = inl (cc)
+which_are_refused = grind arith
 
 -- they are counted
 run_counts : (old new : ServerState) (es : List Event) (os : List Outcome) (u : UpsId) (x : UpsState) → ups_at u.place old ≡ Some x → x.faulty ≤ greatest_count → Run old es os new → count_of u new ≡ min (x.faulty + refused_lines u old es os) greatest_count

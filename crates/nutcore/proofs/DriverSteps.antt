@@ -1,6 +1,6 @@
 -- Each event of a driver, over plain states.
 use Rattle.std.proofs.Common.{◌≡◌, subst, ℕ, zero, suc, ◌<◌, Bool, true, false, not, ◌&&◌, leb, List, [], ◌∷◌, Option, Some, None, Result, Ok, Err, refl, sym, ◌∙◌, ap, arith, length, max, map, take, drop, ◌++◌, set, get_or, inl, inr, cond}
-use Rattle.nutcore.proofs.Common.{option_map, option_map_or, cond-true, cond-false, and_from, le-leb, lt-leb, same_Some, slice_get_within, UpsId, Event, Fault, Outcome, ServerState, ups_at, with_ups_changed}
+use Rattle.nutcore.proofs.Common.{option_map, option_map_or, cond-true, cond-false, and_from, le-leb, lt-leb, slice_get_within, UpsId, Event, Fault, Outcome, ServerState, ups_at, with_ups_changed}
 use Rattle.nutcore.specs.declared.event.Event.TheVariants.{DriverUp, DriverBytes, DriverTook, DriverDown, Tick}
 use Rattle.nutcore.specs.declared.event.Outcome.TheVariants.{Done, Refused}
 use Rattle.nutcore.specs.declared.event.Fault.TheVariants.{NoSuchUps, NotConnected, AlreadyConnected, LineTooLong, Memory}
@@ -16,11 +16,7 @@ abbrev pub IsThere : ServerState → UpsId → Bool → Type 0
 IsThere s u b = Stands u.place s.upses (λ x. x.report.connected ≡ b)
 
 pub is_there : (s : ServerState) (u : UpsId) (b : Bool) → option_map is_connected (ups_at u.place s) ≡ Some b → IsThere s u b
-is_there s u b h = there_by (ups_at u.place s) refl h
-  where
-    there_by : (o : Option UpsState) → ups_at u.place s ≡ o → option_map is_connected o ≡ Some b → IsThere s u b
-    there_by None e k = cc k
-    there_by (Some x) e k = record { ups = x; there = e; is = same_Some x.report.connected b k }
+is_there s u b h = grind arith
 
 pub there_within : (s : ServerState) (u : UpsId) (b : Bool) → IsThere s u b → u.place < length s.upses
 there_within s u b h = slice_get_within s.upses u.place h.ups h.there
@@ -130,6 +126,4 @@ changed_so_far f (suc p) (y ∷ xs) x lt e = ap (λ (zs : List UpsState). f y �
 
 pub ticked_is : (s : ServerState) (seconds moment age : ℕ) (xs : List UpsState) → moment ≡ max seconds s.moment → age ≡ s.max_age → xs ≡ map (after_tick age moment) s.upses → (let code : ServerState = record s { moment = moment; upses = xs } in code ≡ ticked seconds s)
 unfolding ticked
-ticked_is s seconds moment age xs em ea exs =
-    ap (λ (ys : List UpsState). let z : ServerState = record s { moment = moment; upses = ys } in z) (exs ∙ ap (λ (a : ℕ). map (after_tick a moment) s.upses) ea)
-    ∙ ap (λ (m : ℕ). let z : ServerState = record s { moment = m; upses = map (after_tick s.max_age m) s.upses } in z) em
+ticked_is s seconds moment age xs em ea exs = grind arith

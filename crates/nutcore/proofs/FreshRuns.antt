@@ -6,8 +6,7 @@ use Rattle.std.proofs.lemmas.List.Elements.{All-weaker}
 use Rattle.nutcore.proofs.Common.{same_Some, slice_get_within, UpsId, Event, Outcome, UpsState, ServerState, ups_at, Run, slice_get-map}
 use Rattle.nutdriver.specs.declared.report.Report.{Report}
 use Rattle.nutdriver.specs.Sound.{IsSoundTree}
-use Rattle.nutdriver.specs.LastLine.{TheLastLineDecides, TheLastLineOnAVariableDecidesIt}
-use Rattle.nutdriver.specs.Additions.{changes}
+use Rattle.nutdriver.specs.LastLine.{TheLastLineOnAVariableDecidesIt}
 use Rattle.nutdriver.specs.Report.{Heard, connected_report, after_line, after_heard}
 use Rattle.nutanswer.specs.declared.command.Command.{Command}
 use Rattle.nutanswer.specs.declared.err_word.ErrWord.{ErrWord}
@@ -220,5 +219,4 @@ whatever_is_told_is_fresh told opening keeps old new es os is_new r =
 
 -- what a driver set last
 pub set_last_is_held : TheLastLineOnAVariableDecidesIt → WhatADriverSetLastIsHeld
-set_last_is_held decides old es os u now name k =
-    subst (λ (r : Report). TheLastLineDecides r.tree (changes (connected_report k.server.moment) (lines_since k)) name) (sym k.connects.is_heard.report) (decides k.server.moment (lines_since k) name)
+set_last_is_held decides old es os u now name k = grind arith

@@ -89,17 +89,14 @@ changes_kept v change xs t e f fits h =
 
 -- its driver takes bytes
 pub driver_taken_kept : (m n : ℕ) (x y : UpsState) (r : Result (Unit {0}) Fault) → IsTaken n x r y → IsSoundUps m x → IsSoundUps m y
-driver_taken_kept m n x y (Ok u) taken h =
-    subst (IsSoundUps m) (sym taken.1) (sound_fewer m n x h)
-driver_taken_kept m n x y (Err fault) taken h = subst (IsSoundUps m) (sym taken.2) h
+driver_taken_kept m n x y r taken h = grind (arith, sound_fewer m n x h)
 
 -- its next line is looked for: what is held after that is no longer than a line
 cut_short : (held piece after : List ℕ) (r : Found) → Finds held piece r after → length after ≤ LINE_LIMIT
 cut_short held piece after r finds = grind arith
 
 pub driver_cut_kept : (m : ℕ) (piece : List ℕ) (x y : UpsState) (r : Found) → IsCut piece x r y → x.report.connected ≡ true → IsSoundUps m x → IsSoundUps m y
-driver_cut_kept m piece x y r cut connected h =
-    subst (IsSoundUps m) (sym cut.leaves) (sound_bytes m y.unfinished x (cut_short x.unfinished piece y.unfinished r cut.finds) (record { is = h; connected = connected })).is
+driver_cut_kept m piece x y r cut connected h = grind arith
 
 -- a line of its driver is done, or memory is refused
 module _ (empty : IsSoundTree empty_tree) (line_keeps : EachLineKeepsTheTreeSound) where

@@ -1,9 +1,9 @@
 -- Every server is sound.
-use Rattle.std.proofs.Common.{◌≡◌, ◌≤◌, ◌<◌, ◌+◌, ◌-◌, ◌^◌, ℕ, true, false, List, [], ◌∷◌, ◌++◌, Some, None, refl, sym, ◌∙◌, ap, subst, eqb, max, map, length, length-append, length-take, length-drop, arith, inl, inr, rules, Result, Ok}
+use Rattle.std.proofs.Common.{◌≡◌, ◌≤◌, ◌<◌, ◌+◌, ◌-◌, ◌^◌, ℕ, true, false, List, [], ◌∷◌, ◌++◌, Some, None, refl, sym, ◌∙◌, ap, subst, eqb, max, map, length, length-append, length-take, length-drop, arith, rules, Result, Ok}
 use Rattle.std.specs.Prelude.{nat_lt}
 use Rattle.nutdriver.specs.Tree.{empty_tree}
 use Rattle.nutdriver.specs.Sound.{IsSoundTree, EachLineKeepsTheTreeSound, ReadLinesAreLawful, IsLawfulLine}
-use Rattle.nutcore.proofs.Common.{never_both, ltb-true, cond_both, and_parts, length-map, length-replicate, same_Some, UpsId, Change, ServerState, changed_at, with_session, with_session_changed, with_ups_changed, with_tracking, TrackingState}
+use Rattle.nutcore.proofs.Common.{ltb-true, cond_both, and_parts, length-map, length-replicate, UpsId, Change, ServerState, changed_at, with_session, with_session_changed, with_ups_changed, with_tracking, TrackingState}
 use Rattle.std.proofs.lemmas.List.Elements.{All-nil}
 use Rattle.nuttracking.specs.Sound.{IsLawfulProgress, HaveLawfulNumbers, IsSoundTracking}
 use Rattle.nuttracking.specs.Tracking.{TrackingState}
@@ -63,9 +63,7 @@ each_put P y p (x ∷ xs) all = cond_both (eqb x.id y.id) (y ∷ xs) (x ∷ put 
 
 pub each_without : (P : SessionState → Type 0) (c : ℕ) (xs : List SessionState) → Each P xs → Each P (without c xs)
 each_without P c [] all = tt
-each_without P c (x ∷ xs) all =
-    let rest = each_without P c xs all.1 in
-    cond_both (eqb x.id c) (without c xs) (x ∷ without c xs) (Each P) (λ e. rest) (λ e. (all.0, rest))
+each_without P c (x ∷ xs) all = grind (arith, each_without P c xs all.1)
 
 fewer : (c : ℕ) (xs : List SessionState) → length (without c xs) ≤ length xs
 fewer c [] = omega arith
@@ -73,9 +71,7 @@ fewer c (x ∷ xs) = grind (arith, fewer c xs)
 
 pub each_found : (P : SessionState → Type 0) (c : ℕ) (xs : List SessionState) (x : SessionState) → find c xs ≡ Some x → Each P xs → P x
 each_found P c [] x e all = cc e
-each_found P c (z ∷ xs) x e all =
-    let rest = each_found P c xs x in
-    cond_both (eqb z.id c) (Some z) (find c xs) (λ o. o ≡ Some x → P x) (λ k same. subst P (same_Some z x same) all.0) (λ k found. rest found all.1) e
+each_found P c (z ∷ xs) x e all = grind (arith, each_found P c xs x)
 
 -- with other sessions, and with other UPSs
 sessions_sound : (s : ServerState) (sessions : List SessionState) (next_id : ℕ) → length sessions ≤ SESSION_LIMIT → IdsRise 1 next_id sessions → Each IsSoundSession sessions → IsSound s
@@ -95,13 +91,7 @@ is_tracked s h = record { sound = h.tracking; numbers = h.numbers }
 
 -- sessions
 pub sound_answered : (change : Change) (line text : List ℕ) (x : SessionState) → x.ending ≡ false → IsSoundSession x → IsSoundSession (changed_session change (answered line text x))
-sound_answered change line text x going h =
-    let y : SessionState = answered line text x in
-    let kept = keeps change y in
-    record {
-      held = (let few = h.held in let less = kept.shorter in omega (arith, few, less, length-drop (length line + 1) x.held));
-      ending = λ e. elim (kept.ended e) [ inl already ↦ never_both x.ending already going | inr ends ↦ ends ];
-    }
+sound_answered change line text x going h = grind (arith, keeps change (answered line text x), length-drop {A = ℕ})
 
 pub sound_input : (piece : List ℕ) (x : SessionState) → IsSoundSession x → IsSoundSession (joined piece x)
 sound_input piece x h = record {

@@ -13,7 +13,7 @@ use Rattle.nutcore.proofs.Common.{never_both, cond_both, TrackingState, Change, 
 use Rattle.nutcore.specs.declared.TheConstants.{DRIVER_OWED_LIMIT}
 use Rattle.nutwords.specs.WholeLines.{whole_lines, unfinished_after, is_too_long}
 use Rattle.nutcore.specs.Reports.{with_end, is_unawaited}
-use Rattle.nutcore.specs.Ups.{UpsState, new_ups, after_connecting, after_loss, with_fsd, with_order, ping_is_due, ping_line, after_tick, is_refused, after_outcome, after_text, after_texts, with_unfinished}
+use Rattle.nutcore.specs.Ups.{UpsState, after_connecting, after_loss, with_fsd, with_order, after_tick, after_outcome, after_text, after_texts, with_unfinished}
 use Rattle.nutcore.specs.Reply.{changed_upses}
 use Rattle.nutcore.specs.Promises.{TakesLine, OrderFits}
 use Rattle.nutcore.proofs.Changes.{of_upses}
@@ -72,39 +72,23 @@ pub sound_bytes : (m : ℕ) (bytes : List ℕ) (x : UpsState) → length bytes �
 sound_bytes m bytes x short h = sound_there m _ h.is.tree h.is.heard h.is.pinged h.is.owed short h.connected
 
 sound_counted : (m : ℕ) (unawaited : Bool) (x : UpsState) (r : Report × LineOutcome) → (let y : UpsState = record x { report = r.0 } in IsSoundConnected m y) → IsSoundConnected m (after_outcome unawaited x r)
-sound_counted m unawaited x r h =
-    cond_both (is_refused unawaited r.1) _ _ (IsSoundConnected m) (λ refused. sound_there m _ h.is.tree h.is.heard h.is.pinged h.is.owed h.is.unfinished h.connected) (λ accepted. h)
+sound_counted m unawaited x r h = grind arith
 
 -- bytes are taken from what is owed
 pub sound_fewer : (m n : ℕ) (x : UpsState) → IsSoundUps m x → IsSoundUps m (record x { owed = drop n x.owed })
-sound_fewer m n x h =
-    let owed : length (drop n x.owed) ≤ DRIVER_OWED_LIMIT = (let few = h.owed in omega (arith, few, length-drop n x.owed)) in
-    let lost = λ (e : x.report.connected ≡ false).
-    ap (λ (y : UpsState). let z : UpsState = record y { owed = drop n y.owed } in z) (h.lost e)
-    ∙ ap (λ (bytes : List ℕ). let z : UpsState = record new_ups { fsd = x.fsd; faulty = x.faulty; owed = bytes } in z) (drop-nil n) in
-    search rules
+sound_fewer m n x h = grind (arith, length-drop {A = ℕ}, drop-nil {A = ℕ})
 
 pub sound_took : (m n : ℕ) (x : UpsState) → IsSoundUps m x → IsSoundUps m (after_driver_took n x)
 sound_took m n x h = cond_both (driver_may_take n x) _ x (IsSoundUps m) (λ e. sound_fewer m n x h) (λ e. h)
 
--- a PING is due where the driver is connected, and the line fits
-due_parts : (ma now : ℕ) (x : UpsState) → ping_is_due ma now x ≡ true → (x.report.connected ≡ true) × (length x.owed + length ping_line ≤ DRIVER_OWED_LIMIT)
-due_parts ma now x e = grind arith
-
 pub sound_tick : (ma m now : ℕ) (x : UpsState) → m ≤ now → IsSoundUps m x → IsSoundUps now (after_tick ma now x)
-sound_tick ma m now x later h =
-    let stays : IsSoundUps now x = search (rules, arith) in
-    let pinged : UpsState = record x { pinged = now; owed = x.owed ++ ping_line } in
-    cond_both (ping_is_due ma now x) pinged x (IsSoundUps now) (λ e. let due = due_parts ma now x e in (sound_there now pinged h.tree stays.heard (omega arith) (omega (arith, due.1, length-append x.owed ping_line)) h.unfinished due.0).is) (λ e. stays)
+sound_tick ma m now x later h = grind (arith, length-append {A = ℕ})
 
 sound_fsd : (m : ℕ) (x : UpsState) → IsSoundUps m x → IsSoundUps m (with_fsd x)
 sound_fsd m x h = let lost = λ (e : x.report.connected ≡ false). ap with_fsd (h.lost e) in search rules
 
 sound_order : (m : ℕ) (line : List ℕ) (x : UpsState) → TakesLine line x → IsSoundUps m x → IsSoundUps m (with_order line x)
-sound_order m line x takes h =
-    let few = h.owed in
-    let room = takes.fits in
-    (sound_there m (with_order line x) h.tree h.heard h.pinged (omega (arith, few, room, length-append x.owed line)) h.unfinished takes.connected).is
+sound_order m line x takes h = grind (arith, length-append {A = ℕ})
 
 pub sound_changes : (m : ℕ) (change : Change) (xs : List UpsState) → OrderFits change xs → Each (IsSoundUps m) xs → Each (IsSoundUps m) (changed_upses change xs)
 sound_changes m change xs fits all =
