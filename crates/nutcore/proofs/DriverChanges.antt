@@ -13,7 +13,7 @@ use Rattle.nutcore.specs.Reports.{with_end, is_unawaited}
 use Rattle.nutcore.specs.Ups.{UpsState, after_connecting, after_loss, greatest_count, after_outcome, after_text, after_texts, with_unfinished}
 use Rattle.nutcore.specs.Headline.{IsBeginning}
 use Rattle.nutcore.specs.Sound.{Each}
-use Rattle.nutcore.specs.DriverHistory.{Heard, heard_at, as_far, bytes_heard, after_heard, refusals, refused_among, IsWholeLine, CountsRefused, IsHeard}
+use Rattle.nutcore.specs.DriverHistory.{Heard, heard_at, as_far, bytes_heard, after_heard, refusals, IsWholeLine, CountsRefused, IsHeard}
 use Rattle.nutcore.specs.DriverOrders.{Telling, texts_of}
 use Rattle.nutcore.proofs.DriverText.{ups_after_text, ups_after_bytes}
 
@@ -48,19 +48,7 @@ lines_leave m place t [] x = record { report = refl; owed = refl; counted = λ f
 lines_leave m place t (line ∷ lines) x =
     let r : Report × LineOutcome = after_line m x.report line in
     let b : Bool = is_unawaited place (end_in line) t in
-    let next : TrackingState = with_end place (end_in line) t in
-    let y : UpsState = after_text m b x line in
-    let later : List Heard = heard_at m place next lines in
-    let one = line_leaves b x r in
-    let rest = lines_leave m place next lines y in
-    let more : Report → ℕ = λ (report : Report). refused_among report later in
-    record {
-      report = rest.report ∙ ap (λ (report : Report). after_heard report later) one.report;
-      owed = rest.owed ∙ one.owed;
-      counted = λ few.
-          both_counts x.faulty y.faulty (after_texts m place next lines y).faulty (refusals b r.1) (more r.0) greatest_count (one.counted few)
-          (rest.counted (count_is_few (x.faulty + refusals b r.1) y.faulty greatest_count (one.counted few)) ∙ ap (λ (report : Report). min (y.faulty + more report) greatest_count) one.report);
-    }
+    grind (arith, line_leaves b x r, lines_leave m place (with_end place (end_in line) t) lines (after_text m b x line))
 
 bytes_at : (m place : ℕ) (t : TrackingState) (lines : List (List ℕ)) → bytes_heard (heard_at m place t lines) ≡ joined lines
 bytes_at m place t [] = refl

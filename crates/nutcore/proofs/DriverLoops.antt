@@ -63,10 +63,7 @@ wants_beside u text k s =
     ∙ ap (λ (o : Option UpsState). option_map_or (wants_memory_for next) o false) (changed_there (with_unfinished []) u.place done.upses) ∙ wants_alike next (ups_at u.place done)
 
 stopped_beside : (u : UpsId) (text : List ℕ) (s : ServerState) (r : Result (Unit {0}) Fault) (t : ServerState) → IsStopped u text (holding_nothing u s) r t → IsStopped u text s r t
-stopped_beside u text s (Ok v) t (short, e) = (short, e ∙ text_beside u text None s)
-stopped_beside u text s (Err LineTooLong) t (long, e) = (long, e ∙ text_beside u text None s)
-stopped_beside u text s (Err (Memory k)) t (wants, e) = (sym (wants_beside u text k s) ∙ wants, e ∙ text_beside u text (Some k) s)
-stopped_beside u text s (Err fault) t never = absurd never
+stopped_beside u text s r t h = grind (arith, text_beside, wants_beside)
 
 -- the next line that is found is the first whole one, and where none is whole all is unfinished
 next_whole : (held piece line : List ℕ) (used : ℕ) → FindsLine held piece line used → let left : List ℕ = drop used piece in (whole_lines (held ++ piece) ≡ line ∷ whole_lines left) × (unfinished_after (held ++ piece) ≡ unfinished_after left)
@@ -93,10 +90,7 @@ so_far done r = r
 
 stops_later : (u : UpsId) (held piece line : List ℕ) (used : ℕ) (s : ServerState) → FindsLine held piece line used → (r : Result (Unit {0}) Fault) (t : ServerState) → IsStopped u (drop used piece) (after_driver_line u line s) r t → IsStopped u (held ++ piece) s (one_later r) t
 unfolding after_driver_text wants_driver_memory
-stops_later u held piece line used s found (Ok v) t h = let whole = next_whole held piece line used found in rw (whole.0, whole.1) h
-stops_later u held piece line used s found (Err LineTooLong) t h = let whole = next_whole held piece line used found in rw (whole.0, whole.1) h
-stops_later u held piece line used s found (Err (Memory k)) t h = let whole = next_whole held piece line used found in rw whole.0 h
-stops_later u held piece line used s found (Err fault) t never = absurd never
+stops_later u held piece line used s found r t h = grind (arith, next_whole held piece line used found)
 
 -- Where the reading stands: k lines are done, and what is told of what is held and the rest is told of the whole text.
 pub record IsAtLine (u : UpsId) (k : ℕ) (text : List ℕ) (old now : ServerState) (rest : List ℕ) : Type 0 where

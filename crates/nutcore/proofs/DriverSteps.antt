@@ -1,11 +1,12 @@
 -- Each event of a driver, over plain states.
-use Rattle.std.proofs.Common.{◌≡◌, subst, ℕ, zero, suc, ◌<◌, Bool, true, false, not, ◌&&◌, leb, List, [], ◌∷◌, Option, Some, None, Result, Ok, Err, refl, sym, ◌∙◌, ap, arith, length, max, map, take, drop, ◌++◌, set, get_or, inl, inr, cond}
-use Rattle.nutcore.proofs.Common.{option_map, option_map_or, cond-true, cond-false, and_from, le-leb, lt-leb, slice_get_within, UpsId, Event, Fault, Outcome, ServerState, ups_at, with_ups_changed}
+use Rattle.std.proofs.Common.{◌≡◌, subst, ℕ, zero, suc, ◌<◌, Bool, true, false, not, List, [], ◌∷◌, Option, Some, None, Result, refl, sym, ◌∙◌, ap, arith, length, max, map, take, drop, ◌++◌, set, get_or, inl, inr, cond}
+use Rattle.std.proofs.lemmas.Bool.Decides.{nat_tests}
+use Rattle.nutcore.proofs.Common.{option_map, option_map_or, cond-true, cond-false, slice_get_within, UpsId, Event, Fault, Outcome, ServerState, ups_at, with_ups_changed}
 use Rattle.nutcore.specs.declared.event.Event.TheVariants.{DriverUp, DriverBytes, DriverTook, DriverDown, Tick}
 use Rattle.nutcore.specs.declared.event.Outcome.TheVariants.{Done, Refused}
-use Rattle.nutcore.specs.declared.event.Fault.TheVariants.{NoSuchUps, NotConnected, AlreadyConnected, LineTooLong, Memory}
+use Rattle.nutcore.specs.declared.event.Fault.TheVariants.{NoSuchUps, NotConnected, AlreadyConnected}
 use Rattle.nutcore.specs.Ups.{UpsState, after_connecting, after_loss, after_tick}
-use Rattle.nutcore.specs.Step.{Step, connected, disconnected, after_driver_text, after_driver_bytes, after_driver_took, ticked, connected_by, disconnected_by, driver_took_by, driver_bytes_by, driver_may_lack_memory, outcome_of, after_by, MayLackMemory, wants_driver_memory}
+use Rattle.nutcore.specs.Step.{Step, connected, disconnected, after_driver_text, after_driver_bytes, after_driver_took, ticked, connected_by, disconnected_by, driver_took_by, driver_bytes_by, outcome_of, after_by, MayLackMemory}
 use Rattle.nutcore.specs.Calls.{is_connected, done}
 use Rattle.nutcore.specs.Promises.{OfUps, IsTaken, IsTold, IsNotConnected}
 use Rattle.nutcore.proofs.UpsPlaces.{Stands, of_ups, server_agree, changed_to}
@@ -46,10 +47,7 @@ up_again s u h = refused s (DriverUp u) AlreadyConnected (ap connected_by h.ther
 
 pub up_done : (s t : ServerState) (u : UpsId) → IsThere s u false → t ≡ with_ups_changed (after_connecting s.moment) u s → Step s (DriverUp u) Done t
 unfolding outcome_of after_by
-up_done s t u h e = record {
-  allowed = inl (sym (ap connected_by h.there ∙ cond-false _ _ _ h.is));
-  leaves = e ∙ server_agree s u (after_connecting s.moment) (connected s.moment) (of_ups s u h.ups (λ x. after_connecting s.moment x ≡ connected s.moment x) h.there (sym (cond-false _ _ _ h.is)));
-}
+up_done s t u h e = grind (arith, server_agree s u (after_connecting s.moment) (connected s.moment))
 
 -- a driver is lost
 pub down_refused : (s : ServerState) (u : UpsId) (fault : Fault) → IsNotConnected u fault s → Step s (DriverDown u) (Refused fault) s
@@ -58,10 +56,7 @@ down_refused s u fault h = refused_as s u (DriverDown u) fault disconnected_by r
 
 pub down_done : (s t : ServerState) (u : UpsId) → IsThere s u true → t ≡ with_ups_changed after_loss u s → Step s (DriverDown u) Done t
 unfolding outcome_of after_by
-down_done s t u h e = record {
-  allowed = inl (sym (ap disconnected_by h.there ∙ cond-true _ _ _ h.is));
-  leaves = e ∙ server_agree s u after_loss disconnected (of_ups s u h.ups (λ x. after_loss x ≡ disconnected x) h.there (sym (cond-true _ _ _ h.is)));
-}
+down_done s t u h e = grind (arith, server_agree s u after_loss disconnected)
 
 -- bytes of a driver
 pub bytes_refused : (s : ServerState) (u : UpsId) (piece : List ℕ) (fault : Fault) → IsNotConnected u fault s → Step s (DriverBytes u piece) (Refused fault) s
@@ -75,19 +70,7 @@ bytes_told s u piece m x there is = sym (ap (λ (o : Option UpsState). option_ma
 
 fed_by : (s t : ServerState) (u : UpsId) (piece : List ℕ) (x : UpsState) (r : Result (Unit {0}) Fault) → ups_at u.place s ≡ Some x → x.report.connected ≡ true → IsTold u (x.unfinished ++ piece) s r t → Step s (DriverBytes u piece) (done r) t
 unfolding outcome_of after_by MayLackMemory
-fed_by s t u piece x (Ok v) there is (short, e) = record {
-  allowed = inl (sym (ap (driver_bytes_by piece) there ∙ cond-true _ _ _ is ∙ cond-false _ _ _ short));
-  leaves = e ∙ bytes_told s u piece None x there is;
-}
-fed_by s t u piece x (Err LineTooLong) there is (long, e) = record {
-  allowed = inl (sym (ap (driver_bytes_by piece) there ∙ cond-true _ _ _ is ∙ cond-true _ _ _ long));
-  leaves = e ∙ bytes_told s u piece None x there is;
-}
-fed_by s t u piece x (Err (Memory k)) there is (wants, e) = record {
-  allowed = inr (k, refl, (let may : driver_may_lack_memory u piece k s ≡ true = ap (λ (o : Option UpsState). option_map_or (λ x. x.report.connected && wants_driver_memory u (x.unfinished ++ piece) k s) o false) there ∙ and_from _ _ is wants in may));
-  leaves = e ∙ bytes_told s u piece (Some k) x there is;
-}
-fed_by s t u piece x (Err fault) there is never = absurd never
+fed_by s t u piece x r there is told = grind (arith, bytes_told)
 
 pub bytes_fed : (s t : ServerState) (u : UpsId) (piece : List ℕ) (r : Result (Unit {0}) Fault) → IsThere s u true → OfUps u s (λ x. IsTold u (x.unfinished ++ piece) s r t) → Step s (DriverBytes u piece) (done r) t
 bytes_fed s t u piece r h told = fed_by s t u piece h.ups r h.there h.is (told h.ups h.there)
@@ -99,16 +82,7 @@ took_refused s u n fault h = refused_as s u (DriverTook u n) fault (driver_took_
 
 taken_by : (s t : ServerState) (u : UpsId) (n : ℕ) (x y : UpsState) (r : Result (Unit {0}) Fault) → ups_at u.place s ≡ Some x → x.report.connected ≡ true → IsTaken n x r y → t ≡ with_ups_changed (λ z. y) u s → Step s (DriverTook u n) (done r) t
 unfolding outcome_of after_by
-taken_by s t u n x y (Ok v) there is (few, e) leaves =
-    let within : leb n (length x.owed) ≡ true = le-leb n (length x.owed) few in record {
-      allowed = inl (sym (ap (driver_took_by n) there ∙ cond-false _ _ _ (ap not is) ∙ cond-true _ _ _ within));
-      leaves = changed_to s t u (after_driver_took n) x y there (e ∙ sym (cond-true _ _ _ (and_from _ _ is within))) leaves;
-    }
-taken_by s t u n x y (Err fault) there is (much, more, e) leaves =
-    let beyond : leb n (length x.owed) ≡ false = lt-leb n (length x.owed) more in record {
-      allowed = inl (ap (λ (f : Fault). Refused f) much ∙ sym (ap (driver_took_by n) there ∙ cond-false _ _ _ (ap not is) ∙ cond-false _ _ _ beyond));
-      leaves = changed_to s t u (after_driver_took n) x y there (e ∙ sym (cond-false _ _ _ (ap (λ b. b && leb n (length x.owed)) is ∙ beyond))) leaves;
-    }
+taken_by s t u n x y r there is taken leaves = let to = λ (e : y ≡ after_driver_took n x). changed_to s t u (after_driver_took n) x y there e leaves in grind (arith, nat_tests)
 
 pub took_taken : (s t : ServerState) (u : UpsId) (n : ℕ) (x y : UpsState) (r : Result (Unit {0}) Fault) → IsThere s u true → ups_at u.place s ≡ Some x → IsTaken n x r y → t ≡ with_ups_changed (λ z. y) u s → Step s (DriverTook u n) (done r) t
 took_taken s t u n x y r h there taken leaves = taken_by s t u n x y r there (connected_as s u x h there) taken leaves

@@ -1,6 +1,6 @@
 -- What a method puts in place of one session or of one UPS keeps the server sound.
-use Rattle.std.proofs.Common.{◌≡◌, ◌≤◌, ℕ, true, false, ◌||◌, List, [], Option, Some, None, Result, Ok, Err, refl, sym, ◌∙◌, ap, subst, set, length, arith}
-use Rattle.std.specs.Prelude.{option_map, nat_lt}
+use Rattle.std.proofs.Common.{◌≡◌, ◌≤◌, ℕ, true, List, [], Some, Result, refl, sym, ◌∙◌, ap, subst, set, length, arith}
+use Rattle.std.specs.Prelude.{option_map}
 use denote.Ref.{MutBor}
 use Rattle.std.specs.Fn.{Once, FnOnceReturnsAtMut}
 use Rattle.nutwords.specs.Found.{Finds}
@@ -9,10 +9,8 @@ use Rattle.nutwords.specs.declared.limits.TheConstants.{LINE_LIMIT}
 use Rattle.nutdriver.specs.declared.report.LineOutcome.{LineOutcome}
 use Rattle.nutdriver.specs.Tree.{empty_tree}
 use Rattle.nutdriver.specs.Sound.{IsSoundTree, EachLineKeepsTheTreeSound}
-use Rattle.nutcore.proofs.Common.{never_both, cond_both, or_parts, UpsId, Change, Fault, SessionState, ServerState, session, ups_at, with_ups_changed}
-use Rattle.nutlisting.specs.declared.outbox.TheConstants.{OWED_LIMIT}
+use Rattle.nutcore.proofs.Common.{UpsId, Change, Fault, SessionState, ServerState, session, ups_at, with_ups_changed}
 use Rattle.std.specs.declared.alloc.AllocError.{AllocError}
-use Rattle.nutwords.specs.SplitLine.{first_line}
 use Rattle.nutcore.specs.Ups.{UpsState, with_unfinished}
 use Rattle.nuttracking.specs.Tracking.{TrackingState}
 use Rattle.nutcore.specs.Reply.{changed_session, changed_upses, changed_tracking}
@@ -39,14 +37,7 @@ session_kept v c i x y at found id keeps h =
 -- its next line is answered
 pub answered_kept : (change : Change) (text : List ℕ) (x y : SessionState) (end : ℕ) → option_map length (next_line x) ≡ Some end → ((line : List ℕ) → next_line x ≡ Some line → y ≡ changed_session change (answered line text x)) →
     IsSoundSession x → IsSoundSession y
-answered_kept change text x y end going is h = by_line (next_line x) refl going
-  where
-    going_of : (line : List ℕ) → next_line x ≡ Some line → x.ending ≡ false
-    going_of line = cond_both (x.ending || nat_lt OWED_LIMIT (length x.owed)) None (first_line x.held) (λ o. o ≡ Some line → x.ending ≡ false) (λ k e. cc e) (λ k e. (or_parts x.ending (nat_lt OWED_LIMIT (length x.owed)) k).0)
-
-    by_line : (o : Option (List ℕ)) → next_line x ≡ o → option_map length o ≡ Some end → IsSoundSession y
-    by_line None e some = cc some
-    by_line (Some line) e some = subst IsSoundSession (sym (is line e)) (sound_answered change line text x (going_of line e) h)
+answered_kept change text x y end going is h = grind (arith, sound_answered)
 
 -- it is told that its line is too long, or stays
 pub noticed_kept : (x y : SessionState) → y ≡ with_notice x → IsSoundSession x → IsSoundSession y
@@ -101,10 +92,7 @@ driver_cut_kept m piece x y r cut connected h = grind arith
 -- a line of its driver is done, or memory is refused
 module _ (empty : IsSoundTree empty_tree) (line_keeps : EachLineKeepsTheTreeSound) where
   pub driver_line_kept : (m : ℕ) (line : List ℕ) (x y : UpsState) (r : Result LineOutcome AllocError) → DoesLine m line x r y → x.report.connected ≡ true → IsSoundUps m x → IsSoundUps m y
-  driver_line_kept m line x y (Ok outcome) does connected h =
-      subst (IsSoundUps m) (sym does.1) (sound_report empty line_keeps m (with_unfinished [] x) line (sound_bytes m [] x (omega arith) (record { is = h; connected = connected }))).is
-  driver_line_kept m line x y (Err e) does connected h =
-      subst (IsSoundUps m) (sym does.1) (record { tree = h.tree; heard = omega arith; pinged = h.pinged; owed = h.owed; unfinished = h.unfinished; lost = never_both x.report.connected connected })
+  driver_line_kept m line x y r does connected h = grind (arith, sound_report empty line_keeps m (with_unfinished [] x) line, sound_bytes m [] x)
 
 pub driver_line_connected : (m : ℕ) (line : List ℕ) (x y : UpsState) (r : Result LineOutcome AllocError) → DoesLine m line x r y → y.report.connected ≡ x.report.connected
 driver_line_connected m line x y r does = grind arith

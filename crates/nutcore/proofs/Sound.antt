@@ -1,19 +1,18 @@
 -- Every server is sound.
-use Rattle.std.proofs.Common.{◌≡◌, ◌≤◌, ◌<◌, ◌+◌, ◌-◌, ◌^◌, ℕ, true, false, List, [], ◌∷◌, ◌++◌, Some, None, refl, sym, ◌∙◌, ap, subst, eqb, max, map, length, length-append, length-take, length-drop, arith, rules, Result, Ok}
-use Rattle.std.specs.Prelude.{nat_lt}
+use Rattle.std.proofs.Common.{◌≡◌, ◌≤◌, ◌+◌, ◌-◌, ℕ, true, false, List, [], ◌∷◌, ◌++◌, Some, None, refl, sym, ◌∙◌, ap, subst, eqb, max, map, length, length-append, length-take, length-drop, arith, rules, Result, Ok}
 use Rattle.nutdriver.specs.Tree.{empty_tree}
 use Rattle.nutdriver.specs.Sound.{IsSoundTree, EachLineKeepsTheTreeSound, ReadLinesAreLawful, IsLawfulLine}
-use Rattle.nutcore.proofs.Common.{ltb-true, cond_both, and_parts, length-map, length-replicate, UpsId, Change, ServerState, changed_at, with_session, with_session_changed, with_ups_changed, with_tracking, TrackingState}
+use Rattle.nutcore.proofs.Common.{cond_both, length-map, length-replicate, UpsId, Change, ServerState, changed_at, with_session, with_session_changed, with_ups_changed, with_tracking, TrackingState}
+use Rattle.std.proofs.lemmas.Bool.Decides.{nat_tests}
 use Rattle.std.proofs.lemmas.List.Elements.{All-nil}
 use Rattle.nuttracking.specs.Sound.{IsLawfulProgress, HaveLawfulNumbers, IsSoundTracking}
 use Rattle.nuttracking.specs.Tracking.{TrackingState}
 use Rattle.nuttracking.proofs.PublicLaws.{nothing_is_sound, acts_keep_it_sound, lawful_acts_keep_numbers_lawful}
 use Rattle.nuttracking.specs.Acts.Act.{handed_in, ordered, reported}
 use Rattle.nutanswer.specs.Command.{read_command}
-use Rattle.nutlisting.specs.declared.listing.clients.TheConstants.{SESSION_LIMIT}
 use Rattle.nutcore.specs.declared.event.Event.TheVariants.{Open}
 use Rattle.nutcore.specs.declared.event.Outcome.TheVariants.{Opened}
-use Rattle.nutcore.specs.Session.{SessionState, IdsRise, find, put, without, new_session}
+use Rattle.nutcore.specs.Session.{SessionState, find, put, without, new_session}
 use Rattle.nutcore.specs.Ups.{UpsState, new_ups, after_connecting, after_loss, after_tick}
 use Rattle.nutcore.specs.Reply.{reply, changed_session, changed_upses, changed_tracking}
 use Rattle.nutcore.specs.Pump.{answered, next_line_for, after_line, with_notice}
@@ -73,11 +72,7 @@ pub each_found : (P : SessionState → Type 0) (c : ℕ) (xs : List SessionState
 each_found P c [] x e all = cc e
 each_found P c (z ∷ xs) x e all = grind (arith, each_found P c xs x)
 
--- with other sessions, and with other UPSs
-sessions_sound : (s : ServerState) (sessions : List SessionState) (next_id : ℕ) → length sessions ≤ SESSION_LIMIT → IdsRise 1 next_id sessions → Each IsSoundSession sessions → IsSound s
-    → (let t : ServerState = record s { sessions = sessions; next_id = next_id } in IsSound t)
-sessions_sound s sessions next_id few ids all h = search rules
-
+-- with other UPSs
 pub upses_sound : (s : ServerState) (moment : ℕ) (upses : List UpsState) → length upses ≡ length s.upses → Each (IsSoundUps moment) upses → IsSound s
     → (let t : ServerState = record s { moment = moment; upses = upses } in IsSound t)
 upses_sound s moment upses same all h = let named = same ∙ h.named in search rules
@@ -100,9 +95,7 @@ sound_input piece x h = record {
 }
 
 pub sound_with : (s : ServerState) (y : SessionState) → IsSoundSession y → IsSound s → IsSound (with_session s y)
-sound_with s y p h =
-    let few = h.few in
-    sessions_sound s (put y s.sessions) s.next_id (omega (arith, few, length-put y s.sessions)) (rise_put 1 s.next_id y s.sessions h.ids) (each_put IsSoundSession y p s.sessions h.sessions) h
+sound_with s y p h = grind (arith, length-put y s.sessions, rise_put 1 s.next_id y s.sessions h.ids, each_put IsSoundSession y p s.sessions h.sessions)
 
 sound_line : (s : ServerState) (c : ℕ) (line : List ℕ) → next_line_for s c ≡ Some line → IsSound s → IsSound (after_line s c)
 sound_line s c line e h =
@@ -130,10 +123,9 @@ sound_upses f u s keeps h = upses_sound s s.moment (changed_at f u.place s.upses
 sound_opened : (s : ServerState) (address : List ℕ) → may_open s ≡ true → IsSound s
     → (let t : ServerState = record s { sessions = s.sessions ++ new_session s.next_id address ∷ []; next_id = s.next_id + 1 } in IsSound t)
 sound_opened s address may h =
-    let room : length s.sessions < SESSION_LIMIT = ltb-true _ _ (and_parts (nat_lt (length s.sessions) SESSION_LIMIT) (nat_lt s.next_id (2 ^ 64)) may).0 in
     let x : SessionState = new_session s.next_id address in
-    sessions_sound s (s.sessions ++ x ∷ []) (s.next_id + 1) (omega (arith, room, length-append s.sessions (x ∷ []))) (rise_push 1 s.next_id x s.sessions refl h.ids)
-    (each_last IsSoundSession x (record { held = omega arith; ending = λ k. cc k }) s.sessions h.sessions) h
+    let all = each_last IsSoundSession x (record { held = omega arith; ending = λ k. cc k }) s.sessions h.sessions in
+    grind (arith, nat_tests, length-append s.sessions (x ∷ []), rise_push 1 s.next_id x s.sessions refl h.ids)
 
 pub sound_ticked : (s : ServerState) (seconds : ℕ) → IsSound s → IsSound (ticked seconds s)
 unfolding ticked
@@ -143,9 +135,7 @@ sound_ticked s seconds h =
     (each_map (IsSoundUps s.moment) (IsSoundUps now) (after_tick s.max_age now) (λ x k. sound_tick s.max_age s.moment now x (omega arith) k) s.upses h.upses) h
 
 pub sound_closed : (s : ServerState) (c : ℕ) → IsSound s → (let t : ServerState = record s { sessions = without c s.sessions } in IsSound t)
-sound_closed s c h =
-    let few = h.few in
-    sessions_sound s (without c s.sessions) s.next_id (omega (arith, few, fewer c s.sessions)) (rise_without 1 s.next_id c s.sessions h.ids) (each_without IsSoundSession c s.sessions h.sessions) h
+sound_closed s c h = grind (arith, fewer c s.sessions, rise_without 1 s.next_id c s.sessions h.ids, each_without IsSoundSession c s.sessions h.sessions)
 
 pub sound_opening : (s t : ServerState) (address : List ℕ) (c : ℕ) → Step s (Open address) (Opened c) t → IsSound s → IsSound t
 unfolding after_by

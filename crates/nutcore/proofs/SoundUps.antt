@@ -1,5 +1,5 @@
 -- Sound UPSs, and what keeps them so.
-use Rattle.std.proofs.Common.{◌≡◌, ◌≤◌, ◌+◌, ℕ, zero, suc, Bool, true, false, List, [], ◌∷◌, ◌++◌, Option, Some, None, refl, ◌∙◌, ap, subst, cond, map, length, replicate, take, drop, length-append, length-drop, arith, rules}
+use Rattle.std.proofs.Common.{◌≡◌, ◌≤◌, ◌+◌, ℕ, zero, suc, Bool, true, false, List, [], ◌∷◌, ◌++◌, Option, Some, refl, ap, subst, map, length, replicate, drop, length-append, length-drop, arith, rules}
 use Rattle.std.proofs.Math.Seq.{drop-nil}
 use Rattle.std.proofs.lemmas.Bool.{leb-false}
 use Rattle.nutwords.specs.declared.limits.TheConstants.{LINE_LIMIT, LINE_ROOM}
@@ -18,7 +18,7 @@ use Rattle.nutcore.specs.Reply.{changed_upses}
 use Rattle.nutcore.specs.Promises.{TakesLine, OrderFits}
 use Rattle.nutcore.proofs.Changes.{of_upses}
 use Rattle.nutcore.specs.Step.{driver_may_take, after_driver_took}
-use Rattle.nutcore.proofs.DriverText.{ups_after_text, ups_after_bytes}
+use Rattle.nutcore.proofs.DriverText.{ups_after_bytes}
 use Rattle.nutcore.specs.Sound.{Each, IsSoundUps}
 
 -- lists
@@ -106,9 +106,7 @@ module _ (empty : IsSoundTree empty_tree) (line_keeps : EachLineKeepsTheTreeSoun
   sound_connecting m x = record { tree = empty; heard = omega arith; pinged = omega arith; owed = omega arith; unfinished = omega arith; lost = λ e. cc e }
 
   pub sound_report : (m : ℕ) (x : UpsState) (line : List ℕ) → IsSoundConnected m x → (let y : UpsState = record x { report = (report_after_line m x.report line).0 } in IsSoundConnected m y)
-  sound_report m x line h =
-      let heard = heard_line m x.report line in
-      sound_there m _ (line_keeps m x.report line h.is.tree) (let e = ap (λ (z : ℕ × Bool). z.0) heard in omega (arith, e)) h.is.pinged h.is.owed h.is.unfinished (ap (λ (z : ℕ × Bool). z.1) heard ∙ h.connected)
+  sound_report m x line h = grind (arith, line_keeps m x.report line h.is.tree, heard_line m x.report line)
 
   sound_text : (m : ℕ) (unawaited : Bool) (x : UpsState) (line : List ℕ) → IsSoundConnected m x → IsSoundConnected m (after_text m unawaited x line)
   sound_text m unawaited x line h = sound_counted m unawaited x (report_after_line m x.report line) (sound_report m x line h)
@@ -124,14 +122,4 @@ module _ (empty : IsSoundTree empty_tree) (line_keeps : EachLineKeepsTheTreeSoun
   sound_connected_text m place t text x short e h = (sound_bytes m (unfinished_after text) (after_texts m place t (whole_lines text) x) (let fits = leb-false LINE_ROOM (length (unfinished_after text)) short in omega (arith, fits)) (sound_texts (whole_lines text) m place t x (record { is = h; connected = e }))).is
 
   pub sound_driver_bytes : (m place : ℕ) (t : TrackingState) (piece : List ℕ) (refused : Option ℕ) (x : UpsState) → IsSoundUps m x → IsSoundUps m (ups_after_bytes m place t piece refused x)
-  sound_driver_bytes m place t piece refused x h = by_connection x.report.connected refl refused
-    where
-      text : List ℕ
-      text = x.unfinished ++ piece
-
-      by_connection : (b : Bool) → x.report.connected ≡ b → (r : Option ℕ) → IsSoundUps m (cond b (ups_after_text m place t text r x) x)
-      by_connection true e None =
-          let y : UpsState = after_texts m place t (whole_lines text) x in
-          cond_both (is_too_long (unfinished_after text)) (after_loss y) (with_unfinished (unfinished_after text) y) (IsSoundUps m) (λ long. sound_loss m y) (λ short. sound_connected_text m place t text x short e h)
-      by_connection true e (Some k) = sound_loss m (after_texts m place t (take k (whole_lines text)) x)
-      by_connection false e r = h
+  sound_driver_bytes m place t piece refused x h = grind (arith, sound_loss, sound_connected_text m place t (x.unfinished ++ piece) x)

@@ -1,5 +1,5 @@
 -- What is tracked comes of what a run did.
-use Rattle.std.proofs.Common.{arith, ◌≡◌, ◌∙◌, ℕ, Bool, true, false, ◌&&◌, cond, List, [], ◌∷◌, ◌++◌, Option, Some, None, refl, sym, ap, subst, map, append-nil}
+use Rattle.std.proofs.Common.{arith, ◌≡◌, ◌∙◌, ℕ, Bool, true, false, ◌&&◌, cond, List, [], ◌∷◌, ◌++◌, Option, refl, sym, ap, subst, map, append-nil}
 use Rattle.std.specs.List.{flat_map}
 use Rattle.nuttracking.specs.Acts.{Act, after_act, after_acts, given}
 use Rattle.nuttracking.specs.Acts.Act.{ordered}
@@ -91,14 +91,9 @@ bytes_act s u piece o = ap (λ (b : Bool). acted (cond (b && has_driver u s) (wh
     whole : List ℕ → List Heard
     whole text = heard_at s.moment u.place s.tracking (as_far m (whole_lines text))
 
-    by_connection : (x : UpsState) (b : Bool) → acted (cond b (whole (x.unfinished ++ piece)) []) ≡ after_ends u.place (cond b (as_far m (whole_lines (x.unfinished ++ piece))) []) s.tracking
-    by_connection x true = ends_heard s.moment u.place s.tracking (as_far m (whole_lines (x.unfinished ++ piece)))
-    by_connection x false = refl
-
     by_ups : (p : Option UpsState) → acted (cond (option_map_or (λ (x : UpsState). x.report.connected) p false) (whole (option_map_or (λ (x : UpsState). x.unfinished) p [] ++ piece)) [])
         ≡ after_ends u.place (option_map_or (λ (x : UpsState). cond x.report.connected (as_far m (whole_lines (x.unfinished ++ piece))) []) p []) s.tracking
-    by_ups None = refl
-    by_ups (Some x) = by_connection x x.report.connected
+    by_ups p = grind (arith, ends_heard)
 
 event_acts : (s : ServerState) (e : Event) (o : Outcome) → (after s e o).tracking ≡ after_acts s.tracking (acts_in_event s e o)
 unfolding after_by executions_by ticked
