@@ -1,12 +1,12 @@
 -- Each event of a driver, over plain states.
-use Rattle.std.proofs.Common.{◌≡◌, subst, ℕ, zero, suc, ◌<◌, Bool, true, false, not, List, [], ◌∷◌, Option, Some, None, Result, refl, sym, ◌∙◌, ap, arith, length, max, map, take, drop, ◌++◌, set, get_or, inl, inr, cond}
+use Rattle.std.proofs.Common.{◌≡◌, ℕ, zero, suc, ◌<◌, Bool, true, false, List, [], ◌∷◌, Option, Some, None, Result, refl, sym, ◌∙◌, ap, arith, length, max, map, take, drop, ◌++◌, set, get_or, inl, cond}
 use Rattle.std.proofs.lemmas.Bool.Decides.{nat_tests}
-use Rattle.nutcore.proofs.Common.{option_map, option_map_or, cond-true, cond-false, slice_get_within, UpsId, Event, Fault, Outcome, ServerState, ups_at, with_ups_changed}
+use Rattle.nutcore.proofs.Common.{option_map, option_map_or, cond-true, slice_get_within, UpsId, Fault, ServerState, ups_at, with_ups_changed}
 use Rattle.nutcore.specs.declared.event.Event.TheVariants.{DriverUp, DriverBytes, DriverTook, DriverDown, Tick}
 use Rattle.nutcore.specs.declared.event.Outcome.TheVariants.{Done, Refused}
-use Rattle.nutcore.specs.declared.event.Fault.TheVariants.{NoSuchUps, NotConnected, AlreadyConnected}
+use Rattle.nutcore.specs.declared.event.Fault.TheVariants.{NoSuchUps, AlreadyConnected}
 use Rattle.nutcore.specs.Ups.{UpsState, after_connecting, after_loss, after_tick}
-use Rattle.nutcore.specs.Step.{Step, connected, disconnected, after_driver_text, after_driver_bytes, after_driver_took, ticked, connected_by, disconnected_by, driver_took_by, driver_bytes_by, outcome_of, after_by, MayLackMemory}
+use Rattle.nutcore.specs.Step.{Step, connected, disconnected, after_driver_text, after_driver_bytes, after_driver_took, ticked, connected_by, outcome_of, after_by, MayLackMemory}
 use Rattle.nutcore.specs.Calls.{is_connected, done}
 use Rattle.nutcore.specs.Promises.{OfUps, IsTaken, IsTold, IsNotConnected}
 use Rattle.nutcore.proofs.UpsPlaces.{Stands, of_ups, server_agree, changed_to}
@@ -28,14 +28,6 @@ connected_as s u x h there = of_ups s u h.ups (λ y. y.report.connected ≡ true
 pub connected_at : (s : ServerState) (u : UpsId) (x : UpsState) → ups_at u.place s ≡ Some x → x.report.connected ≡ true → option_map is_connected (ups_at u.place s) ≡ Some true
 connected_at s u x there is = ap (option_map is_connected) there ∙ ap (λ b. Some b) is
 
--- where no driver is connected, an event of the driver is refused
-refused_as : (s : ServerState) (u : UpsId) (event : Event) (fault : Fault) (by : Option UpsState → Outcome) → outcome_of s event ≡ by (ups_at u.place s) → by None ≡ Refused NoSuchUps
-    → ((x : UpsState) → x.report.connected ≡ false → by (Some x) ≡ Refused NotConnected) → IsNotConnected u fault s → Step s event (Refused fault) s
-refused_as s u event fault by is absent lost (inl (e, none)) = subst (λ (f : Fault). Step s event (Refused f) s) (sym e) (refused s event NoSuchUps (is ∙ ap by none ∙ absent) refl)
-refused_as s u event fault by is absent lost (inr (e, unconnected)) =
-    let h = is_there s u false unconnected in
-    subst (λ (f : Fault). Step s event (Refused f) s) (sym e) (refused s event NotConnected (is ∙ ap by h.there ∙ lost h.ups h.is) refl)
-
 -- a driver connects
 pub up_absent : (s : ServerState) (u : UpsId) → ups_at u.place s ≡ None → Step s (DriverUp u) (Refused NoSuchUps) s
 unfolding outcome_of
@@ -52,7 +44,7 @@ up_done s t u h e = grind (arith, server_agree s u (after_connecting s.moment) (
 -- a driver is lost
 pub down_refused : (s : ServerState) (u : UpsId) (fault : Fault) → IsNotConnected u fault s → Step s (DriverDown u) (Refused fault) s
 unfolding outcome_of
-down_refused s u fault h = refused_as s u (DriverDown u) fault disconnected_by refl refl (λ x lost. cond-false _ _ _ lost) h
+down_refused s u fault h = grind (arith, refused s (DriverDown u) fault)
 
 pub down_done : (s t : ServerState) (u : UpsId) → IsThere s u true → t ≡ with_ups_changed after_loss u s → Step s (DriverDown u) Done t
 unfolding outcome_of after_by
@@ -61,31 +53,28 @@ down_done s t u h e = grind (arith, server_agree s u after_loss disconnected)
 -- bytes of a driver
 pub bytes_refused : (s : ServerState) (u : UpsId) (piece : List ℕ) (fault : Fault) → IsNotConnected u fault s → Step s (DriverBytes u piece) (Refused fault) s
 unfolding outcome_of
-bytes_refused s u piece fault h = refused_as s u (DriverBytes u piece) fault (driver_bytes_by piece) refl refl (λ x lost. cond-false _ _ _ lost) h
+bytes_refused s u piece fault h = grind (arith, refused s (DriverBytes u piece) fault)
 
 -- a piece is after what was unfinished
 bytes_told : (s : ServerState) (u : UpsId) (piece : List ℕ) (m : Option ℕ) (x : UpsState) → ups_at u.place s ≡ Some x → x.report.connected ≡ true → after_driver_text u (x.unfinished ++ piece) m s ≡ after_driver_bytes u piece m s
 unfolding after_driver_bytes
 bytes_told s u piece m x there is = sym (ap (λ (o : Option UpsState). option_map_or (λ x. cond x.report.connected (after_driver_text u (x.unfinished ++ piece) m s) s) o s) there ∙ cond-true _ _ _ is)
 
-fed_by : (s t : ServerState) (u : UpsId) (piece : List ℕ) (x : UpsState) (r : Result (Unit {0}) Fault) → ups_at u.place s ≡ Some x → x.report.connected ≡ true → IsTold u (x.unfinished ++ piece) s r t → Step s (DriverBytes u piece) (done r) t
-unfolding outcome_of after_by MayLackMemory
-fed_by s t u piece x r there is told = grind (arith, bytes_told)
-
 pub bytes_fed : (s t : ServerState) (u : UpsId) (piece : List ℕ) (r : Result (Unit {0}) Fault) → IsThere s u true → OfUps u s (λ x. IsTold u (x.unfinished ++ piece) s r t) → Step s (DriverBytes u piece) (done r) t
-bytes_fed s t u piece r h told = fed_by s t u piece h.ups r h.there h.is (told h.ups h.there)
+unfolding outcome_of after_by MayLackMemory
+bytes_fed s t u piece r h told = let at = told h.ups h.there in grind (arith, bytes_told)
 
 -- a driver took of what it is owed
 pub took_refused : (s : ServerState) (u : UpsId) (n : ℕ) (fault : Fault) → IsNotConnected u fault s → Step s (DriverTook u n) (Refused fault) s
 unfolding outcome_of
-took_refused s u n fault h = refused_as s u (DriverTook u n) fault (driver_took_by n) refl refl (λ x lost. cond-true _ _ _ (ap not lost)) h
-
-taken_by : (s t : ServerState) (u : UpsId) (n : ℕ) (x y : UpsState) (r : Result (Unit {0}) Fault) → ups_at u.place s ≡ Some x → x.report.connected ≡ true → IsTaken n x r y → t ≡ with_ups_changed (λ z. y) u s → Step s (DriverTook u n) (done r) t
-unfolding outcome_of after_by
-taken_by s t u n x y r there is taken leaves = let to = λ (e : y ≡ after_driver_took n x). changed_to s t u (after_driver_took n) x y there e leaves in grind (arith, nat_tests)
+took_refused s u n fault h = grind (arith, refused s (DriverTook u n) fault)
 
 pub took_taken : (s t : ServerState) (u : UpsId) (n : ℕ) (x y : UpsState) (r : Result (Unit {0}) Fault) → IsThere s u true → ups_at u.place s ≡ Some x → IsTaken n x r y → t ≡ with_ups_changed (λ z. y) u s → Step s (DriverTook u n) (done r) t
-took_taken s t u n x y r h there taken leaves = taken_by s t u n x y r there (connected_as s u x h there) taken leaves
+unfolding outcome_of after_by
+took_taken s t u n x y r h there taken leaves =
+    let is = connected_as s u x h there in
+    let to = λ (e : y ≡ after_driver_took n x). changed_to s t u (after_driver_took n) x y there e leaves in
+    grind (arith, nat_tests)
 
 -- the clock
 pub tick_done : (s t : ServerState) (seconds : ℕ) → t ≡ ticked seconds s → Step s (Tick seconds) Done t

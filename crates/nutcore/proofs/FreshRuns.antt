@@ -135,11 +135,7 @@ module _ (told : WhatIsToldIsFresh) (opening : ANewServerIsSound) (keeps : Every
   -- a UPS that is there after a run was there before it
   there_before : (t : ServerState) (es : List Event) (os : List Outcome) (p : ℕ) (x : UpsState) → Run old es os t → ups_at p t ≡ Some x → p < length old.upses
   there_before t es os p x r there =
-      let few : p < length t.upses = slice_get_within t.upses p x there in
-      let named = (keeps old t es os r sound_old).named in
-      let named_old = sound_old.named in
-      let list = ap (λ xs. length xs) (run_keeps_list old t es os r) in
-      omega (arith, few, named, named_old, list)
+      let list = ap (λ xs. length xs) (run_keeps_list old t es os r) in omega (arith, list, slice_get_within t.upses p x there, (keeps old t es os r sound_old).named, sound_old.named)
 
   -- what a UPS's driver told since it connected is what it told a UPS that has its report and its rest
   same_driver : (u : UpsId) (es : List Event) (os : List Outcome) (x y : UpsState) → without_commands x ≡ without_commands y → ConnectedInRun u old es os y → ConnectedInRun u old es os x

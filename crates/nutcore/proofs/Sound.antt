@@ -1,5 +1,5 @@
 -- Every server is sound.
-use Rattle.std.proofs.Common.{◌≡◌, ◌≤◌, ◌+◌, ◌-◌, ℕ, true, false, List, [], ◌∷◌, ◌++◌, Some, None, refl, sym, ◌∙◌, ap, subst, eqb, max, map, length, length-append, length-take, length-drop, arith, rules, Result, Ok}
+use Rattle.std.proofs.Common.{◌≡◌, ◌≤◌, ◌+◌, ◌-◌, ℕ, true, false, List, [], ◌∷◌, ◌++◌, Some, None, refl, sym, ◌∙◌, ap, subst, eqb, max, length, length-append, length-take, length-drop, arith, rules, Result, Ok}
 use Rattle.nutdriver.specs.Tree.{empty_tree}
 use Rattle.nutdriver.specs.Sound.{IsSoundTree, EachLineKeepsTheTreeSound, ReadLinesAreLawful, IsLawfulLine}
 use Rattle.nutcore.proofs.Common.{cond_both, length-map, length-replicate, UpsId, Change, ServerState, changed_at, with_session, with_session_changed, with_ups_changed, with_tracking, TrackingState}
@@ -131,8 +131,8 @@ pub sound_ticked : (s : ServerState) (seconds : ℕ) → IsSound s → IsSound (
 unfolding ticked
 sound_ticked s seconds h =
     let now : ℕ = max seconds s.moment in
-    upses_sound s now (map (after_tick s.max_age now) s.upses) (length-map s.upses (after_tick s.max_age now))
-    (each_map (IsSoundUps s.moment) (IsSoundUps now) (after_tick s.max_age now) (λ x k. sound_tick s.max_age s.moment now x (omega arith) k) s.upses h.upses) h
+    let upses = each_map (IsSoundUps s.moment) (IsSoundUps now) (after_tick s.max_age now) (λ x k. sound_tick s.max_age s.moment now x (omega arith) k) s.upses h.upses in
+    grind (arith, length-map s.upses (after_tick s.max_age now))
 
 pub sound_closed : (s : ServerState) (c : ℕ) → IsSound s → (let t : ServerState = record s { sessions = without c s.sessions } in IsSound t)
 sound_closed s c h = grind (arith, fewer c s.sessions, rise_without 1 s.next_id c s.sessions h.ids, each_without IsSoundSession c s.sessions h.sessions)
