@@ -128,10 +128,7 @@ read_on u k used text old s t rest at o some reads =
 
 -- how many bytes of the piece a line takes
 pub takes_some : (u : UpsId) (piece : List ℕ) (done used : ℕ) (s t : ServerState) (o : Option ℕ) → o ≡ Some used → option_map is_connected (ups_at u.place s) ≡ Some true → OfUps u s (λ x. ReadsDriverLine u piece done x s (Ok o) t) → (0 < used) × (used ≤ length piece)
-takes_some u piece done used s t o some connected reads =
-    let is = is_there s u true connected in
-    let (line, found, does) = subst (λ (r : Option ℕ). ReadsDriverLine u piece done is.ups s (Ok r) t) some (reads is.ups is.there) in
-    (found.1, found.2)
+takes_some u piece done used s t o some connected reads = let is = is_there s u true connected in let read = reads is.ups is.there in grind arith
 
 -- the reading stops: nothing is whole any more, what is there is too long, or the next line wants memory that is refused
 pub stops_read : (u : UpsId) (k : ℕ) (text : List ℕ) (old s t : ServerState) (rest : List ℕ) (at : IsAtLine u k text old s rest) → ReadsDriverLine u rest k at.ups s (Ok None) t → IsStopped u text old (Ok tt) t

@@ -30,9 +30,7 @@ after_both report (x ∷ xs) ys = after_both (after_line x.moment report x.line)
 
 refused_both : (report : Report) (xs ys : List Heard) → refused_among report (xs ++ ys) ≡ refused_among report xs + refused_among (after_heard report xs) ys
 refused_both report [] ys = omega arith
-refused_both report (x ∷ xs) ys =
-    let shorter = refused_both (after_line x.moment report x.line).0 xs ys in
-    omega (arith, shorter)
+refused_both report (x ∷ xs) ys = omega (arith, refused_both (after_line x.moment report x.line).0 xs ys)
 
 pub bytes_both : (xs ys : List Heard) → bytes_heard (xs ++ ys) ≡ bytes_heard xs ++ bytes_heard ys
 bytes_both xs ys = flat_map-append (λ (x : Heard). with_lf x.line) xs ys
@@ -133,8 +131,8 @@ IsNew x = x ≡ new_ups
 new_at : (s : ServerState) (u : UpsId) → IsNewServer s → u.place < length s.upses → ups_at u.place s ≡ Some new_ups
 new_at s u new few =
     let x = within u.place s.upses few in
-    let all : Each IsNew s.upses = subst (λ (t : ServerState). Each IsNew t.upses) (sym new.is) (each_same IsNew new_ups refl (length new.list)) in
-    x.there ∙ ap (λ (y : UpsState). Some y) (each_get IsNew s.upses u.place x.ups x.there all)
+    let all : Each IsNew s.upses = rw new.is (each_same IsNew new_ups refl (length new.list)) in
+    grind (arith, each_get IsNew s.upses u.place x.ups x.there all)
 
 -- a connection begins
 up_done : (u : UpsId) (s : ServerState) (o : Outcome) (x : UpsState) → ups_at u.place s ≡ Some x → x.report.connected ≡ false → MayAnswer s (DriverUp u) o → o ≡ Done

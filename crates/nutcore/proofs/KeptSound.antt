@@ -1,5 +1,5 @@
 -- What a method puts in place of one session or of one UPS keeps the server sound.
-use Rattle.std.proofs.Common.{◌≡◌, ◌≤◌, ℕ, true, List, [], Some, Result, refl, sym, ◌∙◌, ap, subst, set, length, arith}
+use Rattle.std.proofs.Common.{◌≡◌, ◌≤◌, ℕ, true, List, [], Some, Result, refl, sym, ◌∙◌, subst, set, length, arith}
 use Rattle.std.specs.Prelude.{option_map}
 use denote.Ref.{MutBor}
 use Rattle.std.specs.Fn.{Once, FnOnceReturnsAtMut}
@@ -17,7 +17,7 @@ use Rattle.nutcore.specs.Reply.{changed_session, changed_upses, changed_tracking
 use Rattle.nutcore.specs.Pump.{next_line, answered, with_notice}
 use Rattle.nutcore.specs.Step.{joined, taken_from}
 use Rattle.nutcore.specs.Promises.{IsTaken, IsCut, DoesLine, IsAt, OrderFits, ChangesUps}
-use Rattle.nutcore.specs.Sound.{Each, IsSoundSession, IsSoundUps, IsSound}
+use Rattle.nutcore.specs.Sound.{IsSoundSession, IsSoundUps, IsSound}
 use Rattle.nutcore.specs.Calls.{is_connected}
 use Rattle.nutcore.proofs.DriverSteps.{is_there, connected_as, connected_at}
 use Rattle.nutcore.proofs.UpsPlaces.{of_ups, left_at, changed_to, server_set}
@@ -26,7 +26,7 @@ use Rattle.nuttracking.specs.Acts.Act.{ordered}
 use Rattle.nutcore.proofs.Found.{find_id}
 use Rattle.nutcore.proofs.Serving.{set_is}
 use Rattle.nutcore.proofs.SoundUps.{sound_changes, length-changes, sound_fewer, sound_bytes, sound_report}
-use Rattle.nutcore.proofs.Sound.{IsTracked, act_tracked, each_found, sound_with, sound_upses, upses_sound, sound_answered, sound_notice, sound_input, sound_output, is_tracked, tracking_sound}
+use Rattle.nutcore.proofs.Sound.{IsTracked, act_tracked, each_found, sound_with, sound_upses, sound_answered, sound_notice, sound_input, sound_output, is_tracked}
 
 -- a session in place of the one that stands there
 pub session_kept : (v : ServerState) (c i : ℕ) (x y : SessionState) → IsAt c i v.sessions → session c v ≡ Some x → y.id ≡ x.id → (IsSoundSession x → IsSoundSession y) → IsSound v →
@@ -68,15 +68,12 @@ changed_by {u = u} {s = s} {t = t} d h is = changed_to s t u h d.before d.after 
 -- an answer changes the UPSs
 pub upses_kept : (v : ServerState) (change : Change) (xs : List UpsState) → xs ≡ changed_upses change v.upses → OrderFits change v.upses → IsSound v →
     let code : ServerState = record v { upses = xs } in IsSound code
-upses_kept v change xs e fits h =
-    upses_sound v v.moment xs (ap length e ∙ length-changes change v.upses) (subst (Each (IsSoundUps v.moment)) (sym e) (sound_changes v.moment change v.upses fits h.upses)) h
+upses_kept v change xs e fits h = grind (arith, length-changes change v.upses, sound_changes v.moment change v.upses fits h.upses)
 
 -- and the ids and orders that are tracked
 pub changes_kept : (v : ServerState) (change : Change) (xs : List UpsState) (t : TrackingState) → xs ≡ changed_upses change v.upses → t ≡ changed_tracking change v.tracking → OrderFits change v.upses → IsSound v →
     let code : ServerState = record v { upses = xs; tracking = t } in IsSound code
-changes_kept v change xs t e f fits h =
-    let tracked : IsTracked v.tracking = is_tracked v h in
-    tracking_sound (record v { upses = xs }) t (subst IsTracked (sym f) (of_tracking IsTracked change v.tracking tracked (λ place. act_tracked v.tracking (ordered place) tt tracked))) (upses_kept v change xs e fits h)
+changes_kept v change xs t e f fits h = grind (arith, of_tracking IsTracked change v.tracking (is_tracked v h) (λ place. act_tracked v.tracking (ordered place) tt (is_tracked v h)), upses_kept v change xs e fits h)
 
 -- its driver takes bytes
 pub driver_taken_kept : (m n : ℕ) (x y : UpsState) (r : Result (Unit {0}) Fault) → IsTaken n x r y → IsSoundUps m x → IsSoundUps m y
