@@ -55,7 +55,6 @@ mod FreshRuns
 mod DriverOrders
 mod TrackedRuns
 mod OrdersByRight
-mod Written
 mod TellingLines
 mod ReadsBack
 mod Addresses

@@ -28,7 +28,10 @@ use Rattle.nutanswer.specs.Rows.{value_given}
 use Rattle.nutlisting.proofs.PublicLaws.{ids_are_lawful}
 use Rattle.nutanswer.proofs.PublicLaws.{what_is_read_is_lawful}
 use Rattle.nutcore.proofs.OrdersByRight.{by_read, all_in_front}
-use Rattle.nutcore.proofs.Written.{text_short, text_all, backslashes_short}
+use Rattle.nutwords.proofs.PublicLaws.{quoted_is_short}
+use Rattle.nutwords.specs.Reading.{read_text}
+use Rattle.std.specs.Prelude.{is_ok}
+use Rattle.std.proofs.lemmas.Grind.{common_steps}
 use Rattle.nutwords.specs.declared.limits.TheConstants.{LINE_LIMIT, NAME_LIMIT, VALUE_LIMIT}
 
 -- lawful bytes
@@ -57,6 +60,12 @@ backslashes_lawful (b ∷ word) h =
     let one : Lawful (b ∷ with_backslashes word) = byte_lawful b (with_backslashes word) p.0 (backslashes_lawful word p.1) in
     cond_both (eqb b 34 || eqb b 92) (92 ∷ b ∷ []) (b ∷ []) (λ z. Lawful (z ++ with_backslashes word)) (λ e. byte_lawful 92 (b ∷ with_backslashes word) refl one) (λ e. one)
 
+text_all : (allowed : ℕ → Bool) (may_be_empty : Bool) (most : ℕ) (bytes : List ℕ) → is_ok (read_text allowed may_be_empty most bytes) ≡ true → list_all allowed bytes ≡ true
+text_all allowed may_be_empty most bytes h = grind (arith, nat_tests, common_steps)
+
+text_short : (allowed : ℕ → Bool) (may_be_empty : Bool) (most : ℕ) (bytes : List ℕ) → is_ok (read_text allowed may_be_empty most bytes) ≡ true → length bytes ≤ most
+text_short allowed may_be_empty most bytes h = grind (arith, nat_tests, common_steps)
+
 record IsPart (most : ℕ) (text : List ℕ) : Type 0 where
   short : length text ≤ most
   lawful : Lawful text
@@ -74,9 +83,8 @@ part_of_name name h = record { short = text_short is_name_byte false NAME_LIMIT 
 part_of_value : (value : List ℕ) → IsTrue (is_value value) → IsPart quoted_limit (quoted value)
 part_of_value value h =
     let few : length value ≤ VALUE_LIMIT = text_short is_lawful true VALUE_LIMIT value h in
-    let spelled : length (with_backslashes value) ≤ 2 * length value = backslashes_short value in
     record {
-      short = omega (arith, few, spelled, length-append (with_backslashes value) (34 ∷ []));
+      short = omega (arith, few, quoted_is_short value);
       lawful = byte_lawful 34 (with_backslashes value ++ 34 ∷ []) refl (both_lawful (with_backslashes value) (34 ∷ []) (backslashes_lawful value (text_all is_lawful true VALUE_LIMIT value h)) refl);
     }
 

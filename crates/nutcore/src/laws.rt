@@ -33,7 +33,6 @@ use nutdriver::laws::{
     each_line_keeps_the_tree_sound, lawful_lines_keep_trees_sound, read_lines_are_lawful,
     the_last_line_on_a_variable_decides_it,
 };
-use nutwords::laws::listing_is_read_back;
 
 /// Over every run, what each client was sent, followed by what it is still owed, is exactly the
 /// answers to its executed lines, in order.
@@ -176,9 +175,7 @@ pub fn what_is_listed_is_what_is_held()
 /// words of the listing, and as nothing else. So does LIST CLIENT where the addresses of its clients are lawful.
 pub fn each_listing_reads_back()
     ensures { EachListingReadsBack }
-{
-    listing_is_read_back();
-}
+{}
 
 /// Over every run whose sessions are opened from lawful addresses, as each `Address` is, the addresses of a server's
 /// sessions stay lawful; a new server has none. So the premise of the listings of clients holds. The list of UPSs is never

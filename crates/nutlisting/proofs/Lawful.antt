@@ -1,5 +1,5 @@
 -- Names, values, quoted texts and numbers have lawful bytes alone.
-use Rattle.std.proofs.Common.{◌≡◌, ℕ, ℤ, pos, negsuc, ◌+◌, ◌%◌, ◌^◌, ◌<◌, Bool, true, false, eqb, cond, List, [], ◌∷◌, ◌++◌, refl, ◌∙◌, suc, arith, SFits, w32}
+use Rattle.std.proofs.Common.{◌≡◌, ℕ, ℤ, pos, negsuc, ◌+◌, ◌%◌, ◌^◌, ◌<◌, Bool, true, false, eqb, cond, List, [], ◌∷◌, ◌++◌, length, ◌≤◌, refl, ◌∙◌, suc, arith, SFits, w32}
 use Rattle.std.specs.Prelude.{◌||◌, is_ok, IsTrue}
 use Rattle.std.specs.List.{list_all}
 use Rattle.std.specs.Fmt.{decimal, signed_decimal}
@@ -25,24 +25,28 @@ both_lawful a b h k = list_all-append is_lawful a b ∙ and_from (list_all is_la
 pub byte_lawful : (b : ℕ) (text : List ℕ) → is_lawful b ≡ true → Lawful text → Lawful (b ∷ text)
 byte_lawful b text h k = and_from (is_lawful b) (list_all is_lawful text) h k
 
--- what is read as a text has these bytes alone
-text_all : (allowed : ℕ → Bool) (may_be_empty : Bool) (most : ℕ) (bytes : List ℕ) → is_ok (read_text allowed may_be_empty most bytes) ≡ true → list_all allowed bytes ≡ true
+-- what is read as a text has these bytes alone, and no more of them
+pub text_all : (allowed : ℕ → Bool) (may_be_empty : Bool) (most : ℕ) (bytes : List ℕ) → is_ok (read_text allowed may_be_empty most bytes) ≡ true → list_all allowed bytes ≡ true
 text_all allowed may_be_empty most bytes h = grind (arith, nat_tests, common_steps)
+
+pub text_short : (allowed : ℕ → Bool) (may_be_empty : Bool) (most : ℕ) (bytes : List ℕ) → is_ok (read_text allowed may_be_empty most bytes) ≡ true → length bytes ≤ most
+text_short allowed may_be_empty most bytes h = grind (arith, nat_tests, common_steps)
+
+-- bytes that pass a test pass each weaker one
+pub all_also : (p q : ℕ → Bool) → ((b : ℕ) → p b ≡ true → q b ≡ true) → (bytes : List ℕ) → list_all p bytes ≡ true → list_all q bytes ≡ true
+all_also p q each [] h = refl
+all_also p q each (b ∷ bytes) h =
+    let parts = and_parts (p b) (list_all p bytes) h in
+    and_from (q b) (list_all q bytes) (each b parts.0) (all_also p q each bytes parts.1)
 
 name_byte : (b : ℕ) → is_name_byte b ≡ true → is_lawful b ≡ true
 name_byte b h = grind (arith, nat_tests)
 
-name_bytes : (bytes : List ℕ) → list_all is_name_byte bytes ≡ true → list_all is_lawful bytes ≡ true
-name_bytes [] h = refl
-name_bytes (b ∷ bytes) h =
-    let p = and_parts (is_name_byte b) (list_all is_name_byte bytes) h in
-    and_from (is_lawful b) (list_all is_lawful bytes) (name_byte b p.0) (name_bytes bytes p.1)
-
 pub name_lawful : (bytes : List ℕ) → IsTrue (is_name bytes) → Lawful bytes
-name_lawful bytes h = name_bytes bytes (text_all is_name_byte false NAME_LIMIT bytes h)
+name_lawful bytes h = all_also is_name_byte is_lawful name_byte bytes (text_all is_name_byte false NAME_LIMIT bytes h)
 
 pub ups_name_lawful : (bytes : List ℕ) → IsTrue (is_ups_name bytes) → Lawful bytes
-ups_name_lawful bytes h = name_bytes bytes (text_all is_name_byte false UPS_NAME_LIMIT bytes h)
+ups_name_lawful bytes h = all_also is_name_byte is_lawful name_byte bytes (text_all is_name_byte false UPS_NAME_LIMIT bytes h)
 
 pub value_lawful : (bytes : List ℕ) → IsTrue (is_value bytes) → Lawful bytes
 value_lawful bytes h = text_all is_lawful true VALUE_LIMIT bytes h
@@ -50,26 +54,14 @@ value_lawful bytes h = text_all is_lawful true VALUE_LIMIT bytes h
 address_byte : (b : ℕ) → is_address_byte b ≡ true → is_lawful b ≡ true
 address_byte b h = grind (arith, nat_tests)
 
-address_bytes : (bytes : List ℕ) → list_all is_address_byte bytes ≡ true → list_all is_lawful bytes ≡ true
-address_bytes [] h = refl
-address_bytes (b ∷ bytes) h =
-    let p = and_parts (is_address_byte b) (list_all is_address_byte bytes) h in
-    and_from (is_lawful b) (list_all is_lawful bytes) (address_byte b p.0) (address_bytes bytes p.1)
-
 pub address_lawful : (bytes : List ℕ) → IsTrue (is_address bytes) → Lawful bytes
-address_lawful bytes h = address_bytes bytes (text_all is_address_byte false ADDRESS_LIMIT bytes h)
+address_lawful bytes h = all_also is_address_byte is_lawful address_byte bytes (text_all is_address_byte false ADDRESS_LIMIT bytes h)
 
 id_byte : (b : ℕ) → is_id_byte b ≡ true → is_lawful b ≡ true
 id_byte b h = grind (arith, nat_tests)
 
-id_bytes : (bytes : List ℕ) → list_all is_id_byte bytes ≡ true → list_all is_lawful bytes ≡ true
-id_bytes [] h = refl
-id_bytes (b ∷ bytes) h =
-    let p = and_parts (is_id_byte b) (list_all is_id_byte bytes) h in
-    and_from (is_lawful b) (list_all is_lawful bytes) (id_byte b p.0) (id_bytes bytes p.1)
-
 pub id_lawful : (id : ℕ) → Lawful (id_text id)
-id_lawful id = id_bytes (id_text id) (ids_are_plain.digits id)
+id_lawful id = all_also is_id_byte is_lawful id_byte (id_text id) (ids_are_plain.digits id)
 
 spelled : (v : Bool) (b : ℕ) → is_lawful b ≡ true → Lawful (cond v (92 ∷ b ∷ []) (b ∷ []))
 spelled true b h = byte_lawful 92 (b ∷ []) refl (byte_lawful b [] h refl)

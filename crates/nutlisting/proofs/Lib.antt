@@ -11,4 +11,5 @@ mod Positions
 mod Owing
 mod Ended
 mod AddingUp
+mod ReadsBack
 pub mod PublicLaws

@@ -4,6 +4,8 @@ use Rattle.nutlisting.proofs.Writing as writing
 use Rattle.nutlisting.proofs.Ended as ended
 use Rattle.nutlisting.proofs.AddingUp as adding
 use Rattle.nutlisting.proofs.Owing as owing
+use Rattle.nutlisting.specs.ReadsBack.{LawfulListingsReadBack}
+use Rattle.nutlisting.proofs.ReadsBack as back
 use Rattle.nutlisting.specs.Tracked.{IdsAreLawful}
 use Rattle.nutlisting.proofs.Lawful as lawful
 use Rattle.nuttracking.proofs.PublicLaws.{ids_are_plain}
@@ -27,3 +29,7 @@ what_is_offered_is_the_ring = owing.offered_is
 -- ids_are_lawful
 pub ids_are_lawful : IdsAreLawful
 ids_are_lawful = record { long = ids_are_plain.long; lawful = lawful.id_lawful }
+
+-- lawful_listings_are_read_back
+pub lawful_listings_read_back : LawfulListingsReadBack
+lawful_listings_read_back = back.lawful_listings_read_back

@@ -12,3 +12,4 @@ pub mod Places
 pub mod Ahead
 pub mod Owed
 pub mod Laws
+pub mod ReadsBack
