@@ -39,8 +39,11 @@ use Rattle.nutanswer.proofs.CheckLemmas as checks
 use Rattle.nutanswer.proofs.CheckLemmas.{unless_ok, none_given, both_true, has_right}
 use Rattle.nutanswer.proofs.Fresh as fresh
 use Rattle.nutanswer.proofs.LawfulWords.{IsLawfulResult, none_lawful, one_lawful, with_lawful, alone_lawful, either_lawful, ups_lawful, set_words, instcmd_words, ups_words, two_words}
-use Rattle.nutanswer.proofs.Plain.{quoted_plain, shown_plain, type_plain, progress_plain}
-use Rattle.nutanswer.proofs.Shapes.{IsLawfulEntry, listing_shaped, items_of, line_shaped, ok_shaped, id_plain, on_or_off_plain, progress_found, entry_item, command_inside, enum_inside, range_inside, ups_inside, client_inside, text_plain, name_found, lawful_known, lawful_found, variables_of, count_plain, lawful_clients}
+use Rattle.nutanswer.proofs.Plain.{quoted_plain, type_plain, progress_plain}
+use Rattle.nutlisting.proofs.PublicLaws.{ids_are_lawful, texts_are_lawful}
+use Rattle.nutlisting.specs.declared.lines.shown.TheConstants.{SHOWN_LIMIT}
+use Rattle.nutwords.specs.declared.limits.TheConstants.{VALUE_LIMIT}
+use Rattle.nutanswer.proofs.Shapes.{IsLawfulEntry, listing_shaped, items_of, line_shaped, ok_shaped, on_or_off_plain, progress_found, entry_item, command_inside, enum_inside, range_inside, ups_inside, client_inside, text_lawful, name_found, lawful_known, lawful_found, variables_of, count_plain, lawful_clients}
 use Rattle.nutanswer.proofs.TableRows.{IsRow, refused, tells, lists, lists_clients, does, orders, held, found, of_ups, of_usable, of_variable}
 
 -- SET VAR and INSTCMD, where their checks hold: what holds of each refusal, and of what the checks let through, holds of the row
@@ -138,25 +141,25 @@ module _ (s : Seen) (asker : AskerSeen) where
   row (GetVar ups name) =
       of_variable ups name (λ u v named is. tells _ refl (λ seen h.
       let f = lawful_found s seen ups name u v h named is in
-      (refl, (f.ups.name, (f.name, (quoted_plain (shown u.state.fsd v.0 v.1) (shown_plain u.state.fsd v.0 v.1 f.entry.1.value), tt))))))
+      (refl, (f.ups.name, (f.name, (quoted_plain SHOWN_LIMIT (shown u.state.fsd v.0 v.1) (texts_are_lawful.shown u.state.fsd v.0 v.1 f.entry.1.value), tt))))))
   row (GetType ups name) =
       of_variable ups name (λ u v named is. tells _ refl (λ seen h.
       let f = lawful_found s seen ups name u v h named is in
       (refl, (f.ups.name, (f.name, type_plain v.1 f.entry.1.aux)))))
   row (GetDesc ups name) =
       of_ups ups (λ u named. found (var_not_lawful name) (λ v is. tells _ refl (λ seen h.
-      (refl, ((lawful_known s seen ups u h.0 named).name, (name_found name VarNotSupported v h.1 is, (quoted_plain (description_of (text_at s.descriptions.vars v)) (text_plain s.descriptions.vars v seen.descriptions.vars), tt)))))))
+      (refl, ((lawful_known s seen ups u h.0 named).name, (name_found name VarNotSupported v h.1 is, (quoted_plain VALUE_LIMIT (description_of (text_at s.descriptions.vars v)) (text_lawful s.descriptions.vars v seen.descriptions.vars), tt)))))))
   row (GetCmdDesc ups name) =
       of_ups ups (λ u named. found (cmd_not_lawful name) (λ c is. tells _ refl (λ seen h.
-      (refl, ((lawful_known s seen ups u h.0 named).name, (name_found name CmdNotSupported c h.1 is, (quoted_plain (description_of (text_at s.descriptions.cmds c)) (text_plain s.descriptions.cmds c seen.descriptions.cmds), tt)))))))
+      (refl, ((lawful_known s seen ups u h.0 named).name, (name_found name CmdNotSupported c h.1 is, (quoted_plain VALUE_LIMIT (description_of (text_at s.descriptions.cmds c)) (text_lawful s.descriptions.cmds c seen.descriptions.cmds), tt)))))))
   row (GetUpsDesc ups) =
       of_ups ups (λ u named. tells _ refl (λ seen h.
       let k = lawful_known s seen ups u h named in
-      (refl, (k.name, (quoted_plain u.description k.description, tt)))))
+      (refl, (k.name, (quoted_plain VALUE_LIMIT u.description k.description, tt)))))
   row (GetNumLogins ups) = of_ups ups (λ u named. tells _ refl (λ seen h. (refl, count_plain s seen ups u h named)))
   row (GetNumAttach ups) = of_ups ups (λ u named. tells _ refl (λ seen h. (refl, count_plain s seen ups u h named)))
   row GetTracking = tells _ refl (λ seen h. (refl, (on_or_off_plain asker.tracking, tt)))
-  row (GetProgress id) = found (unknown_id s id) (λ k is. tells _ refl (λ seen h. (refl, (id_plain k.0, progress_plain k.1 (progress_found s id k seen.numbers is)))))
+  row (GetProgress id) = found (unknown_id s id) (λ k is. tells _ refl (λ seen h. (refl, (ids_are_lawful.lawful k.0, progress_plain k.1 (progress_found s id k seen.numbers is)))))
   row ListUps = lists _ (λ seen h. listing_shaped (codes "UPS") [] _ (refl, tt) (items_of IsLawfulUps ups_item ups_inside s.list seen.list))
   row (ListVar ups) =
       of_usable ups (λ u named. lists _ (λ seen h.

@@ -1,6 +1,6 @@
 //! Laws of the table of answers.
 ghost use Rattle.nutanswer.specs.Fresh.{WhatIsToldIsFresh};
-ghost use Rattle.nutanswer.specs.Laws.{RefusedLinesChangeNothing, OnlyOkChanges, ANamedUpsIsSeen, OrdersFit, ErrorLinesAreWhole, EachAnswerIsALineOrAListing, EachErrorIsALine};
+ghost use Rattle.nutanswer.specs.Laws.{RefusedLinesChangeNothing, OnlyOkChanges, ANamedUpsIsSeen, OrdersFit, ErrorLinesAreWhole, OrderLinesAreWhole, EachAnswerIsALineOrAListing, EachErrorIsALine};
 ghost use Rattle.nutanswer.specs.Lawful.{WhatIsReadIsLawful};
 ghost use Rattle.nutanswer.specs.Rows.{EachChangeComesOfItsCommand, EachOrderAnsweredOkIsGiven};
 
@@ -46,6 +46,11 @@ pub fn orders_fit()
 /// The line of an error is one whole line, of lawful bytes.
 pub fn error_lines_are_whole()
     ensures { ErrorLinesAreWhole }
+{}
+
+/// The line that tells a driver an order, of a lawful name and value, is one whole line, of lawful bytes and not too long.
+pub fn order_lines_are_whole()
+    ensures { OrderLinesAreWhole }
 {}
 
 /// Where what may be looked at is lawful, the answer to a lawful command, as each that was read is, has the shape of one

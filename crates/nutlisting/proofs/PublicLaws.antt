@@ -1,4 +1,5 @@
 -- The laws of this crate that a proof in a crate above may cite: each is what a function of src/laws.rt ensures.
+use Rattle.nutlisting.specs.Lawful.{TextsAreLawful, LawfulWordsAreALine}
 use Rattle.nutlisting.specs.Laws.{LinesAreTheText, BegunLinesAreEnded, LinesAddUp, WhatIsOfferedIsTheRing}
 use Rattle.nutlisting.proofs.Writing as writing
 use Rattle.nutlisting.proofs.Ended as ended
@@ -29,6 +30,13 @@ what_is_offered_is_the_ring = owing.offered_is
 -- ids_are_lawful
 pub ids_are_lawful : IdsAreLawful
 ids_are_lawful = record { long = ids_are_plain.long; lawful = lawful.id_lawful }
+
+-- words_are_lawful
+pub texts_are_lawful : TextsAreLawful
+texts_are_lawful = lawful.texts_are_lawful
+
+pub lawful_words_are_a_line : LawfulWordsAreALine
+lawful_words_are_a_line = lawful.lawful_words_are_a_line
 
 -- lawful_listings_are_read_back
 pub lawful_listings_read_back : LawfulListingsReadBack

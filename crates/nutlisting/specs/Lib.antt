@@ -11,5 +11,6 @@ pub mod Rest
 pub mod Places
 pub mod Ahead
 pub mod Owed
+pub mod Lawful
 pub mod Laws
 pub mod ReadsBack
