@@ -112,14 +112,6 @@ noted_all s t c k b r deeds e le none told so_far =
     ∙ sym (all_deeds k s c le (subst (λ (z : ServerState). pump_stops z c ≡ true) e (ap is_none none)))
     ∙ ap (λ (m : Option ℕ). deeds_of (executions_until s c m)) (sym (ap (λ (z : Result (Unit {0}) Fault). refused_after (done z)) told ∙ never_memory b))
 
--- no listing is a refusal
-listing_told : (l : ListingState) → is_refusal (text_of l) ≡ false
-listing_told l = refl
-
-listed : (s : ServerState) (c : ℕ) (line : List ℕ) (l : ListingState) → reply s c line ≡ text_of l → change_by s c (read_command line) ≡ Nothing → None ≡ deed_of (of_line s c line)
-listed s c line l text change =
-    sym (cond-false _ _ _ (ap (λ (z : Change). is_told s.upses (reply s c line) z) change ∙ ap is_refusal text ∙ listing_told l))
-
 -- what is told of a reply is told of its line
 of_reply : (s : ServerState) (c : ℕ) (line : List ℕ) (r : Reply) → Replies s c line r → (if is_told_by s.upses r then deed_in_reply c (read_command line) r else None) ≡ deed_of (of_line s c line)
 of_reply s c line r is = grind arith

@@ -16,8 +16,8 @@ use Rattle.nutanswer.specs.declared.reply.Change.TheVariants.{Nothing}
 use Rattle.nutanswer.specs.Orders.{order}
 use Rattle.nutlisting.specs.declared.outbox.TheConstants.{OWED_LIMIT}
 use Rattle.nutanswer.specs.Command.{read_command}
-use Rattle.nutlisting.specs.declared.ring.TheConstants.{RING_LIMIT}
-use Rattle.nutlisting.specs.Counts.{is_open, lines}
+use Rattle.nutlisting.specs.Counted.{KeepsCount}
+use Rattle.nutlisting.specs.Counts.{lines}
 use Rattle.nutlisting.specs.Lines.{IsWholeLine}
 use Rattle.nutlisting.specs.Items.{text_of, client_listing}
 use Rattle.nutanswer.specs.View.{Seen, AskerSeen, addresses_at}
@@ -269,19 +269,7 @@ pub record ChangesUps {F R : Type 0}
   pub called : FnOnceReturnsAtMut g f before result after
   pub leaves : new ≡ with_ups_changed (λ x. after) u old
 
--- of what is offered now, so many bytes were there before; the lines of those after them are
--- counted, and none of these is unfinished while a line may be executed
-pub record IsCounted (kept : ℕ) (owed : List ℕ) (made : ℕ) : Type 0 where
-  pub within : kept ≤ length (take RING_LIMIT owed)
-  pub counted : made ≡ lines (drop kept (take RING_LIMIT owed))
-  pub ended : length owed ≤ OWED_LIMIT → is_open (drop kept (take RING_LIMIT owed)) ≡ false
-
--- where all were counted, all are
-abbrev pub KeepsCount : List ℕ → ℕ → List ℕ → ℕ → Type 0
-KeepsCount owed made owed' made' =
-    (kept : ℕ) → IsCounted kept owed made → IsCounted kept owed' made'
-
--- of this client
+-- where all lines were counted, all are, of what is offered to this client
 abbrev pub KeepsCost : ℕ → RunningServer → RunningServer → Type 0
 KeepsCost c old new =
     KeepsCount (owed c old.state) old.cost.rendered (owed c new.state) new.cost.rendered

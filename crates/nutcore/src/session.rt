@@ -14,7 +14,8 @@ ghost use Rattle.nutlisting.specs.declared.outbox.TheConstants.{OWED_LIMIT};
 ghost use Rattle.nutlisting.specs.declared.ring.TheConstants.{RING_LIMIT};
 ghost use Rattle.nutwords.specs.declared.limits.TheConstants.{LINE_LIMIT};
 ghost use Rattle.nutcore.specs.Calls.{is_finished, room_of, IsOutboxOf};
-ghost use Rattle.nutcore.specs.Promises.{IsLineOrNone, IsShort, text_with, change_in, refused_overlong, IsCounted, KeepsCount};
+ghost use Rattle.nutlisting.specs.Counted.{IsCounted, KeepsCount};
+ghost use Rattle.nutcore.specs.Promises.{IsLineOrNone, IsShort, text_with, change_in, refused_overlong};
 ghost use Rattle.nutcore.specs.Reply.{asker_of, seen_client, changed_session};
 ghost use Rattle.nutanswer.specs.View.{asker_seen, is_logged_in, addresses_at};
 

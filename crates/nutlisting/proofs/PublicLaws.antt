@@ -1,4 +1,6 @@
 -- The laws of this crate that a proof in a crate above may cite: each is what a function of src/laws.rt ensures.
+use Rattle.nutlisting.specs.Counted.{WhatIsPlacedIsCounted}
+use Rattle.nutlisting.proofs.Counted as counting
 use Rattle.nutlisting.specs.Lawful.{TextsAreLawful, LawfulWordsAreALine}
 use Rattle.nutlisting.specs.Laws.{LinesAreTheText, BegunLinesAreEnded, LinesAddUp, WhatIsOfferedIsTheRing}
 use Rattle.nutlisting.proofs.Writing as writing
@@ -41,3 +43,7 @@ lawful_words_are_a_line = lawful.lawful_words_are_a_line
 -- lawful_listings_are_read_back
 pub lawful_listings_read_back : LawfulListingsReadBack
 lawful_listings_read_back = back.lawful_listings_read_back
+
+-- what_is_placed_is_counted
+pub what_is_placed_is_counted : WhatIsPlacedIsCounted
+what_is_placed_is_counted = counting.what_is_placed_is_counted

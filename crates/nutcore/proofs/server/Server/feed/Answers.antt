@@ -11,14 +11,15 @@ use Rattle.nutcore.specs.Pump.{held_of, owed_of}
 use Rattle.nutcore.specs.Step.{with_input, offered, fed_by, refused_after}
 use Rattle.nutcore.specs.Deeds.{IsNoted}
 use Rattle.nutcore.specs.Cost.{RunningServer}
-use Rattle.nutcore.specs.Promises.{IsCounted}
+use Rattle.nutlisting.specs.Counted.{IsCounted}
 use Rattle.nutcore.specs.contracts.server.Server.{the_view}
 use Rattle.nutcore.proofs.Runs.{state_is, served_from}
 use Rattle.nutcore.proofs.Serving.{StandsAt, stands, at_set}
 use Rattle.nutcore.proofs.Found.{find_id}
 use Rattle.nutcore.proofs.KeptSound.{session_kept, joined_kept}
 use Rattle.nutcore.proofs.EventSteps.{with_input_is, feed_absent, feed_gives}
-use Rattle.nutcore.proofs.Costs.{counts_none, of_set, refused_feed_costs, feed_costs}
+use Rattle.nutlisting.proofs.PublicLaws.{what_is_placed_is_counted}
+use Rattle.nutcore.proofs.Costs.{of_set, refused_feed_costs, feed_costs}
 use Rattle.nutcore.proofs.Deeds.{fed_absent, fed_noted}
 use Rattle.nutcore.proofs.server.Server.feed.Goals as goal
 
@@ -51,7 +52,7 @@ serve-requires c =
     let x : SessionState = c.index_mut-session.result.now in
     let here : StandsAt v c.args.c c.in_ok-place.place x = stands c.args.c c.in_ok-place.place v c.forget_cost.new.self.state x (state_is c.self.view_is) c.in_ok-place.ensures.place c.index_mut-session.ensures.value in
     let none : c.self.inside.scratch.renders ≡ 0 = ap (λ (r : RunningServer). r.cost.rendered) c.self.view_is ∙ ap (λ (k : Cost). k.rendered) c.forget_cost.ensures.none in
-    let before : IsCounted c.offered-kept.result x.owed c.self.inside.scratch.renders = subst (λ (k : ℕ). IsCounted k x.owed c.self.inside.scratch.renders) (sym c.offered-kept.ensures) (counts_none x.owed c.self.inside.scratch.renders none) in
+    let before : IsCounted c.offered-kept.result x.owed c.self.inside.scratch.renders = subst (λ (k : ℕ). IsCounted k x.owed c.self.inside.scratch.renders) (sym c.offered-kept.ensures) (what_is_placed_is_counted.none x.owed c.self.inside.scratch.renders none) in
     record {
       unnoted = ap (λ (r : RunningServer). r.deeds) c.self.view_is ∙ c.forget_cost.ensures.deeds;
       at = at_set c.args.c c.in_ok-place.place v.sessions c.join-count.new.self here.at (c.join-count.ensures.id ∙ find_id c.args.c v.sessions x here.found);

@@ -1,7 +1,8 @@
 use Rattle.std.specs.Option.{option_map_or}
 use Rattle.std.proofs.Common.{◌≡◌, ◌<◌, ◌≤◌, ◌∙◌, Option, Some, None, false, sym, ap, subst, set, length, arith}
 use Rattle.nutcore.proofs.Common.{SessionState, ServerState, session}
-use Rattle.nutcore.specs.Promises.{IsAt, KeepsCount, refused_overlong}
+use Rattle.nutlisting.specs.Counted.{KeepsCount}
+use Rattle.nutcore.specs.Promises.{IsAt, refused_overlong}
 use Rattle.nutcore.specs.Pump.{next_line_for, after_line, after_notice, held_of, holds_overlong}
 use Rattle.nutcore.specs.History.{owed}
 use Rattle.nutcore.specs.Cost.{RunningServer}

@@ -10,7 +10,7 @@ use Rattle.nutcore.specs.Pump.{held_of, owed_of}
 use Rattle.nutcore.specs.Step.{without_output, offered, may_take, refused_after}
 use Rattle.nutcore.specs.Deeds.{IsNoted}
 use Rattle.nutcore.specs.Cost.{RunningServer}
-use Rattle.nutcore.specs.Promises.{IsCounted}
+use Rattle.nutlisting.specs.Counted.{IsCounted}
 use Rattle.nutcore.specs.contracts.server.Server.{the_view}
 use Rattle.nutcore.proofs.Runs.{state_is, served_from}
 use Rattle.nutcore.proofs.Serving.{StandsAt, stands, found_in, at_set, may_take_true, may_take_false}

@@ -2,8 +2,8 @@ use Rattle.std.proofs.Common.{◌≡◌, ◌≤◌, ◌-◌, ◌∙◌, List, �
 use Rattle.nutlisting.specs.declared.ring.TheConstants.{RING_LIMIT}
 use Rattle.nutlisting.specs.Owed.{owed}
 use Rattle.nutcore.specs.Session.{SessionState}
-use Rattle.nutcore.specs.Promises.{IsCounted}
-use Rattle.nutcore.proofs.Costs.{taken_counted}
+use Rattle.nutlisting.specs.Counted.{IsCounted}
+use Rattle.nutlisting.proofs.PublicLaws.{what_is_placed_is_counted}
 use Rattle.nutcore.proofs.session.Session.take.Goals as goal
 
 pub returns-clause-counted : goal.returns-clause-counted
@@ -13,4 +13,4 @@ returns-clause-counted c =
     let few : c.args.n ≤ length c.self.inside.outbox.ring = omega (arith, ring, c.requires.few) in
     subst (λ (k : ℕ). IsCounted (k - c.args.n) (owed c.take.new.self) c.take.new.renders) ring
     (subst (λ (xs : List ℕ). IsCounted (length c.self.inside.outbox.ring - c.args.n) xs c.take.new.renders) (sym c.take.ensures.owed)
-    (taken_counted c.self.inside.outbox.ring c.self.inside.outbox.cursor c.args.n _ _ c.offered.ensures.outbox few c.requires.none c.take.ensures.counts))
+    (what_is_placed_is_counted.taken c.self.inside.outbox.ring c.self.inside.outbox.cursor c.args.n _ _ c.offered.ensures.outbox few c.requires.none c.take.ensures.counts))
