@@ -42,10 +42,7 @@ cost_is before after n kept le e within = grind arith
 -- where nothing is taken and nothing changes
 same_costs : (bytes : List ℕ) → no_cost ≡ cost_between bytes 0 bytes
 same_costs bytes =
-    let none : 0 ≡ length bytes + 0 - length bytes = omega arith in
-    let past : drop (length bytes - 0) bytes ≡ [] = drop_all (length bytes - 0) bytes (omega arith) in
-    ap (λ (xs : List ℕ). let z : Cost = record { rendered = lines xs; placed = 0 } in z) (sym past)
-    ∙ ap (λ (p : ℕ). let z : Cost = record { rendered = lines (drop (length bytes - p) bytes); placed = p } in z) none
+    grind (arith, drop_all)
 
 -- how many bytes were taken
 fed_none : (s : ServerState) (c : ℕ) (piece : List ℕ) → length (taken_in_event c s (Feed c piece)) ≡ 0
@@ -54,7 +51,7 @@ fed_none s c piece = refl
 
 pub took_none : (s : ServerState) (c n : ℕ) → may_take (session c s) n ≡ false → length (taken_in_event c s (Took c n)) ≡ 0
 unfolding taken_in_event
-took_none s c n may = ap length (cond-false _ _ _ may)
+took_none s c n may = grind arith
 
 pub took_some : (s : ServerState) (c n : ℕ) → may_take (session c s) n ≡ true → n ≤ length (offered (session c s)) → length (taken_in_event c s (Took c n)) ≡ n
 unfolding taken_in_event
@@ -64,9 +61,7 @@ took_some s c n may le =
 -- an event that is refused at once
 nothing_costs : (s s' : ServerState) (c : ℕ) (e : Event) → s' ≡ s → length (taken_in_event c s' e) ≡ 0 → no_cost ≡ client_cost c s e s'
 nothing_costs s s' c e same none =
-    same_costs (offered (session c s'))
-    ∙ ap (λ (n : ℕ). cost_between (offered (session c s')) n (offered (session c s'))) (sym none)
-    ∙ ap (λ (z : ServerState). client_cost c z e s') same
+    cc (same_costs (offered (session c s')), none, same)
 
 pub refused_feed_costs : (s s' : ServerState) (c : ℕ) (piece : List ℕ) → s' ≡ s → no_cost ≡ client_cost c s (Feed c piece) s'
 refused_feed_costs s s' c piece same = nothing_costs s s' c (Feed c piece) same (fed_none s' c piece)
@@ -78,9 +73,7 @@ refused_take_costs s s' c n same may = nothing_costs s s' c (Took c n) same (too
 event_costs : (s s' t : ServerState) (c n kept : ℕ) (e : Event) → s' ≡ s → length (taken_in_event c s' e) ≡ n → n ≤ length (offered (session c s')) → kept ≡ length (offered (session c s')) - n → kept ≤ length (offered (session c t)) →
     cost_beyond kept (offered (session c t)) ≡ client_cost c s e t
 event_costs s s' t c n kept e same taken le left within =
-    cost_is (offered (session c s')) (offered (session c t)) n kept le left within
-    ∙ ap (λ (k : ℕ). cost_between (offered (session c s')) k (offered (session c t))) (sym taken)
-    ∙ ap (λ (z : ServerState). client_cost c z e t) same
+    cc (cost_is (offered (session c s')) (offered (session c t)) n kept le left within, taken, same)
 
 pub feed_costs : (s s' t : ServerState) (c kept : ℕ) (piece : List ℕ) → s' ≡ s → kept ≡ length (offered (session c s')) → kept ≤ length (offered (session c t)) → cost_beyond kept (offered (session c t)) ≡ client_cost c s (Feed c piece) t
 feed_costs s s' t c kept piece same left within = event_costs s s' t c 0 kept (Feed c piece) same (fed_none s' c piece) (omega arith) (left ∙ omega arith) within

@@ -42,19 +42,17 @@ none_executed : (k : ℕ) (s : ServerState) (c : ℕ) → pump_stops s c ≡ tru
 unfolding lines_executed
 none_executed zero s c stop = refl
 none_executed (suc k) s c stop =
-    ap (λ (o : Option (List ℕ)). next_execution s c o ++ lines_executed k (after_line s c) c) (none_of (next_line_for s c) stop)
-    ∙ ap (λ (z : ServerState). lines_executed k z c) (stopped_line s c stop)
-    ∙ none_executed k s c stop
+    cc (none_of (next_line_for s c) stop, stopped_line s c stop, none_executed k s c stop)
 
 all_executed : (k : ℕ) (s : ServerState) (c : ℕ) → k ≤ length (held_of (session c s)) → pump_stops (after_lines k s c) c ≡ true → lines_executed (length (held_of (session c s))) s c ≡ lines_executed k s c
 all_executed k s c le stop =
     let n = length (held_of (session c s)) in
     let e : n ≡ k + (n - k) = omega arith in
-    ap (λ m. lines_executed m s c) e ∙ executed-add k (n - k) s c ∙ ap (λ (xs : List Execution). lines_executed k s c ++ xs) (none_executed (n - k) (after_lines k s c) c stop) ∙ append-nil (lines_executed k s c)
+    cc (executed-add k (n - k) s c, none_executed (n - k) (after_lines k s c) c stop, append-nil (lines_executed k s c))
 
 -- the notice is no deed
 no_deed : (s : ServerState) (c : ℕ) → filter_map deed_of (notice s c) ≡ []
-no_deed s c = cond_both (is_overlong s c) (of_notice c ∷ []) [] (λ (xs : List Execution). filter_map deed_of xs ≡ []) (λ due. refl) (λ quiet. refl)
+no_deed s c = grind arith
 
 all_deeds : (k : ℕ) (s : ServerState) (c : ℕ) → k ≤ length (held_of (session c s)) → pump_stops (after_lines k s c) c ≡ true → deeds_of (executions_until s c None) ≡ deeds_of (lines_executed k s c)
 unfolding executions_until pump_executions
@@ -66,11 +64,10 @@ all_deeds k s c le stop =
 take_onto : (n : ℕ) (xs ys : List Deed) → take n (take n xs ++ ys) ≡ take n (xs ++ ys)
 take_onto zero xs ys = refl
 take_onto (suc n) [] ys = refl
-take_onto (suc n) (x ∷ xs) ys = ap (λ (zs : List Deed). x ∷ zs) (take_onto n xs ys)
+take_onto (suc n) (x ∷ xs) ys = cc (take_onto n xs ys)
 
 one_noted : (xs : List Deed) (o : Option Deed) (deeds : List Deed) → deeds ≡ take DEED_LIMIT xs → with_deed o deeds ≡ take DEED_LIMIT (xs ++ cons_option o [])
-one_noted xs None deeds e = e ∙ ap (take DEED_LIMIT) (sym (append-nil xs))
-one_noted xs (Some deed) deeds e = ap (λ (zs : List Deed). take DEED_LIMIT (zs ++ deed ∷ [])) e ∙ take_onto DEED_LIMIT xs (deed ∷ [])
+one_noted xs o deeds e = grind (arith, take_onto DEED_LIMIT xs, append-nil)
 
 next_deeds : (s : ServerState) (c : ℕ) (o : Option (List ℕ)) → cons_option (told_next s c o) [] ≡ filter_map deed_of (next_execution s c o)
 next_deeds s c o = grind arith
@@ -78,9 +75,7 @@ next_deeds s c o = grind arith
 noted_more : (s : ServerState) (c : ℕ) (xs : List Execution) (deeds : List Deed) → deeds ≡ deeds_of xs → with_next s c deeds ≡ deeds_of (xs ++ next_execution s c (next_line_for s c))
 noted_more s c xs deeds e =
     let next : Option (List ℕ) = next_line_for s c in
-    one_noted (filter_map deed_of xs) (told_next s c next) deeds e
-    ∙ ap (λ (zs : List Deed). take DEED_LIMIT (filter_map deed_of xs ++ zs)) (next_deeds s c next)
-    ∙ ap (take DEED_LIMIT) (sym (filter_map-append deed_of xs (next_execution s c next)))
+    cc (one_noted (filter_map deed_of xs) (told_next s c next) deeds e, next_deeds s c next, filter_map-append deed_of xs (next_execution s c next))
 
 -- the loop begins
 pub noted_first : (s : ServerState) (c : ℕ) (deeds : List Deed) → deeds ≡ [] → deeds ≡ deeds_of (lines_executed 0 s c)
@@ -90,12 +85,7 @@ noted_first s c deeds none = none
 -- it goes on
 pub noted_next : (s t : ServerState) (c k : ℕ) (deeds deeds' : List Deed) → t ≡ after_lines k s c → deeds ≡ deeds_of (lines_executed k s c) → deeds' ≡ with_next t c deeds → deeds' ≡ deeds_of (lines_executed (k + 1) s c)
 noted_next s t c k deeds deeds' e so_far more =
-    let u : ServerState = after_lines k s c in
-    more
-    ∙ noted_more t c (lines_executed k s c) deeds so_far
-    ∙ ap (λ (z : ServerState). deeds_of (lines_executed k s c ++ next_execution z c (next_line_for z c))) e
-    ∙ ap (λ (xs : List Execution). deeds_of (lines_executed k s c ++ xs)) (sym (one_executed u c))
-    ∙ ap deeds_of (sym (executed-add k 1 s c))
+    cc (noted_more t c (lines_executed k s c) deeds so_far, one_executed (after_lines k s c) c, executed-add k 1 s c)
 
 -- it ends: memory was refused, or all lines are done
 pub noted_until : (s : ServerState) (c k : ℕ) (deeds : List Deed) → deeds ≡ deeds_of (lines_executed k s c) → deeds ≡ deeds_of (executions_until s c (Some k))
@@ -108,9 +98,7 @@ never_memory b = grind arith
 pub noted_all : (s t : ServerState) (c k : ℕ) (b : Bool) (r : Result (Unit {0}) Fault) (deeds : List Deed) → t ≡ after_lines k s c → k ≤ length (held_of (session c s)) → next_line_for t c ≡ None → r ≡ refused_overlong b → deeds ≡ deeds_of (lines_executed k s c) →
     deeds ≡ deeds_of (executions_until s c (refused_after (done r)))
 noted_all s t c k b r deeds e le none told so_far =
-    so_far
-    ∙ sym (all_deeds k s c le (subst (λ (z : ServerState). pump_stops z c ≡ true) e (ap is_none none)))
-    ∙ ap (λ (m : Option ℕ). deeds_of (executions_until s c m)) (sym (ap (λ (z : Result (Unit {0}) Fault). refused_after (done z)) told ∙ never_memory b))
+    cc (so_far, all_deeds k s c le (cc (e, none)), told, never_memory b)
 
 -- what is told of a reply is told of its line
 of_reply : (s : ServerState) (c : ℕ) (line : List ℕ) (r : Reply) → Replies s c line r → (if is_told_by s.upses r then deed_in_reply c (read_command line) r else None) ≡ deed_of (of_line s c line)
@@ -120,11 +108,7 @@ of_reply s c line r is = grind arith
 pub noted_reply : (s : ServerState) (c : ℕ) (line : List ℕ) (r : Reply) (told : Bool) (read : Result (Option Command) ErrWord) (before deeds : List Deed) → next_line_for s c ≡ Some line → Replies s c line r → told ≡ is_told_by s.upses r → read_command line ≡ read →
     deeds ≡ with_deed (if told then deed_in_reply c read r else None) before → deeds ≡ with_next s c before
 noted_reply s c line r told read before deeds next is e reads noted =
-    noted
-    ∙ ap (λ (b : Bool). with_deed (if b then deed_in_reply c read r else None) before) e
-    ∙ ap (λ (z : Result (Option Command) ErrWord). with_deed (if is_told_by s.upses r then deed_in_reply c z r else None) before) (sym reads)
-    ∙ ap (λ (o : Option Deed). with_deed o before) (of_reply s c line r is)
-    ∙ ap (λ (o : Option (List ℕ)). with_deed (told_next s c o) before) (sym next)
+    cc (noted, e, reads, of_reply s c line r is, next)
 
 -- where the client isn't open, nothing is
 absent_deeds : (s : ServerState) (c : ℕ) → session c s ≡ None → deeds_of (executions_until s c None) ≡ []
@@ -134,29 +118,19 @@ absent_deeds s c absent = all_deeds 0 s c (omega arith) (ap (λ (o : Option Sess
 pub fed_absent : (s s' : ServerState) (c : ℕ) (piece : List ℕ) (deeds : List Deed) → s' ≡ s → session c s' ≡ None → deeds ≡ [] → deeds ≡ deeds_of (executions_by s (Feed c piece) None)
 unfolding executions_by
 fed_absent s s' c piece deeds same absent none =
-    none
-    ∙ sym (absent_deeds s' c absent)
-    ∙ ap (λ (z : ServerState). deeds_of (executions_until z c None)) (sym (input_absent s' c piece absent))
-    ∙ ap (λ (z : ServerState). deeds_of (executions_until (with_input z c piece) c None)) same
+    cc (none, absent_deeds s' c absent, input_absent s' c piece absent, same)
 
 pub fed_noted : (s s' j : ServerState) (c : ℕ) (piece : List ℕ) (m : Option ℕ) (deeds : List Deed) → s' ≡ s → j ≡ with_input s' c piece → deeds ≡ deeds_of (executions_until j c m) → deeds ≡ deeds_of (executions_by s (Feed c piece) m)
 unfolding executions_by
 fed_noted s s' j c piece m deeds same fed noted =
-    noted
-    ∙ ap (λ (z : ServerState). deeds_of (executions_until z c m)) fed
-    ∙ ap (λ (z : ServerState). deeds_of (executions_until (with_input z c piece) c m)) same
+    cc
 
 pub took_never : (s s' : ServerState) (c n : ℕ) (m : Option ℕ) (deeds : List Deed) → s' ≡ s → may_take (session c s') n ≡ false → deeds ≡ [] → deeds ≡ deeds_of (executions_by s (Took c n) m)
 unfolding executions_by
 took_never s s' c n m deeds same never none =
-    none
-    ∙ ap deeds_of (sym (cond-false _ (executions_until (without_output s' c n) c m) [] never))
-    ∙ ap (λ (z : ServerState). deeds_of (executions_by z (Took c n) m)) same
+    cc
 
 pub took_noted : (s s' j : ServerState) (c n : ℕ) (m : Option ℕ) (deeds : List Deed) → s' ≡ s → may_take (session c s') n ≡ true → j ≡ without_output s' c n → deeds ≡ deeds_of (executions_until j c m) → deeds ≡ deeds_of (executions_by s (Took c n) m)
 unfolding executions_by
 took_noted s s' j c n m deeds same may took noted =
-    noted
-    ∙ ap (λ (z : ServerState). deeds_of (executions_until z c m)) took
-    ∙ ap deeds_of (sym (cond-true _ (executions_until (without_output s' c n) c m) [] may))
-    ∙ ap (λ (z : ServerState). deeds_of (executions_by z (Took c n) m)) same
+    cc

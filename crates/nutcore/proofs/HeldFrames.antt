@@ -1,5 +1,5 @@
 -- A listing is the frame of what is held.
-use Rattle.std.proofs.Common.{◌≡◌, ℕ, true, List, [], ◌∷◌, Option, Some, Result, Ok, refl, sym, ◌∙◌, ap, inl, inr}
+use Rattle.std.proofs.Common.{◌≡◌, ℕ, true, List, [], ◌∷◌, Option, Some, Result, Ok, refl, sym, ◌∙◌, ap, subst, arith, inl, inr}
 use Rattle.std.specs.Prelude.{codes, nat_eq}
 use Rattle.std.specs.List.{starts_with}
 use Rattle.std.proofs.lemmas.Slice.Eq.{bytes_eq-Decides}
@@ -29,14 +29,11 @@ listing_is_held = record {
 }
 
 -- a line of OK doesn't begin with ERR
-ok_line : (words : List (List ℕ)) → starts_with nat_eq (line_of (codes "OK" ∷ words)) (codes "ERR") ≡ true → ⊥
-ok_line [] e = cc e
-ok_line (word ∷ words) e = cc e
-
 ok_text : (answer : Result Answer ErrWord) → is_ok_line answer ≡ true → starts_with nat_eq (text_of_answer answer) (codes "ERR") ≡ true → ⊥
-ok_text (Ok (one_line (first ∷ words) change)) ok e =
-    let same : first ≡ codes "OK" = (bytes_eq-Decides first (codes "OK")).0 ok in
-    ok_line words (ap (λ (w : List ℕ). starts_with nat_eq (line_of (w ∷ words)) (codes "ERR")) (sym same) ∙ e)
+ok_text (Ok (one_line (first ∷ words) change)) ok e = by_words words (subst (λ (w : List ℕ). starts_with nat_eq (line_of (w ∷ words)) (codes "ERR") ≡ true) ((bytes_eq-Decides first (codes "OK")).0 ok) e)
+  where
+    by_words : (words : List (List ℕ)) → starts_with nat_eq (line_of (codes "OK" ∷ words)) (codes "ERR") ≡ true → ⊥
+    by_words words e = grind arith
 ok_text answer ok e = cc ok
 
 -- so what begins with ERR changes nothing

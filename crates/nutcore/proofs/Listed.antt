@@ -75,7 +75,7 @@ range_of u v = range_listing u.name v.0 (Some v.1)
 -- what is left of rising keys rises
 all_left : (p : List ℕ × VariableState → Bool) (P : List ℕ → Type 0) (es : List (List ℕ × VariableState)) → AllByRecursion P (keys_of es) → AllByRecursion P (keys_of (filter p es))
 all_left p P [] all = tt
-all_left p P (e ∷ es) all = cond_both (p e) (e ∷ filter p es) (filter p es) (λ left. AllByRecursion P (keys_of left)) (λ yes. (all.0, all_left p P es all.1)) (λ no. all_left p P es all.1)
+all_left p P (e ∷ es) all = grind (arith, all_left p P es all.1)
 
 left_rise : (p : List ℕ × VariableState → Bool) (es : List (List ℕ × VariableState)) → IsStrictlySortedBy byte_order (keys_of es) → IsStrictlySortedBy byte_order (keys_of (filter p es))
 unfolding IsStrictlySortedBy
@@ -104,11 +104,8 @@ listed_once = record {
 }
 
 -- what is held
-is_equal : (c : Ordering) → is_eq c ≡ true → c ≡ Equal
-is_equal c h = grind arith
-
 one_name : (name other : List ℕ) → is_at (byte_order name) other ≡ true → name ≡ other
-one_name name other h = exact_bytes name other (is_equal (byte_order name other) h)
+one_name name other h = grind (arith, exact_bytes name other)
 
 held_by : (es : List (List ℕ × VariableState)) (name : List ℕ) (variable : VariableState) → IsStrictlySortedBy byte_order (keys_of es) → Contains es (name, variable) ↔ (value_at byte_order es name ≡ Some variable)
 held_by es name variable rise = (

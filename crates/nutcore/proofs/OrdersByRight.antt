@@ -98,7 +98,7 @@ gives u bytes (of_line s c line) h = elim h [
 gives u bytes (of_notice c) h = absurd h
 
 silent : (u : UpsId) (bytes : List ℕ) (x : Execution) → told_by_line u x ≡ [] → IsOrderByRight u bytes x → ⊥
-silent u bytes x e h = let k : [] ≡ order bytes ∷ [] = sym e ∙ gives u bytes x h in cc k
+silent u bytes x e h = cc (e, gives u bytes x h)
 
 -- one execution
 abbrev Joins : UpsId → Execution → List Telling → Type 0
@@ -126,15 +126,10 @@ beside_no_order : (u : UpsId) (s : ServerState) (e : Event) → flat_map order_o
 beside_no_order u s e = of_told_beside u s (λ told. flat_map order_of told ≡ []) refl (λ b. no_order dump_all refl b) (λ b. no_order ping refl b) e
   where
     no_order : (t : Telling) → order_of t ≡ [] → (b : Bool) → flat_map order_of (cond b (t ∷ []) []) ≡ []
-    no_order t none b = cond_both b (t ∷ []) [] (λ told. flat_map order_of told ≡ []) (λ yes. ap (λ (z : List (List ℕ)). z ++ []) none) (λ no. refl)
-
-front_told : (told : List Telling) (taken : List ℕ) (later : Connections) → all_told (with_front told taken later) ≡ told ++ all_told later
-front_told told taken (last now) = refl
-front_told told taken (lost first later) = append_assoc told first.told (all_told later)
+    no_order t none b = grind (arith, none)
 
 pub all_in_front : (b : Bool) (told : List Telling) (taken : List ℕ) (later : Connections) → all_told (in_front b told taken later) ≡ told ++ all_told later
-all_in_front true told taken later = refl
-all_in_front false told taken later = front_told told taken later
+all_in_front b told taken later = grind (arith, append_assoc)
 
 pub run_orders : (u : UpsId) (s : ServerState) (es : List Event) (os : List Outcome) → orders_told u s es os ≡ flat_map order_of (flat_map (told_by_line u) (executions s es os))
 run_orders u s [] os = refl
@@ -142,16 +137,16 @@ run_orders u s (e ∷ es) [] = refl
 run_orders u s (e ∷ es) (o ∷ os) =
     let here = executions_in_event s e o in
     let later = executions (after s e o) es os in
-    let beside : List Telling = told_beside_lines u s e in
     let by_lines : List Telling = flat_map (told_by_line u) here in
-    let event : flat_map order_of (told_in_event u s e o) ≡ flat_map order_of by_lines =
-    flat_map-append order_of beside by_lines ∙ ap (λ (z : List (List ℕ)). z ++ flat_map order_of by_lines) (beside_no_order u s e) in
-    ap (λ (z : List Telling). flat_map order_of z) (all_in_front (is_lost_by u s e o) (told_in_event u s e o) (taken_in_event u s e) (connections u (after s e o) es os))
-    ∙ flat_map-append order_of (told_in_event u s e o) (all_told (connections u (after s e o) es os))
-    ∙ ap (λ (z : List (List ℕ)). z ++ orders_told u (after s e o) es os) event
-    ∙ ap (λ (z : List (List ℕ)). flat_map order_of by_lines ++ z) (run_orders u (after s e o) es os)
-    ∙ sym (flat_map-append order_of by_lines (flat_map (told_by_line u) later))
-    ∙ ap (λ (z : List Telling). flat_map order_of z) (sym (flat_map-append (told_by_line u) here later))
+    cc (
+      all_in_front (is_lost_by u s e o) (told_in_event u s e o) (taken_in_event u s e) (connections u (after s e o) es os),
+      flat_map-append order_of (told_in_event u s e o) (all_told (connections u (after s e o) es os)),
+      flat_map-append order_of (told_beside_lines u s e) by_lines,
+      beside_no_order u s e,
+      run_orders u (after s e o) es os,
+      flat_map-append order_of by_lines (flat_map (told_by_line u) later),
+      flat_map-append (told_by_line u) here later,
+    )
 
 pub orders_by_right : EachOrderIsByRight
 orders_by_right old es os u = subst (AreOrdersByRight u (executions old es os)) (sym (run_orders u old es os)) (all_join u (executions old es os))

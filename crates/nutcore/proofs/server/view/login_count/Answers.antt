@@ -8,10 +8,7 @@ use Rattle.nutcore.proofs.LoginCount.{is_in, count_more, count_seen}
 use Rattle.nutcore.proofs.server.view.login_count.Goals as goal
 
 at_most_one : (b : Bool) → cond b 1 0 ≤ 1
-at_most_one b = cond_both b 1 0 (λ k. k ≤ 1) (λ yes. omega arith) (λ no. omega arith)
-
-pub loop-session-init : goal.loop-session-init
-loop-session-init c = refl
+at_most_one b = grind arith
 
 pub overflow_add-count : goal.overflow_add-count
 overflow_add-count c =

@@ -9,9 +9,8 @@ use Rattle.nutlisting.specs.declared.outbox.TheConstants.{OWED_LIMIT}
 
 pub returns-in-Err : goal.returns-in-Err
 returns-in-Err c s n line sees asks read =
-    let short : length c.line.result.now ≤ OWED_LIMIT = omega (arith, c.line.ensures.short) in
     let whole : IsLineOrNone c.line.result.now = subst IsLineOrNone (sym c.line.ensures.line) (inl (error_lines_are_whole c.in-Err.word)) in
-    replies_text s n line c.line.result.now _ c.one_line.result (read ∙ c.in-Err.is) refl (sym c.line.ensures.line) refl short whole c.one_line.ensures
+    replies_text s n line c.line.result.now _ c.one_line.result (read ∙ c.in-Err.is) refl (sym c.line.ensures.line) refl (omega (arith, c.line.ensures.short)) whole c.one_line.ensures
 
 pub returns-in-None : goal.returns-in-None
 returns-in-None c s n line sees asks read =
