@@ -3,7 +3,8 @@ use Rattle.std.proofs.Common.{◌≡◌, ◌∙◌, ℕ, Bool, true, false, not,
 use Rattle.std.specs.Prelude.{All, IfSome, map, filter, length}
 use Rattle.std.proofs.Math.Seq.{take-append_seam}
 use Rattle.std.specs.List.{concat, flat_map}
-use Rattle.std.proofs.lemmas.List.Elements.{All-nil, All-cons, All-head, All-tail, All-filter, All-map, All-take, All-weaker}
+use Rattle.std.proofs.lemmas.List.Elements.{All-nil, All-cons, All-head, All-tail, All-filter, All-map, All-take, All-weaker, filter_passes}
+use Rattle.std.proofs.lemmas.Bool.{not-true}
 use Rattle.nutwords.specs.Answers.{IsAnswer}
 use Rattle.nutwords.specs.Natural.{is_empty}
 use Rattle.nutwords.proofs.PublicLaws.{first_answers_are_the_first, answers_are_cut_in_one_way}
@@ -95,21 +96,14 @@ execution_answered (of_notice c) sound own = λ some. each_error_is_a_line TooLo
 abbrev texts : List Execution → List (List ℕ)
 texts xs = filter (λ text. not (is_empty text)) (map text_of xs)
 
-one_more_answered : (text : List ℕ) (xs : List Execution) → IsAnswerIfAny text → All IsAnswer (texts xs) → All IsAnswer (filter (λ t. not (is_empty t)) (text ∷ map text_of xs))
-one_more_answered [] xs h all = all
-one_more_answered (b ∷ text) xs h all = All-cons IsAnswer (b ∷ text) (texts xs) (h refl) all
-
 texts_answered : (xs : List Execution) → All (λ x. IsAnswerIfAny (text_of x)) xs → All IsAnswer (texts xs)
-texts_answered [] all = All-nil IsAnswer
-texts_answered (x ∷ xs) all =
-    one_more_answered (text_of x) xs (All-head (λ y. IsAnswerIfAny (text_of y)) x xs all) (texts_answered xs (All-tail (λ y. IsAnswerIfAny (text_of y)) x xs all))
-
-one_more_joined : (text : List ℕ) (xs : List Execution) → concat (texts xs) ≡ flat_map text_of xs → concat (filter (λ t. not (is_empty t)) (text ∷ map text_of xs)) ≡ text ++ flat_map text_of xs
-one_more_joined text xs e = grind arith
+texts_answered xs all =
+    let some : List ℕ → Bool = λ text. not (is_empty text) in
+    λ k d below. All-filter some IsAnswerIfAny (map text_of xs) (All-map IsAnswerIfAny text_of xs all) k d below (not-true _ (filter_passes some (map text_of xs) k d below))
 
 texts_joined : (xs : List Execution) → concat (texts xs) ≡ flat_map text_of xs
 texts_joined [] = refl
-texts_joined (x ∷ xs) = one_more_joined (text_of x) xs (texts_joined xs)
+texts_joined (x ∷ xs) = grind (arith, texts_joined xs)
 
 module _ (empty : IsSoundTree empty_tree) (line_keeps : EachLineKeepsTheTreeSound) (read_lawful : ReadLinesAreLawful) where
   sound_old : (old : ServerState) → IsNewServer old → IsSound old
@@ -127,7 +121,7 @@ module _ (empty : IsSoundTree empty_tree) (line_keeps : EachLineKeepsTheTreeSoun
   taken_begins old new es os n r c = by_end (is_closed c new) refl
     where
       none : owed c old ≡ []
-      none = ap (λ (s : ServerState). owed c s) n.is
+      none = cc n.is
 
       by_end : (b : Bool) → is_closed c new ≡ b → IsBeginning (taken c old es os) (answers c old es os)
       by_end false going = (owed c new, cc (none, (run_sent old new es os (sound_lawful old (sound_old old n)) r c).while_open going))

@@ -39,10 +39,9 @@ placed_behind after kept made n counted all = grind arith
 cost_is : (before after : List ℕ) (n kept : ℕ) → n ≤ length before → kept ≡ length before - n → kept ≤ length after → cost_beyond kept after ≡ cost_between before n after
 cost_is before after n kept le e within = grind arith
 
--- where nothing is taken and nothing changes
+-- where nothing is taken, and nothing changes
 same_costs : (bytes : List ℕ) → no_cost ≡ cost_between bytes 0 bytes
-same_costs bytes =
-    grind (arith, drop_all)
+same_costs bytes = grind (arith, drop_all)
 
 -- how many bytes were taken
 fed_none : (s : ServerState) (c : ℕ) (piece : List ℕ) → length (taken_in_event c s (Feed c piece)) ≡ 0
@@ -60,8 +59,7 @@ took_some s c n may le =
 
 -- an event that is refused at once
 nothing_costs : (s s' : ServerState) (c : ℕ) (e : Event) → s' ≡ s → length (taken_in_event c s' e) ≡ 0 → no_cost ≡ client_cost c s e s'
-nothing_costs s s' c e same none =
-    cc (same_costs (offered (session c s')), none, same)
+nothing_costs s s' c e same none = cc (same_costs (offered (session c s')), none, same)
 
 pub refused_feed_costs : (s s' : ServerState) (c : ℕ) (piece : List ℕ) → s' ≡ s → no_cost ≡ client_cost c s (Feed c piece) s'
 refused_feed_costs s s' c piece same = nothing_costs s s' c (Feed c piece) same (fed_none s' c piece)
@@ -72,8 +70,7 @@ refused_take_costs s s' c n same may = nothing_costs s s' c (Took c n) same (too
 -- one that isn't
 event_costs : (s s' t : ServerState) (c n kept : ℕ) (e : Event) → s' ≡ s → length (taken_in_event c s' e) ≡ n → n ≤ length (offered (session c s')) → kept ≡ length (offered (session c s')) - n → kept ≤ length (offered (session c t)) →
     cost_beyond kept (offered (session c t)) ≡ client_cost c s e t
-event_costs s s' t c n kept e same taken le left within =
-    cc (cost_is (offered (session c s')) (offered (session c t)) n kept le left within, taken, same)
+event_costs s s' t c n kept e same taken le left within = cc (cost_is (offered (session c s')) (offered (session c t)) n kept le left within, taken, same)
 
 pub feed_costs : (s s' t : ServerState) (c kept : ℕ) (piece : List ℕ) → s' ≡ s → kept ≡ length (offered (session c s')) → kept ≤ length (offered (session c t)) → cost_beyond kept (offered (session c t)) ≡ client_cost c s (Feed c piece) t
 feed_costs s s' t c kept piece same left within = event_costs s s' t c 0 kept (Feed c piece) same (fed_none s' c piece) (omega arith) (left ∙ omega arith) within

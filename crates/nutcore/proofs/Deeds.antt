@@ -29,9 +29,8 @@ executed-add : (j k : ℕ) (s : ServerState) (c : ℕ) → lines_executed (j + k
 unfolding lines_executed after_lines
 executed-add zero k s c = ap (λ n. lines_executed n s c) (zero-add k)
 executed-add (suc j) k s c =
-    let next : List Execution = next_execution s c (next_line_for s c) in
     let e : suc j + k ≡ suc (j + k) = omega arith in
-    ap (λ n. lines_executed n s c) e ∙ ap (λ (xs : List Execution). next ++ xs) (executed-add j k (after_line s c) c) ∙ sym (append_assoc next (lines_executed j (after_line s c) c) (lines_executed k (after_lines j (after_line s c) c) c))
+    cc (executed-add j k (after_line s c) c, append_assoc (next_execution s c (next_line_for s c)) (lines_executed j (after_line s c) c) (lines_executed k (after_lines j (after_line s c) c) c))
 
 one_executed : (s : ServerState) (c : ℕ) → lines_executed 1 s c ≡ next_execution s c (next_line_for s c)
 unfolding lines_executed
@@ -41,8 +40,7 @@ one_executed s c = append-nil (next_execution s c (next_line_for s c))
 none_executed : (k : ℕ) (s : ServerState) (c : ℕ) → pump_stops s c ≡ true → lines_executed k s c ≡ []
 unfolding lines_executed
 none_executed zero s c stop = refl
-none_executed (suc k) s c stop =
-    cc (none_of (next_line_for s c) stop, stopped_line s c stop, none_executed k s c stop)
+none_executed (suc k) s c stop = cc (none_of (next_line_for s c) stop, stopped_line s c stop, none_executed k s c stop)
 
 all_executed : (k : ℕ) (s : ServerState) (c : ℕ) → k ≤ length (held_of (session c s)) → pump_stops (after_lines k s c) c ≡ true → lines_executed (length (held_of (session c s))) s c ≡ lines_executed k s c
 all_executed k s c le stop =
@@ -58,7 +56,7 @@ all_deeds : (k : ℕ) (s : ServerState) (c : ℕ) → k ≤ length (held_of (ses
 unfolding executions_until pump_executions
 all_deeds k s c le stop =
     let all : List Execution = lines_executed (length (held_of (session c s))) s c in
-    ap (take DEED_LIMIT) (filter_map-append deed_of all (notice (after_all_lines s c) c) ∙ ap (λ (xs : List Deed). filter_map deed_of all ++ xs) (no_deed (after_all_lines s c) c) ∙ append-nil (filter_map deed_of all) ∙ ap (filter_map deed_of) (all_executed k s c le stop))
+    cc (filter_map-append deed_of all (notice (after_all_lines s c) c), no_deed (after_all_lines s c) c, append-nil (filter_map deed_of all), all_executed k s c le stop)
 
 -- as many are noted of what is there and what comes as of what was there before
 take_onto : (n : ℕ) (xs ys : List Deed) → take n (take n xs ++ ys) ≡ take n (xs ++ ys)
@@ -72,11 +70,6 @@ one_noted xs o deeds e = grind (arith, take_onto DEED_LIMIT xs, append-nil)
 next_deeds : (s : ServerState) (c : ℕ) (o : Option (List ℕ)) → cons_option (told_next s c o) [] ≡ filter_map deed_of (next_execution s c o)
 next_deeds s c o = grind arith
 
-noted_more : (s : ServerState) (c : ℕ) (xs : List Execution) (deeds : List Deed) → deeds ≡ deeds_of xs → with_next s c deeds ≡ deeds_of (xs ++ next_execution s c (next_line_for s c))
-noted_more s c xs deeds e =
-    let next : Option (List ℕ) = next_line_for s c in
-    cc (one_noted (filter_map deed_of xs) (told_next s c next) deeds e, next_deeds s c next, filter_map-append deed_of xs (next_execution s c next))
-
 -- the loop begins
 pub noted_first : (s : ServerState) (c : ℕ) (deeds : List Deed) → deeds ≡ [] → deeds ≡ deeds_of (lines_executed 0 s c)
 unfolding lines_executed
@@ -85,20 +78,18 @@ noted_first s c deeds none = none
 -- it goes on
 pub noted_next : (s t : ServerState) (c k : ℕ) (deeds deeds' : List Deed) → t ≡ after_lines k s c → deeds ≡ deeds_of (lines_executed k s c) → deeds' ≡ with_next t c deeds → deeds' ≡ deeds_of (lines_executed (k + 1) s c)
 noted_next s t c k deeds deeds' e so_far more =
-    cc (noted_more t c (lines_executed k s c) deeds so_far, one_executed (after_lines k s c) c, executed-add k 1 s c)
+    let next : Option (List ℕ) = next_line_for t c in
+    let xs : List Execution = lines_executed k s c in
+    cc (one_noted (filter_map deed_of xs) (told_next t c next) deeds so_far, next_deeds t c next, filter_map-append deed_of xs (next_execution t c next), one_executed (after_lines k s c) c, executed-add k 1 s c)
 
 -- it ends: memory was refused, or all lines are done
 pub noted_until : (s : ServerState) (c k : ℕ) (deeds : List Deed) → deeds ≡ deeds_of (lines_executed k s c) → deeds ≡ deeds_of (executions_until s c (Some k))
 unfolding executions_until
 noted_until s c k deeds e = e
 
-never_memory : (b : Bool) → refused_after (done (refused_overlong b)) ≡ None
-never_memory b = grind arith
-
 pub noted_all : (s t : ServerState) (c k : ℕ) (b : Bool) (r : Result (Unit {0}) Fault) (deeds : List Deed) → t ≡ after_lines k s c → k ≤ length (held_of (session c s)) → next_line_for t c ≡ None → r ≡ refused_overlong b → deeds ≡ deeds_of (lines_executed k s c) →
     deeds ≡ deeds_of (executions_until s c (refused_after (done r)))
-noted_all s t c k b r deeds e le none told so_far =
-    cc (so_far, all_deeds k s c le (cc (e, none)), told, never_memory b)
+noted_all s t c k b r deeds e le none told so_far = grind (arith, all_deeds k s c le (cc (e, none)))
 
 -- what is told of a reply is told of its line
 of_reply : (s : ServerState) (c : ℕ) (line : List ℕ) (r : Reply) → Replies s c line r → (if is_told_by s.upses r then deed_in_reply c (read_command line) r else None) ≡ deed_of (of_line s c line)
@@ -107,30 +98,21 @@ of_reply s c line r is = grind arith
 -- so it is noted, where it is told, and else nothing is
 pub noted_reply : (s : ServerState) (c : ℕ) (line : List ℕ) (r : Reply) (told : Bool) (read : Result (Option Command) ErrWord) (before deeds : List Deed) → next_line_for s c ≡ Some line → Replies s c line r → told ≡ is_told_by s.upses r → read_command line ≡ read →
     deeds ≡ with_deed (if told then deed_in_reply c read r else None) before → deeds ≡ with_next s c before
-noted_reply s c line r told read before deeds next is e reads noted =
-    cc (noted, e, reads, of_reply s c line r is, next)
+noted_reply s c line r told read before deeds next is e reads noted = cc (noted, e, reads, of_reply s c line r is, next)
 
 -- where the client isn't open, nothing is
-absent_deeds : (s : ServerState) (c : ℕ) → session c s ≡ None → deeds_of (executions_until s c None) ≡ []
-unfolding lines_executed after_lines
-absent_deeds s c absent = all_deeds 0 s c (omega arith) (ap (λ (o : Option SessionState). is_none (option_and_then next_line o)) absent)
-
 pub fed_absent : (s s' : ServerState) (c : ℕ) (piece : List ℕ) (deeds : List Deed) → s' ≡ s → session c s' ≡ None → deeds ≡ [] → deeds ≡ deeds_of (executions_by s (Feed c piece) None)
-unfolding executions_by
-fed_absent s s' c piece deeds same absent none =
-    cc (none, absent_deeds s' c absent, input_absent s' c piece absent, same)
+unfolding executions_by lines_executed after_lines
+fed_absent s s' c piece deeds same absent none = cc (none, all_deeds 0 s' c (omega arith) (cc absent), input_absent s' c piece absent, same)
 
 pub fed_noted : (s s' j : ServerState) (c : ℕ) (piece : List ℕ) (m : Option ℕ) (deeds : List Deed) → s' ≡ s → j ≡ with_input s' c piece → deeds ≡ deeds_of (executions_until j c m) → deeds ≡ deeds_of (executions_by s (Feed c piece) m)
 unfolding executions_by
-fed_noted s s' j c piece m deeds same fed noted =
-    cc
+fed_noted s s' j c piece m deeds same fed noted = cc
 
 pub took_never : (s s' : ServerState) (c n : ℕ) (m : Option ℕ) (deeds : List Deed) → s' ≡ s → may_take (session c s') n ≡ false → deeds ≡ [] → deeds ≡ deeds_of (executions_by s (Took c n) m)
 unfolding executions_by
-took_never s s' c n m deeds same never none =
-    cc
+took_never s s' c n m deeds same never none = cc
 
 pub took_noted : (s s' j : ServerState) (c n : ℕ) (m : Option ℕ) (deeds : List Deed) → s' ≡ s → may_take (session c s') n ≡ true → j ≡ without_output s' c n → deeds ≡ deeds_of (executions_until j c m) → deeds ≡ deeds_of (executions_by s (Took c n) m)
 unfolding executions_by
-took_noted s s' j c n m deeds same may took noted =
-    cc
+took_noted s s' j c n m deeds same may took noted = cc

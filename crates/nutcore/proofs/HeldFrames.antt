@@ -7,7 +7,7 @@ use Rattle.nutwords.specs.Frame.{frame, line_of}
 use Rattle.nutanswer.specs.declared.command.Command.{Command}
 use Rattle.nutanswer.specs.declared.err_word.ErrWord.{ErrWord}
 use Rattle.nutanswer.specs.Command.{read_command}
-use Rattle.nutlisting.specs.Items.{ListingState}
+use Rattle.nutlisting.specs.Items.{ListingState, variable_listing}
 use Rattle.nutanswer.specs.Answer.{Answer, one_line, answer_to, listing, text_of_answer}
 use Rattle.nutcore.proofs.Common.{Change, SessionState, ServerState, session, with_session}
 use Rattle.nutcore.specs.Reply.{seen, asker, reply, text_to, change_by, changed_session}
@@ -16,16 +16,16 @@ use Rattle.nutcore.proofs.Pumping.{after_line_is, line_done}
 use Rattle.nutanswer.specs.declared.reply.Change.TheVariants.{Nothing}
 use Rattle.nutanswer.specs.Laws.{is_ok_line, OnlyOkChanges}
 use Rattle.nutcore.specs.Headline.{AListingIsWhatIsHeld}
-use Rattle.nutcore.proofs.Listed.{usable_row, lists, variables_of}
+use Rattle.nutcore.proofs.Listed.{usable_row}
 use Rattle.std.proofs.lemmas.Bool.{cases_Bool}
 
 framed : (s : ServerState) (c : ℕ) (line : List ℕ) (command : Command) (l : ListingState) → read_command line ≡ Ok (Some command) → answer_to (seen s) (asker c s) command ≡ Ok (listing l) → (reply s c line) ≡ frame l.kind l.names l.items
-framed s c line command l read answer = ap (text_to s c) read ∙ ap text_of_answer answer
+framed s c line command l read answer = cc
 
 pub listing_is_held : AListingIsWhatIsHeld
 listing_is_held = record {
   framed = framed;
-  variables = λ s c line ups known read named ready. framed s c line _ (variables_of known) read (usable_row s (Some ups) known (λ k. lists (variables_of k)) (record { named = named; ready = ready }));
+  variables = λ s c line ups known read named ready. framed s c line _ (variable_listing known.name known.state.fsd known.state.report.tree.variables) read (usable_row s (Some ups) known (λ k. Ok (listing (variable_listing k.name k.state.fsd k.state.report.tree.variables))) (record { named = named; ready = ready }));
 }
 
 -- a line of OK doesn't begin with ERR
@@ -45,6 +45,4 @@ refused_change only_ok s c (Ok (Some command)) e = elim (cases_Bool (is_ok_line 
 refused_change only_ok s c r e = refl
 
 pub refused_line : OnlyOkChanges → (s : ServerState) (c : ℕ) (line : List ℕ) (x : SessionState) → session c s ≡ Some x → next_line_for s c ≡ Some line → starts_with nat_eq (reply s c line) (codes "ERR") ≡ true → after_line s c ≡ with_session s (answered_line line (reply s c line) x)
-refused_line only_ok s c line x found next refused =
-    after_line_is s c line x found next
-    ∙ ap (λ (change : Change). line_done s change (changed_session change (answered_line line (reply s c line) x))) (refused_change only_ok s c (read_command line) refused)
+refused_line only_ok s c line x found next refused = cc (after_line_is s c line x found next, refused_change only_ok s c (read_command line) refused)

@@ -46,31 +46,12 @@ tree_of s ups u sound named =
 
 -- the row of a usable UPS
 pub usable_row : (s : ServerState) (ups : Option (List ℕ)) (u : KnownUps) (row : KnownUps → Result Answer ErrWord) → AsksOf s ups u → (unknown_ups (seen s) ups >>= (λ k. live (seen s) k >> row k)) ≡ row u
-usable_row s ups u row asks = ap (λ (o : Option KnownUps). ok_or o UnknownUps >>= (λ k. live (seen s) k >> row k)) asks.named ∙ ap (λ (r : Readiness). (driver_not_connected r >> data_stale r) >> row u) asks.ready
+usable_row s ups u row asks = cc (asks.named, asks.ready)
 
 -- of a variable that it has
 variable_row : (s : ServerState) (ups : Option (List ℕ)) (u : KnownUps) (name : List ℕ) (o : Option VariableState) (row : KnownUps → List ℕ × VariableState → Result Answer ErrWord) → AsksOf s ups u → variable_at u.state.report.tree name ≡ o
     → (unknown_ups (seen s) ups >>= (λ k. live (seen s) k >> (var_not_supported k (Some name) >>= (λ v. row k v)))) ≡ (ok_or (option_map (λ x. (name, x)) o) VarNotSupported >>= (λ v. row u v))
-variable_row s ups u name o row asks e =
-    usable_row s ups u (λ k. var_not_supported k (Some name) >>= (λ v. row k v)) asks ∙ ap (λ (x : Option VariableState). ok_or (option_map (λ y. (name, y)) x) VarNotSupported >>= (λ v. row u v)) e
-
-abbrev pub lists : ListingState → Result Answer ErrWord
-lists l = Ok (listing l)
-
-abbrev pub variables_of : KnownUps → ListingState
-variables_of u = variable_listing u.name u.state.fsd u.state.report.tree.variables
-
-abbrev rw_of : KnownUps → ListingState
-rw_of u = rw_listing u.name u.state.fsd u.state.report.tree.variables
-
-abbrev commands_of : KnownUps → ListingState
-commands_of u = command_listing u.name u.state.report.tree.commands
-
-abbrev enum_of : KnownUps → List ℕ × VariableState → ListingState
-enum_of u v = enum_listing u.name v.0 (Some v.1)
-
-abbrev range_of : KnownUps → List ℕ × VariableState → ListingState
-range_of u v = range_listing u.name v.0 (Some v.1)
+variable_row s ups u name o row asks e = cc (asks.named, asks.ready, e)
 
 -- what is left of rising keys rises
 all_left : (p : List ℕ × VariableState → Bool) (P : List ℕ → Type 0) (es : List (List ℕ × VariableState)) → AllByRecursion P (keys_of es) → AllByRecursion P (keys_of (filter p es))
@@ -80,23 +61,22 @@ all_left p P (e ∷ es) all = grind (arith, all_left p P es all.1)
 left_rise : (p : List ℕ × VariableState → Bool) (es : List (List ℕ × VariableState)) → IsStrictlySortedBy byte_order (keys_of es) → IsStrictlySortedBy byte_order (keys_of (filter p es))
 unfolding IsStrictlySortedBy
 left_rise p [] rise = tt
-left_rise p (e ∷ es) rise =
-    cond_both (p e) (e ∷ filter p es) (filter p es) (λ left. IsStrictlySortedBy byte_order (keys_of left)) (λ yes. (all_left p (λ k. byte_order e.0 k ≡ Less) es rise.0, left_rise p es rise.1)) (λ no. left_rise p es rise.1)
+left_rise p (e ∷ es) rise = grind (arith, all_left p (λ k. byte_order e.0 k ≡ Less) es rise.0, left_rise p es rise.1)
 
 pub variable_sound : (tree : TreeState) (name : List ℕ) (variable : VariableState) → IsSoundTree tree → variable_at tree name ≡ Some variable → IsSoundVariable variable
 variable_sound tree name variable sound e = subst (λ (o : Option VariableState). IfSome o IsSoundVariable) e (IfSome-lookup_from_All IsSoundVariable (is_at (byte_order name)) tree.variables sound.variables)
 
 pub listed_once : EachIsListedOnce
 listed_once = record {
-  variables = λ s c line ups u sound read asks. (ap (text_to s c) read ∙ ap text_of_answer (usable_row s ups u (λ k. lists (variables_of k)) asks), (tree_of s ups u sound asks.named).names_rise);
-  commands = λ s c line ups u sound read asks. (ap (text_to s c) read ∙ ap text_of_answer (usable_row s ups u (λ k. lists (commands_of k)) asks), (tree_of s ups u sound asks.named).commands_rise);
-  rw = λ s c line ups u sound read asks. (ap (text_to s c) read ∙ ap text_of_answer (usable_row s ups u (λ k. lists (rw_of k)) asks), record { rising = left_rise is_rw u.state.report.tree.variables (tree_of s ups u sound asks.named).names_rise.rising });
+  variables = λ s c line ups u sound read asks. (cc (read, asks.named, asks.ready), (tree_of s ups u sound asks.named).names_rise);
+  commands = λ s c line ups u sound read asks. (cc (read, asks.named, asks.ready), (tree_of s ups u sound asks.named).commands_rise);
+  rw = λ s c line ups u sound read asks. (cc (read, asks.named, asks.ready), record { rising = left_rise is_rw u.state.report.tree.variables (tree_of s ups u sound asks.named).names_rise.rising });
   enum_values = λ s c line ups name u variable sound read asks there. (
-    ap (text_to s c) read ∙ ap text_of_answer (variable_row s ups u name (Some variable) (λ k v. lists (enum_of k v)) asks there),
+    cc (read, asks.named, asks.ready, there),
     (variable_sound u.state.report.tree name variable (tree_of s ups u sound asks.named) there).enum_values_once,
   );
   ranges = λ s c line ups name u variable sound read asks there. (
-    ap (text_to s c) read ∙ ap text_of_answer (variable_row s ups u name (Some variable) (λ k v. lists (range_of k v)) asks there),
+    cc (read, asks.named, asks.ready, there),
     (variable_sound u.state.report.tree name variable (tree_of s ups u sound asks.named) there).ranges_once,
   );
   upses = λ s c line sound read. (ap (text_to s c) read, sound.list.by_name);
@@ -128,7 +108,7 @@ module _ {A : Type 0} (p : A → Bool) where
   ]
     where
       passes_not : (y : A) → Contains (x ∷ []) y → p x ≡ false → p y ≡ false
-      passes_not y one fails = elim (Contains-push_cases [] x y one) [ inl (i, few, at) ↦ absurd (omega (arith, few)) | inr same ↦ ap p (sym same) ∙ fails ]
+      passes_not y one fails = elim (Contains-push_cases [] x y one) [ inl (i, few, at) ↦ absurd (omega (arith, few)) | inr same ↦ cc ]
 
 pub listed_is_held : WhatIsListedIsWhatIsHeld
 listed_is_held = record {

@@ -27,8 +27,7 @@ is_in u x = is_logged_in u (seen_client x)
 
 -- one more session
 pub count_more : (u : UpsId) (xs : List SessionState) (i : ℕ) (d : SessionState) → i < length xs → count_by (is_in u) (take (i + 1) xs) ≡ count_by (is_in u) (take i xs) + cond (is_in u (get_or xs i d)) 1 0
-count_more u xs i d lt =
-    grind (arith, count_by_more_yes (is_in u) xs i d lt, count_by_more_no (is_in u) xs i d lt)
+count_more u xs i d lt = grind (arith, count_by_more_yes (is_in u) xs i d lt, count_by_more_no (is_in u) xs i d lt)
 
 -- as clients are seen
 pub count_seen : (u : UpsId) (xs : List SessionState) → count_by (is_logged_in u) (map seen_client xs) ≡ count_by (is_in u) xs
@@ -50,24 +49,17 @@ list_more u xs i d lt =
 
 -- one session has one address at most
 pub one_address : (u : UpsId) (x : ClientSeen) → length (addresses_at u (x ∷ [])) ≤ 1
-one_address u x = cond_both (is_logged_in u x) (x ∷ []) [] (λ xs. length (map (λ (x : ClientSeen). x.address) xs) ≤ 1) (λ yes. omega arith) (λ no. omega arith)
-
--- a UPS that is named is found
-known_ups_is : (s : ServerState) (ups : Option (List ℕ)) (known : KnownUps) (f : KnownUps → Result Answer ErrWord) → ups_named (seen s) ups ≡ Some known → (unknown_ups (seen s) ups >>= f) ≡ f known
-known_ups_is s ups known f e = ap (λ (o : Option KnownUps). ok_or o UnknownUps >>= f) e
+one_address u x = grind arith
 
 -- what is told of how many they are
 count_text : (word : List ℕ) (s : ServerState) (ups : Option (List ℕ)) (known : KnownUps) → ups_named (seen s) ups ≡ Some known
     → text_of_answer (count_of_logins word (seen s) ups) ≡ text_line (word ∷ known.name ∷ decimal (length (logged_in known.id s)) ∷ [])
-count_text word s ups known named =
-    cc (named, count_seen known.id s.sessions, length-filter (is_in known.id) s.sessions)
+count_text word s ups known named = cc (named, count_seen known.id s.sessions, length-filter (is_in known.id) s.sessions)
 
 pub who_is_there : WhatIsCountedIsWhoIsThere
 who_is_there = record {
-  counted = λ s c line ups known read named. ap (text_to s c) read ∙ count_text (codes "NUMLOGINS") s ups known named;
+  counted = λ s c line ups known read named. cc (read, named, count_seen known.id s.sessions, length-filter (is_in known.id) s.sessions);
   attached = λ s c line ups known read named. ap (text_to s c) read ∙ count_text (codes "NUMATTACH") s ups known named;
   listed = λ s c line ups known read named.
-      ap (text_to s c) read ∙ ap text_of_answer (known_ups_is s ups known (λ u. Ok (listing_of_clients (client_listing u.name (addresses_at u.id (seen s).clients)))) named)
-      ∙ ap (λ (addresses : List (List ℕ)). text_of (client_listing known.name addresses)) (seen_filter known.id s.sessions)
-      ∙ ap (λ (items : List (List (List ℕ))). frame (codes "CLIENT") (known.name ∷ []) items) (map-map (client_item known.name) (λ (x : SessionState). x.address) (filter (is_in known.id) s.sessions));
+      cc (read, named, seen_filter known.id s.sessions, map-map (client_item known.name) (λ (x : SessionState). x.address) (filter (is_in known.id) s.sessions));
 }

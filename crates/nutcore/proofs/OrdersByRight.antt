@@ -73,13 +73,12 @@ told_order u v bytes id e = grind arith
 
 change_gives : (u : UpsId) (bytes line_bytes : List ℕ) (id : Option ℕ) (s : ServerState) (c : ℕ) (line : List ℕ) (command : Command) (known : KnownUps) → read_command line ≡ Ok (Some command) → change_of_answer (answer_to (seen s) (asker c s) command) ≡ order_to known.id line_bytes id
     → known.id ≡ u → bytes ≡ line_bytes → told_by_change u (change_by s c (read_command line)) ≡ order bytes ∷ []
-change_gives u bytes line_bytes id s c line command known read change this is =
-    ap (λ (r : Result (Option Command) ErrWord). told_by_change u (change_by s c r)) read ∙ ap (told_by_change u) change ∙ told_order u known.id line_bytes id this ∙ ap (λ (w : List ℕ). order w ∷ []) (sym is)
+change_gives u bytes line_bytes id s c line command known read change this is = cc (read, change, told_order u known.id line_bytes id this, is)
 
 set_gives : (u : UpsId) (bytes : List ℕ) (s : ServerState) (c : ℕ) (line name value : List ℕ) (id : Option ℕ) → IsByRight s c line (λ ups. SetVar ups (Some name) (Some value)) rights.Set (ok_words id) u
     → IsIdOfOrder (seen s) (asker c s) id → bytes ≡ set_line name value id → told_by_change u (change_by s c (read_command line)) ≡ order bytes ∷ []
 set_gives u bytes s c line name value None r id_is is =
-    change_gives u bytes (set_line name value None) None s c line _ r.known r.command (each_order_answered_ok_is_given.set (seen s) (asker c s) r.ups name value r.known r.named (ap (text_to s c) (sym r.command) ∙ r.answered)) r.this is
+    change_gives u bytes (set_line name value None) None s c line _ r.known r.command (each_order_answered_ok_is_given.set (seen s) (asker c s) r.ups name value r.known r.named (cc (r.command, r.answered))) r.this is
 set_gives u bytes s c line name value (Some id) r id_is is =
     change_gives u bytes (set_line name value (Some id)) (Some id) s c line _ r.known r.command (each_order_answered_ok_is_given.tracked_set (seen s) (asker c s) r.ups name value r.known id r.named id_is.1 (ap (text_to s c) (sym r.command) ∙ r.answered)) r.this is
 

@@ -11,5 +11,4 @@ returns-then-len-lt-DEED_LIMIT c =
     all ∙ sym (take_all DEED_LIMIT (c.args.self.now ++ c.args.deed ∷ []) few)
 
 pub returns-else-len-lt-DEED_LIMIT : goal.returns-else-len-lt-DEED_LIMIT
-returns-else-len-lt-DEED_LIMIT c =
-    grind (arith, take_at c.args.self.now (c.args.deed ∷ []) DEED_LIMIT)
+returns-else-len-lt-DEED_LIMIT c = grind (arith, take_at c.args.self.now (c.args.deed ∷ []) DEED_LIMIT)

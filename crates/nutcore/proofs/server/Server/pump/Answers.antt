@@ -43,13 +43,13 @@ loop-end-preserved c =
     let ends = ends_at c.args.c c.args.place (the_view c.self.inside).state t c.index.result.now c.next_end.result (state_is c.self.view_is) c.loop-end.invariant.at c.index.ensures c.next_end.ensures in
     let there = line_there (next_line_for t c.args.c) c.in-Some.end (ends ∙ c.in-Some.is) in
     let e : c.execute.new.self.state ≡ after_line t c.args.c = ok_when c.execute.result _ (sym c.is_err.ensures.value ∙ c.if-is_err.false) c.execute.ensures.ok in
-    let less : length (held_of (session c.args.c c.execute.new.self.state)) < length (held_of (session c.args.c t)) = subst (λ (z : ServerState). length (held_of (session c.args.c z)) < length (held_of (session c.args.c t))) (sym e) (line_shortens t c.args.c there.0 there.1) in
+    let less = line_shortens t c.args.c there.0 there.1 in
     record {
       at = subst (λ (z : ServerState). IsAt c.args.c c.args.place z.sessions) (sym e) (at_line t c.args.c c.args.place there.0 c.loop-end.invariant.at there.1);
       keeps = λ kept counted. c.execute.ensures.keeps kept (c.loop-end.invariant.keeps kept counted);
       done = goes_on c.args.self.now.state t c.execute.new.self.state c.args.c c.loop-end.done c.loop-end.invariant.done e;
       noted = noted_next c.args.self.now.state t c.args.c c.loop-end.done c.loop-end.self.deeds c.execute.new.self.deeds c.loop-end.invariant.done c.loop-end.invariant.noted (ok_when c.execute.result _ (sym c.is_err.ensures.value ∙ c.if-is_err.false) c.execute.ensures.noted);
-      rest = omega (arith, less, c.loop-end.invariant.rest);
+      rest = omega (arith, rw (← e) at less, c.loop-end.invariant.rest);
     }
 
 pub invariant_of-self : goal.invariant_of-self

@@ -12,11 +12,9 @@ fits_in upses reply change is fits = subst (λ (z : Change). OrderFits z upses) 
 pub order-requires : goal.order-requires
 order-requires c =
     let change : Change = Order c.in-Order.u c.in-Order.line in
-    let fits : OrderFits change c.args.upses.now.items = fits_in c.args.upses.now.items c.args.reply.now change (ap change_in c.in-One.is ∙ c.in-Order.is) c.requires.fits in
-    record { fits = λ x at. subst (λ (line : List ℕ). TakesLine line x) (sym c.as_bytes.ensures) (fits c.in-Order.u c.in-Order.line.items None x refl at) }
+    record { fits = λ x at. subst (λ (line : List ℕ). TakesLine line x) (sym c.as_bytes.ensures) (c.requires.fits c.in-Order.u c.in-Order.line.items None x (cc (c.in-One.is, c.in-Order.is)) at) }
 
 pub order-requires-in-Tracked : goal.order-requires-in-Tracked
 order-requires-in-Tracked c =
     let change : Change = Tracked c.in-Tracked.u c.in-Tracked.field-1 c.in-Tracked.line in
-    let fits : OrderFits change c.args.upses.now.items = fits_in c.args.upses.now.items c.args.reply.now change (ap change_in c.in-One.is ∙ c.in-Tracked.is) c.requires.fits in
-    record { fits = λ x at. subst (λ (line : List ℕ). TakesLine line x) (sym c.as_bytes-in-Tracked.ensures) (fits c.in-Tracked.u c.in-Tracked.line.items (Some c.in-Tracked.field-1) x refl at) }
+    record { fits = λ x at. subst (λ (line : List ℕ). TakesLine line x) (sym c.as_bytes-in-Tracked.ensures) (c.requires.fits c.in-Tracked.u c.in-Tracked.line.items (Some c.in-Tracked.field-1) x (cc (c.in-One.is, c.in-Tracked.is)) at) }

@@ -18,9 +18,7 @@ loop-session-preserved c =
     let at : x ≡ get_or xs i x = c.session-item.is ∙ ap (λ (ys : List SessionState). get_or ys i x) same in
     let more : List (List ℕ) = addresses_at c.in-Clients.u (seen_client x ∷ []) in
     record {
-      listed = c.list.ensures ∙ ap (λ (ys : List (List ℕ)). ys ++ more) c.loop-session.invariant.listed
-          ∙ ap (λ (y : SessionState). addresses_at c.in-Clients.u (map seen_client (take i xs)) ++ addresses_at c.in-Clients.u (seen_client y ∷ [])) at
-          ∙ sym (list_more c.in-Clients.u xs i x within);
+      listed = cc (c.list.ensures, at, list_more c.in-Clients.u xs i x within);
       few = omega (arith, c.loop-session.invariant.few, one_address c.in-Clients.u (seen_client x), ap length c.list.ensures, length-append c.loop-session.clients more);
     }
 

@@ -8,9 +8,7 @@ pub order-requires : goal.order-requires
 order-requires c = grind (arith, there_is c.args.upses.now.items c.args.u.place c.index_mut-ups.result.now, c.requires.fits)
 
 pub returns-then-u-len-clause-owed : goal.returns-then-u-len-clause-owed
-returns-then-u-len-clause-owed c =
-    grind (arith, there_is, set_changed (with_order c.args.line.now))
+returns-then-u-len-clause-owed c = grind (arith, there_is, set_changed (with_order c.args.line.now))
 
 pub returns-else-u-len-clause-owed : goal.returns-else-u-len-clause-owed
-returns-else-u-len-clause-owed c =
-    grind (arith, slice_get_past, changed_none (with_order c.args.line.now))
+returns-else-u-len-clause-owed c = grind (arith, slice_get_past, changed_none (with_order c.args.line.now))

@@ -23,14 +23,10 @@ loop-session-preserved c =
     let same : c.deref-session-items.result.now ≡ xs = c.deref-session-items.ensures.value in
     let within : i < length xs = omega (arith, c.loop-session-test.true, ap length same) in
     let at : x ≡ get_or xs i x = c.session-item.is ∙ ap (λ (ys : List SessionState). get_or ys i x) same in
-    ap (λ n. n + c.logins-count.result) c.loop-session.invariant
-    ∙ ap (λ n. count_by (is_in c.args.u) (take i xs) + n) (c.logins-count.ensures ∙ ap (λ (y : SessionState). cond (is_in c.args.u y) 1 0) at)
-    ∙ sym (count_more c.args.u xs i x within)
+    cc (c.logins-count.ensures, at, count_more c.args.u xs i x within)
 
 pub returns : goal.returns
 returns c =
     let xs : List SessionState = c.args.sessions.now.items in
     let all : length xs ≤ c.loop-session.session-index = omega (arith, c.loop-session-test.false, ap length c.deref-session-items.ensures.value) in
-    c.loop-session.invariant
-    ∙ ap (λ (ys : List SessionState). count_by (is_in c.args.u) ys) (take_all c.loop-session.session-index xs all)
-    ∙ sym (count_seen c.args.u xs)
+    cc (take_all c.loop-session.session-index xs all, count_seen c.args.u xs)
