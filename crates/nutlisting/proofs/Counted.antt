@@ -21,8 +21,7 @@ listing_ended : (l : ListingState) → is_open (text_of l) ≡ false
 listing_ended l = ap is_open (sym (lines_are_text l)) ∙ begun_lines_are_ended (let p : Position = record { listing = l; place = 0; offset = 0 } in p)
 
 rest_ended : (cursor : Option Position) → is_open (rest_of cursor) ≡ false
-rest_ended None = refl
-rest_ended (Some cursor) = begun_lines_are_ended cursor
+rest_ended cursor = grind (arith, begun_lines_are_ended)
 
 -- a ring takes what fits
 fits : (ring rest : List ℕ) → length ring ≤ RING_LIMIT → take RING_LIMIT (ring ++ rest) ≡ ring ++ what_fits ring rest
@@ -32,9 +31,7 @@ fits ring rest le =
 
 -- what fits of a text that ends in LF has no unfinished line, where all of it fits
 fits_ended : (ring rest : List ℕ) → is_open rest ≡ false → length ring ≤ RING_LIMIT → length (ring ++ rest) ≤ RING_LIMIT → is_open (what_fits ring rest) ≡ false
-fits_ended ring rest whole le few =
-    let short : length rest ≤ RING_LIMIT - length ring = omega (arith, few, le, length-append ring rest) in
-    ap is_open (take_all (RING_LIMIT - length ring) rest short) ∙ whole
+fits_ended ring rest whole le few = grind (arith, length-append ring rest, take_all (RING_LIMIT - length ring) rest)
 
 -- a text that ends in LF is joined to what is owed
 text_counted : (owed text : List ℕ) (made made' : ℕ) → length owed ≤ OWED_LIMIT → is_open text ≡ false → made' ≡ count_more made (lines (what_fits owed text)) → KeepsCount owed made (owed ++ text) made'

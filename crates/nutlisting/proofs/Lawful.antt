@@ -48,9 +48,7 @@ text_short allowed may_be_empty most bytes h = grind (arith, nat_tests, common_s
 -- bytes that pass a test pass each weaker one
 pub all_also : (p q : ℕ → Bool) → ((b : ℕ) → p b ≡ true → q b ≡ true) → (bytes : List ℕ) → list_all p bytes ≡ true → list_all q bytes ≡ true
 all_also p q each [] h = refl
-all_also p q each (b ∷ bytes) h =
-    let parts = and_parts (p b) (list_all p bytes) h in
-    and_from (q b) (list_all q bytes) (each b parts.0) (all_also p q each bytes parts.1)
+all_also p q each (b ∷ bytes) h = grind (arith, each b, all_also p q each bytes)
 
 name_byte : (b : ℕ) → is_name_byte b ≡ true → is_lawful b ≡ true
 name_byte b h = grind (arith, nat_tests)
@@ -76,15 +74,12 @@ id_byte b h = grind (arith, nat_tests)
 pub id_lawful : (id : ℕ) → Lawful (id_text id)
 id_lawful id = all_also is_id_byte is_lawful id_byte (id_text id) (ids_are_plain.digits id)
 
-spelled : (v : Bool) (b : ℕ) → is_lawful b ≡ true → Lawful (cond v (92 ∷ b ∷ []) (b ∷ []))
-spelled true b h = byte_lawful 92 (b ∷ []) refl (byte_lawful b [] h refl)
-spelled false b h = byte_lawful b [] h refl
-
 backslashes_lawful : (word : List ℕ) → Lawful word → Lawful (with_backslashes word)
 backslashes_lawful [] h = refl
 backslashes_lawful (b ∷ word) h =
     let p = and_parts (is_lawful b) (list_all is_lawful word) h in
-    both_lawful (cond (eqb b 34 || eqb b 92) (92 ∷ b ∷ []) (b ∷ [])) (with_backslashes word) (spelled (eqb b 34 || eqb b 92) b p.0) (backslashes_lawful word p.1)
+    let more = byte_lawful b (with_backslashes word) p.0 (backslashes_lawful word p.1) in
+    cond_both (eqb b 34 || eqb b 92) (92 ∷ b ∷ []) (b ∷ []) (λ front. Lawful (front ++ with_backslashes word)) (λ e. more) (λ e. more)
 
 pub quoted_lawful : (word : List ℕ) → Lawful word → Lawful (quoted word)
 quoted_lawful word h = byte_lawful 34 (with_backslashes word ++ 34 ∷ []) refl (both_lawful (with_backslashes word) (34 ∷ []) (backslashes_lawful word h) refl)
@@ -160,10 +155,7 @@ joined_text mosts words h = absurd h
 -- they have no LF
 no_lf : (text : List ℕ) → Lawful text → has_lf text ≡ false
 no_lf [] h = refl
-no_lf (b ∷ text) h = let p = and_parts (is_lawful b) (list_all is_lawful text) h in rw (not_lf b p.0) (no_lf text p.1)
-  where
-    not_lf : (b : ℕ) → is_lawful b ≡ true → eqb b 10 ≡ false
-    not_lf b h = grind (arith, nat_tests)
+no_lf (b ∷ text) h = grind (arith, nat_tests, no_lf text)
 
 words_whole : (mosts : List ℕ) (words : List (List ℕ)) → AllZip IsLawfulText mosts words → room mosts ≤ LINE_LIMIT → IsWholeLine (line_of words)
 words_whole mosts words h few =

@@ -1,7 +1,7 @@
 -- The laws of this crate that a proof in a crate above may cite: each is what a function of src/laws.rt ensures.
 use Rattle.nutlisting.specs.Counted.{WhatIsPlacedIsCounted}
 use Rattle.nutlisting.proofs.Counted as counting
-use Rattle.nutlisting.specs.Lawful.{TextsAreLawful, LawfulWordsAreALine}
+use Rattle.nutlisting.specs.Lawful.{TextsAreLawful, LawfulWordsAreALine, SoundTreesHaveSoundEntries}
 use Rattle.nutlisting.specs.Laws.{LinesAreTheText, BegunLinesAreEnded, LinesAddUp, WhatIsOfferedIsTheRing}
 use Rattle.nutlisting.proofs.Writing as writing
 use Rattle.nutlisting.proofs.Ended as ended
@@ -39,6 +39,9 @@ texts_are_lawful = lawful.texts_are_lawful
 
 pub lawful_words_are_a_line : LawfulWordsAreALine
 lawful_words_are_a_line = lawful.lawful_words_are_a_line
+
+pub sound_entries : SoundTreesHaveSoundEntries
+sound_entries = back.sound_entries
 
 -- lawful_listings_are_read_back
 pub lawful_listings_read_back : LawfulListingsReadBack

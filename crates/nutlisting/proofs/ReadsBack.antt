@@ -1,8 +1,10 @@
 -- A listing of lawful things is read back: its words as they are written, and how long its lines are.
-use Rattle.std.proofs.Common.{◌≡◌, ℕ, ℤ, pos, ◌+◌, ◌*◌, ◌<◌, ◌≤◌, Bool, true, false, List, [], ◌∷◌, ◌++◌, length, Option, refl, arith, length-append, SFits, w32}
+use Rattle.std.proofs.Common.{◌≡◌, ℕ, ℤ, pos, ◌+◌, ◌*◌, ◌<◌, ◌≤◌, Bool, true, false, List, [], ◌∷◌, ◌++◌, length, Option, refl, arith, length-append, SFits, w32, subst}
 use Rattle.std.specs.Prelude.{◌&&◌, ◌≤ℤ◌, neg_ℤ, is_ok, IsTrue, IfSome, All, codes, map, filter}
 use Rattle.std.specs.Fmt.{signed_decimal}
 use Rattle.std.specs.List.{AllZip, list_all, join_with_byte}
+use Rattle.std.specs.BTreeMap.{is_at}
+use Rattle.std.proofs.lemmas.Map.Views.{IfSome-lookup_from_All}
 use Rattle.std.specs.Map.{keys_of, values_of}
 use Rattle.std.proofs.lemmas.Bool.Decides.{nat_tests}
 use Rattle.std.proofs.lemmas.Grind.{common_steps}
@@ -17,10 +19,10 @@ use Rattle.nutwords.specs.declared.limits.TheConstants.{LINE_ROOM, LINE_LIMIT, V
 use Rattle.nutwords.proofs.PublicLaws.{listing_is_read_back, one_reading}
 use Rattle.nutdriver.specs.declared.range.Range.{Range}
 use Rattle.nutdriver.specs.Sound.{IsSoundRange, IsSoundVariable, IsSoundTree}
-use Rattle.nutdriver.specs.Tree.{TreeState}
+use Rattle.nutdriver.specs.Tree.{TreeState, byte_order}
 use Rattle.nutdriver.specs.Variable.{VariableState}
 use Rattle.nutusers.specs.UpsList.{Ups, IsLawfulUps}
-use Rattle.nutlisting.specs.Lawful.{IsLawfulText, room}
+use Rattle.nutlisting.specs.Lawful.{IsLawfulText, room, IsSoundEntry, SoundTreesHaveSoundEntries}
 use Rattle.nutlisting.specs.Items.{is_rw, variable_item, command_item, enum_item, range_item, ups_item, client_item}
 use Rattle.nutlisting.specs.ReadsBack.{variable_words, enum_words, range_words, ups_words, ReadsBack, LawfulListingsReadBack}
 use Rattle.nutlisting.specs.Shown.{shown, ups_description}
@@ -90,16 +92,19 @@ rows_written : {X : Type 0} (P : X → Type 0) (item words : X → List (List �
 rows_written P item words each [] all = tt
 rows_written P item words each (x ∷ xs) all = (each x (All-head P x xs all), rows_written P item words each xs (All-tail P x xs all))
 
--- the variables of a sound tree
-abbrev IsLawfulEntry : List ℕ × VariableState → Type 0
-IsLawfulEntry entry = IsTrue (is_name entry.0) × IsTrue (is_value entry.1.value)
+-- the entries of a sound tree
+all_entries : (entries : List (List ℕ × VariableState)) → All (λ name. IsTrue (is_name name)) (keys_of entries) → All IsSoundVariable (values_of entries) → All IsSoundEntry entries
+all_entries [] names values = All-nil IsSoundEntry
+all_entries (entry ∷ entries) names values =
+    All-cons IsSoundEntry entry entries
+    (All-head (λ name. IsTrue (is_name name)) entry.0 (keys_of entries) names, All-head IsSoundVariable entry.1 (values_of entries) values)
+    (all_entries entries (All-tail (λ name. IsTrue (is_name name)) entry.0 (keys_of entries) names) (All-tail IsSoundVariable entry.1 (values_of entries) values))
 
-entries_lawful : (entries : List (List ℕ × VariableState)) → All (λ name. IsTrue (is_name name)) (keys_of entries) → All IsSoundVariable (values_of entries) → All IsLawfulEntry entries
-entries_lawful [] names values = All-nil IsLawfulEntry
-entries_lawful (entry ∷ entries) names values =
-    All-cons IsLawfulEntry entry entries
-    (All-head (λ name. IsTrue (is_name name)) entry.0 (keys_of entries) names, (All-head IsSoundVariable entry.1 (values_of entries) values).value)
-    (entries_lawful entries (All-tail (λ name. IsTrue (is_name name)) entry.0 (keys_of entries) names) (All-tail IsSoundVariable entry.1 (values_of entries) values))
+pub sound_entries : SoundTreesHaveSoundEntries
+sound_entries = record {
+  entries = λ tree sound. all_entries tree.variables sound.names sound.variables;
+  found = λ tree name variable sound e. subst (λ (o : Option VariableState). IfSome o IsSoundVariable) e (IfSome-lookup_from_All IsSoundVariable (is_at (byte_order name)) tree.variables sound.variables);
+}
 
 -- a listing of a kind, with these names: its first line is of words too
 reads_back : (kind : Word) (names : List Word) (items rows : List (List (List ℕ))) → room (mosts (name_word (codes "BEGIN") refl ∷ name_word (codes "LIST") refl ∷ kind ∷ names)) ≤ LINE_LIMIT
@@ -111,16 +116,16 @@ reads_back kind names items rows few written =
     record { reads = reads; only = λ others h. one_reading text (listing_words asked rows) others reads h }
 
 -- the variables of a UPS, all of them or some, by a word that is a name
-variables_back : (word ups : List ℕ) (fsd : Bool) (entries : List (List ℕ × VariableState)) → IsTrue (is_name word) → IsTrue (is_ups_name ups) → All IsLawfulEntry entries
+variables_back : (word ups : List ℕ) (fsd : Bool) (entries : List (List ℕ × VariableState)) → IsTrue (is_name word) → IsTrue (is_ups_name ups) → All IsSoundEntry entries
     → ReadsBack (frame word (ups ∷ []) (map (variable_item word ups fsd) entries)) (word ∷ ups ∷ []) (map (variable_words word ups fsd) entries)
 variables_back word ups fsd entries w u all =
     reads_back (name_word word w) (ups_word ups u ∷ []) _ _ (omega arith)
-    (rows_written IsLawfulEntry (variable_item word ups fsd) (variable_words word ups fsd) (λ entry h. line_written (name_word word w ∷ ups_word ups u ∷ name_word entry.0 h.0 ∷ text_word SHOWN_LIMIT (shown fsd entry.0 entry.1) (texts_are_lawful.shown fsd entry.0 entry.1 h.1) ∷ []) (omega arith)) entries all)
+    (rows_written IsSoundEntry (variable_item word ups fsd) (variable_words word ups fsd) (λ entry h. line_written (name_word word w ∷ ups_word ups u ∷ name_word entry.0 h.0 ∷ text_word SHOWN_LIMIT (shown fsd entry.0 entry.1) (texts_are_lawful.shown fsd entry.0 entry.1 h.1.value) ∷ []) (omega arith)) entries all)
 
 pub lawful_listings_read_back : LawfulListingsReadBack
 lawful_listings_read_back = record {
-  variables = λ ups fsd tree u sound. variables_back (codes "VAR") ups fsd tree.variables refl u (entries_lawful tree.variables sound.names sound.variables);
-  rw = λ ups fsd tree u sound. variables_back (codes "RW") ups fsd (filter is_rw tree.variables) refl u (All-filter is_rw IsLawfulEntry tree.variables (entries_lawful tree.variables sound.names sound.variables));
+  variables = λ ups fsd tree u sound. variables_back (codes "VAR") ups fsd tree.variables refl u (sound_entries.entries tree sound);
+  rw = λ ups fsd tree u sound. variables_back (codes "RW") ups fsd (filter is_rw tree.variables) refl u (All-filter is_rw IsSoundEntry tree.variables (sound_entries.entries tree sound));
   commands = λ ups tree u sound.
       reads_back (name_word (codes "CMD") refl) (ups_word ups u ∷ []) _ _ (omega arith)
       (rows_written (λ name. IsTrue (is_name name)) (command_item ups) (command_item ups) (λ name n. line_written (name_word (codes "CMD") refl ∷ ups_word ups u ∷ name_word name n ∷ []) (omega arith)) tree.commands sound.commands);

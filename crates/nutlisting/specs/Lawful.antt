@@ -1,6 +1,6 @@
 -- Which texts have lawful bytes alone, and how many they have.
 use Rattle.std.specs.Prelude.{◌≡◌, ◌+◌, ◌*◌, ◌<◌, ◌≤◌, ◌^◌, ◌≤ℤ◌, neg_ℤ, pos, ℕ, ℤ, Bool, false}
-use Rattle.std.specs.Prelude.{List, [], ◌∷◌, Option, length, IsTrue, IfSome}
+use Rattle.std.specs.Prelude.{List, [], ◌∷◌, Option, Some, length, All, IsTrue, IfSome}
 use Rattle.std.specs.Fmt.{decimal, signed_decimal}
 use Rattle.std.specs.List.{list_all, join_with_byte, AllByRecursion, AllZip}
 use Rattle.nutwords.specs.Bytes.{is_lawful}
@@ -10,6 +10,8 @@ use Rattle.nutwords.specs.Spelling.{quoted}
 use Rattle.nutwords.specs.SplitLine.{has_lf}
 use Rattle.nutwords.specs.declared.limits.TheConstants.{NAME_LIMIT, UPS_NAME_LIMIT, ADDRESS_LIMIT}
 use Rattle.nutwords.specs.declared.limits.TheConstants.{VALUE_LIMIT, LINE_LIMIT}
+use Rattle.nutdriver.specs.Sound.{IsSoundTree, IsSoundVariable}
+use Rattle.nutdriver.specs.Tree.{TreeState, variable_at}
 use Rattle.nutdriver.specs.Variable.{VariableState}
 use Rattle.nutdriver.specs.declared.limits.TheConstants.{NUMBER_LIMIT}
 use Rattle.nutusers.specs.Texts.{is_description}
@@ -57,3 +59,13 @@ pub record LawfulWordsAreALine : Type 0 where
   pub whole : (mosts : List ℕ) (words : List (List ℕ)) → AllZip IsLawfulText mosts words
       → room mosts ≤ LINE_LIMIT
       → IsWholeLine (line_of words)
+
+-- The entry of a sound tree: its name is lawful, and its variable sound.
+abbrev pub IsSoundEntry : List ℕ × VariableState → Type 0
+IsSoundEntry entry = IsTrue (is_name entry.0) × IsSoundVariable entry.1
+
+-- So is each of its entries, and each variable that is found in it.
+pub record SoundTreesHaveSoundEntries : Type 0 where
+  pub entries : (tree : TreeState) → IsSoundTree tree → All IsSoundEntry tree.variables
+  pub found : (tree : TreeState) (name : List ℕ) (variable : VariableState) → IsSoundTree tree
+      → variable_at tree name ≡ Some variable → IsSoundVariable variable
