@@ -40,10 +40,11 @@ use Rattle.nutanswer.proofs.CheckLemmas.{unless_ok, none_given, both_true, has_r
 use Rattle.nutanswer.proofs.Fresh as fresh
 use Rattle.nutanswer.proofs.LawfulWords.{IsLawfulResult, none_lawful, one_lawful, with_lawful, alone_lawful, either_lawful, ups_lawful, set_words, instcmd_words, ups_words, two_words}
 use Rattle.nutanswer.proofs.Plain.{quoted_plain, type_plain, progress_plain}
+use Rattle.nutlisting.specs.Lawful.{IsSoundEntry}
 use Rattle.nutlisting.proofs.PublicLaws.{ids_are_lawful, texts_are_lawful}
 use Rattle.nutlisting.specs.declared.lines.shown.TheConstants.{SHOWN_LIMIT}
 use Rattle.nutwords.specs.declared.limits.TheConstants.{VALUE_LIMIT}
-use Rattle.nutanswer.proofs.Shapes.{IsLawfulEntry, listing_shaped, items_of, line_shaped, ok_shaped, on_or_off_plain, progress_found, entry_item, command_inside, enum_inside, range_inside, ups_inside, client_inside, text_lawful, name_found, lawful_known, lawful_found, variables_of, count_plain, lawful_clients}
+use Rattle.nutanswer.proofs.Shapes.{listing_shaped, items_of, line_shaped, ok_shaped, on_or_off_plain, progress_found, entry_item, command_inside, enum_inside, range_inside, ups_inside, client_inside, text_lawful, name_found, lawful_known, lawful_found, variables_of, count_plain, lawful_clients}
 use Rattle.nutanswer.proofs.TableRows.{IsRow, refused, tells, lists, lists_clients, does, orders, held, found, of_ups, of_usable, of_variable}
 
 -- SET VAR and INSTCMD, where their checks hold: what holds of each refusal, and of what the checks let through, holds of the row
@@ -165,12 +166,12 @@ module _ (s : Seen) (asker : AskerSeen) where
       of_usable ups (λ u named. lists _ (λ seen h.
       let k = lawful_known s seen ups u h named in
       listing_shaped (codes "VAR") (u.name ∷ []) _ (refl, (k.name, tt))
-      (items_of IsLawfulEntry (variable_item (codes "VAR") u.name u.state.fsd) (entry_item (codes "VAR") u.name u.state.fsd refl k.name (λ name text. refl)) _ (variables_of s seen u k))))
+      (items_of IsSoundEntry (variable_item (codes "VAR") u.name u.state.fsd) (entry_item (codes "VAR") u.name u.state.fsd refl k.name (λ name text. refl)) _ (variables_of s seen u k))))
   row (ListRw ups) =
       of_usable ups (λ u named. lists _ (λ seen h.
       let k = lawful_known s seen ups u h named in
       listing_shaped (codes "RW") (u.name ∷ []) _ (refl, (k.name, tt))
-      (items_of IsLawfulEntry (variable_item (codes "RW") u.name u.state.fsd) (entry_item (codes "RW") u.name u.state.fsd refl k.name (λ name text. refl)) _ (All-filter is_rw IsLawfulEntry _ (variables_of s seen u k)))))
+      (items_of IsSoundEntry (variable_item (codes "RW") u.name u.state.fsd) (entry_item (codes "RW") u.name u.state.fsd refl k.name (λ name text. refl)) _ (All-filter is_rw IsSoundEntry _ (variables_of s seen u k)))))
   row (ListCmd ups) =
       of_usable ups (λ u named. lists _ (λ seen h.
       let k = lawful_known s seen ups u h named in
@@ -213,20 +214,19 @@ abbrev OrdersIfOk : List (List ℕ) → Change → Result Answer ErrWord → Typ
 OrdersIfOk words change answer = text_of_answer answer ≡ line_of words → change_of_answer answer ≡ change
 
 one_ups : (o : Option KnownUps) (k l : KnownUps) → o ≡ Some k → o ≡ Some l → k ≡ l
-one_ups o k l e f = grind arith
+one_ups o k l e f = cc
 
 module _ (s : Seen) (asker : AskerSeen) (u known : KnownUps) (same : u ≡ known) (line : Option ℕ → List ℕ) where
   -- the bare OK
   untracked : (id : Option ℕ) → OrdersIfOk ok (order known.id (line None) None) (Ok (one_line (ok_words id) (order u.id (line id) id)))
-  untracked None e = ap (λ (k : KnownUps). order k.id (line None) None) same
+  untracked None e = cc
   untracked (Some id) e = cc e
 
   -- OK and the first id at hand
   tracked : (id : ℕ) → next_id s.tracking ≡ Some id → (used : Option ℕ) → IsIdOfOrder s asker used
       → OrdersIfOk (ok_words (Some id)) (order known.id (line (Some id)) (Some id)) (Ok (one_line (ok_words used) (order u.id (line used) used)))
   tracked id next None is e = cc e
-  tracked id next (Some used) is e =
-      ap (λ (k : KnownUps). order k.id (line (Some used)) (Some used)) same ∙ ap (λ (o : Option ℕ). order known.id (line o) o) (sym is.1 ∙ next)
+  tracked id next (Some used) is e = cc (same, is.1, next)
 
 -- and no error is told so
 abbrev first_of : List ℕ → ℕ

@@ -3,6 +3,7 @@ use Rattle.std.proofs.Common.{ℕ, ◌+◌, ◌*◌, ◌≤◌, Bool, true, fals
 use Rattle.std.specs.Prelude.{◌==◌, if◌then◌else◌, not, IsTrue, IfSome, codes}
 use Rattle.std.specs.Fmt.{decimal}
 use Rattle.std.specs.List.{AllByRecursion, list_all}
+use Rattle.std.proofs.lemmas.Bool.{cond_both}
 use Rattle.std.proofs.lemmas.Grind.{common_steps}
 use Rattle.nutwords.specs.Bytes.{is_lawful}
 use Rattle.nutwords.specs.Natural.{is_empty}
@@ -30,38 +31,25 @@ IsPlain text = IsTrue (list_all is_lawful text)
 abbrev pub ArePlain : List (List ℕ) → Type 0
 ArePlain words = AllByRecursion IsPlain words
 
-join_words : (words others : List (List ℕ)) → ArePlain words → ArePlain others → ArePlain (words ++ others)
-join_words [] others h k = k
-join_words (word ∷ words) others h k = (h.0, join_words words others h.1 k)
-
 -- what is written in quotes
 pub quoted_plain : (most : ℕ) (text : List ℕ) → IsLawfulText most text → IsPlain (quoted text)
 quoted_plain most text h = (texts_are_lawful.quoted most text h).lawful
 
 -- what the values of a variable are
-if_plain : (b : Bool) (word : List ℕ) → IsPlain word → ArePlain (word_if b word)
-if_plain true word h = (h, tt)
-if_plain false word h = tt
-
-else_plain : (words : List (List ℕ)) → ArePlain words → ArePlain (else_number words)
-else_plain [] h = (refl, tt)
-else_plain (word ∷ words) h = h
-
 pub type_plain : (v : VariableState) → v.aux ≤ NUMBER_LIMIT → ArePlain (type_words v)
 type_plain v few =
-    join_words (word_if v.flags.rw (codes "RW")) _ (if_plain v.flags.rw (codes "RW") refl) (else_plain (kind_words v)
-    (join_words (word_if (not (is_empty v.enum_values)) (codes "ENUM")) _ (if_plain (not (is_empty v.enum_values)) (codes "ENUM") refl)
-    (join_words (word_if (not (is_empty v.ranges)) (codes "RANGE")) _ (if_plain (not (is_empty v.ranges)) (codes "RANGE") refl)
-    (if_plain v.flags.string (codes "STRING:" ++ decimal v.aux) (texts_are_lawful.decimals v.aux (omega (arith, few)))))))
+    let number : IsPlain (codes "STRING:" ++ decimal v.aux) = texts_are_lawful.decimals v.aux (omega (arith, few)) in
+    by_flags v.flags.rw (not (is_empty v.enum_values)) (not (is_empty v.ranges)) v.flags.string number
+  where
+    by_flags : (rw enum range string : Bool) → IsPlain (codes "STRING:" ++ decimal v.aux)
+        → ArePlain (word_if rw (codes "RW") ++ else_number (word_if enum (codes "ENUM") ++ (word_if range (codes "RANGE") ++ word_if string (codes "STRING:" ++ decimal v.aux))))
+    by_flags rw enum range string number = grind (arith, number)
 
 -- how far an order has come
 pub progress_plain : (progress : Progress) → IsLawfulProgress progress → ArePlain (progress_words progress)
 progress_plain Pending h = (refl, tt)
-progress_plain (Done number) h = by_number (number == 0)
-  where
-    by_number : (b : Bool) → ArePlain (if b then codes "SUCCESS" ∷ [] else codes "FAILED" ∷ decimal number ∷ [])
-    by_number true = (refl, tt)
-    by_number false = (refl, (texts_are_lawful.decimals number (omega (arith, h)), tt))
+progress_plain (Done number) h =
+    cond_both (number == 0) (codes "SUCCESS" ∷ []) (codes "FAILED" ∷ decimal number ∷ []) ArePlain (λ e. (refl, tt)) (λ e. (refl, (texts_are_lawful.decimals number (omega (arith, h)), tt)))
 
 -- the words of an id behind an order
 tracking : IsLawfulText 8 (codes "TRACKING")

@@ -6,6 +6,7 @@ use Rattle.std.specs.List.{AllByRecursion, concat, find, join_with_byte}
 use Rattle.std.specs.Map.{keys_of, values_of}
 use Rattle.std.specs.BTreeMap.{is_at}
 use Rattle.std.specs.Option.{ok_or, option_map, option_and_then}
+use Rattle.std.proofs.lemmas.Bool.{cond_both}
 use Rattle.std.proofs.lemmas.Int.{ints}
 use Rattle.std.proofs.lemmas.List.{append-nil}
 use Rattle.std.proofs.lemmas.List.Elements.{All-nil, All-cons, All-head, All-tail, All-filter, All-map, All-get_or}
@@ -29,10 +30,10 @@ use Rattle.nutusers.specs.Texts.{is_description}
 use Rattle.nutusers.specs.UpsList.{Ups, IsLawfulUps, place_of}
 use Rattle.nutwords.specs.declared.limits.TheConstants.{VALUE_LIMIT}
 use Rattle.nutlisting.specs.declared.lines.shown.TheConstants.{SHOWN_LIMIT}
-use Rattle.nutlisting.specs.Lawful.{IsLawfulText}
+use Rattle.nutlisting.specs.Lawful.{IsLawfulText, IsSoundEntry}
 use Rattle.nutlisting.specs.Items.{ups_item, variable_item, command_item, enum_item, range_item, client_item}
 use Rattle.nutlisting.specs.Shown.{shown, description_of, ups_description}
-use Rattle.nutlisting.proofs.PublicLaws.{ids_are_lawful, texts_are_lawful, lawful_words_are_a_line}
+use Rattle.nutlisting.proofs.PublicLaws.{ids_are_lawful, texts_are_lawful, lawful_words_are_a_line, sound_entries}
 use Rattle.nutanswer.specs.declared.err_word.ErrWord.{ErrWord}
 use Rattle.nutanswer.specs.declared.err_word.ErrWord.TheVariants.{VarNotSupported, InvalidArgument}
 use Rattle.nutanswer.specs.ErrWord.{spelling_of}
@@ -85,17 +86,12 @@ order_shaped None = ok_shaped
 order_shaped (Some id) = line_shaped (ok_words (Some id)) (refl, (refl, (ids_are_lawful.lawful id, tt))) refl
 
 pub on_or_off_plain : (on : Bool) → IsPlain (on_or_off_word on)
-on_or_off_plain true = refl
-on_or_off_plain false = refl
+on_or_off_plain on = grind arith
 
 -- an order that is found is done with a lawful number
 found_all : {X : Type 0} (P : X → Type 0) (test : X → Bool) (xs : List X) → All P xs → IfSome (find test xs) P
 found_all P test [] all = tt
-found_all {X} P test (x ∷ xs) all = by_test (test x) (found_all P test xs (All-tail P x xs all))
-  where
-    by_test : (b : Bool) → IfSome (find test xs) P → IfSome (if b then Some x else find test xs) P
-    by_test true later = All-head P x xs all
-    by_test false later = later
+found_all P test (x ∷ xs) all = cond_both (test x) (Some x) (find test xs) (λ o. IfSome o P) (λ e. All-head P x xs all) (λ e. found_all P test xs (All-tail P x xs all))
 
 pub progress_found : (s : Seen) (id : Option ℕ) (k : ℕ × Progress) → HaveLawfulNumbers s.tracking.orders → unknown_id s id ≡ Ok k → IsLawfulProgress k.1
 progress_found s None k numbers e = cc e
@@ -107,23 +103,9 @@ progress_found s (Some id) k numbers e =
     by_found None h e = cc e
     by_found (Some order) h e = let same : (id, order.progress) ≡ k = cc e in subst (λ (k : ℕ × Progress). IsLawfulProgress k.1) same h
 
--- the variables of a sound tree
-abbrev pub IsLawfulEntry : List ℕ × VariableState → Type 0
-IsLawfulEntry entry = IsTrue (is_name entry.0) × IsSoundVariable entry.1
-
-entries_lawful : (entries : List (List ℕ × VariableState)) → All (λ name. IsTrue (is_name name)) (keys_of entries) → All IsSoundVariable (values_of entries) → All IsLawfulEntry entries
-entries_lawful [] names values = All-nil IsLawfulEntry
-entries_lawful (entry ∷ entries) names values =
-    All-cons IsLawfulEntry entry entries
-    (All-head (λ name. IsTrue (is_name name)) entry.0 (keys_of entries) names, All-head IsSoundVariable entry.1 (values_of entries) values)
-    (entries_lawful entries (All-tail (λ name. IsTrue (is_name name)) entry.0 (keys_of entries) names) (All-tail IsSoundVariable entry.1 (values_of entries) values))
-
-variable_sound : (tree : TreeState) (name : List ℕ) (variable : VariableState) → IsSoundTree tree → variable_at tree name ≡ Some variable → IsSoundVariable variable
-variable_sound tree name variable sound e = subst (λ (o : Option VariableState). IfSome o IsSoundVariable) e (IfSome-lookup_from_All IsSoundVariable (is_at (byte_order name)) tree.variables sound.variables)
-
 -- the items of the listings
 pub entry_item : (word ups : List ℕ) (fsd : Bool) → IsPlain word → IsPlain ups → ((name text : List ℕ) → ends_listing (join_with_byte 32 (word ∷ ups ∷ name ∷ text ∷ [])) ≡ false)
-    → (entry : List ℕ × VariableState) → IsLawfulEntry entry → IsItem (variable_item word ups fsd entry)
+    → (entry : List ℕ × VariableState) → IsSoundEntry entry → IsItem (variable_item word ups fsd entry)
 entry_item word ups fsd w u inside entry h = record {
   plain = (w, (u, ((texts_are_lawful.names entry.0 h.0).lawful, (quoted_plain SHOWN_LIMIT (shown fsd entry.0 entry.1) (texts_are_lawful.shown fsd entry.0 entry.1 h.1.value), tt))));
   inside = inside entry.0 (quoted (shown fsd entry.0 entry.1));
@@ -177,32 +159,15 @@ pub record IsLawfulKnown (u : KnownUps) : Type 0 where
 pub record IsLawfulFound (u : KnownUps) (v : List ℕ × VariableState) : Type 0 where
   pub ups : IsLawfulKnown u
   pub name : IsPlain v.0
-  pub entry : IsLawfulEntry v
+  pub entry : IsSoundEntry v
 
 module _ (s : Seen) (seen : IsLawfulSeen s) where
-  module _ (name : List ℕ) (u : KnownUps) where
-    of_state : (place : ℕ) (listed : Ups) (x : Option UpsSeen) → IsLawfulUps listed → option_map (known name place listed) x ≡ Some u → IsLawfulText VALUE_LIMIT u.description
-    of_state place listed None h e = cc e
-    of_state place listed (Some x) h e = let same : known name place listed x ≡ u = cc e in subst (λ (k : KnownUps). IsLawfulText VALUE_LIMIT k.description) same (texts_are_lawful.ups_described listed.desc h.description)
-
-    of_listed : (place : ℕ) (o : Option Ups) → slice_get s.list place ≡ o → option_and_then (λ listed. option_map (known name place listed) (slice_get s.upses place)) o ≡ Some u → IsLawfulText VALUE_LIMIT u.description
-    of_listed place None there e = cc e
-    of_listed place (Some listed) there e = of_state place listed (slice_get s.upses place) (at_place IsLawfulUps s.list place listed seen.list there) e
-
-    of_place : (o : Option ℕ) → option_and_then (ups_at s name) o ≡ Some u → IsLawfulText VALUE_LIMIT u.description
-    of_place None e = cc e
-    of_place (Some place) e = of_listed place (slice_get s.list place) refl e
-
-  description_known : (ups : Option (List ℕ)) (u : KnownUps) → ups_named s ups ≡ Some u → IsLawfulText VALUE_LIMIT u.description
-  description_known None u e = cc e
-  description_known (Some name) u e = of_place name u (place_of name s.list) e
-
   pub lawful_known : (ups : Option (List ℕ)) (u : KnownUps) → HasLawfulUpsName ups → ups_named s ups ≡ Some u → IsLawfulKnown u
   lawful_known ups u h named =
       let is = named_is_seen s ups u named in
       record {
         name = (texts_are_lawful.ups_names u.name (h u.name is.name_is)).lawful;
-        description = description_known ups u named;
+        description = subst (IsLawfulText VALUE_LIMIT) (sym is.described) (texts_are_lawful.ups_described is.listed.desc (at_place IsLawfulUps s.list u.id.place is.listed seen.list is.in_list).description);
         tree = at_place (λ (x : UpsSeen). IsSoundTree x.report.tree) s.upses u.id.place u.state seen.trees is.stands;
       }
 
@@ -212,13 +177,13 @@ module _ (s : Seen) (seen : IsLawfulSeen s) where
       let k = lawful_known ups u h.0 named in
       let there = variable_found u.state.report.tree name v is in
       let lawful_name = h.1 v.0 there.0 in
-      record { ups = k; name = (texts_are_lawful.names v.0 lawful_name).lawful; entry = (lawful_name, variable_sound u.state.report.tree v.0 v.1 k.tree there.1) }
+      record { ups = k; name = (texts_are_lawful.names v.0 lawful_name).lawful; entry = (lawful_name, sound_entries.found u.state.report.tree v.0 v.1 k.tree there.1) }
 
   few_logged_in : (u : KnownUps) → login_count u.id s.clients < 2 ^ 64
   few_logged_in u = let few = seen.few in omega (arith, few, count_by-le-length (is_logged_in u.id) s.clients)
 
-  pub variables_of : (u : KnownUps) → IsLawfulKnown u → All IsLawfulEntry u.state.report.tree.variables
-  variables_of u k = entries_lawful u.state.report.tree.variables k.tree.names k.tree.variables
+  pub variables_of : (u : KnownUps) → IsLawfulKnown u → All IsSoundEntry u.state.report.tree.variables
+  variables_of u k = sound_entries.entries u.state.report.tree k.tree
 
   -- of those that are logged in
   pub count_plain : (ups : Option (List ℕ)) (u : KnownUps) → HasLawfulUpsName ups → ups_named s ups ≡ Some u → ArePlain (u.name ∷ decimal (login_count u.id s.clients) ∷ [])

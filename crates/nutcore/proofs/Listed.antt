@@ -29,6 +29,7 @@ use Rattle.nutcore.specs.Server.{ServerState}
 use Rattle.nutcore.specs.Reply.{seen, seen_ups, text_to}
 use Rattle.nutcore.specs.Sound.{Each, IsSoundUps, IsSound}
 use Rattle.nutcore.specs.Listed.{AsksOf, EachIsListedOnce, WhatIsListedIsWhatIsHeld}
+use Rattle.nutlisting.proofs.PublicLaws.{sound_entries}
 use Rattle.nutanswer.proofs.PublicLaws.{a_named_ups_is_seen}
 use Rattle.nutcore.proofs.SoundUps.{each_get, each_map}
 
@@ -63,9 +64,6 @@ unfolding IsStrictlySortedBy
 left_rise p [] rise = tt
 left_rise p (e ∷ es) rise = grind (arith, all_left p (λ k. byte_order e.0 k ≡ Less) es rise.0, left_rise p es rise.1)
 
-pub variable_sound : (tree : TreeState) (name : List ℕ) (variable : VariableState) → IsSoundTree tree → variable_at tree name ≡ Some variable → IsSoundVariable variable
-variable_sound tree name variable sound e = subst (λ (o : Option VariableState). IfSome o IsSoundVariable) e (IfSome-lookup_from_All IsSoundVariable (is_at (byte_order name)) tree.variables sound.variables)
-
 pub listed_once : EachIsListedOnce
 listed_once = record {
   variables = λ s c line ups u sound read asks. (cc (read, asks.named, asks.ready), (tree_of s ups u sound asks.named).names_rise);
@@ -73,11 +71,11 @@ listed_once = record {
   rw = λ s c line ups u sound read asks. (cc (read, asks.named, asks.ready), record { rising = left_rise is_rw u.state.report.tree.variables (tree_of s ups u sound asks.named).names_rise.rising });
   enum_values = λ s c line ups name u variable sound read asks there. (
     cc (read, asks.named, asks.ready, there),
-    (variable_sound u.state.report.tree name variable (tree_of s ups u sound asks.named) there).enum_values_once,
+    (sound_entries.found u.state.report.tree name variable (tree_of s ups u sound asks.named) there).enum_values_once,
   );
   ranges = λ s c line ups name u variable sound read asks there. (
     cc (read, asks.named, asks.ready, there),
-    (variable_sound u.state.report.tree name variable (tree_of s ups u sound asks.named) there).ranges_once,
+    (sound_entries.found u.state.report.tree name variable (tree_of s ups u sound asks.named) there).ranges_once,
   );
   upses = λ s c line sound read. (ap (text_to s c) read, sound.list.by_name);
   tree = tree_of;

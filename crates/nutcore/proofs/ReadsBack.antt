@@ -7,7 +7,7 @@ use Rattle.nutwords.specs.Frame.{frame}
 use Rattle.nutwords.specs.Reading.{is_name, is_ups_name, is_address}
 use Rattle.nutlisting.specs.Items.{client_item}
 use Rattle.nutlisting.specs.ReadsBack.{ReadsBack}
-use Rattle.nutlisting.proofs.PublicLaws.{lawful_listings_read_back}
+use Rattle.nutlisting.proofs.PublicLaws.{lawful_listings_read_back, sound_entries}
 use Rattle.nutanswer.specs.Checks.{KnownUps, ups_named}
 use Rattle.nutanswer.specs.Command.{read_command}
 use Rattle.nutanswer.specs.Lawful.{HasLawfulUpsName, IsLawfulReading}
@@ -18,7 +18,7 @@ use Rattle.nutcore.specs.ReadsBack.{HasLawfulAddress, EachListingReadsBack}
 use Rattle.nutcore.specs.Reply.{seen}
 use Rattle.nutcore.specs.Server.{ServerState}
 use Rattle.nutcore.specs.Session.{SessionState}
-use Rattle.nutcore.proofs.Listed.{variable_sound, listed_once}
+use Rattle.nutcore.proofs.Listed.{listed_once}
 use Rattle.nutcore.proofs.LoginCount.{is_in, who_is_there}
 
 -- what a line reads as is lawful
@@ -54,11 +54,11 @@ listings_read_back = record {
   enum_values = λ s c line ups name u variable sound read asks there.
       let lawful = lawful_of line _ read in
       told _ _ _ _ (listed_once.enum_values s c line ups name u variable sound read asks there).0
-      (lawful_listings_read_back.enum_values u.name name variable (named_lawful s ups u lawful.0 asks.named) (lawful.1 name refl) (variable_sound u.state.report.tree name variable (listed_once.tree s ups u sound asks.named) there));
+      (lawful_listings_read_back.enum_values u.name name variable (named_lawful s ups u lawful.0 asks.named) (lawful.1 name refl) (sound_entries.found u.state.report.tree name variable (listed_once.tree s ups u sound asks.named) there));
   ranges = λ s c line ups name u variable sound read asks there.
       let lawful = lawful_of line _ read in
       told _ _ _ _ (listed_once.ranges s c line ups name u variable sound read asks there).0
-      (lawful_listings_read_back.ranges u.name name variable (named_lawful s ups u lawful.0 asks.named) (lawful.1 name refl) (variable_sound u.state.report.tree name variable (listed_once.tree s ups u sound asks.named) there));
+      (lawful_listings_read_back.ranges u.name name variable (named_lawful s ups u lawful.0 asks.named) (lawful.1 name refl) (sound_entries.found u.state.report.tree name variable (listed_once.tree s ups u sound asks.named) there));
   upses = λ s c line sound read. told _ _ _ _ (listed_once.upses s c line sound read).0 (lawful_listings_read_back.upses s.list sound.list.lawful);
   clients = λ s c line ups u sound read found lawful.
       told _ _ _ _ (who_is_there.listed s c line ups u read found) (clients_back s u (named_lawful s ups u (lawful_of line _ read) found) lawful);
