@@ -19,8 +19,7 @@ use Rattle.nutcore.proofs.Serving.{session_set}
 
 -- an answer that is a line or nothing, and not empty, is a line
 pub whole_of : (text : List ℕ) → IsLineOrNone text → eqb (length text) 0 ≡ false → IsWholeLine text
-whole_of text (inl whole) some = whole
-whole_of text (inr none) some = let k : true ≡ false = sym (ap (λ xs. eqb (length xs) 0) none) ∙ some in cc k
+whole_of text h some = elim h [ inl whole ↦ whole | inr none ↦ absurd (cc (none, some)) ]
 
 -- what holds of a session that is put in its place holds of the client's
 pub of_set : (P : Option SessionState → Type 0) (v : ServerState) (c i : ℕ) (x y : SessionState) → IsAt c i v.sessions → session c v ≡ Some x → y.id ≡ x.id → P (Some y) → let code : ServerState = record v { sessions = set v.sessions i y } in P (session c code)

@@ -49,14 +49,11 @@ all_executed k s c le stop =
     cc (executed-add k (n - k) s c, none_executed (n - k) (after_lines k s c) c stop, append-nil (lines_executed k s c))
 
 -- the notice is no deed
-no_deed : (s : ServerState) (c : ℕ) → filter_map deed_of (notice s c) ≡ []
-no_deed s c = grind arith
-
 all_deeds : (k : ℕ) (s : ServerState) (c : ℕ) → k ≤ length (held_of (session c s)) → pump_stops (after_lines k s c) c ≡ true → deeds_of (executions_until s c None) ≡ deeds_of (lines_executed k s c)
 unfolding executions_until pump_executions
 all_deeds k s c le stop =
     let all : List Execution = lines_executed (length (held_of (session c s))) s c in
-    cc (filter_map-append deed_of all (notice (after_all_lines s c) c), no_deed (after_all_lines s c) c, append-nil (filter_map deed_of all), all_executed k s c le stop)
+    grind (arith, filter_map-append deed_of all (notice (after_all_lines s c) c), append-nil (filter_map deed_of all), all_executed k s c le stop)
 
 -- as many are noted of what is there and what comes as of what was there before
 take_onto : (n : ℕ) (xs ys : List Deed) → take n (take n xs ++ ys) ≡ take n (xs ++ ys)
@@ -69,11 +66,6 @@ one_noted xs o deeds e = grind (arith, take_onto DEED_LIMIT xs, append-nil)
 
 next_deeds : (s : ServerState) (c : ℕ) (o : Option (List ℕ)) → cons_option (told_next s c o) [] ≡ filter_map deed_of (next_execution s c o)
 next_deeds s c o = grind arith
-
--- the loop begins
-pub noted_first : (s : ServerState) (c : ℕ) (deeds : List Deed) → deeds ≡ [] → deeds ≡ deeds_of (lines_executed 0 s c)
-unfolding lines_executed
-noted_first s c deeds none = none
 
 -- it goes on
 pub noted_next : (s t : ServerState) (c k : ℕ) (deeds deeds' : List Deed) → t ≡ after_lines k s c → deeds ≡ deeds_of (lines_executed k s c) → deeds' ≡ with_next t c deeds → deeds' ≡ deeds_of (lines_executed (k + 1) s c)
@@ -91,14 +83,10 @@ pub noted_all : (s t : ServerState) (c k : ℕ) (b : Bool) (r : Result (Unit {0}
     deeds ≡ deeds_of (executions_until s c (refused_after (done r)))
 noted_all s t c k b r deeds e le none told so_far = grind (arith, all_deeds k s c le (cc (e, none)))
 
--- what is told of a reply is told of its line
-of_reply : (s : ServerState) (c : ℕ) (line : List ℕ) (r : Reply) → Replies s c line r → (if is_told_by s.upses r then deed_in_reply c (read_command line) r else None) ≡ deed_of (of_line s c line)
-of_reply s c line r is = grind arith
-
 -- so it is noted, where it is told, and else nothing is
 pub noted_reply : (s : ServerState) (c : ℕ) (line : List ℕ) (r : Reply) (told : Bool) (read : Result (Option Command) ErrWord) (before deeds : List Deed) → next_line_for s c ≡ Some line → Replies s c line r → told ≡ is_told_by s.upses r → read_command line ≡ read →
     deeds ≡ with_deed (if told then deed_in_reply c read r else None) before → deeds ≡ with_next s c before
-noted_reply s c line r told read before deeds next is e reads noted = cc (noted, e, reads, of_reply s c line r is, next)
+noted_reply s c line r told read before deeds next is e reads noted = grind arith
 
 -- where the client isn't open, nothing is
 pub fed_absent : (s s' : ServerState) (c : ℕ) (piece : List ℕ) (deeds : List Deed) → s' ≡ s → session c s' ≡ None → deeds ≡ [] → deeds ≡ deeds_of (executions_by s (Feed c piece) None)

@@ -1,5 +1,5 @@
 -- What a sound server lists comes once, in the stated order.
-use Rattle.std.proofs.Common.{◌≡◌, ◌↔◌, ◌∙◌, ◌<◌, ℕ, Bool, true, false, List, [], ◌∷◌, Option, Some, None, Result, Ok, sym, ap, subst, arith, inl, inr}
+use Rattle.std.proofs.Common.{◌≡◌, ◌↔◌, ◌∙◌, ◌<◌, ℕ, Bool, true, false, List, [], ◌∷◌, Option, Some, None, Result, Ok, sym, ap, subst, arith, inl, inr, ◌++◌, ◌+◌}
 use Rattle.std.specs.Prelude.{codes, IfSome}
 use Rattle.std.specs.List.{Contains, filter, AllByRecursion}
 use Rattle.std.specs.List.Sorted.{IsStrictlySortedBy}
@@ -10,7 +10,9 @@ use Rattle.std.specs.declared.cmp.Ordering.{Ordering}
 use Rattle.std.specs.declared.cmp.Ordering.TheVariants.{Less, Equal}
 use Rattle.std.specs.Option.{ok_or, option_map}
 use Rattle.std.proofs.lemmas.Cmp.{nat_list_cmp_total, eq_by_cmp_equiv}
-use Rattle.std.proofs.lemmas.List.Elements.{All-contains, All-contains_itself, All-filter, filter_passes, Contains-push_cases, Contains-append_cases, Contains-append_left, Contains-append_right}
+use Rattle.std.specs.Prelude.{take, drop}
+use Rattle.std.proofs.lemmas.List.{take-append-drop}
+use Rattle.std.proofs.lemmas.List.Elements.{filter_more, filter-append, Contains-push, All-contains, All-contains_itself, All-filter, filter_passes, Contains-push_cases, Contains-append_cases, Contains-append_left, Contains-append_right}
 use Rattle.std.proofs.lemmas.Bool.{cond_both, both_ways}
 use Rattle.std.proofs.lemmas.Map.Keys.{IsDistinct-from_sorted}
 use Rattle.std.proofs.lemmas.Map.Lookups.{exact_bytes}
@@ -99,14 +101,9 @@ module _ {A : Type 0} (p : A → Bool) where
   )
 
   passed : (xs : List A) (y : A) → Contains xs y → p y ≡ true → Contains (filter p xs) y
-  passed [] y h e = let few : h.0 < 0 = h.1 in absurd (omega (arith, few))
-  passed (x ∷ xs) y h e = elim (Contains-append_cases (x ∷ []) xs y h) [
-    | inl one ↦ cond_both (p x) (x ∷ filter p xs) (filter p xs) (λ left. Contains left y) (λ yes. Contains-append_left (x ∷ []) (filter p xs) y one) (λ no. absurd (both_ways (p y) (passes_not y one no) e))
-    | inr more ↦ cond_both (p x) (x ∷ filter p xs) (filter p xs) (λ left. Contains left y) (λ yes. Contains-append_right (x ∷ []) (filter p xs) y (passed xs y more e)) (λ no. passed xs y more e)
-  ]
-    where
-      passes_not : (y : A) → Contains (x ∷ []) y → p x ≡ false → p y ≡ false
-      passes_not y one fails = elim (Contains-push_cases [] x y one) [ inl (i, few, at) ↦ absurd (omega (arith, few)) | inr same ↦ cc ]
+  passed xs y (k, within, at) e =
+      let all : filter p xs ≡ (filter p (take k xs) ++ y ∷ []) ++ filter p (drop (k + 1) xs) = cc (filter_more p xs k y within, at, e, filter-append p (take (k + 1) xs) (drop (k + 1) xs), take-append-drop (k + 1) xs) in
+      subst (λ (zs : List A). Contains zs y) (sym all) (Contains-append_left (filter p (take k xs) ++ y ∷ []) (filter p (drop (k + 1) xs)) y (Contains-push (filter p (take k xs)) y))
 
 pub listed_is_held : WhatIsListedIsWhatIsHeld
 listed_is_held = record {

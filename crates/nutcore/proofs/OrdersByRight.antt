@@ -96,15 +96,12 @@ gives u bytes (of_line s c line) h = elim h [
 ]
 gives u bytes (of_notice c) h = absurd h
 
-silent : (u : UpsId) (bytes : List ℕ) (x : Execution) → told_by_line u x ≡ [] → IsOrderByRight u bytes x → ⊥
-silent u bytes x e h = cc (e, gives u bytes x h)
-
 -- one execution
 abbrev Joins : UpsId → Execution → List Telling → Type 0
 Joins u x told = (xs : List Execution) (rest : List Telling) → AreOrdersByRight u xs (flat_map order_of rest) → AreOrdersByRight u (x ∷ xs) (flat_map order_of (told ++ rest))
 
 passes : (u : UpsId) (x : Execution) → told_by_line u x ≡ [] → Joins u x []
-passes u x e xs rest h = passed_over (λ bytes k. silent u bytes x e k) h
+passes u x e xs rest h = passed_over (λ bytes k. absurd (cc (e, gives u bytes x k))) h
 
 line_joins : (u : UpsId) (s : ServerState) (c : ℕ) (line : List ℕ) (change : Change) → change_by s c (read_command line) ≡ change → Joins u (of_line s c line) (told_by_change u change)
 line_joins u s c line change e =

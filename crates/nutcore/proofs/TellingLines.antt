@@ -48,7 +48,7 @@ by_right_spelled : (u : UpsId) (bytes : List ℕ) (s : ServerState) (c : ℕ) (l
 by_right_spelled u bytes s c line h =
     let read = what_is_read_is_lawful line in
     elim h [
-      | inl set ↦ (let lawful = subst IsLawfulReading set.by_right.command read in subst (λ (b : List ℕ). IsSpelled (order b)) (sym set.order_is) (sets set.name set.value set.id (lawful.0 set.name refl) (lawful.1 set.value refl)))
+      | inl set ↦ (let lawful = subst IsLawfulReading set.by_right.command read in rw set.order_is (sets set.name set.value set.id (lawful.0 set.name refl) (lawful.1 set.value refl)))
       | inr command ↦ (let lawful = subst IsLawfulReading command.by_right.command read in subst (λ (b : List ℕ). IsSpelled (order b)) (sym command.order_is) (spelled_command command.name command.value command.id (lawful.0 command.name refl) lawful.1))
     ]
 

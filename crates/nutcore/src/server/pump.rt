@@ -165,6 +165,7 @@ fn list_clients(sessions: &Vec<Session>, reply: &Reply<'_>, clients: &mut Client
 }
 
 /// A forced shutdown of the UPS is set, where there is such a UPS.
+#[tactic(auto, using(crate::proofs::UpsPlaces::there_is, crate::proofs::UpsPlaces::set_changed, crate::proofs::UpsPlaces::changed_none, std::proofs::lemmas::Option::slice_get_past))]
 fn set_fsd(upses: &mut Vec<Ups>, u: UpsId)
     ensures set { upses.new.items ≡ changed_at with_fsd u.place upses.old.items }
     ensures length { length upses.new.items ≡ length upses.old.items }
@@ -176,6 +177,7 @@ fn set_fsd(upses: &mut Vec<Ups>, u: UpsId)
 }
 
 /// The driver of the UPS is owed this line, which fits, where there is such a UPS.
+#[tactic(auto, using(crate::proofs::UpsPlaces::there_is, crate::proofs::UpsPlaces::set_changed, crate::proofs::UpsPlaces::changed_none, std::proofs::lemmas::Option::slice_get_past))]
 fn order(upses: &mut Vec<Ups>, u: UpsId, line: &[u8])
     requires fits { (x : UpsState) → slice_get upses.old.items u.place ≡ Some x
         → TakesLine line.now x }

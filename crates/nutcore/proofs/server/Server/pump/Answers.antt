@@ -4,7 +4,7 @@ use Rattle.nutcore.proofs.Common.{SessionState, ServerState, session}
 use Rattle.nutlisting.specs.Counted.{KeepsCount}
 use Rattle.nutcore.specs.Promises.{IsAt, refused_overlong}
 use Rattle.nutcore.specs.Pump.{next_line_for, after_line, after_notice, held_of, holds_overlong}
-use Rattle.nutcore.specs.History.{owed}
+use Rattle.nutcore.specs.History.{owed, lines_executed}
 use Rattle.nutcore.specs.Cost.{RunningServer}
 use Rattle.nutcore.specs.contracts.server.Server.{the_view}
 use Rattle.nutcore.proofs.Runs.{state_is}
@@ -13,15 +13,16 @@ use Rattle.nutcore.proofs.Costs.{cost_kept}
 use Rattle.nutcore.proofs.Found.{find_id}
 use Rattle.nutcore.proofs.KeptSound.{session_kept, noticed_kept}
 use Rattle.nutcore.proofs.Serving.{begins, goes_on, ok_when, err_when, line_there, no_line_there, ends_at, StandsAt, stands, at_set, notice_is, at_line, pump_gives, refused}
-use Rattle.nutcore.proofs.Deeds.{noted_first, noted_next, noted_until, noted_all}
+use Rattle.nutcore.proofs.Deeds.{noted_next, noted_until, noted_all}
 use Rattle.nutcore.proofs.server.Server.pump.Goals as goal
 
 pub loop-end-init : goal.loop-end-init
+unfolding lines_executed
 loop-end-init c = record {
   at = c.requires.at;
   keeps = λ kept counted. counted;
   done = begins c.args.self.now.state c.args.c;
-  noted = noted_first c.args.self.now.state c.args.c c.args.self.now.deeds c.requires.unnoted;
+  noted = c.requires.unnoted;
   rest = omega arith;
 }
 
