@@ -84,9 +84,7 @@ abbrev IsAnswerIfAny : List ℕ → Type 0
 IsAnswerIfAny text = is_empty text ≡ false → IsAnswer text
 
 reading_answered : (s : ServerState) (c : ℕ) → IsLawfulSeen (seen s) → (r : Result (Option Command) ErrWord) → IsLawfulReading r → IsAnswerIfAny (text_to s c r)
-reading_answered s c lawful (Err word) read some = each_error_is_a_line word
-reading_answered s c lawful (Ok None) read some = cc some
-reading_answered s c lawful (Ok (Some command)) read some = each_answer_is_a_line_or_a_listing (seen s) (asker c s) command lawful read
+reading_answered s c lawful r read some = grind (arith, each_error_is_a_line, each_answer_is_a_line_or_a_listing (seen s) (asker c s))
 
 execution_answered : (x : Execution) → IsOn IsSound x → IsOn HaveLawfulAddresses x → IsAnswerIfAny (text_of x)
 execution_answered (of_line s c line) sound own = reading_answered s c (seen_lawful s sound own) (read_command line) (what_is_read_is_lawful line)

@@ -38,10 +38,7 @@ ok_text answer ok e = cc ok
 
 -- so what begins with ERR changes nothing
 refused_change : OnlyOkChanges → (s : ServerState) (c : ℕ) (r : Result (Option Command) ErrWord) → starts_with nat_eq (text_to s c r) (codes "ERR") ≡ true → change_by s c r ≡ Nothing
-refused_change only_ok s c (Ok (Some command)) e = elim (cases_Bool (is_ok_line (answer_to (seen s) (asker c s) command))) [
-  | inl ok ↦ absurd (ok_text (answer_to (seen s) (asker c s) command) ok e)
-  | inr not_ok ↦ only_ok (seen s) (asker c s) command not_ok
-]
+refused_change only_ok s c (Ok (Some command)) e = grind (arith, ok_text (answer_to (seen s) (asker c s) command), only_ok (seen s) (asker c s) command)
 refused_change only_ok s c r e = refl
 
 pub refused_line : OnlyOkChanges → (s : ServerState) (c : ℕ) (line : List ℕ) (x : SessionState) → session c s ≡ Some x → next_line_for s c ≡ Some line → starts_with nat_eq (reply s c line) (codes "ERR") ≡ true → after_line s c ≡ with_session s (answered_line line (reply s c line) x)

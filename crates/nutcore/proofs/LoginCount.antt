@@ -1,13 +1,13 @@
 -- Counting the sessions that are logged in.
-use Rattle.std.proofs.Common.{◌≡◌, ℕ, ◌+◌, ◌<◌, ◌≤◌, ◌++◌, Bool, List, [], ◌∷◌, refl, sym, ◌∙◌, ap, cond, map, take, length, get_or, arith}
+use Rattle.std.proofs.Common.{◌≡◌, ℕ, ◌+◌, ◌<◌, ◌≤◌, ◌++◌, Bool, List, [], ◌∷◌, refl, sym, ◌∙◌, ap, cond, map, take, length, get_or, arith, length-append}
 use Rattle.std.specs.Prelude.{count_by, codes, Option, Some, Result, Ok}
 use Rattle.std.specs.List.{filter}
 use Rattle.std.proofs.lemmas.Bool.{cond_both}
-use Rattle.std.proofs.lemmas.List.{map-append}
+use Rattle.std.proofs.lemmas.List.{map-append, take_all, length-take}
 use Rattle.std.proofs.lemmas.Simd.{map-map}
 use Rattle.std.proofs.lemmas.List.Elements.{filter_more}
 use Rattle.std.proofs.lemmas.Grind.{common_steps}
-use Rattle.std.proofs.lemmas.List.Sums.{count_by_more_yes, count_by_more_no, length-filter}
+use Rattle.std.proofs.lemmas.List.Sums.{count_by_more_yes, count_by_more_no, count_by-le-length, length-filter}
 use Rattle.nutcore.proofs.Common.{UpsId, SessionState, ServerState}
 use Rattle.nutanswer.specs.View.{ClientSeen, is_logged_in, login_count, addresses_at}
 use Rattle.std.specs.Fmt.{decimal}
@@ -63,3 +63,7 @@ who_is_there = record {
   listed = λ s c line ups known read named.
       cc (read, named, seen_filter known.id s.sessions, map-map (client_item known.name) (λ (x : SessionState). x.address) (filter (is_in known.id) s.sessions));
 }
+
+pub ruleset counting = (count_more, count_seen, take_all, count_by-le-length, length-take)
+
+pub ruleset listing = (list_more, one_address, take_all, length-append)

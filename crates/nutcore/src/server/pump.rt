@@ -151,6 +151,7 @@ fn change_upses(upses: &mut Vec<Ups>, tracking: &mut Tracking, reply: &Reply<'_>
 
 /// Where the reply lists the clients of a UPS, puts together the addresses of the sessions that are logged in to it, in
 /// the order of opening.
+#[tactic(auto, using(crate::proofs::LoginCount::listing))]
 fn list_clients(sessions: &Vec<Session>, reply: &Reply<'_>, clients: &mut Clients)
     requires { length sessions.now.items ≤ SESSION_LIMIT }
     ensures { ListsClients sessions.now.items reply.now clients.new }

@@ -112,6 +112,7 @@ impl<'a> View for ServerView<'a> {
 }
 
 /// How many of the sessions are logged in to the UPS.
+#[tactic(auto, using(crate::proofs::LoginCount::counting))]
 fn login_count(sessions: &Vec<Session>, u: UpsId) -> usize
     ensures { result ≡ login_count u (map seen_client sessions.now.items) }
 {

@@ -35,8 +35,7 @@ loop-end-smaller c =
     let t : ServerState = c.loop-end.self.state in
     let ends = ends_at c.args.c c.args.place (the_view c.self.inside).state t c.index.result.now c.next_end.result (state_is c.self.view_is) c.loop-end.invariant.at c.index.ensures c.next_end.ensures in
     let there = line_there (next_line_for t c.args.c) c.in-Some.end (ends ∙ c.in-Some.is) in
-    let e : c.execute.new.self.state ≡ after_line t c.args.c = ok_when c.execute.result _ (sym c.is_err.ensures.value ∙ c.if-is_err.false) c.execute.ensures.ok in
-    subst (λ (z : ServerState). length (held_of (session c.args.c z)) < length (held_of (session c.args.c t))) (sym e) (line_shortens t c.args.c there.0 there.1)
+    rw (ok_when c.execute.result _ (sym c.is_err.ensures.value ∙ c.if-is_err.false) c.execute.ensures.ok) (line_shortens t c.args.c there.0 there.1)
 
 pub loop-end-preserved : goal.loop-end-preserved
 loop-end-preserved c =
