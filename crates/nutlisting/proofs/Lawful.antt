@@ -97,6 +97,8 @@ pub signed_lawful : (z : ℤ) → SFits w32 z → Lawful (signed_decimal z)
 signed_lawful (pos n) h = decimal_lawful n (omega (arith, h))
 signed_lawful (negsuc n) h = byte_lawful 45 (decimal (suc n)) refl (decimal_lawful (suc n) (omega (arith, h)))
 
+pub ruleset quoting = (quoted_is_short, length-append)
+
 pub ruleset lawful_steps = (list_all-append, and_from, name_lawful, ups_name_lawful, address_lawful, value_lawful, quoted_lawful)
 
 -- what clients see of a value and of a description
