@@ -1,10 +1,9 @@
 -- Words of lawful bytes: those of answers and of orders.
-use Rattle.std.proofs.Common.{ℕ, ◌+◌, ◌*◌, ◌≤◌, Bool, true, false, List, [], ◌∷◌, ◌++◌, Option, Some, None, refl, arith}
-use Rattle.std.specs.Prelude.{◌==◌, if◌then◌else◌, not, IsTrue, IfSome, codes}
+use Rattle.std.proofs.Common.{ℕ, ◌+◌, ◌*◌, ◌≤◌, Bool, List, [], ◌∷◌, ◌++◌, Option, Some, None, refl, arith}
+use Rattle.std.specs.Prelude.{◌==◌, not, IsTrue, IfSome, codes}
 use Rattle.std.specs.Fmt.{decimal}
 use Rattle.std.specs.List.{AllByRecursion, list_all}
 use Rattle.std.proofs.lemmas.Bool.{cond_both}
-use Rattle.std.proofs.lemmas.Grind.{common_steps}
 use Rattle.nutwords.specs.Bytes.{is_lawful}
 use Rattle.nutwords.specs.Natural.{is_empty}
 use Rattle.nutwords.specs.Reading.{is_name, is_value}
@@ -14,7 +13,7 @@ use Rattle.nutdriver.specs.Variable.{VariableState}
 use Rattle.nutdriver.specs.declared.limits.TheConstants.{NUMBER_LIMIT}
 use Rattle.nutlisting.specs.Lawful.{IsLawfulText}
 use Rattle.nutlisting.specs.Lines.{IsWholeLine}
-use Rattle.nutlisting.specs.Types.{word_if, else_number, kind_words, type_words}
+use Rattle.nutlisting.specs.Types.{word_if, else_number, type_words}
 use Rattle.nutlisting.specs.Tracked.{progress_words}
 use Rattle.nutlisting.proofs.PublicLaws.{ids_are_lawful, texts_are_lawful, lawful_words_are_a_line}
 use Rattle.nuttracking.specs.Id.{id_text}

@@ -11,10 +11,9 @@ use Rattle.nutanswer.specs.Orders.{set_line, instcmd_line, instcmd_right, order,
 use Rattle.nutanswer.specs.Promises.{live_ups, live_variable, live_command, settable, Gives}
 use Rattle.nutanswer.specs.declared.reply.Reply.{Reply}
 use Rattle.nutanswer.specs.declared.err_word.ErrWord.TheVariants.{SetFailed, InstcmdFailed}
-use Rattle.std.specs.Prelude.{◌≤◌, ◌<◌, Bool, true, false, nat_le, length}
+use Rattle.std.specs.Prelude.{◌≤◌, ◌<◌, length}
 use Rattle.std.proofs.Common.{subst}
 use Rattle.std.proofs.lemmas.Bool.{le-leb, lt-leb}
-use Rattle.nutanswer.specs.Checks.{unless}
 
 -- what a row's words are read as is what they are to its checks
 pub as_read : {A : Type 0} (check : Option (List ℕ) → Option (List ℕ) → A) (ups name ups_read name_read : Option (List ℕ))

@@ -1,15 +1,14 @@
 -- Answers that are one line, which begins no listing, or a listing to its END; what is told of a UPS that is lawful.
 use Rattle.std.proofs.Common.{◌≡◌, ◌<◌, ◌^◌, ℕ, Bool, true, false, List, [], ◌∷◌, ◌++◌, Option, Some, None, Result, Ok, Err, refl, sym, ap, subst, arith}
-use Rattle.std.specs.Prelude.{codes, map, filter, slice_get, All, IsTrue, IfSome, if◌then◌else◌}
+use Rattle.std.specs.Prelude.{codes, map, filter, slice_get, All, IsTrue, IfSome}
 use Rattle.std.specs.Fmt.{decimal, signed_decimal}
 use Rattle.std.specs.List.{AllByRecursion, concat, find, join_with_byte}
-use Rattle.std.specs.Map.{keys_of, values_of}
 use Rattle.std.specs.BTreeMap.{is_at}
-use Rattle.std.specs.Option.{ok_or, option_map, option_and_then}
+use Rattle.std.specs.Option.{ok_or, option_map}
 use Rattle.std.proofs.lemmas.Bool.{cond_both}
 use Rattle.std.proofs.lemmas.Int.{ints}
 use Rattle.std.proofs.lemmas.List.{append-nil}
-use Rattle.std.proofs.lemmas.List.Elements.{All-nil, All-cons, All-head, All-tail, All-filter, All-map, All-get_or}
+use Rattle.std.proofs.lemmas.List.Elements.{All-head, All-tail, All-filter, All-map, All-get_or}
 use Rattle.std.proofs.lemmas.List.Sums.{count_by-le-length}
 use Rattle.std.proofs.lemmas.Map.Views.{IfSome-lookup_from_All}
 use Rattle.std.proofs.lemmas.Option.{slice_get_within, get_or_from_slice_get}
@@ -21,13 +20,13 @@ use Rattle.nuttracking.specs.Sound.{IsLawfulProgress, HaveLawfulNumbers}
 use Rattle.nuttracking.specs.Tracking.{has_id}
 use Rattle.nuttracking.specs.declared.order.Progress.{Progress}
 use Rattle.nuttracking.specs.declared.order.TrackedOrder.{TrackedOrder}
-use Rattle.nutdriver.specs.Sound.{IsSoundRange, IsSoundVariable, IsSoundTree}
+use Rattle.nutdriver.specs.Sound.{IsSoundRange, IsSoundTree}
 use Rattle.nutdriver.specs.Tree.{TreeState, byte_order, variable_at}
 use Rattle.nutdriver.specs.Variable.{VariableState}
 use Rattle.nutdriver.specs.declared.range.Range.{Range}
 use Rattle.nutusers.specs.Descriptions.{Texts, text_at, AreLawfulTexts}
 use Rattle.nutusers.specs.Texts.{is_description}
-use Rattle.nutusers.specs.UpsList.{Ups, IsLawfulUps, place_of}
+use Rattle.nutusers.specs.UpsList.{Ups, IsLawfulUps}
 use Rattle.nutwords.specs.declared.limits.TheConstants.{VALUE_LIMIT}
 use Rattle.nutlisting.specs.declared.lines.shown.TheConstants.{SHOWN_LIMIT}
 use Rattle.nutlisting.specs.Lawful.{IsLawfulText, IsSoundEntry}
@@ -38,7 +37,7 @@ use Rattle.nutanswer.specs.declared.err_word.ErrWord.{ErrWord}
 use Rattle.nutanswer.specs.declared.err_word.ErrWord.TheVariants.{VarNotSupported, InvalidArgument}
 use Rattle.nutanswer.specs.ErrWord.{spelling_of}
 use Rattle.nutanswer.specs.View.{Seen, UpsSeen, ClientSeen, is_logged_in, login_count, addresses_at}
-use Rattle.nutanswer.specs.Checks.{KnownUps, known, ups_at, ups_named, variable_named, var_not_supported, unknown_id}
+use Rattle.nutanswer.specs.Checks.{KnownUps, ups_named, variable_named, var_not_supported, unknown_id}
 use Rattle.nutanswer.specs.Orders.{ok_words, on_or_off_word}
 use Rattle.nutanswer.specs.Answer.{Answer, ok, text_of_answer}
 use Rattle.nutanswer.specs.Lawful.{HasLawfulName, HasLawfulUpsName}

@@ -1,9 +1,9 @@
 -- Each answer of a run has the shape of an answer, so the answers can be told apart.
-use Rattle.std.proofs.Common.{◌≡◌, ◌∙◌, ℕ, Bool, true, false, not, List, [], ◌∷◌, ◌++◌, Option, Some, None, Result, Ok, Err, refl, sym, ap, subst, append_assoc, arith}
+use Rattle.std.proofs.Common.{◌≡◌, ◌∙◌, ℕ, Bool, true, false, not, List, [], ◌∷◌, ◌++◌, Option, Result, refl, sym, ap, subst, append_assoc, arith}
 use Rattle.std.specs.Prelude.{All, IfSome, map, filter, length}
 use Rattle.std.proofs.Math.Seq.{take-append_seam}
 use Rattle.std.specs.List.{concat, flat_map}
-use Rattle.std.proofs.lemmas.List.Elements.{All-nil, All-cons, All-head, All-tail, All-filter, All-map, All-take, All-weaker, filter_passes}
+use Rattle.std.proofs.lemmas.List.Elements.{All-nil, All-cons, All-filter, All-map, All-take, All-weaker, filter_passes}
 use Rattle.std.proofs.lemmas.Bool.{not-true}
 use Rattle.nutwords.specs.Answers.{IsAnswer}
 use Rattle.nutwords.specs.Natural.{is_empty}

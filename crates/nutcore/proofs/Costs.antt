@@ -1,7 +1,7 @@
 -- What events cost.
-use Rattle.std.proofs.Common.{◌≡◌, ◌∙◌, ℕ, ◌+◌, ◌-◌, ◌≤◌, true, false, List, [], ◌++◌, Option, Some, None, inl, inr, refl, sym, ap, subst, arith, length, take, drop, set, eqb, length-take, length-drop, length-append}
-use Rattle.std.proofs.lemmas.List.{take_all, drop_all, drop_at, drop-append-le}
-use Rattle.std.proofs.lemmas.Bool.{cond-true, cond-false, eq-eqb}
+use Rattle.std.proofs.Common.{◌≡◌, ◌∙◌, ℕ, ◌-◌, ◌≤◌, true, false, List, Option, Some, inl, inr, refl, sym, ap, subst, arith, length, drop, set, eqb, length-take}
+use Rattle.std.proofs.lemmas.List.{drop_all}
+use Rattle.std.proofs.lemmas.Bool.{cond-true, eq-eqb}
 use Rattle.nutlisting.specs.Counted.{IsCounted, KeepsCount}
 use Rattle.nutlisting.specs.Counts.{lines}
 use Rattle.nutlisting.specs.Lines.{IsWholeLine}

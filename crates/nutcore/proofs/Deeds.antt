@@ -1,25 +1,21 @@
 -- What is noted of an event.
-use Rattle.std.proofs.Common.{◌≡◌, ℕ, zero, suc, ◌+◌, ◌-◌, ◌≤◌, Bool, true, false, List, [], ◌∷◌, ◌++◌, Option, Some, None, Result, refl, sym, ◌∙◌, ap, subst, arith, length, take, zero-add, append-nil, append_assoc}
-use Rattle.std.specs.Prelude.{is_none, option_and_then, if◌then◌else◌}
+use Rattle.std.proofs.Common.{◌≡◌, ℕ, zero, suc, ◌+◌, ◌-◌, ◌≤◌, Bool, true, false, List, [], ◌∷◌, ◌++◌, Option, Some, None, Result, refl, ap, arith, length, take, zero-add, append-nil, append_assoc}
+use Rattle.std.specs.Prelude.{if◌then◌else◌}
 use Rattle.std.specs.List.{filter_map, cons_option}
 use Rattle.std.proofs.lemmas.List.Elements.{filter_map-append}
-use Rattle.std.proofs.lemmas.Bool.{cond_both, cond-true, cond-false}
 use Rattle.nutanswer.specs.declared.command.Command.{Command}
 use Rattle.nutanswer.specs.declared.err_word.ErrWord.{ErrWord}
 use Rattle.nutanswer.specs.Command.{read_command}
-use Rattle.nutanswer.specs.declared.reply.Change.TheVariants.{Nothing}
 use Rattle.nutanswer.specs.declared.reply.Reply.{Reply}
-use Rattle.nutlisting.specs.Items.{ListingState, text_of}
-use Rattle.nutcore.proofs.Common.{Change, Fault, ServerState, SessionState, session}
+use Rattle.nutcore.proofs.Common.{Fault, ServerState, session}
 use Rattle.nutcore.specs.declared.deed.Deed.{Deed}
 use Rattle.nutcore.specs.declared.deed.TheConstants.{DEED_LIMIT}
 use Rattle.nutcore.specs.declared.event.Event.TheVariants.{Feed, Took}
 use Rattle.nutcore.specs.Calls.{done}
-use Rattle.nutcore.specs.Reply.{reply, change_by}
 use Rattle.nutcore.specs.Step.{with_input, without_output, may_take, refused_after}
-use Rattle.nutcore.specs.Pump.{next_line, next_line_for, after_line, after_lines, after_all_lines, pump_stops, is_overlong, held_of}
-use Rattle.nutcore.specs.History.{Execution, of_line, of_notice, next_execution, lines_executed, notice, pump_executions, executions_until, executions_by}
-use Rattle.nutcore.specs.Deeds.{is_refusal, is_told, deed_of, deeds_of}
+use Rattle.nutcore.specs.Pump.{next_line_for, after_line, after_lines, after_all_lines, pump_stops, held_of}
+use Rattle.nutcore.specs.History.{Execution, next_execution, lines_executed, notice, pump_executions, executions_until, executions_by}
+use Rattle.nutcore.specs.Deeds.{deed_of, deeds_of}
 use Rattle.nutcore.specs.Promises.{Replies, refused_overlong, is_told_by, deed_in_reply, with_deed, told_next, with_next}
 use Rattle.nutcore.proofs.Loops.{none_of, stopped_line}
 use Rattle.nutcore.proofs.EventSteps.{input_absent}

@@ -1,5 +1,5 @@
 -- A listing is the frame of what is held.
-use Rattle.std.proofs.Common.{◌≡◌, ℕ, true, List, [], ◌∷◌, Option, Some, Result, Ok, refl, sym, ◌∙◌, ap, subst, arith, inl, inr}
+use Rattle.std.proofs.Common.{◌≡◌, ℕ, true, List, ◌∷◌, Option, Some, Result, Ok, refl, subst, arith}
 use Rattle.std.specs.Prelude.{codes, nat_eq}
 use Rattle.std.specs.List.{starts_with}
 use Rattle.std.proofs.lemmas.Slice.Eq.{bytes_eq-Decides}
@@ -9,15 +9,14 @@ use Rattle.nutanswer.specs.declared.err_word.ErrWord.{ErrWord}
 use Rattle.nutanswer.specs.Command.{read_command}
 use Rattle.nutlisting.specs.Items.{ListingState, variable_listing}
 use Rattle.nutanswer.specs.Answer.{Answer, one_line, answer_to, listing, text_of_answer}
-use Rattle.nutcore.proofs.Common.{Change, SessionState, ServerState, session, with_session}
-use Rattle.nutcore.specs.Reply.{seen, asker, reply, text_to, change_by, changed_session}
+use Rattle.nutcore.proofs.Common.{SessionState, ServerState, session, with_session}
+use Rattle.nutcore.specs.Reply.{seen, asker, reply, text_to, change_by}
 use Rattle.nutcore.specs.Pump.{next_line_for, after_line, answered as answered_line}
-use Rattle.nutcore.proofs.Pumping.{after_line_is, line_done}
+use Rattle.nutcore.proofs.Pumping.{after_line_is}
 use Rattle.nutanswer.specs.declared.reply.Change.TheVariants.{Nothing}
 use Rattle.nutanswer.specs.Laws.{is_ok_line, OnlyOkChanges}
 use Rattle.nutcore.specs.Headline.{AListingIsWhatIsHeld}
 use Rattle.nutcore.proofs.Listed.{usable_row}
-use Rattle.std.proofs.lemmas.Bool.{cases_Bool}
 
 framed : (s : ServerState) (c : ℕ) (line : List ℕ) (command : Command) (l : ListingState) → read_command line ≡ Ok (Some command) → answer_to (seen s) (asker c s) command ≡ Ok (listing l) → (reply s c line) ≡ frame l.kind l.names l.items
 framed s c line command l read answer = cc

@@ -1,32 +1,29 @@
 -- What a sound server lists comes once, in the stated order.
-use Rattle.std.proofs.Common.{◌≡◌, ◌↔◌, ◌∙◌, ◌<◌, ℕ, Bool, true, false, List, [], ◌∷◌, Option, Some, None, Result, Ok, sym, ap, subst, arith, inl, inr, ◌++◌, ◌+◌}
-use Rattle.std.specs.Prelude.{codes, IfSome}
+use Rattle.std.proofs.Common.{◌≡◌, ◌↔◌, ◌∙◌, ℕ, Bool, true, List, [], ◌∷◌, Option, Some, None, Result, sym, ap, subst, arith, ◌++◌, ◌+◌}
+use Rattle.std.specs.Prelude.{codes}
 use Rattle.std.specs.List.{Contains, filter, AllByRecursion}
 use Rattle.std.specs.List.Sorted.{IsStrictlySortedBy}
 use Rattle.std.specs.Map.{keys_of}
 use Rattle.std.specs.BTreeMap.{is_at}
-use Rattle.std.specs.Ordering.{is_eq}
-use Rattle.std.specs.declared.cmp.Ordering.{Ordering}
-use Rattle.std.specs.declared.cmp.Ordering.TheVariants.{Less, Equal}
+use Rattle.std.specs.declared.cmp.Ordering.TheVariants.{Less}
 use Rattle.std.specs.Option.{ok_or, option_map}
 use Rattle.std.proofs.lemmas.Cmp.{nat_list_cmp_total, eq_by_cmp_equiv}
 use Rattle.std.specs.Prelude.{take, drop}
 use Rattle.std.proofs.lemmas.List.{take-append-drop}
-use Rattle.std.proofs.lemmas.List.Elements.{filter_more, filter-append, Contains-push, All-contains, All-contains_itself, All-filter, filter_passes, Contains-push_cases, Contains-append_cases, Contains-append_left, Contains-append_right}
-use Rattle.std.proofs.lemmas.Bool.{cond_both, both_ways}
+use Rattle.std.proofs.lemmas.List.Elements.{filter_more, filter-append, Contains-push, All-contains, All-contains_itself, All-filter, filter_passes, Contains-append_left}
 use Rattle.std.proofs.lemmas.Map.Keys.{IsDistinct-from_sorted}
 use Rattle.std.proofs.lemmas.Map.Lookups.{exact_bytes}
-use Rattle.std.proofs.lemmas.Map.Views.{lookup-from_Contains, Contains-from_lookup, list_any-from_Contains, Contains-from_any, IfSome-lookup_from_All}
+use Rattle.std.proofs.lemmas.Map.Views.{lookup-from_Contains, Contains-from_lookup, list_any-from_Contains, Contains-from_any}
 use Rattle.nutmap.specs.Entries.{value_at}
 use Rattle.nutdriver.specs.Variable.{VariableState}
-use Rattle.nutdriver.specs.Tree.{TreeState, byte_order, variable_at}
-use Rattle.nutdriver.specs.Sound.{IsSoundTree, IsSoundVariable}
-use Rattle.nutlisting.specs.Items.{ListingState, variable_item, variable_listing, is_rw, rw_listing, command_listing, enum_listing, range_listing}
+use Rattle.nutdriver.specs.Tree.{byte_order, variable_at}
+use Rattle.nutdriver.specs.Sound.{IsSoundTree}
+use Rattle.nutlisting.specs.Items.{variable_item, is_rw}
 use Rattle.nutanswer.specs.declared.err_word.ErrWord.{ErrWord}
-use Rattle.nutanswer.specs.declared.err_word.ErrWord.TheVariants.{UnknownUps, VarNotSupported}
-use Rattle.nutanswer.specs.View.{Seen, UpsSeen, Readiness}
-use Rattle.nutanswer.specs.Checks.{◌>>=◌, ◌>>◌, KnownUps, ups_named, unknown_ups, live, driver_not_connected, data_stale, var_not_supported}
-use Rattle.nutanswer.specs.Answer.{Answer, listing, told, text_of_answer}
+use Rattle.nutanswer.specs.declared.err_word.ErrWord.TheVariants.{VarNotSupported}
+use Rattle.nutanswer.specs.View.{Seen, UpsSeen}
+use Rattle.nutanswer.specs.Checks.{◌>>=◌, ◌>>◌, KnownUps, ups_named, unknown_ups, live, var_not_supported}
+use Rattle.nutanswer.specs.Answer.{Answer, told, text_of_answer}
 use Rattle.nutcore.specs.Server.{ServerState}
 use Rattle.nutcore.specs.Reply.{seen, seen_ups, text_to}
 use Rattle.nutcore.specs.Sound.{Each, IsSoundUps, IsSound}

@@ -1,23 +1,19 @@
 -- Counting the sessions that are logged in.
-use Rattle.std.proofs.Common.{◌≡◌, ℕ, ◌+◌, ◌<◌, ◌≤◌, ◌++◌, Bool, List, [], ◌∷◌, refl, sym, ◌∙◌, ap, cond, map, take, length, get_or, arith, length-append}
-use Rattle.std.specs.Prelude.{count_by, codes, Option, Some, Result, Ok}
+use Rattle.std.proofs.Common.{◌≡◌, ℕ, ◌+◌, ◌<◌, ◌≤◌, ◌++◌, Bool, List, [], ◌∷◌, refl, ◌∙◌, ap, cond, map, take, length, get_or, arith, length-append}
+use Rattle.std.specs.Prelude.{count_by, codes, Option, Some}
 use Rattle.std.specs.List.{filter}
-use Rattle.std.proofs.lemmas.Bool.{cond_both}
 use Rattle.std.proofs.lemmas.List.{map-append, take_all, length-take}
 use Rattle.std.proofs.lemmas.Simd.{map-map}
 use Rattle.std.proofs.lemmas.List.Elements.{filter_more}
 use Rattle.std.proofs.lemmas.Grind.{common_steps}
 use Rattle.std.proofs.lemmas.List.Sums.{count_by_more_yes, count_by_more_no, count_by-le-length, length-filter}
 use Rattle.nutcore.proofs.Common.{UpsId, SessionState, ServerState}
-use Rattle.nutanswer.specs.View.{ClientSeen, is_logged_in, login_count, addresses_at}
+use Rattle.nutanswer.specs.View.{ClientSeen, is_logged_in, addresses_at}
 use Rattle.std.specs.Fmt.{decimal}
-use Rattle.std.specs.Option.{ok_or}
-use Rattle.nutwords.specs.Frame.{frame, line_of as text_line}
-use Rattle.nutlisting.specs.Items.{text_of, client_item, client_listing}
-use Rattle.nutanswer.specs.declared.err_word.ErrWord.{ErrWord}
-use Rattle.nutanswer.specs.declared.err_word.ErrWord.TheVariants.{UnknownUps}
-use Rattle.nutanswer.specs.Checks.{◌>>=◌, KnownUps, ups_named, unknown_ups}
-use Rattle.nutanswer.specs.Answer.{Answer, told, count_of_logins, listing_of_clients, text_of_answer}
+use Rattle.nutwords.specs.Frame.{line_of as text_line}
+use Rattle.nutlisting.specs.Items.{client_item}
+use Rattle.nutanswer.specs.Checks.{KnownUps, ups_named}
+use Rattle.nutanswer.specs.Answer.{count_of_logins, text_of_answer}
 use Rattle.nutcore.specs.ByRight.{WhatIsCountedIsWhoIsThere, logged_in}
 use Rattle.nutcore.specs.Reply.{seen, seen_client, text_to}
 

@@ -1,5 +1,5 @@
 -- An order that answers a line is for a driver that is connected, and fits in what it may still be owed.
-use Rattle.std.proofs.Common.{◌≡◌, ℕ, List, Option, Some, None, Result, Ok, ◌∙◌, ap, arith}
+use Rattle.std.proofs.Common.{◌≡◌, ℕ, List, Option, Some, Result, Ok, ◌∙◌, ap, arith}
 use Rattle.nutanswer.specs.declared.reply.Change.TheVariants.{Fsd}
 use Rattle.nutcore.proofs.Common.{option_map, slice_get-map, UpsId, Change, UpsState, ServerState}
 use Rattle.nutanswer.specs.declared.command.Command.{Command}

@@ -1,11 +1,10 @@
 -- The orders that a run told are those of its lines that are by right.
-use Rattle.std.proofs.Common.{arith, ◌≡◌, ◌∙◌, append_assoc, ℕ, Bool, true, false, List, [], ◌∷◌, ◌++◌, Option, Some, None, Result, Ok, refl, sym, ap, subst, cond, eqb, inl, inr}
+use Rattle.std.proofs.Common.{arith, ◌≡◌, ◌∙◌, append_assoc, ℕ, Bool, List, [], ◌∷◌, ◌++◌, Option, Some, None, Ok, refl, sym, ap, subst, cond, eqb, inl, inr}
 use Rattle.std.specs.List.{flat_map}
 use Rattle.std.proofs.lemmas.Grind.{flat_map-append}
 use Rattle.std.proofs.lemmas.Bool.{cond_both, cond-false, eqb-true}
 use Rattle.nutcore.proofs.Common.{UpsId, Change, Event, Outcome, ServerState, after}
 use Rattle.nutanswer.specs.declared.command.Command.{Command}
-use Rattle.nutanswer.specs.declared.err_word.ErrWord.{ErrWord}
 use Rattle.nutanswer.specs.declared.command.Command.TheVariants.{SetVar, InstCmd}
 use Rattle.nutanswer.specs.Rows.{IsSet, IsInstCmd, IsIdOfOrder, value_given}
 use Rattle.nutusers.specs.declared.rights.Right.TheVariants as rights
@@ -17,7 +16,7 @@ use Rattle.nutanswer.specs.Orders.{right_to, set_line, instcmd_line, ok_words, o
 use Rattle.nutanswer.specs.Answer.{answer_to, change_of_answer}
 use Rattle.nutcore.specs.Reply.{seen, asker, change_by, text_to}
 use Rattle.nutcore.specs.History.{Execution, of_line, of_notice, executions_in_event, executions}
-use Rattle.nutcore.specs.DriverOrders.{Telling, dump_all, ping, order, told_by_change, told_by_line, told_beside_lines, told_in_event, taken_in_event, is_lost_by, Connections, last, lost, with_front, in_front, connections}
+use Rattle.nutcore.specs.DriverOrders.{Telling, dump_all, ping, order, told_by_change, told_by_line, told_beside_lines, told_in_event, taken_in_event, is_lost_by, Connections, in_front, connections}
 use Rattle.nutcore.specs.OrdersByRight.{IsOrderByRight, AreOrdersByRight, none_left, given, passed_over, order_of, all_told, orders_told, EachOrderIsByRight}
 use Rattle.nutcore.proofs.Events.{of_told_beside}
 use Rattle.nutcore.proofs.Changes.{of_upses}

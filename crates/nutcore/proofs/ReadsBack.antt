@@ -4,7 +4,7 @@ use Rattle.std.specs.Prelude.{codes, map, All, IsTrue}
 use Rattle.std.proofs.lemmas.List.Elements.{All-filter, All-map}
 use Rattle.std.proofs.lemmas.Simd.{map-map}
 use Rattle.nutwords.specs.Frame.{frame}
-use Rattle.nutwords.specs.Reading.{is_name, is_ups_name, is_address}
+use Rattle.nutwords.specs.Reading.{is_ups_name, is_address}
 use Rattle.nutlisting.specs.Items.{client_item}
 use Rattle.nutlisting.specs.ReadsBack.{ReadsBack}
 use Rattle.nutlisting.proofs.PublicLaws.{lawful_listings_read_back, sound_entries}

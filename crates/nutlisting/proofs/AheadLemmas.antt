@@ -1,7 +1,7 @@
 -- What is looked up ahead.
 use Rattle.std.proofs.Common.{◌≡◌, ℕ, zero, suc, ◌+◌, ◌<◌, List, [], ◌∷◌, length, map, take, drop, min, Option, Some, None, refl, sym, ap, subst, ◌∙◌, arith, get_or}
 use Rattle.std.specs.Prelude.{MatchOption, is_some, true}
-use Rattle.std.specs.Option.{option_map, unwrap_or}
+use Rattle.std.specs.Option.{option_map}
 use Rattle.std.proofs.lemmas.List.{drop_more, drop-map, take_min, length-take, length-map}
 use Rattle.nutmap.specs.Entries.{entries_after, first_entry}
 use Rattle.nutdriver.specs.Tree.{byte_order}

@@ -1,12 +1,11 @@
 -- What is placed is counted: how many lines it has.
-use Rattle.std.proofs.Common.{◌≡◌, ◌∙◌, ℕ, ◌+◌, ◌-◌, ◌≤◌, false, List, [], ◌++◌, Option, Some, None, refl, sym, ap, subst, arith, length, take, drop, length-take, length-drop, length-append}
+use Rattle.std.proofs.Common.{◌≡◌, ◌∙◌, ℕ, ◌+◌, ◌-◌, ◌≤◌, false, List, [], ◌++◌, Option, sym, ap, subst, arith, length, take, drop, length-take, length-drop, length-append}
 use Rattle.std.proofs.lemmas.List.{take_all, drop_all, drop_at, drop-append-le}
 use Rattle.std.proofs.Math.Seq.{take-append-add}
 use Rattle.nutlisting.specs.Counted.{IsCounted, KeepsCount, WhatIsPlacedIsCounted}
 use Rattle.nutlisting.specs.Counts.{is_open, lines, count_more}
 use Rattle.nutlisting.specs.Filled.{what_fits}
 use Rattle.nutlisting.specs.Items.{ListingState, text_of}
-use Rattle.nutlisting.specs.Lines.{IsWholeLine}
 use Rattle.nutlisting.specs.Owed.{Owes, owed as owed_in, rest_of, IsOutbox}
 use Rattle.nutlisting.specs.Rest.{Position}
 use Rattle.nutlisting.specs.declared.outbox.TheConstants.{OWED_LIMIT}

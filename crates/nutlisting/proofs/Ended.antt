@@ -1,5 +1,5 @@
 -- The lines of a listing end in LF.
-use Rattle.std.proofs.Common.{◌≡◌, ℕ, Bool, false, List, [], ◌∷◌, ◌++◌, drop, map, refl, ap, ◌∙◌, zero, suc, arith}
+use Rattle.std.proofs.Common.{◌≡◌, ℕ, Bool, false, List, [], ◌∷◌, ◌++◌, drop, map, refl, ap, ◌∙◌, zero, suc}
 use Rattle.std.specs.Prelude.{not, codes}
 use Rattle.std.specs.List.{concat, join_with_byte, AllByRecursion}
 use Rattle.nutwords.specs.Frame.{line_of}

@@ -1,6 +1,6 @@
 -- Names, values, quoted texts and numbers have lawful bytes alone, and how many.
 use Rattle.std.proofs.Common.{◌≡◌, ℕ, ℤ, pos, negsuc, ◌+◌, ◌%◌, ◌^◌, ◌<◌, Bool, true, false, eqb, cond, List, [], ◌∷◌, ◌++◌, length, ◌≤◌, Option, Some, None, refl, ◌∙◌, suc, arith, SFits, w32, length-append}
-use Rattle.std.specs.Prelude.{◌||◌, ◌&&◌, ◌≤ℤ◌, neg_ℤ, is_ok, IsTrue, IfSome, codes}
+use Rattle.std.specs.Prelude.{◌||◌, ◌&&◌, ◌≤ℤ◌, neg_ℤ, is_ok, IsTrue, codes}
 use Rattle.std.specs.Int.Signed.{mag}
 use Rattle.std.specs.List.{list_all, join_with_byte, AllByRecursion, AllZip}
 use Rattle.std.specs.Str.{bytes_eq}

@@ -1,8 +1,8 @@
 -- A listing of lawful things is read back: its words as they are written, and how long its lines are.
-use Rattle.std.proofs.Common.{◌≡◌, ℕ, ℤ, pos, ◌+◌, ◌*◌, ◌<◌, ◌≤◌, Bool, true, false, List, [], ◌∷◌, ◌++◌, length, Option, refl, arith, length-append, SFits, w32, subst}
-use Rattle.std.specs.Prelude.{◌&&◌, ◌≤ℤ◌, neg_ℤ, is_ok, IsTrue, IfSome, All, codes, map, filter}
+use Rattle.std.proofs.Common.{◌≡◌, ℕ, ◌+◌, ◌*◌, ◌<◌, ◌≤◌, Bool, true, false, List, [], ◌∷◌, length, Option, refl, arith, length-append, subst}
+use Rattle.std.specs.Prelude.{is_ok, IsTrue, IfSome, All, codes, map, filter}
 use Rattle.std.specs.Fmt.{signed_decimal}
-use Rattle.std.specs.List.{AllZip, list_all, join_with_byte}
+use Rattle.std.specs.List.{AllZip, join_with_byte}
 use Rattle.std.specs.BTreeMap.{is_at}
 use Rattle.std.proofs.lemmas.Map.Views.{IfSome-lookup_from_All}
 use Rattle.std.specs.Map.{keys_of, values_of}
@@ -10,18 +10,17 @@ use Rattle.std.proofs.lemmas.Bool.Decides.{nat_tests}
 use Rattle.std.proofs.lemmas.Grind.{common_steps}
 use Rattle.std.proofs.lemmas.Int.{ints}
 use Rattle.std.proofs.lemmas.List.Elements.{All-head, All-tail, All-nil, All-cons, All-filter}
-use Rattle.nutwords.specs.Bytes.{is_lawful, is_bare, is_name_byte, is_address_byte}
+use Rattle.nutwords.specs.Bytes.{is_bare, is_name_byte, is_address_byte}
 use Rattle.nutwords.specs.Frame.{line_of, frame}
 use Rattle.nutwords.specs.Listing.{IsWritten, IsWrittenLine, as_it_is, in_quotes, ReadsAsLines, listing_words}
 use Rattle.nutwords.specs.Reading.{read_text, is_name, is_ups_name, is_address, is_value}
 use Rattle.nutwords.specs.Spelling.{quoted}
 use Rattle.nutwords.specs.declared.limits.TheConstants.{LINE_ROOM, LINE_LIMIT, VALUE_LIMIT, NAME_LIMIT, UPS_NAME_LIMIT, ADDRESS_LIMIT}
 use Rattle.nutwords.proofs.PublicLaws.{listing_is_read_back, one_reading}
-use Rattle.nutdriver.specs.declared.range.Range.{Range}
-use Rattle.nutdriver.specs.Sound.{IsSoundRange, IsSoundVariable, IsSoundTree}
-use Rattle.nutdriver.specs.Tree.{TreeState, byte_order}
+use Rattle.nutdriver.specs.Sound.{IsSoundRange, IsSoundVariable}
+use Rattle.nutdriver.specs.Tree.{byte_order}
 use Rattle.nutdriver.specs.Variable.{VariableState}
-use Rattle.nutusers.specs.UpsList.{Ups, IsLawfulUps}
+use Rattle.nutusers.specs.UpsList.{IsLawfulUps}
 use Rattle.nutlisting.specs.Lawful.{IsLawfulText, room, IsSoundEntry, SoundTreesHaveSoundEntries}
 use Rattle.nutlisting.specs.Items.{is_rw, variable_item, command_item, enum_item, range_item, ups_item, client_item}
 use Rattle.nutlisting.specs.ReadsBack.{variable_words, enum_words, range_words, ups_words, ReadsBack, LawfulListingsReadBack}

@@ -1,7 +1,6 @@
 -- The text of a listing is its lines, one after another.
-use Rattle.std.proofs.Common.{◌≡◌, ℕ, List, [], ◌∷◌, ◌++◌, refl, sym, ap, subst, ◌∙◌, append_assoc, append-nil, map}
-use Rattle.std.specs.List.{concat, flat_map}
-use Rattle.nutwords.specs.Frame.{line_of}
+use Rattle.std.proofs.Common.{◌≡◌, ℕ, List, [], ◌∷◌, ◌++◌, refl, sym, ap, subst, ◌∙◌, append_assoc, append-nil}
+use Rattle.std.specs.List.{concat}
 use Rattle.nutlisting.specs.Items.{ListingState, text_of, lines_of}
 use Rattle.nutlisting.specs.Lines.{IsWholeLine, AreLines}
 use Rattle.nutlisting.proofs.Joined.{no_lines, joined_with}

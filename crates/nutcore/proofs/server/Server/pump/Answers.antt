@@ -1,5 +1,5 @@
 use Rattle.std.specs.Option.{option_map_or}
-use Rattle.std.proofs.Common.{◌≡◌, ◌<◌, ◌≤◌, ◌∙◌, Option, Some, None, false, sym, ap, subst, set, length, arith}
+use Rattle.std.proofs.Common.{◌≡◌, ◌≤◌, ◌∙◌, Option, Some, None, false, sym, ap, subst, set, length, arith}
 use Rattle.nutcore.proofs.Common.{SessionState, ServerState, session}
 use Rattle.nutlisting.specs.Counted.{KeepsCount}
 use Rattle.nutcore.specs.Promises.{IsAt, refused_overlong}

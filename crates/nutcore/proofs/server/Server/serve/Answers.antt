@@ -1,4 +1,4 @@
-use Rattle.std.proofs.Common.{◌≡◌, ◌≤◌, ◌∙◌, Option, Some, ap, sym, arith, length, drop}
+use Rattle.std.proofs.Common.{◌∙◌, Option, ap, sym, arith, length, drop}
 use Rattle.nutlisting.specs.Counts.{lines}
 use Rattle.nutcore.proofs.Common.{SessionState, ServerState, session}
 use Rattle.nutcore.specs.Step.{offered}

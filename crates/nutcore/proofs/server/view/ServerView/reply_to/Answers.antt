@@ -1,11 +1,10 @@
-use Rattle.std.proofs.Common.{◌∙◌, ◌≤◌, [], Option, None, Ok, refl, sym, ap, subst, inl, inr, arith, length}
+use Rattle.std.proofs.Common.{◌∙◌, [], Option, None, Ok, refl, sym, ap, subst, inl, inr, arith}
 use Rattle.nutanswer.specs.declared.command.Command.{Command}
 use Rattle.nutanswer.specs.View.{asker_seen}
 use Rattle.nutanswer.proofs.PublicLaws.{error_lines_are_whole}
 use Rattle.nutcore.specs.Promises.{IsLineOrNone}
 use Rattle.nutcore.proofs.Serving.{replies_text, answers_each}
 use Rattle.nutcore.proofs.server.view.ServerView.reply_to.Goals as goal
-use Rattle.nutlisting.specs.declared.outbox.TheConstants.{OWED_LIMIT}
 
 pub returns-in-Err : goal.returns-in-Err
 returns-in-Err c s n line sees asks read =
