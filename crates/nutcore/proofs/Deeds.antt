@@ -28,10 +28,6 @@ executed-add (suc j) k s c =
     let e : suc j + k ≡ suc (j + k) = omega arith in
     cc (executed-add j k (after_line s c) c, append_assoc (next_execution s c (next_line_for s c)) (lines_executed j (after_line s c) c) (lines_executed k (after_lines j (after_line s c) c) c))
 
-one_executed : (s : ServerState) (c : ℕ) → lines_executed 1 s c ≡ next_execution s c (next_line_for s c)
-unfolding lines_executed
-one_executed s c = append-nil (next_execution s c (next_line_for s c))
-
 -- where the pump stops, no more are
 none_executed : (k : ℕ) (s : ServerState) (c : ℕ) → pump_stops s c ≡ true → lines_executed k s c ≡ []
 unfolding lines_executed
@@ -65,16 +61,13 @@ next_deeds s c o = grind arith
 
 -- it goes on
 pub noted_next : (s t : ServerState) (c k : ℕ) (deeds deeds' : List Deed) → t ≡ after_lines k s c → deeds ≡ deeds_of (lines_executed k s c) → deeds' ≡ with_next t c deeds → deeds' ≡ deeds_of (lines_executed (k + 1) s c)
+unfolding lines_executed
 noted_next s t c k deeds deeds' e so_far more =
     let next : Option (List ℕ) = next_line_for t c in
     let xs : List Execution = lines_executed k s c in
-    cc (one_noted (filter_map deed_of xs) (told_next t c next) deeds so_far, next_deeds t c next, filter_map-append deed_of xs (next_execution t c next), one_executed (after_lines k s c) c, executed-add k 1 s c)
+    cc (one_noted (filter_map deed_of xs) (told_next t c next) deeds so_far, next_deeds t c next, filter_map-append deed_of xs (next_execution t c next), append-nil (next_execution t c next), executed-add k 1 s c)
 
--- it ends: memory was refused, or all lines are done
-pub noted_until : (s : ServerState) (c k : ℕ) (deeds : List Deed) → deeds ≡ deeds_of (lines_executed k s c) → deeds ≡ deeds_of (executions_until s c (Some k))
-unfolding executions_until
-noted_until s c k deeds e = e
-
+-- it ends: all lines are done
 pub noted_all : (s t : ServerState) (c k : ℕ) (b : Bool) (r : Result (Unit {0}) Fault) (deeds : List Deed) → t ≡ after_lines k s c → k ≤ length (held_of (session c s)) → next_line_for t c ≡ None → r ≡ refused_overlong b → deeds ≡ deeds_of (lines_executed k s c) →
     deeds ≡ deeds_of (executions_until s c (refused_after (done r)))
 noted_all s t c k b r deeds e le none told so_far = grind (arith, all_deeds k s c le (cc (e, none)))

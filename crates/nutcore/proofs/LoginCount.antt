@@ -1,21 +1,17 @@
 -- Counting the sessions that are logged in.
-use Rattle.std.proofs.Common.{◌≡◌, ℕ, ◌+◌, ◌<◌, ◌≤◌, ◌++◌, Bool, List, [], ◌∷◌, refl, ◌∙◌, ap, cond, map, take, length, get_or, arith, length-append}
-use Rattle.std.specs.Prelude.{count_by, codes, Option, Some}
+use Rattle.std.proofs.Common.{◌≡◌, ℕ, ◌+◌, ◌<◌, ◌≤◌, ◌++◌, Bool, List, [], ◌∷◌, refl, cond, map, take, length, get_or, arith, length-append}
+use Rattle.std.specs.Prelude.{count_by}
 use Rattle.std.specs.List.{filter}
 use Rattle.std.proofs.lemmas.List.{map-append, take_all, length-take}
 use Rattle.std.proofs.lemmas.Simd.{map-map}
 use Rattle.std.proofs.lemmas.List.Elements.{filter_more}
 use Rattle.std.proofs.lemmas.Grind.{common_steps}
 use Rattle.std.proofs.lemmas.List.Sums.{count_by_more_yes, count_by_more_no, count_by-le-length, length-filter}
-use Rattle.nutcore.proofs.Common.{UpsId, SessionState, ServerState}
+use Rattle.nutcore.proofs.Common.{UpsId, SessionState}
 use Rattle.nutanswer.specs.View.{ClientSeen, is_logged_in, addresses_at}
-use Rattle.std.specs.Fmt.{decimal}
-use Rattle.nutwords.specs.Frame.{line_of as text_line}
 use Rattle.nutlisting.specs.Items.{client_item}
-use Rattle.nutanswer.specs.Checks.{KnownUps, ups_named}
-use Rattle.nutanswer.specs.Answer.{count_of_logins, text_of_answer}
-use Rattle.nutcore.specs.ByRight.{WhatIsCountedIsWhoIsThere, logged_in}
-use Rattle.nutcore.specs.Reply.{seen, seen_client, text_to}
+use Rattle.nutcore.specs.ByRight.{WhatIsCountedIsWhoIsThere}
+use Rattle.nutcore.specs.Reply.{seen_client}
 
 -- the session is logged in to the UPS
 abbrev pub is_in : UpsId → SessionState → Bool
@@ -47,15 +43,10 @@ list_more u xs i d lt =
 pub one_address : (u : UpsId) (x : ClientSeen) → length (addresses_at u (x ∷ [])) ≤ 1
 one_address u x = grind arith
 
--- what is told of how many they are
-count_text : (word : List ℕ) (s : ServerState) (ups : Option (List ℕ)) (known : KnownUps) → ups_named (seen s) ups ≡ Some known
-    → text_of_answer (count_of_logins word (seen s) ups) ≡ text_line (word ∷ known.name ∷ decimal (length (logged_in known.id s)) ∷ [])
-count_text word s ups known named = cc (named, count_seen known.id s.sessions, length-filter (is_in known.id) s.sessions)
-
 pub who_is_there : WhatIsCountedIsWhoIsThere
 who_is_there = record {
   counted = λ s c line ups known read named. cc (read, named, count_seen known.id s.sessions, length-filter (is_in known.id) s.sessions);
-  attached = λ s c line ups known read named. ap (text_to s c) read ∙ count_text (codes "NUMATTACH") s ups known named;
+  attached = λ s c line ups known read named. cc (read, named, count_seen known.id s.sessions, length-filter (is_in known.id) s.sessions);
   listed = λ s c line ups known read named.
       cc (read, named, seen_filter known.id s.sessions, map-map (client_item known.name) (λ (x : SessionState). x.address) (filter (is_in known.id) s.sessions));
 }

@@ -25,26 +25,22 @@ use Rattle.nutanswer.proofs.PublicLaws.{each_order_answered_ok_is_given}
 use Rattle.nutcore.proofs.Rows.{comes_of_line, by_right}
 
 -- a line that gives an order is by right
-record GivesOrder (s : ServerState) (c : ℕ) (line : List ℕ) (v : UpsId) (bytes : List ℕ) (id : Option ℕ) : Type 0 where
-  command : Command
-  read : read_command line ≡ Ok (Some command)
-  row : IsSet (seen s) (asker c s) command v id bytes ⊎ IsInstCmd (seen s) (asker c s) command v id bytes
-
-gives_order : (s : ServerState) (c : ℕ) (line : List ℕ) (v : UpsId) (bytes : List ℕ) (id : Option ℕ) → change_by s c (read_command line) ≡ order_to v bytes id → GivesOrder s c line v bytes id
-gives_order s c line v bytes None change = let came = comes_of_line s c line (order_to v bytes None) refl change in record { command = came.command; read = came.read; row = came.row }
-gives_order s c line v bytes (Some id) change = let came = comes_of_line s c line (order_to v bytes (Some id)) refl change in record { command = came.command; read = came.read; row = came.row }
+gives_order : (s : ServerState) (c : ℕ) (line : List ℕ) (v : UpsId) (bytes : List ℕ) (id : Option ℕ) → change_by s c (read_command line) ≡ order_to v bytes id
+    → (command : Command) × (read_command line ≡ Ok (Some command)) × (IsSet (seen s) (asker c s) command v id bytes ⊎ IsInstCmd (seen s) (asker c s) command v id bytes)
+gives_order s c line v bytes None change = let came = comes_of_line s c line (order_to v bytes None) refl change in (came.command, came.read, came.row)
+gives_order s c line v bytes (Some id) change = let came = comes_of_line s c line (order_to v bytes (Some id)) refl change in (came.command, came.read, came.row)
 
 pub by_read : (s : ServerState) (c : ℕ) (line : List ℕ) (u v : UpsId) (bytes : List ℕ) (id : Option ℕ) → v.place ≡ u.place → change_by s c (read_command line) ≡ order_to v bytes id → IsOrderByRight u bytes (of_line s c line)
 unfolding by_right
 by_read s c line u v bytes id place change =
     let came = gives_order s c line v bytes id change in
-    subst (λ (w : UpsId). IsOrderByRight w bytes (of_line s c line)) (same_ups v u place) (elim came.row [
+    subst (λ (w : UpsId). IsOrderByRight w bytes (of_line s c line)) (same_ups v u place) (elim came.2 [
       | inl set ↦ inl (record {
         name = set.name;
         value = set.value;
         variable = set.variable;
         id = id;
-        by_right = by_right s c line came.command _ _ _ v came.read set.by_right;
+        by_right = by_right s c line came.0 _ _ _ v came.1 set.by_right;
         ready = set.ready;
         there = set.there;
         writable = set.writable;
@@ -58,7 +54,7 @@ by_read s c line u v bytes id place change =
         name = command.name;
         value = command.value;
         id = id;
-        by_right = by_right s c line came.command _ _ _ v came.read command.by_right;
+        by_right = by_right s c line came.0 _ _ _ v came.1 command.by_right;
         ready = command.ready;
         there = command.there;
         id_is = command.id_is;

@@ -4,7 +4,7 @@ use Rattle.nutcore.proofs.Common.{SessionState, ServerState, session}
 use Rattle.nutlisting.specs.Counted.{KeepsCount}
 use Rattle.nutcore.specs.Promises.{IsAt, refused_overlong}
 use Rattle.nutcore.specs.Pump.{next_line_for, after_line, after_notice, held_of, holds_overlong}
-use Rattle.nutcore.specs.History.{owed, lines_executed}
+use Rattle.nutcore.specs.History.{owed, lines_executed, executions_until}
 use Rattle.nutcore.specs.Cost.{RunningServer}
 use Rattle.nutcore.specs.contracts.server.Server.{the_view}
 use Rattle.nutcore.proofs.Runs.{state_is}
@@ -13,7 +13,7 @@ use Rattle.nutcore.proofs.Costs.{cost_kept}
 use Rattle.nutcore.proofs.Found.{find_id}
 use Rattle.nutcore.proofs.KeptSound.{session_kept, noticed_kept}
 use Rattle.nutcore.proofs.Serving.{begins, goes_on, ok_when, err_when, line_there, no_line_there, ends_at, StandsAt, stands, at_set, notice_is, at_line, pump_gives, refused}
-use Rattle.nutcore.proofs.Deeds.{noted_next, noted_until, noted_all}
+use Rattle.nutcore.proofs.Deeds.{noted_next, noted_all}
 use Rattle.nutcore.proofs.server.Server.pump.Goals as goal
 
 pub loop-end-init : goal.loop-end-init
@@ -63,12 +63,13 @@ invariant_of-self c =
     }
 
 pub returns-then-is_err : goal.returns-then-is_err
+unfolding executions_until
 returns-then-is_err c =
     let failed = sym c.is_err.ensures.value ∙ c.if-is_err.true in
     let same = err_when c.execute.result _ failed c.execute.ensures.err in
     record {
       gives = refused c.args.self.now.state c.loop-end.self.state c.execute.new.self.state c.args.c c.loop-end.done c.loop-end.invariant.done (err_when c.execute.result _ failed c.execute.ensures.memory) same;
-      deeds = noted_until c.args.self.now.state c.args.c c.loop-end.done c.execute.new.self.deeds (err_when c.execute.result _ failed c.execute.ensures.unnoted ∙ c.loop-end.invariant.noted);
+      deeds = err_when c.execute.result _ failed c.execute.ensures.unnoted ∙ c.loop-end.invariant.noted;
       keeps = λ kept counted. c.execute.ensures.keeps kept (c.loop-end.invariant.keeps kept counted);
       at = subst (λ (z : ServerState). IsAt c.args.c c.args.place z.sessions) (sym same) c.loop-end.invariant.at;
     }
