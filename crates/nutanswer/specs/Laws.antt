@@ -80,8 +80,8 @@ OrdersFit =
 abbrev pub ErrorLinesAreWhole : Type 0
 ErrorLinesAreWhole = (word : ErrWord) → IsWholeLine (error_line word)
 
--- The line of an order to a driver is one whole line, where the name is lawful, and the value, if it
--- has one.
+-- The line of an order to a driver is one whole line, where the name is lawful, and the value, if
+-- it has one.
 pub record OrderLinesAreWhole : Type 0 where
   pub set : (name value : List ℕ) (id : Option ℕ) → IsTrue (is_name name) → IsTrue (is_value value)
       → IsWholeLine (set_line name value id)
