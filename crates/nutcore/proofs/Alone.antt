@@ -9,13 +9,11 @@ use Rattle.nutcore.proofs.Common.{cond_both, same_Some, SessionState, ServerStat
 use Rattle.nutwords.specs.Text.{with_lf}
 use Rattle.nutcore.specs.Lines.{first_line}
 use Rattle.nutcore.specs.Pump.{notified, owed_of, held_of}
-use Rattle.nutcore.specs.History.{Execution, of_line, of_notice, client_of, executions, of_client, lines_of, texts_of, taken, asked, executed, answers, is_over}
+use Rattle.nutcore.specs.History.{Execution, of_line, of_notice, client_of, executions, of_client, lines_of, texts_of, taken, asked, executed, answers}
 use Rattle.nutcore.specs.Sound.{Each}
 use Rattle.nutcore.specs.Alone.{OneLineIsAnswered}
-use Rattle.nutcore.proofs.Changed.{session_changed}
-use Rattle.nutcore.proofs.Histories.{IsOfEvents, run_keeps, two_clients}
-use Rattle.nutcore.proofs.Progress.{IsKept, presence}
-use Rattle.nutcore.proofs.Pumping.{is_next, overlong_there}
+use Rattle.nutcore.proofs.Histories.{IsOfClient, of_run_of_client}
+use Rattle.nutcore.proofs.Progress.{Presence, IsKept, is_over, presence}
 use Rattle.nutcore.proofs.SoundUps.{each_join}
 use Rattle.nutcore.proofs.Stepping.{Goes, goes, run_sent, run_taken_up}
 
@@ -46,48 +44,29 @@ first_whole bytes line h = by_split (split_line bytes) refl h
         subst (λ (l : List ℕ). has_lf l ≡ false) same ((first_line_is_cut_off bytes found rest).0 e).1
 
 -- what a run says of the client's executions: lines are whole, and after a notice it is over
-record Tells (c : ℕ) (s : ServerState) (xs : List Execution) (taken asked : List ℕ) (t : ServerState) : Type 0 where
-  goes_on : Goes c s xs taken asked t
-  whole : Each IsWhole (of_client c xs)
-  noticed : IsKept (presence c s) → AnyNotice (of_client c xs) → is_over c t ≡ true
+record Tells (p : Presence) (xs : List Execution) (taken asked : List ℕ) (q : Presence) : Type 0 where
+  goes_on : Goes p xs taken asked q
+  whole : Each IsWhole xs
+  noticed : IsKept p → AnyNotice xs → is_over q ≡ true
 
-own_notice_ends : (d : ℕ) (s : ServerState) (x : SessionState) → session d s ≡ Some x → is_over d (with_session_changed notified d s) ≡ true
-own_notice_ends d s x found =
-    let t : ServerState = with_session_changed notified d s in
-    ap (λ (o : Option SessionState). option_map_or (λ (y : SessionState). y.ending) o (ltb d t.next_id)) (session_changed notified (λ y. refl) d s ∙ ap (option_map notified) found)
-
-tells : (c : ℕ) → IsOfEvents c (Tells c)
-tells c =
-    let g = goes c in
-    record {
-      stays = λ s. record { goes_on = g.stays s; whole = tt; noticed = λ kept none. absurd none };
-      joins = λ s m t xs ys k k' a a' f h. record {
-        goes_on = g.joins s m t xs ys k k' a a' f.goes_on h.goes_on;
-        whole = subst (Each IsWhole) (sym (two_clients c xs ys)) (each_join IsWhole (of_client c xs) (of_client c ys) f.whole h.whole);
-        noticed = λ kept any. elim (either_notice (of_client c xs) (of_client c ys) (subst AnyNotice (two_clients c xs ys) any)) [
-          | inl first ↦ ((h.goes_on ((f.goes_on kept).keeps kept)).taken_up.stays (f.noticed kept first)).0
-          | inr last ↦ h.noticed ((f.goes_on kept).keeps kept) last
-        ];
-      };
-      by_line = λ d s line next.
-          let n = is_next s d line next in
-          record {
-            goes_on = g.by_line d s line next;
-            whole = cond_both (eqb d c) (of_line s d line ∷ []) [] (Each IsWhole) (λ own. (first_whole n.asking.held line n.first, tt)) (λ other. tt);
-            noticed = λ kept any. absurd (cond_both (eqb d c) (of_line s d line ∷ []) [] (λ zs. AnyNotice zs → ⊥) (λ own none. none) (λ other none. none) any);
-          };
-      by_notice = λ d s long.
-          let due = overlong_there (session d s) long in
-          record {
-            goes_on = g.by_notice d s long;
-            whole = cond_both (eqb d c) (of_notice d ∷ []) [] (Each IsWhole) (λ own. (tt, tt)) (λ other. tt);
-            noticed = λ kept. cond_both (eqb d c) (of_notice d ∷ []) [] (λ zs. AnyNotice zs → is_over c (with_session_changed notified d s) ≡ true)
-                (λ own any. subst (λ (k : ℕ). is_over k (with_session_changed notified d s) ≡ true) (eqb-true d c own) (own_notice_ends d s due.0 due.1)) (λ other none. absurd none);
-          };
-      by_input = λ d s piece. record { goes_on = g.by_input d s piece; whole = tt; noticed = λ kept none. absurd none };
-      by_output = λ d s n may. record { goes_on = g.by_output d s n may; whole = tt; noticed = λ kept none. absurd none };
-      by_plain = λ s e m plain. record { goes_on = g.by_plain s e m plain; whole = tt; noticed = λ kept none. absurd none };
-    }
+tells : IsOfClient Tells
+tells = record {
+  joins = λ p q r xs ys k k' a a' f h. record {
+    goes_on = goes.joins p q r xs ys k k' a a' f.goes_on h.goes_on;
+    whole = each_join IsWhole xs ys f.whole h.whole;
+    noticed = λ kept any. let on = h.goes_on ((f.goes_on kept).keeps kept) in elim (either_notice xs ys any) [
+      | inl first ↦ (on.taken_up.stays (f.noticed kept first)).0
+      | inr last ↦ h.noticed ((f.goes_on kept).keeps kept) last
+    ];
+  };
+  stays = λ o u v up. record { goes_on = goes.stays o u v up; whole = tt; noticed = λ kept none. absurd none };
+  by_line = λ c s line n u. record { goes_on = goes.by_line c s line n u; whole = (first_whole n.asking.held line n.first, tt); noticed = λ kept none. absurd none };
+  by_notice = λ c x u long. record { goes_on = goes.by_notice c x u long; whole = (tt, tt); noticed = λ kept any. refl };
+  by_input = λ piece x u. record { goes_on = goes.by_input piece x u; whole = tt; noticed = λ kept none. absurd none };
+  by_output = λ n x u. record { goes_on = goes.by_output n x u; whole = tt; noticed = λ kept none. absurd none };
+  opens = λ id address. record { goes_on = goes.opens id address; whole = tt; noticed = λ kept none. absurd none };
+  closes = λ x u. record { goes_on = goes.closes x u; whole = tt; noticed = λ kept none. absurd none };
+}
 
 -- executions of one client
 all_its : (c : ℕ) (xs : List Execution) → Each (λ x. client_of x ≡ c) (of_client c xs)
@@ -131,12 +110,12 @@ not_closed o used h = grind arith
 
 pub one_line_answered : OneLineIsAnswered
 one_line_answered old new es os c line lawful absent r asks whole going none_held none_owed =
-    let told = run_keeps c (Tells c) (tells c) old new es os r in
+    let told = of_run_of_client Tells tells c old new es os r in
     let kept : IsKept (presence c old) = λ h. lt-ltb c old.next_id (lawful c h) in
     let up = (run_taken_up old new es os lawful r c).while_going going in
     let lines : lines_of (of_client c (executions old es os)) ≡ with_lf line =
     sym (append-nil (executed c old es os)) ∙ ap (λ (w : List ℕ). executed c old es os ++ w) (sym none_held) ∙ sym up ∙ ap (λ (o : Option SessionState). held_of o ++ asked c old es os) absent ∙ asks in
-    let one = one_line c line (of_client c (executions old es os)) whole told.whole (all_its c (executions old es os)) (λ any. absurd (both_ways (is_over c new) going (told.noticed kept any))) lines in
+    let one = one_line c line (of_client c (executions old es os)) whole told.whole (all_its c (executions old es os)) (λ any. absurd (both_ways (is_over (presence c new)) going (told.noticed kept any))) lines in
     let sent = (run_sent old new es os lawful r c).while_open (not_closed (session c new) _ going) in
     record {
       server = one.server;

@@ -1,17 +1,23 @@
 -- What is said of a server, of what was executed since, and of the server then: where each part of an event keeps it, each pump, each event and each run does.
-use Rattle.std.proofs.Common.{◌≡◌, ◌≢◌, ℕ, zero, suc, ◌+◌, Bool, true, false, List, [], ◌∷◌, ◌++◌, Option, Some, None, refl, sym, ◌∙◌, ap, subst, cond, eqb, length, append-nil, length-append, take}
+use Rattle.std.proofs.Common.{◌≡◌, ◌≢◌, ℕ, zero, suc, ◌+◌, Bool, true, false, List, [], ◌∷◌, ◌++◌, Option, Some, None, refl, sym, ◌∙◌, ap, subst, cond, eqb, length, append-nil, length-append, take, ltb, arith}
+use Rattle.std.specs.Prelude.{option_map}
+use Rattle.std.specs.Option.{option_map_or}
 use Rattle.std.specs.List.{flat_map}
-use Rattle.std.proofs.lemmas.Bool.{cond_both, eqb-true, eqb-false}
+use Rattle.std.proofs.lemmas.Bool.{eqb-true, eqb-false}
+use Rattle.std.proofs.lemmas.Bool.Decides.{nat_tests}
 use Rattle.std.proofs.lemmas.Grind.{flat_map-append}
 use Rattle.std.proofs.lemmas.List.Elements.{filter-append}
 use Rattle.nutcore.proofs.Common.{Event, Outcome, SessionState, ServerState, session, with_session_changed, Step, after, Run}
 use Rattle.nutcore.specs.Session.{find, without, new_session}
-use Rattle.nutcore.specs.Pump.{next_line_for, after_line, after_lines, after_all_lines, after_notice, is_overlong, notified, pumped, held_of, owed_of}
-use Rattle.nutcore.specs.Step.{accepted_bytes, with_input, without_output, may_take, may_open, opened, pumped_until, after_by, refused_after}
+use Rattle.nutcore.specs.Pump.{next_line_for, after_line, after_lines, after_all_lines, after_notice, is_overlong, holds_overlong, notified, pumped, held_of, owed_of}
+use Rattle.nutcore.specs.Step.{accepted_bytes, joined, with_input, taken_from, without_output, may_take, opened, pumped_until, after_by, refused_after}
 use Rattle.nutcore.specs.History.{Execution, of_line, of_notice, client_of, text_of, next_execution, lines_executed, notice, pump_executions, executions_until, executions_by, executions, of_client, texts_of, taken_in_event, asked_in_event, taken, asked}
 use Rattle.nutcore.proofs.Events.{IsPlain, IsSilent, of_event, of_session_event}
 use Rattle.nutcore.proofs.Found.{find_without, find_without_other, of_pushed}
-use Rattle.nutcore.proofs.Pumping.{stopped_none, of_notice_due}
+use Rattle.nutcore.proofs.Changed.{at_client, presence_changed, presence_other}
+use Rattle.nutcore.proofs.Changed as changing_one
+use Rattle.nutcore.proofs.Progress.{Presence, is_at, presence_is, presence}
+use Rattle.nutcore.proofs.Pumping.{IsNext, is_next, session_after, own_after_line, other_after_line, stopped_none, of_notice_due}
 
 -- of a pump of this client: its lines and its notice keep it, and so does one after another
 pub record IsOfPump (d : ℕ) (R : ServerState → List Execution → ServerState → Type 0) : Type 0 where
@@ -108,16 +114,87 @@ own_or_other c d P own other = by_id (eqb d c) refl
     by_id true e = subst (λ (z : ℕ). P z true) (eqb-true d c e) own
     by_id false e = other (λ (h : c ≡ d). eqb-false d c e (sym h))
 
--- what holds of a client's session, of none and of a new one where there was none, holds after each event by which no client sends or takes
-pub of_opened : (P : Option SessionState → Type 0) (c : ℕ) (s : ServerState) (address : List ℕ) (m : Option ℕ) → P (session c s) → (s.next_id ≡ c → session c s ≡ None → P (Some (new_session s.next_id address))) → P (session c (opened s address m))
-unfolding opened
-of_opened P c s address None same new =
-    cond_both (may_open s) _ s (λ t. P (session c t)) (λ may. of_pushed P c (new_session s.next_id address) s.sessions same new) (λ full. same)
-of_opened P c s address (Some k) same new = same
+-- what holds of a client as it is, whoever is given the next id, where it is closed, and where it is opened, holds after each event by which no client sends or takes
+pub of_opened : (P : Presence → Type 0) (c : ℕ) (s : ServerState) (address : List ℕ) (m : Option ℕ) → ((u : Bool) → (ltb c s.next_id ≡ true → u ≡ true) → P (is_at (session c s) u))
+    → (s.next_id ≡ c → presence c s ≡ is_at None false → P (is_at (Some (new_session s.next_id address)) true)) → P (presence c (opened s address m))
+of_opened P c s address m same new =
+    let n : ℕ = s.next_id in
+    changing_one.of_opened (λ t. P (presence c t)) s address m (same (ltb c n) (λ used. used))
+    (λ may. of_pushed (λ o. P (is_at o (ltb c (n + 1)))) c (new_session n address) s.sessions (same (ltb c (n + 1)) (λ used. grind (arith, nat_tests)))
+    (λ its none. let used : ltb c (n + 1) ≡ true = grind (arith, nat_tests) in let unused : ltb c n ≡ false = grind (arith, nat_tests) in
+    subst (λ (u : Bool). P (is_at (Some (new_session n address)) u)) (sym used) (new its (presence_is none unused))))
+
+pub of_plain_event : (P : Presence → Type 0) (c : ℕ) (s : ServerState) (e : Event) (m : Option ℕ) → IsPlain e → ((u : Bool) → (ltb c s.next_id ≡ true → u ≡ true) → P (is_at (session c s) u)) → P (at_client s c None)
+    → ((address : List ℕ) → s.next_id ≡ c → presence c s ≡ is_at None false → P (is_at (Some (new_session s.next_id address)) true)) → P (presence c (after_by s e m))
+unfolding after_by
+of_plain_event P c s e m plain same none new =
+    let stays : P (presence c s) = same (ltb c s.next_id) (λ used. used) in
+    of_session_event (λ e. IsPlain e → P (presence c (after_by s e m))) (λ e apart plain. subst P (sym (presence_is (ap (find c) (apart.sessions s m)) (ap (ltb c) (apart.next_id s m)))) stays)
+    (λ address plain. of_opened P c s address m same (new address)) (λ d piece never. absurd never) (λ d n never. absurd never)
+    (λ d plain. own_or_other c d (λ z b. P (at_client s c (find z (without d s.sessions)))) (subst (λ o. P (at_client s c o)) (sym (find_without d s.sessions)) none)
+    (λ differ. subst (λ o. P (at_client s c o)) (sym (find_without_other c d s.sessions differ)) stays)) e plain
 
 pub of_plain : (P : Option SessionState → Type 0) (c : ℕ) (s : ServerState) (e : Event) (m : Option ℕ) → IsPlain e → P (session c s) → P None → ((address : List ℕ) → s.next_id ≡ c → session c s ≡ None → P (Some (new_session s.next_id address))) → P (session c (after_by s e m))
-unfolding after_by
-of_plain P c s e m plain same none new =
-    of_session_event (λ e. IsPlain e → P (session c (after_by s e m))) (λ e apart plain. subst (λ (xs : List SessionState). P (find c xs)) (sym (apart.sessions s m)) same)
-    (λ address plain. of_opened P c s address m same (new address)) (λ d piece never. absurd never) (λ d n never. absurd never)
-    (λ d plain. own_or_other c d (λ z b. P (find z (without d s.sessions))) (subst P (sym (find_without d s.sessions)) none) (λ differ. subst P (sym (find_without_other c d s.sessions differ)) same)) e plain
+of_plain P c s e m plain same none new = of_plain_event (λ p. P p.session) c s e m plain (λ u up. same) none (λ address its away. new address its (ap (λ (p : Presence). p.session) away))
+
+-- what is said of a client before and after, of its executions, and of what it takes and is asked: its lines and its notice, bytes that come and go, its opening and its closing keep it, and so do ids that are given meanwhile
+pub record IsOfClient (R : Presence → List Execution → List ℕ → List ℕ → Presence → Type 0) : Type 0 where
+  pub joins : (p q r : Presence) (xs ys : List Execution) (k k' a a' : List ℕ) → R p xs k a q → R q ys k' a' r → R p (xs ++ ys) (k ++ k') (a ++ a') r
+  pub stays : (o : Option SessionState) (u v : Bool) → (u ≡ true → v ≡ true) → R (is_at o u) [] [] [] (is_at o v)
+  pub by_line : (c : ℕ) (s : ServerState) (line : List ℕ) (n : IsNext s c line) (u : Bool) → R (is_at (Some n.asking) u) (of_line s c line ∷ []) [] [] (is_at (Some (session_after s c line n.asking)) u)
+  pub by_notice : (c : ℕ) (x : SessionState) (u : Bool) → holds_overlong x ≡ true → R (is_at (Some x) u) (of_notice c ∷ []) [] [] (is_at (Some (notified x)) u)
+  pub by_input : (piece : List ℕ) (x : SessionState) (u : Bool) → R (is_at (Some x) u) [] [] (accepted_bytes (Some x) piece) (is_at (Some (joined piece x)) u)
+  pub by_output : (n : ℕ) (x : SessionState) (u : Bool) → R (is_at (Some x) u) [] (take n x.owed) [] (is_at (Some (taken_from n x)) u)
+  pub opens : (id : ℕ) (address : List ℕ) → R (is_at None false) [] [] [] (is_at (Some (new_session id address)) true)
+  pub closes : (x : SessionState) (u : Bool) → R (is_at (Some x) u) [] [] [] (is_at None u)
+
+module _ (R : Presence → List Execution → List ℕ → List ℕ → Presence → Type 0) (h : IsOfClient R) (c : ℕ) where
+  unmoved : (p q : Presence) → q ≡ p → R p [] [] [] q
+  unmoved p q e = subst (R p [] [] []) (sym e) (h.stays p.session p.used p.used (λ used. used))
+
+  notice_of : (d : ℕ) (o : Option SessionState) (u : Bool) → option_map_or holds_overlong o false ≡ true → R (is_at o u) (of_notice d ∷ []) [] [] (is_at (option_map notified o) u)
+  notice_of d None u long = cc long
+  notice_of d (Some x) u long = h.by_notice d x u long
+
+  input_of : (piece : List ℕ) (o : Option SessionState) (u : Bool) → R (is_at o u) [] [] (accepted_bytes o piece) (is_at (option_map (joined piece) o) u)
+  input_of piece None u = unmoved (is_at None u) _ refl
+  input_of piece (Some x) u = h.by_input piece x u
+
+  output_of : (n : ℕ) (o : Option SessionState) (u : Bool) → may_take o n ≡ true → R (is_at o u) [] (take n (owed_of o)) [] (is_at (option_map (taken_from n) o) u)
+  output_of n None u may = cc may
+  output_of n (Some x) u may = h.by_output n x u
+
+  close_of : (o : Option SessionState) (u : Bool) → R (is_at o u) [] [] [] (is_at None u)
+  close_of None u = unmoved (is_at None u) _ refl
+  close_of (Some x) u = h.closes x u
+
+  -- what changes a session, changes it for its client alone
+  changing : (Q : Bool → Presence → Presence → Type 0) (f : SessionState → SessionState) → ((x : SessionState) → (f x).id ≡ x.id) → (d : ℕ) (s : ServerState)
+      → Q true (presence d s) (at_client s d (option_map f (session d s))) → Q false (presence c s) (presence c s) → Q (eqb d c) (presence c s) (presence c (with_session_changed f d s))
+  changing Q f id d s own other = own_or_other c d (λ z b. Q b (presence z s) (presence z (with_session_changed f d s)))
+      (subst (Q true (presence d s)) (sym (presence_changed f id d s)) own) (λ differ. subst (Q false (presence c s)) (sym (presence_other f id c d s differ)) other)
+
+  at_events : IsOfEvents c (λ s xs k a t. R (presence c s) (of_client c xs) k a (presence c t))
+  unfolding with_input without_output
+  at_events = record {
+    stays = λ s. unmoved (presence c s) _ refl;
+    joins = λ s m t xs ys k k' a a' f g. subst (λ (zs : List Execution). R (presence c s) zs (k ++ k') (a ++ a') (presence c t)) (sym (two_clients c xs ys))
+        (h.joins (presence c s) (presence c m) (presence c t) (of_client c xs) (of_client c ys) k k' a a' f g);
+    by_line = λ d s line next.
+        let n = is_next s d line next in
+        own_or_other c d (λ z b. R (presence z s) (cond b (of_line s d line ∷ []) []) [] [] (presence z (after_line s d)))
+        (subst (λ (p : Presence). R p (of_line s d line ∷ []) [] [] (presence d (after_line s d))) (sym (ap (at_client s d) n.found))
+        (subst (R (at_client s d (Some n.asking)) (of_line s d line ∷ []) [] []) (sym (own_after_line s d line n.asking n.found next)) (h.by_line d s line n (ltb d s.next_id))))
+        (λ differ. unmoved (presence c s) _ (other_after_line c d s line next differ));
+    by_notice = λ d s long. changing (λ b p q. R p (cond b (of_notice d ∷ []) []) [] [] q) notified (λ x. refl) d s (notice_of d (session d s) _ long) (unmoved (presence c s) _ refl);
+    by_input = λ d s piece. changing (λ b p q. R p [] [] (cond b (accepted_bytes (session d s) piece) []) q) (joined piece) (λ x. refl) d s (input_of piece (session d s) _) (unmoved (presence c s) _ refl);
+    by_output = λ d s n may. changing (λ b p q. R p [] (cond b (take n (owed_of (session d s))) []) [] q) (taken_from n) (λ x. refl) d s (output_of n (session d s) _ may) (unmoved (presence c s) _ refl);
+    by_plain = λ s e m plain. of_plain_event (R (presence c s) [] [] []) c s e m plain (h.stays (session c s) _) (close_of (session c s) _)
+        (λ address its away. subst (λ (p : Presence). R p [] [] [] (is_at (Some (new_session s.next_id address)) true)) (sym away) (h.opens s.next_id address));
+  }
+
+  pub of_event_of_client : (s : ServerState) (e : Event) (m : Option ℕ) → R (presence c s) (of_client c (executions_by s e m)) (taken_in_event c s e) (asked_in_event c s e) (presence c (after_by s e m))
+  of_event_of_client s e m = event_keeps c (λ s xs k a t. R (presence c s) (of_client c xs) k a (presence c t)) at_events s e m
+
+  pub of_run_of_client : (s t : ServerState) (es : List Event) (os : List Outcome) → Run s es os t → R (presence c s) (of_client c (executions s es os)) (taken c s es os) (asked c s es os) (presence c t)
+  of_run_of_client s t es os r = run_keeps c (λ s xs k a t. R (presence c s) (of_client c xs) k a (presence c t)) at_events s t es os r

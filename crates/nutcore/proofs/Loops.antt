@@ -8,7 +8,7 @@ use Rattle.nutcore.specs.Pump.{next_line_for, answered, after_line, after_lines,
 use Rattle.nutcore.proofs.FirstLine.{behind_shorter}
 use Rattle.nutcore.proofs.Found.{find_put}
 use Rattle.nutcore.proofs.Changes.{keeps}
-use Rattle.nutcore.proofs.Pumping.{is_next, stopped_none, after_line_is, change_at, session_after, session_after_id}
+use Rattle.nutcore.proofs.Pumping.{IsNext, is_next, stopped_none, after_line_is, change_at, session_after, session_after_id}
 
 -- the lines done, and one more
 pub after_lines-suc : (k : ℕ) (s : ServerState) (c : ℕ) → after_lines (k + 1) s c ≡ after_line (after_lines k s c) c
@@ -49,9 +49,11 @@ found_after_line s c line x found h =
     ap (session c) (after_line_is s c line x found h) ∙ (ap (λ d. find d (put y s.sessions)) (sym id) ∙ find_put y s.sessions x (ap (λ d. find d s.sessions) id ∙ found))
 
 -- each line takes bytes from what is held
+pub session_shortens : (s : ServerState) (c : ℕ) (line : List ℕ) (n : IsNext s c line) → length (session_after s c line n.asking).held < length n.asking.held
+session_shortens s c line n =
+    let e = behind_shorter n.asking.held line n.first in
+    let k = (keeps (change_at s c line) (answered line (reply s c line) n.asking)).shorter in
+    omega (arith, e, k)
+
 pub line_shortens : (s : ServerState) (c : ℕ) (line : List ℕ) → next_line_for s c ≡ Some line → length (held_of (session c (after_line s c))) < length (held_of (session c s))
-line_shortens s c line h =
-    let n = is_next s c line h in
-    let y : SessionState = answered line (reply s c line) n.asking in
-    let less : length (session_after s c line n.asking).held < length n.asking.held = let e = behind_shorter n.asking.held line n.first in let k = (keeps (change_at s c line) y).shorter in omega (arith, e, k) in
-    rw (found_after_line s c line n.asking n.found h, n.found) less
+line_shortens s c line h = let n = is_next s c line h in rw (found_after_line s c line n.asking n.found h, n.found) (session_shortens s c line n)

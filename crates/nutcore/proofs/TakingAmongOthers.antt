@@ -16,6 +16,7 @@ use Rattle.nutcore.specs.Taking.{TakesAmongOthers, is_event_of, events_of, WhoTa
 use Rattle.nutcore.proofs.Events.{of_session_event}
 use Rattle.nutcore.proofs.Histories.{later, lines_more, answers_more, of_opened}
 use Rattle.nutcore.proofs.Isolation.{own}
+use Rattle.nutcore.proofs.Progress.{Presence}
 use Rattle.nutcore.proofs.Stepping.{until_apart}
 use Rattle.nutcore.proofs.Takes.{HasNothingLeft, outcome_then, server_then, done_then, IsTake, one_take, take_does, idle_take, size, some_taken, all_is_ring}
 use Rattle.nutcore.specs.TakingSome.{IsTakeOf, TakesSomeAmongOthers, WhoTakesSomeGetsEverything}
@@ -47,8 +48,8 @@ anothers c s e m =
     (λ e apart differ. record { nothing = ap (of_client c) (apart.silent.executes s m); untouched = same_session _ _ (ap (find c) (apart.sessions s m)) })
     (λ address differ. record {
       nothing = refl;
-      untouched = of_opened (IsUntouched (session c s)) c s address m (same_session (session c s) (session c s) refl)
-          (λ same none. subst (λ o. IsUntouched o (Some (new_session s.next_id address))) (sym none) (record { owes = refl; holds = refl; stops = refl; long = refl }));
+      untouched = of_opened (λ p. IsUntouched (session c s) p.session) c s address m (λ u up. same_session (session c s) (session c s) refl)
+          (λ its away. subst (λ (p : Presence). IsUntouched p.session (Some (new_session s.next_id address))) (sym away) (record { owes = refl; holds = refl; stops = refl; long = refl }));
     })
     (λ d piece differ.
     let other : c ≢ d = λ (h : c ≡ d). differ (ap Some (sym h)) in
