@@ -1,6 +1,6 @@
 -- What each event, and a run of them, does to each client's presence.
 use Rattle.std.proofs.Common.{◌≡◌, ◌≢◌, ℕ, ◌+◌, Bool, true, false, List, [], ◌∷◌, ◌++◌, Option, Some, None, refl, sym, ◌∙◌, ap, subst, cond, eqb, ltb, arith, take, append-nil}
-use Rattle.std.specs.Prelude.{option_map}
+use Rattle.std.specs.Option.{option_map_or}
 use Rattle.std.proofs.lemmas.Bool.{cond_both, cond-true, cond-false, ne_eqb, ltb-true, lt-ltb, le-ltb}
 use Rattle.std.proofs.lemmas.List.{take-append-drop}
 use Rattle.nutcore.proofs.Common.{never_both, flat_map-append, Event, Outcome, SessionState, ServerState, session, with_session_changed, Run}
@@ -8,14 +8,14 @@ use Rattle.nutwords.specs.Text.{with_lf}
 use Rattle.nutcore.specs.Lines.{rest_after}
 use Rattle.nutcore.specs.Session.{find, without, new_session}
 use Rattle.nutcore.specs.Reply.{reply, too_long_notice}
-use Rattle.nutcore.specs.Pump.{next_line_for, answered, after_line, is_overlong, notified, owed_of}
+use Rattle.nutcore.specs.Pump.{next_line_for, answered, after_line, is_overlong, notified, owed_of, held_of}
 use Rattle.nutcore.specs.Step.{accepted_bytes, joined, with_input, taken_from, without_output, may_take, may_open, pumped_until, opened, after_by}
 use Rattle.nutcore.specs.History.{Execution, of_line, of_notice, executions_until, of_client, answers, taken, asked, executed, texts_of, lines_of, text_of, line_of}
 use Rattle.nutcore.specs.Headline.{IsLawful, SentAndOwed, TakenUp}
 use Rattle.nutcore.proofs.FirstLine.{first_line_splits}
 use Rattle.nutcore.proofs.Changes.{keeps}
 use Rattle.nutcore.proofs.Changed.{presence_other}
-use Rattle.nutcore.proofs.Progress.{Presence, is_at, presence, Progress, IsKept, joins, stays, moves, closes, stays_away, opens}
+use Rattle.nutcore.proofs.Progress.{Presence, presence, is_closed, is_over, Progress, IsKept, half_joins, half_moves, half_stays, half_ends}
 use Rattle.nutcore.proofs.Pumping.{change_at, session_after, other_after_line}
 use Rattle.nutcore.proofs.Histories.{until_keeps, IsOfClient, of_run_of_client, two_clients}
 
@@ -50,45 +50,51 @@ until_other c d s m differ = (until_apart c d s m differ).same
 abbrev pub Goes : Presence → List Execution → List ℕ → List ℕ → Presence → Type 0
 Goes p xs taken asked q = IsKept p → Progress p (texts_of xs) taken asked (lines_of xs) q
 
-progress_with : (p q : Presence) (a a' t k l l' : List ℕ) → a ≡ a' → l ≡ l' → Progress p a' t k l' q → Progress p a t k l q
-progress_with p q a a' t k l l' ea el g = rw (ea, el) g
-
--- a client without a session is as it was, and one with a session had an id that was given
-goes_on : (o : Option SessionState) (u v : Bool) → (u ≡ true → v ≡ true) → Goes (is_at o u) [] [] [] (is_at o v)
-goes_on None u v up kept = stays_away u v up
-goes_on (Some x) u v up kept = rw (kept refl, up (kept refl)) (stays (is_at (Some x) true))
-
 pub goes : IsOfClient Goes
 goes = record {
   joins = λ p q r xs ys k k' a a' f g kept.
       let first = f kept in
-      progress_with p r _ _ (k ++ k') (a ++ a') _ _ (flat_map-append text_of xs ys) (flat_map-append line_of xs ys) (joins p q r (texts_of xs) k a (lines_of xs) (texts_of ys) k' a' (lines_of ys) first (g (first.keeps kept)));
-  stays = goes_on;
+      let next = g (first.keeps kept) in
+      record {
+        sent = rw (flat_map-append text_of xs ys) (half_joins (is_closed p) (is_closed q) (is_closed r) _ _ _ _ _ _ _ first.sent next.sent);
+        taken_up = rw (flat_map-append line_of xs ys) (half_joins (is_over p) (is_over q) (is_over r) _ _ _ _ _ _ _ first.taken_up next.taken_up);
+        keeps = λ h. next.keeps (first.keeps h);
+      };
+  stays = λ o u v up kept. record { sent = half_stays _ _ (owed_of o) (closed_on o u v up); taken_up = half_stays _ _ (held_of o) (over_on o u v up); keeps = λ h some. up (h some) };
   by_line = λ c s line n u kept.
+      let x = n.asking in
       let text : List ℕ = reply s c line in
-      let after = keeps (change_at s c line) (answered line text n.asking) in
-      let split = append-nil n.asking.held ∙ first_line_splits n.asking.held line n.first in
-      progress_with _ _ (text ++ []) text [] [] (with_lf line ++ []) (with_lf line) (append-nil text) (append-nil (with_lf line))
-      (moves n.asking (session_after s c line n.asking) u text [] [] (with_lf line) (sym after.owed)
-      (λ e. split ∙ ap (λ held. with_lf line ++ held) (sym (after.held e)))
-      (λ e. (rest_after line n.asking.held, sym split))
-      (λ e. never_both n.asking.ending e n.going));
-  by_notice = λ c x u long kept. moves x (notified x) u too_long_notice [] [] [] refl (λ (h : true ≡ false). cc h) (λ h. (x.held, sym (append-nil x.held))) (λ h. (refl, refl, refl));
+      let after = keeps (change_at s c line) (answered line text x) in
+      let split : x.held ++ [] ≡ (with_lf line ++ []) ++ rest_after line x.held = rw (append-nil x.held, append-nil (with_lf line)) (first_line_splits x.held line n.first) in
+      record {
+        sent = half_moves false x.owed (text ++ []) [] _ (ap (λ z. x.owed ++ z) (append-nil text) ∙ sym after.owed) (λ (h : false ≡ true). cc h);
+        taken_up = record { left = rest_after line x.held; is = split; going = λ e. sym (after.held e); stays = λ e. never_both x.ending e n.going };
+        keeps = λ h. h;
+      };
+  by_notice = λ c x u long kept. record { sent = half_moves false x.owed too_long_notice [] _ refl (λ (h : false ≡ true). cc h); taken_up = half_ends x.ending x.held; keeps = λ h. h };
   by_input = λ piece x u kept.
-      let more : List ℕ = accepted_bytes (Some x) piece in
-      moves x (joined piece x) u [] [] more [] (append-nil x.owed) (λ h. refl) (λ h. (x.held ++ more, refl)) (λ h. (h, cond-true _ _ _ h, refl));
-  by_output = λ n x u kept.
-      moves x (taken_from n x) u [] (take n x.owed) [] [] (append-nil x.owed ∙ sym (take-append-drop n x.owed)) (λ h. append-nil x.held) (λ h. (x.held, sym (append-nil x.held))) (λ h. (h, refl, refl));
-  opens = λ id address kept. opens (new_session id address) refl refl refl;
-  closes = λ x u kept. rw (kept refl) (closes x);
+      record { sent = half_stays false false x.owed (λ h. h); taken_up = half_moves x.ending x.held (accepted_bytes (Some x) piece) [] _ refl (λ h. (cond-true _ _ _ h, refl)); keeps = λ h. h };
+  by_output = λ n x u kept. record {
+    sent = half_moves false x.owed [] (take n x.owed) _ (append-nil x.owed ∙ sym (take-append-drop n x.owed)) (λ (h : false ≡ true). cc h);
+    taken_up = half_stays x.ending x.ending x.held (λ h. h);
+    keeps = λ h. h;
+  };
+  opens = λ id address kept. record { sent = half_stays false false [] (λ h. h); taken_up = half_stays false false [] (λ h. h); keeps = λ h k. refl };
+  closes = λ x u kept. rw (kept refl) (record { sent = half_ends false x.owed; taken_up = half_ends x.ending x.held; keeps = λ h (k : false ≡ true). cc k });
 }
+  where
+    closed_on : (o : Option SessionState) (u v : Bool) → (u ≡ true → v ≡ true) → option_map_or (λ x. false) o u ≡ true → option_map_or (λ x. false) o v ≡ true
+    closed_on o u v up h = grind arith
+
+    over_on : (o : Option SessionState) (u v : Bool) → (u ≡ true → v ≡ true) → option_map_or (λ x. x.ending) o u ≡ true → option_map_or (λ x. x.ending) o v ≡ true
+    over_on o u v up h = grind arith
 
 -- the laws of every run
 run_goes : (c : ℕ) (s t : ServerState) (es : List Event) (os : List Outcome) → Run s es os t → IsLawful s → Progress (presence c s) (answers c s es os) (taken c s es os) (asked c s es os) (executed c s es os) (presence c t)
 run_goes c s t es os r lawful = of_run_of_client Goes goes c s t es os r (λ h. lt-ltb _ _ (lawful c h))
 
 pub run_sent : (s t : ServerState) (es : List Event) (os : List Outcome) → IsLawful s → Run s es os t → (c : ℕ) → SentAndOwed c s es os t
-run_sent s t es os lawful r c = let g = run_goes c s t es os r lawful in record { while_open = g.sent.going; once_closed = g.sent.over }
+run_sent s t es os lawful r c = let g = (run_goes c s t es os r lawful).sent in record { while_open = λ e. g.is ∙ ap (λ z. taken c s es os ++ z) (g.going e); once_closed = λ e. (g.left, sym g.is) }
 
 pub run_taken_up : (s t : ServerState) (es : List Event) (os : List Outcome) → IsLawful s → Run s es os t → (c : ℕ) → TakenUp c s es os t
-run_taken_up s t es os lawful r c = let g = run_goes c s t es os r lawful in record { while_going = g.taken_up.going; once_over = g.taken_up.over }
+run_taken_up s t es os lawful r c = let g = (run_goes c s t es os r lawful).taken_up in record { while_going = λ e. g.is ∙ ap (λ z. executed c s es os ++ z) (g.going e); once_over = λ e. (g.left, sym g.is) }
