@@ -74,6 +74,13 @@ pub record HasStopped (s : ServerState) (c : ℕ) : Type 0 where
   pub stopped : pump_stops s c ≡ true
   pub short : is_overlong s c ≡ false
 
+-- a client without a session has
+pub absent_stops : (s : ServerState) (c : ℕ) → session c s ≡ None → HasStopped s c
+absent_stops s c none = record {
+  stopped = ap (λ (o : Option SessionState). is_none (option_and_then next_line o)) none;
+  short = ap (λ (o : Option SessionState). option_map_or holds_overlong o false) none;
+}
+
 told_ends : (o : Option SessionState) → (is_none (option_and_then next_line (option_map notified o)) ≡ true) × (option_map_or holds_overlong (option_map notified o) false ≡ false)
 told_ends o = grind arith
 

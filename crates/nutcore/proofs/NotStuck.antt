@@ -2,6 +2,7 @@
 use Rattle.std.proofs.Common.{◌≡◌, ◌≢◌, ◌≤◌, ◌∙◌, ◌+◌, ℕ, Bool, true, false, ◌&&◌, List, [], ◌∷◌, ◌++◌, Option, Some, None, sym, ap, subst, eqb, ltb, leb, length, length-append, arith}
 use Rattle.std.specs.Prelude.{is_none, option_and_then}
 use Rattle.std.specs.Option.{option_map_or}
+use Rattle.std.proofs.lemmas.List.{nil_from_length}
 use Rattle.std.proofs.lemmas.Bool.{cond_both}
 use Rattle.std.proofs.lemmas.Bool.Decides.{nat_tests}
 use Rattle.nutlisting.specs.declared.outbox.TheConstants.{OWED_LIMIT}
@@ -18,16 +19,8 @@ use Rattle.nutcore.specs.NotStuck.{HadMemory, WhoIsOwedLittleHasRoom, WhoEndsIsF
 use Rattle.nutcore.proofs.Endings.{asked_no_more, stays_ending}
 use Rattle.nutcore.proofs.Found.{find_without}
 use Rattle.nutcore.proofs.Histories.{later}
-use Rattle.nutcore.proofs.Least.{HasStopped, pump_ended}
-use Rattle.nutcore.proofs.Takes.{none_owed}
+use Rattle.nutcore.proofs.Least.{HasStopped, absent_stops, pump_ended}
 use Rattle.nutcore.proofs.TakingAmongOthers.{anothers, own_or_not}
-
--- a client without a session has stopped
-absent_stops : (s : ServerState) (c : ℕ) → session c s ≡ None → HasStopped s c
-absent_stops s c none = record {
-  stopped = ap (λ (o : Option SessionState). is_none (option_and_then next_line o)) none;
-  short = ap (λ (o : Option SessionState). option_map_or holds_overlong o false) none;
-}
 
 -- after an event of the client with memory, and after one of another
 own_stops : (s : ServerState) (e : Event) (c : ℕ) → HasStopped s c → client_of e ≡ Some c → HasStopped (after_by s e None) c
@@ -83,5 +76,5 @@ ends_finished old new es os c x y lawful r found ends found_new all =
     let is : owed c new ≡ y.owed = ap (λ (o : Option SessionState). owed_of o) found_new in
     let sizes : length x.owed ≡ length (taken c old es os) + length y.owed =
     ap (λ (bytes : List ℕ). length bytes) (sym was ∙ less ∙ ap (λ (bytes : List ℕ). taken c old es os ++ bytes) is) ∙ length-append (taken c old es os) y.owed in
-    let none : y.owed ≡ [] = none_owed y.owed (omega (arith, sizes, all)) in
+    let none : y.owed ≡ [] = nil_from_length y.owed (omega (arith, sizes, all)) in
     ap (λ (b : Bool). b && eqb (length y.owed) 0) (stays_ending old new es os c y lawful over r found_new) ∙ ap (λ (bytes : List ℕ). eqb (length bytes) 0) none

@@ -1,5 +1,7 @@
 -- A client that takes what it is offered, again and again, gets everything.
 use Rattle.std.proofs.Common.{◌⊎◌, ℕ, zero, suc, ◌+◌, ◌/◌, ◌<◌, ◌≤◌, List, [], ◌∷◌, ◌++◌, refl, inl, inr, arith, length, ◌≡◌, ap}
+use Rattle.std.proofs.lemmas.Bool.{cases_lt}
+use Rattle.std.proofs.lemmas.List.{nil_from_length}
 use Rattle.nutlisting.specs.declared.ring.TheConstants.{RING_LIMIT}
 use Rattle.nutcore.proofs.Common.{Event, Outcome, ServerState}
 use Rattle.nutcore.specs.History.{Execution, texts_of, executions, executions_in_event, of_client, owed, held}
@@ -8,22 +10,7 @@ use Rattle.nutcore.proofs.Histories.{lines_more, answers_more}
 use Rattle.nutcore.proofs.Takes.{outcome_then, server_then, done_then, one_take, take_does, size, some_taken, all_is_ring}
 use Rattle.nutcore.specs.declared.event.Event.TheVariants.{Took}
 
--- a take by which a ring is moved or a line is executed counts, and then the others do
-take_counts : (s : ServerState) (c : ℕ) (es : List Event) (os : List Outcome) → (size RING_LIMIT c s ≡ RING_LIMIT) ⊎ (1 ≤ length (done_then RING_LIMIT c s))
-    → suc (enough_takes c (server_then RING_LIMIT c s) es os) ≤ enough_takes c s (some_taken RING_LIMIT c s ∷ es) (outcome_then RING_LIMIT c s ∷ os)
-take_counts s c es os counts = counts_by counts
-  where
-    now : List Execution
-    now = executions_in_event s (some_taken RING_LIMIT c s) (outcome_then RING_LIMIT c s)
-
-    later : List Execution
-    later = executions (server_then RING_LIMIT c s) es os
-
-    counts_by : (size RING_LIMIT c s ≡ RING_LIMIT) ⊎ (1 ≤ length (done_then RING_LIMIT c s)) → suc ((length (owed c (server_then RING_LIMIT c s)) + length (texts_of (of_client c later))) / RING_LIMIT + length (of_client c later) + 1)
-        ≤ (length (owed c s) + length (texts_of (of_client c (now ++ later)))) / RING_LIMIT + length (of_client c (now ++ later)) + 1
-    counts_by (inl full) = let moved = (one_take RING_LIMIT c s).moved in omega (arith, full, moved, answers_more c now later, lines_more c now later)
-    counts_by (inr one) = let moved = (one_take RING_LIMIT c s).moved in omega (arith, one, moved, answers_more c now later, lines_more c now later)
-
+-- a take, and those after it
 one_more : (s : ServerState) (c : ℕ) (rest : GetsEverything c (server_then RING_LIMIT c s)) → suc (length rest.events) ≤ enough_takes c s (some_taken RING_LIMIT c s ∷ rest.events) (outcome_then RING_LIMIT c s ∷ rest.outcomes) → GetsEverything c s
 one_more s c rest few = record {
   events = some_taken RING_LIMIT c s ∷ rest.events;
@@ -40,35 +27,26 @@ one_more s c rest few = record {
       omega (arith, now, later, lines_more c (executions_in_event s (some_taken RING_LIMIT c s) (outcome_then RING_LIMIT c s)) (executions (server_then RING_LIMIT c s) rest.events rest.outcomes));
 }
 
-counted_more : (s : ServerState) (c : ℕ) → (size RING_LIMIT c s ≡ RING_LIMIT) ⊎ (1 ≤ length (done_then RING_LIMIT c s)) → GetsEverything c (server_then RING_LIMIT c s) → GetsEverything c s
-counted_more s c counts rest =
-    let few = rest.few in
-    let more = take_counts s c rest.events rest.outcomes counts in
-    one_more s c rest (omega (arith, few, more))
-
--- a take, where those that are nearer get everything: less is held, or less is owed
-nearer : (s : ServerState) (c : ℕ) → ((t : ServerState) → length (held c t) < length (held c s) → GetsEverything c t)
-    → ((t : ServerState) → length (held c t) ≤ length (held c s) → length (owed c t) < length (owed c s) → GetsEverything c t) → GetsEverything c s
-nearer s c less_held less_owed =
+-- less is held, or as much is held and less is owed, after each but the last
+nearer : (h w : ℕ) (c : ℕ) (s : ServerState) → length (held c s) < h → length (owed c s) < w → GetsEverything c s
+nearer zero w c s holds owes = absurd (omega (arith, holds))
+nearer (suc h) zero c s holds owes = absurd (omega (arith, owes))
+nearer (suc h) (suc w) c s holds owes =
     let t : ServerState = server_then RING_LIMIT c s in
+    let done : List Execution = done_then RING_LIMIT c s in
     let is = one_take RING_LIMIT c s in
-    let few = is.fewer in
-    elim (take_does RING_LIMIT c (omega arith) s) [
-      | inl one ↦ counted_more s c (inr one) (less_held t (omega (arith, few, one)))
-      | inr (inl (full, less)) ↦ counted_more s c (inl full) (less_owed t (omega (arith, few)) (omega (arith, less)))
-      | inr (inr none) ↦ one_more s c (record { events = []; outcomes = []; new = t; run = refl; takes = tt; nothing_owed = none; nothing_left = is.ended.stopped; few = omega arith; lines = omega arith }) (omega arith)
+    let fewer = is.fewer in
+    elim (take_does RING_LIMIT c (omega arith) s t done is) [
+      | inl counts ↦ (let rest : GetsEverything c t = elim (cases_lt 0 (length done)) [
+        | inl some ↦ nearer h (suc (length (owed c t))) c t (omega (arith, holds, fewer, some)) (omega arith)
+        | inr none ↦ (let no_text = ap (λ (xs : List Execution). length (texts_of xs)) (nil_from_length done (omega (arith, none))) in nearer (suc h) w c t (omega (arith, holds, fewer)) (omega (arith, owes, counts, none, no_text)))
+      ] in
+          let few = rest.few in
+          let now : List Execution = executions_in_event s (some_taken RING_LIMIT c s) (outcome_then RING_LIMIT c s) in
+          let later : List Execution = executions t rest.events rest.outcomes in
+          one_more s c rest (omega (arith, few, counts, answers_more c now later, lines_more c now later)))
+      | inr none ↦ one_more s c (record { events = []; outcomes = []; new = t; run = refl; takes = tt; nothing_owed = none; nothing_left = is.ended.stopped; few = omega arith; lines = omega arith }) (omega arith)
     ]
 
--- while no less is held, less is owed
-less_owed : (h : ℕ) (c : ℕ) → ((t : ServerState) → length (held c t) < h → GetsEverything c t) → (w : ℕ) (s : ServerState) → length (held c s) ≤ h → length (owed c s) < w → GetsEverything c s
-less_owed h c lower zero s few little = absurd (omega (arith, little))
-less_owed h c lower (suc w) s few little =
-    let again = less_owed h c lower w in
-    nearer s c (λ t less. lower t (omega (arith, less, few))) (λ t no_more_held less. again t (omega (arith, no_more_held, few)) (omega (arith, less, little)))
-
-less_held : (h : ℕ) (c : ℕ) (s : ServerState) → length (held c s) < h → GetsEverything c s
-less_held zero c s few = absurd (omega (arith, few))
-less_held (suc h) c s few = less_owed h c (λ t less. less_held h c t less) (suc (length (owed c s))) s (omega (arith, few)) (omega arith)
-
 pub gets_everything : WhoTakesGetsEverything
-gets_everything s c = less_held (suc (length (held c s))) c s (omega arith)
+gets_everything s c = nearer (suc (length (held c s))) (suc (length (owed c s))) c s (omega arith) (omega arith)

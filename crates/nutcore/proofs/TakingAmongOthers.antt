@@ -3,6 +3,7 @@ use Rattle.std.proofs.Common.{◌≡◌, ◌≢◌, ℕ, suc, ◌+◌, ◌≤◌
 use Rattle.std.specs.Prelude.{is_none, option_and_then}
 use Rattle.std.specs.List.{filter}
 use Rattle.std.specs.Option.{option_map_or}
+use Rattle.std.proofs.Math.Nat.{add-mul}
 use Rattle.std.proofs.lemmas.Bool.{cond_both, eqb-true, eq-eqb, cases_Bool}
 use Rattle.nutlisting.specs.declared.ring.TheConstants.{RING_LIMIT}
 use Rattle.nutcore.proofs.Common.{Event, Outcome, SessionState, ServerState, session, after, Run}
@@ -75,14 +76,6 @@ own_or_not c e own other = by_client (client_of e) own other
 left_after : (c : ℕ) (s t : ServerState) → IsUntouched (session c s) (session c t) → HasNothingLeft c s → HasNothingLeft c t
 left_after c s t same h = record { none = same.owes ∙ h.none; ended = record { stopped = same.stops ∙ h.ended.stopped; short = same.long ∙ h.ended.short } }
 
-times_more : (a b k : ℕ) → (a + b) * k ≡ a * k + b * k
-times_more zero b k = omega arith
-times_more (suc a) b k = let more = times_more a b k in omega (arith, more)
-
-at_least : (a k : ℕ) → 1 ≤ a → k ≤ a * k
-at_least zero k some = absurd (omega (arith, some))
-at_least (suc a) k some = omega arith
-
 module _ (k : ℕ) (few : k ≤ RING_LIMIT) (c : ℕ) where
   as_take : (s : ServerState) (e : Event) (o : Outcome) (P : Event → Outcome → Type 0) → IsTakeOf k c s e o → P (some_taken k c s) (outcome_then k c s) → P e o
   as_take s e o P (event_is, outcome_is) p = subst (λ (z : Event). P z o) (sym event_is) (subst (P (some_taken k c s)) (sym (outcome_is ∙ ap (outcome_of s) event_is)) p)
@@ -100,67 +93,43 @@ module _ (k : ℕ) (few : k ≤ RING_LIMIT) (c : ℕ) where
     lines : lines_done c s es os ≤ length (held c s)
     served : length (owed c s) + length (answers c s es os) + lines_done c s es os * k < events_of c es * k → (owed c t ≡ []) × (pump_stops t c ≡ true)
 
-  -- a take, and the run after it
-  served_take : (s t : ServerState) (es : List Event) (os : List Outcome) → (HasNothingLeft c (server_then k c s) → HasNothingLeft c t) → IsServedSo (server_then k c s) es os t → IsServedSo s (some_taken k c s ∷ es) (outcome_then k c s ∷ os) t
-  served_take s t es os stays h = record {
-    lines = (let fewer = is.fewer in let few = h.lines in omega (arith, fewer, few, more));
-    served = λ enough. elim (take_does k c few s) [
-      | inl one ↦ (let once = at_least (length (done_then k c s)) k one in h.served (omega (arith, enough, once, moved, lines, texts, event_more)))
-      | inr (inl (full, less)) ↦ h.served (omega (arith, enough, full, moved, lines, texts, event_more))
-      | inr (inr none) ↦ (let last = stays (record { none = none; ended = is.ended }) in (last.none, last.ended.stopped))
-    ];
-  }
-    where
-      is : IsTake k c s (server_then k c s) (done_then k c s)
-      is = one_take k c s
-
-      moved : length (owed c (server_then k c s)) + size k c s ≤ length (owed c s) + length (texts_of (done_then k c s))
-      moved = is.moved
-
-      texts : length (answers c s (some_taken k c s ∷ es) (outcome_then k c s ∷ os)) ≡ length (texts_of (done_then k c s)) + length (answers c (server_then k c s) es os)
-      texts = answers_more c (executions_in_event s (some_taken k c s) (outcome_then k c s)) (executions (server_then k c s) es os)
-
-      more : lines_done c s (some_taken k c s ∷ es) (outcome_then k c s ∷ os) ≡ length (done_then k c s) + lines_done c (server_then k c s) es os
-      more = lines_more c (executions_in_event s (some_taken k c s) (outcome_then k c s)) (executions (server_then k c s) es os)
-
-      lines : lines_done c s (some_taken k c s ∷ es) (outcome_then k c s ∷ os) * k ≡ length (done_then k c s) * k + lines_done c (server_then k c s) es os * k
-      lines = ap (λ (n : ℕ). n * k) more ∙ times_more (length (done_then k c s)) (lines_done c (server_then k c s) es os) k
-
-      event_more : events_of c (some_taken k c s ∷ es) * k ≡ k + events_of c es * k
-      event_more =
-          let one : events_of c (some_taken k c s ∷ es) * k ≡ suc (events_of c es) * k = ap (λ (b : Bool). length (cond b (some_taken k c s ∷ filter (is_event_of c) es) (filter (is_event_of c) es)) * k) (eq-eqb c c refl) in
-          omega (arith, one)
-
   served_run : (s t : ServerState) (es : List Event) (os : List Outcome) → Run s es os t → TakesSomeAmongOthers k c s es os → IsServedSo s es os t
   served_run s t [] [] r among = record { lines = omega arith; served = λ h. absurd (omega (arith, h)) }
-  served_run s t (e ∷ es) (o ∷ os) (mid, step, r) among = own_or_not c e
-      (λ yes its. as_take s e o (λ e o. Run (after s e o) es os t → TakesSomeAmongOthers k c (after s e o) es os → IsServedSo s (e ∷ es) (o ∷ os) t) (among.0 its)
-      (λ rest others. served_take s t es os (stays_left (server_then k c s) t es os rest others) (served_run (server_then k c s) t es os rest others)) (later t es os step r) among.1)
-      (λ no other. by_another (anothers c s e (refused_after o) other) (served_run (after s e o) t es os (later t es os step r) among.1) no)
-    where
-      now : List Execution
-      now = executions_in_event s e o
-
-      behind : List Execution
-      behind = executions (after s e o) es os
-
-      by_another : IsAnothers c s (after s e o) (of_client c now) → IsServedSo (after s e o) es os t → is_event_of c e ≡ false → IsServedSo s (e ∷ es) (o ∷ os) t
-      by_another other h not_its =
-          let owes = ap (λ (z : List ℕ). length z) other.untouched.owes in
-          let holds = ap (λ (z : List ℕ). length z) other.untouched.holds in
-          let none = ap (λ (z : List Execution). length z) other.nothing in
-          let no_text = ap (λ (z : List Execution). length (texts_of z)) other.nothing in
-          let texts : length (answers c s (e ∷ es) (o ∷ os)) ≡ length (answers c (after s e o) es os) = omega (arith, answers_more c now behind, no_text) in
-          let same : lines_done c s (e ∷ es) (o ∷ os) ≡ lines_done c (after s e o) es os = omega (arith, lines_more c now behind, none) in
-          let lines = ap (λ (n : ℕ). n * k) same in
-          let events = ap (λ (b : Bool). length (cond b (e ∷ filter (is_event_of c) es) (filter (is_event_of c) es)) * k) not_its in
-          let fewer = h.lines in
-          record { lines = omega (arith, fewer, holds, same); served = λ enough. h.served (omega (arith, enough, owes, texts, lines, events)) }
+  served_run s t (e ∷ es) (o ∷ os) (mid, step, r) among =
+      let next : ServerState = after s e o in
+      let run = later t es os step r in
+      let rest = served_run next t es os run among.1 in
+      let behind = rest.lines in
+      let done : List Execution = of_client c (executions_in_event s e o) in
+      let texts = answers_more c (executions_in_event s e o) (executions next es os) in
+      let lines = lines_more c (executions_in_event s e o) (executions next es os) in
+      let times = ap (λ (n : ℕ). n * k) lines ∙ add-mul (length done) (lines_done c next es os) k in
+      own_or_not c e
+      (λ yes its.
+      let is = as_take s e o (λ e o. IsTake k c s (after s e o) (of_client c (executions_in_event s e o))) (among.0 its) (one_take k c s) in
+      let fewer = is.fewer in
+      let events : events_of c (e ∷ es) * k ≡ suc (events_of c es) * k = ap (λ (b : Bool). length (cond b (e ∷ filter (is_event_of c) es) (filter (is_event_of c) es)) * k) yes in
+      record {
+        lines = omega (arith, fewer, behind, lines);
+        served = λ enough. elim (take_does k c few s next done is) [
+          | inl counts ↦ rest.served (omega (arith, enough, counts, times, texts, events))
+          | inr none ↦ (let last = stays_left next t es os run among.1 (record { none = none; ended = is.ended }) in (last.none, last.ended.stopped))
+        ];
+      })
+      (λ no differ.
+      let other = anothers c s e (refused_after o) differ in
+      let owes = ap (λ (z : List ℕ). length z) other.untouched.owes in
+      let holds = ap (λ (z : List ℕ). length z) other.untouched.holds in
+      let none = ap (λ (z : List Execution). length z) other.nothing in
+      let no_text = ap (λ (z : List Execution). length (texts_of z)) other.nothing in
+      let no_line = ap (λ (z : List Execution). length z * k) other.nothing in
+      let events = ap (λ (b : Bool). length (cond b (e ∷ filter (is_event_of c) es) (filter (is_event_of c) es)) * k) no in
+      record { lines = omega (arith, behind, holds, none, lines); served = λ enough. rest.served (omega (arith, enough, owes, texts, no_text, times, no_line, events)) })
   served_run s t es os r among = absurd r
 
 pub takes_some : WhoTakesSomeGetsEverything
 takes_some old new es os c k some few r among enough =
-    let lines = times_more (lines_done c old es os) 1 k in
+    let lines = add-mul (lines_done c old es os) 1 k in
     (served_run k few c old new es os r among).served (omega (arith, enough, some, lines))
 
 -- all that is offered is a whole ring, or less

@@ -2,7 +2,7 @@
 use Rattle.std.proofs.Common.{◌≡◌, ℕ, zero, suc, ◌+◌, ◌-◌, ◌<◌, ◌≤◌, Bool, true, false, List, [], ◌∷◌, ◌++◌, Option, Some, None, refl, sym, ◌∙◌, ap, cond, ltb, ◌&&◌, ◌||◌, length, take, Result, Ok, Err, arith, length-append, length-drop}
 use Rattle.std.specs.Prelude.{is_some, option_map, option_and_then}
 use Rattle.std.proofs.lemmas.Bool.Decides.{nat_tests}
-use Rattle.std.proofs.lemmas.List.{take_all}
+use Rattle.std.proofs.lemmas.List.{take_all, nil_from_length}
 use Rattle.nutlisting.specs.declared.outbox.TheConstants.{OWED_LIMIT}
 use Rattle.nutwords.specs.SplitLine.{split_line, has_lf}
 use Rattle.nutwords.specs.declared.limits.TheConstants.{LINE_ROOM}
@@ -34,10 +34,6 @@ no_more : (k : ℕ) (s : ServerState) (c : ℕ) → next_line_for s c ≡ None �
 unfolding after_lines
 no_more zero s c none = refl
 no_more (suc k) s c none = ap (λ (t : ServerState). after_lines k t c) (stopped_none s c none) ∙ no_more k s c none
-
-nothing : (xs : List ℕ) → length xs ≤ 0 → xs ≡ []
-nothing [] few = refl
-nothing (x ∷ xs) few = absurd (omega (arith, few))
 
 never : (a b : Bool) → (a && (b && false)) ≡ false
 never a b = grind arith
@@ -110,7 +106,7 @@ module _ (s : ServerState) (c : ℕ) (line : List ℕ) (w : IsWaiting c s) (whol
   after_owed = (keeps (change_at begun c line) (answered line (reply begun c line) fed)).owed ∙ ap (λ (o : List ℕ). o ++ reply begun c line) w.owed ∙ reply_is
 
   after_held : after.held ≡ []
-  after_held = nothing after.held (omega (arith, (keeps (change_at begun c line) (answered line (reply begun c line) fed)).shorter, length-drop (length line + 1) (with_lf line), length-append line (10 ∷ [])))
+  after_held = nil_from_length after.held (omega (arith, (keeps (change_at begun c line) (answered line (reply begun c line) fed)).shorter, length-drop (length line + 1) (with_lf line), length-append line (10 ∷ [])))
 
   done_stops : next_line_for done c ≡ None
   done_stops = ap (λ (o : Option SessionState). option_and_then next_line o) done_has ∙ holds_none after after_held
