@@ -31,7 +31,7 @@ none_by true bytes le = refl
 none_by false [] le = refl
 none_by false (b ∷ bytes) le = absurd (omega arith)
 
-empty_stops : (o : Option SessionState) → length (held_of o) ≤ 0 → is_none (option_and_then next_line o) ≡ true
+pub empty_stops : (o : Option SessionState) → length (held_of o) ≤ 0 → is_none (option_and_then next_line o) ≡ true
 empty_stops None le = refl
 empty_stops (Some x) le = none_by _ x.held le
 
