@@ -36,15 +36,13 @@ abbrev pub at_client : ServerState → ℕ → Option SessionState → Presence
 at_client s c o = record { session = o; used = ltb c s.next_id }
 
 -- what changes the session and keeps its id: the session is changed,
-pub session_changed : (f : SessionState → SessionState) → ((x : SessionState) → (f x).id ≡ x.id) → (c : ℕ) (s : ServerState) → session c (with_session_changed f c s) ≡ option_map f (session c s)
-session_changed f keeps c s = by_change (λ t. session c t ≡ option_map f (session c s)) f c s
-    (λ x e. session_put s c x (f x) e (keeps x ∙ find_id c s.sessions x e) ∙ ap (option_map f) (sym e))
-    (λ e. e ∙ ap (option_map f) (sym e))
-
 pub presence_changed : (f : SessionState → SessionState) → ((x : SessionState) → (f x).id ≡ x.id) → (c : ℕ) (s : ServerState) → presence c (with_session_changed f c s) ≡ at_client s c (option_map f (session c s))
 presence_changed f keeps c s = by_change (λ t. presence c t ≡ at_client s c (option_map f (session c s))) f c s
     (λ x e. ap (at_client s c) (session_put s c x (f x) e (keeps x ∙ find_id c s.sessions x e) ∙ ap (option_map f) (sym e)))
     (λ e. ap (at_client s c) (e ∙ ap (option_map f) (sym e)))
+
+pub session_changed : (f : SessionState → SessionState) → ((x : SessionState) → (f x).id ≡ x.id) → (c : ℕ) (s : ServerState) → session c (with_session_changed f c s) ≡ option_map f (session c s)
+session_changed f keeps c s = ap (λ (p : Presence). p.session) (presence_changed f keeps c s)
 
 -- and the others aren't
 pub presence_other : (f : SessionState → SessionState) → ((x : SessionState) → (f x).id ≡ x.id) → (c d : ℕ) (s : ServerState) → c ≢ d → presence c (with_session_changed f d s) ≡ presence c s

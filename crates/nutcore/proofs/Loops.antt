@@ -6,9 +6,9 @@ use Rattle.nutcore.specs.Server.{ServerState, session}
 use Rattle.nutcore.specs.Reply.{reply}
 use Rattle.nutcore.specs.Pump.{next_line_for, answered, after_line, after_lines, pump_stops, held_of, after_all_lines}
 use Rattle.nutcore.proofs.FirstLine.{behind_shorter}
-use Rattle.nutcore.proofs.Found.{find_put}
 use Rattle.nutcore.proofs.Changes.{keeps}
-use Rattle.nutcore.proofs.Pumping.{IsNext, is_next, stopped_none, after_line_is, change_at, session_after, session_after_id}
+use Rattle.nutcore.proofs.Progress.{Presence}
+use Rattle.nutcore.proofs.Pumping.{IsNext, is_next, stopped_none, own_after_line, change_at, session_after}
 
 -- the lines done, and one more
 pub after_lines-suc : (k : ℕ) (s : ServerState) (c : ℕ) → after_lines (k + 1) s c ≡ after_line (after_lines k s c) c
@@ -43,10 +43,7 @@ all_lines_are k s c le stop =
 
 -- the session after a line
 pub found_after_line : (s : ServerState) (c : ℕ) (line : List ℕ) (x : SessionState) → session c s ≡ Some x → next_line_for s c ≡ Some line → session c (after_line s c) ≡ Some (session_after s c line x)
-found_after_line s c line x found h =
-    let y : SessionState = session_after s c line x in
-    let id : y.id ≡ c = session_after_id s c line x found in
-    ap (session c) (after_line_is s c line x found h) ∙ (ap (λ d. find d (put y s.sessions)) (sym id) ∙ find_put y s.sessions x (ap (λ d. find d s.sessions) id ∙ found))
+found_after_line s c line x found h = ap (λ (p : Presence). p.session) (own_after_line s c line x found h)
 
 -- each line takes bytes from what is held
 pub session_shortens : (s : ServerState) (c : ℕ) (line : List ℕ) (n : IsNext s c line) → length (session_after s c line n.asking).held < length n.asking.held

@@ -67,13 +67,13 @@ rise_lawful l n c (z ∷ xs) h x e = lawful_by (rise_lawful (z.id + 1) n c xs h.
         let reach = rise_reach (z.id + 1) n xs h.1 in (let low : l ≤ c = omega (arith, h.0, k) in low, let high : c < n = omega (arith, k, reach) in high)
     lawful_by rest false same e = let inside = rest e in (let low : l ≤ c = omega (arith, h.0, inside.0) in low, inside.1)
 
--- so an id below the first one is none's
-pub rise_none : (l n c : ℕ) (xs : List SessionState) → IdsRise l n xs → c < l → find c xs ≡ None
-rise_none l n c xs h below = none_by (find c xs) refl
+-- so an id elsewhere is none's
+pub rise_none : (l n c : ℕ) (xs : List SessionState) → IdsRise l n xs → (l ≤ c → c < n → ⊥) → find c xs ≡ None
+rise_none l n c xs h elsewhere = none_by (find c xs) refl
   where
     none_by : (o : Option SessionState) → find c xs ≡ o → o ≡ None
     none_by None e = refl
-    none_by (Some x) e = absurd (let inside = rise_lawful l n c xs h x e in let no : ⊥ = omega (arith, inside.0, below) in no)
+    none_by (Some x) e = let inside = rise_lawful l n c xs h x e in absurd (elsewhere inside.0 inside.1)
 
 pub rise_without : (l n c : ℕ) (xs : List SessionState) → IdsRise l n xs → IdsRise l n (without c xs)
 rise_without l n c [] h = h
@@ -91,7 +91,7 @@ without_at l n c [] h lt = absurd (omega arith)
 without_at l n c (x ∷ xs) h lt = without_by (without_at (x.id + 1) n c xs h.1) (eqb x.id c) refl
   where
     without_by : (place c xs < length xs → without c xs ≡ take (place c xs) xs ++ drop (place c xs + 1) xs) → (b : Bool) → eqb x.id c ≡ b → without c (x ∷ xs) ≡ take (place c (x ∷ xs)) (x ∷ xs) ++ drop (place c (x ∷ xs) + 1) (x ∷ xs)
-    without_by above true e = let same : x.id ≡ c = grind (arith, nat_tests) in let rest : without c xs ≡ xs = without_none c xs (rise_none (x.id + 1) n c xs h.1 (omega (arith, same))) in grind (arith, nat_tests, common_steps)
+    without_by above true e = let same : x.id ≡ c = grind (arith, nat_tests) in let rest : without c xs ≡ xs = without_none c xs (rise_none (x.id + 1) n c xs h.1 (λ low high. omega (arith, same, low))) in grind (arith, nat_tests, common_steps)
     without_by above false e = let more : place c xs < length xs = grind (arith, nat_tests, common_steps) in let rest = above more in grind (arith, nat_tests, common_steps)
 
 -- ids rise along the places

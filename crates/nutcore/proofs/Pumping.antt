@@ -14,8 +14,8 @@ use Rattle.nutcore.specs.History.{Execution, of_notice, notice}
 use Rattle.nutcore.proofs.FirstLine.{line_ends}
 use Rattle.nutcore.proofs.Changes.{keeps}
 use Rattle.nutcore.proofs.Progress.{presence}
-use Rattle.nutcore.proofs.Found.{find_id, find_put, find_put_other, put_put, put_found}
-use Rattle.nutcore.proofs.Changed.{at_client, by_change, change_is}
+use Rattle.nutcore.proofs.Found.{find_id, find_put_other, put_put, put_found}
+use Rattle.nutcore.proofs.Changed.{session_put, at_client, by_change, change_is}
 
 -- the server in which this session, the UPSs and what is tracked are changed
 abbrev pub line_done : ServerState → Change → SessionState → ServerState
@@ -78,7 +78,7 @@ after_line_is s c line x found h =
     let y : SessionState = changed_session change x in
     let t : ServerState = line_done s change y in
     let id : y.id ≡ c = (keeps change x).id ∙ find_id c s.sessions x found in
-    let there : session c t ≡ Some y = ap (λ d. find d (put y s.sessions)) (sym id) ∙ find_put y s.sessions x (ap (λ d. find d s.sessions) id ∙ found) in
+    let there : session c t ≡ Some y = session_put s c x y found id in
     ap (λ (o : Option (List ℕ)). option_map_or (λ line. after_reply s c line) o s) h
     ∙ ap (with_session_changed (answered line text) c) (changed_is change c s x found)
     ∙ change_is (answered line text) c t y there
@@ -87,11 +87,7 @@ after_line_is s c line x found h =
 
 -- the clients after it
 pub own_after_line : (s : ServerState) (c : ℕ) (line : List ℕ) (x : SessionState) → session c s ≡ Some x → next_line_for s c ≡ Some line → presence c (after_line s c) ≡ at_client s c (Some (session_after s c line x))
-own_after_line s c line x found h =
-    let y : SessionState = session_after s c line x in
-    let id : y.id ≡ c = session_after_id s c line x found in
-    ap (presence c) (after_line_is s c line x found h)
-    ∙ ap (at_client s c) (ap (λ d. find d (put y s.sessions)) (sym id) ∙ find_put y s.sessions x (ap (λ d. find d s.sessions) id ∙ found))
+own_after_line s c line x found h = ap (presence c) (after_line_is s c line x found h) ∙ ap (at_client s c) (session_put s c x (session_after s c line x) found (session_after_id s c line x found))
 
 pub other_after_line : (c d : ℕ) (s : ServerState) (line : List ℕ) → next_line_for s d ≡ Some line → c ≢ d → presence c (after_line s d) ≡ presence c s
 other_after_line c d s line h differ =

@@ -32,7 +32,7 @@ use Rattle.nutcore.proofs.Loops.{all_lines_are, found_after_line}
 use Rattle.nutcore.proofs.Pumping.{no_notice, change_at}
 use Rattle.nutcore.specs.History.{owed, held}
 use Rattle.std.specs.Option.{option_map_or}
-use Rattle.nutcore.proofs.Runs.{lawful}
+use Rattle.nutcore.proofs.Places.{rise_none}
 use Rattle.nutcore.proofs.Common.{cond_both}
 
 -- to a session that holds nothing no notice is due
@@ -94,15 +94,11 @@ opened_waits : (s : ServerState) (address : List ℕ) → IsSound s → may_open
 unfolding after_by opened
 opened_waits s address sound room = record {
   x = new_session s.next_id address;
-  there = ap (λ (b : Bool). session s.next_id (cond b (record s { sessions = s.sessions ++ new_session s.next_id address ∷ []; next_id = s.next_id + 1 }) s)) room ∙ find_last (new_session s.next_id address) s.sessions (none_yet (session s.next_id s) refl);
+  there = ap (λ (b : Bool). session s.next_id (cond b (record s { sessions = s.sessions ++ new_session s.next_id address ∷ []; next_id = s.next_id + 1 }) s)) room ∙ find_last (new_session s.next_id address) s.sessions (rise_none 1 s.next_id s.next_id s.sessions sound.ids (λ low high. omega (arith, high)));
   held = refl;
   owed = refl;
   going = refl;
 }
-  where
-    none_yet : (o : Option SessionState) → session s.next_id s ≡ o → session s.next_id s ≡ None
-    none_yet None e = e
-    none_yet (Some x) e = absurd (omega (arith, lawful s sound.ids s.next_id (ap is_some e)))
 
 pub line_answered : ALineIsAnswered
 line_answered = record {
