@@ -7,7 +7,8 @@ use Rattle.nutwords.specs.SplitLine.{split_line, has_lf}
 use Rattle.nutwords.proofs.PublicLaws.{first_line_is_cut_off}
 use Rattle.nutcore.proofs.Common.{cond_both, same_Some, SessionState, ServerState, session, with_session_changed}
 use Rattle.nutwords.specs.Text.{with_lf}
-use Rattle.nutcore.specs.Lines.{first_line}
+use Rattle.nutcore.specs.Lines.{first_line, rest_after}
+use Rattle.nutcore.proofs.FirstLine.{line_found}
 use Rattle.nutcore.specs.Pump.{notified, owed_of, held_of}
 use Rattle.nutcore.specs.History.{Execution, of_line, of_notice, client_of, executions, of_client, lines_of, texts_of, taken, asked, executed, answers}
 use Rattle.nutcore.specs.Sound.{Each}
@@ -35,13 +36,7 @@ either_notice (of_notice c ∷ xs) ys h = inl tt
 
 -- a next line has no LF
 first_whole : (bytes line : List ℕ) → first_line bytes ≡ Some line → has_lf line ≡ false
-first_whole bytes line h = by_split (split_line bytes) refl h
-  where
-    by_split : (o : Option (List ℕ × List ℕ)) → split_line bytes ≡ o → option_map (λ split. split.0) o ≡ Some line → has_lf line ≡ false
-    by_split None e k = cc k
-    by_split (Some (found, rest)) e k =
-        let same : found ≡ line = cc k in
-        subst (λ (l : List ℕ). has_lf l ≡ false) same ((first_line_is_cut_off bytes found rest).0 e).1
+first_whole bytes line h = ((first_line_is_cut_off bytes line (rest_after line bytes)).0 (line_found bytes line h)).1
 
 -- what a run says of the client's executions: lines are whole, and after a notice it is over
 record Tells (p : Presence) (xs : List Execution) (taken asked : List ℕ) (q : Presence) : Type 0 where

@@ -1,11 +1,11 @@
 -- What changing a session leaves of the server, of that session and of the others.
-use Rattle.std.proofs.Common.{◌≡◌, ◌≢◌, ℕ, true, Option, Some, None, refl, sym, ◌∙◌, ap, ltb, ◌+◌, List, [], ◌∷◌, ◌++◌}
+use Rattle.std.proofs.Common.{◌≡◌, ◌≢◌, ℕ, true, Option, Some, None, refl, sym, ◌∙◌, ap, ltb, ◌+◌, List, [], ◌∷◌, ◌++◌, inl, inr}
 use Rattle.std.specs.Prelude.{option_map}
 use Rattle.std.specs.Option.{option_map_or}
 use Rattle.nutcore.specs.Session.{SessionState, find, put, new_session}
 use Rattle.nutcore.specs.Server.{ServerState, session, with_session, with_session_changed}
 use Rattle.nutcore.specs.Pump.{holds_overlong, notified, with_notice}
-use Rattle.nutcore.proofs.Found.{find_id, find_put, find_put_other}
+use Rattle.nutcore.proofs.Found.{cases_Option, find_id, find_put, find_put_other}
 use Rattle.nutcore.proofs.Progress.{Presence, presence}
 use Rattle.nutcore.proofs.Common.{cond_both}
 use Rattle.nutcore.specs.Step.{may_open, opened}
@@ -17,11 +17,7 @@ session_put s c x y e id = ap (λ d. find d (put y s.sessions)) (sym id) ∙ fin
 -- what holds of the server if the session is there, and put as it is changed, and if it isn't there
 pub by_change : (P : ServerState → Type 0) (f : SessionState → SessionState) (c : ℕ) (s : ServerState) → ((x : SessionState) → session c s ≡ Some x → P (with_session s (f x))) → (session c s ≡ None → P s) → P (with_session_changed f c s)
 unfolding with_session_changed
-by_change P f c s there absent = by_session (session c s) refl
-  where
-    by_session : (o : Option SessionState) → session c s ≡ o → P (option_map_or (λ x. with_session s (f x)) o s)
-    by_session None e = absent e
-    by_session (Some x) e = there x e
+by_change P f c s there absent = elim (cases_Option (session c s)) [ inl e ↦ rw e (absent e) | inr (x, e) ↦ rw e (there x e) ]
 
 pub change_is : (f : SessionState → SessionState) (c : ℕ) (s : ServerState) (x : SessionState) → session c s ≡ Some x → with_session_changed f c s ≡ with_session s (f x)
 unfolding with_session_changed

@@ -16,8 +16,7 @@ use Rattle.nutcore.specs.Calls.{done}
 use Rattle.nutcore.specs.Promises.{IsAt, PumpGives}
 use Rattle.nutcore.proofs.Changed.{change_absent}
 use Rattle.nutcore.proofs.Places.{without_none}
-use Rattle.nutcore.proofs.Loops.{stopped_lines}
-use Rattle.nutcore.proofs.Pumping.{no_notice}
+use Rattle.nutcore.proofs.Least.{absent_stops, pump_idle}
 use Rattle.nutcore.proofs.Serving.{change_set}
 
 pub with_input_is : (s : ServerState) (c i : ℕ) (piece : List ℕ) (x y : SessionState) → IsAt c i s.sessions → session c s ≡ Some x → y ≡ joined piece x → (let code : ServerState = record s { sessions = set s.sessions i y } in code ≡ with_input s c piece)
@@ -30,12 +29,7 @@ without_output_is s c i n x y h e ey = change_set (taken_from n) s c i x y h e r
 
 -- where the client isn't open, the pump does nothing
 pub pump_absent : (s : ServerState) (c : ℕ) → session c s ≡ None → s ≡ pumped s c
-unfolding pumped after_all_lines
-pump_absent s c e =
-    let none : is_overlong s c ≡ false = ap (λ (o : Option SessionState). option_map_or holds_overlong o false) e in
-    let stop : pump_stops s c ≡ true = ap (λ (o : Option SessionState). is_none (option_and_then next_line o)) e in
-    let lines = stopped_lines (length (held_of (session c s))) s c stop in
-    sym (ap (λ (z : ServerState). after_notice z c) lines ∙ no_notice s c none)
+pump_absent s c e = sym (pump_idle s c (absent_stops s c e))
 
 pub input_absent : (s : ServerState) (c : ℕ) (piece : List ℕ) → session c s ≡ None → with_input s c piece ≡ s
 unfolding with_input

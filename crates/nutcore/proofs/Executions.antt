@@ -1,5 +1,5 @@
 -- Each line is executed at its moment.
-use Rattle.std.proofs.Common.{◌≡◌, ℕ, zero, suc, ◌+◌, List, [], ◌∷◌, Option, Some, None, refl, sym, ◌∙◌, ap, subst}
+use Rattle.std.proofs.Common.{◌≡◌, ℕ, zero, suc, ◌+◌, List, [], ◌∷◌, Option, Some, None, refl, sym, ◌∙◌, ap, subst, inl, inr}
 use Rattle.std.specs.Prelude.{All}
 use Rattle.std.proofs.lemmas.Bool.{cond_both}
 use Rattle.std.proofs.lemmas.List.Elements.{All-nil, All-cons, All-append, All-weaker}
@@ -9,6 +9,7 @@ use Rattle.nutcore.specs.Step.{refused_after, may_take, with_input, without_outp
 use Rattle.nutcore.specs.History.{Execution, of_line, of_notice, next_execution, lines_executed, pump_executions, executions_until, executions_by, executions}
 use Rattle.nutcore.specs.Headline.{IsInPump, IsInEvent, IsTimely, EachAnswerIsTimely}
 use Rattle.nutcore.proofs.Events.{of_event}
+use Rattle.nutcore.proofs.Found.{cases_Option}
 use Rattle.nutcore.proofs.Histories.{later}
 use Rattle.nutcore.proofs.Loops.{after_lines-suc}
 
@@ -19,12 +20,8 @@ pump_line : (begun : ServerState) (c k : ℕ) (s : ServerState) (j : ℕ) → s 
 unfolding lines_executed
 pump_line begun c zero s j e = All-nil (IsInPump begun c)
 pump_line begun c (suc k) s j e =
-    All-append (IsInPump begun c) (next_execution s c (next_line_for s c)) (lines_executed k (after_line s c) c) (next (next_line_for s c) refl)
+    All-append (IsInPump begun c) (next_execution s c (next_line_for s c)) (lines_executed k (after_line s c) c) (elim (cases_Option (next_line_for s c)) [ inl none ↦ rw none (All-nil (IsInPump begun c)) | inr (line, next) ↦ rw next (alone (IsInPump begun c) (of_line s c line) (refl, j, e, next)) ])
     (pump_line begun c k (after_line s c) (j + 1) (ap (λ (z : ServerState). after_line z c) e ∙ sym (after_lines-suc j begun c)))
-  where
-    next : (o : Option (List ℕ)) → next_line_for s c ≡ o → All (IsInPump begun c) (next_execution s c o)
-    next None h = All-nil (IsInPump begun c)
-    next (Some line) h = alone (IsInPump begun c) (of_line s c line) (refl, j, e, h)
 
 until_timely : (begun : ServerState) (c : ℕ) (m : Option ℕ) → All (IsInPump begun c) (executions_until begun c m)
 unfolding executions_until pump_executions after_lines

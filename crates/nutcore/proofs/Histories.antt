@@ -1,9 +1,9 @@
 -- What is said of a server, of what was executed since, and of the server then: where each part of an event keeps it, each pump, each event and each run does.
-use Rattle.std.proofs.Common.{◌≡◌, ◌≢◌, ℕ, zero, suc, ◌+◌, Bool, true, false, List, [], ◌∷◌, ◌++◌, Option, Some, None, refl, sym, ◌∙◌, ap, subst, cond, eqb, length, append-nil, length-append, take, ltb, arith}
+use Rattle.std.proofs.Common.{◌≡◌, ◌≢◌, ℕ, zero, suc, ◌+◌, Bool, true, false, List, [], ◌∷◌, ◌++◌, Option, Some, None, refl, sym, ◌∙◌, ap, subst, cond, eqb, length, append-nil, length-append, take, ltb, arith, inl, inr}
 use Rattle.std.specs.Prelude.{option_map}
 use Rattle.std.specs.Option.{option_map_or}
 use Rattle.std.specs.List.{flat_map}
-use Rattle.std.proofs.lemmas.Bool.{eqb-true, eqb-false}
+use Rattle.std.proofs.lemmas.Bool.{cases_Bool, eqb-true, eqb-false}
 use Rattle.std.proofs.lemmas.Bool.Decides.{nat_tests}
 use Rattle.std.proofs.lemmas.Grind.{flat_map-append}
 use Rattle.std.proofs.lemmas.List.Elements.{filter-append}
@@ -13,7 +13,7 @@ use Rattle.nutcore.specs.Pump.{next_line_for, after_line, after_lines, after_all
 use Rattle.nutcore.specs.Step.{accepted_bytes, joined, with_input, taken_from, without_output, may_take, opened, pumped_until, after_by, refused_after}
 use Rattle.nutcore.specs.History.{Execution, of_line, of_notice, client_of, text_of, next_execution, lines_executed, notice, pump_executions, executions_until, executions_by, executions, of_client, texts_of, taken_in_event, asked_in_event, taken, asked}
 use Rattle.nutcore.proofs.Events.{IsPlain, IsSilent, of_event, of_session_event}
-use Rattle.nutcore.proofs.Found.{find_without, find_without_other, of_pushed}
+use Rattle.nutcore.proofs.Found.{cases_Option, find_without, find_without_other, of_pushed}
 use Rattle.nutcore.proofs.Changed.{at_client, presence_changed, presence_other}
 use Rattle.nutcore.proofs.Changed as changing_one
 use Rattle.nutcore.proofs.Progress.{Presence, is_at, presence_is, presence}
@@ -27,16 +27,15 @@ pub record IsOfPump (d : ℕ) (R : ServerState → List Execution → ServerStat
   pub by_notice : (s : ServerState) → is_overlong s d ≡ true → R s (of_notice d ∷ []) (with_session_changed notified d s)
 
 module _ (d : ℕ) (R : ServerState → List Execution → ServerState → Type 0) (h : IsOfPump d R) where
-  next_keeps : (s : ServerState) (o : Option (List ℕ)) → next_line_for s d ≡ o → R s (next_execution s d o) (after_line s d)
-  next_keeps s None e = subst (R s []) (sym (stopped_none s d e)) (h.stays s)
-  next_keeps s (Some line) e = h.by_line s line e
+  next_keeps : (s : ServerState) → R s (next_execution s d (next_line_for s d)) (after_line s d)
+  next_keeps s = elim (cases_Option (next_line_for s d)) [ inl e ↦ rw (e, stopped_none s d e) (h.stays s) | inr (line, e) ↦ rw e (h.by_line s line e) ]
 
   lines_keep : (k : ℕ) (s : ServerState) → R s (lines_executed k s d) (after_lines k s d)
   unfolding lines_executed after_lines
   lines_keep zero s = h.stays s
   lines_keep (suc k) s =
       let next : ServerState = after_line s d in
-      h.joins s next (after_lines k next d) (next_execution s d (next_line_for s d)) (lines_executed k next d) (next_keeps s (next_line_for s d) refl) (lines_keep k next)
+      h.joins s next (after_lines k next d) (next_execution s d (next_line_for s d)) (lines_executed k next d) (next_keeps s) (lines_keep k next)
 
   pub until_keeps : (s : ServerState) (m : Option ℕ) → R s (executions_until s d m) (pumped_until s d m)
   unfolding executions_until pumped_until pump_executions pumped after_all_lines
@@ -108,11 +107,10 @@ answers_more c xs ys = ap (λ (zs : List ℕ). length zs) (two_lists text_of c x
 
 -- what one client does is its own, or another's
 pub own_or_other : (c d : ℕ) (P : ℕ → Bool → Type 0) → P d true → (c ≢ d → P c false) → P c (eqb d c)
-own_or_other c d P own other = by_id (eqb d c) refl
-  where
-    by_id : (b : Bool) → eqb d c ≡ b → P c b
-    by_id true e = subst (λ (z : ℕ). P z true) (eqb-true d c e) own
-    by_id false e = other (λ (h : c ≡ d). eqb-false d c e (sym h))
+own_or_other c d P own other = elim (cases_Bool (eqb d c)) [
+  | inl e ↦ rw e (subst (λ (z : ℕ). P z true) (eqb-true d c e) own)
+  | inr e ↦ rw e (other (λ (h : c ≡ d). eqb-false d c e (sym h)))
+]
 
 -- what holds of a client as it is, whoever is given the next id, where it is closed, and where it is opened, holds after each event by which no client sends or takes
 pub of_opened : (P : Presence → Type 0) (c : ℕ) (s : ServerState) (address : List ℕ) (m : Option ℕ) → ((u : Bool) → (ltb c s.next_id ≡ true → u ≡ true) → P (is_at (session c s) u))

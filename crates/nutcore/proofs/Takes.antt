@@ -12,9 +12,8 @@ use Rattle.nutcore.specs.History.{Execution, executions_in_event, of_client, tex
 use Rattle.nutcore.proofs.Bounded.{event_measured}
 use Rattle.nutcore.proofs.Changed.{by_change}
 use Rattle.nutcore.proofs.Costs.{took_some, took_none}
-use Rattle.nutcore.proofs.Least.{HasStopped, absent_stops, pump_ended}
-use Rattle.nutcore.proofs.Loops.{stopped_lines}
-use Rattle.nutcore.proofs.Pumping.{put_same, no_notice}
+use Rattle.nutcore.proofs.Least.{HasStopped, absent_stops, pump_idle, pump_ended}
+use Rattle.nutcore.proofs.Pumping.{put_same}
 
 -- the client takes k bytes, or all
 abbrev pub size : ℕ → ℕ → ServerState → ℕ
@@ -43,12 +42,6 @@ there_is_memory o n b = grind arith
 pub record HasNothingLeft (c : ℕ) (s : ServerState) : Type 0 where
   pub none : owed c s ≡ []
   pub ended : HasStopped s c
-
-pump_idle : (s : ServerState) (c : ℕ) → HasStopped s c → pumped s c ≡ s
-unfolding pumped after_all_lines
-pump_idle s c h =
-    let k : ℕ = length (held_of (session c s)) in
-    ap (λ (z : ServerState). after_notice z c) (stopped_lines k s c h.stopped) ∙ no_notice s c h.short
 
 -- a take moves so many bytes, and its pump follows; what is executed takes from what is held
 pub record IsTake (k c : ℕ) (s t : ServerState) (done : List Execution) : Type 0 where

@@ -82,7 +82,7 @@ module _ (s : ServerState) (c : ℕ) (line : List ℕ) (w : IsWaiting c s) (whol
   unfolding after_by pumped_until pumped after_lines
   new_is =
       let some : 1 ≤ length (held c begun) = omega (arith, ap (λ (o : Option SessionState). length (held_of o)) begun_has, ap length fed_holds, length-append line (10 ∷ [])) in
-      let all : after_all_lines begun c ≡ done = all_lines_are 1 begun c some (empty_stops (session c done) (omega (arith, ap length done_holds))) in
+      let all : after_all_lines begun c ≡ done = all_lines_are 1 begun c some (empty_stops (session c done) done_holds) in
       ap (λ (t : ServerState). after_notice t c) all ∙ no_notice done c (no_notice_due (session c done) done_holds)
 
 -- a session that was opened
