@@ -8,7 +8,7 @@ use Rattle.nutcore.specs.Pump.{holds_overlong, notified, with_notice}
 use Rattle.nutcore.proofs.Found.{cases_Option, find_id, find_put, find_put_other}
 use Rattle.nutcore.proofs.Progress.{Presence, presence}
 use Rattle.nutcore.proofs.Common.{cond_both}
-use Rattle.nutcore.specs.Step.{may_open, opened}
+use Rattle.nutcore.specs.Step.{joined, with_input, may_open, opened}
 
 -- a session that is put
 pub session_put : (s : ServerState) (c : ℕ) (x y : SessionState) → session c s ≡ Some x → y.id ≡ c → session c (with_session s y) ≡ Some y
@@ -26,6 +26,10 @@ change_is f c s x e = ap (λ (o : Option SessionState). option_map_or (λ y. wit
 pub change_absent : (f : SessionState → SessionState) (c : ℕ) (s : ServerState) → session c s ≡ None → with_session_changed f c s ≡ s
 unfolding with_session_changed
 change_absent f c s e = ap (λ (o : Option SessionState). option_map_or (λ y. with_session s (f y)) o s) e
+
+pub input_absent : (s : ServerState) (c : ℕ) (piece : List ℕ) → session c s ≡ None → with_input s c piece ≡ s
+unfolding with_input
+input_absent s c piece e = change_absent (joined piece) c s e
 
 -- a client with this session
 abbrev pub at_client : ServerState → ℕ → Option SessionState → Presence

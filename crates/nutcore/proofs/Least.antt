@@ -69,6 +69,9 @@ pub pump_idle : (s : ServerState) (c : ℕ) → HasStopped s c → pumped s c �
 unfolding pumped after_all_lines
 pump_idle s c h = ap (λ (z : ServerState). after_notice z c) (stopped_lines (length (held_of (session c s))) s c h.stopped) ∙ no_notice s c h.short
 
+pub pump_absent : (s : ServerState) (c : ℕ) → session c s ≡ None → s ≡ pumped s c
+pump_absent s c e = sym (pump_idle s c (absent_stops s c e))
+
 told_ends : (o : Option SessionState) → (is_none (option_and_then next_line (option_map notified o)) ≡ true) × (option_map_or holds_overlong (option_map notified o) false ≡ false)
 told_ends o = grind arith
 
