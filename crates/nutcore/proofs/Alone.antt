@@ -2,7 +2,7 @@
 use Rattle.std.proofs.Common.{arith, ◌≡◌, ◌⊎◌, ◌∙◌, ℕ, Bool, true, false, List, [], ◌∷◌, ◌++◌, Option, Some, None, refl, sym, ap, subst, eqb, ltb, inl, inr, append_assoc, append-nil}
 use Rattle.std.specs.Prelude.{option_map}
 use Rattle.std.specs.Option.{option_map_or}
-use Rattle.std.proofs.lemmas.Bool.{both_ways, eqb-true, lt-ltb}
+use Rattle.std.proofs.lemmas.Bool.{both_ways, false_from_ne_true, eqb-true, lt-ltb}
 use Rattle.nutwords.specs.SplitLine.{split_line, has_lf}
 use Rattle.nutwords.proofs.PublicLaws.{first_line_is_cut_off}
 use Rattle.nutcore.proofs.Common.{cond_both, same_Some, SessionState, ServerState, session, with_session_changed}
@@ -18,49 +18,36 @@ use Rattle.nutcore.proofs.Progress.{Presence, IsKept, is_over, presence}
 use Rattle.nutcore.proofs.SoundUps.{each_join}
 use Rattle.nutcore.proofs.Stepping.{Goes, goes, run_sent, run_taken_up}
 
--- a line that was executed has no LF
+-- it is a line, without LF
 abbrev IsWhole : Execution → Type 0
 IsWhole (of_line s c line) = has_lf line ≡ false
-IsWhole (of_notice c) = Unit {0}
-
--- a notice is among them
-abbrev AnyNotice : List Execution → Type 0
-AnyNotice [] = ⊥
-AnyNotice (of_line s c line ∷ xs) = AnyNotice xs
-AnyNotice (of_notice c ∷ xs) = Unit {0}
-
-either_notice : (xs ys : List Execution) → AnyNotice (xs ++ ys) → AnyNotice xs ⊎ AnyNotice ys
-either_notice [] ys h = inr h
-either_notice (of_line s c line ∷ xs) ys h = either_notice xs ys h
-either_notice (of_notice c ∷ xs) ys h = inl tt
+IsWhole (of_notice c) = ⊥
 
 -- a next line has no LF
 first_whole : (bytes line : List ℕ) → first_line bytes ≡ Some line → has_lf line ≡ false
 first_whole bytes line h = ((first_line_is_cut_off bytes line (rest_after line bytes)).0 (line_found bytes line h)).1
 
--- what a run says of the client's executions: lines are whole, and after a notice it is over
+-- what a run says of the client's executions: they are whole lines, where it isn't over
 record Tells (p : Presence) (xs : List Execution) (taken asked : List ℕ) (q : Presence) : Type 0 where
   goes_on : Goes p xs taken asked q
-  whole : Each IsWhole xs
-  noticed : IsKept p → AnyNotice xs → is_over q ≡ true
+  whole : IsKept p → is_over q ≡ false → Each IsWhole xs
 
 tells : IsOfClient Tells
 tells = record {
   joins = λ p q r xs ys k k' a a' f h. record {
     goes_on = goes.joins p q r xs ys k k' a a' f.goes_on h.goes_on;
-    whole = each_join IsWhole xs ys f.whole h.whole;
-    noticed = λ kept any. let on = h.goes_on ((f.goes_on kept).keeps kept) in elim (either_notice xs ys any) [
-      | inl first ↦ (on.taken_up.stays (f.noticed kept first)).0
-      | inr last ↦ h.noticed ((f.goes_on kept).keeps kept) last
-    ];
+    whole = λ kept going.
+        let kept_on = (f.goes_on kept).keeps kept in
+        let before : is_over q ≡ false = false_from_ne_true (is_over q) (λ over. both_ways (is_over r) going ((h.goes_on kept_on).taken_up.stays over).0) in
+        each_join IsWhole xs ys (f.whole kept before) (h.whole kept_on going);
   };
-  stays = λ o u v up. record { goes_on = goes.stays o u v up; whole = tt; noticed = λ kept none. absurd none };
-  by_line = λ c s line n u. record { goes_on = goes.by_line c s line n u; whole = (first_whole n.asking.held line n.first, tt); noticed = λ kept none. absurd none };
-  by_notice = λ c x u long. record { goes_on = goes.by_notice c x u long; whole = (tt, tt); noticed = λ kept any. refl };
-  by_input = λ piece x u. record { goes_on = goes.by_input piece x u; whole = tt; noticed = λ kept none. absurd none };
-  by_output = λ n x u. record { goes_on = goes.by_output n x u; whole = tt; noticed = λ kept none. absurd none };
-  opens = λ id address. record { goes_on = goes.opens id address; whole = tt; noticed = λ kept none. absurd none };
-  closes = λ x u. record { goes_on = goes.closes x u; whole = tt; noticed = λ kept none. absurd none };
+  stays = λ o u v up. record { goes_on = goes.stays o u v up; whole = λ kept going. tt };
+  by_line = λ c s line n u. record { goes_on = goes.by_line c s line n u; whole = λ kept going. (first_whole n.asking.held line n.first, tt) };
+  by_notice = λ c x u long. record { goes_on = goes.by_notice c x u long; whole = λ kept (going : true ≡ false). cc };
+  by_input = λ piece x u. record { goes_on = goes.by_input piece x u; whole = λ kept going. tt };
+  by_output = λ n x u. record { goes_on = goes.by_output n x u; whole = λ kept going. tt };
+  opens = λ id address. record { goes_on = goes.opens id address; whole = λ kept going. tt };
+  closes = λ x u. record { goes_on = goes.closes x u; whole = λ kept going. tt };
 }
 
 -- executions of one client
@@ -73,10 +60,10 @@ no_bytes : (line : List ℕ) (rest : List ℕ) → with_lf line ++ rest ≡ [] �
 no_bytes [] rest e = cc e
 no_bytes (b ∷ line) rest e = cc e
 
-none_more : (xs : List Execution) → (AnyNotice xs → ⊥) → lines_of xs ≡ [] → xs ≡ []
-none_more [] quiet e = refl
-none_more (of_line s c line ∷ xs) quiet e = absurd (no_bytes line (lines_of xs) e)
-none_more (of_notice c ∷ xs) quiet e = absurd (quiet tt)
+none_more : (xs : List Execution) → Each IsWhole xs → lines_of xs ≡ [] → xs ≡ []
+none_more [] whole e = refl
+none_more (of_line s c line ∷ xs) whole e = absurd (no_bytes line (lines_of xs) e)
+none_more (of_notice c ∷ xs) whole e = absurd whole.0
 
 same_line : (a b rest : List ℕ) → has_lf a ≡ false → has_lf b ≡ false → with_lf a ++ rest ≡ with_lf b → (a ≡ b) × (rest ≡ [])
 same_line a b rest f g e =
@@ -90,15 +77,15 @@ record IsOneLine (c : ℕ) (line : List ℕ) (xs : List Execution) : Type 0 wher
   server : ServerState
   is : xs ≡ of_line server c line ∷ []
 
-one_line : (c : ℕ) (line : List ℕ) (xs : List Execution) → has_lf line ≡ false → Each IsWhole xs → Each (λ x. client_of x ≡ c) xs → (AnyNotice xs → ⊥) → lines_of xs ≡ with_lf line → IsOneLine c line xs
-one_line c line [] none whole its quiet e = absurd (no_bytes line [] (append-nil (with_lf line) ∙ sym e))
-one_line c line (of_line s d l ∷ xs) none whole its quiet e =
+one_line : (c : ℕ) (line : List ℕ) (xs : List Execution) → has_lf line ≡ false → Each IsWhole xs → Each (λ x. client_of x ≡ c) xs → lines_of xs ≡ with_lf line → IsOneLine c line xs
+one_line c line [] none whole its e = absurd (no_bytes line [] (append-nil (with_lf line) ∙ sym e))
+one_line c line (of_line s d l ∷ xs) none whole its e =
     let is = same_line l line (lines_of xs) whole.0 none e in
     record {
       server = s;
-      is = ap (λ (k : ℕ). of_line s k l ∷ xs) its.0 ∙ ap (λ (w : List ℕ). of_line s c w ∷ xs) is.0 ∙ ap (λ (zs : List Execution). of_line s c line ∷ zs) (none_more xs quiet is.1);
+      is = ap (λ (k : ℕ). of_line s k l ∷ xs) its.0 ∙ ap (λ (w : List ℕ). of_line s c w ∷ xs) is.0 ∙ ap (λ (zs : List Execution). of_line s c line ∷ zs) (none_more xs whole.1 is.1);
     }
-one_line c line (of_notice d ∷ xs) none whole its quiet e = absurd (quiet tt)
+one_line c line (of_notice d ∷ xs) none whole its e = absurd whole.0
 
 not_closed : (o : Option SessionState) (used : Bool) → option_map_or (λ x. x.ending) o used ≡ false → option_map_or (λ x. false) o used ≡ false
 not_closed o used h = grind arith
@@ -110,7 +97,7 @@ one_line_answered old new es os c line lawful absent r asks whole going none_hel
     let up = (run_taken_up old new es os lawful r c).while_going going in
     let lines : lines_of (of_client c (executions old es os)) ≡ with_lf line =
     sym (append-nil (executed c old es os)) ∙ ap (λ (w : List ℕ). executed c old es os ++ w) (sym none_held) ∙ sym up ∙ ap (λ (o : Option SessionState). held_of o ++ asked c old es os) absent ∙ asks in
-    let one = one_line c line (of_client c (executions old es os)) whole told.whole (all_its c (executions old es os)) (λ any. absurd (both_ways (is_over (presence c new)) going (told.noticed kept any))) lines in
+    let one = one_line c line (of_client c (executions old es os)) whole (told.whole kept going) (all_its c (executions old es os)) lines in
     let sent = (run_sent old new es os lawful r c).while_open (not_closed (session c new) _ going) in
     record {
       server = one.server;

@@ -14,12 +14,12 @@ use Rattle.nutcore.specs.Reply.{reply, too_long_notice}
 use Rattle.nutcore.specs.Pump.{answered, held_of, owed_of}
 use Rattle.nutcore.specs.Step.{accepted_bytes, joined, with_input, taken_from, without_output, may_take, offered, refused_after, after_by}
 use Rattle.nutcore.specs.History.{Execution, of_line, of_notice, executions_until, executions_by, of_client, text_of, texts_of, held, owed, taken_in_event, asked_in_event}
-use Rattle.nutcore.specs.Cost.{no_cost, cost_between, cost_of}
+use Rattle.nutcore.specs.Cost.{cost_between, cost_of}
 use Rattle.nutcore.specs.Sound.{IsSound, IsSoundSession}
 use Rattle.nutcore.specs.Bounded.{EachEventIsBounded}
 use Rattle.nutcore.proofs.Changes.{keeps}
 use Rattle.nutcore.proofs.Events.{of_event}
-use Rattle.nutcore.proofs.Histories.{IsOfClient, of_event_of_client, until_keeps, two_clients, own_or_other}
+use Rattle.nutcore.proofs.Histories.{IsOfClient, of_event_of_client, of_its_pump, own_or_other}
 use Rattle.nutcore.proofs.Loops.{session_shortens}
 use Rattle.nutcore.proofs.Progress.{Presence, presence}
 use Rattle.nutcore.proofs.Pumping.{change_at}
@@ -60,15 +60,6 @@ measures = record {
 pub event_measured : (c : ℕ) (s : ServerState) (e : Event) (m : Option ℕ) → IsMeasured (presence c s) (of_client c (executions_by s e m)) (taken_in_event c s e) (asked_in_event c s e) (presence c (after_by s e m))
 event_measured c s e m = of_event_of_client IsMeasured measures c s e m
 
--- all that its pump executes is its own
-own_pump : (c : ℕ) (s : ServerState) (m : Option ℕ) → of_client c (executions_until s c m) ≡ executions_until s c m
-own_pump c s m = until_keeps c (λ s xs t. of_client c xs ≡ xs) (record {
-  stays = λ s. refl;
-  joins = λ s m t xs ys f g. two_clients c xs ys ∙ ap (λ (zs : List Execution). zs ++ of_client c ys) f ∙ ap (λ (zs : List Execution). xs ++ zs) g;
-  by_line = λ s line h. cond-true _ _ _ (eq-eqb c c refl);
-  by_notice = λ s long. cond-true _ _ _ (eq-eqb c c refl);
-}) s m
-
 held_sound : (s : ServerState) (c : ℕ) → IsSound s → (o : Option SessionState) → session c s ≡ o → length (held_of o) ≤ HELD_LIMIT
 held_sound s c h None e = omega arith
 held_sound s c h (Some x) e = (each_found IsSoundSession c s.sessions x e h.sessions).held
@@ -87,12 +78,12 @@ all_few s e m h =
     (λ c piece.
     let few = (event_measured c s (Feed c piece) m).holds in
     let room = accepted_few (session c s) piece (held c) in
-    let own = ap (λ (xs : List Execution). length xs) (own_pump c (with_input s c piece) m) in
+    let own = ap (λ (xs : List Execution). length xs) (of_its_pump c c (with_input s c piece) m ∙ cond-true _ _ _ (eq-eqb c c refl)) in
     let came = ap (λ (b : Bool). length (cond b (accepted_bytes (session c s) piece) [])) (eq-eqb c c refl) in
     omega (arith, few, room, own, came))
     (λ c n.
     let few = (event_measured c s (Took c n) m).holds in
-    let own = cond_both (may_take (session c s) n) (executions_until (without_output s c n) c m) [] (λ xs. length (of_client c xs) ≡ length xs) (λ may. ap (λ (xs : List Execution). length xs) (own_pump c (without_output s c n) m)) (λ never. refl) in
+    let own = cond_both (may_take (session c s) n) (executions_until (without_output s c n) c m) [] (λ xs. length (of_client c xs) ≡ length xs) (λ may. ap (λ (xs : List Execution). length xs) (of_its_pump c c (without_output s c n) m ∙ cond-true _ _ _ (eq-eqb c c refl))) (λ never. refl) in
     omega (arith, few, held c, own))
     e
 
@@ -104,31 +95,24 @@ took_offered (Some x) n may = let le : n ≤ length (offered (Some x)) = leb-tru
 taken_few : (c : ℕ) (s : ServerState) (e : Event) → length (taken_in_event c s e) ≤ length (offered (session c s))
 unfolding taken_in_event
 taken_few c s e =
-    of_event (λ e. length (taken_in_event c s e) ≤ length (offered (session c s))) (λ e silent. subst (λ (bytes : List ℕ). length bytes ≤ length (offered (session c s))) (sym (silent.takes c s)) (omega arith))
+    of_event (λ e. length (taken_in_event c s e) ≤ length (offered (session c s))) (λ e silent. rw (silent.takes c s) (omega arith))
     (λ d piece. omega arith)
     (λ d n. cond_both (may_take (session d s) n) (cond (eqb d c) (take n (owed_of (session d s))) []) [] (λ (bytes : List ℕ). length bytes ≤ length (offered (session c s)))
     (λ may. own_or_other c d (λ z b. length (cond b (take n (owed_of (session d s))) []) ≤ length (offered (session z s))) (took_offered (session d s) n may) (λ differ. omega arith))
     (λ never. omega arith)) e
 
 -- a ring's worth of bytes is placed, and each line that is rendered has a byte of it
-record FewIn (cost : Cost) : Type 0 where
-  bytes : cost.placed ≤ RING_LIMIT
-  renders : cost.rendered ≤ cost.placed
-
-none_few : FewIn no_cost
-none_few = record { bytes = omega arith; renders = omega arith }
+abbrev FewIn : Cost → Type 0
+FewIn cost = (cost.placed ≤ RING_LIMIT) × (cost.rendered ≤ cost.placed)
 
 client_few : (before after : List ℕ) (taken : ℕ) → taken ≤ length before → length after ≤ RING_LIMIT → FewIn (cost_between before taken after)
 client_few before after taken le few =
     let placed : ℕ = length after + taken - length before in
-    record {
-      bytes = omega (arith, le, few);
-      renders = omega (arith, lines_add_up.few (drop (length after - placed) after), length-drop (length after - placed) after);
-    }
+    (omega (arith, le, few), omega (arith, lines_add_up.few (drop (length after - placed) after), length-drop (length after - placed) after))
 
 cost_few : (old new : ServerState) (e : Event) → FewIn (cost_of old e new)
 cost_few old new e =
-    of_event (λ e. FewIn (cost_of old e new)) (λ e silent. subst FewIn (sym (silent.costs old new)) none_few)
+    of_event (λ e. FewIn (cost_of old e new)) (λ e silent. rw (silent.costs old new) (omega arith, omega arith))
     (λ c piece. client_few _ _ _ (taken_few c old (Feed c piece)) (omega (arith, length-take RING_LIMIT (owed_of (session c new)))))
     (λ c n. client_few _ _ _ (taken_few c old (Took c n)) (omega (arith, length-take RING_LIMIT (owed_of (session c new))))) e
 
@@ -137,6 +121,6 @@ bounded old new e o step h = record {
   lines = λ c. let few = (event_measured c old e (refused_after o)).holds in omega (arith, few);
   in_all = all_few old e (refused_after o) h;
   placed = λ c. let few = taken_few c old e in omega (arith, few, length-take RING_LIMIT (owed_of (session c new)));
-  bytes = (cost_few old new e).bytes;
-  renders = (cost_few old new e).renders;
+  bytes = (cost_few old new e).0;
+  renders = (cost_few old new e).1;
 }

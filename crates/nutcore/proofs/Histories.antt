@@ -3,7 +3,7 @@ use Rattle.std.proofs.Common.{◌≡◌, ◌≢◌, ℕ, zero, suc, ◌+◌, Boo
 use Rattle.std.specs.Prelude.{option_map}
 use Rattle.std.specs.Option.{option_map_or}
 use Rattle.std.specs.List.{flat_map}
-use Rattle.std.proofs.lemmas.Bool.{cases_Bool, eqb-true, eqb-false}
+use Rattle.std.proofs.lemmas.Bool.{cond_both, cases_Bool, eqb-true, eqb-false}
 use Rattle.std.proofs.lemmas.Bool.Decides.{nat_tests}
 use Rattle.std.proofs.lemmas.Grind.{flat_map-append}
 use Rattle.std.proofs.lemmas.List.Elements.{filter-append}
@@ -64,27 +64,19 @@ module _ (c : ℕ) (R : ServerState → List Execution → List ℕ → List ℕ
   pump_keeps d s m = until_keeps d (λ s xs t. R s xs [] [] t)
       (record { stays = h.stays; joins = λ s m t xs ys f g. h.joins s m t xs ys [] [] [] [] f g; by_line = h.by_line d; by_notice = h.by_notice d }) s m
 
-  plain_keeps : (s : ServerState) (e : Event) (m : Option ℕ) → IsSilent e → R s (executions_by s e m) (taken_in_event c s e) (asked_in_event c s e) (after_by s e m)
-  plain_keeps s e m silent = rw (silent.executes s m, silent.takes c s, silent.asks c s) (h.by_plain s e m silent.plain)
-
-  feed_keeps : (d : ℕ) (s : ServerState) (piece : List ℕ) (m : Option ℕ) → R s (executions_until (with_input s d piece) d m) [] (cond (eqb d c) (accepted_bytes (session d s) piece) []) (pumped_until (with_input s d piece) d m)
-  feed_keeps d s piece m =
-      let j : ServerState = with_input s d piece in
-      let more : List ℕ = cond (eqb d c) (accepted_bytes (session d s) piece) [] in
-      subst (λ a. R s (executions_until j d m) [] a (pumped_until j d m)) (append-nil more) (h.joins s j (pumped_until j d m) [] (executions_until j d m) [] [] more [] (h.by_input d s piece) (pump_keeps d j m))
-
-  took_keeps : (d : ℕ) (s : ServerState) (n : ℕ) (m : Option ℕ) (b : Bool) → may_take (session d s) n ≡ b →
-      R s (cond b (executions_until (without_output s d n) d m) []) (cond b (cond (eqb d c) (take n (owed_of (session d s))) []) []) [] (cond b (pumped_until (without_output s d n) d m) s)
-  took_keeps d s n m true may =
-      let j : ServerState = without_output s d n in
-      let bytes : List ℕ = cond (eqb d c) (take n (owed_of (session d s))) [] in
-      subst (λ k. R s (executions_until j d m) k [] (pumped_until j d m)) (append-nil bytes) (h.joins s j (pumped_until j d m) [] (executions_until j d m) bytes [] [] [] (h.by_output d s n may) (pump_keeps d j m))
-  took_keeps d s n m false may = h.stays s
+  -- bytes come or go, and then the pump runs
+  then_pump : (d : ℕ) (s j : ServerState) (m : Option ℕ) (k a : List ℕ) → R s [] k a j → R s (executions_until j d m) k a (pumped_until j d m)
+  then_pump d s j m k a first = rw (append-nil k, append-nil a) at (h.joins s j (pumped_until j d m) [] (executions_until j d m) k [] a [] first (pump_keeps d j m))
 
   pub event_keeps : (s : ServerState) (e : Event) (m : Option ℕ) → R s (executions_by s e m) (taken_in_event c s e) (asked_in_event c s e) (after_by s e m)
   unfolding executions_by taken_in_event asked_in_event after_by
   event_keeps s e m = of_event (λ e. R s (executions_by s e m) (taken_in_event c s e) (asked_in_event c s e) (after_by s e m))
-      (λ e silent. plain_keeps s e m silent) (λ d piece. feed_keeps d s piece m) (λ d n. took_keeps d s n m (may_take (session d s) n) refl) e
+      (λ e silent. rw (silent.executes s m, silent.takes c s, silent.asks c s) (h.by_plain s e m silent.plain))
+      (λ d piece. then_pump d s (with_input s d piece) m [] _ (h.by_input d s piece))
+      (λ d n. elim (cases_Bool (may_take (session d s) n)) [
+        | inl may ↦ rw may (then_pump d s (without_output s d n) m (cond (eqb d c) (take n (owed_of (session d s))) []) [] (h.by_output d s n may))
+        | inr never ↦ rw never (h.stays s)
+      ]) e
 
   pub run_keeps : (s t : ServerState) (es : List Event) (os : List Outcome) → Run s es os t → R s (executions s es os) (taken c s es os) (asked c s es os) t
   run_keeps s t [] [] r = subst (R s [] [] []) (sym r) (h.stays s)
@@ -104,6 +96,15 @@ lines_more c xs ys = ap (λ (zs : List Execution). length zs) (two_clients c xs 
 
 pub answers_more : (c : ℕ) (xs ys : List Execution) → length (texts_of (of_client c (xs ++ ys))) ≡ length (texts_of (of_client c xs)) + length (texts_of (of_client c ys))
 answers_more c xs ys = ap (λ (zs : List ℕ). length zs) (two_lists text_of c xs ys) ∙ length-append (texts_of (of_client c xs)) (texts_of (of_client c ys))
+
+-- all that a client's pump executes is its own
+pub of_its_pump : (c d : ℕ) (s : ServerState) (m : Option ℕ) → of_client c (executions_until s d m) ≡ cond (eqb d c) (executions_until s d m) []
+of_its_pump c d = until_keeps d (λ s xs t. of_client c xs ≡ cond (eqb d c) xs []) (record {
+  stays = λ s. cond_both (eqb d c) [] [] (λ (xs : List Execution). [] ≡ xs) (λ own. refl) (λ other. refl);
+  joins = λ s m t xs ys f g. two_clients c xs ys ∙ rw (f, g) (elim (cases_Bool (eqb d c)) [ inl own ↦ rw own | inr other ↦ rw other ]);
+  by_line = λ s line next. refl;
+  by_notice = λ s long. refl;
+})
 
 -- what one client does is its own, or another's
 pub own_or_other : (c d : ℕ) (P : ℕ → Bool → Type 0) → P d true → (c ≢ d → P c false) → P c (eqb d c)

@@ -17,7 +17,7 @@ use Rattle.nutcore.proofs.Changes.{keeps}
 use Rattle.nutcore.proofs.Changed.{presence_other}
 use Rattle.nutcore.proofs.Progress.{Presence, presence, is_closed, is_over, Progress, IsKept, half_joins, half_moves, half_stays, half_ends}
 use Rattle.nutcore.proofs.Pumping.{change_at, session_after, other_after_line}
-use Rattle.nutcore.proofs.Histories.{until_keeps, IsOfClient, of_run_of_client, two_clients}
+use Rattle.nutcore.proofs.Histories.{until_keeps, IsOfClient, of_run_of_client}
 
 pub input_other : (c d : ℕ) (s : ServerState) (piece : List ℕ) → c ≢ d → presence c (with_input s d piece) ≡ presence c s
 unfolding with_input
@@ -27,24 +27,14 @@ pub output_other : (c d : ℕ) (s : ServerState) (n : ℕ) → c ≢ d → prese
 unfolding without_output
 output_other c d s n differ = presence_other (taken_from n) (λ x. refl) c d s differ
 
--- another's pump executes nothing of a client, and leaves it as it is
-pub record IsApartFrom (c : ℕ) (s : ServerState) (xs : List Execution) (t : ServerState) : Type 0 where
-  pub nothing : of_client c xs ≡ []
-  pub same : presence c t ≡ presence c s
-
-pub until_apart : (c d : ℕ) (s : ServerState) (m : Option ℕ) → c ≢ d → IsApartFrom c s (executions_until s d m) (pumped_until s d m)
-until_apart c d s m differ = until_keeps d (IsApartFrom c) (record {
-  stays = λ s. record { nothing = refl; same = refl };
-  joins = λ s m t xs ys f g. record { nothing = two_clients c xs ys ∙ ap (λ (zs : List Execution). zs ++ of_client c ys) f.nothing ∙ g.nothing; same = g.same ∙ f.same };
-  by_line = λ s line h. record { nothing = not_its (of_line s d line); same = other_after_line c d s line h differ };
-  by_notice = λ s long. record { nothing = not_its (of_notice d); same = presence_other notified (λ x. refl) c d s differ };
-}) s m
-  where
-    not_its : (x : Execution) → cond (eqb d c) (x ∷ []) [] ≡ []
-    not_its x = cond-false _ _ _ (ne_eqb d c (λ (h : d ≡ c). differ (sym h)))
-
+-- another's pump leaves a client as it is
 pub until_other : (c d : ℕ) (s : ServerState) (m : Option ℕ) → c ≢ d → presence c (pumped_until s d m) ≡ presence c s
-until_other c d s m differ = (until_apart c d s m differ).same
+until_other c d s m differ = until_keeps d (λ s xs t. presence c t ≡ presence c s) (record {
+  stays = λ s. refl;
+  joins = λ s m t xs ys f g. g ∙ f;
+  by_line = λ s line next. other_after_line c d s line next differ;
+  by_notice = λ s long. presence_other notified (λ x. refl) c d s differ;
+}) s m
 
 -- each event
 abbrev pub Goes : Presence → List Execution → List ℕ → List ℕ → Presence → Type 0

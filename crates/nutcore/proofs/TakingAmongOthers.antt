@@ -4,7 +4,7 @@ use Rattle.std.specs.Prelude.{is_none, option_and_then}
 use Rattle.std.specs.List.{filter}
 use Rattle.std.specs.Option.{option_map_or}
 use Rattle.std.proofs.Math.Nat.{add-mul}
-use Rattle.std.proofs.lemmas.Bool.{cond_both, eqb-true, eq-eqb, cases_Bool}
+use Rattle.std.proofs.lemmas.Bool.{cond_both, cond-false, ne_eqb, eqb-true, eq-eqb, cases_Bool}
 use Rattle.nutlisting.specs.declared.ring.TheConstants.{RING_LIMIT}
 use Rattle.nutcore.proofs.Common.{Event, Outcome, SessionState, ServerState, session, after, Run}
 use Rattle.nutcore.specs.declared.event.Event.TheVariants.{Feed, Took, Close}
@@ -15,10 +15,10 @@ use Rattle.nutcore.specs.History.{Execution, texts_of, executions_until, executi
 use Rattle.nutcore.specs.Isolation.{client_of}
 use Rattle.nutcore.specs.Taking.{TakesAmongOthers, is_event_of, events_of, WhoTakesAmongOthersGetsEverything, lines_done}
 use Rattle.nutcore.proofs.Events.{of_session_event}
-use Rattle.nutcore.proofs.Histories.{later, lines_more, answers_more, of_opened}
+use Rattle.nutcore.proofs.Histories.{later, lines_more, answers_more, of_its_pump, of_opened}
 use Rattle.nutcore.proofs.Isolation.{own}
+use Rattle.nutcore.proofs.Least.{HasStopped}
 use Rattle.nutcore.proofs.Progress.{Presence}
-use Rattle.nutcore.proofs.Stepping.{until_apart}
 use Rattle.nutcore.proofs.Takes.{HasNothingLeft, outcome_then, server_then, done_then, IsTake, one_take, take_does, idle_take, size, some_taken, all_is_ring}
 use Rattle.nutcore.specs.TakingSome.{IsTakeOf, TakesSomeAmongOthers, WhoTakesSomeGetsEverything}
 
@@ -30,12 +30,10 @@ pub record IsUntouched (old new : Option SessionState) : Type 0 where
   pub long : option_map_or holds_overlong new false ≡ option_map_or holds_overlong old false
 
 same_session : (old new : Option SessionState) → new ≡ old → IsUntouched old new
-same_session old new e = record {
-  owes = ap owed_of e;
-  holds = ap held_of e;
-  stops = ap (λ (o : Option SessionState). is_none (option_and_then next_line o)) e;
-  long = ap (λ (o : Option SessionState). option_map_or holds_overlong o false) e;
-}
+same_session old new e = rw e (record { owes = refl; holds = refl; stops = refl; long = refl })
+
+pub stopped_after : (c : ℕ) (s t : ServerState) → IsUntouched (session c s) (session c t) → HasStopped s c → HasStopped t c
+stopped_after c s t same h = record { stopped = same.stops ∙ h.stopped; short = same.long ∙ h.short }
 
 -- another's event executes nothing of the client, and leaves what it holds and owes
 pub record IsAnothers (c : ℕ) (s : ServerState) (t : ServerState) (done : List Execution) : Type 0 where
@@ -54,11 +52,11 @@ anothers c s e m =
     })
     (λ d piece differ.
     let other : c ≢ d = λ (h : c ≡ d). differ (ap Some (sym h)) in
-    record { nothing = (until_apart c d (with_input s d piece) m other).nothing; untouched = same_session _ _ ((own s (Feed d piece) m d refl).sessions c other) })
+    record { nothing = of_its_pump c d (with_input s d piece) m ∙ cond-false _ _ _ (ne_eqb d c (λ (h : d ≡ c). other (sym h))); untouched = same_session _ _ ((own s (Feed d piece) m d refl).sessions c other) })
     (λ d n differ.
     let other : c ≢ d = λ (h : c ≡ d). differ (ap Some (sym h)) in
     record {
-      nothing = cond_both (may_take (session d s) n) (executions_until (without_output s d n) d m) [] (λ xs. of_client c xs ≡ []) (λ may. (until_apart c d (without_output s d n) m other).nothing) (λ never. refl);
+      nothing = cond_both (may_take (session d s) n) (executions_until (without_output s d n) d m) [] (λ xs. of_client c xs ≡ []) (λ may. of_its_pump c d (without_output s d n) m ∙ cond-false _ _ _ (ne_eqb d c (λ (h : d ≡ c). other (sym h)))) (λ never. refl);
       untouched = same_session _ _ ((own s (Took d n) m d refl).sessions c other);
     })
     (λ d differ. record { nothing = refl; untouched = same_session _ _ ((own s (Close d) m d refl).sessions c (λ (h : c ≡ d). differ (ap Some (sym h)))) })
@@ -74,7 +72,7 @@ own_or_not c e own other = by_client (client_of e) own other
 
 -- where nothing is left, it stays so
 left_after : (c : ℕ) (s t : ServerState) → IsUntouched (session c s) (session c t) → HasNothingLeft c s → HasNothingLeft c t
-left_after c s t same h = record { none = same.owes ∙ h.none; ended = record { stopped = same.stops ∙ h.ended.stopped; short = same.long ∙ h.ended.short } }
+left_after c s t same h = record { none = same.owes ∙ h.none; ended = stopped_after c s t same h.ended }
 
 module _ (k : ℕ) (few : k ≤ RING_LIMIT) (c : ℕ) where
   as_take : (s : ServerState) (e : Event) (o : Outcome) (P : Event → Outcome → Type 0) → IsTakeOf k c s e o → P (some_taken k c s) (outcome_then k c s) → P e o
