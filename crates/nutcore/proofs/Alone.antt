@@ -1,14 +1,14 @@
 -- A client that asks one line, in a run of any others.
-use Rattle.std.proofs.Common.{arith, ◌≡◌, ◌⊎◌, ◌∙◌, ℕ, Bool, true, false, List, [], ◌∷◌, ◌++◌, Option, Some, None, refl, sym, ap, subst, eqb, ltb, inl, inr, append_assoc, append-nil}
+use Rattle.std.proofs.Common.{arith, ◌≡◌, ◌⊎◌, ◌∙◌, ℕ, Bool, true, false, List, [], ◌∷◌, ◌++◌, Option, Some, None, refl, sym, ap, subst, eqb, ltb, inl, inr, append_assoc, append-nil, length, length-append}
 use Rattle.std.specs.Prelude.{option_map}
 use Rattle.std.specs.Option.{option_map_or}
 use Rattle.std.proofs.lemmas.Bool.{both_ways, false_from_ne_true, eqb-true, lt-ltb}
 use Rattle.nutwords.specs.SplitLine.{split_line, has_lf}
 use Rattle.nutwords.proofs.PublicLaws.{first_line_is_cut_off}
-use Rattle.nutcore.proofs.Common.{cond_both, same_Some, SessionState, ServerState, session, with_session_changed}
+use Rattle.nutcore.proofs.Common.{cond_both, SessionState, ServerState, session, with_session_changed}
 use Rattle.nutwords.specs.Text.{with_lf}
 use Rattle.nutcore.specs.Lines.{first_line, rest_after}
-use Rattle.nutcore.proofs.FirstLine.{line_found}
+use Rattle.nutcore.proofs.FirstLine.{line_found, parts}
 use Rattle.nutcore.specs.Pump.{notified, owed_of, held_of}
 use Rattle.nutcore.specs.History.{Execution, of_line, of_notice, client_of, executions, of_client, lines_of, texts_of, taken, asked, executed, answers}
 use Rattle.nutcore.specs.Sound.{Each}
@@ -57,8 +57,7 @@ all_its c (x ∷ xs) = cond_both (eqb (client_of x) c) (x ∷ of_client c xs) (o
 
 -- bytes that are one line are one line alone
 no_bytes : (line : List ℕ) (rest : List ℕ) → with_lf line ++ rest ≡ [] → ⊥
-no_bytes [] rest e = cc e
-no_bytes (b ∷ line) rest e = cc e
+no_bytes line rest e = omega (arith, ap length e, length-append (with_lf line) rest, length-append line (10 ∷ []))
 
 none_more : (xs : List Execution) → Each IsWhole xs → lines_of xs ≡ [] → xs ≡ []
 none_more [] whole e = refl
@@ -70,8 +69,7 @@ same_line a b rest f g e =
     let text : List ℕ = with_lf a ++ rest in
     let one : split_line text ≡ Some (a, rest) = (first_line_is_cut_off text a rest).1 (append_assoc a (10 ∷ []) rest, f) in
     let other : split_line text ≡ Some (b, []) = (first_line_is_cut_off text b []).1 (e, g) in
-    let same : (a, rest) ≡ (b, []) = same_Some (a, rest) (b, []) (sym one ∙ other) in
-    (ap (λ (p : List ℕ × List ℕ). p.0) same, ap (λ (p : List ℕ × List ℕ). p.1) same)
+    parts (a, rest) (b, []) (sym one ∙ other)
 
 record IsOneLine (c : ℕ) (line : List ℕ) (xs : List Execution) : Type 0 where
   server : ServerState
@@ -94,15 +92,11 @@ pub one_line_answered : OneLineIsAnswered
 one_line_answered old new es os c line lawful absent r asks whole going none_held none_owed =
     let told = of_run_of_client Tells tells c old new es os r in
     let kept : IsKept (presence c old) = λ h. lt-ltb c old.next_id (lawful c h) in
-    let up = (run_taken_up old new es os lawful r c).while_going going in
-    let lines : lines_of (of_client c (executions old es os)) ≡ with_lf line =
-    sym (append-nil (executed c old es os)) ∙ ap (λ (w : List ℕ). executed c old es os ++ w) (sym none_held) ∙ sym up ∙ ap (λ (o : Option SessionState). held_of o ++ asked c old es os) absent ∙ asks in
-    let one = one_line c line (of_client c (executions old es os)) whole (told.whole kept going) (all_its c (executions old es os)) lines in
-    let sent = (run_sent old new es os lawful r c).while_open (not_closed (session c new) _ going) in
+    let up : executed c old es os ≡ asked c old es os = sym (rw (absent, none_held, append-nil (executed c old es os)) at ((run_taken_up old new es os lawful r c).while_going going)) in
+    let one = one_line c line (of_client c (executions old es os)) whole (told.whole kept going) (all_its c (executions old es os)) (up ∙ asks) in
+    let sent : answers c old es os ≡ taken c old es os = rw (absent, none_owed, append-nil (taken c old es os)) at ((run_sent old new es os lawful r c).while_open (not_closed (session c new) _ going)) in
     record {
       server = one.server;
       executed = one.is;
-      took =
-          sym (append-nil (taken c old es os)) ∙ ap (λ (w : List ℕ). taken c old es os ++ w) (sym none_owed) ∙ sym sent ∙ ap (λ (o : Option SessionState). owed_of o ++ answers c old es os) absent
-          ∙ ap texts_of one.is ∙ append-nil _;
+      took = sym sent ∙ ap texts_of one.is ∙ append-nil _;
     }

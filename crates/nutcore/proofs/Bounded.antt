@@ -34,7 +34,7 @@ pub record IsMeasured (before : Presence) (xs : List Execution) (taken asked : L
 long_by : (going ready : Bool) (none : Bool) (n : ℕ) → (not going && (ready && (none && leb HELD_LIMIT n))) ≡ true → HELD_LIMIT ≤ n
 long_by going ready none n h = grind arith
 
-measures : IsOfClient IsMeasured
+pub measures : IsOfClient IsMeasured
 measures = record {
   joins = λ p q r xs ys k k' a a' f g. record {
     owes = omega (arith, f.owes, g.owes, ap (λ (zs : List ℕ). length zs) (flat_map-append text_of xs ys), length-append (texts_of xs) (texts_of ys), length-append k k');
@@ -57,9 +57,6 @@ measures = record {
   closes = λ x u. record { owes = omega arith; holds = omega arith };
 }
 
-pub event_measured : (c : ℕ) (s : ServerState) (e : Event) (m : Option ℕ) → IsMeasured (presence c s) (of_client c (executions_by s e m)) (taken_in_event c s e) (asked_in_event c s e) (presence c (after_by s e m))
-event_measured c s e m = of_event_of_client IsMeasured measures c s e m
-
 held_sound : (s : ServerState) (c : ℕ) → IsSound s → (o : Option SessionState) → session c s ≡ o → length (held_of o) ≤ HELD_LIMIT
 held_sound s c h None e = omega arith
 held_sound s c h (Some x) e = (each_found IsSoundSession c s.sessions x e h.sessions).held
@@ -76,13 +73,13 @@ all_few s e m h =
     let held = λ (c : ℕ). held_sound s c h (session c s) refl in
     of_event (λ e. length (executions_by s e m) ≤ HELD_LIMIT) (λ e silent. rw (silent.executes s m) (omega arith))
     (λ c piece.
-    let few = (event_measured c s (Feed c piece) m).holds in
+    let few = (of_event_of_client IsMeasured measures c s (Feed c piece) m).holds in
     let room = accepted_few (session c s) piece (held c) in
     let own = ap (λ (xs : List Execution). length xs) (of_its_pump c c (with_input s c piece) m ∙ cond-true _ _ _ (eq-eqb c c refl)) in
     let came = ap (λ (b : Bool). length (cond b (accepted_bytes (session c s) piece) [])) (eq-eqb c c refl) in
     omega (arith, few, room, own, came))
     (λ c n.
-    let few = (event_measured c s (Took c n) m).holds in
+    let few = (of_event_of_client IsMeasured measures c s (Took c n) m).holds in
     let own = cond_both (may_take (session c s) n) (executions_until (without_output s c n) c m) [] (λ xs. length (of_client c xs) ≡ length xs) (λ may. ap (λ (xs : List Execution). length xs) (of_its_pump c c (without_output s c n) m ∙ cond-true _ _ _ (eq-eqb c c refl))) (λ never. refl) in
     omega (arith, few, held c, own))
     e
@@ -118,7 +115,7 @@ cost_few old new e =
 
 pub bounded : EachEventIsBounded
 bounded old new e o step h = record {
-  lines = λ c. let few = (event_measured c old e (refused_after o)).holds in omega (arith, few);
+  lines = λ c. let few = (of_event_of_client IsMeasured measures c old e (refused_after o)).holds in omega (arith, few);
   in_all = all_few old e (refused_after o) h;
   placed = λ c. let few = taken_few c old e in omega (arith, few, length-take RING_LIMIT (owed_of (session c new)));
   bytes = (cost_few old new e).0;

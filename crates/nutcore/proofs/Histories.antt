@@ -151,22 +151,6 @@ module _ (R : Presence → List Execution → List ℕ → List ℕ → Presence
   unmoved : (p q : Presence) → q ≡ p → R p [] [] [] q
   unmoved p q e = subst (R p [] [] []) (sym e) (h.stays p.session p.used p.used (λ used. used))
 
-  notice_of : (d : ℕ) (o : Option SessionState) (u : Bool) → option_map_or holds_overlong o false ≡ true → R (is_at o u) (of_notice d ∷ []) [] [] (is_at (option_map notified o) u)
-  notice_of d None u long = cc long
-  notice_of d (Some x) u long = h.by_notice d x u long
-
-  input_of : (piece : List ℕ) (o : Option SessionState) (u : Bool) → R (is_at o u) [] [] (accepted_bytes o piece) (is_at (option_map (joined piece) o) u)
-  input_of piece None u = unmoved (is_at None u) _ refl
-  input_of piece (Some x) u = h.by_input piece x u
-
-  output_of : (n : ℕ) (o : Option SessionState) (u : Bool) → may_take o n ≡ true → R (is_at o u) [] (take n (owed_of o)) [] (is_at (option_map (taken_from n) o) u)
-  output_of n None u may = cc may
-  output_of n (Some x) u may = h.by_output n x u
-
-  close_of : (o : Option SessionState) (u : Bool) → R (is_at o u) [] [] [] (is_at None u)
-  close_of None u = unmoved (is_at None u) _ refl
-  close_of (Some x) u = h.closes x u
-
   -- what changes a session, changes it for its client alone
   changing : (Q : Bool → Presence → Presence → Type 0) (f : SessionState → SessionState) → ((x : SessionState) → (f x).id ≡ x.id) → (d : ℕ) (s : ServerState)
       → Q true (presence d s) (at_client s d (option_map f (session d s))) → Q false (presence c s) (presence c s) → Q (eqb d c) (presence c s) (presence c (with_session_changed f d s))
@@ -185,10 +169,10 @@ module _ (R : Presence → List Execution → List ℕ → List ℕ → Presence
         (subst (λ (p : Presence). R p (of_line s d line ∷ []) [] [] (presence d (after_line s d))) (sym (ap (at_client s d) n.found))
         (subst (R (at_client s d (Some n.asking)) (of_line s d line ∷ []) [] []) (sym (own_after_line s d line n.asking n.found next)) (h.by_line d s line n (ltb d s.next_id))))
         (λ differ. unmoved (presence c s) _ (other_after_line c d s line next differ));
-    by_notice = λ d s long. changing (λ b p q. R p (cond b (of_notice d ∷ []) []) [] [] q) notified (λ x. refl) d s (notice_of d (session d s) _ long) (unmoved (presence c s) _ refl);
-    by_input = λ d s piece. changing (λ b p q. R p [] [] (cond b (accepted_bytes (session d s) piece) []) q) (joined piece) (λ x. refl) d s (input_of piece (session d s) _) (unmoved (presence c s) _ refl);
-    by_output = λ d s n may. changing (λ b p q. R p [] (cond b (take n (owed_of (session d s))) []) [] q) (taken_from n) (λ x. refl) d s (output_of n (session d s) _ may) (unmoved (presence c s) _ refl);
-    by_plain = λ s e m plain. of_plain_event (R (presence c s) [] [] []) c s e m plain (h.stays (session c s) _) (close_of (session c s) _)
+    by_notice = λ d s long. changing (λ b p q. R p (cond b (of_notice d ∷ []) []) [] [] q) notified (λ x. refl) d s (elim (cases_Option (session d s)) [ inl none ↦ cc (rw none at long) | inr (x, found) ↦ rw found (h.by_notice d x _ (rw found at long)) ]) (unmoved (presence c s) _ refl);
+    by_input = λ d s piece. changing (λ b p q. R p [] [] (cond b (accepted_bytes (session d s) piece) []) q) (joined piece) (λ x. refl) d s (elim (cases_Option (session d s)) [ inl none ↦ rw none (unmoved _ _ refl) | inr (x, found) ↦ rw found (h.by_input piece x _) ]) (unmoved (presence c s) _ refl);
+    by_output = λ d s n may. changing (λ b p q. R p [] (cond b (take n (owed_of (session d s))) []) [] q) (taken_from n) (λ x. refl) d s (elim (cases_Option (session d s)) [ inl none ↦ cc (rw none at may) | inr (x, found) ↦ rw found (h.by_output n x _) ]) (unmoved (presence c s) _ refl);
+    by_plain = λ s e m plain. of_plain_event (R (presence c s) [] [] []) c s e m plain (h.stays (session c s) _) (elim (cases_Option (session c s)) [ inl none ↦ rw none (unmoved _ _ refl) | inr (x, found) ↦ rw found (h.closes x _) ])
         (λ address its away. subst (λ (p : Presence). R p [] [] [] (is_at (Some (new_session s.next_id address)) true)) (sym away) (h.opens s.next_id address));
   }
 

@@ -10,12 +10,6 @@ use Rattle.nutcore.proofs.Changes.{keeps}
 use Rattle.nutcore.proofs.Progress.{Presence}
 use Rattle.nutcore.proofs.Pumping.{IsNext, is_next, stopped_none, own_after_line, change_at, session_after}
 
--- the lines done, and one more
-pub after_lines-suc : (k : ℕ) (s : ServerState) (c : ℕ) → after_lines (k + 1) s c ≡ after_line (after_lines k s c) c
-unfolding after_lines
-after_lines-suc zero s c = refl
-after_lines-suc (suc k) s c = let e : suc k + 1 ≡ suc (k + 1) = omega arith in ap (λ n. after_lines n s c) e ∙ after_lines-suc k (after_line s c) c
-
 -- where the pump stops, nothing happens
 pub none_of : (o : Option (List ℕ)) → is_none o ≡ true → o ≡ None
 none_of o h = grind arith
@@ -32,6 +26,11 @@ pub after_lines-add : (j k : ℕ) (s : ServerState) (c : ℕ) → after_lines (j
 unfolding after_lines
 after_lines-add zero k s c = ap (λ n. after_lines n s c) (zero-add k)
 after_lines-add (suc j) k s c = let e : suc j + k ≡ suc (j + k) = omega arith in ap (λ n. after_lines n s c) e ∙ after_lines-add j k (after_line s c) c
+
+-- the lines done, and one more
+pub after_lines-suc : (k : ℕ) (s : ServerState) (c : ℕ) → after_lines (k + 1) s c ≡ after_line (after_lines k s c) c
+unfolding after_lines
+after_lines-suc k s c = after_lines-add k 1 s c
 
 -- where the pump stops, all lines were executed
 pub all_lines_are : (k : ℕ) (s : ServerState) (c : ℕ) → k ≤ length (held_of (session c s)) → pump_stops (after_lines k s c) c ≡ true → after_all_lines s c ≡ after_lines k s c

@@ -13,7 +13,7 @@ use Rattle.nutcore.specs.Lines.{first_line}
 use Rattle.nutcore.specs.Session.{without}
 use Rattle.nutcore.specs.Pump.{next_line, pumped, holds_overlong, owed_of}
 use Rattle.nutcore.specs.Step.{with_input, without_output, may_take, pumped_until, after_by, refused_after}
-use Rattle.nutcore.specs.History.{taken, owed}
+use Rattle.nutcore.specs.History.{taken, is_over}
 use Rattle.nutcore.specs.Isolation.{client_of}
 use Rattle.nutcore.specs.NotStuck.{HadMemory, HasRoom, WhoIsOwedLittleHasRoom, WhoEndsIsFinished}
 use Rattle.nutcore.proofs.Endings.{asked_no_more, stays_ending}
@@ -50,12 +50,7 @@ little_has_room old new es os c x absent r had found going few =
 -- an ending session
 pub ends_finished : WhoEndsIsFinished
 ends_finished old new es os c x y lawful r found ends found_new all =
-    let over = ap (λ (o : Option SessionState). option_map_or (λ (z : SessionState). z.ending) o (ltb c old.next_id)) found ∙ ends in
-    let there = ap (λ (o : Option SessionState). option_map_or (λ (z : SessionState). false) o (ltb c new.next_id)) found_new in
-    let less = (asked_no_more old new es os c lawful over r).owed_less there in
-    let was : owed c old ≡ x.owed = ap (λ (o : Option SessionState). owed_of o) found in
-    let is : owed c new ≡ y.owed = ap (λ (o : Option SessionState). owed_of o) found_new in
-    let sizes : length x.owed ≡ length (taken c old es os) + length y.owed =
-    ap (λ (bytes : List ℕ). length bytes) (sym was ∙ less ∙ ap (λ (bytes : List ℕ). taken c old es os ++ bytes) is) ∙ length-append (taken c old es os) y.owed in
-    let none : y.owed ≡ [] = nil_from_length y.owed (omega (arith, sizes, all)) in
-    ap (λ (b : Bool). b && eqb (length y.owed) 0) (stays_ending old new es os c y lawful over r found_new) ∙ ap (λ (bytes : List ℕ). eqb (length bytes) 0) none
+    let over : is_over c old ≡ true = rw found ends in
+    let less : x.owed ≡ taken c old es os ++ y.owed = rw (found, found_new) at ((asked_no_more old new es os c lawful over r).owed_less (rw found_new)) in
+    let none : y.owed ≡ [] = nil_from_length y.owed (omega (arith, all, ap length less, length-append (taken c old es os) y.owed)) in
+    rw (stays_ending old new es os c y lawful over r found_new, none)

@@ -9,9 +9,10 @@ use Rattle.nutcore.specs.declared.event.Event.TheVariants.{Took}
 use Rattle.nutcore.specs.Pump.{after_all_lines, after_notice, pumped, held_of}
 use Rattle.nutcore.specs.Step.{taken_from, without_output, may_take, offered, pumped_until, after_by, refused_after, took_by, outcome_of}
 use Rattle.nutcore.specs.History.{Execution, executions_in_event, of_client, texts_of, taken_in_event, asked_in_event, owed, held}
-use Rattle.nutcore.proofs.Bounded.{event_measured}
+use Rattle.nutcore.proofs.Bounded.{IsMeasured, measures}
 use Rattle.nutcore.proofs.Changed.{by_change}
 use Rattle.nutcore.proofs.Costs.{took_some, took_none}
+use Rattle.nutcore.proofs.Histories.{of_event_of_client}
 use Rattle.nutcore.proofs.Least.{HasStopped, absent_stops, pump_idle, pump_ended}
 use Rattle.nutcore.proofs.Pumping.{put_same}
 
@@ -69,7 +70,7 @@ module _ (k c : ℕ) where
   unfolding asked_in_event
   one_take s =
       let n : ℕ = size k c s in
-      let is = event_measured c s (some_taken k c s) (refused_after (outcome_then k c s)) in
+      let is = of_event_of_client IsMeasured measures c s (some_taken k c s) (refused_after (outcome_then k c s)) in
       let holds = is.holds in
       let owes = is.owes in
       record {

@@ -70,20 +70,17 @@ own_or_not c e own other = by_client (client_of e) own other
     by_client None own other = other refl (λ h. cc h)
     by_client (Some k) own other = elim (cases_Bool (eqb k c)) [ inl e ↦ own e (ap Some (eqb-true k c e)) | inr e ↦ other e (λ h. let same : k ≡ c = cc h in let yes_same = eq-eqb k c same in cc) ]
 
--- where nothing is left, it stays so
-left_after : (c : ℕ) (s t : ServerState) → IsUntouched (session c s) (session c t) → HasNothingLeft c s → HasNothingLeft c t
-left_after c s t same h = record { none = same.owes ∙ h.none; ended = stopped_after c s t same h.ended }
-
 module _ (k : ℕ) (few : k ≤ RING_LIMIT) (c : ℕ) where
   as_take : (s : ServerState) (e : Event) (o : Outcome) (P : Event → Outcome → Type 0) → IsTakeOf k c s e o → P (some_taken k c s) (outcome_then k c s) → P e o
   as_take s e o P (event_is, outcome_is) p = subst (λ (z : Event). P z o) (sym event_is) (subst (P (some_taken k c s)) (sym (outcome_is ∙ ap (outcome_of s) event_is)) p)
 
+  -- where nothing is left, it stays so
   stays_left : (s t : ServerState) (es : List Event) (os : List Outcome) → Run s es os t → TakesSomeAmongOthers k c s es os → HasNothingLeft c s → HasNothingLeft c t
   stays_left s t [] [] r among h = subst (HasNothingLeft c) (sym r) h
   stays_left s t (e ∷ es) (o ∷ os) (mid, step, r) among h =
       stays_left (after s e o) t es os (later t es os step r) among.1 (own_or_not c e
       (λ yes its. as_take s e o (λ e o. HasNothingLeft c (after s e o)) (among.0 its) (subst (HasNothingLeft c) (sym (idle_take k c s h)) h))
-      (λ no other. left_after c s (after s e o) (anothers c s e (refused_after o) other).untouched h))
+      (λ no other. let same = (anothers c s e (refused_after o) other).untouched in record { none = same.owes ∙ h.none; ended = stopped_after c s (after s e o) same h.ended }))
   stays_left s t es os r among h = absurd r
 
   -- so many takes are enough
