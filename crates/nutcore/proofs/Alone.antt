@@ -5,14 +5,14 @@ use Rattle.std.specs.Option.{option_map_or}
 use Rattle.std.proofs.lemmas.Bool.{both_ways, false_from_ne_true, eqb-true, lt-ltb}
 use Rattle.nutwords.specs.SplitLine.{split_line, has_lf}
 use Rattle.nutwords.proofs.PublicLaws.{first_line_is_cut_off}
-use Rattle.nutcore.proofs.Common.{cond_both, SessionState, ServerState, session, with_session_changed}
+use Rattle.nutcore.proofs.Common.{cond_both, same_Some, SessionState, ServerState, session, with_session_changed}
 use Rattle.nutwords.specs.Text.{with_lf}
-use Rattle.nutcore.specs.Lines.{first_line, rest_after}
-use Rattle.nutcore.proofs.FirstLine.{line_found, parts}
+use Rattle.nutcore.specs.Lines.{first_line}
 use Rattle.nutcore.specs.Pump.{notified, owed_of, held_of}
 use Rattle.nutcore.specs.History.{Execution, of_line, of_notice, client_of, executions, of_client, lines_of, texts_of, taken, asked, executed, answers}
 use Rattle.nutcore.specs.Sound.{Each}
 use Rattle.nutcore.specs.Alone.{OneLineIsAnswered}
+use Rattle.nutcore.proofs.Found.{cases_Option}
 use Rattle.nutcore.proofs.Histories.{IsOfClient, of_run_of_client}
 use Rattle.nutcore.proofs.Progress.{Presence, IsKept, is_over, presence}
 use Rattle.nutcore.proofs.SoundUps.{each_join}
@@ -25,7 +25,10 @@ IsWhole (of_notice c) = ⊥
 
 -- a next line has no LF
 first_whole : (bytes line : List ℕ) → first_line bytes ≡ Some line → has_lf line ≡ false
-first_whole bytes line h = ((first_line_is_cut_off bytes line (rest_after line bytes)).0 (line_found bytes line h)).1
+first_whole bytes line h = elim (cases_Option (split_line bytes)) [
+  | inl none ↦ cc (rw none at h)
+  | inr (split, is) ↦ (let same : split.0 ≡ line = cc (rw is at h) in rw same at (((first_line_is_cut_off bytes split.0 split.1).0 is).1))
+]
 
 -- what a run says of the client's executions: they are whole lines, where it isn't over
 record Tells (p : Presence) (xs : List Execution) (taken asked : List ℕ) (q : Presence) : Type 0 where
@@ -69,7 +72,8 @@ same_line a b rest f g e =
     let text : List ℕ = with_lf a ++ rest in
     let one : split_line text ≡ Some (a, rest) = (first_line_is_cut_off text a rest).1 (append_assoc a (10 ∷ []) rest, f) in
     let other : split_line text ≡ Some (b, []) = (first_line_is_cut_off text b []).1 (e, g) in
-    parts (a, rest) (b, []) (sym one ∙ other)
+    let same : (a, rest) ≡ (b, []) = same_Some (a, rest) (b, []) (sym one ∙ other) in
+    (ap (λ (p : List ℕ × List ℕ). p.0) same, ap (λ (p : List ℕ × List ℕ). p.1) same)
 
 record IsOneLine (c : ℕ) (line : List ℕ) (xs : List Execution) : Type 0 where
   server : ServerState

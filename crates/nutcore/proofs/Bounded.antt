@@ -11,7 +11,7 @@ use Rattle.nutcore.proofs.Common.{flat_map-append, Event, SessionState, ServerSt
 use Rattle.nutcore.specs.declared.event.Event.TheVariants.{Feed, Took}
 use Rattle.nutcore.specs.Lines.{first_line}
 use Rattle.nutcore.specs.Reply.{reply, too_long_notice}
-use Rattle.nutcore.specs.Pump.{answered, held_of, owed_of}
+use Rattle.nutcore.specs.Pump.{answered, held_of, owed_of, holds_overlong}
 use Rattle.nutcore.specs.Step.{accepted_bytes, joined, with_input, taken_from, without_output, may_take, offered, refused_after, after_by}
 use Rattle.nutcore.specs.History.{Execution, of_line, of_notice, executions_until, executions_by, of_client, text_of, texts_of, held, owed, taken_in_event, asked_in_event}
 use Rattle.nutcore.specs.Cost.{cost_between, cost_of}
@@ -31,8 +31,8 @@ pub record IsMeasured (before : Presence) (xs : List Execution) (taken asked : L
   pub holds : length xs + length (held_of after.session) ≤ length (held_of before.session) + length asked
 
 -- a session that is too long holds as much as it may
-long_by : (going ready : Bool) (none : Bool) (n : ℕ) → (not going && (ready && (none && leb HELD_LIMIT n))) ≡ true → HELD_LIMIT ≤ n
-long_by going ready none n h = grind arith
+long_by : (x : SessionState) → holds_overlong x ≡ true → HELD_LIMIT ≤ length x.held
+long_by x long = grind arith
 
 pub measures : IsOfClient IsMeasured
 measures = record {
@@ -49,7 +49,7 @@ measures = record {
   };
   by_notice = λ c x u long. record {
     owes = omega (arith, length-append x.owed too_long_notice, length-append too_long_notice []);
-    holds = let full = long_by x.ending (leb (length x.owed) OWED_LIMIT) (is_none (first_line x.held)) (length x.held) long in omega (arith, full);
+    holds = let full = long_by x long in omega (arith, full);
   };
   by_input = λ piece x u. record { owes = omega arith; holds = omega (arith, length-append x.held (accepted_bytes (Some x) piece)) };
   by_output = λ n x u. record { owes = omega (arith, length-take n x.owed, length-drop n x.owed); holds = omega arith };
@@ -62,9 +62,7 @@ held_sound s c h None e = omega arith
 held_sound s c h (Some x) e = (each_found IsSoundSession c s.sessions x e h.sessions).held
 
 accepted_few : (o : Option SessionState) (piece : List ℕ) → length (held_of o) ≤ HELD_LIMIT → length (held_of o) + length (accepted_bytes o piece) ≤ HELD_LIMIT
-accepted_few None piece le = omega arith
-accepted_few (Some x) piece le =
-    cond_both x.ending [] (take (HELD_LIMIT - length x.held) piece) (λ (bytes : List ℕ). length x.held + length bytes ≤ HELD_LIMIT) (λ over. omega (arith, le)) (λ going. omega (arith, le, length-take (HELD_LIMIT - length x.held) piece))
+accepted_few o piece le = grind (arith, length-take {A = ℕ})
 
 -- so are all that an event executes
 all_few : (s : ServerState) (e : Event) (m : Option ℕ) → IsSound s → length (executions_by s e m) ≤ HELD_LIMIT

@@ -94,9 +94,8 @@ no_line_there o h = grind arith
 -- what an answer says, and what it changes
 answers_as : (s : ServerState) (c : ℕ) (line : List ℕ) (reply : Reply) (clients : List (List ℕ)) → Replies s c line reply → ListsClients s.sessions reply clients →
     (text_to s c (read_command line) ≡ text_with clients reply) × (change_by s c (read_command line) ≡ change_in reply)
-answers_as s c line (One text change) clients told lists = (told.1, told.2)
-answers_as s c line (Many listing) clients told lists = (told.1, told.2)
 answers_as s c line (Clients name u) clients told lists = (told.1 ∙ ap (λ (addresses : List (List ℕ)). text_of (client_listing name addresses)) (sym lists), told.2)
+answers_as s c line answer clients told lists = (told.1, told.2)
 
 pub change_told : (s : ServerState) (c : ℕ) (line : List ℕ) (reply : Reply) → Replies s c line reply → change_by s c (read_command line) ≡ change_in reply
 change_told s c line reply told = grind arith
@@ -192,8 +191,7 @@ pub replies_text : (s : ServerState) (c : ℕ) (line text : List ℕ) (r : Resul
     IsLineOrNone text → IsText text answer → Replies s c line answer
 replies_text s c line text r (One given change) e shares is none short one (same, nothing) =
     (ap (shares_version_read s c) e ∙ shares, ap (text_to s c) e ∙ is ∙ sym same, ap (change_by s c) e ∙ none ∙ sym nothing, subst (λ (t : List ℕ). length t ≤ OWED_LIMIT) (sym same) short, subst IsLineOrNone (sym same) one)
-replies_text s c line text r (Many listing) e shares is none short one never = absurd never
-replies_text s c line text r (Clients name u) e shares is none short one never = absurd never
+replies_text s c line text r answer e shares is none short one never = absurd never
 
 -- so is the answer to a command
 whole_short : (text : List ℕ) → IsWholeLine text → length text ≤ OWED_LIMIT
@@ -205,8 +203,7 @@ answer_replies : (s : ServerState) (c : ℕ) (line : List ℕ) (command : Comman
     OnErr r (IsTrue (shares_version (answer_to (seen s) (asker c s) command))) → RepliesOrLacks s c line r
 answer_replies s c line command (Ok (One text change)) e is lacks =
     (ap (shares_version_read s c) e ∙ is.one, ap (text_to s c) e ∙ sym is.text, ap (change_by s c) e ∙ sym is.changes, whole_short text.now is.whole_line, inl is.whole_line)
-answer_replies s c line command (Ok (Many listing)) e is lacks = (ap (shares_version_read s c) e ∙ ap shares_version is, ap (text_to s c) e ∙ ap text_of_answer is, ap (change_by s c) e ∙ ap change_of_answer is)
-answer_replies s c line command (Ok (Clients name u)) e is lacks = (ap (shares_version_read s c) e ∙ ap shares_version is, ap (text_to s c) e ∙ ap text_of_answer is, ap (change_by s c) e ∙ ap change_of_answer is)
+answer_replies s c line command (Ok answer) e is lacks = (ap (shares_version_read s c) e ∙ ap shares_version is, ap (text_to s c) e ∙ ap text_of_answer is, ap (change_by s c) e ∙ ap change_of_answer is)
 answer_replies s c line command (Err refused) e is lacks = ap (shares_version_read s c) e ∙ lacks
 
 pub answers_each : (view : Seen) (who : AskerSeen) (command : Command) (r : Result Reply AllocError) → IfOk r (IsReply view (answer_to view who command)) → OnErr r (IsTrue (shares_version (answer_to view who command))) →

@@ -70,7 +70,7 @@ goes = record {
     keeps = λ h. h;
   };
   opens = λ id address kept. record { sent = half_stays false false [] (λ h. h); taken_up = half_stays false false [] (λ h. h); keeps = λ h k. refl };
-  closes = λ x u kept. rw (kept refl) (record { sent = half_ends false x.owed; taken_up = half_ends x.ending x.held; keeps = λ h (k : false ≡ true). cc k });
+  closes = λ x u kept. rw (kept refl) (record { sent = half_ends false x.owed; taken_up = half_ends x.ending x.held; keeps = λ h (k : false ≡ true). cc });
 }
   where
     closed_on : (o : Option SessionState) (u v : Bool) → (u ≡ true → v ≡ true) → option_map_or (λ x. false) o u ≡ true → option_map_or (λ x. false) o v ≡ true

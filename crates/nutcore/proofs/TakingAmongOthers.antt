@@ -50,17 +50,18 @@ anothers c s e m =
       untouched = of_opened (λ p. IsUntouched (session c s) p.session) c s address m (λ u up. same_session (session c s) (session c s) refl)
           (λ its away. subst (λ (p : Presence). IsUntouched p.session (Some (new_session s.next_id address))) (sym away) (record { owes = refl; holds = refl; stops = refl; long = refl }));
     })
-    (λ d piece differ.
-    let other : c ≢ d = λ (h : c ≡ d). differ (ap Some (sym h)) in
-    record { nothing = of_its_pump c d (with_input s d piece) m ∙ cond-false _ _ _ (ne_eqb d c (λ (h : d ≡ c). other (sym h))); untouched = same_session _ _ ((own s (Feed d piece) m d refl).sessions c other) })
-    (λ d n differ.
-    let other : c ≢ d = λ (h : c ≡ d). differ (ap Some (sym h)) in
-    record {
-      nothing = cond_both (may_take (session d s) n) (executions_until (without_output s d n) d m) [] (λ xs. of_client c xs ≡ []) (λ may. of_its_pump c d (without_output s d n) m ∙ cond-false _ _ _ (ne_eqb d c (λ (h : d ≡ c). other (sym h)))) (λ never. refl);
-      untouched = same_session _ _ ((own s (Took d n) m d refl).sessions c other);
+    (λ d piece differ. record { nothing = not_its d (with_input s d piece) differ; untouched = apart (Feed d piece) d refl differ })
+    (λ d n differ. record {
+      nothing = cond_both (may_take (session d s) n) (executions_until (without_output s d n) d m) [] (λ xs. of_client c xs ≡ []) (λ may. not_its d (without_output s d n) differ) (λ never. refl);
+      untouched = apart (Took d n) d refl differ;
     })
-    (λ d differ. record { nothing = refl; untouched = same_session _ _ ((own s (Close d) m d refl).sessions c (λ (h : c ≡ d). differ (ap Some (sym h)))) })
-    e
+    (λ d differ. record { nothing = refl; untouched = apart (Close d) d refl differ }) e
+  where
+    not_its : (d : ℕ) (t : ServerState) → Some d ≢ Some c → of_client c (executions_until t d m) ≡ []
+    not_its d t differ = of_its_pump c d t m ∙ cond-false _ _ _ (ne_eqb d c (λ (h : d ≡ c). differ (ap Some h)))
+
+    apart : (e : Event) (d : ℕ) → client_of e ≡ Some d → client_of e ≢ Some c → IsUntouched (session c s) (session c (after_by s e m))
+    apart e d its differ = same_session _ _ ((own s e m d its).sessions c (λ (h : c ≡ d). differ (its ∙ ap Some (sym h))))
 
 -- whose the event is
 pub own_or_not : {A : Type 0} (c : ℕ) (e : Event) → (is_event_of c e ≡ true → client_of e ≡ Some c → A) → (is_event_of c e ≡ false → client_of e ≢ Some c → A) → A
