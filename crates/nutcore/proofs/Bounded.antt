@@ -1,19 +1,16 @@
 -- How much one event makes a server do for its clients.
-use Rattle.std.proofs.Common.{sym, ◌≡◌, ℕ, ◌+◌, ◌-◌, ◌≤◌, Bool, true, List, [], ◌∷◌, ◌++◌, Option, Some, None, refl, ◌∙◌, ap, subst, cond, eqb, leb, not, ◌&&◌, arith, length, take, drop, length-append, length-take, length-drop}
-use Rattle.std.specs.Prelude.{is_none, option_map}
+use Rattle.std.proofs.Common.{◌≡◌, ℕ, ◌+◌, ◌-◌, ◌≤◌, Bool, true, List, [], Option, Some, None, refl, ◌∙◌, ap, cond, eqb, arith, length, take, drop, length-append, length-take, length-drop}
 use Rattle.std.proofs.lemmas.Bool.{cond_both, cond-true, eq-eqb, leb-true}
-use Rattle.nutlisting.specs.declared.outbox.TheConstants.{OWED_LIMIT}
 use Rattle.nutlisting.specs.declared.ring.TheConstants.{RING_LIMIT}
 use Rattle.nutlisting.proofs.PublicLaws.{lines_add_up}
 use Rattle.nutcore.specs.declared.TheConstants.{HELD_LIMIT}
 use Rattle.nutcore.specs.declared.cost.Cost.{Cost}
-use Rattle.nutcore.proofs.Common.{flat_map-append, Event, SessionState, ServerState, session, with_session_changed}
+use Rattle.nutcore.proofs.Common.{flat_map-append, Event, SessionState, ServerState, session}
 use Rattle.nutcore.specs.declared.event.Event.TheVariants.{Feed, Took}
-use Rattle.nutcore.specs.Lines.{first_line}
 use Rattle.nutcore.specs.Reply.{reply, too_long_notice}
 use Rattle.nutcore.specs.Pump.{answered, held_of, owed_of, holds_overlong}
-use Rattle.nutcore.specs.Step.{accepted_bytes, joined, with_input, taken_from, without_output, may_take, offered, refused_after, after_by}
-use Rattle.nutcore.specs.History.{Execution, of_line, of_notice, executions_until, executions_by, of_client, text_of, texts_of, held, owed, taken_in_event, asked_in_event}
+use Rattle.nutcore.specs.Step.{accepted_bytes, with_input, without_output, may_take, offered, refused_after}
+use Rattle.nutcore.specs.History.{Execution, executions_until, executions_by, of_client, text_of, texts_of, held, owed, taken_in_event, asked_in_event}
 use Rattle.nutcore.specs.Cost.{cost_between, cost_of}
 use Rattle.nutcore.specs.Sound.{IsSound, IsSoundSession}
 use Rattle.nutcore.specs.Bounded.{EachEventIsBounded}
@@ -21,7 +18,7 @@ use Rattle.nutcore.proofs.Changes.{keeps}
 use Rattle.nutcore.proofs.Events.{of_event}
 use Rattle.nutcore.proofs.Histories.{IsOfClient, of_event_of_client, of_its_pump, own_or_other}
 use Rattle.nutcore.proofs.Loops.{session_shortens}
-use Rattle.nutcore.proofs.Progress.{Presence, presence}
+use Rattle.nutcore.proofs.Progress.{Presence}
 use Rattle.nutcore.proofs.Pumping.{change_at}
 use Rattle.nutcore.proofs.Sound.{each_found}
 

@@ -1,14 +1,13 @@
 -- Each event of a client, over plain states.
-use Rattle.std.proofs.Common.{◌≡◌, ℕ, ◌+◌, Bool, true, false, List, [], ◌∷◌, ◌++◌, Option, Some, None, Result, Ok, Err, refl, sym, ◌∙◌, ap, subst, length, set, inl, inr}
-use Rattle.std.specs.Prelude.{IsTrue, is_none, option_and_then}
-use Rattle.std.specs.Option.{option_map_or}
+use Rattle.std.proofs.Common.{◌≡◌, ℕ, ◌+◌, Bool, true, false, List, [], ◌∷◌, ◌++◌, Option, Some, None, Result, Ok, Err, refl, sym, ◌∙◌, ap, subst, set, inl, inr}
+use Rattle.std.specs.Prelude.{IsTrue}
 use Rattle.std.proofs.lemmas.Bool.{cond-true, cond-false}
 use Rattle.nutcore.proofs.Common.{Event, Fault, Outcome, SessionState, ServerState, session, Step}
 use Rattle.nutcore.specs.declared.event.Event.TheVariants.{Open, Feed, Took, Close, Id}
 use Rattle.nutcore.specs.declared.event.Outcome.TheVariants.{Done, Fed, Opened, Refused}
 use Rattle.nutcore.specs.declared.event.Fault.TheVariants.{NoSuchClient, TooManyClients, TookTooMuch, LineTooLong, Memory}
 use Rattle.nutcore.specs.Session.{without, new_session}
-use Rattle.nutcore.specs.Pump.{next_line, pump_stops, held_of, after_all_lines, after_lines, pumped, after_notice, is_overlong, holds_overlong, wants_memory}
+use Rattle.nutcore.specs.Pump.{after_all_lines, after_lines, pumped, is_overlong, wants_memory}
 use Rattle.nuttracking.specs.declared.tracking.IdFault.{IdFault}
 use Rattle.nuttracking.specs.Tracking.{id_fault}
 use Rattle.nutcore.specs.Step.{joined, with_input, taken_from, without_output, may_take, may_open, pumped_until, opened, handed_in, after_by, fed_by, took_by, closed_by, id_outcome, outcome_of, MayLackMemory}

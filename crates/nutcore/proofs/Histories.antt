@@ -1,7 +1,6 @@
 -- What is said of a server, of what was executed since, and of the server then: where each part of an event keeps it, each pump, each event and each run does.
 use Rattle.std.proofs.Common.{◌≡◌, ◌≢◌, ℕ, zero, suc, ◌+◌, Bool, true, false, List, [], ◌∷◌, ◌++◌, Option, Some, None, refl, sym, ◌∙◌, ap, subst, cond, eqb, length, append-nil, length-append, take, ltb, arith, inl, inr}
 use Rattle.std.specs.Prelude.{option_map}
-use Rattle.std.specs.Option.{option_map_or}
 use Rattle.std.specs.List.{flat_map}
 use Rattle.std.proofs.lemmas.Bool.{cond_both, cases_Bool, eqb-true, eqb-false}
 use Rattle.std.proofs.lemmas.Bool.Decides.{nat_tests}
@@ -12,7 +11,7 @@ use Rattle.nutcore.specs.Session.{find, without, new_session}
 use Rattle.nutcore.specs.Pump.{next_line_for, after_line, after_lines, after_all_lines, after_notice, is_overlong, holds_overlong, notified, pumped, held_of, owed_of}
 use Rattle.nutcore.specs.Step.{accepted_bytes, joined, with_input, taken_from, without_output, may_take, opened, pumped_until, after_by, refused_after}
 use Rattle.nutcore.specs.History.{Execution, of_line, of_notice, client_of, text_of, next_execution, lines_executed, notice, pump_executions, executions_until, executions_by, executions, of_client, texts_of, taken_in_event, asked_in_event, taken, asked}
-use Rattle.nutcore.proofs.Events.{IsPlain, IsSilent, of_event, of_session_event}
+use Rattle.nutcore.proofs.Events.{IsPlain, of_event, of_session_event}
 use Rattle.nutcore.proofs.Found.{cases_Option, find_without, find_without_other, of_pushed}
 use Rattle.nutcore.proofs.Changed.{at_client, presence_changed, presence_other}
 use Rattle.nutcore.proofs.Changed as changing_one

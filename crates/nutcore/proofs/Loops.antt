@@ -1,7 +1,7 @@
 -- The pump, line by line.
-use Rattle.std.proofs.Common.{◌≡◌, ℕ, zero, suc, ◌+◌, ◌-◌, ◌<◌, ◌≤◌, true, List, Option, Some, None, refl, sym, ◌∙◌, ap, arith, length, zero-add}
+use Rattle.std.proofs.Common.{◌≡◌, ℕ, zero, suc, ◌+◌, ◌-◌, ◌<◌, ◌≤◌, true, List, Option, Some, None, refl, ◌∙◌, ap, arith, length, zero-add}
 use Rattle.std.specs.Prelude.{is_none}
-use Rattle.nutcore.specs.Session.{SessionState, find, put}
+use Rattle.nutcore.specs.Session.{SessionState}
 use Rattle.nutcore.specs.Server.{ServerState, session}
 use Rattle.nutcore.specs.Reply.{reply}
 use Rattle.nutcore.specs.Pump.{next_line_for, answered, after_line, after_lines, pump_stops, held_of, after_all_lines}

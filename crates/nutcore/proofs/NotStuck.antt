@@ -1,17 +1,13 @@
 -- Nobody is stuck.
-use Rattle.std.proofs.Common.{◌≡◌, ◌≢◌, ◌≤◌, ◌∙◌, ◌+◌, ℕ, Bool, true, false, ◌&&◌, List, [], ◌∷◌, ◌++◌, Option, Some, None, sym, ap, subst, eqb, ltb, leb, length, length-append, arith}
-use Rattle.std.specs.Prelude.{is_none, option_and_then}
-use Rattle.std.specs.Option.{option_map_or}
+use Rattle.std.proofs.Common.{◌≡◌, ◌≤◌, ◌+◌, ℕ, true, false, List, [], ◌∷◌, ◌++◌, Option, Some, None, sym, ap, subst, length, length-append, arith}
+use Rattle.std.specs.Prelude.{is_none}
 use Rattle.std.proofs.lemmas.List.{nil_from_length}
 use Rattle.std.proofs.lemmas.Bool.{cond_both}
 use Rattle.std.proofs.lemmas.Bool.Decides.{nat_tests}
 use Rattle.nutlisting.specs.declared.outbox.TheConstants.{OWED_LIMIT}
 use Rattle.nutcore.proofs.Common.{Event, Outcome, SessionState, ServerState, session, after, Run}
-use Rattle.nutcore.specs.declared.TheConstants.{HELD_LIMIT}
 use Rattle.nutcore.specs.declared.event.Event.TheVariants.{Feed, Took, Close}
-use Rattle.nutcore.specs.Lines.{first_line}
-use Rattle.nutcore.specs.Session.{without}
-use Rattle.nutcore.specs.Pump.{next_line, pumped, holds_overlong, owed_of}
+use Rattle.nutcore.specs.Pump.{next_line, pumped, holds_overlong}
 use Rattle.nutcore.specs.Step.{with_input, without_output, may_take, pumped_until, after_by, refused_after}
 use Rattle.nutcore.specs.History.{taken, is_over}
 use Rattle.nutcore.specs.Isolation.{client_of}

@@ -1,7 +1,6 @@
 -- Runs, one event after another.
-use Rattle.std.proofs.Common.{◌≡◌, ℕ, ◌<◌, List, [], ◌∷◌, ◌++◌, ◌∙◌, refl, ap, subst, Option, Some, None, true, inl, inr}
-use Rattle.std.specs.Prelude.{is_some}
-use Rattle.nutcore.proofs.Common.{Event, Outcome, SessionState, ServerState, session, Step, after, Run}
+use Rattle.std.proofs.Common.{◌≡◌, List, [], ◌∷◌, ◌++◌, ◌∙◌, refl, ap, subst, inl, inr}
+use Rattle.nutcore.proofs.Common.{Event, Outcome, ServerState, session, Step, after, Run}
 use Rattle.nutcore.specs.Session.{IdsRise}
 use Rattle.nutcore.specs.Headline.{IsLawful, Serves}
 use Rattle.nutcore.specs.declared.cost.Cost.{Cost}

@@ -1,22 +1,21 @@
 -- What each event, and a run of them, does to each client's presence.
-use Rattle.std.proofs.Common.{◌≡◌, ◌≢◌, ℕ, ◌+◌, Bool, true, false, List, [], ◌∷◌, ◌++◌, Option, Some, None, refl, sym, ◌∙◌, ap, subst, cond, eqb, ltb, arith, take, append-nil}
+use Rattle.std.proofs.Common.{◌≡◌, ◌≢◌, ℕ, ◌+◌, Bool, true, false, List, [], ◌++◌, Option, Some, refl, sym, ◌∙◌, ap, arith, take, append-nil}
 use Rattle.std.specs.Option.{option_map_or}
-use Rattle.std.proofs.lemmas.Bool.{cond_both, cond-true, cond-false, ne_eqb, ltb-true, lt-ltb, le-ltb}
+use Rattle.std.proofs.lemmas.Bool.{cond-true, lt-ltb}
 use Rattle.std.proofs.lemmas.List.{take-append-drop}
-use Rattle.nutcore.proofs.Common.{never_both, flat_map-append, Event, Outcome, SessionState, ServerState, session, with_session_changed, Run}
+use Rattle.nutcore.proofs.Common.{never_both, flat_map-append, Event, Outcome, SessionState, ServerState, Run}
 use Rattle.nutwords.specs.Text.{with_lf}
 use Rattle.nutcore.specs.Lines.{rest_after}
-use Rattle.nutcore.specs.Session.{find, without, new_session}
 use Rattle.nutcore.specs.Reply.{reply, too_long_notice}
-use Rattle.nutcore.specs.Pump.{next_line_for, answered, after_line, is_overlong, notified, owed_of, held_of}
-use Rattle.nutcore.specs.Step.{accepted_bytes, joined, with_input, taken_from, without_output, may_take, may_open, pumped_until, opened, after_by}
-use Rattle.nutcore.specs.History.{Execution, of_line, of_notice, executions_until, of_client, answers, taken, asked, executed, texts_of, lines_of, text_of, line_of}
+use Rattle.nutcore.specs.Pump.{answered, notified, owed_of, held_of}
+use Rattle.nutcore.specs.Step.{accepted_bytes, joined, with_input, taken_from, without_output, pumped_until}
+use Rattle.nutcore.specs.History.{Execution, answers, taken, asked, executed, texts_of, lines_of, text_of, line_of}
 use Rattle.nutcore.specs.Headline.{IsLawful, SentAndOwed, TakenUp}
 use Rattle.nutcore.proofs.FirstLine.{first_line_splits}
 use Rattle.nutcore.proofs.Changes.{keeps}
 use Rattle.nutcore.proofs.Changed.{presence_other}
 use Rattle.nutcore.proofs.Progress.{Presence, presence, is_closed, is_over, Progress, IsKept, half_joins, half_moves, half_stays, half_ends}
-use Rattle.nutcore.proofs.Pumping.{change_at, session_after, other_after_line}
+use Rattle.nutcore.proofs.Pumping.{change_at, other_after_line}
 use Rattle.nutcore.proofs.Histories.{until_keeps, IsOfClient, of_run_of_client}
 
 pub input_other : (c d : ℕ) (s : ServerState) (piece : List ℕ) → c ≢ d → presence c (with_input s d piece) ≡ presence c s

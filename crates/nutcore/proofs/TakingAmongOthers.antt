@@ -1,5 +1,5 @@
 -- A client that takes, among the events of others, gets everything: all that it is offered, or some bytes at a time.
-use Rattle.std.proofs.Common.{◌≡◌, ◌≢◌, ℕ, suc, ◌+◌, ◌≤◌, Bool, true, false, List, [], ◌∷◌, Option, Some, None, refl, sym, ◌∙◌, ap, subst, cond, eqb, inl, inr, arith, length, zero, ◌*◌, ◌<◌}
+use Rattle.std.proofs.Common.{◌≡◌, ◌≢◌, ℕ, suc, ◌+◌, ◌≤◌, Bool, true, false, List, [], ◌∷◌, Option, Some, None, refl, sym, ◌∙◌, ap, subst, cond, eqb, inl, inr, arith, length, ◌*◌, ◌<◌}
 use Rattle.std.specs.Prelude.{is_none, option_and_then}
 use Rattle.std.specs.List.{filter}
 use Rattle.std.specs.Option.{option_map_or}
@@ -19,7 +19,7 @@ use Rattle.nutcore.proofs.Histories.{later, lines_more, answers_more, of_its_pum
 use Rattle.nutcore.proofs.Isolation.{own}
 use Rattle.nutcore.proofs.Least.{HasStopped}
 use Rattle.nutcore.proofs.Progress.{Presence}
-use Rattle.nutcore.proofs.Takes.{HasNothingLeft, outcome_then, server_then, done_then, IsTake, one_take, take_does, idle_take, size, some_taken, all_is_ring}
+use Rattle.nutcore.proofs.Taking.{HasNothingLeft, outcome_then, IsTake, one_take, take_does, idle_take, some_taken, all_is_ring}
 use Rattle.nutcore.specs.TakingSome.{IsTakeOf, TakesSomeAmongOthers, WhoTakesSomeGetsEverything}
 
 -- what a client holds and owes stays: its session does, or one is opened for it

@@ -1,26 +1,20 @@
 -- A client that asks one line, and waits for its answer.
-use Rattle.std.proofs.Common.{◌≡◌, ℕ, zero, suc, ◌+◌, ◌-◌, ◌<◌, ◌≤◌, Bool, true, false, List, [], ◌∷◌, ◌++◌, Option, Some, None, refl, sym, ◌∙◌, ap, cond, ltb, ◌&&◌, ◌||◌, length, take, Result, Ok, Err, arith, length-append, length-drop}
-use Rattle.std.specs.Prelude.{is_some, option_map, option_and_then}
+use Rattle.std.proofs.Common.{◌≡◌, ℕ, ◌+◌, ◌-◌, ◌<◌, ◌≤◌, Bool, true, false, List, [], ◌∷◌, ◌++◌, Option, Some, None, refl, sym, ◌∙◌, ap, cond, length, arith, length-append, length-drop}
+use Rattle.std.specs.Prelude.{option_map, option_and_then}
 use Rattle.std.proofs.lemmas.Bool.Decides.{nat_tests}
 use Rattle.std.proofs.lemmas.List.{take_all, nil_from_length}
-use Rattle.nutlisting.specs.declared.outbox.TheConstants.{OWED_LIMIT}
-use Rattle.nutwords.specs.SplitLine.{split_line, has_lf}
+use Rattle.nutwords.specs.SplitLine.{has_lf}
 use Rattle.nutwords.specs.declared.limits.TheConstants.{LINE_ROOM}
 use Rattle.nutwords.proofs.PublicLaws.{first_line_is_cut_off}
-use Rattle.nutanswer.specs.View.{ClientSeen, Seen, AskerSeen}
-use Rattle.nutanswer.specs.declared.command.Command.{Command}
-use Rattle.nutanswer.specs.declared.err_word.ErrWord.{ErrWord}
-use Rattle.nutanswer.specs.Answer.{answer_to, text_of_answer}
-use Rattle.nutanswer.specs.Command.{read_command}
+use Rattle.nutanswer.specs.View.{ClientSeen, Seen}
 use Rattle.nutcore.specs.declared.TheConstants.{HELD_LIMIT}
 use Rattle.nutcore.specs.declared.event.Event.TheVariants.{Feed, Open}
 use Rattle.nutwords.specs.Text.{with_lf}
-use Rattle.nutcore.specs.Lines.{first_line}
 use Rattle.nutcore.specs.Session.{SessionState, find, new_session}
-use Rattle.nutcore.specs.Server.{ServerState, session, with_session, with_session_changed}
-use Rattle.nutcore.specs.Reply.{seen, seen_client, asker_of, text_to, reply}
+use Rattle.nutcore.specs.Server.{ServerState, session, with_session}
+use Rattle.nutcore.specs.Reply.{seen, seen_client, asker_of, reply}
 use Rattle.nutcore.specs.Pump.{next_line, next_line_for, answered, after_line, after_lines, after_all_lines, after_notice, pumped, holds_overlong, held_of, owed_of}
-use Rattle.nutcore.specs.Step.{joined, with_input, accepted_bytes, opened, may_open, pumped_until, after_by}
+use Rattle.nutcore.specs.Step.{joined, with_input, opened, may_open, pumped_until, after_by}
 use Rattle.nutcore.specs.Sound.{IsSound}
 use Rattle.nutcore.specs.Waiting.{IsWaiting, ALineIsAnswered}
 use Rattle.nutcore.proofs.Changed.{session_put, change_is}
@@ -33,7 +27,6 @@ use Rattle.nutcore.proofs.Pumping.{no_notice, change_at}
 use Rattle.nutcore.specs.History.{owed, held}
 use Rattle.std.specs.Option.{option_map_or}
 use Rattle.nutcore.proofs.Places.{rise_none}
-use Rattle.nutcore.proofs.Common.{cond_both}
 
 -- to a session that holds nothing no notice is due
 no_notice_due : (o : Option SessionState) → held_of o ≡ [] → option_map_or holds_overlong o false ≡ false
