@@ -52,16 +52,16 @@ pump_least s c =
     (k, record { there = there; before = before; pumped_is = ap (λ (z : ServerState). after_notice z c) (all_lines_are k s c within there) })
 
 -- the pump has stopped, and no line is too long
-pub record HasStopped (s : ServerState) (c : ℕ) : Type 0 where
-  pub stopped : pump_stops s c ≡ true
-  pub short : is_overlong s c ≡ false
+pub record IsIdle (o : Option SessionState) : Type 0 where
+  pub stopped : is_none (option_and_then next_line o) ≡ true
+  pub short : option_map_or holds_overlong o false ≡ false
+
+abbrev pub HasStopped : ServerState → ℕ → Type 0
+HasStopped s c = IsIdle (session c s)
 
 -- a client without a session has
-pub absent_stops : (s : ServerState) (c : ℕ) → session c s ≡ None → HasStopped s c
-absent_stops s c none = record {
-  stopped = ap (λ (o : Option SessionState). is_none (option_and_then next_line o)) none;
-  short = ap (λ (o : Option SessionState). option_map_or holds_overlong o false) none;
-}
+pub no_session : IsIdle None
+no_session = record { stopped = refl; short = refl }
 
 -- then a pump does nothing
 pub pump_idle : (s : ServerState) (c : ℕ) → HasStopped s c → pumped s c ≡ s
@@ -69,22 +69,17 @@ unfolding pumped after_all_lines
 pump_idle s c h = ap (λ (z : ServerState). after_notice z c) (stopped_lines (length (held_of (session c s))) s c h.stopped) ∙ no_notice s c h.short
 
 pub pump_absent : (s : ServerState) (c : ℕ) → session c s ≡ None → s ≡ pumped s c
-pump_absent s c e = sym (pump_idle s c (absent_stops s c e))
+pump_absent s c e = sym (pump_idle s c (rw e no_session))
 
-told_ends : (o : Option SessionState) → (is_none (option_and_then next_line (option_map notified o)) ≡ true) × (option_map_or holds_overlong (option_map notified o) false ≡ false)
-told_ends o = grind arith
+told_ends : (o : Option SessionState) → IsIdle (option_map notified o)
+told_ends o = record { stopped = grind arith; short = grind arith }
 
 pub pump_ended : (s : ServerState) (c : ℕ) → HasStopped (pumped s c) c
 unfolding pumped after_all_lines
 pump_ended s c =
     let n : ℕ = length (held_of (session c s)) in
     let t : ServerState = after_lines n s c in
-    let now = session_changed notified (λ x. refl) c t in
-    of_notice_due (λ xs r. HasStopped r c) t c
-    (λ due. record {
-      stopped = ap (λ (o : Option SessionState). is_none (option_and_then next_line o)) now ∙ (told_ends (session c t)).0;
-      short = ap (λ (o : Option SessionState). option_map_or holds_overlong o false) now ∙ (told_ends (session c t)).1;
-    })
+    of_notice_due (λ xs r. HasStopped r c) t c (λ due. subst IsIdle (sym (session_changed notified (λ x. refl) c t)) (told_ends (session c t)))
     (λ short. record { stopped = stops_at_last n s c (omega arith); short = short })
 
 -- so after bytes that were taken in, and after bytes that were taken

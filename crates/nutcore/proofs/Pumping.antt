@@ -32,15 +32,13 @@ pub record IsNext (s : ServerState) (c : ℕ) (line : List ℕ) : Type 0 where
   pub little : ltb OWED_LIMIT (length asking.owed) ≡ false
   pub first : first_line asking.held ≡ Some line
 
-unless : (b : Bool) (o : Option (List ℕ)) (line : List ℕ) → cond b None o ≡ Some line → (b ≡ false) × (o ≡ Some line)
-unless b o line h = grind arith
+next_parts : (x : SessionState) (line : List ℕ) → next_line x ≡ Some line → (x.ending ≡ false) × (ltb OWED_LIMIT (length x.owed) ≡ false) × (first_line x.held ≡ Some line)
+next_parts x line h = grind arith
 
 pub is_next : (s : ServerState) (c : ℕ) (line : List ℕ) → next_line_for s c ≡ Some line → IsNext s c line
 is_next s c line h = elim (cases_Option (session c s)) [
   | inl none ↦ cc (rw none at h)
-  | inr (x, found) ↦ (let may = unless (x.ending || ltb OWED_LIMIT (length x.owed)) (first_line x.held) line (rw found at h) in
-      let ready = or_parts x.ending (ltb OWED_LIMIT (length x.owed)) may.0 in
-      record { asking = x; found = found; going = ready.0; little = ready.1; first = may.1 })
+  | inr (x, found) ↦ (let may = next_parts x line (rw found at h) in record { asking = x; found = found; going = may.0; little = may.1; first = may.2 })
 ]
 
 -- where the next line ends says which one it is

@@ -13,7 +13,7 @@ use Rattle.nutcore.proofs.Bounded.{IsMeasured, measures}
 use Rattle.nutcore.proofs.Changed.{by_change}
 use Rattle.nutcore.proofs.Costs.{took_some, took_none}
 use Rattle.nutcore.proofs.Histories.{of_event_of_client, lines_more, answers_more}
-use Rattle.nutcore.proofs.Least.{HasStopped, absent_stops, pump_idle, pump_ended}
+use Rattle.nutcore.proofs.Least.{HasStopped, no_session, pump_idle, pump_ended}
 use Rattle.nutcore.proofs.Pumping.{put_same}
 use Rattle.nutcore.specs.Taking.{enough_takes, GetsEverything, WhoTakesGetsEverything}
 
@@ -76,7 +76,7 @@ module _ (k c : ℕ) where
       let owes = is.owes in
       record {
         ended = subst (λ (z : ServerState). HasStopped z c) (sym (then_is s)) (cond_both (may_take (session c s) n) (pumped (without_output s c n) c) s (λ z. HasStopped z c)
-            (λ may. pump_ended (without_output s c n) c) (λ never. absent_stops s c (none_there (session c s) never).0));
+            (λ may. pump_ended (without_output s c n) c) (λ never. rw (none_there (session c s) never).0 no_session));
         moved = omega (arith, owes, some_is_taken s);
         fewer = omega (arith, holds);
       }

@@ -17,7 +17,7 @@ use Rattle.nutcore.specs.Taking.{TakesAmongOthers, is_event_of, events_of, WhoTa
 use Rattle.nutcore.proofs.Events.{of_session_event}
 use Rattle.nutcore.proofs.Histories.{later, lines_more, answers_more, of_its_pump, of_opened}
 use Rattle.nutcore.proofs.Isolation.{own}
-use Rattle.nutcore.proofs.Least.{HasStopped}
+use Rattle.nutcore.proofs.Least.{IsIdle}
 use Rattle.nutcore.proofs.Progress.{Presence}
 use Rattle.nutcore.proofs.Taking.{HasNothingLeft, outcome_then, IsTake, one_take, take_does, idle_take, some_taken, all_is_ring}
 use Rattle.nutcore.specs.TakingSome.{IsTakeOf, TakesSomeAmongOthers, WhoTakesSomeGetsEverything}
@@ -26,14 +26,10 @@ use Rattle.nutcore.specs.TakingSome.{IsTakeOf, TakesSomeAmongOthers, WhoTakesSom
 pub record IsUntouched (old new : Option SessionState) : Type 0 where
   pub owes : owed_of new ≡ owed_of old
   pub holds : held_of new ≡ held_of old
-  pub stops : is_none (option_and_then next_line new) ≡ is_none (option_and_then next_line old)
-  pub long : option_map_or holds_overlong new false ≡ option_map_or holds_overlong old false
+  pub stopped : IsIdle old → IsIdle new
 
 same_session : (old new : Option SessionState) → new ≡ old → IsUntouched old new
-same_session old new e = rw e (record { owes = refl; holds = refl; stops = refl; long = refl })
-
-pub stopped_after : (c : ℕ) (s t : ServerState) → IsUntouched (session c s) (session c t) → HasStopped s c → HasStopped t c
-stopped_after c s t same h = record { stopped = same.stops ∙ h.stopped; short = same.long ∙ h.short }
+same_session old new e = rw e (record { owes = refl; holds = refl; stopped = λ h. h })
 
 -- another's event executes nothing of the client, and leaves what it holds and owes
 pub record IsAnothers (c : ℕ) (s : ServerState) (t : ServerState) (done : List Execution) : Type 0 where
@@ -48,7 +44,7 @@ anothers c s e m =
     (λ address differ. record {
       nothing = refl;
       untouched = of_opened (λ p. IsUntouched (session c s) p.session) c s address m (λ u up. same_session (session c s) (session c s) refl)
-          (λ its away. subst (λ (p : Presence). IsUntouched p.session (Some (new_session s.next_id address))) (sym away) (record { owes = refl; holds = refl; stops = refl; long = refl }));
+          (λ its away. subst (λ (p : Presence). IsUntouched p.session (Some (new_session s.next_id address))) (sym away) (record { owes = refl; holds = refl; stopped = λ h. record { stopped = refl; short = refl } }));
     })
     (λ d piece differ. record { nothing = not_its d (with_input s d piece) differ; untouched = apart (Feed d piece) d refl differ })
     (λ d n differ. record {
@@ -81,7 +77,7 @@ module _ (k : ℕ) (few : k ≤ RING_LIMIT) (c : ℕ) where
   stays_left s t (e ∷ es) (o ∷ os) (mid, step, r) among h =
       stays_left (after s e o) t es os (later t es os step r) among.1 (own_or_not c e
       (λ yes its. as_take s e o (λ e o. HasNothingLeft c (after s e o)) (among.0 its) (subst (HasNothingLeft c) (sym (idle_take k c s h)) h))
-      (λ no other. let same = (anothers c s e (refused_after o) other).untouched in record { none = same.owes ∙ h.none; ended = stopped_after c s (after s e o) same h.ended }))
+      (λ no other. let same = (anothers c s e (refused_after o) other).untouched in record { none = same.owes ∙ h.none; ended = same.stopped h.ended }))
   stays_left s t es os r among h = absurd r
 
   -- so many takes are enough
