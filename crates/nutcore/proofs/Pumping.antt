@@ -71,11 +71,7 @@ after_line_is s c line x found h =
     let t : ServerState = line_done s change y in
     let id : y.id ≡ c = (keeps change x).id ∙ find_id c s.sessions x found in
     let there : session c t ≡ Some y = session_put s c x y found id in
-    ap (λ (o : Option (List ℕ)). option_map_or (λ line. after_reply s c line) o s) h
-    ∙ ap (with_session_changed (answered line text) c) (changed_is change c s x found)
-    ∙ change_is (answered line text) c t y there
-    ∙ ap (λ (xs : List SessionState). let z : ServerState = record t { sessions = xs } in z) (put_put y (answered line text y) s.sessions refl)
-    ∙ ap (λ (z : SessionState). line_done s change z) ((keeps change x).joined line text)
+    rw (h, changed_is change c s x found, change_is (answered line text) c t y there, put_put y (answered line text y) s.sessions refl, (keeps change x).joined line text)
 
 -- the clients after it
 pub own_after_line : (s : ServerState) (c : ℕ) (line : List ℕ) (x : SessionState) → session c s ≡ Some x → next_line_for s c ≡ Some line → presence c (after_line s c) ≡ at_client s c (Some (session_after s c line x))

@@ -89,19 +89,16 @@ module _ (k c : ℕ) where
     | inr full ↦ inl (omega (arith, moved, full))
   ]
 
-  -- where nothing is left, a take leaves it so
-  pub idle_take : (s : ServerState) → HasNothingLeft c s → server_then k c s ≡ s
+  -- to take nothing changes nothing; so where nothing is left, a take leaves it so
+  none_taken : (s : ServerState) → without_output s c 0 ≡ s
   unfolding without_output
-  idle_take s h = then_is s ∙ cond_both (may_take (session c s) n) (pumped (without_output s c n) c) s (λ z. z ≡ s) (λ may. ap (λ (z : ServerState). pumped z c) same ∙ pump_idle s c h.ended) (λ never. refl)
-    where
-      n : ℕ
-      n = size k c s
+  none_taken s = by_change (λ t. t ≡ s) (taken_from 0) c s (λ x e. put_same s c x e) (λ e. refl)
 
-      none : n ≡ 0
-      none = let e : length (offered (session c s)) ≡ 0 = ap (λ (bytes : List ℕ). length (take RING_LIMIT bytes)) h.none in omega (arith, e)
-
-      same : without_output s c n ≡ s
-      same = by_change (λ t. t ≡ s) (taken_from n) c s (λ x e. ap (with_session s) (subst (λ (j : ℕ). taken_from j x ≡ x) (sym none) refl) ∙ put_same s c x e) (λ e. refl)
+  pub idle_take : (s : ServerState) → HasNothingLeft c s → server_then k c s ≡ s
+  idle_take s h =
+      let none : size k c s ≡ 0 = omega (arith, ap (λ (bytes : List ℕ). length (take RING_LIMIT bytes)) h.none) in
+      then_is s ∙ ap (λ (n : ℕ). cond (may_take (session c s) n) (pumped (without_output s c n) c) s) none
+      ∙ cond_both (may_take (session c s) 0) (pumped (without_output s c 0) c) s (λ z. z ≡ s) (λ may. ap (λ (z : ServerState). pumped z c) (none_taken s) ∙ pump_idle s c h.ended) (λ never. refl)
 
 -- a take, and those after it
 one_more : (s : ServerState) (c : ℕ) (rest : GetsEverything c (server_then RING_LIMIT c s)) → suc (length rest.events) ≤ enough_takes c s (some_taken RING_LIMIT c s ∷ rest.events) (outcome_then RING_LIMIT c s ∷ rest.outcomes) → GetsEverything c s
