@@ -85,18 +85,14 @@ pump_ended s c =
 -- so after bytes that were taken in, and after bytes that were taken
 fed_stops : (old new : ServerState) (c n : ℕ) (piece : List ℕ) → Step old (Feed c piece) (Fed n) new → pump_stops new c ≡ true
 unfolding after_by pumped_until
-fed_stops old new c n piece step = subst (λ (z : ServerState). pump_stops z c ≡ true) (sym step.leaves) (pump_ended (with_input old c piece) c).stopped
-
-may_of : (o : Option SessionState) (n : ℕ) (overlong : Bool) → Done ≡ took_by o n overlong → may_take o n ≡ true
-may_of o n overlong h = grind arith
+fed_stops old new c n piece step = rw step.leaves (pump_ended (with_input old c piece) c).stopped
 
 took_stops : (old new : ServerState) (c n : ℕ) → Step old (Took c n) Done new → pump_stops new c ≡ true
 unfolding outcome_of after_by pumped_until
-took_stops old new c n step =
-    elim step.allowed [
-      | inl told ↦ subst (λ (z : ServerState). pump_stops z c ≡ true) (sym (step.leaves ∙ cond-true _ _ _ (may_of (session c old) n _ told))) (pump_ended (without_output old c n) c).stopped
-      | inr lack ↦ (let e : Done ≡ Refused (Memory lack.0) = lack.1 in cc)
-    ]
+took_stops old new c n step = elim step.allowed [
+  | inl told ↦ (let may : may_take (session c old) n ≡ true = grind (arith, told) in rw (step.leaves, may) (pump_ended (without_output old c n) c).stopped)
+  | inr lack ↦ (let e : Done ≡ Refused (Memory lack.0) = lack.1 in cc)
+]
 
 pub nothing_left : NothingIsLeftToExecute
 nothing_left = record { fed = fed_stops; took = took_stops }
@@ -104,9 +100,6 @@ nothing_left = record { fed = fed_stops; took = took_stops }
 -- a line is executed while little is owed, and its answer is joined
 pub one_answer_above : OneAnswerAtMostIsOwedAbove
 one_answer_above s c line next =
-    let n = is_next s c line next in (
-      subst (λ (o : Option SessionState). length (owed_of o) ≤ OWED_LIMIT) (sym n.found) (ltb-false _ _ n.little),
-      ap owed_of (found_after_line s c line n.asking n.found next)
-          ∙ (keeps (change_at s c line) (answered line (reply s c line) n.asking)).owed
-          ∙ ap (λ (o : Option SessionState). owed_of o ++ (reply s c line)) (sym n.found),
-    )
+    let n = is_next s c line next in
+    let kept = keeps (change_at s c line) (answered line (reply s c line) n.asking) in
+    (rw n.found (ltb-false _ _ n.little), ap owed_of (found_after_line s c line n.asking n.found next) ∙ rw n.found kept.owed)

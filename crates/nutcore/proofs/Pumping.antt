@@ -80,9 +80,7 @@ own_after_line s c line x found h = ap (presence c) (after_line_is s c line x fo
 pub other_after_line : (c d : ℕ) (s : ServerState) (line : List ℕ) → next_line_for s d ≡ Some line → c ≢ d → presence c (after_line s d) ≡ presence c s
 other_after_line c d s line h differ =
     let n = is_next s d line h in
-    let y : SessionState = session_after s d line n.asking in
-    ap (presence c) (after_line_is s d line n.asking n.found h)
-    ∙ ap (at_client s c) (find_put_other c y s.sessions (λ (k : c ≡ y.id). differ (k ∙ session_after_id s d line n.asking n.found)))
+    rw (after_line_is s d line n.asking n.found h) (ap (at_client s c) (find_put_other c (session_after s d line n.asking) s.sessions (λ (k : c ≡ (session_after s d line n.asking).id). differ (k ∙ session_after_id s d line n.asking n.found))))
 
 -- the session that stands there is put
 pub put_same : (s : ServerState) (c : ℕ) (x : SessionState) → session c s ≡ Some x → with_session s x ≡ s
