@@ -72,21 +72,19 @@ module _ (k c : ℕ) where
   one_take s =
       let n : ℕ = size k c s in
       let is = of_event_of_client IsMeasured measures c s (some_taken k c s) (refused_after (outcome_then k c s)) in
-      let holds = is.holds in
-      let owes = is.owes in
       record {
         ended = subst (λ (z : ServerState). HasStopped z c) (sym (then_is s)) (cond_both (may_take (session c s) n) (pumped (without_output s c n) c) s (λ z. HasStopped z c)
             (λ may. pump_ended (without_output s c n) c) (λ never. rw (none_there (session c s) never).0 no_session));
-        moved = omega (arith, owes, some_is_taken s);
-        fewer = omega (arith, holds);
+        moved = omega (arith, is.owes, some_is_taken s);
+        fewer = omega (arith, is.holds);
       }
 
   -- it moves k bytes, or executes something, which counts as much, or leaves nothing owed
   pub take_does : k ≤ RING_LIMIT → (s t : ServerState) (done : List Execution) → IsTake k c s t done → (length (owed c t) + k ≤ length (owed c s) + length (texts_of done) + length done * k) ⊎ (owed c t ≡ [])
-  take_does few s t (x ∷ done) is = inl (let moved = is.moved in omega (arith, moved, add-mul 1 (length done) k))
-  take_does few s t [] is = let moved = is.moved in elim (cases_lt (length (offered (session c s))) k) [
-    | inl less ↦ inr (nil_from_length (owed c t) (omega (arith, moved, less, few, length-take RING_LIMIT (owed c s))))
-    | inr full ↦ inl (omega (arith, moved, full))
+  take_does few s t (x ∷ done) is = inl (omega (arith, is.moved, add-mul 1 (length done) k))
+  take_does few s t [] is = elim (cases_lt (length (offered (session c s))) k) [
+    | inl less ↦ inr (nil_from_length (owed c t) (omega (arith, is.moved, less, few, length-take RING_LIMIT (owed c s))))
+    | inr full ↦ inl (omega (arith, is.moved, full))
   ]
 
   -- to take nothing changes nothing; so where nothing is left, a take leaves it so
@@ -111,10 +109,7 @@ one_more s c rest few = record {
   nothing_owed = rest.nothing_owed;
   nothing_left = rest.nothing_left;
   few = few;
-  lines =
-      let now = (one_take RING_LIMIT c s).fewer in
-      let later = rest.lines in
-      omega (arith, now, later, lines_more c (executions_in_event s (some_taken RING_LIMIT c s) (outcome_then RING_LIMIT c s)) (executions (server_then RING_LIMIT c s) rest.events rest.outcomes));
+  lines = omega (arith, (one_take RING_LIMIT c s).fewer, rest.lines, lines_more c (executions_in_event s (some_taken RING_LIMIT c s) (outcome_then RING_LIMIT c s)) (executions (server_then RING_LIMIT c s) rest.events rest.outcomes));
 }
 
 -- less is held, or as much is held and less is owed, after each but the last
@@ -125,16 +120,14 @@ nearer (suc h) (suc w) c s holds owes =
     let t : ServerState = server_then RING_LIMIT c s in
     let done : List Execution = done_then RING_LIMIT c s in
     let is = one_take RING_LIMIT c s in
-    let fewer = is.fewer in
     elim (take_does RING_LIMIT c (omega arith) s t done is) [
       | inl counts ↦ (let rest : GetsEverything c t = elim (cases_lt 0 (length done)) [
-        | inl some ↦ nearer h (suc (length (owed c t))) c t (omega (arith, holds, fewer, some)) (omega arith)
-        | inr none ↦ (let no_text = ap (λ (xs : List Execution). length (texts_of xs)) (nil_from_length done (omega (arith, none))) in nearer (suc h) w c t (omega (arith, holds, fewer)) (omega (arith, owes, counts, none, no_text)))
+        | inl some ↦ nearer h (suc (length (owed c t))) c t (omega (arith, holds, is.fewer, some)) (omega arith)
+        | inr none ↦ (let no_text = ap (λ (xs : List Execution). length (texts_of xs)) (nil_from_length done (omega (arith, none))) in nearer (suc h) w c t (omega (arith, holds, is.fewer)) (omega (arith, owes, counts, none, no_text)))
       ] in
-          let few = rest.few in
           let now : List Execution = executions_in_event s (some_taken RING_LIMIT c s) (outcome_then RING_LIMIT c s) in
           let later : List Execution = executions t rest.events rest.outcomes in
-          one_more s c rest (omega (arith, few, counts, answers_more c now later, lines_more c now later)))
+          one_more s c rest (omega (arith, rest.few, counts, answers_more c now later, lines_more c now later)))
       | inr none ↦ one_more s c (record { events = []; outcomes = []; new = t; run = refl; takes = tt; nothing_owed = none; nothing_left = is.ended.stopped; few = omega arith; lines = omega arith }) (omega arith)
     ]
 

@@ -91,7 +91,6 @@ module _ (k : ℕ) (few : k ≤ RING_LIMIT) (c : ℕ) where
       let next : ServerState = after s e o in
       let run = later t es os step r in
       let rest = served_run next t es os run among.1 in
-      let behind = rest.lines in
       let done : List Execution = of_client c (executions_in_event s e o) in
       let texts = answers_more c (executions_in_event s e o) (executions next es os) in
       let lines = lines_more c (executions_in_event s e o) (executions next es os) in
@@ -99,10 +98,9 @@ module _ (k : ℕ) (few : k ≤ RING_LIMIT) (c : ℕ) where
       own_or_not c e
       (λ yes its.
       let is = as_take s e o (λ e o. IsTake k c s (after s e o) (of_client c (executions_in_event s e o))) (among.0 its) (one_take k c s) in
-      let fewer = is.fewer in
       let events : events_of c (e ∷ es) * k ≡ suc (events_of c es) * k = ap (λ (b : Bool). length (cond b (e ∷ filter (is_event_of c) es) (filter (is_event_of c) es)) * k) yes in
       record {
-        lines = omega (arith, fewer, behind, lines);
+        lines = omega (arith, is.fewer, rest.lines, lines);
         served = λ enough. elim (take_does k c few s next done is) [
           | inl counts ↦ rest.served (omega (arith, enough, counts, times, texts, events))
           | inr none ↦ (let last = stays_left next t es os run among.1 (record { none = none; ended = is.ended }) in (last.none, last.ended.stopped))
@@ -116,13 +114,12 @@ module _ (k : ℕ) (few : k ≤ RING_LIMIT) (c : ℕ) where
       let no_text = ap (λ (z : List Execution). length (texts_of z)) other.nothing in
       let no_line = ap (λ (z : List Execution). length z * k) other.nothing in
       let events = ap (λ (b : Bool). length (cond b (e ∷ filter (is_event_of c) es) (filter (is_event_of c) es)) * k) no in
-      record { lines = omega (arith, behind, holds, none, lines); served = λ enough. rest.served (omega (arith, enough, owes, texts, no_text, times, no_line, events)) })
+      record { lines = omega (arith, rest.lines, holds, none, lines); served = λ enough. rest.served (omega (arith, enough, owes, texts, no_text, times, no_line, events)) })
   served_run s t es os r among = absurd r
 
 pub takes_some : WhoTakesSomeGetsEverything
 takes_some old new es os c k some few r among enough =
-    let lines = add-mul (lines_done c old es os) 1 k in
-    (served_run k few c old new es os r among).served (omega (arith, enough, some, lines))
+    (served_run k few c old new es os r among).served (omega (arith, enough, some, add-mul (lines_done c old es os) 1 k))
 
 -- all that is offered is a whole ring, or less
 takes_rings : (c : ℕ) (s : ServerState) (es : List Event) (os : List Outcome) → TakesAmongOthers c s es os → TakesSomeAmongOthers RING_LIMIT c s es os
