@@ -80,16 +80,13 @@ one_line c line (of_line s d l ∷ xs) none whole its e =
     (s, rw (its.0, is.0, none_more xs whole.1 is.1))
 one_line c line (of_notice d ∷ xs) none whole its e = absurd whole.0
 
-not_closed : (o : Option SessionState) (used : Bool) → option_map_or (λ x. x.ending) o used ≡ false → option_map_or (λ x. false) o used ≡ false
-not_closed o used h = grind arith
-
 pub one_line_answered : OneLineIsAnswered
 one_line_answered old new es os c line lawful absent r asks whole going none_held none_owed =
     let told = of_run_of_client Tells tells c old new es os r in
     let kept : IsKept (presence c old) = λ h. lt-ltb c old.next_id (lawful c h) in
     let up : executed c old es os ≡ asked c old es os = sym (rw (absent, none_held, append-nil (executed c old es os)) at ((run_taken_up old new es os lawful r c).while_going going)) in
     let one = one_line c line (of_client c (executions old es os)) whole (told.whole kept going) (all_its c (executions old es os)) (up ∙ asks) in
-    let sent : answers c old es os ≡ taken c old es os = rw (absent, none_owed, append-nil (taken c old es os)) at ((run_sent old new es os lawful r c).while_open (not_closed (session c new) _ going)) in
+    let sent : answers c old es os ≡ taken c old es os = rw (absent, none_owed, append-nil (taken c old es os)) at ((run_sent old new es os lawful r c).while_open (grind (arith, going))) in
     record {
       server = one.0;
       executed = one.1;

@@ -19,14 +19,22 @@ use Rattle.nutcore.proofs.Pumping.{is_next, change_at, no_notice, of_notice_due}
 use Rattle.nutcore.proofs.Found.{cases_Option}
 use Rattle.nutcore.proofs.Loops.{stopped_lines, line_shortens, all_lines_are, found_after_line}
 
--- where nothing is held, there is no next line
-pub empty_stops : (o : Option SessionState) → held_of o ≡ [] → is_none (option_and_then next_line o) ≡ true
-empty_stops o none = grind arith
+-- the pump has stopped, and no line is too long
+pub record IsIdle (o : Option SessionState) : Type 0 where
+  pub stopped : is_none (option_and_then next_line o) ≡ true
+  pub short : option_map_or holds_overlong o false ≡ false
+
+abbrev pub HasStopped : ServerState → ℕ → Type 0
+HasStopped s c = IsIdle (session c s)
+
+-- so where nothing is held
+pub empty_idle : (o : Option SessionState) → held_of o ≡ [] → IsIdle o
+empty_idle o none = record { stopped = grind arith; short = grind arith }
 
 -- after as many lines as bytes are held, the pump has stopped
 pub stops_at_last : (n : ℕ) (s : ServerState) (c : ℕ) → length (held_of (session c s)) ≤ n → pump_stops (after_lines n s c) c ≡ true
 unfolding after_lines
-stops_at_last zero s c le = empty_stops (session c s) (nil_from_length (held_of (session c s)) (omega (arith, le)))
+stops_at_last zero s c le = (empty_idle (session c s) (nil_from_length (held_of (session c s)) (omega (arith, le)))).stopped
 stops_at_last (suc n) s c le = elim (cases_Option (next_line_for s c)) [
   | inl e ↦ (let stop = ap is_none e in subst (λ (z : ServerState). pump_stops z c ≡ true) (sym (stopped_lines (suc n) s c stop)) stop)
   | inr (line, e) ↦ stops_at_last n (after_line s c) c (let less = line_shortens s c line e in omega (arith, less, le))
@@ -51,15 +59,7 @@ pump_least s c =
     let (k, within, there, before) = least (λ k. pump_stops (after_lines k s c) c) n (stops_at_last n s c (omega arith)) in
     (k, record { there = there; before = before; pumped_is = ap (λ (z : ServerState). after_notice z c) (all_lines_are k s c within there) })
 
--- the pump has stopped, and no line is too long
-pub record IsIdle (o : Option SessionState) : Type 0 where
-  pub stopped : is_none (option_and_then next_line o) ≡ true
-  pub short : option_map_or holds_overlong o false ≡ false
-
-abbrev pub HasStopped : ServerState → ℕ → Type 0
-HasStopped s c = IsIdle (session c s)
-
--- a client without a session has
+-- so has a client without a session
 pub no_session : IsIdle None
 no_session = record { stopped = refl; short = refl }
 
@@ -71,15 +71,12 @@ pump_idle s c h = ap (λ (z : ServerState). after_notice z c) (stopped_lines (le
 pub pump_absent : (s : ServerState) (c : ℕ) → session c s ≡ None → s ≡ pumped s c
 pump_absent s c e = sym (pump_idle s c (rw e no_session))
 
-told_ends : (o : Option SessionState) → IsIdle (option_map notified o)
-told_ends o = record { stopped = grind arith; short = grind arith }
-
 pub pump_ended : (s : ServerState) (c : ℕ) → HasStopped (pumped s c) c
 unfolding pumped after_all_lines
 pump_ended s c =
     let n : ℕ = length (held_of (session c s)) in
     let t : ServerState = after_lines n s c in
-    of_notice_due (λ xs r. HasStopped r c) t c (λ due. subst IsIdle (sym (session_changed notified (λ x. refl) c t)) (told_ends (session c t)))
+    of_notice_due (λ xs r. HasStopped r c) t c (λ due. subst IsIdle (sym (session_changed notified (λ x. refl) c t)) (record { stopped = grind arith; short = grind arith }))
     (λ short. record { stopped = stops_at_last n s c (omega arith); short = short })
 
 -- so after bytes that were taken in, and after bytes that were taken

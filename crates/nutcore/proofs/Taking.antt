@@ -37,9 +37,6 @@ done_then k c s = of_client c (executions_in_event s (some_taken k c s) (outcome
 pub all_is_ring : (c : ℕ) (s : ServerState) → size RING_LIMIT c s ≡ length (offered (session c s))
 all_is_ring c s = omega (arith, length-take RING_LIMIT (owed c s))
 
-there_is_memory : (o : Option SessionState) (n : ℕ) (b : Bool) → refused_after (took_by o n b) ≡ None
-there_is_memory o n b = grind arith
-
 -- nothing is left: then it stays so
 pub record HasNothingLeft (c : ℕ) (s : ServerState) : Type 0 where
   pub none : owed c s ≡ []
@@ -54,7 +51,7 @@ pub record IsTake (k c : ℕ) (s t : ServerState) (done : List Execution) : Type
 module _ (k c : ℕ) where
   then_is : (s : ServerState) → server_then k c s ≡ cond (may_take (session c s) (size k c s)) (pumped (without_output s c (size k c s)) c) s
   unfolding after_by pumped_until outcome_of
-  then_is s = ap (after_by s (some_taken k c s)) (there_is_memory (session c s) (size k c s) _)
+  then_is s = let memory : refused_after (outcome_then k c s) ≡ None = grind arith in ap (after_by s (some_taken k c s)) memory
 
   -- of a client that isn't open there is nothing to take
   none_there : (o : Option SessionState) → may_take o (min k (length (offered o))) ≡ false → (o ≡ None) × (0 ≡ min k (length (offered o)))
