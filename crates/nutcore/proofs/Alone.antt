@@ -1,10 +1,9 @@
 -- A client that asks one line, in a run of any others.
-use Rattle.std.proofs.Common.{arith, ◌≡◌, ◌∙◌, ℕ, Bool, true, false, List, [], ◌∷◌, ◌++◌, Option, Some, refl, sym, ap, eqb, inl, inr, append_assoc, append-nil, length, length-append}
-use Rattle.std.specs.Option.{option_map_or}
+use Rattle.std.proofs.Common.{arith, ◌≡◌, ◌∙◌, ℕ, true, false, List, [], ◌∷◌, ◌++◌, Some, refl, sym, ap, eqb, inl, inr, append_assoc, append-nil, length, length-append}
 use Rattle.std.proofs.lemmas.Bool.{both_ways, false_from_ne_true, eqb-true, lt-ltb}
 use Rattle.nutwords.specs.SplitLine.{split_line, has_lf}
 use Rattle.nutwords.proofs.PublicLaws.{first_line_is_cut_off}
-use Rattle.nutcore.proofs.Common.{cond_both, same_Some, SessionState, ServerState, session}
+use Rattle.nutcore.proofs.Common.{cond_both, same_Some, ServerState}
 use Rattle.nutwords.specs.Text.{with_lf}
 use Rattle.nutcore.specs.Lines.{first_line}
 use Rattle.nutcore.specs.History.{Execution, of_line, of_notice, client_of, executions, of_client, lines_of, texts_of, taken, asked, executed, answers}

@@ -8,7 +8,7 @@ use Rattle.nutcore.specs.declared.cost.Cost.{Cost}
 use Rattle.nutcore.proofs.Common.{flat_map-append, Event, SessionState, ServerState, session}
 use Rattle.nutcore.specs.declared.event.Event.TheVariants.{Feed, Took}
 use Rattle.nutcore.specs.Reply.{reply, too_long_notice}
-use Rattle.nutcore.specs.Pump.{answered, held_of, owed_of, holds_overlong}
+use Rattle.nutcore.specs.Pump.{answered, held_of, owed_of}
 use Rattle.nutcore.specs.Step.{accepted_bytes, with_input, without_output, may_take, offered, refused_after}
 use Rattle.nutcore.specs.History.{Execution, executions_until, executions_by, of_client, text_of, texts_of, held, owed, taken_in_event, asked_in_event}
 use Rattle.nutcore.specs.Cost.{cost_between, cost_of}
@@ -27,10 +27,6 @@ pub record IsMeasured (before : Presence) (xs : List Execution) (taken asked : L
   pub owes : length taken + length (owed_of after.session) ≤ length (owed_of before.session) + length (texts_of xs)
   pub holds : length xs + length (held_of after.session) ≤ length (held_of before.session) + length asked
 
--- a session that is too long holds as much as it may
-long_by : (x : SessionState) → holds_overlong x ≡ true → HELD_LIMIT ≤ length x.held
-long_by x long = grind arith
-
 pub measures : IsOfClient IsMeasured
 measures = record {
   joins = λ p q r xs ys k k' a a' f g. record {
@@ -46,7 +42,7 @@ measures = record {
   };
   by_notice = λ c x u long. record {
     owes = omega (arith, length-append x.owed too_long_notice, length-append too_long_notice []);
-    holds = omega (arith, long_by x long);
+    holds = grind (arith, long);
   };
   by_input = λ piece x u. record { owes = omega arith; holds = omega (arith, length-append x.held (accepted_bytes (Some x) piece)) };
   by_output = λ n x u. record { owes = omega (arith, length-take n x.owed, length-drop n x.owed); holds = omega arith };

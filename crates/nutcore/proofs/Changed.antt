@@ -8,7 +8,7 @@ use Rattle.nutcore.specs.Pump.{holds_overlong, notified, with_notice}
 use Rattle.nutcore.proofs.Found.{cases_Option, find_id, find_put, find_put_other}
 use Rattle.nutcore.proofs.Progress.{Presence, presence}
 use Rattle.nutcore.proofs.Common.{cond_both}
-use Rattle.nutcore.specs.Step.{joined, with_input, may_open, opened}
+use Rattle.nutcore.specs.Step.{with_input, may_open, opened}
 
 -- a session that is put
 pub session_put : (s : ServerState) (c : ℕ) (x y : SessionState) → session c s ≡ Some x → y.id ≡ c → session c (with_session s y) ≡ Some y

@@ -10,7 +10,7 @@ use Rattle.nutcore.specs.Session.{without, new_session}
 use Rattle.nutcore.specs.Pump.{after_all_lines, after_lines, pumped, is_overlong, wants_memory}
 use Rattle.nuttracking.specs.declared.tracking.IdFault.{IdFault}
 use Rattle.nuttracking.specs.Tracking.{id_fault}
-use Rattle.nutcore.specs.Step.{joined, with_input, taken_from, without_output, may_take, may_open, pumped_until, opened, handed_in, after_by, fed_by, took_by, closed_by, id_outcome, outcome_of, MayLackMemory}
+use Rattle.nutcore.specs.Step.{joined, with_input, taken_from, without_output, may_take, may_open, pumped_until, opened, handed_in, after_by, fed_by, id_outcome, outcome_of, MayLackMemory}
 use Rattle.nutcore.specs.Calls.{done}
 use Rattle.nutcore.specs.Promises.{IsAt, PumpGives}
 pub use Rattle.nutcore.proofs.Changed.{input_absent}

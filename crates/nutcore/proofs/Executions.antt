@@ -6,7 +6,7 @@ use Rattle.std.proofs.lemmas.List.Elements.{All-nil, All-cons, All-append, All-w
 use Rattle.nutcore.proofs.Common.{Event, Outcome, ServerState, session, Step, after, Run}
 use Rattle.nutcore.specs.Pump.{next_line_for, after_line, after_lines, is_overlong, after_all_lines}
 use Rattle.nutcore.specs.Step.{refused_after, may_take, with_input, without_output}
-use Rattle.nutcore.specs.History.{Execution, of_line, of_notice, next_execution, lines_executed, pump_executions, executions_until, executions_by, executions}
+use Rattle.nutcore.specs.History.{of_line, of_notice, next_execution, lines_executed, pump_executions, executions_until, executions_by, executions}
 use Rattle.nutcore.specs.Headline.{IsInPump, IsInEvent, IsTimely, EachAnswerIsTimely}
 use Rattle.nutcore.proofs.Events.{of_event}
 use Rattle.nutcore.proofs.Found.{cases_Option}

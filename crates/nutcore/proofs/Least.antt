@@ -1,17 +1,16 @@
 -- The pump executes the least number of lines after which it stops.
-use Rattle.std.proofs.Common.{◌≡◌, ℕ, zero, suc, ◌<◌, ◌≤◌, Bool, true, false, List, [], ◌++◌, Option, None, refl, sym, ◌∙◌, ap, subst, arith, length, inl, inr}
-use Rattle.std.specs.Prelude.{is_none, option_and_then, option_map}
+use Rattle.std.proofs.Common.{◌≡◌, ℕ, zero, suc, ◌<◌, ◌≤◌, Bool, true, false, List, [], Option, None, refl, sym, ◌∙◌, ap, subst, arith, length, inl, inr}
+use Rattle.std.specs.Prelude.{is_none, option_and_then}
 use Rattle.std.specs.Option.{option_map_or}
 use Rattle.std.proofs.lemmas.List.{nil_from_length}
-use Rattle.std.proofs.lemmas.Bool.{cases_Bool, cond-true, ltb-false}
-use Rattle.nutlisting.specs.declared.outbox.TheConstants.{OWED_LIMIT}
+use Rattle.std.proofs.lemmas.Bool.{cases_Bool, ltb-false}
 use Rattle.nutcore.specs.declared.event.Event.TheVariants.{Feed, Took}
 use Rattle.nutcore.specs.declared.event.Outcome.TheVariants.{Done, Fed, Refused}
 use Rattle.nutcore.specs.declared.event.Fault.TheVariants.{Memory}
 use Rattle.nutcore.proofs.Common.{SessionState, ServerState, session, Step}
 use Rattle.nutcore.specs.Reply.{reply}
-use Rattle.nutcore.specs.Pump.{next_line, next_line_for, after_line, after_lines, pump_stops, held_of, owed_of, pumped, after_notice, after_all_lines, is_overlong, holds_overlong, notified, answered}
-use Rattle.nutcore.specs.Step.{with_input, without_output, may_take, took_by, outcome_of, after_by, pumped_until}
+use Rattle.nutcore.specs.Pump.{next_line, next_line_for, after_line, after_lines, pump_stops, held_of, owed_of, pumped, after_notice, after_all_lines, holds_overlong, notified, answered}
+use Rattle.nutcore.specs.Step.{with_input, without_output, may_take, outcome_of, after_by, pumped_until}
 use Rattle.nutcore.specs.Headline.{IsLeast, NothingIsLeftToExecute, OneAnswerAtMostIsOwedAbove}
 use Rattle.nutcore.proofs.Changes.{keeps}
 use Rattle.nutcore.proofs.Changed.{session_changed}

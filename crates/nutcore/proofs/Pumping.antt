@@ -1,8 +1,8 @@
 -- What one line of a client leaves of the server, and the notice.
-use Rattle.std.proofs.Common.{arith, ◌≡◌, ◌≢◌, ℕ, Bool, true, false, List, [], ◌∷◌, Option, Some, None, refl, sym, ◌∙◌, ap, subst, cond, ltb, ◌<◌, length, take, inl, inr}
+use Rattle.std.proofs.Common.{arith, ◌≡◌, ◌≢◌, ℕ, true, false, List, [], ◌∷◌, Option, Some, None, refl, sym, ◌∙◌, ap, subst, ltb, ◌<◌, length, take, inl, inr}
 use Rattle.std.specs.Prelude.{◌||◌, option_map}
 use Rattle.std.specs.Option.{option_map_or}
-use Rattle.std.proofs.lemmas.Bool.{cases_Bool, or_parts, cond-true, cond-false}
+use Rattle.std.proofs.lemmas.Bool.{cases_Bool, cond-true, cond-false}
 use Rattle.nutcore.proofs.Common.{Change, SessionState, ServerState, session, with_session, with_session_changed, cond_both}
 use Rattle.nutanswer.specs.Command.{read_command}
 use Rattle.nutlisting.specs.declared.outbox.TheConstants.{OWED_LIMIT}

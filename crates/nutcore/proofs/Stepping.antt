@@ -1,9 +1,8 @@
 -- What each event, and a run of them, does to each client's presence.
-use Rattle.std.proofs.Common.{◌≡◌, ◌≢◌, ℕ, ◌+◌, Bool, true, false, List, [], ◌++◌, Option, Some, refl, sym, ◌∙◌, ap, arith, take, append-nil}
-use Rattle.std.specs.Option.{option_map_or}
+use Rattle.std.proofs.Common.{◌≡◌, ◌≢◌, ℕ, ◌+◌, true, false, List, [], ◌++◌, Option, Some, refl, sym, ◌∙◌, ap, arith, take, append-nil}
 use Rattle.std.proofs.lemmas.Bool.{cond-true, lt-ltb}
 use Rattle.std.proofs.lemmas.List.{take-append-drop}
-use Rattle.nutcore.proofs.Common.{never_both, flat_map-append, Event, Outcome, SessionState, ServerState, Run}
+use Rattle.nutcore.proofs.Common.{never_both, flat_map-append, Event, Outcome, ServerState, Run}
 use Rattle.nutwords.specs.Text.{with_lf}
 use Rattle.nutcore.specs.Lines.{rest_after}
 use Rattle.nutcore.specs.Reply.{reply, too_long_notice}

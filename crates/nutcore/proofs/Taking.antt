@@ -1,13 +1,13 @@
 -- A client that takes so many bytes, or all that it is offered where those are fewer: what one take moves and executes; and that who takes again and again gets everything.
-use Rattle.std.proofs.Common.{◌≡◌, ◌⊎◌, ℕ, ◌+◌, ◌*◌, ◌≤◌, Bool, false, List, [], ◌∷◌, Option, Some, None, refl, sym, ◌∙◌, ap, subst, cond, inl, inr, arith, length, take, length-take, min, zero, suc, ◌<◌}
+use Rattle.std.proofs.Common.{◌≡◌, ◌⊎◌, ℕ, ◌+◌, ◌*◌, ◌≤◌, false, List, [], ◌∷◌, Option, Some, None, refl, sym, ◌∙◌, ap, subst, cond, inl, inr, arith, length, take, length-take, min, zero, suc, ◌<◌}
 use Rattle.std.proofs.Math.Nat.{add-mul}
 use Rattle.std.proofs.lemmas.List.{nil_from_length}
 use Rattle.std.proofs.lemmas.Bool.{cond_both, cases_Bool, cases_lt, le-leb}
 use Rattle.nutlisting.specs.declared.ring.TheConstants.{RING_LIMIT}
-use Rattle.nutcore.proofs.Common.{never_both, Event, Outcome, SessionState, ServerState, session, with_session, after}
+use Rattle.nutcore.proofs.Common.{never_both, Event, Outcome, SessionState, ServerState, session, after}
 use Rattle.nutcore.specs.declared.event.Event.TheVariants.{Took}
 use Rattle.nutcore.specs.Pump.{pumped}
-use Rattle.nutcore.specs.Step.{taken_from, without_output, may_take, offered, pumped_until, after_by, refused_after, took_by, outcome_of}
+use Rattle.nutcore.specs.Step.{taken_from, without_output, may_take, offered, pumped_until, after_by, refused_after, outcome_of}
 use Rattle.nutcore.specs.History.{Execution, executions_in_event, of_client, texts_of, taken_in_event, asked_in_event, owed, held, executions}
 use Rattle.nutcore.proofs.Bounded.{IsMeasured, measures}
 use Rattle.nutcore.proofs.Changed.{by_change}

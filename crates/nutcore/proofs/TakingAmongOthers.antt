@@ -1,6 +1,5 @@
 -- A client that takes, among the events of others, gets everything: all that it is offered, or some bytes at a time.
 use Rattle.std.proofs.Common.{◌≡◌, ◌≢◌, ℕ, suc, ◌+◌, ◌≤◌, Bool, true, false, List, [], ◌∷◌, Option, Some, None, refl, sym, ◌∙◌, ap, subst, cond, eqb, inl, inr, arith, length, ◌*◌, ◌<◌}
-use Rattle.std.specs.Prelude.{is_none, option_and_then}
 use Rattle.std.specs.List.{filter}
 use Rattle.std.specs.Option.{option_map_or}
 use Rattle.std.proofs.Math.Nat.{add-mul}
@@ -9,7 +8,7 @@ use Rattle.nutlisting.specs.declared.ring.TheConstants.{RING_LIMIT}
 use Rattle.nutcore.proofs.Common.{Event, Outcome, SessionState, ServerState, session, after, Run}
 use Rattle.nutcore.specs.declared.event.Event.TheVariants.{Feed, Took, Close}
 use Rattle.nutcore.specs.Session.{find, new_session}
-use Rattle.nutcore.specs.Pump.{next_line, pump_stops, held_of, owed_of, holds_overlong}
+use Rattle.nutcore.specs.Pump.{pump_stops, held_of, owed_of}
 use Rattle.nutcore.specs.Step.{with_input, without_output, may_take, after_by, refused_after, outcome_of}
 use Rattle.nutcore.specs.History.{Execution, texts_of, executions_until, executions_by, executions, executions_in_event, of_client, owed, answers, held}
 use Rattle.nutcore.specs.Isolation.{client_of}

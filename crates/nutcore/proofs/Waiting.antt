@@ -13,7 +13,7 @@ use Rattle.nutwords.specs.Text.{with_lf}
 use Rattle.nutcore.specs.Session.{SessionState, find, new_session}
 use Rattle.nutcore.specs.Server.{ServerState, session, with_session}
 use Rattle.nutcore.specs.Reply.{seen, seen_client, asker_of, reply}
-use Rattle.nutcore.specs.Pump.{next_line, next_line_for, answered, after_line, after_lines, after_all_lines, after_notice, pumped, holds_overlong, held_of, owed_of}
+use Rattle.nutcore.specs.Pump.{next_line, next_line_for, answered, after_line, after_lines, after_all_lines, after_notice, pumped, held_of, owed_of}
 use Rattle.nutcore.specs.Step.{joined, with_input, opened, may_open, pumped_until, after_by}
 use Rattle.nutcore.specs.Sound.{IsSound}
 use Rattle.nutcore.specs.Waiting.{IsWaiting, ALineIsAnswered}
@@ -25,7 +25,6 @@ use Rattle.nutcore.proofs.Least.{IsIdle, empty_idle}
 use Rattle.nutcore.proofs.Loops.{all_lines_are, found_after_line}
 use Rattle.nutcore.proofs.Pumping.{no_notice, change_at}
 use Rattle.nutcore.specs.History.{owed, held}
-use Rattle.std.specs.Option.{option_map_or}
 use Rattle.nutcore.proofs.Places.{rise_none}
 
 module _ (s : ServerState) (c : ℕ) (line : List ℕ) (w : IsWaiting c s) (whole : has_lf line ≡ false) (short : length line < LINE_ROOM) where
