@@ -26,7 +26,7 @@ pub record IsIdle (o : Option SessionState) : Type 0 where
 abbrev pub HasStopped : ServerState → ℕ → Type 0
 HasStopped s c = IsIdle (session c s)
 
--- so where nothing is held
+-- so it is where nothing is held
 pub empty_idle : (o : Option SessionState) → held_of o ≡ [] → IsIdle o
 empty_idle o none = record { stopped = grind arith; short = grind arith }
 
@@ -58,11 +58,11 @@ pump_least s c =
     let (k, within, there, before) = least (λ k. pump_stops (after_lines k s c) c) n (stops_at_last n s c (omega arith)) in
     (k, record { there = there; before = before; pumped_is = ap (λ (z : ServerState). after_notice z c) (all_lines_are k s c within there) })
 
--- so has a client without a session
+-- so it is where there is no session
 pub no_session : IsIdle None
 no_session = record { stopped = refl; short = refl }
 
--- then a pump does nothing
+-- where it has stopped, a pump does nothing
 pub pump_idle : (s : ServerState) (c : ℕ) → HasStopped s c → pumped s c ≡ s
 unfolding pumped after_all_lines
 pump_idle s c h = ap (λ (z : ServerState). after_notice z c) (stopped_lines (length (held_of (session c s))) s c h.stopped) ∙ no_notice s c h.short
