@@ -23,7 +23,7 @@ use Rattle.nutcore.proofs.DriverText.{ups_after_text, ups_after_bytes}
 use Rattle.nutcore.proofs.Pumping.{is_next, after_line_is, change_at}
 use Rattle.nutcore.proofs.Rows.{comes_of_line, by_right}
 use Rattle.nutcore.proofs.Events.{IsPlain, OfDrivers, of_parts}
-use Rattle.nutcore.proofs.Marks.{OneIs, first_one, last_one, IsToldByLines, told_after}
+use Rattle.nutcore.proofs.Marks.{IsMark, told_after}
 
 -- the forced shutdown of the UPS at a place
 abbrev pub fsd_at : ℕ → List UpsState → Bool
@@ -93,14 +93,6 @@ by_plain u s e m =
 pub by_session : (u : UpsId) (f : SessionState → SessionState) (s : ServerState) (c : ℕ) → is_shut_down u (with_session_changed f c s) ≡ is_shut_down u s
 by_session u f s c = by_change (λ t. is_shut_down u t ≡ is_shut_down u s) f c s (λ x e. refl) (λ e. refl)
 
-input_keeps : (u : UpsId) (s : ServerState) (c : ℕ) (piece : List ℕ) → is_shut_down u (with_input s c piece) ≡ is_shut_down u s
-unfolding with_input
-input_keeps u s c piece = by_session u (joined piece) s c
-
-output_keeps : (u : UpsId) (s : ServerState) (c n : ℕ) → is_shut_down u (without_output s c n) ≡ is_shut_down u s
-unfolding without_output
-output_keeps u s c n = by_session u (taken_from n) s c
-
 -- a line that sets it has the row of FSD
 no_mark : {A : Type 0} (b : Bool) → b ≡ false → b ≡ true → A
 no_mark b e f = absurd (both_ways b e f)
@@ -121,25 +113,16 @@ line_sets u s c line next before after =
     let came = comes_of_line s c line (changes.Fsd u) refl (change_sets u (change_at s c line) s.upses before set) in
     by_right s c line came.command _ _ _ u came.read came.row
 
--- where it is set, one of the lines before set it
-module _ (u : UpsId) where
-  abbrev WasSet : List Execution → ServerState → Type 0
-  WasSet before s = is_shut_down u s ≡ true → OneIs (SetsShutdownByRight u) before
-
-  as_before : (before more : List Execution) (s t : ServerState) → is_shut_down u t ≡ is_shut_down u s → WasSet before s → WasSet (before ++ more) t
-  as_before before more s t same told set = first_one (SetsShutdownByRight u) before more (told (sym same ∙ set))
-
-  set_by_lines : IsToldByLines WasSet
-  set_by_lines = record {
-    by_line = λ before c s line next told set. elim (cases_Bool (is_shut_down u s)) [
-      | inl was ↦ first_one (SetsShutdownByRight u) before (of_line s c line ∷ []) (told was)
-      | inr never ↦ last_one (SetsShutdownByRight u) before (of_line s c line) (line_sets u s c line next never set)
-    ];
-    by_notice = λ before c s. as_before before (of_notice c ∷ []) s (with_session_changed notified c s) (by_session u notified s c);
-    by_input = λ before c s piece. as_before before [] s (with_input s c piece) (input_keeps u s c piece);
-    by_output = λ before c s n. as_before before [] s (without_output s c n) (output_keeps u s c n);
-    by_plain = λ before s e m plain. as_before before [] s (after_by s e m) (by_plain u s e m plain);
-  }
+-- only such lines set it
+set_by_lines : (u : UpsId) → IsMark (λ s. is_shut_down u s ≡ true) (SetsShutdownByRight u)
+set_by_lines u = record {
+  line = λ s c line next set. elim (cases_Bool (is_shut_down u s)) [ inl was ↦ inl was | inr never ↦ inr (line_sets u s c line next never set) ];
+  notice = λ s c set. sym (by_session u notified s c) ∙ set;
+  joins = λ s c piece set. sym (by_session u (joined piece) s c) ∙ set;
+  gives = λ s c n set. sym (by_session u (taken_from n) s c) ∙ set;
+  plain = λ s e m plain set. sym (by_plain u s e m plain) ∙ set;
+}
 
 pub shutdowns : AForcedShutdownIsSetByRight
-shutdowns old new events outcomes u run before after = told_after (WasSet u) (set_by_lines u) old new events outcomes run (λ set. no_mark _ before set) after
+shutdowns old new events outcomes u run before after =
+    elim (told_after _ _ (set_by_lines u) old new events outcomes run after) [ inl was ↦ no_mark _ before was | inr one ↦ one ]
