@@ -30,8 +30,9 @@ use Rattle.nutcore.proofs.Changed.{either_notice, of_opened}
 use Rattle.nutcore.proofs.Found.{of_pushed}
 use Rattle.nutcore.proofs.FreshRuns.{mapped_at}
 use Rattle.nutcore.proofs.Histories.{IsOfEvents, run_keeps, two_clients}
-use Rattle.nutcore.proofs.Kept.{IsKept, IsAny, any_address, by_event}
-use Rattle.nutcore.proofs.Lasting.{IsLasting, IsThere, kept, ids_kept, shutdown_kept}
+use Rattle.nutcore.proofs.Kept.{IsKept, IsAny, any_address, by_event, line_answered, notice_told}
+use Rattle.nutcore.proofs.ShutdownMarks.{AnySets, any_of, stays_set}
+use Rattle.nutcore.proofs.Lasting.{IsLasting, IsThere, kept, ids_kept}
 use Rattle.nutcore.proofs.Pumping.{is_next, after_line_is, change_at, overlong_there, notice_there}
 use Rattle.nutcore.proofs.Stepping.{run_sent}
 use Rattle.nutcore.proofs.UpsPlaces.{at_changed}
@@ -41,12 +42,9 @@ abbrev Ends : SessionState → Type 0
 Ends x = x.ending ≡ true
 
 ending_goes_on : IsLasting Ends
-ending_goes_on = record {
-  line = λ s c line x found going so. never_both x.ending so going;
-  joins = λ piece x so. so;
-  gives = λ n x so. so;
-  notice = λ x so. either_notice Ends x refl so;
-}
+ending_goes_on s c x _ found (line_answered line going) so = never_both x.ending so going
+ending_goes_on s c x _ found (notice_told going) so = refl
+ending_goes_on s c x _ found touched so = so
 
 -- a client that is over: its session is ending, or it has none any more
 abbrev IsOver : ℕ → ServerState → Type 0
@@ -107,11 +105,8 @@ pub stays_ending : (old new : ServerState) (es : List Event) (os : List Outcome)
 stays_ending old new es os c y lawful over r found = found_ending c c new y refl found (run_keeps c (AsksNoMore c) (asks_no_more c) old new es os r (over_there c old lawful over)).1
 
 joined_rise : (a b c : ℕ) (xs ys : List ℕ) → RiseFrom a b xs → RiseFrom b c ys → RiseFrom a c (xs ++ ys)
-joined_rise a b c [] ys least rest = lower a b c ys least rest
-  where
-    lower : (a b c : ℕ) (ys : List ℕ) → a ≤ b → RiseFrom b c ys → RiseFrom a c ys
-    lower a b c [] least rest = omega (arith, least, rest)
-    lower a b c (y ∷ ys) least rest = (omega (arith, least, rest.0), rest.1)
+joined_rise a b c [] [] least rest = omega (arith, least, rest)
+joined_rise a b c [] (y ∷ ys) least rest = (omega (arith, least, rest.0), rest.1)
 joined_rise a b c (x ∷ xs) ys h rest = (h.0, joined_rise (x + 1) b c xs ys h.1 rest)
 
 next_is_no_less : (s : ServerState) (e : Event) (m : Option ℕ) → s.next_id ≤ (after_by s e m).next_id
@@ -147,72 +142,8 @@ ids_rise old new (e ∷ es) (o ∷ os) (mid, step, r) =
 ids_rise old new es os r = absurd r
 
 -- a forced shutdown that is granted
-change_sets : (u : UpsId) (s : ServerState) (c : ℕ) (line : List ℕ) (words : List (List ℕ)) → (h : IsByRight s c line Fsd rights.Fsd words u) → change_at s c line ≡ changes.Fsd u
-change_sets u s c line words h =
-    let a = asker c s in
-    let granted : user (seen s) a rights.Fsd ≡ Ok tt =
-    ap (λ (o : Option (List ℕ)). ok_or o UsernameRequired >>= (λ name. ok_or a.password PasswordRequired >>= (λ password. unless (may s.users name password rights.Fsd) AccessDenied))) h.username_given
-    ∙ ap (λ (o : Option (List ℕ)). ok_or o PasswordRequired >>= (λ password. unless (may s.users h.name password rights.Fsd) AccessDenied)) h.password_given
-    ∙ ap (λ (b : Bool). unless b AccessDenied) h.granted in
-    ap (change_by s c) h.command
-    ∙ ap (λ (r : Result (Unit {0}) ErrWord). change_of_answer (r >> (unknown_ups (seen s) h.ups >>= (λ v. Ok (one_line (codes "OK" ∷ codes "FSD-SET" ∷ []) (changes.Fsd v.id)))))) granted
-    ∙ ap (λ (o : Option KnownUps). change_of_answer (ok_or o UnknownUps >>= (λ v. Ok (one_line (codes "OK" ∷ codes "FSD-SET" ∷ []) (changes.Fsd v.id))))) h.named
-    ∙ ap (λ (v : UpsId). changes.Fsd v) h.this
-
-line_shuts_down : (u : UpsId) (s : ServerState) (c : ℕ) (line : List ℕ) → next_line_for s c ≡ Some line → SetsShutdownByRight u (of_line s c line) → is_shut_down u (after_line s c) ≡ true
-line_shuts_down u s c line next h =
-    let n = is_next s c line next in
-    let stands = mapped_at seen_ups s.upses u.place h.known.state (ap (λ (v : UpsId). slice_get (seen s).upses v.place) (sym h.this) ∙ (a_named_ups_is_seen (seen s) h.ups h.known h.named).stands) in
-    ap (is_shut_down u) (after_line_is s c line n.asking n.found next)
-    ∙ ap (λ (change : Change). option_map_or (λ (x : UpsState). x.fsd) (slice_get (changed_upses change s.upses) u.place) false) (change_sets u s c line _ h)
-    ∙ ap (λ (o : Option UpsState). option_map_or (λ (x : UpsState). x.fsd) o false) (at_changed with_fsd u.place s.upses stands.of stands.there)
-
--- one of them does
-AnySets : UpsId → List Execution → Type 0
-AnySets u [] = ⊥
-AnySets u (x ∷ xs) = SetsShutdownByRight u x ⊎ AnySets u xs
-
-any_of : (u : UpsId) (before after : List Execution) (x : Execution) → SetsShutdownByRight u x → AnySets u (before ++ x ∷ after)
-unfolding AnySets
-any_of u [] after x sets = inl sets
-any_of u (y ∷ before) after x sets = inr (any_of u before after x sets)
-
-either_sets : (u : UpsId) (xs ys : List Execution) → AnySets u (xs ++ ys) → AnySets u xs ⊎ AnySets u ys
-unfolding AnySets
-either_sets u [] ys h = inr h
-either_sets u (x ∷ xs) ys (inl sets) = inl (inl sets)
-either_sets u (x ∷ xs) ys (inr h) = elim (either_sets u xs ys h) [ inl first ↦ inl (inr first) | inr last ↦ inr last ]
-
-record ShutsDown (u : UpsId) (s : ServerState) (xs : List Execution) (t : ServerState) : Type 0 where
-  stays : is_shut_down u s ≡ true → is_shut_down u t ≡ true
-  sets : AnySets u xs → is_shut_down u t ≡ true
-
-shuts_down : (u : UpsId) → IsOfEvents 0 (λ s xs taken asked t. ShutsDown u s xs t)
-unfolding with_input without_output after_notice AnySets
-shuts_down u =
-    let k = shutdown_kept u in
-    record {
-      stays = λ s. record { stays = λ set. set; sets = λ none. absurd none };
-      joins = λ s m t xs ys taken taken' asked asked' f g. record {
-        stays = λ set. g.stays (f.stays set);
-        sets = λ any. elim (either_sets u xs ys any) [ inl first ↦ g.stays (f.sets first) | inr last ↦ g.sets last ];
-      };
-      by_line = λ d s line next. record {
-        stays = λ set. k.pumped.line s d line next set;
-        sets = λ any. elim any [ inl sets ↦ line_shuts_down u s d line next sets | inr none ↦ absurd none ];
-      };
-      by_notice = λ d s long. record {
-        stays = λ set. subst (λ t. is_shut_down u t ≡ true) (notice_there s d long) (k.pumped.notice s d set);
-        sets = λ any. elim any [ inl never ↦ absurd never | inr none ↦ absurd none ];
-      };
-      by_input = λ d s piece. record { stays = λ set. k.pumped.joins s d piece set; sets = λ none. absurd none };
-      by_output = λ d s n may. record { stays = λ set. k.pumped.gives s d n set; sets = λ none. absurd none };
-      by_plain = λ s e m plain. record { stays = λ set. by_event (λ t. is_shut_down u t ≡ true) IsAny k s e m (any_address (opened_from e)) set; sets = λ none. absurd none };
-    }
-
 pub granted_is_set : AGrantedShutdownIsSet
-granted_is_set old new es os u x r (before, after, is) sets =
-    (run_keeps 0 (λ s xs taken asked t. ShutsDown u s xs t) (shuts_down u) old new es os r).sets (subst (AnySets u) (sym is) (any_of u before after x sets))
+granted_is_set old new es os u x r (before, after, is) sets = stays_set u old new es os r (inr (subst (AnySets u) (sym is) (any_of u before after x sets)))
 
 -- ticks and openings
 pub tick_alone : ATickTouchesNoSession

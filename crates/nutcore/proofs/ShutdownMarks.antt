@@ -24,15 +24,33 @@ use Rattle.nutcore.proofs.Pumping.{is_next, after_line_is, change_at}
 use Rattle.nutcore.proofs.Rows.{comes_of_line, by_right}
 use Rattle.nutcore.proofs.Events.{IsPlain, OfDrivers, of_parts}
 use Rattle.nutcore.proofs.Marks.{IsMark, told_after}
+use Rattle.std.specs.Prelude.{codes}
+use Rattle.std.specs.Option.{ok_or}
+use Rattle.nutanswer.specs.declared.command.Command.TheVariants.{Fsd}
+use Rattle.nutanswer.specs.declared.err_word.ErrWord.{ErrWord}
+use Rattle.nutanswer.specs.declared.err_word.ErrWord.TheVariants.{UnknownUps, UsernameRequired, PasswordRequired, AccessDenied}
+use Rattle.nutanswer.specs.Checks.{◌>>=◌, ◌>>◌, KnownUps, unless, user, unknown_ups}
+use Rattle.nutanswer.specs.Answer.{one_line, change_of_answer}
+use Rattle.nutanswer.proofs.PublicLaws.{a_named_ups_is_seen}
+use Rattle.nutusers.specs.Users.{may}
+use Rattle.nutusers.specs.declared.rights.Right.TheVariants as rights
+use Rattle.nutcore.specs.Reply.{seen, seen_ups, asker, change_by}
+use Rattle.nutcore.specs.ByRight.{IsByRight}
+use Rattle.nutcore.specs.History.{executions}
+use Rattle.nutcore.proofs.FreshRuns.{mapped_at}
+use Rattle.nutcore.proofs.Histories.{IsOfEvents, run_keeps}
+use Rattle.nutcore.proofs.UpsPlaces.{at_changed}
+use Rattle.nutcore.proofs.Common.{Outcome, Run}
+use Rattle.std.proofs.Common.{◌⊎◌, Result, Ok, subst, cond}
 
 -- the forced shutdown of the UPS at a place
-abbrev pub fsd_at : ℕ → List UpsState → Bool
+abbrev fsd_at : ℕ → List UpsState → Bool
 fsd_at q xs = option_map_or (λ (x : UpsState). x.fsd) (slice_get xs q) false
 
-abbrev pub Keeps : (UpsState → UpsState) → Type 0
+abbrev Keeps : (UpsState → UpsState) → Type 0
 Keeps f = (x : UpsState) → (f x).fsd ≡ x.fsd
 
-pub changed_keeps : (f : UpsState → UpsState) → Keeps f → (p q : ℕ) (xs : List UpsState) → fsd_at q (changed_at f p xs) ≡ fsd_at q xs
+changed_keeps : (f : UpsState → UpsState) → Keeps f → (p q : ℕ) (xs : List UpsState) → fsd_at q (changed_at f p xs) ≡ fsd_at q xs
 changed_keeps f k p q [] = refl
 changed_keeps f k zero zero (x ∷ xs) = k x
 changed_keeps f k zero (suc q) (x ∷ xs) = refl
@@ -64,7 +82,7 @@ bytes_fsd : (moment place : ℕ) (t : TrackingState) (piece : List ℕ) (refused
 bytes_fsd moment place t piece refused x = cond_both x.report.connected (ups_after_text moment place t (x.unfinished ++ piece) refused x) x (λ z. z.fsd ≡ x.fsd) (λ heard. text_fsd moment place t (x.unfinished ++ piece) refused x) (λ lost. refl)
 
 -- no driver sets one, nor time
-pub drivers_keep : (s : ServerState) (m : Option ℕ) → OfDrivers s.moment s.tracking m Keeps
+drivers_keep : (s : ServerState) (m : Option ℕ) → OfDrivers s.moment s.tracking m Keeps
 drivers_keep s m = record {
   comes = λ x. cond_both x.report.connected x (after_connecting s.moment x) (λ z. z.fsd ≡ x.fsd) (λ here. refl) (λ away. refl);
   tells = λ place piece. bytes_fsd s.moment place s.tracking piece m;
@@ -72,7 +90,7 @@ drivers_keep s m = record {
   goes = λ x. cond_both x.report.connected (after_loss x) x (λ z. z.fsd ≡ x.fsd) (λ here. refl) (λ away. refl);
 }
 
-pub tick_keeps : (u : UpsId) (s : ServerState) (seconds : ℕ) → is_shut_down u (ticked seconds s) ≡ is_shut_down u s
+tick_keeps : (u : UpsId) (s : ServerState) (seconds : ℕ) → is_shut_down u (ticked seconds s) ≡ is_shut_down u s
 unfolding ticked
 tick_keeps u s seconds = map_keeps _ (λ x. cond_both (ping_is_due s.max_age _ x) _ x (λ z. z.fsd ≡ x.fsd) (λ due. refl) (λ early. refl)) u.place s.upses
 
@@ -90,7 +108,7 @@ by_plain u s e m =
     opens address m = grind arith
 
 -- nor does a session that is changed
-pub by_session : (u : UpsId) (f : SessionState → SessionState) (s : ServerState) (c : ℕ) → is_shut_down u (with_session_changed f c s) ≡ is_shut_down u s
+by_session : (u : UpsId) (f : SessionState → SessionState) (s : ServerState) (c : ℕ) → is_shut_down u (with_session_changed f c s) ≡ is_shut_down u s
 by_session u f s c = by_change (λ t. is_shut_down u t ≡ is_shut_down u s) f c s (λ x e. refl) (λ e. refl)
 
 -- a line that sets it has the row of FSD
@@ -126,3 +144,72 @@ set_by_lines u = record {
 pub shutdowns : AForcedShutdownIsSetByRight
 shutdowns old new events outcomes u run before after =
     elim (told_after _ _ (set_by_lines u) old new events outcomes run after) [ inl was ↦ no_mark _ before was | inr one ↦ one ]
+
+-- a forced shutdown that is granted
+granted_changes : (u : UpsId) (s : ServerState) (c : ℕ) (line : List ℕ) (words : List (List ℕ)) → (h : IsByRight s c line Fsd rights.Fsd words u) → change_at s c line ≡ changes.Fsd u
+granted_changes u s c line words h =
+    let a = asker c s in
+    let granted : user (seen s) a rights.Fsd ≡ Ok tt =
+    ap (λ (o : Option (List ℕ)). ok_or o UsernameRequired >>= (λ name. ok_or a.password PasswordRequired >>= (λ password. unless (may s.users name password rights.Fsd) AccessDenied))) h.username_given
+    ∙ ap (λ (o : Option (List ℕ)). ok_or o PasswordRequired >>= (λ password. unless (may s.users h.name password rights.Fsd) AccessDenied)) h.password_given
+    ∙ ap (λ (b : Bool). unless b AccessDenied) h.granted in
+    ap (change_by s c) h.command
+    ∙ ap (λ (r : Result (Unit {0}) ErrWord). change_of_answer (r >> (unknown_ups (seen s) h.ups >>= (λ v. Ok (one_line (codes "OK" ∷ codes "FSD-SET" ∷ []) (changes.Fsd v.id)))))) granted
+    ∙ ap (λ (o : Option KnownUps). change_of_answer (ok_or o UnknownUps >>= (λ v. Ok (one_line (codes "OK" ∷ codes "FSD-SET" ∷ []) (changes.Fsd v.id))))) h.named
+    ∙ ap (λ (v : UpsId). changes.Fsd v) h.this
+
+line_shuts_down : (u : UpsId) (s : ServerState) (c : ℕ) (line : List ℕ) → next_line_for s c ≡ Some line → SetsShutdownByRight u (of_line s c line) → is_shut_down u (after_line s c) ≡ true
+line_shuts_down u s c line next h =
+    let n = is_next s c line next in
+    let stands = mapped_at seen_ups s.upses u.place h.known.state (ap (λ (v : UpsId). slice_get (seen s).upses v.place) (sym h.this) ∙ (a_named_ups_is_seen (seen s) h.ups h.known h.named).stands) in
+    ap (is_shut_down u) (after_line_is s c line n.asking n.found next)
+    ∙ ap (λ (change : Change). option_map_or (λ (x : UpsState). x.fsd) (slice_get (changed_upses change s.upses) u.place) false) (granted_changes u s c line _ h)
+    ∙ ap (λ (o : Option UpsState). option_map_or (λ (x : UpsState). x.fsd) o false) (at_changed with_fsd u.place s.upses stands.of stands.there)
+
+-- one of them does
+pub AnySets : UpsId → List Execution → Type 0
+AnySets u [] = ⊥
+AnySets u (x ∷ xs) = SetsShutdownByRight u x ⊎ AnySets u xs
+
+pub any_of : (u : UpsId) (before after : List Execution) (x : Execution) → SetsShutdownByRight u x → AnySets u (before ++ x ∷ after)
+unfolding AnySets
+any_of u [] after x sets = inl sets
+any_of u (y ∷ before) after x sets = inr (any_of u before after x sets)
+
+either_sets : (u : UpsId) (xs ys : List Execution) → AnySets u (xs ++ ys) → AnySets u xs ⊎ AnySets u ys
+unfolding AnySets
+either_sets u [] ys h = inr h
+either_sets u (x ∷ xs) ys (inl sets) = inl (inl sets)
+either_sets u (x ∷ xs) ys (inr h) = elim (either_sets u xs ys h) [ inl first ↦ inl (inr first) | inr last ↦ inr last ]
+
+-- so a line that is executed leaves it set where it was
+forced_stays : (p q : ℕ) (xs : List UpsState) → fsd_at q xs ≡ true → fsd_at q (changed_at with_fsd p xs) ≡ true
+forced_stays p q [] h = h
+forced_stays zero zero (x ∷ xs) h = refl
+forced_stays zero (suc q) (x ∷ xs) h = h
+forced_stays (suc p) zero (x ∷ xs) h = h
+forced_stays (suc p) (suc q) (x ∷ xs) h = forced_stays p q xs h
+
+line_keeps : (u : UpsId) (s : ServerState) (c : ℕ) (line : List ℕ) → next_line_for s c ≡ Some line → is_shut_down u s ≡ true → is_shut_down u (after_line s c) ≡ true
+line_keeps u s c line next set =
+    let n = is_next s c line next in
+    ap (is_shut_down u) (after_line_is s c line n.asking n.found next)
+    ∙ of_changed_upses (λ told ys. fsd_at u.place ys ≡ true) (change_at s c line) s.upses set (λ v is. forced_stays v.place u.place s.upses set) (λ v line id is. changed_keeps (with_order line) (λ x. refl) v.place u.place s.upses ∙ set)
+
+shuts_down : (u : UpsId) → IsOfEvents 0 (λ s xs taken asked t. (is_shut_down u s ≡ true) ⊎ AnySets u xs → is_shut_down u t ≡ true)
+unfolding with_input without_output AnySets
+shuts_down u = record {
+  stays = λ s h. elim h [ inl set ↦ set | inr none ↦ absurd none ];
+  joins = λ s m t xs ys taken taken' asked asked' f g h. elim h [
+    | inl set ↦ g (inl (f (inl set)))
+    | inr any ↦ elim (either_sets u xs ys any) [ inl first ↦ g (inl (f (inr first))) | inr last ↦ g (inr last) ]
+  ];
+  by_line = λ d s line next h. elim h [ inl set ↦ line_keeps u s d line next set | inr (inl sets) ↦ line_shuts_down u s d line next sets | inr (inr none) ↦ absurd none ];
+  by_notice = λ d s long h. elim h [ inl set ↦ by_session u notified s d ∙ set | inr (inl never) ↦ absurd never | inr (inr none) ↦ absurd none ];
+  by_input = λ d s piece h. elim h [ inl set ↦ by_session u (joined piece) s d ∙ set | inr none ↦ absurd none ];
+  by_output = λ d s n may h. elim h [ inl set ↦ by_session u (taken_from n) s d ∙ set | inr none ↦ absurd none ];
+  by_plain = λ s e m plain h. elim h [ inl set ↦ by_plain u s e m plain ∙ set | inr none ↦ absurd none ];
+}
+
+pub stays_set : (u : UpsId) (old new : ServerState) (es : List Event) (os : List Outcome) → Run old es os new → (is_shut_down u old ≡ true) ⊎ AnySets u (executions old es os) → is_shut_down u new ≡ true
+stays_set u old new es os r = run_keeps 0 _ (shuts_down u) old new es os r
