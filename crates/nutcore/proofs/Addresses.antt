@@ -41,9 +41,12 @@ each_of : (xs : List SessionState) → All HasLawfulAddress xs → Each HasLawfu
 each_of [] all = tt
 each_of (x ∷ xs) all = (All-head HasLawfulAddress x xs all, each_of xs (All-tail HasLawfulAddress x xs all))
 
+pub all_of_each : {A : Type 0} (P : A → Type 0) (xs : List A) → Each P xs → All P xs
+all_of_each P [] each = All-nil P
+all_of_each P (x ∷ xs) each = All-cons P x xs each.0 (all_of_each P xs each.1)
+
 pub all_of : (xs : List SessionState) → Each HasLawfulAddress xs → All HasLawfulAddress xs
-all_of [] each = All-nil HasLawfulAddress
-all_of (x ∷ xs) each = All-cons HasLawfulAddress x xs each.0 (all_of xs each.1)
+all_of xs each = all_of_each HasLawfulAddress xs each
 
 pub new_addresses_lawful : ANewServerHasLawfulAddresses
 new_addresses_lawful list users descriptions max_age = All-nil HasLawfulAddress

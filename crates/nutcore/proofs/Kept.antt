@@ -55,18 +55,19 @@ module _ (P : ServerState → Type 0) (kept : IsPumped P) where
   unfolding without_output
   by_take s c n m h = cond_both (may_take (session c s) n) _ s P (λ e. by_pump c (without_output s c n) m (kept.gives s c n h)) (λ e. h)
 
+-- what each end that a line tells keeps, the ends that some lines tell keep
+pub of_ends : (place : ℕ) (P : TrackingState → Type 0) → ((line : List ℕ) (t : TrackingState) → P t → P (with_end place (end_in line) t)) → (lines : List (List ℕ)) (t : TrackingState) → P t → P (after_ends place lines t)
+of_ends place P keeps [] t h = h
+of_ends place P keeps (line ∷ lines) t h = of_ends place P keeps lines (with_end place (end_in line) t) (keeps line t h)
+
 module _ (P : ServerState → Type 0) (Opens : List ℕ → Type 0) (kept : IsKept P Opens) where
   abbrev OpensFrom : Event → Type 0
   OpensFrom e = IfSome (opened_from e) Opens
 
-  by_ends : (u : UpsId) (lines : List (List ℕ)) (s : ServerState) → P s → P (with_tracking (after_ends u.place lines s.tracking) s)
-  by_ends u [] s h = h
-  by_ends u (line ∷ lines) s h = by_ends u lines (with_tracking (with_end u.place (end_in line) s.tracking) s) (kept.reports s u line h)
-
   pub by_event : (s : ServerState) (e : Event) (m : Option ℕ) → OpensFrom e → P s → P (after_by s e m)
   by_event s e m =
       of_parts s m (λ f. (u : UpsId) → P s → P (with_ups_changed f u s)) (kept.driver s m) (λ e t. OpensFrom e → P s → P t)
-      (λ e u f lines its apart keeps own h. by_ends u lines (with_ups_changed f u s) (keeps u h)) (λ seconds own h. kept.ticks s seconds h) (λ address own h. of_opened P s address m h (λ room. kept.opens s address room own h))
+      (λ e u f lines its apart keeps own h. let changed : ServerState = with_ups_changed f u s in of_ends u.place (λ t. P (with_tracking t changed)) (λ line t. kept.reports (with_tracking t changed) u line) lines s.tracking (keeps u h)) (λ seconds own h. kept.ticks s seconds h) (λ address own h. of_opened P s address m h (λ room. kept.opens s address room own h))
       (λ c piece own h. by_feed P kept.pumped s c piece m h) (λ c n own h. by_take P kept.pumped s c n m h) (λ c own h. kept.closes s c h) (λ id own h. kept.hands s id h) e
 
   pub by_run : (s t : ServerState) (es : List Event) (os : List Outcome) → Run s es os t → All OpensFrom es → P s → P t
