@@ -9,6 +9,7 @@ use nutanswer::{Command, ErrWord};
 pub(crate) type ReadLine<'a> = Result<Option<Command<'a>>, ErrWord>;
 
 /// Where the first whole line ends.
+#[tactic(auto, using(crate::proofs::FirstLine::found_end))]
 pub(crate) fn line_end(bytes: &[u8]) -> Option<usize>
     ensures { MatchOption result (first_line bytes.now ≡ None)
         (λ end. (end < length bytes.now) × (first_line bytes.now ≡ Some (take end bytes.now))) }

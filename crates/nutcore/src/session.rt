@@ -266,6 +266,7 @@ impl Session {
     }
 
     /// Takes the first line, which ends there.
+    #[tactic(auto, using(crate::proofs::FirstLine::ends_within))]
     fn take_line(&mut self, end: usize)
         requires { option_map length (first_line self.old.held) ≡ Some end }
         ensures taken { (line : List ℕ) → first_line self.old.held ≡ Some line
@@ -335,6 +336,7 @@ impl Session {
     }
 
     /// What it owes, as a ring and a cursor.
+    #[tactic(auto, using(nutlisting::proofs::PublicLaws::what_is_offered_is_the_ring))]
     pub(crate) fn outbox(&self) -> &Outbox
         ensures { IsOutboxOf self.now.owed result.now }
     {
