@@ -3,6 +3,7 @@ use Rattle.std.proofs.Common.{◌≡◌, ◌≤◌, ◌+◌, ◌⊎◌, ◌∙�
 use Rattle.std.specs.Prelude.{slice_get, is_some, codes}
 use Rattle.std.specs.Option.{option_map_or, ok_or}
 use Rattle.std.proofs.lemmas.Bool.{eqb-true, ltb-true, and_parts}
+use Rattle.std.proofs.lemmas.Bool.Decides.{nat_tests}
 use Rattle.nutcore.proofs.Common.{never_both, cond_both, UpsId, Change, Event, Outcome, SessionState, UpsState, ServerState, session, after, Run}
 use Rattle.nutanswer.specs.declared.command.Command.TheVariants.{Fsd}
 use Rattle.nutanswer.specs.declared.err_word.ErrWord.{ErrWord}
@@ -58,13 +59,13 @@ abbrev AsksNoMore : ℕ → ServerState → List Execution → List ℕ → List
 AsksNoMore c s xs taken asked t = IsOver c s → (of_client c xs ≡ []) × IsOver c t
 
 one_other : (c : ℕ) (x : Execution) (d : ℕ) → (d ≡ c → ⊥) → cond (eqb d c) (x ∷ []) [] ≡ []
-one_other c x d differ = cond_both (eqb d c) (x ∷ []) [] (λ ys. ys ≡ []) (λ e. absurd (differ (eqb-true d c e))) (λ e. refl)
+one_other c x d differ = grind (arith, nat_tests)
 
 found_ending : (c d : ℕ) (s : ServerState) (x : SessionState) → d ≡ c → session d s ≡ Some x → IsOver c s → x.ending ≡ true
 found_ending c d s x same found over = subst (λ o. IfSome o Ends) (ap (λ k. session k s) (sym same) ∙ found) over.1
 
 no_notice_to : (x : SessionState) → x.ending ≡ true → holds_overlong x ≡ true → ⊥
-no_notice_to x ends long = let parts = and_parts (not x.ending) _ long in never_both (not x.ending) parts.0 (ap not ends)
+no_notice_to x ends long = grind arith
 
 asks_no_more : (c : ℕ) → IsOfEvents c (AsksNoMore c)
 unfolding with_input without_output after_notice
@@ -116,15 +117,14 @@ opened_next : (s : ServerState) (address : List ℕ) → may_open s ≡ true →
 unfolding after_by opened
 opened_next s address room = cond_both (may_open s) _ s (λ t. t.next_id ≡ s.next_id + 1) (λ may. refl) (λ full. never_both (may_open s) room full)
 
-Rises : ServerState → Event → Outcome → Type 0
+abbrev Rises : ServerState → Event → Outcome → Type 0
 Rises s e o = RiseFrom s.next_id (after s e o).next_id (id_given o)
 
 rises_by_none : (s : ServerState) (e : Event) (o : Outcome) → id_given o ≡ [] → Rises s e o
-unfolding Rises
 rises_by_none s e o none = subst (RiseFrom s.next_id (after s e o).next_id) (sym none) (next_is_no_less s e (refused_after o))
 
 told_rises : (s : ServerState) (e : Event) → Rises s e (outcome_of s e)
-unfolding outcome_of Rises
+unfolding outcome_of
 told_rises s (Open address) =
     cond_both (may_open s) (Opened s.next_id) (Refused TooManyClients) (Rises s (Open address)) (λ room. let next = opened_next s address room in (omega arith, omega (arith, next))) (λ full. rises_by_none s (Open address) (Refused TooManyClients) refl)
 told_rises s e = rises_by_none s e (outcome_of s e) (grind arith)
@@ -134,7 +134,6 @@ event_rises s e o (inl is) = subst (Rises s e) (sym is) (told_rises s e)
 event_rises s e o (inr (k, is, lacks)) = rises_by_none s e o (ap id_given is)
 
 pub ids_rise : IdsThatAreGivenRise
-unfolding Rises
 ids_rise old new [] [] r = let next = ap (λ (s : ServerState). s.next_id) r in omega (arith, next)
 ids_rise old new (e ∷ es) (o ∷ os) (mid, step, r) =
     joined_rise old.next_id mid.next_id new.next_id (id_given o) (ids_given os)

@@ -124,12 +124,9 @@ is_quiet _ = false
 not_memory : (fault : Fault) → is_harmless fault ≡ true → refused_after (Refused fault) ≡ None
 not_memory fault h = grind arith
 
-never_quiet : {A : Type 0} (o : Outcome) → is_quiet o ≡ false → is_quiet o ≡ true → A
-never_quiet o e h = let never : false ≡ true = sym e ∙ h in cc never
-
--- what is done or stopped at a line that is too long is none of these refusals
-goes : (b : Bool) (o : Outcome) → is_quiet o ≡ false → is_quiet (cond b (Refused LineTooLong) o) ≡ false
-goes b o done = cond_both b (Refused LineTooLong) o (λ z. is_quiet z ≡ false) (λ e. refl) (λ e. done)
+-- what is taken in, or stopped at a line that is too long, is none of these refusals
+taken_in : (n : ℕ) (b : Bool) → is_quiet (cond b (Refused LineTooLong) (Fed n)) ≡ true → ⊥
+taken_in n b h = grind arith
 
 -- what is done unless it is refused
 stays : {A : Type 0} (b : Bool) (o p : Outcome) (t s : A) → is_quiet o ≡ false → is_quiet (cond b o p) ≡ true → cond b t s ≡ s
@@ -146,7 +143,7 @@ bytes_stay s u piece o h = grind arith
 
 feed_stays : (s : ServerState) (c : ℕ) (piece : List ℕ) (o : Option SessionState) (b : Bool) → session c s ≡ o → is_quiet (fed_by o piece b) ≡ true → pumped (with_input s c piece) c ≡ s
 feed_stays s c piece None b e h = ap (λ (z : ServerState). pumped z c) (input_absent s c piece e) ∙ sym (pump_absent s c e)
-feed_stays s c piece (Some x) b e h = never_quiet _ (goes b (Fed (accepted x piece)) refl) h
+feed_stays s c piece (Some x) b e h = absurd (taken_in (accepted x piece) b h)
 
 -- where a take is refused, nothing may be taken
 pub may_not : (o : Option SessionState) (n : ℕ) (b : Bool) → is_quiet (took_by o n b) ≡ true → may_take o n ≡ false
