@@ -1,19 +1,17 @@
 -- The addresses of sessions stay lawful, and the list of UPSs is never changed.
-use Rattle.std.proofs.Common.{◌≡◌, ◌+◌, ℕ, true, List, [], ◌∷◌, ◌++◌, Some, refl, sym, subst, max, All, IsTrue}
+use Rattle.std.proofs.Common.{◌≡◌, ℕ, List, [], ◌∷◌, refl, sym, subst, All, IsTrue}
 use Rattle.std.proofs.lemmas.List.Elements.{All-nil, All-cons, All-head, All-tail}
 use Rattle.nutwords.specs.Reading.{is_address}
 use Rattle.nutusers.specs.UpsList.{Ups}
-use Rattle.nutcore.specs.Session.{SessionState, without, new_session}
-use Rattle.nutcore.proofs.Common.{UpsState, TrackingState, ServerState, session, with_session, with_session_changed, with_tracking}
-use Rattle.nutcore.specs.Reply.{reply, changed_upses, changed_tracking}
-use Rattle.nutcore.specs.Pump.{answered, with_notice}
-use Rattle.nutcore.specs.Step.{joined, taken_from, may_open, ticked}
+use Rattle.nutcore.specs.Session.{SessionState, new_session}
+use Rattle.nutcore.proofs.Common.{ServerState}
+use Rattle.nutcore.specs.Reply.{reply}
+use Rattle.nutcore.specs.Pump.{answered}
 use Rattle.nutcore.specs.ReadsBack.{HasLawfulAddress}
 use Rattle.nutcore.specs.Sound.{Each}
 use Rattle.nutcore.specs.Addresses.{ANewServerHasLawfulAddresses, EveryRunKeepsAddressesLawful, EveryRunKeepsTheList}
-use Rattle.nutcore.proofs.Changed.{by_change, either_notice}
 use Rattle.nutcore.proofs.Changes.{keeps}
-use Rattle.nutcore.proofs.Pumping.{is_next, after_line_is, change_at, session_after}
+use Rattle.nutcore.proofs.Pumping.{change_at}
 use Rattle.nutcore.proofs.Kept.{IsKept, IsAny, any_event, by_run, IsTouched, line_answered, kept_apart}
 use Rattle.nutcore.proofs.Sound.{each_put, each_without, each_found}
 use Rattle.nutcore.proofs.SoundUps.{each_last}

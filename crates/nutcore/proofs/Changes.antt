@@ -1,11 +1,11 @@
 -- What a change does to the session that asks, to the UPSs and to what their drivers are told: a case each.
-use Rattle.std.proofs.Common.{◌≡◌, ℕ, ◌+◌, ◌≤◌, false, true, List, [], ◌∷◌, ◌++◌, cond, eqb, Option, Some, None, refl, ap, arith, length, inl, inr}
+use Rattle.std.proofs.Common.{◌≡◌, ℕ, ◌≤◌, false, true, List, [], ◌∷◌, cond, eqb, Option, Some, None, refl, arith, length}
 use Rattle.std.specs.Prelude.{◌⊎◌}
 use Rattle.std.proofs.Math.Seq.{drop-nil}
 use Rattle.nuttracking.specs.Tracking.{with_order as with_tracked_order}
 use Rattle.nutanswer.specs.Orders.{order as order_to}
 use Rattle.nutcore.proofs.Common.{UpsId, TrackingState, Change, SessionState, changed_at}
-use Rattle.nutanswer.specs.declared.reply.Change.TheVariants.{Username, Password, Login, Ending, Fsd, Order, Tracked}
+use Rattle.nutanswer.specs.declared.reply.Change.TheVariants.{Username, Password, Login, Fsd, Order, Tracked}
 use Rattle.nutcore.specs.Ups.{UpsState, with_fsd, with_order}
 use Rattle.nutcore.specs.Reply.{changed_session, changed_upses, changed_tracking}
 use Rattle.nutcore.specs.Pump.{answered}

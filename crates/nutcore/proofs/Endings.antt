@@ -1,42 +1,25 @@
 -- What is over stays over, and what ticks and newcomers leave as it is.
-use Rattle.std.proofs.Common.{◌≡◌, ◌≤◌, ◌+◌, ◌⊎◌, ◌∙◌, ℕ, Bool, true, false, not, List, [], ◌∷◌, ◌++◌, Option, Some, None, Result, Ok, IfSome, refl, sym, ap, subst, cond, eqb, ltb, inl, inr, arith, append-nil}
-use Rattle.std.specs.Prelude.{slice_get, is_some, codes}
-use Rattle.std.specs.Option.{option_map_or, ok_or}
-use Rattle.std.proofs.lemmas.Bool.{eqb-true, ltb-true, and_parts}
+use Rattle.std.proofs.Common.{◌≡◌, ◌≤◌, ◌+◌, ◌∙◌, ℕ, true, List, [], ◌∷◌, ◌++◌, Option, Some, None, IfSome, refl, sym, ap, subst, cond, eqb, inl, inr, arith, append-nil}
 use Rattle.std.proofs.lemmas.Bool.Decides.{nat_tests}
-use Rattle.nutcore.proofs.Common.{never_both, cond_both, UpsId, Change, Event, Outcome, SessionState, UpsState, ServerState, session, after, Run}
-use Rattle.nutanswer.specs.declared.command.Command.TheVariants.{Fsd}
-use Rattle.nutanswer.specs.declared.err_word.ErrWord.{ErrWord}
-use Rattle.nutanswer.specs.declared.err_word.ErrWord.TheVariants.{UnknownUps, UsernameRequired, PasswordRequired, AccessDenied}
-use Rattle.nutanswer.specs.declared.reply.Change.TheVariants as changes
-use Rattle.nutanswer.specs.Checks.{◌>>=◌, ◌>>◌, KnownUps, unless, user, unknown_ups}
-use Rattle.nutanswer.specs.Answer.{one_line, change_of_answer}
-use Rattle.nutanswer.proofs.PublicLaws.{a_named_ups_is_seen}
-use Rattle.nutusers.specs.Users.{may}
-use Rattle.nutusers.specs.declared.rights.Right.TheVariants as rights
+use Rattle.nutcore.proofs.Common.{never_both, cond_both, Event, Outcome, SessionState, ServerState, session, after, Run}
 use Rattle.nutcore.specs.declared.event.Event.TheVariants.{Open}
 use Rattle.nutcore.specs.declared.event.Outcome.TheVariants.{Opened, Refused}
 use Rattle.nutcore.specs.declared.event.Fault.TheVariants.{TooManyClients}
 use Rattle.nutcore.specs.Session.{new_session}
-use Rattle.nutcore.specs.Ups.{with_fsd}
-use Rattle.nutcore.specs.Reply.{seen, seen_ups, asker, change_by, changed_upses}
-use Rattle.nutcore.specs.Pump.{next_line_for, after_line, after_notice, holds_overlong}
+use Rattle.nutcore.specs.Pump.{after_notice, holds_overlong}
 use Rattle.nutcore.specs.Step.{with_input, without_output, may_open, opened, ticked, after_by, refused_after, outcome_of, MayAnswer}
 use Rattle.nutcore.specs.History.{Execution, of_line, of_notice, executions, of_client, texts_of, owed, is_over}
 use Rattle.nutcore.specs.Headline.{IsLawful}
 use Rattle.nutcore.specs.Addresses.{opened_from}
-use Rattle.nutcore.specs.ByRight.{IsByRight, SetsShutdownByRight, is_shut_down}
 use Rattle.nutcore.specs.Endings.{WhoIsOverIsAskedNoMore, id_given, ids_given, RiseFrom, IdsThatAreGivenRise, AGrantedShutdownIsSet, ATickTouchesNoSession, LeavesOlderSessions, AnOpeningTouchesNoOther}
-use Rattle.nutcore.proofs.Changed.{either_notice, of_opened}
+use Rattle.nutcore.proofs.Changed.{of_opened}
 use Rattle.nutcore.proofs.Found.{of_pushed}
-use Rattle.nutcore.proofs.FreshRuns.{mapped_at}
 use Rattle.nutcore.proofs.Histories.{IsOfEvents, run_keeps, two_clients}
 use Rattle.nutcore.proofs.Kept.{IsKept, IsAny, any_address, by_event, line_answered, notice_told}
 use Rattle.nutcore.proofs.ShutdownMarks.{AnySets, any_of, stays_set}
 use Rattle.nutcore.proofs.Lasting.{IsLasting, IsThere, kept, ids_kept}
-use Rattle.nutcore.proofs.Pumping.{is_next, after_line_is, change_at, overlong_there, notice_there}
+use Rattle.nutcore.proofs.Pumping.{is_next, overlong_there, notice_there}
 use Rattle.nutcore.proofs.Stepping.{run_sent}
-use Rattle.nutcore.proofs.UpsPlaces.{at_changed}
 
 -- a session that is ending goes on ending
 abbrev Ends : SessionState → Type 0
@@ -87,11 +70,7 @@ asks_no_more c = record {
 }
 
 over_there : (c : ℕ) (s : ServerState) → IsLawful s → is_over c s ≡ true → IsOver c s
-over_there c s lawful over = by_session (session c s) refl over
-  where
-    by_session : (o : Option SessionState) → session c s ≡ o → option_map_or (λ x. x.ending) o (ltb c s.next_id) ≡ true → IsOver c s
-    by_session None e h = (ltb-true c s.next_id h, subst (λ o. IfSome o Ends) (sym e) tt)
-    by_session (Some x) e h = (lawful c (ap is_some e), subst (λ o. IfSome o Ends) (sym e) h)
+over_there c s lawful over = grind (arith, nat_tests, lawful c)
 
 pub asked_no_more : WhoIsOverIsAskedNoMore
 asked_no_more old new es os c lawful over r =

@@ -1,6 +1,6 @@
 -- All that is proved by going through the events, a case each: what they leave, in its parts; what is said of each alone; and which execute nothing, and leave the sessions as they are.
 use Rattle.std.proofs.Common.{◌≡◌, ℕ, Bool, true, false, List, [], ◌∷◌, ◌++◌, Option, Some, None, refl, sym, ap, subst, cond, eqb, ◌&&◌, not, ◌∙◌, max, length, append-nil, inl, arith, take, drop}
-use Rattle.nutcore.proofs.Common.{option_map_or, UpsId, TrackingState, Event, ServerState, session, ups_at, slice_get, option_map, slice_get-map, Outcome, SessionState, cond-false, Fault, UpsState, after, cond_both, take-append-drop}
+use Rattle.nutcore.proofs.Common.{option_map_or, UpsId, TrackingState, Event, ServerState, session, ups_at, slice_get, option_map, slice_get-map, Outcome, SessionState, cond-false, Fault, UpsState, after, take-append-drop}
 use Rattle.nutcore.specs.declared.event.Event.TheVariants.{DriverUp, DriverBytes, DriverTook, DriverDown, Tick, Open, Feed, Took, Close, Id}
 use Rattle.nutcore.specs.Session.{without}
 use Rattle.nutcore.specs.Ups.{ping_is_due, after_tick, after_loss, after_connecting, ping_line}

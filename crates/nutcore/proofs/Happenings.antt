@@ -1,14 +1,11 @@
 -- Answers come of what happens, and not of bytes that come and go.
-use Rattle.std.proofs.Common.{arith, ◌≡◌, ◌∙◌, ℕ, Bool, true, false, List, [], ◌∷◌, ◌++◌, Option, Some, Result, refl, sym, ap, subst, cond, eqb, map, append_assoc, append-nil}
+use Rattle.std.proofs.Common.{arith, ◌≡◌, ◌∙◌, ℕ, Bool, true, false, List, [], ◌∷◌, ◌++◌, Option, Some, refl, sym, ap, subst, cond, eqb, map, append_assoc, append-nil}
 use Rattle.std.specs.Prelude.{option_map}
 use Rattle.nutcore.proofs.Common.{Change, Event, Outcome, SessionState, ServerState, session, with_session_changed, after, Run}
-use Rattle.nutanswer.specs.declared.command.Command.{Command}
-use Rattle.nutanswer.specs.declared.err_word.ErrWord.{ErrWord}
-use Rattle.nutanswer.specs.Command.{read_command}
 use Rattle.nutanswer.specs.View.{Seen, ClientSeen}
 use Rattle.nutcore.specs.declared.event.Event.TheVariants.{Feed, Took}
 use Rattle.nutcore.specs.Session.{find, begin_ending}
-use Rattle.nutcore.specs.Reply.{seen, seen_client, asker_of, reply, text_to, change_by, changed, changed_session, changed_upses, changed_tracking, after_change, too_long_notice}
+use Rattle.nutcore.specs.Reply.{seen, seen_client, asker_of, reply, changed, changed_session, changed_upses, changed_tracking, after_change, too_long_notice}
 use Rattle.nutcore.specs.Pump.{next_line_for, answered, after_line, is_overlong, notified}
 use Rattle.nutcore.specs.Step.{joined, with_input, taken_from, without_output, may_take, pumped_until, after_by, refused_after}
 use Rattle.nutcore.specs.History.{Execution, of_line, of_notice, client_of, text_of, executions_until, executions_by, executions, of_client, texts_of, answers}

@@ -1,18 +1,16 @@
 -- What an event doesn't touch.
-use Rattle.std.proofs.Common.{arith, ◌≡◌, ◌≢◌, ℕ, zero, suc, Bool, true, false, ◌&&◌, eqb, inl, inr, List, [], ◌∷◌, Option, Some, None, refl, sym, ◌∙◌, ap, subst, cond, map, IfSome}
-use Rattle.nutcore.proofs.Common.{cond_both, and_parts, eqb-true, same_Some, UpsId, TrackingState, Change, Event, Fault, Outcome, ServerState, session, changed_at, with_session_changed}
+use Rattle.std.proofs.Common.{arith, ◌≡◌, ℕ, zero, suc, true, inl, List, [], ◌∷◌, Option, Some, None, refl, sym, ◌∙◌, ap, subst, map, IfSome}
+use Rattle.nutcore.proofs.Common.{cond_both, same_Some, UpsId, TrackingState, Change, Event, Fault, Outcome, ServerState, session, changed_at, with_session_changed}
 use Rattle.nutcore.specs.declared.event.Event.TheVariants.{Feed, Took, Close}
 use Rattle.nutcore.specs.declared.event.Outcome.TheVariants.{Refused}
-use Rattle.nuttracking.specs.declared.order.Progress.{Progress}
-use Rattle.nuttracking.specs.declared.order.Progress.TheVariants.{Pending, Done}
 use Rattle.nuttracking.specs.declared.order.TrackedOrder.{TrackedOrder}
-use Rattle.nuttracking.specs.Tracking.{has_id, is_pending, awaits, settled, nothing_tracked}
-use Rattle.nutcore.specs.Reports.{OrderEnd, end_in, with_end, after_ends}
+use Rattle.nuttracking.specs.Tracking.{settled, nothing_tracked}
+use Rattle.nutcore.specs.Reports.{OrderEnd, end_in, with_end}
 use Rattle.nutcore.specs.Session.{SessionState}
 use Rattle.nutcore.specs.Ups.{UpsState, with_fsd, with_order}
 use Rattle.nutcore.specs.Reply.{changed_upses}
 use Rattle.nutcore.specs.Pump.{next_line_for, after_line, after_lines, after_all_lines, is_overlong, with_notice}
-use Rattle.nutcore.specs.Step.{Step, joined, with_input, taken_from, without_output, may_take, pumped_until, after_by, refused_after, outcome_of}
+use Rattle.nutcore.specs.Step.{Step, joined, with_input, taken_from, without_output, may_take, after_by, refused_after, outcome_of}
 use Rattle.nutcore.specs.Isolation.{client_of, ups_of, without_commands, kept_from_clients, LeavesOtherClients, MaySettle, MaySettleEach, LeavesOtherUpses, AClientTouchesNoOther, ADriverTouchesNoOther, ARefusedEventChangesNothing, ARefusedEventCostsNothing, is_harmless}
 use Rattle.nutcore.specs.Cost.{cost_of, no_cost}
 use Rattle.nutcore.proofs.Events.{is_quiet, may_not, of_event, of_parts, any_driver, refused}
@@ -26,15 +24,6 @@ use Rattle.nutcore.proofs.Progress.{Presence}
 use Rattle.nutcore.proofs.Pumping.{is_next, after_line_is, change_at}
 use Rattle.nutcore.proofs.Stepping.{until_other, input_other, output_other}
 use Rattle.nutcore.proofs.UpsPlaces.{other_ups}
-
--- a client's event: the other sessions
-fed_other : (c d : ℕ) (s : ServerState) (piece : List ℕ) (m : Option ℕ) → d ≢ c → session d (pumped_until (with_input s c piece) c m) ≡ session d s
-fed_other c d s piece m differ = ap (λ (p : Presence). p.session) (until_other d c (with_input s c piece) m differ ∙ input_other d c s piece differ)
-
-took_other : (c d : ℕ) (s : ServerState) (n : ℕ) (m : Option ℕ) → d ≢ c → session d (cond (may_take (session c s) n) (pumped_until (without_output s c n) c m) s) ≡ session d s
-took_other c d s n m differ =
-    cond_both (may_take (session c s) n) _ s (λ t. session d t ≡ session d s)
-    (λ e. ap (λ (p : Presence). p.session) (until_other d c (without_output s c n) m differ ∙ output_other d c s n differ)) (λ e. refl)
 
 -- what no command changes of the UPSs
 masked_at : (f : UpsState → UpsState) → ((x : UpsState) → without_commands (f x) ≡ without_commands x) → (p : ℕ) (xs : List UpsState) → map without_commands (changed_at f p xs) ≡ map without_commands xs
@@ -78,8 +67,12 @@ kept_in_output s c n = kept_session s (taken_from n) s c refl
 
 own_of : (s : ServerState) (e : Event) (m : Option ℕ) → IfSome (client_of e) (λ c. LeavesOtherClients c s (after_by s e m))
 unfolding after_by
-own_of s (Feed c piece) m = record { sessions = λ d differ. fed_other c d s piece m differ; server = by_feed (IsKept s) (pumped s) s c piece m refl }
-own_of s (Took c n) m = record { sessions = λ d differ. took_other c d s n m differ; server = by_take (IsKept s) (pumped s) s c n m refl }
+own_of s (Feed c piece) m = record { sessions = λ d differ. ap (λ (p : Presence). p.session) (until_other d c (with_input s c piece) m differ ∙ input_other d c s piece differ); server = by_feed (IsKept s) (pumped s) s c piece m refl }
+own_of s (Took c n) m = record {
+  sessions = λ d differ. cond_both (may_take (session c s) n) _ s (λ t. session d t ≡ session d s)
+      (λ e. ap (λ (p : Presence). p.session) (until_other d c (without_output s c n) m differ ∙ output_other d c s n differ)) (λ e. refl);
+  server = by_take (IsKept s) (pumped s) s c n m refl;
+}
 own_of s (Close c) m = record { sessions = λ d differ. find_without_other d c s.sessions differ; server = refl }
 own_of s e m = tt
 

@@ -1,29 +1,20 @@
 -- What never goes back.
 use Rattle.nutcore.proofs.Common.{never_both}
-use Rattle.std.proofs.Common.{◌≡◌, ℕ, ◌+◌, ◌<◌, ◌≤◌, Bool, true, false, List, [], ◌∷◌, zero, suc, Option, Some, None, refl, sym, ◌∙◌, ap, subst, cond, eqb, not, ◌&&◌, IfSome, drop, length, inl, inr, ◌⊎◌, arith}
-use Rattle.std.specs.Prelude.{is_none, nat_le}
-use Rattle.std.proofs.lemmas.Bool.{eqb-true, eqb-false}
+use Rattle.std.proofs.Common.{◌≡◌, ℕ, ◌+◌, ◌<◌, ◌≤◌, true, List, Option, Some, None, refl, sym, ◌∙◌, ap, subst, IfSome, drop, inl, inr, ◌⊎◌, arith}
 use Rattle.std.proofs.lemmas.List.{drop-drop}
-use Rattle.nutlisting.specs.declared.outbox.TheConstants.{OWED_LIMIT}
 use Rattle.nutusers.specs.declared.ups_list.UpsId.{UpsId}
 use Rattle.nutanswer.specs.declared.reply.Change.TheVariants as changes
-use Rattle.nutcore.specs.declared.TheConstants.{HELD_LIMIT}
 use Rattle.nutcore.specs.Lasting.{Lasts, IsEnding, WhatNeverGoesBack}
-use Rattle.nutcore.specs.Lines.{first_line}
 use Rattle.nutcore.specs.Reply.{reply, asker_of}
-use Rattle.nutcore.specs.Pump.{answered, notified, with_notice}
-use Rattle.nutcore.specs.ByRight.{is_shut_down}
-use Rattle.nutcore.specs.Ups.{UpsState, with_fsd, with_order}
+use Rattle.nutcore.specs.Pump.{answered}
 use Rattle.nutcore.specs.Session.{SessionState, find, put, without, new_session}
-use Rattle.nutcore.specs.Server.{ServerState, session, with_session_changed, changed_at}
-use Rattle.nutcore.specs.Step.{joined, taken_from, ticked, connected, disconnected, after_driver_took}
-use Rattle.nutcore.proofs.Changed.{session_put, by_change, either_notice, notice_id}
-use Rattle.nutcore.proofs.Changes.{keeps, of_upses}
-use Rattle.nutcore.proofs.DriverText.{ups_after_bytes}
+use Rattle.nutcore.specs.Server.{ServerState, session}
+use Rattle.nutcore.proofs.Changed.{session_put}
+use Rattle.nutcore.proofs.Changes.{keeps}
 use Rattle.nutcore.proofs.Found.{find_id, find_put_other, find_without, find_without_other, of_pushed}
 use Rattle.nutcore.proofs.Kept.{IsKept, IsAny, any_event, by_run, IsTouched, line_answered, bytes_joined, bytes_taken, notice_told, kept_apart}
 use Rattle.nutcore.proofs.Histories.{own_or_other}
-use Rattle.nutcore.proofs.Pumping.{is_next, after_line_is, change_at, session_after, session_after_id}
+use Rattle.nutcore.proofs.Pumping.{change_at, session_after_id}
 use Rattle.nutcore.proofs.Rows.{comes_of_line}
 use Rattle.nutcore.proofs.ShutdownMarks.{stays_set}
 

@@ -1,5 +1,5 @@
 -- What a session has given, and to what it is logged in, came by lines of its client.
-use Rattle.std.proofs.Common.{arith, ◌≡◌, ◌⊎◌, ◌∙◌, ℕ, true, false, List, [], ◌∷◌, ◌++◌, Option, Some, None, refl, sym, ap, subst, inl, inr}
+use Rattle.std.proofs.Common.{arith, ◌≡◌, ◌⊎◌, ◌∙◌, ℕ, true, false, List, Option, Some, None, refl, sym, ap, subst, inl, inr}
 use Rattle.std.specs.Prelude.{option_map}
 use Rattle.std.specs.Option.{option_map_or}
 use Rattle.std.proofs.lemmas.Bool.{both_ways}
@@ -8,9 +8,9 @@ use Rattle.nutanswer.specs.declared.reply.Change.TheVariants as changes
 use Rattle.nutanswer.specs.View.{AskerSeen}
 use Rattle.nutcore.specs.Session.{find}
 use Rattle.nutcore.specs.Reply.{asker, asker_of, reply, text_to}
-use Rattle.nutcore.specs.Pump.{next_line_for, answered, after_line, notified}
-use Rattle.nutcore.specs.Step.{joined, with_input, taken_from, without_output}
-use Rattle.nutcore.specs.History.{Execution, of_line, of_notice}
+use Rattle.nutcore.specs.Pump.{answered, after_line, notified}
+use Rattle.nutcore.specs.Step.{joined, taken_from}
+use Rattle.nutcore.specs.History.{Execution, of_line}
 use Rattle.nutcore.specs.ByRight.{GivesUsername, GivesPassword, LogsInByRight, is_logged_in_of, CredentialsAreGivenByLines, ALoginIsByRight}
 use Rattle.nutcore.proofs.Changed.{session_changed, presence_other}
 use Rattle.nutcore.proofs.Changes.{keeps}

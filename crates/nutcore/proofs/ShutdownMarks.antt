@@ -1,20 +1,20 @@
 -- A forced shutdown is set by lines alone, and by those that have the right.
-use Rattle.std.proofs.Common.{arith, ◌≡◌, ℕ, zero, suc, Bool, true, false, List, [], ◌∷◌, ◌++◌, Option, Some, None, refl, sym, ◌∙◌, ap, eqb, map, take, inl, inr}
+use Rattle.std.proofs.Common.{arith, ◌≡◌, ℕ, zero, suc, Bool, true, false, List, [], ◌∷◌, ◌++◌, Option, Some, None, refl, sym, ◌∙◌, ap, take, inl, inr}
 use Rattle.std.specs.Prelude.{slice_get}
 use Rattle.std.specs.Option.{option_map_or}
-use Rattle.std.proofs.lemmas.Bool.{both_ways, cond_both, cases_Bool, eqb-true, eqb-false}
-use Rattle.nutcore.proofs.Common.{UpsId, Change, TrackingState, Event, SessionState, UpsState, ServerState, changed_at, with_session_changed}
+use Rattle.std.proofs.lemmas.Bool.{cases_eq, cases_Bool}
+use Rattle.nutcore.proofs.Common.{slice_get-map, never_both, UpsId, Change, TrackingState, Event, SessionState, UpsState, ServerState, changed_at, with_session_changed}
 use Rattle.nutdriver.specs.declared.report.Report.{Report}
 use Rattle.nutdriver.specs.declared.report.LineOutcome.{LineOutcome}
 use Rattle.nutdriver.specs.Report.{after_line as report_after}
 use Rattle.nutanswer.specs.declared.reply.Change.TheVariants as changes
-use Rattle.nutcore.specs.Lines.{whole_lines, unfinished_after, is_too_long}
+use Rattle.nutcore.specs.Lines.{whole_lines}
 use Rattle.nutcore.specs.Reports.{end_in, with_end, is_unawaited}
-use Rattle.nutcore.specs.Ups.{with_fsd, with_order, after_connecting, after_loss, after_outcome, after_text, after_texts, with_unfinished, ping_is_due}
+use Rattle.nutcore.specs.Ups.{with_fsd, with_order, after_outcome, after_texts}
 use Rattle.nutcore.specs.Reply.{changed_upses}
 use Rattle.nutcore.specs.Pump.{next_line_for, after_line, notified}
-use Rattle.nutcore.specs.Step.{after_by, joined, with_input, taken_from, without_output, opened, ticked, driver_may_take}
-use Rattle.nutcore.specs.History.{Execution, of_line, of_notice}
+use Rattle.nutcore.specs.Step.{after_by, joined, with_input, taken_from, without_output, opened, ticked}
+use Rattle.nutcore.specs.History.{Execution, of_line}
 use Rattle.nutcore.specs.ByRight.{SetsShutdownByRight, is_shut_down, AForcedShutdownIsSetByRight}
 use Rattle.nutcore.proofs.Changed.{by_change}
 use Rattle.nutcore.proofs.Changes.{of_upses as of_changed_upses}
@@ -41,7 +41,7 @@ use Rattle.nutcore.proofs.FreshRuns.{mapped_at}
 use Rattle.nutcore.proofs.Histories.{IsOfEvents, run_keeps}
 use Rattle.nutcore.proofs.UpsPlaces.{at_changed}
 use Rattle.nutcore.proofs.Common.{Outcome, Run}
-use Rattle.std.proofs.Common.{◌⊎◌, Result, Ok, subst, cond}
+use Rattle.std.proofs.Common.{◌⊎◌, Result, Ok}
 
 -- the forced shutdown of the UPS at a place
 abbrev fsd_at : ℕ → List UpsState → Bool
@@ -57,42 +57,32 @@ changed_keeps f k zero (suc q) (x ∷ xs) = refl
 changed_keeps f k (suc p) zero (x ∷ xs) = refl
 changed_keeps f k (suc p) (suc q) (x ∷ xs) = changed_keeps f k p q xs
 
-map_keeps : (f : UpsState → UpsState) → Keeps f → (q : ℕ) (xs : List UpsState) → fsd_at q (map f xs) ≡ fsd_at q xs
-map_keeps f k q [] = refl
-map_keeps f k zero (x ∷ xs) = k x
-map_keeps f k (suc q) (x ∷ xs) = map_keeps f k q xs
-
 outcome_fsd : (unawaited : Bool) (x : UpsState) (r : Report × LineOutcome) → (after_outcome unawaited x r).fsd ≡ x.fsd
 outcome_fsd unawaited x r = grind arith
 
 texts_fsd : (moment place : ℕ) (t : TrackingState) (lines : List (List ℕ)) (x : UpsState) → (after_texts moment place t lines x).fsd ≡ x.fsd
 texts_fsd moment place t [] x = refl
-texts_fsd moment place t (line ∷ lines) x =
-    let b : Bool = is_unawaited place (end_in line) t in
-    texts_fsd moment place (with_end place (end_in line) t) lines (after_text moment b x line) ∙ outcome_fsd b x (report_after moment x.report line)
+texts_fsd moment place t (line ∷ lines) x = texts_fsd moment place (with_end place (end_in line) t) lines _ ∙ outcome_fsd (is_unawaited place (end_in line) t) x (report_after moment x.report line)
 
 text_fsd : (moment place : ℕ) (t : TrackingState) (text : List ℕ) (refused : Option ℕ) → Keeps (ups_after_text moment place t text refused)
-text_fsd moment place t text None x =
-    let y : UpsState = after_texts moment place t (whole_lines text) x in
-    let e : y.fsd ≡ x.fsd = texts_fsd moment place t (whole_lines text) x in
-    cond_both (is_too_long (unfinished_after text)) (after_loss y) (with_unfinished (unfinished_after text) y) (λ z. z.fsd ≡ x.fsd) (λ long. e) (λ short. e)
+text_fsd moment place t text None x = grind (arith, texts_fsd moment place t (whole_lines text) x)
 text_fsd moment place t text (Some k) x = texts_fsd moment place t (take k (whole_lines text)) x
 
 bytes_fsd : (moment place : ℕ) (t : TrackingState) (piece : List ℕ) (refused : Option ℕ) → Keeps (ups_after_bytes moment place t piece refused)
-bytes_fsd moment place t piece refused x = cond_both x.report.connected (ups_after_text moment place t (x.unfinished ++ piece) refused x) x (λ z. z.fsd ≡ x.fsd) (λ heard. text_fsd moment place t (x.unfinished ++ piece) refused x) (λ lost. refl)
+bytes_fsd moment place t piece refused x = grind (arith, text_fsd moment place t (x.unfinished ++ piece) refused x)
 
 -- no driver sets one, nor time
 drivers_keep : (s : ServerState) (m : Option ℕ) → OfDrivers s.moment s.tracking m Keeps
 drivers_keep s m = record {
-  comes = λ x. cond_both x.report.connected x (after_connecting s.moment x) (λ z. z.fsd ≡ x.fsd) (λ here. refl) (λ away. refl);
+  comes = λ x. grind arith;
   tells = λ place piece. bytes_fsd s.moment place s.tracking piece m;
-  takes = λ n x. cond_both (driver_may_take n x) _ x (λ z. z.fsd ≡ x.fsd) (λ may. refl) (λ never. refl);
-  goes = λ x. cond_both x.report.connected (after_loss x) x (λ z. z.fsd ≡ x.fsd) (λ here. refl) (λ away. refl);
+  takes = λ n x. grind arith;
+  goes = λ x. grind arith;
 }
 
 tick_keeps : (u : UpsId) (s : ServerState) (seconds : ℕ) → is_shut_down u (ticked seconds s) ≡ is_shut_down u s
 unfolding ticked
-tick_keeps u s seconds = map_keeps _ (λ x. cond_both (ping_is_due s.max_age _ x) _ x (λ z. z.fsd ≡ x.fsd) (λ due. refl) (λ early. refl)) u.place s.upses
+tick_keeps u s seconds = rw slice_get-map (grind arith)
 
 -- what isn't the line of a client sets no forced shutdown
 by_plain : (u : UpsId) (s : ServerState) (e : Event) (m : Option ℕ) → IsPlain e → is_shut_down u (after_by s e m) ≡ is_shut_down u s
@@ -112,17 +102,14 @@ by_session : (u : UpsId) (f : SessionState → SessionState) (s : ServerState) (
 by_session u f s c = by_change (λ t. is_shut_down u t ≡ is_shut_down u s) f c s (λ x e. refl) (λ e. refl)
 
 -- a line that sets it has the row of FSD
-no_mark : {A : Type 0} (b : Bool) → b ≡ false → b ≡ true → A
-no_mark b e f = absurd (both_ways b e f)
-
 change_sets : (u : UpsId) (change : Change) (xs : List UpsState) → fsd_at u.place xs ≡ false → fsd_at u.place (changed_upses change xs) ≡ true → change ≡ changes.Fsd u
 change_sets u change xs before after =
-    of_changed_upses (λ told ys. fsd_at u.place ys ≡ true → change ≡ changes.Fsd u) change xs (λ set. no_mark _ before set) (λ v is set. is ∙ by_place v (eqb v.place u.place) refl set)
-    (λ v line id is set. no_mark _ before (sym (changed_keeps (with_order line) (λ x. refl) v.place u.place xs) ∙ set)) after
-  where
-    by_place : (v : UpsId) (b : Bool) → eqb v.place u.place ≡ b → fsd_at u.place (changed_at with_fsd v.place xs) ≡ true → changes.Fsd v ≡ changes.Fsd u
-    by_place v true e set = ap (λ (w : UpsId). changes.Fsd w) (same_ups v u (eqb-true v.place u.place e))
-    by_place v false e set = no_mark _ before (sym (ap (λ (o : Option UpsState). option_map_or (λ (x : UpsState). x.fsd) o false) (other_ups with_fsd v.place u.place xs (λ (k : u.place ≡ v.place). eqb-false v.place u.place e (sym k)))) ∙ set)
+    of_changed_upses (λ told ys. fsd_at u.place ys ≡ true → change ≡ changes.Fsd u) change xs (λ set. never_both _ set before)
+    (λ v is set. is ∙ ap (λ (w : UpsId). changes.Fsd w) (same_ups v u (elim (cases_eq v.place u.place) [
+      | inl same ↦ same
+      | inr other ↦ never_both _ (sym (ap (λ (o : Option UpsState). option_map_or (λ (x : UpsState). x.fsd) o false) (other_ups with_fsd v.place u.place xs (λ (k : u.place ≡ v.place). other (sym k)))) ∙ set) before
+    ])))
+    (λ v line id is set. never_both _ (sym (changed_keeps (with_order line) (λ x. refl) v.place u.place xs) ∙ set) before) after
 
 line_sets : (u : UpsId) (s : ServerState) (c : ℕ) (line : List ℕ) → next_line_for s c ≡ Some line → is_shut_down u s ≡ false → is_shut_down u (after_line s c) ≡ true → SetsShutdownByRight u (of_line s c line)
 line_sets u s c line next before after =
@@ -143,7 +130,7 @@ set_by_lines u = record {
 
 pub shutdowns : AForcedShutdownIsSetByRight
 shutdowns old new events outcomes u run before after =
-    elim (told_after _ _ (set_by_lines u) old new events outcomes run after) [ inl was ↦ no_mark _ before was | inr one ↦ one ]
+    elim (told_after _ _ (set_by_lines u) old new events outcomes run after) [ inl was ↦ never_both _ was before | inr one ↦ one ]
 
 -- a forced shutdown that is granted
 granted_changes : (u : UpsId) (s : ServerState) (c : ℕ) (line : List ℕ) (words : List (List ℕ)) → (h : IsByRight s c line Fsd rights.Fsd words u) → change_at s c line ≡ changes.Fsd u

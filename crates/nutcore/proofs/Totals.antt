@@ -1,5 +1,5 @@
 -- The whole server in numbers.
-use Rattle.std.proofs.Common.{◌≤◌, ◌*◌, ℕ, zero, suc, List, [], ◌∷◌, Some, length, length-take, All, arith}
+use Rattle.std.proofs.Common.{◌≤◌, ◌*◌, ℕ, List, Some, length, length-take, All, arith}
 use Rattle.std.specs.Map.{values_of}
 use Rattle.std.proofs.lemmas.List.Sums.{count_by-le-length, sum_by-le}
 use Rattle.std.proofs.Math.Nat.{mul-le-mul_right}
@@ -15,7 +15,7 @@ use Rattle.nutcore.proofs.Common.{length-map, SessionState, UpsState}
 use Rattle.nutcore.proofs.Addresses.{all_of_each}
 use Rattle.nutcore.specs.declared.TheConstants.{HELD_LIMIT, DRIVER_OWED_LIMIT}
 use Rattle.nutcore.specs.Step.{offered}
-use Rattle.nutcore.specs.Sound.{Each, IsSoundSession, IsSoundUps}
+use Rattle.nutcore.specs.Sound.{IsSoundSession, IsSoundUps}
 use Rattle.nutcore.specs.Totals.{variables_of, commands_of, enum_values_of, ranges_of, listing_goes_on, AServerIsBoundedInAll}
 
 -- as many as there may be, each with at most so much

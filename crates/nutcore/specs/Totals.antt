@@ -1,5 +1,5 @@
 -- The whole server in numbers: the sums of what its sessions and its UPSs have.
-use Rattle.std.specs.Prelude.{◌≤◌, ◌+◌, ◌*◌, ℕ, Bool, List, [], ◌∷◌, Some, length, count_by}
+use Rattle.std.specs.Prelude.{◌≤◌, ◌+◌, ◌*◌, ℕ, Bool, Some, length, count_by}
 use Rattle.std.specs.Prelude.{nat_lt}
 use Rattle.std.specs.List.{sum_by}
 use Rattle.std.specs.Map.{values_of}

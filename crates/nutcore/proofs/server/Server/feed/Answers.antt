@@ -1,20 +1,20 @@
-use Rattle.std.proofs.Common.{Result, Ok, Err, ◌≡◌, ◌≤◌, ◌∙◌, Option, Some, None, ℕ, false, ap, sym, subst, length}
+use Rattle.std.proofs.Common.{Result, Ok, Err, ◌≡◌, ◌≤◌, ◌∙◌, Option, Some, ℕ, false, ap, sym, subst, length}
 use Rattle.std.proofs.lemmas.Result.{err_from_is_err_and}
 use Rattle.nutcore.specs.declared.event.Event.TheVariants.{Feed}
 use Rattle.nutcore.proofs.Common.{Fault, SessionState, ServerState, session}
 use Rattle.nutcore.specs.Calls.{fed as outcome_of_feed}
 use Rattle.nutcore.specs.Headline.{Serves}
 use Rattle.nutcore.specs.declared.cost.Cost.{Cost}
-use Rattle.nutcore.specs.declared.event.Outcome.TheVariants.{Fed, Refused}
+use Rattle.nutcore.specs.declared.event.Outcome.TheVariants.{Fed}
 use Rattle.nutcore.specs.declared.TheConstants.{HELD_LIMIT}
 use Rattle.nutcore.specs.Pump.{held_of, owed_of}
-use Rattle.nutcore.specs.Step.{with_input, offered, fed_by, refused_after}
+use Rattle.nutcore.specs.Step.{with_input, offered, fed_by}
 use Rattle.nutcore.specs.Deeds.{IsNoted}
 use Rattle.nutcore.specs.Cost.{RunningServer}
 use Rattle.nutcore.specs.Promises.{IsCounted}
 use Rattle.nutcore.specs.contracts.server.Server.{the_view}
 use Rattle.nutcore.proofs.Runs.{state_is, served_from}
-use Rattle.nutcore.proofs.Serving.{StandsAt, stands, at_set}
+use Rattle.nutcore.proofs.Serving.{stands, at_set}
 use Rattle.nutcore.proofs.Found.{find_id}
 use Rattle.nutcore.proofs.KeptSound.{session_kept, joined_kept}
 use Rattle.nutcore.proofs.EventSteps.{with_input_is, feed_absent, feed_gives}

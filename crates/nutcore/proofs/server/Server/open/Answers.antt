@@ -1,12 +1,10 @@
 use Rattle.nutcore.proofs.Common.{Outcome, Step}
 use Rattle.nutcore.specs.Headline.{Serves}
-use Rattle.std.proofs.Common.{List, ℕ, ◌≡◌, ◌+◌, ◌<◌, ◌≤◌, ◌∙◌, ◌++◌, ◌∷◌, [], true, false, refl, ap, subst, length, arith}
+use Rattle.std.proofs.Common.{List, ℕ, ◌≡◌, ◌<◌, ◌≤◌, ◌∙◌, ◌++◌, ◌∷◌, [], true, false, refl, ap, subst, length, arith}
 use Rattle.nutcore.specs.Session.{SessionState, IdsRise}
 use Rattle.nutcore.specs.Server.{ServerState}
 use Rattle.nutcore.specs.contracts.server.Server.{the_view}
 use Rattle.nutcore.specs.declared.event.Event.TheVariants.{Open}
-use Rattle.nutcore.specs.declared.event.Outcome.TheVariants.{Opened, Refused}
-use Rattle.nutcore.specs.declared.event.Fault.TheVariants.{Memory, TooManyClients}
 use Rattle.nutcore.specs.Step.{may_open}
 use Rattle.std.proofs.lemmas.Bool.{lt-ltb, le-ltb, and_left, and_right, and_from}
 use Rattle.nutcore.proofs.Runs.{served_from, lawful, state_is}

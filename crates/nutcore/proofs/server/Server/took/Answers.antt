@@ -1,4 +1,4 @@
-use Rattle.std.proofs.Common.{Result, Err, ◌≡◌, ◌≤◌, ◌-◌, ◌∙◌, Option, Some, None, ℕ, true, false, ap, sym, subst, length, arith}
+use Rattle.std.proofs.Common.{Result, Err, ◌≡◌, ◌≤◌, ◌-◌, ◌∙◌, Option, Some, ℕ, true, false, ap, sym, subst, length, arith}
 use Rattle.std.proofs.lemmas.Result.{err_from_is_err_and}
 use Rattle.nutcore.specs.declared.event.Event.TheVariants.{Took}
 use Rattle.nutcore.proofs.Common.{Fault, SessionState, ServerState, session}
@@ -7,13 +7,13 @@ use Rattle.nutcore.specs.Headline.{Serves}
 use Rattle.nutcore.specs.declared.cost.Cost.{Cost}
 use Rattle.nutcore.specs.declared.TheConstants.{HELD_LIMIT}
 use Rattle.nutcore.specs.Pump.{held_of, owed_of}
-use Rattle.nutcore.specs.Step.{without_output, offered, may_take, refused_after}
+use Rattle.nutcore.specs.Step.{without_output, offered, may_take}
 use Rattle.nutcore.specs.Deeds.{IsNoted}
 use Rattle.nutcore.specs.Cost.{RunningServer}
 use Rattle.nutcore.specs.Promises.{IsCounted}
 use Rattle.nutcore.specs.contracts.server.Server.{the_view}
 use Rattle.nutcore.proofs.Runs.{state_is, served_from}
-use Rattle.nutcore.proofs.Serving.{StandsAt, stands, found_in, at_set, may_take_true, may_take_false}
+use Rattle.nutcore.proofs.Serving.{stands, found_in, at_set, may_take_true, may_take_false}
 use Rattle.nutcore.proofs.Found.{find_id}
 use Rattle.nutcore.proofs.KeptSound.{session_kept, taken_kept}
 use Rattle.nutcore.proofs.EventSteps.{without_output_is, took_absent, took_much, took_gives}
