@@ -14,7 +14,7 @@ use Rattle.nutcore.specs.DriverOrders.{Telling, dump_all, ping, told_beside_line
 use Rattle.nutcore.proofs.DriverText.{ups_after_bytes, changed_both, lines_read, bytes_change}
 use Rattle.nutcore.specs.Pump.{after_all_lines, is_overlong, pumped}
 use Rattle.nutcore.specs.Lines.{whole_lines}
-use Rattle.nutcore.proofs.Changed.{of_opened}
+use Rattle.nutcore.proofs.Changed.{input_absent, of_opened}
 use Rattle.nutcore.proofs.UpsPlaces.{Stands, of_place, server_same}
 use Rattle.nutcore.proofs.DriverChanges.{Does, stays_so, bytes_do, lost, unconnected, goes_on}
 use Rattle.std.specs.Prelude.{nat_le}
@@ -26,7 +26,7 @@ use Rattle.nutcore.proofs.Adding.{session_keeps, pump_adds, took_adds, by_client
 use Rattle.nutcore.proofs.ApartFromBytes.{core_opened, closed_without}
 use Rattle.nuttracking.specs.declared.tracking.IdFault.{IdFault}
 use Rattle.nutcore.proofs.Places.{without_none}
-use Rattle.nutcore.proofs.EventSteps.{pump_absent, input_absent}
+use Rattle.nutcore.proofs.Least.{pump_absent}
 
 -- what one client executes in an event
 unfoldable pub given_by : ℕ → ServerState → Event → Option ℕ → List Execution

@@ -43,7 +43,6 @@ mod OrderFits
 mod SoundUps
 mod Sound
 mod Bounded
-mod Takes
 mod Taking
 mod TakingAmongOthers
 mod NotStuck

@@ -1,8 +1,8 @@
 -- What one line of a client leaves of the server, and the notice.
-use Rattle.std.proofs.Common.{arith, ◌≡◌, ◌≢◌, ℕ, Bool, true, false, List, [], ◌∷◌, Option, Some, None, refl, sym, ◌∙◌, ap, subst, cond, ltb, ◌<◌, length, take}
-use Rattle.std.specs.Prelude.{◌||◌, option_map, option_and_then}
+use Rattle.std.proofs.Common.{arith, ◌≡◌, ◌≢◌, ℕ, Bool, true, false, List, [], ◌∷◌, Option, Some, None, refl, sym, ◌∙◌, ap, subst, cond, ltb, ◌<◌, length, take, inl, inr}
+use Rattle.std.specs.Prelude.{◌||◌, option_map}
 use Rattle.std.specs.Option.{option_map_or}
-use Rattle.std.proofs.lemmas.Bool.{or_parts, cond-true, cond-false}
+use Rattle.std.proofs.lemmas.Bool.{cases_Bool, or_parts, cond-true, cond-false}
 use Rattle.nutcore.proofs.Common.{Change, SessionState, ServerState, session, with_session, with_session_changed, cond_both}
 use Rattle.nutanswer.specs.Command.{read_command}
 use Rattle.nutlisting.specs.declared.outbox.TheConstants.{OWED_LIMIT}
@@ -14,8 +14,8 @@ use Rattle.nutcore.specs.History.{Execution, of_notice, notice}
 use Rattle.nutcore.proofs.FirstLine.{line_ends}
 use Rattle.nutcore.proofs.Changes.{keeps}
 use Rattle.nutcore.proofs.Progress.{presence}
-use Rattle.nutcore.proofs.Found.{find_id, find_put, find_put_other, put_put, put_found}
-use Rattle.nutcore.proofs.Changed.{at_client, by_change, change_is}
+use Rattle.nutcore.proofs.Found.{cases_Option, find_id, find_put_other, put_put, put_found}
+use Rattle.nutcore.proofs.Changed.{session_put, at_client, by_change, change_is}
 
 -- the server in which this session, the UPSs and what is tracked are changed
 abbrev pub line_done : ServerState → Change → SessionState → ServerState
@@ -35,23 +35,17 @@ pub record IsNext (s : ServerState) (c : ℕ) (line : List ℕ) : Type 0 where
 unless : (b : Bool) (o : Option (List ℕ)) (line : List ℕ) → cond b None o ≡ Some line → (b ≡ false) × (o ≡ Some line)
 unless b o line h = grind arith
 
-next_of : (s : ServerState) (c : ℕ) (line : List ℕ) (o : Option SessionState) → session c s ≡ o → option_and_then next_line o ≡ Some line → IsNext s c line
-next_of s c line None found h = cc h
-next_of s c line (Some x) found h =
-    let may = unless (x.ending || ltb OWED_LIMIT (length x.owed)) (first_line x.held) line h in
-    let ready = or_parts x.ending (ltb OWED_LIMIT (length x.owed)) may.0 in
-    record { asking = x; found = found; going = ready.0; little = ready.1; first = may.1 }
-
 pub is_next : (s : ServerState) (c : ℕ) (line : List ℕ) → next_line_for s c ≡ Some line → IsNext s c line
-is_next s c line h = next_of s c line (session c s) refl h
+is_next s c line h = elim (cases_Option (session c s)) [
+  | inl none ↦ cc (rw none at h)
+  | inr (x, found) ↦ (let may = unless (x.ending || ltb OWED_LIMIT (length x.owed)) (first_line x.held) line (rw found at h) in
+      let ready = or_parts x.ending (ltb OWED_LIMIT (length x.owed)) may.0 in
+      record { asking = x; found = found; going = ready.0; little = ready.1; first = may.1 })
+]
 
 -- where the next line ends says which one it is
-ends_unless : (b : Bool) (bytes : List ℕ) (end : ℕ) → option_map length (cond b None (first_line bytes)) ≡ Some end → (cond b None (first_line bytes) ≡ Some (take end bytes)) × (end < length bytes)
-ends_unless true bytes end h = cc h
-ends_unless false bytes end h = line_ends bytes end h
-
 pub next_line_ends : (x : SessionState) (end : ℕ) → option_map length (next_line x) ≡ Some end → (next_line x ≡ Some (take end x.held)) × (end < length x.held)
-next_line_ends x end h = ends_unless (x.ending || ltb OWED_LIMIT (length x.owed)) x.held end h
+next_line_ends x end h = elim (cases_Bool (x.ending || ltb OWED_LIMIT (length x.owed))) [ inl waits ↦ cc (rw waits at h) | inr asks ↦ rw asks (line_ends x.held end (rw asks at h)) ]
 
 -- where there is no next line, nothing happens
 pub stopped_none : (s : ServerState) (c : ℕ) → next_line_for s c ≡ None → after_line s c ≡ s
@@ -78,7 +72,7 @@ after_line_is s c line x found h =
     let y : SessionState = changed_session change x in
     let t : ServerState = line_done s change y in
     let id : y.id ≡ c = (keeps change x).id ∙ find_id c s.sessions x found in
-    let there : session c t ≡ Some y = ap (λ d. find d (put y s.sessions)) (sym id) ∙ find_put y s.sessions x (ap (λ d. find d s.sessions) id ∙ found) in
+    let there : session c t ≡ Some y = session_put s c x y found id in
     ap (λ (o : Option (List ℕ)). option_map_or (λ line. after_reply s c line) o s) h
     ∙ ap (with_session_changed (answered line text) c) (changed_is change c s x found)
     ∙ change_is (answered line text) c t y there
@@ -87,11 +81,7 @@ after_line_is s c line x found h =
 
 -- the clients after it
 pub own_after_line : (s : ServerState) (c : ℕ) (line : List ℕ) (x : SessionState) → session c s ≡ Some x → next_line_for s c ≡ Some line → presence c (after_line s c) ≡ at_client s c (Some (session_after s c line x))
-own_after_line s c line x found h =
-    let y : SessionState = session_after s c line x in
-    let id : y.id ≡ c = session_after_id s c line x found in
-    ap (presence c) (after_line_is s c line x found h)
-    ∙ ap (at_client s c) (ap (λ d. find d (put y s.sessions)) (sym id) ∙ find_put y s.sessions x (ap (λ d. find d s.sessions) id ∙ found))
+own_after_line s c line x found h = ap (presence c) (after_line_is s c line x found h) ∙ ap (at_client s c) (session_put s c x (session_after s c line x) found (session_after_id s c line x found))
 
 pub other_after_line : (c d : ℕ) (s : ServerState) (line : List ℕ) → next_line_for s d ≡ Some line → c ≢ d → presence c (after_line s d) ≡ presence c s
 other_after_line c d s line h differ =
