@@ -12,7 +12,7 @@ use Rattle.nutcore.specs.Sound.{Each}
 use Rattle.nutcore.specs.Addresses.{ANewServerHasLawfulAddresses, EveryRunKeepsAddressesLawful, EveryRunKeepsTheList}
 use Rattle.nutcore.proofs.Changes.{keeps}
 use Rattle.nutcore.proofs.Pumping.{change_at}
-use Rattle.nutcore.proofs.Kept.{IsKept, IsAny, any_event, by_run, IsTouched, line_answered, kept_apart}
+use Rattle.nutcore.proofs.Kept.{IsKept, IsAny, any_event, by_run, kept_apart}
 use Rattle.nutcore.proofs.Sound.{each_put, each_without, each_found}
 use Rattle.nutcore.proofs.SoundUps.{each_last}
 
@@ -23,13 +23,9 @@ HaveLawfulAddresses s = Each HasLawfulAddress s.sessions
 abbrev pub IsLawfulAddress : List ℕ → Type 0
 IsLawfulAddress address = IsTrue (is_address address)
 
-touched_address : (s : ServerState) (c : ℕ) (x y : SessionState) → IsTouched s c x y → y.address ≡ x.address
-touched_address s c x _ (line_answered line going) = (keeps (change_at s c line) (answered line (reply s c line) x)).address
-touched_address s c x _ touched = refl
-
 pub addresses_kept : IsKept HaveLawfulAddresses IsLawfulAddress
 addresses_kept = kept_apart HaveLawfulAddresses IsLawfulAddress (record {
-  touched = λ s c x y found touched h. each_put HasLawfulAddress y (subst IsLawfulAddress (sym (touched_address s c x y touched)) (each_found HasLawfulAddress c s.sessions x found h)) s.sessions h;
+  puts = λ s c x y found same h. each_put HasLawfulAddress y (subst IsLawfulAddress (sym same) (each_found HasLawfulAddress c s.sessions x found h)) s.sessions h;
   others = λ s moment upses tracking h. h;
   opens = λ s address room own h. each_last HasLawfulAddress (new_session s.next_id address) own s.sessions h;
   closes = λ s c h. each_without HasLawfulAddress c s.sessions h;
@@ -55,7 +51,7 @@ run_addresses_lawful old new events outcomes r own h =
 
 -- the list
 list_kept : (list : List Ups) → IsKept (λ s. s.list ≡ list) IsAny
-list_kept list = kept_apart (λ s. s.list ≡ list) IsAny (record { touched = λ s c x y found touched h. h; others = λ s moment upses tracking h. h; opens = λ s address room own h. h; closes = λ s c h. h })
+list_kept list = kept_apart (λ s. s.list ≡ list) IsAny (record { puts = λ s c x y found same h. h; others = λ s moment upses tracking h. h; opens = λ s address room own h. h; closes = λ s c h. h })
 
 pub run_keeps_list : EveryRunKeepsTheList
 run_keeps_list old new events outcomes r = by_run (λ s. s.list ≡ old.list) IsAny (list_kept old.list) old new events outcomes r (any_event events) refl

@@ -14,10 +14,12 @@ use Rattle.nutcore.specs.Addresses.{opened_from}
 use Rattle.nutcore.specs.Endings.{WhoIsOverIsAskedNoMore, id_given, ids_given, RiseFrom, IdsThatAreGivenRise, AGrantedShutdownIsSet, ATickTouchesNoSession, LeavesOlderSessions, AnOpeningTouchesNoOther}
 use Rattle.nutcore.proofs.Changed.{of_opened}
 use Rattle.nutcore.proofs.Found.{of_pushed}
-use Rattle.nutcore.proofs.Histories.{IsOfEvents, run_keeps, two_clients}
-use Rattle.nutcore.proofs.Kept.{IsKept, IsAny, any_address, by_event, line_answered, notice_told}
+use Rattle.nutcore.proofs.Histories.{IsOfClient, of_run_of_client}
+use Rattle.nutcore.proofs.Progress.{presence}
+use Rattle.std.proofs.lemmas.Bool.{false≢true}
+use Rattle.nutcore.proofs.Kept.{IsAny, any_address, by_event, ids_kept}
 use Rattle.nutcore.proofs.ShutdownMarks.{AnySets, any_of, stays_set}
-use Rattle.nutcore.proofs.Lasting.{IsLasting, IsThere, kept, ids_kept}
+use Rattle.nutcore.proofs.Lasting.{IsThere}
 use Rattle.nutcore.proofs.Pumping.{is_next, overlong_there, notice_there}
 use Rattle.nutcore.proofs.Stepping.{run_sent}
 
@@ -25,56 +27,34 @@ use Rattle.nutcore.proofs.Stepping.{run_sent}
 abbrev Ends : SessionState → Type 0
 Ends x = x.ending ≡ true
 
-ending_goes_on : IsLasting Ends
-ending_goes_on s c x _ found (line_answered line going) so = never_both x.ending so going
-ending_goes_on s c x _ found (notice_told going) so = refl
-ending_goes_on s c x _ found touched so = so
-
--- a client that is over: its session is ending, or it has none any more
-abbrev IsOver : ℕ → ServerState → Type 0
-IsOver c = IsThere Ends ending_goes_on c
-
-is_kept : (c : ℕ) → IsKept (IsOver c) IsAny
-is_kept c = kept Ends ending_goes_on c
-
--- it is asked no more
-abbrev AsksNoMore : ℕ → ServerState → List Execution → List ℕ → List ℕ → ServerState → Type 0
-AsksNoMore c s xs taken asked t = IsOver c s → (of_client c xs ≡ []) × IsOver c t
-
-one_other : (c : ℕ) (x : Execution) (d : ℕ) → (d ≡ c → ⊥) → cond (eqb d c) (x ∷ []) [] ≡ []
-one_other c x d differ = grind (arith, nat_tests)
-
-found_ending : (c d : ℕ) (s : ServerState) (x : SessionState) → d ≡ c → session d s ≡ Some x → IsOver c s → x.ending ≡ true
-found_ending c d s x same found over = subst (λ o. IfSome o Ends) (ap (λ k. session k s) (sym same) ∙ found) over.1
-
 no_notice_to : (x : SessionState) → x.ending ≡ true → holds_overlong x ≡ true → ⊥
 no_notice_to x ends long = grind arith
 
-asks_no_more : (c : ℕ) → IsOfEvents c (AsksNoMore c)
-unfolding with_input without_output after_notice
-asks_no_more c = record {
-  stays = λ s over. (refl, over);
-  joins = λ s m t xs ys k k' a a' f g over.
-      let first = f over in
+-- a client that is over, as its session is ending, or it has none any more, is asked no more
+asks_no_more : IsOfClient (λ p xs taken asked q. IsThere Ends p → (xs ≡ []) × IsThere Ends q)
+asks_no_more = record {
+  joins = λ p q r xs ys k k' a a' f g h.
+      let first = f h in
       let more = g first.1 in
-      (two_clients c xs ys ∙ ap (λ (zs : List Execution). zs ++ of_client c ys) first.0 ∙ more.0, more.1);
-  by_line = λ d s line next over.
-      let n = is_next s d line next in
-      (one_other c (of_line s d line) d (λ (e : d ≡ c). never_both n.asking.ending (found_ending c d s n.asking e n.found over) n.going), (is_kept c).pumped.line s d line next over);
-  by_notice = λ d s long over.
-      let due = overlong_there (session d s) long in
-      (one_other c (of_notice d) d (λ (e : d ≡ c). no_notice_to due.0 (found_ending c d s due.0 e due.1 over) due.2), subst (IsOver c) (notice_there s d long) ((is_kept c).pumped.notice s d over));
-  by_input = λ d s piece over. (refl, (is_kept c).pumped.joins s d piece over);
-  by_output = λ d s n may over. (refl, (is_kept c).pumped.gives s d n over);
-  by_plain = λ s e m plain over. (refl, by_event (IsOver c) IsAny (is_kept c) s e m (any_address (opened_from e)) over);
+      (ap (λ (zs : List Execution). zs ++ ys) first.0 ∙ more.0, more.1);
+  stays = λ o u v up h. (refl, (up h.0, h.1));
+  by_line = λ c s line n u h. never_both n.asking.ending h.1 n.going;
+  by_notice = λ c x u long h. absurd (no_notice_to x h.1 long);
+  by_input = λ piece x u h. (refl, h);
+  by_output = λ n x u h. (refl, h);
+  opens = λ id address h. absurd (false≢true h.0);
+  closes = λ x u h. (refl, (h.0, tt));
 }
 
-over_there : (c : ℕ) (s : ServerState) → IsLawful s → is_over c s ≡ true → IsOver c s
+over_there : (c : ℕ) (s : ServerState) → IsLawful s → is_over c s ≡ true → IsThere Ends (presence c s)
 over_there c s lawful over = grind (arith, nat_tests, lawful c)
+
+run_asks_no_more : (old new : ServerState) (es : List Event) (os : List Outcome) (c : ℕ) → IsLawful old → is_over c old ≡ true → Run old es os new → (of_client c (executions old es os) ≡ []) × IsThere Ends (presence c new)
+run_asks_no_more old new es os c lawful over r = of_run_of_client _ asks_no_more c old new es os r (over_there c old lawful over)
 
 pub asked_no_more : WhoIsOverIsAskedNoMore
 asked_no_more old new es os c lawful over r =
-    let none : of_client c (executions old es os) ≡ [] = (run_keeps c (AsksNoMore c) (asks_no_more c) old new es os r (over_there c old lawful over)).0 in
+    let none = (run_asks_no_more old new es os c lawful over r).0 in
     record {
       nothing = none;
       owed_less = λ still.
@@ -82,7 +62,7 @@ asked_no_more old new es os c lawful over r =
     }
 
 pub stays_ending : (old new : ServerState) (es : List Event) (os : List Outcome) (c : ℕ) (y : SessionState) → IsLawful old → is_over c old ≡ true → Run old es os new → session c new ≡ Some y → y.ending ≡ true
-stays_ending old new es os c y lawful over r found = found_ending c c new y refl found (run_keeps c (AsksNoMore c) (asks_no_more c) old new es os r (over_there c old lawful over)).1
+stays_ending old new es os c y lawful over r found = subst (λ o. IfSome o Ends) found (run_asks_no_more old new es os c lawful over r).1.1
 
 joined_rise : (a b c : ℕ) (xs ys : List ℕ) → RiseFrom a b xs → RiseFrom b c ys → RiseFrom a c (xs ++ ys)
 joined_rise a b c [] [] least rest = omega (arith, least, rest)

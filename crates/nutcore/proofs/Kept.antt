@@ -1,5 +1,5 @@
 -- What every part of an event keeps, every event and every run keeps.
-use Rattle.std.proofs.Common.{◌≡◌, ◌+◌, ℕ, zero, suc, true, false, not, List, [], ◌∷◌, ◌++◌, Option, Some, None, refl, sym, subst, cond, length, All, IfSome}
+use Rattle.std.proofs.Common.{arith, ◌≤◌, ◌≡◌, ◌+◌, ℕ, zero, suc, true, false, not, List, [], ◌∷◌, ◌++◌, Option, Some, None, refl, sym, subst, cond, length, All, IfSome}
 use Rattle.std.proofs.lemmas.List.Elements.{All-head, All-tail}
 use Rattle.std.proofs.lemmas.Bool.{not-true}
 use Rattle.nutcore.proofs.Common.{cond_both, and_parts, UpsId, TrackingState, Event, Outcome, SessionState, UpsState, ServerState, session, with_session, with_session_changed, with_ups_changed, with_tracking, Run}
@@ -8,8 +8,11 @@ use Rattle.nutcore.specs.Session.{without, new_session}
 use Rattle.nutcore.specs.Pump.{next_line_for, after_line, after_lines, after_all_lines, after_notice, with_notice, notified, holds_overlong, pumped, held_of}
 use Rattle.nutcore.specs.Step.{joined, with_input, taken_from, without_output, may_take, may_open, ticked, pumped_until, handed_in, after_by, refused_after}
 use Rattle.nutcore.specs.Addresses.{opened_from}
-use Rattle.nutcore.proofs.Pumping.{stopped_none, is_next, after_line_is, session_after, put_same}
-use Rattle.nutcore.proofs.Changed.{by_change, of_opened}
+use Rattle.nutcore.specs.Reply.{reply}
+use Rattle.nutcore.specs.Pump.{answered}
+use Rattle.nutcore.proofs.Changes.{keeps}
+use Rattle.nutcore.proofs.Pumping.{change_at, stopped_none, is_next, after_line_is, session_after, put_same}
+use Rattle.nutcore.proofs.Changed.{by_change, either_notice, of_opened}
 use Rattle.nutcore.proofs.Events.{OfDrivers, of_parts}
 
 -- the parts of what a client sends and takes: a line is executed, and a session is changed
@@ -76,25 +79,17 @@ module _ (P : ServerState → Type 0) (Opens : List ℕ → Type 0) (kept : IsKe
       by_run mid t es os r (All-tail OpensFrom e es own) (subst P (sym step.leaves) (by_event s e (refused_after o) (All-head OpensFrom e es own) h))
   by_run s t es os r own h = absurd r
 
--- what a line, bytes that come and go, and the notice leave of a session
-pub data IsTouched (s : ServerState) (c : ℕ) (x : SessionState) : SessionState → Type 0 where
-  line_answered : (line : List ℕ) → x.ending ≡ false → IsTouched s c x (session_after s c line x)
-  bytes_joined : (piece : List ℕ) → IsTouched s c x (joined piece x)
-  bytes_taken : (n : ℕ) → IsTouched s c x (taken_from n x)
-  notice_told : x.ending ≡ false → IsTouched s c x (notified x)
-
--- what neither time, nor UPSs, nor what is tracked change: sessions that are touched keep it, one that opens, and one that is closed
+-- what neither time, nor UPSs, nor what is tracked change: a session with the address of the one in whose place it is put keeps it, one that opens, and one that is closed
 pub record IsApart (P : ServerState → Type 0) (Opens : List ℕ → Type 0) : Type 0 where
-  pub touched : (s : ServerState) (c : ℕ) (x y : SessionState) → session c s ≡ Some x → IsTouched s c x y → P s → P (with_session s y)
+  pub puts : (s : ServerState) (c : ℕ) (x y : SessionState) → session c s ≡ Some x → y.address ≡ x.address → P s → P (with_session s y)
   pub others : (s : ServerState) (moment : ℕ) (upses : List UpsState) (tracking : TrackingState) → P s → (let t : ServerState = record s { moment = moment; upses = upses; tracking = tracking } in P t)
   pub opens : (s : ServerState) (address : List ℕ) → may_open s ≡ true → Opens address → P s
       → (let t : ServerState = record s { sessions = s.sessions ++ new_session s.next_id address ∷ []; next_id = s.next_id + 1 } in P t)
   pub closes : (s : ServerState) (c : ℕ) → P s → (let t : ServerState = record s { sessions = without c s.sessions } in P t)
 
 module _ (P : ServerState → Type 0) (Opens : List ℕ → Type 0) (apart : IsApart P Opens) where
-  told : (s : ServerState) (c : ℕ) (x : SessionState) → session c s ≡ Some x → P s → P (with_session s (with_notice x))
-  told s c x e h = cond_both (holds_overlong x) (notified x) x (λ y. P (with_session s y))
-      (λ long. apart.touched s c x (notified x) e (notice_told (not-true x.ending (and_parts (not x.ending) _ long).0)) h) (λ quiet. subst P (sym (put_same s c x e)) h)
+  by_session : (f : SessionState → SessionState) → ((x : SessionState) → (f x).address ≡ x.address) → (s : ServerState) (c : ℕ) → P s → P (with_session_changed f c s)
+  by_session f same s c h = by_change P f c s (λ x e. apart.puts s c x (f x) e (same x) h) (λ e. h)
 
   pub kept_apart : IsKept P Opens
   unfolding ticked
@@ -103,10 +98,10 @@ module _ (P : ServerState → Type 0) (Opens : List ℕ → Type 0) (apart : IsA
       line = λ s c line e h.
           let n = is_next s c line e in
           let y : SessionState = session_after s c line n.asking in
-          subst P (sym (after_line_is s c line n.asking n.found e)) (apart.others (with_session s y) s.moment _ _ (apart.touched s c n.asking y n.found (line_answered line n.going) h));
-      joins = λ s c piece h. by_change P (joined piece) c s (λ x e. apart.touched s c x _ e (bytes_joined piece) h) (λ e. h);
-      gives = λ s c n h. by_change P (taken_from n) c s (λ x e. apart.touched s c x _ e (bytes_taken n) h) (λ e. h);
-      notice = λ s c h. by_change P with_notice c s (λ x e. told s c x e h) (λ e. h);
+          subst P (sym (after_line_is s c line n.asking n.found e)) (apart.others (with_session s y) s.moment _ _ (apart.puts s c n.asking y n.found (keeps (change_at s c line) (answered line (reply s c line) n.asking)).address h));
+      joins = λ s c piece h. by_session (joined piece) (λ x. refl) s c h;
+      gives = λ s c n h. by_session (taken_from n) (λ x. refl) s c h;
+      notice = λ s c h. by_session with_notice (λ x. either_notice (λ y. y.address ≡ x.address) x refl refl) s c h;
     };
     driver = λ s m. record { comes = λ u h. apart.others s s.moment _ s.tracking h; tells = λ place piece u h. apart.others s s.moment _ s.tracking h; takes = λ n u h. apart.others s s.moment _ s.tracking h; goes = λ u h. apart.others s s.moment _ s.tracking h };
     reports = λ s u line h. apart.others s s.moment s.upses _ h;
@@ -126,3 +121,7 @@ any_address (Some address) = tt
 
 pub any_event : (es : List Event) → All (λ e. IfSome (opened_from e) IsAny) es
 any_event es = λ k d below. any_address (opened_from _)
+
+-- such a thing is which ids were given
+pub ids_kept : (n : ℕ) → IsKept (λ s. n ≤ s.next_id) IsAny
+ids_kept n = kept_apart (λ s. n ≤ s.next_id) IsAny (record { puts = λ s c x y found same h. h; others = λ s moment upses tracking h. h; opens = λ s address room own h. omega (arith, h); closes = λ s c h. h })
