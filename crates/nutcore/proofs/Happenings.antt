@@ -42,15 +42,11 @@ unfolding after_by executions_by
 quiet_take old new c n o step may quiet =
     let begun : ServerState = without_output old c n in
     let m : Option ℕ = refused_after o in
-    let none : executions_until begun c m ≡ [] = ap (λ (b : Bool). cond b (executions_until begun c m) []) (sym may) ∙ quiet in
-    step.leaves ∙ ap (λ (b : Bool). cond b (pumped_until begun c m) old) may ∙ until_keeps c (λ s xs t. xs ≡ [] → t ≡ s) (quiet_pump c) begun m none
+    step.leaves ∙ rw may (until_keeps c (λ s xs t. xs ≡ [] → t ≡ s) (quiet_pump c) begun m (rw may at quiet))
 
 seen_without : (xs : List SessionState) → map seen_client (map without_bytes xs) ≡ map seen_client xs
 seen_without [] = refl
 seen_without (x ∷ xs) = ap (λ (cs : List ClientSeen). seen_client x ∷ cs) (seen_without xs)
-
-asker_without : (o : Option SessionState) → asker_of (option_map without_bytes o) ≡ asker_of o
-asker_without o = grind arith
 
 changed_without : (change : Change) (line text : List ℕ) (x : SessionState) → without_bytes (changed_session change (answered line text x)) ≡ changed_session change (without_bytes x)
 changed_without change line text x = grind arith
@@ -60,7 +56,7 @@ core_alike : (s : ServerState) (c : ℕ) (line : List ℕ) → IsAlike (apart_fr
 core_alike s c line =
     reply_of_seen (apart_from_bytes s) s c c line
     (ap (λ (clients : List ClientSeen). let v : Seen = record (seen s) { clients = clients } in v) (seen_without s.sessions))
-    (ap asker_of (found_without c s.sessions) ∙ asker_without (session c s))
+    (rw found_without (grind arith))
 
 -- bytes that come and go change nothing else
 core_bytes : (f : SessionState → SessionState) → ((x : SessionState) → (f x).id ≡ x.id) → ((x : SessionState) → without_bytes (f x) ≡ without_bytes x) → (s : ServerState) (c : ℕ) → apart_from_bytes (with_session_changed f c s) ≡ apart_from_bytes s

@@ -11,6 +11,8 @@ use Rattle.nutcore.specs.Addresses.{opened_from}
 use Rattle.nutcore.specs.Reply.{reply}
 use Rattle.nutcore.specs.Pump.{answered}
 use Rattle.nutcore.proofs.Changes.{keeps}
+use Rattle.nutcore.proofs.Found.{cases_Option}
+use Rattle.std.proofs.Common.{inl, inr}
 use Rattle.nutcore.proofs.Pumping.{change_at, stopped_none, is_next, after_line_is, session_after, put_same}
 use Rattle.nutcore.proofs.Changed.{by_change, either_notice, of_opened}
 use Rattle.nutcore.proofs.Events.{OfDrivers, of_parts}
@@ -34,14 +36,11 @@ pub record IsKept (P : ServerState → Type 0) (Opens : List ℕ → Type 0) : T
   pub closes : (s : ServerState) (c : ℕ) → P s → (let t : ServerState = record s { sessions = without c s.sessions } in P t)
 
 module _ (P : ServerState → Type 0) (kept : IsPumped P) where
-  by_line : (s : ServerState) (c : ℕ) (o : Option (List ℕ)) → next_line_for s c ≡ o → P s → P (after_line s c)
-  by_line s c None e h = subst P (sym (stopped_none s c e)) h
-  by_line s c (Some line) e h = kept.line s c line e h
-
   pub by_lines : (k c : ℕ) (s : ServerState) → P s → P (after_lines k s c)
   unfolding after_lines
   by_lines zero c s h = h
-  by_lines (suc k) c s h = by_lines k c (after_line s c) (by_line s c (next_line_for s c) refl h)
+  by_lines (suc k) c s h =
+      by_lines k c (after_line s c) (elim (cases_Option (next_line_for s c)) [ inl none ↦ subst P (sym (stopped_none s c none)) h | inr (line, next) ↦ kept.line s c line next h ])
 
   by_pump : (c : ℕ) (s : ServerState) (m : Option ℕ) → P s → P (pumped_until s c m)
   unfolding pumped_until pumped after_all_lines after_notice
