@@ -41,10 +41,7 @@ kept_session : (s : ServerState) (f : SessionState → SessionState) (t : Server
 kept_session s f t c h = by_change (IsKept s) f c t (λ x e. h) (λ e. h)
 
 kept_line : (s t : ServerState) (c : ℕ) (line : List ℕ) → next_line_for t c ≡ Some line → IsKept s t → IsKept s (after_line t c)
-kept_line s t c line next h =
-    let n = is_next t c line next in
-    ap kept_from_clients (after_line_is t c line n.asking n.found next)
-    ∙ ap (λ (xs : List UpsState). let r : ServerState = record t { sessions = []; upses = xs; tracking = nothing_tracked } in r) (masked (change_at t c line) t.upses) ∙ h
+kept_line s t c line next h = let n = is_next t c line next in rw (after_line_is t c line n.asking n.found next, masked) h
 
 pumped : (s : ServerState) → IsPumped (IsKept s)
 pumped s = record {

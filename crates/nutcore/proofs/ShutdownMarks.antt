@@ -134,16 +134,7 @@ shutdowns old new events outcomes u run before after =
 
 -- a forced shutdown that is granted
 granted_changes : (u : UpsId) (s : ServerState) (c : ℕ) (line : List ℕ) (words : List (List ℕ)) → (h : IsByRight s c line Fsd rights.Fsd words u) → change_at s c line ≡ changes.Fsd u
-granted_changes u s c line words h =
-    let a = asker c s in
-    let granted : user (seen s) a rights.Fsd ≡ Ok tt =
-    ap (λ (o : Option (List ℕ)). ok_or o UsernameRequired >>= (λ name. ok_or a.password PasswordRequired >>= (λ password. unless (may s.users name password rights.Fsd) AccessDenied))) h.username_given
-    ∙ ap (λ (o : Option (List ℕ)). ok_or o PasswordRequired >>= (λ password. unless (may s.users h.name password rights.Fsd) AccessDenied)) h.password_given
-    ∙ ap (λ (b : Bool). unless b AccessDenied) h.granted in
-    ap (change_by s c) h.command
-    ∙ ap (λ (r : Result (Unit {0}) ErrWord). change_of_answer (r >> (unknown_ups (seen s) h.ups >>= (λ v. Ok (one_line (codes "OK" ∷ codes "FSD-SET" ∷ []) (changes.Fsd v.id)))))) granted
-    ∙ ap (λ (o : Option KnownUps). change_of_answer (ok_or o UnknownUps >>= (λ v. Ok (one_line (codes "OK" ∷ codes "FSD-SET" ∷ []) (changes.Fsd v.id))))) h.named
-    ∙ ap (λ (v : UpsId). changes.Fsd v) h.this
+granted_changes u s c line words h = rw (h.command, h.username_given, h.password_given, h.granted, h.named) (ap (λ (v : UpsId). changes.Fsd v) h.this)
 
 line_shuts_down : (u : UpsId) (s : ServerState) (c : ℕ) (line : List ℕ) → next_line_for s c ≡ Some line → SetsShutdownByRight u (of_line s c line) → is_shut_down u (after_line s c) ≡ true
 line_shuts_down u s c line next h =
