@@ -180,10 +180,8 @@ unfolding after_by executions_by
 bytes_leave s v piece u o x there =
     let e : Event = DriverBytes v piece in
     let m : Option ℕ = refused_after o in
-    let lines : List Heard = cond x.report.connected (heard_at s.moment u.place s.tracking (as_far m (whole_lines (x.unfinished ++ piece)))) [] in
-    subst (λ (t : ServerState). Stands u.place t.upses (Does s.moment u e x (came_in_event u e) (heard_in_event u s e o) [] [])) (sym (bytes_change v piece m s))
-    (of_place (ups_after_bytes s.moment v.place s.tracking piece m) u v s.upses x (Does s.moment u e x (came_in_event u e) (heard_in_event u s e o) [] []) there
-    (λ k same. rw (k, there) (subst (λ (w : UpsId). Does s.moment u e x piece lines [] [] (ups_after_bytes s.moment w.place s.tracking piece m x)) (sym same) (bytes_do s.moment u e x s.tracking piece m))) (λ k. rw k (stays_so s.moment u e x)))
+    rw (bytes_change v piece m s) (of_place (ups_after_bytes s.moment v.place s.tracking piece m) u v s.upses x (Does s.moment u e x (came_in_event u e) (heard_in_event u s e o) [] []) there
+    (λ k same. rw (k, there, same) (bytes_do s.moment u _ x s.tracking piece m)) (λ k. rw k (stays_so s.moment u e x)))
 
 -- what is said of each alone: where a fault that changes nothing refuses it, all is as it was; and what it leaves of a UPS
 pub record OfEvent (s : ServerState) (e : Event) : Type 0 where

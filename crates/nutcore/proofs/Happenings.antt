@@ -86,23 +86,12 @@ happen c z (event_comes e m) = heard z.0 (after_by z.1 e m)
 core_line : (s : ServerState) (c : ℕ) (line : List ℕ) → next_line_for s c ≡ Some line → after_change (apart_from_bytes s) c line ≡ apart_from_bytes (after_line s c)
 core_line s c line next =
     let n = is_next s c line next in
-    let k : ServerState = apart_from_bytes s in
-    let x : SessionState = n.asking in
-    let change : Change = change_at s c line in
-    let y : SessionState = session_after s c line x in
-    ap (λ (z : Change). changed z c k) (core_alike s c line).change
-    ∙ changed_is change c k (without_bytes x) (found_without c s.sessions ∙ ap (option_map without_bytes) n.found)
-    ∙ ap (line_done k change) (sym (changed_without change line (reply s c line) x))
-    ∙ ap (λ (xs : List SessionState). let t : ServerState = record s { sessions = xs; upses = changed_upses change s.upses; tracking = changed_tracking change s.tracking } in t) (sym (put_without y s.sessions))
-    ∙ ap apart_from_bytes (sym (after_line_is s c line x n.found next))
+    rw (after_line_is s c line n.asking n.found next, (core_alike s c line).change, changed_is (change_at s c line) c (apart_from_bytes s) (without_bytes n.asking) (found_without c s.sessions ∙ ap (option_map without_bytes) n.found), put_without, changed_without (change_at s c line) line (reply s c line) n.asking)
 
 core_notice : (s : ServerState) (c : ℕ) → is_overlong s c ≡ true → with_session_changed begin_ending c (apart_from_bytes s) ≡ apart_from_bytes (with_session_changed notified c s)
 core_notice s c long =
     let due = overlong_there (session c s) long in
-    let x : SessionState = due.0 in
-    change_is begin_ending c (apart_from_bytes s) (without_bytes x) (found_without c s.sessions ∙ ap (option_map without_bytes) due.1)
-    ∙ ap (λ (xs : List SessionState). let t : ServerState = record s { sessions = xs } in t) (sym (put_without (notified x) s.sessions))
-    ∙ ap apart_from_bytes (sym (change_is notified c s x due.1))
+    rw (change_is notified c s due.0 due.1, change_is begin_ending c (apart_from_bytes s) (without_bytes due.0) (found_without c s.sessions ∙ ap (option_map without_bytes) due.1), put_without)
 
 -- happenings lead from a server to another, and tell each client what these executions do
 abbrev Leads : ServerState → List Happening → List Execution → ServerState → Type 0

@@ -114,8 +114,7 @@ change_sets u change xs before after =
 line_sets : (u : UpsId) (s : ServerState) (c : ℕ) (line : List ℕ) → next_line_for s c ≡ Some line → is_shut_down u s ≡ false → is_shut_down u (after_line s c) ≡ true → SetsShutdownByRight u (of_line s c line)
 line_sets u s c line next before after =
     let n = is_next s c line next in
-    let set : fsd_at u.place (changed_upses (change_at s c line) s.upses) ≡ true = ap (is_shut_down u) (sym (after_line_is s c line n.asking n.found next)) ∙ after in
-    let came = comes_of_line s c line (changes.Fsd u) refl (change_sets u (change_at s c line) s.upses before set) in
+    let came = comes_of_line s c line (changes.Fsd u) refl (change_sets u (change_at s c line) s.upses before (rw (after_line_is s c line n.asking n.found next) at after)) in
     by_right s c line came.command _ _ _ u came.read came.row
 
 -- only such lines set it
@@ -140,9 +139,7 @@ line_shuts_down : (u : UpsId) (s : ServerState) (c : ℕ) (line : List ℕ) → 
 line_shuts_down u s c line next h =
     let n = is_next s c line next in
     let stands = mapped_at seen_ups s.upses u.place h.known.state (ap (λ (v : UpsId). slice_get (seen s).upses v.place) (sym h.this) ∙ (a_named_ups_is_seen (seen s) h.ups h.known h.named).stands) in
-    ap (is_shut_down u) (after_line_is s c line n.asking n.found next)
-    ∙ ap (λ (change : Change). option_map_or (λ (x : UpsState). x.fsd) (slice_get (changed_upses change s.upses) u.place) false) (granted_changes u s c line _ h)
-    ∙ ap (λ (o : Option UpsState). option_map_or (λ (x : UpsState). x.fsd) o false) (at_changed with_fsd u.place s.upses stands.of stands.there)
+    rw (after_line_is s c line n.asking n.found next, granted_changes u s c line _ h, at_changed with_fsd u.place s.upses stands.of stands.there)
 
 -- one of them does
 pub AnySets : UpsId → List Execution → Type 0
@@ -171,8 +168,8 @@ forced_stays (suc p) (suc q) (x ∷ xs) h = forced_stays p q xs h
 line_keeps : (u : UpsId) (s : ServerState) (c : ℕ) (line : List ℕ) → next_line_for s c ≡ Some line → is_shut_down u s ≡ true → is_shut_down u (after_line s c) ≡ true
 line_keeps u s c line next set =
     let n = is_next s c line next in
-    ap (is_shut_down u) (after_line_is s c line n.asking n.found next)
-    ∙ of_changed_upses (λ told ys. fsd_at u.place ys ≡ true) (change_at s c line) s.upses set (λ v is. forced_stays v.place u.place s.upses set) (λ v line id is. changed_keeps (with_order line) (λ x. refl) v.place u.place s.upses ∙ set)
+    rw (after_line_is s c line n.asking n.found next)
+    (of_changed_upses (λ told ys. fsd_at u.place ys ≡ true) (change_at s c line) s.upses set (λ v is. forced_stays v.place u.place s.upses set) (λ v line id is. changed_keeps (with_order line) (λ x. refl) v.place u.place s.upses ∙ set))
 
 shuts_down : (u : UpsId) → IsOfEvents 0 (λ s xs taken asked t. (is_shut_down u s ≡ true) ⊎ AnySets u xs → is_shut_down u t ≡ true)
 unfolding with_input without_output AnySets

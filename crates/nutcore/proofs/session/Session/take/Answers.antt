@@ -11,6 +11,4 @@ returns-clause-counted c =
     let same : owed c.self.inside.outbox ≡ c.args.self.now.owed = ap (λ (x : SessionState). x.owed) c.self.view_is in
     let ring : length c.self.inside.outbox.ring ≡ length (take RING_LIMIT c.args.self.now.owed) = sym c.offered.ensures.ring ∙ c.offered.ensures.offered ∙ ap (λ (xs : List ℕ). length (take RING_LIMIT xs)) same in
     let few : c.args.n ≤ length c.self.inside.outbox.ring = omega (arith, ring, c.requires.few) in
-    subst (λ (k : ℕ). IsCounted (k - c.args.n) (owed c.take.new.self) c.take.new.renders) ring
-    (subst (λ (xs : List ℕ). IsCounted (length c.self.inside.outbox.ring - c.args.n) xs c.take.new.renders) (sym c.take.ensures.owed)
-    (taken_counted c.self.inside.outbox.ring c.self.inside.outbox.cursor c.args.n _ _ c.offered.ensures.outbox few c.requires.none c.take.ensures.counts))
+    rw (← ring, c.take.ensures.owed) (taken_counted c.self.inside.outbox.ring c.self.inside.outbox.cursor c.args.n _ _ c.offered.ensures.outbox few c.requires.none c.take.ensures.counts)
