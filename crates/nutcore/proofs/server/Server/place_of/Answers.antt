@@ -17,10 +17,8 @@ returns-clause-place c =
     let same : c.deref.result.now ≡ xs = c.deref.ensures.value ∙ ap (λ (s : ServerState). s.sessions) (state_is c.self.view_is) in
     let facts = c.binary_search_by_key.ensures in
     let by_id = facts.position (λ (x : SessionState). x.id) (answers_always _ _ _ (λ f a r g called. search rules)) in
-    subst (λ (r : Result ℕ Fault). MatchResult r (λ i. IsAt c.args.c i xs) (λ fault. (fault ≡ NoSuchClient) × (find c.args.c xs ≡ None))) (sym c.or.ensures)
-    (place_found c.args.c xs c.binary_search_by_key.result
-    (searched 1 c.args.self.now.state.next_id c.args.c xs (subst (λ (z : ServerState). IdsRise 1 z.next_id z.sessions) (state_is c.self.view_is) c.self.invariant.sound.ids) c.binary_search_by_key.result
-    (subst (λ (ys : List SessionState). IsSearchInRange c.binary_search_by_key.result (length ys)) same facts.bound) (subst (λ (ys : List SessionState). IsBinarySearchResult (λ (x : SessionState). nat_cmp x.id c.args.c) ys c.binary_search_by_key.result) same by_id)))
+    rw c.or.ensures (place_found c.args.c xs c.binary_search_by_key.result
+    (searched 1 c.args.self.now.state.next_id c.args.c xs (subst (λ (z : ServerState). IdsRise 1 z.next_id z.sessions) (state_is c.self.view_is) c.self.invariant.sound.ids) c.binary_search_by_key.result (rw same at facts.bound) (rw same at by_id)))
 
 pub returns-clause-lawful : goal.returns-clause-lawful
 returns-clause-lawful c = lawful c.args.self.now.state (subst (λ (z : ServerState). IdsRise 1 z.next_id z.sessions) (state_is c.self.view_is) c.self.invariant.sound.ids)
