@@ -73,22 +73,12 @@ same_line a b rest f g e =
     let same : (a, rest) ≡ (b, []) = same_Some (a, rest) (b, []) (sym one ∙ other) in
     (ap (λ (p : List ℕ × List ℕ). p.0) same, ap (λ (p : List ℕ × List ℕ). p.1) same)
 
-record IsOneLine (c : ℕ) (line : List ℕ) (xs : List Execution) : Type 0 where
-  server : ServerState
-  is : xs ≡ of_line server c line ∷ []
-
-one_line : (c : ℕ) (line : List ℕ) (xs : List Execution) → has_lf line ≡ false → Each IsWhole xs → Each (λ x. client_of x ≡ c) xs → lines_of xs ≡ with_lf line → IsOneLine c line xs
+one_line : (c : ℕ) (line : List ℕ) (xs : List Execution) → has_lf line ≡ false → Each IsWhole xs → Each (λ x. client_of x ≡ c) xs → lines_of xs ≡ with_lf line → (s : ServerState) × (xs ≡ of_line s c line ∷ [])
 one_line c line [] none whole its e = absurd (no_bytes line [] (append-nil (with_lf line) ∙ sym e))
 one_line c line (of_line s d l ∷ xs) none whole its e =
     let is = same_line l line (lines_of xs) whole.0 none e in
-    record {
-      server = s;
-      is = ap (λ (k : ℕ). of_line s k l ∷ xs) its.0 ∙ ap (λ (w : List ℕ). of_line s c w ∷ xs) is.0 ∙ ap (λ (zs : List Execution). of_line s c line ∷ zs) (none_more xs whole.1 is.1);
-    }
+    (s, rw (its.0, is.0, none_more xs whole.1 is.1))
 one_line c line (of_notice d ∷ xs) none whole its e = absurd whole.0
-
-not_closed : (o : Option SessionState) (used : Bool) → option_map_or (λ x. x.ending) o used ≡ false → option_map_or (λ x. false) o used ≡ false
-not_closed o used h = grind arith
 
 pub one_line_answered : OneLineIsAnswered
 one_line_answered old new es os c line lawful absent r asks whole going none_held none_owed =
@@ -96,9 +86,9 @@ one_line_answered old new es os c line lawful absent r asks whole going none_hel
     let kept : IsKept (presence c old) = λ h. lt-ltb c old.next_id (lawful c h) in
     let up : executed c old es os ≡ asked c old es os = sym (rw (absent, none_held, append-nil (executed c old es os)) at ((run_taken_up old new es os lawful r c).while_going going)) in
     let one = one_line c line (of_client c (executions old es os)) whole (told.whole kept going) (all_its c (executions old es os)) (up ∙ asks) in
-    let sent : answers c old es os ≡ taken c old es os = rw (absent, none_owed, append-nil (taken c old es os)) at ((run_sent old new es os lawful r c).while_open (not_closed (session c new) _ going)) in
+    let sent : answers c old es os ≡ taken c old es os = rw (absent, none_owed, append-nil (taken c old es os)) at ((run_sent old new es os lawful r c).while_open (grind (arith, going))) in
     record {
-      server = one.server;
-      executed = one.is;
-      took = sym sent ∙ ap texts_of one.is ∙ append-nil _;
+      server = one.0;
+      executed = one.1;
+      took = sym sent ∙ ap texts_of one.1 ∙ append-nil _;
     }

@@ -42,11 +42,11 @@ measures = record {
     owes =
         let owed = ap (λ (bytes : List ℕ). length bytes) (keeps (change_at s c line) (answered line (reply s c line) n.asking)).owed in
         omega (arith, owed, length-append n.asking.owed (reply s c line), length-append (reply s c line) []);
-    holds = let less = session_shortens s c line n in omega (arith, less);
+    holds = omega (arith, session_shortens s c line n);
   };
   by_notice = λ c x u long. record {
     owes = omega (arith, length-append x.owed too_long_notice, length-append too_long_notice []);
-    holds = let full = long_by x long in omega (arith, full);
+    holds = omega (arith, long_by x long);
   };
   by_input = λ piece x u. record { owes = omega arith; holds = omega (arith, length-append x.held (accepted_bytes (Some x) piece)) };
   by_output = λ n x u. record { owes = omega (arith, length-take n x.owed, length-drop n x.owed); holds = omega arith };
@@ -69,10 +69,9 @@ all_few s e m h =
     of_event (λ e. length (executions_by s e m) ≤ HELD_LIMIT) (λ e silent. rw (silent.executes s m) (omega arith))
     (λ c piece.
     let few = (of_event_of_client IsMeasured measures c s (Feed c piece) m).holds in
-    let room = accepted_few (session c s) piece (held c) in
     let own = ap (λ (xs : List Execution). length xs) (of_its_pump c c (with_input s c piece) m ∙ cond-true _ _ _ (eq-eqb c c refl)) in
     let came = ap (λ (b : Bool). length (cond b (accepted_bytes (session c s) piece) [])) (eq-eqb c c refl) in
-    omega (arith, few, room, own, came))
+    omega (arith, few, accepted_few (session c s) piece (held c), own, came))
     (λ c n.
     let few = (of_event_of_client IsMeasured measures c s (Took c n) m).holds in
     let own = cond_both (may_take (session c s) n) (executions_until (without_output s c n) c m) [] (λ xs. length (of_client c xs) ≡ length xs) (λ may. ap (λ (xs : List Execution). length xs) (of_its_pump c c (without_output s c n) m ∙ cond-true _ _ _ (eq-eqb c c refl))) (λ never. refl) in
@@ -110,9 +109,9 @@ cost_few old new e =
 
 pub bounded : EachEventIsBounded
 bounded old new e o step h = record {
-  lines = λ c. let few = (of_event_of_client IsMeasured measures c old e (refused_after o)).holds in omega (arith, few);
+  lines = λ c. omega (arith, (of_event_of_client IsMeasured measures c old e (refused_after o)).holds);
   in_all = all_few old e (refused_after o) h;
-  placed = λ c. let few = taken_few c old e in omega (arith, few, length-take RING_LIMIT (owed_of (session c new)));
+  placed = λ c. omega (arith, taken_few c old e, length-take RING_LIMIT (owed_of (session c new)));
   bytes = (cost_few old new e).0;
   renders = (cost_few old new e).1;
 }

@@ -23,13 +23,9 @@ pub change_is : (f : SessionState → SessionState) (c : ℕ) (s : ServerState) 
 unfolding with_session_changed
 change_is f c s x e = ap (λ (o : Option SessionState). option_map_or (λ y. with_session s (f y)) o s) e
 
-pub change_absent : (f : SessionState → SessionState) (c : ℕ) (s : ServerState) → session c s ≡ None → with_session_changed f c s ≡ s
-unfolding with_session_changed
-change_absent f c s e = ap (λ (o : Option SessionState). option_map_or (λ y. with_session s (f y)) o s) e
-
 pub input_absent : (s : ServerState) (c : ℕ) (piece : List ℕ) → session c s ≡ None → with_input s c piece ≡ s
-unfolding with_input
-input_absent s c piece e = change_absent (joined piece) c s e
+unfolding with_input with_session_changed
+input_absent s c piece e = rw e
 
 -- a client with this session
 abbrev pub at_client : ServerState → ℕ → Option SessionState → Presence

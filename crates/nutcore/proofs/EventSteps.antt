@@ -63,12 +63,10 @@ took_much s c n x e may = refused s (Took c n) TookTooMuch (rw e (cond-false _ _
 pub took_gives : (s j t : ServerState) (c n : ℕ) (x : SessionState) (r : Result (Unit {0}) Fault) → session c s ≡ Some x → may_take (session c s) n ≡ true → j ≡ without_output s c n → PumpGives j c r t → Step s (Took c n) (done r) t
 unfolding outcome_of after_by pumped_until MayLackMemory
 took_gives s j t c n x r e may ej gives =
-    let over = is_overlong (after_all_lines (without_output s c n) c) c in
-    let its = ap (λ (o : Option SessionState). took_by o n over) e ∙ cond-true _ _ _ (ap (λ (o : Option SessionState). may_take o n) (sym e) ∙ may) in
     of_gives (λ r t. Step s (Took c n) (done r) t) (without_output s c n) c
-    (λ u short. record { allowed = inl (sym (its ∙ cond-false _ _ _ short)); leaves = sym (cond-true _ _ _ may) })
-    (λ long. record { allowed = inl (sym (its ∙ cond-true _ _ _ long)); leaves = sym (cond-true _ _ _ may) })
-    (λ k wants. record { allowed = inr (k, refl, (may, wants)); leaves = sym (cond-true _ _ _ may) })
+    (λ u short. record { allowed = inl (rw (e, rw e at may, short)); leaves = rw may })
+    (λ long. record { allowed = inl (rw (e, rw e at may, long)); leaves = rw may })
+    (λ k wants. record { allowed = inr (k, refl, (may, wants)); leaves = rw may })
     r t (subst (λ (z : ServerState). PumpGives z c r t) ej gives)
 
 -- closing
@@ -78,10 +76,7 @@ close_absent s c e = refused s (Close c) NoSuchClient (rw e) refl
 
 pub close_present : (s : ServerState) (c : ℕ) (x : SessionState) (xs : List SessionState) → session c s ≡ Some x → xs ≡ without c s.sessions → (let t : ServerState = record s { sessions = xs } in Step s (Close c) Done t)
 unfolding outcome_of after_by
-close_present s c x xs e exs = record {
-  allowed = inl (sym (ap closed_by e));
-  leaves = ap (λ (ys : List SessionState). let z : ServerState = record s { sessions = ys } in z) exs;
-}
+close_present s c x xs e exs = record { allowed = inl (rw e); leaves = rw exs }
 
 -- opening
 pub open_full : (s : ServerState) (address : List ℕ) → may_open s ≡ false → Step s (Open address) (Refused TooManyClients) s
@@ -94,10 +89,7 @@ open_refused s address may = record { allowed = inr (0, refl, (refl, may)); leav
 
 pub open_done : (s : ServerState) (address : List ℕ) (xs : List SessionState) → may_open s ≡ true → xs ≡ s.sessions ++ new_session s.next_id address ∷ [] → (let t : ServerState = record s { sessions = xs; next_id = s.next_id + 1 } in Step s (Open address) (Opened s.next_id) t)
 unfolding outcome_of after_by opened
-open_done s address xs may e = record {
-  allowed = inl (sym (cond-true _ _ _ may));
-  leaves = ap (λ (ys : List SessionState). let z : ServerState = record s { sessions = ys; next_id = s.next_id + 1 } in z) e ∙ sym (cond-true _ _ _ may);
-}
+open_done s address xs may e = record { allowed = inl (rw may); leaves = rw (may, e) }
 
 -- a step from a state seen otherwise
 pub step_from : (s s' t t' : ServerState) (e : Event) (o : Outcome) → s ≡ s' → t ≡ t' → Step s e o t → Step s' e o t'

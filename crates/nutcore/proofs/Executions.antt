@@ -14,21 +14,18 @@ use Rattle.nutcore.proofs.Histories.{later}
 use Rattle.nutcore.proofs.Loops.{after_lines-suc}
 use Rattle.nutcore.proofs.Runs.{run_push}
 
-alone : (P : Execution → Type 0) (x : Execution) → P x → All P (x ∷ [])
-alone P x p = All-cons P x [] p (All-nil P)
-
 pump_line : (begun : ServerState) (c k : ℕ) (s : ServerState) (j : ℕ) → s ≡ after_lines j begun c → All (IsInPump begun c) (lines_executed k s c)
 unfolding lines_executed
 pump_line begun c zero s j e = All-nil (IsInPump begun c)
 pump_line begun c (suc k) s j e =
-    All-append (IsInPump begun c) (next_execution s c (next_line_for s c)) (lines_executed k (after_line s c) c) (elim (cases_Option (next_line_for s c)) [ inl none ↦ rw none (All-nil (IsInPump begun c)) | inr (line, next) ↦ rw next (alone (IsInPump begun c) (of_line s c line) (refl, j, e, next)) ])
+    All-append (IsInPump begun c) (next_execution s c (next_line_for s c)) (lines_executed k (after_line s c) c) (elim (cases_Option (next_line_for s c)) [ inl none ↦ rw none (All-nil (IsInPump begun c)) | inr (line, next) ↦ rw next (All-cons (IsInPump begun c) (of_line s c line) [] (refl, j, e, next) (All-nil (IsInPump begun c))) ])
     (pump_line begun c k (after_line s c) (j + 1) (ap (λ (z : ServerState). after_line z c) e ∙ sym (after_lines-suc j begun c)))
 
 until_timely : (begun : ServerState) (c : ℕ) (m : Option ℕ) → All (IsInPump begun c) (executions_until begun c m)
 unfolding executions_until pump_executions after_lines
 until_timely begun c None =
     All-append (IsInPump begun c) _ _ (pump_line begun c _ begun 0 refl)
-    (cond_both (is_overlong (after_all_lines begun c) c) (of_notice c ∷ []) [] (All (IsInPump begun c)) (λ due. alone (IsInPump begun c) (of_notice c) (refl, due)) (λ quiet. All-nil (IsInPump begun c)))
+    (cond_both (is_overlong (after_all_lines begun c) c) (of_notice c ∷ []) [] (All (IsInPump begun c)) (λ due. All-cons (IsInPump begun c) (of_notice c) [] (refl, due) (All-nil (IsInPump begun c))) (λ quiet. All-nil (IsInPump begun c)))
 until_timely begun c (Some k) = pump_line begun c k begun 0 refl
 
 event_timely : (s : ServerState) (e : Event) (m : Option ℕ) → All (IsInEvent s e) (executions_by s e m)

@@ -165,8 +165,7 @@ module _ (R : Presence → List Execution → List ℕ → List ℕ → Presence
     by_line = λ d s line next.
         let n = is_next s d line next in
         own_or_other c d (λ z b. R (presence z s) (cond b (of_line s d line ∷ []) []) [] [] (presence z (after_line s d)))
-        (subst (λ (p : Presence). R p (of_line s d line ∷ []) [] [] (presence d (after_line s d))) (sym (ap (at_client s d) n.found))
-        (subst (R (at_client s d (Some n.asking)) (of_line s d line ∷ []) [] []) (sym (own_after_line s d line n.asking n.found next)) (h.by_line d s line n (ltb d s.next_id))))
+        (subst (λ (p : Presence). R p (of_line s d line ∷ []) [] [] (presence d (after_line s d))) (sym (ap (at_client s d) n.found)) (rw (own_after_line s d line n.asking n.found next) (h.by_line d s line n (ltb d s.next_id))))
         (λ differ. unmoved (presence c s) _ (other_after_line c d s line next differ));
     by_notice = λ d s long. changing (λ b p q. R p (cond b (of_notice d ∷ []) []) [] [] q) notified (λ x. refl) d s (elim (cases_Option (session d s)) [ inl none ↦ cc (rw none at long) | inr (x, found) ↦ rw found (h.by_notice d x _ (rw found at long)) ]) (unmoved (presence c s) _ refl);
     by_input = λ d s piece. changing (λ b p q. R p [] [] (cond b (accepted_bytes (session d s) piece) []) q) (joined piece) (λ x. refl) d s (elim (cases_Option (session d s)) [ inl none ↦ rw none (unmoved _ _ refl) | inr (x, found) ↦ rw found (h.by_input piece x _) ]) (unmoved (presence c s) _ refl);

@@ -19,14 +19,22 @@ use Rattle.nutcore.proofs.Pumping.{is_next, change_at, no_notice, of_notice_due}
 use Rattle.nutcore.proofs.Found.{cases_Option}
 use Rattle.nutcore.proofs.Loops.{stopped_lines, line_shortens, all_lines_are, found_after_line}
 
--- where nothing is held, there is no next line
-pub empty_stops : (o : Option SessionState) → held_of o ≡ [] → is_none (option_and_then next_line o) ≡ true
-empty_stops o none = grind arith
+-- the pump has stopped, and no line is too long
+pub record IsIdle (o : Option SessionState) : Type 0 where
+  pub stopped : is_none (option_and_then next_line o) ≡ true
+  pub short : option_map_or holds_overlong o false ≡ false
+
+abbrev pub HasStopped : ServerState → ℕ → Type 0
+HasStopped s c = IsIdle (session c s)
+
+-- so where nothing is held
+pub empty_idle : (o : Option SessionState) → held_of o ≡ [] → IsIdle o
+empty_idle o none = record { stopped = grind arith; short = grind arith }
 
 -- after as many lines as bytes are held, the pump has stopped
 pub stops_at_last : (n : ℕ) (s : ServerState) (c : ℕ) → length (held_of (session c s)) ≤ n → pump_stops (after_lines n s c) c ≡ true
 unfolding after_lines
-stops_at_last zero s c le = empty_stops (session c s) (nil_from_length (held_of (session c s)) (omega (arith, le)))
+stops_at_last zero s c le = (empty_idle (session c s) (nil_from_length (held_of (session c s)) (omega (arith, le)))).stopped
 stops_at_last (suc n) s c le = elim (cases_Option (next_line_for s c)) [
   | inl e ↦ (let stop = ap is_none e in subst (λ (z : ServerState). pump_stops z c ≡ true) (sym (stopped_lines (suc n) s c stop)) stop)
   | inr (line, e) ↦ stops_at_last n (after_line s c) c (let less = line_shortens s c line e in omega (arith, less, le))
@@ -51,17 +59,9 @@ pump_least s c =
     let (k, within, there, before) = least (λ k. pump_stops (after_lines k s c) c) n (stops_at_last n s c (omega arith)) in
     (k, record { there = there; before = before; pumped_is = ap (λ (z : ServerState). after_notice z c) (all_lines_are k s c within there) })
 
--- the pump has stopped, and no line is too long
-pub record HasStopped (s : ServerState) (c : ℕ) : Type 0 where
-  pub stopped : pump_stops s c ≡ true
-  pub short : is_overlong s c ≡ false
-
--- a client without a session has
-pub absent_stops : (s : ServerState) (c : ℕ) → session c s ≡ None → HasStopped s c
-absent_stops s c none = record {
-  stopped = ap (λ (o : Option SessionState). is_none (option_and_then next_line o)) none;
-  short = ap (λ (o : Option SessionState). option_map_or holds_overlong o false) none;
-}
+-- so has a client without a session
+pub no_session : IsIdle None
+no_session = record { stopped = refl; short = refl }
 
 -- then a pump does nothing
 pub pump_idle : (s : ServerState) (c : ℕ) → HasStopped s c → pumped s c ≡ s
@@ -69,39 +69,27 @@ unfolding pumped after_all_lines
 pump_idle s c h = ap (λ (z : ServerState). after_notice z c) (stopped_lines (length (held_of (session c s))) s c h.stopped) ∙ no_notice s c h.short
 
 pub pump_absent : (s : ServerState) (c : ℕ) → session c s ≡ None → s ≡ pumped s c
-pump_absent s c e = sym (pump_idle s c (absent_stops s c e))
-
-told_ends : (o : Option SessionState) → (is_none (option_and_then next_line (option_map notified o)) ≡ true) × (option_map_or holds_overlong (option_map notified o) false ≡ false)
-told_ends o = grind arith
+pump_absent s c e = sym (pump_idle s c (rw e no_session))
 
 pub pump_ended : (s : ServerState) (c : ℕ) → HasStopped (pumped s c) c
 unfolding pumped after_all_lines
 pump_ended s c =
     let n : ℕ = length (held_of (session c s)) in
     let t : ServerState = after_lines n s c in
-    let now = session_changed notified (λ x. refl) c t in
-    of_notice_due (λ xs r. HasStopped r c) t c
-    (λ due. record {
-      stopped = ap (λ (o : Option SessionState). is_none (option_and_then next_line o)) now ∙ (told_ends (session c t)).0;
-      short = ap (λ (o : Option SessionState). option_map_or holds_overlong o false) now ∙ (told_ends (session c t)).1;
-    })
+    of_notice_due (λ xs r. HasStopped r c) t c (λ due. subst IsIdle (sym (session_changed notified (λ x. refl) c t)) (record { stopped = grind arith; short = grind arith }))
     (λ short. record { stopped = stops_at_last n s c (omega arith); short = short })
 
 -- so after bytes that were taken in, and after bytes that were taken
 fed_stops : (old new : ServerState) (c n : ℕ) (piece : List ℕ) → Step old (Feed c piece) (Fed n) new → pump_stops new c ≡ true
 unfolding after_by pumped_until
-fed_stops old new c n piece step = subst (λ (z : ServerState). pump_stops z c ≡ true) (sym step.leaves) (pump_ended (with_input old c piece) c).stopped
-
-may_of : (o : Option SessionState) (n : ℕ) (overlong : Bool) → Done ≡ took_by o n overlong → may_take o n ≡ true
-may_of o n overlong h = grind arith
+fed_stops old new c n piece step = rw step.leaves (pump_ended (with_input old c piece) c).stopped
 
 took_stops : (old new : ServerState) (c n : ℕ) → Step old (Took c n) Done new → pump_stops new c ≡ true
 unfolding outcome_of after_by pumped_until
-took_stops old new c n step =
-    elim step.allowed [
-      | inl told ↦ subst (λ (z : ServerState). pump_stops z c ≡ true) (sym (step.leaves ∙ cond-true _ _ _ (may_of (session c old) n _ told))) (pump_ended (without_output old c n) c).stopped
-      | inr lack ↦ (let e : Done ≡ Refused (Memory lack.0) = lack.1 in cc)
-    ]
+took_stops old new c n step = elim step.allowed [
+  | inl told ↦ (let may : may_take (session c old) n ≡ true = grind (arith, told) in rw (step.leaves, may) (pump_ended (without_output old c n) c).stopped)
+  | inr lack ↦ (let e : Done ≡ Refused (Memory lack.0) = lack.1 in cc)
+]
 
 pub nothing_left : NothingIsLeftToExecute
 nothing_left = record { fed = fed_stops; took = took_stops }
@@ -109,9 +97,6 @@ nothing_left = record { fed = fed_stops; took = took_stops }
 -- a line is executed while little is owed, and its answer is joined
 pub one_answer_above : OneAnswerAtMostIsOwedAbove
 one_answer_above s c line next =
-    let n = is_next s c line next in (
-      subst (λ (o : Option SessionState). length (owed_of o) ≤ OWED_LIMIT) (sym n.found) (ltb-false _ _ n.little),
-      ap owed_of (found_after_line s c line n.asking n.found next)
-          ∙ (keeps (change_at s c line) (answered line (reply s c line) n.asking)).owed
-          ∙ ap (λ (o : Option SessionState). owed_of o ++ (reply s c line)) (sym n.found),
-    )
+    let n = is_next s c line next in
+    let kept = keeps (change_at s c line) (answered line (reply s c line) n.asking) in
+    (rw n.found (ltb-false _ _ n.little), ap owed_of (found_after_line s c line n.asking n.found next) ∙ rw n.found kept.owed)

@@ -46,10 +46,7 @@ found_after_line s c line x found h = ap (λ (p : Presence). p.session) (own_aft
 
 -- each line takes bytes from what is held
 pub session_shortens : (s : ServerState) (c : ℕ) (line : List ℕ) (n : IsNext s c line) → length (session_after s c line n.asking).held < length n.asking.held
-session_shortens s c line n =
-    let e = behind_shorter n.asking.held line n.first in
-    let k = (keeps (change_at s c line) (answered line (reply s c line) n.asking)).shorter in
-    omega (arith, e, k)
+session_shortens s c line n = omega (arith, behind_shorter n.asking.held line n.first, (keeps (change_at s c line) (answered line (reply s c line) n.asking)).shorter)
 
 pub line_shortens : (s : ServerState) (c : ℕ) (line : List ℕ) → next_line_for s c ≡ Some line → length (held_of (session c (after_line s c))) < length (held_of (session c s))
 line_shortens s c line h = let n = is_next s c line h in rw (found_after_line s c line n.asking n.found h, n.found) (session_shortens s c line n)

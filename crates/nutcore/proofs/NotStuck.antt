@@ -15,8 +15,8 @@ use Rattle.nutcore.specs.NotStuck.{HadMemory, HasRoom, WhoIsOwedLittleHasRoom, W
 use Rattle.nutcore.proofs.Endings.{asked_no_more, stays_ending}
 use Rattle.nutcore.proofs.Found.{find_without}
 use Rattle.nutcore.proofs.Histories.{later}
-use Rattle.nutcore.proofs.Least.{HasStopped, absent_stops, pump_ended}
-use Rattle.nutcore.proofs.TakingAmongOthers.{anothers, stopped_after, own_or_not}
+use Rattle.nutcore.proofs.Least.{HasStopped, no_session, pump_ended}
+use Rattle.nutcore.proofs.TakingAmongOthers.{anothers, own_or_not}
 
 -- after an event of the client with memory, and after one of another
 own_stops : (s : ServerState) (e : Event) (c : ℕ) → HasStopped s c → client_of e ≡ Some c → HasStopped (after_by s e None) c
@@ -24,14 +24,14 @@ unfolding after_by pumped_until
 own_stops s (Feed d piece) c h its = let same : c ≡ d = cc its in rw same (pump_ended (with_input s d piece) d)
 own_stops s (Took d n) c h its = let same : c ≡ d = cc its in
     rw same (cond_both (may_take (session d s) n) (pumped (without_output s d n) d) s (λ t. HasStopped t d) (λ may. pump_ended (without_output s d n) d) (λ never. rw same at h))
-own_stops s (Close d) c h its = let same : c ≡ d = cc its in rw same (absent_stops _ d (find_without d s.sessions))
+own_stops s (Close d) c h its = let same : c ≡ d = cc its in rw (same, find_without d s.sessions) no_session
 own_stops s e c h its = cc its
 
 run_stops : (s t : ServerState) (es : List Event) (os : List Outcome) (c : ℕ) → Run s es os t → HadMemory c es os → HasStopped s c → HasStopped t c
 run_stops s t [] [] c r had h = subst (λ (z : ServerState). HasStopped z c) (sym r) h
 run_stops s t (e ∷ es) (o ∷ os) c (mid, step, r) had h =
     run_stops (after s e o) t es os c (later t es os step r) had.1 (own_or_not c e
-    (λ yes its. subst (λ (m : Option ℕ). HasStopped (after_by s e m) c) (sym (had.0 its)) (own_stops s e c h its)) (λ no other. stopped_after c s (after s e o) (anothers c s e (refused_after o) other).untouched h))
+    (λ yes its. subst (λ (m : Option ℕ). HasStopped (after_by s e m) c) (sym (had.0 its)) (own_stops s e c h its)) (λ no other. (anothers c s e (refused_after o) other).untouched.stopped h))
 run_stops s t es os c r had h = absurd r
 
 -- so where little is owed, there is room
@@ -40,7 +40,7 @@ room_of x going few stopped short = record { no_line = grind (arith, nat_tests);
 
 pub little_has_room : WhoIsOwedLittleHasRoom
 little_has_room old new es os c x absent r had found going few =
-    let h = run_stops old new es os c r had (absent_stops old c absent) in
+    let h = run_stops old new es os c r had (rw absent no_session) in
     room_of x going few (rw found at h.stopped) (rw found at h.short)
 
 -- an ending session

@@ -35,10 +35,7 @@ length-put y [] = refl
 length-put y (x ∷ xs) = grind (arith, nat_tests, common_steps, length-put y xs)
 
 pub at_put : (c i : ℕ) (y : SessionState) (xs : List SessionState) → IsAt c i xs → IsAt c i (put y xs)
-at_put c i y xs h = record {
-  first = place_put c y xs ∙ h.first;
-  within = let e = length-put y xs in omega (arith, e, h.within);
-}
+at_put c i y xs h = record { first = place_put c y xs ∙ h.first; within = omega (arith, length-put y xs, h.within) }
 
 pub rise_put : (l n : ℕ) (y : SessionState) (xs : List SessionState) → IdsRise l n xs → IdsRise l n (put y xs)
 rise_put l n y [] h = h

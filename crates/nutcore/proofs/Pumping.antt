@@ -32,15 +32,13 @@ pub record IsNext (s : ServerState) (c : ℕ) (line : List ℕ) : Type 0 where
   pub little : ltb OWED_LIMIT (length asking.owed) ≡ false
   pub first : first_line asking.held ≡ Some line
 
-unless : (b : Bool) (o : Option (List ℕ)) (line : List ℕ) → cond b None o ≡ Some line → (b ≡ false) × (o ≡ Some line)
-unless b o line h = grind arith
+next_parts : (x : SessionState) (line : List ℕ) → next_line x ≡ Some line → (x.ending ≡ false) × (ltb OWED_LIMIT (length x.owed) ≡ false) × (first_line x.held ≡ Some line)
+next_parts x line h = grind arith
 
 pub is_next : (s : ServerState) (c : ℕ) (line : List ℕ) → next_line_for s c ≡ Some line → IsNext s c line
 is_next s c line h = elim (cases_Option (session c s)) [
   | inl none ↦ cc (rw none at h)
-  | inr (x, found) ↦ (let may = unless (x.ending || ltb OWED_LIMIT (length x.owed)) (first_line x.held) line (rw found at h) in
-      let ready = or_parts x.ending (ltb OWED_LIMIT (length x.owed)) may.0 in
-      record { asking = x; found = found; going = ready.0; little = ready.1; first = may.1 })
+  | inr (x, found) ↦ (let may = next_parts x line (rw found at h) in record { asking = x; found = found; going = may.0; little = may.1; first = may.2 })
 ]
 
 -- where the next line ends says which one it is
@@ -73,11 +71,7 @@ after_line_is s c line x found h =
     let t : ServerState = line_done s change y in
     let id : y.id ≡ c = (keeps change x).id ∙ find_id c s.sessions x found in
     let there : session c t ≡ Some y = session_put s c x y found id in
-    ap (λ (o : Option (List ℕ)). option_map_or (λ line. after_reply s c line) o s) h
-    ∙ ap (with_session_changed (answered line text) c) (changed_is change c s x found)
-    ∙ change_is (answered line text) c t y there
-    ∙ ap (λ (xs : List SessionState). let z : ServerState = record t { sessions = xs } in z) (put_put y (answered line text y) s.sessions refl)
-    ∙ ap (λ (z : SessionState). line_done s change z) ((keeps change x).joined line text)
+    rw (h, changed_is change c s x found, change_is (answered line text) c t y there, put_put y (answered line text y) s.sessions refl, (keeps change x).joined line text)
 
 -- the clients after it
 pub own_after_line : (s : ServerState) (c : ℕ) (line : List ℕ) (x : SessionState) → session c s ≡ Some x → next_line_for s c ≡ Some line → presence c (after_line s c) ≡ at_client s c (Some (session_after s c line x))
@@ -86,9 +80,7 @@ own_after_line s c line x found h = ap (presence c) (after_line_is s c line x fo
 pub other_after_line : (c d : ℕ) (s : ServerState) (line : List ℕ) → next_line_for s d ≡ Some line → c ≢ d → presence c (after_line s d) ≡ presence c s
 other_after_line c d s line h differ =
     let n = is_next s d line h in
-    let y : SessionState = session_after s d line n.asking in
-    ap (presence c) (after_line_is s d line n.asking n.found h)
-    ∙ ap (at_client s c) (find_put_other c y s.sessions (λ (k : c ≡ y.id). differ (k ∙ session_after_id s d line n.asking n.found)))
+    rw (after_line_is s d line n.asking n.found h) (ap (at_client s c) (find_put_other c (session_after s d line n.asking) s.sessions (λ (k : c ≡ (session_after s d line n.asking).id). differ (k ∙ session_after_id s d line n.asking n.found))))
 
 -- the session that stands there is put
 pub put_same : (s : ServerState) (c : ℕ) (x : SessionState) → session c s ≡ Some x → with_session s x ≡ s

@@ -131,12 +131,9 @@ line_is s v c i line reply clients x y h told lists is stands gives =
     let said = answers_as s c line reply clients told (subst (λ (z : ServerState). ListsClients z.sessions reply clients) is lists) in
     let found : session c s ≡ Some x = ap (session c) (sym is) ∙ stands.found in
     let own : SessionState = session_after s c line x in
-    let same : y ≡ own = gives ∙ ap (λ (z : List ℕ). changed_session (change_in reply) (answered line z x)) (sym said.0) ∙ ap (λ (z : Change). changed_session z (answered line (text_to s c (read_command line)) x)) (sym said.1) in
-    set_is v c i y stands.at (ap (λ (z : SessionState). z.id) same ∙ session_after_id s c line x found)
-    ∙ ap (with_session v) same
-    ∙ ap (λ (z : ServerState). with_session z own) is
-    ∙ ap (λ (z : Change). line_done s z own) (sym said.1)
-    ∙ sym (after_line_is s c line x found h)
+    let same : y ≡ own = rw (said.0, said.1) gives in
+    let done : with_session v y ≡ line_done s (change_by s c (read_command line)) own = rw (same, is, said.1) in
+    set_is v c i y stands.at (ap (λ (z : SessionState). z.id) same ∙ session_after_id s c line x found) ∙ done ∙ sym (after_line_is s c line x found h)
 
 pub at_line : (s : ServerState) (c i : ℕ) (line : List ℕ) → IsAt c i s.sessions → next_line_for s c ≡ Some line → IsAt c i (after_line s c).sessions
 at_line s c i line h next =

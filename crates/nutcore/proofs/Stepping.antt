@@ -49,7 +49,7 @@ goes = record {
         taken_up = rw (flat_map-append line_of xs ys) (half_joins (is_over p) (is_over q) (is_over r) _ _ _ _ _ _ _ first.taken_up next.taken_up);
         keeps = λ h. next.keeps (first.keeps h);
       };
-  stays = λ o u v up kept. record { sent = half_stays _ _ (owed_of o) (closed_on o u v up); taken_up = half_stays _ _ (held_of o) (over_on o u v up); keeps = λ h some. up (h some) };
+  stays = λ o u v up kept. record { sent = half_stays _ _ (owed_of o) (grind arith); taken_up = half_stays _ _ (held_of o) (grind arith); keeps = λ h some. up (h some) };
   by_line = λ c s line n u kept.
       let x = n.asking in
       let text : List ℕ = reply s c line in
@@ -71,12 +71,6 @@ goes = record {
   opens = λ id address kept. record { sent = half_stays false false [] (λ h. h); taken_up = half_stays false false [] (λ h. h); keeps = λ h k. refl };
   closes = λ x u kept. rw (kept refl) (record { sent = half_ends false x.owed; taken_up = half_ends x.ending x.held; keeps = λ h (k : false ≡ true). cc });
 }
-  where
-    closed_on : (o : Option SessionState) (u v : Bool) → (u ≡ true → v ≡ true) → option_map_or (λ x. false) o u ≡ true → option_map_or (λ x. false) o v ≡ true
-    closed_on o u v up h = grind arith
-
-    over_on : (o : Option SessionState) (u v : Bool) → (u ≡ true → v ≡ true) → option_map_or (λ x. x.ending) o u ≡ true → option_map_or (λ x. x.ending) o v ≡ true
-    over_on o u v up h = grind arith
 
 -- the laws of every run
 run_goes : (c : ℕ) (s t : ServerState) (es : List Event) (os : List Outcome) → Run s es os t → IsLawful s → Progress (presence c s) (answers c s es os) (taken c s es os) (asked c s es os) (executed c s es os) (presence c t)

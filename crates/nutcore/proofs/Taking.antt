@@ -13,7 +13,7 @@ use Rattle.nutcore.proofs.Bounded.{IsMeasured, measures}
 use Rattle.nutcore.proofs.Changed.{by_change}
 use Rattle.nutcore.proofs.Costs.{took_some, took_none}
 use Rattle.nutcore.proofs.Histories.{of_event_of_client, lines_more, answers_more}
-use Rattle.nutcore.proofs.Least.{HasStopped, absent_stops, pump_idle, pump_ended}
+use Rattle.nutcore.proofs.Least.{HasStopped, no_session, pump_idle, pump_ended}
 use Rattle.nutcore.proofs.Pumping.{put_same}
 use Rattle.nutcore.specs.Taking.{enough_takes, GetsEverything, WhoTakesGetsEverything}
 
@@ -37,9 +37,6 @@ done_then k c s = of_client c (executions_in_event s (some_taken k c s) (outcome
 pub all_is_ring : (c : ℕ) (s : ServerState) → size RING_LIMIT c s ≡ length (offered (session c s))
 all_is_ring c s = omega (arith, length-take RING_LIMIT (owed c s))
 
-there_is_memory : (o : Option SessionState) (n : ℕ) (b : Bool) → refused_after (took_by o n b) ≡ None
-there_is_memory o n b = grind arith
-
 -- nothing is left: then it stays so
 pub record HasNothingLeft (c : ℕ) (s : ServerState) : Type 0 where
   pub none : owed c s ≡ []
@@ -54,7 +51,7 @@ pub record IsTake (k c : ℕ) (s t : ServerState) (done : List Execution) : Type
 module _ (k c : ℕ) where
   then_is : (s : ServerState) → server_then k c s ≡ cond (may_take (session c s) (size k c s)) (pumped (without_output s c (size k c s)) c) s
   unfolding after_by pumped_until outcome_of
-  then_is s = ap (after_by s (some_taken k c s)) (there_is_memory (session c s) (size k c s) _)
+  then_is s = let memory : refused_after (outcome_then k c s) ≡ None = grind arith in ap (after_by s (some_taken k c s)) memory
 
   -- of a client that isn't open there is nothing to take
   none_there : (o : Option SessionState) → may_take o (min k (length (offered o))) ≡ false → (o ≡ None) × (0 ≡ min k (length (offered o)))
@@ -72,36 +69,31 @@ module _ (k c : ℕ) where
   one_take s =
       let n : ℕ = size k c s in
       let is = of_event_of_client IsMeasured measures c s (some_taken k c s) (refused_after (outcome_then k c s)) in
-      let holds = is.holds in
-      let owes = is.owes in
       record {
         ended = subst (λ (z : ServerState). HasStopped z c) (sym (then_is s)) (cond_both (may_take (session c s) n) (pumped (without_output s c n) c) s (λ z. HasStopped z c)
-            (λ may. pump_ended (without_output s c n) c) (λ never. absent_stops s c (none_there (session c s) never).0));
-        moved = omega (arith, owes, some_is_taken s);
-        fewer = omega (arith, holds);
+            (λ may. pump_ended (without_output s c n) c) (λ never. rw (none_there (session c s) never).0 no_session));
+        moved = omega (arith, is.owes, some_is_taken s);
+        fewer = omega (arith, is.holds);
       }
 
   -- it moves k bytes, or executes something, which counts as much, or leaves nothing owed
   pub take_does : k ≤ RING_LIMIT → (s t : ServerState) (done : List Execution) → IsTake k c s t done → (length (owed c t) + k ≤ length (owed c s) + length (texts_of done) + length done * k) ⊎ (owed c t ≡ [])
-  take_does few s t (x ∷ done) is = inl (let moved = is.moved in omega (arith, moved, add-mul 1 (length done) k))
-  take_does few s t [] is = let moved = is.moved in elim (cases_lt (length (offered (session c s))) k) [
-    | inl less ↦ inr (nil_from_length (owed c t) (omega (arith, moved, less, few, length-take RING_LIMIT (owed c s))))
-    | inr full ↦ inl (omega (arith, moved, full))
+  take_does few s t (x ∷ done) is = inl (omega (arith, is.moved, add-mul 1 (length done) k))
+  take_does few s t [] is = elim (cases_lt (length (offered (session c s))) k) [
+    | inl less ↦ inr (nil_from_length (owed c t) (omega (arith, is.moved, less, few, length-take RING_LIMIT (owed c s))))
+    | inr full ↦ inl (omega (arith, is.moved, full))
   ]
 
-  -- where nothing is left, a take leaves it so
-  pub idle_take : (s : ServerState) → HasNothingLeft c s → server_then k c s ≡ s
+  -- to take nothing changes nothing; so where nothing is left, a take leaves it so
+  none_taken : (s : ServerState) → without_output s c 0 ≡ s
   unfolding without_output
-  idle_take s h = then_is s ∙ cond_both (may_take (session c s) n) (pumped (without_output s c n) c) s (λ z. z ≡ s) (λ may. ap (λ (z : ServerState). pumped z c) same ∙ pump_idle s c h.ended) (λ never. refl)
-    where
-      n : ℕ
-      n = size k c s
+  none_taken s = by_change (λ t. t ≡ s) (taken_from 0) c s (λ x e. put_same s c x e) (λ e. refl)
 
-      none : n ≡ 0
-      none = let e : length (offered (session c s)) ≡ 0 = ap (λ (bytes : List ℕ). length (take RING_LIMIT bytes)) h.none in omega (arith, e)
-
-      same : without_output s c n ≡ s
-      same = by_change (λ t. t ≡ s) (taken_from n) c s (λ x e. ap (with_session s) (subst (λ (j : ℕ). taken_from j x ≡ x) (sym none) refl) ∙ put_same s c x e) (λ e. refl)
+  pub idle_take : (s : ServerState) → HasNothingLeft c s → server_then k c s ≡ s
+  idle_take s h =
+      let none : size k c s ≡ 0 = omega (arith, ap (λ (bytes : List ℕ). length (take RING_LIMIT bytes)) h.none) in
+      then_is s ∙ ap (λ (n : ℕ). cond (may_take (session c s) n) (pumped (without_output s c n) c) s) none
+      ∙ cond_both (may_take (session c s) 0) (pumped (without_output s c 0) c) s (λ z. z ≡ s) (λ may. ap (λ (z : ServerState). pumped z c) (none_taken s) ∙ pump_idle s c h.ended) (λ never. refl)
 
 -- a take, and those after it
 one_more : (s : ServerState) (c : ℕ) (rest : GetsEverything c (server_then RING_LIMIT c s)) → suc (length rest.events) ≤ enough_takes c s (some_taken RING_LIMIT c s ∷ rest.events) (outcome_then RING_LIMIT c s ∷ rest.outcomes) → GetsEverything c s
@@ -114,10 +106,7 @@ one_more s c rest few = record {
   nothing_owed = rest.nothing_owed;
   nothing_left = rest.nothing_left;
   few = few;
-  lines =
-      let now = (one_take RING_LIMIT c s).fewer in
-      let later = rest.lines in
-      omega (arith, now, later, lines_more c (executions_in_event s (some_taken RING_LIMIT c s) (outcome_then RING_LIMIT c s)) (executions (server_then RING_LIMIT c s) rest.events rest.outcomes));
+  lines = omega (arith, (one_take RING_LIMIT c s).fewer, rest.lines, lines_more c (executions_in_event s (some_taken RING_LIMIT c s) (outcome_then RING_LIMIT c s)) (executions (server_then RING_LIMIT c s) rest.events rest.outcomes));
 }
 
 -- less is held, or as much is held and less is owed, after each but the last
@@ -128,16 +117,14 @@ nearer (suc h) (suc w) c s holds owes =
     let t : ServerState = server_then RING_LIMIT c s in
     let done : List Execution = done_then RING_LIMIT c s in
     let is = one_take RING_LIMIT c s in
-    let fewer = is.fewer in
     elim (take_does RING_LIMIT c (omega arith) s t done is) [
       | inl counts ↦ (let rest : GetsEverything c t = elim (cases_lt 0 (length done)) [
-        | inl some ↦ nearer h (suc (length (owed c t))) c t (omega (arith, holds, fewer, some)) (omega arith)
-        | inr none ↦ (let no_text = ap (λ (xs : List Execution). length (texts_of xs)) (nil_from_length done (omega (arith, none))) in nearer (suc h) w c t (omega (arith, holds, fewer)) (omega (arith, owes, counts, none, no_text)))
+        | inl some ↦ nearer h (suc (length (owed c t))) c t (omega (arith, holds, is.fewer, some)) (omega arith)
+        | inr none ↦ (let no_text = ap (λ (xs : List Execution). length (texts_of xs)) (nil_from_length done (omega (arith, none))) in nearer (suc h) w c t (omega (arith, holds, is.fewer)) (omega (arith, owes, counts, none, no_text)))
       ] in
-          let few = rest.few in
           let now : List Execution = executions_in_event s (some_taken RING_LIMIT c s) (outcome_then RING_LIMIT c s) in
           let later : List Execution = executions t rest.events rest.outcomes in
-          one_more s c rest (omega (arith, few, counts, answers_more c now later, lines_more c now later)))
+          one_more s c rest (omega (arith, rest.few, counts, answers_more c now later, lines_more c now later)))
       | inr none ↦ one_more s c (record { events = []; outcomes = []; new = t; run = refl; takes = tt; nothing_owed = none; nothing_left = is.ended.stopped; few = omega arith; lines = omega arith }) (omega arith)
     ]
 

@@ -17,7 +17,7 @@ use Rattle.nutcore.specs.Taking.{TakesAmongOthers, is_event_of, events_of, WhoTa
 use Rattle.nutcore.proofs.Events.{of_session_event}
 use Rattle.nutcore.proofs.Histories.{later, lines_more, answers_more, of_its_pump, of_opened}
 use Rattle.nutcore.proofs.Isolation.{own}
-use Rattle.nutcore.proofs.Least.{HasStopped}
+use Rattle.nutcore.proofs.Least.{IsIdle}
 use Rattle.nutcore.proofs.Progress.{Presence}
 use Rattle.nutcore.proofs.Taking.{HasNothingLeft, outcome_then, IsTake, one_take, take_does, idle_take, some_taken, all_is_ring}
 use Rattle.nutcore.specs.TakingSome.{IsTakeOf, TakesSomeAmongOthers, WhoTakesSomeGetsEverything}
@@ -26,14 +26,10 @@ use Rattle.nutcore.specs.TakingSome.{IsTakeOf, TakesSomeAmongOthers, WhoTakesSom
 pub record IsUntouched (old new : Option SessionState) : Type 0 where
   pub owes : owed_of new ≡ owed_of old
   pub holds : held_of new ≡ held_of old
-  pub stops : is_none (option_and_then next_line new) ≡ is_none (option_and_then next_line old)
-  pub long : option_map_or holds_overlong new false ≡ option_map_or holds_overlong old false
+  pub stopped : IsIdle old → IsIdle new
 
 same_session : (old new : Option SessionState) → new ≡ old → IsUntouched old new
-same_session old new e = rw e (record { owes = refl; holds = refl; stops = refl; long = refl })
-
-pub stopped_after : (c : ℕ) (s t : ServerState) → IsUntouched (session c s) (session c t) → HasStopped s c → HasStopped t c
-stopped_after c s t same h = record { stopped = same.stops ∙ h.stopped; short = same.long ∙ h.short }
+same_session old new e = rw e (record { owes = refl; holds = refl; stopped = λ h. h })
 
 -- another's event executes nothing of the client, and leaves what it holds and owes
 pub record IsAnothers (c : ℕ) (s : ServerState) (t : ServerState) (done : List Execution) : Type 0 where
@@ -48,7 +44,7 @@ anothers c s e m =
     (λ address differ. record {
       nothing = refl;
       untouched = of_opened (λ p. IsUntouched (session c s) p.session) c s address m (λ u up. same_session (session c s) (session c s) refl)
-          (λ its away. subst (λ (p : Presence). IsUntouched p.session (Some (new_session s.next_id address))) (sym away) (record { owes = refl; holds = refl; stops = refl; long = refl }));
+          (λ its away. subst (λ (p : Presence). IsUntouched p.session (Some (new_session s.next_id address))) (sym away) (record { owes = refl; holds = refl; stopped = λ h. record { stopped = refl; short = refl } }));
     })
     (λ d piece differ. record { nothing = not_its d (with_input s d piece) differ; untouched = apart (Feed d piece) d refl differ })
     (λ d n differ. record {
@@ -81,7 +77,7 @@ module _ (k : ℕ) (few : k ≤ RING_LIMIT) (c : ℕ) where
   stays_left s t (e ∷ es) (o ∷ os) (mid, step, r) among h =
       stays_left (after s e o) t es os (later t es os step r) among.1 (own_or_not c e
       (λ yes its. as_take s e o (λ e o. HasNothingLeft c (after s e o)) (among.0 its) (subst (HasNothingLeft c) (sym (idle_take k c s h)) h))
-      (λ no other. let same = (anothers c s e (refused_after o) other).untouched in record { none = same.owes ∙ h.none; ended = stopped_after c s (after s e o) same h.ended }))
+      (λ no other. let same = (anothers c s e (refused_after o) other).untouched in record { none = same.owes ∙ h.none; ended = same.stopped h.ended }))
   stays_left s t es os r among h = absurd r
 
   -- so many takes are enough
@@ -95,7 +91,6 @@ module _ (k : ℕ) (few : k ≤ RING_LIMIT) (c : ℕ) where
       let next : ServerState = after s e o in
       let run = later t es os step r in
       let rest = served_run next t es os run among.1 in
-      let behind = rest.lines in
       let done : List Execution = of_client c (executions_in_event s e o) in
       let texts = answers_more c (executions_in_event s e o) (executions next es os) in
       let lines = lines_more c (executions_in_event s e o) (executions next es os) in
@@ -103,10 +98,9 @@ module _ (k : ℕ) (few : k ≤ RING_LIMIT) (c : ℕ) where
       own_or_not c e
       (λ yes its.
       let is = as_take s e o (λ e o. IsTake k c s (after s e o) (of_client c (executions_in_event s e o))) (among.0 its) (one_take k c s) in
-      let fewer = is.fewer in
       let events : events_of c (e ∷ es) * k ≡ suc (events_of c es) * k = ap (λ (b : Bool). length (cond b (e ∷ filter (is_event_of c) es) (filter (is_event_of c) es)) * k) yes in
       record {
-        lines = omega (arith, fewer, behind, lines);
+        lines = omega (arith, is.fewer, rest.lines, lines);
         served = λ enough. elim (take_does k c few s next done is) [
           | inl counts ↦ rest.served (omega (arith, enough, counts, times, texts, events))
           | inr none ↦ (let last = stays_left next t es os run among.1 (record { none = none; ended = is.ended }) in (last.none, last.ended.stopped))
@@ -120,13 +114,12 @@ module _ (k : ℕ) (few : k ≤ RING_LIMIT) (c : ℕ) where
       let no_text = ap (λ (z : List Execution). length (texts_of z)) other.nothing in
       let no_line = ap (λ (z : List Execution). length z * k) other.nothing in
       let events = ap (λ (b : Bool). length (cond b (e ∷ filter (is_event_of c) es) (filter (is_event_of c) es)) * k) no in
-      record { lines = omega (arith, behind, holds, none, lines); served = λ enough. rest.served (omega (arith, enough, owes, texts, no_text, times, no_line, events)) })
+      record { lines = omega (arith, rest.lines, holds, none, lines); served = λ enough. rest.served (omega (arith, enough, owes, texts, no_text, times, no_line, events)) })
   served_run s t es os r among = absurd r
 
 pub takes_some : WhoTakesSomeGetsEverything
 takes_some old new es os c k some few r among enough =
-    let lines = add-mul (lines_done c old es os) 1 k in
-    (served_run k few c old new es os r among).served (omega (arith, enough, some, lines))
+    (served_run k few c old new es os r among).served (omega (arith, enough, some, add-mul (lines_done c old es os) 1 k))
 
 -- all that is offered is a whole ring, or less
 takes_rings : (c : ℕ) (s : ServerState) (es : List Event) (os : List Outcome) → TakesAmongOthers c s es os → TakesSomeAmongOthers RING_LIMIT c s es os

@@ -21,16 +21,12 @@ use Rattle.nutcore.proofs.Changed.{session_put, change_is}
 use Rattle.nutcore.proofs.Changes.{Keeps, keeps}
 use Rattle.nutcore.proofs.Found.{find_id, mapped_put}
 use Rattle.nutcore.proofs.Happenings.{reply_of_seen}
-use Rattle.nutcore.proofs.Least.{empty_stops}
+use Rattle.nutcore.proofs.Least.{IsIdle, empty_idle}
 use Rattle.nutcore.proofs.Loops.{all_lines_are, found_after_line}
 use Rattle.nutcore.proofs.Pumping.{no_notice, change_at}
 use Rattle.nutcore.specs.History.{owed, held}
 use Rattle.std.specs.Option.{option_map_or}
 use Rattle.nutcore.proofs.Places.{rise_none}
-
--- to a session that holds nothing no notice is due
-no_notice_due : (o : Option SessionState) → held_of o ≡ [] → option_map_or holds_overlong o false ≡ false
-no_notice_due o e = grind arith
 
 module _ (s : ServerState) (c : ℕ) (line : List ℕ) (w : IsWaiting c s) (whole : has_lf line ≡ false) (short : length line < LINE_ROOM) where
   abbrev fed : SessionState
@@ -75,8 +71,9 @@ module _ (s : ServerState) (c : ℕ) (line : List ℕ) (w : IsWaiting c s) (whol
   unfolding after_by pumped_until pumped after_lines
   new_is =
       let some : 1 ≤ length (held c begun) = omega (arith, ap (λ (o : Option SessionState). length (held_of o)) begun_has, ap length fed_holds, length-append line (10 ∷ [])) in
-      let all : after_all_lines begun c ≡ done = all_lines_are 1 begun c some (empty_stops (session c done) done_holds) in
-      ap (λ (t : ServerState). after_notice t c) all ∙ no_notice done c (no_notice_due (session c done) done_holds)
+      let idle : IsIdle (session c done) = empty_idle (session c done) done_holds in
+      let all : after_all_lines begun c ≡ done = all_lines_are 1 begun c some idle.stopped in
+      ap (λ (t : ServerState). after_notice t c) all ∙ no_notice done c idle.short
 
 -- a session that was opened
 find_last : (y : SessionState) (xs : List SessionState) → find y.id xs ≡ None → find y.id (xs ++ y ∷ []) ≡ Some y
