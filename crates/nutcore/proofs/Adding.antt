@@ -1,12 +1,12 @@
 -- What a client's lines leave of a UPS: all but a forced shutdown, and what its driver is owed, to which they add.
-use Rattle.std.proofs.Common.{◌≡◌, ◌∙◌, ℕ, zero, suc, Bool, true, false, List, [], ◌∷◌, ◌++◌, Option, Some, None, refl, sym, ap, subst, cond, eqb, length, append_assoc, append-nil}
+use Rattle.std.proofs.Common.{◌≡◌, ◌∙◌, ℕ, zero, suc, Bool, true, false, List, [], ◌∷◌, ◌++◌, Option, Some, None, refl, sym, ap, cond, eqb, length, append_assoc, append-nil}
 use Rattle.std.specs.List.{flat_map}
-use Rattle.nutcore.proofs.Common.{slice_get, cond_both, flat_map-append, UpsId, Change, Event, SessionState, ServerState, session, ups_at, with_session_changed}
+use Rattle.nutcore.proofs.Common.{slice_get, flat_map-append, UpsId, Change, Event, SessionState, ServerState, session, ups_at, with_session_changed}
 use Rattle.nutcore.specs.Ups.{UpsState, with_fsd, with_order}
 use Rattle.nutcore.specs.Reply.{changed_upses}
-use Rattle.nutcore.specs.Pump.{next_line_for, after_line, after_lines, after_all_lines, after_notice, is_overlong, with_notice, pumped, held_of}
+use Rattle.nutcore.specs.Pump.{next_line_for, after_line, after_lines, after_all_lines, after_notice, with_notice, pumped, held_of}
 use Rattle.nutcore.specs.Step.{taken_from, without_output, pumped_until}
-use Rattle.nutcore.specs.History.{of_notice, next_execution, lines_executed, notice, pump_executions, executions_until}
+use Rattle.nutcore.specs.History.{next_execution, lines_executed, notice, pump_executions, executions_until}
 use Rattle.nutcore.specs.Isolation.{without_commands}
 use Rattle.nutcore.specs.DriverOrders.{Telling, order, texts_of, told_by_change, told_by_line}
 use Rattle.nutcore.proofs.Changed.{by_change}

@@ -5,13 +5,9 @@ use Rattle.nutwords.specs.Reading.{is_address}
 use Rattle.nutusers.specs.UpsList.{Ups}
 use Rattle.nutcore.specs.Session.{SessionState, new_session}
 use Rattle.nutcore.proofs.Common.{ServerState}
-use Rattle.nutcore.specs.Reply.{reply}
-use Rattle.nutcore.specs.Pump.{answered}
 use Rattle.nutcore.specs.ReadsBack.{HasLawfulAddress}
 use Rattle.nutcore.specs.Sound.{Each}
 use Rattle.nutcore.specs.Addresses.{ANewServerHasLawfulAddresses, EveryRunKeepsAddressesLawful, EveryRunKeepsTheList}
-use Rattle.nutcore.proofs.Changes.{keeps}
-use Rattle.nutcore.proofs.Pumping.{change_at}
 use Rattle.nutcore.proofs.Kept.{IsKept, IsAny, any_event, by_run, kept_apart}
 use Rattle.nutcore.proofs.Sound.{each_put, each_without, each_found}
 use Rattle.nutcore.proofs.SoundUps.{each_last}

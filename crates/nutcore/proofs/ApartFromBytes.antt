@@ -1,10 +1,9 @@
 -- Sessions, and the server, but for the bytes that sessions hold and are owed.
-use Rattle.std.proofs.Common.{◌≡◌, ◌∙◌, ◌+◌, ℕ, Bool, true, false, List, [], ◌∷◌, ◌++◌, Option, Some, None, refl, sym, ap, cond, ltb, ◌&&◌, ◌^◌, map, arith}
+use Rattle.std.proofs.Common.{◌≡◌, ℕ, List, [], ◌∷◌, Option, Some, None, refl, map, arith}
 use Rattle.std.specs.Prelude.{option_map}
 use Rattle.nutcore.proofs.Common.{length-map, SessionState, ServerState}
-use Rattle.nutlisting.specs.declared.listing.clients.TheConstants.{SESSION_LIMIT}
 use Rattle.nutcore.specs.Session.{find, put, without, new_session}
-use Rattle.nutcore.specs.Step.{may_open, opened}
+use Rattle.nutcore.specs.Step.{opened}
 use Rattle.nutcore.specs.Happenings.{without_bytes, apart_from_bytes}
 use Rattle.std.proofs.lemmas.List.{map-append}
 use Rattle.std.proofs.lemmas.Grind.{common_steps}

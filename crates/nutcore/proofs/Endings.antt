@@ -1,14 +1,14 @@
 -- What is over stays over, and what ticks and newcomers leave as it is.
-use Rattle.std.proofs.Common.{◌≡◌, ◌≤◌, ◌+◌, ◌∙◌, ℕ, true, List, [], ◌∷◌, ◌++◌, Option, Some, None, IfSome, refl, sym, ap, subst, cond, eqb, inl, inr, arith, append-nil}
+use Rattle.std.proofs.Common.{◌≡◌, ◌≤◌, ◌+◌, ◌∙◌, ℕ, true, List, [], ◌∷◌, ◌++◌, Option, Some, None, IfSome, refl, sym, ap, subst, inl, inr, arith, append-nil}
 use Rattle.std.proofs.lemmas.Bool.Decides.{nat_tests}
 use Rattle.nutcore.proofs.Common.{never_both, cond_both, Event, Outcome, SessionState, ServerState, session, after, Run}
 use Rattle.nutcore.specs.declared.event.Event.TheVariants.{Open}
 use Rattle.nutcore.specs.declared.event.Outcome.TheVariants.{Opened, Refused}
 use Rattle.nutcore.specs.declared.event.Fault.TheVariants.{TooManyClients}
 use Rattle.nutcore.specs.Session.{new_session}
-use Rattle.nutcore.specs.Pump.{after_notice, holds_overlong}
-use Rattle.nutcore.specs.Step.{with_input, without_output, may_open, opened, ticked, after_by, refused_after, outcome_of, MayAnswer}
-use Rattle.nutcore.specs.History.{Execution, of_line, of_notice, executions, of_client, texts_of, owed, is_over}
+use Rattle.nutcore.specs.Pump.{holds_overlong}
+use Rattle.nutcore.specs.Step.{may_open, opened, ticked, after_by, refused_after, outcome_of, MayAnswer}
+use Rattle.nutcore.specs.History.{Execution, executions, of_client, texts_of, owed, is_over}
 use Rattle.nutcore.specs.Headline.{IsLawful}
 use Rattle.nutcore.specs.Addresses.{opened_from}
 use Rattle.nutcore.specs.Endings.{WhoIsOverIsAskedNoMore, id_given, ids_given, RiseFrom, IdsThatAreGivenRise, AGrantedShutdownIsSet, ATickTouchesNoSession, LeavesOlderSessions, AnOpeningTouchesNoOther}
@@ -20,7 +20,6 @@ use Rattle.std.proofs.lemmas.Bool.{false≢true}
 use Rattle.nutcore.proofs.Kept.{IsAny, any_address, by_event, ids_kept}
 use Rattle.nutcore.proofs.ShutdownMarks.{AnySets, any_of, stays_set}
 use Rattle.nutcore.proofs.Lasting.{IsThere}
-use Rattle.nutcore.proofs.Pumping.{is_next, overlong_there, notice_there}
 use Rattle.nutcore.proofs.Stepping.{run_sent}
 
 -- a session that is ending goes on ending

@@ -8,12 +8,11 @@ use Rattle.nutcore.specs.Step.{with_input, without_output, may_take, may_open, a
 use Rattle.nutcore.specs.Isolation.{client_of, ups_of, is_harmless}
 use Rattle.nutcore.specs.History.{Execution, executions_until, executions_by, taken_in_event, asked_in_event}
 use Rattle.nutcore.specs.Cost.{cost_of, no_cost}
-use Rattle.nutcore.specs.DriverHistory.{has_driver, Heard, heard_at, as_far, came_in_event, heard_in_event}
+use Rattle.nutcore.specs.DriverHistory.{has_driver, came_in_event, heard_in_event}
 use Rattle.nutcore.specs.DriverOrders as telling
 use Rattle.nutcore.specs.DriverOrders.{Telling, dump_all, ping, told_beside_lines, moment_of, told_in_event, texts_of}
 use Rattle.nutcore.proofs.DriverText.{ups_after_bytes, changed_both, lines_read, bytes_change}
 use Rattle.nutcore.specs.Pump.{after_all_lines, is_overlong, pumped}
-use Rattle.nutcore.specs.Lines.{whole_lines}
 use Rattle.nutcore.proofs.Changed.{input_absent, of_opened}
 use Rattle.nutcore.proofs.UpsPlaces.{Stands, of_place, server_same}
 use Rattle.nutcore.proofs.DriverChanges.{Does, stays_so, bytes_do, lost, unconnected, goes_on}

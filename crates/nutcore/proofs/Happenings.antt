@@ -1,11 +1,11 @@
 -- Answers come of what happens, and not of bytes that come and go.
-use Rattle.std.proofs.Common.{arith, ◌≡◌, ◌∙◌, ℕ, Bool, true, false, List, [], ◌∷◌, ◌++◌, Option, Some, refl, sym, ap, subst, cond, eqb, map, append_assoc, append-nil}
+use Rattle.std.proofs.Common.{arith, ◌≡◌, ◌∙◌, ℕ, true, false, List, [], ◌∷◌, ◌++◌, Option, Some, refl, sym, ap, subst, cond, eqb, map, append_assoc, append-nil}
 use Rattle.std.specs.Prelude.{option_map}
 use Rattle.nutcore.proofs.Common.{Change, Event, Outcome, SessionState, ServerState, session, with_session_changed, after, Run}
 use Rattle.nutanswer.specs.View.{Seen, ClientSeen}
 use Rattle.nutcore.specs.declared.event.Event.TheVariants.{Feed, Took}
 use Rattle.nutcore.specs.Session.{find, begin_ending}
-use Rattle.nutcore.specs.Reply.{seen, seen_client, asker_of, reply, changed, changed_session, changed_upses, changed_tracking, after_change, too_long_notice}
+use Rattle.nutcore.specs.Reply.{seen, seen_client, reply, changed_session, after_change, too_long_notice}
 use Rattle.nutcore.specs.Pump.{next_line_for, answered, after_line, is_overlong, notified}
 use Rattle.nutcore.specs.Step.{joined, with_input, taken_from, without_output, may_take, pumped_until, after_by, refused_after}
 use Rattle.nutcore.specs.History.{Execution, of_line, of_notice, client_of, text_of, executions_until, executions_by, executions, of_client, texts_of, answers}
@@ -14,7 +14,7 @@ use Rattle.nutcore.proofs.Changed.{by_change, change_is}
 use Rattle.nutcore.proofs.Events.{core_event}
 use Rattle.nutcore.proofs.Found.{find_id, mapped_put}
 use Rattle.nutcore.proofs.Histories.{IsOfPump, until_keeps, two_lists, later}
-use Rattle.nutcore.proofs.Pumping.{is_next, after_line_is, change_at, changed_is, line_done, session_after, overlong_there}
+use Rattle.nutcore.proofs.Pumping.{is_next, after_line_is, change_at, changed_is, overlong_there}
 use Rattle.nutcore.proofs.ApartFromBytes.{found_without, put_without}
 use Rattle.std.proofs.lemmas.List.{map-append}
 use Rattle.std.proofs.lemmas.List.Sums.{fold-append}

@@ -4,7 +4,7 @@ use Rattle.nutcore.proofs.Common.{cond_both, same_Some, UpsId, TrackingState, Ch
 use Rattle.nutcore.specs.declared.event.Event.TheVariants.{Feed, Took, Close}
 use Rattle.nutcore.specs.declared.event.Outcome.TheVariants.{Refused}
 use Rattle.nuttracking.specs.declared.order.TrackedOrder.{TrackedOrder}
-use Rattle.nuttracking.specs.Tracking.{settled, nothing_tracked}
+use Rattle.nuttracking.specs.Tracking.{settled}
 use Rattle.nutcore.specs.Reports.{OrderEnd, end_in, with_end}
 use Rattle.nutcore.specs.Session.{SessionState}
 use Rattle.nutcore.specs.Ups.{UpsState, with_fsd, with_order}
@@ -21,7 +21,7 @@ use Rattle.nutcore.proofs.Costs.{refused_feed_costs, refused_take_costs}
 use Rattle.nutcore.proofs.Found.{find_without_other}
 use Rattle.nutcore.proofs.Kept.{IsPumped, by_lines, by_feed, by_take, of_ends}
 use Rattle.nutcore.proofs.Progress.{Presence}
-use Rattle.nutcore.proofs.Pumping.{is_next, after_line_is, change_at}
+use Rattle.nutcore.proofs.Pumping.{is_next, after_line_is}
 use Rattle.nutcore.proofs.Stepping.{until_other, input_other, output_other}
 use Rattle.nutcore.proofs.UpsPlaces.{other_ups}
 

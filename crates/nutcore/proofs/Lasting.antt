@@ -7,11 +7,9 @@ use Rattle.nutanswer.specs.declared.reply.Change.TheVariants as changes
 use Rattle.nutcore.specs.Lasting.{Lasts, IsEnding, WhatNeverGoesBack}
 use Rattle.nutcore.specs.Reply.{reply, asker_of}
 use Rattle.nutcore.specs.Pump.{answered, notified, holds_overlong}
-use Rattle.nutcore.specs.Session.{SessionState, find, put, without, new_session}
+use Rattle.nutcore.specs.Session.{SessionState}
 use Rattle.nutcore.specs.Server.{ServerState, session}
-use Rattle.nutcore.proofs.Changed.{session_put}
 use Rattle.nutcore.proofs.Changes.{keeps}
-use Rattle.nutcore.proofs.Found.{find_id, find_put_other, find_without, find_without_other, of_pushed}
 use Rattle.nutcore.proofs.Kept.{IsAny, any_event, by_run, ids_kept}
 use Rattle.nutcore.proofs.Histories.{IsOfClient, of_run_of_client}
 use Rattle.nutcore.proofs.Progress.{Presence}

@@ -24,24 +24,17 @@ use Rattle.nutcore.proofs.Pumping.{is_next, after_line_is, change_at}
 use Rattle.nutcore.proofs.Rows.{comes_of_line, by_right}
 use Rattle.nutcore.proofs.Events.{IsPlain, OfDrivers, of_parts}
 use Rattle.nutcore.proofs.Marks.{IsMark, told_after}
-use Rattle.std.specs.Prelude.{codes}
-use Rattle.std.specs.Option.{ok_or}
 use Rattle.nutanswer.specs.declared.command.Command.TheVariants.{Fsd}
-use Rattle.nutanswer.specs.declared.err_word.ErrWord.{ErrWord}
-use Rattle.nutanswer.specs.declared.err_word.ErrWord.TheVariants.{UnknownUps, UsernameRequired, PasswordRequired, AccessDenied}
-use Rattle.nutanswer.specs.Checks.{◌>>=◌, ◌>>◌, KnownUps, unless, user, unknown_ups}
-use Rattle.nutanswer.specs.Answer.{one_line, change_of_answer}
 use Rattle.nutanswer.proofs.PublicLaws.{a_named_ups_is_seen}
-use Rattle.nutusers.specs.Users.{may}
 use Rattle.nutusers.specs.declared.rights.Right.TheVariants as rights
-use Rattle.nutcore.specs.Reply.{seen, seen_ups, asker, change_by}
+use Rattle.nutcore.specs.Reply.{seen, seen_ups}
 use Rattle.nutcore.specs.ByRight.{IsByRight}
 use Rattle.nutcore.specs.History.{executions}
 use Rattle.nutcore.proofs.FreshRuns.{mapped_at}
 use Rattle.nutcore.proofs.Histories.{IsOfEvents, run_keeps}
 use Rattle.nutcore.proofs.UpsPlaces.{at_changed}
 use Rattle.nutcore.proofs.Common.{Outcome, Run}
-use Rattle.std.proofs.Common.{◌⊎◌, Result, Ok}
+use Rattle.std.proofs.Common.{◌⊎◌}
 
 -- the forced shutdown of the UPS at a place
 abbrev fsd_at : ℕ → List UpsState → Bool

@@ -1,11 +1,6 @@
-use Rattle.std.proofs.Common.{◌≡◌, ◌∙◌, ℕ, List, Result, None, sym, ap, subst, length, rules}
-use Rattle.std.specs.List.Sorted.{IsSearchInRange, IsBinarySearchResult}
-use Rattle.std.specs.Ordering.{nat_cmp}
-use Rattle.std.specs.Prelude.{MatchResult}
-use Rattle.nutcore.proofs.Common.{Fault, SessionState, ServerState}
-use Rattle.nutcore.specs.declared.event.Fault.TheVariants.{NoSuchClient}
-use Rattle.nutcore.specs.Session.{IdsRise, find}
-use Rattle.nutcore.specs.Promises.{IsAt}
+use Rattle.std.proofs.Common.{◌≡◌, ◌∙◌, List, ap, subst, rules}
+use Rattle.nutcore.proofs.Common.{SessionState, ServerState}
+use Rattle.nutcore.specs.Session.{IdsRise}
 use Rattle.nutcore.proofs.Runs.{lawful, state_is}
 use Rattle.nutcore.proofs.Places.{searched, place_found}
 use Rattle.std.proofs.lemmas.List.Sorted.{answers_always}

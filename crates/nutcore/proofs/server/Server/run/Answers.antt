@@ -1,8 +1,7 @@
-use Rattle.std.proofs.Common.{◌≡◌, ◌+◌, ◌<◌, ◌∙◌, ◌++◌, ◌∷◌, [], List, sym, ap, subst, length, take, arith, vec_len}
+use Rattle.std.proofs.Common.{◌≡◌, ◌+◌, ◌<◌, ◌∙◌, ◌++◌, ◌∷◌, [], sym, ap, subst, length, take, arith, vec_len}
 use Rattle.std.proofs.lemmas.List.{take_more, take_all}
-use Rattle.nutcore.proofs.Common.{Event, Outcome, ServerState, Run}
+use Rattle.nutcore.proofs.Common.{Event, ServerState}
 use Rattle.nutcore.specs.Session.{IdsRise}
-use Rattle.nutcore.specs.Cost.{last_cost}
 use Rattle.nutcore.proofs.Runs.{run_push, cost_push, lawful, state_is}
 use Rattle.nutcore.proofs.Stepping.{run_sent, run_taken_up}
 use Rattle.nutcore.proofs.server.Server.run.Goals as goal

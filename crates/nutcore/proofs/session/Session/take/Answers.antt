@@ -1,8 +1,7 @@
-use Rattle.std.proofs.Common.{◌≡◌, ◌≤◌, ◌-◌, ◌∙◌, List, ℕ, ap, sym, subst, arith, length, take}
+use Rattle.std.proofs.Common.{◌≡◌, ◌≤◌, ◌∙◌, List, ℕ, ap, sym, arith, length, take}
 use Rattle.nutlisting.specs.declared.ring.TheConstants.{RING_LIMIT}
 use Rattle.nutlisting.specs.Owed.{owed}
 use Rattle.nutcore.specs.Session.{SessionState}
-use Rattle.nutcore.specs.Promises.{IsCounted}
 use Rattle.nutcore.proofs.Costs.{taken_counted}
 use Rattle.nutcore.proofs.session.Session.take.Goals as goal
 
