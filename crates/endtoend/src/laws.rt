@@ -16,6 +16,7 @@ use nutcore::laws::{
 };
 
 /// What is written as a listing is read as the reply of its items, in their order, whatever stands after it.
+#[tactic(auto, using(crate::proofs::FrameReading::frame_read))]
 pub fn a_frame_is_read_as_its_items()
     ensures { AFrameIsReadAsItsItems }
 {}
@@ -30,6 +31,7 @@ pub fn upsc_prints_the_variables()
 }
 
 /// `upsc UPS VAR`: what is printed of the server's answer to `GET VAR` is the variable's value, as clients see it.
+#[tactic(auto, using(crate::proofs::Printing::prints_variable))]
 pub fn upsc_prints_the_variable()
     ensures { UpscPrintsTheVariable }
 {}
@@ -50,12 +52,14 @@ pub fn upsc_prints_the_upses()
 
 /// `upsrw UPS`: what is printed of the server's answer to `LIST RW` is exactly one line `name=value` for each variable of
 /// the UPS that may be set, in the order of the names.
+#[tactic(auto, using(crate::proofs::Printing::prints_settings))]
 pub fn upsrw_prints_the_variables()
     ensures { UpsrwPrintsTheVariables }
 {}
 
 /// `upscmd -l UPS`: what is printed of the server's answer to `LIST CMD` is exactly one line for each command of the UPS,
 /// in the order of the names.
+#[tactic(auto, using(crate::proofs::Printing::prints_commands))]
 pub fn upscmd_prints_the_commands()
     ensures { UpscmdPrintsTheCommands }
 {}
@@ -63,6 +67,7 @@ pub fn upscmd_prints_the_commands()
 /// `upsc --tracked ID UPS`: what is printed of the server's answer to `GET TRACKING` and an id is how far the order of that id
 /// has come, where the order is kept: `PENDING`, `SUCCESS`, or `FAILED` and the driver's number. Where none that is kept has
 /// the id, nothing is printed, and the job ends with `INVALID-ARGUMENT`.
+#[tactic(auto, using(crate::proofs::Progress::prints_progress))]
 pub fn upsc_prints_how_far_an_order_has_come()
     ensures { UpscPrintsHowFarAnOrderHasCome }
 {}
@@ -84,6 +89,7 @@ pub fn upsc_prints_what_the_driver_set_last()
 /// A refusal is told: where the server answers a request of a job by `ERR` and a word, whichever of `upsc`, `upsrw` and
 /// `upscmd` asks, nothing is printed, and the job ends with that word; where it answers a user name, a password,
 /// `SET TRACKING ON` or an order without an id by `OK`, the next request decides.
+#[tactic(auto, using(crate::proofs::Refused::refusal_told))]
 pub fn a_refusal_is_told()
     ensures { ARefusalIsTold }
 {}

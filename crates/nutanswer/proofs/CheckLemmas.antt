@@ -35,9 +35,8 @@ has_right s asker right e = by_given asker.username asker.password refl refl e
   where
     by_given : (name password : Option (List ℕ)) → asker.username ≡ name → asker.password ≡ password
         → (ok_or name UsernameRequired >>= (λ n. ok_or password PasswordRequired >>= (λ p. access_denied s n p right))) ≡ Ok tt → HasRight s asker right
-    by_given None password f g h = cc h
-    by_given (Some n) None f g h = cc h
     by_given (Some n) (Some p) f g h = record { name = n; password = p; username_given = f; password_given = g; granted = unless_ok (may s.users n p right) AccessDenied h }
+    by_given name password f g h = cc h
 
 -- what holds of each refusal, and of what the checks let through, holds of the row
 module _ (P : Result Answer ErrWord → Type 0) (no : (word : ErrWord) → P (Err word)) where

@@ -1,5 +1,5 @@
 -- What is proved of each command, a case each: what its row says, what it tells is fresh, and that what is read for it is lawful.
-use Rattle.std.proofs.Common.{◌≡◌, ◌≤◌, ℕ, Bool, true, List, [], ◌∷◌, Option, Some, None, Result, Ok, Err, refl, sym, ◌∙◌, ap, ◌&&◌, length, inl, inr, arith}
+use Rattle.std.proofs.Common.{◌≡◌, ◌≤◌, ℕ, Bool, true, List, [], ◌∷◌, Option, Some, None, Result, Ok, Err, refl, ap, ◌&&◌, length, inl, inr, arith}
 use Rattle.std.specs.Prelude.{codes, IsTrue, ◌||◌}
 use Rattle.std.proofs.lemmas.Bool.{leb-true}
 use Rattle.nutwords.specs.Frame.{line_of}
@@ -20,7 +20,6 @@ use Rattle.nutanswer.specs.Checks.{◌>>=◌, ◌>>◌, KnownUps, ups_named, use
 use Rattle.nutanswer.specs.Orders.{is_short_enough, is_listed, is_in_ranges, right_to, set_line, instcmd_line, order, ok_words, instcmd_right}
 use Rattle.nutanswer.specs.Answer.{Answer, one_line, ok, answer_to, change_of_answer, text_of_answer}
 use Rattle.nutanswer.specs.Rows.{HasRight, value_given, IsIdOfOrder, EachChangeComesOfItsCommand, EachOrderAnsweredOkIsGiven}
-use Rattle.nutanswer.specs.declared.reply.Change.TheVariants.{Nothing}
 use Rattle.nutanswer.specs.Laws.{OnlyOkChanges, RefusedLinesChangeNothing, EachAnswerIsALineOrAListing}
 use Rattle.nutanswer.specs.Fresh.{WhatIsToldIsFresh}
 use Rattle.nutwords.specs.declared.faults.BadLine.{BadLine}
@@ -39,8 +38,12 @@ use Rattle.nutanswer.proofs.CheckLemmas as checks
 use Rattle.nutanswer.proofs.CheckLemmas.{unless_ok, none_given, both_true, has_right}
 use Rattle.nutanswer.proofs.Fresh as fresh
 use Rattle.nutanswer.proofs.LawfulWords.{IsLawfulResult, none_lawful, one_lawful, with_lawful, alone_lawful, either_lawful, ups_lawful, set_words, instcmd_words, ups_words, two_words}
-use Rattle.nutanswer.proofs.Plain.{quoted_plain, shown_plain, type_plain, progress_plain}
-use Rattle.nutanswer.proofs.Shapes.{IsLawfulEntry, listing_shaped, items_of, line_shaped, ok_shaped, id_plain, on_or_off_plain, progress_found, entry_item, command_inside, enum_inside, range_inside, ups_inside, client_inside, text_plain, name_found, lawful_known, lawful_found, variables_of, count_plain, lawful_clients}
+use Rattle.nutanswer.proofs.Plain.{quoted_plain, type_plain, progress_plain}
+use Rattle.nutlisting.specs.Lawful.{IsSoundEntry}
+use Rattle.nutlisting.proofs.PublicLaws.{ids_are_lawful, texts_are_lawful}
+use Rattle.nutlisting.specs.declared.lines.shown.TheConstants.{SHOWN_LIMIT}
+use Rattle.nutwords.specs.declared.limits.TheConstants.{VALUE_LIMIT}
+use Rattle.nutanswer.proofs.Shapes.{listing_shaped, items_of, line_shaped, ok_shaped, on_or_off_plain, progress_found, entry_item, command_inside, enum_inside, range_inside, ups_inside, client_inside, text_lawful, name_found, lawful_known, lawful_found, variables_of, count_plain, lawful_clients}
 use Rattle.nutanswer.proofs.TableRows.{IsRow, refused, tells, lists, lists_clients, does, orders, held, found, of_ups, of_usable, of_variable}
 
 -- SET VAR and INSTCMD, where their checks hold: what holds of each refusal, and of what the checks let through, holds of the row
@@ -138,36 +141,36 @@ module _ (s : Seen) (asker : AskerSeen) where
   row (GetVar ups name) =
       of_variable ups name (λ u v named is. tells _ refl (λ seen h.
       let f = lawful_found s seen ups name u v h named is in
-      (refl, (f.ups.name, (f.name, (quoted_plain (shown u.state.fsd v.0 v.1) (shown_plain u.state.fsd v.0 v.1 f.entry.1.value), tt))))))
+      (refl, (f.ups.name, (f.name, (quoted_plain SHOWN_LIMIT (shown u.state.fsd v.0 v.1) (texts_are_lawful.shown u.state.fsd v.0 v.1 f.entry.1.value), tt))))))
   row (GetType ups name) =
       of_variable ups name (λ u v named is. tells _ refl (λ seen h.
       let f = lawful_found s seen ups name u v h named is in
       (refl, (f.ups.name, (f.name, type_plain v.1 f.entry.1.aux)))))
   row (GetDesc ups name) =
       of_ups ups (λ u named. found (var_not_lawful name) (λ v is. tells _ refl (λ seen h.
-      (refl, ((lawful_known s seen ups u h.0 named).name, (name_found name VarNotSupported v h.1 is, (quoted_plain (description_of (text_at s.descriptions.vars v)) (text_plain s.descriptions.vars v seen.descriptions.vars), tt)))))))
+      (refl, ((lawful_known s seen ups u h.0 named).name, (name_found name VarNotSupported v h.1 is, (quoted_plain VALUE_LIMIT (description_of (text_at s.descriptions.vars v)) (text_lawful s.descriptions.vars v seen.descriptions.vars), tt)))))))
   row (GetCmdDesc ups name) =
       of_ups ups (λ u named. found (cmd_not_lawful name) (λ c is. tells _ refl (λ seen h.
-      (refl, ((lawful_known s seen ups u h.0 named).name, (name_found name CmdNotSupported c h.1 is, (quoted_plain (description_of (text_at s.descriptions.cmds c)) (text_plain s.descriptions.cmds c seen.descriptions.cmds), tt)))))))
+      (refl, ((lawful_known s seen ups u h.0 named).name, (name_found name CmdNotSupported c h.1 is, (quoted_plain VALUE_LIMIT (description_of (text_at s.descriptions.cmds c)) (text_lawful s.descriptions.cmds c seen.descriptions.cmds), tt)))))))
   row (GetUpsDesc ups) =
       of_ups ups (λ u named. tells _ refl (λ seen h.
       let k = lawful_known s seen ups u h named in
-      (refl, (k.name, (quoted_plain u.description k.description, tt)))))
+      (refl, (k.name, (quoted_plain VALUE_LIMIT u.description k.description, tt)))))
   row (GetNumLogins ups) = of_ups ups (λ u named. tells _ refl (λ seen h. (refl, count_plain s seen ups u h named)))
   row (GetNumAttach ups) = of_ups ups (λ u named. tells _ refl (λ seen h. (refl, count_plain s seen ups u h named)))
   row GetTracking = tells _ refl (λ seen h. (refl, (on_or_off_plain asker.tracking, tt)))
-  row (GetProgress id) = found (unknown_id s id) (λ k is. tells _ refl (λ seen h. (refl, (id_plain k.0, progress_plain k.1 (progress_found s id k seen.numbers is)))))
+  row (GetProgress id) = found (unknown_id s id) (λ k is. tells _ refl (λ seen h. (refl, (ids_are_lawful.lawful k.0, progress_plain k.1 (progress_found s id k seen.numbers is)))))
   row ListUps = lists _ (λ seen h. listing_shaped (codes "UPS") [] _ (refl, tt) (items_of IsLawfulUps ups_item ups_inside s.list seen.list))
   row (ListVar ups) =
       of_usable ups (λ u named. lists _ (λ seen h.
       let k = lawful_known s seen ups u h named in
       listing_shaped (codes "VAR") (u.name ∷ []) _ (refl, (k.name, tt))
-      (items_of IsLawfulEntry (variable_item (codes "VAR") u.name u.state.fsd) (entry_item (codes "VAR") u.name u.state.fsd refl k.name (λ name text. refl)) _ (variables_of s seen u k))))
+      (items_of IsSoundEntry (variable_item (codes "VAR") u.name u.state.fsd) (entry_item (codes "VAR") u.name u.state.fsd refl k.name (λ name text. refl)) _ (variables_of s seen u k))))
   row (ListRw ups) =
       of_usable ups (λ u named. lists _ (λ seen h.
       let k = lawful_known s seen ups u h named in
       listing_shaped (codes "RW") (u.name ∷ []) _ (refl, (k.name, tt))
-      (items_of IsLawfulEntry (variable_item (codes "RW") u.name u.state.fsd) (entry_item (codes "RW") u.name u.state.fsd refl k.name (λ name text. refl)) _ (All-filter is_rw IsLawfulEntry _ (variables_of s seen u k)))))
+      (items_of IsSoundEntry (variable_item (codes "RW") u.name u.state.fsd) (entry_item (codes "RW") u.name u.state.fsd refl k.name (λ name text. refl)) _ (All-filter is_rw IsSoundEntry _ (variables_of s seen u k)))))
   row (ListCmd ups) =
       of_usable ups (λ u named. lists _ (λ seen h.
       let k = lawful_known s seen ups u h named in
@@ -210,20 +213,19 @@ abbrev OrdersIfOk : List (List ℕ) → Change → Result Answer ErrWord → Typ
 OrdersIfOk words change answer = text_of_answer answer ≡ line_of words → change_of_answer answer ≡ change
 
 one_ups : (o : Option KnownUps) (k l : KnownUps) → o ≡ Some k → o ≡ Some l → k ≡ l
-one_ups o k l e f = grind arith
+one_ups o k l e f = cc
 
 module _ (s : Seen) (asker : AskerSeen) (u known : KnownUps) (same : u ≡ known) (line : Option ℕ → List ℕ) where
   -- the bare OK
   untracked : (id : Option ℕ) → OrdersIfOk ok (order known.id (line None) None) (Ok (one_line (ok_words id) (order u.id (line id) id)))
-  untracked None e = ap (λ (k : KnownUps). order k.id (line None) None) same
+  untracked None e = cc
   untracked (Some id) e = cc e
 
   -- OK and the first id at hand
   tracked : (id : ℕ) → next_id s.tracking ≡ Some id → (used : Option ℕ) → IsIdOfOrder s asker used
       → OrdersIfOk (ok_words (Some id)) (order known.id (line (Some id)) (Some id)) (Ok (one_line (ok_words used) (order u.id (line used) used)))
   tracked id next None is e = cc e
-  tracked id next (Some used) is e =
-      ap (λ (k : KnownUps). order k.id (line (Some used)) (Some used)) same ∙ ap (λ (o : Option ℕ). order known.id (line o) o) (sym is.1 ∙ next)
+  tracked id next (Some used) is e = cc (same, is.1, next)
 
 -- and no error is told so
 abbrev first_of : List ℕ → ℕ

@@ -44,4 +44,4 @@ module _ (s : Seen) (ups : Option (List ℕ)) where
   row next = of_usable TellsFresh no_answer s ups next (λ u named going. fresh u (next u) named going)
 
 pub moved : (s : Seen) (ups other : Option (List ℕ)) (r : Result Answer ErrWord) → Some ups ≡ Some other → TellsFresh s ups r → TellsFresh s other r
-moved s ups other r h tells = let same : ups ≡ other = cc h in subst (λ (o : Option (List ℕ)). TellsFresh s o r) same tells
+moved s ups other r h tells = subst (λ (o : Option (List ℕ)). TellsFresh s o r) (cc h) tells

@@ -6,7 +6,6 @@ mod Named
 mod Commands
 mod LawfulWords
 mod ErrorLemmas
-mod Quoted
 mod Plain
 mod Shapes
 mod RightLemmas

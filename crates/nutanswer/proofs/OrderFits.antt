@@ -1,5 +1,5 @@
 -- An order fits in what its driver may still be owed.
-use Rattle.std.proofs.Common.{arith, ◌≡◌, ◌∙◌, ◌≤◌, ℕ, length, Bool, true, List, Option, Some, None, refl, sym, subst, inl, inr, ◌⊎◌}
+use Rattle.std.proofs.Common.{arith, ◌≡◌, ◌≤◌, ℕ, length, true, List, Option, Some, None, subst, inl, inr, ◌⊎◌}
 use Rattle.std.specs.Prelude.{slice_get}
 use Rattle.nutdriver.specs.declared.report.Report.{Report}
 use Rattle.nutusers.specs.declared.ups_list.UpsId.{UpsId}
@@ -13,21 +13,14 @@ use Rattle.nutanswer.proofs.Commands.{each_change}
 
 -- a usable UPS has a driver
 connected : (moment max_age : ℕ) (x : Report) → readiness moment max_age x ≡ usable → x.connected ≡ true
-connected moment max_age x h = by_connection x.connected refl
-  where
-    by_connection : (b : Bool) → x.connected ≡ b → b ≡ true
-    by_connection b e = grind arith
+connected moment max_age x h = grind arith
 
 module _ (s : Seen) where
   takes : (line : List ℕ) (ups : Option (List ℕ)) (u : KnownUps) (id : UpsId) (x : UpsSeen) → ups_named s ups ≡ Some u → u.id ≡ id → readiness s.moment s.max_age u.state.report ≡ usable
       → length line ≤ u.state.free → slice_get s.upses id.place ≡ Some x → TakesOrder line x
   takes line ups u id x named this going fits at =
-      let there : slice_get s.upses id.place ≡ Some u.state = subst (λ (v : UpsId). slice_get s.upses v.place ≡ Some u.state) this (named_is_seen s ups u named).stands in
-      let same : u.state ≡ x = one u.state x (sym there ∙ at) in
+      let same : u.state ≡ x = cc ((named_is_seen s ups u named).stands, this, at) in
       subst (TakesOrder line) same (record { connected = connected s.moment s.max_age u.state.report going; fits = fits })
-    where
-      one : (y z : UpsSeen) → Some y ≡ Some z → y ≡ z
-      one y z e = cc e
 
   fitting : (asker : AskerSeen) (command : Command) (u : UpsId) (line : List ℕ) (id : Option ℕ) (x : UpsSeen) → IsSet s asker command u id line ⊎ IsInstCmd s asker command u id line
       → slice_get s.upses u.place ≡ Some x → TakesOrder line x

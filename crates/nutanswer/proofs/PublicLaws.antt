@@ -1,11 +1,12 @@
 -- The laws of this crate that a proof in a crate above may cite: each is what a function of src/laws.rt ensures.
-use Rattle.nutanswer.specs.Laws.{ANamedUpsIsSeen, OrdersFit, ErrorLinesAreWhole, EachAnswerIsALineOrAListing, EachErrorIsALine}
+use Rattle.nutanswer.specs.Laws.{ANamedUpsIsSeen, OrdersFit, ErrorLinesAreWhole, OrderLinesAreWhole, EachAnswerIsALineOrAListing, EachErrorIsALine}
 use Rattle.nutanswer.specs.Lawful.{WhatIsReadIsLawful}
 use Rattle.nutanswer.specs.Rows.{EachChangeComesOfItsCommand, EachOrderAnsweredOkIsGiven}
 use Rattle.nutanswer.proofs.Commands as commands
 use Rattle.nutanswer.proofs.Named as named
 use Rattle.nutanswer.proofs.OrderFits as fits
 use Rattle.nutanswer.proofs.ErrorLemmas as errors
+use Rattle.nutanswer.proofs.Plain as plain
 use Rattle.nutanswer.proofs.Shapes as shapes
 
 -- each_change_comes_of_its_command
@@ -31,6 +32,10 @@ orders_fit = fits.orders_fit
 -- error_lines_are_whole
 pub error_lines_are_whole : ErrorLinesAreWhole
 error_lines_are_whole = errors.error_lines_are_whole
+
+-- order_lines_are_whole
+pub order_lines_are_whole : OrderLinesAreWhole
+order_lines_are_whole = plain.order_lines_are_whole
 
 -- each_answer_is_a_line_or_a_listing
 pub each_answer_is_a_line_or_a_listing : EachAnswerIsALineOrAListing

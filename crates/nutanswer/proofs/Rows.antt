@@ -11,10 +11,9 @@ use Rattle.nutanswer.specs.Orders.{set_line, instcmd_line, instcmd_right, order,
 use Rattle.nutanswer.specs.Promises.{live_ups, live_variable, live_command, settable, Gives}
 use Rattle.nutanswer.specs.declared.reply.Reply.{Reply}
 use Rattle.nutanswer.specs.declared.err_word.ErrWord.TheVariants.{SetFailed, InstcmdFailed}
-use Rattle.std.specs.Prelude.{◌≤◌, ◌<◌, Bool, true, false, nat_le, length}
+use Rattle.std.specs.Prelude.{◌≤◌, ◌<◌, length}
 use Rattle.std.proofs.Common.{subst}
 use Rattle.std.proofs.lemmas.Bool.{le-leb, lt-leb}
-use Rattle.nutanswer.specs.Checks.{unless}
 
 -- what a row's words are read as is what they are to its checks
 pub as_read : {A : Type 0} (check : Option (List ℕ) → Option (List ℕ) → A) (ups name ups_read name_read : Option (List ℕ))
@@ -94,8 +93,7 @@ module _ (s : Seen) (asker : AskerSeen) (ups name : Option (List ℕ)) where
   set_row word k h e =
       let next : KnownUps → List ℕ → VariableState → Result Answer ErrWord =
       λ u v x. readonly x >> (too_long x word >>= (λ value. invalid_value x value >> set_end s asker u v value)) in
-      ap (λ (m : Result (Unit {0}) ErrWord). m >> (unknown_ups s ups >>= (λ u. live s u >> (var_not_supported u name >>= (λ v. next u v.0 v.1))))) (sym h)
-      ∙ with_variable s ups name next k e ∙ row_of_value k.2 word (λ value. set_end s asker k.0 k.1 value)
+      cc (h, with_variable s ups name next k e, row_of_value k.2 word (λ value. set_end s asker k.0 k.1 value))
 
   -- a variable that isn't there
   pub set_without : (word : Option (List ℕ)) → Ok tt ≡ user s asker Set → (why : ErrWord) → Err why ≡ live_variable s ups name
@@ -103,55 +101,43 @@ module _ (s : Seen) (asker : AskerSeen) (ups name : Option (List ℕ)) where
   set_without word h why e r is =
       let next : KnownUps → List ℕ → VariableState → Result Answer ErrWord =
       λ u v x. readonly x >> (too_long x word >>= (λ value. invalid_value x value >> set_end s asker u v value)) in
-      refused_by (answer_to s asker (SetVar ups name word)) why r
-      (ap (λ (m : Result (Unit {0}) ErrWord). m >> (unknown_ups s ups >>= (λ u. live s u >> (var_not_supported u name >>= (λ v. next u v.0 v.1))))) (sym h)
-      ∙ without_variable s ups name next why e) is
+      refused_by (answer_to s asker (SetVar ups name word)) why r (cc (h, without_variable s ups name next why e)) is
 
   -- INSTCMD, by the user's right and the checks of a command
   pub instcmd_row : (word : Option (Option (List ℕ))) → Ok tt ≡ user s asker (instcmd_right name)
       → answer_to s asker (InstCmd ups name word) ≡ (live_command s ups name >>= (λ k. too_long_of_command word >>= (λ value. instcmd_end s asker k.0 k.1 value)))
   instcmd_row word h =
       let next : KnownUps → List ℕ → Result Answer ErrWord = λ u c. too_long_of_command word >>= (λ value. instcmd_end s asker u c value) in
-      ap (λ (m : Result (Unit {0}) ErrWord). m >> (unknown_ups s ups >>= (λ u. live s u >> (cmd_not_supported u name >>= (λ c. next u c))))) (sym h)
-      ∙ row_of_command s ups name next
+      cc (h, row_of_command s ups name next)
 
   module _ (word : Option (List ℕ)) (k : KnownUps × List ℕ × VariableState) (h : Ok tt ≡ user s asker Set) (e : Ok k ≡ live_variable s ups name) where
     -- the variable isn't to have this value
     pub set_refused : (why : ErrWord) → Err why ≡ settable k.2 word → (r : Result Reply ErrWord) → r ≡ Err why
         → Gives (answer_to s asker (SetVar ups name word)) r
     set_refused why f r is =
-        refused_by (answer_to s asker (SetVar ups name word)) why r
-        (set_row word k h e ∙ ap (λ (m : Result (List ℕ) ErrWord). m >>= (λ value. set_end s asker k.0 k.1 value)) (sym f)) is
+        refused_by (answer_to s asker (SetVar ups name word)) why r (cc (set_row word k h e, f)) is
 
     set_using : (value : List ℕ) → Ok value ≡ settable k.2 word → (id : Result (Option ℕ) ErrWord) → id ≡ no_id s asker SetFailed
         → answer_to s asker (SetVar ups name word) ≡ (id >>= (λ id. set_failed k.0 (set_line k.1 value id) >> Ok (one_line (ok_words id) (order k.0.id (set_line k.1 value id) id))))
-    set_using value f id g =
-        set_row word k h e ∙ ap (λ (m : Result (List ℕ) ErrWord). m >>= (λ value. set_end s asker k.0 k.1 value)) (sym f)
-        ∙ ap (λ (m : Result (Option ℕ) ErrWord). m >>= (λ id. set_failed k.0 (set_line k.1 value id) >> Ok (one_line (ok_words id) (order k.0.id (set_line k.1 value id) id)))) (sym g)
+    set_using value f id g = cc (set_row word k h e, f, g)
 
     -- there is no id
     pub set_without_id : (value : List ℕ) → Ok value ≡ settable k.2 word → (why : ErrWord) → Err why ≡ no_id s asker SetFailed → (r : Result Reply ErrWord) → r ≡ Err why
         → Gives (answer_to s asker (SetVar ups name word)) r
     set_without_id value f why g r is = refused_by (answer_to s asker (SetVar ups name word)) why r (set_using value f (Err why) g) is
 
-    set_checked : (value : List ℕ) → Ok value ≡ settable k.2 word → (id : Option ℕ) → Ok id ≡ no_id s asker SetFailed → (fits : Bool) → nat_le (length (set_line k.1 value id)) k.0.state.free ≡ fits
-        → answer_to s asker (SetVar ups name word) ≡ (unless fits SetFailed >> Ok (one_line (ok_words id) (order k.0.id (set_line k.1 value id) id)))
-    set_checked value f id g fits is =
-        set_using value f (Ok id) g ∙ ap (λ (fits : Bool). unless fits SetFailed >> Ok (one_line (ok_words id) (order k.0.id (set_line k.1 value id) id))) is
-
     -- the line doesn't fit
     pub set_full : (value : List ℕ) → Ok value ≡ settable k.2 word → (id : Option ℕ) → Ok id ≡ no_id s asker SetFailed → k.0.state.free < length (set_line k.1 value id)
         → answer_to s asker (SetVar ups name word) ≡ Err SetFailed
-    set_full value f id g more = set_checked value f id g false (lt-leb _ _ more)
+    set_full value f id g more = cc (set_using value f (Ok id) g, lt-leb (length (set_line k.1 value id)) k.0.state.free more)
 
     -- the driver is owed the line
     pub set_done : (value : List ℕ) → Ok value ≡ settable k.2 word → (id : Option ℕ) → Ok id ≡ no_id s asker SetFailed → length (set_line k.1 value id) ≤ k.0.state.free
         → answer_to s asker (SetVar ups name word) ≡ Ok (one_line (ok_words id) (order k.0.id (set_line k.1 value id) id))
-    set_done value f id g fits = set_checked value f id g true (le-leb _ _ fits)
+    set_done value f id g fits = cc (set_using value f (Ok id) g, le-leb (length (set_line k.1 value id)) k.0.state.free fits)
 
   -- a command that isn't there
   pub instcmd_refused : (word : Option (Option (List ℕ))) → Ok tt ≡ user s asker (instcmd_right name) → (why : ErrWord) → Err why ≡ live_command s ups name
       → (r : Result Reply ErrWord) → r ≡ Err why → Gives (answer_to s asker (InstCmd ups name word)) r
   instcmd_refused word h why f r is =
-      refused_by (answer_to s asker (InstCmd ups name word)) why r
-      (instcmd_row word h ∙ ap (λ (m : Result (KnownUps × List ℕ) ErrWord). m >>= (λ k. too_long_of_command word >>= (λ value. instcmd_end s asker k.0 k.1 value))) (sym f)) is
+      refused_by (answer_to s asker (InstCmd ups name word)) why r (cc (instcmd_row word h, f)) is

@@ -1,23 +1,24 @@
 -- What holds of every row of the table.
 use Rattle.std.specs.Prelude.{◌≡◌, ◌≤◌, ℕ, Bool, true, false, List, [], ◌∷◌, codes, length}
-use Rattle.std.specs.Prelude.{slice_get, Option, Some, Result, Ok, Err, All, IsTrue}
+use Rattle.std.specs.Prelude.{slice_get, Option, Some, Result, Ok, Err, All, IsTrue, IfSome}
 use Rattle.std.specs.Str.{bytes_eq}
 use Rattle.nutwords.specs.Answers.{IsAnswer}
-use Rattle.nutwords.specs.Reading.{is_address}
+use Rattle.nutwords.specs.Reading.{is_name, is_value, is_address}
 use Rattle.nuttracking.specs.Sound.{HaveLawfulNumbers}
 use Rattle.nutdriver.specs.Sound.{IsSoundTree}
-use Rattle.nutusers.specs.UpsList.{IsLawfulUps}
+use Rattle.nutusers.specs.UpsList.{Ups, IsLawfulUps}
 use Rattle.nutusers.specs.Descriptions.{AreLawful}
 use Rattle.nutusers.specs.declared.ups_list.UpsId.{UpsId}
 use Rattle.nutanswer.specs.declared.command.Command.{Command}
 use Rattle.nutanswer.specs.declared.err_word.ErrWord.{ErrWord}
 use Rattle.nutanswer.specs.declared.reply.Change.TheVariants.{Nothing}
 use Rattle.nutlisting.specs.Lines.{IsWholeLine}
+use Rattle.nutlisting.specs.Shown.{ups_description}
 use Rattle.nutlisting.specs.declared.listing.clients.TheConstants.{SESSION_LIMIT}
 use Rattle.nutanswer.specs.ErrWord.{error_line}
 use Rattle.nutanswer.specs.View.{Seen, AskerSeen, UpsSeen}
 use Rattle.nutanswer.specs.Checks.{KnownUps, ups_named}
-use Rattle.nutanswer.specs.Orders.{order}
+use Rattle.nutanswer.specs.Orders.{order, set_line, instcmd_line}
 use Rattle.nutanswer.specs.Answer.{Answer, one_line, listing, listing_of_clients, answer_to}
 use Rattle.nutanswer.specs.Answer.{change_of_answer, text_of_answer}
 use Rattle.nutanswer.specs.Lawful.{IsLawfulCommand}
@@ -47,10 +48,14 @@ OnlyOkChanges =
     → is_ok_line (answer_to s asker command) ≡ false
     → change_of_answer (answer_to s asker command) ≡ Nothing
 
--- The UPS has this name, and stands at its place among those seen.
+-- The UPS has this name, and stands at its place among those seen, and in the list, which has its
+-- description.
 pub record IsSeen (s : Seen) (ups : Option (List ℕ)) (u : KnownUps) : Type 0 where
   pub name_is : ups ≡ Some u.name
   pub stands : slice_get s.upses u.id.place ≡ Some u.state
+  pub listed : Ups
+  pub in_list : slice_get s.list u.id.place ≡ Some listed
+  pub described : u.description ≡ ups_description listed
 
 -- A UPS that is named is one of those seen.
 abbrev pub ANamedUpsIsSeen : Type 0
@@ -74,6 +79,14 @@ OrdersFit =
 -- The line of an error is one whole line.
 abbrev pub ErrorLinesAreWhole : Type 0
 ErrorLinesAreWhole = (word : ErrWord) → IsWholeLine (error_line word)
+
+-- The line of an order to a driver is one whole line, where the name is lawful, and the value, if
+-- it has one.
+pub record OrderLinesAreWhole : Type 0 where
+  pub set : (name value : List ℕ) (id : Option ℕ) → IsTrue (is_name name) → IsTrue (is_value value)
+      → IsWholeLine (set_line name value id)
+  pub command : (name : List ℕ) (value : Option (List ℕ)) (id : Option ℕ) → IsTrue (is_name name)
+      → IfSome value (λ text. IsTrue (is_value text)) → IsWholeLine (instcmd_line name value id)
 
 -- What an answer may look at is lawful: the UPSs of the list, the trees that drivers reported, the
 -- descriptions, the addresses of clients, of which there are no more than there may be, and the

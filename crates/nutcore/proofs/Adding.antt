@@ -1,16 +1,18 @@
 -- What a client's lines leave of a UPS: all but a forced shutdown, and what its driver is owed, to which they add.
-use Rattle.std.proofs.Common.{◌≡◌, ◌∙◌, ℕ, zero, suc, Bool, true, false, List, [], ◌∷◌, ◌++◌, Option, Some, None, refl, sym, ap, subst, cond, eqb, length, append_assoc, append-nil}
+use Rattle.std.proofs.Common.{◌≡◌, ◌∙◌, ℕ, zero, suc, Bool, true, false, List, [], ◌∷◌, ◌++◌, Option, Some, None, refl, sym, ap, cond, eqb, length, append_assoc, append-nil}
 use Rattle.std.specs.List.{flat_map}
-use Rattle.nutcore.proofs.Common.{slice_get, cond_both, flat_map-append, UpsId, Change, Event, SessionState, ServerState, session, ups_at, with_session_changed}
+use Rattle.nutcore.proofs.Common.{slice_get, flat_map-append, UpsId, Change, Event, SessionState, ServerState, session, ups_at, with_session_changed}
 use Rattle.nutcore.specs.Ups.{UpsState, with_fsd, with_order}
 use Rattle.nutcore.specs.Reply.{changed_upses}
-use Rattle.nutcore.specs.Pump.{next_line_for, after_line, after_lines, after_all_lines, after_notice, is_overlong, with_notice, pumped, held_of}
+use Rattle.nutcore.specs.Pump.{next_line_for, after_line, after_lines, after_all_lines, after_notice, with_notice, pumped, held_of}
 use Rattle.nutcore.specs.Step.{taken_from, without_output, pumped_until}
-use Rattle.nutcore.specs.History.{of_notice, next_execution, lines_executed, notice, pump_executions, executions_until}
+use Rattle.nutcore.specs.History.{next_execution, lines_executed, notice, pump_executions, executions_until}
 use Rattle.nutcore.specs.Isolation.{without_commands}
 use Rattle.nutcore.specs.DriverOrders.{Telling, order, texts_of, told_by_change, told_by_line}
 use Rattle.nutcore.proofs.Changed.{by_change}
 use Rattle.nutcore.proofs.Changes.{of_upses}
+use Rattle.nutcore.proofs.Found.{cases_Option}
+use Rattle.std.proofs.Common.{inl, inr, arith}
 use Rattle.nutcore.proofs.Pumping.{is_next, stopped_none, after_line_is, change_at}
 use Rattle.nutcore.proofs.UpsPlaces.{Stands, of_place}
 use Rattle.nutcore.proofs.DriverChanges.{Does, goes_on}
@@ -23,6 +25,12 @@ pub record Adds (x : UpsState) (told : List Telling) (y : UpsState) : Type 0 whe
 adds_none : (x : UpsState) → Adds x [] x
 adds_none x = record { owed = sym (append-nil x.owed); same = refl }
 
+adds_both : (x y z : UpsState) (told more : List Telling) → Adds x told y → Adds y more z → Adds x (told ++ more) z
+adds_both x y z told more f g = record {
+  owed = g.owed ∙ rw (f.owed, flat_map-append) (append_assoc x.owed (texts_of told) (texts_of more));
+  same = g.same ∙ f.same;
+}
+
 changes_add : (u : UpsId) (change : Change) (xs : List UpsState) (x : UpsState) → slice_get xs u.place ≡ Some x → Stands u.place (changed_upses change xs) (Adds x (told_by_change u change))
 changes_add u change xs x there =
     of_upses (λ told ys. Stands u.place ys (Adds x (told u))) change xs (record { ups = x; there = there; is = adds_none x })
@@ -32,32 +40,19 @@ changes_add u change xs x there =
     (λ k same. rw k (record { owed = ap (λ (z : List ℕ). x.owed ++ z) (sym (append-nil line)); same = refl })) (λ k. rw k (adds_none x)))
 
 -- one line, and some
-line_adds : (u : UpsId) (s : ServerState) (c : ℕ) (x : UpsState) (o : Option (List ℕ)) → next_line_for s c ≡ o → ups_at u.place s ≡ Some x → Stands u.place (after_line s c).upses (Adds x (flat_map (told_by_line u) (next_execution s c o)))
-line_adds u s c x None next there = subst (λ (t : ServerState). Stands u.place t.upses (Adds x [])) (sym (stopped_none s c next)) (record { ups = x; there = there; is = adds_none x })
-line_adds u s c x (Some line) next there =
-    let n = is_next s c line next in
-    let a = changes_add u (change_at s c line) s.upses x there in
-    record {
-      ups = a.ups;
-      there = ap (ups_at u.place) (after_line_is s c line n.asking n.found next) ∙ a.there;
-      is = subst (λ (told : List Telling). Adds x told a.ups) (sym (append-nil (told_by_change u (change_at s c line)))) a.is;
-    }
+line_adds : (u : UpsId) (s : ServerState) (c : ℕ) (x : UpsState) → ups_at u.place s ≡ Some x → Stands u.place (after_line s c).upses (Adds x (flat_map (told_by_line u) (next_execution s c (next_line_for s c))))
+line_adds u s c x there = elim (cases_Option (next_line_for s c)) [
+  | inl next ↦ rw (next, stopped_none s c next) (record { ups = x; there = there; is = adds_none x })
+  | inr (line, next) ↦ (let n = is_next s c line next in rw (next, after_line_is s c line n.asking n.found next, append-nil) (changes_add u (change_at s c line) s.upses x there))
+]
 
 lines_add : (k : ℕ) (u : UpsId) (s : ServerState) (c : ℕ) (x : UpsState) → ups_at u.place s ≡ Some x → Stands u.place (after_lines k s c).upses (Adds x (flat_map (told_by_line u) (lines_executed k s c)))
 unfolding lines_executed after_lines
 lines_add zero u s c x there = record { ups = x; there = there; is = adds_none x }
 lines_add (suc k) u s c x there =
-    let one = next_execution s c (next_line_for s c) in
-    let more = lines_executed k (after_line s c) c in
-    let first : List Telling = flat_map (told_by_line u) one in
-    let later : List Telling = flat_map (told_by_line u) more in
-    let a = line_adds u s c x (next_line_for s c) refl there in
+    let a = line_adds u s c x there in
     let b = lines_add k u (after_line s c) c a.ups a.there in
-    let both : Adds x (first ++ later) b.ups = record {
-      owed = b.is.owed ∙ ap (λ (z : List ℕ). z ++ texts_of later) a.is.owed ∙ append_assoc x.owed (texts_of first) (texts_of later) ∙ ap (λ (z : List ℕ). x.owed ++ z) (sym (flat_map-append _ first later));
-      same = b.is.same ∙ a.is.same;
-    } in
-    record { ups = b.ups; there = b.there; is = subst (λ (told : List Telling). Adds x told b.ups) (sym (flat_map-append (told_by_line u) one more)) both }
+    rw flat_map-append (record { ups = b.ups; there = b.there; is = adds_both x a.ups b.ups _ _ a.is b.is })
 
 pub session_keeps : (u : UpsId) (f : SessionState → SessionState) (s : ServerState) (c : ℕ) (x : UpsState) → ups_at u.place s ≡ Some x → ups_at u.place (with_session_changed f c s) ≡ Some x
 session_keeps u f s c x there = by_change (λ t. ups_at u.place t ≡ Some x) f c s (λ y found. there) (λ absent. there)
@@ -68,10 +63,8 @@ pump_adds u s c None x there =
     let k : ℕ = length (held_of (session c s)) in
     let t : ServerState = after_lines k s c in
     let a = lines_add k u s c x there in
-    let told : List Telling = flat_map (told_by_line u) (lines_executed k s c) in
-    let no_order : flat_map (told_by_line u) (notice t c) ≡ [] = cond_both (is_overlong t c) (of_notice c ∷ []) [] (λ z. flat_map (told_by_line u) z ≡ []) (λ e. refl) (λ e. refl) in
-    let is : flat_map (told_by_line u) (lines_executed k s c ++ notice t c) ≡ told = flat_map-append (told_by_line u) (lines_executed k s c) (notice t c) ∙ ap (λ (z : List Telling). told ++ z) no_order ∙ append-nil told in
-    record { ups = a.ups; there = session_keeps u with_notice t c a.ups a.there; is = subst (λ (z : List Telling). Adds x z a.ups) (sym is) a.is }
+    let no_order : flat_map (told_by_line u) (notice t c) ≡ [] = grind arith in
+    rw (flat_map-append, no_order, append-nil) (record { ups = a.ups; there = session_keeps u with_notice t c a.ups a.there; is = a.is })
 pump_adds u s c (Some k) x there = lines_add k u s c x there
 
 pub took_adds : (u : UpsId) (s : ServerState) (c n : ℕ) (m : Option ℕ) (x : UpsState) (b : Bool) → ups_at u.place s ≡ Some x

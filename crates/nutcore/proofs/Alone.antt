@@ -1,93 +1,53 @@
 -- A client that asks one line, in a run of any others.
-use Rattle.std.proofs.Common.{arith, ◌≡◌, ◌⊎◌, ◌∙◌, ℕ, Bool, true, false, List, [], ◌∷◌, ◌++◌, Option, Some, None, refl, sym, ap, subst, eqb, ltb, inl, inr, append_assoc, append-nil}
-use Rattle.std.specs.Prelude.{option_map}
-use Rattle.std.specs.Option.{option_map_or}
-use Rattle.std.proofs.lemmas.Bool.{both_ways, eqb-true, lt-ltb}
-use Rattle.nutwords.specs.SplitLine.{split_line, has_lf}
+use Rattle.std.proofs.Common.{arith, ◌≡◌, ◌∙◌, ℕ, true, false, List, [], ◌∷◌, ◌++◌, Some, refl, sym, ap, eqb, inl, inr, append_assoc, append-nil, length, length-append}
+use Rattle.std.proofs.lemmas.Bool.{both_ways, false_from_ne_true, eqb-true, lt-ltb}
+use Rattle.nutwords.specs.SplitLine.{split_line, has_lf, first_line}
 use Rattle.nutwords.proofs.PublicLaws.{first_line_is_cut_off}
-use Rattle.nutcore.proofs.Common.{cond_both, same_Some, SessionState, ServerState, session, with_session_changed}
+use Rattle.nutcore.proofs.Common.{cond_both, same_Some, ServerState}
 use Rattle.nutwords.specs.Text.{with_lf}
-use Rattle.nutcore.specs.Lines.{first_line}
-use Rattle.nutcore.specs.Pump.{notified, owed_of, held_of}
-use Rattle.nutcore.specs.History.{Execution, of_line, of_notice, client_of, executions, of_client, lines_of, texts_of, taken, asked, executed, answers, is_over}
+use Rattle.nutcore.specs.History.{Execution, of_line, of_notice, client_of, executions, of_client, lines_of, texts_of, taken, asked, executed, answers}
 use Rattle.nutcore.specs.Sound.{Each}
 use Rattle.nutcore.specs.Alone.{OneLineIsAnswered}
-use Rattle.nutcore.proofs.Changed.{session_changed}
-use Rattle.nutcore.proofs.Histories.{IsOfEvents, run_keeps, two_clients}
-use Rattle.nutcore.proofs.Progress.{IsKept, presence}
-use Rattle.nutcore.proofs.Pumping.{is_next, overlong_there}
+use Rattle.nutcore.proofs.Found.{cases_Option}
+use Rattle.nutcore.proofs.Histories.{IsOfClient, of_run_of_client}
+use Rattle.nutcore.proofs.Progress.{Presence, IsKept, is_over, presence}
 use Rattle.nutcore.proofs.SoundUps.{each_join}
 use Rattle.nutcore.proofs.Stepping.{Goes, goes, run_sent, run_taken_up}
 
--- a line that was executed has no LF
+-- it is a line, without LF
 abbrev IsWhole : Execution → Type 0
 IsWhole (of_line s c line) = has_lf line ≡ false
-IsWhole (of_notice c) = Unit {0}
-
--- a notice is among them
-abbrev AnyNotice : List Execution → Type 0
-AnyNotice [] = ⊥
-AnyNotice (of_line s c line ∷ xs) = AnyNotice xs
-AnyNotice (of_notice c ∷ xs) = Unit {0}
-
-either_notice : (xs ys : List Execution) → AnyNotice (xs ++ ys) → AnyNotice xs ⊎ AnyNotice ys
-either_notice [] ys h = inr h
-either_notice (of_line s c line ∷ xs) ys h = either_notice xs ys h
-either_notice (of_notice c ∷ xs) ys h = inl tt
+IsWhole (of_notice c) = ⊥
 
 -- a next line has no LF
 first_whole : (bytes line : List ℕ) → first_line bytes ≡ Some line → has_lf line ≡ false
-first_whole bytes line h = by_split (split_line bytes) refl h
-  where
-    by_split : (o : Option (List ℕ × List ℕ)) → split_line bytes ≡ o → option_map (λ split. split.0) o ≡ Some line → has_lf line ≡ false
-    by_split None e k = cc k
-    by_split (Some (found, rest)) e k =
-        let same : found ≡ line = cc k in
-        subst (λ (l : List ℕ). has_lf l ≡ false) same ((first_line_is_cut_off bytes found rest).0 e).1
+first_whole bytes line h = elim (cases_Option (split_line bytes)) [
+  | inl none ↦ cc (rw none at h)
+  | inr (split, is) ↦ (let same : split.0 ≡ line = cc (rw is at h) in rw same at (((first_line_is_cut_off bytes split.0 split.1).0 is).1))
+]
 
--- what a run says of the client's executions: lines are whole, and after a notice it is over
-record Tells (c : ℕ) (s : ServerState) (xs : List Execution) (taken asked : List ℕ) (t : ServerState) : Type 0 where
-  goes_on : Goes c s xs taken asked t
-  whole : Each IsWhole (of_client c xs)
-  noticed : IsKept (presence c s) → AnyNotice (of_client c xs) → is_over c t ≡ true
+-- what a run says of the client's executions: they are whole lines, where it isn't over
+record Tells (p : Presence) (xs : List Execution) (taken asked : List ℕ) (q : Presence) : Type 0 where
+  goes_on : Goes p xs taken asked q
+  whole : IsKept p → is_over q ≡ false → Each IsWhole xs
 
-own_notice_ends : (d : ℕ) (s : ServerState) (x : SessionState) → session d s ≡ Some x → is_over d (with_session_changed notified d s) ≡ true
-own_notice_ends d s x found =
-    let t : ServerState = with_session_changed notified d s in
-    ap (λ (o : Option SessionState). option_map_or (λ (y : SessionState). y.ending) o (ltb d t.next_id)) (session_changed notified (λ y. refl) d s ∙ ap (option_map notified) found)
-
-tells : (c : ℕ) → IsOfEvents c (Tells c)
-tells c =
-    let g = goes c in
-    record {
-      stays = λ s. record { goes_on = g.stays s; whole = tt; noticed = λ kept none. absurd none };
-      joins = λ s m t xs ys k k' a a' f h. record {
-        goes_on = g.joins s m t xs ys k k' a a' f.goes_on h.goes_on;
-        whole = subst (Each IsWhole) (sym (two_clients c xs ys)) (each_join IsWhole (of_client c xs) (of_client c ys) f.whole h.whole);
-        noticed = λ kept any. elim (either_notice (of_client c xs) (of_client c ys) (subst AnyNotice (two_clients c xs ys) any)) [
-          | inl first ↦ ((h.goes_on ((f.goes_on kept).keeps kept)).taken_up.stays (f.noticed kept first)).0
-          | inr last ↦ h.noticed ((f.goes_on kept).keeps kept) last
-        ];
-      };
-      by_line = λ d s line next.
-          let n = is_next s d line next in
-          record {
-            goes_on = g.by_line d s line next;
-            whole = cond_both (eqb d c) (of_line s d line ∷ []) [] (Each IsWhole) (λ own. (first_whole n.asking.held line n.first, tt)) (λ other. tt);
-            noticed = λ kept any. absurd (cond_both (eqb d c) (of_line s d line ∷ []) [] (λ zs. AnyNotice zs → ⊥) (λ own none. none) (λ other none. none) any);
-          };
-      by_notice = λ d s long.
-          let due = overlong_there (session d s) long in
-          record {
-            goes_on = g.by_notice d s long;
-            whole = cond_both (eqb d c) (of_notice d ∷ []) [] (Each IsWhole) (λ own. (tt, tt)) (λ other. tt);
-            noticed = λ kept. cond_both (eqb d c) (of_notice d ∷ []) [] (λ zs. AnyNotice zs → is_over c (with_session_changed notified d s) ≡ true)
-                (λ own any. subst (λ (k : ℕ). is_over k (with_session_changed notified d s) ≡ true) (eqb-true d c own) (own_notice_ends d s due.0 due.1)) (λ other none. absurd none);
-          };
-      by_input = λ d s piece. record { goes_on = g.by_input d s piece; whole = tt; noticed = λ kept none. absurd none };
-      by_output = λ d s n may. record { goes_on = g.by_output d s n may; whole = tt; noticed = λ kept none. absurd none };
-      by_plain = λ s e m plain. record { goes_on = g.by_plain s e m plain; whole = tt; noticed = λ kept none. absurd none };
-    }
+tells : IsOfClient Tells
+tells = record {
+  joins = λ p q r xs ys k k' a a' f h. record {
+    goes_on = goes.joins p q r xs ys k k' a a' f.goes_on h.goes_on;
+    whole = λ kept going.
+        let kept_on = (f.goes_on kept).keeps kept in
+        let before : is_over q ≡ false = false_from_ne_true (is_over q) (λ over. both_ways (is_over r) going ((h.goes_on kept_on).taken_up.stays over).0) in
+        each_join IsWhole xs ys (f.whole kept before) (h.whole kept_on going);
+  };
+  stays = λ o u v up. record { goes_on = goes.stays o u v up; whole = λ kept going. tt };
+  by_line = λ c s line n u. record { goes_on = goes.by_line c s line n u; whole = λ kept going. (first_whole n.asking.held line n.first, tt) };
+  by_notice = λ c x u long. record { goes_on = goes.by_notice c x u long; whole = λ kept (going : true ≡ false). cc };
+  by_input = λ piece x u. record { goes_on = goes.by_input piece x u; whole = λ kept going. tt };
+  by_output = λ n x u. record { goes_on = goes.by_output n x u; whole = λ kept going. tt };
+  opens = λ id address. record { goes_on = goes.opens id address; whole = λ kept going. tt };
+  closes = λ x u. record { goes_on = goes.closes x u; whole = λ kept going. tt };
+}
 
 -- executions of one client
 all_its : (c : ℕ) (xs : List Execution) → Each (λ x. client_of x ≡ c) (of_client c xs)
@@ -96,13 +56,12 @@ all_its c (x ∷ xs) = cond_both (eqb (client_of x) c) (x ∷ of_client c xs) (o
 
 -- bytes that are one line are one line alone
 no_bytes : (line : List ℕ) (rest : List ℕ) → with_lf line ++ rest ≡ [] → ⊥
-no_bytes [] rest e = cc e
-no_bytes (b ∷ line) rest e = cc e
+no_bytes line rest e = omega (arith, ap length e, length-append (with_lf line) rest, length-append line (10 ∷ []))
 
-none_more : (xs : List Execution) → (AnyNotice xs → ⊥) → lines_of xs ≡ [] → xs ≡ []
-none_more [] quiet e = refl
-none_more (of_line s c line ∷ xs) quiet e = absurd (no_bytes line (lines_of xs) e)
-none_more (of_notice c ∷ xs) quiet e = absurd (quiet tt)
+none_more : (xs : List Execution) → Each IsWhole xs → lines_of xs ≡ [] → xs ≡ []
+none_more [] whole e = refl
+none_more (of_line s c line ∷ xs) whole e = absurd (no_bytes line (lines_of xs) e)
+none_more (of_notice c ∷ xs) whole e = absurd whole.0
 
 same_line : (a b rest : List ℕ) → has_lf a ≡ false → has_lf b ≡ false → with_lf a ++ rest ≡ with_lf b → (a ≡ b) × (rest ≡ [])
 same_line a b rest f g e =
@@ -112,36 +71,22 @@ same_line a b rest f g e =
     let same : (a, rest) ≡ (b, []) = same_Some (a, rest) (b, []) (sym one ∙ other) in
     (ap (λ (p : List ℕ × List ℕ). p.0) same, ap (λ (p : List ℕ × List ℕ). p.1) same)
 
-record IsOneLine (c : ℕ) (line : List ℕ) (xs : List Execution) : Type 0 where
-  server : ServerState
-  is : xs ≡ of_line server c line ∷ []
-
-one_line : (c : ℕ) (line : List ℕ) (xs : List Execution) → has_lf line ≡ false → Each IsWhole xs → Each (λ x. client_of x ≡ c) xs → (AnyNotice xs → ⊥) → lines_of xs ≡ with_lf line → IsOneLine c line xs
-one_line c line [] none whole its quiet e = absurd (no_bytes line [] (append-nil (with_lf line) ∙ sym e))
-one_line c line (of_line s d l ∷ xs) none whole its quiet e =
+one_line : (c : ℕ) (line : List ℕ) (xs : List Execution) → has_lf line ≡ false → Each IsWhole xs → Each (λ x. client_of x ≡ c) xs → lines_of xs ≡ with_lf line → (s : ServerState) × (xs ≡ of_line s c line ∷ [])
+one_line c line [] none whole its e = absurd (no_bytes line [] (append-nil (with_lf line) ∙ sym e))
+one_line c line (of_line s d l ∷ xs) none whole its e =
     let is = same_line l line (lines_of xs) whole.0 none e in
-    record {
-      server = s;
-      is = ap (λ (k : ℕ). of_line s k l ∷ xs) its.0 ∙ ap (λ (w : List ℕ). of_line s c w ∷ xs) is.0 ∙ ap (λ (zs : List Execution). of_line s c line ∷ zs) (none_more xs quiet is.1);
-    }
-one_line c line (of_notice d ∷ xs) none whole its quiet e = absurd (quiet tt)
-
-not_closed : (o : Option SessionState) (used : Bool) → option_map_or (λ x. x.ending) o used ≡ false → option_map_or (λ x. false) o used ≡ false
-not_closed o used h = grind arith
+    (s, rw (its.0, is.0, none_more xs whole.1 is.1))
+one_line c line (of_notice d ∷ xs) none whole its e = absurd whole.0
 
 pub one_line_answered : OneLineIsAnswered
 one_line_answered old new es os c line lawful absent r asks whole going none_held none_owed =
-    let told = run_keeps c (Tells c) (tells c) old new es os r in
+    let told = of_run_of_client Tells tells c old new es os r in
     let kept : IsKept (presence c old) = λ h. lt-ltb c old.next_id (lawful c h) in
-    let up = (run_taken_up old new es os lawful r c).while_going going in
-    let lines : lines_of (of_client c (executions old es os)) ≡ with_lf line =
-    sym (append-nil (executed c old es os)) ∙ ap (λ (w : List ℕ). executed c old es os ++ w) (sym none_held) ∙ sym up ∙ ap (λ (o : Option SessionState). held_of o ++ asked c old es os) absent ∙ asks in
-    let one = one_line c line (of_client c (executions old es os)) whole told.whole (all_its c (executions old es os)) (λ any. absurd (both_ways (is_over c new) going (told.noticed kept any))) lines in
-    let sent = (run_sent old new es os lawful r c).while_open (not_closed (session c new) _ going) in
+    let up : executed c old es os ≡ asked c old es os = sym (rw (absent, none_held, append-nil (executed c old es os)) at ((run_taken_up old new es os lawful r c).while_going going)) in
+    let one = one_line c line (of_client c (executions old es os)) whole (told.whole kept going) (all_its c (executions old es os)) (up ∙ asks) in
+    let sent : answers c old es os ≡ taken c old es os = rw (absent, none_owed, append-nil (taken c old es os)) at ((run_sent old new es os lawful r c).while_open (grind (arith, going))) in
     record {
-      server = one.server;
-      executed = one.is;
-      took =
-          sym (append-nil (taken c old es os)) ∙ ap (λ (w : List ℕ). taken c old es os ++ w) (sym none_owed) ∙ sym sent ∙ ap (λ (o : Option SessionState). owed_of o ++ answers c old es os) absent
-          ∙ ap texts_of one.is ∙ append-nil _;
+      server = one.0;
+      executed = one.1;
+      took = sym sent ∙ ap texts_of one.1 ∙ append-nil _;
     }

@@ -1,10 +1,9 @@
 -- Sessions, and the server, but for the bytes that sessions hold and are owed.
-use Rattle.std.proofs.Common.{◌≡◌, ◌∙◌, ◌+◌, ℕ, Bool, true, false, List, [], ◌∷◌, ◌++◌, Option, Some, None, refl, sym, ap, cond, ltb, ◌&&◌, ◌^◌, map, arith}
+use Rattle.std.proofs.Common.{◌≡◌, ℕ, List, [], ◌∷◌, Option, Some, None, refl, map, arith}
 use Rattle.std.specs.Prelude.{option_map}
 use Rattle.nutcore.proofs.Common.{length-map, SessionState, ServerState}
-use Rattle.nutlisting.specs.declared.listing.clients.TheConstants.{SESSION_LIMIT}
 use Rattle.nutcore.specs.Session.{find, put, without, new_session}
-use Rattle.nutcore.specs.Step.{may_open, opened}
+use Rattle.nutcore.specs.Step.{opened}
 use Rattle.nutcore.specs.Happenings.{without_bytes, apart_from_bytes}
 use Rattle.std.proofs.lemmas.List.{map-append}
 use Rattle.std.proofs.lemmas.Grind.{common_steps}
@@ -26,14 +25,4 @@ closed_without c (x ∷ xs) = grind (arith, common_steps, closed_without c xs)
 pub core_opened : (s : ServerState) (address : List ℕ) (m : Option ℕ) → opened (apart_from_bytes s) address m ≡ apart_from_bytes (opened s address m)
 unfolding opened
 core_opened s address (Some k) = refl
-core_opened s address None =
-    let k : ServerState = apart_from_bytes s in
-    let room : may_open k ≡ may_open s = ap (λ (n : ℕ). ltb n SESSION_LIMIT && ltb s.next_id (2 ^ 64)) (length-map s.sessions without_bytes) in
-    ap (λ (b : Bool). cond b (record k { sessions = k.sessions ++ new_session s.next_id address ∷ []; next_id = s.next_id + 1 }) k) room
-    ∙ by_room (may_open s)
-  where
-    by_room : (b : Bool) → let k : ServerState = apart_from_bytes s in
-        cond b (record k { sessions = k.sessions ++ new_session s.next_id address ∷ []; next_id = s.next_id + 1 }) k
-        ≡ apart_from_bytes (cond b (record s { sessions = s.sessions ++ new_session s.next_id address ∷ []; next_id = s.next_id + 1 }) s)
-    by_room true = ap (λ (xs : List SessionState). let t : ServerState = record s { sessions = xs; next_id = s.next_id + 1 } in t) (sym (map-append without_bytes s.sessions (new_session s.next_id address ∷ [])))
-    by_room false = refl
+core_opened s address None = grind (arith, length-map s.sessions without_bytes, map-append without_bytes s.sessions (new_session s.next_id address ∷ []))

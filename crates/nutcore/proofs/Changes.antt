@@ -1,11 +1,11 @@
 -- What a change does to the session that asks, to the UPSs and to what their drivers are told: a case each.
-use Rattle.std.proofs.Common.{◌≡◌, ℕ, ◌+◌, ◌≤◌, false, true, List, [], ◌∷◌, ◌++◌, cond, eqb, Option, Some, None, refl, ap, arith, length, inl, inr}
+use Rattle.std.proofs.Common.{◌≡◌, ℕ, ◌≤◌, false, true, List, [], ◌∷◌, cond, eqb, Option, Some, None, refl, arith, length}
 use Rattle.std.specs.Prelude.{◌⊎◌}
 use Rattle.std.proofs.Math.Seq.{drop-nil}
 use Rattle.nuttracking.specs.Tracking.{with_order as with_tracked_order}
 use Rattle.nutanswer.specs.Orders.{order as order_to}
 use Rattle.nutcore.proofs.Common.{UpsId, TrackingState, Change, SessionState, changed_at}
-use Rattle.nutanswer.specs.declared.reply.Change.TheVariants.{Username, Password, Login, Ending, Fsd, Order, Tracked}
+use Rattle.nutanswer.specs.declared.reply.Change.TheVariants.{Username, Password, Login, Fsd, Order, Tracked}
 use Rattle.nutcore.specs.Ups.{UpsState, with_fsd, with_order}
 use Rattle.nutcore.specs.Reply.{changed_session, changed_upses, changed_tracking}
 use Rattle.nutcore.specs.Pump.{answered}
@@ -28,23 +28,19 @@ pub record Keeps (change : Change) (x : SessionState) : Type 0 where
   pub logged_out : (changed_session change x).login ≡ None → (x.login ≡ None) ⊎ ((changed_session change x).ending ≡ true)
 
 pub keeps : (change : Change) (x : SessionState) → Keeps change x
-keeps (Username name) x = record { id = refl; address = refl; owed = refl; held = λ e. refl; shorter = omega arith; ended = λ e. inl e; joined = λ line text. refl; username = inr (name, refl, refl); password = inl refl; login = inl refl; logged_out = λ e. inl e }
-keeps (Password password) x = record { id = refl; address = refl; owed = refl; held = λ e. refl; shorter = omega arith; ended = λ e. inl e; joined = λ line text. refl; username = inl refl; password = inr (password, refl, refl); login = inl refl; logged_out = λ e. inl e }
-keeps (Login u) x = record { id = refl; address = refl; owed = refl; held = λ e. refl; shorter = omega arith; ended = λ e. inl e; joined = λ line text. refl; username = inl refl; password = inl refl; login = inr (inr (u, refl, refl)); logged_out = λ e. (let never : Some u ≡ None = e in cc never) }
-keeps Ending x = record {
-  id = refl;
-  address = refl;
-  owed = refl;
-  held = λ e. (let never : true ≡ false = e in cc never);
-  shorter = omega arith;
-  ended = λ e. inr (refl, refl);
-  joined = λ line text. ap (λ (held : List ℕ). let y : SessionState = record x { held = held; owed = x.owed ++ text; login = None; ending = true } in y) (drop-nil (length line + 1));
-  username = inl refl;
-  password = inl refl;
-  login = inr (inl refl);
-  logged_out = λ e. inr refl;
+keeps change x = record {
+  id = grind arith;
+  address = grind arith;
+  owed = grind arith;
+  held = grind arith;
+  shorter = grind arith;
+  ended = grind arith;
+  joined = grind (arith, drop-nil);
+  username = grind arith;
+  password = grind arith;
+  login = grind arith;
+  logged_out = grind arith;
 }
-keeps _ x = record { id = refl; address = refl; owed = refl; held = λ e. refl; shorter = omega arith; ended = λ e. inl e; joined = λ line text. refl; username = inl refl; password = inl refl; login = inl refl; logged_out = λ e. inl e }
 
 -- what holds where nothing of the UPSs changes, where a forced shutdown is set, and where an order is told, tracked or not, holds of each change
 pub of_upses : (P : (UpsId → List Telling) → List UpsState → Type 0) (change : Change) (xs : List UpsState) → P (λ u. []) xs

@@ -1,25 +1,21 @@
 -- What is noted of an event.
-use Rattle.std.proofs.Common.{◌≡◌, ℕ, zero, suc, ◌+◌, ◌-◌, ◌≤◌, Bool, true, false, List, [], ◌∷◌, ◌++◌, Option, Some, None, Result, refl, sym, ◌∙◌, ap, subst, arith, length, take, zero-add, append-nil, append_assoc}
-use Rattle.std.specs.Prelude.{is_none, option_and_then, if◌then◌else◌}
+use Rattle.std.proofs.Common.{◌≡◌, ℕ, zero, suc, ◌+◌, ◌-◌, ◌≤◌, Bool, true, false, List, [], ◌∷◌, ◌++◌, Option, Some, None, Result, refl, ap, arith, length, take, zero-add, append-nil, append_assoc}
+use Rattle.std.specs.Prelude.{if◌then◌else◌}
 use Rattle.std.specs.List.{filter_map, cons_option}
 use Rattle.std.proofs.lemmas.List.Elements.{filter_map-append}
-use Rattle.std.proofs.lemmas.Bool.{cond_both, cond-true, cond-false}
 use Rattle.nutanswer.specs.declared.command.Command.{Command}
 use Rattle.nutanswer.specs.declared.err_word.ErrWord.{ErrWord}
 use Rattle.nutanswer.specs.Command.{read_command}
-use Rattle.nutanswer.specs.declared.reply.Change.TheVariants.{Nothing}
 use Rattle.nutanswer.specs.declared.reply.Reply.{Reply}
-use Rattle.nutlisting.specs.Items.{ListingState, text_of}
-use Rattle.nutcore.proofs.Common.{Change, Fault, ServerState, SessionState, session}
+use Rattle.nutcore.proofs.Common.{Fault, ServerState, session}
 use Rattle.nutcore.specs.declared.deed.Deed.{Deed}
 use Rattle.nutcore.specs.declared.deed.TheConstants.{DEED_LIMIT}
 use Rattle.nutcore.specs.declared.event.Event.TheVariants.{Feed, Took}
 use Rattle.nutcore.specs.Calls.{done}
-use Rattle.nutcore.specs.Reply.{reply, change_by}
 use Rattle.nutcore.specs.Step.{with_input, without_output, may_take, refused_after}
-use Rattle.nutcore.specs.Pump.{next_line, next_line_for, after_line, after_lines, after_all_lines, pump_stops, is_overlong, held_of}
-use Rattle.nutcore.specs.History.{Execution, of_line, of_notice, next_execution, lines_executed, notice, pump_executions, executions_until, executions_by}
-use Rattle.nutcore.specs.Deeds.{is_refusal, is_told, deed_of, deeds_of}
+use Rattle.nutcore.specs.Pump.{next_line_for, after_line, after_lines, after_all_lines, pump_stops, held_of}
+use Rattle.nutcore.specs.History.{Execution, next_execution, lines_executed, notice, pump_executions, executions_until, executions_by}
+use Rattle.nutcore.specs.Deeds.{deed_of, deeds_of}
 use Rattle.nutcore.specs.Promises.{Replies, refused_overlong, is_told_by, deed_in_reply, with_deed, told_next, with_next}
 use Rattle.nutcore.proofs.Loops.{none_of, stopped_line}
 use Rattle.nutcore.proofs.EventSteps.{input_absent}
@@ -29,142 +25,71 @@ executed-add : (j k : ℕ) (s : ServerState) (c : ℕ) → lines_executed (j + k
 unfolding lines_executed after_lines
 executed-add zero k s c = ap (λ n. lines_executed n s c) (zero-add k)
 executed-add (suc j) k s c =
-    let next : List Execution = next_execution s c (next_line_for s c) in
     let e : suc j + k ≡ suc (j + k) = omega arith in
-    ap (λ n. lines_executed n s c) e ∙ ap (λ (xs : List Execution). next ++ xs) (executed-add j k (after_line s c) c) ∙ sym (append_assoc next (lines_executed j (after_line s c) c) (lines_executed k (after_lines j (after_line s c) c) c))
-
-one_executed : (s : ServerState) (c : ℕ) → lines_executed 1 s c ≡ next_execution s c (next_line_for s c)
-unfolding lines_executed
-one_executed s c = append-nil (next_execution s c (next_line_for s c))
+    cc (executed-add j k (after_line s c) c, append_assoc (next_execution s c (next_line_for s c)) (lines_executed j (after_line s c) c) (lines_executed k (after_lines j (after_line s c) c) c))
 
 -- where the pump stops, no more are
 none_executed : (k : ℕ) (s : ServerState) (c : ℕ) → pump_stops s c ≡ true → lines_executed k s c ≡ []
 unfolding lines_executed
 none_executed zero s c stop = refl
-none_executed (suc k) s c stop =
-    ap (λ (o : Option (List ℕ)). next_execution s c o ++ lines_executed k (after_line s c) c) (none_of (next_line_for s c) stop)
-    ∙ ap (λ (z : ServerState). lines_executed k z c) (stopped_line s c stop)
-    ∙ none_executed k s c stop
+none_executed (suc k) s c stop = cc (none_of (next_line_for s c) stop, stopped_line s c stop, none_executed k s c stop)
 
 all_executed : (k : ℕ) (s : ServerState) (c : ℕ) → k ≤ length (held_of (session c s)) → pump_stops (after_lines k s c) c ≡ true → lines_executed (length (held_of (session c s))) s c ≡ lines_executed k s c
 all_executed k s c le stop =
     let n = length (held_of (session c s)) in
     let e : n ≡ k + (n - k) = omega arith in
-    ap (λ m. lines_executed m s c) e ∙ executed-add k (n - k) s c ∙ ap (λ (xs : List Execution). lines_executed k s c ++ xs) (none_executed (n - k) (after_lines k s c) c stop) ∙ append-nil (lines_executed k s c)
+    cc (executed-add k (n - k) s c, none_executed (n - k) (after_lines k s c) c stop, append-nil (lines_executed k s c))
 
 -- the notice is no deed
-no_deed : (s : ServerState) (c : ℕ) → filter_map deed_of (notice s c) ≡ []
-no_deed s c = cond_both (is_overlong s c) (of_notice c ∷ []) [] (λ (xs : List Execution). filter_map deed_of xs ≡ []) (λ due. refl) (λ quiet. refl)
-
 all_deeds : (k : ℕ) (s : ServerState) (c : ℕ) → k ≤ length (held_of (session c s)) → pump_stops (after_lines k s c) c ≡ true → deeds_of (executions_until s c None) ≡ deeds_of (lines_executed k s c)
 unfolding executions_until pump_executions
 all_deeds k s c le stop =
     let all : List Execution = lines_executed (length (held_of (session c s))) s c in
-    ap (take DEED_LIMIT) (filter_map-append deed_of all (notice (after_all_lines s c) c) ∙ ap (λ (xs : List Deed). filter_map deed_of all ++ xs) (no_deed (after_all_lines s c) c) ∙ append-nil (filter_map deed_of all) ∙ ap (filter_map deed_of) (all_executed k s c le stop))
+    grind (arith, filter_map-append deed_of all (notice (after_all_lines s c) c), append-nil (filter_map deed_of all), all_executed k s c le stop)
 
 -- as many are noted of what is there and what comes as of what was there before
 take_onto : (n : ℕ) (xs ys : List Deed) → take n (take n xs ++ ys) ≡ take n (xs ++ ys)
 take_onto zero xs ys = refl
 take_onto (suc n) [] ys = refl
-take_onto (suc n) (x ∷ xs) ys = ap (λ (zs : List Deed). x ∷ zs) (take_onto n xs ys)
+take_onto (suc n) (x ∷ xs) ys = cc (take_onto n xs ys)
 
 one_noted : (xs : List Deed) (o : Option Deed) (deeds : List Deed) → deeds ≡ take DEED_LIMIT xs → with_deed o deeds ≡ take DEED_LIMIT (xs ++ cons_option o [])
-one_noted xs None deeds e = e ∙ ap (take DEED_LIMIT) (sym (append-nil xs))
-one_noted xs (Some deed) deeds e = ap (λ (zs : List Deed). take DEED_LIMIT (zs ++ deed ∷ [])) e ∙ take_onto DEED_LIMIT xs (deed ∷ [])
+one_noted xs o deeds e = grind (arith, take_onto DEED_LIMIT xs, append-nil)
 
 next_deeds : (s : ServerState) (c : ℕ) (o : Option (List ℕ)) → cons_option (told_next s c o) [] ≡ filter_map deed_of (next_execution s c o)
 next_deeds s c o = grind arith
 
-noted_more : (s : ServerState) (c : ℕ) (xs : List Execution) (deeds : List Deed) → deeds ≡ deeds_of xs → with_next s c deeds ≡ deeds_of (xs ++ next_execution s c (next_line_for s c))
-noted_more s c xs deeds e =
-    let next : Option (List ℕ) = next_line_for s c in
-    one_noted (filter_map deed_of xs) (told_next s c next) deeds e
-    ∙ ap (λ (zs : List Deed). take DEED_LIMIT (filter_map deed_of xs ++ zs)) (next_deeds s c next)
-    ∙ ap (take DEED_LIMIT) (sym (filter_map-append deed_of xs (next_execution s c next)))
-
--- the loop begins
-pub noted_first : (s : ServerState) (c : ℕ) (deeds : List Deed) → deeds ≡ [] → deeds ≡ deeds_of (lines_executed 0 s c)
-unfolding lines_executed
-noted_first s c deeds none = none
-
 -- it goes on
 pub noted_next : (s t : ServerState) (c k : ℕ) (deeds deeds' : List Deed) → t ≡ after_lines k s c → deeds ≡ deeds_of (lines_executed k s c) → deeds' ≡ with_next t c deeds → deeds' ≡ deeds_of (lines_executed (k + 1) s c)
+unfolding lines_executed
 noted_next s t c k deeds deeds' e so_far more =
-    let u : ServerState = after_lines k s c in
-    more
-    ∙ noted_more t c (lines_executed k s c) deeds so_far
-    ∙ ap (λ (z : ServerState). deeds_of (lines_executed k s c ++ next_execution z c (next_line_for z c))) e
-    ∙ ap (λ (xs : List Execution). deeds_of (lines_executed k s c ++ xs)) (sym (one_executed u c))
-    ∙ ap deeds_of (sym (executed-add k 1 s c))
+    let next : Option (List ℕ) = next_line_for t c in
+    let xs : List Execution = lines_executed k s c in
+    cc (one_noted (filter_map deed_of xs) (told_next t c next) deeds so_far, next_deeds t c next, filter_map-append deed_of xs (next_execution t c next), append-nil (next_execution t c next), executed-add k 1 s c)
 
--- it ends: memory was refused, or all lines are done
-pub noted_until : (s : ServerState) (c k : ℕ) (deeds : List Deed) → deeds ≡ deeds_of (lines_executed k s c) → deeds ≡ deeds_of (executions_until s c (Some k))
-unfolding executions_until
-noted_until s c k deeds e = e
-
-never_memory : (b : Bool) → refused_after (done (refused_overlong b)) ≡ None
-never_memory b = grind arith
-
+-- it ends: all lines are done
 pub noted_all : (s t : ServerState) (c k : ℕ) (b : Bool) (r : Result (Unit {0}) Fault) (deeds : List Deed) → t ≡ after_lines k s c → k ≤ length (held_of (session c s)) → next_line_for t c ≡ None → r ≡ refused_overlong b → deeds ≡ deeds_of (lines_executed k s c) →
     deeds ≡ deeds_of (executions_until s c (refused_after (done r)))
-noted_all s t c k b r deeds e le none told so_far =
-    so_far
-    ∙ sym (all_deeds k s c le (subst (λ (z : ServerState). pump_stops z c ≡ true) e (ap is_none none)))
-    ∙ ap (λ (m : Option ℕ). deeds_of (executions_until s c m)) (sym (ap (λ (z : Result (Unit {0}) Fault). refused_after (done z)) told ∙ never_memory b))
-
--- no listing is a refusal
-listing_told : (l : ListingState) → is_refusal (text_of l) ≡ false
-listing_told l = refl
-
-listed : (s : ServerState) (c : ℕ) (line : List ℕ) (l : ListingState) → reply s c line ≡ text_of l → change_by s c (read_command line) ≡ Nothing → None ≡ deed_of (of_line s c line)
-listed s c line l text change =
-    sym (cond-false _ _ _ (ap (λ (z : Change). is_told s.upses (reply s c line) z) change ∙ ap is_refusal text ∙ listing_told l))
-
--- what is told of a reply is told of its line
-of_reply : (s : ServerState) (c : ℕ) (line : List ℕ) (r : Reply) → Replies s c line r → (if is_told_by s.upses r then deed_in_reply c (read_command line) r else None) ≡ deed_of (of_line s c line)
-of_reply s c line r is = grind arith
+noted_all s t c k b r deeds e le none told so_far = grind (arith, all_deeds k s c le (cc (e, none)))
 
 -- so it is noted, where it is told, and else nothing is
 pub noted_reply : (s : ServerState) (c : ℕ) (line : List ℕ) (r : Reply) (told : Bool) (read : Result (Option Command) ErrWord) (before deeds : List Deed) → next_line_for s c ≡ Some line → Replies s c line r → told ≡ is_told_by s.upses r → read_command line ≡ read →
     deeds ≡ with_deed (if told then deed_in_reply c read r else None) before → deeds ≡ with_next s c before
-noted_reply s c line r told read before deeds next is e reads noted =
-    noted
-    ∙ ap (λ (b : Bool). with_deed (if b then deed_in_reply c read r else None) before) e
-    ∙ ap (λ (z : Result (Option Command) ErrWord). with_deed (if is_told_by s.upses r then deed_in_reply c z r else None) before) (sym reads)
-    ∙ ap (λ (o : Option Deed). with_deed o before) (of_reply s c line r is)
-    ∙ ap (λ (o : Option (List ℕ)). with_deed (told_next s c o) before) (sym next)
+noted_reply s c line r told read before deeds next is e reads noted = grind arith
 
 -- where the client isn't open, nothing is
-absent_deeds : (s : ServerState) (c : ℕ) → session c s ≡ None → deeds_of (executions_until s c None) ≡ []
-unfolding lines_executed after_lines
-absent_deeds s c absent = all_deeds 0 s c (omega arith) (ap (λ (o : Option SessionState). is_none (option_and_then next_line o)) absent)
-
 pub fed_absent : (s s' : ServerState) (c : ℕ) (piece : List ℕ) (deeds : List Deed) → s' ≡ s → session c s' ≡ None → deeds ≡ [] → deeds ≡ deeds_of (executions_by s (Feed c piece) None)
-unfolding executions_by
-fed_absent s s' c piece deeds same absent none =
-    none
-    ∙ sym (absent_deeds s' c absent)
-    ∙ ap (λ (z : ServerState). deeds_of (executions_until z c None)) (sym (input_absent s' c piece absent))
-    ∙ ap (λ (z : ServerState). deeds_of (executions_until (with_input z c piece) c None)) same
+unfolding executions_by lines_executed after_lines
+fed_absent s s' c piece deeds same absent none = cc (none, all_deeds 0 s' c (omega arith) (cc absent), input_absent s' c piece absent, same)
 
 pub fed_noted : (s s' j : ServerState) (c : ℕ) (piece : List ℕ) (m : Option ℕ) (deeds : List Deed) → s' ≡ s → j ≡ with_input s' c piece → deeds ≡ deeds_of (executions_until j c m) → deeds ≡ deeds_of (executions_by s (Feed c piece) m)
 unfolding executions_by
-fed_noted s s' j c piece m deeds same fed noted =
-    noted
-    ∙ ap (λ (z : ServerState). deeds_of (executions_until z c m)) fed
-    ∙ ap (λ (z : ServerState). deeds_of (executions_until (with_input z c piece) c m)) same
+fed_noted s s' j c piece m deeds same fed noted = cc
 
 pub took_never : (s s' : ServerState) (c n : ℕ) (m : Option ℕ) (deeds : List Deed) → s' ≡ s → may_take (session c s') n ≡ false → deeds ≡ [] → deeds ≡ deeds_of (executions_by s (Took c n) m)
 unfolding executions_by
-took_never s s' c n m deeds same never none =
-    none
-    ∙ ap deeds_of (sym (cond-false _ (executions_until (without_output s' c n) c m) [] never))
-    ∙ ap (λ (z : ServerState). deeds_of (executions_by z (Took c n) m)) same
+took_never s s' c n m deeds same never none = cc
 
 pub took_noted : (s s' j : ServerState) (c n : ℕ) (m : Option ℕ) (deeds : List Deed) → s' ≡ s → may_take (session c s') n ≡ true → j ≡ without_output s' c n → deeds ≡ deeds_of (executions_until j c m) → deeds ≡ deeds_of (executions_by s (Took c n) m)
 unfolding executions_by
-took_noted s s' j c n m deeds same may took noted =
-    noted
-    ∙ ap (λ (z : ServerState). deeds_of (executions_until z c m)) took
-    ∙ ap deeds_of (sym (cond-true _ (executions_until (without_output s' c n) c m) [] may))
-    ∙ ap (λ (z : ServerState). deeds_of (executions_by z (Took c n) m)) same
+took_noted s s' j c n m deeds same may took noted = cc

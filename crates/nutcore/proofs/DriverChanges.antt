@@ -1,19 +1,20 @@
 -- What an event does to a UPS: what its driver told, what is owed, whether the driver stays, and the count; and what bytes do.
 use Rattle.std.proofs.Common.{◌≡◌, ◌≤◌, ◌∙◌, ◌+◌, ℕ, Bool, true, false, ◌&&◌, not, List, [], ◌∷◌, ◌++◌, Option, Some, None, refl, sym, ap, cond, min, take, drop, append_assoc, append-nil, arith}
-use Rattle.nutcore.proofs.Common.{never_both, and_from, flat_map-append, take-append-drop, UpsId, TrackingState, Event, cond_both}
+use Rattle.nutcore.proofs.Common.{never_both, and_from, flat_map-append, take-append-drop, UpsId, TrackingState, Event}
 use Rattle.nutdriver.specs.declared.report.Report.{Report}
 use Rattle.nutdriver.specs.declared.report.LineOutcome.{LineOutcome}
-use Rattle.nutdriver.specs.Report.{after_line}
+use Rattle.nutdriver.specs.Report.{after_line, end_in}
 use Rattle.nutcore.specs.declared.event.Event.TheVariants.{DriverUp}
 use Rattle.nutwords.specs.Text.{with_lf}
-use Rattle.nutcore.specs.Lines.{joined, whole_lines, unfinished_after, is_too_long}
-use Rattle.nutcore.specs.Reports.{end_in, with_end, is_unawaited}
-use Rattle.nutcore.specs.Ups.{UpsState, after_connecting, after_loss, greatest_count, is_refused, with_faulty_line, after_outcome, after_text, after_texts, with_unfinished}
+use Rattle.nutwords.specs.Lines.{Tail, IsCutInto, line as one_line, unfinished, overlong}
+use Rattle.nutwords.specs.WholeLines.{joined, whole_lines, unfinished_after, is_too_long, tail_after}
+use Rattle.nutwords.proofs.PublicLaws.{first_line_is_cut_off, no_line_without_lf, whole_lines_are_the_cut, whole_lines_and_the_rest_are_all}
+use Rattle.nutcore.specs.Reports.{with_end, is_unawaited}
+use Rattle.nutcore.specs.Ups.{UpsState, after_connecting, after_loss, greatest_count, after_outcome, after_text, after_texts, with_unfinished}
 use Rattle.nutcore.specs.Headline.{IsBeginning}
 use Rattle.nutcore.specs.Sound.{Each}
-use Rattle.nutcore.specs.DriverHistory.{Heard, heard_at, as_far, bytes_heard, after_heard, refusals, refused_among, IsWholeLine, CountsRefused, IsHeard}
+use Rattle.nutcore.specs.DriverHistory.{Heard, heard_at, as_far, bytes_heard, after_heard, refusals, IsWholeLine, CountsRefused, IsHeard}
 use Rattle.nutcore.specs.DriverOrders.{Telling, texts_of}
-use Rattle.nutcore.proofs.WholeLines.{no_byte_is_lost, IsWhole, each_is_whole}
 use Rattle.nutcore.proofs.DriverText.{ups_after_text, ups_after_bytes}
 
 -- counts: what one is at most, and one after two lists of lines
@@ -34,11 +35,7 @@ pub record LineLeaves (unawaited : Bool) (x : UpsState) (r : Report × LineOutco
   pub beside : (bytes : List ℕ) → with_unfinished bytes y ≡ after_outcome unawaited (with_unfinished bytes x) r
 
 pub line_leaves : (unawaited : Bool) (x : UpsState) (r : Report × LineOutcome) → LineLeaves unawaited x r (after_outcome unawaited x r)
-line_leaves unawaited x r =
-    let y : UpsState = record x { report = r.0 } in
-    cond_both (is_refused unawaited r.1) (with_faulty_line y) y (LineLeaves unawaited x r)
-    (λ is. record { report = refl; pinged = refl; owed = refl; unfinished = refl; counted = λ few. rw is refl; beside = λ bytes. rw is refl })
-    (λ is. record { report = refl; pinged = refl; owed = refl; unfinished = refl; counted = λ few. rw is (omega (arith, few)); beside = λ bytes. rw is refl })
+line_leaves unawaited x r = grind arith
 
 -- whole lines, all at one moment
 record LinesLeave (lines : List Heard) (x y : UpsState) : Type 0 where
@@ -51,33 +48,23 @@ lines_leave m place t [] x = record { report = refl; owed = refl; counted = λ f
 lines_leave m place t (line ∷ lines) x =
     let r : Report × LineOutcome = after_line m x.report line in
     let b : Bool = is_unawaited place (end_in line) t in
-    let next : TrackingState = with_end place (end_in line) t in
-    let y : UpsState = after_text m b x line in
-    let later : List Heard = heard_at m place next lines in
-    let one = line_leaves b x r in
-    let rest = lines_leave m place next lines y in
-    let more : Report → ℕ = λ (report : Report). refused_among report later in
-    record {
-      report = rest.report ∙ ap (λ (report : Report). after_heard report later) one.report;
-      owed = rest.owed ∙ one.owed;
-      counted = λ few.
-          both_counts x.faulty y.faulty (after_texts m place next lines y).faulty (refusals b r.1) (more r.0) greatest_count (one.counted few)
-          (rest.counted (count_is_few (x.faulty + refusals b r.1) y.faulty greatest_count (one.counted few)) ∙ ap (λ (report : Report). min (y.faulty + more report) greatest_count) one.report);
-    }
+    grind (arith, line_leaves b x r, lines_leave m place (with_end place (end_in line) t) lines (after_text m b x line))
 
 bytes_at : (m place : ℕ) (t : TrackingState) (lines : List (List ℕ)) → bytes_heard (heard_at m place t lines) ≡ joined lines
 bytes_at m place t [] = refl
 bytes_at m place t (line ∷ lines) = ap (λ (z : List ℕ). with_lf line ++ z) (bytes_at m place (with_end place (end_in line) t) lines)
 
-whole_at : (m place : ℕ) (t : TrackingState) (lines : List (List ℕ)) → Each IsWhole lines → Each IsWholeLine (heard_at m place t lines)
-whole_at m place t [] all = tt
-whole_at m place t (line ∷ lines) all = (record { one = all.0.0; short = (let short = all.0.1 in omega (arith, short)) }, whole_at m place (with_end place (end_in line) t) lines all.1)
+whole_at : (m place : ℕ) (t : TrackingState) (text : List ℕ) (lines : List (List ℕ)) (tail : Tail) → IsCutInto text lines tail → Each IsWholeLine (heard_at m place t lines)
+whole_at m place t text _ tail (one_line {rest = rest} {first = first} {lines = lines} split few more) =
+    (record { one = (no_line_without_lf first).1 ((first_line_is_cut_off text first rest).0 split).1; short = omega (arith, few) }, whole_at m place (with_end place (end_in first) t) rest lines tail more)
+whole_at m place t text _ _ (unfinished none few) = tt
+whole_at m place t text _ _ (overlong none many) = tt
 
 begins_with : (m place : ℕ) (t : TrackingState) (text : List ℕ) (first others : List (List ℕ)) → first ++ others ≡ whole_lines text → IsBeginning (bytes_heard (heard_at m place t first)) text
 begins_with m place t text first others all =
     let rest : List ℕ = unfinished_after text in
     let joins : joined first ++ joined others ≡ joined (whole_lines text) = sym (flat_map-append with_lf first others) ∙ ap joined all in
-    (joined others ++ rest, ap (λ (z : List ℕ). z ++ (joined others ++ rest)) (bytes_at m place t first) ∙ sym (append_assoc (joined first) (joined others) rest) ∙ ap (λ (z : List ℕ). z ++ rest) joins ∙ sym (no_byte_is_lost text))
+    (joined others ++ rest, ap (λ (z : List ℕ). z ++ (joined others ++ rest)) (bytes_at m place t first) ∙ sym (append_assoc (joined first) (joined others) rest) ∙ ap (λ (z : List ℕ). z ++ rest) joins ∙ sym (whole_lines_and_the_rest_are_all text))
 
 begins_text : (m place : ℕ) (t : TrackingState) (text : List ℕ) (refused : Option ℕ) → IsBeginning (bytes_heard (heard_at m place t (as_far refused (whole_lines text)))) text
 begins_text m place t text None = begins_with m place t text (whole_lines text) [] (append-nil (whole_lines text))
@@ -151,8 +138,8 @@ module _ (now : ℕ) (u : UpsId) (e : Event) (x : UpsState) where
       by_length is true = by_loss is None
       by_length is false = let left = lines_leave now u.place t (whole_lines text) x in record {
         stays = λ was still. record {
-          whole = whole_at now u.place t (whole_lines text) (each_is_whole text);
-          all = no_byte_is_lost text ∙ ap (λ (z : List ℕ). z ++ unfinished_after text) (sym (bytes_at now u.place t (whole_lines text)));
+          whole = whole_at now u.place t text (whole_lines text) (tail_after text) (whole_lines_are_the_cut text);
+          all = whole_lines_and_the_rest_are_all text ∙ ap (λ (z : List ℕ). z ++ unfinished_after text) (sym (bytes_at now u.place t (whole_lines text)));
           report = left.report;
           counted = left.counted;
         };

@@ -1,30 +1,128 @@
--- Drivers in whole runs: since one connected, up to its loss, and the count of its refused lines.
-use Rattle.std.proofs.Common.{◌≡◌, ◌≤◌, ◌<◌, ◌∙◌, ◌+◌, ℕ, Bool, true, false, List, [], ◌∷◌, ◌++◌, Option, Some, Result, Ok, Err, refl, sym, ap, subst, min, length, append_assoc, inl, inr, arith}
-use Rattle.std.specs.Prelude.{◌⊎◌}
-use Rattle.nutcore.proofs.Common.{never_both, option_map_or, cond-false, same_Some, UpsId, Event, Outcome, ServerState, ups_at, Run}
-use Rattle.nutdriver.specs.declared.line.DriverLine.{DriverLine}
-use Rattle.nutdriver.specs.declared.fault.DriverFault.{DriverFault}
-use Rattle.nutdriver.specs.declared.effect.Effect.{Effect}
-use Rattle.nutdriver.specs.declared.effect.Effect.TheVariants.{Tracked}
+-- What a driver told, was told and was sent over whole runs: since it connected, up to its loss, and the count of its refused lines.
+use Rattle.std.proofs.Common.{◌≡◌, ◌∙◌, ◌+◌, ℕ, true, false, List, [], ◌∷◌, ◌++◌, Option, Some, refl, sym, ap, subst, min, append_assoc, append-nil, arith, Bool, not, ◌&&◌, ◌≤◌, ◌<◌, length, inl, inr}
+use Rattle.nutcore.proofs.Common.{option_map_or, flat_map-append, same_Some, UpsId, Event, Outcome, ServerState, ups_at, after, Run, UpsState, never_both}
 use Rattle.nutdriver.specs.declared.report.Report.{Report}
-use Rattle.nutdriver.specs.Tree.{TreeState}
-use Rattle.nutdriver.specs.DriverLine.{read_driver_line}
-use Rattle.nutdriver.specs.DriverStep.{driver_step}
-use Rattle.nutdriver.specs.Report.{lost_report, after_step, after_reading}
-use Rattle.nutdriver.specs.declared.report.LineOutcome.TheVariants.{Refused}
+use Rattle.nutdriver.specs.Report.{after_line, lost_report}
+use Rattle.nutwords.specs.Text.{with_lf}
+use Rattle.nutcore.specs.Ups.{UpsState, greatest_count, new_ups, after_connecting}
+use Rattle.nutcore.specs.DriverHistory.{Heard, heard_in_event, heard, bytes_heard, after_heard, refused_among, IsWholeLine, came_in_event, came, has_driver, StaysConnected, IsHeard, WhatADriverToldIsExecuted}
+use Rattle.nutcore.proofs.UpsPlaces.{read_off, Stands, within}
+use Rattle.nutcore.proofs.DriverChanges.{count_is_few, both_counts, Does}
+use Rattle.nutcore.proofs.Events.{each}
+use Rattle.nutcore.proofs.DriverSteps.{IsThere}
+use Rattle.nutcore.proofs.SoundUps.{each_join, each_get, each_same}
+use Rattle.nutcore.specs.Sound.{IsSoundUps, IsSound, EachEventKeepsTheServerSound, Each, ANewServerIsSound, EveryRunKeepsTheServerSound}
+use Rattle.nutcore.specs.DriverOrders.{Telling, texts_of, told_in_event, owed_to_driver, taken_in_event, is_lost_by, Connections, last, lost, with_front, in_front, connections, IsSentAndOwed, WhatADriverWasSentAndIsOwedIsWhatItWasTold}
+use Rattle.std.specs.Prelude.{◌⊎◌}
 use Rattle.nutcore.specs.declared.event.Event.TheVariants.{DriverUp}
 use Rattle.nutcore.specs.declared.event.Outcome.TheVariants.{Done}
-use Rattle.nutcore.specs.Ups.{UpsState, new_ups, after_connecting, greatest_count}
-use Rattle.nutcore.specs.Step.{Step, MayAnswer, MayLackMemory, connected_by, outcome_of, after}
-use Rattle.nutcore.specs.Sound.{Each, IsSoundUps, IsSound, ANewServerIsSound, EveryRunKeepsTheServerSound}
-use Rattle.nutcore.specs.DriverHistory.{Heard, heard_in_event, heard, bytes_heard, refused_among, came_in_event, came, has_driver, StaysConnected, IsHeard}
-use Rattle.nutcore.specs.DriverRuns.{IsNewServer, ConnectsHere, ConnectedInRun, WhatCameSinceConnectingIsExecuted, ALostDriversLinesAreABeginning, IsRefusedFor, WhichLinesAreRefused, count_of, refused_lines, RefusedLinesAreCounted, ANewServerCountsAllRefusedLines}
-use Rattle.nutcore.proofs.UpsPlaces.{Stands, within, read_off}
-use Rattle.nutcore.proofs.SoundUps.{each_get, each_same}
-use Rattle.nutcore.proofs.DriverChanges.{count_is_few, both_counts}
-use Rattle.nutcore.proofs.Events.{each}
-use Rattle.nutcore.proofs.DriverHistory.{has_it, bytes_both, first_stays, told_is_executed}
+use Rattle.nutcore.specs.Step.{Step, MayAnswer, MayLackMemory, outcome_of, after}
+use Rattle.nutcore.specs.DriverRuns.{IsNewServer, ConnectsHere, ConnectedInRun, WhatCameSinceConnectingIsExecuted, ALostDriversLinesAreABeginning, WhichLinesAreRefused, count_of, refused_lines, RefusedLinesAreCounted, ANewServerCountsAllRefusedLines}
 use Rattle.std.proofs.lemmas.Bool.{cases_Bool}
+
+pub has_it : (u : UpsId) (s : ServerState) (x : UpsState) → ups_at u.place s ≡ Some x → has_driver u s ≡ x.report.connected
+has_it u s x there = read_off (λ (y : UpsState). y.report.connected) false u s x there
+
+-- runs
+after_both : (report : Report) (xs ys : List Heard) → after_heard report (xs ++ ys) ≡ after_heard (after_heard report xs) ys
+after_both report [] ys = refl
+after_both report (x ∷ xs) ys = after_both (after_line x.moment report x.line).0 xs ys
+
+refused_both : (report : Report) (xs ys : List Heard) → refused_among report (xs ++ ys) ≡ refused_among report xs + refused_among (after_heard report xs) ys
+refused_both report [] ys = omega arith
+refused_both report (x ∷ xs) ys = omega (arith, refused_both (after_line x.moment report x.line).0 xs ys)
+
+pub bytes_both : (xs ys : List Heard) → bytes_heard (xs ++ ys) ≡ bytes_heard xs ++ bytes_heard ys
+bytes_both xs ys = flat_map-append (λ (x : Heard). with_lf x.line) xs ys
+
+heard_both : (x y z : UpsState) (a b : List ℕ) (ls ms : List Heard) → IsHeard x a ls y → IsHeard y b ms z → IsHeard x (a ++ b) (ls ++ ms) z
+heard_both x y z a b ls ms f g = record {
+  whole = each_join IsWholeLine ls ms f.whole g.whole;
+  all =
+      sym (append_assoc x.unfinished a b) ∙ ap (λ (w : List ℕ). w ++ b) f.all ∙ append_assoc (bytes_heard ls) y.unfinished b
+      ∙ ap (λ (w : List ℕ). bytes_heard ls ++ w) g.all ∙ sym (append_assoc (bytes_heard ls) (bytes_heard ms) z.unfinished)
+      ∙ ap (λ (w : List ℕ). w ++ z.unfinished) (sym (bytes_both ls ms));
+  report = g.report ∙ ap (λ (r : Report). after_heard r ms) f.report ∙ sym (after_both x.report ls ms);
+  counted = λ few.
+      let first = f.counted few in
+      let more = g.counted (count_is_few (x.faulty + refused_among x.report ls) y.faulty greatest_count first) in
+      both_counts x.faulty y.faulty z.faulty (refused_among x.report ls) (refused_among (after_heard x.report ls) ms) greatest_count first
+      (more ∙ ap (λ (r : Report). min (y.faulty + refused_among r ms) greatest_count) f.report)
+      ∙ ap (λ (n : ℕ). min (x.faulty + n) greatest_count) (sym (refused_both x.report ls ms));
+}
+
+driver_there : (u : UpsId) (s : ServerState) → has_driver u s ≡ true → IsThere s u true
+driver_there u s h = grind arith
+
+pub first_stays : (u : UpsId) (s : ServerState) (es : List Event) (os : List Outcome) → StaysConnected u s es os → has_driver u s ≡ true
+first_stays u s (e ∷ es) (o ∷ os) h = h.0
+first_stays u s es os h = h
+
+pub told_is_executed : WhatADriverToldIsExecuted
+told_is_executed old new [] [] u r stays =
+    let x = driver_there u old stays in
+    let none : IsHeard x.ups [] [] x.ups = record { whole = tt; all = append-nil x.ups.unfinished; report = refl; counted = λ few. omega (arith, few) } in
+    record { before = x.ups; after = x.ups; there_before = x.there; there_after = ap (ups_at u.place) r ∙ x.there; is_heard = none }
+told_is_executed old new (e ∷ es) (o ∷ os) u (mid, step, r) stays =
+    let next : ServerState = after old e o in
+    let x = driver_there u old stays.0 in
+    let first = (each old e).leaves u o x.ups x.there in
+    let still : first.ups.report.connected ≡ true = sym (has_it u next first.ups first.there) ∙ first_stays u next es os stays.1 in
+    let rest = told_is_executed next new es os u (subst (λ (z : ServerState). Run z es os new) step.leaves r) stays.1 in
+    let same : rest.before ≡ first.ups = same_Some rest.before first.ups (sym rest.there_before ∙ first.there) in
+    record {
+      before = x.ups;
+      after = rest.after;
+      there_before = x.there;
+      there_after = rest.there_after;
+      is_heard =
+          heard_both x.ups first.ups rest.after (came_in_event u e) (came u es) (heard_in_event u old e o) (heard u next es os) (first.is.stays x.is still)
+          (subst (λ (y : UpsState). IsHeard y (came u es) (heard u next es os) rest.after) same rest.is_heard);
+    }
+told_is_executed old new es os u r stays = absurd r
+
+owed_nothing : (u : UpsId) (s : ServerState) (x : UpsState) → IsSound s → ups_at u.place s ≡ Some x → x.report.connected ≡ false → x.owed ≡ []
+owed_nothing u s x sound there gone = ap (λ (y : UpsState). y.owed) ((each_get (IsSoundUps s.moment) s.upses u.place x there sound.upses).lost gone)
+
+lost_is : (a b : Bool) → (a && not b) ≡ true → b ≡ false
+lost_is a b e = grind arith
+
+joined : (before : List ℕ) (told more : List Telling) (taken between : List ℕ) → before ++ texts_of told ≡ taken ++ between → before ++ texts_of (told ++ more) ≡ taken ++ (between ++ texts_of more)
+joined before told more taken between e =
+    ap (λ (z : List ℕ). before ++ z) (flat_map-append _ told more) ∙ sym (append_assoc before (texts_of told) (texts_of more)) ∙ ap (λ (z : List ℕ). z ++ texts_of more) e ∙ append_assoc taken between (texts_of more)
+
+in_front_owed : (before after : List ℕ) (told : List Telling) (taken between : List ℕ) (later : Connections) → before ++ texts_of told ≡ taken ++ between → IsSentAndOwed between later after → IsSentAndOwed before (with_front told taken later) after
+in_front_owed before after told taken between (last now) e h = joined before told now.told taken between e ∙ ap (λ (z : List ℕ). taken ++ z) h ∙ sym (append_assoc taken now.taken after)
+in_front_owed before after told taken between (lost first later) e ((rest, h), more) =
+    ((rest, append_assoc taken first.taken rest ∙ ap (λ (z : List ℕ). taken ++ z) h ∙ sym (joined before told first.told taken between e)), more)
+
+event_sent : (u : UpsId) (s : ServerState) (e : Event) (o : Outcome) (x : UpsState) (owed : List ℕ) (later : Connections) → ups_at u.place s ≡ Some x
+    → (l : Stands u.place (after s e o).upses (Does s.moment u e x (came_in_event u e) (heard_in_event u s e o) (told_in_event u s e o) (taken_in_event u s e))) → (x.report.connected ≡ false → x.owed ≡ [])
+    → (l.ups.report.connected ≡ false → l.ups.owed ≡ []) → IsSentAndOwed l.ups.owed later owed → IsSentAndOwed x.owed (in_front (is_lost_by u s e o) (told_in_event u s e o) (taken_in_event u s e) later) owed
+event_sent u s e o x owed later there l before nothing rest = by_loss (is_lost_by u s e o) refl
+  where
+    lost_here : is_lost_by u s e o ≡ (x.report.connected && not l.ups.report.connected)
+    lost_here = ap (λ (b : Bool). b && not (has_driver u (after s e o))) (has_it u s x there) ∙ ap (λ (b : Bool). x.report.connected && not b) (has_it u (after s e o) l.ups l.there)
+
+    by_loss : (b : Bool) → is_lost_by u s e o ≡ b → IsSentAndOwed x.owed (in_front b (told_in_event u s e o) (taken_in_event u s e) later) owed
+    by_loss true k = (l.is.takes, subst (λ (z : List ℕ). IsSentAndOwed z later owed) (nothing (lost_is x.report.connected l.ups.report.connected (sym lost_here ∙ k))) rest)
+    by_loss false k = in_front_owed x.owed owed (told_in_event u s e o) (taken_in_event u s e) l.ups.owed later (l.is.owes before (sym lost_here ∙ k)) rest
+
+run_sent : EachEventKeepsTheServerSound → (old new : ServerState) (es : List Event) (os : List Outcome) (u : UpsId) (x : UpsState) → IsSound old → ups_at u.place old ≡ Some x → Run old es os new
+    → IsSentAndOwed x.owed (connections u old es os) (owed_to_driver u new)
+run_sent keeps old new [] [] u x sound there r = append-nil x.owed ∙ sym (read_off (λ (y : UpsState). y.owed) [] u new x (ap (ups_at u.place) r ∙ there))
+run_sent keeps old new (e ∷ es) (o ∷ os) u x sound there (mid, step, r) =
+    let next : ServerState = after old e o in
+    let sound_next : IsSound next = subst IsSound step.leaves (keeps old mid e o step sound) in
+    let l = (each old e).leaves u o x there in
+    let rest = run_sent keeps next new es os u l.ups sound_next l.there (subst (λ (z : ServerState). Run z es os new) step.leaves r) in
+    event_sent u old e o x (owed_to_driver u new) (connections u next es os) there l (owed_nothing u old x sound there) (owed_nothing u next l.ups sound_next l.there) rest
+run_sent keeps old new es os u x sound there r = absurd r
+
+pub sent_to_drivers : EachEventKeepsTheServerSound → WhatADriverWasSentAndIsOwedIsWhatItWasTold
+sent_to_drivers keeps old new es os u sound few r =
+    let x = within u.place old.upses few in
+    subst (λ (z : List ℕ). IsSentAndOwed z (connections u old es os) (owed_to_driver u new)) (sym (read_off (λ (y : UpsState). y.owed) [] u old x.ups x.there)) (run_sent keeps old new es os u x.ups sound x.there r)
 
 -- a new server
 abbrev IsNew : UpsState → Type 0
@@ -33,14 +131,13 @@ IsNew x = x ≡ new_ups
 new_at : (s : ServerState) (u : UpsId) → IsNewServer s → u.place < length s.upses → ups_at u.place s ≡ Some new_ups
 new_at s u new few =
     let x = within u.place s.upses few in
-    let all : Each IsNew s.upses = subst (λ (t : ServerState). Each IsNew t.upses) (sym new.is) (each_same IsNew new_ups refl (length new.list)) in
-    x.there ∙ ap (λ (y : UpsState). Some y) (each_get IsNew s.upses u.place x.ups x.there all)
+    let all : Each IsNew s.upses = rw new.is (each_same IsNew new_ups refl (length new.list)) in
+    grind (arith, each_get IsNew s.upses u.place x.ups x.there all)
 
 -- a connection begins
 up_done : (u : UpsId) (s : ServerState) (o : Outcome) (x : UpsState) → ups_at u.place s ≡ Some x → x.report.connected ≡ false → MayAnswer s (DriverUp u) o → o ≡ Done
 unfolding outcome_of MayLackMemory
-up_done u s o x there absent (inl is) = is ∙ ap connected_by there ∙ cond-false _ _ _ absent
-up_done u s o x there absent (inr (k, is, never)) = absurd never
+up_done u s o x there absent may = grind arith
 
 begins_here : (u : UpsId) (s : ServerState) (e : Event) (o : Outcome) (es : List Event) (os : List Outcome) (now : UpsState) → e ≡ DriverUp u → o ≡ Done → ConnectsHere u s es os now → ConnectedInRun u s (e ∷ es) (o ∷ os) now
 begins_here u s e o es os now is done connects = record { events_before = []; outcomes_before = []; server = s; events_since = es; outcomes_since = os; events_are = ap (λ (z : Event). z ∷ es) is; outcomes_are = ap (λ (z : Outcome). z ∷ os) done; reached = refl; connects = connects }
@@ -137,22 +234,7 @@ lost_lines_begin old mid new es os e o u r stays step gone =
 
 -- which lines are refused
 pub which_are_refused : WhichLinesAreRefused
-which_are_refused = record { refused = is; only = λ moment report line fault h. by_reading moment report line fault (read_driver_line line) refl h }
-  where
-    at : ℕ → Report → Report
-    at moment report = record report { heard = moment }
-
-    is : (moment : ℕ) (report : Report) (line : List ℕ) (fault : DriverFault) → IsRefusedFor report line fault → after_reading (at moment report) (read_driver_line line) ≡ (at moment report, Refused fault)
-    is moment report line fault h = grind arith
-
-    by_step : (moment : ℕ) (report : Report) (line : List ℕ) (fault : DriverFault) (said : DriverLine) → read_driver_line line ≡ Ok said → (r : Result (TreeState × Effect) DriverFault) → driver_step report.tree said ≡ r → (after_step (at moment report) r).1 ≡ Refused fault → IsRefusedFor report line fault
-    by_step moment report line fault said read (Ok (tree, Tracked id number)) e h = cc h
-    by_step moment report line fault said read (Ok (tree, effect)) e h = cc h
-    by_step moment report line fault said read (Err f) e h = let same : f ≡ fault = cc h in inr (said, read, subst (λ (g : DriverFault). driver_step report.tree said ≡ Err g) same e)
-
-    by_reading : (moment : ℕ) (report : Report) (line : List ℕ) (fault : DriverFault) (r : Result DriverLine DriverFault) → read_driver_line line ≡ r → (after_reading (at moment report) r).1 ≡ Refused fault → IsRefusedFor report line fault
-    by_reading moment report line fault (Ok said) e h = by_step moment report line fault said e (driver_step report.tree said) refl h
-    by_reading moment report line fault (Err f) e h = let same : f ≡ fault = cc h in inl (subst (λ (g : DriverFault). read_driver_line line ≡ Err g) same e)
+which_are_refused = grind arith
 
 -- they are counted
 run_counts : (old new : ServerState) (es : List Event) (os : List Outcome) (u : UpsId) (x : UpsState) → ups_at u.place old ≡ Some x → x.faulty ≤ greatest_count → Run old es os new → count_of u new ≡ min (x.faulty + refused_lines u old es os) greatest_count

@@ -1,11 +1,12 @@
 -- Each event of a driver, over plain states.
-use Rattle.std.proofs.Common.{◌≡◌, subst, ℕ, zero, suc, ◌<◌, Bool, true, false, not, ◌&&◌, leb, List, [], ◌∷◌, Option, Some, None, Result, Ok, Err, refl, sym, ◌∙◌, ap, arith, length, max, map, take, drop, ◌++◌, set, get_or, inl, inr, cond}
-use Rattle.nutcore.proofs.Common.{option_map, option_map_or, cond-true, cond-false, and_from, le-leb, lt-leb, same_Some, slice_get_within, UpsId, Event, Fault, Outcome, ServerState, ups_at, with_ups_changed}
+use Rattle.std.proofs.Common.{◌≡◌, ℕ, zero, suc, ◌<◌, Bool, true, false, List, [], ◌∷◌, Option, Some, None, Result, refl, sym, ◌∙◌, ap, arith, length, max, map, take, drop, ◌++◌, set, get_or, inl, cond}
+use Rattle.std.proofs.lemmas.Bool.Decides.{nat_tests}
+use Rattle.nutcore.proofs.Common.{option_map, option_map_or, cond-true, slice_get_within, UpsId, Fault, ServerState, ups_at, with_ups_changed}
 use Rattle.nutcore.specs.declared.event.Event.TheVariants.{DriverUp, DriverBytes, DriverTook, DriverDown, Tick}
 use Rattle.nutcore.specs.declared.event.Outcome.TheVariants.{Done, Refused}
-use Rattle.nutcore.specs.declared.event.Fault.TheVariants.{NoSuchUps, NotConnected, AlreadyConnected, LineTooLong, Memory}
+use Rattle.nutcore.specs.declared.event.Fault.TheVariants.{NoSuchUps, AlreadyConnected}
 use Rattle.nutcore.specs.Ups.{UpsState, after_connecting, after_loss, after_tick}
-use Rattle.nutcore.specs.Step.{Step, connected, disconnected, after_driver_text, after_driver_bytes, after_driver_took, ticked, connected_by, disconnected_by, driver_took_by, driver_bytes_by, driver_may_lack_memory, outcome_of, after_by, MayLackMemory, wants_driver_memory}
+use Rattle.nutcore.specs.Step.{Step, connected, disconnected, after_driver_text, after_driver_bytes, after_driver_took, ticked, connected_by, outcome_of, after_by, MayLackMemory}
 use Rattle.nutcore.specs.Calls.{is_connected, done}
 use Rattle.nutcore.specs.Promises.{OfUps, IsTaken, IsTold, IsNotConnected}
 use Rattle.nutcore.proofs.UpsPlaces.{Stands, of_ups, server_agree, changed_to}
@@ -16,11 +17,7 @@ abbrev pub IsThere : ServerState → UpsId → Bool → Type 0
 IsThere s u b = Stands u.place s.upses (λ x. x.report.connected ≡ b)
 
 pub is_there : (s : ServerState) (u : UpsId) (b : Bool) → option_map is_connected (ups_at u.place s) ≡ Some b → IsThere s u b
-is_there s u b h = there_by (ups_at u.place s) refl h
-  where
-    there_by : (o : Option UpsState) → ups_at u.place s ≡ o → option_map is_connected o ≡ Some b → IsThere s u b
-    there_by None e k = cc k
-    there_by (Some x) e k = record { ups = x; there = e; is = same_Some x.report.connected b k }
+is_there s u b h = grind arith
 
 pub there_within : (s : ServerState) (u : UpsId) (b : Bool) → IsThere s u b → u.place < length s.upses
 there_within s u b h = slice_get_within s.upses u.place h.ups h.there
@@ -30,14 +27,6 @@ connected_as s u x h there = of_ups s u h.ups (λ y. y.report.connected ≡ true
 
 pub connected_at : (s : ServerState) (u : UpsId) (x : UpsState) → ups_at u.place s ≡ Some x → x.report.connected ≡ true → option_map is_connected (ups_at u.place s) ≡ Some true
 connected_at s u x there is = ap (option_map is_connected) there ∙ ap (λ b. Some b) is
-
--- where no driver is connected, an event of the driver is refused
-refused_as : (s : ServerState) (u : UpsId) (event : Event) (fault : Fault) (by : Option UpsState → Outcome) → outcome_of s event ≡ by (ups_at u.place s) → by None ≡ Refused NoSuchUps
-    → ((x : UpsState) → x.report.connected ≡ false → by (Some x) ≡ Refused NotConnected) → IsNotConnected u fault s → Step s event (Refused fault) s
-refused_as s u event fault by is absent lost (inl (e, none)) = subst (λ (f : Fault). Step s event (Refused f) s) (sym e) (refused s event NoSuchUps (is ∙ ap by none ∙ absent) refl)
-refused_as s u event fault by is absent lost (inr (e, unconnected)) =
-    let h = is_there s u false unconnected in
-    subst (λ (f : Fault). Step s event (Refused f) s) (sym e) (refused s event NotConnected (is ∙ ap by h.there ∙ lost h.ups h.is) refl)
 
 -- a driver connects
 pub up_absent : (s : ServerState) (u : UpsId) → ups_at u.place s ≡ None → Step s (DriverUp u) (Refused NoSuchUps) s
@@ -50,72 +39,42 @@ up_again s u h = refused s (DriverUp u) AlreadyConnected (ap connected_by h.ther
 
 pub up_done : (s t : ServerState) (u : UpsId) → IsThere s u false → t ≡ with_ups_changed (after_connecting s.moment) u s → Step s (DriverUp u) Done t
 unfolding outcome_of after_by
-up_done s t u h e = record {
-  allowed = inl (sym (ap connected_by h.there ∙ cond-false _ _ _ h.is));
-  leaves = e ∙ server_agree s u (after_connecting s.moment) (connected s.moment) (of_ups s u h.ups (λ x. after_connecting s.moment x ≡ connected s.moment x) h.there (sym (cond-false _ _ _ h.is)));
-}
+up_done s t u h e = grind (arith, server_agree s u (after_connecting s.moment) (connected s.moment))
 
 -- a driver is lost
 pub down_refused : (s : ServerState) (u : UpsId) (fault : Fault) → IsNotConnected u fault s → Step s (DriverDown u) (Refused fault) s
 unfolding outcome_of
-down_refused s u fault h = refused_as s u (DriverDown u) fault disconnected_by refl refl (λ x lost. cond-false _ _ _ lost) h
+down_refused s u fault h = grind (arith, refused s (DriverDown u) fault)
 
 pub down_done : (s t : ServerState) (u : UpsId) → IsThere s u true → t ≡ with_ups_changed after_loss u s → Step s (DriverDown u) Done t
 unfolding outcome_of after_by
-down_done s t u h e = record {
-  allowed = inl (sym (ap disconnected_by h.there ∙ cond-true _ _ _ h.is));
-  leaves = e ∙ server_agree s u after_loss disconnected (of_ups s u h.ups (λ x. after_loss x ≡ disconnected x) h.there (sym (cond-true _ _ _ h.is)));
-}
+down_done s t u h e = grind (arith, server_agree s u after_loss disconnected)
 
 -- bytes of a driver
 pub bytes_refused : (s : ServerState) (u : UpsId) (piece : List ℕ) (fault : Fault) → IsNotConnected u fault s → Step s (DriverBytes u piece) (Refused fault) s
 unfolding outcome_of
-bytes_refused s u piece fault h = refused_as s u (DriverBytes u piece) fault (driver_bytes_by piece) refl refl (λ x lost. cond-false _ _ _ lost) h
+bytes_refused s u piece fault h = grind (arith, refused s (DriverBytes u piece) fault)
 
 -- a piece is after what was unfinished
 bytes_told : (s : ServerState) (u : UpsId) (piece : List ℕ) (m : Option ℕ) (x : UpsState) → ups_at u.place s ≡ Some x → x.report.connected ≡ true → after_driver_text u (x.unfinished ++ piece) m s ≡ after_driver_bytes u piece m s
 unfolding after_driver_bytes
 bytes_told s u piece m x there is = sym (ap (λ (o : Option UpsState). option_map_or (λ x. cond x.report.connected (after_driver_text u (x.unfinished ++ piece) m s) s) o s) there ∙ cond-true _ _ _ is)
 
-fed_by : (s t : ServerState) (u : UpsId) (piece : List ℕ) (x : UpsState) (r : Result (Unit {0}) Fault) → ups_at u.place s ≡ Some x → x.report.connected ≡ true → IsTold u (x.unfinished ++ piece) s r t → Step s (DriverBytes u piece) (done r) t
-unfolding outcome_of after_by MayLackMemory
-fed_by s t u piece x (Ok v) there is (short, e) = record {
-  allowed = inl (sym (ap (driver_bytes_by piece) there ∙ cond-true _ _ _ is ∙ cond-false _ _ _ short));
-  leaves = e ∙ bytes_told s u piece None x there is;
-}
-fed_by s t u piece x (Err LineTooLong) there is (long, e) = record {
-  allowed = inl (sym (ap (driver_bytes_by piece) there ∙ cond-true _ _ _ is ∙ cond-true _ _ _ long));
-  leaves = e ∙ bytes_told s u piece None x there is;
-}
-fed_by s t u piece x (Err (Memory k)) there is (wants, e) = record {
-  allowed = inr (k, refl, (let may : driver_may_lack_memory u piece k s ≡ true = ap (λ (o : Option UpsState). option_map_or (λ x. x.report.connected && wants_driver_memory u (x.unfinished ++ piece) k s) o false) there ∙ and_from _ _ is wants in may));
-  leaves = e ∙ bytes_told s u piece (Some k) x there is;
-}
-fed_by s t u piece x (Err fault) there is never = absurd never
-
 pub bytes_fed : (s t : ServerState) (u : UpsId) (piece : List ℕ) (r : Result (Unit {0}) Fault) → IsThere s u true → OfUps u s (λ x. IsTold u (x.unfinished ++ piece) s r t) → Step s (DriverBytes u piece) (done r) t
-bytes_fed s t u piece r h told = fed_by s t u piece h.ups r h.there h.is (told h.ups h.there)
+unfolding outcome_of after_by MayLackMemory
+bytes_fed s t u piece r h told = let at = told h.ups h.there in grind (arith, bytes_told)
 
 -- a driver took of what it is owed
 pub took_refused : (s : ServerState) (u : UpsId) (n : ℕ) (fault : Fault) → IsNotConnected u fault s → Step s (DriverTook u n) (Refused fault) s
 unfolding outcome_of
-took_refused s u n fault h = refused_as s u (DriverTook u n) fault (driver_took_by n) refl refl (λ x lost. cond-true _ _ _ (ap not lost)) h
-
-taken_by : (s t : ServerState) (u : UpsId) (n : ℕ) (x y : UpsState) (r : Result (Unit {0}) Fault) → ups_at u.place s ≡ Some x → x.report.connected ≡ true → IsTaken n x r y → t ≡ with_ups_changed (λ z. y) u s → Step s (DriverTook u n) (done r) t
-unfolding outcome_of after_by
-taken_by s t u n x y (Ok v) there is (few, e) leaves =
-    let within : leb n (length x.owed) ≡ true = le-leb n (length x.owed) few in record {
-      allowed = inl (sym (ap (driver_took_by n) there ∙ cond-false _ _ _ (ap not is) ∙ cond-true _ _ _ within));
-      leaves = changed_to s t u (after_driver_took n) x y there (e ∙ sym (cond-true _ _ _ (and_from _ _ is within))) leaves;
-    }
-taken_by s t u n x y (Err fault) there is (much, more, e) leaves =
-    let beyond : leb n (length x.owed) ≡ false = lt-leb n (length x.owed) more in record {
-      allowed = inl (ap (λ (f : Fault). Refused f) much ∙ sym (ap (driver_took_by n) there ∙ cond-false _ _ _ (ap not is) ∙ cond-false _ _ _ beyond));
-      leaves = changed_to s t u (after_driver_took n) x y there (e ∙ sym (cond-false _ _ _ (ap (λ b. b && leb n (length x.owed)) is ∙ beyond))) leaves;
-    }
+took_refused s u n fault h = grind (arith, refused s (DriverTook u n) fault)
 
 pub took_taken : (s t : ServerState) (u : UpsId) (n : ℕ) (x y : UpsState) (r : Result (Unit {0}) Fault) → IsThere s u true → ups_at u.place s ≡ Some x → IsTaken n x r y → t ≡ with_ups_changed (λ z. y) u s → Step s (DriverTook u n) (done r) t
-took_taken s t u n x y r h there taken leaves = taken_by s t u n x y r there (connected_as s u x h there) taken leaves
+unfolding outcome_of after_by
+took_taken s t u n x y r h there taken leaves =
+    let is = connected_as s u x h there in
+    let to = λ (e : y ≡ after_driver_took n x). changed_to s t u (after_driver_took n) x y there e leaves in
+    grind (arith, nat_tests)
 
 -- the clock
 pub tick_done : (s t : ServerState) (seconds : ℕ) → t ≡ ticked seconds s → Step s (Tick seconds) Done t
@@ -128,8 +87,6 @@ changed_so_far f p [] x lt e = absurd (omega arith)
 changed_so_far f zero (y ∷ xs) x lt e = ap (λ (z : UpsState). f z ∷ xs) e
 changed_so_far f (suc p) (y ∷ xs) x lt e = ap (λ (zs : List UpsState). f y ∷ zs) (changed_so_far f p xs x (omega (arith, lt)) e)
 
-pub ticked_is : (s : ServerState) (seconds moment : ℕ) (xs : List UpsState) → moment ≡ max seconds s.moment → xs ≡ map (after_tick s.max_age moment) s.upses → (let code : ServerState = record s { moment = moment; upses = xs } in code ≡ ticked seconds s)
+pub ticked_is : (s : ServerState) (seconds moment age : ℕ) (xs : List UpsState) → moment ≡ max seconds s.moment → age ≡ s.max_age → xs ≡ map (after_tick age moment) s.upses → (let code : ServerState = record s { moment = moment; upses = xs } in code ≡ ticked seconds s)
 unfolding ticked
-ticked_is s seconds moment xs em exs =
-    ap (λ (ys : List UpsState). let z : ServerState = record s { moment = moment; upses = ys } in z) exs
-    ∙ ap (λ (m : ℕ). let z : ServerState = record s { moment = m; upses = map (after_tick s.max_age m) s.upses } in z) em
+ticked_is s seconds moment age xs em ea exs = grind arith

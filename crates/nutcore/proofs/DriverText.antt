@@ -1,8 +1,9 @@
 -- What a driver reports changes its UPS, and the orders that this UPS waits for.
 use Rattle.std.proofs.Common.{◌≡◌, ℕ, Bool, true, false, List, [], ◌∷◌, ◌++◌, Option, Some, None, refl, sym, ◌∙◌, ap, cond, take}
 use Rattle.nutcore.proofs.Common.{option_map_or, cond-true, cond-false, UpsId, TrackingState, ServerState, ups_at, with_ups_changed, with_tracking}
-use Rattle.nutcore.specs.Lines.{whole_lines, unfinished_after}
-use Rattle.nutcore.specs.Reports.{end_in, with_end, is_unawaited, after_ends}
+use Rattle.nutwords.specs.WholeLines.{whole_lines, unfinished_after}
+use Rattle.nutdriver.specs.Report.{end_in}
+use Rattle.nutcore.specs.Reports.{with_end, is_unawaited, after_ends}
 use Rattle.nutcore.specs.Ups.{UpsState, after_loss, after_text, after_texts}
 use Rattle.nutcore.specs.Step.{after_driver_line, after_driver_lines, with_rest, after_driver_text, after_driver_bytes}
 use Rattle.nutcore.specs.DriverHistory.{as_far}

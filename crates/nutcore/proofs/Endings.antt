@@ -1,102 +1,59 @@
 -- What is over stays over, and what ticks and newcomers leave as it is.
-use Rattle.std.proofs.Common.{◌≡◌, ◌≤◌, ◌+◌, ◌⊎◌, ◌∙◌, ℕ, Bool, true, false, not, List, [], ◌∷◌, ◌++◌, Option, Some, None, Result, Ok, IfSome, refl, sym, ap, subst, cond, eqb, ltb, inl, inr, arith, append-nil}
-use Rattle.std.specs.Prelude.{slice_get, is_some, codes}
-use Rattle.std.specs.Option.{option_map_or, ok_or}
-use Rattle.std.proofs.lemmas.Bool.{eqb-true, ltb-true, and_parts}
-use Rattle.nutcore.proofs.Common.{never_both, cond_both, UpsId, Change, Event, Outcome, SessionState, UpsState, ServerState, session, after, Run}
-use Rattle.nutanswer.specs.declared.command.Command.TheVariants.{Fsd}
-use Rattle.nutanswer.specs.declared.err_word.ErrWord.{ErrWord}
-use Rattle.nutanswer.specs.declared.err_word.ErrWord.TheVariants.{UnknownUps, UsernameRequired, PasswordRequired, AccessDenied}
-use Rattle.nutanswer.specs.declared.reply.Change.TheVariants as changes
-use Rattle.nutanswer.specs.Checks.{◌>>=◌, ◌>>◌, KnownUps, unless, user, unknown_ups}
-use Rattle.nutanswer.specs.Answer.{one_line, change_of_answer}
-use Rattle.nutanswer.proofs.PublicLaws.{a_named_ups_is_seen}
-use Rattle.nutusers.specs.Users.{may}
-use Rattle.nutusers.specs.declared.rights.Right.TheVariants as rights
+use Rattle.std.proofs.Common.{◌≡◌, ◌≤◌, ◌+◌, ◌∙◌, ℕ, true, List, [], ◌∷◌, ◌++◌, Option, Some, None, IfSome, refl, sym, ap, subst, inl, inr, arith, append-nil}
+use Rattle.std.proofs.lemmas.Bool.Decides.{nat_tests}
+use Rattle.nutcore.proofs.Common.{never_both, cond_both, Event, Outcome, SessionState, ServerState, session, after, Run}
 use Rattle.nutcore.specs.declared.event.Event.TheVariants.{Open}
 use Rattle.nutcore.specs.declared.event.Outcome.TheVariants.{Opened, Refused}
 use Rattle.nutcore.specs.declared.event.Fault.TheVariants.{TooManyClients}
 use Rattle.nutcore.specs.Session.{new_session}
-use Rattle.nutcore.specs.Ups.{with_fsd}
-use Rattle.nutcore.specs.Reply.{seen, seen_ups, asker, change_by, changed_upses}
-use Rattle.nutcore.specs.Pump.{next_line_for, after_line, after_notice, holds_overlong}
-use Rattle.nutcore.specs.Step.{with_input, without_output, may_open, opened, ticked, after_by, refused_after, outcome_of, MayAnswer}
-use Rattle.nutcore.specs.History.{Execution, of_line, of_notice, executions, of_client, texts_of, owed, is_over}
+use Rattle.nutcore.specs.Pump.{holds_overlong}
+use Rattle.nutcore.specs.Step.{may_open, opened, ticked, after_by, refused_after, outcome_of, MayAnswer}
+use Rattle.nutcore.specs.History.{Execution, executions, of_client, texts_of, owed, is_over}
 use Rattle.nutcore.specs.Headline.{IsLawful}
 use Rattle.nutcore.specs.Addresses.{opened_from}
-use Rattle.nutcore.specs.ByRight.{IsByRight, SetsShutdownByRight, is_shut_down}
 use Rattle.nutcore.specs.Endings.{WhoIsOverIsAskedNoMore, id_given, ids_given, RiseFrom, IdsThatAreGivenRise, AGrantedShutdownIsSet, ATickTouchesNoSession, LeavesOlderSessions, AnOpeningTouchesNoOther}
-use Rattle.nutcore.proofs.Changed.{either_notice, of_opened}
+use Rattle.nutcore.proofs.Changed.{of_opened}
 use Rattle.nutcore.proofs.Found.{of_pushed}
-use Rattle.nutcore.proofs.FreshRuns.{mapped_at}
-use Rattle.nutcore.proofs.Histories.{IsOfEvents, run_keeps, two_clients}
-use Rattle.nutcore.proofs.Kept.{IsKept, IsAny, any_address, by_event}
-use Rattle.nutcore.proofs.Lasting.{IsLasting, IsThere, kept, ids_kept, shutdown_kept}
-use Rattle.nutcore.proofs.Pumping.{is_next, after_line_is, change_at, overlong_there, notice_there}
+use Rattle.nutcore.proofs.Histories.{IsOfClient, of_run_of_client}
+use Rattle.nutcore.proofs.Progress.{presence}
+use Rattle.std.proofs.lemmas.Bool.{false≢true}
+use Rattle.nutcore.proofs.Kept.{IsAny, any_address, by_event, ids_kept}
+use Rattle.nutcore.proofs.ShutdownMarks.{AnySets, any_of, stays_set}
+use Rattle.nutcore.proofs.Lasting.{IsThere}
 use Rattle.nutcore.proofs.Stepping.{run_sent}
-use Rattle.nutcore.proofs.UpsPlaces.{at_changed}
 
 -- a session that is ending goes on ending
 abbrev Ends : SessionState → Type 0
 Ends x = x.ending ≡ true
 
-ending_goes_on : IsLasting Ends
-ending_goes_on = record {
-  line = λ s c line x found going so. never_both x.ending so going;
-  joins = λ piece x so. so;
-  gives = λ n x so. so;
-  notice = λ x so. either_notice Ends x refl so;
-}
-
--- a client that is over: its session is ending, or it has none any more
-abbrev IsOver : ℕ → ServerState → Type 0
-IsOver c = IsThere Ends ending_goes_on c
-
-is_kept : (c : ℕ) → IsKept (IsOver c) IsAny
-is_kept c = kept Ends ending_goes_on c
-
--- it is asked no more
-abbrev AsksNoMore : ℕ → ServerState → List Execution → List ℕ → List ℕ → ServerState → Type 0
-AsksNoMore c s xs taken asked t = IsOver c s → (of_client c xs ≡ []) × IsOver c t
-
-one_other : (c : ℕ) (x : Execution) (d : ℕ) → (d ≡ c → ⊥) → cond (eqb d c) (x ∷ []) [] ≡ []
-one_other c x d differ = cond_both (eqb d c) (x ∷ []) [] (λ ys. ys ≡ []) (λ e. absurd (differ (eqb-true d c e))) (λ e. refl)
-
-found_ending : (c d : ℕ) (s : ServerState) (x : SessionState) → d ≡ c → session d s ≡ Some x → IsOver c s → x.ending ≡ true
-found_ending c d s x same found over = subst (λ o. IfSome o Ends) (ap (λ k. session k s) (sym same) ∙ found) over.1
-
 no_notice_to : (x : SessionState) → x.ending ≡ true → holds_overlong x ≡ true → ⊥
-no_notice_to x ends long = let parts = and_parts (not x.ending) _ long in never_both (not x.ending) parts.0 (ap not ends)
+no_notice_to x ends long = grind arith
 
-asks_no_more : (c : ℕ) → IsOfEvents c (AsksNoMore c)
-unfolding with_input without_output after_notice
-asks_no_more c = record {
-  stays = λ s over. (refl, over);
-  joins = λ s m t xs ys k k' a a' f g over.
-      let first = f over in
+-- a client that is over, as its session is ending, or it has none any more, is asked no more
+asks_no_more : IsOfClient (λ p xs taken asked q. IsThere Ends p → (xs ≡ []) × IsThere Ends q)
+asks_no_more = record {
+  joins = λ p q r xs ys k k' a a' f g h.
+      let first = f h in
       let more = g first.1 in
-      (two_clients c xs ys ∙ ap (λ (zs : List Execution). zs ++ of_client c ys) first.0 ∙ more.0, more.1);
-  by_line = λ d s line next over.
-      let n = is_next s d line next in
-      (one_other c (of_line s d line) d (λ (e : d ≡ c). never_both n.asking.ending (found_ending c d s n.asking e n.found over) n.going), (is_kept c).pumped.line s d line next over);
-  by_notice = λ d s long over.
-      let due = overlong_there (session d s) long in
-      (one_other c (of_notice d) d (λ (e : d ≡ c). no_notice_to due.0 (found_ending c d s due.0 e due.1 over) due.2), subst (IsOver c) (notice_there s d long) ((is_kept c).pumped.notice s d over));
-  by_input = λ d s piece over. (refl, (is_kept c).pumped.joins s d piece over);
-  by_output = λ d s n may over. (refl, (is_kept c).pumped.gives s d n over);
-  by_plain = λ s e m plain over. (refl, by_event (IsOver c) IsAny (is_kept c) s e m (any_address (opened_from e)) over);
+      (ap (λ (zs : List Execution). zs ++ ys) first.0 ∙ more.0, more.1);
+  stays = λ o u v up h. (refl, (up h.0, h.1));
+  by_line = λ c s line n u h. never_both n.asking.ending h.1 n.going;
+  by_notice = λ c x u long h. absurd (no_notice_to x h.1 long);
+  by_input = λ piece x u h. (refl, h);
+  by_output = λ n x u h. (refl, h);
+  opens = λ id address h. absurd (false≢true h.0);
+  closes = λ x u h. (refl, (h.0, tt));
 }
 
-over_there : (c : ℕ) (s : ServerState) → IsLawful s → is_over c s ≡ true → IsOver c s
-over_there c s lawful over = by_session (session c s) refl over
-  where
-    by_session : (o : Option SessionState) → session c s ≡ o → option_map_or (λ x. x.ending) o (ltb c s.next_id) ≡ true → IsOver c s
-    by_session None e h = (ltb-true c s.next_id h, subst (λ o. IfSome o Ends) (sym e) tt)
-    by_session (Some x) e h = (lawful c (ap is_some e), subst (λ o. IfSome o Ends) (sym e) h)
+over_there : (c : ℕ) (s : ServerState) → IsLawful s → is_over c s ≡ true → IsThere Ends (presence c s)
+over_there c s lawful over = grind (arith, nat_tests, lawful c)
+
+run_asks_no_more : (old new : ServerState) (es : List Event) (os : List Outcome) (c : ℕ) → IsLawful old → is_over c old ≡ true → Run old es os new → (of_client c (executions old es os) ≡ []) × IsThere Ends (presence c new)
+run_asks_no_more old new es os c lawful over r = of_run_of_client _ asks_no_more c old new es os r (over_there c old lawful over)
 
 pub asked_no_more : WhoIsOverIsAskedNoMore
 asked_no_more old new es os c lawful over r =
-    let none : of_client c (executions old es os) ≡ [] = (run_keeps c (AsksNoMore c) (asks_no_more c) old new es os r (over_there c old lawful over)).0 in
+    let none = (run_asks_no_more old new es os c lawful over r).0 in
     record {
       nothing = none;
       owed_less = λ still.
@@ -104,14 +61,11 @@ asked_no_more old new es os c lawful over r =
     }
 
 pub stays_ending : (old new : ServerState) (es : List Event) (os : List Outcome) (c : ℕ) (y : SessionState) → IsLawful old → is_over c old ≡ true → Run old es os new → session c new ≡ Some y → y.ending ≡ true
-stays_ending old new es os c y lawful over r found = found_ending c c new y refl found (run_keeps c (AsksNoMore c) (asks_no_more c) old new es os r (over_there c old lawful over)).1
+stays_ending old new es os c y lawful over r found = subst (λ o. IfSome o Ends) found (run_asks_no_more old new es os c lawful over r).1.1
 
 joined_rise : (a b c : ℕ) (xs ys : List ℕ) → RiseFrom a b xs → RiseFrom b c ys → RiseFrom a c (xs ++ ys)
-joined_rise a b c [] ys least rest = lower a b c ys least rest
-  where
-    lower : (a b c : ℕ) (ys : List ℕ) → a ≤ b → RiseFrom b c ys → RiseFrom a c ys
-    lower a b c [] least rest = omega (arith, least, rest)
-    lower a b c (y ∷ ys) least rest = (omega (arith, least, rest.0), rest.1)
+joined_rise a b c [] [] least rest = omega (arith, least, rest)
+joined_rise a b c [] (y ∷ ys) least rest = (omega (arith, least, rest.0), rest.1)
 joined_rise a b c (x ∷ xs) ys h rest = (h.0, joined_rise (x + 1) b c xs ys h.1 rest)
 
 next_is_no_less : (s : ServerState) (e : Event) (m : Option ℕ) → s.next_id ≤ (after_by s e m).next_id
@@ -121,15 +75,14 @@ opened_next : (s : ServerState) (address : List ℕ) → may_open s ≡ true →
 unfolding after_by opened
 opened_next s address room = cond_both (may_open s) _ s (λ t. t.next_id ≡ s.next_id + 1) (λ may. refl) (λ full. never_both (may_open s) room full)
 
-Rises : ServerState → Event → Outcome → Type 0
+abbrev Rises : ServerState → Event → Outcome → Type 0
 Rises s e o = RiseFrom s.next_id (after s e o).next_id (id_given o)
 
 rises_by_none : (s : ServerState) (e : Event) (o : Outcome) → id_given o ≡ [] → Rises s e o
-unfolding Rises
 rises_by_none s e o none = subst (RiseFrom s.next_id (after s e o).next_id) (sym none) (next_is_no_less s e (refused_after o))
 
 told_rises : (s : ServerState) (e : Event) → Rises s e (outcome_of s e)
-unfolding outcome_of Rises
+unfolding outcome_of
 told_rises s (Open address) =
     cond_both (may_open s) (Opened s.next_id) (Refused TooManyClients) (Rises s (Open address)) (λ room. let next = opened_next s address room in (omega arith, omega (arith, next))) (λ full. rises_by_none s (Open address) (Refused TooManyClients) refl)
 told_rises s e = rises_by_none s e (outcome_of s e) (grind arith)
@@ -139,7 +92,6 @@ event_rises s e o (inl is) = subst (Rises s e) (sym is) (told_rises s e)
 event_rises s e o (inr (k, is, lacks)) = rises_by_none s e o (ap id_given is)
 
 pub ids_rise : IdsThatAreGivenRise
-unfolding Rises
 ids_rise old new [] [] r = let next = ap (λ (s : ServerState). s.next_id) r in omega (arith, next)
 ids_rise old new (e ∷ es) (o ∷ os) (mid, step, r) =
     joined_rise old.next_id mid.next_id new.next_id (id_given o) (ids_given os)
@@ -147,72 +99,8 @@ ids_rise old new (e ∷ es) (o ∷ os) (mid, step, r) =
 ids_rise old new es os r = absurd r
 
 -- a forced shutdown that is granted
-change_sets : (u : UpsId) (s : ServerState) (c : ℕ) (line : List ℕ) (words : List (List ℕ)) → (h : IsByRight s c line Fsd rights.Fsd words u) → change_at s c line ≡ changes.Fsd u
-change_sets u s c line words h =
-    let a = asker c s in
-    let granted : user (seen s) a rights.Fsd ≡ Ok tt =
-    ap (λ (o : Option (List ℕ)). ok_or o UsernameRequired >>= (λ name. ok_or a.password PasswordRequired >>= (λ password. unless (may s.users name password rights.Fsd) AccessDenied))) h.username_given
-    ∙ ap (λ (o : Option (List ℕ)). ok_or o PasswordRequired >>= (λ password. unless (may s.users h.name password rights.Fsd) AccessDenied)) h.password_given
-    ∙ ap (λ (b : Bool). unless b AccessDenied) h.granted in
-    ap (change_by s c) h.command
-    ∙ ap (λ (r : Result (Unit {0}) ErrWord). change_of_answer (r >> (unknown_ups (seen s) h.ups >>= (λ v. Ok (one_line (codes "OK" ∷ codes "FSD-SET" ∷ []) (changes.Fsd v.id)))))) granted
-    ∙ ap (λ (o : Option KnownUps). change_of_answer (ok_or o UnknownUps >>= (λ v. Ok (one_line (codes "OK" ∷ codes "FSD-SET" ∷ []) (changes.Fsd v.id))))) h.named
-    ∙ ap (λ (v : UpsId). changes.Fsd v) h.this
-
-line_shuts_down : (u : UpsId) (s : ServerState) (c : ℕ) (line : List ℕ) → next_line_for s c ≡ Some line → SetsShutdownByRight u (of_line s c line) → is_shut_down u (after_line s c) ≡ true
-line_shuts_down u s c line next h =
-    let n = is_next s c line next in
-    let stands = mapped_at seen_ups s.upses u.place h.known.state (ap (λ (v : UpsId). slice_get (seen s).upses v.place) (sym h.this) ∙ (a_named_ups_is_seen (seen s) h.ups h.known h.named).stands) in
-    ap (is_shut_down u) (after_line_is s c line n.asking n.found next)
-    ∙ ap (λ (change : Change). option_map_or (λ (x : UpsState). x.fsd) (slice_get (changed_upses change s.upses) u.place) false) (change_sets u s c line _ h)
-    ∙ ap (λ (o : Option UpsState). option_map_or (λ (x : UpsState). x.fsd) o false) (at_changed with_fsd u.place s.upses stands.of stands.there)
-
--- one of them does
-AnySets : UpsId → List Execution → Type 0
-AnySets u [] = ⊥
-AnySets u (x ∷ xs) = SetsShutdownByRight u x ⊎ AnySets u xs
-
-any_of : (u : UpsId) (before after : List Execution) (x : Execution) → SetsShutdownByRight u x → AnySets u (before ++ x ∷ after)
-unfolding AnySets
-any_of u [] after x sets = inl sets
-any_of u (y ∷ before) after x sets = inr (any_of u before after x sets)
-
-either_sets : (u : UpsId) (xs ys : List Execution) → AnySets u (xs ++ ys) → AnySets u xs ⊎ AnySets u ys
-unfolding AnySets
-either_sets u [] ys h = inr h
-either_sets u (x ∷ xs) ys (inl sets) = inl (inl sets)
-either_sets u (x ∷ xs) ys (inr h) = elim (either_sets u xs ys h) [ inl first ↦ inl (inr first) | inr last ↦ inr last ]
-
-record ShutsDown (u : UpsId) (s : ServerState) (xs : List Execution) (t : ServerState) : Type 0 where
-  stays : is_shut_down u s ≡ true → is_shut_down u t ≡ true
-  sets : AnySets u xs → is_shut_down u t ≡ true
-
-shuts_down : (u : UpsId) → IsOfEvents 0 (λ s xs taken asked t. ShutsDown u s xs t)
-unfolding with_input without_output after_notice AnySets
-shuts_down u =
-    let k = shutdown_kept u in
-    record {
-      stays = λ s. record { stays = λ set. set; sets = λ none. absurd none };
-      joins = λ s m t xs ys taken taken' asked asked' f g. record {
-        stays = λ set. g.stays (f.stays set);
-        sets = λ any. elim (either_sets u xs ys any) [ inl first ↦ g.stays (f.sets first) | inr last ↦ g.sets last ];
-      };
-      by_line = λ d s line next. record {
-        stays = λ set. k.pumped.line s d line next set;
-        sets = λ any. elim any [ inl sets ↦ line_shuts_down u s d line next sets | inr none ↦ absurd none ];
-      };
-      by_notice = λ d s long. record {
-        stays = λ set. subst (λ t. is_shut_down u t ≡ true) (notice_there s d long) (k.pumped.notice s d set);
-        sets = λ any. elim any [ inl never ↦ absurd never | inr none ↦ absurd none ];
-      };
-      by_input = λ d s piece. record { stays = λ set. k.pumped.joins s d piece set; sets = λ none. absurd none };
-      by_output = λ d s n may. record { stays = λ set. k.pumped.gives s d n set; sets = λ none. absurd none };
-      by_plain = λ s e m plain. record { stays = λ set. by_event (λ t. is_shut_down u t ≡ true) IsAny k s e m (any_address (opened_from e)) set; sets = λ none. absurd none };
-    }
-
 pub granted_is_set : AGrantedShutdownIsSet
-granted_is_set old new es os u x r (before, after, is) sets =
-    (run_keeps 0 (λ s xs taken asked t. ShutsDown u s xs t) (shuts_down u) old new es os r).sets (subst (AnySets u) (sym is) (any_of u before after x sets))
+granted_is_set old new es os u x r (before, after, is) sets = stays_set u old new es os r (inr (subst (AnySets u) (sym is) (any_of u before after x sets)))
 
 -- ticks and openings
 pub tick_alone : ATickTouchesNoSession

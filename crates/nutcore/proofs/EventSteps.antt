@@ -1,23 +1,20 @@
 -- Each event of a client, over plain states.
-use Rattle.std.proofs.Common.{◌≡◌, ℕ, ◌+◌, Bool, true, false, List, [], ◌∷◌, ◌++◌, Option, Some, None, Result, Ok, Err, refl, sym, ◌∙◌, ap, subst, length, set, inl, inr}
-use Rattle.std.specs.Prelude.{IsTrue, is_none, option_and_then}
-use Rattle.std.specs.Option.{option_map_or}
+use Rattle.std.proofs.Common.{◌≡◌, ℕ, ◌+◌, Bool, true, false, List, [], ◌∷◌, ◌++◌, Option, Some, None, Result, Ok, Err, refl, sym, ◌∙◌, ap, subst, set, inl, inr}
+use Rattle.std.specs.Prelude.{IsTrue}
 use Rattle.std.proofs.lemmas.Bool.{cond-true, cond-false}
 use Rattle.nutcore.proofs.Common.{Event, Fault, Outcome, SessionState, ServerState, session, Step}
 use Rattle.nutcore.specs.declared.event.Event.TheVariants.{Open, Feed, Took, Close, Id}
 use Rattle.nutcore.specs.declared.event.Outcome.TheVariants.{Done, Fed, Opened, Refused}
 use Rattle.nutcore.specs.declared.event.Fault.TheVariants.{NoSuchClient, TooManyClients, TookTooMuch, LineTooLong, Memory}
 use Rattle.nutcore.specs.Session.{without, new_session}
-use Rattle.nutcore.specs.Pump.{next_line, pump_stops, held_of, after_all_lines, after_lines, pumped, after_notice, is_overlong, holds_overlong, wants_memory}
+use Rattle.nutcore.specs.Pump.{after_all_lines, after_lines, pumped, is_overlong, wants_memory}
 use Rattle.nuttracking.specs.declared.tracking.IdFault.{IdFault}
 use Rattle.nuttracking.specs.Tracking.{id_fault}
-use Rattle.nutcore.specs.Step.{joined, with_input, taken_from, without_output, may_take, may_open, pumped_until, opened, handed_in, after_by, fed_by, took_by, closed_by, id_outcome, outcome_of, MayLackMemory}
+use Rattle.nutcore.specs.Step.{joined, with_input, taken_from, without_output, may_take, may_open, pumped_until, opened, handed_in, after_by, fed_by, id_outcome, outcome_of, MayLackMemory}
 use Rattle.nutcore.specs.Calls.{done}
 use Rattle.nutcore.specs.Promises.{IsAt, PumpGives}
-use Rattle.nutcore.proofs.Changed.{change_absent}
-use Rattle.nutcore.proofs.Places.{without_none}
-use Rattle.nutcore.proofs.Loops.{stopped_lines}
-use Rattle.nutcore.proofs.Pumping.{no_notice}
+pub use Rattle.nutcore.proofs.Changed.{input_absent}
+use Rattle.nutcore.proofs.Events.{refused}
 use Rattle.nutcore.proofs.Serving.{change_set}
 
 pub with_input_is : (s : ServerState) (c i : ℕ) (piece : List ℕ) (x y : SessionState) → IsAt c i s.sessions → session c s ≡ Some x → y ≡ joined piece x → (let code : ServerState = record s { sessions = set s.sessions i y } in code ≡ with_input s c piece)
@@ -28,26 +25,10 @@ pub without_output_is : (s : ServerState) (c i n : ℕ) (x y : SessionState) →
 unfolding without_output
 without_output_is s c i n x y h e ey = change_set (taken_from n) s c i x y h e refl ey
 
--- where the client isn't open, the pump does nothing
-pub pump_absent : (s : ServerState) (c : ℕ) → session c s ≡ None → s ≡ pumped s c
-unfolding pumped after_all_lines
-pump_absent s c e =
-    let none : is_overlong s c ≡ false = ap (λ (o : Option SessionState). option_map_or holds_overlong o false) e in
-    let stop : pump_stops s c ≡ true = ap (λ (o : Option SessionState). is_none (option_and_then next_line o)) e in
-    let lines = stopped_lines (length (held_of (session c s))) s c stop in
-    sym (ap (λ (z : ServerState). after_notice z c) lines ∙ no_notice s c none)
-
-pub input_absent : (s : ServerState) (c : ℕ) (piece : List ℕ) → session c s ≡ None → with_input s c piece ≡ s
-unfolding with_input
-input_absent s c piece e = change_absent (joined piece) c s e
-
 -- a piece for no client
 pub feed_absent : (s : ServerState) (c : ℕ) (piece : List ℕ) → session c s ≡ None → Step s (Feed c piece) (Refused NoSuchClient) s
-unfolding outcome_of after_by pumped_until
-feed_absent s c piece e = record {
-  allowed = inl (sym (ap (λ (o : Option SessionState). fed_by o piece (is_overlong (after_all_lines (with_input s c piece) c) c)) e));
-  leaves = pump_absent s c e ∙ ap (λ (z : ServerState). pumped z c) (sym (input_absent s c piece e));
-}
+unfolding outcome_of
+feed_absent s c piece e = refused s (Feed c piece) NoSuchClient (rw e) refl
 
 -- what holds of the three ends of a pump holds of what it gives
 of_gives : (P : Result (Unit {0}) Fault → ServerState → Type 0) (j : ServerState) (c : ℕ) → ((u : Unit {0}) → is_overlong (after_all_lines j c) c ≡ false → P (Ok u) (pumped j c)) → (is_overlong (after_all_lines j c) c ≡ true → P (Err LineTooLong) (pumped j c))
@@ -72,66 +53,43 @@ feed_gives s j t c piece x n r e ej count gives =
 
 -- bytes taken
 pub took_absent : (s : ServerState) (c n : ℕ) → session c s ≡ None → Step s (Took c n) (Refused NoSuchClient) s
-unfolding outcome_of after_by
-took_absent s c n e = record {
-  allowed = inl (sym (ap (λ (o : Option SessionState). took_by o n (is_overlong (after_all_lines (without_output s c n) c) c)) e));
-  leaves = sym (cond-false _ _ _ (ap (λ (o : Option SessionState). may_take o n) e));
-}
+unfolding outcome_of
+took_absent s c n e = refused s (Took c n) NoSuchClient (rw e) refl
 
 pub took_much : (s : ServerState) (c n : ℕ) (x : SessionState) → session c s ≡ Some x → may_take (session c s) n ≡ false → Step s (Took c n) (Refused TookTooMuch) s
-unfolding outcome_of after_by
-took_much s c n x e may = record {
-  allowed = inl (sym (ap (λ (o : Option SessionState). took_by o n (is_overlong (after_all_lines (without_output s c n) c) c)) e ∙ cond-false _ _ _ (ap (λ (o : Option SessionState). may_take o n) (sym e) ∙ may)));
-  leaves = sym (cond-false _ _ _ may);
-}
+unfolding outcome_of
+took_much s c n x e may = refused s (Took c n) TookTooMuch (rw e (cond-false _ _ _ (rw e at may))) refl
 
 pub took_gives : (s j t : ServerState) (c n : ℕ) (x : SessionState) (r : Result (Unit {0}) Fault) → session c s ≡ Some x → may_take (session c s) n ≡ true → j ≡ without_output s c n → PumpGives j c r t → Step s (Took c n) (done r) t
 unfolding outcome_of after_by pumped_until MayLackMemory
 took_gives s j t c n x r e may ej gives =
-    let over = is_overlong (after_all_lines (without_output s c n) c) c in
-    let its = ap (λ (o : Option SessionState). took_by o n over) e ∙ cond-true _ _ _ (ap (λ (o : Option SessionState). may_take o n) (sym e) ∙ may) in
     of_gives (λ r t. Step s (Took c n) (done r) t) (without_output s c n) c
-    (λ u short. record { allowed = inl (sym (its ∙ cond-false _ _ _ short)); leaves = sym (cond-true _ _ _ may) })
-    (λ long. record { allowed = inl (sym (its ∙ cond-true _ _ _ long)); leaves = sym (cond-true _ _ _ may) })
-    (λ k wants. record { allowed = inr (k, refl, (may, wants)); leaves = sym (cond-true _ _ _ may) })
+    (λ u short. record { allowed = inl (rw (e, rw e at may, short)); leaves = rw may })
+    (λ long. record { allowed = inl (rw (e, rw e at may, long)); leaves = rw may })
+    (λ k wants. record { allowed = inr (k, refl, (may, wants)); leaves = rw may })
     r t (subst (λ (z : ServerState). PumpGives z c r t) ej gives)
 
 -- closing
 pub close_absent : (s : ServerState) (c : ℕ) → session c s ≡ None → Step s (Close c) (Refused NoSuchClient) s
-unfolding outcome_of after_by
-close_absent s c e = record {
-  allowed = inl (sym (ap closed_by e));
-  leaves = ap (λ (xs : List SessionState). let z : ServerState = record s { sessions = xs } in z) (sym (without_none c s.sessions e));
-}
+unfolding outcome_of
+close_absent s c e = refused s (Close c) NoSuchClient (rw e) refl
 
 pub close_present : (s : ServerState) (c : ℕ) (x : SessionState) (xs : List SessionState) → session c s ≡ Some x → xs ≡ without c s.sessions → (let t : ServerState = record s { sessions = xs } in Step s (Close c) Done t)
 unfolding outcome_of after_by
-close_present s c x xs e exs = record {
-  allowed = inl (sym (ap closed_by e));
-  leaves = ap (λ (ys : List SessionState). let z : ServerState = record s { sessions = ys } in z) exs;
-}
+close_present s c x xs e exs = record { allowed = inl (rw e); leaves = rw exs }
 
 -- opening
 pub open_full : (s : ServerState) (address : List ℕ) → may_open s ≡ false → Step s (Open address) (Refused TooManyClients) s
-unfolding outcome_of after_by opened
-open_full s address never = record {
-  allowed = inl (sym (cond-false _ _ _ never));
-  leaves = sym (cond-false _ _ _ never);
-}
+unfolding outcome_of
+open_full s address never = refused s (Open address) TooManyClients (rw never) refl
 
 pub open_refused : (s : ServerState) (address : List ℕ) → may_open s ≡ true → Step s (Open address) (Refused (Memory 0)) s
 unfolding outcome_of after_by opened MayLackMemory
-open_refused s address may = record {
-  allowed = inr (0, refl, (refl, may));
-  leaves = refl;
-}
+open_refused s address may = record { allowed = inr (0, refl, (refl, may)); leaves = refl }
 
 pub open_done : (s : ServerState) (address : List ℕ) (xs : List SessionState) → may_open s ≡ true → xs ≡ s.sessions ++ new_session s.next_id address ∷ [] → (let t : ServerState = record s { sessions = xs; next_id = s.next_id + 1 } in Step s (Open address) (Opened s.next_id) t)
 unfolding outcome_of after_by opened
-open_done s address xs may e = record {
-  allowed = inl (sym (cond-true _ _ _ may));
-  leaves = ap (λ (ys : List SessionState). let z : ServerState = record s { sessions = ys; next_id = s.next_id + 1 } in z) e ∙ sym (cond-true _ _ _ may);
-}
+open_done s address xs may e = record { allowed = inl (rw may); leaves = rw (may, e) }
 
 -- a step from a state seen otherwise
 pub step_from : (s s' t t' : ServerState) (e : Event) (o : Outcome) → s ≡ s' → t ≡ t' → Step s e o t → Step s' e o t'

@@ -1,6 +1,6 @@
 -- All that is proved by going through the events, a case each: what they leave, in its parts; what is said of each alone; and which execute nothing, and leave the sessions as they are.
 use Rattle.std.proofs.Common.{◌≡◌, ℕ, Bool, true, false, List, [], ◌∷◌, ◌++◌, Option, Some, None, refl, sym, ap, subst, cond, eqb, ◌&&◌, not, ◌∙◌, max, length, append-nil, inl, arith, take, drop}
-use Rattle.nutcore.proofs.Common.{option_map_or, UpsId, TrackingState, Event, ServerState, session, ups_at, slice_get, option_map, slice_get-map, Outcome, SessionState, cond-false, Fault, UpsState, after, cond_both, take-append-drop}
+use Rattle.nutcore.proofs.Common.{option_map_or, UpsId, TrackingState, Event, ServerState, session, ups_at, slice_get, option_map, slice_get-map, Outcome, SessionState, cond-false, Fault, UpsState, after, take-append-drop}
 use Rattle.nutcore.specs.declared.event.Event.TheVariants.{DriverUp, DriverBytes, DriverTook, DriverDown, Tick, Open, Feed, Took, Close, Id}
 use Rattle.nutcore.specs.Session.{without}
 use Rattle.nutcore.specs.Ups.{ping_is_due, after_tick, after_loss, after_connecting, ping_line}
@@ -8,13 +8,12 @@ use Rattle.nutcore.specs.Step.{with_input, without_output, may_take, may_open, a
 use Rattle.nutcore.specs.Isolation.{client_of, ups_of, is_harmless}
 use Rattle.nutcore.specs.History.{Execution, executions_until, executions_by, taken_in_event, asked_in_event}
 use Rattle.nutcore.specs.Cost.{cost_of, no_cost}
-use Rattle.nutcore.specs.DriverHistory.{has_driver, Heard, heard_at, as_far, came_in_event, heard_in_event}
+use Rattle.nutcore.specs.DriverHistory.{has_driver, came_in_event, heard_in_event}
 use Rattle.nutcore.specs.DriverOrders as telling
 use Rattle.nutcore.specs.DriverOrders.{Telling, dump_all, ping, told_beside_lines, moment_of, told_in_event, texts_of}
 use Rattle.nutcore.proofs.DriverText.{ups_after_bytes, changed_both, lines_read, bytes_change}
 use Rattle.nutcore.specs.Pump.{after_all_lines, is_overlong, pumped}
-use Rattle.nutcore.specs.Lines.{whole_lines}
-use Rattle.nutcore.proofs.Changed.{of_opened}
+use Rattle.nutcore.proofs.Changed.{input_absent, of_opened}
 use Rattle.nutcore.proofs.UpsPlaces.{Stands, of_place, server_same}
 use Rattle.nutcore.proofs.DriverChanges.{Does, stays_so, bytes_do, lost, unconnected, goes_on}
 use Rattle.std.specs.Prelude.{nat_le}
@@ -26,7 +25,7 @@ use Rattle.nutcore.proofs.Adding.{session_keeps, pump_adds, took_adds, by_client
 use Rattle.nutcore.proofs.ApartFromBytes.{core_opened, closed_without}
 use Rattle.nuttracking.specs.declared.tracking.IdFault.{IdFault}
 use Rattle.nutcore.proofs.Places.{without_none}
-use Rattle.nutcore.proofs.EventSteps.{pump_absent, input_absent}
+use Rattle.nutcore.proofs.Least.{pump_absent}
 
 -- what one client executes in an event
 unfoldable pub given_by : ℕ → ServerState → Event → Option ℕ → List Execution
@@ -124,12 +123,9 @@ is_quiet _ = false
 not_memory : (fault : Fault) → is_harmless fault ≡ true → refused_after (Refused fault) ≡ None
 not_memory fault h = grind arith
 
-never_quiet : {A : Type 0} (o : Outcome) → is_quiet o ≡ false → is_quiet o ≡ true → A
-never_quiet o e h = let never : false ≡ true = sym e ∙ h in cc never
-
--- what is done or stopped at a line that is too long is none of these refusals
-goes : (b : Bool) (o : Outcome) → is_quiet o ≡ false → is_quiet (cond b (Refused LineTooLong) o) ≡ false
-goes b o done = cond_both b (Refused LineTooLong) o (λ z. is_quiet z ≡ false) (λ e. refl) (λ e. done)
+-- what is taken in, or stopped at a line that is too long, is none of these refusals
+taken_in : (n : ℕ) (b : Bool) → is_quiet (cond b (Refused LineTooLong) (Fed n)) ≡ true → ⊥
+taken_in n b h = grind arith
 
 -- what is done unless it is refused
 stays : {A : Type 0} (b : Bool) (o p : Outcome) (t s : A) → is_quiet o ≡ false → is_quiet (cond b o p) ≡ true → cond b t s ≡ s
@@ -146,7 +142,7 @@ bytes_stay s u piece o h = grind arith
 
 feed_stays : (s : ServerState) (c : ℕ) (piece : List ℕ) (o : Option SessionState) (b : Bool) → session c s ≡ o → is_quiet (fed_by o piece b) ≡ true → pumped (with_input s c piece) c ≡ s
 feed_stays s c piece None b e h = ap (λ (z : ServerState). pumped z c) (input_absent s c piece e) ∙ sym (pump_absent s c e)
-feed_stays s c piece (Some x) b e h = never_quiet _ (goes b (Fed (accepted x piece)) refl) h
+feed_stays s c piece (Some x) b e h = absurd (taken_in (accepted x piece) b h)
 
 -- where a take is refused, nothing may be taken
 pub may_not : (o : Option SessionState) (n : ℕ) (b : Bool) → is_quiet (took_by o n b) ≡ true → may_take o n ≡ false
@@ -183,10 +179,8 @@ unfolding after_by executions_by
 bytes_leave s v piece u o x there =
     let e : Event = DriverBytes v piece in
     let m : Option ℕ = refused_after o in
-    let lines : List Heard = cond x.report.connected (heard_at s.moment u.place s.tracking (as_far m (whole_lines (x.unfinished ++ piece)))) [] in
-    subst (λ (t : ServerState). Stands u.place t.upses (Does s.moment u e x (came_in_event u e) (heard_in_event u s e o) [] [])) (sym (bytes_change v piece m s))
-    (of_place (ups_after_bytes s.moment v.place s.tracking piece m) u v s.upses x (Does s.moment u e x (came_in_event u e) (heard_in_event u s e o) [] []) there
-    (λ k same. rw (k, there) (subst (λ (w : UpsId). Does s.moment u e x piece lines [] [] (ups_after_bytes s.moment w.place s.tracking piece m x)) (sym same) (bytes_do s.moment u e x s.tracking piece m))) (λ k. rw k (stays_so s.moment u e x)))
+    rw (bytes_change v piece m s) (of_place (ups_after_bytes s.moment v.place s.tracking piece m) u v s.upses x (Does s.moment u e x (came_in_event u e) (heard_in_event u s e o) [] []) there
+    (λ k same. rw (k, there, same) (bytes_do s.moment u _ x s.tracking piece m)) (λ k. rw k (stays_so s.moment u e x)))
 
 -- what is said of each alone: where a fault that changes nothing refuses it, all is as it was; and what it leaves of a UPS
 pub record OfEvent (s : ServerState) (e : Event) : Type 0 where

@@ -1,8 +1,13 @@
 -- Finding sessions after a change.
-use Rattle.std.proofs.Common.{◌≡◌, ◌≢◌, ℕ, Bool, true, false, List, [], ◌∷◌, ◌++◌, Option, Some, None, refl, arith, cond, eqb, map}
-use Rattle.std.proofs.lemmas.Bool.{cond_both, eqb-true}
+use Rattle.std.proofs.Common.{◌≡◌, ◌≢◌, ◌⊎◌, ℕ, List, [], ◌∷◌, ◌++◌, Option, Some, None, refl, arith, eqb, map, inl, inr}
+use Rattle.std.proofs.lemmas.Bool.{cond_both, cases_Bool, eqb-true}
 use Rattle.std.proofs.lemmas.Bool.Decides.{nat_tests}
 use Rattle.nutcore.specs.Session.{SessionState, find, put, without}
+
+-- nothing, or something
+pub cases_Option : {A : Type 0} (o : Option A) → (o ≡ None) ⊎ ((x : A) × (o ≡ Some x))
+cases_Option None = inl refl
+cases_Option (Some x) = inr (x, refl)
 
 -- what is found has the id
 pub find_id : (c : ℕ) (xs : List SessionState) (x : SessionState) → find c xs ≡ Some x → x.id ≡ c
@@ -28,11 +33,7 @@ find_without_other c d (z ∷ xs) differ = grind (arith, nat_tests, find_without
 -- what holds of what is found, and of a new session where there is none and it has the id, holds once it is pushed
 pub of_pushed : (P : Option SessionState → Type 0) (c : ℕ) (y : SessionState) (xs : List SessionState) → P (find c xs) → (y.id ≡ c → find c xs ≡ None → P (Some y)) → P (find c (xs ++ y ∷ []))
 of_pushed P c y [] same new = cond_both (eqb y.id c) (Some y) None P (λ e. new (eqb-true y.id c e) refl) (λ e. same)
-of_pushed P c y (x ∷ xs) same new = by_id (eqb x.id c) same new (of_pushed P c y xs)
-  where
-    by_id : (b : Bool) → P (cond b (Some x) (find c xs)) → (y.id ≡ c → cond b (Some x) (find c xs) ≡ None → P (Some y)) → (P (find c xs) → (y.id ≡ c → find c xs ≡ None → P (Some y)) → P (find c (xs ++ y ∷ []))) → P (cond b (Some x) (find c (xs ++ y ∷ [])))
-    by_id true same new rest = same
-    by_id false same new rest = rest same new
+of_pushed P c y (x ∷ xs) same new = elim (cases_Bool (eqb x.id c)) [ inl e ↦ rw e (rw e at same) | inr e ↦ rw e (of_pushed P c y xs (rw e at same) (λ its none. new its (rw e none))) ]
 
 -- a session put twice
 pub put_put : (y z : SessionState) (xs : List SessionState) → z.id ≡ y.id → put z (put y xs) ≡ put z xs
@@ -47,7 +48,4 @@ put_found x (z ∷ xs) e = grind (arith, nat_tests, put_found x xs)
 -- what is seen of each, where one is put that is seen as the one before
 pub mapped_put : {A : Type 0} (f : SessionState → A) (x y : SessionState) (xs : List SessionState) → find y.id xs ≡ Some x → f y ≡ f x → map f (put y xs) ≡ map f xs
 mapped_put f x y [] found same = refl
-mapped_put {A} f x y (z ∷ xs) found same = by_id (eqb z.id y.id) found (λ e. mapped_put f x y xs e same)
-  where
-    by_id : (b : Bool) → cond b (Some z) (find y.id xs) ≡ Some x → (find y.id xs ≡ Some x → map f (put y xs) ≡ map f xs) → map f (cond b (y ∷ xs) (z ∷ put y xs)) ≡ f z ∷ map f xs
-    by_id b e more = grind arith
+mapped_put f x y (z ∷ xs) found same = grind (arith, nat_tests, mapped_put f x y xs)

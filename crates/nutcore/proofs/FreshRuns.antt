@@ -1,13 +1,12 @@
 -- What is told of a UPS's data is fresh, over every run from a new server.
-use Rattle.std.proofs.Common.{◌≡◌, ◌≤◌, ◌<◌, ◌-◌, ◌∙◌, ℕ, zero, suc, true, false, List, [], ◌∷◌, ◌++◌, Option, Some, Result, Ok, Err, refl, sym, ap, subst, map, max, length, arith}
+use Rattle.std.proofs.Common.{◌≡◌, ◌≤◌, ◌<◌, ◌-◌, ◌∙◌, ℕ, Bool, zero, suc, true, false, List, [], ◌∷◌, ◌++◌, Option, Some, Result, Ok, Err, refl, sym, ap, subst, map, max, length, arith}
 use Rattle.std.specs.Prelude.{codes, nat_eq, slice_get, option_map}
 use Rattle.std.specs.List.{starts_with}
 use Rattle.std.proofs.lemmas.List.Elements.{All-weaker}
 use Rattle.nutcore.proofs.Common.{same_Some, slice_get_within, UpsId, Event, Outcome, UpsState, ServerState, ups_at, Run, slice_get-map}
 use Rattle.nutdriver.specs.declared.report.Report.{Report}
 use Rattle.nutdriver.specs.Sound.{IsSoundTree}
-use Rattle.nutdriver.specs.LastLine.{TheLastLineDecides, TheLastLineOnAVariableDecidesIt}
-use Rattle.nutdriver.specs.Additions.{changes}
+use Rattle.nutdriver.specs.LastLine.{TheLastLineOnAVariableDecidesIt}
 use Rattle.nutdriver.specs.Report.{Heard, connected_report, after_line, after_heard}
 use Rattle.nutanswer.specs.declared.command.Command.{Command}
 use Rattle.nutanswer.specs.declared.err_word.ErrWord.{ErrWord}
@@ -32,7 +31,7 @@ use Rattle.nutcore.proofs.DriverRuns.{since_connecting}
 use Rattle.nutcore.proofs.Changed.{of_opened}
 use Rattle.nutcore.proofs.Events.{of_parts, any_driver}
 use Rattle.nutcore.proofs.Executions.{each_answer_timely}
-use Rattle.nutcore.proofs.SoundUps.{each_get}
+use Rattle.nutcore.proofs.SoundUps.{each_get, heard_line}
 use Rattle.nutcore.proofs.Isolation.{own, kept_in_lines, kept_in_input, kept_in_output}
 
 -- the moment and the greatest age after an event, and after a run
@@ -41,9 +40,7 @@ record IsTimed (tick : ℕ) (s t : ServerState) : Type 0 where
   max_age : t.max_age ≡ s.max_age
 
 kept_timed : (s t : ServerState) → kept_from_clients t ≡ kept_from_clients s → IsTimed 0 s t
-kept_timed s t kept =
-    let moment : t.moment ≡ s.moment = ap (λ (z : ServerState). z.moment) kept in
-    record { moment = omega (arith, moment); max_age = ap (λ (z : ServerState). z.max_age) kept }
+kept_timed s t kept = let moment = ap (λ (z : ServerState). z.moment) kept in record { moment = omega (arith, moment); max_age = ap (λ (z : ServerState). z.max_age) kept }
 
 no_tick : (e : Event) (u : UpsId) → ups_of e ≡ Some u → tick_of e ≡ 0
 no_tick e u h = grind arith
@@ -78,10 +75,6 @@ moment_is_greatest_tick old new es os is_new r =
     let begins : old.moment ≡ 0 = ap (λ (z : ServerState). z.moment) is_new.is in
     record { moment = omega (arith, moment, begins); max_age = timed.max_age }
 
--- a line is heard at its moment
-heard_now : (moment : ℕ) (report : Report) (line : List ℕ) → (after_line moment report line).0.heard ≡ moment
-heard_now moment report line = grind arith
-
 -- a report that is fresh is usable
 ready_is : (moment max_age : ℕ) (x : Report) → x.connected ≡ true → x.dumped ≡ true → x.ok ≡ true → moment - x.heard ≤ max_age → readiness moment max_age x ≡ usable
 ready_is moment max_age x connected dumped right recent = grind arith
@@ -94,7 +87,7 @@ record IsLast (report : Report) (lines : List Heard) : Type 0 where
   at : report.heard ≡ last.moment
 
 last_of : (report : Report) (x : Heard) (xs : List Heard) → IsLast (after_heard report (x ∷ xs)) (x ∷ xs)
-last_of report x [] = record { earlier = []; last = x; lines_are = refl; at = heard_now x.moment report x.line }
+last_of report x [] = record { earlier = []; last = x; lines_are = refl; at = ap (λ (z : ℕ × Bool). z.0) (heard_line x.moment report x.line) }
 last_of report x (y ∷ ys) =
     let more = last_of (after_line x.moment report x.line).0 y ys in
     record { earlier = x ∷ more.earlier; last = more.last; lines_are = ap (λ (zs : List Heard). x ∷ zs) more.lines_are; at = more.at }
@@ -142,11 +135,7 @@ module _ (told : WhatIsToldIsFresh) (opening : ANewServerIsSound) (keeps : Every
   -- a UPS that is there after a run was there before it
   there_before : (t : ServerState) (es : List Event) (os : List Outcome) (p : ℕ) (x : UpsState) → Run old es os t → ups_at p t ≡ Some x → p < length old.upses
   there_before t es os p x r there =
-      let few : p < length t.upses = slice_get_within t.upses p x there in
-      let named = (keeps old t es os r sound_old).named in
-      let named_old = sound_old.named in
-      let list = ap (λ xs. length xs) (run_keeps_list old t es os r) in
-      omega (arith, few, named, named_old, list)
+      let list = ap (λ xs. length xs) (run_keeps_list old t es os r) in omega (arith, list, slice_get_within t.upses p x there, (keeps old t es os r sound_old).named, sound_old.named)
 
   -- what a UPS's driver told since it connected is what it told a UPS that has its report and its rest
   same_driver : (u : UpsId) (es : List Event) (os : List Outcome) (x y : UpsState) → without_commands x ≡ without_commands y → ConnectedInRun u old es os y → ConnectedInRun u old es os x
@@ -190,7 +179,7 @@ module _ (told : WhatIsToldIsFresh) (opening : ANewServerIsSound) (keeps : Every
       (there_before t.server t.events_before t.outcomes_before u.place y t.reached was_at.there) t.reached in
       let same : stands.now ≡ y = same_Some stands.now y (sym stands.there ∙ was_at.there) in
       let connected : stands.now.report.connected ≡ true =
-      ap (λ (z : UpsState). z.report.connected) same ∙ ap (λ (z : UpsState). z.report.connected) was_at.is ∙ ap (λ (z : Report). z.connected) report ∙ fresh.connected in
+      ap (λ (z : UpsState). z.report.connected) (ap without_commands same ∙ was_at.is) ∙ ap (λ (z : Report). z.connected) report ∙ fresh.connected in
       let run = same_driver u t.events_before t.outcomes_before x stands.now (sym was_at.is ∙ ap without_commands (sym same)) (stands.connected connected) in
       let dumped : x.report.dumped ≡ true = ap (λ (z : Report). z.dumped) report ∙ fresh.dumped in
       let last = dumped_has_last run.server.moment (lines_since run) x.report run.connects.is_heard.report dumped in
@@ -226,5 +215,4 @@ whatever_is_told_is_fresh told opening keeps old new es os is_new r =
 
 -- what a driver set last
 pub set_last_is_held : TheLastLineOnAVariableDecidesIt → WhatADriverSetLastIsHeld
-set_last_is_held decides old es os u now name k =
-    subst (λ (r : Report). TheLastLineDecides r.tree (changes (connected_report k.server.moment) (lines_since k)) name) (sym k.connects.is_heard.report) (decides k.server.moment (lines_since k) name)
+set_last_is_held decides old es os u now name k = grind arith

@@ -1,5 +1,5 @@
 -- A listing is the frame of what is held.
-use Rattle.std.proofs.Common.{◌≡◌, ℕ, true, List, [], ◌∷◌, Option, Some, Result, Ok, refl, sym, ◌∙◌, ap, inl, inr}
+use Rattle.std.proofs.Common.{◌≡◌, ℕ, true, List, ◌∷◌, Option, Some, Result, Ok, refl, subst, arith}
 use Rattle.std.specs.Prelude.{codes, nat_eq}
 use Rattle.std.specs.List.{starts_with}
 use Rattle.std.proofs.lemmas.Slice.Eq.{bytes_eq-Decides}
@@ -7,47 +7,38 @@ use Rattle.nutwords.specs.Frame.{frame, line_of}
 use Rattle.nutanswer.specs.declared.command.Command.{Command}
 use Rattle.nutanswer.specs.declared.err_word.ErrWord.{ErrWord}
 use Rattle.nutanswer.specs.Command.{read_command}
-use Rattle.nutlisting.specs.Items.{ListingState}
+use Rattle.nutlisting.specs.Items.{ListingState, variable_listing}
 use Rattle.nutanswer.specs.Answer.{Answer, one_line, answer_to, listing, text_of_answer}
-use Rattle.nutcore.proofs.Common.{Change, SessionState, ServerState, session, with_session}
-use Rattle.nutcore.specs.Reply.{seen, asker, reply, text_to, change_by, changed_session}
+use Rattle.nutcore.proofs.Common.{SessionState, ServerState, session, with_session}
+use Rattle.nutcore.specs.Reply.{seen, asker, reply, text_to, change_by}
 use Rattle.nutcore.specs.Pump.{next_line_for, after_line, answered as answered_line}
-use Rattle.nutcore.proofs.Pumping.{after_line_is, line_done}
+use Rattle.nutcore.proofs.Pumping.{after_line_is}
 use Rattle.nutanswer.specs.declared.reply.Change.TheVariants.{Nothing}
 use Rattle.nutanswer.specs.Laws.{is_ok_line, OnlyOkChanges}
 use Rattle.nutcore.specs.Headline.{AListingIsWhatIsHeld}
-use Rattle.nutcore.proofs.Listed.{usable_row, lists, variables_of}
-use Rattle.std.proofs.lemmas.Bool.{cases_Bool}
+use Rattle.nutcore.proofs.Listed.{usable_row}
 
 framed : (s : ServerState) (c : ℕ) (line : List ℕ) (command : Command) (l : ListingState) → read_command line ≡ Ok (Some command) → answer_to (seen s) (asker c s) command ≡ Ok (listing l) → (reply s c line) ≡ frame l.kind l.names l.items
-framed s c line command l read answer = ap (text_to s c) read ∙ ap text_of_answer answer
+framed s c line command l read answer = cc
 
 pub listing_is_held : AListingIsWhatIsHeld
 listing_is_held = record {
   framed = framed;
-  variables = λ s c line ups known read named ready. framed s c line _ (variables_of known) read (usable_row s (Some ups) known (λ k. lists (variables_of k)) (record { named = named; ready = ready }));
+  variables = λ s c line ups known read named ready. framed s c line _ (variable_listing known.name known.state.fsd known.state.report.tree.variables) read (usable_row s (Some ups) known (λ k. Ok (listing (variable_listing k.name k.state.fsd k.state.report.tree.variables))) (record { named = named; ready = ready }));
 }
 
 -- a line of OK doesn't begin with ERR
-ok_line : (words : List (List ℕ)) → starts_with nat_eq (line_of (codes "OK" ∷ words)) (codes "ERR") ≡ true → ⊥
-ok_line [] e = cc e
-ok_line (word ∷ words) e = cc e
-
 ok_text : (answer : Result Answer ErrWord) → is_ok_line answer ≡ true → starts_with nat_eq (text_of_answer answer) (codes "ERR") ≡ true → ⊥
-ok_text (Ok (one_line (first ∷ words) change)) ok e =
-    let same : first ≡ codes "OK" = (bytes_eq-Decides first (codes "OK")).0 ok in
-    ok_line words (ap (λ (w : List ℕ). starts_with nat_eq (line_of (w ∷ words)) (codes "ERR")) (sym same) ∙ e)
+ok_text (Ok (one_line (first ∷ words) change)) ok e = by_words words (subst (λ (w : List ℕ). starts_with nat_eq (line_of (w ∷ words)) (codes "ERR") ≡ true) ((bytes_eq-Decides first (codes "OK")).0 ok) e)
+  where
+    by_words : (words : List (List ℕ)) → starts_with nat_eq (line_of (codes "OK" ∷ words)) (codes "ERR") ≡ true → ⊥
+    by_words words e = grind arith
 ok_text answer ok e = cc ok
 
 -- so what begins with ERR changes nothing
 refused_change : OnlyOkChanges → (s : ServerState) (c : ℕ) (r : Result (Option Command) ErrWord) → starts_with nat_eq (text_to s c r) (codes "ERR") ≡ true → change_by s c r ≡ Nothing
-refused_change only_ok s c (Ok (Some command)) e = elim (cases_Bool (is_ok_line (answer_to (seen s) (asker c s) command))) [
-  | inl ok ↦ absurd (ok_text (answer_to (seen s) (asker c s) command) ok e)
-  | inr not_ok ↦ only_ok (seen s) (asker c s) command not_ok
-]
+refused_change only_ok s c (Ok (Some command)) e = grind (arith, ok_text (answer_to (seen s) (asker c s) command), only_ok (seen s) (asker c s) command)
 refused_change only_ok s c r e = refl
 
 pub refused_line : OnlyOkChanges → (s : ServerState) (c : ℕ) (line : List ℕ) (x : SessionState) → session c s ≡ Some x → next_line_for s c ≡ Some line → starts_with nat_eq (reply s c line) (codes "ERR") ≡ true → after_line s c ≡ with_session s (answered_line line (reply s c line) x)
-refused_line only_ok s c line x found next refused =
-    after_line_is s c line x found next
-    ∙ ap (λ (change : Change). line_done s change (changed_session change (answered_line line (reply s c line) x))) (refused_change only_ok s c (read_command line) refused)
+refused_line only_ok s c line x found next refused = cc (after_line_is s c line x found next, refused_change only_ok s c (read_command line) refused)

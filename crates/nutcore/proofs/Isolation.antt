@@ -1,18 +1,16 @@
 -- What an event doesn't touch.
-use Rattle.std.proofs.Common.{arith, ◌≡◌, ◌≢◌, ℕ, zero, suc, Bool, true, false, ◌&&◌, eqb, inl, inr, List, [], ◌∷◌, Option, Some, None, refl, sym, ◌∙◌, ap, subst, cond, map, IfSome}
-use Rattle.nutcore.proofs.Common.{cond_both, and_parts, eqb-true, same_Some, UpsId, TrackingState, Change, Event, Fault, Outcome, ServerState, session, changed_at, with_session_changed}
+use Rattle.std.proofs.Common.{arith, ◌≡◌, ℕ, zero, suc, true, inl, List, [], ◌∷◌, Option, Some, None, refl, sym, ◌∙◌, ap, subst, map, IfSome}
+use Rattle.nutcore.proofs.Common.{cond_both, same_Some, UpsId, TrackingState, Change, Event, Fault, Outcome, ServerState, session, changed_at, with_session_changed}
 use Rattle.nutcore.specs.declared.event.Event.TheVariants.{Feed, Took, Close}
 use Rattle.nutcore.specs.declared.event.Outcome.TheVariants.{Refused}
-use Rattle.nuttracking.specs.declared.order.Progress.{Progress}
-use Rattle.nuttracking.specs.declared.order.Progress.TheVariants.{Pending, Done}
 use Rattle.nuttracking.specs.declared.order.TrackedOrder.{TrackedOrder}
-use Rattle.nuttracking.specs.Tracking.{has_id, is_pending, awaits, settled, nothing_tracked}
-use Rattle.nutcore.specs.Reports.{OrderEnd, end_in, with_end, after_ends}
+use Rattle.nuttracking.specs.Tracking.{settled}
+use Rattle.nutcore.specs.Reports.{with_end}
 use Rattle.nutcore.specs.Session.{SessionState}
 use Rattle.nutcore.specs.Ups.{UpsState, with_fsd, with_order}
 use Rattle.nutcore.specs.Reply.{changed_upses}
 use Rattle.nutcore.specs.Pump.{next_line_for, after_line, after_lines, after_all_lines, is_overlong, with_notice}
-use Rattle.nutcore.specs.Step.{Step, joined, with_input, taken_from, without_output, may_take, pumped_until, after_by, refused_after, outcome_of}
+use Rattle.nutcore.specs.Step.{Step, joined, with_input, taken_from, without_output, may_take, after_by, refused_after, outcome_of}
 use Rattle.nutcore.specs.Isolation.{client_of, ups_of, without_commands, kept_from_clients, LeavesOtherClients, MaySettle, MaySettleEach, LeavesOtherUpses, AClientTouchesNoOther, ADriverTouchesNoOther, ARefusedEventChangesNothing, ARefusedEventCostsNothing, is_harmless}
 use Rattle.nutcore.specs.Cost.{cost_of, no_cost}
 use Rattle.nutcore.proofs.Events.{is_quiet, may_not, of_event, of_parts, any_driver, refused}
@@ -21,20 +19,12 @@ use Rattle.nutcore.proofs.DriverText.{changed_both}
 use Rattle.nutcore.proofs.Changes.{of_upses}
 use Rattle.nutcore.proofs.Costs.{refused_feed_costs, refused_take_costs}
 use Rattle.nutcore.proofs.Found.{find_without_other}
-use Rattle.nutcore.proofs.Kept.{IsPumped, by_lines, by_feed, by_take}
+use Rattle.nutcore.proofs.Kept.{IsPumped, by_lines, by_feed, by_take, of_ends}
 use Rattle.nutcore.proofs.Progress.{Presence}
-use Rattle.nutcore.proofs.Pumping.{is_next, after_line_is, change_at}
+use Rattle.nutcore.proofs.Pumping.{is_next, after_line_is}
 use Rattle.nutcore.proofs.Stepping.{until_other, input_other, output_other}
 use Rattle.nutcore.proofs.UpsPlaces.{other_ups}
-
--- a client's event: the other sessions
-fed_other : (c d : ℕ) (s : ServerState) (piece : List ℕ) (m : Option ℕ) → d ≢ c → session d (pumped_until (with_input s c piece) c m) ≡ session d s
-fed_other c d s piece m differ = ap (λ (p : Presence). p.session) (until_other d c (with_input s c piece) m differ ∙ input_other d c s piece differ)
-
-took_other : (c d : ℕ) (s : ServerState) (n : ℕ) (m : Option ℕ) → d ≢ c → session d (cond (may_take (session c s) n) (pumped_until (without_output s c n) c m) s) ≡ session d s
-took_other c d s n m differ =
-    cond_both (may_take (session c s) n) _ s (λ t. session d t ≡ session d s)
-    (λ e. ap (λ (p : Presence). p.session) (until_other d c (without_output s c n) m differ ∙ output_other d c s n differ)) (λ e. refl)
+use Rattle.nutdriver.specs.Report.{OrderEnd, end_in}
 
 -- what no command changes of the UPSs
 masked_at : (f : UpsState → UpsState) → ((x : UpsState) → without_commands (f x) ≡ without_commands x) → (p : ℕ) (xs : List UpsState) → map without_commands (changed_at f p xs) ≡ map without_commands xs
@@ -52,10 +42,7 @@ kept_session : (s : ServerState) (f : SessionState → SessionState) (t : Server
 kept_session s f t c h = by_change (IsKept s) f c t (λ x e. h) (λ e. h)
 
 kept_line : (s t : ServerState) (c : ℕ) (line : List ℕ) → next_line_for t c ≡ Some line → IsKept s t → IsKept s (after_line t c)
-kept_line s t c line next h =
-    let n = is_next t c line next in
-    ap kept_from_clients (after_line_is t c line n.asking n.found next)
-    ∙ ap (λ (xs : List UpsState). let r : ServerState = record t { sessions = []; upses = xs; tracking = nothing_tracked } in r) (masked (change_at t c line) t.upses) ∙ h
+kept_line s t c line next h = let n = is_next t c line next in rw (after_line_is t c line n.asking n.found next, masked) h
 
 pumped : (s : ServerState) → IsPumped (IsKept s)
 pumped s = record {
@@ -78,8 +65,12 @@ kept_in_output s c n = kept_session s (taken_from n) s c refl
 
 own_of : (s : ServerState) (e : Event) (m : Option ℕ) → IfSome (client_of e) (λ c. LeavesOtherClients c s (after_by s e m))
 unfolding after_by
-own_of s (Feed c piece) m = record { sessions = λ d differ. fed_other c d s piece m differ; server = by_feed (IsKept s) (pumped s) s c piece m refl }
-own_of s (Took c n) m = record { sessions = λ d differ. took_other c d s n m differ; server = by_take (IsKept s) (pumped s) s c n m refl }
+own_of s (Feed c piece) m = record { sessions = λ d differ. ap (λ (p : Presence). p.session) (until_other d c (with_input s c piece) m differ ∙ input_other d c s piece differ); server = by_feed (IsKept s) (pumped s) s c piece m refl }
+own_of s (Took c n) m = record {
+  sessions = λ d differ. cond_both (may_take (session c s) n) _ s (λ t. session d t ≡ session d s)
+      (λ e. ap (λ (p : Presence). p.session) (until_other d c (without_output s c n) m differ ∙ output_other d c s n differ)) (λ e. refl);
+  server = by_take (IsKept s) (pumped s) s c n m refl;
+}
 own_of s (Close c) m = record { sessions = λ d differ. find_without_other d c s.sessions differ; server = refl }
 own_of s e m = tt
 
@@ -90,59 +81,24 @@ pub client_alone : AClientTouchesNoOther
 client_alone old new e o c step h = subst (λ (t : ServerState). LeavesOtherClients c old t) (sym step.leaves) (own old e (refused_after o) c h)
 
 -- a driver's event: orders, of which it may settle pending ones of its own UPS
-may_settle : (place id number : ℕ) (x : TrackedOrder) → MaySettle place x (settled place id number x)
-may_settle place id number x = by_awaits (awaits place id x) refl
-  where
-    y : TrackedOrder
-    y = record x { progress = Done number }
+may_settle : (place id number : ℕ) (x y : TrackedOrder) → MaySettle place x y → MaySettle place x (settled place id number y)
+may_settle place id number x y h = grind arith
 
-    pending : (p : Progress) → is_pending p ≡ true → p ≡ Pending
-    pending p e = grind arith
+each_settles : (place id number : ℕ) (xs ys : List TrackedOrder) → MaySettleEach place xs ys → MaySettleEach place xs (map (settled place id number) ys)
+each_settles place id number [] [] h = tt
+each_settles place id number (x ∷ xs) (y ∷ ys) h = (may_settle place id number x y h.0, each_settles place id number xs ys h.1)
+each_settles place id number xs ys h = absurd h
 
-    by_awaits : (b : Bool) → awaits place id x ≡ b → MaySettle place x (cond b y x)
-    by_awaits true e =
-        let own = (and_parts (has_id id x) (eqb x.place place && is_pending x.progress) e).1 in
-        let parts = and_parts (eqb x.place place) (is_pending x.progress) own in
-        inr (eqb-true x.place place parts.0, pending x.progress parts.1, refl)
-    by_awaits false e = inl refl
-
-settles_twice : (place : ℕ) (x y z : TrackedOrder) → MaySettle place x y → MaySettle place y z → MaySettle place x z
-settles_twice place x y z (inl e) later = subst (λ (w : TrackedOrder). MaySettle place w z) e later
-settles_twice place x y z first (inl e) = subst (MaySettle place x) (sym e) first
-settles_twice place x y z (inr (its, pending, is)) (inr (its', pending', is')) =
-    inr (its, pending, is' ∙ ap (λ (w : TrackedOrder). let v : TrackedOrder = record w { progress = z.progress } in v) is)
-
-each_settles : (place id number : ℕ) (xs : List TrackedOrder) → MaySettleEach place xs (map (settled place id number) xs)
-each_settles place id number [] = tt
-each_settles place id number (x ∷ xs) = (may_settle place id number x, each_settles place id number xs)
+end_settles : (place : ℕ) (o : Option OrderEnd) (xs : List TrackedOrder) (t : TrackingState) → MaySettleEach place xs t.orders → MaySettleEach place xs (with_end place o t).orders
+end_settles place None xs t h = h
+end_settles place (Some told) xs t h = each_settles place told.id told.number xs t.orders h
 
 none_settles : (place : ℕ) (xs : List TrackedOrder) → MaySettleEach place xs xs
 none_settles place [] = tt
 none_settles place (x ∷ xs) = (inl refl, none_settles place xs)
 
-each_twice : (place : ℕ) (xs ys zs : List TrackedOrder) → MaySettleEach place xs ys → MaySettleEach place ys zs → MaySettleEach place xs zs
-each_twice place [] [] zs first later = later
-each_twice place (x ∷ xs) (y ∷ ys) (z ∷ zs) first later = (settles_twice place x y z first.0 later.0, each_twice place xs ys zs first.1 later.1)
-each_twice place [] (y ∷ ys) zs first later = absurd first
-each_twice place (x ∷ xs) [] zs first later = absurd first
-each_twice place (x ∷ xs) (y ∷ ys) [] first later = absurd later
-
-end_settles : (place : ℕ) (o : Option OrderEnd) (t : TrackingState) → MaySettleEach place t.orders (with_end place o t).orders
-end_settles place None t = none_settles place t.orders
-end_settles place (Some told) t = each_settles place told.id told.number t.orders
-
-ends_settle : (place : ℕ) (lines : List (List ℕ)) (t : TrackingState) → MaySettleEach place t.orders (after_ends place lines t).orders
-ends_settle place [] t = none_settles place t.orders
-ends_settle place (line ∷ lines) t =
-    let next : TrackingState = with_end place (end_in line) t in
-    each_twice place t.orders next.orders (after_ends place lines next).orders (end_settles place (end_in line) t) (ends_settle place lines next)
-
 end_keeps_ids : (place : ℕ) (o : Option OrderEnd) (t : TrackingState) → (with_end place o t).ids ≡ t.ids
 end_keeps_ids place o t = grind arith
-
-ends_keep_ids : (place : ℕ) (lines : List (List ℕ)) (t : TrackingState) → (after_ends place lines t).ids ≡ t.ids
-ends_keep_ids place [] t = refl
-ends_keep_ids place (line ∷ lines) t = ends_keep_ids place lines (with_end place (end_in line) t) ∙ end_keeps_ids place (end_in line) t
 
 -- the other UPSs
 own_ups : (s : ServerState) (e : Event) (m : Option ℕ) (u : UpsId) → ups_of e ≡ Some u → LeavesOtherUpses u s (after_by s e m)
@@ -150,8 +106,8 @@ own_ups s e m u =
     of_parts s m (λ f. Unit {0}) (any_driver s.moment s.tracking m) (λ e t. ups_of e ≡ Some u → LeavesOtherUpses u s t)
     (λ e v f lines its apart any h. subst (λ (z : UpsId). LeavesOtherUpses z s (changed_both f lines v s)) (same_Some v u (sym its ∙ h)) (record {
       upses = λ q differ. other_ups f v.place q s.upses differ;
-      ids = ends_keep_ids v.place lines s.tracking;
-      orders = ends_settle v.place lines s.tracking;
+      ids = of_ends v.place (λ t. t.ids ≡ s.tracking.ids) (λ line t same. end_keeps_ids v.place (end_in line) t ∙ same) lines s.tracking refl;
+      orders = of_ends v.place (λ t. MaySettleEach v.place s.tracking.orders t.orders) (λ line t so. end_settles v.place (end_in line) s.tracking.orders t so) lines s.tracking (none_settles v.place s.tracking.orders);
       server = refl;
     }))
     (λ seconds h. cc h) (λ address h. cc h) (λ c piece h. cc h) (λ c n h. cc h) (λ c h. cc h) (λ id h. cc h) e

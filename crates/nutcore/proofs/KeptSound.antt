@@ -1,6 +1,6 @@
 -- What a method puts in place of one session or of one UPS keeps the server sound.
-use Rattle.std.proofs.Common.{◌≡◌, ◌≤◌, ℕ, true, false, ◌||◌, List, [], Option, Some, None, Result, Ok, Err, refl, sym, ◌∙◌, ap, subst, set, length, arith}
-use Rattle.std.specs.Prelude.{option_map, nat_lt}
+use Rattle.std.proofs.Common.{◌≡◌, ◌≤◌, ℕ, true, List, [], Some, Result, refl, sym, ◌∙◌, subst, set, length, arith}
+use Rattle.std.specs.Prelude.{option_map}
 use denote.Ref.{MutBor}
 use Rattle.std.specs.Fn.{Once, FnOnceReturnsAtMut}
 use Rattle.nutwords.specs.Found.{Finds}
@@ -9,26 +9,24 @@ use Rattle.nutwords.specs.declared.limits.TheConstants.{LINE_LIMIT}
 use Rattle.nutdriver.specs.declared.report.LineOutcome.{LineOutcome}
 use Rattle.nutdriver.specs.Tree.{empty_tree}
 use Rattle.nutdriver.specs.Sound.{IsSoundTree, EachLineKeepsTheTreeSound}
-use Rattle.nutcore.proofs.Common.{never_both, cond_both, or_parts, UpsId, Change, Fault, SessionState, ServerState, session, ups_at, with_ups_changed}
-use Rattle.nutlisting.specs.declared.outbox.TheConstants.{OWED_LIMIT}
+use Rattle.nutcore.proofs.Common.{UpsId, Change, Fault, SessionState, ServerState, session, ups_at, with_ups_changed}
 use Rattle.std.specs.declared.alloc.AllocError.{AllocError}
-use Rattle.nutcore.specs.Lines.{first_line}
 use Rattle.nutcore.specs.Ups.{UpsState, with_unfinished}
 use Rattle.nuttracking.specs.Tracking.{TrackingState}
 use Rattle.nutcore.specs.Reply.{changed_session, changed_upses, changed_tracking}
 use Rattle.nutcore.specs.Pump.{next_line, answered, with_notice}
 use Rattle.nutcore.specs.Step.{joined, taken_from}
-use Rattle.nutcore.specs.Promises.{IsTaken, IsCut, DoesLine, IsAt, OrderFits}
-use Rattle.nutcore.specs.Sound.{Each, IsSoundSession, IsSoundUps, IsSound}
+use Rattle.nutcore.specs.Promises.{IsTaken, IsCut, DoesLine, IsAt, OrderFits, ChangesUps}
+use Rattle.nutcore.specs.Sound.{IsSoundSession, IsSoundUps, IsSound}
 use Rattle.nutcore.specs.Calls.{is_connected}
 use Rattle.nutcore.proofs.DriverSteps.{is_there, connected_as, connected_at}
-use Rattle.nutcore.proofs.UpsPlaces.{of_ups, left_at, server_set}
+use Rattle.nutcore.proofs.UpsPlaces.{of_ups, left_at, changed_to, server_set}
 use Rattle.nutcore.proofs.Changes.{of_tracking}
-use Rattle.nutcore.proofs.Tracked.{IsTracked, order_tracked}
+use Rattle.nuttracking.specs.Acts.Act.{ordered}
 use Rattle.nutcore.proofs.Found.{find_id}
 use Rattle.nutcore.proofs.Serving.{set_is}
 use Rattle.nutcore.proofs.SoundUps.{sound_changes, length-changes, sound_fewer, sound_bytes, sound_report}
-use Rattle.nutcore.proofs.Sound.{each_found, sound_with, sound_upses, upses_sound, sound_answered, sound_notice, sound_input, sound_output, is_tracked, tracking_sound}
+use Rattle.nutcore.proofs.Sound.{IsTracked, act_tracked, each_found, sound_with, sound_upses, sound_answered, sound_notice, sound_input, sound_output, is_tracked}
 
 -- a session in place of the one that stands there
 pub session_kept : (v : ServerState) (c i : ℕ) (x y : SessionState) → IsAt c i v.sessions → session c v ≡ Some x → y.id ≡ x.id → (IsSoundSession x → IsSoundSession y) → IsSound v →
@@ -39,14 +37,7 @@ session_kept v c i x y at found id keeps h =
 -- its next line is answered
 pub answered_kept : (change : Change) (text : List ℕ) (x y : SessionState) (end : ℕ) → option_map length (next_line x) ≡ Some end → ((line : List ℕ) → next_line x ≡ Some line → y ≡ changed_session change (answered line text x)) →
     IsSoundSession x → IsSoundSession y
-answered_kept change text x y end going is h = by_line (next_line x) refl going
-  where
-    going_of : (line : List ℕ) → next_line x ≡ Some line → x.ending ≡ false
-    going_of line = cond_both (x.ending || nat_lt OWED_LIMIT (length x.owed)) None (first_line x.held) (λ o. o ≡ Some line → x.ending ≡ false) (λ k e. cc e) (λ k e. (or_parts x.ending (nat_lt OWED_LIMIT (length x.owed)) k).0)
-
-    by_line : (o : Option (List ℕ)) → next_line x ≡ o → option_map length o ≡ Some end → IsSoundSession y
-    by_line None e some = cc some
-    by_line (Some line) e some = subst IsSoundSession (sym (is line e)) (sound_answered change line text x (going_of line e) h)
+answered_kept change text x y end going is h = grind (arith, sound_answered)
 
 -- it is told that its line is too long, or stays
 pub noticed_kept : (x y : SessionState) → y ≡ with_notice x → IsSoundSession x → IsSoundSession y
@@ -70,40 +61,35 @@ ups_kept v u x y there keeps h =
 pub of_call : {F R : Type 0} {g : Once F (MutBor UpsState × Unit {0}) (R × (MutBor UpsState × Unit {0}))} {f : F} {x y : UpsState} {r : R} (P : UpsState → UpsState → Type 0) (called : FnOnceReturnsAtMut g f x r y) → P called.shown.now called.left.now → P x y
 of_call {y = y} P called p = subst (λ (z : UpsState). P z y) called.shows (subst (P called.shown.now) called.leaves p)
 
+-- so a call that puts a UPS so changes the server so
+pub changed_by : {F R : Type 0} {g : Once F (MutBor UpsState × Unit {0}) (R × (MutBor UpsState × Unit {0}))} {f : F} {u : UpsId} {s t : ServerState} {r : R} (d : ChangesUps g f u s r t) (h : UpsState → UpsState) → d.called.left.now ≡ h d.called.shown.now → t ≡ with_ups_changed h u s
+changed_by {u = u} {s = s} {t = t} d h is = changed_to s t u h d.before d.after d.there (of_call (λ x y. y ≡ h x) d.called is) d.leaves
+
 -- an answer changes the UPSs
 pub upses_kept : (v : ServerState) (change : Change) (xs : List UpsState) → xs ≡ changed_upses change v.upses → OrderFits change v.upses → IsSound v →
     let code : ServerState = record v { upses = xs } in IsSound code
-upses_kept v change xs e fits h =
-    upses_sound v v.moment xs (ap length e ∙ length-changes change v.upses) (subst (Each (IsSoundUps v.moment)) (sym e) (sound_changes v.moment change v.upses fits h.upses)) h
+upses_kept v change xs e fits h = grind (arith, length-changes change v.upses, sound_changes v.moment change v.upses fits h.upses)
 
 -- and the ids and orders that are tracked
 pub changes_kept : (v : ServerState) (change : Change) (xs : List UpsState) (t : TrackingState) → xs ≡ changed_upses change v.upses → t ≡ changed_tracking change v.tracking → OrderFits change v.upses → IsSound v →
     let code : ServerState = record v { upses = xs; tracking = t } in IsSound code
-changes_kept v change xs t e f fits h =
-    let tracked : IsTracked v.tracking = is_tracked v h in
-    tracking_sound (record v { upses = xs }) t (subst IsTracked (sym f) (of_tracking IsTracked change v.tracking tracked (λ place. order_tracked v.tracking place tracked))) (upses_kept v change xs e fits h)
+changes_kept v change xs t e f fits h = grind (arith, of_tracking IsTracked change v.tracking (is_tracked v h) (λ place. act_tracked v.tracking (ordered place) tt (is_tracked v h)), upses_kept v change xs e fits h)
 
 -- its driver takes bytes
 pub driver_taken_kept : (m n : ℕ) (x y : UpsState) (r : Result (Unit {0}) Fault) → IsTaken n x r y → IsSoundUps m x → IsSoundUps m y
-driver_taken_kept m n x y (Ok u) taken h =
-    subst (IsSoundUps m) (sym taken.1) (sound_fewer m n x h)
-driver_taken_kept m n x y (Err fault) taken h = subst (IsSoundUps m) (sym taken.2) h
+driver_taken_kept m n x y r taken h = grind (arith, sound_fewer m n x h)
 
 -- its next line is looked for: what is held after that is no longer than a line
 cut_short : (held piece after : List ℕ) (r : Found) → Finds held piece r after → length after ≤ LINE_LIMIT
 cut_short held piece after r finds = grind arith
 
 pub driver_cut_kept : (m : ℕ) (piece : List ℕ) (x y : UpsState) (r : Found) → IsCut piece x r y → x.report.connected ≡ true → IsSoundUps m x → IsSoundUps m y
-driver_cut_kept m piece x y r cut connected h =
-    subst (IsSoundUps m) (sym cut.leaves) (sound_bytes m y.unfinished x (cut_short x.unfinished piece y.unfinished r cut.finds) (record { is = h; connected = connected })).is
+driver_cut_kept m piece x y r cut connected h = grind arith
 
 -- a line of its driver is done, or memory is refused
 module _ (empty : IsSoundTree empty_tree) (line_keeps : EachLineKeepsTheTreeSound) where
   pub driver_line_kept : (m : ℕ) (line : List ℕ) (x y : UpsState) (r : Result LineOutcome AllocError) → DoesLine m line x r y → x.report.connected ≡ true → IsSoundUps m x → IsSoundUps m y
-  driver_line_kept m line x y (Ok outcome) does connected h =
-      subst (IsSoundUps m) (sym does.1) (sound_report empty line_keeps m (with_unfinished [] x) line (sound_bytes m [] x (omega arith) (record { is = h; connected = connected }))).is
-  driver_line_kept m line x y (Err e) does connected h =
-      subst (IsSoundUps m) (sym does.1) (record { tree = h.tree; heard = omega arith; pinged = h.pinged; owed = h.owed; unfinished = h.unfinished; lost = λ lost. never_both x.report.connected connected lost })
+  driver_line_kept m line x y r does connected h = grind (arith, sound_report empty line_keeps m (with_unfinished [] x) line, sound_bytes m [] x)
 
 pub driver_line_connected : (m : ℕ) (line : List ℕ) (x y : UpsState) (r : Result LineOutcome AllocError) → DoesLine m line x r y → y.report.connected ≡ x.report.connected
 driver_line_connected m line x y r does = grind arith

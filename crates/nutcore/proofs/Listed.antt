@@ -1,34 +1,34 @@
 -- What a sound server lists comes once, in the stated order.
-use Rattle.std.proofs.Common.{◌≡◌, ◌↔◌, ◌∙◌, ◌<◌, ℕ, Bool, true, false, List, [], ◌∷◌, Option, Some, None, Result, Ok, sym, ap, subst, arith, inl, inr}
-use Rattle.std.specs.Prelude.{codes, IfSome}
+use Rattle.std.proofs.Common.{◌≡◌, ◌↔◌, ◌∙◌, ℕ, Bool, true, List, [], ◌∷◌, Option, Some, None, Result, sym, ap, subst, arith, ◌++◌, ◌+◌}
+use Rattle.std.specs.Prelude.{codes}
 use Rattle.std.specs.List.{Contains, filter, AllByRecursion}
 use Rattle.std.specs.List.Sorted.{IsStrictlySortedBy}
 use Rattle.std.specs.Map.{keys_of}
 use Rattle.std.specs.BTreeMap.{is_at}
-use Rattle.std.specs.Ordering.{is_eq}
-use Rattle.std.specs.declared.cmp.Ordering.{Ordering}
-use Rattle.std.specs.declared.cmp.Ordering.TheVariants.{Less, Equal}
+use Rattle.std.specs.declared.cmp.Ordering.TheVariants.{Less}
 use Rattle.std.specs.Option.{ok_or, option_map}
 use Rattle.std.proofs.lemmas.Cmp.{nat_list_cmp_total, eq_by_cmp_equiv}
-use Rattle.std.proofs.lemmas.List.Elements.{All-contains, All-contains_itself, All-filter, filter_passes, Contains-push_cases, Contains-append_cases, Contains-append_left, Contains-append_right}
-use Rattle.std.proofs.lemmas.Bool.{cond_both, both_ways}
+use Rattle.std.specs.Prelude.{take, drop}
+use Rattle.std.proofs.lemmas.List.{take-append-drop}
+use Rattle.std.proofs.lemmas.List.Elements.{filter_more, filter-append, Contains-push, All-contains, All-contains_itself, All-filter, filter_passes, Contains-append_left}
 use Rattle.std.proofs.lemmas.Map.Keys.{IsDistinct-from_sorted}
 use Rattle.std.proofs.lemmas.Map.Lookups.{exact_bytes}
-use Rattle.std.proofs.lemmas.Map.Views.{lookup-from_Contains, Contains-from_lookup, list_any-from_Contains, Contains-from_any, IfSome-lookup_from_All}
+use Rattle.std.proofs.lemmas.Map.Views.{lookup-from_Contains, Contains-from_lookup, list_any-from_Contains, Contains-from_any}
 use Rattle.nutmap.specs.Entries.{value_at}
 use Rattle.nutdriver.specs.Variable.{VariableState}
-use Rattle.nutdriver.specs.Tree.{TreeState, byte_order, variable_at}
-use Rattle.nutdriver.specs.Sound.{IsSoundTree, IsSoundVariable}
-use Rattle.nutlisting.specs.Items.{ListingState, variable_item, variable_listing, is_rw, rw_listing, command_listing, enum_listing, range_listing}
+use Rattle.nutdriver.specs.Tree.{byte_order, variable_at}
+use Rattle.nutdriver.specs.Sound.{IsSoundTree}
+use Rattle.nutlisting.specs.Items.{variable_item, is_rw}
 use Rattle.nutanswer.specs.declared.err_word.ErrWord.{ErrWord}
-use Rattle.nutanswer.specs.declared.err_word.ErrWord.TheVariants.{UnknownUps, VarNotSupported}
-use Rattle.nutanswer.specs.View.{Seen, UpsSeen, Readiness}
-use Rattle.nutanswer.specs.Checks.{◌>>=◌, ◌>>◌, KnownUps, ups_named, unknown_ups, live, driver_not_connected, data_stale, var_not_supported}
-use Rattle.nutanswer.specs.Answer.{Answer, listing, told, text_of_answer}
+use Rattle.nutanswer.specs.declared.err_word.ErrWord.TheVariants.{VarNotSupported}
+use Rattle.nutanswer.specs.View.{Seen, UpsSeen}
+use Rattle.nutanswer.specs.Checks.{◌>>=◌, ◌>>◌, KnownUps, ups_named, unknown_ups, live, var_not_supported}
+use Rattle.nutanswer.specs.Answer.{Answer, told, text_of_answer}
 use Rattle.nutcore.specs.Server.{ServerState}
 use Rattle.nutcore.specs.Reply.{seen, seen_ups, text_to}
 use Rattle.nutcore.specs.Sound.{Each, IsSoundUps, IsSound}
 use Rattle.nutcore.specs.Listed.{AsksOf, EachIsListedOnce, WhatIsListedIsWhatIsHeld}
+use Rattle.nutlisting.proofs.PublicLaws.{sound_entries}
 use Rattle.nutanswer.proofs.PublicLaws.{a_named_ups_is_seen}
 use Rattle.nutcore.proofs.SoundUps.{each_get, each_map}
 
@@ -46,69 +46,43 @@ tree_of s ups u sound named =
 
 -- the row of a usable UPS
 pub usable_row : (s : ServerState) (ups : Option (List ℕ)) (u : KnownUps) (row : KnownUps → Result Answer ErrWord) → AsksOf s ups u → (unknown_ups (seen s) ups >>= (λ k. live (seen s) k >> row k)) ≡ row u
-usable_row s ups u row asks = ap (λ (o : Option KnownUps). ok_or o UnknownUps >>= (λ k. live (seen s) k >> row k)) asks.named ∙ ap (λ (r : Readiness). (driver_not_connected r >> data_stale r) >> row u) asks.ready
+usable_row s ups u row asks = cc (asks.named, asks.ready)
 
 -- of a variable that it has
 variable_row : (s : ServerState) (ups : Option (List ℕ)) (u : KnownUps) (name : List ℕ) (o : Option VariableState) (row : KnownUps → List ℕ × VariableState → Result Answer ErrWord) → AsksOf s ups u → variable_at u.state.report.tree name ≡ o
     → (unknown_ups (seen s) ups >>= (λ k. live (seen s) k >> (var_not_supported k (Some name) >>= (λ v. row k v)))) ≡ (ok_or (option_map (λ x. (name, x)) o) VarNotSupported >>= (λ v. row u v))
-variable_row s ups u name o row asks e =
-    usable_row s ups u (λ k. var_not_supported k (Some name) >>= (λ v. row k v)) asks ∙ ap (λ (x : Option VariableState). ok_or (option_map (λ y. (name, y)) x) VarNotSupported >>= (λ v. row u v)) e
-
-abbrev pub lists : ListingState → Result Answer ErrWord
-lists l = Ok (listing l)
-
-abbrev pub variables_of : KnownUps → ListingState
-variables_of u = variable_listing u.name u.state.fsd u.state.report.tree.variables
-
-abbrev rw_of : KnownUps → ListingState
-rw_of u = rw_listing u.name u.state.fsd u.state.report.tree.variables
-
-abbrev commands_of : KnownUps → ListingState
-commands_of u = command_listing u.name u.state.report.tree.commands
-
-abbrev enum_of : KnownUps → List ℕ × VariableState → ListingState
-enum_of u v = enum_listing u.name v.0 (Some v.1)
-
-abbrev range_of : KnownUps → List ℕ × VariableState → ListingState
-range_of u v = range_listing u.name v.0 (Some v.1)
+variable_row s ups u name o row asks e = cc (asks.named, asks.ready, e)
 
 -- what is left of rising keys rises
 all_left : (p : List ℕ × VariableState → Bool) (P : List ℕ → Type 0) (es : List (List ℕ × VariableState)) → AllByRecursion P (keys_of es) → AllByRecursion P (keys_of (filter p es))
 all_left p P [] all = tt
-all_left p P (e ∷ es) all = cond_both (p e) (e ∷ filter p es) (filter p es) (λ left. AllByRecursion P (keys_of left)) (λ yes. (all.0, all_left p P es all.1)) (λ no. all_left p P es all.1)
+all_left p P (e ∷ es) all = grind (arith, all_left p P es all.1)
 
 left_rise : (p : List ℕ × VariableState → Bool) (es : List (List ℕ × VariableState)) → IsStrictlySortedBy byte_order (keys_of es) → IsStrictlySortedBy byte_order (keys_of (filter p es))
 unfolding IsStrictlySortedBy
 left_rise p [] rise = tt
-left_rise p (e ∷ es) rise =
-    cond_both (p e) (e ∷ filter p es) (filter p es) (λ left. IsStrictlySortedBy byte_order (keys_of left)) (λ yes. (all_left p (λ k. byte_order e.0 k ≡ Less) es rise.0, left_rise p es rise.1)) (λ no. left_rise p es rise.1)
-
-pub variable_sound : (tree : TreeState) (name : List ℕ) (variable : VariableState) → IsSoundTree tree → variable_at tree name ≡ Some variable → IsSoundVariable variable
-variable_sound tree name variable sound e = subst (λ (o : Option VariableState). IfSome o IsSoundVariable) e (IfSome-lookup_from_All IsSoundVariable (is_at (byte_order name)) tree.variables sound.variables)
+left_rise p (e ∷ es) rise = grind (arith, all_left p (λ k. byte_order e.0 k ≡ Less) es rise.0, left_rise p es rise.1)
 
 pub listed_once : EachIsListedOnce
 listed_once = record {
-  variables = λ s c line ups u sound read asks. (ap (text_to s c) read ∙ ap text_of_answer (usable_row s ups u (λ k. lists (variables_of k)) asks), (tree_of s ups u sound asks.named).names_rise);
-  commands = λ s c line ups u sound read asks. (ap (text_to s c) read ∙ ap text_of_answer (usable_row s ups u (λ k. lists (commands_of k)) asks), (tree_of s ups u sound asks.named).commands_rise);
-  rw = λ s c line ups u sound read asks. (ap (text_to s c) read ∙ ap text_of_answer (usable_row s ups u (λ k. lists (rw_of k)) asks), record { rising = left_rise is_rw u.state.report.tree.variables (tree_of s ups u sound asks.named).names_rise.rising });
+  variables = λ s c line ups u sound read asks. (cc (read, asks.named, asks.ready), (tree_of s ups u sound asks.named).names_rise);
+  commands = λ s c line ups u sound read asks. (cc (read, asks.named, asks.ready), (tree_of s ups u sound asks.named).commands_rise);
+  rw = λ s c line ups u sound read asks. (cc (read, asks.named, asks.ready), record { rising = left_rise is_rw u.state.report.tree.variables (tree_of s ups u sound asks.named).names_rise.rising });
   enum_values = λ s c line ups name u variable sound read asks there. (
-    ap (text_to s c) read ∙ ap text_of_answer (variable_row s ups u name (Some variable) (λ k v. lists (enum_of k v)) asks there),
-    (variable_sound u.state.report.tree name variable (tree_of s ups u sound asks.named) there).enum_values_once,
+    cc (read, asks.named, asks.ready, there),
+    (sound_entries.found u.state.report.tree name variable (tree_of s ups u sound asks.named) there).enum_values_once,
   );
   ranges = λ s c line ups name u variable sound read asks there. (
-    ap (text_to s c) read ∙ ap text_of_answer (variable_row s ups u name (Some variable) (λ k v. lists (range_of k v)) asks there),
-    (variable_sound u.state.report.tree name variable (tree_of s ups u sound asks.named) there).ranges_once,
+    cc (read, asks.named, asks.ready, there),
+    (sound_entries.found u.state.report.tree name variable (tree_of s ups u sound asks.named) there).ranges_once,
   );
   upses = λ s c line sound read. (ap (text_to s c) read, sound.list.by_name);
   tree = tree_of;
 }
 
 -- what is held
-is_equal : (c : Ordering) → is_eq c ≡ true → c ≡ Equal
-is_equal c h = grind arith
-
 one_name : (name other : List ℕ) → is_at (byte_order name) other ≡ true → name ≡ other
-one_name name other h = exact_bytes name other (is_equal (byte_order name other) h)
+one_name name other h = grind (arith, exact_bytes name other)
 
 held_by : (es : List (List ℕ × VariableState)) (name : List ℕ) (variable : VariableState) → IsStrictlySortedBy byte_order (keys_of es) → Contains es (name, variable) ↔ (value_at byte_order es name ≡ Some variable)
 held_by es name variable rise = (
@@ -124,14 +98,9 @@ module _ {A : Type 0} (p : A → Bool) where
   )
 
   passed : (xs : List A) (y : A) → Contains xs y → p y ≡ true → Contains (filter p xs) y
-  passed [] y h e = let few : h.0 < 0 = h.1 in absurd (omega (arith, few))
-  passed (x ∷ xs) y h e = elim (Contains-append_cases (x ∷ []) xs y h) [
-    | inl one ↦ cond_both (p x) (x ∷ filter p xs) (filter p xs) (λ left. Contains left y) (λ yes. Contains-append_left (x ∷ []) (filter p xs) y one) (λ no. absurd (both_ways (p y) (passes_not y one no) e))
-    | inr more ↦ cond_both (p x) (x ∷ filter p xs) (filter p xs) (λ left. Contains left y) (λ yes. Contains-append_right (x ∷ []) (filter p xs) y (passed xs y more e)) (λ no. passed xs y more e)
-  ]
-    where
-      passes_not : (y : A) → Contains (x ∷ []) y → p x ≡ false → p y ≡ false
-      passes_not y one fails = elim (Contains-push_cases [] x y one) [ inl (i, few, at) ↦ absurd (omega (arith, few)) | inr same ↦ ap p (sym same) ∙ fails ]
+  passed xs y (k, within, at) e =
+      let all : filter p xs ≡ (filter p (take k xs) ++ y ∷ []) ++ filter p (drop (k + 1) xs) = cc (filter_more p xs k y within, at, e, filter-append p (take (k + 1) xs) (drop (k + 1) xs), take-append-drop (k + 1) xs) in
+      subst (λ (zs : List A). Contains zs y) (sym all) (Contains-append_left (filter p (take k xs) ++ y ∷ []) (filter p (drop (k + 1) xs)) y (Contains-push (filter p (take k xs)) y))
 
 pub listed_is_held : WhatIsListedIsWhatIsHeld
 listed_is_held = record {

@@ -1,24 +1,17 @@
 -- Counting the sessions that are logged in.
-use Rattle.std.proofs.Common.{◌≡◌, ℕ, ◌+◌, ◌<◌, ◌≤◌, ◌++◌, Bool, List, [], ◌∷◌, refl, sym, ◌∙◌, ap, cond, map, take, length, get_or, arith}
-use Rattle.std.specs.Prelude.{count_by, codes, Option, Some, Result, Ok}
+use Rattle.std.proofs.Common.{◌≡◌, ℕ, ◌+◌, ◌<◌, ◌≤◌, ◌++◌, Bool, List, [], ◌∷◌, refl, cond, map, take, length, get_or, arith, length-append}
+use Rattle.std.specs.Prelude.{count_by}
 use Rattle.std.specs.List.{filter}
-use Rattle.std.proofs.lemmas.Bool.{cond_both}
-use Rattle.std.proofs.lemmas.List.{map-append}
+use Rattle.std.proofs.lemmas.List.{map-append, take_all, length-take}
+use Rattle.std.proofs.lemmas.Simd.{map-map}
 use Rattle.std.proofs.lemmas.List.Elements.{filter_more}
 use Rattle.std.proofs.lemmas.Grind.{common_steps}
-use Rattle.std.proofs.lemmas.List.Sums.{count_by_more_yes, count_by_more_no, length-filter}
-use Rattle.nutcore.proofs.Common.{UpsId, SessionState, ServerState}
-use Rattle.nutanswer.specs.View.{ClientSeen, is_logged_in, login_count, addresses_at}
-use Rattle.std.specs.Fmt.{decimal}
-use Rattle.std.specs.Option.{ok_or}
-use Rattle.nutwords.specs.Frame.{frame, line_of as text_line}
-use Rattle.nutlisting.specs.Items.{text_of, client_item, client_listing}
-use Rattle.nutanswer.specs.declared.err_word.ErrWord.{ErrWord}
-use Rattle.nutanswer.specs.declared.err_word.ErrWord.TheVariants.{UnknownUps}
-use Rattle.nutanswer.specs.Checks.{◌>>=◌, KnownUps, ups_named, unknown_ups}
-use Rattle.nutanswer.specs.Answer.{Answer, told, count_of_logins, listing_of_clients, text_of_answer}
-use Rattle.nutcore.specs.ByRight.{WhatIsCountedIsWhoIsThere, logged_in}
-use Rattle.nutcore.specs.Reply.{seen, seen_client, text_to}
+use Rattle.std.proofs.lemmas.List.Sums.{count_by_more_yes, count_by_more_no, count_by-le-length, length-filter}
+use Rattle.nutcore.proofs.Common.{UpsId, SessionState}
+use Rattle.nutanswer.specs.View.{ClientSeen, is_logged_in, addresses_at}
+use Rattle.nutlisting.specs.Items.{client_item}
+use Rattle.nutcore.specs.ByRight.{WhatIsCountedIsWhoIsThere}
+use Rattle.nutcore.specs.Reply.{seen_client}
 
 -- the session is logged in to the UPS
 abbrev pub is_in : UpsId → SessionState → Bool
@@ -26,8 +19,7 @@ is_in u x = is_logged_in u (seen_client x)
 
 -- one more session
 pub count_more : (u : UpsId) (xs : List SessionState) (i : ℕ) (d : SessionState) → i < length xs → count_by (is_in u) (take (i + 1) xs) ≡ count_by (is_in u) (take i xs) + cond (is_in u (get_or xs i d)) 1 0
-count_more u xs i d lt =
-    cond_both (is_in u (get_or xs i d)) 1 0 (λ more. count_by (is_in u) (take (i + 1) xs) ≡ count_by (is_in u) (take i xs) + more) (λ yes. count_by_more_yes (is_in u) xs i d lt yes) (λ no. count_by_more_no (is_in u) xs i d lt no ∙ omega arith)
+count_more u xs i d lt = grind (arith, count_by_more_yes (is_in u) xs i d lt, count_by_more_no (is_in u) xs i d lt)
 
 -- as clients are seen
 pub count_seen : (u : UpsId) (xs : List SessionState) → count_by (is_logged_in u) (map seen_client xs) ≡ count_by (is_in u) xs
@@ -45,37 +37,20 @@ pub list_more : (u : UpsId) (xs : List SessionState) (i : ℕ) (d : SessionState
 list_more u xs i d lt =
     let address : SessionState → List ℕ = λ (x : SessionState). x.address in
     let one : List SessionState = filter (is_in u) (get_or xs i d ∷ []) in
-    seen_filter u (take (i + 1) xs) ∙ ap (map address) (filter_more (is_in u) xs i d lt)
-    ∙ map-append address (filter (is_in u) (take i xs)) one
-    ∙ ap (λ (ys : List (List ℕ)). ys ++ map address one) (sym (seen_filter u (take i xs)))
-    ∙ ap (λ (ys : List (List ℕ)). addresses_at u (map seen_client (take i xs)) ++ ys) (sym (seen_filter u (get_or xs i d ∷ [])))
+    cc (seen_filter u (take (i + 1) xs), filter_more (is_in u) xs i d lt, map-append address (filter (is_in u) (take i xs)) one, seen_filter u (take i xs), seen_filter u (get_or xs i d ∷ []))
 
 -- one session has one address at most
 pub one_address : (u : UpsId) (x : ClientSeen) → length (addresses_at u (x ∷ [])) ≤ 1
-one_address u x = cond_both (is_logged_in u x) (x ∷ []) [] (λ xs. length (map (λ (x : ClientSeen). x.address) xs) ≤ 1) (λ yes. omega arith) (λ no. omega arith)
-
--- the items of addresses
-items_of : (name : List ℕ) (xs : List SessionState) → map (client_item name) (map (λ (x : SessionState). x.address) xs) ≡ map (λ (x : SessionState). client_item name x.address) xs
-items_of name [] = refl
-items_of name (x ∷ xs) = ap (λ (items : List (List (List ℕ))). client_item name x.address ∷ items) (items_of name xs)
-
--- a UPS that is named is found
-known_ups_is : (s : ServerState) (ups : Option (List ℕ)) (known : KnownUps) (f : KnownUps → Result Answer ErrWord) → ups_named (seen s) ups ≡ Some known → (unknown_ups (seen s) ups >>= f) ≡ f known
-known_ups_is s ups known f e = ap (λ (o : Option KnownUps). ok_or o UnknownUps >>= f) e
-
--- what is told of how many they are
-count_text : (word : List ℕ) (s : ServerState) (ups : Option (List ℕ)) (known : KnownUps) → ups_named (seen s) ups ≡ Some known
-    → text_of_answer (count_of_logins word (seen s) ups) ≡ text_line (word ∷ known.name ∷ decimal (length (logged_in known.id s)) ∷ [])
-count_text word s ups known named =
-    ap text_of_answer (known_ups_is s ups known (λ u. told (word ∷ u.name ∷ decimal (login_count u.id (seen s).clients) ∷ [])) named)
-    ∙ ap (λ (n : ℕ). text_line (word ∷ known.name ∷ decimal n ∷ [])) (count_seen known.id s.sessions ∙ sym (length-filter (is_in known.id) s.sessions))
+one_address u x = grind arith
 
 pub who_is_there : WhatIsCountedIsWhoIsThere
 who_is_there = record {
-  counted = λ s c line ups known read named. ap (text_to s c) read ∙ count_text (codes "NUMLOGINS") s ups known named;
-  attached = λ s c line ups known read named. ap (text_to s c) read ∙ count_text (codes "NUMATTACH") s ups known named;
+  counted = λ s c line ups known read named. cc (read, named, count_seen known.id s.sessions, length-filter (is_in known.id) s.sessions);
+  attached = λ s c line ups known read named. cc (read, named, count_seen known.id s.sessions, length-filter (is_in known.id) s.sessions);
   listed = λ s c line ups known read named.
-      ap (text_to s c) read ∙ ap text_of_answer (known_ups_is s ups known (λ u. Ok (listing_of_clients (client_listing u.name (addresses_at u.id (seen s).clients)))) named)
-      ∙ ap (λ (addresses : List (List ℕ)). text_of (client_listing known.name addresses)) (seen_filter known.id s.sessions)
-      ∙ ap (λ (items : List (List (List ℕ))). frame (codes "CLIENT") (known.name ∷ []) items) (items_of known.name (filter (is_in known.id) s.sessions));
+      cc (read, named, seen_filter known.id s.sessions, map-map (client_item known.name) (λ (x : SessionState). x.address) (filter (is_in known.id) s.sessions));
 }
+
+pub ruleset counting = (count_more, count_seen, take_all, count_by-le-length, length-take)
+
+pub ruleset listing = (list_more, one_address, take_all, length-append)

@@ -1,87 +1,52 @@
 -- Nobody is stuck.
-use Rattle.std.proofs.Common.{◌≡◌, ◌≢◌, ◌≤◌, ◌∙◌, ◌+◌, ℕ, Bool, true, false, ◌&&◌, List, [], ◌∷◌, ◌++◌, Option, Some, None, sym, ap, subst, eqb, ltb, leb, length, length-append, arith}
-use Rattle.std.specs.Prelude.{is_none, option_and_then}
-use Rattle.std.specs.Option.{option_map_or}
+use Rattle.std.proofs.Common.{◌≡◌, ◌≤◌, ℕ, true, false, List, [], ◌∷◌, ◌++◌, Option, Some, None, sym, ap, subst, length, length-append, arith}
+use Rattle.std.specs.Prelude.{is_none}
+use Rattle.std.proofs.lemmas.List.{nil_from_length}
 use Rattle.std.proofs.lemmas.Bool.{cond_both}
 use Rattle.std.proofs.lemmas.Bool.Decides.{nat_tests}
 use Rattle.nutlisting.specs.declared.outbox.TheConstants.{OWED_LIMIT}
 use Rattle.nutcore.proofs.Common.{Event, Outcome, SessionState, ServerState, session, after, Run}
-use Rattle.nutcore.specs.declared.TheConstants.{HELD_LIMIT}
 use Rattle.nutcore.specs.declared.event.Event.TheVariants.{Feed, Took, Close}
-use Rattle.nutcore.specs.Lines.{first_line}
-use Rattle.nutcore.specs.Session.{without}
-use Rattle.nutcore.specs.Pump.{next_line, pumped, holds_overlong, owed_of}
+use Rattle.nutcore.specs.Pump.{next_line, pumped, holds_overlong}
 use Rattle.nutcore.specs.Step.{with_input, without_output, may_take, pumped_until, after_by, refused_after}
-use Rattle.nutcore.specs.History.{taken, owed}
+use Rattle.nutcore.specs.History.{taken, is_over}
 use Rattle.nutcore.specs.Isolation.{client_of}
-use Rattle.nutcore.specs.NotStuck.{HadMemory, WhoIsOwedLittleHasRoom, WhoEndsIsFinished}
+use Rattle.nutcore.specs.NotStuck.{HadMemory, HasRoom, WhoIsOwedLittleHasRoom, WhoEndsIsFinished}
 use Rattle.nutcore.proofs.Endings.{asked_no_more, stays_ending}
 use Rattle.nutcore.proofs.Found.{find_without}
 use Rattle.nutcore.proofs.Histories.{later}
-use Rattle.nutcore.proofs.Least.{HasStopped, pump_ended}
-use Rattle.nutcore.proofs.Takes.{none_owed}
+use Rattle.nutcore.proofs.Least.{HasStopped, no_session, pump_ended}
 use Rattle.nutcore.proofs.TakingAmongOthers.{anothers, own_or_not}
-
--- a client without a session has stopped
-absent_stops : (s : ServerState) (c : ℕ) → session c s ≡ None → HasStopped s c
-absent_stops s c none = record {
-  stopped = ap (λ (o : Option SessionState). is_none (option_and_then next_line o)) none;
-  short = ap (λ (o : Option SessionState). option_map_or holds_overlong o false) none;
-}
 
 -- after an event of the client with memory, and after one of another
 own_stops : (s : ServerState) (e : Event) (c : ℕ) → HasStopped s c → client_of e ≡ Some c → HasStopped (after_by s e None) c
 unfolding after_by pumped_until
-own_stops s (Feed d piece) c h its = let same : d ≡ c = cc its in subst (λ (k : ℕ). HasStopped (pumped (with_input s d piece) d) k) same (pump_ended (with_input s d piece) d)
-own_stops s (Took d n) c h its =
-    let same : d ≡ c = cc its in
-    cond_both (may_take (session d s) n) (pumped (without_output s d n) d) s (λ t. HasStopped t c) (λ may. subst (λ (k : ℕ). HasStopped (pumped (without_output s d n) d) k) same (pump_ended (without_output s d n) d)) (λ never. h)
-own_stops s (Close d) c h its =
-    let same : d ≡ c = cc its in
-    let t : ServerState = record s { sessions = without d s.sessions } in
-    absent_stops t c (subst (λ (k : ℕ). session k t ≡ None) same (find_without d s.sessions))
+own_stops s (Feed d piece) c h its = let same : c ≡ d = cc its in rw same (pump_ended (with_input s d piece) d)
+own_stops s (Took d n) c h its = let same : c ≡ d = cc its in
+    rw same (cond_both (may_take (session d s) n) (pumped (without_output s d n) d) s (λ t. HasStopped t d) (λ may. pump_ended (without_output s d n) d) (λ never. rw same at h))
+own_stops s (Close d) c h its = let same : c ≡ d = cc its in rw (same, find_without d s.sessions) no_session
 own_stops s e c h its = cc its
-
-others_stop : (s : ServerState) (e : Event) (m : Option ℕ) (c : ℕ) → HasStopped s c → client_of e ≢ Some c → HasStopped (after_by s e m) c
-others_stop s e m c h differ =
-    let same = (anothers c s e m differ).untouched in
-    record { stopped = same.stops ∙ h.stopped; short = same.long ∙ h.short }
 
 run_stops : (s t : ServerState) (es : List Event) (os : List Outcome) (c : ℕ) → Run s es os t → HadMemory c es os → HasStopped s c → HasStopped t c
 run_stops s t [] [] c r had h = subst (λ (z : ServerState). HasStopped z c) (sym r) h
 run_stops s t (e ∷ es) (o ∷ os) c (mid, step, r) had h =
     run_stops (after s e o) t es os c (later t es os step r) had.1 (own_or_not c e
-    (λ yes its. subst (λ (m : Option ℕ). HasStopped (after_by s e m) c) (sym (had.0 its)) (own_stops s e c h its)) (λ no other. others_stop s e (refused_after o) c h other))
+    (λ yes its. subst (λ (m : Option ℕ). HasStopped (after_by s e m) c) (sym (had.0 its)) (own_stops s e c h its)) (λ no other. (anothers c s e (refused_after o) other).untouched.stopped h))
 run_stops s t es os c r had h = absurd r
 
 -- so where little is owed, there is room
-no_first : (x : SessionState) → x.ending ≡ false → length x.owed ≤ OWED_LIMIT → is_none (next_line x) ≡ true → is_none (first_line x.held) ≡ true
-no_first x going few stopped = grind arith
-
-is_none_is : {A : Type 0} (o : Option A) → is_none o ≡ true → o ≡ None
-is_none_is o h = grind arith
-
-short_of : (x : SessionState) → x.ending ≡ false → length x.owed ≤ OWED_LIMIT → is_none (first_line x.held) ≡ true → holds_overlong x ≡ false → leb HELD_LIMIT (length x.held) ≡ false
-short_of x going few none short = grind arith
+room_of : (x : SessionState) → x.ending ≡ false → length x.owed ≤ OWED_LIMIT → is_none (next_line x) ≡ true → holds_overlong x ≡ false → HasRoom x
+room_of x going few stopped short = record { no_line = grind (arith, nat_tests); room = grind (arith, nat_tests) }
 
 pub little_has_room : WhoIsOwedLittleHasRoom
 little_has_room old new es os c x absent r had found going few =
-    let h = run_stops old new es os c r had (absent_stops old c absent) in
-    let stopped : is_none (next_line x) ≡ true = ap (λ (o : Option SessionState). is_none (option_and_then next_line o)) (sym found) ∙ h.stopped in
-    let short : holds_overlong x ≡ false = ap (λ (o : Option SessionState). option_map_or holds_overlong o false) (sym found) ∙ h.short in
-    let none = no_first x going few stopped in
-    let less = short_of x going few none short in
-    record { no_line = is_none_is (first_line x.held) none; room = grind (arith, nat_tests) }
+    let h = run_stops old new es os c r had (rw absent no_session) in
+    room_of x going few (rw found at h.stopped) (rw found at h.short)
 
 -- an ending session
 pub ends_finished : WhoEndsIsFinished
 ends_finished old new es os c x y lawful r found ends found_new all =
-    let over = ap (λ (o : Option SessionState). option_map_or (λ (z : SessionState). z.ending) o (ltb c old.next_id)) found ∙ ends in
-    let there = ap (λ (o : Option SessionState). option_map_or (λ (z : SessionState). false) o (ltb c new.next_id)) found_new in
-    let less = (asked_no_more old new es os c lawful over r).owed_less there in
-    let was : owed c old ≡ x.owed = ap (λ (o : Option SessionState). owed_of o) found in
-    let is : owed c new ≡ y.owed = ap (λ (o : Option SessionState). owed_of o) found_new in
-    let sizes : length x.owed ≡ length (taken c old es os) + length y.owed =
-    ap (λ (bytes : List ℕ). length bytes) (sym was ∙ less ∙ ap (λ (bytes : List ℕ). taken c old es os ++ bytes) is) ∙ length-append (taken c old es os) y.owed in
-    let none : y.owed ≡ [] = none_owed y.owed (omega (arith, sizes, all)) in
-    ap (λ (b : Bool). b && eqb (length y.owed) 0) (stays_ending old new es os c y lawful over r found_new) ∙ ap (λ (bytes : List ℕ). eqb (length bytes) 0) none
+    let over : is_over c old ≡ true = rw found ends in
+    let less : x.owed ≡ taken c old es os ++ y.owed = rw (found, found_new) at ((asked_no_more old new es os c lawful over r).owed_less (rw found_new)) in
+    let none : y.owed ≡ [] = nil_from_length y.owed (omega (arith, all, ap length less, length-append (taken c old es os) y.owed)) in
+    rw (stays_ending old new es os c y lawful over r found_new, none)

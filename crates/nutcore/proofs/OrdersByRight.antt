@@ -1,11 +1,10 @@
 -- The orders that a run told are those of its lines that are by right.
-use Rattle.std.proofs.Common.{arith, ◌≡◌, ◌∙◌, append_assoc, ℕ, Bool, true, false, List, [], ◌∷◌, ◌++◌, Option, Some, None, Result, Ok, refl, sym, ap, subst, cond, eqb, inl, inr}
+use Rattle.std.proofs.Common.{arith, ◌≡◌, ◌∙◌, append_assoc, ℕ, Bool, List, [], ◌∷◌, ◌++◌, Option, Some, None, Ok, refl, sym, ap, subst, cond, eqb, inl, inr}
 use Rattle.std.specs.List.{flat_map}
 use Rattle.std.proofs.lemmas.Grind.{flat_map-append}
 use Rattle.std.proofs.lemmas.Bool.{cond_both, cond-false, eqb-true}
 use Rattle.nutcore.proofs.Common.{UpsId, Change, Event, Outcome, ServerState, after}
 use Rattle.nutanswer.specs.declared.command.Command.{Command}
-use Rattle.nutanswer.specs.declared.err_word.ErrWord.{ErrWord}
 use Rattle.nutanswer.specs.declared.command.Command.TheVariants.{SetVar, InstCmd}
 use Rattle.nutanswer.specs.Rows.{IsSet, IsInstCmd, IsIdOfOrder, value_given}
 use Rattle.nutusers.specs.declared.rights.Right.TheVariants as rights
@@ -17,7 +16,7 @@ use Rattle.nutanswer.specs.Orders.{right_to, set_line, instcmd_line, ok_words, o
 use Rattle.nutanswer.specs.Answer.{answer_to, change_of_answer}
 use Rattle.nutcore.specs.Reply.{seen, asker, change_by, text_to}
 use Rattle.nutcore.specs.History.{Execution, of_line, of_notice, executions_in_event, executions}
-use Rattle.nutcore.specs.DriverOrders.{Telling, dump_all, ping, order, told_by_change, told_by_line, told_beside_lines, told_in_event, taken_in_event, is_lost_by, Connections, last, lost, with_front, in_front, connections}
+use Rattle.nutcore.specs.DriverOrders.{Telling, dump_all, ping, order, told_by_change, told_by_line, told_beside_lines, told_in_event, taken_in_event, is_lost_by, Connections, in_front, connections}
 use Rattle.nutcore.specs.OrdersByRight.{IsOrderByRight, AreOrdersByRight, none_left, given, passed_over, order_of, all_told, orders_told, EachOrderIsByRight}
 use Rattle.nutcore.proofs.Events.{of_told_beside}
 use Rattle.nutcore.proofs.Changes.{of_upses}
@@ -26,26 +25,22 @@ use Rattle.nutanswer.proofs.PublicLaws.{each_order_answered_ok_is_given}
 use Rattle.nutcore.proofs.Rows.{comes_of_line, by_right}
 
 -- a line that gives an order is by right
-record GivesOrder (s : ServerState) (c : ℕ) (line : List ℕ) (v : UpsId) (bytes : List ℕ) (id : Option ℕ) : Type 0 where
-  command : Command
-  read : read_command line ≡ Ok (Some command)
-  row : IsSet (seen s) (asker c s) command v id bytes ⊎ IsInstCmd (seen s) (asker c s) command v id bytes
-
-gives_order : (s : ServerState) (c : ℕ) (line : List ℕ) (v : UpsId) (bytes : List ℕ) (id : Option ℕ) → change_by s c (read_command line) ≡ order_to v bytes id → GivesOrder s c line v bytes id
-gives_order s c line v bytes None change = let came = comes_of_line s c line (order_to v bytes None) refl change in record { command = came.command; read = came.read; row = came.row }
-gives_order s c line v bytes (Some id) change = let came = comes_of_line s c line (order_to v bytes (Some id)) refl change in record { command = came.command; read = came.read; row = came.row }
+gives_order : (s : ServerState) (c : ℕ) (line : List ℕ) (v : UpsId) (bytes : List ℕ) (id : Option ℕ) → change_by s c (read_command line) ≡ order_to v bytes id
+    → (command : Command) × (read_command line ≡ Ok (Some command)) × (IsSet (seen s) (asker c s) command v id bytes ⊎ IsInstCmd (seen s) (asker c s) command v id bytes)
+gives_order s c line v bytes None change = let came = comes_of_line s c line (order_to v bytes None) refl change in (came.command, came.read, came.row)
+gives_order s c line v bytes (Some id) change = let came = comes_of_line s c line (order_to v bytes (Some id)) refl change in (came.command, came.read, came.row)
 
 pub by_read : (s : ServerState) (c : ℕ) (line : List ℕ) (u v : UpsId) (bytes : List ℕ) (id : Option ℕ) → v.place ≡ u.place → change_by s c (read_command line) ≡ order_to v bytes id → IsOrderByRight u bytes (of_line s c line)
 unfolding by_right
 by_read s c line u v bytes id place change =
     let came = gives_order s c line v bytes id change in
-    subst (λ (w : UpsId). IsOrderByRight w bytes (of_line s c line)) (same_ups v u place) (elim came.row [
+    subst (λ (w : UpsId). IsOrderByRight w bytes (of_line s c line)) (same_ups v u place) (elim came.2 [
       | inl set ↦ inl (record {
         name = set.name;
         value = set.value;
         variable = set.variable;
         id = id;
-        by_right = by_right s c line came.command _ _ _ v came.read set.by_right;
+        by_right = by_right s c line came.0 _ _ _ v came.1 set.by_right;
         ready = set.ready;
         there = set.there;
         writable = set.writable;
@@ -59,7 +54,7 @@ by_read s c line u v bytes id place change =
         name = command.name;
         value = command.value;
         id = id;
-        by_right = by_right s c line came.command _ _ _ v came.read command.by_right;
+        by_right = by_right s c line came.0 _ _ _ v came.1 command.by_right;
         ready = command.ready;
         there = command.there;
         id_is = command.id_is;
@@ -73,13 +68,12 @@ told_order u v bytes id e = grind arith
 
 change_gives : (u : UpsId) (bytes line_bytes : List ℕ) (id : Option ℕ) (s : ServerState) (c : ℕ) (line : List ℕ) (command : Command) (known : KnownUps) → read_command line ≡ Ok (Some command) → change_of_answer (answer_to (seen s) (asker c s) command) ≡ order_to known.id line_bytes id
     → known.id ≡ u → bytes ≡ line_bytes → told_by_change u (change_by s c (read_command line)) ≡ order bytes ∷ []
-change_gives u bytes line_bytes id s c line command known read change this is =
-    ap (λ (r : Result (Option Command) ErrWord). told_by_change u (change_by s c r)) read ∙ ap (told_by_change u) change ∙ told_order u known.id line_bytes id this ∙ ap (λ (w : List ℕ). order w ∷ []) (sym is)
+change_gives u bytes line_bytes id s c line command known read change this is = cc (read, change, told_order u known.id line_bytes id this, is)
 
 set_gives : (u : UpsId) (bytes : List ℕ) (s : ServerState) (c : ℕ) (line name value : List ℕ) (id : Option ℕ) → IsByRight s c line (λ ups. SetVar ups (Some name) (Some value)) rights.Set (ok_words id) u
     → IsIdOfOrder (seen s) (asker c s) id → bytes ≡ set_line name value id → told_by_change u (change_by s c (read_command line)) ≡ order bytes ∷ []
 set_gives u bytes s c line name value None r id_is is =
-    change_gives u bytes (set_line name value None) None s c line _ r.known r.command (each_order_answered_ok_is_given.set (seen s) (asker c s) r.ups name value r.known r.named (ap (text_to s c) (sym r.command) ∙ r.answered)) r.this is
+    change_gives u bytes (set_line name value None) None s c line _ r.known r.command (each_order_answered_ok_is_given.set (seen s) (asker c s) r.ups name value r.known r.named (cc (r.command, r.answered))) r.this is
 set_gives u bytes s c line name value (Some id) r id_is is =
     change_gives u bytes (set_line name value (Some id)) (Some id) s c line _ r.known r.command (each_order_answered_ok_is_given.tracked_set (seen s) (asker c s) r.ups name value r.known id r.named id_is.1 (ap (text_to s c) (sym r.command) ∙ r.answered)) r.this is
 
@@ -97,15 +91,12 @@ gives u bytes (of_line s c line) h = elim h [
 ]
 gives u bytes (of_notice c) h = absurd h
 
-silent : (u : UpsId) (bytes : List ℕ) (x : Execution) → told_by_line u x ≡ [] → IsOrderByRight u bytes x → ⊥
-silent u bytes x e h = let k : [] ≡ order bytes ∷ [] = sym e ∙ gives u bytes x h in cc k
-
 -- one execution
 abbrev Joins : UpsId → Execution → List Telling → Type 0
 Joins u x told = (xs : List Execution) (rest : List Telling) → AreOrdersByRight u xs (flat_map order_of rest) → AreOrdersByRight u (x ∷ xs) (flat_map order_of (told ++ rest))
 
 passes : (u : UpsId) (x : Execution) → told_by_line u x ≡ [] → Joins u x []
-passes u x e xs rest h = passed_over (λ bytes k. silent u bytes x e k) h
+passes u x e xs rest h = passed_over (λ bytes k. absurd (cc (e, gives u bytes x k))) h
 
 line_joins : (u : UpsId) (s : ServerState) (c : ℕ) (line : List ℕ) (change : Change) → change_by s c (read_command line) ≡ change → Joins u (of_line s c line) (told_by_change u change)
 line_joins u s c line change e =
@@ -126,15 +117,10 @@ beside_no_order : (u : UpsId) (s : ServerState) (e : Event) → flat_map order_o
 beside_no_order u s e = of_told_beside u s (λ told. flat_map order_of told ≡ []) refl (λ b. no_order dump_all refl b) (λ b. no_order ping refl b) e
   where
     no_order : (t : Telling) → order_of t ≡ [] → (b : Bool) → flat_map order_of (cond b (t ∷ []) []) ≡ []
-    no_order t none b = cond_both b (t ∷ []) [] (λ told. flat_map order_of told ≡ []) (λ yes. ap (λ (z : List (List ℕ)). z ++ []) none) (λ no. refl)
-
-front_told : (told : List Telling) (taken : List ℕ) (later : Connections) → all_told (with_front told taken later) ≡ told ++ all_told later
-front_told told taken (last now) = refl
-front_told told taken (lost first later) = append_assoc told first.told (all_told later)
+    no_order t none b = grind (arith, none)
 
 pub all_in_front : (b : Bool) (told : List Telling) (taken : List ℕ) (later : Connections) → all_told (in_front b told taken later) ≡ told ++ all_told later
-all_in_front true told taken later = refl
-all_in_front false told taken later = front_told told taken later
+all_in_front b told taken later = grind (arith, append_assoc)
 
 pub run_orders : (u : UpsId) (s : ServerState) (es : List Event) (os : List Outcome) → orders_told u s es os ≡ flat_map order_of (flat_map (told_by_line u) (executions s es os))
 run_orders u s [] os = refl
@@ -142,16 +128,16 @@ run_orders u s (e ∷ es) [] = refl
 run_orders u s (e ∷ es) (o ∷ os) =
     let here = executions_in_event s e o in
     let later = executions (after s e o) es os in
-    let beside : List Telling = told_beside_lines u s e in
     let by_lines : List Telling = flat_map (told_by_line u) here in
-    let event : flat_map order_of (told_in_event u s e o) ≡ flat_map order_of by_lines =
-    flat_map-append order_of beside by_lines ∙ ap (λ (z : List (List ℕ)). z ++ flat_map order_of by_lines) (beside_no_order u s e) in
-    ap (λ (z : List Telling). flat_map order_of z) (all_in_front (is_lost_by u s e o) (told_in_event u s e o) (taken_in_event u s e) (connections u (after s e o) es os))
-    ∙ flat_map-append order_of (told_in_event u s e o) (all_told (connections u (after s e o) es os))
-    ∙ ap (λ (z : List (List ℕ)). z ++ orders_told u (after s e o) es os) event
-    ∙ ap (λ (z : List (List ℕ)). flat_map order_of by_lines ++ z) (run_orders u (after s e o) es os)
-    ∙ sym (flat_map-append order_of by_lines (flat_map (told_by_line u) later))
-    ∙ ap (λ (z : List Telling). flat_map order_of z) (sym (flat_map-append (told_by_line u) here later))
+    cc (
+      all_in_front (is_lost_by u s e o) (told_in_event u s e o) (taken_in_event u s e) (connections u (after s e o) es os),
+      flat_map-append order_of (told_in_event u s e o) (all_told (connections u (after s e o) es os)),
+      flat_map-append order_of (told_beside_lines u s e) by_lines,
+      beside_no_order u s e,
+      run_orders u (after s e o) es os,
+      flat_map-append order_of by_lines (flat_map (told_by_line u) later),
+      flat_map-append (told_by_line u) here later,
+    )
 
 pub orders_by_right : EachOrderIsByRight
 orders_by_right old es os u = subst (AreOrdersByRight u (executions old es os)) (sym (run_orders u old es os)) (all_join u (executions old es os))

@@ -1,16 +1,17 @@
 -- Where sessions stand, after a change.
-use Rattle.std.proofs.Common.{◌≡◌, ℕ, zero, suc, ◌+◌, ◌<◌, ◌≤◌, Bool, true, false, List, [], ◌∷◌, ◌++◌, Option, Some, None, Result, Ok, Err, refl, sym, ◌∙◌, ap, subst, cond, eqb, ltb, arith, length, get_or, set, take, drop}
+use Rattle.std.proofs.Common.{◌≡◌, ℕ, zero, suc, ◌+◌, ◌<◌, ◌≤◌, false, List, [], ◌∷◌, ◌++◌, Some, None, Result, Ok, Err, refl, sym, ◌∙◌, ap, subst, eqb, arith, length, get_or, set, take, drop, inl, inr}
 use Rattle.std.specs.Prelude.{MatchResult}
 use Rattle.std.specs.Result.{result_or}
 use Rattle.std.specs.List.Sorted.{IsSearchInRange, IsBinarySearchResult, IsNonDecreasingBy}
 use Rattle.std.specs.Ordering.{nat_cmp, ordering_index}
 use Rattle.std.proofs.lemmas.Cmp.{ranked}
-use Rattle.std.proofs.lemmas.Bool.{cond_both, eqb-true, eq-eqb}
+use Rattle.std.proofs.lemmas.Bool.{cond_both, cases_Bool, cases_lt, eqb-true, eq-eqb}
 use Rattle.std.proofs.lemmas.List.Sums.{position_or_len_is}
 use Rattle.std.proofs.lemmas.Bool.Decides.{nat_tests}
 use Rattle.std.proofs.lemmas.Grind.{common_steps}
 use Rattle.nutcore.specs.Session.{SessionState, find, put, without, IdsRise, new_session}
 use Rattle.nutcore.specs.Promises.{place, IsAt}
+use Rattle.nutcore.proofs.Found.{cases_Option}
 use Rattle.nutcore.specs.declared.event.Fault.TheVariants.{NoSuchClient}
 
 pub find_at : (c : ℕ) (xs : List SessionState) (d : SessionState) → place c xs < length xs → find c xs ≡ Some (get_or xs (place c xs) d)
@@ -34,10 +35,7 @@ length-put y [] = refl
 length-put y (x ∷ xs) = grind (arith, nat_tests, common_steps, length-put y xs)
 
 pub at_put : (c i : ℕ) (y : SessionState) (xs : List SessionState) → IsAt c i xs → IsAt c i (put y xs)
-at_put c i y xs h = record {
-  first = place_put c y xs ∙ h.first;
-  within = let e = length-put y xs in omega (arith, e, h.within);
-}
+at_put c i y xs h = record { first = place_put c y xs ∙ h.first; within = omega (arith, length-put y xs, h.within) }
 
 pub rise_put : (l n : ℕ) (y : SessionState) (xs : List SessionState) → IdsRise l n xs → IdsRise l n (put y xs)
 rise_put l n y [] h = h
@@ -59,21 +57,14 @@ rise_push l n y (x ∷ xs) e h = (h.0, rise_push (x.id + 1) n y xs e h.1)
 -- what is found lies where the ids do
 pub rise_lawful : (l n c : ℕ) (xs : List SessionState) → IdsRise l n xs → (x : SessionState) → find c xs ≡ Some x → (l ≤ c) × (c < n)
 rise_lawful l n c [] h x e = cc e
-rise_lawful l n c (z ∷ xs) h x e = lawful_by (rise_lawful (z.id + 1) n c xs h.1 x) (eqb z.id c) refl e
-  where
-    lawful_by : (find c xs ≡ Some x → (z.id + 1 ≤ c) × (c < n)) → (b : Bool) → eqb z.id c ≡ b → cond b (Some z) (find c xs) ≡ Some x → (l ≤ c) × (c < n)
-    lawful_by rest true same e =
-        let k : z.id ≡ c = grind (arith, nat_tests) in
-        let reach = rise_reach (z.id + 1) n xs h.1 in (let low : l ≤ c = omega (arith, h.0, k) in low, let high : c < n = omega (arith, k, reach) in high)
-    lawful_by rest false same e = let inside = rest e in (let low : l ≤ c = omega (arith, h.0, inside.0) in low, inside.1)
+rise_lawful l n c (z ∷ xs) h x e = elim (cases_Bool (eqb z.id c)) [
+  | inl same ↦ (let k = eqb-true z.id c same in let reach = rise_reach (z.id + 1) n xs h.1 in (let low : l ≤ c = omega (arith, h.0, k) in low, let high : c < n = omega (arith, k, reach) in high))
+  | inr other ↦ (let inside = rise_lawful (z.id + 1) n c xs h.1 x (rw other at e) in (let low : l ≤ c = omega (arith, h.0, inside.0) in low, inside.1))
+]
 
--- so an id below the first one is none's
-pub rise_none : (l n c : ℕ) (xs : List SessionState) → IdsRise l n xs → c < l → find c xs ≡ None
-rise_none l n c xs h below = none_by (find c xs) refl
-  where
-    none_by : (o : Option SessionState) → find c xs ≡ o → o ≡ None
-    none_by None e = refl
-    none_by (Some x) e = absurd (let inside = rise_lawful l n c xs h x e in let no : ⊥ = omega (arith, inside.0, below) in no)
+-- so an id elsewhere is none's
+pub rise_none : (l n c : ℕ) (xs : List SessionState) → IdsRise l n xs → (l ≤ c → c < n → ⊥) → find c xs ≡ None
+rise_none l n c xs h elsewhere = elim (cases_Option (find c xs)) [ inl e ↦ e | inr (x, e) ↦ (let inside = rise_lawful l n c xs h x e in absurd (elsewhere inside.0 inside.1)) ]
 
 pub rise_without : (l n c : ℕ) (xs : List SessionState) → IdsRise l n xs → IdsRise l n (without c xs)
 rise_without l n c [] h = h
@@ -88,11 +79,10 @@ without_none c (x ∷ xs) e = grind (arith, nat_tests, without_none c xs)
 
 pub without_at : (l n c : ℕ) (xs : List SessionState) → IdsRise l n xs → place c xs < length xs → without c xs ≡ take (place c xs) xs ++ drop (place c xs + 1) xs
 without_at l n c [] h lt = absurd (omega arith)
-without_at l n c (x ∷ xs) h lt = without_by (without_at (x.id + 1) n c xs h.1) (eqb x.id c) refl
-  where
-    without_by : (place c xs < length xs → without c xs ≡ take (place c xs) xs ++ drop (place c xs + 1) xs) → (b : Bool) → eqb x.id c ≡ b → without c (x ∷ xs) ≡ take (place c (x ∷ xs)) (x ∷ xs) ++ drop (place c (x ∷ xs) + 1) (x ∷ xs)
-    without_by above true e = let same : x.id ≡ c = grind (arith, nat_tests) in let rest : without c xs ≡ xs = without_none c xs (rise_none (x.id + 1) n c xs h.1 (omega (arith, same))) in grind (arith, nat_tests, common_steps)
-    without_by above false e = let more : place c xs < length xs = grind (arith, nat_tests, common_steps) in let rest = above more in grind (arith, nat_tests, common_steps)
+without_at l n c (x ∷ xs) h lt = elim (cases_Bool (eqb x.id c)) [
+  | inl e ↦ (let same = eqb-true x.id c e in let rest : without c xs ≡ xs = without_none c xs (rise_none (x.id + 1) n c xs h.1 (λ low high. omega (arith, same, low))) in grind (arith, nat_tests, common_steps))
+  | inr e ↦ (let more : place c xs < length xs = grind (arith, nat_tests, common_steps) in let rest = without_at (x.id + 1) n c xs h.1 more in grind (arith, nat_tests, common_steps))
+]
 
 -- ids rise along the places
 ids_above : (l n : ℕ) (xs : List SessionState) (d : SessionState) (i : ℕ) → IdsRise l n xs → i < length xs → l ≤ (get_or xs i d).id
@@ -123,18 +113,11 @@ module _ (l n c : ℕ) (xs : List SessionState) (rise : IdsRise l n xs) where
       }
   searched (Err i) within parted =
       let d = new_session 0 [] in
-      let differs : (k : ℕ) → k < length xs → eqb (get_or xs k d).id c ≡ false = λ k lt. differ_by k lt (ltb k i) refl in
+      let differs : (k : ℕ) → k < length xs → eqb (get_or xs k d).id c ≡ false = λ k lt. elim (cases_lt k i) [
+        | inl below ↦ (let less : (get_or xs k d).id < c = ranked _ c _ (sym ((parted answers_rise).0 k d (omega arith) below)) in grind (arith, nat_tests))
+        | inr above ↦ (let more : c < (get_or xs k d).id = ranked _ c _ (sym ((parted answers_rise).1 k d above lt)) in grind (arith, nat_tests))
+      ] in
       find_none c xs (let e : place c xs ≡ length xs = position_or_len_is (λ (y : SessionState). eqb y.id c) xs (length xs) d (omega arith) differs (λ (h : length xs < length xs). absurd (omega arith)) in omega (arith, e))
-    where
-      differ_by : (k : ℕ) → k < length xs → (b : Bool) → ltb k i ≡ b → eqb (get_or xs k (new_session 0 [])).id c ≡ false
-      differ_by k lt true e =
-          let below : k < i = grind (arith, nat_tests) in
-          let less : (get_or xs k (new_session 0 [])).id < c = ranked _ c _ (sym ((parted answers_rise).0 k (new_session 0 []) (omega arith) below)) in
-          grind (arith, nat_tests)
-      differ_by k lt false e =
-          let above : i ≤ k = grind (arith, nat_tests) in
-          let more : c < (get_or xs k (new_session 0 [])).id = ranked _ c _ (sym ((parted answers_rise).1 k (new_session 0 []) above lt)) in
-          grind (arith, nat_tests)
 
 -- and as the server answers it
 pub place_found : (c : ℕ) (xs : List SessionState) (r : Result ℕ ℕ) → MatchResult r (λ i. IsAt c i xs) (λ i. find c xs ≡ None) → MatchResult (result_or r (Err NoSuchClient)) (λ i. IsAt c i xs) (λ fault. (fault ≡ NoSuchClient) × (find c xs ≡ None))

@@ -1,21 +1,21 @@
 -- What one line of a client leaves of the server, and the notice.
-use Rattle.std.proofs.Common.{arith, ◌≡◌, ◌≢◌, ℕ, Bool, true, false, List, [], ◌∷◌, Option, Some, None, refl, sym, ◌∙◌, ap, subst, cond, ltb, ◌<◌, length, take}
-use Rattle.std.specs.Prelude.{◌||◌, option_map, option_and_then}
+use Rattle.std.proofs.Common.{arith, ◌≡◌, ◌≢◌, ℕ, true, false, List, [], ◌∷◌, Option, Some, None, refl, sym, ◌∙◌, ap, subst, ltb, ◌<◌, length, take, inl, inr, ◌≤◌, ◌+◌, length-drop, drop}
+use Rattle.std.specs.Prelude.{◌||◌, option_map}
 use Rattle.std.specs.Option.{option_map_or}
-use Rattle.std.proofs.lemmas.Bool.{or_parts, cond-true, cond-false}
+use Rattle.std.proofs.lemmas.Bool.{cases_Bool, cond-true, cond-false}
 use Rattle.nutcore.proofs.Common.{Change, SessionState, ServerState, session, with_session, with_session_changed, cond_both}
 use Rattle.nutanswer.specs.Command.{read_command}
 use Rattle.nutlisting.specs.declared.outbox.TheConstants.{OWED_LIMIT}
-use Rattle.nutcore.specs.Lines.{first_line}
 use Rattle.nutcore.specs.Session.{find, put}
 use Rattle.nutcore.specs.Reply.{reply, change_by, changed, changed_session, changed_upses, changed_tracking}
 use Rattle.nutcore.specs.Pump.{next_line, next_line_for, answered, after_reply, after_line, after_notice, is_overlong, holds_overlong, notified, with_notice}
 use Rattle.nutcore.specs.History.{Execution, of_notice, notice}
-use Rattle.nutcore.proofs.FirstLine.{line_ends}
 use Rattle.nutcore.proofs.Changes.{keeps}
 use Rattle.nutcore.proofs.Progress.{presence}
-use Rattle.nutcore.proofs.Found.{find_id, find_put, find_put_other, put_put, put_found}
-use Rattle.nutcore.proofs.Changed.{at_client, by_change, change_is}
+use Rattle.nutcore.proofs.Found.{cases_Option, find_id, find_put_other, put_put, put_found}
+use Rattle.nutcore.proofs.Changed.{session_put, at_client, by_change, change_is}
+use Rattle.nutwords.proofs.PublicLaws.{first_line_is_the_front_of_its_length}
+use Rattle.nutwords.specs.SplitLine.{first_line}
 
 -- the server in which this session, the UPSs and what is tracked are changed
 abbrev pub line_done : ServerState → Change → SessionState → ServerState
@@ -32,26 +32,22 @@ pub record IsNext (s : ServerState) (c : ℕ) (line : List ℕ) : Type 0 where
   pub little : ltb OWED_LIMIT (length asking.owed) ≡ false
   pub first : first_line asking.held ≡ Some line
 
-unless : (b : Bool) (o : Option (List ℕ)) (line : List ℕ) → cond b None o ≡ Some line → (b ≡ false) × (o ≡ Some line)
-unless b o line h = grind arith
-
-next_of : (s : ServerState) (c : ℕ) (line : List ℕ) (o : Option SessionState) → session c s ≡ o → option_and_then next_line o ≡ Some line → IsNext s c line
-next_of s c line None found h = cc h
-next_of s c line (Some x) found h =
-    let may = unless (x.ending || ltb OWED_LIMIT (length x.owed)) (first_line x.held) line h in
-    let ready = or_parts x.ending (ltb OWED_LIMIT (length x.owed)) may.0 in
-    record { asking = x; found = found; going = ready.0; little = ready.1; first = may.1 }
+next_parts : (x : SessionState) (line : List ℕ) → next_line x ≡ Some line → (x.ending ≡ false) × (ltb OWED_LIMIT (length x.owed) ≡ false) × (first_line x.held ≡ Some line)
+next_parts x line h = grind arith
 
 pub is_next : (s : ServerState) (c : ℕ) (line : List ℕ) → next_line_for s c ≡ Some line → IsNext s c line
-is_next s c line h = next_of s c line (session c s) refl h
+is_next s c line h = elim (cases_Option (session c s)) [
+  | inl none ↦ cc (rw none at h)
+  | inr (x, found) ↦ (let may = next_parts x line (rw found at h) in record { asking = x; found = found; going = may.0; little = may.1; first = may.2 })
+]
 
 -- where the next line ends says which one it is
-ends_unless : (b : Bool) (bytes : List ℕ) (end : ℕ) → option_map length (cond b None (first_line bytes)) ≡ Some end → (cond b None (first_line bytes) ≡ Some (take end bytes)) × (end < length bytes)
-ends_unless true bytes end h = cc h
-ends_unless false bytes end h = line_ends bytes end h
-
 pub next_line_ends : (x : SessionState) (end : ℕ) → option_map length (next_line x) ≡ Some end → (next_line x ≡ Some (take end x.held)) × (end < length x.held)
-next_line_ends x end h = ends_unless (x.ending || ltb OWED_LIMIT (length x.owed)) x.held end h
+next_line_ends x end h = elim (cases_Bool (x.ending || ltb OWED_LIMIT (length x.owed))) [ inl waits ↦ cc (rw waits at h) | inr asks ↦ rw asks (first_line_is_the_front_of_its_length x.held end (rw asks at h)) ]
+
+-- where these bytes are what is left of others, their first line ends within those
+pub ends_within : (bytes held : List ℕ) (from end : ℕ) → drop from bytes ≡ held → option_map length (first_line held) ≡ Some end → from + end + 1 ≤ length bytes
+ends_within bytes held from end is h = omega (arith, (first_line_is_the_front_of_its_length held end h).1, ap length is, length-drop from bytes)
 
 -- where there is no next line, nothing happens
 pub stopped_none : (s : ServerState) (c : ℕ) → next_line_for s c ≡ None → after_line s c ≡ s
@@ -78,27 +74,17 @@ after_line_is s c line x found h =
     let y : SessionState = changed_session change x in
     let t : ServerState = line_done s change y in
     let id : y.id ≡ c = (keeps change x).id ∙ find_id c s.sessions x found in
-    let there : session c t ≡ Some y = ap (λ d. find d (put y s.sessions)) (sym id) ∙ find_put y s.sessions x (ap (λ d. find d s.sessions) id ∙ found) in
-    ap (λ (o : Option (List ℕ)). option_map_or (λ line. after_reply s c line) o s) h
-    ∙ ap (with_session_changed (answered line text) c) (changed_is change c s x found)
-    ∙ change_is (answered line text) c t y there
-    ∙ ap (λ (xs : List SessionState). let z : ServerState = record t { sessions = xs } in z) (put_put y (answered line text y) s.sessions refl)
-    ∙ ap (λ (z : SessionState). line_done s change z) ((keeps change x).joined line text)
+    let there : session c t ≡ Some y = session_put s c x y found id in
+    rw (h, changed_is change c s x found, change_is (answered line text) c t y there, put_put y (answered line text y) s.sessions refl, (keeps change x).joined line text)
 
 -- the clients after it
 pub own_after_line : (s : ServerState) (c : ℕ) (line : List ℕ) (x : SessionState) → session c s ≡ Some x → next_line_for s c ≡ Some line → presence c (after_line s c) ≡ at_client s c (Some (session_after s c line x))
-own_after_line s c line x found h =
-    let y : SessionState = session_after s c line x in
-    let id : y.id ≡ c = session_after_id s c line x found in
-    ap (presence c) (after_line_is s c line x found h)
-    ∙ ap (at_client s c) (ap (λ d. find d (put y s.sessions)) (sym id) ∙ find_put y s.sessions x (ap (λ d. find d s.sessions) id ∙ found))
+own_after_line s c line x found h = ap (presence c) (after_line_is s c line x found h) ∙ ap (at_client s c) (session_put s c x (session_after s c line x) found (session_after_id s c line x found))
 
 pub other_after_line : (c d : ℕ) (s : ServerState) (line : List ℕ) → next_line_for s d ≡ Some line → c ≢ d → presence c (after_line s d) ≡ presence c s
 other_after_line c d s line h differ =
     let n = is_next s d line h in
-    let y : SessionState = session_after s d line n.asking in
-    ap (presence c) (after_line_is s d line n.asking n.found h)
-    ∙ ap (at_client s c) (find_put_other c y s.sessions (λ (k : c ≡ y.id). differ (k ∙ session_after_id s d line n.asking n.found)))
+    rw (after_line_is s d line n.asking n.found h) (ap (at_client s c) (find_put_other c (session_after s d line n.asking) s.sessions (λ (k : c ≡ (session_after s d line n.asking).id). differ (k ∙ session_after_id s d line n.asking n.found))))
 
 -- the session that stands there is put
 pub put_same : (s : ServerState) (c : ℕ) (x : SessionState) → session c s ≡ Some x → with_session s x ≡ s

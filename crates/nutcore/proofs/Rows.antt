@@ -24,11 +24,11 @@ pub record ComesOfLine (s : ServerState) (c : ℕ) (line : List ℕ) (change : C
   pub row : ComesOf (seen s) (asker c s) command change
 
 pub comes_of_line : (s : ServerState) (c : ℕ) (line : List ℕ) (change : Change) → changes_something change ≡ true → change_by s c (read_command line) ≡ change → ComesOfLine s c line change
-comes_of_line s c line change some is = by_read (read_command line) refl (ap changes_something is ∙ some) is
+comes_of_line s c line change some is = by_read (read_command line) refl is
   where
-    by_read : (r : Result (Option Command) ErrWord) → read_command line ≡ r → changes_something (change_by s c r) ≡ true → change_by s c r ≡ change → ComesOfLine s c line change
-    by_read (Ok (Some command)) e k h = record { command = command; read = e; row = subst (ComesOf (seen s) (asker c s) command) h (each_change_comes_of_its_command (seen s) (asker c s) command) }
-    by_read r e k h = cc k
+    by_read : (r : Result (Option Command) ErrWord) → read_command line ≡ r → change_by s c r ≡ change → ComesOfLine s c line change
+    by_read (Ok (Some command)) e h = record { command = command; read = e; row = subst (ComesOf (seen s) (asker c s) command) h (each_change_comes_of_its_command (seen s) (asker c s) command) }
+    by_read r e h = cc (some, h)
 
 -- a row that is by right, as its line has it
 unfoldable pub by_right : (s : ServerState) (c : ℕ) (line : List ℕ) (command : Command) (of_ups : Option (List ℕ) → Command) (right : Right) (words : List (List ℕ)) (u : UpsId) → read_command line ≡ Ok (Some command)

@@ -1,11 +1,11 @@
 -- Runs, one event after another.
-use Rattle.std.proofs.Common.{◌≡◌, ℕ, ◌<◌, List, [], ◌∷◌, ◌++◌, ◌∙◌, refl, ap, subst, Option, Some, None, true}
-use Rattle.std.specs.Prelude.{is_some}
-use Rattle.nutcore.proofs.Common.{Event, Outcome, SessionState, ServerState, session, Step, after, Run}
+use Rattle.std.proofs.Common.{◌≡◌, List, [], ◌∷◌, ◌++◌, ◌∙◌, refl, ap, subst, inl, inr}
+use Rattle.nutcore.proofs.Common.{Event, Outcome, ServerState, session, Step, after, Run}
 use Rattle.nutcore.specs.Session.{IdsRise}
 use Rattle.nutcore.specs.Headline.{IsLawful, Serves}
 use Rattle.nutcore.specs.declared.cost.Cost.{Cost}
 use Rattle.nutcore.specs.Cost.{RunningServer, cost_of, last_cost}
+use Rattle.nutcore.proofs.Found.{cases_Option}
 use Rattle.nutcore.proofs.Places.{rise_lawful}
 use Rattle.nutcore.proofs.Stepping.{run_sent, run_taken_up}
 
@@ -23,12 +23,8 @@ cost_push before s m t (d ∷ es) (p ∷ os) e o (mid, first, r) step =
 cost_push before s m t es os e o r step = absurd r
 
 -- where ids rise, they are below the next one
-lawful_by : (s : ServerState) (c : ℕ) (o : Option SessionState) → session c s ≡ o → IdsRise 1 s.next_id s.sessions → is_some o ≡ true → c < s.next_id
-lawful_by s c None e ids some = cc some
-lawful_by s c (Some x) e ids some = (rise_lawful 1 s.next_id c s.sessions ids x e).1
-
 pub lawful : (s : ServerState) → IdsRise 1 s.next_id s.sessions → IsLawful s
-lawful s ids = λ c some. lawful_by s c (session c s) refl ids some
+lawful s ids c some = elim (cases_Option (session c s)) [ inl none ↦ cc (rw none at some) | inr (x, found) ↦ (rise_lawful 1 s.next_id c s.sessions ids x found).1 ]
 
 -- one event, as a run of its own
 pub served : (s t : ServerState) (e : Event) (o : Outcome) → IsLawful s → Step s e o t → Serves s e o t

@@ -1,5 +1,6 @@
 -- What the server's methods do, over plain states.
-use Rattle.std.proofs.Common.{◌≡◌, ℕ, ◌+◌, ◌<◌, ◌≤◌, Bool, true, false, List, [], ◌++◌, Option, Some, None, Result, Ok, Err, refl, sym, ◌∙◌, ap, subst, arith, length, get_or, set, take, drop, inl, length-append, ◌∷◌}
+use Rattle.std.proofs.Common.{◌≡◌, ℕ, ◌+◌, ◌<◌, ◌≤◌, true, false, List, [], ◌++◌, Option, Some, None, Result, Ok, Err, refl, sym, ◌∙◌, ap, subst, arith, length, get_or, set, take, drop, inl, inr, length-append, ◌∷◌}
+use Rattle.std.proofs.lemmas.Bool.{cases_Bool}
 use Rattle.std.specs.Prelude.{IsTrue, IfOk, OnOk, OnErr, is_err, is_none, option_and_then}
 use Rattle.std.specs.Option.{option_map, option_map_or}
 use Rattle.nutcore.proofs.Common.{Change, Fault, SessionState, ServerState, session, with_session, with_session_changed}
@@ -18,7 +19,7 @@ use Rattle.nutcore.specs.Step.{offered, may_take}
 use Rattle.nutanswer.specs.declared.command.Command.{Command}
 use Rattle.nutanswer.specs.declared.err_word.ErrWord.{ErrWord}
 use Rattle.nutanswer.specs.declared.reply.Reply.{Reply}
-use Rattle.nutanswer.specs.declared.reply.Reply.TheVariants.{One, Many, Clients}
+use Rattle.nutanswer.specs.declared.reply.Reply.TheVariants.{One, Clients}
 use Rattle.nutanswer.specs.declared.reply.Change.TheVariants.{Nothing}
 use Rattle.nutlisting.specs.Items.{text_of, client_listing}
 use Rattle.nutlisting.specs.declared.outbox.TheConstants.{OWED_LIMIT}
@@ -30,16 +31,13 @@ use Rattle.nutcore.proofs.Places.{at_put, found_at, find_at, put_is, without_at}
 use Rattle.nutcore.proofs.Loops.{after_lines-suc, all_lines_are}
 
 pub ok_when : {T E : Type 0} (r : Result T E) (P : Type 0) → is_err r ≡ false → OnOk r P → P
-ok_when (Ok v) P e p = p
-ok_when (Err x) P e p = let k : true ≡ false = e in cc k
+ok_when r P e p = grind arith
 
 pub err_when : {T E : Type 0} (r : Result T E) (P : Type 0) → is_err r ≡ true → OnErr r P → P
-err_when (Ok v) P e p = let k : false ≡ true = e in cc k
-err_when (Err x) P e p = p
+err_when r P e p = grind arith
 
 pub on_err : {T E : Type 0} (r : Result T E) (P : Type 0) → P → OnErr r P
-on_err (Ok v) P p = tt
-on_err (Err x) P p = p
+on_err r P p = grind arith
 
 -- the session that stands at the place, where a view of the server is known
 pub found_in : (c i : ℕ) (s t : ServerState) (x : SessionState) → s ≡ t → IsAt c i t.sessions → x ≡ get_or s.sessions i x → session c t ≡ Some x
@@ -96,26 +94,20 @@ no_line_there o h = grind arith
 -- what an answer says, and what it changes
 answers_as : (s : ServerState) (c : ℕ) (line : List ℕ) (reply : Reply) (clients : List (List ℕ)) → Replies s c line reply → ListsClients s.sessions reply clients →
     (text_to s c (read_command line) ≡ text_with clients reply) × (change_by s c (read_command line) ≡ change_in reply)
-answers_as s c line (One text change) clients told lists = (told.1, told.2)
-answers_as s c line (Many listing) clients told lists = (told.1, told.2)
 answers_as s c line (Clients name u) clients told lists = (told.1 ∙ ap (λ (addresses : List (List ℕ)). text_of (client_listing name addresses)) (sym lists), told.2)
+answers_as s c line answer clients told lists = (told.1, told.2)
 
 pub change_told : (s : ServerState) (c : ℕ) (line : List ℕ) (reply : Reply) → Replies s c line reply → change_by s c (read_command line) ≡ change_in reply
 change_told s c line reply told = grind arith
 
 pub short_told : (s : ServerState) (c : ℕ) (line : List ℕ) (reply : Reply) → Replies s c line reply → IsShort reply
-short_told s c line (One text change) told = (told.3, told.4)
-short_told s c line (Many listing) told = tt
-short_told s c line (Clients name u) told = tt
+short_told s c line reply told = grind arith
 
 -- what an answer changes of the UPSs, of the ids and of the tracked orders, where a view of the server is known
 pub changes_made : (v s : ServerState) (change : Change) (upses : List UpsState) (t : TrackingState) → v ≡ s → upses ≡ changed_upses change v.upses → t ≡ changed_tracking change v.tracking →
     let made : ServerState = record v { upses = upses; tracking = t } in
     let after : ServerState = record s { upses = changed_upses change s.upses; tracking = changed_tracking change s.tracking } in made ≡ after
-changes_made v s change upses t is e f =
-    ap (λ (xs : List UpsState). let z : ServerState = record v { upses = xs; tracking = t } in z) e
-    ∙ ap (λ (u : TrackingState). let z : ServerState = record v { upses = changed_upses change v.upses; tracking = u } in z) f
-    ∙ ap (λ (z : ServerState). let after : ServerState = record z { upses = changed_upses change z.upses; tracking = changed_tracking change z.tracking } in after) is
+changes_made v s change upses t is e f = cc
 
 -- what the next line of a session is answered, where a view of the server is known
 pub record HeardAt (s : ServerState) (c : ℕ) (line : List ℕ) (r : Result Reply AllocError) : Type 0 where
@@ -139,12 +131,9 @@ line_is s v c i line reply clients x y h told lists is stands gives =
     let said = answers_as s c line reply clients told (subst (λ (z : ServerState). ListsClients z.sessions reply clients) is lists) in
     let found : session c s ≡ Some x = ap (session c) (sym is) ∙ stands.found in
     let own : SessionState = session_after s c line x in
-    let same : y ≡ own = gives ∙ ap (λ (z : List ℕ). changed_session (change_in reply) (answered line z x)) (sym said.0) ∙ ap (λ (z : Change). changed_session z (answered line (text_to s c (read_command line)) x)) (sym said.1) in
-    set_is v c i y stands.at (ap (λ (z : SessionState). z.id) same ∙ session_after_id s c line x found)
-    ∙ ap (with_session v) same
-    ∙ ap (λ (z : ServerState). with_session z own) is
-    ∙ ap (λ (z : Change). line_done s z own) (sym said.1)
-    ∙ sym (after_line_is s c line x found h)
+    let same : y ≡ own = rw (said.0, said.1) gives in
+    let done : with_session v y ≡ line_done s (change_by s c (read_command line)) own = rw (same, is, said.1) in
+    set_is v c i y stands.at (ap (λ (z : SessionState). z.id) same ∙ session_after_id s c line x found) ∙ done ∙ sym (after_line_is s c line x found h)
 
 pub at_line : (s : ServerState) (c i : ℕ) (line : List ℕ) → IsAt c i s.sessions → next_line_for s c ≡ Some line → IsAt c i (after_line s c).sessions
 at_line s c i line h next =
@@ -168,14 +157,11 @@ goes_on s t u c k e f = f ∙ ap (λ (z : ServerState). after_line z c) e ∙ sy
 -- the loop ends: all lines are done, and whether the session was told that its line is too long is what the pump answers
 pub pump_gives : (s t u : ServerState) (c k : ℕ) (r : Result (Unit {0}) Fault) → t ≡ after_lines k s c → k ≤ length (held_of (session c s)) → next_line_for t c ≡ None → u ≡ after_notice t c → r ≡ refused_overlong (is_overlong t c) → PumpGives s c r u
 unfolding pumped
-pump_gives s t u c k r e le none f told = subst (λ (z : Result (Unit {0}) Fault). PumpGives s c z u) (sym told) (by_length (is_overlong t c) refl)
-  where
-    all : after_all_lines s c ≡ t
-    all = all_lines_are k s c le (subst (λ (z : ServerState). pump_stops z c ≡ true) e (ap is_none none)) ∙ sym e
-
-    by_length : (b : Bool) → is_overlong t c ≡ b → PumpGives s c (refused_overlong b) u
-    by_length true long = (ap (λ (z : ServerState). is_overlong z c) all ∙ long, f ∙ ap (λ (z : ServerState). after_notice z c) (sym all))
-    by_length false short = (ap (λ (z : ServerState). is_overlong z c) all ∙ short, f ∙ ap (λ (z : ServerState). after_notice z c) (sym all))
+pump_gives s t u c k r e le none f told =
+    let all : after_all_lines s c ≡ t = all_lines_are k s c le (subst (λ (z : ServerState). pump_stops z c ≡ true) e (ap is_none none)) ∙ sym e in
+    let over = ap (λ (z : ServerState). is_overlong z c) all in
+    let leaves = f ∙ ap (λ (z : ServerState). after_notice z c) (sym all) in
+    elim (cases_Bool (is_overlong t c)) [ inl long ↦ rw (told, long) (over ∙ long, leaves) | inr short ↦ rw (told, short) (over ∙ short, leaves) ]
 
 -- memory was refused for a listing
 pub wants_is : (s : ServerState) (c : ℕ) (line : List ℕ) → next_line_for s c ≡ Some line → shares_version_read s c (read_command line) ≡ true → IsTrue (wants_memory s c)
@@ -202,8 +188,7 @@ pub replies_text : (s : ServerState) (c : ℕ) (line text : List ℕ) (r : Resul
     IsLineOrNone text → IsText text answer → Replies s c line answer
 replies_text s c line text r (One given change) e shares is none short one (same, nothing) =
     (ap (shares_version_read s c) e ∙ shares, ap (text_to s c) e ∙ is ∙ sym same, ap (change_by s c) e ∙ none ∙ sym nothing, subst (λ (t : List ℕ). length t ≤ OWED_LIMIT) (sym same) short, subst IsLineOrNone (sym same) one)
-replies_text s c line text r (Many listing) e shares is none short one never = absurd never
-replies_text s c line text r (Clients name u) e shares is none short one never = absurd never
+replies_text s c line text r answer e shares is none short one never = absurd never
 
 -- so is the answer to a command
 whole_short : (text : List ℕ) → IsWholeLine text → length text ≤ OWED_LIMIT
@@ -215,13 +200,10 @@ answer_replies : (s : ServerState) (c : ℕ) (line : List ℕ) (command : Comman
     OnErr r (IsTrue (shares_version (answer_to (seen s) (asker c s) command))) → RepliesOrLacks s c line r
 answer_replies s c line command (Ok (One text change)) e is lacks =
     (ap (shares_version_read s c) e ∙ is.one, ap (text_to s c) e ∙ sym is.text, ap (change_by s c) e ∙ sym is.changes, whole_short text.now is.whole_line, inl is.whole_line)
-answer_replies s c line command (Ok (Many listing)) e is lacks = (ap (shares_version_read s c) e ∙ ap shares_version is, ap (text_to s c) e ∙ ap text_of_answer is, ap (change_by s c) e ∙ ap change_of_answer is)
-answer_replies s c line command (Ok (Clients name u)) e is lacks = (ap (shares_version_read s c) e ∙ ap shares_version is, ap (text_to s c) e ∙ ap text_of_answer is, ap (change_by s c) e ∙ ap change_of_answer is)
+answer_replies s c line command (Ok answer) e is lacks = (ap (shares_version_read s c) e ∙ ap shares_version is, ap (text_to s c) e ∙ ap text_of_answer is, ap (change_by s c) e ∙ ap change_of_answer is)
 answer_replies s c line command (Err refused) e is lacks = ap (shares_version_read s c) e ∙ lacks
 
 pub answers_each : (view : Seen) (who : AskerSeen) (command : Command) (r : Result Reply AllocError) → IfOk r (IsReply view (answer_to view who command)) → OnErr r (IsTrue (shares_version (answer_to view who command))) →
     AnswersEach view who (Ok (Some command)) r
 answers_each view who command r is lacks s c line sees asks e =
-    answer_replies s c line command r e
-    (subst (λ (z : Seen). IfOk r (IsReply z (answer_to z (asker c s) command))) sees (subst (λ (z : AskerSeen). IfOk r (IsReply view (answer_to view z command))) asks is))
-    (subst (λ (z : Seen). OnErr r (IsTrue (shares_version (answer_to z (asker c s) command)))) sees (subst (λ (z : AskerSeen). OnErr r (IsTrue (shares_version (answer_to view z command)))) asks lacks))
+    answer_replies s c line command r e (rw (sees, asks) at is) (rw (sees, asks) at lacks)

@@ -1,20 +1,19 @@
 -- A forced shutdown is set by lines alone, and by those that have the right.
-use Rattle.std.proofs.Common.{arith, ◌≡◌, ℕ, zero, suc, Bool, true, false, List, [], ◌∷◌, ◌++◌, Option, Some, None, refl, sym, ◌∙◌, ap, eqb, map, take, inl, inr}
+use Rattle.std.proofs.Common.{arith, ◌≡◌, ℕ, zero, suc, Bool, true, false, List, [], ◌∷◌, ◌++◌, Option, Some, None, refl, sym, ◌∙◌, ap, take, inl, inr}
 use Rattle.std.specs.Prelude.{slice_get}
 use Rattle.std.specs.Option.{option_map_or}
-use Rattle.std.proofs.lemmas.Bool.{both_ways, cond_both, cases_Bool, eqb-true, eqb-false}
-use Rattle.nutcore.proofs.Common.{UpsId, Change, TrackingState, Event, SessionState, UpsState, ServerState, changed_at, with_session_changed}
+use Rattle.std.proofs.lemmas.Bool.{cases_eq, cases_Bool}
+use Rattle.nutcore.proofs.Common.{slice_get-map, never_both, UpsId, Change, TrackingState, Event, SessionState, UpsState, ServerState, changed_at, with_session_changed}
 use Rattle.nutdriver.specs.declared.report.Report.{Report}
 use Rattle.nutdriver.specs.declared.report.LineOutcome.{LineOutcome}
-use Rattle.nutdriver.specs.Report.{after_line as report_after}
+use Rattle.nutdriver.specs.Report.{after_line as report_after, end_in}
 use Rattle.nutanswer.specs.declared.reply.Change.TheVariants as changes
-use Rattle.nutcore.specs.Lines.{whole_lines, unfinished_after, is_too_long}
-use Rattle.nutcore.specs.Reports.{end_in, with_end, is_unawaited}
-use Rattle.nutcore.specs.Ups.{with_fsd, with_order, after_connecting, after_loss, after_outcome, after_text, after_texts, with_unfinished, ping_is_due}
+use Rattle.nutcore.specs.Reports.{with_end, is_unawaited}
+use Rattle.nutcore.specs.Ups.{with_fsd, with_order, after_outcome, after_texts}
 use Rattle.nutcore.specs.Reply.{changed_upses}
 use Rattle.nutcore.specs.Pump.{next_line_for, after_line, notified}
-use Rattle.nutcore.specs.Step.{after_by, joined, with_input, taken_from, without_output, opened, ticked, driver_may_take}
-use Rattle.nutcore.specs.History.{Execution, of_line, of_notice}
+use Rattle.nutcore.specs.Step.{after_by, joined, with_input, taken_from, without_output, opened, ticked}
+use Rattle.nutcore.specs.History.{Execution, of_line}
 use Rattle.nutcore.specs.ByRight.{SetsShutdownByRight, is_shut_down, AForcedShutdownIsSetByRight}
 use Rattle.nutcore.proofs.Changed.{by_change}
 use Rattle.nutcore.proofs.Changes.{of_upses as of_changed_upses}
@@ -23,58 +22,60 @@ use Rattle.nutcore.proofs.DriverText.{ups_after_text, ups_after_bytes}
 use Rattle.nutcore.proofs.Pumping.{is_next, after_line_is, change_at}
 use Rattle.nutcore.proofs.Rows.{comes_of_line, by_right}
 use Rattle.nutcore.proofs.Events.{IsPlain, OfDrivers, of_parts}
-use Rattle.nutcore.proofs.Marks.{OneIs, first_one, last_one, IsToldByLines, told_after}
+use Rattle.nutcore.proofs.Marks.{IsMark, told_after}
+use Rattle.nutanswer.specs.declared.command.Command.TheVariants.{Fsd}
+use Rattle.nutanswer.proofs.PublicLaws.{a_named_ups_is_seen}
+use Rattle.nutusers.specs.declared.rights.Right.TheVariants as rights
+use Rattle.nutcore.specs.Reply.{seen, seen_ups}
+use Rattle.nutcore.specs.ByRight.{IsByRight}
+use Rattle.nutcore.specs.History.{executions}
+use Rattle.nutcore.proofs.FreshRuns.{mapped_at}
+use Rattle.nutcore.proofs.Histories.{IsOfEvents, run_keeps}
+use Rattle.nutcore.proofs.UpsPlaces.{at_changed}
+use Rattle.nutcore.proofs.Common.{Outcome, Run}
+use Rattle.std.proofs.Common.{◌⊎◌}
+use Rattle.nutwords.specs.WholeLines.{whole_lines}
 
 -- the forced shutdown of the UPS at a place
-abbrev pub fsd_at : ℕ → List UpsState → Bool
+abbrev fsd_at : ℕ → List UpsState → Bool
 fsd_at q xs = option_map_or (λ (x : UpsState). x.fsd) (slice_get xs q) false
 
-abbrev pub Keeps : (UpsState → UpsState) → Type 0
+abbrev Keeps : (UpsState → UpsState) → Type 0
 Keeps f = (x : UpsState) → (f x).fsd ≡ x.fsd
 
-pub changed_keeps : (f : UpsState → UpsState) → Keeps f → (p q : ℕ) (xs : List UpsState) → fsd_at q (changed_at f p xs) ≡ fsd_at q xs
+changed_keeps : (f : UpsState → UpsState) → Keeps f → (p q : ℕ) (xs : List UpsState) → fsd_at q (changed_at f p xs) ≡ fsd_at q xs
 changed_keeps f k p q [] = refl
 changed_keeps f k zero zero (x ∷ xs) = k x
 changed_keeps f k zero (suc q) (x ∷ xs) = refl
 changed_keeps f k (suc p) zero (x ∷ xs) = refl
 changed_keeps f k (suc p) (suc q) (x ∷ xs) = changed_keeps f k p q xs
 
-map_keeps : (f : UpsState → UpsState) → Keeps f → (q : ℕ) (xs : List UpsState) → fsd_at q (map f xs) ≡ fsd_at q xs
-map_keeps f k q [] = refl
-map_keeps f k zero (x ∷ xs) = k x
-map_keeps f k (suc q) (x ∷ xs) = map_keeps f k q xs
-
 outcome_fsd : (unawaited : Bool) (x : UpsState) (r : Report × LineOutcome) → (after_outcome unawaited x r).fsd ≡ x.fsd
 outcome_fsd unawaited x r = grind arith
 
 texts_fsd : (moment place : ℕ) (t : TrackingState) (lines : List (List ℕ)) (x : UpsState) → (after_texts moment place t lines x).fsd ≡ x.fsd
 texts_fsd moment place t [] x = refl
-texts_fsd moment place t (line ∷ lines) x =
-    let b : Bool = is_unawaited place (end_in line) t in
-    texts_fsd moment place (with_end place (end_in line) t) lines (after_text moment b x line) ∙ outcome_fsd b x (report_after moment x.report line)
+texts_fsd moment place t (line ∷ lines) x = texts_fsd moment place (with_end place (end_in line) t) lines _ ∙ outcome_fsd (is_unawaited place (end_in line) t) x (report_after moment x.report line)
 
 text_fsd : (moment place : ℕ) (t : TrackingState) (text : List ℕ) (refused : Option ℕ) → Keeps (ups_after_text moment place t text refused)
-text_fsd moment place t text None x =
-    let y : UpsState = after_texts moment place t (whole_lines text) x in
-    let e : y.fsd ≡ x.fsd = texts_fsd moment place t (whole_lines text) x in
-    cond_both (is_too_long (unfinished_after text)) (after_loss y) (with_unfinished (unfinished_after text) y) (λ z. z.fsd ≡ x.fsd) (λ long. e) (λ short. e)
+text_fsd moment place t text None x = grind (arith, texts_fsd moment place t (whole_lines text) x)
 text_fsd moment place t text (Some k) x = texts_fsd moment place t (take k (whole_lines text)) x
 
 bytes_fsd : (moment place : ℕ) (t : TrackingState) (piece : List ℕ) (refused : Option ℕ) → Keeps (ups_after_bytes moment place t piece refused)
-bytes_fsd moment place t piece refused x = cond_both x.report.connected (ups_after_text moment place t (x.unfinished ++ piece) refused x) x (λ z. z.fsd ≡ x.fsd) (λ heard. text_fsd moment place t (x.unfinished ++ piece) refused x) (λ lost. refl)
+bytes_fsd moment place t piece refused x = grind (arith, text_fsd moment place t (x.unfinished ++ piece) refused x)
 
 -- no driver sets one, nor time
-pub drivers_keep : (s : ServerState) (m : Option ℕ) → OfDrivers s.moment s.tracking m Keeps
+drivers_keep : (s : ServerState) (m : Option ℕ) → OfDrivers s.moment s.tracking m Keeps
 drivers_keep s m = record {
-  comes = λ x. cond_both x.report.connected x (after_connecting s.moment x) (λ z. z.fsd ≡ x.fsd) (λ here. refl) (λ away. refl);
+  comes = λ x. grind arith;
   tells = λ place piece. bytes_fsd s.moment place s.tracking piece m;
-  takes = λ n x. cond_both (driver_may_take n x) _ x (λ z. z.fsd ≡ x.fsd) (λ may. refl) (λ never. refl);
-  goes = λ x. cond_both x.report.connected (after_loss x) x (λ z. z.fsd ≡ x.fsd) (λ here. refl) (λ away. refl);
+  takes = λ n x. grind arith;
+  goes = λ x. grind arith;
 }
 
-pub tick_keeps : (u : UpsId) (s : ServerState) (seconds : ℕ) → is_shut_down u (ticked seconds s) ≡ is_shut_down u s
+tick_keeps : (u : UpsId) (s : ServerState) (seconds : ℕ) → is_shut_down u (ticked seconds s) ≡ is_shut_down u s
 unfolding ticked
-tick_keeps u s seconds = map_keeps _ (λ x. cond_both (ping_is_due s.max_age _ x) _ x (λ z. z.fsd ≡ x.fsd) (λ due. refl) (λ early. refl)) u.place s.upses
+tick_keeps u s seconds = rw slice_get-map (grind arith)
 
 -- what isn't the line of a client sets no forced shutdown
 by_plain : (u : UpsId) (s : ServerState) (e : Event) (m : Option ℕ) → IsPlain e → is_shut_down u (after_by s e m) ≡ is_shut_down u s
@@ -90,56 +91,93 @@ by_plain u s e m =
     opens address m = grind arith
 
 -- nor does a session that is changed
-pub by_session : (u : UpsId) (f : SessionState → SessionState) (s : ServerState) (c : ℕ) → is_shut_down u (with_session_changed f c s) ≡ is_shut_down u s
+by_session : (u : UpsId) (f : SessionState → SessionState) (s : ServerState) (c : ℕ) → is_shut_down u (with_session_changed f c s) ≡ is_shut_down u s
 by_session u f s c = by_change (λ t. is_shut_down u t ≡ is_shut_down u s) f c s (λ x e. refl) (λ e. refl)
 
-input_keeps : (u : UpsId) (s : ServerState) (c : ℕ) (piece : List ℕ) → is_shut_down u (with_input s c piece) ≡ is_shut_down u s
-unfolding with_input
-input_keeps u s c piece = by_session u (joined piece) s c
-
-output_keeps : (u : UpsId) (s : ServerState) (c n : ℕ) → is_shut_down u (without_output s c n) ≡ is_shut_down u s
-unfolding without_output
-output_keeps u s c n = by_session u (taken_from n) s c
-
 -- a line that sets it has the row of FSD
-no_mark : {A : Type 0} (b : Bool) → b ≡ false → b ≡ true → A
-no_mark b e f = absurd (both_ways b e f)
-
 change_sets : (u : UpsId) (change : Change) (xs : List UpsState) → fsd_at u.place xs ≡ false → fsd_at u.place (changed_upses change xs) ≡ true → change ≡ changes.Fsd u
 change_sets u change xs before after =
-    of_changed_upses (λ told ys. fsd_at u.place ys ≡ true → change ≡ changes.Fsd u) change xs (λ set. no_mark _ before set) (λ v is set. is ∙ by_place v (eqb v.place u.place) refl set)
-    (λ v line id is set. no_mark _ before (sym (changed_keeps (with_order line) (λ x. refl) v.place u.place xs) ∙ set)) after
-  where
-    by_place : (v : UpsId) (b : Bool) → eqb v.place u.place ≡ b → fsd_at u.place (changed_at with_fsd v.place xs) ≡ true → changes.Fsd v ≡ changes.Fsd u
-    by_place v true e set = ap (λ (w : UpsId). changes.Fsd w) (same_ups v u (eqb-true v.place u.place e))
-    by_place v false e set = no_mark _ before (sym (ap (λ (o : Option UpsState). option_map_or (λ (x : UpsState). x.fsd) o false) (other_ups with_fsd v.place u.place xs (λ (k : u.place ≡ v.place). eqb-false v.place u.place e (sym k)))) ∙ set)
+    of_changed_upses (λ told ys. fsd_at u.place ys ≡ true → change ≡ changes.Fsd u) change xs (λ set. never_both _ set before)
+    (λ v is set. is ∙ ap (λ (w : UpsId). changes.Fsd w) (same_ups v u (elim (cases_eq v.place u.place) [
+      | inl same ↦ same
+      | inr other ↦ never_both _ (sym (ap (λ (o : Option UpsState). option_map_or (λ (x : UpsState). x.fsd) o false) (other_ups with_fsd v.place u.place xs (λ (k : u.place ≡ v.place). other (sym k)))) ∙ set) before
+    ])))
+    (λ v line id is set. never_both _ (sym (changed_keeps (with_order line) (λ x. refl) v.place u.place xs) ∙ set) before) after
 
 line_sets : (u : UpsId) (s : ServerState) (c : ℕ) (line : List ℕ) → next_line_for s c ≡ Some line → is_shut_down u s ≡ false → is_shut_down u (after_line s c) ≡ true → SetsShutdownByRight u (of_line s c line)
 line_sets u s c line next before after =
     let n = is_next s c line next in
-    let set : fsd_at u.place (changed_upses (change_at s c line) s.upses) ≡ true = ap (is_shut_down u) (sym (after_line_is s c line n.asking n.found next)) ∙ after in
-    let came = comes_of_line s c line (changes.Fsd u) refl (change_sets u (change_at s c line) s.upses before set) in
+    let came = comes_of_line s c line (changes.Fsd u) refl (change_sets u (change_at s c line) s.upses before (rw (after_line_is s c line n.asking n.found next) at after)) in
     by_right s c line came.command _ _ _ u came.read came.row
 
--- where it is set, one of the lines before set it
-module _ (u : UpsId) where
-  abbrev WasSet : List Execution → ServerState → Type 0
-  WasSet before s = is_shut_down u s ≡ true → OneIs (SetsShutdownByRight u) before
-
-  as_before : (before more : List Execution) (s t : ServerState) → is_shut_down u t ≡ is_shut_down u s → WasSet before s → WasSet (before ++ more) t
-  as_before before more s t same told set = first_one (SetsShutdownByRight u) before more (told (sym same ∙ set))
-
-  set_by_lines : IsToldByLines WasSet
-  set_by_lines = record {
-    by_line = λ before c s line next told set. elim (cases_Bool (is_shut_down u s)) [
-      | inl was ↦ first_one (SetsShutdownByRight u) before (of_line s c line ∷ []) (told was)
-      | inr never ↦ last_one (SetsShutdownByRight u) before (of_line s c line) (line_sets u s c line next never set)
-    ];
-    by_notice = λ before c s. as_before before (of_notice c ∷ []) s (with_session_changed notified c s) (by_session u notified s c);
-    by_input = λ before c s piece. as_before before [] s (with_input s c piece) (input_keeps u s c piece);
-    by_output = λ before c s n. as_before before [] s (without_output s c n) (output_keeps u s c n);
-    by_plain = λ before s e m plain. as_before before [] s (after_by s e m) (by_plain u s e m plain);
-  }
+-- only such lines set it
+set_by_lines : (u : UpsId) → IsMark (λ s. is_shut_down u s ≡ true) (SetsShutdownByRight u)
+set_by_lines u = record {
+  line = λ s c line next set. elim (cases_Bool (is_shut_down u s)) [ inl was ↦ inl was | inr never ↦ inr (line_sets u s c line next never set) ];
+  notice = λ s c set. sym (by_session u notified s c) ∙ set;
+  joins = λ s c piece set. sym (by_session u (joined piece) s c) ∙ set;
+  gives = λ s c n set. sym (by_session u (taken_from n) s c) ∙ set;
+  plain = λ s e m plain set. sym (by_plain u s e m plain) ∙ set;
+}
 
 pub shutdowns : AForcedShutdownIsSetByRight
-shutdowns old new events outcomes u run before after = told_after (WasSet u) (set_by_lines u) old new events outcomes run (λ set. no_mark _ before set) after
+shutdowns old new events outcomes u run before after =
+    elim (told_after _ _ (set_by_lines u) old new events outcomes run after) [ inl was ↦ never_both _ was before | inr one ↦ one ]
+
+-- a forced shutdown that is granted
+granted_changes : (u : UpsId) (s : ServerState) (c : ℕ) (line : List ℕ) (words : List (List ℕ)) → (h : IsByRight s c line Fsd rights.Fsd words u) → change_at s c line ≡ changes.Fsd u
+granted_changes u s c line words h = rw (h.command, h.username_given, h.password_given, h.granted, h.named) (ap (λ (v : UpsId). changes.Fsd v) h.this)
+
+line_shuts_down : (u : UpsId) (s : ServerState) (c : ℕ) (line : List ℕ) → next_line_for s c ≡ Some line → SetsShutdownByRight u (of_line s c line) → is_shut_down u (after_line s c) ≡ true
+line_shuts_down u s c line next h =
+    let n = is_next s c line next in
+    let stands = mapped_at seen_ups s.upses u.place h.known.state (ap (λ (v : UpsId). slice_get (seen s).upses v.place) (sym h.this) ∙ (a_named_ups_is_seen (seen s) h.ups h.known h.named).stands) in
+    rw (after_line_is s c line n.asking n.found next, granted_changes u s c line _ h, at_changed with_fsd u.place s.upses stands.of stands.there)
+
+-- one of them does
+pub AnySets : UpsId → List Execution → Type 0
+AnySets u [] = ⊥
+AnySets u (x ∷ xs) = SetsShutdownByRight u x ⊎ AnySets u xs
+
+pub any_of : (u : UpsId) (before after : List Execution) (x : Execution) → SetsShutdownByRight u x → AnySets u (before ++ x ∷ after)
+unfolding AnySets
+any_of u [] after x sets = inl sets
+any_of u (y ∷ before) after x sets = inr (any_of u before after x sets)
+
+either_sets : (u : UpsId) (xs ys : List Execution) → AnySets u (xs ++ ys) → AnySets u xs ⊎ AnySets u ys
+unfolding AnySets
+either_sets u [] ys h = inr h
+either_sets u (x ∷ xs) ys (inl sets) = inl (inl sets)
+either_sets u (x ∷ xs) ys (inr h) = elim (either_sets u xs ys h) [ inl first ↦ inl (inr first) | inr last ↦ inr last ]
+
+-- so a line that is executed leaves it set where it was
+forced_stays : (p q : ℕ) (xs : List UpsState) → fsd_at q xs ≡ true → fsd_at q (changed_at with_fsd p xs) ≡ true
+forced_stays p q [] h = h
+forced_stays zero zero (x ∷ xs) h = refl
+forced_stays zero (suc q) (x ∷ xs) h = h
+forced_stays (suc p) zero (x ∷ xs) h = h
+forced_stays (suc p) (suc q) (x ∷ xs) h = forced_stays p q xs h
+
+line_keeps : (u : UpsId) (s : ServerState) (c : ℕ) (line : List ℕ) → next_line_for s c ≡ Some line → is_shut_down u s ≡ true → is_shut_down u (after_line s c) ≡ true
+line_keeps u s c line next set =
+    let n = is_next s c line next in
+    rw (after_line_is s c line n.asking n.found next)
+    (of_changed_upses (λ told ys. fsd_at u.place ys ≡ true) (change_at s c line) s.upses set (λ v is. forced_stays v.place u.place s.upses set) (λ v line id is. changed_keeps (with_order line) (λ x. refl) v.place u.place s.upses ∙ set))
+
+shuts_down : (u : UpsId) → IsOfEvents 0 (λ s xs taken asked t. (is_shut_down u s ≡ true) ⊎ AnySets u xs → is_shut_down u t ≡ true)
+unfolding with_input without_output AnySets
+shuts_down u = record {
+  stays = λ s h. elim h [ inl set ↦ set | inr none ↦ absurd none ];
+  joins = λ s m t xs ys taken taken' asked asked' f g h. elim h [
+    | inl set ↦ g (inl (f (inl set)))
+    | inr any ↦ elim (either_sets u xs ys any) [ inl first ↦ g (inl (f (inr first))) | inr last ↦ g (inr last) ]
+  ];
+  by_line = λ d s line next h. elim h [ inl set ↦ line_keeps u s d line next set | inr (inl sets) ↦ line_shuts_down u s d line next sets | inr (inr none) ↦ absurd none ];
+  by_notice = λ d s long h. elim h [ inl set ↦ by_session u notified s d ∙ set | inr (inl never) ↦ absurd never | inr (inr none) ↦ absurd none ];
+  by_input = λ d s piece h. elim h [ inl set ↦ by_session u (joined piece) s d ∙ set | inr none ↦ absurd none ];
+  by_output = λ d s n may h. elim h [ inl set ↦ by_session u (taken_from n) s d ∙ set | inr none ↦ absurd none ];
+  by_plain = λ s e m plain h. elim h [ inl set ↦ by_plain u s e m plain ∙ set | inr none ↦ absurd none ];
+}
+
+pub stays_set : (u : UpsId) (old new : ServerState) (es : List Event) (os : List Outcome) → Run old es os new → (is_shut_down u old ≡ true) ⊎ AnySets u (executions old es os) → is_shut_down u new ≡ true
+stays_set u old new es os r = run_keeps 0 _ (shuts_down u) old new es os r

@@ -1,20 +1,18 @@
 -- Every server is sound.
-use Rattle.std.proofs.Common.{◌≡◌, ◌≤◌, ◌<◌, ◌+◌, ◌-◌, ◌^◌, ℕ, suc, Bool, true, false, List, [], ◌∷◌, ◌++◌, Some, None, refl, sym, ◌∙◌, ap, subst, eqb, max, map, length, take, length-append, length-take, length-drop, arith, inl, inr, cond}
-use Rattle.std.specs.Prelude.{nat_lt}
+use Rattle.std.proofs.Common.{◌≡◌, ◌≤◌, ◌+◌, ℕ, true, false, List, [], ◌∷◌, ◌++◌, Some, None, refl, sym, ◌∙◌, ap, subst, eqb, max, length, length-append, length-take, length-drop, arith, rules, Result, Ok}
 use Rattle.nutdriver.specs.Tree.{empty_tree}
-use Rattle.nutdriver.specs.Sound.{IsSoundTree, EachLineKeepsTheTreeSound, ReadLinesAreLawful}
-use Rattle.nutcore.proofs.Common.{never_both, ltb-true, cond_both, and_parts, length-map, length-replicate, same_Some, UpsId, Change, ServerState, changed_at, with_session, with_session_changed, with_ups_changed, with_tracking}
+use Rattle.nutdriver.specs.Sound.{IsSoundTree, EachLineKeepsTheTreeSound, ReadLinesAreLawful, IsLawfulLine}
+use Rattle.nutcore.proofs.Common.{cond_both, length-map, length-replicate, UpsId, Change, ServerState, changed_at, with_session, with_session_changed, with_ups_changed, with_tracking, TrackingState}
+use Rattle.std.proofs.lemmas.Bool.Decides.{nat_tests}
 use Rattle.std.proofs.lemmas.List.Elements.{All-nil}
-use Rattle.nuttracking.specs.Sound.{IsLawfulProgress}
+use Rattle.nuttracking.specs.Sound.{IsLawfulProgress, HaveLawfulNumbers, IsSoundTracking}
 use Rattle.nuttracking.specs.Tracking.{TrackingState}
-use Rattle.nuttracking.proofs.PublicLaws.{nothing_is_sound}
-use Rattle.nutcore.proofs.Tracked.{IsTracked, id_tracked, order_tracked, end_tracked}
+use Rattle.nuttracking.proofs.PublicLaws.{nothing_is_sound, acts_keep_it_sound, lawful_acts_keep_numbers_lawful}
+use Rattle.nuttracking.specs.Acts.Act.{handed_in, ordered, reported}
 use Rattle.nutanswer.specs.Command.{read_command}
-use Rattle.nutcore.specs.declared.TheConstants.{HELD_LIMIT}
-use Rattle.nutlisting.specs.declared.listing.clients.TheConstants.{SESSION_LIMIT}
 use Rattle.nutcore.specs.declared.event.Event.TheVariants.{Open}
 use Rattle.nutcore.specs.declared.event.Outcome.TheVariants.{Opened}
-use Rattle.nutcore.specs.Session.{SessionState, IdsRise, find, put, without, new_session}
+use Rattle.nutcore.specs.Session.{SessionState, find, put, without, new_session}
 use Rattle.nutcore.specs.Ups.{UpsState, new_ups, after_connecting, after_loss, after_tick}
 use Rattle.nutcore.specs.Reply.{reply, changed_session, changed_upses, changed_tracking}
 use Rattle.nutcore.specs.Pump.{answered, next_line_for, after_line, with_notice}
@@ -31,6 +29,32 @@ use Rattle.nutcore.proofs.DriverText.{ups_after_bytes}
 use Rattle.nutcore.proofs.Kept.{IsKept, IsAny, any_address, any_event, by_event, by_run}
 use Rattle.nutcore.proofs.SoundUps.{each_map, each_last, each_same, length-changed, each_changed, length-changes, sound_loss, sound_connecting, sound_driver_bytes, sound_took, sound_tick, sound_changes}
 use Rattle.nutcore.proofs.Runs.{lawful}
+use Rattle.nuttracking.specs.Acts.{Act, after_act}
+use Rattle.nuttracking.specs.Laws.{IsLawfulAct}
+use Rattle.nutdriver.specs.declared.line.DriverLine.{DriverLine}
+use Rattle.nutdriver.specs.declared.line.DriverLine.TheVariants.{Tracking}
+use Rattle.nutdriver.specs.declared.fault.DriverFault.{DriverFault}
+use Rattle.nutdriver.specs.DriverLine.{read_driver_line}
+use Rattle.std.specs.Result.{IfOk}
+use Rattle.nutdriver.specs.Report.{end_read, end_in}
+use Rattle.nutcore.specs.Reports.{with_end}
+
+-- the ids and the tracked orders: an id stands for one order, and numbers stay lawful
+pub record IsTracked (t : TrackingState) : Type 0 where
+  pub sound : IsSoundTracking t
+  pub numbers : HaveLawfulNumbers t.orders
+
+-- an id, an order or a report
+pub act_tracked : (t : TrackingState) (act : Act) → IsLawfulAct act → IsTracked t → IsTracked (after_act t act)
+act_tracked t act lawful h = record { sound = acts_keep_it_sound t (act ∷ []) h.sound; numbers = lawful_acts_keep_numbers_lawful t act lawful h.numbers }
+
+-- what a line reports
+pub end_tracked : ReadLinesAreLawful → (t : TrackingState) (place : ℕ) (line : List ℕ) → IsTracked t → IsTracked (with_end place (end_in line) t)
+end_tracked lawful t place line h = by_reading (read_driver_line line) (lawful line)
+  where
+    by_reading : (r : Result DriverLine DriverFault) → IfOk r IsLawfulLine → IsTracked (with_end place (end_read r) t)
+    by_reading (Ok (Tracking id number)) few = act_tracked t (reported place id number) few h
+    by_reading _ few = h
 
 pub each_put : (P : SessionState → Type 0) (y : SessionState) → P y → (xs : List SessionState) → Each P xs → Each P (put y xs)
 each_put P y p [] all = tt
@@ -38,98 +62,40 @@ each_put P y p (x ∷ xs) all = cond_both (eqb x.id y.id) (y ∷ xs) (x ∷ put 
 
 pub each_without : (P : SessionState → Type 0) (c : ℕ) (xs : List SessionState) → Each P xs → Each P (without c xs)
 each_without P c [] all = tt
-each_without P c (x ∷ xs) all =
-    let rest = each_without P c xs all.1 in
-    cond_both (eqb x.id c) (without c xs) (x ∷ without c xs) (Each P) (λ e. rest) (λ e. (all.0, rest))
+each_without P c (x ∷ xs) all = grind (arith, each_without P c xs all.1)
 
 fewer : (c : ℕ) (xs : List SessionState) → length (without c xs) ≤ length xs
 fewer c [] = omega arith
-fewer c (x ∷ xs) =
-    let rest = fewer c xs in
-    cond_both (eqb x.id c) (without c xs) (x ∷ without c xs) (λ ys. length ys ≤ suc (length xs)) (λ e. omega (arith, rest)) (λ e. omega (arith, rest))
+fewer c (x ∷ xs) = grind (arith, fewer c xs)
 
 pub each_found : (P : SessionState → Type 0) (c : ℕ) (xs : List SessionState) (x : SessionState) → find c xs ≡ Some x → Each P xs → P x
 each_found P c [] x e all = cc e
-each_found P c (z ∷ xs) x e all =
-    let rest = each_found P c xs x in
-    cond_both (eqb z.id c) (Some z) (find c xs) (λ o. o ≡ Some x → P x) (λ k same. subst P (same_Some z x same) all.0) (λ k found. rest found all.1) e
+each_found P c (z ∷ xs) x e all = grind (arith, each_found P c xs x)
 
--- with other sessions, and with other UPSs
-sessions_sound : (s : ServerState) (sessions : List SessionState) (next_id : ℕ) → length sessions ≤ SESSION_LIMIT → IdsRise 1 next_id sessions → Each IsSoundSession sessions → IsSound s
-    → (let t : ServerState = record s { sessions = sessions; next_id = next_id } in IsSound t)
-sessions_sound s sessions next_id few ids all h = record {
-  max_age = h.max_age;
-  list = h.list;
-  descriptions = h.descriptions;
-  named = h.named;
-  few = few;
-  ids = ids;
-  sessions = all;
-  upses = h.upses;
-  tracking = h.tracking;
-  numbers = h.numbers;
-}
-
+-- with other UPSs
 pub upses_sound : (s : ServerState) (moment : ℕ) (upses : List UpsState) → length upses ≡ length s.upses → Each (IsSoundUps moment) upses → IsSound s
     → (let t : ServerState = record s { moment = moment; upses = upses } in IsSound t)
-upses_sound s moment upses same all h = record {
-  max_age = h.max_age;
-  list = h.list;
-  descriptions = h.descriptions;
-  named = same ∙ h.named;
-  few = h.few;
-  ids = h.ids;
-  sessions = h.sessions;
-  upses = all;
-  tracking = h.tracking;
-  numbers = h.numbers;
-}
+upses_sound s moment upses same all h = let named = same ∙ h.named in search rules
 
 -- with other ids and orders
 pub tracking_sound : (s : ServerState) (t : TrackingState) → IsTracked t → IsSound s → IsSound (with_tracking t s)
-tracking_sound s t tracked h = record {
-  max_age = h.max_age;
-  list = h.list;
-  descriptions = h.descriptions;
-  named = h.named;
-  few = h.few;
-  ids = h.ids;
-  sessions = h.sessions;
-  upses = h.upses;
-  tracking = tracked.sound;
-  numbers = tracked.numbers;
-}
+tracking_sound s t tracked h = search rules
 
 pub is_tracked : (s : ServerState) → IsSound s → IsTracked s.tracking
 is_tracked s h = record { sound = h.tracking; numbers = h.numbers }
 
 -- sessions
 pub sound_answered : (change : Change) (line text : List ℕ) (x : SessionState) → x.ending ≡ false → IsSoundSession x → IsSoundSession (changed_session change (answered line text x))
-sound_answered change line text x going h =
-    let y : SessionState = answered line text x in
-    let kept = keeps change y in
-    record {
-      held = (let few = h.held in let less = kept.shorter in omega (arith, few, less, length-drop (length line + 1) x.held));
-      ending = λ e. elim (kept.ended e) [ inl already ↦ never_both x.ending already going | inr ends ↦ ends ];
-    }
+sound_answered change line text x going h = grind (arith, keeps change (answered line text x), length-drop {A = ℕ})
 
 pub sound_input : (piece : List ℕ) (x : SessionState) → IsSoundSession x → IsSoundSession (joined piece x)
-sound_input piece x h = by_ending x.ending refl
-  where
-    by_ending : (b : Bool) → x.ending ≡ b → IsSoundSession (record x { held = x.held ++ cond b [] (take (HELD_LIMIT - length x.held) piece) })
-    by_ending true e = record {
-      held = (let few = h.held in omega (arith, few, length-append x.held []));
-      ending = λ k. (ap (λ (bytes : List ℕ). bytes ++ []) (h.ending k).0, (h.ending k).1);
-    }
-    by_ending false e = record {
-      held = (let few = h.held in omega (arith, few, length-append x.held (take (HELD_LIMIT - length x.held) piece), length-take (HELD_LIMIT - length x.held) piece));
-      ending = λ k. never_both x.ending k e;
-    }
+sound_input piece x h = record {
+  held = (let few = h.held in grind (arith, length-append {A = ℕ}, length-take {A = ℕ}));
+  ending = λ k. rw k (ap (λ (bytes : List ℕ). bytes ++ []) (h.ending k).0, (h.ending k).1);
+}
 
 pub sound_with : (s : ServerState) (y : SessionState) → IsSoundSession y → IsSound s → IsSound (with_session s y)
-sound_with s y p h =
-    let few = h.few in
-    sessions_sound s (put y s.sessions) s.next_id (omega (arith, few, length-put y s.sessions)) (rise_put 1 s.next_id y s.sessions h.ids) (each_put IsSoundSession y p s.sessions h.sessions) h
+sound_with s y p h = grind (arith, length-put y s.sessions, rise_put 1 s.next_id y s.sessions h.ids, each_put IsSoundSession y p s.sessions h.sessions)
 
 sound_line : (s : ServerState) (c : ℕ) (line : List ℕ) → next_line_for s c ≡ Some line → IsSound s → IsSound (after_line s c)
 sound_line s c line e h =
@@ -138,7 +104,7 @@ sound_line s c line e h =
     let y : SessionState = session_after s c line n.asking in
     let own : IsSoundSession y = sound_answered change line (reply s c line) n.asking n.going (each_found IsSoundSession c s.sessions n.asking n.found h.sessions) in
     subst IsSound (sym (after_line_is s c line n.asking n.found e))
-    (tracking_sound (record (with_session s y) { upses = changed_upses change s.upses }) (changed_tracking change s.tracking) (of_tracking IsTracked change s.tracking (is_tracked s h) (λ place. order_tracked s.tracking place (is_tracked s h)))
+    (tracking_sound (record (with_session s y) { upses = changed_upses change s.upses }) (changed_tracking change s.tracking) (of_tracking IsTracked change s.tracking (is_tracked s h) (λ place. act_tracked s.tracking (ordered place) tt (is_tracked s h)))
     (upses_sound (with_session s y) s.moment (changed_upses change s.upses) (length-changes change s.upses) (sound_changes s.moment change s.upses (order_fits s c (read_command line) change refl) h.upses) (sound_with s y own h)))
 
 -- a session that is changed, and stays sound
@@ -157,22 +123,19 @@ sound_upses f u s keeps h = upses_sound s s.moment (changed_at f u.place s.upses
 sound_opened : (s : ServerState) (address : List ℕ) → may_open s ≡ true → IsSound s
     → (let t : ServerState = record s { sessions = s.sessions ++ new_session s.next_id address ∷ []; next_id = s.next_id + 1 } in IsSound t)
 sound_opened s address may h =
-    let room : length s.sessions < SESSION_LIMIT = ltb-true _ _ (and_parts (nat_lt (length s.sessions) SESSION_LIMIT) (nat_lt s.next_id (2 ^ 64)) may).0 in
     let x : SessionState = new_session s.next_id address in
-    sessions_sound s (s.sessions ++ x ∷ []) (s.next_id + 1) (omega (arith, room, length-append s.sessions (x ∷ []))) (rise_push 1 s.next_id x s.sessions refl h.ids)
-    (each_last IsSoundSession x (record { held = omega arith; ending = λ k. cc k }) s.sessions h.sessions) h
+    let all = each_last IsSoundSession x (record { held = omega arith; ending = λ k. cc k }) s.sessions h.sessions in
+    grind (arith, nat_tests, length-append s.sessions (x ∷ []), rise_push 1 s.next_id x s.sessions refl h.ids)
 
 pub sound_ticked : (s : ServerState) (seconds : ℕ) → IsSound s → IsSound (ticked seconds s)
 unfolding ticked
 sound_ticked s seconds h =
     let now : ℕ = max seconds s.moment in
-    upses_sound s now (map (after_tick s.max_age now) s.upses) (length-map s.upses (after_tick s.max_age now))
-    (each_map (IsSoundUps s.moment) (IsSoundUps now) (after_tick s.max_age now) (λ x k. sound_tick s.max_age s.moment now x (omega arith) k) s.upses h.upses) h
+    let upses = each_map (IsSoundUps s.moment) (IsSoundUps now) (after_tick s.max_age now) (λ x k. sound_tick s.max_age s.moment now x (omega arith) k) s.upses h.upses in
+    grind (arith, length-map s.upses (after_tick s.max_age now))
 
 pub sound_closed : (s : ServerState) (c : ℕ) → IsSound s → (let t : ServerState = record s { sessions = without c s.sessions } in IsSound t)
-sound_closed s c h =
-    let few = h.few in
-    sessions_sound s (without c s.sessions) s.next_id (omega (arith, few, fewer c s.sessions)) (rise_without 1 s.next_id c s.sessions h.ids) (each_without IsSoundSession c s.sessions h.sessions) h
+sound_closed s c h = grind (arith, fewer c s.sessions, rise_without 1 s.next_id c s.sessions h.ids, each_without IsSoundSession c s.sessions h.sessions)
 
 pub sound_opening : (s t : ServerState) (address : List ℕ) (c : ℕ) → Step s (Open address) (Opened c) t → IsSound s → IsSound t
 unfolding after_by
@@ -194,7 +157,7 @@ module _ (empty : IsSoundTree empty_tree) (line_keeps : EachLineKeepsTheTreeSoun
       goes = λ u h. sound_upses disconnected u s (λ x at k. cond_both x.report.connected (after_loss x) x (IsSoundUps s.moment) (λ e. sound_loss empty line_keeps s.moment x) (λ e. k)) h;
     };
     reports = λ s u line h. tracking_sound s _ (end_tracked read_lawful s.tracking u.place line (is_tracked s h)) h;
-    hands = λ s id h. tracking_sound s _ (id_tracked s.tracking id (is_tracked s h)) h;
+    hands = λ s id h. tracking_sound s _ (act_tracked s.tracking (handed_in id) tt (is_tracked s h)) h;
     ticks = sound_ticked;
     opens = λ s address may own h. sound_opened s address may h;
     closes = sound_closed;
@@ -207,18 +170,11 @@ module _ (empty : IsSoundTree empty_tree) (line_keeps : EachLineKeepsTheTreeSoun
   every_run_sound old new es os r h = by_run IsSound IsAny sound_kept old new es os r (any_event es) h
 
   pub new_sound : ANewServerIsSound
-  new_sound list users descriptions max_age lawful described age = record {
-    max_age = age;
-    list = lawful;
-    descriptions = described;
-    named = length-replicate (length list) new_ups;
-    few = omega arith;
-    ids = omega arith;
-    sessions = tt;
-    upses = each_same (IsSoundUps 0) new_ups (sound_loss empty line_keeps 0 new_ups) (length list);
-    tracking = nothing_is_sound;
-    numbers = All-nil (λ order. IsLawfulProgress order.progress);
-  }
+  new_sound list users descriptions max_age lawful described age =
+      let named = length-replicate (length list) new_ups in
+      let upses = each_same (IsSoundUps 0) new_ups (sound_loss empty line_keeps 0 new_ups) (length list) in
+      let numbers : HaveLawfulNumbers [] = All-nil (λ order. IsLawfulProgress order.progress) in
+      search (rules, arith, nothing_is_sound)
 
 pub sound_lawful : ASoundServerIsLawful
 sound_lawful s h c there = lawful s h.ids c there

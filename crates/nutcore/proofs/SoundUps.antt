@@ -1,27 +1,24 @@
 -- Sound UPSs, and what keeps them so.
-use Rattle.std.proofs.Common.{◌≡◌, ◌≤◌, ◌+◌, ℕ, zero, suc, Bool, true, false, List, [], ◌∷◌, ◌++◌, Option, Some, None, Result, refl, ◌∙◌, ap, subst, cond, map, length, replicate, take, drop, length-append, length-drop, arith}
+use Rattle.std.proofs.Common.{◌≡◌, ◌≤◌, ℕ, zero, suc, Bool, true, false, List, [], ◌∷◌, ◌++◌, Option, Some, refl, ap, subst, map, length, replicate, drop, length-append, length-drop, arith, rules}
 use Rattle.std.proofs.Math.Seq.{drop-nil}
 use Rattle.std.proofs.lemmas.Bool.{leb-false}
 use Rattle.nutwords.specs.declared.limits.TheConstants.{LINE_LIMIT, LINE_ROOM}
 use Rattle.std.specs.Prelude.{slice_get}
 use Rattle.nutdriver.specs.declared.report.Report.{Report}
 use Rattle.nutdriver.specs.declared.report.LineOutcome.{LineOutcome}
-use Rattle.nutdriver.specs.declared.line.DriverLine.{DriverLine}
-use Rattle.nutdriver.specs.declared.fault.DriverFault.{DriverFault}
 use Rattle.nutdriver.specs.Tree.{empty_tree}
-use Rattle.nutdriver.specs.DriverLine.{read_driver_line}
-use Rattle.nutdriver.specs.Report.{after_reading, after_line as report_after_line}
+use Rattle.nutdriver.specs.Report.{after_line as report_after_line, end_in}
 use Rattle.nutdriver.specs.Sound.{IsSoundTree, EachLineKeepsTheTreeSound}
 use Rattle.nutcore.proofs.Common.{never_both, cond_both, TrackingState, Change, changed_at}
 use Rattle.nutcore.specs.declared.TheConstants.{DRIVER_OWED_LIMIT}
-use Rattle.nutcore.specs.Lines.{whole_lines, unfinished_after, is_too_long}
-use Rattle.nutcore.specs.Reports.{end_in, with_end, is_unawaited}
-use Rattle.nutcore.specs.Ups.{UpsState, new_ups, after_connecting, after_loss, with_fsd, with_order, ping_is_due, ping_line, after_tick, is_refused, after_outcome, after_text, after_texts, with_unfinished}
+use Rattle.nutwords.specs.WholeLines.{whole_lines, unfinished_after, is_too_long}
+use Rattle.nutcore.specs.Reports.{with_end, is_unawaited}
+use Rattle.nutcore.specs.Ups.{UpsState, after_connecting, after_loss, with_fsd, with_order, after_tick, after_outcome, after_text, after_texts, with_unfinished}
 use Rattle.nutcore.specs.Reply.{changed_upses}
 use Rattle.nutcore.specs.Promises.{TakesLine, OrderFits}
 use Rattle.nutcore.proofs.Changes.{of_upses}
 use Rattle.nutcore.specs.Step.{driver_may_take, after_driver_took}
-use Rattle.nutcore.proofs.DriverText.{ups_after_text, ups_after_bytes}
+use Rattle.nutcore.proofs.DriverText.{ups_after_bytes}
 use Rattle.nutcore.specs.Sound.{Each, IsSoundUps}
 
 -- lists
@@ -57,14 +54,11 @@ each_changed P f zero (x ∷ xs) h all = (h x refl all.0, all.1)
 each_changed P f (suc p) (x ∷ xs) h all = (all.0, each_changed P f p xs h all.1)
 
 -- what of a report no line changes but its moment: when it was heard, and whether the driver is connected
-abbrev heard_of : Report → ℕ × Bool
+abbrev pub heard_of : Report → ℕ × Bool
 heard_of report = (report.heard, report.connected)
 
-heard_reading : (report : Report) (r : Result DriverLine DriverFault) → heard_of (after_reading report r).0 ≡ heard_of report
-heard_reading report r = grind arith
-
-heard_line : (moment : ℕ) (report : Report) (line : List ℕ) → heard_of (report_after_line moment report line).0 ≡ (moment, report.connected)
-heard_line moment report line = heard_reading (record report { heard = moment }) (read_driver_line line)
+pub heard_line : (moment : ℕ) (report : Report) (line : List ℕ) → heard_of (report_after_line moment report line).0 ≡ (moment, report.connected)
+heard_line moment report line = grind arith
 
 -- a UPS whose driver is connected
 pub record IsSoundConnected (m : ℕ) (x : UpsState) : Type 0 where
@@ -78,45 +72,23 @@ pub sound_bytes : (m : ℕ) (bytes : List ℕ) (x : UpsState) → length bytes �
 sound_bytes m bytes x short h = sound_there m _ h.is.tree h.is.heard h.is.pinged h.is.owed short h.connected
 
 sound_counted : (m : ℕ) (unawaited : Bool) (x : UpsState) (r : Report × LineOutcome) → (let y : UpsState = record x { report = r.0 } in IsSoundConnected m y) → IsSoundConnected m (after_outcome unawaited x r)
-sound_counted m unawaited x r h =
-    cond_both (is_refused unawaited r.1) _ _ (IsSoundConnected m) (λ refused. sound_there m _ h.is.tree h.is.heard h.is.pinged h.is.owed h.is.unfinished h.connected) (λ accepted. h)
+sound_counted m unawaited x r h = grind arith
 
 -- bytes are taken from what is owed
 pub sound_fewer : (m n : ℕ) (x : UpsState) → IsSoundUps m x → IsSoundUps m (record x { owed = drop n x.owed })
-sound_fewer m n x h = record {
-  tree = h.tree;
-  heard = h.heard;
-  pinged = h.pinged;
-  owed = (let few = h.owed in omega (arith, few, length-drop n x.owed));
-  unfinished = h.unfinished;
-  lost = λ e.
-      ap (λ (y : UpsState). let z : UpsState = record y { owed = drop n y.owed } in z) (h.lost e)
-      ∙ ap (λ (bytes : List ℕ). let z : UpsState = record new_ups { fsd = x.fsd; faulty = x.faulty; owed = bytes } in z) (drop-nil n);
-}
+sound_fewer m n x h = grind (arith, length-drop {A = ℕ}, drop-nil {A = ℕ})
 
 pub sound_took : (m n : ℕ) (x : UpsState) → IsSoundUps m x → IsSoundUps m (after_driver_took n x)
 sound_took m n x h = cond_both (driver_may_take n x) _ x (IsSoundUps m) (λ e. sound_fewer m n x h) (λ e. h)
 
--- a PING is due where the driver is connected, and the line fits
-due_parts : (ma now : ℕ) (x : UpsState) → ping_is_due ma now x ≡ true → (x.report.connected ≡ true) × (length x.owed + length ping_line ≤ DRIVER_OWED_LIMIT)
-due_parts ma now x e = grind arith
-
 pub sound_tick : (ma m now : ℕ) (x : UpsState) → m ≤ now → IsSoundUps m x → IsSoundUps now (after_tick ma now x)
-sound_tick ma m now x later h =
-    let heard = h.heard in
-    let asked = h.pinged in
-    let stays : IsSoundUps now x = record { tree = h.tree; heard = omega (arith, heard, later); pinged = omega (arith, asked, later); owed = h.owed; unfinished = h.unfinished; lost = h.lost } in
-    let pinged : UpsState = record x { pinged = now; owed = x.owed ++ ping_line } in
-    cond_both (ping_is_due ma now x) pinged x (IsSoundUps now) (λ e. let due = due_parts ma now x e in (sound_there now pinged h.tree stays.heard (omega arith) (omega (arith, due.1, length-append x.owed ping_line)) h.unfinished due.0).is) (λ e. stays)
+sound_tick ma m now x later h = grind (arith, length-append {A = ℕ})
 
 sound_fsd : (m : ℕ) (x : UpsState) → IsSoundUps m x → IsSoundUps m (with_fsd x)
-sound_fsd m x h = record { tree = h.tree; heard = h.heard; pinged = h.pinged; owed = h.owed; unfinished = h.unfinished; lost = λ e. ap with_fsd (h.lost e) }
+sound_fsd m x h = let lost = λ (e : x.report.connected ≡ false). ap with_fsd (h.lost e) in search rules
 
 sound_order : (m : ℕ) (line : List ℕ) (x : UpsState) → TakesLine line x → IsSoundUps m x → IsSoundUps m (with_order line x)
-sound_order m line x takes h =
-    let few = h.owed in
-    let room = takes.fits in
-    (sound_there m (with_order line x) h.tree h.heard h.pinged (omega (arith, few, room, length-append x.owed line)) h.unfinished takes.connected).is
+sound_order m line x takes h = grind (arith, length-append {A = ℕ})
 
 pub sound_changes : (m : ℕ) (change : Change) (xs : List UpsState) → OrderFits change xs → Each (IsSoundUps m) xs → Each (IsSoundUps m) (changed_upses change xs)
 sound_changes m change xs fits all =
@@ -134,9 +106,7 @@ module _ (empty : IsSoundTree empty_tree) (line_keeps : EachLineKeepsTheTreeSoun
   sound_connecting m x = record { tree = empty; heard = omega arith; pinged = omega arith; owed = omega arith; unfinished = omega arith; lost = λ e. cc e }
 
   pub sound_report : (m : ℕ) (x : UpsState) (line : List ℕ) → IsSoundConnected m x → (let y : UpsState = record x { report = (report_after_line m x.report line).0 } in IsSoundConnected m y)
-  sound_report m x line h =
-      let heard = heard_line m x.report line in
-      sound_there m _ (line_keeps m x.report line h.is.tree) (let e = ap (λ (z : ℕ × Bool). z.0) heard in omega (arith, e)) h.is.pinged h.is.owed h.is.unfinished (ap (λ (z : ℕ × Bool). z.1) heard ∙ h.connected)
+  sound_report m x line h = grind (arith, line_keeps m x.report line h.is.tree, heard_line m x.report line)
 
   sound_text : (m : ℕ) (unawaited : Bool) (x : UpsState) (line : List ℕ) → IsSoundConnected m x → IsSoundConnected m (after_text m unawaited x line)
   sound_text m unawaited x line h = sound_counted m unawaited x (report_after_line m x.report line) (sound_report m x line h)
@@ -152,14 +122,4 @@ module _ (empty : IsSoundTree empty_tree) (line_keeps : EachLineKeepsTheTreeSoun
   sound_connected_text m place t text x short e h = (sound_bytes m (unfinished_after text) (after_texts m place t (whole_lines text) x) (let fits = leb-false LINE_ROOM (length (unfinished_after text)) short in omega (arith, fits)) (sound_texts (whole_lines text) m place t x (record { is = h; connected = e }))).is
 
   pub sound_driver_bytes : (m place : ℕ) (t : TrackingState) (piece : List ℕ) (refused : Option ℕ) (x : UpsState) → IsSoundUps m x → IsSoundUps m (ups_after_bytes m place t piece refused x)
-  sound_driver_bytes m place t piece refused x h = by_connection x.report.connected refl refused
-    where
-      text : List ℕ
-      text = x.unfinished ++ piece
-
-      by_connection : (b : Bool) → x.report.connected ≡ b → (r : Option ℕ) → IsSoundUps m (cond b (ups_after_text m place t text r x) x)
-      by_connection true e None =
-          let y : UpsState = after_texts m place t (whole_lines text) x in
-          cond_both (is_too_long (unfinished_after text)) (after_loss y) (with_unfinished (unfinished_after text) y) (IsSoundUps m) (λ long. sound_loss m y) (λ short. sound_connected_text m place t text x short e h)
-      by_connection true e (Some k) = sound_loss m (after_texts m place t (take k (whole_lines text)) x)
-      by_connection false e r = h
+  sound_driver_bytes m place t piece refused x h = grind (arith, sound_loss, sound_connected_text m place t (x.unfinished ++ piece) x)

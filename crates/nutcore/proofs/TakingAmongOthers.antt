@@ -1,39 +1,34 @@
 -- A client that takes, among the events of others, gets everything: all that it is offered, or some bytes at a time.
-use Rattle.std.proofs.Common.{◌≡◌, ◌≢◌, ℕ, suc, ◌+◌, ◌≤◌, Bool, true, false, List, [], ◌∷◌, Option, Some, None, refl, sym, ◌∙◌, ap, subst, cond, eqb, inl, inr, arith, length, zero, ◌*◌, ◌<◌}
-use Rattle.std.specs.Prelude.{is_none, option_and_then}
+use Rattle.std.proofs.Common.{◌≡◌, ◌≢◌, ℕ, suc, ◌+◌, ◌≤◌, Bool, true, false, List, [], ◌∷◌, Option, Some, None, refl, sym, ◌∙◌, ap, subst, cond, eqb, inl, inr, arith, length, ◌*◌, ◌<◌}
 use Rattle.std.specs.List.{filter}
 use Rattle.std.specs.Option.{option_map_or}
-use Rattle.std.proofs.lemmas.Bool.{cond_both, eqb-true, eq-eqb, cases_Bool}
+use Rattle.std.proofs.Math.Nat.{add-mul}
+use Rattle.std.proofs.lemmas.Bool.{cond_both, cond-false, ne_eqb, eqb-true, eq-eqb, cases_Bool}
 use Rattle.nutlisting.specs.declared.ring.TheConstants.{RING_LIMIT}
 use Rattle.nutcore.proofs.Common.{Event, Outcome, SessionState, ServerState, session, after, Run}
 use Rattle.nutcore.specs.declared.event.Event.TheVariants.{Feed, Took, Close}
 use Rattle.nutcore.specs.Session.{find, new_session}
-use Rattle.nutcore.specs.Pump.{next_line, pump_stops, held_of, owed_of, holds_overlong}
+use Rattle.nutcore.specs.Pump.{pump_stops, held_of, owed_of}
 use Rattle.nutcore.specs.Step.{with_input, without_output, may_take, after_by, refused_after, outcome_of}
 use Rattle.nutcore.specs.History.{Execution, texts_of, executions_until, executions_by, executions, executions_in_event, of_client, owed, answers, held}
 use Rattle.nutcore.specs.Isolation.{client_of}
 use Rattle.nutcore.specs.Taking.{TakesAmongOthers, is_event_of, events_of, WhoTakesAmongOthersGetsEverything, lines_done}
 use Rattle.nutcore.proofs.Events.{of_session_event}
-use Rattle.nutcore.proofs.Histories.{later, lines_more, answers_more, of_opened}
+use Rattle.nutcore.proofs.Histories.{later, lines_more, answers_more, of_its_pump, of_opened}
 use Rattle.nutcore.proofs.Isolation.{own}
-use Rattle.nutcore.proofs.Stepping.{until_apart}
-use Rattle.nutcore.proofs.Takes.{HasNothingLeft, outcome_then, server_then, done_then, IsTake, one_take, take_does, idle_take, size, some_taken, all_is_ring}
+use Rattle.nutcore.proofs.Least.{IsIdle}
+use Rattle.nutcore.proofs.Progress.{Presence}
+use Rattle.nutcore.proofs.Taking.{HasNothingLeft, outcome_then, IsTake, one_take, take_does, idle_take, some_taken, all_is_ring}
 use Rattle.nutcore.specs.TakingSome.{IsTakeOf, TakesSomeAmongOthers, WhoTakesSomeGetsEverything}
 
 -- what a client holds and owes stays: its session does, or one is opened for it
 pub record IsUntouched (old new : Option SessionState) : Type 0 where
   pub owes : owed_of new ≡ owed_of old
   pub holds : held_of new ≡ held_of old
-  pub stops : is_none (option_and_then next_line new) ≡ is_none (option_and_then next_line old)
-  pub long : option_map_or holds_overlong new false ≡ option_map_or holds_overlong old false
+  pub stopped : IsIdle old → IsIdle new
 
 same_session : (old new : Option SessionState) → new ≡ old → IsUntouched old new
-same_session old new e = record {
-  owes = ap owed_of e;
-  holds = ap held_of e;
-  stops = ap (λ (o : Option SessionState). is_none (option_and_then next_line o)) e;
-  long = ap (λ (o : Option SessionState). option_map_or holds_overlong o false) e;
-}
+same_session old new e = rw e (record { owes = refl; holds = refl; stopped = λ h. h })
 
 -- another's event executes nothing of the client, and leaves what it holds and owes
 pub record IsAnothers (c : ℕ) (s : ServerState) (t : ServerState) (done : List Execution) : Type 0 where
@@ -47,20 +42,21 @@ anothers c s e m =
     (λ e apart differ. record { nothing = ap (of_client c) (apart.silent.executes s m); untouched = same_session _ _ (ap (find c) (apart.sessions s m)) })
     (λ address differ. record {
       nothing = refl;
-      untouched = of_opened (IsUntouched (session c s)) c s address m (same_session (session c s) (session c s) refl)
-          (λ same none. subst (λ o. IsUntouched o (Some (new_session s.next_id address))) (sym none) (record { owes = refl; holds = refl; stops = refl; long = refl }));
+      untouched = of_opened (λ p. IsUntouched (session c s) p.session) c s address m (λ u up. same_session (session c s) (session c s) refl)
+          (λ its away. subst (λ (p : Presence). IsUntouched p.session (Some (new_session s.next_id address))) (sym away) (record { owes = refl; holds = refl; stopped = λ h. record { stopped = refl; short = refl } }));
     })
-    (λ d piece differ.
-    let other : c ≢ d = λ (h : c ≡ d). differ (ap Some (sym h)) in
-    record { nothing = (until_apart c d (with_input s d piece) m other).nothing; untouched = same_session _ _ ((own s (Feed d piece) m d refl).sessions c other) })
-    (λ d n differ.
-    let other : c ≢ d = λ (h : c ≡ d). differ (ap Some (sym h)) in
-    record {
-      nothing = cond_both (may_take (session d s) n) (executions_until (without_output s d n) d m) [] (λ xs. of_client c xs ≡ []) (λ may. (until_apart c d (without_output s d n) m other).nothing) (λ never. refl);
-      untouched = same_session _ _ ((own s (Took d n) m d refl).sessions c other);
+    (λ d piece differ. record { nothing = not_its d (with_input s d piece) differ; untouched = apart (Feed d piece) d refl differ })
+    (λ d n differ. record {
+      nothing = cond_both (may_take (session d s) n) (executions_until (without_output s d n) d m) [] (λ xs. of_client c xs ≡ []) (λ may. not_its d (without_output s d n) differ) (λ never. refl);
+      untouched = apart (Took d n) d refl differ;
     })
-    (λ d differ. record { nothing = refl; untouched = same_session _ _ ((own s (Close d) m d refl).sessions c (λ (h : c ≡ d). differ (ap Some (sym h)))) })
-    e
+    (λ d differ. record { nothing = refl; untouched = apart (Close d) d refl differ }) e
+  where
+    not_its : (d : ℕ) (t : ServerState) → Some d ≢ Some c → of_client c (executions_until t d m) ≡ []
+    not_its d t differ = of_its_pump c d t m ∙ cond-false _ _ _ (ne_eqb d c (λ (h : d ≡ c). differ (ap Some h)))
+
+    apart : (e : Event) (d : ℕ) → client_of e ≡ Some d → client_of e ≢ Some c → IsUntouched (session c s) (session c (after_by s e m))
+    apart e d its differ = same_session _ _ ((own s e m d its).sessions c (λ (h : c ≡ d). differ (its ∙ ap Some (sym h))))
 
 -- whose the event is
 pub own_or_not : {A : Type 0} (c : ℕ) (e : Event) → (is_event_of c e ≡ true → client_of e ≡ Some c → A) → (is_event_of c e ≡ false → client_of e ≢ Some c → A) → A
@@ -70,28 +66,17 @@ own_or_not c e own other = by_client (client_of e) own other
     by_client None own other = other refl (λ h. cc h)
     by_client (Some k) own other = elim (cases_Bool (eqb k c)) [ inl e ↦ own e (ap Some (eqb-true k c e)) | inr e ↦ other e (λ h. let same : k ≡ c = cc h in let yes_same = eq-eqb k c same in cc) ]
 
--- where nothing is left, it stays so
-left_after : (c : ℕ) (s t : ServerState) → IsUntouched (session c s) (session c t) → HasNothingLeft c s → HasNothingLeft c t
-left_after c s t same h = record { none = same.owes ∙ h.none; ended = record { stopped = same.stops ∙ h.ended.stopped; short = same.long ∙ h.ended.short } }
-
-times_more : (a b k : ℕ) → (a + b) * k ≡ a * k + b * k
-times_more zero b k = omega arith
-times_more (suc a) b k = let more = times_more a b k in omega (arith, more)
-
-at_least : (a k : ℕ) → 1 ≤ a → k ≤ a * k
-at_least zero k some = absurd (omega (arith, some))
-at_least (suc a) k some = omega arith
-
 module _ (k : ℕ) (few : k ≤ RING_LIMIT) (c : ℕ) where
   as_take : (s : ServerState) (e : Event) (o : Outcome) (P : Event → Outcome → Type 0) → IsTakeOf k c s e o → P (some_taken k c s) (outcome_then k c s) → P e o
   as_take s e o P (event_is, outcome_is) p = subst (λ (z : Event). P z o) (sym event_is) (subst (P (some_taken k c s)) (sym (outcome_is ∙ ap (outcome_of s) event_is)) p)
 
+  -- where nothing is left, it stays so
   stays_left : (s t : ServerState) (es : List Event) (os : List Outcome) → Run s es os t → TakesSomeAmongOthers k c s es os → HasNothingLeft c s → HasNothingLeft c t
   stays_left s t [] [] r among h = subst (HasNothingLeft c) (sym r) h
   stays_left s t (e ∷ es) (o ∷ os) (mid, step, r) among h =
       stays_left (after s e o) t es os (later t es os step r) among.1 (own_or_not c e
       (λ yes its. as_take s e o (λ e o. HasNothingLeft c (after s e o)) (among.0 its) (subst (HasNothingLeft c) (sym (idle_take k c s h)) h))
-      (λ no other. left_after c s (after s e o) (anothers c s e (refused_after o) other).untouched h))
+      (λ no other. let same = (anothers c s e (refused_after o) other).untouched in record { none = same.owes ∙ h.none; ended = same.stopped h.ended }))
   stays_left s t es os r among h = absurd r
 
   -- so many takes are enough
@@ -99,68 +84,41 @@ module _ (k : ℕ) (few : k ≤ RING_LIMIT) (c : ℕ) where
     lines : lines_done c s es os ≤ length (held c s)
     served : length (owed c s) + length (answers c s es os) + lines_done c s es os * k < events_of c es * k → (owed c t ≡ []) × (pump_stops t c ≡ true)
 
-  -- a take, and the run after it
-  served_take : (s t : ServerState) (es : List Event) (os : List Outcome) → (HasNothingLeft c (server_then k c s) → HasNothingLeft c t) → IsServedSo (server_then k c s) es os t → IsServedSo s (some_taken k c s ∷ es) (outcome_then k c s ∷ os) t
-  served_take s t es os stays h = record {
-    lines = (let fewer = is.fewer in let few = h.lines in omega (arith, fewer, few, more));
-    served = λ enough. elim (take_does k c few s) [
-      | inl one ↦ (let once = at_least (length (done_then k c s)) k one in h.served (omega (arith, enough, once, moved, lines, texts, event_more)))
-      | inr (inl (full, less)) ↦ h.served (omega (arith, enough, full, moved, lines, texts, event_more))
-      | inr (inr none) ↦ (let last = stays (record { none = none; ended = is.ended }) in (last.none, last.ended.stopped))
-    ];
-  }
-    where
-      is : IsTake k c s (server_then k c s) (done_then k c s)
-      is = one_take k c s
-
-      moved : length (owed c (server_then k c s)) + size k c s ≤ length (owed c s) + length (texts_of (done_then k c s))
-      moved = is.moved
-
-      texts : length (answers c s (some_taken k c s ∷ es) (outcome_then k c s ∷ os)) ≡ length (texts_of (done_then k c s)) + length (answers c (server_then k c s) es os)
-      texts = answers_more c (executions_in_event s (some_taken k c s) (outcome_then k c s)) (executions (server_then k c s) es os)
-
-      more : lines_done c s (some_taken k c s ∷ es) (outcome_then k c s ∷ os) ≡ length (done_then k c s) + lines_done c (server_then k c s) es os
-      more = lines_more c (executions_in_event s (some_taken k c s) (outcome_then k c s)) (executions (server_then k c s) es os)
-
-      lines : lines_done c s (some_taken k c s ∷ es) (outcome_then k c s ∷ os) * k ≡ length (done_then k c s) * k + lines_done c (server_then k c s) es os * k
-      lines = ap (λ (n : ℕ). n * k) more ∙ times_more (length (done_then k c s)) (lines_done c (server_then k c s) es os) k
-
-      event_more : events_of c (some_taken k c s ∷ es) * k ≡ k + events_of c es * k
-      event_more =
-          let one : events_of c (some_taken k c s ∷ es) * k ≡ suc (events_of c es) * k = ap (λ (b : Bool). length (cond b (some_taken k c s ∷ filter (is_event_of c) es) (filter (is_event_of c) es)) * k) (eq-eqb c c refl) in
-          omega (arith, one)
-
   served_run : (s t : ServerState) (es : List Event) (os : List Outcome) → Run s es os t → TakesSomeAmongOthers k c s es os → IsServedSo s es os t
   served_run s t [] [] r among = record { lines = omega arith; served = λ h. absurd (omega (arith, h)) }
-  served_run s t (e ∷ es) (o ∷ os) (mid, step, r) among = own_or_not c e
-      (λ yes its. as_take s e o (λ e o. Run (after s e o) es os t → TakesSomeAmongOthers k c (after s e o) es os → IsServedSo s (e ∷ es) (o ∷ os) t) (among.0 its)
-      (λ rest others. served_take s t es os (stays_left (server_then k c s) t es os rest others) (served_run (server_then k c s) t es os rest others)) (later t es os step r) among.1)
-      (λ no other. by_another (anothers c s e (refused_after o) other) (served_run (after s e o) t es os (later t es os step r) among.1) no)
-    where
-      now : List Execution
-      now = executions_in_event s e o
-
-      behind : List Execution
-      behind = executions (after s e o) es os
-
-      by_another : IsAnothers c s (after s e o) (of_client c now) → IsServedSo (after s e o) es os t → is_event_of c e ≡ false → IsServedSo s (e ∷ es) (o ∷ os) t
-      by_another other h not_its =
-          let owes = ap (λ (z : List ℕ). length z) other.untouched.owes in
-          let holds = ap (λ (z : List ℕ). length z) other.untouched.holds in
-          let none = ap (λ (z : List Execution). length z) other.nothing in
-          let no_text = ap (λ (z : List Execution). length (texts_of z)) other.nothing in
-          let texts : length (answers c s (e ∷ es) (o ∷ os)) ≡ length (answers c (after s e o) es os) = omega (arith, answers_more c now behind, no_text) in
-          let same : lines_done c s (e ∷ es) (o ∷ os) ≡ lines_done c (after s e o) es os = omega (arith, lines_more c now behind, none) in
-          let lines = ap (λ (n : ℕ). n * k) same in
-          let events = ap (λ (b : Bool). length (cond b (e ∷ filter (is_event_of c) es) (filter (is_event_of c) es)) * k) not_its in
-          let fewer = h.lines in
-          record { lines = omega (arith, fewer, holds, same); served = λ enough. h.served (omega (arith, enough, owes, texts, lines, events)) }
+  served_run s t (e ∷ es) (o ∷ os) (mid, step, r) among =
+      let next : ServerState = after s e o in
+      let run = later t es os step r in
+      let rest = served_run next t es os run among.1 in
+      let done : List Execution = of_client c (executions_in_event s e o) in
+      let texts = answers_more c (executions_in_event s e o) (executions next es os) in
+      let lines = lines_more c (executions_in_event s e o) (executions next es os) in
+      let times = ap (λ (n : ℕ). n * k) lines ∙ add-mul (length done) (lines_done c next es os) k in
+      own_or_not c e
+      (λ yes its.
+      let is = as_take s e o (λ e o. IsTake k c s (after s e o) (of_client c (executions_in_event s e o))) (among.0 its) (one_take k c s) in
+      let events : events_of c (e ∷ es) * k ≡ suc (events_of c es) * k = ap (λ (b : Bool). length (cond b (e ∷ filter (is_event_of c) es) (filter (is_event_of c) es)) * k) yes in
+      record {
+        lines = omega (arith, is.fewer, rest.lines, lines);
+        served = λ enough. elim (take_does k c few s next done is) [
+          | inl counts ↦ rest.served (omega (arith, enough, counts, times, texts, events))
+          | inr none ↦ (let last = stays_left next t es os run among.1 (record { none = none; ended = is.ended }) in (last.none, last.ended.stopped))
+        ];
+      })
+      (λ no differ.
+      let other = anothers c s e (refused_after o) differ in
+      let owes = ap (λ (z : List ℕ). length z) other.untouched.owes in
+      let holds = ap (λ (z : List ℕ). length z) other.untouched.holds in
+      let none = ap (λ (z : List Execution). length z) other.nothing in
+      let no_text = ap (λ (z : List Execution). length (texts_of z)) other.nothing in
+      let no_line = ap (λ (z : List Execution). length z * k) other.nothing in
+      let events = ap (λ (b : Bool). length (cond b (e ∷ filter (is_event_of c) es) (filter (is_event_of c) es)) * k) no in
+      record { lines = omega (arith, rest.lines, holds, none, lines); served = λ enough. rest.served (omega (arith, enough, owes, texts, no_text, times, no_line, events)) })
   served_run s t es os r among = absurd r
 
 pub takes_some : WhoTakesSomeGetsEverything
 takes_some old new es os c k some few r among enough =
-    let lines = times_more (lines_done c old es os) 1 k in
-    (served_run k few c old new es os r among).served (omega (arith, enough, some, lines))
+    (served_run k few c old new es os r among).served (omega (arith, enough, some, add-mul (lines_done c old es os) 1 k))
 
 -- all that is offered is a whole ring, or less
 takes_rings : (c : ℕ) (s : ServerState) (es : List Event) (os : List Outcome) → TakesAmongOthers c s es os → TakesSomeAmongOthers RING_LIMIT c s es os

@@ -1,5 +1,5 @@
 -- What is tracked comes of what a run did.
-use Rattle.std.proofs.Common.{arith, ◌≡◌, ◌∙◌, ℕ, Bool, true, false, ◌&&◌, cond, List, [], ◌∷◌, ◌++◌, Option, Some, None, refl, sym, ap, subst, map, append-nil}
+use Rattle.std.proofs.Common.{arith, ◌≡◌, ◌∙◌, ℕ, Bool, true, false, ◌&&◌, cond, List, [], ◌∷◌, ◌++◌, Option, refl, sym, ap, subst, map, append-nil}
 use Rattle.std.specs.List.{flat_map}
 use Rattle.nuttracking.specs.Acts.{Act, after_act, after_acts, given}
 use Rattle.nuttracking.specs.Acts.Act.{ordered}
@@ -9,8 +9,9 @@ use Rattle.nuttracking.specs.Tracking.{nothing_tracked, progress_of}
 use Rattle.nuttracking.proofs.PublicLaws.{nothing_is_sound, acts_keep_it_sound, first_in_first_out, the_last_are_kept, its_driver_settles_it_once}
 use Rattle.nutcore.proofs.Common.{option_map_or, flat_map-append, UpsId, TrackingState, Change, Event, Outcome, UpsState, ServerState, session, ups_at, after}
 use Rattle.nutcore.specs.declared.event.Event.TheVariants.{DriverBytes, Open, Feed, Took}
-use Rattle.nutcore.specs.Lines.{whole_lines}
-use Rattle.nutcore.specs.Reports.{OrderEnd, end_in, with_end, after_ends}
+use Rattle.nutwords.specs.WholeLines.{whole_lines}
+use Rattle.nutdriver.specs.Report.{OrderEnd, end_in}
+use Rattle.nutcore.specs.Reports.{with_end, after_ends}
 use Rattle.nutcore.specs.Reply.{changed_tracking}
 use Rattle.nutcore.specs.Pump.{notified}
 use Rattle.nutcore.specs.Step.{joined, with_input, taken_from, without_output, may_take, pumped_until, ticked, after_by, refused_after}
@@ -32,16 +33,15 @@ after_both t (x ∷ xs) ys = after_both (after_act t x) xs ys
 one_end : (place : ℕ) (o : Option OrderEnd) (t : TrackingState) → with_end place o t ≡ after_acts t (act_of_end place o)
 one_end place o t = grind arith
 
-all_ends : (place : ℕ) (lines : List (List ℕ)) (t : TrackingState) → after_ends place lines t ≡ after_acts t (flat_map (λ line. act_of_end place (end_in line)) lines)
-all_ends place [] t = refl
-all_ends place (line ∷ lines) t =
-    let first : List Act = act_of_end place (end_in line) in
-    let rest : List Act = flat_map (λ line. act_of_end place (end_in line)) lines in
-    ap (after_ends place lines) (one_end place (end_in line) t) ∙ all_ends place lines (after_acts t first) ∙ sym (after_both t first rest)
+abbrev acts_heard : ℕ → List Heard → List Act
+acts_heard place lines = flat_map (λ (x : Heard). act_of_end place (end_in x.line)) lines
 
-ends_heard : (m place : ℕ) (t : TrackingState) (lines : List (List ℕ)) → flat_map (λ (x : Heard). act_of_end place (end_in x.line)) (heard_at m place t lines) ≡ flat_map (λ line. act_of_end place (end_in line)) lines
+ends_heard : (m place : ℕ) (t : TrackingState) (lines : List (List ℕ)) → after_acts t (acts_heard place (heard_at m place t lines)) ≡ after_ends place lines t
 ends_heard m place t [] = refl
-ends_heard m place t (line ∷ lines) = ap (λ (z : List Act). act_of_end place (end_in line) ++ z) (ends_heard m place (with_end place (end_in line) t) lines)
+ends_heard m place t (line ∷ lines) =
+    let next : TrackingState = with_end place (end_in line) t in
+    let later : List Act = acts_heard place (heard_at m place next lines) in
+    after_both t (act_of_end place (end_in line)) later ∙ ap (λ (u : TrackingState). after_acts u later) (sym (one_end place (end_in line) t)) ∙ ends_heard m place next lines
 
 -- lines of a client
 change_acts : (change : Change) (t : TrackingState) → changed_tracking change t ≡ after_acts t (act_of_change change)
@@ -63,17 +63,16 @@ pump_acts d = record {
   by_notice = λ s long. by_change (λ t. t.tracking ≡ s.tracking) notified d s (λ x e. refl) (λ e. refl);
 }
 
+until_acts : (s from : ServerState) (d : ℕ) (m : Option ℕ) → from.tracking ≡ s.tracking → Acted s (executions_until from d m) (pumped_until from d m)
+until_acts s from d m same = until_keeps d Acted (pump_acts d) from m ∙ ap (λ (z : TrackingState). after_acts z (flat_map act_of (executions_until from d m))) same
+
 fed_acts : (s : ServerState) (d : ℕ) (piece : List ℕ) (m : Option ℕ) → Acted s (executions_until (with_input s d piece) d m) (pumped_until (with_input s d piece) d m)
 unfolding with_input
-fed_acts s d piece m =
-    until_keeps d Acted (pump_acts d) (with_input s d piece) m
-    ∙ ap (λ (z : TrackingState). after_acts z (flat_map act_of (executions_until (with_input s d piece) d m))) (by_change (λ t. t.tracking ≡ s.tracking) (joined piece) d s (λ x e. refl) (λ e. refl))
+fed_acts s d piece m = until_acts s (with_input s d piece) d m (by_change (λ t. t.tracking ≡ s.tracking) (joined piece) d s (λ x e. refl) (λ e. refl))
 
 took_acts : (s : ServerState) (d n : ℕ) (m : Option ℕ) (b : Bool) → Acted s (cond b (executions_until (without_output s d n) d m) []) (cond b (pumped_until (without_output s d n) d m) s)
 unfolding without_output
-took_acts s d n m true =
-    until_keeps d Acted (pump_acts d) (without_output s d n) m
-    ∙ ap (λ (z : TrackingState). after_acts z (flat_map act_of (executions_until (without_output s d n) d m))) (by_change (λ t. t.tracking ≡ s.tracking) (taken_from n) d s (λ x e. refl) (λ e. refl))
+took_acts s d n m true = until_acts s (without_output s d n) d m (by_change (λ t. t.tracking ≡ s.tracking) (taken_from n) d s (λ x e. refl) (λ e. refl))
 took_acts s d n m false = refl
 
 bytes_act : (s : ServerState) (u : UpsId) (piece : List ℕ) (o : Outcome) → after_acts s.tracking (acts_in_event s (DriverBytes u piece) o) ≡ after_ends u.place (lines_read u piece (refused_after o) s) s.tracking
@@ -84,7 +83,7 @@ bytes_act s u piece o = ap (λ (b : Bool). acted (cond (b && has_driver u s) (wh
     m = refused_after o
 
     acted : List Heard → TrackingState
-    acted lines = after_acts s.tracking (flat_map (λ (x : Heard). act_of_end u.place (end_in x.line)) lines)
+    acted lines = after_acts s.tracking (acts_heard u.place lines)
 
     unfinished : List ℕ
     unfinished = option_map_or (λ (x : UpsState). x.unfinished) (ups_at u.place s) []
@@ -92,16 +91,9 @@ bytes_act s u piece o = ap (λ (b : Bool). acted (cond (b && has_driver u s) (wh
     whole : List ℕ → List Heard
     whole text = heard_at s.moment u.place s.tracking (as_far m (whole_lines text))
 
-    by_connection : (x : UpsState) (b : Bool) → acted (cond b (whole (x.unfinished ++ piece)) []) ≡ after_ends u.place (cond b (as_far m (whole_lines (x.unfinished ++ piece))) []) s.tracking
-    by_connection x true =
-        let lines : List (List ℕ) = as_far m (whole_lines (x.unfinished ++ piece)) in
-        ap (after_acts s.tracking) (ends_heard s.moment u.place s.tracking lines) ∙ sym (all_ends u.place lines s.tracking)
-    by_connection x false = refl
-
     by_ups : (p : Option UpsState) → acted (cond (option_map_or (λ (x : UpsState). x.report.connected) p false) (whole (option_map_or (λ (x : UpsState). x.unfinished) p [] ++ piece)) [])
         ≡ after_ends u.place (option_map_or (λ (x : UpsState). cond x.report.connected (as_far m (whole_lines (x.unfinished ++ piece))) []) p []) s.tracking
-    by_ups None = refl
-    by_ups (Some x) = by_connection x x.report.connected
+    by_ups p = grind (arith, ends_heard)
 
 event_acts : (s : ServerState) (e : Event) (o : Outcome) → (after s e o).tracking ≡ after_acts s.tracking (acts_in_event s e o)
 unfolding after_by executions_by ticked

@@ -1,6 +1,6 @@
 -- The UPS at a place, and what a change of one UPS leaves of it and of the others.
 use Rattle.std.proofs.Common.{◌≡◌, ◌≢◌, ◌<◌, ◌∙◌, ℕ, zero, suc, true, false, eqb, List, [], ◌∷◌, Option, Some, None, refl, sym, ap, subst, length, set, get_or, arith, inl, inr}
-use Rattle.nutcore.proofs.Common.{slice_get, option_map_or, eqb-true, eqb-false, same_Some, slice_get_read, UpsId, UpsState, ServerState, ups_at, changed_at, with_ups_changed}
+use Rattle.nutcore.proofs.Common.{slice_get, option_map, option_map_or, eqb-true, eqb-false, same_Some, slice_get_read, UpsId, UpsState, ServerState, ups_at, changed_at, with_ups_changed}
 use Rattle.nutcore.specs.Promises.{OfUps}
 use Rattle.std.proofs.lemmas.Bool.{cases_Bool}
 
@@ -55,10 +55,13 @@ set_changed f zero (z ∷ xs) x y there e = ap (λ (w : UpsState). w ∷ xs) (e 
 set_changed f (suc i) (z ∷ xs) x y there e = ap (λ (zs : List UpsState). z ∷ zs) (set_changed f i xs x y there e)
 
 -- what stands there then, and elsewhere
+pub changed_there : (f : UpsState → UpsState) (p : ℕ) (xs : List UpsState) → slice_get (changed_at f p xs) p ≡ option_map f (slice_get xs p)
+changed_there f p [] = refl
+changed_there f zero (x ∷ xs) = refl
+changed_there f (suc p) (x ∷ xs) = changed_there f p xs
+
 pub at_changed : (f : UpsState → UpsState) (p : ℕ) (xs : List UpsState) (x : UpsState) → slice_get xs p ≡ Some x → slice_get (changed_at f p xs) p ≡ Some (f x)
-at_changed f p [] x e = cc e
-at_changed f zero (y ∷ xs) x e = ap (λ (z : UpsState). Some (f z)) (same_Some y x e)
-at_changed f (suc p) (y ∷ xs) x e = at_changed f p xs x e
+at_changed f p xs x e = changed_there f p xs ∙ ap (option_map f) e
 
 pub other_ups : (f : UpsState → UpsState) (p q : ℕ) (xs : List UpsState) → q ≢ p → slice_get (changed_at f p xs) q ≡ slice_get xs q
 other_ups f p q [] differ = refl

@@ -19,7 +19,7 @@ use Rattle.nutcore.specs.declared.deed.Verb.TheVariants as verbs
 use Rattle.nutcore.specs.declared.deed.TheConstants.{DEED_LIMIT}
 use Rattle.nutcore.specs.declared.event.Event.{Event}
 use Rattle.nutcore.specs.declared.event.Outcome.{Outcome}
-use Rattle.nutcore.specs.Lines.{first_line}
+use Rattle.nutwords.specs.SplitLine.{first_line}
 use Rattle.nutcore.specs.Ups.{UpsState}
 use Rattle.nutcore.specs.Server.{ServerState}
 use Rattle.nutcore.specs.Reply.{reply, change_by}

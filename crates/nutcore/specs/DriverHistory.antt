@@ -15,8 +15,9 @@ use Rattle.nutcore.specs.declared.event.Event.TheVariants.{DriverBytes}
 use Rattle.nutcore.specs.declared.event.Outcome.{Outcome}
 use Rattle.nutwords.specs.Text.{with_lf}
 use Rattle.nuttracking.specs.Tracking.{TrackingState}
-use Rattle.nutcore.specs.Lines.{whole_lines}
-use Rattle.nutcore.specs.Reports.{end_in, with_end, is_unawaited}
+use Rattle.nutwords.specs.WholeLines.{whole_lines}
+use Rattle.nutdriver.specs.Report.{end_in}
+use Rattle.nutcore.specs.Reports.{with_end, is_unawaited}
 use Rattle.nutcore.specs.Ups.{UpsState, greatest_count, is_refused}
 use Rattle.nutcore.specs.Server.{ServerState, ups_at}
 use Rattle.nutcore.specs.Step.{after, refused_after}

@@ -13,7 +13,7 @@ use Rattle.nutusers.specs.UpsList.{Ups, new_ups, id_at}
 use Rattle.nutusers.specs.Descriptions.{Descriptions, no_descriptions}
 use Rattle.nutusers.specs.Users.{User}
 use Rattle.nutusers.specs.declared.rights.Grant.TheVariants.{UpsmonSecondary}
-use Rattle.nutcore.specs.Lines.{whole_lines, unfinished_after, is_too_long}
+use Rattle.nutwords.specs.WholeLines.{whole_lines, unfinished_after, is_too_long}
 use Rattle.nutcore.specs.Ups.{new_ups as no_driver}
 use Rattle.nutcore.specs.Step.{after_by, outcome_of, wants_driver_memory}
 use Rattle.nutcore.specs.History.{owed, held, taken_in_event, is_over}

@@ -1,5 +1,4 @@
 pub mod Numbers
-pub mod Lines
 pub mod Reports
 pub mod Ups
 pub mod Session

@@ -16,19 +16,17 @@ use Rattle.nutanswer.specs.declared.reply.Change.TheVariants.{Nothing}
 use Rattle.nutanswer.specs.Orders.{order}
 use Rattle.nutlisting.specs.declared.outbox.TheConstants.{OWED_LIMIT}
 use Rattle.nutanswer.specs.Command.{read_command}
-use Rattle.nutlisting.specs.declared.ring.TheConstants.{RING_LIMIT}
-use Rattle.nutlisting.specs.Counts.{is_open, lines}
+use Rattle.nutlisting.specs.Counted.{KeepsCount}
+use Rattle.nutlisting.specs.Counts.{lines}
 use Rattle.nutlisting.specs.Lines.{IsWholeLine}
 use Rattle.nutlisting.specs.Items.{text_of, client_listing}
 use Rattle.nutanswer.specs.View.{Seen, AskerSeen, addresses_at}
 use Rattle.nutanswer.specs.declared.command.Command.{Command}
 use Rattle.nutanswer.specs.declared.err_word.ErrWord.{ErrWord}
 use Rattle.nutcore.specs.Session.{SessionState}
-use Rattle.nutcore.specs.Lines.{unfinished_after, is_too_long}
+use Rattle.nutwords.specs.WholeLines.{unfinished_after, is_too_long}
 use Rattle.nutdriver.specs.declared.report.LineOutcome.{LineOutcome}
-use Rattle.nutdriver.specs.declared.report.LineOutcome.TheVariants.{Tracked}
 use Rattle.nutdriver.specs.Report.{after_line}
-use Rattle.nutcore.specs.Reports.{OrderEnd}
 use Rattle.nutcore.specs.Ups.{UpsState, free_room, after_loss, with_unfinished}
 use Rattle.nutcore.specs.Step.{after_driver_line, after_driver_text, wants_driver_memory}
 use Rattle.nutusers.specs.declared.ups_list.UpsId.{UpsId}
@@ -78,11 +76,6 @@ DoesLine moment line old (Ok outcome) new =
 DoesLine moment line old (Err e) new =
     (line_changes old.report.tree line ≡ true)
     × (new ≡ record old { report = record old.report { heard = moment } })
-
--- What the outcome of a line says of an order.
-abbrev pub end_told : LineOutcome → Option OrderEnd
-end_told (Tracked id number) = Some (record { id = id; number = number })
-end_told _ = None
 
 -- What a driver's taking of n bytes leaves of its UPS: it took no more than it is owed, or nothing
 -- changed.
@@ -269,19 +262,7 @@ pub record ChangesUps {F R : Type 0}
   pub called : FnOnceReturnsAtMut g f before result after
   pub leaves : new ≡ with_ups_changed (λ x. after) u old
 
--- of what is offered now, so many bytes were there before; the lines of those after them are
--- counted, and none of these is unfinished while a line may be executed
-pub record IsCounted (kept : ℕ) (owed : List ℕ) (made : ℕ) : Type 0 where
-  pub within : kept ≤ length (take RING_LIMIT owed)
-  pub counted : made ≡ lines (drop kept (take RING_LIMIT owed))
-  pub ended : length owed ≤ OWED_LIMIT → is_open (drop kept (take RING_LIMIT owed)) ≡ false
-
--- where all were counted, all are
-abbrev pub KeepsCount : List ℕ → ℕ → List ℕ → ℕ → Type 0
-KeepsCount owed made owed' made' =
-    (kept : ℕ) → IsCounted kept owed made → IsCounted kept owed' made'
-
--- of this client
+-- where all lines were counted, all are, of what is offered to this client
 abbrev pub KeepsCost : ℕ → RunningServer → RunningServer → Type 0
 KeepsCost c old new =
     KeepsCount (owed c old.state) old.cost.rendered (owed c new.state) new.cost.rendered

@@ -9,7 +9,7 @@ use Rattle.nutanswer.specs.declared.command.Command.{Command}
 use Rattle.nutanswer.specs.declared.err_word.ErrWord.{ErrWord}
 use Rattle.nutanswer.specs.Command.{read_command}
 use Rattle.nutanswer.specs.Answer.{answer_to, shares_version}
-use Rattle.nutcore.specs.Lines.{first_line, rest_after}
+use Rattle.nutwords.specs.SplitLine.{first_line, rest_after}
 use Rattle.nutcore.specs.Session.{SessionState, begin_ending}
 use Rattle.nutcore.specs.Server.{ServerState, session, with_session_changed}
 use Rattle.nutcore.specs.Reply.{seen, asker, reply, after_change, too_long_notice}

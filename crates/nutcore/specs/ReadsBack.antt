@@ -1,15 +1,12 @@
 -- What a sound server lists is read back, by the grammar of lines (RFC 9271: LIST).
-use Rattle.std.specs.Prelude.{◌≡◌, ℕ, Bool, List, [], ◌∷◌, Option, Some, Ok, codes, map, filter}
+use Rattle.std.specs.Prelude.{◌≡◌, ℕ, List, [], ◌∷◌, Option, Some, Ok, codes, map, filter}
 use Rattle.std.specs.Prelude.{All, IsTrue}
-use Rattle.std.specs.Fmt.{signed_decimal}
-use Rattle.nutwords.specs.Listing.{ReadsAsLines, listing_words}
 use Rattle.nutwords.specs.Reading.{is_address}
-use Rattle.nutdriver.specs.declared.range.Range.{Range}
 use Rattle.nutdriver.specs.Variable.{VariableState}
 use Rattle.nutdriver.specs.Tree.{variable_at}
-use Rattle.nutusers.specs.UpsList.{Ups}
-use Rattle.nutlisting.specs.Shown.{shown, ups_description}
 use Rattle.nutlisting.specs.Items.{is_rw, command_item, client_item}
+use Rattle.nutlisting.specs.ReadsBack.{ReadsBack, variable_words, enum_words, range_words}
+use Rattle.nutlisting.specs.ReadsBack.{ups_words}
 use Rattle.nutanswer.specs.declared.command.Command.TheVariants.{ListUps, ListVar, ListRw, ListCmd}
 use Rattle.nutanswer.specs.declared.command.Command.TheVariants.{ListEnum, ListRange, ListClient}
 use Rattle.nutanswer.specs.Checks.{KnownUps, ups_named}
@@ -20,31 +17,6 @@ use Rattle.nutcore.specs.Reply.{seen, reply}
 use Rattle.nutcore.specs.Server.{ServerState}
 use Rattle.nutcore.specs.Session.{SessionState}
 use Rattle.nutcore.specs.Sound.{IsSound}
-
--- The words of an item, as they are meant: of a variable, with the value as clients see it, of an
--- enum value, of a range and of a UPS. Those of a command and of a client are written as they are
--- meant.
-abbrev pub variable_words : List ℕ → List ℕ → Bool → List ℕ × VariableState → List (List ℕ)
-variable_words word ups fsd entry = word ∷ ups ∷ entry.0 ∷ shown fsd entry.0 entry.1 ∷ []
-
-abbrev pub enum_words : List ℕ → List ℕ → List ℕ → List (List ℕ)
-enum_words ups name value = codes "ENUM" ∷ ups ∷ name ∷ value ∷ []
-
-abbrev pub range_words : List ℕ → List ℕ → Range → List (List ℕ)
-range_words ups name range =
-    codes "RANGE" ∷ ups ∷ name ∷ signed_decimal range.least ∷ signed_decimal range.greatest ∷ []
-
-abbrev pub ups_words : Ups → List (List ℕ)
-ups_words ups = codes "UPS" ∷ ups.name ∷ ups_description ups ∷ []
-
--- The text is whole lines, of which the first reads as BEGIN, LIST and what was asked for, the next
--- ones as the words of these items, in their order, and the last as END, LIST and what was asked
--- for. It reads as nothing else.
-pub record ReadsBack (text : List ℕ) (asked : List (List ℕ)) (items : List (List (List ℕ)))
-    : Type 0 where
-  pub reads : ReadsAsLines text (listing_words asked items)
-  pub only : (others : List (List (List ℕ))) → ReadsAsLines text others
-      → others ≡ listing_words asked items
 
 -- The address of the client is lawful, as each `Address` is.
 abbrev pub HasLawfulAddress : SessionState → Type 0

@@ -1,23 +1,7 @@
 -- What drivers report of how orders ended.
-use Rattle.std.specs.Prelude.{ℕ, Bool, false, not, List, [], ◌∷◌, Option, Some, None, Result, Ok}
+use Rattle.std.specs.Prelude.{ℕ, Bool, false, not, List, [], ◌∷◌, Option, Some, None}
 use Rattle.nuttracking.specs.Tracking.{TrackingState, is_awaited, with_report}
-use Rattle.nutdriver.specs.declared.fault.DriverFault.{DriverFault}
-use Rattle.nutdriver.specs.declared.line.DriverLine.{DriverLine}
-use Rattle.nutdriver.specs.declared.line.DriverLine.TheVariants.{Tracking}
-use Rattle.nutdriver.specs.DriverLine.{read_driver_line}
-
--- How an order ended: its id, and the number that its driver tells.
-pub record OrderEnd : Type 0 where
-  pub id : ℕ
-  pub number : ℕ
-
--- What a driver's line says of an order, if it is such a line.
-abbrev pub end_read : Result DriverLine DriverFault → Option OrderEnd
-end_read (Ok (Tracking id number)) = Some (record { id = id; number = number })
-end_read _ = None
-
-abbrev pub end_in : List ℕ → Option OrderEnd
-end_in line = end_read (read_driver_line line)
+use Rattle.nutdriver.specs.Report.{OrderEnd, end_in}
 
 -- The orders once the driver of the UPS at this place has told that: the one that waits for it is
 -- done.

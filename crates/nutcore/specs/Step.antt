@@ -21,8 +21,9 @@ use Rattle.nuttracking.specs.declared.tracking.IdFault.{IdFault}
 use Rattle.nuttracking.specs.declared.tracking.IdFault.TheVariants.{Known, TooMany}
 use Rattle.nuttracking.specs.Tracking.{id_fault, with_id}
 use Rattle.nutcore.specs.Session.{SessionState, new_session, without}
-use Rattle.nutcore.specs.Lines.{whole_lines, unfinished_after, is_too_long}
-use Rattle.nutcore.specs.Reports.{end_in, with_end, is_unawaited}
+use Rattle.nutwords.specs.WholeLines.{whole_lines, unfinished_after, is_too_long}
+use Rattle.nutdriver.specs.Report.{end_in}
+use Rattle.nutcore.specs.Reports.{with_end, is_unawaited}
 use Rattle.nutcore.specs.Ups.{UpsState, after_connecting, after_loss, after_tick, after_text}
 use Rattle.nutcore.specs.Ups.{with_unfinished, wants_memory_for}
 use Rattle.nutcore.specs.Server.{ServerState, session, with_session_changed, ups_at}

@@ -1,6 +1,8 @@
 -- The whole server in numbers: the sums of what its sessions and its UPSs have.
-use Rattle.std.specs.Prelude.{◌≤◌, ◌+◌, ◌*◌, ℕ, Bool, List, [], ◌∷◌, Some, length, count_by}
+use Rattle.std.specs.Prelude.{◌≤◌, ◌+◌, ◌*◌, ℕ, Bool, Some, length, count_by}
 use Rattle.std.specs.Prelude.{nat_lt}
+use Rattle.std.specs.List.{sum_by}
+use Rattle.std.specs.Map.{values_of}
 use Rattle.nutwords.specs.declared.limits.TheConstants.{LINE_LIMIT}
 use Rattle.nutlisting.specs.declared.ring.TheConstants.{RING_LIMIT}
 use Rattle.nutlisting.specs.declared.listing.clients.TheConstants.{SESSION_LIMIT}
@@ -15,11 +17,6 @@ use Rattle.nutcore.specs.Server.{ServerState}
 use Rattle.nutcore.specs.Step.{offered}
 use Rattle.nutcore.specs.Sound.{IsSound}
 
--- The sum of their sizes.
-abbrev pub total : {A : Type 0} → (A → ℕ) → List A → ℕ
-total size [] = 0
-total size (x ∷ xs) = size x + total size xs
-
 -- How many variables and commands a UPS has, and how many enum values and ranges its variables.
 abbrev pub variables_of : UpsState → ℕ
 variables_of x = length x.report.tree.variables
@@ -28,12 +25,12 @@ abbrev pub commands_of : UpsState → ℕ
 commands_of x = length x.report.tree.commands
 
 abbrev pub enum_values_of : UpsState → ℕ
-enum_values_of x = total (λ (entry : List ℕ × VariableState). length entry.1.enum_values)
-    x.report.tree.variables
+enum_values_of x =
+    sum_by (λ (v : VariableState). length v.enum_values) (values_of x.report.tree.variables)
 
 abbrev pub ranges_of : UpsState → ℕ
-ranges_of x = total (λ (entry : List ℕ × VariableState). length entry.1.ranges)
-    x.report.tree.variables
+ranges_of x =
+    sum_by (λ (v : VariableState). length v.ranges) (values_of x.report.tree.variables)
 
 -- The session is owed more than is offered to it: a listing goes on, which has a version of what it
 -- lists.
@@ -48,16 +45,16 @@ versions_alive s = length s.upses + count_by listing_goes_on s.sessions
 -- UPSs are owed so many, and have so many unfinished; all their trees together have so many
 -- entries; and there are so many versions of trees.
 pub record IsBoundedInAll (s : ServerState) : Type 0 where
-  pub held : total (λ (x : SessionState). length x.held) s.sessions ≤ SESSION_LIMIT * HELD_LIMIT
-  pub offered : total (λ (x : SessionState). length (offered (Some x))) s.sessions
+  pub held : sum_by (λ (x : SessionState). length x.held) s.sessions ≤ SESSION_LIMIT * HELD_LIMIT
+  pub offered : sum_by (λ (x : SessionState). length (offered (Some x))) s.sessions
       ≤ SESSION_LIMIT * RING_LIMIT
-  pub owed_to_drivers : total (λ (x : UpsState). length x.owed) s.upses
+  pub owed_to_drivers : sum_by (λ (x : UpsState). length x.owed) s.upses
       ≤ UPS_LIMIT * DRIVER_OWED_LIMIT
-  pub unfinished : total (λ (x : UpsState). length x.unfinished) s.upses ≤ UPS_LIMIT * LINE_LIMIT
-  pub variables : total variables_of s.upses ≤ UPS_LIMIT * VARIABLE_LIMIT
-  pub commands : total commands_of s.upses ≤ UPS_LIMIT * COMMAND_LIMIT
-  pub enum_values : total enum_values_of s.upses ≤ UPS_LIMIT * (VARIABLE_LIMIT * ENUM_LIMIT)
-  pub ranges : total ranges_of s.upses ≤ UPS_LIMIT * (VARIABLE_LIMIT * RANGE_LIMIT)
+  pub unfinished : sum_by (λ (x : UpsState). length x.unfinished) s.upses ≤ UPS_LIMIT * LINE_LIMIT
+  pub variables : sum_by variables_of s.upses ≤ UPS_LIMIT * VARIABLE_LIMIT
+  pub commands : sum_by commands_of s.upses ≤ UPS_LIMIT * COMMAND_LIMIT
+  pub enum_values : sum_by enum_values_of s.upses ≤ UPS_LIMIT * (VARIABLE_LIMIT * ENUM_LIMIT)
+  pub ranges : sum_by ranges_of s.upses ≤ UPS_LIMIT * (VARIABLE_LIMIT * RANGE_LIMIT)
   pub versions : versions_alive s ≤ UPS_LIMIT + SESSION_LIMIT
 
 -- Of every sound server, as each server is.

@@ -15,7 +15,7 @@ use Rattle.nutanswer.specs.Command.{read_command}
 use Rattle.nutcore.specs.declared.event.Event.{Event}
 use Rattle.nutcore.specs.declared.event.Event.TheVariants.{DriverBytes, Id}
 use Rattle.nutcore.specs.declared.event.Outcome.{Outcome}
-use Rattle.nutcore.specs.Reports.{OrderEnd, end_in}
+use Rattle.nutdriver.specs.Report.{OrderEnd, end_in}
 use Rattle.nutcore.specs.Reply.{change_by}
 use Rattle.nutcore.specs.Server.{ServerState}
 use Rattle.nutcore.specs.Step.{after}

@@ -8,7 +8,8 @@ use Rattle.nutdriver.specs.declared.report.LineOutcome.{LineOutcome}
 use Rattle.nutdriver.specs.declared.report.LineOutcome.TheVariants.{Accepted, Tracked, Refused}
 use Rattle.nutdriver.specs.Report.{lost_report, connected_report, after_line, line_changes}
 use Rattle.nuttracking.specs.Tracking.{TrackingState}
-use Rattle.nutcore.specs.Reports.{end_in, with_end, is_unawaited}
+use Rattle.nutdriver.specs.Report.{end_in}
+use Rattle.nutcore.specs.Reports.{with_end, is_unawaited}
 
 -- report: what its driver has reported. pinged: the moment of the last PING to it, in seconds. fsd:
 -- a forced shutdown is set. owed: what the driver is still to be sent. unfinished: what came of its

@@ -1,8 +1,10 @@
 //! What clients did that is told beside its answer: forced shutdowns, orders to drivers, and what
 //! was refused.
-ghost use Rattle.std.specs.Prelude.{◌≡◌, ◌≤◌, ◌++◌, [], ◌∷◌, length, take, true, if◌then◌else◌, IfOk, None};
+ghost use Rattle.std.specs.Prelude.{◌≡◌, ◌≤◌, ◌++◌, [], ◌∷◌, length, take, true, if◌then◌else◌, IfOk, None, List, vec_capacity};
 ghost use Rattle.nutcore.specs.Deeds.{is_refusal, refusal_in, deed_of_command};
 ghost use Rattle.nutcore.specs.Promises.{deed_in_reply, with_deed};
+ghost use Rattle.nutcore.specs.declared.deed.Deed.{Deed};
+ghost use Rattle.nutcore.specs.declared.deed.TheConstants.{DEED_LIMIT};
 
 use crate::HELD_LIMIT;
 use crate::event::ClientId;
@@ -59,10 +61,6 @@ pub(crate) struct Deeds {
 }
 
 impl Model for Deeds {
-    ghost use Rattle.std.specs.Prelude.{List, ◌≤◌, length, vec_capacity};
-    ghost use Rattle.nutcore.specs.declared.deed.Deed.{Deed};
-    ghost use Rattle.nutcore.specs.declared.deed.TheConstants.{DEED_LIMIT};
-
     ghost Value = { List Deed };
 
     ghost view = { λ d. d.noted.items };

@@ -1,5 +1,6 @@
 //! Events, what is answered to them, and why one is refused.
 ghost use Rattle.std.specs.Prelude.{◌≡◌};
+ghost use Rattle.nutcore.specs.Numbers.{number_of_fault};
 
 use nutusers::UpsId;
 use nutwords::{Address, Bytes};
@@ -79,8 +80,6 @@ pub enum Fault {
 }
 
 impl Fault {
-    ghost use Rattle.nutcore.specs.Numbers.{number_of_fault};
-
     /// The fault's number, from 1.
     pub fn number(self) -> u8
         ensures { result ≡ number_of_fault self }

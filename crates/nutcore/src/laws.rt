@@ -16,7 +16,6 @@ ghost use Rattle.nutcore.specs.Taking.{WhoTakesGetsEverything, WhoTakesAmongOthe
 ghost use Rattle.nutcore.specs.NotStuck.{WhoIsOwedLittleHasRoom, WhoEndsIsFinished};
 ghost use Rattle.nutcore.specs.Totals.{AServerIsBoundedInAll};
 ghost use Rattle.nutcore.specs.TakingSome.{WhoTakesSomeGetsEverything};
-ghost use Rattle.nutcore.specs.Lines.{WholeLinesAreTheCut};
 ghost use Rattle.nutcore.specs.DriverHistory.{WhatADriverToldIsExecuted};
 ghost use Rattle.nutcore.specs.DriverRuns.{WhatCameSinceConnectingIsExecuted, ALostDriversLinesAreABeginning, WhichLinesAreRefused, RefusedLinesAreCounted, ANewServerCountsAllRefusedLines};
 ghost use Rattle.nutcore.specs.FreshRuns.{TheMomentIsTheGreatestTick, WhateverIsToldIsFresh, WhatADriverSetLastIsHeld};
@@ -33,15 +32,16 @@ use nutdriver::laws::{
     each_line_keeps_the_tree_sound, lawful_lines_keep_trees_sound, read_lines_are_lawful,
     the_last_line_on_a_variable_decides_it,
 };
-use nutwords::laws::listing_is_read_back;
 
 /// Over every run, what each client was sent, followed by what it is still owed, is exactly the
 /// answers to its executed lines, in order.
+#[tactic(auto, using(crate::proofs::Stepping::run_sent))]
 pub fn what_was_sent_and_is_owed_is_the_answers()
     ensures { WhatWasSentAndIsOwedIsTheAnswers }
 {}
 
 /// Over every run, what each client asked is executed in order, or still held.
+#[tactic(auto, using(crate::proofs::Stepping::run_taken_up))]
 pub fn what_was_asked_is_executed_or_held()
     ensures { WhatWasAskedIsExecutedOrHeld }
 {}
@@ -49,26 +49,31 @@ pub fn what_was_asked_is_executed_or_held()
 /// Each answer of a run is the reply to its line on the server of that point of that run: the one to which the run's own
 /// beginning leads, and on which the line was the next to be executed. Each notice is joined at the end of its pump, where
 /// its client holds as many bytes as it may, no LF among them.
+#[tactic(auto, using(crate::proofs::Executions::each_answer_timely))]
 pub fn each_answer_is_timely()
     ensures { EachAnswerIsTimely }
 {}
 
 /// After a feed or a take that isn't refused its client holds no line that may be executed.
+#[tactic(auto, using(crate::proofs::Least::nothing_left))]
 pub fn nothing_is_left_to_execute()
     ensures { NothingIsLeftToExecute }
 {}
 
 /// A line is executed only while at most 4,096 bytes are owed to its client, and its answer is joined after them.
+#[tactic(auto, using(crate::proofs::Least::one_answer_above))]
 pub fn one_answer_at_most_is_owed_above()
     ensures { OneAnswerAtMostIsOwedAbove }
 {}
 
 /// A listing is the frame of exactly the variables that the UPS holds when its line is executed.
+#[tactic(auto, using(crate::proofs::HeldFrames::listing_is_held))]
 pub fn a_listing_is_what_is_held()
     ensures { AListingIsWhatIsHeld }
 {}
 
 /// A whole line that is refused changes nothing but its own session's held and owed bytes.
+#[tactic(auto, using(crate::proofs::HeldFrames::refused_line))]
 pub fn a_refused_line_changes_nothing()
     ensures { ARefusedLineChangesNothing }
 {
@@ -78,29 +83,34 @@ pub fn a_refused_line_changes_nothing()
 /// A forced shutdown is set only by right: where it is set after a run and wasn't before, one of the
 /// lines that the run executed was `FSD` of that UPS, answered `OK FSD-SET`, of a session that had
 /// given the name and the password of a user who has the right.
+#[tactic(auto, using(crate::proofs::ShutdownMarks::shutdowns))]
 pub fn a_forced_shutdown_is_set_by_right()
     ensures { AForcedShutdownIsSetByRight }
 {}
 
 /// The same of a login: it comes of the client's own `LOGIN`, answered `OK`, with the right.
+#[tactic(auto, using(crate::proofs::SessionMarks::logins))]
 pub fn a_login_is_by_right()
     ensures { ALoginIsByRight }
 {}
 
 /// The user name and the password with which a line is executed were given by lines of its client, `USERNAME` and
 /// `PASSWORD`, each answered `OK`, which the run executed before it.
+#[tactic(auto, using(crate::proofs::SessionMarks::given_before))]
 pub fn credentials_are_given_by_lines()
     ensures { CredentialsAreGivenByLines }
 {}
 
 /// `GET NUMLOGINS` and `GET NUMATTACH` tell how many of the open sessions are logged in to the UPS, and `LIST CLIENT` lists
 /// exactly these, in the order of opening.
+#[tactic(auto, using(crate::proofs::LoginCount::who_is_there))]
 pub fn what_is_counted_is_who_is_there()
     ensures { WhatIsCountedIsWhoIsThere }
 {}
 
 /// A session that was opened holds nothing and is owed nothing; and where such a one, which isn't ending, is fed one line of
 /// at most 2,047 bytes and memory is there, it is owed exactly the reply to that line, and holds nothing.
+#[tactic(auto, using(crate::proofs::Waiting::line_answered))]
 pub fn a_line_is_answered()
     ensures { ALineIsAnswered }
 {}
@@ -108,6 +118,7 @@ pub fn a_line_is_answered()
 /// One client, whatever others do: where what joined its held input in a run is one line, and in the end it holds nothing, is
 /// owed nothing and isn't over, the run executed that line for it, and no other, and what the client took is exactly the
 /// reply to it.
+#[tactic(auto, using(crate::proofs::Alone::one_line_answered))]
 pub fn one_line_is_answered()
     ensures { OneLineIsAnswered }
 {}
@@ -115,6 +126,7 @@ pub fn one_line_is_answered()
 /// Over every run, a user name and a password that a session gave stay as they were given, and so does its login up to the
 /// session's end; a session that ends goes on ending, and is owed no more than what was left; a closed session is never there
 /// again, and ids rise; a forced shutdown stays set.
+#[tactic(auto, using(crate::proofs::Lasting::never_back))]
 pub fn what_never_goes_back()
     ensures { WhatNeverGoesBack }
 {}
@@ -127,12 +139,14 @@ pub fn who_is_over_is_asked_no_more()
 
 /// The ids that a run gives to new sessions rise, from the next one of its first server on: none is given twice, and none
 /// comes back.
+#[tactic(auto, using(crate::proofs::Endings::ids_rise))]
 pub fn ids_that_are_given_rise()
     ensures { IdsThatAreGivenRise }
 {}
 
 /// A forced shutdown that is granted is set: where one of the lines that a run executed was `FSD` of a UPS, answered
 /// `OK FSD-SET`, of a user with the right, the UPS's forced shutdown is set after the run.
+#[tactic(auto, using(crate::proofs::Endings::granted_is_set))]
 pub fn a_granted_shutdown_is_set()
     ensures { AGrantedShutdownIsSet }
 {}
@@ -161,12 +175,14 @@ pub fn every_server_is_sound()
 /// Of a sound server, each listing is the frame of exactly what the server holds, each once in its order: variables, those
 /// of them that clients may set, commands and UPSs by their names, which strictly rise; enum values and ranges as they were
 /// added. Whatever is told of a UPS stands in a sound tree.
+#[tactic(auto, using(crate::proofs::Listed::listed_once))]
 pub fn each_is_listed_once()
     ensures { EachIsListedOnce }
 {}
 
 /// An item is there exactly where the server holds it: a look-up finds what is listed, and nothing else. `GET VAR` is
 /// answered by the line of the item that `LIST VAR` has, where it has one, and else refused.
+#[tactic(auto, using(crate::proofs::Listed::listed_is_held))]
 pub fn what_is_listed_is_what_is_held()
     ensures { WhatIsListedIsWhatIsHeld }
 {}
@@ -174,15 +190,15 @@ pub fn what_is_listed_is_what_is_held()
 /// What a sound server lists is read back: the text that answers LIST UPS, VAR, RW, CMD, ENUM or RANGE reads, by the
 /// grammar of lines, as BEGIN with the words of the listing, then each item's words, in their order, then END with the
 /// words of the listing, and as nothing else. So does LIST CLIENT where the addresses of its clients are lawful.
+#[tactic(auto, using(crate::proofs::ReadsBack::listings_read_back))]
 pub fn each_listing_reads_back()
     ensures { EachListingReadsBack }
-{
-    listing_is_read_back();
-}
+{}
 
 /// Over every run whose sessions are opened from lawful addresses, as each `Address` is, the addresses of a server's
 /// sessions stay lawful; a new server has none. So the premise of the listings of clients holds. The list of UPSs is never
 /// changed.
+#[tactic(auto, using(crate::proofs::Addresses::new_addresses_lawful, crate::proofs::Addresses::run_addresses_lawful, crate::proofs::Addresses::run_keeps_list))]
 pub fn addresses_are_lawful()
     ensures opening { ANewServerHasLawfulAddresses }
     ensures run { EveryRunKeepsAddressesLawful }
@@ -201,15 +217,10 @@ pub fn the_answers_of_a_run_are_cut_in_one_way()
     read_lines_are_lawful();
 }
 
-/// The whole lines of what a driver reported, and what is after them, are those into which each text is cut, and of which it
-/// has one list alone.
-pub fn whole_lines_are_the_cut()
-    ensures { WholeLinesAreTheCut }
-{}
-
 /// The drivers' half: while a driver isn't lost, what was unfinished of it, followed by all that came from it in a run, is
 /// its executed lines, followed by what is unfinished; its report is what these lines made of it, in order, each at its
 /// moment; and its count of refused lines grows by those of them that are refused, up to its greatest number.
+#[tactic(auto, using(crate::proofs::DriverRuns::told_is_executed))]
 pub fn what_a_driver_told_is_executed()
     ensures { WhatADriverToldIsExecuted }
 {}
@@ -229,6 +240,7 @@ pub fn what_came_since_connecting_is_executed()
 /// and then it changes nothing but the moment at which the driver was heard. How many of the lines that a run executed for
 /// a UPS are refused is what its count grows by, over all connections, up to its greatest number: no connection and no
 /// loss begins it anew. From `Server::new` on they are the count.
+#[tactic(auto, using(crate::proofs::DriverRuns::which_are_refused, crate::proofs::DriverRuns::refused_are_counted, crate::proofs::DriverRuns::new_counts_all))]
 pub fn refused_lines_are_counted()
     ensures which { WhichLinesAreRefused }
     ensures run { RefusedLinesAreCounted }
@@ -239,6 +251,7 @@ pub fn refused_lines_are_counted()
 /// them, or gives its driver an order, and isn't answered by `ERR`, then at that moment the driver was connected, since an
 /// event of the run, had reported all that it knows, said that its data are right, and its last whole line had come at a
 /// moment at most the greatest age before the greatest tick so far, which is the moment of the server.
+#[tactic(auto, using(crate::proofs::FreshRuns::moment_is_greatest_tick, crate::proofs::FreshRuns::whatever_is_told_is_fresh))]
 pub fn whatever_is_told_is_fresh()
     ensures fresh { WhateverIsToldIsFresh }
     ensures moment { TheMomentIsTheGreatestTick }
@@ -249,6 +262,7 @@ pub fn whatever_is_told_is_fresh()
 
 /// What the driver of a UPS set last is what the UPS holds: of those of its lines since it connected that were done, the last
 /// one that gave a variable its value, or took it away, decides it.
+#[tactic(auto, using(crate::proofs::FreshRuns::set_last_is_held))]
 pub fn what_a_driver_set_last_is_held()
     ensures { WhatADriverSetLastIsHeld }
 {
@@ -258,6 +272,7 @@ pub fn what_a_driver_set_last_is_held()
 /// The other half: over every run, what the driver of a UPS was owed, followed by what its connections (`DUMPALL`), the
 /// lines that were executed (orders) and the ticks (`PING`) told it, in their order, is what was taken for it, followed by
 /// what it is owed. A driver that is lost was sent a beginning of that, and the next connection begins with nothing owed.
+#[tactic(auto, using(crate::proofs::DriverRuns::sent_to_drivers))]
 pub fn what_a_driver_was_sent_and_is_owed()
     ensures { WhatADriverWasSentAndIsOwedIsWhatItWasTold }
 {
@@ -268,11 +283,13 @@ pub fn what_a_driver_was_sent_and_is_owed()
 /// by right, one each, in their order. Such a line is `SET VAR` or `INSTCMD` of that UPS, answered `OK`, of a session that
 /// had given the name and the password of a user with the right to it; and at that moment the UPS was usable, and had the
 /// variable, which clients may set and which may have the value, or the command.
+#[tactic(auto, using(crate::proofs::OrdersByRight::orders_by_right))]
 pub fn each_order_is_by_right()
     ensures { EachOrderIsByRight }
 {}
 
 /// The orders that a run told the driver of a UPS are what the lines that it executed tell that driver, in their order.
+#[tactic(auto, using(crate::proofs::OrdersByRight::run_orders))]
 pub fn the_orders_told_are_those_of_the_lines()
     ensures { TheOrdersToldAreThoseOfTheLines }
 {}
@@ -289,11 +306,13 @@ pub fn each_run_tracks_its_orders()
 
 /// Whatever a run tells a driver is whole lines: `DUMPALL`, `PING`, `SET name "value"`, `INSTCMD name` or
 /// `INSTCMD name "value"`, of a tracked order with `TRACKING` and its id behind it, of lawful names and values, each of at most 2,047 lawful bytes without an LF, and its LF.
+#[tactic(auto, using(crate::proofs::TellingLines::run_tells))]
 pub fn each_telling_is_a_whole_line()
     ensures { EachTellingIsAWholeLine }
 {}
 
 /// The pump executes the least number of lines after which it stops.
+#[tactic(auto, using(crate::proofs::Least::pump_least))]
 pub fn the_pump_executes_the_least()
     ensures { ThePumpExecutesTheLeast }
 {}
@@ -309,6 +328,7 @@ pub fn each_event_is_bounded()
 /// there, after which the client is owed nothing, and no line of it is held that may be executed. There are at most one for
 /// each 8,192 bytes of what is owed and is answered, one for each line that is executed, and one more; and no more lines
 /// are executed than bytes were held. So many takes are enough too where drivers and other clients do anything between.
+#[tactic(auto, using(crate::proofs::Taking::gets_everything, crate::proofs::TakingAmongOthers::among_others))]
 pub fn who_takes_gets_everything()
     ensures alone { WhoTakesGetsEverything }
     ensures among_others { WhoTakesAmongOthersGetsEverything }
@@ -358,6 +378,7 @@ pub fn a_client_touches_no_other()
 /// Nobody's answers depend on how slowly others read, or on the pieces in which their lines come. Two runs in which the same
 /// happens, the same lines are executed and the same events of drivers, time, openings and closings come, in the same order,
 /// from servers that differ at most in what is held and owed, give every client the same answers, and lead to such servers.
+#[tactic(auto, using(crate::proofs::Happenings::answers_of_happenings))]
 pub fn answers_come_of_what_happens()
     ensures { AnswersComeOfWhatHappens }
 {}
@@ -369,6 +390,7 @@ pub fn a_quiet_take_changes_what_is_owed_alone()
 
 /// What is answered to a line, and what it changes, comes of what is seen of the server and of the session that asks: no
 /// session's held or owed bytes, and no other one's name or password, are among that.
+#[tactic(auto, using(crate::proofs::Happenings::reply_of_seen))]
 pub fn a_reply_comes_of_what_is_seen()
     ensures { AReplyComesOfWhatIsSeen }
 {}
@@ -385,6 +407,7 @@ pub fn a_refused_event_changes_nothing()
 {}
 
 /// Nor does such an event cost anything.
+#[tactic(auto, using(crate::proofs::Isolation::refused_free))]
 pub fn a_refused_event_costs_nothing()
     ensures { ARefusedEventCostsNothing }
 {}

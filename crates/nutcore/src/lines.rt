@@ -1,6 +1,6 @@
 //! Lines: in a run of bytes, and as they are read.
 ghost use Rattle.std.specs.Prelude.{◌≡◌, ◌≤◌, ◌<◌, drop, take, vec_len, vec_capacity, length, MatchOption, None, Some};
-ghost use Rattle.nutcore.specs.Lines.{first_line};
+ghost use Rattle.nutwords.specs.SplitLine.{first_line};
 
 use bstr::ByteSlice;
 use nutanswer::{Command, ErrWord};
@@ -9,6 +9,7 @@ use nutanswer::{Command, ErrWord};
 pub(crate) type ReadLine<'a> = Result<Option<Command<'a>>, ErrWord>;
 
 /// Where the first whole line ends.
+#[tactic(auto, using(nutwords::proofs::PublicLaws::first_lf_ends_the_first_line))]
 pub(crate) fn line_end(bytes: &[u8]) -> Option<usize>
     ensures { MatchOption result (first_line bytes.now ≡ None)
         (λ end. (end < length bytes.now) × (first_line bytes.now ≡ Some (take end bytes.now))) }

@@ -1,5 +1,7 @@
 //! How old what a driver reported may be.
-ghost use Rattle.std.specs.Prelude.{◌≡◌};
+ghost use Rattle.std.specs.Prelude.{◌≡◌, ℕ, ◌≤◌};
+ghost use Rattle.nutcore.specs.declared.max_age.TheConstants.{MAX_AGE_LEAST, MAX_AGE_MOST};
+ghost use Rattle.nutcore.specs.Server.{read_max_age};
 
 use std::marker::Model;
 
@@ -19,9 +21,6 @@ pub struct MaxAge {
 }
 
 impl Model for MaxAge {
-    ghost use Rattle.std.specs.Prelude.{ℕ, ◌≤◌};
-    ghost use Rattle.nutcore.specs.declared.max_age.TheConstants.{MAX_AGE_LEAST, MAX_AGE_MOST};
-
     ghost Value = { ℕ };
 
     ghost view = { λ m. m.seconds };
@@ -32,8 +31,6 @@ impl Model for MaxAge {
 }
 
 impl MaxAge {
-    ghost use Rattle.nutcore.specs.Server.{read_max_age};
-
     /// Takes from 3 to 86,400 seconds, and nothing else.
     pub fn read(seconds: u32) -> Option<MaxAge>
         ensures { result ≡ read_max_age seconds }

@@ -1,8 +1,8 @@
 //! One session: what it holds of its client's input, and what it owes.
-ghost use Rattle.std.specs.Prelude.{◌≡◌, ◌≤◌, ◌<◌, ◌-◌, ◌++◌, ℕ, List, length, take, IfOk, true, false, Some, None, [], ◌∷◌, if◌then◌else◌};
+ghost use Rattle.std.specs.Prelude.{◌≡◌, ◌≤◌, ◌<◌, ◌-◌, ◌++◌, ℕ, List, length, take, IfOk, true, false, Some, None, [], ◌∷◌, if◌then◌else◌, drop, vec_capacity, vec_len};
 ghost use Rattle.std.specs.Option.{option_map};
-ghost use Rattle.nutcore.specs.Session.{new_session, begin_ending};
-ghost use Rattle.nutcore.specs.Lines.{first_line};
+ghost use Rattle.nutcore.specs.Session.{new_session, begin_ending, SessionState};
+ghost use Rattle.nutwords.specs.SplitLine.{first_line};
 ghost use Rattle.nutcore.specs.Pump.{next_line, answered, holds_overlong, with_notice};
 ghost use Rattle.nutcore.specs.Step.{joined, accepted, taken_from};
 ghost use Rattle.nutlisting.specs.Items.{text_of, client_listing};
@@ -14,9 +14,11 @@ ghost use Rattle.nutlisting.specs.declared.outbox.TheConstants.{OWED_LIMIT};
 ghost use Rattle.nutlisting.specs.declared.ring.TheConstants.{RING_LIMIT};
 ghost use Rattle.nutwords.specs.declared.limits.TheConstants.{LINE_LIMIT};
 ghost use Rattle.nutcore.specs.Calls.{is_finished, room_of, IsOutboxOf};
-ghost use Rattle.nutcore.specs.Promises.{IsLineOrNone, IsShort, text_with, change_in, refused_overlong, IsCounted, KeepsCount};
+ghost use Rattle.nutlisting.specs.Counted.{IsCounted, KeepsCount};
+ghost use Rattle.nutcore.specs.Promises.{IsLineOrNone, IsShort, text_with, change_in, refused_overlong};
 ghost use Rattle.nutcore.specs.Reply.{asker_of, seen_client, changed_session};
 ghost use Rattle.nutanswer.specs.View.{asker_seen, is_logged_in, addresses_at};
+ghost use Rattle.nutlisting.specs.Owed.{owed};
 
 use crate::HELD_LIMIT;
 use crate::event::Fault;
@@ -47,11 +49,6 @@ pub(crate) struct Session {
 }
 
 impl Model for Session {
-    ghost use Rattle.std.specs.Prelude.{◌≤◌, drop, vec_capacity, vec_len};
-    ghost use Rattle.nutcore.specs.declared.TheConstants.{HELD_LIMIT};
-    ghost use Rattle.nutlisting.specs.Owed.{owed};
-    ghost use Rattle.nutcore.specs.Session.{SessionState};
-
     ghost Value = { SessionState };
 
     ghost view = { λ s. record { id = s.id; address = s.address; held = drop s.executed s.held.items; owed = owed s.outbox; username = s.username; password = s.password; login = s.login; ending = s.ending; tracking = s.tracking } };
@@ -266,6 +263,7 @@ impl Session {
     }
 
     /// Takes the first line, which ends there.
+    #[tactic(auto, using(crate::proofs::Pumping::ends_within))]
     fn take_line(&mut self, end: usize)
         requires { option_map length (first_line self.old.held) ≡ Some end }
         ensures taken { (line : List ℕ) → first_line self.old.held ≡ Some line
@@ -335,6 +333,7 @@ impl Session {
     }
 
     /// What it owes, as a ring and a cursor.
+    #[tactic(auto, using(nutlisting::proofs::PublicLaws::what_is_offered_is_the_ring))]
     pub(crate) fn outbox(&self) -> &Outbox
         ensures { IsOutboxOf self.now.owed result.now }
     {

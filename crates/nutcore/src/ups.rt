@@ -1,6 +1,6 @@
 //! A UPS as the server keeps it: its driver's connection, and what the driver reported.
 ghost use Rattle.std.specs.Prelude.{◌≡◌, ◌≤◌, length};
-ghost use Rattle.nutcore.specs.Ups.{new_ups, after_connecting, after_loss, after_tick, with_fsd, free_room, with_order, with_faulty_line};
+ghost use Rattle.nutcore.specs.Ups.{new_ups, after_connecting, after_loss, after_tick, with_fsd, free_room, with_order, with_faulty_line, UpsState};
 ghost use Rattle.nutanswer.specs.View.{ups_seen};
 ghost use Rattle.nutcore.specs.Reply.{seen_ups};
 ghost use Rattle.nutcore.specs.Promises.{IsTaken, IsCut, DoesLine, IsFront, front_or};
@@ -31,8 +31,6 @@ pub(crate) struct Ups {
 }
 
 impl Model for Ups {
-    ghost use Rattle.nutcore.specs.Ups.{UpsState};
-
     ghost Value = { UpsState };
 
     ghost view = { λ u. record { report = u.report; pinged = u.pinged; fsd = u.fsd; owed = u.owed.items; unfinished = u.cut; faulty = u.faulty } };

@@ -6,3 +6,4 @@ pub mod LineLemmas
 pub mod ToldNumbers
 pub mod AddingOrder
 mod LastLine
+pub mod PublicLaws

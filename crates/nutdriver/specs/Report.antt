@@ -1,8 +1,9 @@
 -- What a driver has reported, and what a whole line of it does to that.
-use Rattle.std.specs.Prelude.{◌≤◌, ⊤, ℕ, Bool, true, false, List, [], ◌∷◌, Result, Ok}
-use Rattle.std.specs.Prelude.{Err}
+use Rattle.std.specs.Prelude.{◌≡◌, ◌≤◌, ⊤, ℕ, Bool, true, false, List, [], ◌∷◌, Option, Some, None}
+use Rattle.std.specs.Prelude.{Result, Ok, Err}
 use Rattle.nuttracking.specs.declared.limits.TheConstants.{DONE_LIMIT}
 use Rattle.nutdriver.specs.declared.line.DriverLine.{DriverLine}
+use Rattle.nutdriver.specs.declared.line.DriverLine.TheVariants.{Tracking}
 use Rattle.nutdriver.specs.declared.fault.DriverFault.{DriverFault}
 use Rattle.nutdriver.specs.declared.effect.Effect.{Effect}
 use Rattle.nutdriver.specs.declared.effect.Effect.TheVariants.{Nothing, Changed, DumpDone, DataOk}
@@ -52,6 +53,30 @@ after_reading report (Err fault) = (report, Refused fault)
 abbrev pub after_line : ℕ → Report → List ℕ → Report × LineOutcome
 after_line moment report line =
     after_reading (record report { heard = moment }) (read_driver_line line)
+
+-- How an order ended: its id, and the number that its driver tells.
+pub record OrderEnd : Type 0 where
+  pub id : ℕ
+  pub number : ℕ
+
+-- What a driver's line says of an order, if it is such a line.
+abbrev pub end_read : Result DriverLine DriverFault → Option OrderEnd
+end_read (Ok (Tracking id number)) = Some (record { id = id; number = number })
+end_read _ = None
+
+abbrev pub end_in : List ℕ → Option OrderEnd
+end_in line = end_read (read_driver_line line)
+
+-- What the outcome of a line says of an order.
+abbrev pub end_told : LineOutcome → Option OrderEnd
+end_told (Tracked id number) = Some (record { id = id; number = number })
+end_told _ = None
+
+-- What the outcome of a line tells of an order is what the line says of it.
+abbrev pub WhatIsToldOfAnOrderIsRead : Type 0
+WhatIsToldOfAnOrderIsRead =
+    (moment : ℕ) (report : Report) (line : List ℕ)
+    → end_told (after_line moment report line).1 ≡ end_in line
 
 -- The number of a report on an order is one that an order may be done with.
 abbrev pub HasLawfulNumber : LineOutcome → Type 0

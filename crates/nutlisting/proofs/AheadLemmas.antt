@@ -1,7 +1,7 @@
 -- What is looked up ahead.
 use Rattle.std.proofs.Common.{◌≡◌, ℕ, zero, suc, ◌+◌, ◌<◌, List, [], ◌∷◌, length, map, take, drop, min, Option, Some, None, refl, sym, ap, subst, ◌∙◌, arith, get_or}
 use Rattle.std.specs.Prelude.{MatchOption, is_some, true}
-use Rattle.std.specs.Option.{option_map, unwrap_or}
+use Rattle.std.specs.Option.{option_map}
 use Rattle.std.proofs.lemmas.List.{drop_more, drop-map, take_min, length-take, length-map}
 use Rattle.nutmap.specs.Entries.{entries_after, first_entry}
 use Rattle.nutdriver.specs.Tree.{byte_order}
@@ -46,16 +46,13 @@ module _ {E : Type 0} where
   -- the first of the entries, where one stands ahead
   pub first_ahead : (es : List E) (e : E) (ahead : List (Option E)) → AreFirst es (Some e ∷ ahead) → (others : List E) × (es ≡ e ∷ others) × AreFirst others ahead
   first_ahead [] e ahead h = absurd (cc)
-  first_ahead (x ∷ es) e ahead h = (es, ap (λ z. z ∷ es) (sym (ap (λ o. unwrap_or o e) (ap front h))), ap (drop 1) h)
+  first_ahead (x ∷ es) e ahead h = (es, cc, cc)
 
   -- none stands ahead only where there is none
   pub none_ahead : (es : List E) (ahead : List (Option E)) → AreNext es ahead → front ahead ≡ None → (es ≡ []) × (ahead ≡ [])
   none_ahead es [] h f = (h.some refl, refl)
   none_ahead [] (a ∷ ahead) h f = absurd (cc)
-  none_ahead (e ∷ es) (a ∷ ahead) h f = absurd (some_not_none e (sym (ap front h.first) ∙ f))
-    where
-      some_not_none : (e : E) → Some e ≡ None → ⊥
-      some_not_none e h = cc
+  none_ahead (e ∷ es) (a ∷ ahead) h f = absurd (cc (h.first, f))
 
 -- What is taken is the variable after the name.
 pub taken : {R : Type 0} (f : R → List ℕ × VariableState) (variables : List (List ℕ × VariableState)) (last : Option (List ℕ)) (ahead rest : List (Option (List ℕ × VariableState))) (r : Option R)

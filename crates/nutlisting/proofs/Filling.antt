@@ -61,9 +61,6 @@ places_piece r p s m h l k = record {
   counted = ap (λ xs. count_more (count_more m 1) (lines xs)) nothing_fits ∙ count_more-add m 1 0 ∙ ap (count_more m) (sym count);
 }
   where
-    n : ℕ
-    n = RING_LIMIT - length r
-
     full : RING_LIMIT - length (r ++ take (RING_LIMIT - length r) p) ≡ 0
     full = omega (arith, length-append r (take (RING_LIMIT - length r) p), length-take (RING_LIMIT - length r) p)
 

@@ -1,5 +1,5 @@
 -- The first of the items after a place.
-use Rattle.std.proofs.Common.{◌≡◌, ℕ, Bool, true, false, List, [], ◌∷◌, Option, Some, None, refl, sym, ap, ◌∙◌}
+use Rattle.std.proofs.Common.{◌≡◌, ℕ, Bool, List, [], ◌∷◌, Option, Some, None, refl, sym, ap, ◌∙◌, arith}
 use Rattle.std.specs.Prelude.{map, filter, MatchOption}
 use Rattle.std.specs.Map.{keys_of}
 use Rattle.std.specs.Ordering.{is_lt}
@@ -28,17 +28,10 @@ module _ {K V : Type 0} (cmp : K → K → Ordering) (es : List (K × V)) (key :
   pub walks_on : (e : K × V) → Walks → entry_after cmp es key ≡ Some e → entries_after cmp es key ≡ e ∷ entries_after cmp es (Some e.0)
   walks_on e w h = rw h at w
 
-  pub walks_no_more : Walks → entry_after cmp es key ≡ None → entries_after cmp es key ≡ []
-  walks_no_more w h = rw h at w
-
 -- the names after a name are the keys of the entries after it
 keys_filtered : (p : List ℕ → Bool) (es : List (List ℕ × Unit {0})) → keys_of (filter (λ e. p e.0) es) ≡ filter p (keys_of es)
 keys_filtered p [] = refl
-keys_filtered p (e ∷ es) = cases (p e.0) refl (keys_filtered p es)
-  where
-    cases : (b : Bool) → p e.0 ≡ b → keys_of (filter (λ e. p e.0) es) ≡ filter p (keys_of es) → keys_of (filter (λ e. p e.0) (e ∷ es)) ≡ filter p (keys_of (e ∷ es))
-    cases true h f = rw h (ap (λ names. e.0 ∷ names) f)
-    cases false h f = rw h f
+keys_filtered p (e ∷ es) = grind (arith, keys_filtered p es)
 
 pub names_of_entries : (es : List (List ℕ × Unit {0})) (last : Option (List ℕ)) → keys_of (entries_after byte_order es last) ≡ names_after (keys_of es) last
 names_of_entries es None = refl

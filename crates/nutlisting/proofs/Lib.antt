@@ -11,4 +11,6 @@ mod Positions
 mod Owing
 mod Ended
 mod AddingUp
+mod Counted
+mod ReadsBack
 pub mod PublicLaws

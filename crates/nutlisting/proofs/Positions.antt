@@ -1,5 +1,5 @@
 -- The lines after a place, as the lines of the listing that are left.
-use Rattle.std.proofs.Common.{◌≡◌, ℕ, ◌+◌, ◌-◌, ◌<◌, ◌≤◌, Bool, true, false, eqb, List, [], ◌∷◌, ◌++◌, length, take, drop, map, min, refl, sym, ap, ◌∙◌, subst, arith, suc, length-drop, length-append}
+use Rattle.std.proofs.Common.{◌≡◌, ℕ, ◌+◌, ◌-◌, ◌<◌, ◌≤◌, Bool, true, false, eqb, List, [], ◌∷◌, ◌++◌, length, take, drop, map, min, refl, sym, ap, ◌∙◌, subst, arith, length-drop, length-append}
 use Rattle.std.specs.Prelude.{codes}
 use Rattle.std.specs.List.{concat, join_with_byte}
 use Rattle.std.proofs.lemmas.List.{drop-drop, drop-append-le}
@@ -27,9 +27,7 @@ eqb-pos n h = grind (arith, nat_tests)
 -- one line on, the place is one line on
 pub next_at : (content : Content) (place after : Place) (line : List ℕ) → lines_past content place ≡ drop (lines_done content place) (lines_of (listing_of content)) → lines_past content place ≡ line ∷ lines_past content after → lines_past content after ≡ drop (lines_done content after) (lines_of (listing_of content))
 next_at content place after line at first =
-    let size : length (lines_past content place) ≡ suc (length (lines_past content after)) = ap length first in
-    let few : length (lines_past content place) ≡ length (lines_of (listing_of content)) - lines_done content place = ap length at ∙ length-drop (lines_done content place) (lines_of (listing_of content)) in
-    let one : lines_done content place + 1 ≡ lines_done content after = omega (arith, size, few) in
+    let one : lines_done content place + 1 ≡ lines_done content after = omega (arith, ap length first, ap length at, length-drop (lines_done content place) (lines_of (listing_of content))) in
     behind (lines_done content place) (lines_of (listing_of content)) line (lines_past content after) (sym first ∙ at) ∙ ap (λ n. drop n (lines_of (listing_of content))) one
 
 some_line : (words : List (List ℕ)) → 0 < length (line_of words)
@@ -48,12 +46,7 @@ begins content Done = refl
 
 -- the position at the beginning
 pub position_start : (content : Content) → IsPosition content Start 0
-position_start content =
-    let none : lines_done content Start ≡ 0 = omega arith in
-    record {
-      at = ap (λ n. drop n (lines_of (listing_of content))) (sym none);
-      within = begins content Start;
-    }
+position_start content = record { at = grind arith; within = begins content Start }
 
 -- one line on
 pub position_next : (content : Content) (place after : Place) (offset : ℕ) (line : List ℕ) → IsPosition content place offset → IsNext content place line after → IsPosition content after 0
@@ -112,10 +105,8 @@ falls_piece content place after offset placed line h n some on =
     omega (arith, ap length (rest_line content place after offset line h n), ap length there, some, on, length-append (drop offset line) (concat (lines_past content after)), length-append (drop (offset + placed) line) (concat (lines_past content after)), length-drop offset line, length-drop (offset + placed) line)
 
 abbrev pub is_last : Place → Bool
-is_last Start = false
-is_last (After last) = false
-is_last (Items n) = false
 is_last Done = true
+is_last _ = false
 
 items_left : (items : List (List (List ℕ))) (last : List (List ℕ)) (offset : ℕ) → IsWithin (map line_of items ++ line_of last ∷ []) offset → 0 < length (drop offset (concat (map line_of items ++ line_of last ∷ [])))
 items_left [] last offset h = omega (arith, h, length-drop offset (line_of last ++ []), length-append (line_of last) [])
@@ -133,7 +124,5 @@ pub rests_unless_done : (content : Content) (place : Place) (offset : ℕ) → I
 rests_unless_done content place offset h = ap (λ (text : List ℕ). eqb (length text) 0) (rest_at content place offset h) ∙ left_at content place offset h.within
 
 pub not_last : (place : Place) → (place ≡ Done → ⊥) → is_last place ≡ false
-not_last Start h = refl
-not_last (After last) h = refl
-not_last (Items n) h = refl
 not_last Done h = absurd (h refl)
+not_last place h = refl

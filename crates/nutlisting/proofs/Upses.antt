@@ -18,9 +18,7 @@ named_by : (held : Option Ups) (ups : Ups) (name : List ℕ) (desc : Option (Lis
     → line_of (codes "UPS" ∷ name ∷ quoted (text_or_unavailable desc) ∷ []) ≡ line_of (ups_item ups)
 named_by held ups name desc is n d =
     let same : name ≡ ups.name = cc (ap (option_map (λ (u : Ups). u.name)) is) in
-    let text : desc ≡ ups.desc = d ∙ ap (option_and_then (λ (u : Ups). u.desc)) is in
-    ap (λ z. line_of (codes "UPS" ∷ z ∷ quoted (text_or_unavailable desc) ∷ [])) same
-    ∙ ap (λ z. line_of (codes "UPS" ∷ ups.name ∷ quoted (text_or_unavailable z) ∷ [])) text
+    cc (same, d, is)
 
 -- the line of the UPS at a place, by what is told of it
 pub ups_first : (upses : List Ups) (place : ℕ) (name : List ℕ) (desc : Option (List ℕ)) (line : List ℕ) → place < length upses

@@ -1,14 +1,9 @@
 -- The text of a listing is its lines, one after another.
-use Rattle.std.proofs.Common.{◌≡◌, ℕ, List, [], ◌∷◌, ◌++◌, refl, sym, ap, subst, ◌∙◌, append_assoc, append-nil, map}
-use Rattle.std.specs.List.{concat, flat_map}
-use Rattle.nutwords.specs.Frame.{line_of}
+use Rattle.std.proofs.Common.{◌≡◌, ℕ, List, [], ◌∷◌, ◌++◌, refl, sym, ap, subst, ◌∙◌, append_assoc, append-nil}
+use Rattle.std.specs.List.{concat}
 use Rattle.nutlisting.specs.Items.{ListingState, text_of, lines_of}
 use Rattle.nutlisting.specs.Lines.{IsWholeLine, AreLines}
 use Rattle.nutlisting.proofs.Joined.{no_lines, joined_with}
-
-pub concat_lines : (items : List (List (List ℕ))) (last : List ℕ) → concat (map line_of items ++ last ∷ []) ≡ flat_map line_of items ++ last
-concat_lines [] last = append-nil last
-concat_lines (item ∷ items) last = ap (λ text. line_of item ++ text) (concat_lines items last) ∙ sym (append_assoc (line_of item) (flat_map line_of items) last)
 
 pub lines_are_text : (l : ListingState) → concat (lines_of l) ≡ text_of l
 lines_are_text l = refl

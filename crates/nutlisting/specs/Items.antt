@@ -1,5 +1,5 @@
 -- The listings (RFC 9271: LIST), each by the words of its items.
-use Rattle.std.specs.Prelude.{ℕ, Bool, List, [], ◌∷◌, ◌++◌, Option, Some, None, codes, map, filter}
+use Rattle.std.specs.Prelude.{ℕ, Bool, List, [], ◌∷◌, Option, Some, None, codes, map, filter}
 use Rattle.std.specs.Fmt.{signed_decimal}
 use Rattle.nutwords.specs.Frame as frame
 use Rattle.nutwords.specs.Frame.{frame, frame_lines}

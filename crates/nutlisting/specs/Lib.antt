@@ -11,4 +11,7 @@ pub mod Rest
 pub mod Places
 pub mod Ahead
 pub mod Owed
+pub mod Counted
+pub mod Lawful
 pub mod Laws
+pub mod ReadsBack

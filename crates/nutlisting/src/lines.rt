@@ -247,7 +247,7 @@ pub(crate) fn push_word(line: &mut Line, word: &[u8])
 }
 
 /// Appends a text in quotes.
-#[tactic(auto, using(crate::proofs::Lawful::lawful_steps))]
+#[tactic(auto, using(crate::proofs::Lawful::lawful_steps, crate::proofs::Lawful::quoting))]
 fn push_quoted(line: &mut Line, text: &[u8])
     requires room { length line.old.items ≤ 300 }
     requires text { length text.now ≤ SHOWN_LIMIT }

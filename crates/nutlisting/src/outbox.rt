@@ -66,6 +66,7 @@ impl Outbox {
     }
 
     /// How many bytes are offered.
+    #[tactic(auto, using(crate::proofs::Owing::offered_is))]
     pub fn offered(&self) -> usize
         ensures offered { result ≡ length (take RING_LIMIT (owed self.now)) }
         ensures ring { result ≡ length self.now.ring }

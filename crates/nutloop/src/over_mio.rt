@@ -1,6 +1,5 @@
 //! The sockets over `mio`: clients come over TCP, and drivers are connected to over Unix sockets.
-ghost use Rattle.std.specs.Prelude.{◌≡◌, ◌≤◌, ◌∷◌, [], ◌⊎◌, length, IfOk, IfSome, None, OnOk, false, true};
-ghost use Rattle.std.specs.Prelude.{vec_capacity, vec_len};
+ghost use Rattle.std.specs.Prelude.{◌≡◌, ◌≤◌, ◌∷◌, [], ◌⊎◌, length, IfOk, IfSome, None, OnOk, false, true, vec_capacity, vec_len};
 ghost use Rattle.nutio.specs.Ends.{IsCounted, counted};
 ghost use Rattle.nutloop.specs.Peers.{AreTried, GrowsBehind, ReadsPeer, ShutsPeer, TakesNewcomer, WritesPeer, error_of};
 ghost use Rattle.nutloop.specs.Door.{ComesIn};

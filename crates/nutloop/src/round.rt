@@ -1,10 +1,7 @@
 //! Whose turn it is: all who may have one go round.
-ghost use Rattle.std.specs.Prelude.{◌≡◌, ◌≤◌, ◌↔◌, [], IfOk, IsTrue, MatchResult, OnErr, length};
-ghost use Rattle.std.specs.Prelude.{vec_capacity, vec_len};
+ghost use Rattle.std.specs.Prelude.{◌≡◌, ◌≤◌, ◌↔◌, [], IfOk, IsTrue, MatchResult, OnErr, length, vec_capacity, vec_len};
 ghost use Rattle.nutloop.specs.declared.round.Seat.TheVariants.{Listener};
-ghost use Rattle.nutloop.specs.Round.{FindsNext, FindsReady, FindsSeat, IsOver, LeavesOut, Notes};
-ghost use Rattle.nutloop.specs.Round.{StandInOrder, TakesIn, TakesTurn};
-ghost use Rattle.nutloop.specs.Round.{first_above, is_ready, rank, seat_at, way_of};
+ghost use Rattle.nutloop.specs.Round.{FindsNext, FindsReady, FindsSeat, IsOver, LeavesOut, Notes, StandInOrder, TakesIn, TakesTurn, first_above, is_ready, rank, seat_at, way_of};
 
 use nutcore::{ClientId, UpsId};
 use std::alloc::{AllocError, Global};

@@ -1,13 +1,11 @@
 //! Sockets in memory: they answer from a script, and keep every call that was answered.
-ghost use Rattle.std.specs.Prelude.{◌≡◌, ◌<◌, ◌≤◌, ◌++◌, ◌∷◌, [], true, IfOk, None, OnErr, length};
-ghost use Rattle.std.specs.Prelude.{vec_capacity, vec_len};
+ghost use Rattle.std.specs.Prelude.{◌≡◌, ◌<◌, ◌≤◌, ◌++◌, ◌∷◌, [], true, IfOk, None, OnErr, length, vec_capacity, vec_len};
 ghost use Rattle.std.specs.Vec.Iter.{into_iter_items};
 ghost use Rattle.nutloop.specs.declared.scripted.Act.TheVariants as act;
 ghost use Rattle.nutloop.specs.declared.sockets.Call.TheVariants.{Readied, Accepted, Named, Refused, Wrote, Shut};
 ghost use Rattle.nutio.specs.Ends.{IsCounted, counted};
 ghost use Rattle.nutloop.specs.Sockets.{Grows, Logs, AtMost, read_call};
-ghost use Rattle.nutloop.specs.Scripted.{AnswersRead, AnswersWrite, Follows, IsKeptOrNot};
-ghost use Rattle.nutloop.specs.Scripted.{MayBeRead, MayBeReady, MayCome, NextIs, told_while};
+ghost use Rattle.nutloop.specs.Scripted.{AnswersRead, AnswersWrite, Follows, IsKeptOrNot, MayBeRead, MayBeReady, MayCome, NextIs, told_while};
 
 use crate::{Broken, Call, Got, Ready, Sockets};
 use nutcore::{Bytes, ClientId, Peer, Server, UpsId};

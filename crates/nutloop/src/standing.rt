@@ -1,7 +1,6 @@
 //! What may be done with a peer, by its socket and by the server, and what is told of its turn.
 ghost use Rattle.std.specs.Prelude.{◌≡◌, true, false};
-ghost use Rattle.nutloop.specs.Standing.{IsAnswer, after_read, after_write, client_flags, driver_flags, got_by};
-ghost use Rattle.nutloop.specs.Standing.{heard, is_driver_owed, ready_of, took_by};
+ghost use Rattle.nutloop.specs.Standing.{IsAnswer, after_read, after_write, client_flags, driver_flags, got_by, heard, is_driver_owed, ready_of, took_by};
 
 use crate::round::{Flags, Seat, Turn, Way};
 use crate::sockets::{Broken, Got, Ready};

@@ -3,6 +3,8 @@ ghost use Rattle.std.specs.Prelude.{◌≡◌, ◌⊎◌, ℕ, List, OnOk, IfOk,
 ghost use Rattle.nutio.specs.Ends.{Written, WriteFailed};
 ghost use Rattle.nutreplay.specs.Script.{first_bad_line};
 ghost use Rattle.nutreplay.specs.Transcript.{IsOutput};
+ghost use Rattle.nutreplay.specs.ReplayFault.{number_of_replay_fault};
+ghost use Rattle.nutreplay.specs.declared.replaying.ReplayFault.TheVariants.{Memory};
 
 use crate::script::read_script;
 use crate::transcript::Transcript;
@@ -29,9 +31,6 @@ pub enum ReplayFault {
 }
 
 impl ReplayFault {
-    ghost use Rattle.std.specs.Prelude.{◌≡◌};
-    ghost use Rattle.nutreplay.specs.ReplayFault.{number_of_replay_fault};
-
     /// The fault's number, from 1.
     pub fn number(self) -> u8
         ensures { result ≡ number_of_replay_fault self }
@@ -45,9 +44,6 @@ impl ReplayFault {
 }
 
 impl<T: Drop> From<AllocFailed<T>> for ReplayFault {
-    ghost use Rattle.std.specs.Prelude.{◌≡◌};
-    ghost use Rattle.nutreplay.specs.declared.replaying.ReplayFault.TheVariants.{Memory};
-
     ghost from_gives = { λ _ fault. fault ≡ Memory };
 
     fn from(_error: AllocFailed<T>) -> ReplayFault {
@@ -56,9 +52,6 @@ impl<T: Drop> From<AllocFailed<T>> for ReplayFault {
 }
 
 impl From<AllocError> for ReplayFault {
-    ghost use Rattle.std.specs.Prelude.{◌≡◌};
-    ghost use Rattle.nutreplay.specs.declared.replaying.ReplayFault.TheVariants.{Memory};
-
     ghost from_gives = { λ _ fault. fault ≡ Memory };
 
     fn from(_error: AllocError) -> ReplayFault {

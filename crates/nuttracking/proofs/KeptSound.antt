@@ -1,9 +1,9 @@
 -- What the operations keep.
-use Rattle.std.proofs.Common.{◌≡◌, ℕ, zero, suc, ◌+◌, ◌-◌, ◌<◌, ◌≤◌, ◌==◌, ◌⊎◌, ◌||◌, List, [], ◌∷◌, ◌++◌, length, map, drop, All, get_or, set, Bool, true, false, true≢false, not, inl, inr, nat_lt, slice_get, Option, Some, None, is_some, unwrap_or, arith, refl, sym, ap, ◌∙◌, length-append, length-drop}
+use Rattle.std.proofs.Common.{◌≡◌, ℕ, zero, suc, ◌+◌, ◌-◌, ◌<◌, ◌≤◌, ◌==◌, ◌⊎◌, ◌||◌, List, [], ◌∷◌, ◌++◌, length, map, drop, get_or, set, Bool, true, false, true≢false, not, inl, inr, nat_lt, slice_get, Option, Some, None, is_some, unwrap_or, arith, refl, sym, ap, ◌∙◌, length-append, length-drop}
 use Rattle.std.proofs.lemmas.Bool.{eqb-true}
 use Rattle.std.proofs.lemmas.Bool.Decides.{nat_tests}
 use Rattle.std.proofs.lemmas.List.{length-map, map_push}
-use Rattle.std.proofs.lemmas.List.Elements.{All-cons, All-drop}
+use Rattle.std.proofs.lemmas.List.Elements.{All-nil, All-cons, All-drop, All-append, All-map}
 use Rattle.std.specs.List.{list_any, prefix_len, position, position_or_len}
 use Rattle.circular_buffer.specs.Buffer.{keep_last}
 use Rattle.nuttracking.proofs.Counts.{one_if, order_ids, times_cons, times_append, times_push, one_if_same, not_at_hand, not_kept, there, times_dropped}
@@ -64,15 +64,12 @@ once_used place id j k rest orders once =
     ap (times j) (map_push (λ (order : TrackedOrder). order.id) orders (pending place id)) ∙ times_push j id (order_ids orders) in
     omega arith
 
-lawful_push : (place id : ℕ) (orders : List TrackedOrder) → All (λ order. IsLawfulProgress order.progress) orders
-    → All (λ order. IsLawfulProgress order.progress) (orders ++ pending place id ∷ [])
-lawful_push place id [] all = All-cons (λ order. IsLawfulProgress order.progress) (pending place id) [] tt (λ k d h. absurd (omega arith))
-lawful_push place id (x ∷ orders) all =
-    All-cons (λ order. IsLawfulProgress order.progress) x (orders ++ pending place id ∷ []) (all 0 x (omega arith)) (lawful_push place id orders (λ k d h. all (suc k) d (omega arith)))
+abbrev Lawful : TrackedOrder → Type 0
+Lawful order = IsLawfulProgress order.progress
 
 pub lawful_with_order : (place id k : ℕ) (orders : List TrackedOrder) → HaveLawfulNumbers orders → HaveLawfulNumbers (drop k (orders ++ pending place id ∷ []))
 lawful_with_order place id k orders all =
-    All-drop (λ order. IsLawfulProgress order.progress) k (orders ++ pending place id ∷ []) (lawful_push place id orders all)
+    All-drop Lawful k (orders ++ pending place id ∷ []) (All-append Lawful orders (pending place id ∷ []) all (All-cons Lawful (pending place id) [] tt (All-nil Lawful)))
 
 pub sound_with_order : (place id : ℕ) (rest : List ℕ) (orders : List TrackedOrder) → IsSoundTracking (record { ids = id ∷ rest; orders = orders })
     → IsSoundTracking (record { ids = rest; orders = keep_last ORDER_LIMIT (orders ++ pending place id ∷ []) })
@@ -104,12 +101,8 @@ settled_lawful place id number order h p = elim (either (awaits place id order))
   | inr not ↦ rw not p
 ]
 
-pub lawful_settled : (place id number : ℕ) (orders : List TrackedOrder) → number ≤ DONE_LIMIT → All (λ order. IsLawfulProgress order.progress) orders
-    → All (λ order. IsLawfulProgress order.progress) (map (settled place id number) orders)
-lawful_settled place id number [] h all = λ k d h. absurd (omega arith)
-lawful_settled place id number (x ∷ orders) h all =
-    All-cons (λ order. IsLawfulProgress order.progress) (settled place id number x) (map (settled place id number) orders)
-    (settled_lawful place id number x h (all 0 x (omega arith))) (lawful_settled place id number orders h (λ k d i. all (suc k) d (omega arith)))
+pub lawful_settled : (place id number : ℕ) (orders : List TrackedOrder) → number ≤ DONE_LIMIT → HaveLawfulNumbers orders → HaveLawfulNumbers (map (settled place id number) orders)
+lawful_settled place id number orders h all = All-map Lawful (settled place id number) orders (λ k d lt. settled_lawful place id number _ h (all k d lt))
 
 pub sound_with_report : (t : TrackingState) (place id number : ℕ) → IsSoundTracking t
     → IsSoundTracking (record { ids = t.ids; orders = map (settled place id number) t.orders })

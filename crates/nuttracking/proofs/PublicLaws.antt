@@ -9,14 +9,15 @@ use Rattle.nuttracking.proofs.ReadBack.{reads_text}
 use Rattle.nuttracking.proofs.Reading.{text_is_lower, text_plain}
 use Rattle.nuttracking.proofs.Texts.{id_text_length}
 use Rattle.nuttracking.specs.Acts.{Given, after_act, after_acts, taken_by, taken_in, given_by, given}
-use Rattle.nuttracking.specs.Acts.Act.{ordered}
+use Rattle.nuttracking.specs.Acts.Act.{handed_in, ordered, reported}
 use Rattle.nuttracking.specs.Id.{id_text, digits_number, read_id, WrittenIsRead, ReadIsWritten, IdsArePlain}
-use Rattle.nuttracking.specs.Laws.{FirstInFirstOut, TheLastAreKept, ActsKeepItSound, ItsDriverSettlesItOnce, as_given}
-use Rattle.nuttracking.specs.Sound.{IsSoundTracking}
+use Rattle.nuttracking.specs.Laws.{FirstInFirstOut, TheLastAreKept, ActsKeepItSound, LawfulActsKeepNumbersLawful, ItsDriverSettlesItOnce, as_given}
+use Rattle.nuttracking.specs.Sound.{IsSoundTracking, HaveLawfulNumbers}
 use Rattle.nuttracking.specs.Tracking.{TrackingState, nothing_tracked, pending, with_order}
 use Rattle.nuttracking.specs.declared.limits.TheConstants.{ORDER_LIMIT}
 use Rattle.nuttracking.specs.declared.order.Progress.TheVariants.{Pending}
-use Rattle.nuttracking.proofs.ActSteps.{sound_after_act, id_step, order_step, map_append, all_kept, keep_keep, dropped_front, orders_after, settles}
+use Rattle.nuttracking.proofs.ActSteps.{sound_after_act, id_step, order_step, map_append, all_kept, keep_keep, dropped_front, orders_after, orders_handed_in, settles}
+use Rattle.nuttracking.proofs.KeptSound.{lawful_with_order, lawful_settled}
 
 -- ids_are_read_back
 is_read : (text : List ℕ) (n : ℕ) (b : Bool) → (if b then Some (digits_number text) else None) ≡ Some n → (b ≡ true) × (digits_number text ≡ n)
@@ -50,6 +51,15 @@ nothing_is_sound = record { ids_few = omega arith; orders_few = omega arith; onc
 pub acts_keep_it_sound : ActsKeepItSound
 acts_keep_it_sound t [] s = s
 acts_keep_it_sound t (act ∷ acts) s = acts_keep_it_sound (after_act t act) acts (sound_after_act t act s)
+
+pub lawful_acts_keep_numbers_lawful : LawfulActsKeepNumbersLawful
+lawful_acts_keep_numbers_lawful t (handed_in id) lawful all = rw (orders_handed_in t id) all
+lawful_acts_keep_numbers_lawful t (ordered place) lawful all = by_id t.ids
+  where
+    by_id : (ids : List ℕ) → HaveLawfulNumbers (with_order place (record { ids = ids; orders = t.orders })).orders
+    by_id [] = all
+    by_id (id ∷ ids) = lawful_with_order place id _ t.orders all
+lawful_acts_keep_numbers_lawful t (reported place id number) lawful all = lawful_settled place id number t.orders lawful all
 
 -- ids_are_used_in_their_order
 pub first_in_first_out : FirstInFirstOut

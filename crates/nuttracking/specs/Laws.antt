@@ -1,10 +1,11 @@
 -- What holds after whatever acts.
-use Rattle.std.specs.Prelude.{◌≡◌, ◌<◌, ℕ, List, ◌++◌, Some, length, map}
+use Rattle.std.specs.Prelude.{◌≡◌, ◌<◌, ◌≤◌, ⊤, ℕ, List, ◌++◌, Some, length, map}
 use Rattle.circular_buffer.specs.Buffer.{keep_last}
-use Rattle.nuttracking.specs.declared.limits.TheConstants.{ORDER_LIMIT}
+use Rattle.nuttracking.specs.declared.limits.TheConstants.{ORDER_LIMIT, DONE_LIMIT}
 use Rattle.nuttracking.specs.declared.order.TrackedOrder.{TrackedOrder}
-use Rattle.nuttracking.specs.Acts.{Act, Given, after_acts, taken_in, given, first_report}
-use Rattle.nuttracking.specs.Sound.{IsSoundTracking}
+use Rattle.nuttracking.specs.Acts.{Act, Given, after_act, after_acts, taken_in, given, first_report}
+use Rattle.nuttracking.specs.Acts.Act.{reported}
+use Rattle.nuttracking.specs.Sound.{IsSoundTracking, HaveLawfulNumbers}
 use Rattle.nuttracking.specs.Tracking.{TrackingState, next_id, with_order, progress_of}
 
 -- The ids that were used, in order, and then those at hand are the ids that were at hand and were
@@ -31,6 +32,17 @@ TheLastAreKept =
 abbrev pub ActsKeepItSound : Type 0
 ActsKeepItSound =
     (t : TrackingState) (acts : List Act) → IsSoundTracking t → IsSoundTracking (after_acts t acts)
+
+-- The number that is reported, if one is, is one that an order may be done with.
+abbrev pub IsLawfulAct : Act → Type 0
+IsLawfulAct (reported place id number) = number ≤ DONE_LIMIT
+IsLawfulAct _ = ⊤
+
+-- Each lawful act keeps the numbers with which orders are done lawful.
+abbrev pub LawfulActsKeepNumbersLawful : Type 0
+LawfulActsKeepNumbersLawful =
+    (t : TrackingState) (act : Act) → IsLawfulAct act → HaveLawfulNumbers t.orders
+    → HaveLawfulNumbers (after_act t act).orders
 
 -- What is told of an order, from when it was given, for as long as it is kept: that it is pending,
 -- up to the first report on its id by its own driver; from then on what that said.

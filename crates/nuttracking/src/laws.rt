@@ -1,7 +1,7 @@
 //! Laws of the definitions that the contracts of this crate cite. No program calls them.
 ghost use Rattle.std.specs.Prelude.{◌≡◌};
 ghost use Rattle.nuttracking.specs.Id.{WrittenIsRead, ReadIsWritten, IdsArePlain};
-ghost use Rattle.nuttracking.specs.Laws.{FirstInFirstOut, TheLastAreKept, ActsKeepItSound, ItsDriverSettlesItOnce};
+ghost use Rattle.nuttracking.specs.Laws.{FirstInFirstOut, TheLastAreKept, ActsKeepItSound, LawfulActsKeepNumbersLawful, ItsDriverSettlesItOnce};
 ghost use Rattle.nuttracking.specs.Sound.{IsSoundTracking};
 ghost use Rattle.nuttracking.specs.Tracking.{nothing_tracked};
 ghost use Rattle.nuttracking.specs.declared.limits.TheConstants.{ID_LIMIT, ORDER_LIMIT, DONE_LIMIT};
@@ -31,10 +31,12 @@ pub fn ids_are_used_in_their_order()
 {}
 
 /// Whatever is done, an id stands for one order: no two orders that are kept have one id, and none of theirs is at hand;
-/// and there are at most 64 ids and 256 orders. Where nothing is tracked it is so.
+/// and there are at most 64 ids and 256 orders. Where nothing is tracked it is so. And orders are done with numbers of at most
+/// 1,000,000,000, where no greater one is reported.
 pub fn an_id_stands_for_one_order()
     ensures first { IsSoundTracking nothing_tracked }
     ensures kept { ActsKeepItSound }
+    ensures numbers { LawfulActsKeepNumbersLawful }
 {}
 
 /// The orders that are kept are the last 256 that were given, each with its own UPS and id: the oldest goes first, pending

@@ -8,7 +8,8 @@ use Rattle.nutwords.specs.Listing.{LinesAreReadBack, ListingIsReadBack, OneReadi
 use Rattle.nutwords.specs.Meaning.{WordsOrFault, NotBoth, OneListOfWords, OneFault, ReadLineIsTheGrammar, ReadLineIsTheFault}
 use Rattle.nutwords.specs.Spelled.{QuotedIsSpelled, BareIsSpelled, PlainStandsForItself}
 use Rattle.nutwords.specs.Spelling.{QuotedIsShort}
-use Rattle.nutwords.specs.SplitLine.{FirstLineIsCutOff, NoLineWithoutLf, HeldGoesInFront}
+use Rattle.nutwords.specs.SplitLine.{FirstLineIsCutOff, NoLineWithoutLf, HeldGoesInFront, FirstLineAndTheRestAreAll, FirstLineIsTheFrontOfItsLength, FirstLfEndsTheFirstLine}
+use Rattle.nutwords.specs.WholeLines.{WholeLinesAreTheCut, WholeLinesAndTheRestAreAll, RestIsThatBehindTheFirst}
 use Rattle.nutwords.proofs.Answers as answers
 use Rattle.nutwords.proofs.Backslashes as backslashes
 use Rattle.nutwords.proofs.Complete.{read_line-complete}
@@ -23,6 +24,7 @@ use Rattle.nutwords.proofs.ReadBack.{Reads-one, ReadsAsLines-one, frame_in_parts
 use Rattle.nutwords.proofs.ReadBack as back
 use Rattle.nutwords.proofs.Splits.{no_lf-none, none-no_lf, line-no_lf, line-cut, cut-found}
 use Rattle.nutwords.proofs.Splitting.{unescaped-same}
+use Rattle.nutwords.proofs.WholeLines.{the_cut, rest_behind, first_line_splits, first_line_front, found_end}
 
 -- line_has_one_meaning
 pub words_or_fault : WordsOrFault
@@ -68,6 +70,15 @@ no_line_without_lf = λ text. (λ h. none-no_lf text h, λ h. no_lf-none text h)
 pub held_goes_in_front : HeldGoesInFront
 held_goes_in_front = λ held text none. split_line-append held text none
 
+pub first_line_and_the_rest_are_all : FirstLineAndTheRestAreAll
+first_line_and_the_rest_are_all = first_line_splits
+
+pub first_line_is_the_front_of_its_length : FirstLineIsTheFrontOfItsLength
+first_line_is_the_front_of_its_length = first_line_front
+
+pub first_lf_ends_the_first_line : FirstLfEndsTheFirstLine
+first_lf_ends_the_first_line = found_end
+
 -- each_call_takes_a_line
 pub each_call_takes_a_line : EachCallTakesALine
 each_call_takes_a_line = λ held piece first used f. (split_line-whole (held ++ piece) first (drop used piece) f.0, f.1, f.2)
@@ -102,6 +113,16 @@ no_byte_is_lost = λ text rest lines cut. IsCutInto-whole text rest lines (Unfin
 
 pub lines_are_joined : LinesAreJoined
 lines_are_joined = λ text more lines others tail cut behind. IsCutInto-append text more lines others (Unfinished []) tail cut refl behind
+
+-- whole_lines_are_the_cut
+pub whole_lines_are_the_cut : WholeLinesAreTheCut
+whole_lines_are_the_cut = λ bytes. (the_cut bytes).0
+
+pub whole_lines_and_the_rest_are_all : WholeLinesAndTheRestAreAll
+whole_lines_and_the_rest_are_all = λ bytes. (the_cut bytes).1
+
+pub rest_is_that_behind_the_first : RestIsThatBehindTheFirst
+rest_is_that_behind_the_first = λ bytes first rest split short. rest_behind bytes first rest split short
 
 -- listing_is_read_back
 pub lines_are_read_back : LinesAreReadBack

@@ -1,7 +1,6 @@
 //! The files that the program's words name, and what their bytes mean.
 ghost use Rattle.std.specs.Prelude.{◌≡◌, ◌⊎◌, IfOk, IfErr, MatchResult, None, Ok, []};
 ghost use Rattle.nutusers.specs.UpsFile.{ups_format, adds_ups};
-ghost use Rattle.nutusers.specs.UpsList.{new_ups};
 ghost use Rattle.nutusers.specs.UsersFile.{users_format, adds_to_users};
 ghost use Rattle.nutusers.specs.DescriptionFile.{descriptions_format, adds_text};
 ghost use Rattle.nutusers.specs.Descriptions.{no_descriptions};

@@ -1,5 +1,12 @@
 //! The words of a command that name something or are a value. Each borrows its spelling from the line, and is read where the
 //! command's row needs it: a command is small, whatever its words may be read as.
+ghost use Rattle.std.specs.Prelude.{◌≡◌, ℕ, List, Option};
+ghost use Rattle.std.specs.Result.{result_ok};
+ghost use Rattle.nuttracking.specs.Id.{read_id};
+ghost use Rattle.nutusers.specs.Credentials.{read_user_name, read_password};
+ghost use Rattle.nutwords.specs.Reading.{read_name, read_ups_name, read_value};
+ghost use Rattle.nutwords.specs.Spelled.{spelled};
+
 use nuttracking::{ID_LENGTH, read_id};
 use nutusers::{PASSWORD_LIMIT, Password, USER_NAME_LIMIT, UserName};
 use nutwords::{Name, SpelledWord, UpsName, Value};
@@ -12,22 +19,12 @@ pub struct UpsWord<'a> {
 }
 
 impl<'a> Model for UpsWord<'a> {
-    ghost use Rattle.std.specs.Prelude.{ℕ, List, Option};
-    ghost use Rattle.std.specs.Result.{result_ok};
-    ghost use Rattle.nutwords.specs.Reading.{read_ups_name};
-    ghost use Rattle.nutwords.specs.Spelled.{spelled};
-
     ghost Value = { Option (List ℕ) };
 
     ghost view = { λ w. result_ok (read_ups_name (spelled w.word)) };
 }
 
 impl<'a> UpsWord<'a> {
-    ghost use Rattle.std.specs.Prelude.{◌≡◌};
-    ghost use Rattle.std.specs.Result.{result_ok};
-    ghost use Rattle.nutwords.specs.Reading.{read_ups_name};
-    ghost use Rattle.nutwords.specs.Spelled.{spelled};
-
     /// The word that is to name a UPS.
     pub(crate) fn of(word: SpelledWord<'a>) -> UpsWord<'a>
         ensures { result ≡ result_ok (read_ups_name (spelled word.entry)) }
@@ -50,22 +47,12 @@ pub struct NameWord<'a> {
 }
 
 impl<'a> Model for NameWord<'a> {
-    ghost use Rattle.std.specs.Prelude.{ℕ, List, Option};
-    ghost use Rattle.std.specs.Result.{result_ok};
-    ghost use Rattle.nutwords.specs.Reading.{read_name};
-    ghost use Rattle.nutwords.specs.Spelled.{spelled};
-
     ghost Value = { Option (List ℕ) };
 
     ghost view = { λ w. result_ok (read_name (spelled w.word)) };
 }
 
 impl<'a> NameWord<'a> {
-    ghost use Rattle.std.specs.Prelude.{◌≡◌};
-    ghost use Rattle.std.specs.Result.{result_ok};
-    ghost use Rattle.nutwords.specs.Reading.{read_name};
-    ghost use Rattle.nutwords.specs.Spelled.{spelled};
-
     /// The word that is to name a variable or a command.
     pub(crate) fn of(word: SpelledWord<'a>) -> NameWord<'a>
         ensures { result ≡ result_ok (read_name (spelled word.entry)) }
@@ -88,22 +75,12 @@ pub struct ValueWord<'a> {
 }
 
 impl<'a> Model for ValueWord<'a> {
-    ghost use Rattle.std.specs.Prelude.{ℕ, List, Option};
-    ghost use Rattle.std.specs.Result.{result_ok};
-    ghost use Rattle.nutwords.specs.Reading.{read_value};
-    ghost use Rattle.nutwords.specs.Spelled.{spelled};
-
     ghost Value = { Option (List ℕ) };
 
     ghost view = { λ w. result_ok (read_value (spelled w.word)) };
 }
 
 impl<'a> ValueWord<'a> {
-    ghost use Rattle.std.specs.Prelude.{◌≡◌};
-    ghost use Rattle.std.specs.Result.{result_ok};
-    ghost use Rattle.nutwords.specs.Reading.{read_value};
-    ghost use Rattle.nutwords.specs.Spelled.{spelled};
-
     /// The word that is to be a value.
     pub(crate) fn of(word: SpelledWord<'a>) -> ValueWord<'a>
         ensures { result ≡ result_ok (read_value (spelled word.entry)) }
@@ -126,20 +103,12 @@ pub struct UserWord<'a> {
 }
 
 impl<'a> Model for UserWord<'a> {
-    ghost use Rattle.std.specs.Prelude.{ℕ, List, Option};
-    ghost use Rattle.nutwords.specs.Spelled.{spelled};
-    ghost use Rattle.nutusers.specs.Credentials.{read_user_name};
-
     ghost Value = { Option (List ℕ) };
 
     ghost view = { λ w. read_user_name (spelled w.word) };
 }
 
 impl<'a> UserWord<'a> {
-    ghost use Rattle.std.specs.Prelude.{◌≡◌};
-    ghost use Rattle.nutwords.specs.Spelled.{spelled};
-    ghost use Rattle.nutusers.specs.Credentials.{read_user_name};
-
     /// The word that is to be the name of a user.
     pub(crate) fn of(word: SpelledWord<'a>) -> UserWord<'a>
         ensures { result ≡ read_user_name (spelled word.entry) }
@@ -163,20 +132,12 @@ pub struct PasswordWord<'a> {
 }
 
 impl<'a> Model for PasswordWord<'a> {
-    ghost use Rattle.std.specs.Prelude.{ℕ, List, Option};
-    ghost use Rattle.nutwords.specs.Spelled.{spelled};
-    ghost use Rattle.nutusers.specs.Credentials.{read_password};
-
     ghost Value = { Option (List ℕ) };
 
     ghost view = { λ w. read_password (spelled w.word) };
 }
 
 impl<'a> PasswordWord<'a> {
-    ghost use Rattle.std.specs.Prelude.{◌≡◌};
-    ghost use Rattle.nutwords.specs.Spelled.{spelled};
-    ghost use Rattle.nutusers.specs.Credentials.{read_password};
-
     /// The word that is to be a password.
     pub(crate) fn of(word: SpelledWord<'a>) -> PasswordWord<'a>
         ensures { result ≡ read_password (spelled word.entry) }
@@ -200,20 +161,12 @@ pub struct IdWord<'a> {
 }
 
 impl<'a> Model for IdWord<'a> {
-    ghost use Rattle.std.specs.Prelude.{ℕ, Option};
-    ghost use Rattle.nuttracking.specs.Id.{read_id};
-    ghost use Rattle.nutwords.specs.Spelled.{spelled};
-
     ghost Value = { Option ℕ };
 
     ghost view = { λ w. read_id (spelled w.word) };
 }
 
 impl<'a> IdWord<'a> {
-    ghost use Rattle.std.specs.Prelude.{◌≡◌};
-    ghost use Rattle.nuttracking.specs.Id.{read_id};
-    ghost use Rattle.nutwords.specs.Spelled.{spelled};
-
     /// The word that is to be an id.
     pub(crate) fn of(word: SpelledWord<'a>) -> IdWord<'a>
         ensures { result ≡ read_id (spelled word.entry) }

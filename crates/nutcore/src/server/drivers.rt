@@ -2,13 +2,12 @@
 //! executed.
 ghost use Rattle.std.specs.Prelude.{◌≡◌, ◌<◌, ◌≤◌, ◌++◌, length, drop, map, MatchResult, OnOk, IfErr, Some, None, true};
 ghost use Rattle.std.specs.Option.{option_map};
-ghost use Rattle.nutcore.specs.Server.{ups_at};
+ghost use Rattle.nutcore.specs.Server.{ups_at, with_tracking};
 ghost use Rattle.nutcore.specs.Headline.{IsLawful};
 ghost use Rattle.nutcore.specs.Ups.{after_tick, is_refused};
-ghost use Rattle.nutcore.specs.Server.{with_tracking};
 ghost use Rattle.nutcore.specs.Reports.{with_end, is_unawaited};
-ghost use Rattle.nutdriver.specs.Report.{HasLawfulNumber};
-ghost use Rattle.nutcore.specs.Promises.{OfUps, MayChangeUps, KeepsUpsSound, ChangesUps, IsNotConnected, ExecutesDriverLine, ReadsDriverLine, IsStopped, IsTold, IsFront, front_or, end_told};
+ghost use Rattle.nutdriver.specs.Report.{HasLawfulNumber, end_told};
+ghost use Rattle.nutcore.specs.Promises.{OfUps, MayChangeUps, KeepsUpsSound, ChangesUps, IsNotConnected, ExecutesDriverLine, ReadsDriverLine, IsStopped, IsTold, IsFront, front_or};
 ghost use Rattle.nutcore.specs.Calls.{is_connected};
 ghost use Rattle.nutcore.specs.declared.event.Fault.TheVariants.{NoSuchUps};
 

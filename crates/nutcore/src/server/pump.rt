@@ -5,11 +5,11 @@ ghost use Rattle.nutcore.specs.Server.{session, changed_at};
 ghost use Rattle.nutcore.specs.Pump.{next_line_for, after_line, held_of, wants_memory};
 ghost use Rattle.nutcore.specs.History.{owed, executions_until};
 ghost use Rattle.nutcore.specs.Deeds.{deeds_of};
-ghost use Rattle.nutcore.specs.Ups.{with_fsd, with_order};
-ghost use Rattle.nutcore.specs.Ups.{UpsState};
+ghost use Rattle.nutcore.specs.Ups.{with_fsd, with_order, UpsState};
 ghost use Rattle.nutcore.specs.Calls.{done};
 ghost use Rattle.nutcore.specs.Step.{offered, refused_after};
-ghost use Rattle.nutcore.specs.Promises.{IsAt, TakesLine, OrderFits, PumpGives, ListsClients, change_in, IsCounted, KeepsCost, cost_beyond, is_told_by, with_next};
+ghost use Rattle.nutlisting.specs.Counted.{IsCounted};
+ghost use Rattle.nutcore.specs.Promises.{IsAt, TakesLine, OrderFits, PumpGives, ListsClients, change_in, KeepsCost, cost_beyond, is_told_by, with_next};
 ghost use Rattle.nutcore.specs.Reply.{changed_upses, changed_tracking};
 ghost use Rattle.nutlisting.specs.declared.listing.clients.TheConstants.{SESSION_LIMIT};
 ghost use Rattle.nutcore.specs.declared.TheConstants.{HELD_LIMIT};
@@ -150,6 +150,7 @@ fn change_upses(upses: &mut Vec<Ups>, tracking: &mut Tracking, reply: &Reply<'_>
 
 /// Where the reply lists the clients of a UPS, puts together the addresses of the sessions that are logged in to it, in
 /// the order of opening.
+#[tactic(auto, using(crate::proofs::LoginCount::listing))]
 fn list_clients(sessions: &Vec<Session>, reply: &Reply<'_>, clients: &mut Clients)
     requires { length sessions.now.items ≤ SESSION_LIMIT }
     ensures { ListsClients sessions.now.items reply.now clients.new }
@@ -164,6 +165,7 @@ fn list_clients(sessions: &Vec<Session>, reply: &Reply<'_>, clients: &mut Client
 }
 
 /// A forced shutdown of the UPS is set, where there is such a UPS.
+#[tactic(auto, using(crate::proofs::UpsPlaces::there_is, crate::proofs::UpsPlaces::set_changed, crate::proofs::UpsPlaces::changed_none, std::proofs::lemmas::Option::slice_get_past))]
 fn set_fsd(upses: &mut Vec<Ups>, u: UpsId)
     ensures set { upses.new.items ≡ changed_at with_fsd u.place upses.old.items }
     ensures length { length upses.new.items ≡ length upses.old.items }
@@ -175,6 +177,7 @@ fn set_fsd(upses: &mut Vec<Ups>, u: UpsId)
 }
 
 /// The driver of the UPS is owed this line, which fits, where there is such a UPS.
+#[tactic(auto, using(crate::proofs::UpsPlaces::there_is, crate::proofs::UpsPlaces::set_changed, crate::proofs::UpsPlaces::changed_none, std::proofs::lemmas::Option::slice_get_past))]
 fn order(upses: &mut Vec<Ups>, u: UpsId, line: &[u8])
     requires fits { (x : UpsState) → slice_get upses.old.items u.place ≡ Some x
         → TakesLine line.now x }

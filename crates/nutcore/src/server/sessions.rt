@@ -30,6 +30,7 @@ impl Server {
     /// # Errors
     ///
     /// `NoSuchClient`.
+    #[tactic(auto, using(crate::proofs::Serving::found_in, crate::proofs::Runs::state_is))]
     pub(super) fn session(&self, c: ClientId) -> Result<&Session, Fault>
         ensures { MatchResult result (λ x. session c self.now.state ≡ Some x.now)
             (λ fault. (fault ≡ NoSuchClient) × (session c self.now.state ≡ None)) }

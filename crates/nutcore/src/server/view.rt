@@ -1,9 +1,9 @@
 //! What answers see of a server.
 ghost use Rattle.std.specs.Prelude.{◌≡◌, ◌<◌, map, Some, None};
 ghost use Rattle.nutcore.specs.Server.{session};
-ghost use Rattle.nutcore.specs.Reply.{seen_client};
+ghost use Rattle.nutcore.specs.Reply.{seen_client, seen_ups};
 ghost use Rattle.nutcore.specs.Promises.{AnswersEach, IsText};
-ghost use Rattle.nutanswer.specs.View.{login_count, asker_seen};
+ghost use Rattle.nutanswer.specs.View.{login_count, asker_seen, Seen};
 
 use crate::lines::ReadLine;
 use crate::max_age::MaxAge;
@@ -31,10 +31,6 @@ pub(super) struct ServerView<'a> {
 }
 
 impl<'a> Model for ServerView<'a> {
-    ghost use Rattle.std.specs.Prelude.{map};
-    ghost use Rattle.nutanswer.specs.View.{Seen};
-    ghost use Rattle.nutcore.specs.Reply.{seen_ups, seen_client};
-
     ghost Value = { Seen };
 
     ghost view = { λ v. record { moment = v.moment; max_age = v.max_age; list = v.list.now; upses = map seen_ups v.upses.now.items; descriptions = v.descriptions.now; users = v.users.now; clients = map seen_client v.sessions.now.items; tracking = v.tracking.now } };
@@ -112,6 +108,7 @@ impl<'a> View for ServerView<'a> {
 }
 
 /// How many of the sessions are logged in to the UPS.
+#[tactic(auto, using(crate::proofs::LoginCount::counting))]
 fn login_count(sessions: &Vec<Session>, u: UpsId) -> usize
     ensures { result ≡ login_count u (map seen_client sessions.now.items) }
 {

@@ -1,7 +1,6 @@
 //! The sockets of drivers.
 ghost use Rattle.std.specs.Prelude.{◌≡◌, ◌≤◌, length, false, true, IfOk, MatchOption};
-ghost use Rattle.nutloop.specs.Peers.{IsDriverNoted, IsRead, IsSameDriver, IsWritten, NotesDrivers};
-ghost use Rattle.nutloop.specs.Peers.{driver_place, driver_token, driver_with, is_there};
+ghost use Rattle.nutloop.specs.Peers.{IsDriverNoted, IsRead, IsSameDriver, IsWritten, NotesDrivers, driver_place, driver_token, driver_with, is_there};
 ghost use Rattle.nutloop.specs.Sockets.{AtMost};
 ghost use Rattle.nutloop.specs.Standing.{driver_flags, heard, is_driver_owed};
 

@@ -1,14 +1,10 @@
 //! The sockets of all peers, and their places in the round.
-ghost use Rattle.std.specs.Prelude.{◌≡◌, ◌≢◌, ◌≤◌, ◌<◌, ◌⊎◌, ◌++◌, ◌∷◌, [], ℤ, List, Option, None, false, length, slice_set, true};
-ghost use Rattle.std.specs.Prelude.{replicate, IfOk, MatchOption, MatchResult, OnOk};
-ghost use Rattle.std.specs.Prelude.{vec_capacity, vec_len};
+ghost use Rattle.std.specs.Prelude.{◌≡◌, ◌≢◌, ◌≤◌, ◌<◌, ◌⊎◌, ◌++◌, ◌∷◌, [], ℤ, List, Option, None, false, length, slice_set, true, replicate, IfOk, MatchOption, MatchResult, OnOk, vec_capacity, vec_len};
 ghost use Rattle.std.specs.IoError.{raw_os_error};
 ghost use Rattle.std.specs.List.{list_any, remove};
 ghost use Rattle.std.specs.Option.{option_copied, unwrap_or};
 ghost use Rattle.mio.specs.Event.{event_token};
-ghost use Rattle.nutloop.specs.Peers.{NotesBefore, NotesLast, ReadsPeer, ShutsPeer, WritesPeer};
-ghost use Rattle.nutloop.specs.Peers.{AreTried, GrowsBehind, HearsClient, HearsPeer, IsTried, client_of, client_place};
-ghost use Rattle.nutloop.specs.Peers.{error_of, is_there, socket_of, told_by};
+ghost use Rattle.nutloop.specs.Peers.{NotesBefore, NotesLast, ReadsPeer, ShutsPeer, WritesPeer, AreTried, GrowsBehind, HearsClient, HearsPeer, IsTried, client_of, client_place, error_of, is_there, socket_of, told_by};
 ghost use Rattle.nutloop.specs.declared.over_mio.drivers.DriverSocket.{DriverSocket};
 ghost use Rattle.nutloop.specs.Round.{LeavesOut, MayTakeSeat, Notes, TakesIn};
 ghost use Rattle.nutloop.specs.Sockets.{AtMost};

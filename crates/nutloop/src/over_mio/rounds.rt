@@ -1,6 +1,5 @@
 //! Going round the peers, and asking the system what is ready.
-ghost use Rattle.std.specs.Prelude.{◌≡◌, ◌≤◌, ◌⊎◌, [], List, length, IfOk, IfSome, None, OnOk, false, replicate, true};
-ghost use Rattle.std.specs.Prelude.{vec_capacity, vec_len};
+ghost use Rattle.std.specs.Prelude.{◌≡◌, ◌≤◌, ◌⊎◌, [], List, length, IfOk, IfSome, None, OnOk, false, replicate, true, vec_capacity, vec_len};
 ghost use Rattle.nutloop.specs.Door.{ComesIn};
 ghost use Rattle.nutloop.specs.Peers.{AreTried, GrowsBehind, ReadsPeer, ShutsPeer, TakesNewcomer, WritesPeer, error_of};
 ghost use Rattle.nutloop.specs.Pace.{IsDue};

@@ -2,7 +2,7 @@ use Rattle.std.proofs.Common.{◌≡◌, ℕ, ◌<◌, List, [], ◌∷◌, ◌+
 use Rattle.std.specs.Fmt.{decimal}
 use Rattle.std.proofs.lemmas.Fmt.{decimal_digit}
 use Rattle.nutcore.specs.Server.{with_session_changed}
-use Rattle.nutcore.specs.Lines.{ended_lines, whole_lines, unfinished_after}
+use Rattle.nutwords.specs.WholeLines.{ended_lines, whole_lines, unfinished_after}
 use Rattle.nutcore.specs.Pump.{after_reply, after_line, after_lines, after_all_lines, after_notice, pumped}
 use Rattle.nutcore.specs.Step.{with_input, without_output, opened, after_driver_line, after_driver_text, after_driver_bytes, pumped_until, after_by, outcome_of, wants_driver_memory}
 use Rattle.nutcore.specs.History.{taken_in_event}

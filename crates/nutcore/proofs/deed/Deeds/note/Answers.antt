@@ -11,6 +11,4 @@ returns-then-len-lt-DEED_LIMIT c =
     all ∙ sym (take_all DEED_LIMIT (c.args.self.now ++ c.args.deed ∷ []) few)
 
 pub returns-else-len-lt-DEED_LIMIT : goal.returns-else-len-lt-DEED_LIMIT
-returns-else-len-lt-DEED_LIMIT c =
-    let full : length c.args.self.now ≡ DEED_LIMIT = omega (arith, ap length c.self.view_is, c.len.ensures, c.if-len-lt-DEED_LIMIT.false, c.self.invariant) in
-    sym (take_at c.args.self.now (c.args.deed ∷ []) DEED_LIMIT full)
+returns-else-len-lt-DEED_LIMIT c = grind (arith, take_at c.args.self.now (c.args.deed ∷ []) DEED_LIMIT)

@@ -17,11 +17,10 @@ use Rattle.nutcore.proofs.server.Server.close.Goals as goal
 
 pub returns-in_err-place-clause-served : goal.returns-in_err-place-clause-served
 returns-in_err-place-clause-served c =
-    let s = c.forget_cost.new.self.state in
     let p = err_from_is_err_and c.from_residual.result c.from_residual.ensures.1 in
     let found = c.in_err-place.ensures.place in
-    subst (λ (r : Result (Unit {0}) Fault). Serves c.args.self.now.state (Close c.args.c) (done r) s) (sym (p.1 ∙ ap Err (p.2 ∙ found.0)))
-    (served_from _ _ _ _ _ c.forget_cost.ensures.state c.place_of.ensures.lawful (close_absent s c.args.c found.1))
+    subst (λ (r : Result (Unit {0}) Fault). Serves c.args.self.now.state (Close c.args.c) (done r) c.forget_cost.new.self.state) (sym (p.1 ∙ ap Err (p.2 ∙ found.0)))
+    (served_from _ _ _ _ _ c.forget_cost.ensures.state c.place_of.ensures.lawful (close_absent _ _ found.1))
 
 pub invariant_of-self : goal.invariant_of-self
 invariant_of-self c =

@@ -1,11 +1,10 @@
 use Rattle.std.proofs.Common.{◌≡◌, true, sym, subst, rules}
 use Rattle.std.proofs.lemmas.Result.{err_from_is_err_and}
 use Rattle.nutcore.proofs.DriverSteps.{is_there, there_within, down_refused, down_done}
-use Rattle.nutcore.proofs.UpsPlaces.{changed_to}
 use Rattle.nutcore.specs.Ups.{after_loss}
 use Rattle.nutcore.specs.Sound.{IsSoundUps}
 use Rattle.nutcore.proofs.SoundUps.{sound_loss}
-use Rattle.nutcore.proofs.KeptSound.{of_call}
+use Rattle.nutcore.proofs.KeptSound.{of_call, changed_by}
 use Rattle.nutcore.proofs.Runs.{served_from}
 use Rattle.nutcore.proofs.server.Server.driver_down.Goals as goal
 
@@ -26,7 +25,5 @@ with_ups-requires-clause-sound c = λ x y r there called sound. (
 pub returns-clause-served : goal.returns-clause-served
 returns-clause-served c =
     let s = c.forget_cost.new.self.state in
-    let d = c.with_ups.ensures.changes in
-    let is : d.after ≡ after_loss d.before = of_call (λ x y. y ≡ after_loss x) d.called (search rules) in
     served_from _ _ _ _ _ c.forget_cost.ensures.state c.connected.ensures.lawful
-    (down_done s c.with_ups.new.self.state c.args.u (is_there s c.args.u true c.in_ok-connected.ensures.connected) (changed_to s c.with_ups.new.self.state c.args.u after_loss d.before d.after d.there is d.leaves))
+    (down_done s c.with_ups.new.self.state c.args.u (is_there s c.args.u true c.in_ok-connected.ensures.connected) (changed_by c.with_ups.ensures.changes after_loss (search rules)))

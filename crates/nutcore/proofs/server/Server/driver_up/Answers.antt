@@ -1,12 +1,11 @@
 use Rattle.std.proofs.Common.{◌≡◌, true, false, sym, ◌∙◌, ap, subst, rules}
 use Rattle.std.proofs.lemmas.Result.{err_from_is_err_and}
-use Rattle.nutcore.proofs.Common.{ServerState}
+use Rattle.nutcore.proofs.Common.{ServerState, with_ups_changed}
 use Rattle.nutcore.proofs.DriverSteps.{IsThere, there_within, up_absent, up_again, up_done}
-use Rattle.nutcore.proofs.UpsPlaces.{changed_to}
 use Rattle.nutcore.specs.Ups.{after_connecting}
 use Rattle.nutcore.specs.Sound.{IsSoundUps}
 use Rattle.nutcore.proofs.SoundUps.{sound_connecting}
-use Rattle.nutcore.proofs.KeptSound.{of_call}
+use Rattle.nutcore.proofs.KeptSound.{of_call, changed_by}
 use Rattle.nutcore.proofs.Runs.{served_from, state_is}
 use Rattle.nutcore.proofs.server.Server.driver_up.Goals as goal
 
@@ -36,9 +35,7 @@ with_ups-requires-clause-sound c = λ x y r there called sound. (
 pub returns-clause-served : goal.returns-clause-served
 returns-clause-served c =
     let s = c.forget_cost.new.self.state in
-    let d = c.with_ups.ensures.changes in
     let there : IsThere s c.args.u false = record { ups = _; there = c.in_ok-ups_of.ensures.ups; is = sym c.is_connected.ensures ∙ c.if-is_connected.false } in
     let moment : c.self.inside.moment ≡ s.moment = ap (λ (z : ServerState). z.moment) (state_is c.self.view_is) in
-    let is : d.after ≡ after_connecting c.self.inside.moment d.before = of_call (λ x y. y ≡ after_connecting c.self.inside.moment x) d.called (search rules) in
     served_from _ _ _ _ _ c.forget_cost.ensures.state c.ups_of.ensures.lawful
-    (up_done s c.with_ups.new.self.state c.args.u there (changed_to s c.with_ups.new.self.state c.args.u (after_connecting s.moment) d.before d.after d.there (is ∙ ap (λ m. after_connecting m d.before) moment) d.leaves))
+    (up_done s c.with_ups.new.self.state c.args.u there (changed_by c.with_ups.ensures.changes (after_connecting c.self.inside.moment) (search rules) ∙ ap (λ m. with_ups_changed (after_connecting m) c.args.u s) moment))

@@ -8,7 +8,8 @@ use Rattle.nutcore.specs.Pump.{next_line}
 use Rattle.nutcore.specs.History.{owed}
 use Rattle.nutcore.specs.Cost.{RunningServer}
 use Rattle.std.specs.Prelude.{if◌then◌else◌}
-use Rattle.nutcore.specs.Promises.{KeepsCount, RepliesOrLacks, OrderFits, change_in, text_with, deed_in_reply, with_deed, is_told_by}
+use Rattle.nutlisting.specs.Counted.{KeepsCount}
+use Rattle.nutcore.specs.Promises.{RepliesOrLacks, OrderFits, change_in, text_with, deed_in_reply, with_deed, is_told_by}
 use Rattle.nutcore.specs.contracts.server.Server.{the_view}
 use Rattle.nutcore.proofs.Runs.{state_is}
 use Rattle.nutcore.proofs.Serving.{StandsAt, on_err, stands, heard, found_in, next_end_is, next_of_found, change_told, short_told, changes_made, line_is, wants_is}

@@ -1,18 +1,15 @@
-use Rattle.std.proofs.Common.{◌≡◌, ◌∙◌, ◌++◌, sym, rules}
+use Rattle.std.proofs.Common.{◌∙◌, ◌++◌, sym, rules}
 use Rattle.nutcore.specs.Ups.{after_loss}
-use Rattle.nutcore.proofs.UpsPlaces.{changed_to}
 use Rattle.nutcore.proofs.DriverLoops.{told_lost, told_kept}
-use Rattle.nutcore.proofs.KeptSound.{of_call}
+use Rattle.nutcore.proofs.KeptSound.{changed_by}
 use Rattle.nutcore.proofs.server.Server.feed_driver.Goals as goal
 
 pub returns-then-is_err-clause-told : goal.returns-then-is_err-clause-told
 returns-then-is_err-clause-told c = λ x there. (
     let s = c.pump_driver-result.new.self.state in
     let t = c.with_ups.new.self.state in
-    let d = c.with_ups.ensures.changes in
-    let lost : d.after ≡ after_loss d.before = of_call (λ x y. y ≡ after_loss x) d.called (search rules) in
     told_lost c.args.u (x.unfinished ++ c.args.piece.now) c.args.self.now.state s t c.pump_driver-result.result (sym c.is_err.ensures.value ∙ c.if-is_err.true) (c.pump_driver-result.ensures.stops x there)
-    (changed_to s t c.args.u after_loss d.before d.after d.there lost d.leaves))
+    (changed_by c.with_ups.ensures.changes after_loss (search rules)))
 
 pub returns-else-is_err-clause-told : goal.returns-else-is_err-clause-told
 returns-else-is_err-clause-told c = λ x there.

@@ -10,8 +10,8 @@ use Rattle.nutcore.specs.Step.{id_outcome, handed_in}
 use Rattle.nutcore.specs.contracts.server.Server.{the_view}
 use Rattle.nutcore.proofs.EventSteps.{id_handed, step_from}
 use Rattle.nutcore.proofs.Runs.{served_from, lawful, state_is}
-use Rattle.nutcore.proofs.Sound.{is_tracked, tracking_sound}
-use Rattle.nutcore.proofs.Tracked.{IsTracked, id_tracked}
+use Rattle.nutcore.proofs.Sound.{IsTracked, act_tracked, is_tracked, tracking_sound}
+use Rattle.nuttracking.specs.Acts.Act.{handed_in as id_handed_in}
 use Rattle.nutcore.proofs.server.Server.id.Goals.{in-Ok, in-Err-Known, in-Err-TooMany}
 use Rattle.nutcore.proofs.server.Server.id.Goals as goal
 
@@ -19,7 +19,7 @@ pub invariant_of-self : goal.invariant_of-self
 invariant_of-self c =
     let v : ServerState = (the_view c.self.inside).state in
     record {
-      sound = tracking_sound v c.take_in.new.self (subst IsTracked (sym c.take_in.ensures.after) (id_tracked v.tracking c.args.id (is_tracked v c.self.invariant.sound))) c.self.invariant.sound;
+      sound = tracking_sound v c.take_in.new.self (subst IsTracked (sym c.take_in.ensures.after) (act_tracked v.tracking (id_handed_in c.args.id) tt (is_tracked v c.self.invariant.sound))) c.self.invariant.sound;
       room = c.self.invariant.room;
     }
 

@@ -1,11 +1,6 @@
-use Rattle.std.proofs.Common.{◌≡◌, ◌∙◌, ℕ, List, Result, None, sym, ap, subst, length, rules}
-use Rattle.std.specs.List.Sorted.{IsSearchInRange, IsBinarySearchResult}
-use Rattle.std.specs.Ordering.{nat_cmp}
-use Rattle.std.specs.Prelude.{MatchResult}
-use Rattle.nutcore.proofs.Common.{Fault, SessionState, ServerState}
-use Rattle.nutcore.specs.declared.event.Fault.TheVariants.{NoSuchClient}
-use Rattle.nutcore.specs.Session.{IdsRise, find}
-use Rattle.nutcore.specs.Promises.{IsAt}
+use Rattle.std.proofs.Common.{◌≡◌, ◌∙◌, List, ap, subst, rules}
+use Rattle.nutcore.proofs.Common.{SessionState, ServerState}
+use Rattle.nutcore.specs.Session.{IdsRise}
 use Rattle.nutcore.proofs.Runs.{lawful, state_is}
 use Rattle.nutcore.proofs.Places.{searched, place_found}
 use Rattle.std.proofs.lemmas.List.Sorted.{answers_always}
@@ -17,10 +12,8 @@ returns-clause-place c =
     let same : c.deref.result.now ≡ xs = c.deref.ensures.value ∙ ap (λ (s : ServerState). s.sessions) (state_is c.self.view_is) in
     let facts = c.binary_search_by_key.ensures in
     let by_id = facts.position (λ (x : SessionState). x.id) (answers_always _ _ _ (λ f a r g called. search rules)) in
-    subst (λ (r : Result ℕ Fault). MatchResult r (λ i. IsAt c.args.c i xs) (λ fault. (fault ≡ NoSuchClient) × (find c.args.c xs ≡ None))) (sym c.or.ensures)
-    (place_found c.args.c xs c.binary_search_by_key.result
-    (searched 1 c.args.self.now.state.next_id c.args.c xs (subst (λ (z : ServerState). IdsRise 1 z.next_id z.sessions) (state_is c.self.view_is) c.self.invariant.sound.ids) c.binary_search_by_key.result
-    (subst (λ (ys : List SessionState). IsSearchInRange c.binary_search_by_key.result (length ys)) same facts.bound) (subst (λ (ys : List SessionState). IsBinarySearchResult (λ (x : SessionState). nat_cmp x.id c.args.c) ys c.binary_search_by_key.result) same by_id)))
+    rw c.or.ensures (place_found c.args.c xs c.binary_search_by_key.result
+    (searched 1 c.args.self.now.state.next_id c.args.c xs (subst (λ (z : ServerState). IdsRise 1 z.next_id z.sessions) (state_is c.self.view_is) c.self.invariant.sound.ids) c.binary_search_by_key.result (rw same at facts.bound) (rw same at by_id)))
 
 pub returns-clause-lawful : goal.returns-clause-lawful
 returns-clause-lawful c = lawful c.args.self.now.state (subst (λ (z : ServerState). IdsRise 1 z.next_id z.sessions) (state_is c.self.view_is) c.self.invariant.sound.ids)

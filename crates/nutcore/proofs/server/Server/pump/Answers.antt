@@ -1,9 +1,10 @@
 use Rattle.std.specs.Option.{option_map_or}
-use Rattle.std.proofs.Common.{◌≡◌, ◌<◌, ◌≤◌, ◌∙◌, Option, Some, None, false, sym, ap, subst, set, length, arith}
+use Rattle.std.proofs.Common.{◌≡◌, ◌≤◌, ◌∙◌, Option, Some, None, false, sym, ap, subst, set, length, arith}
 use Rattle.nutcore.proofs.Common.{SessionState, ServerState, session}
-use Rattle.nutcore.specs.Promises.{IsAt, KeepsCount, refused_overlong}
+use Rattle.nutlisting.specs.Counted.{KeepsCount}
+use Rattle.nutcore.specs.Promises.{IsAt, refused_overlong}
 use Rattle.nutcore.specs.Pump.{next_line_for, after_line, after_notice, held_of, holds_overlong}
-use Rattle.nutcore.specs.History.{owed}
+use Rattle.nutcore.specs.History.{owed, lines_executed, executions_until}
 use Rattle.nutcore.specs.Cost.{RunningServer}
 use Rattle.nutcore.specs.contracts.server.Server.{the_view}
 use Rattle.nutcore.proofs.Runs.{state_is}
@@ -12,15 +13,16 @@ use Rattle.nutcore.proofs.Costs.{cost_kept}
 use Rattle.nutcore.proofs.Found.{find_id}
 use Rattle.nutcore.proofs.KeptSound.{session_kept, noticed_kept}
 use Rattle.nutcore.proofs.Serving.{begins, goes_on, ok_when, err_when, line_there, no_line_there, ends_at, StandsAt, stands, at_set, notice_is, at_line, pump_gives, refused}
-use Rattle.nutcore.proofs.Deeds.{noted_first, noted_next, noted_until, noted_all}
+use Rattle.nutcore.proofs.Deeds.{noted_next, noted_all}
 use Rattle.nutcore.proofs.server.Server.pump.Goals as goal
 
 pub loop-end-init : goal.loop-end-init
+unfolding lines_executed
 loop-end-init c = record {
   at = c.requires.at;
   keeps = λ kept counted. counted;
   done = begins c.args.self.now.state c.args.c;
-  noted = noted_first c.args.self.now.state c.args.c c.args.self.now.deeds c.requires.unnoted;
+  noted = c.requires.unnoted;
   rest = omega arith;
 }
 
@@ -33,8 +35,7 @@ loop-end-smaller c =
     let t : ServerState = c.loop-end.self.state in
     let ends = ends_at c.args.c c.args.place (the_view c.self.inside).state t c.index.result.now c.next_end.result (state_is c.self.view_is) c.loop-end.invariant.at c.index.ensures c.next_end.ensures in
     let there = line_there (next_line_for t c.args.c) c.in-Some.end (ends ∙ c.in-Some.is) in
-    let e : c.execute.new.self.state ≡ after_line t c.args.c = ok_when c.execute.result _ (sym c.is_err.ensures.value ∙ c.if-is_err.false) c.execute.ensures.ok in
-    subst (λ (z : ServerState). length (held_of (session c.args.c z)) < length (held_of (session c.args.c t))) (sym e) (line_shortens t c.args.c there.0 there.1)
+    rw (ok_when c.execute.result _ (sym c.is_err.ensures.value ∙ c.if-is_err.false) c.execute.ensures.ok) (line_shortens t c.args.c there.0 there.1)
 
 pub loop-end-preserved : goal.loop-end-preserved
 loop-end-preserved c =
@@ -42,13 +43,13 @@ loop-end-preserved c =
     let ends = ends_at c.args.c c.args.place (the_view c.self.inside).state t c.index.result.now c.next_end.result (state_is c.self.view_is) c.loop-end.invariant.at c.index.ensures c.next_end.ensures in
     let there = line_there (next_line_for t c.args.c) c.in-Some.end (ends ∙ c.in-Some.is) in
     let e : c.execute.new.self.state ≡ after_line t c.args.c = ok_when c.execute.result _ (sym c.is_err.ensures.value ∙ c.if-is_err.false) c.execute.ensures.ok in
-    let less : length (held_of (session c.args.c c.execute.new.self.state)) < length (held_of (session c.args.c t)) = subst (λ (z : ServerState). length (held_of (session c.args.c z)) < length (held_of (session c.args.c t))) (sym e) (line_shortens t c.args.c there.0 there.1) in
+    let less = line_shortens t c.args.c there.0 there.1 in
     record {
       at = subst (λ (z : ServerState). IsAt c.args.c c.args.place z.sessions) (sym e) (at_line t c.args.c c.args.place there.0 c.loop-end.invariant.at there.1);
       keeps = λ kept counted. c.execute.ensures.keeps kept (c.loop-end.invariant.keeps kept counted);
       done = goes_on c.args.self.now.state t c.execute.new.self.state c.args.c c.loop-end.done c.loop-end.invariant.done e;
       noted = noted_next c.args.self.now.state t c.args.c c.loop-end.done c.loop-end.self.deeds c.execute.new.self.deeds c.loop-end.invariant.done c.loop-end.invariant.noted (ok_when c.execute.result _ (sym c.is_err.ensures.value ∙ c.if-is_err.false) c.execute.ensures.noted);
-      rest = omega (arith, less, c.loop-end.invariant.rest);
+      rest = omega (arith, rw (← e) at less, c.loop-end.invariant.rest);
     }
 
 pub invariant_of-self : goal.invariant_of-self
@@ -62,12 +63,13 @@ invariant_of-self c =
     }
 
 pub returns-then-is_err : goal.returns-then-is_err
+unfolding executions_until
 returns-then-is_err c =
     let failed = sym c.is_err.ensures.value ∙ c.if-is_err.true in
     let same = err_when c.execute.result _ failed c.execute.ensures.err in
     record {
       gives = refused c.args.self.now.state c.loop-end.self.state c.execute.new.self.state c.args.c c.loop-end.done c.loop-end.invariant.done (err_when c.execute.result _ failed c.execute.ensures.memory) same;
-      deeds = noted_until c.args.self.now.state c.args.c c.loop-end.done c.execute.new.self.deeds (err_when c.execute.result _ failed c.execute.ensures.unnoted ∙ c.loop-end.invariant.noted);
+      deeds = err_when c.execute.result _ failed c.execute.ensures.unnoted ∙ c.loop-end.invariant.noted;
       keeps = λ kept counted. c.execute.ensures.keeps kept (c.loop-end.invariant.keeps kept counted);
       at = subst (λ (z : ServerState). IsAt c.args.c c.args.place z.sessions) (sym same) c.loop-end.invariant.at;
     }

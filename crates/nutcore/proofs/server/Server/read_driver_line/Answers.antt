@@ -13,55 +13,31 @@ with_ups-requires-clause-sound c = λ x y r there called sound. (
     driver_cut_kept s.moment c.args.piece.now x y r (of_call (λ x y. IsCut c.args.piece.now x r y) called (search rules)) (connected_as s c.args.u x (is_there s c.args.u true c.requires.connected) there) sound)
 
 pub execute_driver_line-requires-clause-connected : goal.execute_driver_line-requires-clause-connected
-execute_driver_line-requires-clause-connected c =
-    let d = c.in-InPiece.ensures.changes in
-    still_connected c.args.piece.now (InPiece c.in-InPiece.length) d (of_call (λ x y. IsCut c.args.piece.now x (InPiece c.in-InPiece.length) y) d.called (search rules)) c.requires.connected
+execute_driver_line-requires-clause-connected c = still_connected c.args.piece.now (InPiece c.in-InPiece.length) c.in-InPiece.ensures.changes (search rules) c.requires.connected
 
 pub execute_driver_line-requires-in-Joined-clause-connected : goal.execute_driver_line-requires-in-Joined-clause-connected
-execute_driver_line-requires-in-Joined-clause-connected c =
-    let d = c.in-Joined.ensures.changes in
-    still_connected c.args.piece.now (Joined c.in-Joined.used) d (of_call (λ x y. IsCut c.args.piece.now x (Joined c.in-Joined.used) y) d.called (search rules)) c.requires.connected
+execute_driver_line-requires-in-Joined-clause-connected c = still_connected c.args.piece.now (Joined c.in-Joined.used) c.in-Joined.ensures.changes (search rules) c.requires.connected
 
 pub returns-in-Ok-clause-reads : goal.returns-in-Ok-clause-reads
-returns-in-Ok-clause-reads c =
-    let d = c.in-InPiece.ensures.changes in
-    let cut : IsCut c.args.piece.now d.before (InPiece c.in-InPiece.length) d.after = of_call (λ x y. IsCut c.args.piece.now x (InPiece c.in-InPiece.length) y) d.called (search rules) in
-    reads_done c.args.piece.now (InPiece c.in-InPiece.length) d cut (Some c.in-InPiece.length) c.args.done (c.in-InPiece.length + 1) c.execute_driver_line.new.self.state cut.finds.0 c.in-Ok.ensures.executes
+returns-in-Ok-clause-reads c = reads_done c.args.piece.now (InPiece c.in-InPiece.length) c.in-InPiece.ensures.changes (search rules) (Some c.in-InPiece.length) c.args.done (c.in-InPiece.length + 1) c.execute_driver_line.new.self.state (λ finds. finds.0) c.in-Ok.ensures.executes
 
 pub returns-in-Err-clause-reads : goal.returns-in-Err-clause-reads
-returns-in-Err-clause-reads c =
-    let d = c.in-InPiece.ensures.changes in
-    let cut : IsCut c.args.piece.now d.before (InPiece c.in-InPiece.length) d.after = of_call (λ x y. IsCut c.args.piece.now x (InPiece c.in-InPiece.length) y) d.called (search rules) in
-    reads_lacking c.args.piece.now (InPiece c.in-InPiece.length) d cut (Some c.in-InPiece.length) c.args.done (c.in-InPiece.length + 1) c.execute_driver_line.new.self.state c.in-Err.field-0 cut.finds.0 c.in-Err.ensures.executes
+returns-in-Err-clause-reads c = reads_lacking c.args.piece.now (InPiece c.in-InPiece.length) c.in-InPiece.ensures.changes (search rules) (Some c.in-InPiece.length) c.args.done (c.in-InPiece.length + 1) c.execute_driver_line.new.self.state (λ finds. finds.0) c.in-Err.field-0 c.in-Err.ensures.executes
 
 pub returns-in-Ok-execute_driver_line-clause-reads : goal.returns-in-Ok-execute_driver_line-clause-reads
-returns-in-Ok-execute_driver_line-clause-reads c =
-    let d = c.in-Joined.ensures.changes in
-    let cut : IsCut c.args.piece.now d.before (Joined c.in-Joined.used) d.after = of_call (λ x y. IsCut c.args.piece.now x (Joined c.in-Joined.used) y) d.called (search rules) in
-    reads_done c.args.piece.now (Joined c.in-Joined.used) d cut None c.args.done c.in-Joined.used c.execute_driver_line-in-Joined.new.self.state cut.finds c.in-Ok-execute_driver_line.ensures.executes
+returns-in-Ok-execute_driver_line-clause-reads c = reads_done c.args.piece.now (Joined c.in-Joined.used) c.in-Joined.ensures.changes (search rules) None c.args.done c.in-Joined.used c.execute_driver_line-in-Joined.new.self.state (λ finds. finds) c.in-Ok-execute_driver_line.ensures.executes
 
 pub returns-in-Err-execute_driver_line-clause-reads : goal.returns-in-Err-execute_driver_line-clause-reads
-returns-in-Err-execute_driver_line-clause-reads c =
-    let d = c.in-Joined.ensures.changes in
-    let cut : IsCut c.args.piece.now d.before (Joined c.in-Joined.used) d.after = of_call (λ x y. IsCut c.args.piece.now x (Joined c.in-Joined.used) y) d.called (search rules) in
-    reads_lacking c.args.piece.now (Joined c.in-Joined.used) d cut None c.args.done c.in-Joined.used c.execute_driver_line-in-Joined.new.self.state c.in-Err-execute_driver_line.field-0 cut.finds c.in-Err-execute_driver_line.ensures.executes
+returns-in-Err-execute_driver_line-clause-reads c = reads_lacking c.args.piece.now (Joined c.in-Joined.used) c.in-Joined.ensures.changes (search rules) None c.args.done c.in-Joined.used c.execute_driver_line-in-Joined.new.self.state (λ finds. finds) c.in-Err-execute_driver_line.field-0 c.in-Err-execute_driver_line.ensures.executes
 
 pub returns-in-NeedsMore-clause-reads : goal.returns-in-NeedsMore-clause-reads
-returns-in-NeedsMore-clause-reads c =
-    let d = c.in-NeedsMore.ensures.changes in
-    reads_none c.args.piece.now NeedsMore d (of_call (λ x y. IsCut c.args.piece.now x NeedsMore y) d.called (search rules)) (Ok None) c.args.done (λ all. all)
+returns-in-NeedsMore-clause-reads c = reads_none c.args.piece.now NeedsMore c.in-NeedsMore.ensures.changes (search rules) (Ok None) c.args.done (λ all. all)
 
 pub returns-in-NeedsMore-clause-connected : goal.returns-in-NeedsMore-clause-connected
-returns-in-NeedsMore-clause-connected c =
-    let d = c.in-NeedsMore.ensures.changes in
-    still_connected c.args.piece.now NeedsMore d (of_call (λ x y. IsCut c.args.piece.now x NeedsMore y) d.called (search rules)) c.requires.connected
+returns-in-NeedsMore-clause-connected c = still_connected c.args.piece.now NeedsMore c.in-NeedsMore.ensures.changes (search rules) c.requires.connected
 
 pub returns-in-TooLong-clause-reads : goal.returns-in-TooLong-clause-reads
-returns-in-TooLong-clause-reads c =
-    let d = c.in-TooLong.ensures.changes in
-    reads_none c.args.piece.now TooLong d (of_call (λ x y. IsCut c.args.piece.now x TooLong y) d.called (search rules)) (Err faults.LineTooLong) c.args.done (λ all. all)
+returns-in-TooLong-clause-reads c = let d = c.in-TooLong.ensures.changes in reads_none c.args.piece.now TooLong d (search rules) (Err faults.LineTooLong) c.args.done (λ all. all)
 
 pub returns-in-TooLong-clause-connected : goal.returns-in-TooLong-clause-connected
-returns-in-TooLong-clause-connected c =
-    let d = c.in-TooLong.ensures.changes in
-    still_connected c.args.piece.now TooLong d (of_call (λ x y. IsCut c.args.piece.now x TooLong y) d.called (search rules)) c.requires.connected
+returns-in-TooLong-clause-connected c = let d = c.in-TooLong.ensures.changes in still_connected c.args.piece.now TooLong d (search rules) c.requires.connected

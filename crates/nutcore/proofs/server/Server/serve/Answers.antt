@@ -1,4 +1,4 @@
-use Rattle.std.proofs.Common.{◌≡◌, ◌≤◌, ◌∙◌, Option, Some, ap, sym, arith, length, drop}
+use Rattle.std.proofs.Common.{◌∙◌, Option, ap, sym, arith, length, drop}
 use Rattle.nutlisting.specs.Counts.{lines}
 use Rattle.nutcore.proofs.Common.{SessionState, ServerState, session}
 use Rattle.nutcore.specs.Step.{offered}
@@ -13,10 +13,9 @@ pub overflow_sub-self : goal.overflow_sub-self
 overflow_sub-self c =
     let s : ServerState = c.pump-pumped.new.self.state in
     let x : SessionState = c.index-session.result.now in
-    let found : session c.args.c s ≡ Some x = found_in c.args.c c.args.place (the_view c.self.inside).state s x (state_is c.self.view_is) c.pump-pumped.ensures.at c.index-session.ensures in
-    let within : c.args.kept ≤ length (offered (session c.args.c s)) = (c.pump-pumped.ensures.keeps c.args.kept c.requires.counted).within in
-    let all : c.offered.result ≡ length (offered (session c.args.c s)) = c.offered.ensures ∙ sym (ap (λ (o : Option SessionState). length (offered o)) found) in
-    omega (arith, within, all)
+    let found = found_in c.args.c c.args.place (the_view c.self.inside).state s x (state_is c.self.view_is) c.pump-pumped.ensures.at c.index-session.ensures in
+    let within = rw found at (c.pump-pumped.ensures.keeps c.args.kept c.requires.counted).within in
+    omega (arith, within, c.offered.ensures)
 
 pub returns-clause-cost : goal.returns-clause-cost
 returns-clause-cost c =

@@ -1,8 +1,8 @@
-use Rattle.std.proofs.Common.{◌≡◌, ◌∙◌, ℕ, List, refl, sym, ap, subst, map}
+use Rattle.std.proofs.Common.{ℕ, List, refl, sym, subst}
 use Rattle.nutcore.specs.declared.event.Event.TheVariants.{Tick}
 use Rattle.nutcore.specs.declared.event.Outcome.TheVariants.{Done}
 use Rattle.nutcore.specs.Session.{IdsRise}
-use Rattle.nutcore.specs.Ups.{UpsState, after_tick}
+use Rattle.nutcore.specs.Ups.{UpsState}
 use Rattle.nutcore.specs.Server.{ServerState}
 use Rattle.nutcore.specs.contracts.server.Server.{the_view}
 use Rattle.nutcore.proofs.DriverSteps.{ticked_is, tick_done}
@@ -18,17 +18,13 @@ returns-clause-served c =
     let xs : List UpsState = c.ping_upses.new.upses.items in
     let moment : ℕ = c.max-self-inside.result in
     let t : ServerState = record v { moment = moment; upses = xs } in
-    let pinged : xs ≡ map (after_tick v.max_age moment) v.upses = c.ping_upses.ensures.pinged ∙ ap (λ (age : ℕ). map (after_tick age moment) v.upses) c.seconds.ensures in
     served_from _ _ _ _ _ c.forget_cost.ensures.state (lawful c.forget_cost.new.self.state (subst (λ (z : ServerState). IdsRise 1 z.next_id z.sessions) (state_is c.self.view_is) c.self.invariant.sound.ids))
-    (step_from v c.forget_cost.new.self.state t t (Tick c.args.seconds) Done (state_is c.self.view_is) refl (tick_done v t c.args.seconds (ticked_is v c.args.seconds moment xs c.max-self-inside.ensures pinged)))
+    (step_from v c.forget_cost.new.self.state t t (Tick c.args.seconds) Done (state_is c.self.view_is) refl (tick_done v t c.args.seconds (ticked_is v c.args.seconds moment _ xs c.max-self-inside.ensures c.seconds.ensures c.ping_upses.ensures.pinged)))
 
 pub invariant_of-self : goal.invariant_of-self
 invariant_of-self c =
     let v : ServerState = (the_view c.self.inside).state in
-    let xs : List UpsState = c.ping_upses.new.upses.items in
-    let moment : ℕ = c.max-self-inside.result in
-    let pinged : xs ≡ map (after_tick v.max_age moment) v.upses = c.ping_upses.ensures.pinged ∙ ap (λ (age : ℕ). map (after_tick age moment) v.upses) c.seconds.ensures in
     record {
-      sound = subst IsSound (sym (ticked_is v c.args.seconds moment xs c.max-self-inside.ensures pinged)) (sound_ticked v c.args.seconds c.self.invariant.sound);
+      sound = subst IsSound (sym (ticked_is v c.args.seconds c.max-self-inside.result _ c.ping_upses.new.upses.items c.max-self-inside.ensures c.seconds.ensures c.ping_upses.ensures.pinged)) (sound_ticked v c.args.seconds c.self.invariant.sound);
       room = c.self.invariant.room;
     }

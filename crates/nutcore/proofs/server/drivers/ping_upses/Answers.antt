@@ -1,11 +1,8 @@
-use Rattle.std.proofs.Common.{◌≡◌, ◌+◌, ◌<◌, ◌≤◌, ◌++◌, ◌∙◌, ℕ, suc, List, refl, ap, arith, length, map, take, drop, set, get_or, append-nil, length-set}
+use Rattle.std.proofs.Common.{◌≡◌, ◌+◌, ◌<◌, ◌≤◌, ◌++◌, ◌∙◌, ℕ, suc, List, ap, arith, length, map, take, drop, set, get_or, append-nil, length-set}
 use Rattle.std.proofs.lemmas.List.{take_all, drop_all}
 use Rattle.nutcore.specs.Ups.{UpsState, after_tick}
 use Rattle.nutcore.proofs.DriverSteps.{changed_so_far}
 use Rattle.nutcore.proofs.server.drivers.ping_upses.Goals as goal
-
-pub loop-place-init : goal.loop-place-init
-loop-place-init c = record { done = refl; same = refl }
 
 pub loop-place-preserved : goal.loop-place-preserved
 loop-place-preserved c =

@@ -1,17 +1,15 @@
-use Rattle.std.proofs.Common.{◌∙◌, ◌≤◌, [], Option, None, Ok, refl, sym, ap, subst, inl, inr, arith, length}
+use Rattle.std.proofs.Common.{◌∙◌, [], Option, None, Ok, refl, sym, ap, subst, inl, inr, arith}
 use Rattle.nutanswer.specs.declared.command.Command.{Command}
 use Rattle.nutanswer.specs.View.{asker_seen}
 use Rattle.nutanswer.proofs.PublicLaws.{error_lines_are_whole}
 use Rattle.nutcore.specs.Promises.{IsLineOrNone}
 use Rattle.nutcore.proofs.Serving.{replies_text, answers_each}
 use Rattle.nutcore.proofs.server.view.ServerView.reply_to.Goals as goal
-use Rattle.nutlisting.specs.declared.outbox.TheConstants.{OWED_LIMIT}
 
 pub returns-in-Err : goal.returns-in-Err
 returns-in-Err c s n line sees asks read =
-    let short : length c.line.result.now ≤ OWED_LIMIT = omega (arith, c.line.ensures.short) in
     let whole : IsLineOrNone c.line.result.now = subst IsLineOrNone (sym c.line.ensures.line) (inl (error_lines_are_whole c.in-Err.word)) in
-    replies_text s n line c.line.result.now _ c.one_line.result (read ∙ c.in-Err.is) refl (sym c.line.ensures.line) refl short whole c.one_line.ensures
+    replies_text s n line c.line.result.now _ c.one_line.result (read ∙ c.in-Err.is) refl (sym c.line.ensures.line) refl (omega (arith, c.line.ensures.short)) whole c.one_line.ensures
 
 pub returns-in-None : goal.returns-in-None
 returns-in-None c s n line sees asks read =

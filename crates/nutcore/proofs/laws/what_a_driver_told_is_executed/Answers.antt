@@ -1,5 +1,0 @@
-use Rattle.nutcore.proofs.DriverHistory.{told_is_executed}
-use Rattle.nutcore.proofs.laws.what_a_driver_told_is_executed.Goals as goal
-
-pub returns : goal.returns
-returns c = told_is_executed

@@ -1,5 +1,0 @@
-use Rattle.nutcore.proofs.DriverOrders.{sent_to_drivers}
-use Rattle.nutcore.proofs.laws.what_a_driver_was_sent_and_is_owed.Goals as goal
-
-pub returns : goal.returns
-returns c = sent_to_drivers c.every_server_is_sound.ensures.event
