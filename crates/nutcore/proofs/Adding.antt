@@ -1,14 +1,14 @@
 -- What a client's lines leave of a UPS: all but a forced shutdown, and what its driver is owed, to which they add.
-use Rattle.std.proofs.Common.{◌≡◌, ◌∙◌, ℕ, zero, suc, Bool, true, false, List, [], ◌∷◌, ◌++◌, Option, Some, None, refl, sym, ap, cond, eqb, length, append_assoc, append-nil}
+use Rattle.std.proofs.Common.{◌≡◌, ◌∙◌, ℕ, zero, suc, Bool, true, false, List, [], ◌++◌, Option, Some, None, refl, sym, ap, cond, length, append_assoc, append-nil}
 use Rattle.std.specs.List.{flat_map}
 use Rattle.nutcore.proofs.Common.{slice_get, flat_map-append, UpsId, Change, Event, SessionState, ServerState, session, ups_at, with_session_changed}
-use Rattle.nutcore.specs.Ups.{UpsState, with_fsd, with_order}
+use Rattle.nutcore.specs.Ups.{UpsState}
 use Rattle.nutcore.specs.Reply.{changed_upses}
 use Rattle.nutcore.specs.Pump.{next_line_for, after_line, after_lines, after_all_lines, after_notice, with_notice, pumped, held_of}
 use Rattle.nutcore.specs.Step.{taken_from, without_output, pumped_until}
 use Rattle.nutcore.specs.History.{next_execution, lines_executed, notice, pump_executions, executions_until}
 use Rattle.nutcore.specs.Isolation.{without_commands}
-use Rattle.nutcore.specs.DriverOrders.{Telling, order, texts_of, told_by_change, told_by_line}
+use Rattle.nutcore.specs.DriverOrders.{Telling, texts_of, told_by_change, told_by_line}
 use Rattle.nutcore.proofs.Changed.{by_change}
 use Rattle.nutcore.proofs.Changes.{of_upses}
 use Rattle.nutcore.proofs.Found.{cases_Option}
@@ -34,10 +34,7 @@ adds_both x y z told more f g = record {
 changes_add : (u : UpsId) (change : Change) (xs : List UpsState) (x : UpsState) → slice_get xs u.place ≡ Some x → Stands u.place (changed_upses change xs) (Adds x (told_by_change u change))
 changes_add u change xs x there =
     of_upses (λ told ys. Stands u.place ys (Adds x (told u))) change xs (record { ups = x; there = there; is = adds_none x })
-    (λ v is. of_place with_fsd u v xs x (Adds x []) there (λ k same. record { owed = sym (append-nil x.owed); same = refl }) (λ k. adds_none x))
-    (λ v line id is.
-    of_place (with_order line) u v xs x (Adds x (cond (eqb v.place u.place) (order line ∷ []) [])) there
-    (λ k same. rw k (record { owed = ap (λ (z : List ℕ). x.owed ++ z) (sym (append-nil line)); same = refl })) (λ k. rw k (adds_none x)))
+    (λ v f told does. of_place f u v xs x (Adds x (told u)) there (λ own same. record { owed = does.owed u x own; same = does.same x }) (λ other. rw (does.elsewhere u other) (adds_none x)))
 
 -- one line, and some
 line_adds : (u : UpsId) (s : ServerState) (c : ℕ) (x : UpsState) → ups_at u.place s ≡ Some x → Stands u.place (after_line s c).upses (Adds x (flat_map (told_by_line u) (next_execution s c (next_line_for s c))))

@@ -7,7 +7,7 @@ use Rattle.nuttracking.specs.declared.order.TrackedOrder.{TrackedOrder}
 use Rattle.nuttracking.specs.Tracking.{settled}
 use Rattle.nutcore.specs.Reports.{with_end}
 use Rattle.nutcore.specs.Session.{SessionState}
-use Rattle.nutcore.specs.Ups.{UpsState, with_fsd, with_order}
+use Rattle.nutcore.specs.Ups.{UpsState}
 use Rattle.nutcore.specs.Reply.{changed_upses}
 use Rattle.nutcore.specs.Pump.{next_line_for, after_line, after_lines, after_all_lines, is_overlong, with_notice}
 use Rattle.nutcore.specs.Step.{Step, joined, with_input, taken_from, without_output, may_take, after_by, refused_after, outcome_of}
@@ -33,7 +33,7 @@ masked_at f h zero (x ∷ xs) = ap (λ (y : UpsState). y ∷ map without_command
 masked_at f h (suc p) (x ∷ xs) = ap (λ (ys : List UpsState). without_commands x ∷ ys) (masked_at f h p xs)
 
 masked : (change : Change) (xs : List UpsState) → map without_commands (changed_upses change xs) ≡ map without_commands xs
-masked change xs = of_upses (λ told ys. map without_commands ys ≡ map without_commands xs) change xs refl (λ u is. masked_at with_fsd (λ x. refl) u.place xs) (λ u line id is. masked_at (with_order line) (λ x. refl) u.place xs)
+masked change xs = of_upses (λ told ys. map without_commands ys ≡ map without_commands xs) change xs refl (λ v f told does. masked_at f does.same v.place xs)
 
 abbrev IsKept : ServerState → ServerState → Type 0
 IsKept s t = kept_from_clients t ≡ kept_from_clients s

@@ -1,8 +1,7 @@
 -- The orders that a run told are those of its lines that are by right.
-use Rattle.std.proofs.Common.{arith, ◌≡◌, ◌∙◌, append_assoc, ℕ, Bool, List, [], ◌∷◌, ◌++◌, Option, Some, None, Ok, refl, sym, ap, subst, cond, eqb, inl, inr}
+use Rattle.std.proofs.Common.{arith, ◌≡◌, ◌∙◌, append_assoc, ℕ, Bool, List, [], ◌∷◌, ◌++◌, Option, Some, None, Ok, refl, sym, ap, subst, cond, inl, inr}
 use Rattle.std.specs.List.{flat_map}
 use Rattle.std.proofs.lemmas.Grind.{flat_map-append}
-use Rattle.std.proofs.lemmas.Bool.{cond_both, cond-false, eqb-true}
 use Rattle.nutcore.proofs.Common.{UpsId, Change, Event, Outcome, ServerState, after}
 use Rattle.nutanswer.specs.declared.command.Command.{Command}
 use Rattle.nutanswer.specs.declared.command.Command.TheVariants.{SetVar, InstCmd}
@@ -100,8 +99,11 @@ passes u x e xs rest h = passed_over (λ bytes k. absurd (cc (e, gives u bytes x
 
 line_joins : (u : UpsId) (s : ServerState) (c : ℕ) (line : List ℕ) (change : Change) → change_by s c (read_command line) ≡ change → Joins u (of_line s c line) (told_by_change u change)
 line_joins u s c line change e =
-    of_upses (λ told ys. told_by_line u (of_line s c line) ≡ told u → Joins u (of_line s c line) (told u)) change [] (passes u (of_line s c line)) (λ v is. passes u (of_line s c line))
-    (λ v bytes id is here. cond_both (eqb v.place u.place) (order bytes ∷ []) [] (Joins u (of_line s c line)) (λ own xs rest h. given (by_read s c line u v bytes id (eqb-true v.place u.place own) (e ∙ is)) h) (λ other. passes u (of_line s c line) (here ∙ cond-false _ _ _ other)))
+    of_upses (λ told ys. told_by_line u (of_line s c line) ≡ told u → Joins u (of_line s c line) (told u)) change [] (passes u (of_line s c line))
+    (λ v f told does here. elim (does.orders u) [
+      | inl none ↦ rw none (passes u (of_line s c line) (here ∙ none))
+      | inr (bytes, id, own, is, told_is) ↦ rw told_is (λ xs rest h. given (by_read s c line u v bytes id own (e ∙ is)) h)
+    ])
     (ap (told_by_change u) e)
 
 joins : (u : UpsId) (x : Execution) → Joins u x (told_by_line u x)

@@ -2,14 +2,14 @@
 use Rattle.std.proofs.Common.{arith, ◌≡◌, ℕ, zero, suc, Bool, true, false, List, [], ◌∷◌, ◌++◌, Option, Some, None, refl, sym, ◌∙◌, ap, take, inl, inr}
 use Rattle.std.specs.Prelude.{slice_get}
 use Rattle.std.specs.Option.{option_map_or}
-use Rattle.std.proofs.lemmas.Bool.{cases_eq, cases_Bool}
+use Rattle.std.proofs.lemmas.Bool.{cases_Bool}
 use Rattle.nutcore.proofs.Common.{slice_get-map, never_both, UpsId, Change, TrackingState, Event, SessionState, UpsState, ServerState, changed_at, with_session_changed}
 use Rattle.nutdriver.specs.declared.report.Report.{Report}
 use Rattle.nutdriver.specs.declared.report.LineOutcome.{LineOutcome}
 use Rattle.nutdriver.specs.Report.{after_line as report_after, end_in}
 use Rattle.nutanswer.specs.declared.reply.Change.TheVariants as changes
 use Rattle.nutcore.specs.Reports.{with_end, is_unawaited}
-use Rattle.nutcore.specs.Ups.{with_fsd, with_order, after_outcome, after_texts}
+use Rattle.nutcore.specs.Ups.{with_fsd, after_outcome, after_texts}
 use Rattle.nutcore.specs.Reply.{changed_upses}
 use Rattle.nutcore.specs.Pump.{next_line_for, after_line, notified}
 use Rattle.nutcore.specs.Step.{after_by, joined, with_input, taken_from, without_output, opened, ticked}
@@ -17,7 +17,7 @@ use Rattle.nutcore.specs.History.{Execution, of_line}
 use Rattle.nutcore.specs.ByRight.{SetsShutdownByRight, is_shut_down, AForcedShutdownIsSetByRight}
 use Rattle.nutcore.proofs.Changed.{by_change}
 use Rattle.nutcore.proofs.Changes.{of_upses as of_changed_upses}
-use Rattle.nutcore.proofs.UpsPlaces.{same_ups, other_ups}
+use Rattle.nutcore.proofs.UpsPlaces.{same_ups}
 use Rattle.nutcore.proofs.DriverText.{ups_after_text, ups_after_bytes}
 use Rattle.nutcore.proofs.Pumping.{is_next, after_line_is, change_at}
 use Rattle.nutcore.proofs.Rows.{comes_of_line, by_right}
@@ -94,15 +94,20 @@ by_plain u s e m =
 by_session : (u : UpsId) (f : SessionState → SessionState) (s : ServerState) (c : ℕ) → is_shut_down u (with_session_changed f c s) ≡ is_shut_down u s
 by_session u f s c = by_change (λ t. is_shut_down u t ≡ is_shut_down u s) f c s (λ x e. refl) (λ e. refl)
 
+-- where one is set, the UPS there was changed so
+sets_there : (f : UpsState → UpsState) (P : Type 0) → ((x : UpsState) → x.fsd ≡ false → (f x).fsd ≡ true → P) → (p q : ℕ) (xs : List UpsState) → fsd_at q xs ≡ false → fsd_at q (changed_at f p xs) ≡ true → (p ≡ q) × P
+sets_there f P h p q [] before after = never_both _ after before
+sets_there f P h zero zero (x ∷ xs) before after = (refl, h x before after)
+sets_there f P h zero (suc q) (x ∷ xs) before after = never_both _ after before
+sets_there f P h (suc p) zero (x ∷ xs) before after = never_both _ after before
+sets_there f P h (suc p) (suc q) (x ∷ xs) before after = let there = sets_there f P h p q xs before after in (ap suc there.0, there.1)
+
 -- a line that sets it has the row of FSD
 change_sets : (u : UpsId) (change : Change) (xs : List UpsState) → fsd_at u.place xs ≡ false → fsd_at u.place (changed_upses change xs) ≡ true → change ≡ changes.Fsd u
 change_sets u change xs before after =
-    of_changed_upses (λ told ys. fsd_at u.place ys ≡ true → change ≡ changes.Fsd u) change xs (λ set. never_both _ set before)
-    (λ v is set. is ∙ ap (λ (w : UpsId). changes.Fsd w) (same_ups v u (elim (cases_eq v.place u.place) [
-      | inl same ↦ same
-      | inr other ↦ never_both _ (sym (ap (λ (o : Option UpsState). option_map_or (λ (x : UpsState). x.fsd) o false) (other_ups with_fsd v.place u.place xs (λ (k : u.place ≡ v.place). other (sym k)))) ∙ set) before
-    ])))
-    (λ v line id is set. never_both _ (sym (changed_keeps (with_order line) (λ x. refl) v.place u.place xs) ∙ set) before) after
+    of_changed_upses (λ told ys. fsd_at u.place ys ≡ true → change ≡ changes.Fsd u) change xs (λ set. never_both _ set before) (λ v f told does set.
+    let sets = sets_there f (change ≡ changes.Fsd v) (λ x unset forced. elim (does.fsd x) [ inl same ↦ never_both _ forced (same ∙ unset) | inr by ↦ by.1 ]) v.place u.place xs before set in
+    sets.1 ∙ ap (λ (w : UpsId). changes.Fsd w) (same_ups v u sets.0)) after
 
 line_sets : (u : UpsId) (s : ServerState) (c : ℕ) (line : List ℕ) → next_line_for s c ≡ Some line → is_shut_down u s ≡ false → is_shut_down u (after_line s c) ≡ true → SetsShutdownByRight u (of_line s c line)
 line_sets u s c line next before after =
@@ -151,18 +156,18 @@ either_sets u (x ∷ xs) ys (inl sets) = inl (inl sets)
 either_sets u (x ∷ xs) ys (inr h) = elim (either_sets u xs ys h) [ inl first ↦ inl (inr first) | inr last ↦ inr last ]
 
 -- so a line that is executed leaves it set where it was
-forced_stays : (p q : ℕ) (xs : List UpsState) → fsd_at q xs ≡ true → fsd_at q (changed_at with_fsd p xs) ≡ true
-forced_stays p q [] h = h
-forced_stays zero zero (x ∷ xs) h = refl
-forced_stays zero (suc q) (x ∷ xs) h = h
-forced_stays (suc p) zero (x ∷ xs) h = h
-forced_stays (suc p) (suc q) (x ∷ xs) h = forced_stays p q xs h
+forced_stays : (f : UpsState → UpsState) → ((x : UpsState) → x.fsd ≡ true → (f x).fsd ≡ true) → (p q : ℕ) (xs : List UpsState) → fsd_at q xs ≡ true → fsd_at q (changed_at f p xs) ≡ true
+forced_stays f keeps p q [] h = h
+forced_stays f keeps zero zero (x ∷ xs) h = keeps x h
+forced_stays f keeps zero (suc q) (x ∷ xs) h = h
+forced_stays f keeps (suc p) zero (x ∷ xs) h = h
+forced_stays f keeps (suc p) (suc q) (x ∷ xs) h = forced_stays f keeps p q xs h
 
 line_keeps : (u : UpsId) (s : ServerState) (c : ℕ) (line : List ℕ) → next_line_for s c ≡ Some line → is_shut_down u s ≡ true → is_shut_down u (after_line s c) ≡ true
 line_keeps u s c line next set =
     let n = is_next s c line next in
     rw (after_line_is s c line n.asking n.found next)
-    (of_changed_upses (λ told ys. fsd_at u.place ys ≡ true) (change_at s c line) s.upses set (λ v is. forced_stays v.place u.place s.upses set) (λ v line id is. changed_keeps (with_order line) (λ x. refl) v.place u.place s.upses ∙ set))
+    (of_changed_upses (λ told ys. fsd_at u.place ys ≡ true) (change_at s c line) s.upses set (λ v f told does. forced_stays f (λ x forced. elim (does.fsd x) [ inl same ↦ same ∙ forced | inr by ↦ by.0 ]) v.place u.place s.upses set))
 
 shuts_down : (u : UpsId) → IsOfEvents 0 (λ s xs taken asked t. (is_shut_down u s ≡ true) ⊎ AnySets u xs → is_shut_down u t ≡ true)
 unfolding with_input without_output AnySets

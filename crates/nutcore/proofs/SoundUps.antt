@@ -1,5 +1,5 @@
 -- Sound UPSs, and what keeps them so.
-use Rattle.std.proofs.Common.{◌≡◌, ◌≤◌, ℕ, zero, suc, Bool, true, false, List, [], ◌∷◌, ◌++◌, Option, Some, refl, ap, subst, map, length, replicate, drop, length-append, length-drop, arith, rules}
+use Rattle.std.proofs.Common.{◌≡◌, ◌≤◌, ℕ, zero, suc, Bool, true, false, List, [], ◌∷◌, ◌++◌, Option, Some, refl, ap, subst, map, length, replicate, drop, length-append, length-drop, arith}
 use Rattle.std.proofs.Math.Seq.{drop-nil}
 use Rattle.std.proofs.lemmas.Bool.{leb-false}
 use Rattle.nutwords.specs.declared.limits.TheConstants.{LINE_LIMIT, LINE_ROOM}
@@ -13,9 +13,9 @@ use Rattle.nutcore.proofs.Common.{never_both, cond_both, TrackingState, Change, 
 use Rattle.nutcore.specs.declared.TheConstants.{DRIVER_OWED_LIMIT}
 use Rattle.nutwords.specs.WholeLines.{whole_lines, unfinished_after, is_too_long}
 use Rattle.nutcore.specs.Reports.{with_end, is_unawaited}
-use Rattle.nutcore.specs.Ups.{UpsState, after_connecting, after_loss, with_fsd, with_order, after_tick, after_outcome, after_text, after_texts, with_unfinished}
+use Rattle.nutcore.specs.Ups.{UpsState, after_connecting, after_loss, after_tick, after_outcome, after_text, after_texts, with_unfinished}
 use Rattle.nutcore.specs.Reply.{changed_upses}
-use Rattle.nutcore.specs.Promises.{TakesLine, OrderFits}
+use Rattle.nutcore.specs.Promises.{OrderFits}
 use Rattle.nutcore.proofs.Changes.{of_upses}
 use Rattle.nutcore.specs.Step.{driver_may_take, after_driver_took}
 use Rattle.nutcore.proofs.DriverText.{ups_after_bytes}
@@ -84,19 +84,12 @@ sound_took m n x h = cond_both (driver_may_take n x) _ x (IsSoundUps m) (λ e. s
 pub sound_tick : (ma m now : ℕ) (x : UpsState) → m ≤ now → IsSoundUps m x → IsSoundUps now (after_tick ma now x)
 sound_tick ma m now x later h = grind (arith, length-append {A = ℕ})
 
-sound_fsd : (m : ℕ) (x : UpsState) → IsSoundUps m x → IsSoundUps m (with_fsd x)
-sound_fsd m x h = let lost = λ (e : x.report.connected ≡ false). ap with_fsd (h.lost e) in search rules
-
-sound_order : (m : ℕ) (line : List ℕ) (x : UpsState) → TakesLine line x → IsSoundUps m x → IsSoundUps m (with_order line x)
-sound_order m line x takes h = grind (arith, length-append {A = ℕ})
-
 pub sound_changes : (m : ℕ) (change : Change) (xs : List UpsState) → OrderFits change xs → Each (IsSoundUps m) xs → Each (IsSoundUps m) (changed_upses change xs)
 sound_changes m change xs fits all =
-    of_upses (λ told ys. Each (IsSoundUps m) ys) change xs all (λ u is. each_changed (IsSoundUps m) with_fsd u.place xs (λ x at. sound_fsd m x) all)
-    (λ u line id is. each_changed (IsSoundUps m) (with_order line) u.place xs (λ x at. sound_order m line x (fits u line id x is at)) all)
+    of_upses (λ told ys. Each (IsSoundUps m) ys) change xs all (λ v f told does. each_changed (IsSoundUps m) f v.place xs (λ x at. does.sound m x (λ line id is. fits v line id x is at)) all)
 
 pub length-changes : (change : Change) (xs : List UpsState) → length (changed_upses change xs) ≡ length xs
-length-changes change xs = of_upses (λ told ys. length ys ≡ length xs) change xs refl (λ u is. length-changed with_fsd u.place xs) (λ u line id is. length-changed (with_order line) u.place xs)
+length-changes change xs = of_upses (λ told ys. length ys ≡ length xs) change xs refl (λ v f told does. length-changed f v.place xs)
 
 module _ (empty : IsSoundTree empty_tree) (line_keeps : EachLineKeepsTheTreeSound) where
   pub sound_loss : (m : ℕ) (x : UpsState) → IsSoundUps m (after_loss x)

@@ -1,10 +1,10 @@
 -- What a driver is told is whole lines.
-use Rattle.std.proofs.Common.{◌≡◌, ◌∙◌, ℕ, Bool, List, [], ◌∷◌, ◌++◌, Option, Some, None, refl, sym, subst, cond, eqb, arith, inl, inr}
+use Rattle.std.proofs.Common.{◌≡◌, ◌∙◌, ℕ, Bool, List, [], ◌∷◌, ◌++◌, Option, Some, None, refl, sym, subst, cond, arith, inl, inr}
 use Rattle.std.specs.Prelude.{IsTrue, codes}
 use Rattle.std.specs.List.{flat_map}
 use Rattle.nutwords.specs.Reading.{is_name, is_value}
 use Rattle.nutwords.proofs.PublicLaws.{no_line_without_lf}
-use Rattle.nutcore.proofs.Common.{cond_both, eqb-true, UpsId, Change, Event, Outcome, ServerState, after}
+use Rattle.nutcore.proofs.Common.{cond_both, UpsId, Change, Event, Outcome, ServerState, after}
 use Rattle.nutanswer.specs.Command.{read_command}
 use Rattle.nutanswer.specs.Orders.{set_line, instcmd_line}
 use Rattle.nutcore.specs.Reply.{change_by}
@@ -53,9 +53,8 @@ by_right_spelled u bytes s c line h =
     ]
 
 change_tells : (u : UpsId) (s : ServerState) (c : ℕ) (line : List ℕ) (change : Change) → change_by s c (read_command line) ≡ change → Each IsLineToDriver (told_by_change u change)
-change_tells u s c line change e = of_upses (λ told ys. Each IsLineToDriver (told u)) change [] tt (λ v is. tt) (λ v bytes id is.
-    cond_both (eqb v.place u.place) (order bytes ∷ []) [] (Each IsLineToDriver)
-    (λ k. (tells (order bytes) (by_right_spelled u bytes s c line (by_read s c line u v bytes id (eqb-true v.place u.place k) (e ∙ is))), tt)) (λ k. tt))
+change_tells u s c line change e = of_upses (λ told ys. Each IsLineToDriver (told u)) change [] tt (λ v f told does.
+    elim (does.orders u) [ inl none ↦ rw none tt | inr (bytes, id, own, is, told_is) ↦ rw told_is (tells (order bytes) (by_right_spelled u bytes s c line (by_read s c line u v bytes id own (e ∙ is))), tt) ])
 
 lines_tell : (u : UpsId) (xs : List Execution) → Each IsLineToDriver (flat_map (told_by_line u) xs)
 lines_tell u [] = tt
