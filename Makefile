@@ -34,9 +34,9 @@ demo:
 test:
 	bash .ci/run
 
-# Every edit of crates/*/edits judged, also those that stand as they were judged.
+# The edits of crates/*/edits.txt, over what `make` built.
 edits:
-	python3 tests/edits.py --all
+	python3 tests/edits.py
 
 # Installs what stands built, and builds nothing. Where a file of another package stands in the way, nothing is installed.
 install:

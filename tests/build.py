@@ -4,28 +4,54 @@
 usage: build.py NAME ..     at the top of the repository; each stands as crates/NAME/out/NAME then
 
 `rt run` in a program's folder does the same, one crate after another. Ends with status 1 where one isn't proved."""
+import concurrent.futures
 import os
 import subprocess
 import sys
+import tempfile
 
-from kit import build_library, in_turn, rtlib
+from kit import rt, rtlib
+
+# What a library's check may use of the processors. From nutlisting on there is one chain of crates.
+JOBS = "4"
 
 
 def build(crate):
     """Proves and builds a library or a program, and tells whether that went well."""
-    if not crate.is_program:
-        return build_library(crate, 2)
-    return subprocess.run(["rt", "run", "--", "--help"], cwd=crate.folder, stdout=subprocess.DEVNULL).returncode == 0
+    if crate.is_program:
+        return subprocess.run(["rt", "run", "--", "--help"], cwd=crate.folder, stdout=subprocess.DEVNULL).returncode == 0
+    with tempfile.TemporaryFile("a+", errors="replace") as crate.out:
+        status = crate.build_rlib(["--jobs", JOBS], anew=False)
+        if status:
+            crate.out.seek(0)
+            print(crate.out.read(), end="", flush=True)
+    crate.out = sys.stdout
+    return status == 0
+
+
+def build_all(crates):
+    """Builds each crate once those below it are built, and returns those with which that went well."""
+    built, crates, done = {}, sorted(crates, key=lambda it: len(it.below())), 0
+
+    def of(crate):
+        nonlocal done
+        is_built = all(built[it].result() for it in crate.below()) and build(crate)
+        done += 1
+        print(f"build: {crate.name}: {'proved' if is_built else 'FAILED'} ({done} of {len(crates)})", flush=True)
+        return is_built
+
+    # A crate waits only for crates that were handed in before it, so some work always goes on.
+    with concurrent.futures.ThreadPoolExecutor(rt.processors()) as pool:
+        for it in crates:
+            built[it] = pool.submit(of, it)
+        return [it for it in crates if built[it].result()]
 
 
 def main(names):
     rtlib.guarded()
     programs = [it for it in rtlib.crates_below(os.getcwd()) if it.name in names]
     crates = {*programs, *[dep for it in programs for dep in it.below()]}
-    built = in_turn(crates, len(os.sched_getaffinity(0)), build)
-    for it in crates - built:
-        print(f"build: {it.name}: FAILED, or what it stands on")
-    return 0 if built == crates else 1
+    return 0 if len(build_all(crates)) == len(crates) else 1
 
 
 if __name__ == "__main__":
