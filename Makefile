@@ -34,10 +34,6 @@ demo:
 test:
 	bash .ci/run
 
-# The edits of crates/*/edits.txt, over what `make` built.
-edits:
-	python3 tests/edits.py
-
 # Installs what stands built, and builds nothing. Where a file of another package stands in the way, nothing is installed.
 install:
 	for program in $(PROGRAMS); do test -x crates/$$program/out/$$program || { echo "$$program isn't built: make"; exit 1; }; done
@@ -67,4 +63,4 @@ uninstall:
 deb:
 	bash tools/deb $(VERSION) $(PACKAGES)
 
-.PHONY: all demo test edits install uninstall deb
+.PHONY: all demo test install uninstall deb
