@@ -16,10 +16,10 @@ UNIT = lib/systemd/system/upsd.service
 MINE = share/voqarchay
 DOC = share/doc/voqarchay
 TEXTS = OPERATING.md FROM_NUT.md INTEROP.md FILES.md CLIENTS.md PROTOCOL.md
-EXAMPLES = $(addprefix $(DOC)/examples/, upses.conf upsd.users cmdvartab)
+EXAMPLES = $(addprefix $(DOC)/examples/, upses.conf upsd.users cmdvartab from_ups_conf.conf upsd-metrics.service upsd-metrics.timer upsd-alerts.yml)
 PAGES = $(addprefix share/man/man5/, $(notdir $(wildcard man/*.5))) $(addprefix share/man/man8/, $(notdir $(wildcard man/*.8)))
 COMPLETIONS = $(addprefix share/bash-completion/completions/, $(PROGRAMS))
-FILES = sbin/upsd $(addprefix bin/, $(CLIENTS)) $(PAGES) $(addprefix $(DOC)/, $(TEXTS)) $(EXAMPLES) $(COMPLETIONS) $(MINE)/from_nut $(UNIT)
+FILES = sbin/upsd sbin/from_nut $(addprefix bin/, $(CLIENTS)) $(PAGES) $(addprefix $(DOC)/, $(TEXTS)) $(EXAMPLES) $(COMPLETIONS) $(MINE)/started $(MINE)/metrics $(UNIT)
 LIST = $(ROOT)/$(MINE)/installed
 
 # Proves and builds: a program that isn't proved isn't built. It stands as crates/NAME/out/NAME then.
@@ -47,9 +47,12 @@ install:
 	install -m 644 man/*.5 $(ROOT)/share/man/man5
 	install -m 644 man/*.8 $(ROOT)/share/man/man8
 	install -m 644 $(addprefix docs/, $(TEXTS)) $(ROOT)/$(DOC)
-	install -m 644 $(addprefix examples/, $(notdir $(EXAMPLES))) $(ROOT)/$(DOC)/examples
+	for file in $(notdir $(EXAMPLES)); do \
+	    sed 's|/usr/local|$(PREFIX)|' examples/$$file >$(ROOT)/$(DOC)/examples/$$file && chmod 644 $(ROOT)/$(DOC)/examples/$$file || exit 1; \
+	done
 	for file in $(COMPLETIONS); do install -m 644 tools/completion.bash $(ROOT)/$$file || exit 1; done
-	install tools/from_nut $(ROOT)/$(MINE)/from_nut
+	install tools/from_nut $(ROOT)/sbin
+	install tools/started tools/metrics $(ROOT)/$(MINE)
 	sed 's|/usr/local|$(PREFIX)|' examples/upsd.service >$(ROOT)/$(UNIT)
 	chmod 644 $(ROOT)/$(UNIT)
 
@@ -59,8 +62,12 @@ uninstall:
 	rm -f $(LIST)
 	rmdir $(ROOT)/$(MINE) $(ROOT)/$(DOC)/examples $(ROOT)/$(DOC) 2>/dev/null || true
 
+# Frees what a build leaves but its programs: 7 GB. The next build proves all again.
+clean:
+	find crates -path '*/out/*' $(foreach program,$(PROGRAMS) demodriver,-not -path '*/$(program)/out/$(program)') -delete
+
 # The Debian package of what stands built; it builds nothing.
 deb:
 	bash tools/deb $(VERSION) $(PACKAGES)
 
-.PHONY: all demo test install uninstall deb
+.PHONY: all clean demo test install uninstall deb

@@ -1,15 +1,14 @@
 #!/usr/bin/env bash
 # `make install` and `make uninstall` in a folder of their own: what is put there is taken away again, a second
 # installation goes over the first, and a file of somebody else's is neither overwritten nor deleted. The installed
-# completion has the words of each --help, and the installed unit waits for its port.
+# completion has the words of each --help, and the names that a server has.
 set -euo pipefail
 # shellcheck source=tests/built.bash
 source "$(dirname "${BASH_SOURCE[0]}")/built.bash"
 built upsd upsc upsrw upscmd
 cd "$top"
 folder=$(mktemp -d)
-server=
-trap '[[ -z $server ]] || kill "$server"; rm -r "$folder"' EXIT
+trap 'rm -r "$folder"' EXIT
 
 checks=0
 ok() { checks=$((checks + 1)); }
@@ -28,7 +27,7 @@ files | cmp -s - "$folder/first" && ok
 # The words that bash offers for the last one of a line.
 offered() {
     # shellcheck disable=SC2034 # the completion reads them
-    COMP_WORDS=("$@") COMP_CWORD=$(($# - 1))
+    COMP_WORDS=("$@") COMP_CWORD=$(($# - 1)) COMP_LINE="$*" COMP_POINT=1000
     _voqarchay "$1" "${@: -1}" "${@: -2:1}"
     printf '%s\n' "${COMPREPLY[@]}" | sort
 }
@@ -47,20 +46,12 @@ done
 [[ $(offered upsd '' | grep -v '^-') == "$(subcommands_of sbin/upsd)" ]] && ok
 [[ $(offered voqarchay-upsd serve --ups man/upsd.us) == man/upsd.users.5 ]] && ok
 
-# The unit's command that waits for the port, as systemd reads it, with three tries in place of a hundred.
-waiting=$(sed -n "s|^ExecStartPost=-/bin/bash -c '\(.*\)'\$|\1|p" "$unit" | sed 's/%%/%/g; s/\$\$/$/g; s/1\.\.100/1..3/')
-"$usr/sbin/upsd" serve --ups examples/upses.conf --users examples/upsd.users --listen 127.0.0.1:0 >"$folder/said" 2>&1 &
-server=$!
-for _ in {1..50}; do
-    grep -q listening "$folder/said" && break
-    sleep 0.1
-done
-address=$(sed -n 's/^upsd: listening on //p' "$folder/said")
-LISTEN=$address bash -c "$waiting" && ok
-kill "$server"
-wait "$server" || true
-server=
-LISTEN=$address bash -c "$waiting" || ok
+# Names are asked of the program's own server: here of one that has a UPS, a variable and a command.
+printf '#!/bin/sh\ncase $1 in\n-l) echo "${2:+test.}su" ;;\nsu) echo "ups.status: OL" ;;\nesac\n' >"$folder/upsc"
+chmod +x "$folder/upsc"
+cp "$folder/upsc" "$folder/upscmd"
+[[ $(offered "$folder/upsc" s) == su && $(offered "$folder/upsc" su u) == ups.status ]] && ok
+[[ $(offered "$folder/upscmd" su t) == test.su && $(offered "$folder/upsrw" -s u) == ups.status ]] && ok
 
 in_root uninstall
 [[ -z $(files) ]] && ok

@@ -1,0 +1,91 @@
+#!/usr/bin/env bash
+# What goes with the unit: `tools/started`, which says whether the server's start went well, and `tools/metrics`, at a server with
+# a UPS whose data come after a second, one whose data don't come, and one without a driver.
+set -euo pipefail
+# shellcheck source=tests/built.bash
+source "$(dirname "${BASH_SOURCE[0]}")/built.bash"
+built upsd
+folder=$(mktemp -d)
+running=()
+trap 'kill "${running[@]}" 2>/dev/null || true; rm -r "$folder"' EXIT
+cd "$folder"
+
+checks=0
+ok() { checks=$((checks + 1)); }
+cat >driver.py <<'PYTHON'
+import socket, sys, threading, time
+
+def tell(wire):
+    time.sleep(1)
+    if sys.argv[1] == "good":
+        wire.sendall(b'SETINFO ups.status "OB LB"\nSETINFO battery.charge "9.5"\nSETINFO ups.id "a b"\nDUMPDONE\nDATAOK\n')
+    while wire.recv(100):
+        pass
+
+driver = socket.socket(socket.AF_UNIX)
+driver.bind(sys.argv[1])
+driver.listen()
+while True:
+    threading.Thread(target=tell, args=(driver.accept()[0],), daemon=True).start()
+PYTHON
+for ups in good stale; do
+    python3 driver.py $ups &
+    running+=("$!")
+done
+until [[ -S good && -S stale ]]; do sleep 0.05; done
+: >users
+# Starts a server of these UPSs, and leaves its id and address.
+serve() {
+    for ups in "$@"; do printf '[%s]\nsocket = %s\n' "$ups" "$folder/$ups"; done >upses.conf
+    "$top/crates/upsd/out/upsd" serve --ups upses.conf --users users --listen 127.0.0.1:0 >said 2>told &
+    server=$!
+    running+=("$server")
+    until grep -q listening said; do sleep 0.05; done
+    address=$(sed -n 's/^upsd: listening on //p' said)
+}
+started() { MAINPID=$1 LISTEN=$2 NUT_CONFPATH=$folder "$top/tools/started"; }
+
+printf '[good]\n  driver = x\n[more] # by and by\n' >ups.conf
+serve good gone
+begun=${EPOCHREALTIME/./}
+[[ $(started "$server" "$address") == "upsd: more: in $folder/ups.conf, and not in the list of UPSs" ]] && ok
+took=$((${EPOCHREALTIME/./} - begun))
+((took > 800000 && took < 5000000)) && ok
+first=$address
+serve good stale gone
+begun=$SECONDS
+started "$server" "$address" >/dev/null && ((SECONDS - begun >= 9)) && ok
+"$top/tools/metrics" "$address" | grep -v '^ups_time_seconds ' >metrics
+cat >wanted <<'METRICS'
+# TYPE ups_time_seconds gauge
+# TYPE ups_connected gauge
+ups_connected{ups="gone"} 0
+ups_connected{ups="good"} 1
+ups_connected{ups="stale"} 1
+# TYPE ups_good gauge
+ups_good{ups="gone"} 0
+ups_good{ups="good"} 1
+ups_good{ups="stale"} 0
+# TYPE ups_logins gauge
+ups_logins{ups="good"} 0
+# TYPE ups_battery_charge gauge
+ups_battery_charge{ups="good"} 9.5
+# TYPE ups_status gauge
+ups_status{ups="good",flag="OL"} 0
+ups_status{ups="good",flag="OB"} 1
+ups_status{ups="good",flag="LB"} 1
+ups_status{ups="good",flag="RB"} 0
+ups_status{ups="good",flag="FSD"} 0
+# TYPE ups_server_up gauge
+ups_server_up 1
+METRICS
+diff wanted metrics && ok
+# The server has ended, and another one has the port.
+kill "$server"
+wait "$server" || true
+begun=$SECONDS
+if started "$server" "$first"; then exit 1; fi
+((SECONDS - begun < 3)) && ok
+"$top/tools/metrics" "$address" 2>/dev/null | grep -q '^ups_server_up 0$' && ok
+echo "unit: $checks of 6 checks"
+[[ $checks == 6 ]]
