@@ -111,5 +111,5 @@ unset DESTDIR
 [[ $(cat said) == $'driver bay-2 sent 0 bytes\ndriver idle sent 0 bytes\ndriver su sent 0 bytes' ]] && checks=$((checks + 1))
 if bash "$top/tools/from_nut" users 2>usage; then exit 1; fi
 grep -q '^usage: from_nut' usage && checks=$((checks + 1))
-echo "from_nut: $checks of 9 checks"
-[[ $checks == 9 ]]
+echo "from_nut: $checks of 10 checks"
+[[ $checks == 10 ]]

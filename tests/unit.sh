@@ -67,7 +67,9 @@ ups_good{ups="gone"} 0
 ups_good{ups="good"} 1
 ups_good{ups="stale"} 0
 # TYPE ups_logins gauge
+ups_logins{ups="gone"} 0
 ups_logins{ups="good"} 0
+ups_logins{ups="stale"} 0
 # TYPE ups_battery_charge gauge
 ups_battery_charge{ups="good"} 9.5
 # TYPE ups_status gauge
