@@ -25,9 +25,9 @@ use Rattle.nutreplay.specs.declared.script.action.Action.TheVariants as asked
 use Rattle.nutreplay.specs.declared.script.ScriptLine.{ScriptLine}
 use Rattle.nutreplay.specs.declared.transcript.sent.Taken.{Taken}
 use Rattle.nutreplay.specs.Script.{actions_of}
-use Rattle.nutreplay.specs.Transcript.{TranscriptState, new_transcript, Happens, HappensTo, TakesAgain, all_taken, again, IsDone, AreDone, IsOutput, ups_named, count_offered, count_owed, sent_to, taken_by, opened_by}
+use Rattle.nutreplay.specs.Transcript.{TranscriptState, new_transcript, Happens, TakesAgain, all_taken, again, IsDone, AreDone, IsOutput, count_offered, count_owed, sent_to, taken_by, opened_by}
 use Rattle.nutreplay.proofs.Taking.{when_true, when_false}
-use Rattle.nutreplay.specs.OneRun.{Happening, events_of, outcomes_of, once, once_to, takings, of_line, of_lines, RecordsRun}
+use Rattle.nutreplay.specs.OneRun.{Happening, events_of, outcomes_of, once, takings, of_line, of_lines, RecordsRun}
 
 -- runs, one after another
 run_joined : (s m t : ServerState) (hs is : List Happening) → Run s (events_of hs) (outcomes_of hs) m → Run m (events_of is) (outcomes_of is) t → Run s (events_of (hs ++ is)) (outcomes_of (hs ++ is)) t
@@ -155,30 +155,16 @@ once_runs line event old new h = record {
       ∙ ap (λ (xs : List ℕ). sent_to (Driver u) old.taken ++ xs) (driver_sent_by u old.server event ∙ sym (append-nil (driver_taken_in_event u old.server event)));
 }
 
-once_to_runs : (o : Option UpsId) (line : ℕ) (event : UpsId → Event) (old new : TranscriptState) (h : HappensTo o line event old new) → IsRun (once_to o line event old new h) old new
-once_to_runs None line event old new h = nothing old new (ap (λ (t : TranscriptState). t.server) h) (ap (λ (t : TranscriptState). t.clients) h) (ap (λ (t : TranscriptState). t.taken) h)
-once_to_runs (Some u) line event old new h = once_runs line (event u) old new h
-
 takings_run : (line c : ℕ) (old new : TranscriptState) (h : TakesAgain line c old new) → IsRun (takings line c old new h) old new
 takings_run line c old new (all_taken t none) = nothing t t refl refl refl
 takings_run line c old new (again first mid last some h rest) =
     joined (once line (Took c (count_offered c first)) first mid h) (takings line c mid last rest) first mid last (once_runs line (Took c (count_offered c first)) first mid h) (takings_run line c mid last rest)
 
 line_runs : (line : ℕ) (action : Action) (old new : TranscriptState) (h : IsDone line action old new) → IsRun (of_line line action old new h) old new
-unfolding IsDone
-line_runs line (asked.DriverUp name) old new h = once_to_runs (ups_named name old) line (λ u. DriverUp u) old new h
-line_runs line (asked.DriverBytes name piece) old new h = once_to_runs (ups_named name old) line (λ u. DriverBytes u piece) old new h
-line_runs line (asked.DriverTook name n) old new h = once_to_runs (ups_named name old) line (λ u. DriverTook u n) old new h
-line_runs line (asked.DriverTookAll name) old new h = once_to_runs (ups_named name old) line (λ u. DriverTook u (count_owed u old)) old new h
-line_runs line (asked.DriverDown name) old new h = once_to_runs (ups_named name old) line (λ u. DriverDown u) old new h
-line_runs line (asked.Tick seconds) old new h = once_runs line (Tick seconds) old new h
-line_runs line (asked.Open address) old new h = once_runs line (Open address) old new h
-line_runs line (asked.Feed c piece) old new h = once_runs line (Feed c piece) old new h
-line_runs line (asked.Took c n) old new h = once_runs line (Took c n) old new h
+line_runs line (asked.Happens event) old new h = once_runs line event old new h
 line_runs line (asked.TookAll c) old new h =
     joined (once line (Took c (count_offered c old)) old h.0 h.1) (takings line c h.0 new h.2) old h.0 new (once_runs line (Took c (count_offered c old)) old h.0 h.1) (takings_run line c h.0 new h.2)
-line_runs line (asked.Close c) old new h = once_runs line (Close c) old new h
-line_runs line (asked.Id id) old new h = once_runs line (Id id) old new h
+line_runs line (asked.DriverTookAll u) old new h = once_runs line (DriverTook u (count_owed u old)) old new h
 
 pub lines_run : (lines : List ScriptLine) (old new : TranscriptState) (h : AreDone lines old new) → IsRun (of_lines lines old new h) old new
 lines_run [] old new h = nothing old new (ap (λ (t : TranscriptState). t.server) h) (ap (λ (t : TranscriptState). t.clients) h) (ap (λ (t : TranscriptState). t.taken) h)
@@ -189,11 +175,11 @@ lines_run (line ∷ lines) old new h =
 new_lawful : (list : List Ups) (users : List User) (descriptions : Descriptions) (max_age : ℕ) → IsLawful (new_server list users descriptions max_age)
 new_lawful list users descriptions max_age = λ c some. cc some
 
-pub output_records : WhatWasSentAndIsOwedIsTheAnswers → (list : List Ups) (users : List User) (descriptions : Descriptions) (max_age : ℕ) (script output : List ℕ) (is_output : IsOutput list users descriptions max_age script output) → RecordsRun (new_server list users descriptions max_age) (of_lines (actions_of script) (new_transcript list users descriptions max_age) is_output.end is_output.done) is_output.end
+pub output_records : WhatWasSentAndIsOwedIsTheAnswers → (list : List Ups) (users : List User) (descriptions : Descriptions) (max_age : ℕ) (script output : List ℕ) (is_output : IsOutput list users descriptions max_age script output) → RecordsRun (new_server list users descriptions max_age) (of_lines (actions_of list script) (new_transcript list users descriptions max_age) is_output.end is_output.done) is_output.end
 output_records law list users descriptions max_age script output is_output =
     let start : ServerState = new_server list users descriptions max_age in
-    let hs : List Happening = of_lines (actions_of script) (new_transcript list users descriptions max_age) is_output.end is_output.done in
-    let whole : IsRun hs (new_transcript list users descriptions max_age) is_output.end = lines_run (actions_of script) (new_transcript list users descriptions max_age) is_output.end is_output.done in
+    let hs : List Happening = of_lines (actions_of list script) (new_transcript list users descriptions max_age) is_output.end is_output.done in
+    let whole : IsRun hs (new_transcript list users descriptions max_age) is_output.end = lines_run (actions_of list script) (new_transcript list users descriptions max_age) is_output.end is_output.done in
     record {
       run = whole.run;
       clients = whole.clients;

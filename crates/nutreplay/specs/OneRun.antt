@@ -1,14 +1,12 @@
 -- A script as one run of the server: the events of all its lines, in order, each with its outcome.
-use Rattle.std.specs.Prelude.{◌≡◌, ℕ, false, List, [], ◌∷◌, ◌++◌, Option, Some, None, map}
+use Rattle.std.specs.Prelude.{◌≡◌, ℕ, false, List, [], ◌∷◌, ◌++◌, map}
 use Rattle.std.specs.List.{flat_map}
 use Rattle.nutusers.specs.declared.ups_list.UpsId.{UpsId}
 use Rattle.nutusers.specs.UpsList.{Ups}
 use Rattle.nutusers.specs.Users.{User}
 use Rattle.nutusers.specs.Descriptions.{Descriptions}
 use Rattle.nutcore.specs.declared.event.Event.{Event}
-use Rattle.nutcore.specs.declared.event.Event.TheVariants.{DriverUp, DriverBytes, DriverTook}
-use Rattle.nutcore.specs.declared.event.Event.TheVariants.{DriverDown, Tick, Open, Feed, Took}
-use Rattle.nutcore.specs.declared.event.Event.TheVariants.{Close, Id}
+use Rattle.nutcore.specs.declared.event.Event.TheVariants.{DriverTook, Took}
 use Rattle.nutcore.specs.declared.event.Peer.TheVariants.{Client, Driver}
 use Rattle.nutcore.specs.declared.event.Outcome.{Outcome}
 use Rattle.nutcore.specs.Server.{ServerState, new_server}
@@ -19,9 +17,9 @@ use Rattle.nutreplay.specs.declared.script.action.Action.{Action}
 use Rattle.nutreplay.specs.declared.script.action.Action.TheVariants as asked
 use Rattle.nutreplay.specs.declared.script.ScriptLine.{ScriptLine}
 use Rattle.nutreplay.specs.Script.{actions_of}
-use Rattle.nutreplay.specs.Transcript.{TranscriptState, new_transcript, Happens, HappensTo}
+use Rattle.nutreplay.specs.Transcript.{TranscriptState, new_transcript, Happens}
 use Rattle.nutreplay.specs.Transcript.{TakesAgain, all_taken, again, IsDone, AreDone, IsOutput}
-use Rattle.nutreplay.specs.Transcript.{ups_named, opened_by, count_offered, count_owed, sent_to}
+use Rattle.nutreplay.specs.Transcript.{opened_by, count_offered, count_owed, sent_to}
 
 pub record Happening : Type 0 where
   pub event : Event
@@ -38,12 +36,6 @@ abbrev pub once : (line : ℕ) (event : Event) (old new : TranscriptState)
     → Happens line event old new → List Happening
 once line event old new h = record { event = event; outcome = h.outcome } ∷ []
 
--- The event of the UPS of a name. Where the list has no such UPS nothing happens to the server.
-abbrev pub once_to : (o : Option UpsId) (line : ℕ) (event : UpsId → Event)
-    (old new : TranscriptState) → HappensTo o line event old new → List Happening
-once_to None line event old new h = []
-once_to (Some u) line event old new h = once line (event u) old new h
-
 -- A client's takings, until nothing is offered.
 abbrev pub takings : (line c : ℕ) (old new : TranscriptState) → TakesAgain line c old new
     → List Happening
@@ -54,25 +46,11 @@ takings line c old new (again first mid last some h rest) =
 -- The events of a line.
 abbrev pub of_line : (line : ℕ) (action : Action) (old new : TranscriptState)
     → IsDone line action old new → List Happening
-unfolding IsDone
-of_line line (asked.DriverUp name) old new h =
-    once_to (ups_named name old) line (λ u. DriverUp u) old new h
-of_line line (asked.DriverBytes name piece) old new h =
-    once_to (ups_named name old) line (λ u. DriverBytes u piece) old new h
-of_line line (asked.DriverTook name n) old new h =
-    once_to (ups_named name old) line (λ u. DriverTook u n) old new h
-of_line line (asked.DriverTookAll name) old new h =
-    once_to (ups_named name old) line (λ u. DriverTook u (count_owed u old)) old new h
-of_line line (asked.DriverDown name) old new h =
-    once_to (ups_named name old) line (λ u. DriverDown u) old new h
-of_line line (asked.Tick seconds) old new h = once line (Tick seconds) old new h
-of_line line (asked.Open address) old new h = once line (Open address) old new h
-of_line line (asked.Feed c piece) old new h = once line (Feed c piece) old new h
-of_line line (asked.Took c n) old new h = once line (Took c n) old new h
+of_line line (asked.Happens event) old new h = once line event old new h
 of_line line (asked.TookAll c) old new h =
     once line (Took c (count_offered c old)) old h.0 h.1 ++ takings line c h.0 new h.2
-of_line line (asked.Close c) old new h = once line (Close c) old new h
-of_line line (asked.Id id) old new h = once line (Id id) old new h
+of_line line (asked.DriverTookAll u) old new h =
+    once line (DriverTook u (count_owed u old)) old new h
 
 -- The events of the lines.
 abbrev pub of_lines : (lines : List ScriptLine) (old new : TranscriptState) → AreDone lines old new
@@ -101,5 +79,5 @@ AnOutputRecordsOneRun =
     (list : List Ups) (users : List User) (descriptions : Descriptions) (max_age : ℕ)
     (script output : List ℕ) (is_output : IsOutput list users descriptions max_age script output)
     → RecordsRun (new_server list users descriptions max_age)
-    (of_lines (actions_of script)
+    (of_lines (actions_of list script)
     (new_transcript list users descriptions max_age) is_output.end is_output.done) is_output.end

@@ -1,7 +1,7 @@
 -- The replay script: what each of its lines means.
 use Rattle.std.specs.Prelude.{ℕ, ◌+◌, ◌-◌, ◌^◌, Bool, true, false, List, [], ◌∷◌, ◌++◌, Option}
 use Rattle.std.specs.Prelude.{Some, None, ◌==◌, if◌then◌else◌, length, take, drop, position, codes}
-use Rattle.std.specs.Option.{option_map}
+use Rattle.std.specs.Option.{option_map, option_map_or}
 use Rattle.std.specs.Result.{result_ok}
 use Rattle.std.specs.Str.{bytes_eq}
 use Rattle.hex.specs.Hex.{decode_of}
@@ -10,11 +10,17 @@ use Rattle.nutwords.specs.Natural.{read_natural}
 use Rattle.nutwords.specs.Reading.{read_ups_name, read_address}
 use Rattle.nutwords.specs.Text.{lines_of, is_silent}
 use Rattle.nutwords.specs.Text.{with_lf}
+use Rattle.nutusers.specs.declared.ups_list.UpsId.{UpsId}
+use Rattle.nutusers.specs.UpsList.{Ups, place_of, id_at}
+use Rattle.nutcore.specs.declared.event.Event.{Event}
+use Rattle.nutcore.specs.declared.event.Event.TheVariants.{DriverUp, DriverBytes, DriverTook}
+use Rattle.nutcore.specs.declared.event.Event.TheVariants.{DriverDown, Tick, Open, Feed, Took}
+use Rattle.nutcore.specs.declared.event.Event.TheVariants.{Close, Id}
+use Rattle.nutreplay.specs.declared.script.action.TheConstants.{UNLISTED}
 use Rattle.nutreplay.specs.declared.script.action.Action.{Action}
-use Rattle.nutreplay.specs.declared.script.action.Action.TheVariants.{DriverUp, DriverBytes}
-use Rattle.nutreplay.specs.declared.script.action.Action.TheVariants.{DriverTook, DriverTookAll}
-use Rattle.nutreplay.specs.declared.script.action.Action.TheVariants.{DriverDown, Tick, Open, Feed}
-use Rattle.nutreplay.specs.declared.script.action.Action.TheVariants.{Took, TookAll, Close, Id}
+use Rattle.nutreplay.specs.declared.script.action.Action.TheVariants.{Happens, TookAll, DriverTookAll}
+use Rattle.nutreplay.specs.declared.script.action.Form.{Form}
+use Rattle.nutreplay.specs.declared.script.action.Form.TheVariants.{Line, Part, Hex}
 use Rattle.nutreplay.specs.declared.script.Meaning.{Meaning}
 use Rattle.nutreplay.specs.declared.script.Meaning.TheVariants.{Nothing, Does, Bad}
 use Rattle.nutreplay.specs.declared.script.ScriptLine.{ScriptLine}
@@ -28,8 +34,12 @@ split_at_space line =
 abbrev pub number : List ℕ → Option ℕ
 number text = read_natural (2 ^ 64 - 1) text
 
-abbrev pub ups_name : List ℕ → Option (List ℕ)
-ups_name text = result_ok (read_ups_name text)
+-- The UPS of a lawful name. The server refuses the events of one that the list lacks.
+abbrev pub ups_named : List Ups → List ℕ → UpsId
+ups_named list name = option_map_or id_at (place_of name list) (id_at UNLISTED)
+
+abbrev pub ups : List Ups → List ℕ → Option UpsId
+ups list text = option_map (ups_named list) (result_ok (read_ups_name text))
 
 abbrev pub address : List ℕ → Option (List ℕ)
 address text = result_ok (read_address text)
@@ -40,104 +50,85 @@ abbrev pub with_rest : {A : Type 0} → (List ℕ → Option A) → Option (List
 with_rest read None = None
 with_rest read (Some parts) = option_map (λ first. (first, parts.1)) (read parts.0)
 
-abbrev pub ups_and_rest : List ℕ → Option (List ℕ × List ℕ)
-ups_and_rest text = with_rest ups_name (split_at_space text)
+abbrev pub ups_and_rest : List Ups → List ℕ → Option (UpsId × List ℕ)
+ups_and_rest list text = with_rest (ups list) (split_at_space text)
 
 abbrev pub client_and_rest : List ℕ → Option (ℕ × List ℕ)
 client_and_rest text = with_rest number (split_at_space text)
 
 -- So many bytes, or `all`.
-abbrev pub taking : ℕ → List ℕ → Option Action
-taking c count =
-    if bytes_eq count (codes "all") then Some (TookAll c)
-    else option_map (λ n. Took c n) (number count)
+abbrev pub taking : Option (ℕ × List ℕ) → Option Action
+taking None = None
+taking (Some parts) =
+    if bytes_eq parts.1 (codes "all") then Some (TookAll parts.0)
+    else option_map (λ n. Happens (Took parts.0 n)) (number parts.1)
 
-abbrev pub taking_by : Option (ℕ × List ℕ) → Option Action
-taking_by None = None
-taking_by (Some parts) = taking parts.0 parts.1
-
-abbrev pub driver_taking : List ℕ → List ℕ → Option Action
-driver_taking ups count =
-    if bytes_eq count (codes "all") then Some (DriverTookAll ups)
-    else option_map (λ n. DriverTook ups n) (number count)
-
-abbrev pub driver_taking_by : Option (List ℕ × List ℕ) → Option Action
-driver_taking_by None = None
-driver_taking_by (Some parts) = driver_taking parts.0 parts.1
+abbrev pub driver_taking : Option (UpsId × List ℕ) → Option Action
+driver_taking None = None
+driver_taking (Some parts) =
+    if bytes_eq parts.1 (codes "all") then Some (DriverTookAll parts.0)
+    else option_map (λ n. Happens (DriverTook parts.0 n)) (number parts.1)
 
 -- The bytes that an even number of hexadecimal digits writes, in either case, two digits at least.
 abbrev pub hex_bytes : List ℕ → Option (List ℕ)
 hex_bytes digits = if length digits == 0 then None else result_ok (decode_of digits)
 
--- Bytes that are written so.
-abbrev pub driver_hex : List ℕ → List ℕ → Option Action
-driver_hex ups digits = option_map (λ piece. DriverBytes ups piece) (hex_bytes digits)
+-- The bytes that a peer sends: a line without its LF, a part of one, or hexadecimal digits of them.
+abbrev pub bytes_of : Form → List ℕ → Option (List ℕ)
+bytes_of Line text = Some (with_lf text)
+bytes_of Part text = Some text
+bytes_of Hex text = hex_bytes text
 
-abbrev pub driver_hex_by : Option (List ℕ × List ℕ) → Option Action
-driver_hex_by None = None
-driver_hex_by (Some parts) = driver_hex parts.0 parts.1
+abbrev pub driver_bytes : Form → Option (UpsId × List ℕ) → Option Event
+driver_bytes form None = None
+driver_bytes form (Some parts) =
+    option_map (λ piece. DriverBytes parts.0 piece) (bytes_of form parts.1)
 
-abbrev pub client_hex : ℕ → List ℕ → Option Action
-client_hex c digits = option_map (λ piece. Feed c piece) (hex_bytes digits)
+abbrev pub client_bytes : Form → Option (ℕ × List ℕ) → Option Event
+client_bytes form None = None
+client_bytes form (Some parts) = option_map (λ piece. Feed parts.0 piece) (bytes_of form parts.1)
 
-abbrev pub client_hex_by : Option (ℕ × List ℕ) → Option Action
-client_hex_by None = None
-client_hex_by (Some parts) = client_hex parts.0 parts.1
-
--- What a driver or a client sends: a line, or a part of one.
-abbrev pub driver_line : List ℕ → Option Action
-driver_line text = option_map (λ p. DriverBytes p.0 (with_lf p.1)) (ups_and_rest text)
-
-abbrev pub driver_part : List ℕ → Option Action
-driver_part text = option_map (λ p. DriverBytes p.0 p.1) (ups_and_rest text)
-
-abbrev pub client_line : List ℕ → Option Action
-client_line text = option_map (λ p. Feed p.0 (with_lf p.1)) (client_and_rest text)
-
-abbrev pub client_part : List ℕ → Option Action
-client_part text = option_map (λ p. Feed p.0 p.1) (client_and_rest text)
-
--- What a verb asks for, with the bytes after its space: one case a verb, here and below. First the
--- verbs of clients.
-abbrev pub client_action : List ℕ → List ℕ → Option Action
-client_action verb text =
-    if bytes_eq verb (codes "client") then client_line text
-    else if bytes_eq verb (codes "part") then client_part text
-    else if bytes_eq verb (codes "client-hex") then client_hex_by (client_and_rest text)
-    else if bytes_eq verb (codes "took") then taking_by (client_and_rest text)
+-- The event of a verb, with the bytes after its space: one case a verb, here and below. First the
+-- verbs of clients, of the clock and of ids.
+abbrev pub client_event : List ℕ → List ℕ → Option Event
+client_event verb text =
+    if bytes_eq verb (codes "open") then option_map (λ a. Open a) (address text)
+    else if bytes_eq verb (codes "client") then client_bytes Line (client_and_rest text)
+    else if bytes_eq verb (codes "part") then client_bytes Part (client_and_rest text)
+    else if bytes_eq verb (codes "client-hex") then client_bytes Hex (client_and_rest text)
     else if bytes_eq verb (codes "close") then option_map (λ c. Close c) (number text)
+    else if bytes_eq verb (codes "tick") then option_map (λ n. Tick n) (number text)
+    else if bytes_eq verb (codes "id") then option_map (λ id. Id id) (read_id text)
     else None
 
 -- Those of drivers, and the ones above.
-abbrev pub driver_action : List ℕ → List ℕ → Option Action
-driver_action verb text =
-    if bytes_eq verb (codes "up") then option_map (λ u. DriverUp u) (ups_name text)
-    else if bytes_eq verb (codes "down") then option_map (λ u. DriverDown u) (ups_name text)
-    else if bytes_eq verb (codes "driver") then driver_line text
-    else if bytes_eq verb (codes "driver-part") then driver_part text
-    else if bytes_eq verb (codes "driver-hex") then driver_hex_by (ups_and_rest text)
-    else if bytes_eq verb (codes "driver-took") then driver_taking_by (ups_and_rest text)
-    else client_action verb text
+abbrev pub event_of : List Ups → List ℕ → List ℕ → Option Event
+event_of list verb text =
+    if bytes_eq verb (codes "up") then option_map (λ u. DriverUp u) (ups list text)
+    else if bytes_eq verb (codes "down") then option_map (λ u. DriverDown u) (ups list text)
+    else if bytes_eq verb (codes "driver") then driver_bytes Line (ups_and_rest list text)
+    else if bytes_eq verb (codes "driver-part") then driver_bytes Part (ups_and_rest list text)
+    else if bytes_eq verb (codes "driver-hex") then driver_bytes Hex (ups_and_rest list text)
+    else client_event verb text
 
--- Those of the clock, of newcomers and of ids, and the ones above.
-abbrev pub action_of : List ℕ → List ℕ → Option Action
-action_of verb text =
-    if bytes_eq verb (codes "tick") then option_map (λ n. Tick n) (number text)
-    else if bytes_eq verb (codes "open") then option_map (λ a. Open a) (address text)
-    else if bytes_eq verb (codes "id") then option_map (λ id. Id id) (read_id text)
-    else driver_action verb text
+abbrev pub action_of : List Ups → List ℕ → List ℕ → Option Action
+action_of list verb text =
+    if bytes_eq verb (codes "took") then taking (client_and_rest text)
+    else if bytes_eq verb (codes "driver-took") then driver_taking (ups_and_rest list text)
+    else option_map (λ event. Happens event) (event_of list verb text)
 
-abbrev pub read_action : Option (List ℕ × List ℕ) → Option Action
-read_action None = None
-read_action (Some parts) = action_of parts.0 parts.1
+abbrev pub read_action : List Ups → Option (List ℕ × List ℕ) → Option Action
+read_action list None = None
+read_action list (Some parts) = action_of list parts.0 parts.1
 
 abbrev pub meaning : Option Action → Meaning
 meaning None = Bad
 meaning (Some action) = Does action
 
 -- What a line means: nothing, an action, or it is bad.
-unfoldable pub read_line : List ℕ → Meaning
-read_line line = if is_silent line then Nothing else meaning (read_action (split_at_space line))
+unfoldable pub read_line : List Ups → List ℕ → Meaning
+read_line list line =
+    if is_silent line then Nothing else meaning (read_action list (split_at_space line))
 
 -- The actions of lines that are numbered from here on, each with its line's number.
 abbrev pub numbered : ℕ → Meaning → List ScriptLine
@@ -145,23 +136,25 @@ numbered n (Does action) = record { number = n; action = action } ∷ []
 numbered n Nothing = []
 numbered n Bad = []
 
-abbrev pub actions_from : ℕ → List (List ℕ) → List ScriptLine
-actions_from n [] = []
-actions_from n (line ∷ lines) = numbered n (read_line line) ++ actions_from (n + 1) lines
+abbrev pub actions_from : List Ups → ℕ → List (List ℕ) → List ScriptLine
+actions_from list n [] = []
+actions_from list n (line ∷ lines) =
+    numbered n (read_line list line) ++ actions_from list (n + 1) lines
 
 abbrev pub is_bad : Meaning → Bool
 is_bad Bad = true
 is_bad Nothing = false
 is_bad (Does action) = false
 
-abbrev pub bad_line_from : ℕ → List (List ℕ) → Option ℕ
-bad_line_from n [] = None
-bad_line_from n (line ∷ lines) =
-    if is_bad (read_line line) then Some n else bad_line_from (n + 1) lines
+abbrev pub bad_line_from : List Ups → ℕ → List (List ℕ) → Option ℕ
+bad_line_from list n [] = None
+bad_line_from list n (line ∷ lines) =
+    if is_bad (read_line list line) then Some n else bad_line_from list (n + 1) lines
 
--- What a script asks for, and the number of its first bad line. Lines are numbered from 1.
-unfoldable pub actions_of : List ℕ → List ScriptLine
-actions_of script = actions_from 1 (lines_of script)
+-- What a script asks for over this list of UPSs, and the number of its first bad line. Lines are
+-- numbered from 1.
+unfoldable pub actions_of : List Ups → List ℕ → List ScriptLine
+actions_of list script = actions_from list 1 (lines_of script)
 
-unfoldable pub first_bad_line : List ℕ → Option ℕ
-first_bad_line script = bad_line_from 1 (lines_of script)
+unfoldable pub first_bad_line : List Ups → List ℕ → Option ℕ
+first_bad_line list script = bad_line_from list 1 (lines_of script)

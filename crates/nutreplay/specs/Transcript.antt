@@ -2,22 +2,18 @@
 use Rattle.std.specs.Prelude.{◌≡◌, ◌≢◌, ℕ, ◌+◌, ◌-◌, Bool, false, List, [], ◌∷◌, ◌++◌, Option, Some}
 use Rattle.std.specs.Prelude.{None, ◌==◌, nat_lt, if◌then◌else◌, length, slice_get, codes}
 use Rattle.std.specs.List.{flat_map}
-use Rattle.std.specs.Option.{option_map}
 use Rattle.std.specs.Fmt.{decimal}
 use Rattle.nutusers.specs.declared.ups_list.UpsId.{UpsId}
-use Rattle.nutusers.specs.UpsList.{Ups, place_of, id_at}
+use Rattle.nutusers.specs.UpsList.{Ups, id_at}
 use Rattle.nutusers.specs.Users.{User}
 use Rattle.nutusers.specs.Descriptions.{Descriptions}
 use Rattle.nutcore.specs.declared.event.Event.{Event}
-use Rattle.nutcore.specs.declared.event.Event.TheVariants.{DriverUp, DriverBytes, DriverTook}
-use Rattle.nutcore.specs.declared.event.Event.TheVariants.{DriverDown, Tick, Open, Feed, Took}
-use Rattle.nutcore.specs.declared.event.Event.TheVariants.{Close, Id}
+use Rattle.nutcore.specs.declared.event.Event.TheVariants.{DriverTook, Feed, Took}
 use Rattle.nutcore.specs.declared.event.Peer.{Peer}
 use Rattle.nutcore.specs.declared.event.Peer.TheVariants.{Client, Driver}
 use Rattle.nutcore.specs.declared.event.Outcome.{Outcome}
 use Rattle.nutcore.specs.declared.event.Outcome.TheVariants.{Done, Fed, Opened, Refused}
 use Rattle.nutcore.specs.declared.event.Fault.{Fault}
-use Rattle.nutcore.specs.declared.event.Fault.TheVariants.{NoSuchUps}
 use Rattle.nutcore.specs.Numbers.{number_of_fault}
 use Rattle.nutcore.specs.Server.{ServerState, session, ups_at, new_server}
 use Rattle.nutcore.specs.Ups.{UpsState}
@@ -117,13 +113,6 @@ TakesAll line c old new =
     (mid : TranscriptState) × Happens line (Took c (count_offered c old)) old mid
     × TakesAgain line c mid new
 
--- The event of the UPS of this name happens. Where the list has no such UPS it is refused.
-abbrev pub HappensTo : Option UpsId → ℕ → (UpsId → Event) → TranscriptState → TranscriptState
-    → Type 0
-HappensTo None line event old new =
-    new ≡ record old { text = old.text ++ note_of_refusal line NoSuchUps }
-HappensTo (Some u) line event old new = Happens line (event u) old new
-
 -- How many bytes the driver is offered.
 abbrev pub owed_of : Option UpsState → List ℕ
 owed_of None = []
@@ -132,28 +121,12 @@ owed_of (Some x) = owed_to x
 abbrev pub count_owed : UpsId → TranscriptState → ℕ
 count_owed u t = length (owed_of (ups_at u.place t.server))
 
-abbrev pub ups_named : List ℕ → TranscriptState → Option UpsId
-ups_named name t = option_map id_at (place_of name t.server.list)
-
 -- What a line asks for is done.
-unfoldable pub IsDone : ℕ → Action → TranscriptState → TranscriptState → Type 0
-IsDone line (asked.DriverUp name) old new =
-    HappensTo (ups_named name old) line (λ u. DriverUp u) old new
-IsDone line (asked.DriverBytes name piece) old new =
-    HappensTo (ups_named name old) line (λ u. DriverBytes u piece) old new
-IsDone line (asked.DriverTook name n) old new =
-    HappensTo (ups_named name old) line (λ u. DriverTook u n) old new
-IsDone line (asked.DriverTookAll name) old new =
-    HappensTo (ups_named name old) line (λ u. DriverTook u (count_owed u old)) old new
-IsDone line (asked.DriverDown name) old new =
-    HappensTo (ups_named name old) line (λ u. DriverDown u) old new
-IsDone line (asked.Tick seconds) old new = Happens line (Tick seconds) old new
-IsDone line (asked.Open address) old new = Happens line (Open address) old new
-IsDone line (asked.Feed c piece) old new = Happens line (Feed c piece) old new
-IsDone line (asked.Took c n) old new = Happens line (Took c n) old new
+abbrev pub IsDone : ℕ → Action → TranscriptState → TranscriptState → Type 0
+IsDone line (asked.Happens event) old new = Happens line event old new
 IsDone line (asked.TookAll c) old new = TakesAll line c old new
-IsDone line (asked.Close c) old new = Happens line (Close c) old new
-IsDone line (asked.Id id) old new = Happens line (Id id) old new
+IsDone line (asked.DriverTookAll u) old new =
+    Happens line (DriverTook u (count_owed u old)) old new
 
 -- The lines are done, one after another.
 abbrev pub AreDone : List ScriptLine → TranscriptState → TranscriptState → Type 0
@@ -209,5 +182,6 @@ whole_text t =
 pub record IsOutput (list : List Ups) (users : List User) (descriptions : Descriptions)
     (max_age : ℕ) (script output : List ℕ) : Type 0 where
   pub end : TranscriptState
-  pub done : AreDone (actions_of script) (new_transcript list users descriptions max_age) end
+  pub done : AreDone (actions_of list script)
+      (new_transcript list users descriptions max_age) end
   pub text : output ≡ whole_text end

@@ -77,11 +77,11 @@ pub fn replay<W: Sink>(
     ensures output { OnOk result ((output : List ℕ)
         × IsOutput list users descriptions REPLAY_MAX_AGE script.now output
         × Written W.contents W.failures out.old output out.new) }
-    ensures good { OnOk result (first_bad_line script.now ≡ None) }
+    ensures good { OnOk result (first_bad_line list script.now ≡ None) }
     ensures bad { IfErr result (λ fault. (n : ℕ) → fault ≡ ReplayFault.BadEvent n
-        → first_bad_line script.now ≡ Some n) }
+        → first_bad_line list script.now ≡ Some n) }
     ensures failed { IfErr result (λ fault. fault ≡ ReplayFault.Write
-        → first_bad_line script.now ≡ None) }
+        → first_bad_line list script.now ≡ None) }
     ensures written { IfErr result (λ fault. fault ≡ ReplayFault.Write → (output : List ℕ)
         × IsOutput list users descriptions REPLAY_MAX_AGE script.now output
         × WriteFailed W.contents W.failures out.old output out.new) }
@@ -103,12 +103,12 @@ fn transcript(
     descriptions: Descriptions,
     script: &[u8],
 ) -> Result<Vec<u8>, ReplayFault>
-    ensures ok { IfOk result (λ text. (first_bad_line script.now ≡ None)
+    ensures ok { IfOk result (λ text. (first_bad_line list script.now ≡ None)
         × IsOutput list users descriptions REPLAY_MAX_AGE script.now text.items) }
     ensures err { IfErr result (λ fault. (fault ≡ ReplayFault.Memory)
-        ⊎ ((n : ℕ) × (fault ≡ ReplayFault.BadEvent n) × (first_bad_line script.now ≡ Some n))) }
+        ⊎ ((n : ℕ) × (fault ≡ ReplayFault.BadEvent n) × (first_bad_line list script.now ≡ Some n))) }
 {
-    let lines = read_script(alloc, script)?;
+    let lines = read_script(alloc, &list, script)?;
     let max_age = MaxAge::read(REPLAY_MAX_AGE).unwrap();
     let mut transcript = Transcript::new(alloc, list, users, descriptions, max_age)?;
     transcript.run(lines)?;

@@ -8,6 +8,7 @@ pub use self::action::Action;
 use self::action::read_action;
 use crate::replaying::ReplayFault;
 use hex::FromHexError;
+use nutcore::UpsList;
 use nutwords::{TextLines, is_silent};
 use std::alloc::{AllocError, Global};
 
@@ -29,23 +30,27 @@ pub enum Meaning {
     Bad,
 }
 
-/// The actions of a script, in the order of its lines.
+/// The actions of a script over this list of UPSs, in the order of its lines.
 ///
 /// # Errors
 ///
 /// `BadEvent` with the number of the first line that is none of a script's lines, and `Memory`.
-pub fn read_script(alloc: Global, script: &[u8]) -> Result<Vec<ScriptLine>, ReplayFault>
-    ensures ok { IfOk result (λ lines. (first_bad_line script.now ≡ None)
-        × (lines.items ≡ actions_of script.now)) }
+pub fn read_script(
+    alloc: Global,
+    list: &UpsList,
+    script: &[u8],
+) -> Result<Vec<ScriptLine>, ReplayFault>
+    ensures ok { IfOk result (λ lines. (first_bad_line list.now script.now ≡ None)
+        × (lines.items ≡ actions_of list.now script.now)) }
     ensures err { IfErr result
         (λ fault. (fault ≡ ReplayFault.Memory)
-        ⊎ ((n : ℕ) × (fault ≡ ReplayFault.BadEvent n) × (first_bad_line script.now ≡ Some n))) }
+        ⊎ ((n : ℕ) × (fault ≡ ReplayFault.BadEvent n) × (first_bad_line list.now script.now ≡ Some n))) }
 {
     let mut lines = Vec::new(alloc);
     let mut number = 0;
     for line in TextLines::of(script) {
         number += 1;
-        match read_line(alloc, line)? {
+        match read_line(alloc, list, line)? {
             Meaning::Nothing => {}
             Meaning::Does(action) => lines.push(ScriptLine { number, action })?,
             Meaning::Bad => return Err(ReplayFault::BadEvent(number)),
@@ -56,13 +61,13 @@ pub fn read_script(alloc: Global, script: &[u8]) -> Result<Vec<ScriptLine>, Repl
 
 /// What a line means.
 #[tactic(auto, unfolding(crate::specs::Script::read_line))]
-fn read_line(alloc: Global, line: &[u8]) -> Result<Meaning, AllocError>
-    ensures { IfOk result (λ meaning. meaning ≡ read_line line.now) }
+fn read_line(alloc: Global, list: &UpsList, line: &[u8]) -> Result<Meaning, AllocError>
+    ensures { IfOk result (λ meaning. meaning ≡ read_line list.now line.now) }
 {
     if is_silent(line) {
         return Ok(Meaning::Nothing);
     }
-    match read_action(alloc, line)? {
+    match read_action(alloc, list, line)? {
         Some(action) => Ok(Meaning::Does(action)),
         None => Ok(Meaning::Bad),
     }

@@ -67,38 +67,13 @@ impl Transcript {
     }
 
     /// Does what one line asks for.
-    #[tactic(auto, unfolding(crate::specs::Transcript::IsDone))]
     fn act(&mut self, line: usize, action: Action) -> Result<(), AllocError>
         ensures { OnOk result (IsDone line action self.old self.new) }
     {
         match action {
-            Action::DriverUp(ups) => match self.server.find(ups.as_bytes()) {
-                Some(u) => self.event(line, &Event::DriverUp(u)),
-                None => self.note_refusal(line, Fault::NoSuchUps),
-            },
-            Action::DriverBytes(ups, piece) => match self.server.find(ups.as_bytes()) {
-                Some(u) => self.event(line, &Event::DriverBytes(u, piece)),
-                None => self.note_refusal(line, Fault::NoSuchUps),
-            },
-            Action::DriverTook(ups, n) => match self.server.find(ups.as_bytes()) {
-                Some(u) => self.event(line, &Event::DriverTook(u, n)),
-                None => self.note_refusal(line, Fault::NoSuchUps),
-            },
-            Action::DriverTookAll(ups) => match self.server.find(ups.as_bytes()) {
-                Some(u) => self.driver_take_all(line, u),
-                None => self.note_refusal(line, Fault::NoSuchUps),
-            },
-            Action::DriverDown(ups) => match self.server.find(ups.as_bytes()) {
-                Some(u) => self.event(line, &Event::DriverDown(u)),
-                None => self.note_refusal(line, Fault::NoSuchUps),
-            },
-            Action::Tick(seconds) => self.event(line, &Event::Tick(seconds)),
-            Action::Open(address) => self.event(line, &Event::Open(address)),
-            Action::Feed(c, piece) => self.event(line, &Event::Feed(c, piece)),
-            Action::Took(c, n) => self.event(line, &Event::Took(c, n)),
+            Action::Happens(event) => self.event(line, &event),
             Action::TookAll(c) => self.take_all(line, c),
-            Action::Close(c) => self.event(line, &Event::Close(c)),
-            Action::Id(id) => self.event(line, &Event::Id(id)),
+            Action::DriverTookAll(u) => self.driver_take_all(line, u),
         }
     }
 

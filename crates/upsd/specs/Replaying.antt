@@ -21,13 +21,13 @@ IsOutputOf c script output =
 -- What replaying the script over this configuration gave, and what the writer took.
 abbrev pub IsReplay : {W : Type 0} → (W → Option (List ℕ)) → (W → ℕ) → Configuration → List ℕ → W
     → Result (Unit {0}) ReplayFault → W → Type 0
-IsReplay contents failures c script old (Ok u) new = (first_bad_line script ≡ None)
+IsReplay contents failures c script old (Ok u) new = (first_bad_line c.list script ≡ None)
     × ((output : List ℕ) × IsOutputOf c script output
     × Written contents failures old output new)
 IsReplay contents failures c script old (Err (faults.BadEvent n)) new =
-    (first_bad_line script ≡ Some n) × (new ≡ old)
+    (first_bad_line c.list script ≡ Some n) × (new ≡ old)
 IsReplay contents failures c script old (Err faults.Memory) new = new ≡ old
-IsReplay contents failures c script old (Err faults.Write) new = (first_bad_line script ≡ None)
+IsReplay contents failures c script old (Err faults.Write) new = (first_bad_line c.list script ≡ None)
     × ((output : List ℕ) × IsOutputOf c script output
     × WriteFailed contents failures old output new)
 

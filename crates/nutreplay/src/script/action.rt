@@ -1,103 +1,115 @@
 //! What one line of a script asks for.
 ghost use Rattle.std.specs.Prelude.{◌≡◌, ◌<◌, ◌==◌, ℕ, length, position, IfOk, IfSome, MatchOption, None, Some};
 ghost use Rattle.nutwords.specs.Text.{with_lf};
-ghost use Rattle.nutreplay.specs.Script.{split_at_space, number, ups_name, address, ups_and_rest, client_and_rest, taking_by, driver_taking_by, driver_line, driver_part, client_line, client_part, hex_bytes, driver_hex_by, client_hex_by, action_of, driver_action, client_action, read_action};
+ghost use Rattle.nutreplay.specs.Script.{split_at_space, number, ups, address, ups_and_rest, client_and_rest, taking, driver_taking, hex_bytes, bytes_of, driver_bytes, client_bytes, event_of, client_event, action_of, read_action};
 
 use hex::FromHexError;
-use nutcore::{Bytes, ClientId};
+use nutcore::{Bytes, ClientId, Event, UpsId, UpsList};
 use nuttracking::read_id;
 use nutwords::{Address, UpsName, read_natural};
 use std::alloc::{AllocError, Global};
 
+/// The place of a UPS that the list lacks: above every place of a list, so that the server refuses
+/// the events of that UPS.
+const UNLISTED: u8 = 255;
+
 /// What a line of the script asks for.
 #[derive(Debug, Drop)]
 pub enum Action {
-    /// `up U`: a driver connects to the UPS of this name.
-    DriverUp(UpsName),
-    /// `driver U REST`, `driver-part U REST`, `driver-hex U DIGITS`: bytes come from the driver of the UPS of this name.
-    DriverBytes(UpsName, Bytes),
-    /// `driver-took U COUNT`: the driver of the UPS of this name takes so many of the bytes that it is offered.
-    DriverTook(UpsName, usize),
-    /// `driver-took U all`: the driver of the UPS of this name takes all that it is offered.
-    DriverTookAll(UpsName),
-    /// `down U`: the driver of the UPS of this name is lost.
-    DriverDown(UpsName),
-    /// `tick S`: the clock is at so many seconds.
-    Tick(u64),
-    /// `open ADDRESS`: a client connects from an address.
-    Open(Address),
-    /// `client N REST`, `part N REST`, `client-hex N DIGITS`: bytes come from a client.
-    Feed(ClientId, Bytes),
-    /// `took N COUNT`: a client takes so many of the bytes that it is offered.
-    Took(ClientId, usize),
+    /// This event happens.
+    Happens(Event),
     /// `took N all`: a client takes what it is offered, as long as something is.
     TookAll(ClientId),
-    /// `close N`: a client's connection is gone.
-    Close(ClientId),
-    /// `id I`: an id for a tracked order is handed in.
-    Id(u128),
+    /// `driver-took U all`: the driver of a UPS takes all that it is offered.
+    DriverTookAll(UpsId),
+}
+
+/// How a line writes the bytes that a peer sends.
+#[derive(Clone, Copy, Debug, PartialEq, Eq)]
+enum Form {
+    /// A line without its LF.
+    Line,
+    /// A part of a line.
+    Part,
+    /// Hexadecimal digits.
+    Hex,
 }
 
 /// What a line asks for, if it is one of a script's.
-pub(super) fn read_action(alloc: Global, line: &[u8]) -> Result<Option<Action>, AllocError>
-    ensures { IfOk result (λ action. action ≡ read_action (split_at_space line.now)) }
+pub(super) fn read_action(
+    alloc: Global,
+    list: &UpsList,
+    line: &[u8],
+) -> Result<Option<Action>, AllocError>
+    ensures { IfOk result (λ action. action ≡ read_action list.now (split_at_space line.now)) }
 {
     match split_at_space(line) {
-        Some((verb, text)) => action_of(alloc, verb, text),
+        Some((verb, text)) => action_of(alloc, list, verb, text),
         None => Ok(None),
     }
 }
 
-/// What a verb asks for, with the bytes after its space: of the clock, a newcomer, an id, or else of a driver. Case matters.
-fn action_of(alloc: Global, verb: &[u8], text: &[u8]) -> Result<Option<Action>, AllocError>
-    ensures { IfOk result (λ action. action ≡ action_of verb.now text.now) }
+/// What a verb asks for, with the bytes after its space. Case matters.
+fn action_of(
+    alloc: Global,
+    list: &UpsList,
+    verb: &[u8],
+    text: &[u8],
+) -> Result<Option<Action>, AllocError>
+    ensures { IfOk result (λ action. action ≡ action_of list.now verb.now text.now) }
 {
-    if verb == b"tick".as_slice() {
-        Ok(read_number(text).map(|seconds| Action::Tick(seconds)))
-    } else if verb == b"open".as_slice() {
-        Ok(address(text).map(|from| Action::Open(from)))
-    } else if verb == b"id".as_slice() {
-        Ok(read_id(text).map(|id| Action::Id(id)))
+    if verb == b"took".as_slice() {
+        Ok(taking(text))
+    } else if verb == b"driver-took".as_slice() {
+        Ok(driver_taking(list, text))
     } else {
-        driver_action(alloc, verb, text)
+        let event = event_of(alloc, list, verb, text)?;
+        Ok(event.map(|event| Action::Happens(event)))
     }
 }
 
-/// What a verb asks for of the driver of a UPS, or else of a client.
-fn driver_action(alloc: Global, verb: &[u8], text: &[u8]) -> Result<Option<Action>, AllocError>
-    ensures { IfOk result (λ action. action ≡ driver_action verb.now text.now) }
+/// The event of a verb: of the driver of a UPS, or else of a client.
+fn event_of(
+    alloc: Global,
+    list: &UpsList,
+    verb: &[u8],
+    text: &[u8],
+) -> Result<Option<Event>, AllocError>
+    ensures { IfOk result (λ event. event ≡ event_of list.now verb.now text.now) }
 {
     if verb == b"up".as_slice() {
-        Ok(ups_name(text).map(|ups| Action::DriverUp(ups)))
+        Ok(ups(list, text).map(|u| Event::DriverUp(u)))
     } else if verb == b"down".as_slice() {
-        Ok(ups_name(text).map(|ups| Action::DriverDown(ups)))
+        Ok(ups(list, text).map(|u| Event::DriverDown(u)))
     } else if verb == b"driver".as_slice() {
-        driver_line(alloc, text)
+        driver_bytes(alloc, list, Form::Line, text)
     } else if verb == b"driver-part".as_slice() {
-        driver_part(alloc, text)
+        driver_bytes(alloc, list, Form::Part, text)
     } else if verb == b"driver-hex".as_slice() {
-        driver_hex(alloc, text)
-    } else if verb == b"driver-took".as_slice() {
-        Ok(driver_taking(text))
+        driver_bytes(alloc, list, Form::Hex, text)
     } else {
-        client_action(alloc, verb, text)
+        client_event(alloc, verb, text)
     }
 }
 
-/// What a verb asks for of a client.
-fn client_action(alloc: Global, verb: &[u8], text: &[u8]) -> Result<Option<Action>, AllocError>
-    ensures { IfOk result (λ action. action ≡ client_action verb.now text.now) }
+/// The event of a verb of a client, of the clock or of an id.
+fn client_event(alloc: Global, verb: &[u8], text: &[u8]) -> Result<Option<Event>, AllocError>
+    ensures { IfOk result (λ event. event ≡ client_event verb.now text.now) }
 {
-    if verb == b"client".as_slice() {
-        client_line(alloc, text)
+    if verb == b"open".as_slice() {
+        Ok(address(text).map(|from| Event::Open(from)))
+    } else if verb == b"client".as_slice() {
+        client_bytes(alloc, Form::Line, text)
     } else if verb == b"part".as_slice() {
-        client_part(alloc, text)
+        client_bytes(alloc, Form::Part, text)
     } else if verb == b"client-hex".as_slice() {
-        client_hex(alloc, text)
-    } else if verb == b"took".as_slice() {
-        Ok(taking(text))
+        client_bytes(alloc, Form::Hex, text)
     } else if verb == b"close".as_slice() {
-        Ok(read_number(text).map(|c| Action::Close(c)))
+        Ok(read_number(text).map(|c| Event::Close(c)))
+    } else if verb == b"tick".as_slice() {
+        Ok(read_number(text).map(|seconds| Event::Tick(seconds)))
+    } else if verb == b"id".as_slice() {
+        Ok(read_id(text).map(|id| Event::Id(id)))
     } else {
         Ok(None)
     }
@@ -105,88 +117,65 @@ fn client_action(alloc: Global, verb: &[u8], text: &[u8]) -> Result<Option<Actio
 
 /// What a client takes: so many bytes, or `all`.
 fn taking(text: &[u8]) -> Option<Action>
-    ensures { result ≡ taking_by (client_and_rest text.now) }
+    ensures { result ≡ taking (client_and_rest text.now) }
 {
     let (c, count) = client_and_rest(text)?;
     if count == b"all".as_slice() {
         return Some(Action::TookAll(c));
     }
     let n = read_number(count)?;
-    Some(Action::Took(c, n as usize))
+    Some(Action::Happens(Event::Took(c, n as usize)))
 }
 
-/// What a driver takes: so many bytes, or `all`.
-fn driver_taking(text: &[u8]) -> Option<Action>
-    ensures { result ≡ driver_taking_by (ups_and_rest text.now) }
+/// What the driver of a UPS takes: so many bytes, or `all`.
+fn driver_taking(list: &UpsList, text: &[u8]) -> Option<Action>
+    ensures { result ≡ driver_taking (ups_and_rest list.now text.now) }
 {
-    let (ups, count) = ups_and_rest(text)?;
+    let (u, count) = ups_and_rest(list, text)?;
     if count == b"all".as_slice() {
-        return Some(Action::DriverTookAll(ups));
+        return Some(Action::DriverTookAll(u));
     }
     let n = read_number(count)?;
-    Some(Action::DriverTook(ups, n as usize))
+    Some(Action::Happens(Event::DriverTook(u, n as usize)))
 }
 
-/// The line that the driver of a UPS sends.
-fn driver_line(alloc: Global, text: &[u8]) -> Result<Option<Action>, AllocError>
-    ensures { IfOk result (λ action. action ≡ driver_line text.now) }
+/// What the driver of a UPS sends.
+fn driver_bytes(
+    alloc: Global,
+    list: &UpsList,
+    form: Form,
+    text: &[u8],
+) -> Result<Option<Event>, AllocError>
+    ensures { IfOk result (λ event. event
+        ≡ driver_bytes form (ups_and_rest list.now text.now)) }
 {
-    match ups_and_rest(text) {
-        Some((ups, rest)) => Ok(Some(Action::DriverBytes(ups, whole_line(alloc, rest)?))),
-        None => Ok(None),
-    }
-}
-
-/// What the driver of a UPS sends of a line.
-fn driver_part(alloc: Global, text: &[u8]) -> Result<Option<Action>, AllocError>
-    ensures { IfOk result (λ action. action ≡ driver_part text.now) }
-{
-    match ups_and_rest(text) {
-        Some((ups, rest)) => Ok(Some(Action::DriverBytes(ups, piece(alloc, rest)?))),
-        None => Ok(None),
-    }
-}
-
-/// The line that a client sends.
-fn client_line(alloc: Global, text: &[u8]) -> Result<Option<Action>, AllocError>
-    ensures { IfOk result (λ action. action ≡ client_line text.now) }
-{
-    match client_and_rest(text) {
-        Some((c, rest)) => Ok(Some(Action::Feed(c, whole_line(alloc, rest)?))),
-        None => Ok(None),
-    }
-}
-
-/// What a client sends of a line.
-fn client_part(alloc: Global, text: &[u8]) -> Result<Option<Action>, AllocError>
-    ensures { IfOk result (λ action. action ≡ client_part text.now) }
-{
-    match client_and_rest(text) {
-        Some((c, rest)) => Ok(Some(Action::Feed(c, piece(alloc, rest)?))),
-        None => Ok(None),
-    }
-}
-
-/// What the driver of a UPS sends, written in hexadecimal digits.
-fn driver_hex(alloc: Global, text: &[u8]) -> Result<Option<Action>, AllocError>
-    ensures { IfOk result (λ action. action ≡ driver_hex_by (ups_and_rest text.now)) }
-{
-    let Some((ups, digits)) = ups_and_rest(text) else {
+    let Some((u, rest)) = ups_and_rest(list, text) else {
         return Ok(None);
     };
-    let piece = hex_bytes(alloc, digits)?;
-    Ok(piece.map(|piece| Action::DriverBytes(ups, piece)))
+    let piece = bytes_of(alloc, form, rest)?;
+    Ok(piece.map(|piece| Event::DriverBytes(u, piece)))
 }
 
-/// What a client sends, written in hexadecimal digits.
-fn client_hex(alloc: Global, text: &[u8]) -> Result<Option<Action>, AllocError>
-    ensures { IfOk result (λ action. action ≡ client_hex_by (client_and_rest text.now)) }
+/// What a client sends.
+fn client_bytes(alloc: Global, form: Form, text: &[u8]) -> Result<Option<Event>, AllocError>
+    ensures { IfOk result (λ event. event ≡ client_bytes form (client_and_rest text.now)) }
 {
-    let Some((c, digits)) = client_and_rest(text) else {
+    let Some((c, rest)) = client_and_rest(text) else {
         return Ok(None);
     };
-    let piece = hex_bytes(alloc, digits)?;
-    Ok(piece.map(|piece| Action::Feed(c, piece)))
+    let piece = bytes_of(alloc, form, rest)?;
+    Ok(piece.map(|piece| Event::Feed(c, piece)))
+}
+
+/// The bytes that are written in this form.
+fn bytes_of(alloc: Global, form: Form, text: &[u8]) -> Result<Option<Bytes>, AllocError>
+    ensures { IfOk result (λ bytes. bytes ≡ bytes_of form text.now) }
+{
+    match form {
+        Form::Line => Ok(Some(whole_line(alloc, text)?)),
+        Form::Part => Ok(Some(piece(alloc, text)?)),
+        Form::Hex => hex_bytes(alloc, text),
+    }
 }
 
 /// The bytes that an even number of hexadecimal digits writes, two digits at least.
@@ -203,14 +192,14 @@ fn hex_bytes(alloc: Global, digits: &[u8]) -> Result<Option<Bytes>, AllocError>
     }
 }
 
-/// The name of a UPS and the bytes after the space that follows it.
-fn ups_and_rest(text: &[u8]) -> Option<(UpsName, &[u8])>
-    ensures { MatchOption result (ups_and_rest text.now ≡ None)
-        (λ p. ups_and_rest text.now ≡ Some (p.0, p.1.now)) }
+/// A UPS and the bytes after the space that follows its name.
+fn ups_and_rest<'t>(list: &UpsList, text: &'t [u8]) -> Option<(UpsId, &'t [u8])>
+    ensures { MatchOption result (ups_and_rest list.now text.now ≡ None)
+        (λ p. ups_and_rest list.now text.now ≡ Some (p.0, p.1.now)) }
 {
     let (first, rest) = split_at_space(text)?;
-    let ups = ups_name(first)?;
-    Some((ups, rest))
+    let u = ups(list, first)?;
+    Some((u, rest))
 }
 
 /// A client's id and the bytes after the space that follows it.
@@ -223,10 +212,15 @@ fn client_and_rest(text: &[u8]) -> Option<(ClientId, &[u8])>
     Some((c, rest))
 }
 
-fn ups_name(text: &[u8]) -> Option<UpsName>
-    ensures { result ≡ ups_name text.now }
+/// The UPS of this name.
+fn ups(list: &UpsList, text: &[u8]) -> Option<UpsId>
+    ensures { result ≡ ups list.now text.now }
 {
-    UpsName::read(text).ok()
+    let name = UpsName::read(text).ok()?;
+    Some(match list.find(name.as_bytes()) {
+        Some(u) => u,
+        None => UpsId { place: UNLISTED },
+    })
 }
 
 fn address(text: &[u8]) -> Option<Address>

@@ -24,4 +24,4 @@ overflow_add-number c =
 pub returns-in-Bad-clause-err : goal.returns-in-Bad-clause-err
 returns-in-Bad-clause-err c =
     let bad = rw c.in-Bad.is at c.in_ok-read_line.ensures in
-    inr (c.loop-line.number + 1, refl, bad_here _ _ _ _ _ _ c.in-Some.ensures.steps bad refl c.loop-line.invariant.bad)
+    inr (c.loop-line.number + 1, refl, bad_here _ _ _ _ _ _ _ c.in-Some.ensures.steps bad refl c.loop-line.invariant.bad)

@@ -6,8 +6,8 @@ use Rattle.nutreplay.proofs.script.read_script.Given as goal
 -- what is read, followed by what the lines that are left ask for, is what the script asks for; the first bad line is among those left
 abbrev pub invariant-loop-line : goal.invariant-loop-line
 invariant-loop-line l = record {
-  read : l.lines.items ++ actions_from (l.number + 1) l.line-iterator ≡ actions_of l.script;
-  bad : bad_line_from (l.number + 1) l.line-iterator ≡ first_bad_line l.script;
+  read : l.lines.items ++ actions_from l.list (l.number + 1) l.line-iterator ≡ actions_of l.list l.script;
+  bad : bad_line_from l.list (l.number + 1) l.line-iterator ≡ first_bad_line l.list l.script;
   short : l.number + length l.line-iterator ≡ length (lines_of l.script);
   can : (goal.iterator-loop-line).can_next l.line-iterator;
   finite : (goal.iterator-loop-line).is_finite l.line-iterator;
