@@ -11,6 +11,5 @@ built upsd
 export PYTHONDONTWRITEBYTECODE=1
 status=0
 python3 ../../tests/hostile_cases.py out/upsd || status=1
-python3 ../../tests/limit_cases.py out/upsd || status=1
 python3 ../../tests/random_pieces.py out/upsd "${1:-1}" || status=1
 exit "$status"
