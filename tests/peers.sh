@@ -42,10 +42,7 @@ end() {
     unset "ids[$1]"
     kill -CONT "$id" 2>/dev/null || true
     kill "$id" 2>/dev/null || true
-    for _ in {1..30}; do
-        kill -0 "$id" 2>/dev/null || break
-        sleep 0.1
-    done
+    timeout 3 tail --pid="$id" -f /dev/null || true
     kill -KILL "$id" 2>/dev/null || true
     wait "$id" 2>/dev/null || true
 }

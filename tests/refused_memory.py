@@ -172,66 +172,48 @@ REPLIES = {
     b"LIST CLIENT su": b"BEGIN LIST CLIENT su\nCLIENT su 192.0.2.1\nEND LIST CLIENT su\n",
     b"GET VAR su ups.status": b'VAR su ups.status "OL"\n',
 }
-LOGIN = [b'USERNAME "admin"', b'PASSWORD "s3 cret"']
-
-
-class Answering(socketserver.ThreadingTCPServer):
-    """A server that answers, and keeps the lines that it was sent."""
-
-    daemon_threads = allow_reuse_address = True
-
-    def __init__(self):
-        super().__init__(("127.0.0.1", 0), Asked)
-        self.lines = []
-        threading.Thread(target=self.serve_forever, daemon=True).start()
 
 
 class Asked(socketserver.StreamRequestHandler):
+    """A server that answers."""
+
     def handle(self):
         for line in self.rfile:
-            self.server.lines.append(line.rstrip(b"\n"))
             self.wfile.write(REPLIES.get(line.rstrip(b"\n"), b"OK\n"))
 
 
-def asks(answering, name, program, sent, want, *words):
-    """Each request of the client refused in turn: it prints all, or tells a fault and prints nothing. Where none is refused, it
-    sends these lines."""
-    command = os.path.basename(program)
-
+def client_in_turn(program, want, *words):
+    """Each request of the client refused in turn: it prints all, or tells a fault and prints nothing."""
     by_name = "localhost" in words[-1]
     faults = ("no memory", "cannot connect") if by_name else ("no memory",)
 
     def judge(got):
         if by_name and got[0] in (-signal.SIGSEGV, -signal.SIGABRT) and got[1] == b"":
             return "ended by the C library's look-up of a name"  # glibc 2.36: a null pointer, an assertion
-        return next((fault for fault in faults if got == (1, b"", f"{command}: {fault}\n".encode())), None)
+        return next((fault for fault in faults if got == (1, b"", f"{os.path.basename(program)}: {fault}\n".encode())), None)
 
-    def case():
-        words_of = [program, *(word.replace("PORT", str(answering.server_address[1])) for word in words)]
-        CONTROL.refuse(0, 0)
-        del answering.lines[:]
-        run(words_of)
-        assert answering.lines == sent, answering.lines
-        return figures(*in_turn(words_of, want, judge))
-
-    BENCH.case(name, case)
+    return figures(*in_turn([program, *words], want, judge))
 
 
 def client_cases():
-    with Answering() as answering:
-        variables, su = b"battery.charge: 100\nups.status: OL\n", "su@127.0.0.1:PORT"
-        user = ["-u", "admin", "-p", "s3 cret"]
-        asks(answering, "upsc_variables", UPSC, [b"LIST VAR su"], variables, su)
-        asks(answering, "upsc_variables_of_a_host_by_name", UPSC, [b"LIST VAR su"], variables, "su@localhost:PORT")
-        asks(answering, "upsc_variable", UPSC, [b"GET VAR su ups.status"], b"OL\n", su, "ups.status")
-        asks(answering, "upsc_names", UPSC, [b"LIST UPS"], b"su\n", "-l", "127.0.0.1:PORT")
-        asks(answering, "upsc_descriptions", UPSC, [b"LIST UPS"], b"su: Rack 1\n", "-L", "127.0.0.1:PORT")
-        asks(answering, "upsc_clients", UPSC, [b"LIST CLIENT su"], b"192.0.2.1\n", "-c", su)
-        asks(answering, "upsrw_variables", UPSRW, [b"LIST RW su"], b"ups.delay=30\n", su)
-        setting = [*LOGIN, b'SET VAR su ups.delay "30"']
-        asks(answering, "upsrw_sets", UPSRW, setting, b"OK\n", "-s", "ups.delay=30", *user, su)
-        asks(answering, "upscmd_commands", UPSCMD, [b"LIST CMD su"], b"load.off\nload.on\n", "-l", su)
-        asks(answering, "upscmd_starts", UPSCMD, [*LOGIN, b"INSTCMD su load.off"], b"OK\n", *user, su, "load.off")
+    with socketserver.ThreadingTCPServer(("127.0.0.1", 0), Asked) as answering:
+        answering.daemon_threads = True
+        threading.Thread(target=answering.serve_forever, daemon=True).start()
+        at = f"127.0.0.1:{answering.server_address[1]}"
+        su, user = f"su@{at}", ("-u", "admin", "-p", "s3 cret")
+        variables = b"battery.charge: 100\nups.status: OL\n"
+        for name, *case in [
+                ("upsc_variables", UPSC, variables, su),
+                ("upsc_variables_of_a_host_by_name", UPSC, variables, su.replace("127.0.0.1", "localhost")),
+                ("upsc_variable", UPSC, b"OL\n", su, "ups.status"),
+                ("upsc_names", UPSC, b"su\n", "-l", at),
+                ("upsc_descriptions", UPSC, b"su: Rack 1\n", "-L", at),
+                ("upsc_clients", UPSC, b"192.0.2.1\n", "-c", su),
+                ("upsrw_variables", UPSRW, b"ups.delay=30\n", su),
+                ("upsrw_sets", UPSRW, b"OK\n", "-s", "ups.delay=30", *user, su),
+                ("upscmd_commands", UPSCMD, b"load.off\nload.on\n", "-l", su),
+                ("upscmd_starts", UPSCMD, b"OK\n", *user, su, "load.off")]:
+            BENCH.case(name, client_in_turn, *case)
         answering.shutdown()
 
 

@@ -106,13 +106,8 @@ def words_and_files_are_told_as_faults():
             (files + ["--ids", absent, "--listen", "192.0.2.1:1"], f"{absent}: cannot read"),
             (files + ["--listen", "192.0.2.1:1"], "cannot listen")]:
         assert run_to_end(*words) == (1, b"", f"upsd: {told}\n".encode()), words
-
-
-@case
-def a_taken_port_is_told():
-    with served() as (server, _, _):
-        words = ["--ups", path("su.conf"), "--users", path("users"), "--listen", f"127.0.0.1:{server.port}"]
-        assert run_to_end(*words) == (1, b"", b"upsd: cannot listen\n")
+    ended = ends_in_full(UPSD, "serve", *files, "--listen", "127.0.0.1:0")
+    assert ended == (1, b"upsd: write failed\n"), ended
 
 
 EXAMPLE, SMALL = "a password of the example, which everybody knows", "only ALL grants every command"
@@ -142,12 +137,6 @@ def dangers_of_the_users_file_are_told():
     # A file that is refused is told by its cause alone.
     refused = file("refused", dangerous + "[d]\n")
     assert run_to_end("--ups", path("list"), "--users", refused) == (1, b"", f"upsd: {refused}:13: cause 4\n".encode())
-
-
-@case
-def a_full_output_is_told():
-    ended = ends_in_full(UPSD, "serve", "--ups", file("list", "[su]\n"), "--users", path("users"), "--listen", "127.0.0.1:0")
-    assert ended == (1, b"upsd: write failed\n"), ended
 
 
 def printed(*words):
@@ -710,9 +699,10 @@ def nothing_grows():
 
 
 @case
-def it_starts_again_at_its_port():
+def it_starts_again_at_its_port_and_at_none_that_is_taken():
     with served() as (server, driver, good):
-        assert good.ask(GET) == STATUS
+        words = ["--ups", path("su.conf"), "--users", path("users"), "--listen", f"127.0.0.1:{server.port}"]
+        assert run_to_end(*words) == (1, b"", b"upsd: cannot listen\n")
         server.close()
         driver.lose()
         with begun(path("su.conf"), port=server.port) as again:
@@ -732,6 +722,7 @@ def alone(function):
             return "skipped: no network of its own can be made"
         ended = subprocess.run([*unshared, sys.executable, *sys.argv[:5], function.__name__], capture_output=True, text=True, check=False)
         assert ended.returncode == 0, ended.stdout + ended.stderr
+        return ended.stdout.partition(" s, ")[2].strip()  # whether a half was skipped
     run.__name__ = function.__name__
     return run
 
