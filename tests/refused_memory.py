@@ -230,6 +230,7 @@ def serving(told):
     CONTROL.refuse(0, 0)
     BENCH.file("users", USERS)
     with served(FOLDER, UPSD, told, env=REFUSING) as ends:
+        assert CONTROL.requests > 0, "no request was counted"
         yield ends
 
 
@@ -329,6 +330,7 @@ def starting():
         assert listens or (child.returncode, faults) == (1, b"upsd: no memory\n"), (request, child.returncode, faults)
         ended += not listens
         if listens and not CONTROL.refused:
+            assert ended, "no request was refused"
             return f"{request - 1} requests: {ended} no memory"
 
 

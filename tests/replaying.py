@@ -73,7 +73,7 @@ class Bench:
         except Exception as fault:  # a case that fails is reported, and the next one runs
             self.failed += 1
             line = fault.__traceback__.tb_next.tb_lineno
-            print(f"{self.name}: FAILED: {name}: line {line}: {fault or fault!r}", flush=True)
+            print(f"{self.name}: FAILED: {name}: line {line}: {str(fault) or repr(fault)}", flush=True)
             return
         seconds = time.monotonic() - begun
         print(f"{self.name}: ok: {name}: {seconds:.1f} s{f', {figures}' if figures else ''}", flush=True)
