@@ -1,8 +1,9 @@
 """The cases of tests/hostile.sh: hostile lines, slow readers, and what stands at the limits, over the built `upsd replay`, with
-ample memory: nothing answers want of it. Word: the program."""
+ample memory: nothing answers want of it. Words: the program, and the seed of the random pieces."""
 import sys
 
 from plain_server import HOLD, LINE, VALUE, VARIABLES, Server, Ups, User
+from random_pieces import all_runs
 from replaying import VERSION, Bench, hexed, lines, ready, sent
 
 BENCH = Bench("hostile", sys.argv[1])
@@ -28,12 +29,6 @@ def line_feeds_alone():
     for pieces, want in (([b"\n" * HOLD], b""), ([b"\n" * HOLD, b"\n" * HOLD, b"\n" * (HOLD - 4) + b"VER\n"], VERSION)):
         sends = [hexed("client", 1, piece) for piece in pieces]
         BENCH.prints(lines("open 192.0.2.1", sends, "took 1 all"), sent("client 1", want) + DRIVER)
-
-
-def more_than_there_is_room_for():
-    script = lines("open 192.0.2.1", "", hexed("client", 1, b"\n" * (HOLD + 1)), hexed("client", 1, b"VER\n"))
-    want = b"line 3: %d of %d bytes held\n" % (HOLD, HOLD + 1) + sent("client 1", VERSION) + DRIVER
-    BENCH.prints(script + b"took 1 all\n", want)
 
 
 def driver_without_end_of_line():
@@ -159,8 +154,9 @@ def longest_line_of_a_driver():
         assert want in told
 
 
-for case in (every_byte_alone, line_feeds_alone, more_than_there_is_room_for, driver_without_end_of_line, longest_line_of_a_driver,
+for case in (every_byte_alone, line_feeds_alone, driver_without_end_of_line, longest_line_of_a_driver,
              one_paused_listing, sixty_four_slow_readers, thirty_two_upses, one_more_is_not_held, greatest_list_of_variables,
              files_at_their_limits):  # fmt: skip
     BENCH.case(case.__name__, case)
+BENCH.case("random_pieces", all_runs, BENCH, int(sys.argv[2]))
 BENCH.end()

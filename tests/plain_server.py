@@ -15,10 +15,6 @@ BLANKS = b" \t"
 class Refused(Exception):
     """An event is refused, with the number of its fault."""
 
-    def __init__(self, number):
-        super().__init__(number)
-        self.number = number
-
 
 # A byte that stands for itself within quotes, and in a bare word, or a backslash and a byte that it makes stand.
 UNITS = [rb"(?:[%s!#-\[\]-~\x80-\xff]|\\[\t -~\x80-\xff])" % blanks for blanks in (BLANKS, b"")]
@@ -517,7 +513,7 @@ class Replay:
         try:
             return call(*words)
         except Refused as refused:
-            self.told.append(b"line %d: refused %d\n" % (number, refused.number))
+            self.told.append(b"line %d: refused %d\n" % (number, refused.args[0]))
             return None
         finally:
             self.server.refuse = None

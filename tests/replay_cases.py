@@ -260,14 +260,9 @@ HELP = {
 }  # fmt: skip
 
 
-def a_file_is_read(words, want):
+def ends_so(words, *want):
     got = BENCH.ends("replay", *words.split(" "))
-    assert got == (0, want, b""), got
-
-
-def a_fault_is_reported(words, fault):
-    got = BENCH.ends("replay", *words.split(" "))
-    assert got == (1, b"", f"upsd: {fault}\n".encode()), got
+    assert got == want, got
 
 
 def other_words():
@@ -297,6 +292,6 @@ for cases in sorted(glob.glob(f"{HERE}/scripts/*.cases")):
 for case in (bad_lines, a_listing_that_waits_keeps_what_it_lists, a_line_is_executed_once_at_most_4096_bytes_are_owed,
              a_list_of_clients_that_waits_keeps_who_was_there, the_last_256_orders_are_kept, other_words, an_output_that_takes_less):  # fmt: skip
     BENCH.case(case.__name__, case)
-BENCH.case("files that are read", each, REPLAYS, a_file_is_read)
-BENCH.case("the first fault is reported", each, FAULTS, a_fault_is_reported)
+BENCH.case("files that are read", each, [(words, 0, want, b"") for words, want in REPLAYS], ends_so)
+BENCH.case("the first fault is reported", each, [(words, 1, b"", f"upsd: {fault}\n".encode()) for words, fault in FAULTS], ends_so)
 BENCH.end()

@@ -716,7 +716,7 @@ def alone(function):
     def run():
         unshared = ["unshare", "-rn", "env", "NETWORK=its own"]
         if os.environ.get("NETWORK") == "its own":
-            ip_link("up")
+            tool("ip", "link", "set", "lo", "up")
             return function()
         if not shutil.which("ss") or subprocess.run([*unshared, "ip", "link", "set", "lo", "up"], capture_output=True, check=False).returncode:
             return "skipped: no network of its own can be made"
@@ -727,12 +727,8 @@ def alone(function):
     return run
 
 
-def ip_link(state):
-    subprocess.run(["ip", "link", "set", "lo", state], check=True)
-
-
-def ss(*words):
-    return subprocess.run(["ss", *words], capture_output=True, text=True, check=True).stdout
+def tool(*words):
+    return subprocess.run(words, capture_output=True, text=True, check=True).stdout
 
 
 def vanish(server, seconds):
@@ -740,10 +736,10 @@ def vanish(server, seconds):
     client = server.client("127.0.0.2")
     assert client.ask(MON + b"LOGIN su\n") == b"OK\n" * 3
     time.sleep(0.3)  # until what the server sent is acknowledged
-    timers = ss("-tnoH", "state", "established", f"sport = :{server.port}", "dst 127.0.0.2")
-    ip_link("down")
+    timers = tool("ss", "-tnoH", "state", "established", f"sport = :{server.port}", "dst 127.0.0.2")
+    tool("ip", "link", "set", "lo", "down")
     time.sleep(seconds)
-    ip_link("up")
+    tool("ip", "link", "set", "lo", "up")
     return timers
 
 
@@ -758,7 +754,7 @@ def a_client_that_vanished_is_logged_out_by_hand():
     with served(env={**os.environ, "KEEPIDLE": "1"}) as (server, _, _):
         assert "keepalive" not in vanish(server, 1)
         assert logins(server) == b"127.0.0.2\n"
-        assert len(ss("-KH", f"sport = :{server.port}", "dst 127.0.0.2").splitlines()) == 1
+        assert len(tool("ss", "-KH", f"sport = :{server.port}", "dst 127.0.0.2").splitlines()) == 1
         assert comes(lambda: logins(server) == b""), logins(server)
 
 

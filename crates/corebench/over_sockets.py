@@ -73,14 +73,9 @@ class Server:
         self.process.send_signal(signal.SIGTERM)
         told = self.process.communicate()[1]
         self.driver.close()
-        self.listener.close()
         os.unlink(self.listener.getsockname())
+        self.listener.close()
         return told
-
-
-def leave(clients):
-    for client in clients:
-        client.close()
 
 
 def answers(client, count):
@@ -119,7 +114,10 @@ def gets_a_second(server, connections, depth):
     began = time.monotonic()
     ask(clients, depth, rounds)
     took = time.monotonic() - began
-    leave(clients)
+    for client in clients:  # once it has the answer, there is room for the next one
+        client.sendall(b"LOGOUT\n")
+        answers(client, 1)
+        client.close()
     return rounds * connections * depth / took
 
 
@@ -154,9 +152,7 @@ def waits_beside_slow(server):
     slow = server.clients(MANY - 1)
     for client in slow:
         client.sendall(text)
-    told = waits(server, "beside 63 slow ones")
-    leave(slow)
-    return told
+    return waits(server, "beside 63 slow ones")
 
 
 def waits_in_a_flood(server):
