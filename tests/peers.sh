@@ -24,10 +24,7 @@ done
 
 # upsmon keeps its process's id in one file of the machine, whoever starts it.
 MONITOR_ID=/run/nut/upsmon.pid
-if [[ -s $MONITOR_ID ]]; then
-    kill -0 "$(<"$MONITOR_ID")" 2>/dev/null && skip "this machine has an upsmon of its own"
-    rm "$MONITOR_ID" 2>/dev/null || skip "an upsmon that is gone has left $MONITOR_ID, and only root takes it away"
-fi
+[[ ! -e $MONITOR_ID ]] || skip "this machine has an upsmon of its own, or one that is gone has left $MONITOR_ID"
 
 folder=$(mktemp -d)
 declare -A ids=()
