@@ -30,7 +30,6 @@ upsmon secondary
 ADMIN = b'USERNAME admin\nPASSWORD "s3 cret"\n'
 MON = b"USERNAME mon\nPASSWORD pw\n"
 TWO = b'SETINFO ups.status "OL"\nSETINFO battery.charge "100"\n'
-LISTED = b'BEGIN LIST VAR su\nVAR su battery.charge "100"\nVAR su ups.status "OL"\nEND LIST VAR su\n'
 GET, STATUS = b"GET VAR su ups.status\n", b'VAR su ups.status "OL"\n'
 AWAY = b"ERR DRIVER-NOT-CONNECTED\n"
 NO_FILE = "cannot connect: No such file or directory (os error 2)\n"
