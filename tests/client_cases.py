@@ -1,6 +1,6 @@
-"""The cases of tests/clients.sh over a scripted server: what a client sends, prints and tells, whatever the pieces in which
-the reply comes, wherever it is cut, however little the server or the output takes, and where the server says no more. Words:
-the library that makes ends narrow (narrow.c), and the programs upsc, upsrw and upscmd. A line a case, with its rows.
+"""The cases of tests/clients.sh: what a client sends, prints and tells, whatever its words, and the pieces in which the reply
+comes, wherever it is cut, however little the server or the output takes, and where the server says no more. Words: the
+library that makes ends narrow (narrow.c), and the programs upsc, upsrw and upscmd. A line a case, with its rows.
 """
 import concurrent.futures
 import contextlib
@@ -30,10 +30,10 @@ ASKED = b"LIST VAR su\n"
 SET = ("upsrw", "-s", "ups.delay=30", "-u", "admin", "-p", "s3 cret", "su@localhost:3494")
 USER, PASSWORD = b'USERNAME "admin"\n', b'PASSWORD "s3 cret"\n'
 ID = "1bd31808-cb49-4aec-9d75-d056e6f018d2"
-TRACKED_SET = ("upsrw", "--track", *SET[1:])
-TRACKED_COMMAND = ("upscmd", "--track", "-u", "admin", "-p", "s3 cret", "su", "load.off", "1 0")
+COMMAND = ("upscmd", "-u", "admin", "-p", "s3 cret", "su", "load.off", "1 0")
+TRACKED_SET, TRACKED_COMMAND = ("upsrw", "--track", *SET[1:]), ("upscmd", "--track", *COMMAND[1:])
 TRACKED = USER + PASSWORD + b"SET TRACKING ON\n"
-PROGRESS = ("upsc", "--tracked", ID, "su")
+PROGRESS = ("upsc", "--tracked", ID.upper(), "su")
 
 
 class Row(NamedTuple):
@@ -84,11 +84,17 @@ def all_of(wire):
     return b"".join(pieces)
 
 
-def start(words, narrow):
+def start(words, narrow, output=subprocess.PIPE):
     program, *rest = words
     more = {"LD_PRELOAD": NARROW, "LED": LED, **narrow}
-    ends = {"stdin": subprocess.DEVNULL, "stdout": subprocess.PIPE, "stderr": subprocess.PIPE}
-    return subprocess.Popen([PROGRAMS[program], *rest], env={**os.environ, **more}, **ends)
+    return subprocess.Popen([PROGRAMS[program], *rest], env={**os.environ, **more}, stdin=subprocess.DEVNULL, stdout=output, stderr=subprocess.PIPE)
+
+
+def check_end(words, child, status, fault):
+    """The program ends by this status, and reports this fault alone."""
+    printed, told = child.communicate(timeout=60)
+    got = (printed or b"", told, child.returncode)
+    assert got == (b"", f"{words[0]}: {fault}\n".encode(), status), f"{words}: {got}"
 
 
 def meet(row, peer=PEER):
@@ -143,8 +149,9 @@ def asked_for():
     yield Row(SET, b"OK\n" * 3, USER + PASSWORD + b'SET VAR su ups.delay "30"\n', b"OK\n")
     tracked = b"OK\n" * 3 + b"OK TRACKING %s\n" % ID.encode()
     yield Row(TRACKED_SET, tracked, TRACKED + b'SET VAR su ups.delay "30"\n', ID.encode() + b"\n")
-    yield Row(TRACKED_COMMAND, tracked, TRACKED + b'INSTCMD su load.off "1 0"\n', ID.encode() + b"\n")
-    yield Row(PROGRESS, b"TRACKING %s FAILED 7\n" % ID.encode(), b"GET TRACKING %s\n" % ID.encode(), b"FAILED 7\n")
+    yield Row(TRACKED_COMMAND, tracked.upper(), TRACKED + b'INSTCMD su load.off "1 0"\n', ID.encode() + b"\n")
+    for progress in (b"PENDING", b"SUCCESS", b"FAILED 7"):
+        yield Row(PROGRESS, b"TRACKING %s %s\n" % (ID.encode(), progress), b"GET TRACKING %s\n" % ID.encode(), progress + b"\n")
 
 
 def in_pieces():
@@ -190,11 +197,26 @@ def check_unlawful(rows):
     """Each of these words is a bad argument, and no server is looked for."""
     BENCH.file("led", b"")
     for words in rows:
-        printed, told = (child := start(words, {"LEAD_TO": "1"})).communicate(timeout=60)  # a port that refuses
-        got, want = (printed, told, child.returncode), (b"", f"{words[0]}: {ARGUMENT}\n".encode(), 2)
-        assert got == want, f"{words}: {got}"
+        check_end(words, start(words, {"LEAD_TO": "1"}), 2, ARGUMENT)
         assert os.path.getsize(LED) == 0, f"{words}: a server was looked for"
     return f"{len(rows)} rows"
+
+
+WRONG_WORDS = {
+    "upsc": ["su ups.status more", "-c", "-l -L", "-l localhost ups.status", "--attached", "--attached -c su", "--attached su ups.status", "--tracked",
+             *(f"--tracked {ID}{more}" for more in ("", " -l", " -c su", " --attached su", " su ups.status"))],
+    "upsrw": ["-s ups.delay=30 su", "-u admin su", "--track su"],
+    "upscmd": ["su load.off", "-l su load.off", "--track -l su", "--track -u admin -p pw su", "-u admin -p pw su"],
+}  # fmt: skip
+
+
+def other_words():
+    """Words that a program doesn't take, one that is no text, and the help."""
+    for name, program in PROGRAMS.items():
+        for words in ["", "--nope", *WRONG_WORDS[name]]:
+            BENCH.refuses_words(*words.split(), program=program)
+        check_end((name,), start((name, b"su\xff"), {}), 2, ARGUMENT)
+        BENCH.prints_help([f"Usage: {name} "], "--help", program=program)
 
 
 # Replies and outputs that are cut, refused or full.
@@ -210,94 +232,31 @@ def refusals():
     yield Row(SET, b"OK\nERR ACCESS-DENIED\nOK\n", USER + PASSWORD, fault=DENIED)
     yield Row(SET, b"OK Goodbye\n", USER, fault=BAD)
     yield Row(SET, b"OK\n", USER + PASSWORD, fault=EARLY)
+    yield Row(COMMAND, b"OK\nERR ACCESS-DENIED\n", USER + PASSWORD, fault=DENIED)
+    yield Row(TRACKED_COMMAND, b"OK\nOK\nERR INVALID-ARGUMENT\n", TRACKED, fault="server answered ERR INVALID-ARGUMENT")
+    yield Row(PROGRESS, b"ERR INVALID-ARGUMENT\n", b"GET TRACKING %s\n" % ID.encode(), fault="server answered ERR INVALID-ARGUMENT")
+    yield Row(COMMAND, b"", USER, fault=EARLY)
     yield Row(LIST, b"ERR DATA-STALE\n", ASKED, fault=STALE)
     yield Row(LIST, b"ERR DATA-STALE", ASKED, fault=EARLY)
-
-
-MISFITS = [
-    b"BEGIN LIST VAR other\n",
-    b"begin LIST VAR su\n",
-    b"\n",
-    b"BEGIN LIST VAR su\r\n",
-    b'BEGIN LIST VAR su\nVAR other a "1"\n',
-    b"BEGIN LIST VAR su\nVAR su a\n",
-    b'BEGIN LIST VAR su\nVAR su a/b "1"\n',
-    b"BEGIN LIST VAR su\nEND LIST VAR other\n",
-    b"BEGIN LIST VAR su\nEND LIST RW su\n",
-    b"BEGIN LIST VAR su\nERR DATA-STALE\n",
-    b"ERR A1\n",
-    b"ERR A B\n",
-]
-
-
-NO_COUNTS = [b"65", b"100", b"00", b"07", b"-1", b"+1", b"1x", b"x", b'""', b"1 2", b""]
-
-
-def counts():
-    """A number of clients is 0 to 64, as it is written; any other is a bad reply."""
-    words, asked = ("upsc", "--attached", "su"), b"GET NUMATTACH su\n"
-    for count in range(65):
-        yield Row(words, b"NUMATTACH su %d\n" % count, asked, b"%d\n" % count)
-    for count in NO_COUNTS:
-        yield Row(words, b"NUMATTACH su " + count + b"\n", asked, fault=BAD, ending=STAYS)
-    for reply in [b"NUMATTACH other 1\n", b"NUMLOGINS su 1\n", b"OK\n", b'VAR su a "1"\n']:
-        yield Row(words, reply, asked, fault=BAD, ending=STAYS)
-    yield Row(words, b"ERR UNKNOWN-UPS\n", asked, fault="server answered ERR UNKNOWN-UPS")
-
-
-NO_IDS = [ID[:-1], ID + "0", ID.replace("-", ""), "{" + ID + "}", "urn:uuid:" + ID, ID.replace("b", "g"), "x", '""']
-NO_IDS += [ID[:7] + "-" + ID[7] + ID[9:], ID.replace("-", "+"), "2" * 36]
-
-
-def granted_orders():
-    """An order that is tracked is granted by its id, in either case, and by nothing else."""
-    for words, order in [(TRACKED_SET, b'SET VAR su ups.delay "30"\n'), (TRACKED_COMMAND, b'INSTCMD su load.off "1 0"\n')]:
-        for text in [ID, ID.upper(), "00000000-0000-0000-0000-000000000000", "FFFFFFFF-ffff-FFFF-ffff-FFFFFFFFFFFF"]:
-            printed = text.lower().encode() + b"\n"
-            yield Row(words, b"OK\n" * 3 + b"OK TRACKING %s\n" % text.encode(), TRACKED + order, printed)
-        for reply in ["OK", "OK TRACKING", f"OK {ID}", f"OK TRACKING {ID} 1", f"ok TRACKING {ID}", f"TRACKING {ID}"]:
-            yield Row(words, b"OK\n" * 3 + reply.encode() + b"\n", TRACKED + order, fault=BAD, ending=STAYS)
-        for text in NO_IDS:
-            reply = b"OK\n" * 3 + b"OK TRACKING %s\n" % text.encode()
-            yield Row(words, reply, TRACKED + order, fault=BAD, ending=STAYS)
-        yield Row(words, b"OK\n" * 3 + b"ERR ACCESS-DENIED\n", TRACKED + order, fault=DENIED)
-        yield Row(words, b"OK\nOK\nERR INVALID-ARGUMENT\n", TRACKED, fault="server answered ERR INVALID-ARGUMENT")
-        yield Row(words, b"OK\nOK\nOK TRACKING %s\n" % ID.encode(), TRACKED, fault=BAD, ending=STAYS)
-    # An order that isn't tracked is granted by OK alone.
-    order = b'SET VAR su ups.delay "30"\n'
-    yield Row(SET, b"OK\nOK\nOK TRACKING %s\n" % ID.encode(), USER + PASSWORD + order, fault=BAD, ending=STAYS)
-
-
-ENDS_OF_ORDERS = ["PENDING", "SUCCESS", "FAILED 1", "FAILED 10", "FAILED 1000000000"]
-NO_ENDS = ["", "FAILED", "FAILED 0", "FAILED 01", "FAILED -1", "FAILED +1", "FAILED 1x", 'FAILED ""', "FAILED 1 2"]
-NO_ENDS += ["FAILED 1000000001", "FAILED 18446744073709551617", "PENDING 1", "SUCCESS 0", "pending", "DONE", "1"]
-
-
-def progress():
-    """How far an order has come: that of the id which was asked for, in one of three forms."""
-    asked = b"GET TRACKING %s\n" % ID.encode()
-    for end in ENDS_OF_ORDERS:
-        for words in [PROGRESS, ("upsc", "--tracked", ID.upper(), "other@localhost")]:
-            for text in [ID, ID.upper()]:
-                yield Row(words, f"TRACKING {text} {end}\n".encode(), asked, end.encode() + b"\n")
-    for end in NO_ENDS:
-        yield Row(PROGRESS, f"TRACKING {ID} {end}\n".encode(), asked, fault=BAD, ending=STAYS)
-    others = [ID.replace("1", "2", 1), *NO_IDS]
-    for reply in ["SUCCESS", "OK", "TRACKING SUCCESS", *[f"TRACKING {text} SUCCESS" for text in others]]:
-        yield Row(PROGRESS, reply.encode() + b"\n", asked, fault=BAD, ending=STAYS)
-    yield Row(PROGRESS, b"ERR INVALID-ARGUMENT\n", asked, fault="server answered ERR INVALID-ARGUMENT")
+    yield Row(LIST, b"x" * 2047, ASKED, fault=EARLY)
 
 
 def bad_replies():
-    """Each is told at once, though the server could still send more."""
-    for reply in MISFITS:
-        yield Row(LIST, reply, ASKED, fault=BAD)
-        yield Row(LIST, reply, ASKED, fault=BAD, ending=STAYS)
-
-
-def long_lines():
-    yield Row(LIST, b"x" * 2047, ASKED, fault=EARLY)
-    yield Row(LIST, b"x" * 2048, ASKED, fault=BAD, ending=STAYS)
+    """Each is told at once, though the server could still send more. Which ones fit is what the contracts say; here are some
+    of each kind."""
+    order, oks, known = b'SET VAR su ups.delay "30"\n', b"OK\n" * 3, ID.encode()
+    for words, sent, replies in [
+            (LIST, ASKED, [b"\n", b"BEGIN LIST VAR other\n", b"BEGIN LIST VAR su\r\n", b'BEGIN LIST VAR su\nVAR su a/b "1"\n',
+                           b"BEGIN LIST VAR su\nEND LIST RW su\n", b"BEGIN LIST VAR su\nERR DATA-STALE\n", b"ERR A1\n", b"x" * 2048]),
+            (("upsc", "--attached", "su"), b"GET NUMATTACH su\n", [b"NUMATTACH su 65\n", b"NUMATTACH su 07\n", b"NUMLOGINS su 1\n"]),
+            (SET, USER + PASSWORD + order, [b"OK\nOK\nOK TRACKING %s\n" % known]),
+            (TRACKED_SET, TRACKED + order, [oks + b"OK\n", oks + b"OK TRACKING %s\n" % known[:-1], oks + b"TRACKING %s\n" % known]),
+            (TRACKED_SET, TRACKED, [b"OK\nOK\nOK TRACKING %s\n" % known]),
+            (PROGRESS, b"GET TRACKING %s\n" % known, [b"SUCCESS\n", b"TRACKING %s SUCCESS\n" % known[::-1], b"TRACKING %s FAILED 0\n" % known,
+                                                      b"TRACKING %s FAILED 1000000001\n" % known, b"TRACKING %s DONE\n" % known])]:  # fmt: skip
+        for reply in replies:
+            yield Row(words, reply, sent, fault=BAD)
+            yield Row(words, reply, sent, fault=BAD, ending=STAYS)
 
 
 def more_behind_a_reply():
@@ -316,6 +275,16 @@ def outputs_that_take_less():
         yield Row(LIST, LISTED, ASKED, PRINTED[:room], fault=WRITE, narrow={"STEP": "1", "WRITE_ROOM": str(room)})
     # A listing without items prints nothing, which fits.
     yield Row(LIST, b"BEGIN LIST VAR su\nEND LIST VAR su\n", ASKED, narrow={"WRITE_ROOM": "0"})
+
+
+def check_full_outputs(rows):
+    """The output is full, as a disk is."""
+    for row in rows:
+        with open("/dev/full", "wb") as full:
+            child = start(row.words, {"LEAD_TO": str(PEER.port)}, full)
+            PEER.meet(row.reply, row.ending)
+            check_end(row.words, child, 1, WRITE)
+    return f"{len(rows)} rows"
 
 
 # Servers that say nothing, or no more.
@@ -351,8 +320,11 @@ def check_waits(rows):
     return f"{len(rows)} rows"
 
 
-def check_unanswered(programs):
-    """A listener without room for one more: the system answers no connection, and each client gives up."""
+def check_unreached(programs):
+    """A port that refuses; and a listener without room for one more, where the system answers no connection, and each client
+    gives up."""
+    for words in programs:
+        check_end(words, start(words, {"LEAD_TO": "1"}), 1, "cannot connect")
     listener = socket.socket()
     listener.bind(("127.0.0.1", 0))
     listener.listen(0)
@@ -366,9 +338,8 @@ def check_unanswered(programs):
         began = time.monotonic()
         children = [start(words, {"LEAD_TO": str(port)}) for words in programs]
         for words, child in zip(programs, children):
-            printed, told = child.communicate(timeout=60)
-            got, want = (printed, told, child.returncode), (b"", f"{words[0]}: cannot connect\n".encode(), 1)
-            assert got == want and is_waited(began), f"{words}: {got} after {time.monotonic() - began:.1f} s"
+            check_end(words, child, 1, "cannot connect")
+            assert is_waited(began), f"{words}: after {time.monotonic() - began:.1f} s"
     return f"{len(programs)} rows"
 
 
@@ -378,21 +349,20 @@ def main():
     BENCH.case("lawful words lead to their server", check_led, SERVERS)
     unlawful = [("upsc", ups) for ups in UNLAWFUL_UPSES]
     unlawful += [("upsrw", "-s", setting, "-u", "u", "-p", "p", "su") for setting in UNLAWFUL_SETTINGS]
-    unlawful += [("upsc", "--tracked", text, "su") for text in ["", *NO_IDS]]
+    unlawful += [("upsc", "--tracked", text, "su") for text in ["", ID[:-1], ID.replace("-", ""), "{" + ID + "}"]]
     unlawful += [("upsc", "--tracked", ID, "s/u"), ("upsrw", "--track", "-s", "a", "-u", "u", "-p", "p", "su")]
+    unlawful += [("upscmd", "-u", "u", "-p", "p", "su", "load/off")]
     BENCH.case("unlawful words are bad arguments", check_unlawful, unlawful)
+    BENCH.case("other words and the help", other_words)
     BENCH.case("a cut reply prints nothing", check, cut_replies())
     BENCH.case("nothing is sent behind a refusal", check, refusals())
     BENCH.case("a line that does not fit is a bad reply", check, bad_replies())
-    BENCH.case("a number of clients is 0 to 64", check, counts())
-    BENCH.case("a tracked order has an id", check, granted_orders())
-    BENCH.case("an order is pending, a success or a failure", check, progress())
-    BENCH.case("a line has at most 2047 bytes", check, long_lines())
     BENCH.case("what stands behind a reply is left", check, more_behind_a_reply())
     BENCH.case("a server that takes less is told", check, servers_that_take_less())
     BENCH.case("a full output holds a beginning", check, outputs_that_take_less())
+    BENCH.case("a full output is told", check_full_outputs, list(asked_for()))
     BENCH.case("a server that says no more is waited for 5 s", check_waits, list(silences()))
-    BENCH.case("a server that takes no connection, too", check_unanswered, [LIST, SET, ("upscmd", "-l", "su")])
+    BENCH.case("a server that takes no connection, too", check_unreached, [LIST, SET, ("upscmd", "-l", "su")])
     BENCH.end()
 
 

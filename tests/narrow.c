@@ -32,9 +32,10 @@ static size_t least(size_t one, size_t other)
     return one < other ? one : other;
 }
 
-static size_t step_of(size_t size)
+/* How much of this size a call takes: STEP at most, and no more than is left of the room of this name. */
+static size_t part_of(size_t size, const char *room, size_t used)
 {
-    return least(size, number_of("STEP", SIZE_MAX));
+    return least(least(size, number_of("STEP", SIZE_MAX)), number_of(room, SIZE_MAX) - used);
 }
 
 /* Adds a line of these words to the file that LED names. */
@@ -51,19 +52,19 @@ static void tell(const char *what, const char *name, const char *more)
 ssize_t recv(int wire, void *into, size_t size, int flags)
 {
     ssize_t (*real)(int, void *, size_t, int) = dlsym(RTLD_NEXT, "recv");
-    return real(wire, into, step_of(size), flags);
+    return real(wire, into, least(size, number_of("STEP", SIZE_MAX)), flags);
 }
 
 ssize_t send(int wire, const void *from, size_t size, int flags)
 {
     static size_t sent;
     ssize_t (*real)(int, const void *, size_t, int) = dlsym(RTLD_NEXT, "send");
-    size_t room = number_of("SEND_ROOM", SIZE_MAX) - sent;
-    if (room == 0) {
+    size_t part = part_of(size, "SEND_ROOM", sent);
+    if (part == 0) {
         errno = EPIPE;
         return -1;
     }
-    ssize_t count = real(wire, from, least(step_of(size), room), flags);
+    ssize_t count = real(wire, from, part, flags);
     sent += count > 0 ? (size_t)count : 0;
     return count;
 }
@@ -74,8 +75,8 @@ ssize_t write(int file, const void *from, size_t size)
     ssize_t (*real)(int, const void *, size_t) = dlsym(RTLD_NEXT, "write");
     if (file != STDOUT_FILENO)
         return real(file, from, size);
-    size_t room = number_of("WRITE_ROOM", SIZE_MAX) - written;
-    ssize_t count = room == 0 ? 0 : real(file, from, least(step_of(size), room));
+    size_t part = part_of(size, "WRITE_ROOM", written);
+    ssize_t count = part == 0 ? 0 : real(file, from, part);
     written += count > 0 ? (size_t)count : 0;
     return count;
 }

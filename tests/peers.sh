@@ -2,11 +2,9 @@
 # NUT's own programs against ours, on one machine: its driver dummy-ups, upsc, upsrw, upscmd, upslog, upsmon and PyNUT
 # at our upsd, and our upsc, upsrw and upscmd at its upsd. A line a check. docs/INTEROP.md tells what they mean.
 #
-#     tests/peers.sh [FOLDER]     FOLDER holds the four programs; without it they are the built ones
-#
-# NUT is that of Debian's packages nut-server, nut-client and python3-nut. Where they aren't there, root installs them
-# (no service starts), and for anybody else the script is skipped. It listens on 127.0.0.1 alone, at ports that are
-# free, keeps all its files in a folder of its own, and ends every program that it started by its id.
+# NUT is that of Debian's packages nut-server, nut-client and python3-nut; where they aren't there, the script is skipped.
+# It installs nothing, listens on 127.0.0.1 alone, at ports that are free, keeps all its files in a folder of its own, and
+# ends every program that it started by its id.
 set -euo pipefail
 # shellcheck source=tests/built.bash
 source "$(dirname "${BASH_SOURCE[0]}")/built.bash"
@@ -19,36 +17,14 @@ skip() {
     exit 0
 }
 
-has_nut() {
-    [[ -x $DRIVER && -x $NUT_UPSD && -x $UPSMON && -x /bin/upsc && -x /bin/upslog ]] &&
-        "$PYTHON" -c 'import PyNUT' 2>/dev/null
-}
-
-# Installs the packages. Nothing that they bring is started: while this runs, no service may be.
-install_nut() (
-    policy=/usr/sbin/policy-rc.d
-    if [[ ! -e $policy ]]; then
-        trap 'rm -f "$policy"' EXIT
-        printf '#!/bin/sh\nexit 101\n' >"$policy"
-        chmod +x "$policy"
-    fi
-    packages() { timeout 60 apt-get install -qq -y --no-install-recommends nut-server nut-client python3-nut; }
-    # Where the machine has no list of packages yet, it is fetched.
-    { packages || { timeout 60 apt-get update -qq && packages; }; } >/dev/null 2>&1 || true
-)
-
-if ! has_nut; then
-    [[ $(id -u) == 0 ]] || skip "NUT's packages aren't there, and only root installs them"
-    install_nut
-    has_nut || skip "NUT's packages aren't there, and couldn't be installed"
-fi
+for program in "$DRIVER" "$NUT_UPSD" "$UPSMON" /bin/{upsc,upsrw,upscmd,upslog}; do
+    [[ -x $program ]] || skip "$program isn't there"
+done
+"$PYTHON" -c 'import PyNUT' 2>/dev/null || skip "PyNUT isn't there"
 
 # upsmon keeps its process's id in one file of the machine, whoever starts it.
 MONITOR_ID=/run/nut/upsmon.pid
-if [[ -s $MONITOR_ID ]]; then
-    kill -0 "$(<"$MONITOR_ID")" 2>/dev/null && skip "this machine has an upsmon of its own"
-    rm "$MONITOR_ID" 2>/dev/null || skip "an upsmon that is gone has left $MONITOR_ID, and only root takes it away"
-fi
+[[ ! -e $MONITOR_ID ]] || skip "this machine has an upsmon of its own, or one that is gone has left $MONITOR_ID"
 
 folder=$(mktemp -d)
 declare -A ids=()
@@ -63,10 +39,7 @@ end() {
     unset "ids[$1]"
     kill -CONT "$id" 2>/dev/null || true
     kill "$id" 2>/dev/null || true
-    for _ in {1..30}; do
-        kill -0 "$id" 2>/dev/null || break
-        sleep 0.1
-    done
+    timeout 3 tail --pid="$id" -f /dev/null || true
     kill -KILL "$id" 2>/dev/null || true
     wait "$id" 2>/dev/null || true
 }
@@ -82,13 +55,8 @@ end_all() {
 trap end_all EXIT
 trap 'exit 1' INT TERM
 
-if (($# > 0)); then
-    ours() { echo "$programs/$1"; }
-    programs=$(cd "$1" && pwd)
-else
-    built upsd upsc upsrw upscmd
-    ours() { echo "$PWD/crates/$1/out/$1"; }
-fi
+built upsd upsc upsrw upscmd
+ours() { echo "$PWD/crates/$1/out/$1"; }
 
 checks=0 failed=0 SECONDS=0
 
@@ -266,6 +234,7 @@ upsmon_conf() {
 }
 # An upsmon has told this word so many times.
 told() { comes "upsmon, $1: $4" "$3 \[0\]" 12 grep -c "$2" "$folder/$1/told"; }
+both_told() { told primary "$@" && told secondary "$@"; }
 upsmon_conf primary admin secret
 upsmon_conf secondary mon pw
 start secondary env NUT_CONFPATH="$folder/secondary" "$UPSMON" -F -p
@@ -284,26 +253,20 @@ status_is() {
     mv "$folder/su.dev.new" "$folder/su.dev"
 }
 status_is OB
-told primary ONBATT 1 'on battery'
-told secondary ONBATT 1 'on battery'
+both_told ONBATT 1 'on battery'
 status_is OL
-told primary ONLINE 1 'on line power'
-told secondary ONLINE 1 'on line power'
+both_told ONLINE 1 'on line power'
 kill -STOP "${ids[driver of su]}" || true
 comes 'a silent driver is stale within MAXAGE' 'Error: Data stale \[1\]' 6 upsc "$su" ups.status
-told primary COMMBAD 1 'a silent driver'
-told secondary COMMBAD 1 'a silent driver'
+both_told COMMBAD 1 'a silent driver'
 kill -CONT "${ids[driver of su]}" || true
-told primary COMMOK 1 'the driver speaks again'
-told secondary COMMOK 1 'the driver speaks again'
+both_told COMMOK 1 'the driver speaks again'
 end 'driver of su'
 end 'upsd without ids'
 comes 'a lost driver is not connected' 'Error: Driver not connected \[1\]' 3 upsc "$su" ups.status
-told primary COMMBAD 2 'a lost driver'
-told secondary COMMBAD 2 'a lost driver'
+both_told COMMBAD 2 'a lost driver'
 start_driver su "$folder/su.dev"
-told primary COMMOK 2 'the driver is back'
-told secondary COMMOK 2 'the driver is back'
+both_told COMMOK 2 'the driver is back'
 
 status_is 'OB LB'
 comes 'upsmon, secondary: is shut down' '1*\[0\]' 12 cat "$folder/secondary/down"

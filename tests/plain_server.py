@@ -3,6 +3,7 @@
 It shares nothing with the program: it is what the program's answers are compared with. A listing is text as soon as
 its line is executed, and what is owed is one text. Where memory is refused it is told so, since it can't know.
 """
+import re
 
 MAX_AGE = 15
 LINE, VALUE, VARIABLES = 2047, 512, 32_768
@@ -14,59 +15,22 @@ BLANKS = b" \t"
 class Refused(Exception):
     """An event is refused, with the number of its fault."""
 
-    def __init__(self, number):
-        super().__init__(number)
-        self.number = number
 
-
-def is_lawful(byte):
-    return byte == 9 or 32 <= byte <= 126 or byte >= 128
+# A byte that stands for itself within quotes, and in a bare word, or a backslash and a byte that it makes stand.
+UNITS = [rb"(?:[%s!#-\[\]-~\x80-\xff]|\\[\t -~\x80-\xff])" % blanks for blanks in (BLANKS, b"")]
+WORD = re.compile(rb'[ \t]*(?:"(%b*)"|(%b+))(?![^ \t])' % tuple(UNITS))
 
 
 def read_words(line):
     """The words of a line; None where it is malformed."""
     words, at = [], 0
-    while True:
-        while at < len(line) and line[at] in BLANKS:
-            at += 1
-        if at == len(line):
-            return words
-        word, at = (read_quoted if line[at : at + 1] == b'"' else read_bare)(line, at)
-        if word is None:
+    while line[at:].strip(BLANKS):
+        found = WORD.match(line, at)
+        if not found:
             return None
-        words.append(word)
-
-
-def read_bare(line, at):
-    word = bytearray()
-    while at < len(line) and line[at] not in BLANKS:
-        byte, at = read_unit(line, at)
-        if byte is None:
-            return None, at
-        word.append(byte)
-    return bytes(word), at
-
-
-def read_quoted(line, at):
-    word, at = bytearray(), at + 1
-    while at < len(line) and line[at] != ord('"'):
-        byte, at = read_unit(line, at)
-        if byte is None:
-            return None, at
-        word.append(byte)
-    closed = at < len(line) and (at + 1 == len(line) or line[at + 1] in BLANKS)
-    return (bytes(word) if closed else None), at + 1
-
-
-def read_unit(line, at):
-    """The byte that stands here, or that a backslash makes stand; None where none can."""
-    if line[at] == ord("\\"):
-        at += 1
-        if at == len(line):
-            return None, at
-    elif line[at] == ord('"'):
-        return None, at
-    return (line[at] if is_lawful(line[at]) else None), at + 1
+        words.append(re.sub(rb"(?s)\\(.)", rb"\1", found[1] or found[2] or b""))
+        at = found.end()
+    return words
 
 
 def quoted(value):
@@ -549,37 +513,30 @@ class Replay:
         try:
             return call(*words)
         except Refused as refused:
-            self.told.append(b"line %d: refused %d\n" % (number, refused.number))
+            self.told.append(b"line %d: refused %d\n" % (number, refused.args[0]))
             return None
         finally:
             self.server.refuse = None
 
     def act(self, number, verb, rest):
-        server = self.server
-        simple = {b"up": server.driver_up, b"down": server.driver_down, b"open": server.open}
-        numbered = {b"tick": server.tick, b"close": server.close}
-        if verb in simple:
-            self.event(number, simple[verb], rest)
-        elif verb in numbered:
-            self.event(number, numbered[verb], int(rest))
-        else:
-            who, rest = rest.split(b" ", 1)
-            self.move(number, verb, who, rest)
-
-    def move(self, number, verb, who, rest):
-        pieces = {b"driver": rest + b"\n", b"client": rest + b"\n", b"driver-part": rest, b"part": rest}
-        if verb.endswith(b"-hex"):
-            pieces[verb] = bytes.fromhex(rest.decode())
-        if verb == b"took":
-            self.take(number, int(who), rest)
-        elif verb == b"driver-took":
-            self.driver_take(number, who, rest)
-        elif verb.startswith(b"driver"):
-            self.event(number, self.server.driver_bytes, who, pieces[verb])
-        else:
-            count = self.event(number, self.server.feed, int(who), pieces[verb])
-            if count is not None and count < len(pieces[verb]):
-                self.told.append(b"line %d: %d of %d bytes held\n" % (number, count, len(pieces[verb])))
+        server, (who, _, text) = self.server, rest.partition(b" ")
+        end = b"\n" if verb in (b"driver", b"client") else b""
+        piece = bytes.fromhex(text.decode()) if verb.endswith(b"-hex") else text + end
+        match verb:
+            case b"up" | b"down" | b"open":
+                self.event(number, {b"up": server.driver_up, b"down": server.driver_down, b"open": server.open}[verb], rest)
+            case b"tick" | b"close":
+                self.event(number, server.tick if verb == b"tick" else server.close, int(rest))
+            case b"took":
+                self.take(number, int(who), text)
+            case b"driver-took":
+                self.driver_take(number, who, text)
+            case b"driver" | b"driver-part" | b"driver-hex":
+                self.event(number, server.driver_bytes, who, piece)
+            case b"client" | b"part" | b"client-hex":
+                count = self.event(number, server.feed, int(who), piece)
+                if count is not None and count < len(piece):
+                    self.told.append(b"line %d: %d of %d bytes held\n" % (number, count, len(piece)))
 
     def take(self, number, who, rest):
         if rest != b"all":

@@ -1,13 +1,12 @@
-"""10,000 runs of random pieces from a client and a driver, over the built `upsd replay`. Words: the program, the seed.
+"""10,000 runs of random pieces from a client and a driver, for tests/hostile_cases.py.
 
 Each run is compared with the plain server. A run is an `open`, pieces in a random order, and a `close`; many runs are
 in one script, over one server, so that a run begins where another one left the UPS's driver and the clock.
 """
 import random
-import sys
 
 from plain_server import LINE, RING, VALUE, Server, Ups, User
-from replaying import Bench, lines
+from replaying import lines
 
 RUNS, IN_A_SCRIPT = 10_000, 250
 USERS = b"""[admin]
@@ -166,26 +165,9 @@ class Pieces:
         return lines(runs)
 
 
-def main():
-    bench = Bench("random_pieces", sys.argv[1])
-    seed = int(sys.argv[2])
+def all_runs(bench, seed):
     options = ["--ups", bench.file("ups.conf", UPSES), "--users", bench.file("users", USERS), "--vars", bench.file("vars", VARS)]
-    pieces, seen = Pieces(seed), {}
-
-    def all_runs():
-        for _ in range(RUNS // IN_A_SCRIPT):
-            told = bench.agrees(pieces.script(), server(), options)
-            for line in told.split(b"\n"):
-                words = line.split(b" ")
-                key = b" ".join(words[:2]) if words[0] in (b"ERR", b"BEGIN") else words[2] + words[3] if line.startswith(b"line ") else words[0][:9]
-                seen[key] = seen.get(key, 0) + 1
-        return f"{RUNS} runs, seed {seed}"
-
-    bench.case("random_pieces", all_runs)
-    if "-v" in sys.argv:
-        for key, count in sorted(seen.items(), key=lambda item: -item[1])[:60]:
-            print(f"  {count} {key!r}")
-    bench.end()
-
-
-main()
+    pieces = Pieces(seed)
+    for _ in range(RUNS // IN_A_SCRIPT):
+        bench.agrees(pieces.script(), server(), options)
+    return f"{RUNS} runs, seed {seed}"

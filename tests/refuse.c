@@ -6,45 +6,33 @@
  * one that is refused (0: none), the last one, and how many were refused. Another program may change them at any time.
  */
 #define _GNU_SOURCE
-#include <dlfcn.h>
 #include <errno.h>
 #include <fcntl.h>
 #include <stdint.h>
 #include <stdlib.h>
-#include <string.h>
 #include <sys/mman.h>
+#include <sys/syscall.h>
 #include <unistd.h>
 
 enum { REQUESTS, FIRST, LAST, REFUSED, WORDS };
 
 static volatile uint64_t *control;
-static void *(*real_malloc)(size_t), *(*real_calloc)(size_t, size_t), *(*real_realloc)(void *, size_t);
-static void *(*real_aligned)(size_t, size_t), *(*real_mmap)(void *, size_t, int, int, int, off_t);
-static int (*real_memalign)(void **, size_t, size_t);
 
-/* What dlsym asks for before the real calls are known. */
-static char early[4096];
-static size_t early_used;
+/* The calls of the GNU C library itself. */
+extern void *__libc_malloc(size_t), *__libc_calloc(size_t, size_t), *__libc_realloc(void *, size_t);
+extern void *__libc_memalign(size_t, size_t);
 
-static void *take_early(size_t size)
+static void *system_mmap(void *place, size_t size, int protection, int flags, int file, off_t offset)
 {
-    void *taken = early + early_used;
-    early_used += (size + 15) / 16 * 16;
-    return early_used <= sizeof early ? taken : NULL;
+    return (void *)syscall(SYS_mmap, place, size, protection, flags, file, offset);
 }
 
 __attribute__((constructor)) static void begin(void)
 {
     const char *path = getenv("REFUSE");
-    real_malloc = dlsym(RTLD_NEXT, "malloc");
-    real_calloc = dlsym(RTLD_NEXT, "calloc");
-    real_realloc = dlsym(RTLD_NEXT, "realloc");
-    real_aligned = dlsym(RTLD_NEXT, "aligned_alloc");
-    real_memalign = dlsym(RTLD_NEXT, "posix_memalign");
-    real_mmap = dlsym(RTLD_NEXT, "mmap");
     int file = path ? open(path, O_RDWR | O_CLOEXEC) : -1;
     if (file >= 0) {
-        void *words = real_mmap(NULL, WORDS * sizeof *control, PROT_READ | PROT_WRITE, MAP_SHARED, file, 0);
+        void *words = system_mmap(NULL, WORDS * sizeof *control, PROT_READ | PROT_WRITE, MAP_SHARED, file, 0);
         close(file);
         control = words == MAP_FAILED ? NULL : words;
     }
@@ -64,52 +52,34 @@ static int is_refused(void)
 
 void *malloc(size_t size)
 {
-    if (!real_malloc)
-        return take_early(size);
-    return is_refused() ? NULL : real_malloc(size);
+    return is_refused() ? NULL : __libc_malloc(size);
 }
 
 void *calloc(size_t count, size_t size)
 {
-    if (!real_calloc)
-        return take_early(count * size);
-    return is_refused() ? NULL : real_calloc(count, size);
+    return is_refused() ? NULL : __libc_calloc(count, size);
 }
 
 void *realloc(void *old, size_t size)
 {
-    return is_refused() ? NULL : real_realloc(old, size);
+    return is_refused() ? NULL : __libc_realloc(old, size);
 }
 
 void *aligned_alloc(size_t alignment, size_t size)
 {
-    return is_refused() ? NULL : real_aligned(alignment, size);
+    return is_refused() ? NULL : __libc_memalign(alignment, size);
 }
 
 int posix_memalign(void **place, size_t alignment, size_t size)
 {
-    return is_refused() ? ENOMEM : real_memalign(place, alignment, size);
+    void *taken = aligned_alloc(alignment, size);
+    if (!taken)
+        return ENOMEM;
+    *place = taken;
+    return 0;
 }
 
 void *mmap(void *place, size_t size, int protection, int flags, int file, off_t offset)
 {
-    if (file < 0 && is_refused())
-        return MAP_FAILED;
-    return real_mmap(place, size, protection, flags, file, offset);
-}
-
-/* What was taken early is never given back. */
-static int is_early(const void *place)
-{
-    return (uintptr_t)place >= (uintptr_t)early && (uintptr_t)place < (uintptr_t)early + sizeof early;
-}
-
-void free(void *place)
-{
-    static void (*real_free)(void *);
-    if (!place || is_early(place))
-        return;
-    if (!real_free)
-        real_free = dlsym(RTLD_NEXT, "free");
-    real_free(place);
+    return file < 0 && is_refused() ? MAP_FAILED : system_mmap(place, size, protection, flags, file, offset);
 }

@@ -1,28 +1,25 @@
 """The cases of tests/refused_memory.sh: each request for memory refused in turn, over the built programs.
 
-Words: the library that refuses (refuse.c), and the programs upsd, upsc, upsrw, upscmd and mapbench. A run in which the Nth
+Words: the library that refuses (refuse.c), and the programs upsd, upsc, upsrw, upscmd and datatests. A run in which the Nth
 request is refused, for every N up to a run that makes fewer: of each the whole right output comes, or a fault is told
 and nothing else is said that isn't so. Where a run makes more than 2,000 requests, each of the first 300 is refused,
 and then every 50th.
 """
+import contextlib
 import mmap
 import os
-import re
-import select
 import signal
-import socket
 import socketserver
 import struct
 import subprocess
 import sys
-import tempfile
 import threading
-import time
 
 from plain_server import Replay, Server, Ups, User
 from replaying import Bench, lines, ready
+from serving import comes, served
 
-LIBRARY, UPSD, UPSC, UPSRW, UPSCMD, MAPBENCH = (os.path.abspath(word) for word in sys.argv[1:7])
+LIBRARY, UPSD, UPSC, UPSRW, UPSCMD, DATATESTS = (os.path.abspath(word) for word in sys.argv[1:7])
 BENCH = Bench("refused_memory", UPSD)
 FOLDER = BENCH.folder.name
 EVERY, EACH, STEP = 2000, 300, 50
@@ -59,8 +56,7 @@ REFUSING = {**os.environ, "LD_PRELOAD": LIBRARY, "REFUSE": os.path.join(FOLDER, 
 
 
 def run(words):
-    done = subprocess.run(words, cwd=FOLDER, env=REFUSING, capture_output=True, timeout=60, check=False)
-    return done.returncode, done.stdout, done.stderr
+    return BENCH.ends(*words[1:], program=words[0], env=REFUSING)
 
 
 def turns():
@@ -71,7 +67,8 @@ def turns():
 
 
 def in_turn(words, want, judge):
-    """Refuses each request of the program in turn. The answer tells how many, and how often which fault was told."""
+    """Refuses each request of the program in turn, alone and with all after it. The answer is how many there are, and how often
+    which fault was told where one was refused alone."""
     CONTROL.refuse(0, 0)
     got = run(words)
     assert got == (0, want, b""), got
@@ -84,18 +81,11 @@ def in_turn(words, want, judge):
         kind = "whole" if got == (0, want, b"") else judge(got)
         assert kind and (CONTROL.refused or kind == "whole"), f"request {request} of {total}: {got}"
         seen[kind] = seen.get(kind, 0) + 1
-    seen["whole"] -= 1
-    return total, seen
-
-
-def from_one_on(words, want, judge):
-    """Refuses each request from the Nth on. What is told then is the same."""
-    CONTROL.refuse(0, 0)
-    run(words)
-    for request in turns():
         CONTROL.refuse(request, ALL)
         got = run(words)
         assert got == (0, want, b"") or judge(got) not in (None, "refused 8"), f"from request {request} on: {got}"
+    seen["whole"] -= 1
+    return total, seen
 
 
 def figures(total, seen):
@@ -146,7 +136,6 @@ def replays(name, script, *options):
     want = Replay(server(options), None).output(script)
     judge = judge_replay(script, options)
     BENCH.case(f"replay_{name}", lambda: figures(*in_turn(words, want, judge)))
-    BENCH.case(f"replay_{name}_from_one_on", from_one_on, words, want, judge)
 
 
 SOME = ['SETINFO a "1"', 'SETINFO b "2"', "SETFLAGS a RW", "ADDENUM a 1", 'ADDENUM a "2"', "ADDRANGE b 0 9", "ADDCMD test.start", "SETAUX b 8"]
@@ -183,168 +172,81 @@ REPLIES = {
     b"LIST CLIENT su": b"BEGIN LIST CLIENT su\nCLIENT su 192.0.2.1\nEND LIST CLIENT su\n",
     b"GET VAR su ups.status": b'VAR su ups.status "OL"\n',
 }
-LOGIN = [b'USERNAME "admin"', b'PASSWORD "s3 cret"']
-
-
-class Answering(socketserver.ThreadingTCPServer):
-    """A server that answers, and keeps the lines that it was sent."""
-
-    daemon_threads = allow_reuse_address = True
-
-    def __init__(self):
-        super().__init__(("127.0.0.1", 0), Asked)
-        self.lines = []
-        threading.Thread(target=self.serve_forever, daemon=True).start()
 
 
 class Asked(socketserver.StreamRequestHandler):
+    """A server that answers."""
+
     def handle(self):
         for line in self.rfile:
-            self.server.lines.append(line.rstrip(b"\n"))
             self.wfile.write(REPLIES.get(line.rstrip(b"\n"), b"OK\n"))
 
 
-def asks(answering, name, program, sent, want, *words):
-    """Each request of the client refused in turn: it prints all, or tells a fault and prints nothing. Where none is refused, it
-    sends these lines."""
-    command = os.path.basename(program)
-
+def client_in_turn(program, want, *words):
+    """Each request of the client refused in turn: it prints all, or tells a fault and prints nothing."""
     by_name = "localhost" in words[-1]
     faults = ("no memory", "cannot connect") if by_name else ("no memory",)
 
     def judge(got):
         if by_name and got[0] in (-signal.SIGSEGV, -signal.SIGABRT) and got[1] == b"":
             return "ended by the C library's look-up of a name"  # glibc 2.36: a null pointer, an assertion
-        return next((fault for fault in faults if got == (1, b"", f"{command}: {fault}\n".encode())), None)
+        return next((fault for fault in faults if got == (1, b"", f"{os.path.basename(program)}: {fault}\n".encode())), None)
 
-    def case():
-        words_of = [program, *(word.replace("PORT", str(answering.server_address[1])) for word in words)]
-        CONTROL.refuse(0, 0)
-        del answering.lines[:]
-        run(words_of)
-        assert answering.lines == sent, answering.lines
-        total, seen = in_turn(words_of, want, judge)
-        from_one_on(words_of, want, judge)
-        return figures(total, seen)
-
-    BENCH.case(name, case)
+    return figures(*in_turn([program, *words], want, judge))
 
 
 def client_cases():
-    with Answering() as answering:
-        variables, su = b"battery.charge: 100\nups.status: OL\n", "su@127.0.0.1:PORT"
-        user = ["-u", "admin", "-p", "s3 cret"]
-        asks(answering, "upsc_variables", UPSC, [b"LIST VAR su"], variables, su)
-        asks(answering, "upsc_variables_of_a_host_by_name", UPSC, [b"LIST VAR su"], variables, "su@localhost:PORT")
-        asks(answering, "upsc_variable", UPSC, [b"GET VAR su ups.status"], b"OL\n", su, "ups.status")
-        asks(answering, "upsc_names", UPSC, [b"LIST UPS"], b"su\n", "-l", "127.0.0.1:PORT")
-        asks(answering, "upsc_descriptions", UPSC, [b"LIST UPS"], b"su: Rack 1\n", "-L", "127.0.0.1:PORT")
-        asks(answering, "upsc_clients", UPSC, [b"LIST CLIENT su"], b"192.0.2.1\n", "-c", su)
-        asks(answering, "upsrw_variables", UPSRW, [b"LIST RW su"], b"ups.delay=30\n", su)
-        setting = [*LOGIN, b'SET VAR su ups.delay "30"']
-        asks(answering, "upsrw_sets", UPSRW, setting, b"OK\n", "-s", "ups.delay=30", *user, su)
-        asks(answering, "upscmd_commands", UPSCMD, [b"LIST CMD su"], b"load.off\nload.on\n", "-l", su)
-        asks(answering, "upscmd_starts", UPSCMD, [*LOGIN, b"INSTCMD su load.off"], b"OK\n", *user, su, "load.off")
+    with socketserver.ThreadingTCPServer(("127.0.0.1", 0), Asked) as answering:
+        answering.daemon_threads = True
+        threading.Thread(target=answering.serve_forever, daemon=True).start()
+        at = f"127.0.0.1:{answering.server_address[1]}"
+        su, user = f"su@{at}", ("-u", "admin", "-p", "s3 cret")
+        variables = b"battery.charge: 100\nups.status: OL\n"
+        for name, *case in [
+                ("upsc_variables", UPSC, variables, su),
+                ("upsc_variables_of_a_host_by_name", UPSC, variables, su.replace("127.0.0.1", "localhost")),
+                ("upsc_variable", UPSC, b"OL\n", su, "ups.status"),
+                ("upsc_names", UPSC, b"su\n", "-l", at),
+                ("upsc_descriptions", UPSC, b"su: Rack 1\n", "-L", at),
+                ("upsc_clients", UPSC, b"192.0.2.1\n", "-c", su),
+                ("upsrw_variables", UPSRW, b"ups.delay=30\n", su),
+                ("upsrw_sets", UPSRW, b"OK\n", "-s", "ups.delay=30", *user, su),
+                ("upscmd_commands", UPSCMD, b"load.off\nload.on\n", "-l", su),
+                ("upscmd_starts", UPSCMD, b"OK\n", *user, su, "load.off")]:
+            BENCH.case(name, client_in_turn, *case)
         answering.shutdown()
 
 
 # The server that serves.
 
 MANY = 4096
-READY = b"DUMPDONE\nDATAOK\n"
 STATUS = b'SETINFO ups.status "OL"\nSETFLAGS ups.status RW\nADDCMD test.start\n'
+SERVED = b'VAR su ups.status "OL"\n'
 
 
-class Serving:
-    """The built server, with the driver of su behind it."""
-
-    def __init__(self, told):
-        self.wires = []
-        path = os.path.join(FOLDER, "driver")
-        self.listener = socket.socket(socket.AF_UNIX)
-        self.listener.bind(path)
-        self.listener.listen(4)
-        self.listener.settimeout(10)
-        ups = BENCH.file("ups.conf", b"[su]\nsocket = " + path.encode() + b"\n")
-        words = [UPSD, "serve", "--ups", ups, "--users", BENCH.file("users", USERS), "--listen", "127.0.0.1:0"]
-        CONTROL.refuse(0, 0)
-        self.err = tempfile.TemporaryFile()
-        self.child = subprocess.Popen(words, env=REFUSING, stdout=subprocess.PIPE, stderr=self.err)
-        try:
-            self.port = int(self.child.stdout.readline().rsplit(b":", 1)[1])
-            self.driver = self.driver_comes(told)
-        except BaseException:
-            self.__exit__()
-            raise
-
-    def __enter__(self):
-        return self
-
-    def __exit__(self, *_):
-        CONTROL.go_on()
-        self.child.terminate()
-        self.child.wait(10)
-        self.child.stdout.close()
-        self.err.close()
-        self.listener.close()
-        os.unlink(os.path.join(FOLDER, "driver"))
-        for wire in self.wires:
-            wire.close()
-
-    def driver_comes(self, told):
-        driver = self.listener.accept()[0]
-        driver.settimeout(10)
-        self.wires.append(driver)
-        assert read_lines(driver, 1) == b"DUMPALL\n"
-        driver.sendall(told + READY)
-        with self.client() as client:
-            for _ in range(500):
-                if ask(client, b"GET UPSDESC su\nGET VAR su ups.status\n", 2).endswith(b'"OL"\n'):
-                    return driver
-                time.sleep(0.02)
-        raise AssertionError("the driver's data are never right")
-
-    def client(self, buffer=None):
-        wire = socket.socket()
-        wire.settimeout(10)
-        self.wires.append(wire)
-        if buffer:
-            wire.setsockopt(socket.SOL_SOCKET, socket.SO_RCVBUF, buffer)
-        wire.connect(("127.0.0.1", self.port))
-        return wire
-
-
-def read_lines(wire, count):
-    text = b""
-    while text.count(b"\n") < count:
-        piece = wire.recv(1 << 16)
-        assert piece, text[-200:]
-        text += piece
-    return text
-
-
-def ask(wire, text, count):
-    wire.sendall(text)
-    return read_lines(wire, count)
-
-
-def is_silent(wire, seconds=0.3):
-    return not select.select([wire], [], [], seconds)[0]
+@contextlib.contextmanager
+def serving(told):
+    """The built server, with the driver of su and a client that is there before memory is refused."""
+    CONTROL.refuse(0, 0)
+    BENCH.file("users", USERS)
+    with served(FOLDER, UPSD, told, env=REFUSING) as ends:
+        assert CONTROL.requests > 0, "no request was counted"
+        yield ends
 
 
 def a_listing_that_began_asks_for_no_memory():
     """From the first byte that a client has taken of it on, every request is refused: the listing comes whole."""
     names = [b"%064d" % number for number in range(1, MANY)]
     value = b'"' + b'\\"' * 512 + b'"'
-    items = [b"VAR su %b %b\n" % (name, value) for name in names] + [b'VAR su ups.status "OL"\n']
+    items = [b"VAR su %b %b\n" % (name, value) for name in names] + [SERVED]
     want = b"BEGIN LIST VAR su\n" + b"".join(items) + b"END LIST VAR su\n"
-    with Serving(b"".join(b"SETINFO %b %b\n" % (name, value) for name in names) + STATUS) as serving:
-        client = serving.client(buffer=4096)
-        client.sendall(b"LIST VAR su\n")
-        got = client.recv(1)
+    with serving(b"".join(b"SETINFO %b %b\n" % (name, value) for name in names) + STATUS) as (server, _, _):
+        client = server.client(buffer=4096)
+        client.send(b"LIST VAR su\n")
+        client.kept = client.wire.recv(1)
         before = CONTROL.requests
         CONTROL.refuse_all()
-        got += read_lines(client, MANY + 1)
+        got = client.listing()
         assert got == want, f"{len(got)} bytes, not {len(want)}"
         assert (CONTROL.requests, CONTROL.refused) == (before, 0), f"{CONTROL.requests - before} requests"
         return f"{len(got)} bytes, no request"
@@ -355,21 +257,19 @@ def what_is_no_listing_asks_for_no_memory():
     login = b'USERNAME admin\nPASSWORD "s3 cret"\n'
     commands = b"VER\nNETVER\nHELP\nGET VAR su ups.status\nGET TYPE su ups.status\nGET DESC su a\nGET CMDDESC su a\nGET UPSDESC su\n"
     commands += b"GET NUMLOGINS su\nLIST CLIENT su\nSET VAR su ups.status OB\nINSTCMD su test.start\nLIST VAR none\nWHAT\n\x01\n\n"
-    with Serving(STATUS) as serving, serving.client() as client, serving.client() as other:
-        ask(other, b"VER\n", 1)
+    with serving(STATUS) as (server, driver, client):
+        other = server.client()
+        other.ask(b"VER\n")
         before = CONTROL.requests
         CONTROL.refuse_all()
-        assert ask(client, login + b"LOGIN su\nFSD su\n", 4) == b"OK\nOK\nOK\nOK FSD-SET\n"
-        got = b"".join(ask(client, commands, 17) for _ in range(50))
+        assert client.ask(login + b"LOGIN su\nFSD su\n") == b"OK\nOK\nOK\nOK FSD-SET\n"
+        got = b"".join(client.ask(commands, 17) for _ in range(50))
         assert got.count(b'VAR su ups.status "FSD OL"\n') == 50 and got.count(b"ERR UNKNOWN-UPS\n") == 50, got[-600:]
-        orders = b""
-        while orders.count(b"\n") < 100:
-            orders += read_lines(serving.driver, 1).replace(b"PING\n", b"")
-        assert orders == b'SET ups.status "OB"\nINSTCMD test.start\n' * 50
-        serving.driver.sendall(b"PONG\nDATASTALE\n")
-        while ask(client, b"GET VAR su ups.status\n", 1) != b"ERR DATA-STALE\n":
-            time.sleep(0.01)
-        assert ask(other, b"LOGOUT\n", 1) == b"OK Goodbye\n" and other.recv(1) == b""
+        orders = (line for line in iter(driver.line, b"") if line != b"PING\n")
+        assert [next(orders) for _ in range(100)] == [b'SET ups.status "OB"\n', b"INSTCMD test.start\n"] * 50
+        driver.send(b"PONG\nDATASTALE\n")
+        assert comes(lambda: client.ask(b"GET VAR su ups.status\n") == b"ERR DATA-STALE\n")
+        assert other.ask(b"LOGOUT\n") == b"OK Goodbye\n" and other.up_to_end() == b""
         assert (CONTROL.requests, CONTROL.refused) == (before, 0), f"{CONTROL.requests - before} requests"
         return "over 1,000 lines, no request"
 
@@ -377,46 +277,41 @@ def what_is_no_listing_asks_for_no_memory():
 def a_refused_listing_is_answered_later():
     """LIST UPS alone asks for memory. The line stays held, and what was sent behind it; both are answered at the next
     bytes once there is memory."""
-    with Serving(STATUS) as serving, serving.client() as client:
-        ask(client, b"VER\n", 1)
+    with serving(STATUS) as (_, _, client):
         CONTROL.refuse_all()
-        client.sendall(b"NETVER\nLIST UPS\nVER\n")
-        assert read_lines(client, 1) == b"1.3\n" and is_silent(client)
-        client.sendall(b"\n")
-        assert is_silent(client) and CONTROL.refused >= 2, CONTROL.refused
+        client.send(b"NETVER\nLIST UPS\nVER\n")
+        assert client.line() == b"1.3\n" and client.is_silent()
+        client.send(b"\n")
+        assert client.is_silent() and CONTROL.refused >= 2, CONTROL.refused
         CONTROL.go_on()
-        want = b'BEGIN LIST UPS\nUPS su "Unavailable"\nEND LIST UPS\nNetwork UPS Tools upsd, profile 1\n1.3\n'
-        got = ask(client, b"NETVER\n", 5)
+        want = b'BEGIN LIST UPS\nUPS su "Rack 1"\nEND LIST UPS\nNetwork UPS Tools upsd, profile 1\n1.3\n'
+        got = client.ask(b"NETVER\n", 5)
         assert got == want, got
 
 
 def a_client_without_memory_is_turned_away():
     """A client that comes while memory is refused is closed without a word; the others go on, and later ones come in."""
-    with Serving(STATUS) as serving, serving.client() as client:
-        ask(client, b"VER\n", 1)
+    with serving(STATUS) as (server, _, client):
         CONTROL.refuse_all()
-        with serving.client() as newcomer:
-            assert newcomer.recv(1) == b""
-        assert ask(client, b"NETVER\n", 1) == b"1.3\n" and CONTROL.refused > 0
+        assert server.client().up_to_end() == b""
+        assert client.ask(b"NETVER\n") == b"1.3\n" and CONTROL.refused > 0
         CONTROL.go_on()
-        with serving.client() as newcomer:
-            assert ask(newcomer, b"GET VAR su ups.status\n", 1) == b'VAR su ups.status "OL"\n'
+        assert server.client().ask(b"GET VAR su ups.status\n") == SERVED
 
 
 def a_driver_without_memory_is_lost():
     """It is connected to again, and its data are right once it has told them."""
-    with Serving(STATUS) as serving, serving.client() as client:
-        ask(client, b"VER\n", 1)
+    with serving(STATUS) as (server, driver, client):
         CONTROL.refuse_all()
-        serving.driver.sendall(b"SETINFO a 1\nSETINFO b 2\n")
-        assert serving.driver.recv(1) == b""
-        assert ask(client, b"GET VAR su a\n", 1) == b"ERR DRIVER-NOT-CONNECTED\n"
+        driver.send(b"SETINFO a 1\nSETINFO b 2\n")
+        assert driver.line() == b""
+        assert client.ask(b"GET VAR su a\n") == b"ERR DRIVER-NOT-CONNECTED\n"
         CONTROL.go_on()
-        serving.driver_comes(b"SETINFO a 1\n" + STATUS)
-        assert ask(client, b"GET VAR su a\n", 1) == b'VAR su a "1"\n'
-        serving.err.seek(0)
-        come = b"upsd: su: driver connected\nupsd: su: data good\n"
-        assert serving.err.read() == come + b"upsd: su: driver lost\n" + come
+        driver.lose()
+        driver.accept(b"SETINFO a 1\n" + STATUS)
+        assert comes(lambda: client.ask(b"GET VAR su a\n") == b'VAR su a "1"\n')
+        come = "upsd: su: driver connected\nupsd: su: data good\n"
+        assert server.journal() == come + "upsd: su: driver lost\n" + come
 
 
 def starting():
@@ -435,25 +330,22 @@ def starting():
         assert listens or (child.returncode, faults) == (1, b"upsd: no memory\n"), (request, child.returncode, faults)
         ended += not listens
         if listens and not CONTROL.refused:
+            assert ended, "no request was refused"
             return f"{request - 1} requests: {ended} no memory"
 
 
 def an_insert_asks_for_the_nodes_that_it_counts():
-    """Of 4,095 entries, with a version shared: six at least, and at most four requests more than nodes. A refused one changes neither."""
-    CONTROL.refuse(0, 0)
-    plain = run([MAPBENCH, "insert"])
-    inserted = re.fullmatch(rb"inserted: \d+ nodes before, (\d+) made, 4096 entries, 4095 in the version\n", plain[1])
-    assert inserted and plain[0] == 0, plain
-    made, refused = int(inserted[1]), 0
-    for request in range(CONTROL.requests, 0, -1):
-        CONTROL.refuse(request, request)
-        got = run([MAPBENCH, "insert"])
-        if got == (0, b"refused before the insert\n", b""):
-            break
-        assert got == plain or re.fullmatch(rb"refused in the insert: .*, 4095 entries, 4095 in the version\n", got[1]), got
-        refused += got != plain
-    assert 6 <= made <= refused <= made + 4, (made, refused)
-    return f"{refused} requests for {made} nodes"
+    """Into a map of 4,095 entries of which a version is shared, as datatests counts them: six nodes at least, and at most
+    four requests more than nodes."""
+    requests = []
+    for row in (b"map_get 4095|", b"map_set 4095|"):  # each answers that there is none
+        CONTROL.refuse(0, 0)
+        told = subprocess.run([DATATESTS], input=b"map 4095\nmap_share\nmap_made\n" + row + b"\nmap_made\n", env=REFUSING, capture_output=True, check=True).stdout
+        requests.append(CONTROL.requests)
+    before, after = (int(line.split(b" => ")[1]) for line in told.splitlines() if line.startswith(b"map_made"))
+    made, asked = after - before, requests[1] - requests[0]
+    assert 6 <= made <= asked <= made + 4, (made, asked)
+    return f"{asked} requests for {made} nodes"
 
 
 replay_cases()

@@ -10,7 +10,7 @@ cd "$top/crates"
 folder=$(mktemp -d)
 trap 'rm -r "$folder"' EXIT
 
-built upsd upsc upsrw upscmd mapbench
+built upsd upsc upsrw upscmd datatests
 cc -O2 -Wall -Wextra -shared -fPIC -o "$folder/refuse.so" ../tests/refuse.c
 export PYTHONDONTWRITEBYTECODE=1
-python3 ../tests/refused_memory.py "$folder/refuse.so" {upsd/out/upsd,upsc/out/upsc,upsrw/out/upsrw,upscmd/out/upscmd,mapbench/out/mapbench}
+python3 ../tests/refused_memory.py "$folder/refuse.so" {upsd/out/upsd,upsc/out/upsc,upsrw/out/upsrw,upscmd/out/upscmd,datatests/out/datatests}

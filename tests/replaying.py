@@ -1,4 +1,4 @@
-"""Runs of the built `upsd replay`, and the line that is printed a case."""
+"""Runs of a built program, most of them of `upsd replay`, and the line that is printed a case."""
 import os
 import subprocess
 import sys
@@ -11,8 +11,8 @@ from plain_server import Replay, Server
 class Bench:
     """The program, a folder for its files, and the cases."""
 
-    def __init__(self, name, upsd):
-        self.name, self.upsd, self.failed = name, os.path.abspath(upsd), 0
+    def __init__(self, name, program):
+        self.name, self.program, self.failed = name, os.path.abspath(program), 0
         self.folder = tempfile.TemporaryDirectory()
 
     def file(self, name, content):
@@ -25,7 +25,7 @@ class Bench:
     def run(self, script, *options):
         """What a replay of this script ends with: its status, output, errors, and its greatest resident kilobytes."""
         out, err = self.file("out", b""), self.file("err", b"")
-        words = [self.upsd, "replay", *options, self.file("script", script)]
+        words = [self.program, "replay", *options, self.file("script", script)]
         with open(out, "wb") as told, open(err, "wb") as faults:
             child = subprocess.Popen(words, cwd=self.folder.name, stdout=told, stderr=faults)
             _, status, used = os.wait4(child.pid, 0)
@@ -50,13 +50,30 @@ class Bench:
         status, told, faults, _ = self.run(script, *options)
         assert (status, told, faults) == (1, b"", fault), (status, told[:200], faults)
 
+    def ends(self, *words, program=None, **more):
+        """How the program, given these words in the folder, ends: its status, output and errors."""
+        ended = subprocess.run([program or self.program, *words], cwd=self.folder.name, stdin=subprocess.DEVNULL,
+                               capture_output=True, timeout=60, check=False, **more)  # fmt: skip
+        return ended.returncode, ended.stdout, ended.stderr
+
+    def refuses_words(self, *words, program=None):
+        status, told, faults = self.ends(*words, program=program)
+        assert (status, told, faults[:7]) == (2, b"", b"error: "), (words, status, told, faults)
+
+    def prints_help(self, named, *words, program=None):
+        """It prints a help that has each of these texts."""
+        status, told, faults = self.ends(*words, program=program)
+        assert (status, faults) == (0, b""), (words, status, faults)
+        assert all(text in told.decode() for text in named), (words, told)
+
     def case(self, name, call, *words):
         begun = time.monotonic()
         try:
             figures = call(*words)
-        except AssertionError as error:
+        except Exception as fault:  # a case that fails is reported, and the next one runs
             self.failed += 1
-            print(f"{self.name}: FAILED: {name}: {error}", flush=True)
+            line = fault.__traceback__.tb_next.tb_lineno
+            print(f"{self.name}: FAILED: {name}: line {line}: {str(fault) or repr(fault)}", flush=True)
             return
         seconds = time.monotonic() - begun
         print(f"{self.name}: ok: {name}: {seconds:.1f} s{f', {figures}' if figures else ''}", flush=True)
@@ -64,6 +81,25 @@ class Bench:
     def end(self):
         self.folder.cleanup()
         sys.exit(1 if self.failed else 0)
+
+
+def ends_in_full(*words):
+    """How a program ends whose output is full: its status and errors."""
+    with open("/dev/full", "wb") as full:
+        ended = subprocess.run(words, stdout=full, stderr=subprocess.PIPE, timeout=60, check=False)
+    return ended.returncode, ended.stderr
+
+
+def each(rows, check):
+    """Checks each row, and reports all that fail."""
+    rows, failed = list(rows), []
+    for row in rows:
+        try:
+            check(*row)
+        except AssertionError as error:
+            failed.append(f"{row[0]}: {error}")
+    assert not failed, "\n".join(failed)
+    return f"{len(rows)} cases"
 
 
 def difference(told, want):

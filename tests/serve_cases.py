@@ -2,21 +2,22 @@
 the names of the cases, if not all are to run."""
 import contextlib
 import os
-import resource
 import select
 import shutil
-import signal
 import socket
-import struct
 import subprocess
 import sys
-import tempfile
 import threading
 import time
 import uuid
 
+import serving
+from replaying import Bench, ends_in_full
+from serving import Driver, comes
+
 UPSD, UPSC, UPSRW, UPSCMD = sys.argv[1:5]
-FOLDER = tempfile.mkdtemp()
+BENCH = Bench("serve", UPSD)
+FOLDER = BENCH.folder.name
 USERS = """[admin]
 password = "s3 cret"
 actions = SET
@@ -28,9 +29,7 @@ upsmon secondary
 """
 ADMIN = b'USERNAME admin\nPASSWORD "s3 cret"\n'
 MON = b"USERNAME mon\nPASSWORD pw\n"
-READY = b"DUMPDONE\nDATAOK\n"
 TWO = b'SETINFO ups.status "OL"\nSETINFO battery.charge "100"\n'
-LISTED = b'BEGIN LIST VAR su\nVAR su battery.charge "100"\nVAR su ups.status "OL"\nEND LIST VAR su\n'
 GET, STATUS = b"GET VAR su ups.status\n", b'VAR su ups.status "OL"\n'
 AWAY = b"ERR DRIVER-NOT-CONNECTED\n"
 NO_FILE = "cannot connect: No such file or directory (os error 2)\n"
@@ -43,168 +42,20 @@ def path(name):
     return os.path.join(FOLDER, name)
 
 
-def file(name, text, mode=0o600):
-    with open(path(name), "w", encoding="utf-8") as out:
-        out.write(text)
-    os.chmod(path(name), mode)
-    return path(name)
+def file(name, text):
+    return BENCH.file(name, text.encode())
 
 
-class Driver:
-    """A UPS's driver, which the server connects to."""
-
-    def __init__(self, name):
-        self.path = path(name)
-        self.listener = socket.socket(socket.AF_UNIX)
-        self.listener.bind(self.path)
-        self.listener.listen(8)
-        self.listener.settimeout(10)
-
-    def accept(self, told=None):
-        """The server connects, and asks for all; the driver tells it this."""
-        self.wire = self.listener.accept()[0]
-        self.wire.settimeout(10)
-        self.lines = self.wire.makefile("rb")
-        line = self.lines.readline()
-        assert line == b"DUMPALL\n", line
-        if told is not None:
-            self.wire.sendall(told + READY)
-        return self
-
-    def send(self, text):
-        self.wire.sendall(text)
-
-    def line(self):
-        return self.lines.readline()
-
-    def lose(self):
-        self.lines.close()
-        self.wire.close()
-
-    def close(self):
-        with contextlib.suppress(AttributeError, OSError):
-            self.lose()
-        self.listener.close()
-        os.unlink(self.path)
-
-
-class Client:
-    """A client of the server."""
-
-    def __init__(self, port, source="127.0.0.1"):
-        self.wire = socket.create_connection(("127.0.0.1", port), timeout=10, source_address=(source, 0))
-        self.kept = b""
-
-    def send(self, text):
-        self.wire.sendall(text)
-
-    def line(self):
-        while b"\n" not in self.kept:
-            piece = self.wire.recv(65536)
-            if not piece:
-                return self.kept
-            self.kept += piece
-        line, _, self.kept = self.kept.partition(b"\n")
-        return line + b"\n"
-
-    def ask(self, text):
-        """The answers to the lines, each of one line."""
-        self.send(text)
-        return b"".join(self.line() for _ in range(text.count(b"\n")))
-
-    def up_to_end(self):
-        """All that is still to come. A connection that is reset is a fault."""
-        pieces = [self.kept]
-        while True:
-            piece = self.wire.recv(1 << 20)
-            if not piece:
-                return b"".join(pieces)
-            pieces.append(piece)
-
-    def listing(self):
-        lines = [self.line()]
-        while not lines[-1].startswith((b"END LIST", b"ERR")):
-            lines.append(self.line())
-        return b"".join(lines)
-
-    def close(self):
-        self.wire.close()
-
-    def was_reset(self):
-        return self.wire.getsockopt(socket.SOL_SOCKET, socket.SO_ERROR) != 0
-
-    def reset(self):
-        self.wire.setsockopt(socket.SOL_SOCKET, socket.SO_LINGER, struct.pack("ii", 1, 0))
-        self.wire.close()
-
-
-class Server:
-    """The built server, at a port that the system gives."""
-
-    def __init__(self, ups, *words, port=0, files=None, has_users=True):
-        limit = (lambda: resource.setrlimit(resource.RLIMIT_NOFILE, (files, files))) if files else None
-        self.journal_path = path(f"journal{time.monotonic_ns()}")
-        if has_users:
-            words = ("--users", path("users"), *words)
-        with open(self.journal_path, "wb") as journal:
-            self.process = subprocess.Popen(
-                [UPSD, "serve", "--ups", ups, "--listen", f"127.0.0.1:{port}", *words],
-                stdout=subprocess.PIPE, stderr=journal, preexec_fn=limit)
-        ready, _, _ = select.select([self.process.stdout], [], [], 10)
-        assert ready, "it didn't say that it listens"
-        line = self.process.stdout.readline().decode()
-        assert line.startswith("upsd: listening on 127.0.0.1:"), line
-        self.port = int(line.rsplit(":", 1)[1])
-
-    def client(self, source="127.0.0.1"):
-        return Client(self.port, source)
-
-    def journal(self):
-        with open(self.journal_path, encoding="utf-8") as journal:
-            return journal.read()
-
-    def kilobytes(self):
-        with open(f"/proc/{self.process.pid}/status", encoding="utf-8") as status:
-            return int(next(line for line in status if line.startswith("VmRSS")).split()[1])
-
-    def seconds_of_work(self):
-        with open(f"/proc/{self.process.pid}/stat", encoding="utf-8") as stat:
-            fields = stat.read().rsplit(")", 1)[1].split()
-        return (int(fields[11]) + int(fields[12])) / os.sysconf("SC_CLK_TCK")
-
-    def descriptors(self):
-        return len(os.listdir(f"/proc/{self.process.pid}/fd"))
-
-    def close(self):
-        self.process.send_signal(signal.SIGKILL)
-        self.process.wait()
-        self.process.stdout.close()
-
-
-def comes(holds, seconds=4.0):
-    """Whether it holds in time."""
-    end = time.monotonic() + seconds
-    while not holds():
-        if time.monotonic() > end:
-            return False
-        time.sleep(0.02)
-    return True
+def served(told=TWO, *words, env=None):
+    """A server over the UPS `su`, its driver, which has told this, and a good client."""
+    return serving.served(FOLDER, UPSD, told, *words, env=env)
 
 
 @contextlib.contextmanager
-def served(told=TWO, *words, name="su"):
-    """A server, its driver, which has told this, and a good client."""
-    with contextlib.ExitStack() as stack:
-        driver = Driver(f"{name}.sock")
-        stack.callback(driver.close)
-        ups = file(f"{name}.conf", f"[{name}]\ndesc = \"Rack 1\"\nsocket = {driver.path}\n")
-        server = Server(ups, *words)
-        stack.callback(server.close)
-        driver.accept(told)
-        good = server.client()
-        stack.callback(good.close)
-        assert comes(lambda: good.ask(b"GET VAR su ups.status\n").startswith(b"VAR"))
-        yield server, driver, good
+def begun(ups, *words, files=None, port=0):
+    """A server over this file of UPSs, whose drivers are up to the case."""
+    with contextlib.closing(serving.Server(UPSD, ups, *(words or ("--users", path("users"))), files=files, port=port)) as server:
+        yield server
 
 
 def many(count, size):
@@ -254,13 +105,8 @@ def words_and_files_are_told_as_faults():
             (files + ["--ids", absent, "--listen", "192.0.2.1:1"], f"{absent}: cannot read"),
             (files + ["--listen", "192.0.2.1:1"], "cannot listen")]:
         assert run_to_end(*words) == (1, b"", f"upsd: {told}\n".encode()), words
-
-
-@case
-def a_taken_port_is_told():
-    with served() as (server, _, _):
-        words = ["--ups", path("su.conf"), "--users", path("users"), "--listen", f"127.0.0.1:{server.port}"]
-        assert run_to_end(*words) == (1, b"", b"upsd: cannot listen\n")
+    ended = ends_in_full(UPSD, "serve", *files, "--listen", "127.0.0.1:0")
+    assert ended == (1, b"upsd: write failed\n"), ended
 
 
 EXAMPLE, SMALL = "a password of the example, which everybody knows", "only ALL grants every command"
@@ -269,10 +115,8 @@ NO_PASSWORD = "a user without a password, who may do nothing"
 
 def warned(users):
     """What is told before it listens, of this file of users. The warnings are all there then."""
-    server = Server(file("list", "[su]\n"), "--users", users, has_users=False)
-    told = server.journal()
-    server.close()
-    return told.splitlines()
+    with begun(file("list", "[su]\n"), "--users", users) as server:
+        return server.journal().splitlines()
 
 
 @case
@@ -294,35 +138,17 @@ def dangers_of_the_users_file_are_told():
     assert run_to_end("--ups", path("list"), "--users", refused) == (1, b"", f"upsd: {refused}:13: cause 4\n".encode())
 
 
-@case
-def a_full_output_is_told():
-    words = ["--ups", file("list", "[su]\n"), "--users", path("users"), "--listen", "127.0.0.1:0"]
-    with open("/dev/full", "wb") as full:
-        ended = subprocess.run([UPSD, "serve", *words], stdout=full, stderr=subprocess.PIPE, timeout=10, check=False)
-    assert (ended.returncode, ended.stderr) == (1, b"upsd: write failed\n"), ended
-
-
-@case
-def a_driver_and_upsc_meet():
-    with served() as (server, _, good):
-        got = subprocess.run([UPSC, f"su@127.0.0.1:{server.port}"], capture_output=True, timeout=10, check=False)
-        assert (got.returncode, got.stdout, got.stderr) == (0, b"battery.charge: 100\nups.status: OL\n", b""), got
-        good.send(b"LIST VAR su\n")
-        assert good.listing() == LISTED
-        assert good.ask(b"GET UPSDESC su\n") == b'UPSDESC su "Rack 1"\n'
-
-
-@case
-def descriptions_are_those_of_their_file():
-    vars_file = file("vars", 'VARDESC ups.status "UPS status"\n')
-    with served(TWO, "--vars", vars_file) as (_, _, good):
-        assert good.ask(b"GET DESC su ups.status\n") == b'DESC su ups.status "UPS status"\n'
+def printed(*words):
+    """What a client prints, and what it tells of a fault."""
+    got = subprocess.run(words, capture_output=True, timeout=10, check=False)
+    return got.stdout + got.stderr
 
 
 @case
 def clients_print_what_the_server_holds():
     told = TWO + b'SETINFO device.model "Smart \\"X\\" \\\\ 5"\nSETFLAGS battery.charge RW\nADDCMD test.battery.start\nADDCMD load.off\n'
-    with served(told) as (server, _, _):
+    with served(told, "--vars", file("vars", 'VARDESC ups.status "UPS status"\n')) as (server, _, good):
+        assert good.ask(b"GET UPSDESC su\nGET DESC su ups.status\n") == b'UPSDESC su "Rack 1"\nDESC su ups.status "UPS status"\n'
         at = f"127.0.0.1:{server.port}"
         for words, want in [
                 ([UPSC, f"su@{at}"], b'battery.charge: 100\ndevice.model: Smart "X" \\ 5\nups.status: OL\n'),
@@ -331,20 +157,24 @@ def clients_print_what_the_server_holds():
                 ([UPSCMD, "-l", f"su@{at}"], b"load.off\ntest.battery.start\n"),
                 ([UPSC, "-l", at], b"su\n"),
                 ([UPSC, "-L", at], b"su: Rack 1\n")]:
-            got = subprocess.run(words, capture_output=True, timeout=10, check=False)
-            assert (got.returncode, got.stdout, got.stderr) == (0, want, b""), got
+            assert printed(*words) == want, words
 
 
 ORDERS = TWO + b'SETINFO ups.delay "20"\nSETFLAGS ups.delay RW\nADDRANGE ups.delay 0 600\nADDCMD test.battery.start\n'
 
 
 @case
-def orders_reach_the_driver():
-    with served(ORDERS) as (_, driver, good):
+def orders_reach_the_driver_and_are_told_once_and_no_value():
+    with served(ORDERS) as (server, driver, good):
         assert good.ask(ADMIN + b"SET VAR su ups.delay 30\n") == b"OK\n" * 3
         assert driver.line() == b'SET ups.delay "30"\n'
         assert good.ask(b"INSTCMD su test.battery.start\n") == b"OK\n"
         assert driver.line() == b"INSTCMD test.battery.start\n"
+        assert good.ask(GET) == STATUS
+        told = COME + "".join(
+            f"upsd: su: admin@127.0.0.1 ordered {what}\n" for what in ("SET VAR ups.delay", "INSTCMD test.battery.start")
+        )
+        assert server.journal() == told, server.journal()
         driver.send(b'SETINFO ups.delay "30"\n')
         assert comes(lambda: good.ask(b"GET VAR su ups.delay\n") == b'VAR su ups.delay "30"\n')
 
@@ -386,24 +216,6 @@ def a_forced_shutdown_is_seen_and_told_once():
         assert other.ask(GET) == b'VAR su ups.status "FSD OL"\n'
         told = COME + refused + "upsd: su: admin@127.0.0.1 ordered FSD\nupsd: su: forced shutdown\n"
         assert server.journal() == told, server.journal()
-        other.close()
-
-
-@case
-def orders_are_told_once_and_no_value():
-    with served(ORDERS) as (server, _, good):
-        assert good.ask(ADMIN + b'SET VAR su ups.delay "30"\nINSTCMD su test.battery.start\n') == b"OK\n" * 4
-        told = COME + "".join(
-            f"upsd: su: admin@127.0.0.1 ordered {what}\n" for what in ("SET VAR ups.delay", "INSTCMD test.battery.start")
-        )
-        assert good.ask(GET) == b'VAR su ups.status "OL"\n'
-        assert server.journal() == told, server.journal()
-
-
-def printed(*words):
-    """What a client prints, and what it tells of a fault."""
-    got = subprocess.run(words, capture_output=True, timeout=10, check=False)
-    return got.stdout + got.stderr
 
 
 @case
@@ -435,67 +247,34 @@ def an_order_without_an_id_is_not_given():
 def refused_logins_are_told_once_a_second():
     with served() as (server, _, good):
         other = server.client("127.0.0.2")
-        assert other.ask(b"LOGIN su\n" * 3) == b"ERR USERNAME-REQUIRED\n" * 3
+        assert other.ask(b"LOGIN su\nATTACH su\nLOGIN su\n") == b"ERR USERNAME-REQUIRED\n" * 3
         told = COME + "upsd: su: 127.0.0.2 was refused LOGIN: USERNAME-REQUIRED\n"
         assert server.journal() == told, server.journal()
         time.sleep(2.1)
         assert other.ask(b"USERNAME mon\nPASSWORD secret-word\nLOGIN su\n") == b"OK\nOK\nERR ACCESS-DENIED\n"
         told += "upsd: su: mon@127.0.0.2 was refused LOGIN: ACCESS-DENIED\n"
         assert server.journal() == told, server.journal()
-        other.close()
 
 
 @case
-def logins_are_listed():
-    with served() as (server, _, good):
-        other = server.client()
-        assert other.ask(MON + b"LOGIN su\n") == b"OK\n" * 3
-        good.send(b"LIST CLIENT su\n")
-        assert good.listing() == b"BEGIN LIST CLIENT su\nCLIENT su 127.0.0.1\nEND LIST CLIENT su\n"
-        other.close()
-        assert comes(lambda: good.ask(b"GET NUMLOGINS su\n") == b"NUMLOGINS su 0\n")
-
-
-@case
-def who_logs_in_and_out_is_told_within_a_second():
+def who_logs_in_or_attaches_is_told_within_a_second_and_who_leaves():
     with served() as (server, _, good):
         begun = "upsd: su: mon@127.0.0.2 logged in\nupsd: su: admin@127.0.0.3 logged in\n"
         first, second = server.client("127.0.0.2"), server.client("127.0.0.3")
         assert first.ask(MON + b"LOGIN su\n") == b"OK\n" * 3
         assert comes(lambda: server.journal() == COME + begun.splitlines(True)[0], 1.5), server.journal()
-        assert second.ask(ADMIN + b"LOGIN su\n") == b"OK\n" * 3
+        assert second.ask(ADMIN + b"ATTACH su\n") == b"OK\n" * 3
         assert comes(lambda: server.journal() == COME + begun, 1.5), server.journal()
+        assert printed(UPSC, "--attached", f"su@127.0.0.1:{server.port}") == b"2\n"
         # One says so, one is gone; who isn't logged in isn't told.
         assert good.ask(MON) == b"OK\n" * 2
-        assert first.ask(b"LOGOUT\n") == b"OK Goodbye\n"
+        assert first.ask(b"DETACH\n") == b"OK Goodbye\n"
         second.reset()
         told = COME + begun + "upsd: su: mon@127.0.0.2 logged out\nupsd: su: admin@127.0.0.3 logged out\n"
         assert comes(lambda: len(server.journal()) == len(told), 1.5), server.journal()
         assert sorted(server.journal().splitlines()) == sorted(told.splitlines())
         time.sleep(1.2)
         assert len(server.journal()) == len(told), server.journal()
-        first.close()
-
-
-@case
-def who_attaches_is_told_as_who_logs_in():
-    with served() as (server, _, good):
-        other = server.client("127.0.0.2")
-        attached = (UPSC, "--attached", f"su@127.0.0.1:{server.port}")
-        assert other.ask(b"ATTACH su\n") == b"ERR USERNAME-REQUIRED\n"
-        told = COME + "upsd: su: 127.0.0.2 was refused LOGIN: USERNAME-REQUIRED\n"
-        assert server.journal() == told, server.journal()
-        assert printed(*attached) == b"0\n"
-        assert other.ask(MON + b"ATTACH su\nLOGIN su\n") == b"OK\n" * 3 + b"ERR ALREADY-LOGGED-IN\n"
-        assert printed(*attached) == b"1\n"
-        assert good.ask(b"GET NUMLOGINS su\n") == b"NUMLOGINS su 1\n"
-        told = "upsd: su: mon@127.0.0.2 logged in\n"
-        assert comes(lambda: told in server.journal(), 1.5), server.journal()
-        assert other.ask(b"DETACH\n") == b"OK Goodbye\n"
-        told = "upsd: su: mon@127.0.0.2 logged out\n"
-        assert comes(lambda: told in server.journal(), 1.5), server.journal()
-        assert printed(*attached) == b"0\n"
-        other.close()
 
 
 @case
@@ -508,6 +287,7 @@ def a_client_is_listed_by_the_address_that_it_comes_from():
         assert good.listing() == b"BEGIN LIST CLIENT su\n" + listed + b"END LIST CLIENT su\n"
         for other in others:
             other.close()
+        assert comes(lambda: good.ask(b"GET NUMLOGINS su\n") == b"NUMLOGINS su 0\n")
 
 
 @case
@@ -525,78 +305,65 @@ def newcomers_are_let_in_as_they_come():
 
 @case
 def drivers_are_connected_to_before_it_tells_that_it_listens():
-    drivers = [Driver(f"{name}.sock") for name in "de"]
+    drivers = [Driver(path(f"{name}.sock")) for name in "de"]
     ups = file("two.conf", "".join(f"[{name}]\nsocket = {path(name)}.sock\n" for name in "de"))
-    server = Server(ups)
-    for driver in drivers:
-        assert select.select([driver.listener], [], [], 0)[0], "it isn't connected to"
-        driver.close()
-    server.close()
+    with begun(ups):
+        for driver in drivers:
+            assert select.select([driver.listener], [], [], 0)[0], "it isn't connected to"
+            driver.close()
 
 
 @case
 def a_lost_driver_comes_back():
     with served() as (server, driver, good):
-        driver.lose()
-        assert comes(lambda: good.ask(GET) == AWAY)
-        driver.accept(TWO)
-        assert comes(lambda: good.ask(GET) == STATUS)
-        told = COME + "upsd: su: driver lost\n" + COME
+        for lose in (driver.lose, lambda: driver.send(b"x" * 100_000)):  # it ends, or sends no LF
+            with contextlib.suppress(OSError):
+                lose()
+            assert comes(lambda: good.ask(GET) == AWAY)
+            driver.lose()
+            driver.accept(TWO)
+            assert comes(lambda: good.ask(GET) == STATUS)
+        told = COME + ("upsd: su: driver lost\n" + COME) * 2
         assert server.journal() == told, server.journal()
 
 
 @case
-def a_driver_that_floods_without_lf_is_lost_and_comes_back():
-    with served() as (_, driver, good):
-        with contextlib.suppress(OSError):
-            driver.send(b"x" * 100_000)
-        assert comes(lambda: good.ask(GET) == AWAY)
-        driver.lose()
-        driver.accept(TWO)
-        assert comes(lambda: good.ask(GET) == STATUS)
-
-
-@case
 def drivers_that_are_not_there_are_tried_again():
-    absent, plain, refusing = path("absent.sock"), file("plain", ""), Driver("refusing.sock")
+    absent, plain, refusing = path("absent.sock"), file("plain", ""), Driver(path("refusing.sock"))
     refusing.listener.close()
     ups = file("three.conf", f"[a]\nsocket = {absent}\n[b]\nsocket = {plain}\n[c]\nsocket = {refusing.path}\n")
-    server = Server(ups)
-    good = server.client()
-    assert good.ask(b"GET VAR a x\nGET VAR b x\nGET VAR c x\n") == AWAY * 3
-    assert comes(lambda: sorted(server.journal().splitlines(True)) == ["upsd: a: " + NO_FILE, "upsd: b: " + REFUSED, "upsd: c: " + REFUSED])
-    os.unlink(plain)
-    os.unlink(refusing.path)
-    drivers = [Driver("absent.sock"), Driver("plain"), Driver("refusing.sock")]
-    for driver in drivers:
-        driver.accept(b'SETINFO x "1"\n')
-    assert comes(lambda: good.ask(b"GET VAR a x\nGET VAR b x\nGET VAR c x\n").count(b'"1"') == 3)
-    told = [f"upsd: {name}: {news}" for name in "abc" for news in ["data good", "driver connected"]]
-    lines = [line for line in sorted(server.journal().splitlines()) if "cannot connect" not in line]
-    assert lines == told, server.journal()
-    for driver in drivers:
-        driver.close()
-    good.close()
-    server.close()
+    asks = b"GET VAR a x\nGET VAR b x\nGET VAR c x\n"
+    with begun(ups) as server:
+        good = server.client()
+        assert good.ask(asks) == AWAY * 3
+        assert comes(lambda: sorted(server.journal().splitlines(True)) == ["upsd: a: " + NO_FILE, "upsd: b: " + REFUSED, "upsd: c: " + REFUSED])
+        os.unlink(plain)
+        os.unlink(refusing.path)
+        drivers = [Driver(there).accept(b'SETINFO x "1"\n') for there in (absent, plain, refusing.path)]
+        assert comes(lambda: good.ask(asks).count(b'"1"') == 3)
+        told = [f"upsd: {name}: {news}" for name in "abc" for news in ["data good", "driver connected"]]
+        lines = [line for line in sorted(server.journal().splitlines()) if "cannot connect" not in line]
+        assert lines == told, server.journal()
+        for driver in drivers:
+            driver.close()
 
 
 @case
 def why_a_driver_cannot_be_connected_to_is_told_once_a_reason():
-    server = Server(file("late.conf", f"[su]\nsocket = {path('late.sock')}\n"))
-    assert comes(lambda: server.journal() == "upsd: su: " + NO_FILE), server.journal()
-    time.sleep(1.2)
-    assert server.journal() == "upsd: su: " + NO_FILE, server.journal()
-    with socket.socket(socket.AF_UNIX) as bound:
-        bound.bind(path("late.sock"))
-        told = f"upsd: su: {NO_FILE}upsd: su: {REFUSED}"
-        assert comes(lambda: server.journal() == told), server.journal()
+    with begun(file("late.conf", f"[su]\nsocket = {path('late.sock')}\n")) as server:
+        assert comes(lambda: server.journal() == "upsd: su: " + NO_FILE), server.journal()
         time.sleep(1.2)
-        bound.listen(1)
-        assert comes(lambda: server.journal() == told + "upsd: su: driver connected\n"), server.journal()
-    # The driver is gone, and nobody listens at its path.
-    told += "upsd: su: driver connected\nupsd: su: driver lost\nupsd: su: " + REFUSED
-    assert comes(lambda: server.journal() == told), server.journal()
-    server.close()
+        assert server.journal() == "upsd: su: " + NO_FILE, server.journal()
+        with socket.socket(socket.AF_UNIX) as bound:
+            bound.bind(path("late.sock"))
+            told = f"upsd: su: {NO_FILE}upsd: su: {REFUSED}"
+            assert comes(lambda: server.journal() == told), server.journal()
+            time.sleep(1.2)
+            bound.listen(1)
+            assert comes(lambda: server.journal() == told + "upsd: su: driver connected\n"), server.journal()
+        # The driver is gone, and nobody listens at its path.
+        told += "upsd: su: driver connected\nupsd: su: driver lost\nupsd: su: " + REFUSED
+        assert comes(lambda: server.journal() == told), server.journal()
 
 
 @case
@@ -685,8 +452,6 @@ def nobody_waits_for_slow_readers():
         slow[7].wire.settimeout(20)
         got = slow[7].up_to_end()
         assert got == many_listed(MANY, 256) * 8 + b"OK Goodbye\n", len(got)
-        for client in slow:
-            client.close()
         assert worst < 0.5, f"a good client waited {worst:.3f} s"
         assert grown < 24 * 64, f"{grown} KB more for 63 slow clients"
 
@@ -712,9 +477,14 @@ def a_client_that_half_closes_gets_all():
             client.wire.shutdown(socket.SHUT_WR)
             time.sleep(0.05)
             got = client.up_to_end()
-            client.close()
             listed = many_listed(MANY, 256)
             assert got.startswith(listed) and got.endswith(listed + STATUS), len(got)
+
+
+def in_background(function):
+    thread = threading.Thread(target=function)
+    thread.start()
+    return thread
 
 
 def flood(client, text, seconds):
@@ -724,9 +494,17 @@ def flood(client, text, seconds):
         with contextlib.suppress(OSError):
             while time.monotonic() < end:
                 client.wire.send(text)
-    thread = threading.Thread(target=send)
-    thread.start()
-    return thread
+    return in_background(send)
+
+
+def drain(client):
+    """Reads and drops, in the background, up to the end or a pause."""
+    def read():
+        client.wire.settimeout(1)
+        with contextlib.suppress(OSError):
+            while client.wire.recv(1 << 20):
+                pass
+    return in_background(read)
 
 
 @case
@@ -738,30 +516,19 @@ def too_long_is_received_under_a_flood():
         assert got == b"ERR TOO-LONG\n", got
         assert good.ask(GET) == STATUS
         thread.join()
-        client.close()
 
 
 @case
-def goodbye_is_received_before_unread_lines():
-    with served() as (server, _, _):
-        client = server.client()
-        client.send(b"VER\nLOGOUT\n" + b"VER\n" * 100_000)
-        # Its end is told with it: its connection is closed a second later at the soonest.
-        client.wire.settimeout(0.9)
-        assert client.line() and client.up_to_end() == b"OK Goodbye\n"
-        client.close()
-
-
-@case
-def a_parting_client_is_closed_after_two_ticks():
+def clients_that_left_are_closed_at_their_end_or_after_two_ticks():
     with served() as (server, _, _):
         before = server.descriptors()
         clients = [server.client() for _ in range(10)]
         assert all(client.ask(b"LOGOUT\n") == b"OK Goodbye\n" for client in clients)
         assert server.descriptors() == before + 10
-        assert comes(lambda: server.descriptors() == before, 3.5)
-        for client in clients:
+        for client in clients[:5]:
             client.close()
+        assert comes(lambda: server.descriptors() == before + 5, 0.5)
+        assert comes(lambda: server.descriptors() == before, 3.5)
 
 
 @case
@@ -769,29 +536,17 @@ def what_clients_send_after_their_end_is_read():
     with served() as (server, _, _):
         before = server.descriptors()
         early, late = server.client(), server.client()
-        early.send(b"LOGOUT\n" + b"VER\n" * 100_000)
+        early.send(b"VER\nLOGOUT\n" + b"VER\n" * 100_000)
+        # Its end is told with the goodbye: its connection is closed a second later at the soonest.
+        early.wire.settimeout(0.9)
+        assert early.line() and early.up_to_end() == b"OK Goodbye\n"
         assert late.ask(b"LOGOUT\n") == b"OK Goodbye\n"
         time.sleep(0.2)
         late.send(b"VER\n" * 10_000)
         # Both are closed by now. A connection that is closed with unread input is reset.
         assert comes(lambda: server.descriptors() == before, 3.5)
-        assert early.up_to_end() == b"OK Goodbye\n"
         assert late.up_to_end() == b""
         assert not early.was_reset() and not late.was_reset()
-        early.close()
-        late.close()
-
-
-@case
-def clients_that_left_are_closed_at_their_end():
-    with served() as (server, _, _):
-        before = server.descriptors()
-        clients = [server.client() for _ in range(10)]
-        assert all(client.ask(b"LOGOUT\n") == b"OK Goodbye\n" for client in clients)
-        time.sleep(0.2)
-        for client in clients:
-            client.close()
-        assert comes(lambda: server.descriptors() == before, 0.5)
 
 
 @case
@@ -807,8 +562,6 @@ def of_more_than_64_clients_that_left_the_oldest_are_closed():
         time.sleep(0.2)
         assert server.descriptors() <= before + 64
         assert clients[-1].up_to_end() == b"OK Goodbye\n" and not clients[-1].was_reset()
-        for client in clients:
-            client.close()
 
 
 @case
@@ -824,8 +577,6 @@ def a_server_that_is_asked_nothing_does_nothing():
         worked = server.seconds_of_work() - before
         assert worked < 0.2, f"it worked {worked:.2f} s"
         assert server.descriptors() == opened - 1
-        slow.close()
-        gone.close()
 
 
 @case
@@ -843,24 +594,20 @@ def clients_that_are_gone_before_their_answers_end_nothing():
 
 @case
 def more_clients_than_descriptors_end_nothing():
-    ups = file("alone.conf", "[su]\n")
-    server = Server(ups, files=20)
-    clients = [server.client() for _ in range(40)]
-    for client in clients:
-        client.wire.settimeout(0.2)
-        client.send(b"GET UPSDESC su\n")
-    answered = [client for client in clients if is_answered(client)]
-    assert 5 < len(answered) < 20, len(answered)
-    before = server.seconds_of_work()
-    time.sleep(1.5)
-    assert server.seconds_of_work() - before < 0.3, "it spins"
-    for client in answered:
-        client.close()
-    waiting = [client for client in clients if client not in answered]
-    assert comes(lambda: any(is_answered(client) for client in waiting))
-    for client in waiting:
-        client.close()
-    server.close()
+    with begun(file("alone.conf", "[su]\n"), files=20) as server:
+        clients = [server.client() for _ in range(40)]
+        for client in clients:
+            client.wire.settimeout(0.2)
+            client.send(b"GET UPSDESC su\n")
+        answered = [client for client in clients if is_answered(client)]
+        assert 5 < len(answered) < 20, len(answered)
+        before = server.seconds_of_work()
+        time.sleep(1.5)
+        assert server.seconds_of_work() - before < 0.3, "it spins"
+        for client in answered:
+            client.close()
+        waiting = [client for client in clients if client not in answered]
+        assert comes(lambda: any(is_answered(client) for client in waiting))
 
 
 def is_answered(client):
@@ -885,8 +632,6 @@ def drivers_and_ticks_are_not_late_in_a_flood():
         assert driver.line() == b"PING\n"
         for thread in threads + readers:
             thread.join()
-        for client in floods:
-            client.close()
 
 
 def report(driver, seconds):
@@ -897,9 +642,7 @@ def report(driver, seconds):
         while time.monotonic() < begin + seconds:
             driver.send(b'SETINFO battery.charge "%d"\n' % int(1000 * (time.monotonic() - begin)))
             time.sleep(0.001)
-    thread = threading.Thread(target=send)
-    thread.start()
-    return begin, thread
+    return begin, in_background(send)
 
 
 @case
@@ -921,21 +664,7 @@ def a_driver_with_orders_at_each_moment_is_heard():
             time.sleep(0.02)
         for thread in [*threads, *readers, reports, orders]:
             thread.join()
-        for client in clients:
-            client.close()
         assert worst < 1.0, f"what the driver told was {worst:.3f} s old"
-
-
-def drain(client):
-    """Reads and drops, in the background, up to the end or a pause."""
-    def read():
-        client.wire.settimeout(1)
-        with contextlib.suppress(OSError):
-            while client.wire.recv(1 << 20):
-                pass
-    thread = threading.Thread(target=read)
-    thread.start()
-    return thread
 
 
 def traffic(server, driver, good):
@@ -969,35 +698,79 @@ def nothing_grows():
 
 
 @case
-def it_starts_again_at_its_port():
+def it_starts_again_at_its_port_and_at_none_that_is_taken():
     with served() as (server, driver, good):
-        assert good.ask(GET) == STATUS
+        words = ["--ups", path("su.conf"), "--users", path("users"), "--listen", f"127.0.0.1:{server.port}"]
+        assert run_to_end(*words) == (1, b"", b"upsd: cannot listen\n")
         server.close()
         driver.lose()
-        again = Server(path("su.conf"), port=server.port)
-        driver.accept(TWO)
-        late = again.client()
-        assert comes(lambda: late.ask(GET) == STATUS)
-        late.close()
-        again.close()
+        with begun(path("su.conf"), port=server.port) as again:
+            driver.accept(TWO)
+            late = again.client()
+            assert comes(lambda: late.ask(GET) == STATUS)
 
 
-def main():
-    file("users", USERS)
-    failed, named = 0, sys.argv[5:]
-    cases = [function for function in CASES if not named or function.__name__ in named]
-    for function in cases:
-        begin = time.monotonic()
-        try:
-            function()
-            print(f"serve: ok: {function.__name__} ({time.monotonic() - begin:.1f} s)", flush=True)
-        except Exception as fault:  # a case that fails is told, and the next one runs
-            failed += 1
-            line = fault.__traceback__.tb_next.tb_lineno
-            print(f"serve: FAILED: {function.__name__}: line {line}: {fault!r}", flush=True)
-    shutil.rmtree(FOLDER)
-    print(f"serve: {len(cases) - failed} of {len(cases)} cases")
-    sys.exit(failed > 0)
+def alone(function):
+    """The case takes its network away, so it has one of its own (unshare), where no other program is."""
+    def run():
+        unshared = ["unshare", "-rn", "env", "NETWORK=its own"]
+        if os.environ.get("NETWORK") == "its own":
+            tool("ip", "link", "set", "lo", "up")
+            return function()
+        if not shutil.which("ss") or subprocess.run([*unshared, "ip", "link", "set", "lo", "up"], capture_output=True, check=False).returncode:
+            return "skipped: no network of its own can be made"
+        ended = subprocess.run([*unshared, sys.executable, *sys.argv[:5], function.__name__], capture_output=True, text=True, check=False)
+        assert ended.returncode == 0, ended.stdout + ended.stderr
+        return ended.stdout.partition(" s, ")[2].strip()  # whether a half was skipped
+    run.__name__ = function.__name__
+    return run
 
 
-main()
+def tool(*words):
+    return subprocess.run(words, capture_output=True, text=True, check=True).stdout
+
+
+def vanish(server, seconds):
+    """A client logs in, and its network is away for so many seconds. The answer is which timers run for it."""
+    client = server.client("127.0.0.2")
+    assert client.ask(MON + b"LOGIN su\n") == b"OK\n" * 3
+    time.sleep(0.3)  # until what the server sent is acknowledged
+    timers = tool("ss", "-tnoH", "state", "established", f"sport = :{server.port}", "dst 127.0.0.2")
+    tool("ip", "link", "set", "lo", "down")
+    time.sleep(seconds)
+    tool("ip", "link", "set", "lo", "up")
+    return timers
+
+
+def logins(server):
+    return printed(UPSC, "-c", f"su@127.0.0.1:{server.port}")
+
+
+@case
+@alone
+def a_client_that_vanished_is_logged_out_by_hand():
+    """As docs/OPERATING.md has it: without keepalive it stays."""
+    with served(env={**os.environ, "KEEPIDLE": "1"}) as (server, _, _):
+        assert "keepalive" not in vanish(server, 1)
+        assert logins(server) == b"127.0.0.2\n"
+        assert len(tool("ss", "-KH", f"sport = :{server.port}", "dst 127.0.0.2").splitlines()) == 1
+        assert comes(lambda: logins(server) == b""), logins(server)
+
+
+@case
+@alone
+def keepalive_logs_out_a_client_that_vanished():
+    """By Debian's libkeepalive0, as docs/OPERATING.md has it."""
+    if not os.path.exists("/usr/lib/libkeepalive.so"):
+        return "skipped: libkeepalive.so isn't there"
+    with served(env={**os.environ, "LD_PRELOAD": "libkeepalive.so", "KEEPIDLE": "1", "KEEPINTVL": "1", "KEEPCNT": "2"}) as (server, _, _):
+        assert "keepalive" in vanish(server, 6)
+        assert logins(server) == b""
+
+
+file("users", USERS)
+named = sys.argv[5:]
+for function in CASES:
+    if not named or function.__name__ in named:
+        BENCH.case(function.__name__, function)
+BENCH.end()

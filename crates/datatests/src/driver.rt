@@ -1,30 +1,50 @@
-//! Numbers in drivers' lines, and all their faults.
+//! Lines of a driver, and the texts of their faults.
+use crate::kept::Kept;
 use crate::row::Row;
 use crate::shown::push_fault;
-use nutdriver::{DriverFault, laws, read_number};
+use nutdriver::{DriverFault, DriverLine, Tree, laws};
+use nutmap::Meter;
+use nutwords::LINE_LIMIT;
 use std::alloc::AllocError;
 
-/// The answer to a row of the driver protocol that is no line, if it is one.
-pub fn push_answer(answer: &mut String, row: &Row<'_>) -> Result<bool, AllocError> {
+/// The answer to a row of the driver protocol, if it is one.
+pub fn push_answer(
+    answer: &mut String,
+    kept: &mut Kept,
+    row: &Row<'_>,
+) -> Result<bool, AllocError> {
     match row.kind {
-        "read_number" => push_number(answer, row.text)?,
-        "driver_memory" => push_driver_fault(answer, DriverFault::Memory)?,
+        "line" => push_done(answer, done(&mut kept.tree, row.text))?,
+        "driver_faults" => push_rare_faults(answer)?,
         "driver_laws" => call_laws(),
         _ => return Ok(false),
     }
     Ok(true)
 }
 
-fn push_number(answer: &mut String, word: &[u8]) -> Result<(), AllocError> {
-    match read_number(word) {
-        Some(number) => write!(answer, "{number}"),
-        None => answer.push_str("none"),
+/// Reads a line, and does it where it isn't refused.
+fn done(tree: &mut Tree, line: &[u8]) -> Result<(), DriverFault> {
+    if line.len() > LINE_LIMIT {
+        return Err(DriverFault::Malformed);
+    }
+    let line = DriverLine::read(line)?;
+    tree.apply(&line, &mut Meter::new())?;
+    Ok(())
+}
+
+/// That it is done, or why it is refused.
+fn push_done(answer: &mut String, done: Result<(), DriverFault>) -> Result<(), AllocError> {
+    match done {
+        Ok(()) => answer.push_str("done"),
+        Err(fault) => push_fault(answer, fault.number(), &fault),
     }
 }
 
-/// A fault's number and text.
-pub fn push_driver_fault(answer: &mut String, fault: DriverFault) -> Result<(), AllocError> {
-    push_fault(answer, fault.number(), &fault)
+/// The faults that no line here brings about.
+fn push_rare_faults(answer: &mut String) -> Result<(), AllocError> {
+    push_done(answer, Err(DriverFault::Full))?;
+    answer.push_str(", ")?;
+    push_done(answer, Err(DriverFault::Memory))
 }
 
 fn call_laws() {

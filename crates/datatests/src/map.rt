@@ -1,9 +1,8 @@
 //! The map of nutmap, and a version of it.
 use crate::entries::{push_entries, push_pieces};
 use crate::kept::Kept;
-use crate::row::{Row, natural, natural32, parted};
+use crate::row::{Row, natural32, parted};
 use crate::shown::{push_number, push_yes};
-use crate::versions;
 use nutmap::{Map, Meter, laws};
 use std::alloc::AllocError;
 use std::rc::Rc;
@@ -21,7 +20,7 @@ pub fn push_answer(
         "map_remove" => push_value(answer, removed(kept, natural32(row.text))?)?,
         "map_get" => push_value(answer, kept.map.get(&(natural32(row.text))).copied())?,
         "map_made" => push_number(answer, kept.meter.made())?,
-        "map_entries" => push_entries(answer, &kept.map, None)?,
+        "map_entries" => push_entries(answer, &kept.map)?,
         "map_pieces" => push_pieces(answer, &kept.map)?,
         _ => return push_of_versions(answer, kept, row),
     }
@@ -36,13 +35,9 @@ fn push_of_versions(
 ) -> Result<bool, AllocError> {
     match row.kind {
         "map_share" => kept.map_version = kept.map.share()?,
-        "map_version" => push_entries(answer, &kept.map_version, None)?,
-        "map_version_after" => push_entries(answer, &kept.map_version, Some(natural32(row.text)))?,
+        "map_version" => push_entries(answer, &kept.map_version)?,
         "map_apart" => set_apart(kept)?,
-        "map_nodes" => push_nodes(answer, &kept.map, row.text)?,
-        "map_take_out" => push_number(answer, versions::take_out(kept.alloc, &mut kept.map)?)?,
         "map_outlived" => push_outlived(answer, kept, natural32(row.text))?,
-        "map_random" => versions::push_random(answer, kept.alloc)?,
         "map_laws" => call_laws(),
         _ => return Ok(false),
     }
@@ -88,7 +83,7 @@ fn removed(kept: &mut Kept, key: u32) -> Result<Option<u32>, AllocError> {
 }
 
 /// Gives the key this value, or takes it out where there is none. Answers what value it had.
-pub fn changed(
+fn changed(
     map: &mut Map<u32, u32>,
     key: u32,
     value: Option<u32>,
@@ -127,36 +122,6 @@ fn taken_out(map: &Map<u32, u32>, key: u32) -> Result<Option<Rc<u32>>, AllocErro
 fn set_apart(kept: &mut Kept) -> Result<(), AllocError> {
     kept.map_version = laws::versions_are_apart(&mut kept.map, 5, 50, &1, &mut kept.meter)?;
     Ok(())
-}
-
-/// One entry more behind the last makes at least one node, and at most so many, in a version of the map; one less in the
-/// middle at most so many.
-fn push_nodes(answer: &mut String, map: &Map<u32, u32>, most: &[u8]) -> Result<(), AllocError> {
-    let len = u32::try_from(map.len()).unwrap_or(u32::MAX);
-    let most = natural(most);
-    push_change(answer, nodes_of(map, len, Some(0))?, 1, most)?;
-    push_change(answer, nodes_of(map, len / 2, None)?, 0, most)
-}
-
-/// Whether the key had a value before, and whether the nodes made are as few as they should be.
-fn push_change(
-    answer: &mut String,
-    (had, made): (bool, u64),
-    least: u64,
-    most: u64,
-) -> Result<(), AllocError> {
-    answer.push_str("had a value: ")?;
-    push_yes(answer, had)?;
-    answer.push_str(", few nodes: ")?;
-    push_yes(answer, least <= made && made <= most)?;
-    answer.push_str("; ")
-}
-
-/// Whether the key had a value before a change of a version of the map, and how many nodes the change makes.
-fn nodes_of(map: &Map<u32, u32>, key: u32, value: Option<u32>) -> Result<(bool, u64), AllocError> {
-    let mut meter = Meter::new();
-    let had = changed(&mut map.share()?, key, value, &mut meter)?.is_some();
-    Ok((had, meter.made()))
 }
 
 fn call_laws() {

@@ -22,7 +22,7 @@ fn push_read(answer: &mut String, text: &[u8]) -> Result<(), AllocError> {
 }
 
 /// Whether it is accepted and has the same bytes, or why it is refused.
-pub fn push_kept(answer: &mut String, kept: Result<bool, BadName>) -> Result<(), AllocError> {
+fn push_kept(answer: &mut String, kept: Result<bool, BadName>) -> Result<(), AllocError> {
     match kept {
         Ok(true) => answer.push_str("kept")?,
         Ok(false) => answer.push_str("changed")?,
@@ -32,21 +32,21 @@ pub fn push_kept(answer: &mut String, kept: Result<bool, BadName>) -> Result<(),
 }
 
 /// Whether it is a name of these bytes.
-pub fn is_name(name: Result<Name, BadName>, bytes: &[u8]) -> Result<bool, BadName> {
+fn is_name(name: Result<Name, BadName>, bytes: &[u8]) -> Result<bool, BadName> {
     Ok(name?.as_bytes() == bytes)
 }
 
 /// Whether it is a UPS's name of these bytes.
-pub fn is_ups_name(name: Result<UpsName, BadName>, bytes: &[u8]) -> Result<bool, BadName> {
+fn is_ups_name(name: Result<UpsName, BadName>, bytes: &[u8]) -> Result<bool, BadName> {
     Ok(name?.as_bytes() == bytes)
 }
 
 /// Whether it is an address of these bytes.
-pub fn is_address(address: Result<Address, BadName>, bytes: &[u8]) -> Result<bool, BadName> {
+fn is_address(address: Result<Address, BadName>, bytes: &[u8]) -> Result<bool, BadName> {
     Ok(address?.as_bytes() == bytes)
 }
 
 /// Whether it is a value of these bytes.
-pub fn is_value(value: Result<Value, BadName>, bytes: &[u8]) -> Result<bool, BadName> {
+fn is_value(value: Result<Value, BadName>, bytes: &[u8]) -> Result<bool, BadName> {
     Ok(value?.as_bytes() == bytes)
 }

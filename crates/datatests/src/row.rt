@@ -40,7 +40,7 @@ fn repeat(expanded: &mut String, repeated: &str) -> Result<(), AllocError> {
 }
 
 /// The number that a text is, or 0 where it is none.
-pub fn natural(text: &[u8]) -> u64 {
+fn natural(text: &[u8]) -> u64 {
     read_natural(text, u64::MAX).unwrap_or(0)
 }
 

@@ -3,7 +3,7 @@ use std::alloc::AllocError;
 use std::fmt::Display;
 
 /// Pushes bytes: those from a space to `~` as they are, and each other as `\x` and its two digits.
-pub fn push_bytes(answer: &mut String, bytes: &[u8]) -> Result<(), AllocError> {
+fn push_bytes(answer: &mut String, bytes: &[u8]) -> Result<(), AllocError> {
     for b in bytes {
         match *b {
             b' '..=b'~' => answer.push(char::from(*b))?,
@@ -28,14 +28,6 @@ fn digit(value: u8) -> char {
 pub fn push_word(answer: &mut String, bytes: &[u8]) -> Result<(), AllocError> {
     push_bytes(answer, bytes)?;
     answer.push('|')
-}
-
-/// The bytes and a bar after them, or `none`.
-pub fn push_option(answer: &mut String, bytes: Option<&[u8]>) -> Result<(), AllocError> {
-    match bytes {
-        Some(bytes) => push_word(answer, bytes),
-        None => answer.push_str("none"),
-    }
 }
 
 pub fn push_number(answer: &mut String, number: u64) -> Result<(), AllocError> {

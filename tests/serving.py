@@ -1,0 +1,176 @@
+"""The built server on real sockets, with its drivers and clients; for serve_cases.py and refused_memory.py."""
+import contextlib
+import os
+import resource
+import select
+import socket
+import struct
+import subprocess
+import tempfile
+import time
+
+READY = b"DUMPDONE\nDATAOK\n"
+
+
+def comes(holds, seconds=4.0):
+    """Whether it holds in time."""
+    end = time.monotonic() + seconds
+    while not holds():
+        if time.monotonic() > end:
+            return False
+        time.sleep(0.02)
+    return True
+
+
+class Driver:
+    """A UPS's driver, which the server connects to."""
+
+    def __init__(self, path):
+        self.path = path
+        self.listener = socket.socket(socket.AF_UNIX)
+        self.listener.bind(path)
+        self.listener.listen(8)
+        self.listener.settimeout(10)
+
+    def accept(self, told=None):
+        """The server connects, and asks for all; the driver tells it this."""
+        self.wire = self.listener.accept()[0]
+        self.wire.settimeout(10)
+        self.lines = self.wire.makefile("rb")
+        line = self.lines.readline()
+        assert line == b"DUMPALL\n", line
+        if told is not None:
+            self.wire.sendall(told + READY)
+        return self
+
+    def send(self, text):
+        self.wire.sendall(text)
+
+    def line(self):
+        return self.lines.readline()
+
+    def lose(self):
+        self.lines.close()
+        self.wire.close()
+
+    def close(self):
+        with contextlib.suppress(AttributeError, OSError):
+            self.lose()
+        self.listener.close()
+        os.unlink(self.path)
+
+
+class Client:
+    """A client of the server."""
+
+    def __init__(self, port, source="127.0.0.1", buffer=None):
+        self.wire = socket.socket()
+        self.wire.settimeout(10)
+        if buffer:
+            self.wire.setsockopt(socket.SOL_SOCKET, socket.SO_RCVBUF, buffer)
+        self.wire.bind((source, 0))
+        self.wire.connect(("127.0.0.1", port))
+        self.kept = b""
+
+    def send(self, text):
+        self.wire.sendall(text)
+
+    def line(self):
+        while b"\n" not in self.kept:
+            piece = self.wire.recv(65536)
+            if not piece:
+                return self.kept
+            self.kept += piece
+        line, _, self.kept = self.kept.partition(b"\n")
+        return line + b"\n"
+
+    def ask(self, text, count=None):
+        """The answers to the lines, each of one line, or of so many in all."""
+        self.send(text)
+        return b"".join(self.line() for _ in range(text.count(b"\n") if count is None else count))
+
+    def up_to_end(self):
+        """All that is still to come. A connection that is reset is a fault."""
+        pieces = [self.kept]
+        while True:
+            piece = self.wire.recv(1 << 20)
+            if not piece:
+                return b"".join(pieces)
+            pieces.append(piece)
+
+    def listing(self):
+        lines = [self.line()]
+        while not lines[-1].startswith((b"END LIST", b"ERR")):
+            lines.append(self.line())
+        return b"".join(lines)
+
+    def is_silent(self, seconds=0.3):
+        return not select.select([self.wire], [], [], seconds)[0]
+
+    def close(self):
+        self.wire.close()
+
+    def was_reset(self):
+        return self.wire.getsockopt(socket.SOL_SOCKET, socket.SO_ERROR) != 0
+
+    def reset(self):
+        self.wire.setsockopt(socket.SOL_SOCKET, socket.SO_LINGER, struct.pack("ii", 1, 0))
+        self.wire.close()
+
+
+class Server:
+    """The built server with these words, at a port that the system gives, and its clients, which are closed with it."""
+
+    def __init__(self, upsd, ups, *words, port=0, files=None, env=None):
+        limit = (lambda: resource.setrlimit(resource.RLIMIT_NOFILE, (files, files))) if files else None
+        self.clients, self.errors = [], tempfile.TemporaryFile()
+        self.process = subprocess.Popen([upsd, "serve", "--ups", ups, "--listen", f"127.0.0.1:{port}", *words],
+                                        stdout=subprocess.PIPE, stderr=self.errors, preexec_fn=limit, env=env)  # fmt: skip
+        ready, _, _ = select.select([self.process.stdout], [], [], 10)
+        assert ready, "it didn't say that it listens"
+        line = self.process.stdout.readline().decode()
+        assert line.startswith("upsd: listening on 127.0.0.1:"), line
+        self.port = int(line.rsplit(":", 1)[1])
+
+    def client(self, source="127.0.0.1", buffer=None):
+        self.clients.append(Client(self.port, source, buffer))
+        return self.clients[-1]
+
+    def journal(self):
+        return os.pread(self.errors.fileno(), 1 << 20, 0).decode()
+
+    def kilobytes(self):
+        with open(f"/proc/{self.process.pid}/status", encoding="utf-8") as status:
+            return int(next(line for line in status if line.startswith("VmRSS")).split()[1])
+
+    def seconds_of_work(self):
+        with open(f"/proc/{self.process.pid}/stat", encoding="utf-8") as stat:
+            fields = stat.read().rsplit(")", 1)[1].split()
+        return (int(fields[11]) + int(fields[12])) / os.sysconf("SC_CLK_TCK")
+
+    def descriptors(self):
+        return len(os.listdir(f"/proc/{self.process.pid}/fd"))
+
+    def close(self):
+        self.process.kill()
+        self.process.wait()
+        self.process.stdout.close()
+        for client in self.clients:
+            client.close()
+
+
+@contextlib.contextmanager
+def served(folder, upsd, told, *words, env=None):
+    """A server over the UPS `su`, its driver, which has told this, and a good client."""
+    with contextlib.ExitStack() as stack:
+        driver = Driver(os.path.join(folder, "su.sock"))
+        stack.callback(driver.close)
+        ups = os.path.join(folder, "su.conf")
+        with open(ups, "w", encoding="utf-8") as out:
+            out.write(f'[su]\ndesc = "Rack 1"\nsocket = {driver.path}\n')
+        server = Server(upsd, ups, "--users", os.path.join(folder, "users"), *words, env=env)
+        stack.callback(server.close)
+        driver.accept(told)
+        good = server.client()
+        assert comes(lambda: good.ask(b"GET VAR su ups.status\n").startswith(b"VAR"), 10)
+        yield server, driver, good
