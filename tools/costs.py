@@ -139,13 +139,13 @@ def instructions(kind, connections, line, end, less, more, things):
 
 def instructions_of_report(kind):
     counts = []
-    for times in (2, 12):
+    for times in (2, 4):
         server = Server(kind, {"small": (4096, 10)}, CALLGRIND)
         server.drivers["small"].report(times - 1)
         server.drivers["small"].server.sendall(b'SETINFO last.one "1"\n')
         server.until("GET VAR small last.one\n", "VAR ")
         counts.append(server.end())
-    return (counts[1] - counts[0]) // (10 * 4096)
+    return (counts[1] - counts[0]) // (2 * 4096)
 
 
 def memory(kind):
@@ -201,9 +201,9 @@ def measure():
         rows.append(("speed", what, ours, nut))
     get, got = b"GET VAR small v2048\n", b'"\n'
     for what, words in (
-        ("GET VAR, 1 connection", (1, get, got, 640, 7040, 6400)),
-        ("GET VAR, 64 connections", (64, get, got, 10, 110, 6400)),
-        ("an item of LIST VAR", (1, b"LIST VAR small\n", b"END LIST VAR small\n", 1, 6, 5 * 4097)),
+        ("GET VAR, 1 connection", (1, get, got, 64, 704, 640)),
+        ("GET VAR, 64 connections", (64, get, got, 2, 12, 640)),
+        ("an item of LIST VAR", (1, b"LIST VAR small\n", b"END LIST VAR small\n", 1, 3, 2 * 4097)),
     ):
         rows.append(("instructions", what, *(instructions(kind, *words) for kind in rounds)))
     rows.append(("instructions", "a line of a driver", *(instructions_of_report(kind) for kind in rounds)))
