@@ -1,10 +1,12 @@
 #!/usr/bin/env bash
-# README: its size, its links, the laws and limits that it names, and what its commands print. `make` and `rt ci` aren't run here.
+# README: its size, its links, the laws and limits that it names, and what its commands print; `make` and `rt ci` aren't run here.
+# The tables and the chart of docs/COSTS.md are those of its measurements.
 set -euo pipefail
 # shellcheck source=tests/built.bash
 source "$(dirname "${BASH_SOURCE[0]}")/built.bash"
 built upsd upsc upsrw upscmd demodriver
 cd "$top"
+python3 tools/costs.py --check
 
 python3 - README.md <<'PYTHON'
 import pathlib, re, subprocess, sys
