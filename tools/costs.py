@@ -156,6 +156,8 @@ def memory(kind):
         client.sendall(b"LIST VAR large\n" * 8)
     time.sleep(2)
     paused = server.memory()
+    for client in slow:
+        client.close()
     server.end()
     return {"no client": idle, "60 clients that stop within a listing": paused}
 
@@ -182,7 +184,7 @@ def speed(kind):
                 at_once = f", {depth} requests at once" if depth > 1 else ""
                 found[f"GET VAR, {connections} connection{'s' * (connections > 1)}{at_once}"] = int(rate)
         rate = re.search(r"fresh connections: +(\d+)", said)[1]
-        found[f"LIST VAR of {count:,} values of {width} bytes, newly connected"] = int(rate)
+        found[f"LIST VAR of {count:,} values of {width} bytes"] = int(rate)
     driver, start = server.drivers["small"], time.monotonic()
     driver.report(500)
     driver.server.sendall(b'SETINFO last.one "1"\n')
