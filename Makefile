@@ -15,7 +15,7 @@ UNIT = lib/systemd/system/upsd.service
 # for ours.
 MINE = share/voqarchay
 DOC = share/doc/voqarchay
-TEXTS = OPERATING.md FROM_NUT.md INTEROP.md FILES.md CLIENTS.md PROTOCOL.md
+TEXTS = OPERATING.md power-failure.svg FROM_NUT.md INTEROP.md FILES.md CLIENTS.md PROTOCOL.md
 EXAMPLES = $(addprefix $(DOC)/examples/, upses.conf upsd.users cmdvartab from_ups_conf.conf upsd-metrics.service upsd-metrics.timer upsd-alerts.yml)
 PAGES = $(addprefix share/man/man5/, $(notdir $(wildcard man/*.5))) $(addprefix share/man/man8/, $(notdir $(wildcard man/*.8)))
 COMPLETIONS = $(addprefix share/bash-completion/completions/, $(PROGRAMS))

@@ -45,7 +45,7 @@ impl Client for Upsc {
         if matches.get_flag("L") {
             return Given::Descriptions { server };
         }
-        // A UPS is there: the parser demands one.
+        // The parser demands a UPS.
         let ups = server.unwrap_or("");
         if matches.get_flag("c") {
             return Given::Clients { ups };
@@ -68,7 +68,7 @@ fn described<'a>(alloc: Global) -> Result<Command<'a>, AllocError>
     ensures { Takes (program_with (codes "upsc") []) result }
 {
     Command::new(alloc, PROGRAM)
-        .about("Prints what a UPS server tells of a UPS (RFC 9271)")
+        .about("Shows what a UPS server knows about a UPS (RFC 9271)")
         .version(VERSION)
         .after_help("Example: upsc su@localhost ups.status")
         .bin_name(PROGRAM)
@@ -82,7 +82,7 @@ fn names(alloc: Global) -> Result<Arg<'static>, AllocError>
     Arg::new(alloc, "l")
         .short('l')
         .action(ArgAction::SetTrue)
-        .help("Lists the names of the server's UPSs")
+        .help("List the names of the server's UPSs")
         .conflicts_with_all(&["L", "c", "attached", "tracked", "VAR"])
 }
 
@@ -94,7 +94,7 @@ fn descriptions(alloc: Global) -> Result<Arg<'static>, AllocError>
     Arg::new(alloc, "L")
         .short('L')
         .action(ArgAction::SetTrue)
-        .help("Lists the names of the server's UPSs with their descriptions")
+        .help("List the server's UPSs with their descriptions")
         .conflicts_with_all(&["c", "attached", "tracked", "VAR"])
 }
 
@@ -105,7 +105,7 @@ fn clients(alloc: Global) -> Result<Arg<'static>, AllocError>
     Arg::new(alloc, "c")
         .short('c')
         .action(ArgAction::SetTrue)
-        .help("Lists the clients that are logged in to the UPS")
+        .help("List the clients that are logged in to the UPS")
         .conflicts_with_all(&["attached", "tracked", "VAR"])
 }
 
@@ -116,7 +116,7 @@ fn attached(alloc: Global) -> Result<Arg<'static>, AllocError>
     Arg::new(alloc, "attached")
         .long("attached")
         .action(ArgAction::SetTrue)
-        .help("Prints how many clients are logged in to the UPS")
+        .help("Print the number of clients that are logged in to the UPS")
         .conflicts_with_all(&["tracked", "VAR"])
 }
 
@@ -127,7 +127,7 @@ fn tracked(alloc: Global) -> Result<Arg<'static>, AllocError>
     Arg::new(alloc, "tracked")
         .long("tracked")
         .value_name("ID")
-        .help("Prints how far the order of this id has come")
+        .help("Print how the order with this id ended, or PENDING")
         .conflicts_with("VAR")
 }
 
@@ -137,7 +137,7 @@ fn target(alloc: Global) -> Result<Arg<'static>, AllocError>
 {
     Arg::new(alloc, "UPS")
         .value_name("UPS|HOST")
-        .help("The UPS, as ups[@host[:port]]; with -l and -L the server, as host[:port]")
+        .help("The UPS, as ups[@host[:port]]; with -l or -L the server, as host[:port]")
         .required_unless_present_any(&["l", "L"])
 }
 
@@ -145,5 +145,5 @@ fn variable(alloc: Global) -> Arg<'static>
     ensures word { rule_of result ≡ new_rule (codes "VAR") }
     ensures local { result.global ≡ false }
 {
-    Arg::new(alloc, "VAR").help("Prints the value of this variable alone")
+    Arg::new(alloc, "VAR").help("Print only the value of this variable")
 }

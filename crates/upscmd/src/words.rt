@@ -59,7 +59,7 @@ fn described<'a>(alloc: Global) -> Result<Command<'a>, AllocError>
     ensures { Takes (program_with (codes "upscmd") []) result }
 {
     Command::new(alloc, PROGRAM)
-        .about("Lists the commands of a UPS, or does one (RFC 9271)")
+        .about("Lists the commands of a UPS, or sends one (RFC 9271)")
         .version(VERSION)
         .after_help("Example: upscmd -u admin -p change-me su@localhost test.battery.start")
         .bin_name(PROGRAM)
@@ -73,7 +73,7 @@ fn list(alloc: Global) -> Result<Arg<'static>, AllocError>
     Arg::new(alloc, "l")
         .short('l')
         .action(ArgAction::SetTrue)
-        .help("Lists the commands of the UPS")
+        .help("List the commands of the UPS")
         .conflicts_with_all(&["u", "p", "track", "CMD", "VALUE"])
 }
 
@@ -106,7 +106,7 @@ fn track(alloc: Global) -> Arg<'static>
     Arg::new(alloc, "track")
         .long("track")
         .action(ArgAction::SetTrue)
-        .help("Prints the order's id in place of OK")
+        .help("Have the server track the order, and print its id instead of OK")
 }
 
 fn target(alloc: Global) -> Arg<'static>
@@ -123,7 +123,7 @@ fn name(alloc: Global) -> Result<Arg<'static>, AllocError>
     ensures demanded { StandsUnless (codes "l" ∷ []) result }
 {
     Arg::new(alloc, "CMD")
-        .help("The command to be done")
+        .help("The command to send")
         .required_unless_present("l")
 }
 

@@ -1,4 +1,4 @@
-//! upsd: a UPS server that shares what the drivers of UPSs tell with clients over the network (RFC 9271).
+//! upsd: a server that publishes the state of UPSs, as their drivers report it, on the network (RFC 9271).
 #![tactic(auto)]
 
 ghost use Rattle.std.specs.Prelude.{◌≡◌, ◌≢◌, ◌⊎◌, [], Err, IfErr, IfOk, None, codes, false, map, string_bytes};
@@ -73,9 +73,9 @@ fn matches_of(alloc: Global, words: &[String]) -> Result<ArgMatches<'_>, Error>
     upsd.try_get_matches_from(words)
 }
 
-/// What stands below the options of `serve`.
-const BEHIND_SERVE: &str = "\
-A line of a file that is refused is told as PATH:LINE: cause N:
+/// The text below the options of `serve`.
+const SERVE_NOTES: &str = "\
+A refused line of a file is reported as PATH:LINE: cause N:
   1 malformed line, 2 setting outside of a section, 3 bad name, 4 duplicate,
   5 unknown key, 6 bad value
 
@@ -87,15 +87,15 @@ fn serve_command<'a>(alloc: Global) -> Result<Command<'a>, AllocError>
 {
     // Each word is made where it is added, so that a refusal drops nothing else.
     Command::new(alloc, "serve")
-        .about("Serves clients over the network what the UPSs' drivers tell")
-        .after_help(BEHIND_SERVE)
+        .about("Serves the state of UPSs to clients on the network")
+        .after_help(SERVE_NOTES)
         .arg(file(
             alloc,
             "ups",
-            "The file of the UPSs, upsd.ups(5), not NUT's ups.conf",
+            "The list of UPSs, upsd.ups(5); not NUT's ups.conf",
         )
         .required(true))?
-        .arg(file(alloc, "users", "The file of the users").required(true))?
+        .arg(file(alloc, "users", "The users and their rights, upsd.users(5)").required(true))?
         .arg(vars(alloc))?
         .arg(ids(alloc))?
         .arg(listen(alloc))?
@@ -107,10 +107,18 @@ fn replay_command<'a>(alloc: Global) -> Result<Command<'a>, AllocError>
     ensures { IfOk result (λ c. app_of c ≡ record { top = replay_shape; subs = [] }) }
 {
     Command::new(alloc, "replay")
-        .about("Replays a script of events, and prints what was sent")
+        .about("Replays a script of events and prints what the server sent")
         .after_help("Example: upsd replay data/first.txt")
-        .arg(file(alloc, "ups", "The file of the UPSs [without it: su alone]"))?
-        .arg(file(alloc, "users", "The file of the users [without it: none]"))?
+        .arg(file(
+            alloc,
+            "ups",
+            "The list of UPSs, upsd.ups(5) [without it: only su]",
+        ))?
+        .arg(file(
+            alloc,
+            "users",
+            "The users and their rights, upsd.users(5) [without it: none]",
+        ))?
         .arg(vars(alloc))?
         .arg(script(alloc))
 }
@@ -123,7 +131,7 @@ fn vars<'a>(alloc: Global) -> Arg<'a>
     file(
         alloc,
         "vars",
-        "The file of the descriptions [without it: none]",
+        "Descriptions of variables and commands, upsd.vars(5) [without it: none]",
     )
 }
 
@@ -135,7 +143,7 @@ fn ids<'a>(alloc: Global) -> Arg<'a>
     file(
         alloc,
         "ids",
-        "The file whose bytes make the ids of tracked orders [without it: none]",
+        "Source of the ids of tracked orders, such as /dev/urandom [without it: no ids]",
     )
 }
 
@@ -160,7 +168,7 @@ fn max_age<'a>(alloc: Global) -> Arg<'a>
         .long("maxage")
         .value_name("N")
         .value_parser(ValueParser::unsigned(MAX_AGE_LEAST as u64, MAX_AGE_MOST as u64))
-        .help("After how many seconds without a line of its driver a UPS is stale [without it: 15]")
+        .help("Seconds without a line from its driver until a UPS is stale [without it: 15]")
 }
 
 /// The word that names the script.
@@ -170,7 +178,7 @@ fn script<'a>(alloc: Global) -> Arg<'a>
 {
     Arg::new(alloc, "SCRIPT")
         .required(true)
-        .help("The script's file")
+        .help("The script of events")
 }
 
 /// The word that names a file.

@@ -56,7 +56,7 @@ fn described<'a>(alloc: Global) -> Result<Command<'a>, AllocError>
     ensures { Takes (program_with (codes "upsrw") []) result }
 {
     Command::new(alloc, PROGRAM)
-        .about("Prints the variables of a UPS that may be set, or sets one (RFC 9271)")
+        .about("Shows the variables of a UPS that can be set, or sets one (RFC 9271)")
         .version(VERSION)
         .after_help("Example: upsrw -s ups.delay=30 -u admin -p change-me su@localhost")
         .bin_name(PROGRAM)
@@ -69,7 +69,7 @@ fn setting(alloc: Global) -> Result<Arg<'static>, AllocError>
     Arg::new(alloc, "s")
         .short('s')
         .value_name("VAR=VALUE")
-        .help("Sets the variable to the value")
+        .help("Set the variable to the value")
         .requires_all(&["u", "p"])
 }
 
@@ -102,7 +102,7 @@ fn track(alloc: Global) -> Result<Arg<'static>, AllocError>
     Arg::new(alloc, "track")
         .long("track")
         .action(ArgAction::SetTrue)
-        .help("Prints the order's id in place of OK, for -s")
+        .help("Have the server track the order, and print its id instead of OK, for -s")
         .requires_arg("s")
 }
 

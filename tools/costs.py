@@ -1,0 +1,290 @@
+#!/usr/bin/env python3
+"""What a request costs this server and NUT's: the tables of docs/COSTS.md and their chart, from docs/costs.tsv.
+
+    tools/costs.py            writes the tables and the chart of the measurements that stand
+    tools/costs.py --check    says whether they are those of the measurements
+    tools/costs.py --measure  measures first, and writes the measurements: about ten minutes on a machine that does nothing else
+
+Measuring needs the built upsd and crates/netbench (`rt run` in each), NUT's upsd (Debian's nut-server) and valgrind. Speed is the
+median of rounds in which the servers take turns.
+"""
+import contextlib
+import math
+import os
+import pathlib
+import random
+import re
+import signal
+import socket
+import statistics
+import subprocess
+import sys
+import tempfile
+import threading
+import time
+
+TOP = pathlib.Path(__file__).resolve().parent.parent
+PAGE, TABLE, CHART = TOP / "docs/COSTS.md", TOP / "docs/costs.tsv", TOP / "docs/costs.svg"
+UPSD, NETBENCH = TOP / "crates/upsd/out/upsd", TOP / "crates/netbench/out/netbench"
+# Debian's /usr/sbin/upsd asks nut.conf whether it may start.
+NUT = "/lib/nut/upsd"
+ROUNDS, SEED = 3, 20261127
+SIZES = {"small": (100, 10), "large": (4096, 256)}
+CALLGRIND = ["valgrind", "--tool=callgrind", "--callgrind-out-file=/dev/null"]
+
+
+class Driver(threading.Thread):
+    """A driver of so many variables: it reports them in a shuffled order, and answers PING."""
+
+    def __init__(self, path, count, width):
+        super().__init__(daemon=True)
+        names = random.Random(SEED).sample(range(count), count)
+        self.reports = [b"".join(b'SETINFO v%04d "%s"\n' % (name, byte * width) for name in names) for byte in (b"x", b"y")]
+        self.count, self.server = count, None
+        self.listener = socket.socket(socket.AF_UNIX)
+        self.listener.bind(path)
+        self.listener.listen(1)
+
+    def run(self):
+        self.server = self.listener.accept()[0]
+        # NUT's server answers before all is reported, by the status WAIT. So the status comes last, and is waited for.
+        self.server.sendall(self.reports[0] + b'SETINFO ups.status "OL"\nDUMPDONE\nDATAOK\n')
+        with contextlib.suppress(ConnectionError):
+            while said := self.server.recv(1024):
+                if b"PING" in said:
+                    self.server.sendall(b"PONG\n")
+
+    def report(self, times):
+        """Reports all variables so many times, each time with another value."""
+        for number in range(times):
+            self.server.sendall(self.reports[(number + 1) % 2])
+
+
+class Server:
+    """Ours or NUT's, over drivers of these names and sizes, in a folder of its own."""
+
+    def __init__(self, kind, sizes, valgrind=()):
+        self.room = tempfile.TemporaryDirectory()
+        folder = self.room.name
+        self.drivers = {name: Driver(f"{folder}/dummy-ups-{name}", *size) for name, size in sizes.items()}
+        for driver in self.drivers.values():
+            driver.start()
+        with socket.create_server(("127.0.0.1", 0)) as free:
+            self.port = free.getsockname()[1]
+        sections = "".join(
+            f"[{name}]\n" + (f"socket = {folder}/dummy-ups-{name}\n" if kind == "ours" else "driver = dummy-ups\nport = x\n")
+            for name in sizes)  # fmt: skip
+        for file, text in (("ups.conf", sections), ("upsd.users", ""), ("upsd.conf", f"LISTEN 127.0.0.1 {self.port}\nMAXAGE 3600\nMAXCONN 128\n")):
+            pathlib.Path(folder, file).write_text(text, encoding="utf-8")
+        command = [UPSD, "serve", "--ups", f"{folder}/ups.conf", "--users", f"{folder}/upsd.users",
+                   "--listen", f"127.0.0.1:{self.port}", "--maxage", "3600"]  # fmt: skip
+        if kind == "nut":
+            command = [NUT, "-F", "-u", "root"]
+        os.chmod(folder, 0o700)
+        self.process = subprocess.Popen(
+            [*valgrind, *command], env={**os.environ, "NUT_CONFPATH": folder, "NUT_STATEPATH": folder, "NUT_ALTPIDPATH": folder},
+            stdout=subprocess.DEVNULL, stderr=subprocess.PIPE)  # fmt: skip
+        for name in sizes:
+            self.until(f"GET VAR {name} ups.status\n", f'VAR {name} ups.status "OL"')
+
+    def connect(self):
+        return socket.create_connection(("127.0.0.1", self.port))
+
+    def until(self, line, answer):
+        """Asks until the answer begins so."""
+        while self.process.poll() is None:
+            try:
+                with self.connect() as client:
+                    client.sendall(line.encode())
+                    if client.recv(4096).decode().startswith(answer):
+                        return
+            except OSError:
+                pass
+            time.sleep(0.05)
+        raise RuntimeError(self.process.communicate()[1].decode(errors="replace"))
+
+    def memory(self):
+        """KiB that are resident."""
+        return int(re.search(r"VmRSS:\s+(\d+)", pathlib.Path(f"/proc/{self.process.pid}/status").read_text())[1])
+
+    def end(self):
+        self.process.send_signal(signal.SIGTERM)
+        told = self.process.communicate()[1].decode(errors="replace")
+        self.room.cleanup()
+        counted = re.search(r"Collected : (\d+)", told)
+        return int(counted[1]) if counted else None
+
+
+def ask(clients, line, end, times):
+    """Each sends the line, and then each takes its answer, so many times."""
+    for _ in range(times):
+        for client in clients:
+            client.sendall(line)
+        for client in clients:
+            answer = b""
+            while not answer.endswith(end):
+                answer += client.recv(65536)
+
+
+def instructions(kind, connections, line, end, less, more, things):
+    """Of one thing more that is asked for: the difference of two runs."""
+    counts = []
+    for times in (less, more):
+        server = Server(kind, {"small": (4096, 10)}, CALLGRIND)
+        clients = [server.connect() for _ in range(connections)]
+        ask(clients, line, end, times)
+        counts.append(server.end())
+    return (counts[1] - counts[0]) // things
+
+
+def instructions_of_report(kind):
+    counts = []
+    for times in (2, 4):
+        server = Server(kind, {"small": (4096, 10)}, CALLGRIND)
+        server.drivers["small"].report(times - 1)
+        server.drivers["small"].server.sendall(b'SETINFO last.one "1"\n')
+        server.until("GET VAR small last.one\n", "VAR ")
+        counts.append(server.end())
+    return (counts[1] - counts[0]) // (2 * 4096)
+
+
+def memory(kind):
+    server = Server(kind, SIZES)
+    idle = server.memory()
+    slow = [server.connect() for _ in range(60)]
+    for client in slow:
+        client.sendall(b"LIST VAR large\n" * 8)
+    time.sleep(2)
+    paused = server.memory()
+    for client in slow:
+        client.close()
+    server.end()
+    return {"no client": idle, "60 clients that stop within a listing": paused}
+
+
+def bench(port, ups):
+    """What netbench prints up to its first listings. NUT's server hangs in what comes later: clients that don't read."""
+    said = ""
+    with subprocess.Popen([NETBENCH, f"127.0.0.1:{port}", ups], stdout=subprocess.PIPE, text=True) as process:
+        while "fresh connections:" not in said:
+            said += process.stdout.readline()
+        process.kill()
+    return said
+
+
+def speed(kind):
+    """One round: what netbench prints, and how many lines of a driver are taken."""
+    server = Server(kind, SIZES)
+    found = {}
+    for name, (count, width) in SIZES.items():
+        said = bench(server.port, name)
+        if name == "small":
+            for connections, depth in ((1, 1), (64, 1), (1, 512), (64, 32)):
+                rate = re.search(rf"GET VAR +{connections} connections, +{depth} at once: +(\d+)", said)[1]
+                at_once = f", {depth} requests at once" if depth > 1 else ""
+                found[f"GET VAR, {connections} connection{'s' * (connections > 1)}{at_once}"] = int(rate)
+        rate = re.search(r"fresh connections: +(\d+)", said)[1]
+        found[f"LIST VAR of {count:,} values of {width} bytes"] = int(rate)
+    driver, start = server.drivers["small"], time.monotonic()
+    driver.report(500)
+    driver.server.sendall(b'SETINFO last.one "1"\n')
+    server.until("GET VAR small last.one\n", "VAR ")
+    found["lines of a driver, 100 variables"] = int(500 * driver.count / (time.monotonic() - start))
+    server.end()
+    return found
+
+
+def machine():
+    cpu = re.search(r"model name\s*: (.*)", pathlib.Path("/proc/cpuinfo").read_text())[1]
+    nut = subprocess.run([NUT, "-V"], capture_output=True, text=True).stdout.split("\n")[0].split()[-1]
+    commit = subprocess.run(["git", "rev-parse", "--short", "HEAD"], cwd=TOP, capture_output=True, text=True).stdout.strip()
+    return f"{os.cpu_count()} processors, {cpu}; Linux {os.uname().release}; NUT's upsd {nut}; upsd of {commit}"
+
+
+def measure():
+    rows = []
+    rounds = {"ours": [], "nut": []}
+    for number in range(ROUNDS):
+        for kind in rounds:
+            rounds[kind].append(speed(kind))
+            print(f"round {number + 1} of {ROUNDS}, {kind}: {rounds[kind][-1]}")
+    for what in rounds["ours"][0]:
+        ours, nut = (int(statistics.median(found[what] for found in rounds[kind])) for kind in rounds)
+        rows.append(("speed", what, ours, nut))
+    get, got = b"GET VAR small v2048\n", b'"\n'
+    for what, words in (
+        ("GET VAR, 1 connection", (1, get, got, 64, 704, 640)),
+        ("GET VAR, 64 connections", (64, get, got, 2, 12, 640)),
+        ("an item of LIST VAR", (1, b"LIST VAR small\n", b"END LIST VAR small\n", 1, 3, 2 * 4097)),
+    ):
+        rows.append(("instructions", what, *(instructions(kind, *words) for kind in rounds)))
+    rows.append(("instructions", "a line of a driver", *(instructions_of_report(kind) for kind in rounds)))
+    ours, nut = memory("ours"), memory("nut")
+    rows += [("memory", what, ours[what], nut[what]) for what in ours]
+    lines = [f"# {machine()}", "group\twhat\tours\tNUT's", *("\t".join(map(str, row)) for row in rows)]
+    TABLE.write_text("\n".join(lines) + "\n", encoding="utf-8")
+
+
+def measured():
+    """The machine, and the rows."""
+    head, _, *lines = TABLE.read_text(encoding="utf-8").splitlines()
+    rows = [line.split("\t") for line in lines]
+    return head[2:], [(group, what, int(ours), int(nut)) for group, what, ours, nut in rows]
+
+
+UNITS = {"speed": "a second", "instructions": "instructions", "memory": "KiB"}
+
+
+def better(group, ours, nut):
+    """How many times better ours is."""
+    return ours / nut if group == "speed" else nut / ours
+
+
+def page(text, head, rows):
+    for group, unit in UNITS.items():
+        table = [f"{unit} | ours | NUT's | better by", "---|---:|---:|---:"]
+        table += [f"{what} | {ours:,} | {nut:,} | {better(group, ours, nut):.2f}" for kind, what, ours, nut in rows if kind == group]
+        text = re.sub(rf"(<!-- {group} -->\n).*?(\n<!-- end -->)", lambda m: m[1] + "\n".join(table) + m[2], text, flags=re.S)
+    return re.sub(r"(<!-- machine -->\n).*?(\n<!-- end -->)", lambda m: m[1] + head + "." + m[2], text, flags=re.S)
+
+
+def chart(rows):
+    """Bars on a scale of doublings: to the right ours is better, to the left NUT's."""
+    left, middle, step, width = 320, 420, 90, 900
+    height = 70 + 26 * len(rows)
+    at = lambda times: middle + step * max(-1, min(4.4, math.log2(times)))
+    out = [f'<svg xmlns="http://www.w3.org/2000/svg" viewBox="0 0 {width} {height}" width="{width}" height="{height}" role="img" aria-labelledby="title">',
+           '<title id="title">How many times better than NUT\'s upsd this one is</title>',
+           '<style>text { font-family: "DejaVu Sans", Verdana, sans-serif; font-size: 12px; fill: #1f2328; }</style>',
+           f'<rect width="{width}" height="{height}" rx="10" fill="#f6f8fa" stroke="#d0d7de"/>']  # fmt: skip
+    for power in range(-1, 5):
+        x, name = middle + step * power, f"{2**power}" if power >= 0 else "1/2"
+        out.append(f'<path d="M{x} 36 L{x} {height - 24}" stroke="{"#1f2328" if power == 0 else "#d0d7de"}"/>')
+        out.append(f'<text x="{x}" y="28" text-anchor="middle">{name}</text>')
+    for number, (group, what, ours, nut) in enumerate(rows):
+        times, y = better(group, ours, nut), 44 + 26 * number
+        first, last = sorted((middle, at(times)))
+        color = {"speed": "#0a53a8", "instructions": "#9a3412", "memory": "#3f6f21"}[group]
+        out.append(f'<text x="{left}" y="{y + 13}" text-anchor="end">{what}</text>')
+        out.append(f'<rect x="{first:.1f}" y="{y}" width="{max(last - first, 1.5):.1f}" height="18" fill="{color}"/>')
+        out.append(f'<text x="{max(last, middle) + 6:.1f}" y="{y + 13}">{times:.2f}</text>')
+    x = left
+    for name, color in (("speed", "#0a53a8"), ("instructions", "#9a3412"), ("memory", "#3f6f21")):
+        out.append(f'<rect x="{x}" y="{height - 20}" width="12" height="12" fill="{color}"/><text x="{x + 18}" y="{height - 10}">{name}</text>')
+        x += 130
+    return "\n".join(out) + "\n</svg>\n"
+
+
+def main(words):
+    if words == ["--measure"]:
+        measure()
+    head, rows = measured()
+    made = {PAGE: page(PAGE.read_text(encoding="utf-8"), head, rows), CHART: chart(rows)}
+    if words == ["--check"]:
+        wrong = [str(path) for path, text in made.items() if path.read_text(encoding="utf-8") != text]
+        sys.exit(f"not those of {TABLE}: {', '.join(wrong)}" if wrong else 0)
+    for path, text in made.items():
+        path.write_text(text, encoding="utf-8")
+
+
+main(sys.argv[1:])
