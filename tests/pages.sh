@@ -1,6 +1,7 @@
 #!/usr/bin/env bash
 # The manual pages: each message of the programs' sources is in the page of its program, and no other; each word after ERR is one
-# that a server answers; and what formats the pages finds nothing amiss, where it is there.
+# that a server answers; and what formats the pages finds nothing amiss, where it is there. What docs/ takes from the sources is what
+# they say, and what a page names is there.
 set -euo pipefail
 cd "$(dirname "${BASH_SOURCE[0]}")/.."
 failed=0
@@ -47,5 +48,7 @@ for formatter in 'groff -man -ww -z' 'mandoc -Tlint'; do
     # shellcheck disable=SC2086 # the words of a command
     alike "$formatter" '' "$($formatter man/* 2>&1)"
 done
+tools/proved --check || failed=1
+python3 tests/names.py || failed=1
 ((failed == 0)) && echo 'pages: ok'
 exit "$failed"

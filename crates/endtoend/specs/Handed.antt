@@ -1,4 +1,4 @@
--- A program over a session that is handed what the server answers.
+-- What a client program does when it receives the server's answers.
 use Rattle.std.specs.Prelude.{◌≡◌, ◌≢◌, ◌≤◌, ◌<◌, ◌^◌, ℕ, List, [], ◌++◌, false, length, Option}
 use Rattle.std.specs.Prelude.{Some, Result, Ok, Err}
 use Rattle.std.specs.Io.KnownBytes.{Appends}

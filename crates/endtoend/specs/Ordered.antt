@@ -1,4 +1,4 @@
--- From the screen to the driver: an order whose OK a client printed was given.
+-- From the screen to the driver: an order whose `OK` is printed was given.
 use Rattle.std.specs.Prelude.{◌≡◌, ◌==◌, ℕ, List, [], ◌∷◌, ◌++◌, Option, Some, codes, IsTrue}
 use Rattle.std.specs.Prelude.{IfSome, None, if◌then◌else◌}
 use Rattle.nutwords.specs.Frame.{line_of}

@@ -1,5 +1,4 @@
--- From the screen to the driver, over a run: an order whose OK a client printed stands among what
--- the run told the driver, and so does one whose id it printed, with that id.
+-- The same over a run, of orders with and without an id.
 use Rattle.std.specs.Prelude.{◌≡◌, ℕ, List, [], ◌∷◌, ◌++◌, Option, Some, None, IsTrue, IfSome}
 use Rattle.nutwords.specs.Reading.{is_name, is_ups_name, is_value}
 use Rattle.nutanswer.specs.Orders.{set_line, instcmd_line}

@@ -1,4 +1,4 @@
--- `upsc` over a run of the server: the bytes that it is handed are those that its client took.
+-- `upsc` over a run of the server.
 use Rattle.std.specs.Prelude.{◌≡◌, ℕ, false, List, [], codes, nat_eq, IsTrue}
 use Rattle.std.specs.List.{starts_with}
 use Rattle.nutwords.specs.Reading.{is_name, is_ups_name}

@@ -1,4 +1,4 @@
--- What a client prints of what the server answers to it.
+-- What a client prints of the server's answer.
 use Rattle.std.specs.Prelude.{◌≡◌, ◌≤◌, ℕ, Bool, List, [], ◌∷◌, ◌++◌, Some, codes, filter}
 use Rattle.std.specs.Prelude.{length, IsTrue}
 use Rattle.std.specs.Fmt.{decimal}

@@ -1,4 +1,4 @@
--- What a client makes of a server's refusal, and of an order's OK.
+-- What a client does when the server refuses, or answers `OK`.
 use Rattle.std.specs.Prelude.{◌≡◌, ℕ, Bool, true, false, List, [], ◌∷◌, ◌++◌, codes}
 use Rattle.nutwords.specs.Frame.{line_of}
 use Rattle.nutanswer.specs.ErrWord.{error_line, spelling_of}

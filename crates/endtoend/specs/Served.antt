@@ -1,4 +1,4 @@
--- A client's request at the server: its line, and what of the server it is about.
+-- A client's request, as the server reads it.
 use Rattle.std.specs.Prelude.{◌≡◌, ℕ, List, Some}
 use Rattle.nutwords.specs.Text.{with_lf}
 use Rattle.nutdriver.specs.Sound.{IsSoundTree}

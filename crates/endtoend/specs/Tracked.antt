@@ -1,5 +1,4 @@
--- Tracked orders at both ends: an order whose id a client printed was given with that id, and what
--- `upsc --tracked` prints of it.
+-- Tracked orders from the screen to the driver, and what `upsc --tracked` prints.
 use Rattle.std.specs.Prelude.{◌≡◌, ◌==◌, ◌<◌, ◌^◌, ℕ, List, [], ◌∷◌, ◌++◌, Option, Some, None}
 use Rattle.std.specs.Prelude.{IsTrue, IfSome, if◌then◌else◌}
 use Rattle.nutwords.specs.Frame.{line_of}

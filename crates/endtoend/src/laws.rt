@@ -15,67 +15,60 @@ use nutcore::laws::{
     what_is_counted_is_who_is_there, whatever_is_told_is_fresh,
 };
 
-/// What is written as a listing is read as the reply of its items, in their order, whatever stands after it.
+/// A client reads the text of a listing of up to 65,536 items as these items, in order, whatever
+/// follows it.
 #[tactic(auto, using(crate::proofs::FrameReading::frame_read))]
 pub fn a_frame_is_read_as_its_items()
     ensures { AFrameIsReadAsItsItems }
 {}
 
-/// `upsc UPS`: of every server, and every UPS of it that is usable, what is printed of the server's answer to `LIST VAR`
-/// is exactly one line `name: value` for each variable that the UPS holds, in the order of the names, with the value as
-/// clients see it.
+/// `upsc UPS` prints exactly one line `name: value` for each variable of a usable UPS, by rising
+/// names.
 pub fn upsc_prints_the_variables()
     ensures { UpscPrintsTheVariables }
 {
     a_listing_is_what_is_held();
 }
 
-/// `upsc UPS VAR`: what is printed of the server's answer to `GET VAR` is the variable's value, as clients see it.
+/// `upsc UPS VAR` prints the value of a usable UPS's variable, as clients see it.
 #[tactic(auto, using(crate::proofs::Printing::prints_variable))]
 pub fn upsc_prints_the_variable()
     ensures { UpscPrintsTheVariable }
 {}
 
-/// `upsc --attached UPS`: what is printed of the server's answer to `GET NUMATTACH` is the number of the sessions that are
-/// logged in to the UPS.
+/// `upsc --attached UPS` prints how many sessions are logged in to the UPS.
 pub fn upsc_prints_how_many_are_logged_in()
     ensures { UpscPrintsHowManyAreLoggedIn }
 {
     what_is_counted_is_who_is_there();
 }
 
-/// `upsc -l` and `upsc -L`: what is printed of the server's answer to `LIST UPS` is exactly one line for each UPS of its
-/// list, in the order of the names.
+/// `upsc -l` and `upsc -L` print exactly one line for each UPS of the server, by rising names.
 pub fn upsc_prints_the_upses()
     ensures { UpscPrintsTheUpses }
 {}
 
-/// `upsrw UPS`: what is printed of the server's answer to `LIST RW` is exactly one line `name=value` for each variable of
-/// the UPS that may be set, in the order of the names.
+/// `upsrw UPS` prints exactly one line `name=value` for each variable that clients may set.
 #[tactic(auto, using(crate::proofs::Printing::prints_settings))]
 pub fn upsrw_prints_the_variables()
     ensures { UpsrwPrintsTheVariables }
 {}
 
-/// `upscmd -l UPS`: what is printed of the server's answer to `LIST CMD` is exactly one line for each command of the UPS,
-/// in the order of the names.
+/// `upscmd -l UPS` prints exactly one line for each command of the UPS.
 #[tactic(auto, using(crate::proofs::Printing::prints_commands))]
 pub fn upscmd_prints_the_commands()
     ensures { UpscmdPrintsTheCommands }
 {}
 
-/// `upsc --tracked ID UPS`: what is printed of the server's answer to `GET TRACKING` and an id is how far the order of that id
-/// has come, where the order is kept: `PENDING`, `SUCCESS`, or `FAILED` and the driver's number. Where none that is kept has
-/// the id, nothing is printed, and the job ends with `INVALID-ARGUMENT`.
+/// `upsc --tracked ID UPS` prints `PENDING`, `SUCCESS`, or `FAILED` and the driver's number. For an
+/// unknown id it prints nothing and ends with `INVALID-ARGUMENT`.
 #[tactic(auto, using(crate::proofs::Progress::prints_progress))]
 pub fn upsc_prints_how_far_an_order_has_come()
     ensures { UpscPrintsHowFarAnOrderHasCome }
 {}
 
-/// From the driver to the screen. Over every run from a new server: where `upsc UPS VAR` was answered, not by `ERR`, the UPS
-/// was fresh then, and where the last of its driver's lines since it connected that decides the variable gave it a value, that
-/// value is what is printed, as clients see it. What `upsc UPS` prints is a line for each variable that the UPS holds, and the
-/// last of these lines decides each.
+/// From the driver to the screen: in every run from a new server, `upsc` prints what the driver's
+/// last accepted line on a variable set, only while it is fresh.
 pub fn upsc_prints_what_the_driver_set_last()
     ensures variable { UpscPrintsWhatTheDriverSetLast }
     ensures variables { UpscPrintsAllThatTheDriverSetLast }
@@ -86,26 +79,22 @@ pub fn upsc_prints_what_the_driver_set_last()
     upsc_prints_the_variables();
 }
 
-/// A refusal is told: where the server answers a request of a job by `ERR` and a word, whichever of `upsc`, `upsrw` and
-/// `upscmd` asks, nothing is printed, and the job ends with that word; where it answers a user name, a password,
-/// `SET TRACKING ON` or an order without an id by `OK`, the next request decides.
+/// If the server answers a request by `ERR` and a word, the client prints nothing and ends with
+/// that word.
 #[tactic(auto, using(crate::proofs::Refused::refusal_told))]
 pub fn a_refusal_is_told()
     ensures { ARefusalIsTold }
 {}
 
-/// From the screen to the driver: where `upsrw -s` or `upscmd` prints a text of what the server answers to its order, that
-/// is `OK`, the server answered `OK`, and the line that it executed told the driver of that UPS the order, once, and no other
-/// driver anything. `what_a_driver_was_sent_and_is_owed` of nutcore says what becomes of what a driver was told.
+/// If `upsrw -s` or `upscmd` prints `OK`, the server gave the order to the driver of that UPS,
+/// once, and nothing to any other driver.
 pub fn an_order_that_is_printed_is_given()
     ensures { AnOrderThatIsPrintedIsGiven }
 {
     each_order_answered_ok_is_given();
 }
 
-/// The same over a run, of any clients and drivers, that executed the line of the order: the order stands among those that the
-/// run told the driver of that UPS, of which `what_a_driver_was_sent_and_is_owed` says that they were sent, in their order,
-/// or are still owed, while the driver isn't lost.
+/// In a run that executed its line, that order is among those given to that driver.
 pub fn an_order_that_is_printed_is_told_in_the_run()
     ensures { AnOrderThatIsPrintedIsToldInTheRun }
 {
@@ -113,19 +102,15 @@ pub fn an_order_that_is_printed_is_told_in_the_run()
     an_order_that_is_printed_is_given();
 }
 
-/// A tracked order too: where `upsrw --track -s` or `upscmd --track` prints a text of what the server answers to its order,
-/// that is an id, the server answered `OK TRACKING` and that id, the first at hand, and the line that it executed told the
-/// driver of that UPS the order with the id behind it, once, and no other driver anything; and the order is kept, pending,
-/// with that id.
+/// If `upsrw --track -s` or `upscmd --track` prints an id, the server gave the order with that id
+/// to that driver, once, and keeps it as pending.
 pub fn a_tracked_order_that_is_printed_is_given()
     ensures { ATrackedOrderThatIsPrintedIsGiven }
 {
     each_order_answered_ok_is_given();
 }
 
-/// The same over a run: the order with its id stands among those that the run told the driver of that UPS. Where the run
-/// began with a new server, `each_run_tracks_its_orders` of nutcore says that the id stands for this one order, and what is
-/// told of it later.
+/// In a run that executed its line, that order and its id are among those given to that driver.
 pub fn a_tracked_order_that_is_printed_is_told_in_the_run()
     ensures { ATrackedOrderThatIsPrintedIsToldInTheRun }
 {
@@ -133,9 +118,8 @@ pub fn a_tracked_order_that_is_printed_is_told_in_the_run()
     a_tracked_order_that_is_printed_is_given();
 }
 
-/// Over a run, of any clients and drivers, from a new server: where the server took in of a client the line of
-/// `upsc UPS VAR` or `upsc UPS`, and the client took all that it was owed, which doesn't begin with `ERR`, then what it took is
-/// the server's reply, of which the law above tells what is printed.
+/// In a run of any clients and drivers, what the client of `upsc` took is a reply that is printed
+/// so.
 pub fn upsc_prints_what_it_took()
     ensures { UpscPrintsWhatItTook }
 {

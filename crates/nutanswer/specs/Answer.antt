@@ -1,5 +1,4 @@
--- What is answered to a command (RFC 9271): one row a command, its checks from left to right, here
--- from above, and then the answer and what it changes.
+-- The table of answers (RFC 9271): a command's checks, its answer and its change.
 use Rattle.std.specs.Prelude.{◌≡◌, ℕ, Bool, true, false, List, [], ◌∷◌, codes, Option, Some}
 use Rattle.std.specs.Prelude.{Result, Ok, Err}
 use Rattle.std.specs.Fmt.{decimal}

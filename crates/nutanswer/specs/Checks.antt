@@ -1,5 +1,5 @@
--- The checks of a command, each named for the word of the error that is answered where it fails. A
--- row of the table is a `do` block of them: what stands below a check that fails isn't looked at.
+-- The checks of commands, each named for the error word that it answers. A row of the table is a
+-- `do` block of them: what stands below a check that fails isn't looked at.
 use Rattle.std.specs.Prelude.{ℕ, Bool, ◌&&◌, nat_le, length, is_none, List, Option, Some, None}
 use Rattle.std.specs.Prelude.{Result, Ok, Err, slice_get, if◌then◌else◌}
 use Rattle.std.specs.Option.{ok_or, option_map, option_and_then}

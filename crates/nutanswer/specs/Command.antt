@@ -1,5 +1,4 @@
--- Reading a line of a client (RFC 9271): the first refusal that fits, from the line's words to its
--- command and the command's words.
+-- How a client's line is read as a command (RFC 9271), or which error word refuses it.
 use Rattle.std.specs.Prelude.{ℕ, Bool, true, false, List, [], ◌∷◌, Option, Some, None, Result, Ok}
 use Rattle.std.specs.Prelude.{Err, codes, if◌then◌else◌, ◌||◌}
 use Rattle.std.specs.Result.{result_ok}

@@ -1,4 +1,4 @@
--- What is told of a UPS's data is fresh.
+-- Data are answered, and orders accepted, only while they are fresh.
 use Rattle.std.specs.Prelude.{◌≡◌, ◌≤◌, ◌-◌, ℕ, true, List, Option, Some, None, Ok}
 use Rattle.nutanswer.specs.declared.command.Command.{Command}
 use Rattle.nutanswer.specs.declared.command.Command.TheVariants.{SetVar, InstCmd, GetVar, GetType}

@@ -1,4 +1,4 @@
--- What is read from a line is lawful.
+-- The names and values that are read from a line are lawful.
 use Rattle.std.specs.Prelude.{◌≡◌, ℕ, List, Option, Some, None, Result, Ok, Err, IsTrue}
 use Rattle.nutwords.specs.Reading.{is_name, is_ups_name, is_value}
 use Rattle.nutanswer.specs.declared.command.Command.{Command}

@@ -1,4 +1,4 @@
--- What holds of every row of the table.
+-- What holds of every row of the table of answers.
 use Rattle.std.specs.Prelude.{◌≡◌, ◌≤◌, ℕ, Bool, true, false, List, [], ◌∷◌, codes, length}
 use Rattle.std.specs.Prelude.{slice_get, Option, Some, Result, Ok, Err, All, IsTrue, IfSome}
 use Rattle.std.specs.Str.{bytes_eq}

@@ -1,5 +1,4 @@
--- Orders to drivers (RFC 9271: SET, INSTCMD): which values a variable may be set to, and the line
--- that tells the driver.
+-- Orders to drivers (RFC 9271: SET, INSTCMD): allowed values, and the order's line.
 use Rattle.std.specs.Prelude.{ℕ, ℤ, ◌==◌, ◌&&◌, ◌||◌, Bool, false, not, nat_le, int_le, List, []}
 use Rattle.std.specs.Prelude.{◌∷◌, ◌++◌, codes, length, Option, Some, None, if◌then◌else◌}
 use Rattle.std.specs.List.{list_any}

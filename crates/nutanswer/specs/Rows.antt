@@ -1,5 +1,4 @@
--- What each change comes of: its command, the checks that held, and its answer (RFC 9271;
--- upsd.users(5)).
+-- Each change, with the command, the checks and the answer that it comes with.
 use Rattle.std.specs.Prelude.{◌≡◌, ◌≤◌, ℕ, true, false, List, [], ◌∷◌, codes, length, Option, Some}
 use Rattle.std.specs.Prelude.{None, ◌⊎◌}
 use Rattle.nutwords.specs.Frame.{line_of}

@@ -1,4 +1,4 @@
--- What an answer may look at of a server, and of the session that asks.
+-- The part of a server, and of the asking session, that an answer may look at.
 use Rattle.std.specs.Prelude.{ℕ, ◌-◌, ◌==◌, Bool, false, not, ◌||◌, nat_lt, count_by, map, filter}
 use Rattle.std.specs.Prelude.{List, Option, if◌then◌else◌}
 use Rattle.std.specs.Option.{option_copied, option_map_or}

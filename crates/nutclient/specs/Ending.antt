@@ -1,4 +1,4 @@
--- How a program ends: with which status, and what it tells on standard error.
+-- With which status a program ends, and what it prints on standard error.
 use Rattle.std.specs.Prelude.{◌≡◌, ℕ, List, [], ◌∷◌, ◌++◌, Option, Result, Ok, Err, codes}
 use Rattle.nutrequest.specs.Fault.{status_of, fault_text}
 use Rattle.nutio.specs.Writing.{SendGives}

@@ -1,5 +1,4 @@
--- What a program's words ask for: the server, the requests, and how the items of the last reply are
--- printed.
+-- The server, the requests and the output that a program's words ask for.
 use Rattle.std.specs.Prelude.{ℕ, Bool, true, false, List, [], ◌∷◌, ◌++◌, ◌==◌, ◌&&◌, nat_le}
 use Rattle.std.specs.Prelude.{length, Option, Some, None, option_map, if◌then◌else◌}
 use Rattle.std.specs.List.{before_first, after_first}

@@ -1,4 +1,4 @@
--- Requests in turn, each sent once the one before is granted.
+-- Requests one after another, each sent after the one before is granted.
 use Rattle.std.specs.Prelude.{◌≡◌, ℕ, List, [], ◌∷◌, ◌++◌, Option, Result, Ok, Err}
 use Rattle.std.specs.Io.KnownBytes.{IsAtEnd}
 use Rattle.nutio.specs.Ends.{Received, ReadFailed, Written, WriteFailed, IsBeginning}

@@ -1,4 +1,4 @@
--- With which status a program ends, by its words.
+-- With which status a program ends, by its command line.
 use Rattle.std.specs.Prelude.{◌≡◌, ◌≢◌, ◌≤◌, ℕ, None}
 use Rattle.clap.specs.Words.{kind_of}
 use Rattle.clap.specs.declared.error.Error.{Error}

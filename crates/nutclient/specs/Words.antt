@@ -1,4 +1,4 @@
--- The words of a program, as the parser takes them, and what is found in them.
+-- The words of a command line, as the parser takes them.
 use Rattle.std.specs.Prelude.{◌≡◌, ℕ, List, [], ◌∷◌, Bool, true, false, Option, Some, None}
 use Rattle.std.specs.Prelude.{Result, Ok, Err, IfOk, codes, map, option_map, unwrap_or}
 use Rattle.std.specs.declared.alloc.AllocError.{AllocError}

@@ -3,8 +3,8 @@ ghost use Rattle.std.specs.Prelude.{◌≡◌};
 ghost use Rattle.nutclient.specs.declared.limits.TheConstants.{HOST_LIMIT, USER_LIMIT, PASSWORD_LIMIT, PORT_LIMIT, DEFAULT_PORT, WAIT_SECONDS, WORD_FAULT};
 ghost use Rattle.nutclient.specs.Words.{ExcludingBinds, NeedingBinds, StandingUnlessBinds};
 
-/// The limits of the words, the port of the protocol, how long a server is waited for, and the status of a fault of the
-/// words.
+/// The most bytes of a host, a user name and a password, the ports, the seconds of a wait, and the
+/// status of a bad word.
 pub fn numbers()
     ensures host { HOST_LIMIT ≡ 255 }
     ensures user { USER_LIMIT ≡ 64 }
@@ -15,7 +15,8 @@ pub fn numbers()
     ensures words { WORD_FAULT ≡ 2 }
 {}
 
-/// A word that excludes others, needs them or has to be there unless they are is read by the same rule else.
+/// A word of the command line that excludes, needs or replaces others is otherwise read by the same
+/// rule.
 pub fn bound_words_keep_their_rules()
     ensures excluding { ExcludingBinds }
     ensures needing { NeedingBinds }

@@ -1,5 +1,4 @@
--- What every run keeps: lawful addresses, which listings of clients need beside a sound server, and
--- the list of UPSs.
+-- Addresses of sessions stay lawful, and the list of UPSs never changes.
 use Rattle.std.specs.Prelude.{◌≡◌, ℕ, List, Option, Some, None, All, IfSome, IsTrue}
 use Rattle.nutwords.specs.Reading.{is_address}
 use Rattle.nutusers.specs.UpsList.{Ups}

@@ -1,4 +1,4 @@
--- A client that asks one line, in a run of any others.
+-- A client that sends one line, among any other clients.
 use Rattle.std.specs.Prelude.{◌≡◌, ℕ, false, List, [], ◌∷◌, None}
 use Rattle.nutwords.specs.SplitLine.{has_lf}
 use Rattle.nutcore.specs.declared.event.Event.{Event}

@@ -1,4 +1,4 @@
--- The answers of a run can be told apart: what a client took is cut into them in one way.
+-- A client can split its stream into answers in one way.
 use Rattle.std.specs.Prelude.{◌≡◌, ℕ, not, List, ◌++◌, All, map, filter}
 use Rattle.std.specs.List.{concat}
 use Rattle.nutwords.specs.Answers.{IsAnswer}

@@ -1,4 +1,4 @@
--- How much one event makes a server do for its clients, however much the server holds and lists.
+-- How much one event makes the server do for its clients.
 use Rattle.std.specs.Prelude.{◌≤◌, ◌+◌, ℕ, length}
 use Rattle.nutlisting.specs.declared.ring.TheConstants.{RING_LIMIT}
 use Rattle.nutcore.specs.declared.TheConstants.{HELD_LIMIT}

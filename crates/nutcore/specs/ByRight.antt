@@ -1,5 +1,4 @@
--- Who may do what: a forced shutdown and a login come of a line whose session has the right
--- (upsd.users(5)).
+-- Forced shutdowns and logins come of lines with the right to them (upsd.users(5)).
 use Rattle.std.specs.Prelude.{◌≡◌, ℕ, Bool, false, true, List, [], ◌∷◌, ◌++◌, Option, Some, Ok}
 use Rattle.std.specs.Prelude.{codes, length, map}
 use Rattle.std.specs.List.{filter}

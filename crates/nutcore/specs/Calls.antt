@@ -1,4 +1,4 @@
--- What the calls of a server answer, as outcomes.
+-- The results of the server's calls, as outcomes of events.
 use Rattle.std.specs.Prelude.{◌≡◌, ℕ, Bool, List, Result, Ok, Err, Option, Some, None, ◌-◌, ◌&&◌}
 use Rattle.std.specs.Prelude.{◌==◌, if◌then◌else◌, length, take}
 use Rattle.nutcore.specs.declared.TheConstants.{HELD_LIMIT}

@@ -1,5 +1,4 @@
--- What each event costs: the lines of answers that it renders, and the bytes that it places where
--- they are offered to a client.
+-- What an event costs: the lines it renders and the bytes it places.
 use Rattle.std.specs.Prelude.{◌≡◌, ℕ, ◌+◌, ◌-◌, List, [], ◌∷◌, length, drop}
 use Rattle.nutlisting.specs.Counts.{lines}
 use Rattle.nutcore.specs.declared.cost.Cost.{Cost}

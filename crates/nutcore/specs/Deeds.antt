@@ -1,5 +1,4 @@
--- What an event did that is told beside its answers, for whoever keeps a journal: which lines are
--- told, and what is told of each. No value and no password is.
+-- What the journal may note of an event, without values and passwords. No value and no password is.
 use Rattle.std.specs.Prelude.{◌≡◌, ℕ, Bool, true, false, not, List, Option, Some, None}
 use Rattle.std.specs.Prelude.{Result, Ok, codes, drop, nat_eq, slice_get, take, if◌then◌else◌}
 use Rattle.std.specs.List.{starts_with, filter_map}

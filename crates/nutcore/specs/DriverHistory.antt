@@ -1,4 +1,4 @@
--- What a driver reported in a run, from the events alone: the other half of the headline.
+-- Which lines of a driver a run executed, and what they made of its report.
 use Rattle.std.specs.Prelude.{◌≡◌, ◌≤◌, ◌+◌, ℕ, Bool, true, false, List, [], ◌∷◌, ◌++◌, Option}
 use Rattle.std.specs.Prelude.{Some, None, ◌==◌, ◌&&◌, if◌then◌else◌, length, take, min}
 use Rattle.std.specs.List.{flat_map}

@@ -1,5 +1,4 @@
--- What drivers are told in a run, and what was sent of it, told from the lists: the drivers' half
--- of the headline.
+-- What a run gave to a driver to send, and what was sent of it.
 use Rattle.std.specs.Prelude.{◌≡◌, ◌<◌, ℕ, Bool, true, false, List, [], ◌∷◌, ◌++◌, codes, ◌==◌}
 use Rattle.std.specs.Prelude.{◌&&◌, not, if◌then◌else◌, length, take, max}
 use Rattle.std.specs.List.{flat_map}

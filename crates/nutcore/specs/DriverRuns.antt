@@ -1,5 +1,4 @@
--- Drivers in whole runs, from a new server on: since one connected, up to its loss, and how many of
--- its lines were refused.
+-- Drivers over whole runs: since they connected, up to their loss, and their refused lines.
 use Rattle.std.specs.Prelude.{◌≡◌, ◌⊎◌, ◌<◌, ◌≤◌, ◌+◌, ℕ, true, false, List, [], ◌∷◌, ◌++◌, Some}
 use Rattle.std.specs.Prelude.{Ok, Err, length, min}
 use Rattle.std.specs.Option.{option_map_or}

@@ -1,5 +1,4 @@
--- What is over stays over: clients that end or were closed, ids, and a forced shutdown that was
--- granted; and what ticks and newcomers leave as it is.
+-- Clients that are over stay over, ids rise, granted shutdowns are set.
 use Rattle.std.specs.Prelude.{◌≡◌, ◌<◌, ◌≤◌, ◌+◌, ℕ, true, false, List, [], ◌∷◌, ◌++◌}
 use Rattle.std.specs.List.{flat_map}
 use Rattle.nutusers.specs.declared.ups_list.UpsId.{UpsId}

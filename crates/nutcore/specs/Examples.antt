@@ -1,4 +1,4 @@
--- Sessions worked out by hand, to be computed from the definitions.
+-- Sessions worked out by hand, which the definitions compute.
 use Rattle.std.specs.Prelude.{◌≡◌, ◌+◌, ℕ, List, [], ◌∷◌, ◌++◌, Some, None, true, false, codes}
 use Rattle.std.specs.Prelude.{replicate, length, drop}
 use Rattle.nutcore.specs.declared.event.Event.{Event}

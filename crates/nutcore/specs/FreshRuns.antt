@@ -1,4 +1,4 @@
--- What is told of a UPS's data is fresh, over every run from a new server.
+-- Over every run from a new server, data are answered only while they are fresh.
 use Rattle.std.specs.Prelude.{◌≡◌, ◌≤◌, ◌+◌, ℕ, true, false, List, [], ◌∷◌, ◌++◌, Option, Some}
 use Rattle.std.specs.Prelude.{Ok, All, codes, max, nat_eq}
 use Rattle.std.specs.List.{starts_with}

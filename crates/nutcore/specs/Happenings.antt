@@ -1,5 +1,4 @@
--- Nobody's answers depend on how slowly others read, or on the pieces in which their lines come:
--- only on which lines are executed, and when.
+-- Answers depend only on which lines are executed, and when.
 use Rattle.std.specs.Prelude.{◌≡◌, ℕ, true, List, [], ◌∷◌, ◌++◌, Option, map}
 use Rattle.nutanswer.specs.Command.{read_command}
 use Rattle.nutcore.specs.declared.event.Event.{Event}

@@ -1,4 +1,4 @@
--- The laws of every run.
+-- The laws of every run: what was sent and is owed is the answers.
 use Rattle.std.specs.Prelude.{◌≡◌, ◌⊎◌, ℕ, ◌<◌, ◌≤◌, length, true, false, List, [], ◌∷◌, ◌++◌, All}
 use Rattle.std.specs.Prelude.{Some, Ok, is_some, codes, map, nat_eq}
 use Rattle.std.specs.List.{starts_with}

@@ -1,4 +1,5 @@
--- What a run did, told from the lists of events and outcomes. The server stores none of it.
+-- Which lines a run executed, and what it read from and sent to each client. The server stores none
+-- of it.
 use Rattle.std.specs.Prelude.{ℕ, zero, suc, Bool, false, List, [], ◌∷◌, ◌++◌, Option, Some, None}
 use Rattle.std.specs.Prelude.{◌==◌, nat_lt, if◌then◌else◌, length, take}
 use Rattle.std.specs.List.{filter, flat_map}

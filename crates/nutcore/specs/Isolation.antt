@@ -1,4 +1,4 @@
--- What an event doesn't touch.
+-- What an event leaves unchanged.
 use Rattle.std.specs.Prelude.{◌≡◌, ◌≢◌, ◌⊎◌, ℕ, Bool, true, false, List, [], ◌∷◌, Option, Some}
 use Rattle.std.specs.Prelude.{None, map}
 use Rattle.nuttracking.specs.declared.order.Progress.TheVariants.{Pending}

@@ -1,4 +1,4 @@
--- The limits.
+-- The numbers of the limits.
 use Rattle.std.specs.Prelude.{◌≡◌}
 use Rattle.nutcore.specs.declared.TheConstants.{HELD_LIMIT, DRIVER_OWED_LIMIT}
 use Rattle.nutlisting.specs.declared.outbox.TheConstants.{OWED_LIMIT}

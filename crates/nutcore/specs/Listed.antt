@@ -1,4 +1,4 @@
--- What a sound server lists: each once, in the stated order (RFC 9271: LIST).
+-- A listing has each item once, in order (RFC 9271: LIST).
 use Rattle.std.specs.Prelude.{◌≡◌, ◌↔◌, ℕ, true, List, [], ◌∷◌, Option, Some, None, Ok, codes, map}
 use Rattle.std.specs.List.{Contains, filter}
 use Rattle.std.specs.List.Sorted.{IsStrictlySortedBy}

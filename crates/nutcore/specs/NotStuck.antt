@@ -1,5 +1,4 @@
--- Nobody is stuck: who is owed little has room for input, and who ends is finished once its bytes
--- are taken.
+-- A client that is owed little has room for input, and an ending one is finished.
 use Rattle.std.specs.Prelude.{◌≡◌, ◌<◌, ◌≤◌, ℕ, true, false, List, [], ◌∷◌, Some, None, length}
 use Rattle.nutlisting.specs.declared.outbox.TheConstants.{OWED_LIMIT}
 use Rattle.nutcore.specs.declared.TheConstants.{HELD_LIMIT}

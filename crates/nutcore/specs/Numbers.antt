@@ -1,4 +1,4 @@
--- The numbers of refusals.
+-- The numbers of refused events.
 use Rattle.std.specs.Prelude.{ℕ}
 use Rattle.nutcore.specs.declared.event.Fault.{Fault}
 use Rattle.nutcore.specs.declared.event.Fault.TheVariants.{NoSuchUps, NoSuchClient, TooManyClients}

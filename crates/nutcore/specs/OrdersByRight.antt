@@ -1,4 +1,4 @@
--- No order without right (RFC 9271: SET, INSTCMD; upsd.users(5)).
+-- No order is given without right (RFC 9271: SET, INSTCMD; upsd.users(5)).
 use Rattle.std.specs.Prelude.{◌≡◌, ℕ, true, List, [], ◌∷◌, ◌++◌, Option, Some, ◌⊎◌}
 use Rattle.std.specs.List.{flat_map}
 use Rattle.nutdriver.specs.Variable.{VariableState}

@@ -1,4 +1,4 @@
--- What a sound server lists is read back, by the grammar of lines (RFC 9271: LIST).
+-- A listing reads back, by the grammar of lines (RFC 9271: LIST).
 use Rattle.std.specs.Prelude.{◌≡◌, ℕ, List, [], ◌∷◌, Option, Some, Ok, codes, map, filter}
 use Rattle.std.specs.Prelude.{All, IsTrue}
 use Rattle.nutwords.specs.Reading.{is_address}

@@ -1,4 +1,4 @@
--- What is answered to a line (RFC 9271), on the server as it is when the line is executed.
+-- The reply to a line (RFC 9271) on the server of that moment, and its changes.
 use Rattle.std.specs.Prelude.{ℕ, false, List, [], Option, Some, None, Result, Ok, Err, map}
 use Rattle.nutanswer.specs.declared.command.Command.{Command}
 use Rattle.nutanswer.specs.declared.err_word.ErrWord.{ErrWord}

@@ -1,4 +1,4 @@
--- What drivers report of how orders ended.
+-- What a driver's report on an order does to the kept orders.
 use Rattle.std.specs.Prelude.{ℕ, Bool, false, not, List, [], ◌∷◌, Option, Some, None}
 use Rattle.nuttracking.specs.Tracking.{TrackingState, is_awaited, with_report}
 use Rattle.nutdriver.specs.Report.{OrderEnd, end_in}

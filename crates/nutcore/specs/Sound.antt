@@ -1,4 +1,4 @@
--- Sound servers: what every server is that events have made of a new one.
+-- What holds of every server that events made of a new one.
 use Rattle.std.specs.Prelude.{◌≡◌, ◌≤◌, ℕ, true, false, List, [], ◌∷◌, None, length}
 use Rattle.nutwords.specs.declared.limits.TheConstants.{LINE_LIMIT}
 use Rattle.nuttracking.specs.Sound.{IsSoundTracking, HaveLawfulNumbers}

@@ -1,4 +1,4 @@
--- What is told of a server beside the answers to its clients.
+-- What the journal and the loop may ask of the server.
 use Rattle.std.specs.Prelude.{ℕ, Bool, true, false, not, List, Option, ◌==◌, length}
 use Rattle.std.specs.Option.{option_copied, option_map_or}
 use Rattle.nutusers.specs.declared.ups_list.UpsId.{UpsId}

@@ -1,4 +1,4 @@
--- What each event does, and what may be answered to it.
+-- What each event does, and which outcome it has.
 use Rattle.std.specs.Prelude.{◌≡◌, ℕ, ◌+◌, ◌-◌, ◌^◌, Bool, false, List, [], ◌∷◌, ◌++◌, Option, Some}
 use Rattle.std.specs.Prelude.{None, nat_lt, nat_le, ◌&&◌, if◌then◌else◌, length, take, drop, min}
 use Rattle.std.specs.Prelude.{max, map, fold, slice_get, not, ◌⊎◌, IsTrue}

@@ -1,4 +1,4 @@
--- A client that takes what it is offered, again and again, gets everything.
+-- A client that takes all that it is offered gets everything.
 use Rattle.std.specs.Prelude.{◌≡◌, ◌≤◌, ◌+◌, ◌/◌, ◌==◌, ℕ, Bool, true, false, List, [], ◌∷◌}
 use Rattle.std.specs.Prelude.{Some, length}
 use Rattle.std.specs.List.{filter}

@@ -1,4 +1,4 @@
--- A client that takes some bytes at a time gets everything, whatever others do between.
+-- So does a client that takes only some bytes at a time.
 use Rattle.std.specs.Prelude.{◌≡◌, ◌≤◌, ◌+◌, ◌*◌, ℕ, true, List, [], ◌∷◌, Some, length, min}
 use Rattle.nutlisting.specs.declared.ring.TheConstants.{RING_LIMIT}
 use Rattle.nutcore.specs.declared.event.Event.{Event}

@@ -1,4 +1,4 @@
--- What a driver is told is a list of whole lines (NUT: driver socket protocol).
+-- A driver is sent only whole lines (NUT: driver socket protocol).
 use Rattle.std.specs.Prelude.{◌≡◌, ℕ, List, Option, Some, None, IsTrue}
 use Rattle.nutwords.specs.Reading.{is_name, is_value}
 use Rattle.nutwords.specs.SplitLine.{split_line}

@@ -1,4 +1,4 @@
--- The whole server in numbers: the sums of what its sessions and its UPSs have.
+-- The size of the whole server: sums over its sessions and UPSs.
 use Rattle.std.specs.Prelude.{◌≤◌, ◌+◌, ◌*◌, ℕ, Bool, Some, length, count_by}
 use Rattle.std.specs.Prelude.{nat_lt}
 use Rattle.std.specs.List.{sum_by}

@@ -1,5 +1,4 @@
--- Tracked orders over whole runs: what happens to the ids and the orders is told from the events
--- and the lines that they executed.
+-- Tracked orders over whole runs: their ids, and what is answered on them.
 use Rattle.std.specs.Prelude.{◌≡◌, ◌<◌, ℕ, List, [], ◌∷◌, ◌++◌, Option, Some, None, length, map}
 use Rattle.std.specs.List.{flat_map}
 use Rattle.circular_buffer.specs.Buffer.{keep_last}

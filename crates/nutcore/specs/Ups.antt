@@ -1,4 +1,4 @@
--- A UPS as the server keeps it: its driver's connection, and what the driver reported.
+-- A UPS: its driver's connection and report, and what each event leaves of them.
 use Rattle.std.specs.Prelude.{ℕ, ◌+◌, ◌-◌, ◌^◌, Bool, true, false, List, [], ◌∷◌, ◌++◌, Option}
 use Rattle.std.specs.Prelude.{Some, None, codes, length, min, nat_le, ◌&&◌, ◌/◌}
 use Rattle.std.specs.Prelude.{if◌then◌else◌}

@@ -1,4 +1,4 @@
--- A client that asks one line, and waits for its answer.
+-- A client that sends one line and waits for its answer.
 use Rattle.std.specs.Prelude.{◌≡◌, ◌<◌, ℕ, true, false, List, [], Some, None, length}
 use Rattle.nutwords.specs.SplitLine.{has_lf}
 use Rattle.nutwords.specs.declared.limits.TheConstants.{LINE_ROOM}

@@ -1,5 +1,4 @@
--- In the order of adding: the enum values and the ranges of a variable, told from its driver's
--- lines.
+-- The enum values and ranges of a variable, by its driver's lines.
 use Rattle.std.specs.Prelude.{◌≡◌, ℕ, Bool, false, ◌&&◌, List, [], ◌∷◌, ◌++◌, Option, Some, None}
 use Rattle.std.specs.Prelude.{Result, Ok, Err, if◌then◌else◌}
 use Rattle.std.specs.List.{list_any}

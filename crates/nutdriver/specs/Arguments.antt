@@ -1,5 +1,5 @@
--- What stands after the first word of a driver's line. Their number and the name, or the id, are
--- looked at before what follows it.
+-- What follows the first word of a driver's line. The number of words, and the name or the id, are
+-- looked at before what follows them.
 use Rattle.std.specs.Prelude.{ℕ, ℤ, List, [], ◌∷◌, Option, Some, None, Result, Ok, Err, int_le}
 use Rattle.std.specs.Prelude.{if◌then◌else◌}
 use Rattle.nuttracking.specs.Id.{read_id}

@@ -1,5 +1,4 @@
--- Reading a line of a driver (NUT's driver socket protocol, in the profile of docs/DRIVER.md): the
--- first refusal that fits, from the line's words to its flags.
+-- How a driver's line is read (docs/DRIVER.md), or which fault refuses it.
 use Rattle.std.specs.Prelude.{ℕ, List, [], ◌∷◌, Result, Ok, Err, codes, if◌then◌else◌}
 use Rattle.nutwords.specs.Scan.{read_line}
 use Rattle.nutwords.specs.declared.faults.BadLine.{BadLine}

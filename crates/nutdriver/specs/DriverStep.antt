@@ -1,5 +1,4 @@
--- What a line of a driver does to the tree of its UPS (the table of docs/DRIVER.md): one case a
--- line of the protocol.
+-- What a driver's line does to the tree of its UPS (the table of docs/DRIVER.md).
 use Rattle.std.specs.Prelude.{ℕ, Bool, true, false, nat_le, List, length, Option, Some, None}
 use Rattle.std.specs.Prelude.{Result, Ok, Err, if◌then◌else◌}
 use Rattle.nutdriver.specs.declared.limits.TheConstants.{VARIABLE_LIMIT, COMMAND_LIMIT}

@@ -1,4 +1,4 @@
--- The last line on a variable decides it: its value, told from its driver's lines.
+-- The last accepted line on a variable decides its value.
 use Rattle.std.specs.Prelude.{◌≡◌, ℕ, Bool, false, List, ◌∷◌, ◌++◌, Option, Some, None}
 use Rattle.std.specs.Prelude.{option_map}
 use Rattle.std.specs.List.{list_any}

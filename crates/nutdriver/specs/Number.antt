@@ -1,4 +1,4 @@
--- The numbers of the protocol, as they are written.
+-- How numbers are written in a driver's line.
 use Rattle.std.specs.Prelude.{ℕ, ℤ, pos, neg_ℤ, ◌==◌, List, [], ◌∷◌, Option, Some, None}
 use Rattle.std.specs.Prelude.{if◌then◌else◌}
 use Rattle.nutwords.specs.Natural.{read_natural}

@@ -1,5 +1,5 @@
--- What the private parts of a tree promise one another: what the definitions say, or out of memory
--- where there would be a change. A reader of the public contracts needs none of it.
+-- What the private parts of a tree promise one another. It is what the definitions say, or out of
+-- memory where there would be a change. A reader of the public contracts needs none of it.
 use Rattle.std.specs.Prelude.{◌≡◌, ◌≤◌, ℕ, Bool, true, false, Option, Some, None, Result, Ok, Err}
 use Rattle.std.specs.Prelude.{IfOk}
 use Rattle.nutmap.specs.Meter.{counted_up}

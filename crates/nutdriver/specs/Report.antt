@@ -1,4 +1,4 @@
--- What a driver has reported, and what a whole line of it does to that.
+-- What a driver has reported, and what each of its lines does to that.
 use Rattle.std.specs.Prelude.{◌≡◌, ◌≤◌, ⊤, ℕ, Bool, true, false, List, [], ◌∷◌, Option, Some, None}
 use Rattle.std.specs.Prelude.{Result, Ok, Err}
 use Rattle.nuttracking.specs.declared.limits.TheConstants.{DONE_LIMIT}

@@ -1,2 +1,2 @@
--- The words of the protocol, as nutwords spells them.
+-- The words of a driver's line, as nutwords spells them.
 pub use Rattle.nutwords.specs.Keyword.{is_word}

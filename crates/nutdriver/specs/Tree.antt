@@ -1,4 +1,4 @@
--- What a driver has reported of its UPS.
+-- The variables and commands of a UPS, as two finite maps.
 use Rattle.std.specs.Prelude.{ℕ, Bool, List, [], Option}
 use Rattle.std.specs.List.{list_any}
 use Rattle.std.specs.BTreeMap.{insert_entry, is_at}

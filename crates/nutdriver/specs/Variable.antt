@@ -1,5 +1,5 @@
--- A variable, and what a driver's lines do to it: `Ok None` where it stays as it is, else the
--- variable afterwards, or the refusal.
+-- A variable, and what a driver's lines do to it. `Ok None` means that it stays as it is. Else this
+-- is the variable afterwards, or the refusal.
 use Rattle.std.specs.Prelude.{ℕ, Bool, not, nat_le, ◌&&◌, List, [], ◌∷◌, ◌++◌, length, filter}
 use Rattle.std.specs.Prelude.{Option, Some, None, Result, Ok, Err, if◌then◌else◌}
 use Rattle.std.specs.List.{list_any}

@@ -1,4 +1,4 @@
--- What the ends of a connection do.
+-- What reads and writes do at the ends of a connection, and how failed ones are counted.
 use Rattle.std.specs.Prelude.{◌≡◌, ℕ, ◌+◌, ◌-◌, ◌^◌, ◌<◌, List, ◌++◌, length, min, Option, Result}
 use Rattle.std.specs.Prelude.{MatchResult, IfOk}
 use Rattle.std.specs.Io.KnownBytes.{Consumes, Appends}

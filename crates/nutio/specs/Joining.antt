@@ -1,4 +1,4 @@
--- What came or was written, and then more: what comes of both.
+-- Reads in a row are one read, writes in a row are one write.
 use Rattle.std.specs.Prelude.{ℕ, List, [], ◌++◌, Option}
 use Rattle.nutio.specs.Ends.{Received, ReadFailed, Written, WriteFailed}
 

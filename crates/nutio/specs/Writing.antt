@@ -1,4 +1,4 @@
--- What the writing of a text gives.
+-- What writing a whole text gives.
 use Rattle.std.specs.Prelude.{ℕ, List, Option, Result, Ok, Err}
 use Rattle.nutio.specs.Ends.{Written, WriteFailed}
 use Rattle.nutio.specs.declared.ends.Failed.{Failed}

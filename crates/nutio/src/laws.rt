@@ -3,14 +3,14 @@ ghost use Rattle.nutio.specs.Joining.{NothingIsReceived, ReceivedJoins, ReadFail
 
 use crate::{Sink, Source};
 
-/// What came, and then more, came together; and a read that fails then fails after all of it.
+/// Two reads in a row give the bytes of both. A failed read keeps what came before it.
 pub fn reads_are_joined<R: Source>()
     ensures nothing { NothingIsReceived R.remaining R.failures }
     ensures received { ReceivedJoins R.remaining R.failures }
     ensures failed { ReadFailedJoins R.remaining R.failures }
 {}
 
-/// What was written, and then more, was written together; and a write that fails then fails after all of it.
+/// Two writes in a row write the bytes of both. A failed write keeps what was written before it.
 pub fn writes_are_joined<W: Sink>()
     ensures nothing { NothingIsWritten W.contents W.failures }
     ensures written { WrittenJoins W.contents W.failures }

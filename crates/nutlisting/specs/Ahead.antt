@@ -1,4 +1,4 @@
--- Variables that are looked up ahead of a cursor.
+-- Variables that a walk looked up ahead of a cursor.
 use Rattle.std.specs.Prelude.{◌≡◌, ℕ, List, [], ◌∷◌, Option, None, Some, length, map, take}
 use Rattle.nutmap.specs.Entries.{entries_after}
 use Rattle.nutdriver.specs.Tree.{byte_order}

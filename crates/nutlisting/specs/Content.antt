@@ -1,4 +1,4 @@
--- What a listing holds, as the listing that it is.
+-- The listing that each kind of content makes.
 use Rattle.nutdriver.specs.Tree.{variable_at}
 use Rattle.nutlisting.specs.declared.listing.Content.{Content}
 use Rattle.nutlisting.specs.declared.listing.Content.TheVariants.{Upses, Variables, Rw, Commands}

@@ -1,4 +1,4 @@
--- How many lines are counted of what is offered to a client.
+-- How many lines are counted when bytes are placed in the ring.
 use Rattle.std.specs.Prelude.{◌≡◌, ◌≤◌, ◌-◌, ℕ, false, List, ◌++◌, Option, length, take, drop}
 use Rattle.nutlisting.specs.Counts.{is_open, lines, count_more}
 use Rattle.nutlisting.specs.Filled.{what_fits}

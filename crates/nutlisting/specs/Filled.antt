@@ -1,4 +1,4 @@
--- What a ring takes of a rest.
+-- What of a cursor's rest fits into the ring.
 use Rattle.std.specs.Prelude.{◌≡◌, ℕ, ◌-◌, List, ◌++◌, length, take, drop}
 use Rattle.nutlisting.specs.Counts.{lines, count_more}
 use Rattle.nutlisting.specs.declared.ring.TheConstants.{RING_LIMIT}

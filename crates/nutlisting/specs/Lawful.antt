@@ -1,4 +1,4 @@
--- Which texts have lawful bytes alone, and how many they have.
+-- Which texts have only lawful bytes, and how long they may be.
 use Rattle.std.specs.Prelude.{◌≡◌, ◌+◌, ◌*◌, ◌<◌, ◌≤◌, ◌^◌, ◌≤ℤ◌, neg_ℤ, pos, ℕ, ℤ, Bool, false}
 use Rattle.std.specs.Prelude.{List, [], ◌∷◌, Option, Some, length, All, IsTrue, IfSome}
 use Rattle.std.specs.Fmt.{decimal, signed_decimal}

@@ -1,4 +1,4 @@
--- A listing of lawful things is read back, by the grammar of lines (RFC 9271: LIST).
+-- A listing of lawful items reads back, by the grammar of lines (RFC 9271: LIST).
 use Rattle.std.specs.Prelude.{◌≡◌, ℕ, Bool, List, [], ◌∷◌, Some, codes, map, filter, All, IsTrue}
 use Rattle.std.specs.Fmt.{signed_decimal}
 use Rattle.nutwords.specs.Listing.{ReadsAsLines, listing_words}

@@ -1,4 +1,4 @@
--- What a cursor has still to place.
+-- What a cursor still has to place.
 use Rattle.std.specs.Prelude.{ℕ, List, drop}
 use Rattle.std.specs.List.{concat}
 use Rattle.nutlisting.specs.Items.{ListingState, lines_of}

@@ -1,4 +1,4 @@
--- What clients see of a variable and of a UPS.
+-- Values and descriptions, as clients see them.
 use Rattle.std.specs.Prelude.{ℕ, Bool, List, ◌++◌, ◌&&◌, Option, Some, None, codes, if◌then◌else◌}
 use Rattle.std.specs.Str.{bytes_eq}
 use Rattle.nutdriver.specs.Variable.{VariableState}

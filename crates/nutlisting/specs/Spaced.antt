@@ -1,4 +1,4 @@
--- The words of a line one after another.
+-- The words of a line, with blanks between them.
 use Rattle.std.specs.Prelude.{ℕ, List, [], ◌∷◌, ◌++◌}
 
 -- Words after others, with a blank before each.

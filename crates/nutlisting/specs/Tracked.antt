@@ -1,4 +1,4 @@
--- What is told of a tracked order.
+-- How far a tracked order has come, as clients see it.
 use Rattle.std.specs.Prelude.{◌≡◌, ◌==◌, ℕ, List, [], ◌∷◌, codes, length, IsTrue, if◌then◌else◌}
 use Rattle.std.specs.Fmt.{decimal}
 use Rattle.std.specs.List.{list_all}

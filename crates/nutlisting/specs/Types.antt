@@ -1,4 +1,4 @@
--- What a client is told of the values that a variable may have (RFC 9271: GET TYPE).
+-- The answer to GET TYPE (RFC 9271).
 use Rattle.std.specs.Prelude.{Bool, true, false, not, ℕ, List, [], ◌∷◌, ◌++◌, codes}
 use Rattle.std.specs.Fmt.{decimal}
 use Rattle.nutwords.specs.Natural.{is_empty}

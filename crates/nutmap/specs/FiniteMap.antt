@@ -1,4 +1,4 @@
--- What the entries of a map say as a finite map.
+-- A map's entries, read as a finite map.
 use Rattle.std.specs.Prelude.{◌≡◌, ◌≢◌, ⊤, List, Option, None, Some}
 use Rattle.std.specs.declared.cmp.Ordering.{Ordering}
 use Rattle.std.specs.declared.cmp.Ordering.TheVariants.{Less, Equal}

@@ -1,4 +1,4 @@
--- A script as one run of the server: the events of all its lines, in order, each with its outcome.
+-- The events of a script are one run of the server.
 use Rattle.std.specs.Prelude.{◌≡◌, ℕ, false, List, [], ◌∷◌, ◌++◌, map}
 use Rattle.std.specs.List.{flat_map}
 use Rattle.nutusers.specs.declared.ups_list.UpsId.{UpsId}

@@ -1,4 +1,4 @@
--- The replay script: what each of its lines means.
+-- What each line of a replay script means.
 use Rattle.std.specs.Prelude.{ℕ, ◌+◌, ◌-◌, ◌^◌, Bool, true, false, List, [], ◌∷◌, ◌++◌, Option}
 use Rattle.std.specs.Prelude.{Some, None, ◌==◌, if◌then◌else◌, length, take, drop, position, codes}
 use Rattle.std.specs.Option.{option_map, option_map_or}

@@ -1,4 +1,4 @@
--- Bytes as a list of lines, for definitions that go on from line to line.
+-- Some bytes as a list of lines.
 use Rattle.std.specs.Prelude.{ℕ, List, [], ◌∷◌, ◌++◌, ◌==◌, length, nat_le, if◌then◌else◌}
 use Rattle.nutwords.specs.declared.limits.TheConstants.{LINE_LIMIT}
 

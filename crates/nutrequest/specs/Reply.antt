@@ -1,4 +1,4 @@
--- A reply, as it is read from the bytes that come (RFC 9271).
+-- How a reply is read from the bytes that come (RFC 9271).
 use Rattle.std.specs.Prelude.{ℕ, Bool, true, false, List, [], ◌∷◌, ◌++◌, ◌&&◌, ◌||◌, ◌==◌, ◌+◌, ◌-◌}
 use Rattle.std.specs.Prelude.{◌*◌, nat_le}
 use Rattle.std.specs.Prelude.{nat_lt, length, Option, Some, None, option_and_then, option_map}

@@ -1,4 +1,4 @@
--- What a client asks for, and the line that it sends for it (RFC 9271).
+-- The requests of a client, and the line of each (RFC 9271).
 use Rattle.std.specs.Prelude.{ℕ, Bool, true, false, List, [], ◌∷◌, Option, Some, None, option_map}
 use Rattle.std.specs.Prelude.{option_to_list, codes}
 use Rattle.nutwords.specs.Frame.{line_of}

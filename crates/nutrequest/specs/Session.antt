@@ -1,5 +1,5 @@
--- What the calls of a session give. `remaining` and `failures` are the reader's, `contents` and
--- `write_failures` the writer's.
+-- What the calls of a client's session give. `remaining` and `failures` are the reader's,
+-- `contents` and `write_failures` the writer's.
 use Rattle.std.specs.Prelude.{◌≡◌, ⊤, ℕ, List, [], ◌++◌, ◌+◌, length, true, Option, Result, Ok, Err}
 use Rattle.std.specs.Io.KnownBytes.{IsAtEnd}
 use Rattle.nutio.specs.Ends.{Received, ReadFailed, Written, WriteFailed}

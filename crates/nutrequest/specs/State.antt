@@ -1,4 +1,4 @@
--- What is seen of a session.
+-- A client's session, as contracts see it.
 use Rattle.std.specs.Prelude.{ℕ, Bool, List}
 use Rattle.nutrequest.specs.Inbox.{unread}
 use Rattle.nutrequest.specs.declared.session.Session.{Session}

@@ -2,7 +2,7 @@
 ghost use Rattle.std.specs.Prelude.{◌≡◌};
 ghost use Rattle.nutrequest.specs.declared.limits.TheConstants.{ITEM_LIMIT, COUNT_LIMIT};
 
-/// The most items of a listing that a client reads.
+/// The most items of a listing that a client reads, and the greatest number of logged-in clients.
 pub fn limits()
     ensures items { ITEM_LIMIT ≡ 65536 }
     ensures count { COUNT_LIMIT ≡ 64 }

@@ -1,4 +1,4 @@
--- What is done with ids and orders, one thing after another.
+-- Ids and orders over time: what is taken in, given and reported.
 use Rattle.std.specs.Prelude.{ℕ, ◌==◌, ◌&&◌, List, [], ◌∷◌, ◌++◌, Option, Some, None}
 use Rattle.std.specs.Prelude.{is_some, if◌then◌else◌}
 use Rattle.nuttracking.specs.declared.order.Progress.{Progress}

@@ -1,5 +1,5 @@
--- The form of an id: a number of 128 bits as 32 hexadecimal digits in lower case, in groups of 8,
--- 4, 4, 4 and 12 with a hyphen between each two (RFC 9562, section 4).
+-- The written form of an id (RFC 9562, section 4). It is a number of 128 bits as 32 hexadecimal
+-- digits in lower case, in groups of 8, 4, 4, 4 and 12, with a hyphen between each two.
 use Rattle.std.specs.Prelude.{◌≡◌, ◌<◌, ◌^◌, ◌/◌, ◌%◌, ◌↔◌, ℕ, zero, suc, List, [], ◌∷◌, ◌++◌}
 use Rattle.std.specs.Prelude.{take, drop, slice_range, Option, Some, None, if◌then◌else◌}
 use Rattle.std.specs.Prelude.{◌==◌, ◌||◌, Bool, length, IsTrue}

@@ -1,4 +1,4 @@
--- What holds after whatever acts.
+-- What holds of ids and orders, whatever is done.
 use Rattle.std.specs.Prelude.{◌≡◌, ◌<◌, ◌≤◌, ⊤, ℕ, List, ◌++◌, Some, length, map}
 use Rattle.circular_buffer.specs.Buffer.{keep_last}
 use Rattle.nuttracking.specs.declared.limits.TheConstants.{ORDER_LIMIT, DONE_LIMIT}

@@ -1,4 +1,4 @@
--- What holds of every tracking that its operations have made.
+-- What holds of every state of ids and orders.
 use Rattle.std.specs.Prelude.{◌≤◌, ⊤, ℕ, ◌==◌, List, ◌++◌, length, map, All}
 use Rattle.std.specs.List.{count_by}
 use Rattle.nuttracking.specs.declared.limits.TheConstants.{ID_LIMIT, ORDER_LIMIT, DONE_LIMIT}

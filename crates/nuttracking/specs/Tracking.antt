@@ -1,4 +1,4 @@
--- The ids at hand and the orders that are kept, and what each operation does to them.
+-- The available ids and the kept orders, and what each call does to them.
 use Rattle.std.specs.Prelude.{ℕ, Bool, true, false, ◌==◌, ◌&&◌, ◌||◌, nat_le, List, [], ◌∷◌, ◌++◌}
 use Rattle.std.specs.Prelude.{Option, Some, None, is_some, length, map, drop, slice_get}
 use Rattle.std.specs.Prelude.{if◌then◌else◌}

@@ -1,5 +1,4 @@
--- The user name and the password that a client gives (RFC 9271: USERNAME, PASSWORD), as they are
--- read.
+-- How a user name and a password are read (RFC 9271: USERNAME, PASSWORD).
 use Rattle.std.specs.Prelude.{ℕ, List, Option, Some, None, if◌then◌else◌}
 use Rattle.nutusers.specs.Texts.{is_text_within}
 use Rattle.nutusers.specs.declared.limits.TheConstants.{USER_NAME_LIMIT, PASSWORD_LIMIT}

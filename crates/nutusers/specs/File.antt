@@ -1,5 +1,4 @@
--- A file as the list of its lines, and which of them is refused. The lines are those of the whole
--- text.
+-- A file as a list of lines, and which of them is refused. The lines are those of the whole text.
 use Rattle.std.specs.Prelude.{◌≡◌, ℕ, ◌+◌, Bool, true, List, [], ◌∷◌, ◌++◌, length, reverse, Option}
 use Rattle.std.specs.Prelude.{None, Some, if◌then◌else◌}
 use Rattle.nutusers.specs.declared.fault.Cause.{Cause}

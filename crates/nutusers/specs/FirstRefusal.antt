@@ -1,4 +1,4 @@
--- The refusal of a file, computed from its first line on.
+-- A file is refused at its first bad line.
 use Rattle.std.specs.Prelude.{◌≡◌, ◌≢◌, ℕ, ◌+◌, Bool, List, [], ◌∷◌, length, reverse, Option, None}
 use Rattle.std.specs.Prelude.{Some}
 use Rattle.nutusers.specs.File.{Format, AreAccepted, IsRefused}

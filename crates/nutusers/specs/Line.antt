@@ -1,4 +1,4 @@
--- A line of a file, of any of the three.
+-- The words of a line of a configuration file.
 use Rattle.std.specs.Prelude.{ℕ, List, length, nat_lt, Option, None, if◌then◌else◌}
 use Rattle.std.specs.Result.{result_ok}
 use Rattle.nutwords.specs.Scan.{read_line}

@@ -1,4 +1,4 @@
--- The line that the code has read.
+-- A line of a file, as the code has read it.
 use Rattle.nutwords.specs.Word.{bytes_of}
 use Rattle.nutusers.specs.ConfigLine.{ConfigLine, silent, malformed, section, setting, upsmon}
 use Rattle.nutusers.specs.declared.config_line.ConfigLine.{ConfigLine as Given}

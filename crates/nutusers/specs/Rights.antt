@@ -1,4 +1,4 @@
--- What the lines of a user's section let him do (upsd.users(5)).
+-- What a user may do, by the lines of his section (upsd.users(5)).
 use Rattle.std.specs.Prelude.{ℕ, Bool, true, false, List, codes, Option, None, Some, if◌then◌else◌}
 use Rattle.std.specs.Str.{bytes_eq}
 use Rattle.nutwords.specs.Reading.{is_name}

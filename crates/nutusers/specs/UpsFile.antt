@@ -1,4 +1,4 @@
--- The list of UPSs (ups.conf(5), of which upsd reads the names, the descriptions and the sockets).
+-- The file of UPSs: names, descriptions and sockets (ups.conf(5)).
 use Rattle.std.specs.Prelude.{ℕ, Bool, ◌&&◌, not, List, map, reverse, length, codes, nat_le}
 use Rattle.std.specs.Prelude.{is_some, All, IsPermutation, Option, None, Some, if◌then◌else◌}
 use Rattle.std.specs.Str.{bytes_eq, is_utf8}

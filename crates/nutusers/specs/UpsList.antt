@@ -1,4 +1,4 @@
--- The UPSs that the server knows, by their places.
+-- The list of UPSs, and the UPS that a name finds.
 use Rattle.std.specs.Prelude.{ℕ, ◌≤◌, List, find, position, length, Option, None, IfSome, IsTrue}
 use Rattle.std.specs.Prelude.{All}
 use Rattle.std.specs.List.Sorted.{IsStrictlySortedBy}

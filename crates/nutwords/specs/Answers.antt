@@ -1,5 +1,4 @@
--- How a text of answers is cut into them (RFC 9271): an answer is one line, or a listing, from its
--- line BEGIN to its line END.
+-- The shape of an answer (RFC 9271): one line, or one listing from its line BEGIN to its line END.
 use Rattle.std.specs.Prelude.{◌≡◌, ℕ, Bool, true, false, List, ◌++◌, All, codes, nat_eq}
 use Rattle.std.specs.List.{concat, starts_with}
 use Rattle.nutwords.specs.SplitLine.{has_lf}

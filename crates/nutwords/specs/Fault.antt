@@ -1,4 +1,4 @@
--- What is wrong with a line that doesn't read as words (this profile's own).
+-- What is wrong with a line that does not read (this profile's own).
 use Rattle.std.specs.Prelude.{◌≡◌, ℕ, ◌<◌, ◌+◌, List, [], ◌∷◌, ◌++◌, length, take, slice_index}
 use Rattle.std.specs.Prelude.{IsTrue}
 use Rattle.nutwords.specs.Bytes.{is_lawful, is_quotable, is_bare}

@@ -1,4 +1,4 @@
--- Where the next line lies, for a cutter that is lent a piece.
+-- Where the next line lies in a piece.
 use Rattle.std.specs.Prelude.{◌≡◌, ℕ, ◌<◌, ◌≤◌, ◌+◌, List, [], ◌∷◌, ◌++◌, length, take, drop, Some}
 use Rattle.std.specs.Prelude.{None}
 use Rattle.arrayvec.specs.ArrayVec.{ArrayVec}

@@ -1,5 +1,4 @@
--- The grammar of a line: words in quotes or bare, with blanks between them (RFC 9271; NUT's
--- parseconf without comments and assignments).
+-- The grammar of a line (RFC 9271): which words it reads as.
 use Rattle.std.specs.Prelude.{◌≡◌, ℕ, ◌<◌, Bool, List, [], ◌∷◌, ◌++◌, length, IsTrue}
 use Rattle.nutwords.specs.Bytes.{is_lawful, is_blank, is_quotable, is_bare}
 

@@ -1,4 +1,4 @@
--- A text as its lines, and a cutter that is handed the text in pieces.
+-- A text as its lines, however it is cut into pieces.
 use Rattle.std.specs.Prelude.{◌≡◌, ℕ, ◌<◌, ◌≤◌, ◌↔◌, List, [], ◌∷◌, ◌++◌, length, take, drop, Some}
 use Rattle.std.specs.Prelude.{None}
 use Rattle.std.specs.List.{concat, flat_map}

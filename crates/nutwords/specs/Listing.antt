@@ -1,4 +1,4 @@
--- What is written as a listing is read back.
+-- A listing reads back as the words that it was written from.
 use Rattle.std.specs.Prelude.{◌≡◌, ℕ, ◌<◌, ◌≤◌, List, [], ◌∷◌, ◌++◌, length, IsTrue, codes, map}
 use Rattle.std.specs.List.{list_all, concat, AllZip}
 use Rattle.nutwords.specs.Bytes.{is_lawful, is_bare}

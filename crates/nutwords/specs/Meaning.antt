@@ -1,4 +1,4 @@
--- That a line has one meaning: the words of the grammar, or a fault.
+-- A line has one meaning: words or a fault.
 use Rattle.std.specs.Prelude.{◌≡◌, ◌⊎◌, ◌↔◌, ℕ, List, Ok, Err}
 use Rattle.nutwords.specs.Grammar.{Reads}
 use Rattle.nutwords.specs.Fault.{IsFault}

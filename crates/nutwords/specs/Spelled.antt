@@ -1,4 +1,4 @@
--- The spelling of a word as it stands in a line, its quotes taken off where it has them.
+-- The spelling of a word as it stands in a line.
 use Rattle.std.specs.Prelude.{◌≡◌, ℕ, Bool, true, false, ◌==◌, List}
 use Rattle.std.specs.List.{list_any}
 use Rattle.nutwords.specs.Bytes.{is_quotable}

@@ -1,4 +1,4 @@
--- Texts that people write, as files and scripts: their lines, and which of them say nothing.
+-- A line with its LF, and the lines of files and scripts.
 use Rattle.std.specs.Prelude.{ℕ, Bool, true, not, find, ◌==◌, List, [], ◌∷◌, ◌++◌, Option}
 use Rattle.std.specs.Prelude.{if◌then◌else◌}
 use Rattle.std.specs.Option.{option_map_or}

@@ -1,4 +1,4 @@
--- The whole lines of some bytes, and what is after them, as functions of the bytes.
+-- All whole lines of some bytes, and the unfinished rest.
 use Rattle.std.specs.Prelude.{◌≡◌, ℕ, Bool, List, [], ◌∷◌, ◌++◌, ◌<◌, ◌==◌, Some, length, drop}
 use Rattle.std.specs.Prelude.{take_while, nat_le, nat_lt, if◌then◌else◌}
 use Rattle.std.specs.List.{flat_map}
