@@ -37,8 +37,7 @@ abbrev pub driver_may : ServerState → UpsId → Way → Driver → Bool
 driver_may s u Read x =
     option_map_or (λ socket. socket.readable || not (has_driver u s)) x.socket false
 driver_may s u Write x =
-    option_map_or
-    (λ socket. socket.writable && has_driver u s && not (length (owed_to_driver u s) == 0))
+    option_map_or (λ socket. socket.writable && not (length (owed_to_driver u s) == 0))
     x.socket false
 
 abbrev pub driver_at : ServerState → Way → List Driver → ℕ → Bool

@@ -38,12 +38,9 @@ impl Driver {
         let Some(socket) = &self.socket else {
             return false;
         };
-        let is_connected = server.driver_connected(u).unwrap_or(false);
         match way {
-            Way::Read => socket.readable || !is_connected,
-            Way::Write => {
-                socket.writable && is_connected && server.driver_offered(u).unwrap_or(0) != 0
-            }
+            Way::Read => socket.readable || !server.driver_connected(u).unwrap_or(false),
+            Way::Write => socket.writable && server.driver_offered(u).unwrap_or(0) != 0,
         }
     }
 
