@@ -16,9 +16,9 @@ pub of_next_pass : {R F : Type 0} (s : ServerState) (old mid new : MioSockets R 
     → AnswersReady s old answer new
 of_next_pass {R} {F} s old mid new next answer same over on is gives =
     let from_again : GivesTurn s mid (again mid.pass) (Some answer) new.pass =
-        subst (λ (p : Pass). GivesTurn s mid p (Some answer) new.pass) is gives in
+    subst (λ (p : Pass). GivesTurn s mid p (Some answer) new.pass) is gives in
     let turn : GivesTurn s old (again mid.pass) (Some answer) new.pass =
-        subst (λ (m : MioSockets R F). GivesTurn s m (again mid.pass) (Some answer) new.pass) same from_again in
+    subst (λ (m : MioSockets R F). GivesTurn s m (again mid.pass) (Some answer) new.pass) same from_again in
     inl (turn.0, turn.1, inr (mid.pass, over, on, turn.2))
 
 -- What the first visit after a look gives.
@@ -28,13 +28,13 @@ pub after_look : {R F : Type 0} (s : ServerState) (looked new : MioSockets R F) 
     → GivesAfterLook s new ready new.pass
 after_look {R} {F} s looked new (Some turn) ready is same gives told =
     let at_fresh : GivesTurn s looked fresh (Some turn) new.pass =
-        subst (λ (p : Pass). GivesTurn s looked p (Some turn) new.pass) is gives in
+    subst (λ (p : Pass). GivesTurn s looked p (Some turn) new.pass) is gives in
     let now : GivesTurn s new fresh (Some turn) new.pass =
-        subst (λ (m : MioSockets R F). GivesTurn s m fresh (Some turn) new.pass) (sym same) at_fresh in
+    subst (λ (m : MioSockets R F). GivesTurn s m fresh (Some turn) new.pass) (sym same) at_fresh in
     inr (inl (now.0, told ∙ now.1, now.2))
 after_look {R} {F} s looked new None ready is same gives told =
     let at_fresh : GivesTurn s looked fresh None new.pass =
-        subst (λ (p : Pass). GivesTurn s looked p None new.pass) is gives in
+    subst (λ (p : Pass). GivesTurn s looked p None new.pass) is gives in
     let now : GivesTurn s new fresh None new.pass =
-        subst (λ (m : MioSockets R F). GivesTurn s m fresh None new.pass) (sym same) at_fresh in
+    subst (λ (m : MioSockets R F). GivesTurn s m fresh None new.pass) (sym same) at_fresh in
     inr (inr (told, now))

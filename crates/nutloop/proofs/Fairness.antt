@@ -32,7 +32,7 @@ of_turn t old s turn now =
 of_next : (t : Turn) (old : Pass) (s : Stop) → HasNext t.may old t.told t.pass → WasVisited t.pass s → WasVisited old s ⊎ Had s t
 of_next t old s (inl turn) now = of_turn t old s turn now
 of_next t old s (inr (mid, over, on, turn)) now =
-    elim (of_turn t (again mid) s turn now) [ | inl before ↦ absurd (unvisited mid s before) | inr had ↦ inr had ]
+    elim (of_turn t (again mid) s turn now) [ inl before ↦ absurd (unvisited mid s before) | inr had ↦ inr had ]
 
 -- Each stop that is visited had its turn since then, or wasn't ready, or was visited before.
 visited_since : (s : Stop) (old : Pass) (ts : List Turn) (last : Pass) → GoThrough old ts last → WasVisited last s

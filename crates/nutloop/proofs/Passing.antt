@@ -24,7 +24,7 @@ stays may stop told from p h = inl h
 pub all_passed : (may : ℕ → Bool) (stop : ℕ → Stop) (told : Stop) (from to : ℕ) → FirstFrom may from None
     → Moves may stop told from to
 all_passed may stop told from to nobody p h =
-    elim (below p from) [ | inl before ↦ inl before | inr from_on ↦ inr (inr (nobody p from_on)) ]
+    elim (below p from) [ inl before ↦ inl before | inr from_on ↦ inr (inr (nobody p from_on)) ]
 
 pub reached : (may : ℕ → Bool) (stop : ℕ → Stop) (told : Stop) (from q : ℕ) → FirstFrom may from (Some q)
     → stop q ≡ told → Moves may stop told from (q + 1)
@@ -40,7 +40,7 @@ reached may stop told from q (from_on, ready, first) is p h =
 -- Where something may be done although nothing is from there on, the place was before.
 pub was_before : (may : ℕ → Bool) (from p : ℕ) → FirstFrom may from None → may p ≡ true → p < from
 was_before may from p nobody ready =
-    elim (below p from) [ | inl before ↦ before | inr later ↦ absurd (cc (nobody p later)) ]
+    elim (below p from) [ inl before ↦ before | inr later ↦ absurd (cc (nobody p later)) ]
 
 pub at_most_one : (b : Bool) → (if b then 1 else 0) ≤ 1
 at_most_one true = omega arith

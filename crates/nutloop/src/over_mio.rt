@@ -71,10 +71,12 @@ fn hear(
     match Source::of(event.token()) {
         Source::Listener => door.is_knocked_at = true,
         Source::Driver(place) => {
-            if let Some(Driver {
-                socket: Some(socket),
-                ..
-            }) = drivers.get_mut(place)
+            if let Some(
+                Driver {
+                    socket: Some(socket),
+                    ..
+                },
+            ) = drivers.get_mut(place)
             {
                 socket.hear(event);
             }
@@ -201,7 +203,11 @@ impl<'a, R: Net + Clock, F: Read + Drop> MioSockets<'a, R, F> {
         let knocked = self.door.is_knocked_at;
         match self.pass.visit(server, knocked, drivers, clients)? {
             Stop::Listener => Some(Ready::Newcomer),
-            Stop::Driver(place, way) => Some(driver_turn(server, UpsId { place: place as u8 }, way)),
+            Stop::Driver(place, way) => Some(driver_turn(
+                server,
+                UpsId { place: place as u8 },
+                way,
+            )),
             Stop::Client(place, way) => {
                 self.here = place;
                 Some(client_turn(clients, place, way))

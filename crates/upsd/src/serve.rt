@@ -103,8 +103,7 @@ fn go_round<'a>(
     server: &mut Server,
     sockets: &mut MioSockets<'_, HostRuntime, File>,
 ) -> Result<(), Ending<'a>>
-    ensures turns {
-        let calls = ⟦<MioSockets<'static, HostRuntime, File> as Sockets>⟧.calls in
+    ensures turns { let calls = ⟦<MioSockets<'static, HostRuntime, File> as Sockets>⟧.calls in
         let failures = ⟦<MioSockets<'static, HostRuntime, File> as Sockets>⟧.failures in
         MatchResult result
         (λ done. TurnsUpTo calls failures

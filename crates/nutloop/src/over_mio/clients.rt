@@ -32,7 +32,9 @@ impl Client {
         ensures { result ≡ client_may way self.now }
     {
         let Client {
-            socket, standing, ..
+            socket,
+            standing,
+            ..
         } = self;
         match (way, standing.is_owed) {
             (Way::Read, true) => socket.readable && standing.has_room && !socket.ended,
@@ -114,12 +116,7 @@ pub(super) fn write_client(
 }
 
 /// The client has the first place that nobody has.
-pub(super) fn take_in(
-    clients: &mut Clients,
-    registry: &Registry,
-    id: ClientId,
-    stream: TcpStream,
-) {
+pub(super) fn take_in(clients: &mut Clients, registry: &Registry, id: ClientId, stream: TcpStream) {
     let place = clients
         .iter()
         .position(|slot| slot.is_none())
@@ -139,9 +136,7 @@ fn registered(registry: &Registry, id: ClientId, mut stream: TcpStream, place: u
     requires { place < SESSION_LIMIT }
 {
     let token = Source::Client(place).token();
-    let failed = registry
-        .register(&mut stream, token, both_ways())
-        .is_err();
+    let failed = registry.register(&mut stream, token, both_ways()).is_err();
     Client {
         id,
         socket: Socket {

@@ -57,7 +57,9 @@ pub(super) fn close(
     ensures { vec_len closing.old ≤ CLOSING_LIMIT → vec_len closing.new ≤ CLOSING_LIMIT }
 {
     let Socket {
-        mut stream, ended, ..
+        mut stream,
+        ended,
+        ..
     } = socket;
     let token = Source::Closing.token();
     if ended

@@ -58,11 +58,7 @@ impl Door {
         address: SocketAddr,
     ) -> io::Result<Door> {
         let mut listener = TcpListener::bind(rt, address)?;
-        registry.register(
-            &mut listener,
-            Source::Listener.token(),
-            Interest::READABLE,
-        )?;
+        registry.register(&mut listener, Source::Listener.token(), Interest::READABLE)?;
         Ok(Door {
             alloc,
             listener,

@@ -9,6 +9,9 @@ returns-in-Some-visit-clause-answers g c =
 
 pub returns-clause-answers : goal.returns-clause-answers
 returns-clause-answers g c =
-    inr (c.visit.new.self.pass, c.in_default.ensures.gives,
-    after_look c.args.server.now.state c.look.new.self c.visit-2.new.self c.visit-2.result c.unwrap_or.result
-    c.in_ok-second.ensures.pass c.visit-2.ensures.same c.visit-2.ensures.gives c.unwrap_or.ensures)
+    inr (
+      c.visit.new.self.pass,
+      c.in_default.ensures.gives,
+      after_look c.args.server.now.state c.look.new.self c.visit-2.new.self c.visit-2.result c.unwrap_or.result
+          c.in_ok-second.ensures.pass c.visit-2.ensures.same c.visit-2.ensures.gives c.unwrap_or.ensures,
+    )
