@@ -25,7 +25,7 @@ fn run_all(rt: &HostRuntime, rows: &[Row]) -> Result<()> {
     let as_ever = run(rt.alloc(), rows, None)?;
     tell_as_ever(rt, &as_ever)?;
     fail_each(rt, rows, &as_ever)?;
-    tell_ids(rt, &as_ever.server)
+    tell_ids(rt)
 }
 
 /// A run for each call, which fails.

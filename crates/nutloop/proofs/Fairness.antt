@@ -1,74 +1,111 @@
--- Nobody is passed over.
-use Rattle.std.proofs.Common.{◌≡◌, ◌≢◌, ◌+◌, ◌<◌, ◌≤◌, ◌⊎◌, ◌∙◌, ℕ, List, [], ◌∷◌, refl, ap, subst, inl, inr, arith, length, get_or}
-use Rattle.std.specs.Prelude.{nat_lt, if◌then◌else◌}
-use Rattle.std.proofs.lemmas.Option.{get_or_from_slice_get, slice_get_within}
-use Rattle.nutloop.specs.declared.round.Seat.{Seat}
-use Rattle.nutloop.specs.declared.round.Seat.TheVariants.{Client, Driver, Listener}
-use Rattle.nutloop.specs.declared.round.Place.{Place}
-use Rattle.nutloop.specs.Round.{rank, ahead, SEATS, is_ready, Given, GoRound, last_of, Has, IsReadyThroughout, NobodyIsPassedOver}
+-- Everybody has a turn between two looks, and turns are few.
+use Rattle.std.proofs.Common.{◌≡◌, ◌⊎◌, ◌+◌, ◌<◌, ◌≤◌, ◌∙◌, ℕ, Bool, true, false, List, [], ◌∷◌, length, refl, sym, subst, inl, inr, arith}
+use Rattle.std.specs.Prelude.{◌&&◌, not, nat_lt, if◌then◌else◌, min}
+use Rattle.nutloop.specs.declared.over_mio.pass.Pass.{Pass}
+use Rattle.nutloop.specs.declared.over_mio.pass.Stop.{Stop}
+use Rattle.nutloop.specs.declared.over_mio.pass.Stop.TheVariants as stop
+use Rattle.nutloop.specs.declared.over_mio.pass.Way.TheVariants.{Read, Write}
+use Rattle.nutloop.specs.declared.over_mio.pass.TheConstants.{TURNS_PER_LOOK}
+use Rattle.nutloop.specs.Pass.{HasTurn, IsOver, IsWithin, STOPS, WasVisited, again, fresh, goes_on, visited}
+use Rattle.nutloop.specs.Fairness.{EverybodyHasATurn, GoThrough, HadTurn, HasNext, Turn, WasUnready}
+use Rattle.nutloop.proofs.Passing.{at_most_one}
 
-rank_fits : (s : Seat) → rank s < SEATS
-rank_fits (Client c) = omega arith
-rank_fits (Driver u) = omega arith
-rank_fits Listener = omega arith
+-- At the beginning of a pass no stop was visited.
+unvisited : (pass : Pass) (s : Stop) → WasVisited (again pass) s → ⊥
+unvisited pass stop.Listener h = cc
+unvisited pass (stop.Driver p Read) h = omega arith
+unvisited pass (stop.Driver p Write) h = omega arith
+unvisited pass (stop.Client p Read) h = omega arith
+unvisited pass (stop.Client p Write) h = omega arith
 
-same_or_not : (m n : ℕ) → (m ≡ n) ⊎ (m ≢ n)
-same_or_not m n = grind arith
+abbrev Had : Stop → Turn → Type 0
+Had s t = (t.told ≡ s) ⊎ (t.may s ≡ false)
 
-abbrev going : ℕ → ℕ → ℕ
-going a x = if nat_lt a x then x else SEATS + x
-
--- Going on to one that is nearer comes nearer.
-nearer : (a b x : ℕ) → a < SEATS → b < SEATS → x < SEATS → going a b ≤ going a x
-    → b ≢ x → going b x + a + 1 ≤ going a x + b
-nearer a b x fa fb fx least other = grind arith
-
--- Whoever is ready has its turn, or is nearer by each turn that another one has.
-comes : (last other : Seat) (given : List Given) → GoRound last given
-    → IsReadyThroughout other given → Has other given
-    ⊎ (ahead (last_of last given) other + rank last + length given
-    ≤ ahead last other + rank (last_of last given))
-comes last other [] go ready = inr (omega arith)
-comes last other (g ∷ gs) go ready =
-    elim (same_or_not (rank g.to.seat) (rank other)) [
-      | inl is ↦ inl (inl is)
-      | inr isn't ↦
-          elim (comes g.to.seat other gs go.1 ready.1) [
-            | inl has ↦ inl (inr has)
-            | inr rest ↦ inr (omega (arith, rest, step isn't))
-          ]
+of_turn : (t : Turn) (old : Pass) (s : Stop) → HasTurn t.may old t.told t.pass → WasVisited t.pass s → WasVisited old s ⊎ Had s t
+of_turn t old s turn now =
+    elim (turn.others s now) [
+      | inl before ↦ inl before
+      | inr (inl same) ↦ inr (inl (sym same))
+      | inr (inr unready) ↦ inr (inr unready)
     ]
-  where
-    place : Place
-    place = ready.0.place
 
-    at : get_or g.places ready.0.at place ≡ place
-    at = get_or_from_slice_get g.places ready.0.at place place ready.0.is_at
+of_next : (t : Turn) (old : Pass) (s : Stop) → HasNext t.may old t.told t.pass → WasVisited t.pass s → WasVisited old s ⊎ Had s t
+of_next t old s (inl turn) now = of_turn t old s turn now
+of_next t old s (inr (mid, over, on, turn)) now =
+    elim (of_turn t (again mid) s turn now) [ inl before ↦ absurd (unvisited mid s before) | inr had ↦ inr had ]
 
-    first : ahead last g.to.seat ≤ ahead last place.seat
-    first =
-        subst (λ p. ahead last g.to.seat ≤ ahead last p.seat) at
-        (go.0.first ready.0.at place
-        (slice_get_within g.places ready.0.at place ready.0.is_at)
-        (ap is_ready at ∙ ready.0.ready))
-
-    step : rank g.to.seat ≢ rank other
-        → ahead g.to.seat other + rank last + 1 ≤ ahead last other + rank g.to.seat
-    step isn't =
-        nearer (rank last) (rank g.to.seat) (rank other)
-        (rank_fits last) (rank_fits g.to.seat) (rank_fits other)
-        (subst (λ n. going (rank last) (rank g.to.seat) ≤ going (rank last) n)
-        ready.0.of_seat first)
-        isn't
-
-pub nobody_is_passed_over : NobodyIsPassedOver
-nobody_is_passed_over one other [] go some back ready = absurd (some refl)
-nobody_is_passed_over one other (g ∷ gs) go some back ready =
-    elim (comes one other (g ∷ gs) go ready) [
-      | inl has ↦ has
-      | inr near ↦
-          let away : ahead one other + rank one + length (g ∷ gs) ≤ ahead one other + rank one =
-          subst (λ s. ahead s other + rank one + length (g ∷ gs) ≤ ahead one other + rank s)
-          back near in
-          absurd (omega (arith, away))
+-- Each stop that is visited had its turn since then, or wasn't ready, or was visited before.
+visited_since : (s : Stop) (old : Pass) (ts : List Turn) (last : Pass) → GoThrough old ts last → WasVisited last s
+    → WasVisited old s ⊎ (HadTurn s ts ⊎ WasUnready s ts)
+visited_since s old [] last go now = inl (subst (λ (p : Pass). WasVisited p s) go now)
+visited_since s old (t ∷ ts) last (next, go) now =
+    elim (visited_since s t.pass ts last go now) [
+      | inr (inl had) ↦ inr (inl (inr had))
+      | inr (inr unready) ↦ inr (inr (inr unready))
+      | inl mid ↦ elim (of_next t old s next mid) [
+        | inl before ↦ inl before
+        | inr (inl had) ↦ inr (inl (inl had))
+        | inr (inr unready) ↦ inr (inr (inl unready))
+      ]
     ]
+
+each_has : (ts : List Turn) (last over : Pass) (may : Stop → Bool) (s : Stop) (ready : Bool) → may s ≡ ready
+    → GoThrough fresh ts last → IsOver may last over → HadTurn s ts ⊎ (WasUnready s ts ⊎ (may s ≡ false))
+each_has ts last over may s false is go ends = inr (inr is)
+each_has ts last over may s true is go ends =
+    elim (visited_since s fresh ts last go (ends.nobody s is)) [
+      | inl none ↦ absurd (unvisited fresh s none)
+      | inr (inl had) ↦ inl had
+      | inr (inr unready) ↦ inr (inl unready)
+    ]
+
+-- So many turns were had since the look, and these are few.
+record Counted (pass : Pass) : Type 0 where
+  within : IsWithin pass
+  few : pass.turns + 1 ≤ TURNS_PER_LOOK + visited pass
+
+all_stops : (pass : Pass) → IsWithin pass → visited pass ≤ STOPS
+all_stops pass within = omega (arith, at_most_one pass.was_at_listener)
+
+of_going : (b c : Bool) (n m : ℕ) → (b && not c && nat_lt n m) ≡ true → n < m
+of_going b c n m h = grind arith
+
+counted_again : (pass : Pass) → goes_on pass ≡ true → Counted (again pass)
+counted_again pass on = record {
+  within = record { driver_reads = omega arith; driver_writes = omega arith; client_reads = omega arith; client_writes = omega arith };
+  few = omega (arith, of_going pass.had_turn pass.was_driver_read pass.turns TURNS_PER_LOOK on);
+}
+
+counted_turn : (may : Stop → Bool) (old new : Pass) (told : Stop) → Counted old → HasTurn may old told new
+    → (new.turns ≡ old.turns + 1) × Counted new
+counted_turn may old new told is turn =
+    let most = all_stops old is.within in
+    let more = turn.more is.within in
+    let turns : new.turns ≡ old.turns + 1 = omega (arith, turn.turns, is.few, most) in
+    (turns, record { within = turn.within is.within; few = omega (arith, turns, more, is.few) })
+
+counted_next : (t : Turn) (old : Pass) → Counted old → HasNext t.may old t.told t.pass
+    → (t.pass.turns ≡ old.turns + 1) × Counted t.pass
+counted_next t old is (inl turn) = counted_turn t.may old t.pass t.told is turn
+counted_next t old is (inr (mid, over, on, turn)) =
+    let next = counted_turn t.may (again mid) t.pass t.told (counted_again mid on) turn in
+    (omega (arith, next.0, over.turns), next.1)
+
+counted_all : (old : Pass) (ts : List Turn) (last : Pass) → Counted old → GoThrough old ts last
+    → length ts + old.turns + 1 ≤ TURNS_PER_LOOK + STOPS
+counted_all old [] last is go = omega (arith, is.few, all_stops old is.within)
+counted_all old (t ∷ ts) last is (next, go) =
+    let now = counted_next t old is next in
+    omega (arith, now.0, counted_all t.pass ts last now.1 go)
+
+counted_fresh : Counted fresh
+counted_fresh = record {
+  within = record { driver_reads = omega arith; driver_writes = omega arith; client_reads = omega arith; client_writes = omega arith };
+  few = omega arith;
+}
+
+pub everybody_has_a_turn : EverybodyHasATurn
+everybody_has_a_turn = record {
+  each = λ ts last over may s go ends. each_has ts last over may s (may s) refl go ends;
+  few = λ ts last go. omega (arith, counted_all fresh ts last counted_fresh go);
+}

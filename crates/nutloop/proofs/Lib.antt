@@ -4,10 +4,6 @@ pub mod Opening
 pub mod Turning
 pub mod SocketToSocket
 pub mod MoreTurns
-pub mod NextTurn
+pub mod Passing
 pub mod Fairness
-pub mod NotedDrivers
-pub mod TriedDrivers
-pub mod Telling
-pub mod Parting
-pub mod Hearing
+pub mod Answering

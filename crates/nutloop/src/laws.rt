@@ -1,6 +1,7 @@
-//! Laws of every list of turns. No program calls them.
+//! Laws of every list of turns, and the numbers of the loop. No program calls them.
+ghost use Rattle.nutloop.specs.Fairness.{EverybodyHasATurn};
 ghost use Rattle.nutloop.specs.Moved.{EveryByteIsMovedOnce};
-ghost use Rattle.nutloop.specs.Round.{EverySecondTurn, NobodyIsPassedOver};
+ghost use Rattle.nutloop.specs.Numbers.{Numbers};
 ghost use Rattle.nutloop.specs.Serving.{AnyTurnsAreOneRun, AnyTurnsKeepAddressesLawful};
 ghost use Rattle.nutloop.specs.SocketToSocket.{WhatASocketGaveIsAnswered, ADriverIsHeardAndToldByItsSocket};
 
@@ -53,14 +54,15 @@ pub fn any_turns_keep_addresses_lawful<S: Sockets>()
     addresses_are_lawful();
 }
 
-/// Over any turns, whoever comes, goes or is ready in between: from one turn of a peer to its next everybody has one who is
-/// ready all the while.
-pub fn nobody_is_passed_over()
-    ensures { NobodyIsPassedOver }
+/// From one look at the system to the next, whoever is ready all the while has a turn, whatever the turns do. A look comes
+/// after at most 208 turns.
+pub fn everybody_has_a_turn()
+    ensures { EverybodyHasATurn }
 {}
 
-/// Of two turns in a row of one peer one is a read where it may be read at the second, and one is a write where it may be
-/// written to.
-pub fn every_second_turn()
-    ensures { EverySecondTurn }
+/// The most bytes of a driver's read; after how many turns the system is asked once the pass is over, and one more than the
+/// turns between two looks can be; how many closing connections are read on, and for how many ticks; and how many turns
+/// `serve` makes.
+pub fn numbers()
+    ensures { Numbers }
 {}

@@ -1,64 +1,133 @@
 //! The sockets over `mio`: clients come over TCP, and drivers are connected to over Unix sockets.
-ghost use Rattle.std.specs.Prelude.{◌≡◌, ◌≤◌, ◌∷◌, [], ◌⊎◌, length, IfOk, IfSome, None, OnOk, false, true, vec_capacity, vec_len};
+ghost use Rattle.std.specs.Prelude.{◌≡◌, ◌≤◌, ◌*◌, ◌-◌, ◌∷◌, [], length, IfOk, None, OnOk};
 ghost use Rattle.nutio.specs.Ends.{IsCounted, counted};
-ghost use Rattle.nutloop.specs.Peers.{AreTried, GrowsBehind, ReadsPeer, ShutsPeer, TakesNewcomer, WritesPeer, error_of};
-ghost use Rattle.nutloop.specs.Door.{ComesIn};
-ghost use Rattle.nutloop.specs.Round.{LeavesOut, MayTakeSeat, TakesIn};
-ghost use Rattle.nutloop.specs.declared.round.Seat.TheVariants.{Client, Listener};
 ghost use Rattle.nutloop.specs.Sockets.{AtMost, Grows, Logs, read_call};
+ghost use Rattle.std.specs.Duration.{as_nanos};
+ghost use Rattle.nutloop.specs.Clock.{Ticks, next_second};
+ghost use Rattle.nutloop.specs.OverMio.{AnswersReady, GivesTurn, client_turn, driver_turn, error_of, refused, turn_of};
+ghost use Rattle.nutloop.specs.Pass.{fresh};
 ghost use Rattle.nutloop.specs.declared.sockets.Call.TheVariants.{Accepted, Named, Readied, Refused, Shut, Wrote};
-ghost use Rattle.nutloop.specs.Partings.{PartsPeer};
-ghost use Rattle.nutloop.specs.Standing.{seat_of};
-ghost use Rattle.nutloop.specs.Told.{IsAtTick, IsTold};
 
 mod clients;
+mod closing;
 mod door;
 mod drivers;
-mod partings;
-mod peers;
-mod readiness;
-mod rounds;
+mod pass;
+mod socket;
+mod tokens;
 
+use crate::Ids;
 use crate::sockets::{Broken, Got, Ready, Sockets};
+use arrayvec::ArrayVec;
+use clients::{Client, Clients, read_client, take_in, take_out, write_client};
+use closing::{CLOSING_LIMIT, Closing, close};
+use door::Door;
+use drivers::{Driver, Drivers, connect, read_driver, write_driver};
+use mio::event::Event;
+use mio::{Events, Poll};
 use nutcore::{ClientId, Peer, Server, UpsId};
 use nutwords::Address;
-use rounds::Rounds;
+use pass::{Pass, Stop, Way};
 use std::alloc::Global;
 use std::io;
+use std::io::Read;
 use std::net::{Net, SocketAddr};
-use std::time::Clock;
+use std::time::{Clock, Duration, Instant};
+use tokens::Source;
 
-/// The sockets of a server. They take over 64 sessions and the drivers of its UPSs; the bytes stand with the system and
-/// the server alone.
+/// The most events that a poll reports. The next one reports the others.
+const EVENT_LIMIT: usize = 256;
+
+/// The sockets of a server: those of its clients, and of the drivers of its UPSs. They also hand in the ids for tracked
+/// orders. The system and the server hold all bytes.
 #[derive(Drop)]
-pub struct MioSockets<'a, R> {
-    rounds: Rounds<'a, R>,
+pub struct MioSockets<'a, R, F> {
+    rt: &'a R,
+    poll: Poll,
+    events: Events,
+    start: Instant,
+    /// The whole seconds since the start, as the last tick had them.
+    second: u64,
+    ids: Option<Ids<F>>,
+    door: Door,
+    drivers: Drivers,
+    clients: Clients,
+    closing: Vec<Closing>,
+    pass: Pass,
+    /// The place of the client that had the last turn of a client.
+    here: usize,
     failures: u64,
     refusals: u64,
 }
 
-impl<'a, R: Net + Clock> MioSockets<'a, R> {
-    /// Listens at this address, and connects to the server's drivers. Ticks tell the whole seconds from now on.
+/// Notes what an event reports.
+fn hear(
+    door: &mut Door,
+    drivers: &mut Drivers,
+    clients: &mut Clients,
+    closing: &mut [Closing],
+    event: &Event,
+) {
+    match Source::of(event.token()) {
+        Source::Listener => door.is_knocked_at = true,
+        Source::Driver(place) => {
+            if let Some(
+                Driver {
+                    socket: Some(socket),
+                    ..
+                },
+            ) = drivers.get_mut(place)
+            {
+                socket.hear(event);
+            }
+        }
+        Source::Client(place) => {
+            if let Some(Some(client)) = clients.get_mut(place) {
+                client.socket.hear(event);
+            }
+        }
+        Source::Closing => {
+            for connection in closing.iter_mut() {
+                connection.readable = true;
+            }
+        }
+    }
+}
+
+impl<'a, R: Net + Clock, F: Read + Drop> MioSockets<'a, R, F> {
+    /// Listens at this address, and connects to the server's drivers. The reader gives the ids for tracked orders. Ticks
+    /// count the whole seconds from now on.
     ///
     /// # Errors
     ///
     /// The address can't be listened at, or memory or the clock fails.
-    pub fn new(rt: &'a R, alloc: Global, address: SocketAddr, server: &Server) -> io::Result<Self>
-        ensures fresh { IfOk result (λ s. (s.failures ≡ 0) × (s.refusals ≡ 0)) }
-        ensures tried { IfOk result (λ s. AreTried server.now.state.list
-            s.rounds.peers.drivers.items s.rounds.peers.driver_errors) }
-        ensures clients { IfOk result (λ s. s.rounds.peers.clients.items ≡ []) }
-        ensures drivers { IfOk result (λ s. GrowsBehind [] s.rounds.peers.drivers.items) }
-        ensures last { IfOk result (λ s. s.rounds.peers.round.last ≡ Listener) }
-        ensures door { IfOk result (λ s. (s.rounds.door.newcomer ≡ None)
-            × (s.rounds.door.is_knocked_at ≡ true)) }
-        ensures pace { IfOk result (λ s. s.rounds.pace
-            ≡ record { second = 0; turns = 0; was_driver_read = false }) }
-    {
-        let mut rounds = Rounds::new(rt, alloc, address)?;
-        rounds.connect(server);
+    pub fn new(
+        rt: &'a R,
+        alloc: Global,
+        address: SocketAddr,
+        server: &Server,
+        ids: Option<F>,
+    ) -> io::Result<Self> {
+        let poll = Poll::new(rt)?;
+        let door = Door::open(rt, alloc, poll.registry(), address)?;
+        let mut drivers = ArrayVec::new();
+        for _ in 0..server.ups().len() {
+            let _ = drivers.try_push(Driver::default());
+        }
+        connect(rt, poll.registry(), &mut drivers, server);
         Ok(MioSockets {
-            rounds,
+            rt,
+            poll,
+            events: Events::with_capacity(alloc, EVENT_LIMIT)?,
+            start: Instant::now(rt)?,
+            second: 0,
+            ids: ids.map(Ids::new),
+            door,
+            drivers,
+            clients: ArrayVec::new(),
+            closing: Vec::with_capacity(alloc, CLOSING_LIMIT)?,
+            pass: Pass::new(),
+            here: 0,
             failures: 0,
             refusals: 0,
         })
@@ -70,178 +139,253 @@ impl<'a, R: Net + Clock> MioSockets<'a, R> {
     ///
     /// The system doesn't tell it.
     pub fn local_addr(&self) -> io::Result<SocketAddr> {
-        self.rounds.door.local_addr()
+        self.door.local_addr()
+    }
+
+    /// The system's number of the error by which the driver of the UPS couldn't be connected to, when that was tried last.
+    pub fn driver_error(&self, u: UpsId) -> Option<i32>
+        ensures { result ≡ error_of self.now u }
+    {
+        self.drivers.get(u.place as usize)?.error
+    }
+
+    /// How many newcomers were sent away. The count stops at its greatest number.
+    pub fn refusals(&self) -> u64
+        ensures { result ≡ refused self.now }
+    {
+        self.refusals
+    }
+
+    /// What is ready: an id that is due, or the next turn.
+    fn next(&mut self, server: &Server) -> io::Result<Ready>
+        ensures failures { self.new.failures ≡ self.old.failures }
+    {
+        if let Some(ids) = &mut self.ids {
+            if let Some(id) = ids.next() {
+                return Ok(Ready::Id(id));
+            }
+        }
+        // What a client is owed changes by its own turns alone.
+        if let Some(Some(client)) = self.clients.get_mut(self.here) {
+            client.note(server);
+        }
+        self.next_turn(server)
+    }
+
+    /// What this pass has left, or the next one, or what the system and the clock report.
+    fn next_turn(&mut self, server: &Server) -> io::Result<Ready>
+        ensures answers { IfOk result (λ ready.
+            AnswersReady server.now.state self.old ready self.new) }
+        ensures failures { self.new.failures ≡ self.old.failures }
+    {
+        if let Some(ready) = self.visit(server) {
+            return Ok(ready);
+        }
+        if self.pass.goes_on() {
+            self.pass = self.pass.again();
+            if let Some(ready) = self.visit(server) {
+                return Ok(ready);
+            }
+        }
+        if let Some(second) = self.look(server)? {
+            return Ok(Ready::Tick(second));
+        }
+        Ok(self.visit(server).unwrap_or(Ready::Nothing))
+    }
+
+    /// The next turn of this pass, if one is left.
+    fn visit(&mut self, server: &Server) -> Option<Ready>
+        ensures gives { GivesTurn server.now.state self.old self.old.pass result self.new.pass }
+        ensures same { self.new
+            ≡ record self.old { pass = self.new.pass; here = self.new.here } }
+    {
+        let (drivers, clients) = (self.drivers.as_slice(), self.clients.as_slice());
+        let knocked = self.door.is_knocked_at;
+        match self.pass.visit(server, knocked, drivers, clients)? {
+            Stop::Listener => Some(Ready::Newcomer),
+            Stop::Driver(place, way) => Some(driver_turn(
+                server,
+                UpsId { place: place as u8 },
+                way,
+            )),
+            Stop::Client(place, way) => {
+                self.here = place;
+                Some(client_turn(clients, place, way))
+            }
+        }
+    }
+
+    /// Asks the system, and waits for it where nobody had a turn; and the clock. The second, where it is a new one.
+    fn look(&mut self, server: &Server) -> io::Result<Option<u64>>
+        ensures pass { OnOk result (self.new.pass ≡ fresh) }
+        ensures tick { IfOk result (λ tick. Ticks tick self.old.second self.new.second) }
+        ensures failures { self.new.failures ≡ self.old.failures }
+    {
+        let wait = self.wait()?;
+        self.poll.poll(&mut self.events, Some(wait))?;
+        for event in self.events.iter() {
+            hear(
+                &mut self.door,
+                &mut self.drivers,
+                &mut self.clients,
+                &mut self.closing,
+                event,
+            );
+        }
+        self.pass = Pass::new();
+        let second = self.start.elapsed(self.rt)?.as_secs();
+        if !self.closing.is_empty() {
+            self.closing
+                .retain_mut(|connection| connection.goes_on(second));
+        }
+        if second <= self.second {
+            return Ok(None);
+        }
+        self.second = second;
+        if let Some(ids) = &mut self.ids {
+            ids.tick();
+        }
+        self.door.is_knocked_at = true;
+        connect(self.rt, self.poll.registry(), &mut self.drivers, server);
+        Ok(Some(second))
+    }
+
+    /// How long the system may be waited for.
+    fn wait(&self) -> io::Result<Duration> {
+        if self.pass.had_turn() || self.closing.iter().any(|connection| connection.readable) {
+            return Ok(Duration::ZERO);
+        }
+        Ok(up_to_tick(self.second, self.start.elapsed(self.rt)?))
     }
 
     /// A call failed: it is counted.
-    fn broken(&mut self) -> Broken
-        ensures count { self.new.failures ≡ counted self.old.failures }
-        ensures refusals { self.new.refusals ≡ self.old.refusals }
-        ensures rounds { self.new.rounds ≡ self.old.rounds }
+    fn count<T>(&mut self, answer: Result<T, Broken>) -> Result<T, Broken>
+        ensures same { result ≡ answer }
+        ensures count { IsCounted self.old.failures self.new.failures answer }
     {
-        self.failures = self.failures.saturating_add(1);
-        Broken
+        if answer.is_err() {
+            self.failures = self.failures.saturating_add(1);
+        }
+        answer
     }
 }
 
-impl<'a, R: Net + Clock> Sockets for MioSockets<'a, R> {
+/// The turn of the driver of a UPS. Its first one reports that it is connected.
+fn driver_turn(server: &Server, u: UpsId, way: Way) -> Ready
+    ensures { result ≡ driver_turn server.now.state u way }
+{
+    if server.driver_connected(u).unwrap_or(false) {
+        turn_of(Peer::Driver(u), way)
+    } else {
+        Ready::DriverUp(u)
+    }
+}
+
+/// The turn of the client of a place.
+fn client_turn(clients: &[Option<Client>], place: usize, way: Way) -> Ready
+    ensures { result ≡ client_turn clients.now place way }
+{
+    match clients.get(place) {
+        Some(Some(client)) => turn_of(Peer::Client(client.id), way),
+        _ => Ready::Nothing,
+    }
+}
+
+fn turn_of(p: Peer, way: Way) -> Ready
+    ensures { result ≡ turn_of p way }
+{
+    match way {
+        Way::Read => Ready::Read(p),
+        Way::Write => Ready::Write(p),
+    }
+}
+
+/// How long it is up to the tick after this second, so long after the start.
+fn up_to_tick(second: u64, elapsed: Duration) -> Duration
+    ensures { as_nanos result ≡ next_second second * 1_000_000_000 - as_nanos elapsed }
+{
+    Duration::from_secs(second.saturating_add(1)).saturating_sub(elapsed)
+}
+
+impl<'a, R: Net + Clock, F: Read + Drop> Sockets for MioSockets<'a, R, F> {
     ghost calls = { λ _. None };
 
     ghost failures = { λ s. s.failures };
 
-    ghost errors = { λ s u. error_of u s.rounds.peers.driver_errors };
-
-    ghost refused = { λ s. s.refusals };
-
     fn ready(&mut self, server: &Server) -> Result<Ready, Broken>
-        ensures is_told { IfOk result (λ ready.
-            IsTold server.now.state self.old.rounds.door.is_knocked_at ready
-            self.old.rounds.peers self.old.rounds.pace
-            self.new.rounds.peers self.new.rounds.pace) }
-        ensures noted { OnOk result
-            (self.new.rounds.peers.is_knocked_at ≡ self.new.rounds.door.is_knocked_at) }
-        ensures knock { OnOk result (self.old.rounds.door.is_knocked_at ≡ true
-            → self.new.rounds.door.is_knocked_at ≡ true) }
-        ensures door { OnOk result (self.new.rounds.door ≡ record self.old.rounds.door
-            { is_knocked_at = self.new.rounds.door.is_knocked_at }) }
-        ensures tick { IfOk result (λ ready. IsAtTick ready server.now.state.list
-            self.new.rounds.door.is_knocked_at self.new.rounds.peers) }
         ensures told { Logs None None Readied result }
         ensures count { IsCounted self.old.failures self.new.failures result }
-        ensures refusals { self.new.refusals ≡ self.old.refusals }
     {
-        match self.rounds.next(server) {
-            Ok(ready) => Ok(ready),
-            Err(_) => Err(self.broken()),
-        }
+        let answer = self.next(server).map_err(|_| Broken);
+        self.count(answer)
     }
 
     fn accept(&mut self) -> Result<Option<Address>, Broken>
-        ensures takes { ComesIn self.old.rounds.door self.new.rounds.door result }
-        ensures same { self.new.rounds
-            ≡ record self.old.rounds { door = self.new.rounds.door } }
         ensures told { Logs None None Accepted result }
         ensures count { IsCounted self.old.failures self.new.failures result }
-        ensures refusals { self.new.refusals ≡ self.old.refusals }
     {
-        match self.rounds.accept() {
-            Ok(newcomer) => Ok(newcomer),
-            Err(_) => Err(self.broken()),
-        }
+        let answer = self.door.accept();
+        self.count(answer)
     }
 
     fn name(&mut self, c: ClientId)
-        ensures left { self.new.rounds.door ≡ record self.old.rounds.door { newcomer = None } }
-        ensures taken { ((vec_capacity self.old.rounds.peers.clients
-            ≤ vec_len self.old.rounds.peers.clients)
-            × (self.new.rounds.peers.clients.items ≡ self.old.rounds.peers.clients.items))
-            ⊎ TakesNewcomer self.old.rounds.door.newcomer c
-            self.old.rounds.peers.clients.items self.new.rounds.peers.clients.items }
-        ensures seat { IfSome self.old.rounds.door.newcomer (λ _.
-            (vec_capacity self.old.rounds.peers.clients ≤ vec_len self.old.rounds.peers.clients)
-            ⊎ ((vec_capacity self.old.rounds.peers.round.places
-            ≤ vec_len self.old.rounds.peers.round.places)
-            ⊎ TakesIn (Client c) self.old.rounds.peers.round.places.items
-            self.new.rounds.peers.round.places.items)) }
-        ensures seated { MayTakeSeat (Client c) self.old.rounds.peers.round.places.items
-            self.new.rounds.peers.round.places.items }
-        ensures last { self.new.rounds.peers.round.last ≡ self.old.rounds.peers.round.last }
-        ensures same { self.new.rounds ≡ record self.old.rounds {
-          door = self.new.rounds.door;
-          peers = record self.old.rounds.peers {
-            round = self.new.rounds.peers.round;
-            clients = self.new.rounds.peers.clients;
-          };
-        } }
         ensures told { Grows None None (Named c ∷ []) }
         ensures count { self.new.failures ≡ self.old.failures }
-        ensures refusals { self.new.refusals ≡ self.old.refusals }
     {
-        self.rounds.name(c);
+        if let Some(stream) = self.door.newcomer.take() {
+            take_in(&mut self.clients, self.poll.registry(), c, stream);
+        }
     }
 
     fn refuse(&mut self)
-        ensures left { self.new.rounds ≡ record self.old.rounds
-            { door = record self.old.rounds.door { newcomer = None } } }
         ensures told { Grows None None (Refused ∷ []) }
         ensures count { self.new.failures ≡ self.old.failures }
-        ensures refusals { self.new.refusals ≡ counted self.old.refusals }
+        ensures refused { refused self.new ≡ counted (refused self.old) }
     {
-        let _refused = self.rounds.door.take_newcomer();
+        let _refused = self.door.newcomer.take();
         self.refusals = self.refusals.saturating_add(1);
     }
 
     fn read(&mut self, p: Peer, into: &mut [u8]) -> Result<Got, Broken>
         ensures bound { AtMost result into.new }
-        ensures reads { ReadsPeer p (length into.new) result
-            self.old.rounds.peers.clients.items self.old.rounds.peers.drivers.items
-            self.new.rounds.peers.clients.items self.new.rounds.peers.drivers.items }
-        ensures same { self.new.rounds ≡ record self.old.rounds {
-          peers = record self.old.rounds.peers {
-            clients = self.new.rounds.peers.clients;
-            drivers = self.new.rounds.peers.drivers;
-          };
-        } }
         ensures told { Logs None None (read_call p into.new) result }
         ensures count { IsCounted self.old.failures self.new.failures result }
-        ensures refusals { self.new.refusals ≡ self.old.refusals }
     {
-        match self.rounds.read(p, into) {
-            Ok(got) => Ok(got),
-            Err(_) => Err(self.broken()),
-        }
+        let answer = match p {
+            Peer::Client(c) => read_client(&mut self.clients, self.here, c, into),
+            Peer::Driver(u) => read_driver(&mut self.drivers, u, into),
+        };
+        self.count(answer)
     }
 
     fn write(&mut self, p: Peer, from: &[u8]) -> Result<usize, Broken>
         ensures bound { IfOk result (λ n. n ≤ length from.now) }
-        ensures writes { WritesPeer p (length from.now) result
-            self.old.rounds.peers.clients.items self.old.rounds.peers.drivers.items
-            self.new.rounds.peers.clients.items self.new.rounds.peers.drivers.items }
-        ensures same { self.new.rounds ≡ record self.old.rounds {
-          peers = record self.old.rounds.peers {
-            clients = self.new.rounds.peers.clients;
-            drivers = self.new.rounds.peers.drivers;
-          };
-        } }
         ensures told { Logs None None (Wrote p from.now) result }
         ensures count { IsCounted self.old.failures self.new.failures result }
-        ensures refusals { self.new.refusals ≡ self.old.refusals }
     {
-        match self.rounds.write(p, from) {
-            Ok(n) => Ok(n),
-            Err(_) => Err(self.broken()),
-        }
-    }
-
-    fn driver_error(&self, u: UpsId) -> Option<i32> {
-        self.rounds.driver_error(u)
-    }
-
-    fn refusals(&self) -> u64 {
-        self.refusals
+        let answer = match p {
+            Peer::Client(c) => write_client(&mut self.clients, self.here, c, from),
+            Peer::Driver(u) => write_driver(&mut self.drivers, u, from),
+        };
+        self.count(answer)
     }
 
     fn shut(&mut self, p: Peer)
-        ensures seat { LeavesOut (seat_of p)
-            self.old.rounds.peers.round.places.items self.new.rounds.peers.round.places.items }
-        ensures shuts { ShutsPeer p
-            self.old.rounds.peers.clients.items self.old.rounds.peers.drivers.items
-            self.new.rounds.peers.clients.items self.new.rounds.peers.drivers.items }
-        ensures partings { PartsPeer p self.old.rounds.pace self.old.rounds.peers.clients.items
-            self.old.rounds.peers.partings.items self.new.rounds.peers.partings.items }
-        ensures last { self.new.rounds.peers.round.last ≡ self.old.rounds.peers.round.last }
-        ensures same { self.new.rounds ≡ record self.old.rounds {
-          peers = record self.old.rounds.peers {
-            round = self.new.rounds.peers.round;
-            clients = self.new.rounds.peers.clients;
-            drivers = self.new.rounds.peers.drivers;
-            partings = self.new.rounds.peers.partings;
-          };
-        } }
         ensures told { Grows None None (Shut p ∷ []) }
         ensures count { self.new.failures ≡ self.old.failures }
-        ensures refusals { self.new.refusals ≡ self.old.refusals }
     {
-        self.rounds.shut(p);
+        match p {
+            Peer::Client(c) => {
+                if let Some(client) = take_out(&mut self.clients, self.here, c) {
+                    let registry = self.poll.registry();
+                    close(&mut self.closing, registry, client.socket, self.second);
+                }
+            }
+            Peer::Driver(u) => {
+                if let Some(driver) = self.drivers.get_mut(u.place as usize) {
+                    driver.socket = None;
+                }
+            }
+        }
     }
 }

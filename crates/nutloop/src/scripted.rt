@@ -1,14 +1,14 @@
 //! Sockets in memory: they answer from a script, and keep every call that was answered.
-ghost use Rattle.std.specs.Prelude.{◌≡◌, ◌<◌, ◌≤◌, ◌++◌, ◌∷◌, [], true, IfOk, None, OnErr, length, vec_capacity, vec_len};
+ghost use Rattle.std.specs.Prelude.{◌≡◌, ◌<◌, ◌≤◌, ◌++◌, ◌∷◌, [], true, IfOk, OnErr, length, vec_capacity, vec_len};
 ghost use Rattle.std.specs.Vec.Iter.{into_iter_items};
 ghost use Rattle.nutloop.specs.declared.scripted.Act.TheVariants as act;
 ghost use Rattle.nutloop.specs.declared.sockets.Call.TheVariants.{Readied, Accepted, Named, Refused, Wrote, Shut};
-ghost use Rattle.nutio.specs.Ends.{IsCounted, counted};
+ghost use Rattle.nutio.specs.Ends.{IsCounted};
 ghost use Rattle.nutloop.specs.Sockets.{Grows, Logs, AtMost, read_call};
 ghost use Rattle.nutloop.specs.Scripted.{AnswersRead, AnswersWrite, Follows, IsKeptOrNot, MayBeRead, MayBeReady, MayCome, NextIs, told_while};
 
 use crate::{Broken, Call, Got, Ready, Sockets};
-use nutcore::{Bytes, ClientId, Peer, Server, UpsId};
+use nutcore::{Bytes, ClientId, Peer, Server};
 use nutwords::Address;
 use std::alloc::Global;
 use std::vec::IntoIter;
@@ -40,7 +40,6 @@ pub struct Scripted {
     calls: Vec<Call>,
     is_whole: bool,
     failures: u64,
-    refusals: u64,
 }
 
 impl Scripted {
@@ -49,7 +48,6 @@ impl Scripted {
         ensures calls { result.calls.items ≡ [] }
         ensures whole { result.is_whole ≡ true }
         ensures failures { result.failures ≡ 0 }
-        ensures refusals { result.refusals ≡ 0 }
         ensures script { into_iter_items result.script ≡ script.items }
     {
         Scripted {
@@ -58,7 +56,6 @@ impl Scripted {
             calls: Vec::new(alloc),
             is_whole: true,
             failures: 0,
-            refusals: 0,
         }
     }
 
@@ -83,7 +80,6 @@ impl Scripted {
         ensures calls { self.new.calls ≡ self.old.calls }
         ensures whole { self.new.is_whole ≡ self.old.is_whole }
         ensures count { self.new.failures ≡ self.old.failures }
-        ensures refusals { self.new.refusals ≡ self.old.refusals }
     {
         self.script.next().ok_or(Broken)
     }
@@ -95,7 +91,6 @@ impl Scripted {
             (told_while self.new.is_whole self.new.calls.items) (λ _. call) result }
         ensures whole { self.new.is_whole ≡ self.old.is_whole }
         ensures count { self.new.failures ≡ self.old.failures }
-        ensures refusals { self.new.refusals ≡ self.old.refusals }
         ensures full { OnErr result (vec_capacity self.old.calls ≤ vec_len self.old.calls) }
     {
         match self.calls.push(call) {
@@ -114,7 +109,6 @@ impl Scripted {
         ensures room { vec_len self.old.calls < vec_capacity self.old.calls
             → self.new.calls.items ≡ self.old.calls.items ++ call ∷ [] }
         ensures count { self.new.failures ≡ self.old.failures }
-        ensures refusals { self.new.refusals ≡ self.old.refusals }
     {
         if self.calls.push(call).is_err() {
             self.is_whole = false;
@@ -128,7 +122,6 @@ impl Scripted {
         ensures calls { self.new.calls.items ≡ self.old.calls.items }
         ensures whole { self.new.is_whole ≡ self.old.is_whole }
         ensures count { IsCounted self.old.failures self.new.failures answer }
-        ensures refusals { self.new.refusals ≡ self.old.refusals }
     {
         if answer.is_err() {
             self.failures = self.failures.saturating_add(1);
@@ -143,7 +136,6 @@ impl Scripted {
             (told_while self.new.is_whole self.new.calls.items) Readied result }
         ensures whole { self.new.is_whole ≡ self.old.is_whole }
         ensures count { self.new.failures ≡ self.old.failures }
-        ensures refusals { self.new.refusals ≡ self.old.refusals }
         ensures full { OnErr result (NextIs MayBeReady (into_iter_items self.old.script)
             → vec_capacity self.old.calls ≤ vec_len self.old.calls) }
     {
@@ -161,7 +153,6 @@ impl Scripted {
             (told_while self.new.is_whole self.new.calls.items) Accepted result }
         ensures whole { self.new.is_whole ≡ self.old.is_whole }
         ensures count { self.new.failures ≡ self.old.failures }
-        ensures refusals { self.new.refusals ≡ self.old.refusals }
         ensures full { OnErr result (NextIs MayCome (into_iter_items self.old.script)
             → vec_capacity self.old.calls ≤ vec_len self.old.calls) }
     {
@@ -185,7 +176,6 @@ impl Scripted {
             (told_while self.new.is_whole self.new.calls.items) (read_call p into.new) result }
         ensures whole { self.new.is_whole ≡ self.old.is_whole }
         ensures count { self.new.failures ≡ self.old.failures }
-        ensures refusals { self.new.refusals ≡ self.old.refusals }
         ensures full { OnErr result (length bytes ≤ length into.old
             → vec_capacity self.old.calls ≤ vec_len self.old.calls) }
     {
@@ -206,7 +196,6 @@ impl Scripted {
             (told_while self.new.is_whole self.new.calls.items) (read_call p into.new) result }
         ensures whole { self.new.is_whole ≡ self.old.is_whole }
         ensures count { self.new.failures ≡ self.old.failures }
-        ensures refusals { self.new.refusals ≡ self.old.refusals }
         ensures full { OnErr result
             (NextIs (MayBeRead (length into.old)) (into_iter_items self.old.script)
             → vec_capacity self.old.calls ≤ vec_len self.old.calls) }
@@ -233,7 +222,6 @@ impl Scripted {
             (told_while self.new.is_whole self.new.calls.items) (Wrote p from.now) result }
         ensures whole { self.new.is_whole ≡ self.old.is_whole }
         ensures count { self.new.failures ≡ self.old.failures }
-        ensures refusals { self.new.refusals ≡ self.old.refusals }
     {
         let Act::Takes(most) = self.next()? else {
             return Err(Broken);
@@ -252,10 +240,6 @@ impl Sockets for Scripted {
 
     ghost failures = { λ s. s.failures };
 
-    ghost errors = { λ _ _. None };
-
-    ghost refused = { λ s. s.refusals };
-
     fn ready(&mut self, _server: &Server) -> Result<Ready, Broken>
         ensures script { Follows (λ ready next. next ≡ act.Ready ready)
             (into_iter_items self.old.script) result (into_iter_items self.new.script) }
@@ -263,7 +247,6 @@ impl Sockets for Scripted {
             (told_while self.new.is_whole self.new.calls.items) Readied result }
         ensures whole { self.new.is_whole ≡ self.old.is_whole }
         ensures count { IsCounted self.old.failures self.new.failures result }
-        ensures refusals { self.new.refusals ≡ self.old.refusals }
         ensures full { OnErr result (NextIs MayBeReady (into_iter_items self.old.script)
             → vec_capacity self.old.calls ≤ vec_len self.old.calls) }
     {
@@ -278,7 +261,6 @@ impl Sockets for Scripted {
             (told_while self.new.is_whole self.new.calls.items) Accepted result }
         ensures whole { self.new.is_whole ≡ self.old.is_whole }
         ensures count { IsCounted self.old.failures self.new.failures result }
-        ensures refusals { self.new.refusals ≡ self.old.refusals }
         ensures full { OnErr result (NextIs MayCome (into_iter_items self.old.script)
             → vec_capacity self.old.calls ≤ vec_len self.old.calls) }
     {
@@ -295,7 +277,6 @@ impl Sockets for Scripted {
         ensures room { vec_len self.old.calls < vec_capacity self.old.calls
             → self.new.calls.items ≡ self.old.calls.items ++ Named c ∷ [] }
         ensures count { self.new.failures ≡ self.old.failures }
-        ensures refusals { self.new.refusals ≡ self.old.refusals }
     {
         self.keep_or_stop(Call::Named(c));
     }
@@ -309,10 +290,8 @@ impl Sockets for Scripted {
         ensures room { vec_len self.old.calls < vec_capacity self.old.calls
             → self.new.calls.items ≡ self.old.calls.items ++ Refused ∷ [] }
         ensures count { self.new.failures ≡ self.old.failures }
-        ensures refusals { self.new.refusals ≡ counted self.old.refusals }
     {
         self.keep_or_stop(Call::Refused);
-        self.refusals = self.refusals.saturating_add(1);
     }
 
     fn read(&mut self, p: Peer, into: &mut [u8]) -> Result<Got, Broken>
@@ -323,7 +302,6 @@ impl Sockets for Scripted {
             (told_while self.new.is_whole self.new.calls.items) (read_call p into.new) result }
         ensures whole { self.new.is_whole ≡ self.old.is_whole }
         ensures count { IsCounted self.old.failures self.new.failures result }
-        ensures refusals { self.new.refusals ≡ self.old.refusals }
         ensures full { OnErr result
             (NextIs (MayBeRead (length into.old)) (into_iter_items self.old.script)
             → vec_capacity self.old.calls ≤ vec_len self.old.calls) }
@@ -340,19 +318,9 @@ impl Sockets for Scripted {
             (told_while self.new.is_whole self.new.calls.items) (Wrote p from.now) result }
         ensures whole { self.new.is_whole ≡ self.old.is_whole }
         ensures count { IsCounted self.old.failures self.new.failures result }
-        ensures refusals { self.new.refusals ≡ self.old.refusals }
     {
         let answer = self.next_write(p, from);
         self.count(answer)
-    }
-
-    /// No driver is connected to, and so none can't be.
-    fn driver_error(&self, _u: UpsId) -> Option<i32> {
-        None
-    }
-
-    fn refusals(&self) -> u64 {
-        self.refusals
     }
 
     fn shut(&mut self, p: Peer)
@@ -364,7 +332,6 @@ impl Sockets for Scripted {
         ensures room { vec_len self.old.calls < vec_capacity self.old.calls
             → self.new.calls.items ≡ self.old.calls.items ++ Shut p ∷ [] }
         ensures count { self.new.failures ≡ self.old.failures }
-        ensures refusals { self.new.refusals ≡ self.old.refusals }
     {
         self.keep_or_stop(Call::Shut(p));
     }

@@ -1,9 +1,8 @@
 //! The sockets of all peers, as a turn sees them.
-ghost use Rattle.std.specs.Prelude.{◌≡◌, ◌≤◌, ◌∷◌, [], ℕ, ℤ, List, Option, length, IfOk};
+ghost use Rattle.std.specs.Prelude.{◌≡◌, ◌≤◌, ◌∷◌, [], ℕ, List, Option, length, IfOk};
 ghost use Rattle.nutloop.specs.declared.sockets.Call.{Call};
 ghost use Rattle.nutloop.specs.declared.sockets.Call.TheVariants.{Readied, Accepted, Named, Refused, Wrote, Shut};
-ghost use Rattle.nutio.specs.Ends.{IsCounted, counted};
-ghost use Rattle.nutusers.specs.declared.ups_list.UpsId.{UpsId};
+ghost use Rattle.nutio.specs.Ends.{IsCounted};
 ghost use Rattle.nutloop.specs.Sockets.{Grows, Logs, AtMost, read_call};
 
 use nutcore::{Bytes, ClientId, Peer, Server, UpsId};
@@ -74,61 +73,40 @@ pub trait Sockets {
     /// How many calls failed. The count stops at its greatest number.
     ghost failures: { Self → ℕ };
 
-    /// The number of the error by which each UPS's driver couldn't be connected to, when that was tried last.
-    ghost errors: { Self → UpsId → Option ℤ };
-
-    /// How many newcomers were sent away. The count stops at its greatest number.
-    ghost refused: { Self → ℕ };
-
     /// What is ready now, of what concerns this server.
     fn ready(&mut self, server: &Server) -> Result<Ready, Broken>
         ensures told { Logs (calls self.old) (calls self.new) Readied result }
-        ensures count { IsCounted (failures self.old) (failures self.new) result }
-        ensures refusals { refused self.new ≡ refused self.old };
+        ensures count { IsCounted (failures self.old) (failures self.new) result };
 
     /// Takes in the next newcomer, and tells its address. It is to be named or refused.
     fn accept(&mut self) -> Result<Option<Address>, Broken>
         ensures told { Logs (calls self.old) (calls self.new) Accepted result }
-        ensures count { IsCounted (failures self.old) (failures self.new) result }
-        ensures refusals { refused self.new ≡ refused self.old };
+        ensures count { IsCounted (failures self.old) (failures self.new) result };
 
     /// The newcomer that was taken in last has the session of this id.
     fn name(&mut self, c: ClientId)
         ensures told { Grows (calls self.old) (calls self.new) (Named c ∷ []) }
-        ensures count { failures self.new ≡ failures self.old }
-        ensures refusals { refused self.new ≡ refused self.old };
+        ensures count { failures self.new ≡ failures self.old };
 
     /// The newcomer that was taken in last is sent away.
     fn refuse(&mut self)
         ensures told { Grows (calls self.old) (calls self.new) (Refused ∷ []) }
-        ensures count { failures self.new ≡ failures self.old }
-        ensures refusals { refused self.new ≡ counted (refused self.old) };
+        ensures count { failures self.new ≡ failures self.old };
 
     /// Asks a peer for as many bytes as the buffer has room for, and reads what it gives into the front.
     fn read(&mut self, p: Peer, into: &mut [u8]) -> Result<Got, Broken>
         ensures bound { AtMost result into.new }
         ensures told { Logs (calls self.old) (calls self.new) (read_call p into.new) result }
-        ensures count { IsCounted (failures self.old) (failures self.new) result }
-        ensures refusals { refused self.new ≡ refused self.old };
+        ensures count { IsCounted (failures self.old) (failures self.new) result };
 
     /// Offers a peer the bytes, and tells how many of them it took. 0 is for later.
     fn write(&mut self, p: Peer, from: &[u8]) -> Result<usize, Broken>
         ensures bound { IfOk result (λ n. n ≤ length from.now) }
         ensures told { Logs (calls self.old) (calls self.new) (Wrote p from.now) result }
-        ensures count { IsCounted (failures self.old) (failures self.new) result }
-        ensures refusals { refused self.new ≡ refused self.old };
-
-    /// The system's number of the error by which the driver of the UPS couldn't be connected to, when that was tried last.
-    fn driver_error(&self, u: UpsId) -> Option<i32>
-        ensures { result ≡ errors self.now u };
-
-    /// How many newcomers were sent away. The count stops at its greatest number.
-    fn refusals(&self) -> u64
-        ensures { result ≡ refused self.now };
+        ensures count { IsCounted (failures self.old) (failures self.new) result };
 
     /// Shuts the connection of a peer. A client's is gone for good.
     fn shut(&mut self, p: Peer)
         ensures told { Grows (calls self.old) (calls self.new) (Shut p ∷ []) }
-        ensures count { failures self.new ≡ failures self.old }
-        ensures refusals { refused self.new ≡ refused self.old };
+        ensures count { failures self.new ≡ failures self.old };
 }

@@ -4,6 +4,7 @@ use anyhow::{Error, Result};
 use nutcore::{Descriptions, MAX_AGE_DEFAULT, MaxAge, Server, UpsList, Users};
 use nutloop::{MioSockets, turn};
 use std::alloc::Global;
+use std::fs::File;
 use std::net::SocketAddr;
 
 /// In how many turns at most all is done.
@@ -16,7 +17,7 @@ const ANY_PORT: &str = "127.0.0.1:0";
 #[derive(Drop)]
 pub struct Served<'a> {
     server: Server,
-    sockets: MioSockets<'a, HostRuntime>,
+    sockets: MioSockets<'a, HostRuntime, File>,
     driver: Driver,
     turns: u32,
 }
@@ -26,7 +27,7 @@ impl<'a> Served<'a> {
     pub fn start(rt: &'a HostRuntime, driver: Driver, path: &str) -> Result<Self> {
         let server = server_of(rt.alloc(), path)?;
         let address = ANY_PORT.parse::<SocketAddr>()?;
-        let sockets = MioSockets::new(rt, rt.alloc(), address, &server)?;
+        let sockets = MioSockets::new(rt, rt.alloc(), address, &server, None)?;
         Ok(Served {
             server,
             sockets,

@@ -1,5 +1,6 @@
 //! The journal of the UPSs and their clients while they are served: a line for each change.
 ghost use Rattle.std.specs.Prelude.{◌≡◌, ◌≢◌, ◌<◌, length, slice_get, slice_set, replicate, option_map, Some, []};
+ghost use Rattle.nutloop.specs.OverMio.{error_of, refused};
 ghost use Rattle.upsd.specs.Deeds.{after_deeds};
 ghost use Rattle.upsd.specs.Looks.{AreOthersKept, IsLookedAt};
 ghost use Rattle.upsd.specs.Journal.{data_news, driver_news, shutdown_news, text_of, ups_news, standing_at, IsWrittenUpTo};
@@ -14,10 +15,13 @@ use self::deeds::Refusals;
 use self::logins::Logins;
 use self::room::Room;
 use nutcore::{Server, UpsId};
-use nutloop::Sockets;
+use nutloop::MioSockets;
 use nutusers::UPS_LIMIT;
 use std::alloc::Global;
 use std::fmt;
+use std::io::Read;
+use std::net::Net;
+use std::time::Clock;
 
 /// What is new of a UPS.
 #[derive(Clone, Copy, Debug, PartialEq, Eq)]
@@ -98,7 +102,12 @@ impl Journal {
 
     /// Writes what is new to standard error: what a client did in the server's last event, what is new of each UPS, and once
     /// a second all else. Where that fails it isn't written again.
-    pub fn write<S: Sockets>(&mut self, rt: &HostRuntime, server: &Server, sockets: &S)
+    pub fn write<R: Net + Clock, F: Read + Drop>(
+        &mut self,
+        rt: &HostRuntime,
+        server: &Server,
+        sockets: &MioSockets<'_, R, F>,
+    )
         ensures written { IsWrittenUpTo (length server.now.state.list) server.now.state
             self.old.written self.new.written }
         ensures refusals { self.new.refusals
@@ -106,7 +115,7 @@ impl Journal {
         ensures moment { self.new.moment ≡ Some server.now.state.moment }
         // At each new moment all else is looked at,
         ensures looks { self.old.moment ≢ Some server.now.state.moment
-            → IsLookedAt (S.errors sockets.now) (S.refused sockets.now) server.now.state
+            → IsLookedAt (error_of sockets.now) (refused sockets.now) server.now.state
             self.old self.new }
         // and until then nothing of it is.
         ensures rests { self.old.moment ≡ Some server.now.state.moment

@@ -15,7 +15,7 @@ use crate::task::Service;
 use crate::warnings::warn;
 use nutcore::{MaxAge, Server};
 use nutio::{CountedWriter, Sink, send};
-use nutloop::{MioSockets, ReadIds, Sockets, WithIds};
+use nutloop::{MioSockets, Sockets};
 use std::alloc::Global;
 use std::fs::File;
 use std::io;
@@ -43,7 +43,7 @@ pub fn serve_files<'a>(
 }
 
 /// The ids of the file of this path, which is opened, and read while it is served. Without a path there are none.
-fn ids_in<'a>(rt: &HostRuntime, path: Option<&'a str>) -> Result<Option<ReadIds<File>>, Ending<'a>>
+fn ids_in<'a>(rt: &HostRuntime, path: Option<&'a str>) -> Result<Option<File>, Ending<'a>>
     ensures named { IfOk result (λ ids. is_some ids ≡ is_some path.entry) }
     ensures fails { IfErr result (CantBeOpened path.entry) }
 {
@@ -51,7 +51,7 @@ fn ids_in<'a>(rt: &HostRuntime, path: Option<&'a str>) -> Result<Option<ReadIds<
         return Ok(None);
     };
     match open(rt, path) {
-        Ok(file) => Ok(Some(ReadIds::new(file))),
+        Ok(file) => Ok(Some(file)),
         Err(ending) => Err(ending),
     }
 }
@@ -83,46 +83,32 @@ fn serve<'a>(
     rt: &HostRuntime,
     mut server: Server,
     address: SocketAddr,
-    ids: Option<ReadIds<File>>,
+    ids: Option<File>,
 ) -> Result<(), Ending<'a>>
     ensures { IfErr result IsEndOfServing }
 {
-    match MioSockets::new(rt, rt.alloc(), address, &server) {
-        Ok(sockets) => match tell(rt, &sockets) {
-            Ok(()) => serve_over(rt, &mut server, sockets, ids),
+    match MioSockets::new(rt, rt.alloc(), address, &server, ids) {
+        Ok(mut sockets) => match tell(rt, &sockets) {
+            Ok(()) => go_round(rt, &mut server, &mut sockets),
             Err(ending) => Err(ending),
         },
         Err(error) => Err(ending_of_listening(&error)),
     }
 }
 
-/// Serves over these sockets, and hands in the ids, if there are any.
-fn serve_over<'a>(
-    rt: &HostRuntime,
-    server: &mut Server,
-    mut sockets: MioSockets<'_, HostRuntime>,
-    ids: Option<ReadIds<File>>,
-) -> Result<(), Ending<'a>>
-    ensures ending { IfErr result IsEndOfServing }
-    ensures run { IsOneRun server.old.state server.new.state }
-{
-    match ids {
-        Some(ids) => go_round(rt, server, &mut WithIds::new(sockets, ids)),
-        None => go_round(rt, server, &mut sockets),
-    }
-}
-
 /// Goes round the peers up to the first fault of the loop, and writes what is new. Whatever the sockets do, it is one run
 /// of the server.
-fn go_round<'a, S: Sockets>(
+fn go_round<'a>(
     rt: &HostRuntime,
     server: &mut Server,
-    sockets: &mut S,
+    sockets: &mut MioSockets<'_, HostRuntime, File>,
 ) -> Result<(), Ending<'a>>
-    ensures turns { MatchResult result
-        (λ done. TurnsUpTo S.calls S.failures
+    ensures turns { let calls = ⟦<MioSockets<'static, HostRuntime, File> as Sockets>⟧.calls in
+        let failures = ⟦<MioSockets<'static, HostRuntime, File> as Sockets>⟧.failures in
+        MatchResult result
+        (λ done. TurnsUpTo calls failures
         server.old.state sockets.old (Ok done) server.new.state sockets.new)
-        (λ ending. (fault : LoopFault) × (ending ≡ Ending.Loop fault) × TurnsUpTo S.calls S.failures
+        (λ ending. (fault : LoopFault) × (ending ≡ Ending.Loop fault) × TurnsUpTo calls failures
         server.old.state sockets.old (Err fault) server.new.state sockets.new) }
     ensures run { IsOneRun server.old.state server.new.state }
 {
@@ -138,7 +124,7 @@ fn go_round<'a, S: Sockets>(
 }
 
 /// Tells on standard output at which address clients are listened for.
-fn tell<'a>(rt: &HostRuntime, sockets: &MioSockets<'_, HostRuntime>) -> Result<(), Ending<'a>>
+fn tell<'a>(rt: &HostRuntime, sockets: &MioSockets<'_, HostRuntime, File>) -> Result<(), Ending<'a>>
     ensures { IfErr result IsEndOfServing }
 {
     let Ok(bound) = sockets.local_addr() else {

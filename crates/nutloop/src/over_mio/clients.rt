@@ -1,94 +1,160 @@
-//! The sockets of clients.
-ghost use Rattle.std.specs.Prelude.{◌≡◌, ◌≤◌, length, IfOk};
+//! Clients.
+ghost use Rattle.std.specs.Prelude.{◌≡◌, ◌<◌, ◌≤◌, length, IfOk, IfSome};
 ghost use Rattle.nutcore.specs.Status.{standing_of};
-ghost use Rattle.nutloop.specs.Peers.{IsClientNoted, IsRead, IsSameClient, IsWritten, client_place, client_with};
+ghost use Rattle.nutlisting.specs.declared.listing.clients.TheConstants.{SESSION_LIMIT};
 ghost use Rattle.nutloop.specs.Sockets.{AtMost};
-ghost use Rattle.nutloop.specs.Standing.{client_flags, heard};
+ghost use Rattle.nutloop.specs.Pass.{FirstFrom, client_at, client_may};
 
-use super::readiness;
-use crate::round::{Flags, Round, Seat};
+use super::pass::Way;
+use super::socket::{Socket, both_ways};
+use super::tokens::Source;
 use crate::sockets::{Broken, Got};
-use crate::standing::{Readiness, client_flags};
-use mio::Token;
+use arrayvec::ArrayVec;
+use mio::Registry;
 use mio::net::TcpStream;
-use nutcore::{ClientId, Server};
+use nutcore::{ClientId, SESSION_LIMIT, Server, Standing};
 
-/// The socket of a client.
+/// The clients by their places. A client keeps its place up to its end.
+pub(super) type Clients = ArrayVec<Option<Client>, SESSION_LIMIT>;
+
+/// A client: its session, its socket, and how the session stood after the client's last turn.
 #[derive(Drop)]
-pub(super) struct ClientSocket {
+pub(super) struct Client {
     pub id: ClientId,
-    pub token: Token,
-    pub stream: TcpStream,
-    pub readiness: Readiness,
-    /// It was owed something as its flags were told last.
-    pub is_owed: bool,
+    pub socket: Socket<TcpStream>,
+    pub standing: Standing,
 }
 
-impl ClientSocket {
-    /// What may be done with it.
-    pub fn flags(&mut self, server: &Server) -> Flags
-        ensures flags { result ≡ client_flags self.old.readiness
-            (standing_of self.old.id server.now.state) }
-        ensures leaves { self.new ≡ record self.old
-            { is_owed = (standing_of self.old.id server.now.state).is_owed } }
+impl Client {
+    /// Whether it may be read or written to. While it is owed something it is read where its session has room, unless it
+    /// has ended. One that is finished is written to, which closes it.
+    pub fn may(&self, way: Way) -> bool
+        ensures { result ≡ client_may way self.now }
     {
-        let standing = server.standing(self.id);
-        self.is_owed = standing.is_owed;
-        client_flags(self.readiness, standing)
+        let Client {
+            socket,
+            standing,
+            ..
+        } = self;
+        match (way, standing.is_owed) {
+            (Way::Read, true) => socket.readable && standing.has_room && !socket.ended,
+            (Way::Read, false) => socket.readable && !standing.is_finished,
+            (Way::Write, true) => socket.writable,
+            (Way::Write, false) => standing.is_finished,
+        }
     }
 
-    /// Notes what may be done with it.
-    pub fn note(&mut self, round: &mut Round, server: &Server)
-        ensures noted { IsClientNoted server.now.state self.old self.new
-            round.old.places.items round.new.places.items }
-        ensures last { round.new.last ≡ round.old.last }
+    /// Notes how its session stands.
+    pub fn note(&mut self, server: &Server)
+        ensures { self.new ≡ record self.old { standing = standing_of self.old.id server.now.state } }
     {
-        let flags = self.flags(server);
-        round.note(Seat::Client(self.id), flags);
-    }
-
-    /// Notes what an event tells of it.
-    pub fn hear(&mut self, told: Readiness, round: &mut Round, server: &Server)
-        ensures noted { IsClientNoted server.now.state
-            (record self.old { readiness = heard told self.old.readiness }) self.new
-            round.old.places.items round.new.places.items }
-        ensures last { round.new.last ≡ round.old.last }
-    {
-        self.readiness.hear(told);
-        self.note(round, server);
-    }
-
-    /// Reads into the front of the buffer.
-    pub fn read(&mut self, into: &mut [u8]) -> Result<Got, Broken>
-        ensures bound { AtMost result into.new }
-        ensures read { IsRead (length into.new) self.old.is_owed result
-            self.old.readiness self.new.readiness }
-        ensures same { IsSameClient self.old self.new }
-    {
-        readiness::read(&mut self.stream, &mut self.readiness, into, self.is_owed)
-    }
-
-    /// Writes a beginning of the bytes.
-    pub fn write(&mut self, from: &[u8]) -> Result<usize, Broken>
-        ensures bound { IfOk result (λ n. n ≤ length from.now) }
-        ensures written { IsWritten (length from.now) result
-            self.old.readiness self.new.readiness }
-        ensures same { IsSameClient self.old self.new }
-    {
-        readiness::write(&mut self.stream, &mut self.readiness, from)
+        self.standing = server.standing(self.id);
     }
 }
 
-/// Where the socket of this client is.
-pub(super) fn client_place(clients: &[ClientSocket], c: ClientId) -> Option<usize>
-    ensures { result ≡ client_place c clients.now }
+/// The first client from this place on that may be read or written to.
+pub(super) fn client_from(clients: &[Option<Client>], from: usize, way: Way) -> Option<usize>
+    ensures first { FirstFrom (client_at way clients.now) from result }
+    ensures within { IfSome result (λ place. place < length clients.now) }
 {
-    clients.iter().position(|client| client.id == c)
+    for place in from..clients.len() {
+        if let Some(client) = &clients[place] {
+            if client.may(way) {
+                return Some(place);
+            }
+        }
+    }
+    None
 }
 
-/// Where the client's socket is that has this token.
-pub(super) fn client_with(clients: &[ClientSocket], token: Token) -> Option<usize>
-    ensures { result ≡ client_with token clients.now }
+/// The place of this client. It is looked for at one place first.
+fn place_of(clients: &[Option<Client>], here: usize, c: ClientId) -> Option<usize>
+    ensures { IfSome result (λ place. place < length clients.now) }
 {
-    clients.iter().position(|client| client.token.0 == token.0)
+    match clients.get(here) {
+        Some(Some(client)) if client.id == c => Some(here),
+        _ => clients
+            .iter()
+            .position(|slot| matches!(slot, Some(client) if client.id == c)),
+    }
+}
+
+/// The client of this session.
+fn client_of(clients: &mut Clients, here: usize, c: ClientId) -> Option<&mut Client> {
+    let place = place_of(clients.as_slice(), here, c)?;
+    clients.get_mut(place)?.as_mut()
+}
+
+/// Reads what the client sends. One that isn't here has ended.
+pub(super) fn read_client(
+    clients: &mut Clients,
+    here: usize,
+    c: ClientId,
+    into: &mut [u8],
+) -> Result<Got, Broken>
+    ensures { AtMost result into.new }
+{
+    match client_of(clients, here, c) {
+        Some(client) => client.socket.read(into, client.standing.is_owed),
+        None => Ok(Got::End),
+    }
+}
+
+/// Writes to the client.
+pub(super) fn write_client(
+    clients: &mut Clients,
+    here: usize,
+    c: ClientId,
+    from: &[u8],
+) -> Result<usize, Broken>
+    ensures { IfOk result (λ n. n ≤ length from.now) }
+{
+    match client_of(clients, here, c) {
+        Some(client) => client.socket.write(from),
+        None => Err(Broken),
+    }
+}
+
+/// The client has the first place that nobody has.
+pub(super) fn take_in(clients: &mut Clients, registry: &Registry, id: ClientId, stream: TcpStream) {
+    let place = clients
+        .iter()
+        .position(|slot| slot.is_none())
+        .unwrap_or(clients.len());
+    if place < SESSION_LIMIT {
+        let client = registered(registry, id, stream, place);
+        if place < clients.len() {
+            clients[place] = Some(client);
+        } else {
+            clients.push(Some(client));
+        }
+    }
+}
+
+/// A client whose socket is registered for this place. Where that fails it is read at once, and so closed.
+fn registered(registry: &Registry, id: ClientId, mut stream: TcpStream, place: usize) -> Client
+    requires { place < SESSION_LIMIT }
+{
+    let token = Source::Client(place).token();
+    let failed = registry.register(&mut stream, token, both_ways()).is_err();
+    Client {
+        id,
+        socket: Socket {
+            stream,
+            readable: failed,
+            writable: true,
+            ended: failed,
+        },
+        standing: Standing {
+            is_owed: false,
+            has_room: true,
+            is_finished: false,
+        },
+    }
+}
+
+/// The client leaves its place.
+pub(super) fn take_out(clients: &mut Clients, here: usize, c: ClientId) -> Option<Client> {
+    let place = place_of(clients.as_slice(), here, c)?;
+    clients.get_mut(place)?.take()
 }

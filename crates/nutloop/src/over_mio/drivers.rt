@@ -1,154 +1,133 @@
-//! The sockets of drivers.
-ghost use Rattle.std.specs.Prelude.{◌≡◌, ◌≤◌, length, false, true, IfOk, MatchOption};
-ghost use Rattle.nutloop.specs.Peers.{IsDriverNoted, IsRead, IsSameDriver, IsWritten, NotesDrivers, driver_place, driver_token, driver_with, is_there};
+//! Drivers.
+ghost use Rattle.std.specs.Prelude.{◌≡◌, ◌<◌, ◌≤◌, length, IfOk, IfSome};
+ghost use Rattle.nutusers.specs.declared.limits.TheConstants.{UPS_LIMIT};
 ghost use Rattle.nutloop.specs.Sockets.{AtMost};
-ghost use Rattle.nutloop.specs.Standing.{driver_flags, heard, is_driver_owed};
+ghost use Rattle.nutloop.specs.Pass.{FirstFrom, driver_at, driver_may};
 
-use super::readiness;
-use super::readiness::both_ways;
-use crate::round::{Flags, Round, Seat};
+use super::pass::Way;
+use super::socket::{Socket, both_ways};
+use super::tokens::Source;
 use crate::sockets::{Broken, Got};
-use crate::standing::{Readiness, driver_flags, is_driver_owed};
+use arrayvec::ArrayVec;
+use mio::Registry;
 use mio::net::UnixStream;
-use mio::{Registry, Token};
 use nutcore::{Server, UpsId};
+use nutusers::UPS_LIMIT;
 use std::io;
 use std::net::Net;
 
-/// The token of the driver of place 0. Tokens of clients count from 0, and don't come so far.
-const FIRST_DRIVER: usize = 1 << 62;
+/// The drivers by the places of their UPSs.
+pub(super) type Drivers = ArrayVec<Driver, UPS_LIMIT>;
 
-/// The socket of a UPS's driver.
-#[derive(Drop)]
-pub(super) struct DriverSocket {
-    pub u: UpsId,
-    pub stream: UnixStream,
-    pub readiness: Readiness,
-    /// It was told that the driver is there.
-    pub is_told: bool,
-    /// What may be done with it, as it was told last.
-    flags: Flags,
+/// The system's number of an error that has none: EINVAL, which it gives for a path that no socket can have.
+const INVALID_ARGUMENT: i32 = 22;
+
+/// The driver of a UPS: its socket where it is connected, and else the number of the error by which the last try failed.
+#[derive(Default, Drop)]
+pub(super) struct Driver {
+    pub socket: Option<Socket<UnixStream>>,
+    pub error: Option<i32>,
 }
 
-impl DriverSocket {
-    /// Connects to the driver of a UPS, whose socket has this path.
-    pub fn connect<R: Net>(rt: &R, registry: &Registry, u: UpsId, path: &str) -> io::Result<Self>
-        ensures ups { IfOk result (λ x. x.u ≡ u) }
-        ensures fresh { IfOk result (λ x. x.readiness
-            ≡ record { readable = false; writable = true; ended = false }) }
-        // It is told at its first turn that it is there.
-        ensures is_told { IfOk result (λ x. x.is_told ≡ false) }
-        ensures flags { IfOk result (λ x. x.flags ≡ record { readable = false; writable = false }) }
+impl Driver {
+    /// Whether it may be read or written to. The first turn of a driver reports to the server that it is connected, and
+    /// counts as a read.
+    fn may(&self, u: UpsId, way: Way, server: &Server) -> bool
+        ensures { result ≡ driver_may server.now.state u way self.now }
     {
-        let mut stream = UnixStream::connect(rt, path)?;
-        registry.register(&mut stream, driver_token(u), both_ways())?;
-        Ok(DriverSocket {
-            u,
-            stream,
-            readiness: Readiness::new(),
-            is_told: false,
-            flags: Flags {
-                readable: false,
-                writable: false,
-            },
-        })
-    }
-
-    /// What may be done with it, where that is something else than was told last.
-    pub fn new_flags(&mut self, server: &Server) -> Option<Flags>
-        ensures flags { self.new.flags ≡ driver_flags self.old.readiness self.old.is_told
-            (is_driver_owed self.old.u server.now.state) }
-        ensures told { MatchOption result (self.new.flags ≡ self.old.flags)
-            (λ flags. flags ≡ self.new.flags) }
-        ensures same { self.new ≡ record self.old { flags = self.new.flags } }
-    {
-        let flags = driver_flags(self.readiness, self.is_told, is_driver_owed(server, self.u));
-        if flags == self.flags {
-            return None;
-        }
-        self.flags = flags;
-        Some(flags)
-    }
-
-    /// Notes what may be done with it, where that has changed.
-    pub fn note(&mut self, round: &mut Round, server: &Server)
-        ensures noted { IsDriverNoted server.now.state self.old self.new
-            round.old.places.items round.new.places.items }
-        ensures last { round.new.last ≡ round.old.last }
-    {
-        if let Some(flags) = self.new_flags(server) {
-            round.note(Seat::Driver(self.u), flags);
+        let Some(socket) = &self.socket else {
+            return false;
+        };
+        match way {
+            Way::Read => socket.readable || !server.driver_connected(u).unwrap_or(false),
+            Way::Write => socket.writable && server.driver_offered(u).unwrap_or(0) != 0,
         }
     }
 
-    /// Notes what an event tells of it.
-    pub fn hear(&mut self, told: Readiness, round: &mut Round, server: &Server)
-        ensures noted { IsDriverNoted server.now.state
-            (record self.old { readiness = heard told self.old.readiness }) self.new
-            round.old.places.items round.new.places.items }
-        ensures last { round.new.last ≡ round.old.last }
+    /// Connects to the driver of this UPS, if it isn't connected and its socket has a path.
+    pub fn connect<R: Net>(&mut self, rt: &R, registry: &Registry, u: UpsId, server: &Server)
+        requires { u.place < UPS_LIMIT }
     {
-        self.readiness.hear(told);
-        self.note(round, server);
-    }
-
-    /// Reads into the front of the buffer.
-    pub fn read(&mut self, into: &mut [u8]) -> Result<Got, Broken>
-        ensures bound { AtMost result into.new }
-        ensures read { IsRead (length into.new) false result self.old.readiness self.new.readiness }
-        ensures same { IsSameDriver self.old self.new }
-    {
-        readiness::read(&mut self.stream, &mut self.readiness, into, false)
-    }
-
-    /// Writes a beginning of the bytes.
-    pub fn write(&mut self, from: &[u8]) -> Result<usize, Broken>
-        ensures bound { IfOk result (λ n. n ≤ length from.now) }
-        ensures written { IsWritten (length from.now) result
-            self.old.readiness self.new.readiness }
-        ensures same { IsSameDriver self.old self.new }
-    {
-        readiness::write(&mut self.stream, &mut self.readiness, from)
+        if self.socket.is_some() {
+            return;
+        }
+        let Some(path) = server.ups().socket(u) else {
+            return;
+        };
+        match connected(rt, registry, u, path) {
+            Ok(socket) => {
+                self.socket = Some(socket);
+                self.error = None;
+            }
+            Err(error) => self.error = Some(error.raw_os_error().unwrap_or(INVALID_ARGUMENT)),
+        }
     }
 }
 
-/// Notes what may be done now with each driver.
-pub(super) fn note_drivers(drivers: &mut [DriverSocket], round: &mut Round, server: &Server)
-    ensures noted { NotesDrivers server.now.state drivers.old drivers.new
-        round.old.places.items round.new.places.items }
-    ensures last { round.new.last ≡ round.old.last }
-{
-    for driver in drivers.iter_mut() {
-        driver.note(round, server);
+/// Tries the drivers that aren't connected.
+pub(super) fn connect<R: Net>(rt: &R, registry: &Registry, drivers: &mut Drivers, server: &Server) {
+    for place in 0..UPS_LIMIT {
+        if let Some(driver) = drivers.get_mut(place) {
+            driver.connect(rt, registry, UpsId { place: place as u8 }, server);
+        }
     }
 }
 
-/// The token by which events tell of the UPS's driver.
-pub(super) fn driver_token(u: UpsId) -> Token
-    ensures { result ≡ driver_token u }
+/// A socket that is connected to this path.
+fn connected<R: Net>(
+    rt: &R,
+    registry: &Registry,
+    u: UpsId,
+    path: &str,
+) -> io::Result<Socket<UnixStream>>
+    requires { u.place < UPS_LIMIT }
 {
-    Token(FIRST_DRIVER + u.place as usize)
+    let mut stream = UnixStream::connect(rt, path)?;
+    let token = Source::Driver(u.place as usize).token();
+    registry.register(&mut stream, token, both_ways())?;
+    Ok(Socket::new(stream))
 }
 
-/// Where the socket of this UPS's driver is.
-pub(super) fn driver_place(drivers: &[DriverSocket], u: UpsId) -> Option<usize>
-    ensures { result ≡ driver_place u drivers.now }
+/// The first driver from this place on that may be read or written to.
+pub(super) fn driver_from(
+    drivers: &[Driver],
+    from: usize,
+    way: Way,
+    server: &Server,
+) -> Option<usize>
+    requires { length drivers.now ≤ UPS_LIMIT }
+    ensures first { FirstFrom (driver_at server.now.state way drivers.now) from result }
+    ensures within { IfSome result (λ place. place < length drivers.now) }
 {
-    drivers.iter().position(|driver| driver.u.place == u.place)
+    for place in from..drivers.len() {
+        if drivers[place].may(UpsId { place: place as u8 }, way, server) {
+            return Some(place);
+        }
+    }
+    None
 }
 
-/// Where the driver's socket is that has this token.
-pub(super) fn driver_with(drivers: &[DriverSocket], token: Token) -> Option<usize>
-    ensures { result ≡ driver_with token drivers.now }
-{
-    drivers
-        .iter()
-        .position(|driver| driver_token(driver.u).0 == token.0)
+/// The socket of a driver that is connected.
+fn socket_of(drivers: &mut Drivers, u: UpsId) -> Option<&mut Socket<UnixStream>> {
+    drivers.get_mut(u.place as usize)?.socket.as_mut()
 }
 
-/// Whether this UPS's driver is there.
-pub(super) fn is_there(drivers: &[DriverSocket], u: UpsId) -> bool
-    ensures { result ≡ is_there u drivers.now }
+/// Reads what the driver sends. One that isn't connected has ended.
+pub(super) fn read_driver(drivers: &mut Drivers, u: UpsId, into: &mut [u8]) -> Result<Got, Broken>
+    ensures { AtMost result into.new }
 {
-    drivers.iter().any(|driver| driver.u.place == u.place)
+    match socket_of(drivers, u) {
+        Some(socket) => socket.read(into, false),
+        None => Ok(Got::End),
+    }
+}
+
+/// Writes to the driver.
+pub(super) fn write_driver(drivers: &mut Drivers, u: UpsId, from: &[u8]) -> Result<usize, Broken>
+    ensures { IfOk result (λ n. n ≤ length from.now) }
+{
+    match socket_of(drivers, u) {
+        Some(socket) => socket.write(from),
+        None => Err(Broken),
+    }
 }

@@ -1,11 +1,14 @@
 //! The journal of drivers that can't be connected to, and why.
 ghost use Rattle.std.specs.Prelude.{◌≡◌, ◌<◌, MatchOption, length, slice_get, slice_set, replicate, None};
+ghost use Rattle.nutloop.specs.OverMio.{error_of};
 ghost use Rattle.upsd.specs.Connecting.{AreErrorsWrittenUpTo, IsErrorNews};
 
 use nutcore::{Server, UpsId};
-use nutloop::Sockets;
+use nutloop::MioSockets;
 use nutusers::UPS_LIMIT;
-use std::io::Error;
+use std::io::{Error, Read};
+use std::net::Net;
+use std::time::Clock;
 
 /// The error by which each driver couldn't be connected to, by what was written of it: the system's number, by the UPS's
 /// place.
@@ -25,8 +28,13 @@ impl Connecting {
     }
 
     /// Writes a line of each driver that can't be connected to by another error than was written last.
-    pub fn write<S: Sockets>(&mut self, rt: &HostRuntime, server: &Server, sockets: &S)
-        ensures { AreErrorsWrittenUpTo (length server.now.state.list) (S.errors sockets.now)
+    pub fn write<R: Net + Clock, F: Read + Drop>(
+        &mut self,
+        rt: &HostRuntime,
+        server: &Server,
+        sockets: &MioSockets<'_, R, F>,
+    )
+        ensures { AreErrorsWrittenUpTo (length server.now.state.list) (error_of sockets.now)
             self.old.written self.new.written }
     {
         for place in 0..server.ups().len() {

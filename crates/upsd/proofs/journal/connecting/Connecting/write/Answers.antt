@@ -1,6 +1,7 @@
 use Rattle.std.proofs.Common.{◌≡◌, ◌+◌, ◌<◌, ◌∙◌, ℕ, ℤ, List, Option, None, Some, MatchOption, length, set, slice_get, sym, ap, subst}
 use Rattle.std.proofs.lemmas.Option.{slice_get_within}
 use Rattle.nutusers.specs.UpsList.{id_at}
+use Rattle.nutloop.specs.OverMio.{error_of}
 use Rattle.upsd.specs.Journal.{AreWrittenUpTo}
 use Rattle.upsd.proofs.Written.{matched, written_more}
 use Rattle.upsd.proofs.journal.connecting.Connecting.write.Goals as goal
@@ -8,7 +9,7 @@ use Rattle.upsd.proofs.journal.connecting.Connecting.write.Goals as goal
 pub loop-place-preserved : goal.loop-place-preserved
 loop-place-preserved g c =
     let p : ℕ = c.loop-place.place in
-    let now = λ (place : ℕ). g.S.Sockets.errors c.args.sockets.now (id_at place) in
+    let now = λ (place : ℕ). error_of c.args.sockets.now (id_at place) in
     let before : List (Option ℤ) = c.args.self.now.written in
     let mid : List (Option ℤ) = c.loop-place.self.written in
     let was = matched (slice_get mid p) _ c.take_news.ensures.news in

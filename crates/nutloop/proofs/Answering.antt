@@ -1,0 +1,40 @@
+-- What `ready` answers, by the visits that it makes.
+use Rattle.std.proofs.Common.{◌≡◌, ◌∙◌, true, Option, Some, None, inl, inr, subst, sym}
+use Rattle.std.specs.Prelude.{unwrap_or}
+use Rattle.nutcore.specs.Server.{ServerState}
+use Rattle.nutloop.specs.declared.over_mio.MioSockets.{MioSockets}
+use Rattle.nutloop.specs.declared.over_mio.pass.Pass.{Pass}
+use Rattle.nutloop.specs.declared.sockets.Ready.{Ready}
+use Rattle.nutloop.specs.declared.sockets.Ready.TheVariants.{Nothing}
+use Rattle.nutloop.specs.OverMio.{AnswersReady, GivesAfterLook, GivesTurn, may_at}
+use Rattle.nutloop.specs.Pass.{IsOver, again, fresh, goes_on}
+
+-- The first turn of the next pass, which begins without a look.
+pub of_next_pass : {R F : Type 0} (s : ServerState) (old mid new : MioSockets R F) (next : Pass) (answer : Ready)
+    → mid ≡ record old { pass = mid.pass; here = mid.here } → IsOver (may_at s old) old.pass mid.pass
+    → goes_on mid.pass ≡ true → next ≡ again mid.pass → GivesTurn s mid next (Some answer) new.pass
+    → AnswersReady s old answer new
+of_next_pass {R} {F} s old mid new next answer same over on is gives =
+    let from_again : GivesTurn s mid (again mid.pass) (Some answer) new.pass =
+    subst (λ (p : Pass). GivesTurn s mid p (Some answer) new.pass) is gives in
+    let turn : GivesTurn s old (again mid.pass) (Some answer) new.pass =
+    subst (λ (m : MioSockets R F). GivesTurn s m (again mid.pass) (Some answer) new.pass) same from_again in
+    inl (turn.0, turn.1, inr (mid.pass, over, on, turn.2))
+
+-- What the first visit after a look gives.
+pub after_look : {R F : Type 0} (s : ServerState) (looked new : MioSockets R F) (answer : Option Ready) (ready : Ready)
+    → looked.pass ≡ fresh → new ≡ record looked { pass = new.pass; here = new.here }
+    → GivesTurn s looked looked.pass answer new.pass → ready ≡ unwrap_or answer Nothing
+    → GivesAfterLook s new ready new.pass
+after_look {R} {F} s looked new (Some turn) ready is same gives told =
+    let at_fresh : GivesTurn s looked fresh (Some turn) new.pass =
+    subst (λ (p : Pass). GivesTurn s looked p (Some turn) new.pass) is gives in
+    let now : GivesTurn s new fresh (Some turn) new.pass =
+    subst (λ (m : MioSockets R F). GivesTurn s m fresh (Some turn) new.pass) (sym same) at_fresh in
+    inr (inl (now.0, told ∙ now.1, now.2))
+after_look {R} {F} s looked new None ready is same gives told =
+    let at_fresh : GivesTurn s looked fresh None new.pass =
+    subst (λ (p : Pass). GivesTurn s looked p None new.pass) is gives in
+    let now : GivesTurn s new fresh None new.pass =
+    subst (λ (m : MioSockets R F). GivesTurn s m fresh None new.pass) (sym same) at_fresh in
+    inr (inr (told, now))

@@ -1,0 +1,15 @@
+-- The numbers of the loop.
+use Rattle.std.specs.Prelude.{◌≡◌, ◌+◌, ◌-◌, ◌^◌}
+use Rattle.nutloop.specs.declared.over_mio.closing.TheConstants.{CLOSING_LIMIT, CLOSING_TICKS}
+use Rattle.nutloop.specs.declared.over_mio.pass.TheConstants.{TURNS_PER_LOOK}
+use Rattle.nutloop.specs.declared.serving.TheConstants.{TURN_LIMIT}
+use Rattle.nutloop.specs.declared.turns.TheConstants.{DRIVER_READ_LIMIT}
+use Rattle.nutloop.specs.Pass.{STOPS}
+
+pub record Numbers : Type 0 where
+  pub driver_read : DRIVER_READ_LIMIT ≡ 512
+  pub turns_per_look : TURNS_PER_LOOK ≡ 16
+  pub turns_between_looks : TURNS_PER_LOOK + STOPS ≡ 209
+  pub closing : CLOSING_LIMIT ≡ 64
+  pub closing_ticks : CLOSING_TICKS ≡ 2
+  pub turns : TURN_LIMIT ≡ 2 ^ 64 - 1

@@ -1,0 +1,77 @@
+-- What the sockets over mio answer to `ready`, and what they report beside the calls.
+use Rattle.std.specs.Prelude.{◌≡◌, ◌⊎◌, ℕ, ℤ, Bool, List, Option, if◌then◌else◌, slice_get, MatchOption}
+use Rattle.std.specs.Option.{option_and_then, option_map_or}
+use Rattle.nutusers.specs.UpsList.{id_at}
+use Rattle.nutusers.specs.declared.ups_list.UpsId.{UpsId}
+use Rattle.nutcore.specs.declared.event.Peer.{Peer}
+use Rattle.nutcore.specs.declared.event.Peer.TheVariants as peer
+use Rattle.nutcore.specs.Server.{ServerState}
+use Rattle.nutcore.specs.DriverHistory.{has_driver}
+use Rattle.nutloop.specs.declared.sockets.Ready.{Ready}
+use Rattle.nutloop.specs.declared.sockets.Ready.TheVariants as ready
+use Rattle.nutloop.specs.declared.over_mio.MioSockets.{MioSockets}
+use Rattle.nutloop.specs.declared.over_mio.clients.Client.{Client}
+use Rattle.nutloop.specs.declared.over_mio.pass.Pass.{Pass}
+use Rattle.nutloop.specs.declared.over_mio.pass.Stop.{Stop}
+use Rattle.nutloop.specs.declared.over_mio.pass.Stop.TheVariants as stop
+use Rattle.nutloop.specs.declared.over_mio.pass.Way.{Way}
+use Rattle.nutloop.specs.declared.over_mio.pass.Way.TheVariants.{Read, Write}
+use Rattle.nutloop.specs.Fairness.{HasNext}
+use Rattle.nutloop.specs.Pass.{HasTurn, IsOver, fresh, may}
+
+-- What may be done at a stop of these sockets.
+abbrev pub may_at : {R F : Type 0} → ServerState → MioSockets R F → Stop → Bool
+may_at s sockets = may s sockets.door.is_knocked_at sockets.drivers.items sockets.clients.items
+
+-- The turn that `ready` answers at a stop. A driver that the server doesn't know to be connected is
+-- reported first.
+abbrev pub turn_of : Peer → Way → Ready
+turn_of p Read = ready.Read p
+turn_of p Write = ready.Write p
+
+abbrev pub driver_turn : ServerState → UpsId → Way → Ready
+driver_turn s u way = if has_driver u s then turn_of (peer.Driver u) way else ready.DriverUp u
+
+abbrev pub client_turn : List (Option Client) → ℕ → Way → Ready
+client_turn clients place way =
+    option_map_or
+    (λ slot. option_map_or (λ client. turn_of (peer.Client client.id) way) slot ready.Nothing)
+    (slice_get clients place) ready.Nothing
+
+abbrev pub turn_at : {R F : Type 0} → ServerState → MioSockets R F → Stop → Ready
+turn_at s sockets stop.Listener = ready.Newcomer
+turn_at s sockets (stop.Driver place way) = driver_turn s (id_at place) way
+turn_at s sockets (stop.Client place way) = client_turn sockets.clients.items place way
+
+-- A visit of the pass: the turn of a stop, or the pass is over.
+abbrev pub GivesTurn : {R F : Type 0} → ServerState → MioSockets R F → Pass → Option Ready → Pass
+    → Type 0
+GivesTurn s sockets old answer new =
+    MatchOption answer (IsOver (may_at s sockets) old new)
+    (λ turn. (told : Stop) × (turn ≡ turn_at s sockets told)
+    × HasTurn (may_at s sockets) old told new)
+
+-- After a look: a tick, or the first turn of a new pass, or nothing where nobody is ready.
+abbrev pub GivesAfterLook : {R F : Type 0} → ServerState → MioSockets R F → Ready → Pass → Type 0
+GivesAfterLook s sockets answer new =
+    ((second : ℕ) × (answer ≡ ready.Tick second) × (new ≡ fresh))
+    ⊎ (((told : Stop) × (answer ≡ turn_at s sockets told)
+    × HasTurn (may_at s sockets) fresh told new)
+    ⊎ ((answer ≡ ready.Nothing) × IsOver (may_at s sockets) fresh new))
+
+-- The next turn without a look, or a look where the pass is over.
+abbrev pub AnswersReady : {R F : Type 0} → ServerState → MioSockets R F → Ready → MioSockets R F
+    → Type 0
+AnswersReady s old answer new =
+    ((told : Stop) × (answer ≡ turn_at s old told)
+    × HasNext (may_at s old) old.pass told new.pass)
+    ⊎ ((over : Pass) × IsOver (may_at s old) old.pass over × GivesAfterLook s new answer new.pass)
+
+-- How many newcomers were sent away, and the number of the error by which a driver couldn't be
+-- connected to.
+abbrev pub refused : {R F : Type 0} → MioSockets R F → ℕ
+refused sockets = sockets.refusals
+
+abbrev pub error_of : {R F : Type 0} → MioSockets R F → UpsId → Option ℤ
+error_of sockets u =
+    option_and_then (λ driver. driver.error) (slice_get sockets.drivers.items u.place)

@@ -1,0 +1,121 @@
+-- One pass over all peers, and what holds between two looks at the system.
+use Rattle.std.specs.Prelude.{◌≡◌, ◌⊎◌, ◌+◌, ◌*◌, ◌^◌, ◌-◌, ◌<◌, ◌≤◌, ◌==◌, ◌&&◌, ◌||◌, ℕ, ⊤, Bool, true, false, not}
+use Rattle.std.specs.Prelude.{List, [], ◌∷◌, Option, Some, None, if◌then◌else◌, length, min, nat_lt, slice_get}
+use Rattle.std.specs.Option.{option_map_or}
+use Rattle.nutusers.specs.UpsList.{id_at}
+use Rattle.nutusers.specs.declared.ups_list.UpsId.{UpsId}
+use Rattle.nutusers.specs.declared.limits.TheConstants.{UPS_LIMIT}
+use Rattle.nutlisting.specs.declared.listing.clients.TheConstants.{SESSION_LIMIT}
+use Rattle.nutcore.specs.Server.{ServerState}
+use Rattle.nutcore.specs.DriverHistory.{has_driver}
+use Rattle.nutcore.specs.DriverOrders.{owed_to_driver}
+use Rattle.nutloop.specs.declared.over_mio.clients.Client.{Client}
+use Rattle.nutloop.specs.declared.over_mio.drivers.Driver.{Driver}
+use Rattle.nutloop.specs.declared.over_mio.pass.Pass.{Pass}
+use Rattle.nutloop.specs.declared.over_mio.pass.Stop.{Stop}
+use Rattle.nutloop.specs.declared.over_mio.pass.Stop.TheVariants as stop
+use Rattle.nutloop.specs.declared.over_mio.pass.Way.{Way}
+use Rattle.nutloop.specs.declared.over_mio.pass.Way.TheVariants.{Read, Write}
+use Rattle.nutloop.specs.declared.over_mio.pass.TheConstants.{TURNS_PER_LOOK}
+
+-- A client that is owed something is read where its session has room, unless it has ended. One that
+-- is finished is written to, which closes it.
+abbrev pub client_may : Way → Client → Bool
+client_may Read x =
+    x.socket.readable
+    && (if x.standing.is_owed then x.standing.has_room && not x.socket.ended
+    else not x.standing.is_finished)
+client_may Write x = if x.standing.is_owed then x.socket.writable else x.standing.is_finished
+
+abbrev pub client_at : Way → List (Option Client) → ℕ → Bool
+client_at way clients place =
+    option_map_or (λ slot. option_map_or (client_may way) slot false) (slice_get clients place) false
+
+-- A driver that is connected has a turn to report that, and from then on where there may be
+-- something to read, or it may take what it is owed.
+abbrev pub driver_may : ServerState → UpsId → Way → Driver → Bool
+driver_may s u Read x =
+    option_map_or (λ socket. socket.readable || not (has_driver u s)) x.socket false
+driver_may s u Write x =
+    option_map_or (λ socket. socket.writable && not (length (owed_to_driver u s) == 0))
+    x.socket false
+
+abbrev pub driver_at : ServerState → Way → List Driver → ℕ → Bool
+driver_at s way drivers place =
+    option_map_or (driver_may s (id_at place) way) (slice_get drivers place) false
+
+-- What may be done at a stop.
+abbrev pub may : ServerState → Bool → List Driver → List (Option Client) → Stop → Bool
+may s is_knocked_at drivers clients stop.Listener = is_knocked_at
+may s is_knocked_at drivers clients (stop.Driver place way) = driver_at s way drivers place
+may s is_knocked_at drivers clients (stop.Client place way) = client_at way clients place
+
+-- The first place from this one on at which something may be done, if there is one.
+abbrev pub FirstFrom : (ℕ → Bool) → ℕ → Option ℕ → Type 0
+FirstFrom may from (Some place) =
+    (from ≤ place) × (may place ≡ true)
+    × ((k : ℕ) → from ≤ k → k < place → may k ≡ false)
+FirstFrom may from None = (k : ℕ) → from ≤ k → may k ≡ false
+
+-- The first pass after a look, and the next one without a look.
+abbrev pub fresh : Pass
+fresh =
+    record {
+      was_at_listener = false;
+      driver_reads = 0;
+      driver_writes = 0;
+      client_reads = 0;
+      client_writes = 0;
+      had_turn = false;
+      was_driver_read = false;
+      turns = 0;
+    }
+
+abbrev pub again : Pass → Pass
+again pass = record fresh { was_driver_read = pass.was_driver_read; turns = pass.turns }
+
+-- The stop was visited in this pass.
+abbrev pub WasVisited : Pass → Stop → Type 0
+WasVisited pass stop.Listener = pass.was_at_listener ≡ true
+WasVisited pass (stop.Driver place Read) = place < pass.driver_reads
+WasVisited pass (stop.Driver place Write) = place < pass.driver_writes
+WasVisited pass (stop.Client place Read) = place < pass.client_reads
+WasVisited pass (stop.Client place Write) = place < pass.client_writes
+
+-- How many stops were visited, and that no more are than there are.
+abbrev pub visited : Pass → ℕ
+visited pass =
+    (if pass.was_at_listener then 1 else 0) + pass.driver_reads + pass.driver_writes
+    + pass.client_reads + pass.client_writes
+
+abbrev pub STOPS : ℕ
+STOPS = 1 + 2 * UPS_LIMIT + 2 * SESSION_LIMIT
+
+pub record IsWithin (pass : Pass) : Type 0 where
+  pub driver_reads : pass.driver_reads ≤ UPS_LIMIT
+  pub driver_writes : pass.driver_writes ≤ UPS_LIMIT
+  pub client_reads : pass.client_reads ≤ SESSION_LIMIT
+  pub client_writes : pass.client_writes ≤ SESSION_LIMIT
+
+-- A visit has one turn, at a stop that wasn't visited before and at which something may be done. Or
+-- the pass is over. Of the others nothing could be done at any that is visited from now on.
+pub record HasTurn (may : Stop → Bool) (old : Pass) (told : Stop) (new : Pass) : Type 0 where
+  pub ready : may told ≡ true
+  pub others : (s : Stop) → WasVisited new s → WasVisited old s ⊎ ((s ≡ told) ⊎ (may s ≡ false))
+  pub more : IsWithin old → visited old + 1 ≤ visited new
+  pub turns : new.turns ≡ min (old.turns + 1) (2 ^ 32 - 1)
+  pub within : IsWithin old → IsWithin new
+
+pub record IsOver (may : Stop → Bool) (old new : Pass) : Type 0 where
+  pub nobody : (s : Stop) → may s ≡ true → WasVisited old s
+  pub turns : new.turns ≡ old.turns
+  pub had_turn : new.had_turn ≡ old.had_turn
+
+abbrev pub Visits : (Stop → Bool) → Pass → Option Stop → Pass → Type 0
+Visits may old (Some told) new = HasTurn may old told new
+Visits may old None new = IsOver may old new
+
+-- The next pass begins without a look where there was a turn, no driver was read, and there were
+-- fewer turns than these.
+abbrev pub goes_on : Pass → Bool
+goes_on pass = pass.had_turn && not pass.was_driver_read && nat_lt pass.turns TURNS_PER_LOOK

@@ -1,0 +1,81 @@
+//! Connections of clients whose sessions have ended.
+ghost use Rattle.std.specs.Prelude.{◌≤◌, vec_len};
+ghost use Rattle.nutloop.specs.declared.over_mio.closing.TheConstants.{CLOSING_LIMIT};
+
+use super::socket::Socket;
+use super::tokens::Source;
+use mio::net::TcpStream;
+use mio::{Interest, Registry};
+use std::io::{ErrorKind, Read};
+use std::net::Shutdown;
+
+/// The most connections that are read on after their sessions. Of more the oldest one is closed.
+pub(super) const CLOSING_LIMIT: usize = 64;
+
+/// For how many ticks at most such a connection is read on.
+pub(super) const CLOSING_TICKS: u64 = 2;
+
+/// The most bytes that are read of such a connection between two looks.
+const PIECE: usize = 4096;
+
+/// A connection whose session has ended. What the client still sends is read and dropped, since a connection that is closed
+/// with unread input is reset, and the client loses its last answer.
+#[derive(Drop)]
+pub(super) struct Closing {
+    stream: TcpStream,
+    /// The second at which it is closed.
+    until: u64,
+    pub readable: bool,
+}
+
+impl Closing {
+    /// Reads a piece and drops it. Whether the client has ended.
+    fn has_ended(&mut self) -> bool {
+        let mut bytes = [0; PIECE];
+        match self.stream.read(&mut bytes) {
+            Ok(n) => n == 0,
+            Err(error) => {
+                self.readable = false;
+                error.kind() != ErrorKind::WouldBlock
+            }
+        }
+    }
+
+    /// Reads a piece, where there may be one. Whether the connection is read on: up to its second and its end.
+    pub fn goes_on(&mut self, second: u64) -> bool {
+        second < self.until && !(self.readable && self.has_ended())
+    }
+}
+
+/// The connection sends nothing more, and is read on up to this second. Where it has ended it is closed.
+pub(super) fn close(
+    closing: &mut Vec<Closing>,
+    registry: &Registry,
+    socket: Socket<TcpStream>,
+    second: u64,
+)
+    ensures { vec_len closing.old ≤ CLOSING_LIMIT → vec_len closing.new ≤ CLOSING_LIMIT }
+{
+    let Socket {
+        mut stream,
+        ended,
+        ..
+    } = socket;
+    let token = Source::Closing.token();
+    if ended
+        || stream.shutdown(Shutdown::Write).is_err()
+        || registry
+            .reregister(&mut stream, token, Interest::READABLE)
+            .is_err()
+    {
+        return;
+    }
+    if closing.len() >= CLOSING_LIMIT {
+        let _oldest = closing.remove(0);
+    }
+    let _ = closing.push(Closing {
+        stream,
+        until: second.saturating_add(CLOSING_TICKS),
+        readable: true,
+    });
+}

@@ -1,0 +1,90 @@
+//! A socket of the system.
+ghost use Rattle.std.specs.Prelude.{◌≤◌, length, IfOk};
+ghost use Rattle.nutloop.specs.Sockets.{AtMost};
+
+use crate::sockets::{Broken, Got};
+use mio::Interest;
+use mio::event::Event;
+use std::io::{ErrorKind, Read, Write};
+
+/// What the system reports of a peer's socket.
+pub(super) fn both_ways() -> Interest {
+    Interest::READABLE | Interest::WRITABLE
+}
+
+/// A socket, and what it is known to be ready for, until a call says later.
+#[derive(Drop)]
+pub(super) struct Socket<S> {
+    pub stream: S,
+    pub readable: bool,
+    pub writable: bool,
+    /// The peer sends no more, or its connection is broken. A short read doesn't mean that the socket is empty then.
+    pub ended: bool,
+}
+
+impl<S: Read + Write> Socket<S> {
+    /// What there is to read is reported by an event.
+    pub fn new(stream: S) -> Self {
+        Socket {
+            stream,
+            readable: false,
+            writable: true,
+            ended: false,
+        }
+    }
+
+    /// Notes what an event reports. One that has ended is read up to its end.
+    pub fn hear(&mut self, event: &Event) {
+        self.ended |= event.is_read_closed() || event.is_error();
+        self.readable |= event.is_readable() || self.ended;
+        self.writable |= event.is_writable() || event.is_write_closed();
+    }
+
+    /// Reads into the front of the buffer, which isn't empty. While something is owed to the peer its end comes later.
+    pub fn read(&mut self, into: &mut [u8], is_owed: bool) -> Result<Got, Broken>
+        ensures bound { AtMost result into.new }
+    {
+        match self.stream.read(into) {
+            Ok(0) => {
+                self.ended = true;
+                Ok(if is_owed { Got::Later } else { Got::End })
+            }
+            Ok(n) => {
+                self.readable = n == into.len() || self.ended;
+                Ok(Got::Bytes(n))
+            }
+            Err(error) => match error.kind() {
+                ErrorKind::WouldBlock => {
+                    self.readable = false;
+                    Ok(Got::Later)
+                }
+                _ => {
+                    self.ended = true;
+                    Err(Broken)
+                }
+            },
+        }
+    }
+
+    /// Writes a beginning of the bytes.
+    pub fn write(&mut self, from: &[u8]) -> Result<usize, Broken>
+        ensures bound { IfOk result (λ n. n ≤ length from.now) }
+    {
+        match self.stream.write(from) {
+            Ok(n) => {
+                self.writable = n == from.len();
+                Ok(n)
+            }
+            Err(error) => match error.kind() {
+                ErrorKind::WouldBlock => {
+                    self.writable = false;
+                    Ok(0)
+                }
+                _ => {
+                    self.ended = true;
+                    Err(Broken)
+                }
+            },
+        }
+    }
+}
