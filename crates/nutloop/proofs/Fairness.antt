@@ -1,6 +1,6 @@
 -- Everybody has a turn between two looks, and turns are few.
-use Rattle.std.proofs.Common.{◌≡◌, ◌⊎◌, ◌+◌, ◌<◌, ◌≤◌, ◌∙◌, ℕ, Bool, true, false, List, [], ◌∷◌, length, refl, sym, subst, inl, inr, arith}
-use Rattle.std.specs.Prelude.{◌&&◌, not, nat_lt, if◌then◌else◌, min}
+use Rattle.std.proofs.Common.{◌≡◌, ◌⊎◌, ◌+◌, ◌<◌, ◌≤◌, ℕ, Bool, true, false, List, [], ◌∷◌, length, refl, sym, subst, inl, inr, arith}
+use Rattle.std.specs.Prelude.{◌&&◌, not, nat_lt}
 use Rattle.nutloop.specs.declared.over_mio.pass.Pass.{Pass}
 use Rattle.nutloop.specs.declared.over_mio.pass.Stop.{Stop}
 use Rattle.nutloop.specs.declared.over_mio.pass.Stop.TheVariants as stop

@@ -1,5 +1,5 @@
 -- Ids for tracked orders: which are handed in at the start and at ticks.
-use Rattle.std.specs.Prelude.{◌≡◌, ◌⊎◌, ℕ, suc, ⊤, List, Option, Some, None, length}
+use Rattle.std.specs.Prelude.{◌≡◌, ℕ, suc, ⊤, List, Option, Some, None, length}
 use Rattle.std.specs.Int.{w128, from_be_bytes}
 use Rattle.std.specs.Io.KnownBytes.{Consumes}
 use Rattle.nutloop.specs.declared.ids.TheConstants.{ID_SIZE}

@@ -1,6 +1,6 @@
 -- One pass over all peers, and what holds between two looks at the system.
-use Rattle.std.specs.Prelude.{◌≡◌, ◌⊎◌, ◌+◌, ◌*◌, ◌^◌, ◌-◌, ◌<◌, ◌≤◌, ◌==◌, ◌&&◌, ◌||◌, ℕ, ⊤, Bool, true, false, not}
-use Rattle.std.specs.Prelude.{List, [], ◌∷◌, Option, Some, None, if◌then◌else◌, length, min, nat_lt, slice_get}
+use Rattle.std.specs.Prelude.{◌≡◌, ◌⊎◌, ◌+◌, ◌*◌, ◌^◌, ◌-◌, ◌<◌, ◌≤◌, ◌==◌, ◌&&◌, ◌||◌, ℕ, Bool, true, false, not}
+use Rattle.std.specs.Prelude.{List, Option, Some, None, if◌then◌else◌, length, min, nat_lt, slice_get}
 use Rattle.std.specs.Option.{option_map_or}
 use Rattle.nutusers.specs.UpsList.{id_at}
 use Rattle.nutusers.specs.declared.ups_list.UpsId.{UpsId}

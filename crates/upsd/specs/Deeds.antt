@@ -1,5 +1,5 @@
 -- Which of the things that clients did are written, and the words of their commands.
-use Rattle.std.specs.Prelude.{ℕ, Bool, List, [], ◌∷◌, ◌++◌, Option, Some, None, ◌==◌, ◌&&◌, ◌||◌}
+use Rattle.std.specs.Prelude.{ℕ, Bool, List, [], ◌∷◌, ◌++◌, ◌==◌, ◌&&◌, ◌||◌}
 use Rattle.std.specs.Prelude.{if◌then◌else◌, not, is_none, nat_lt, length, codes, fold}
 use Rattle.std.specs.List.{list_any}
 use Rattle.nutcore.specs.declared.deed.Deed.{Deed}

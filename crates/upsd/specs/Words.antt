@@ -1,5 +1,5 @@
 -- The words that the program takes, as its parser reads them.
-use Rattle.std.specs.Prelude.{ℕ, List, [], ◌∷◌, Some, true, false, codes, Result, IfOk}
+use Rattle.std.specs.Prelude.{List, [], ◌∷◌, Some, true, false, codes, Result, IfOk}
 use Rattle.clap.specs.Simple.{new_shape}
 use Rattle.clap.specs.Words.{App, FailsBy, HasMatchesOf, Rule, Shape, Text, fault_of, new_rule}
 use Rattle.clap.specs.declared.builder.value_parser.ValueParser.TheVariants.{Unsigned}

@@ -1,4 +1,4 @@
-use Rattle.std.proofs.Common.{◌≡◌, ◌+◌, ◌<◌, ◌∙◌, ℕ, ℤ, List, Option, None, Some, MatchOption, length, set, slice_get, sym, ap, subst}
+use Rattle.std.proofs.Common.{◌+◌, ◌∙◌, ℕ, ℤ, List, Option, set, slice_get, sym, ap, subst}
 use Rattle.std.proofs.lemmas.Option.{slice_get_within}
 use Rattle.nutusers.specs.UpsList.{id_at}
 use Rattle.nutloop.specs.OverMio.{error_of}

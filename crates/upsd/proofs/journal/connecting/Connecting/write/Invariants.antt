@@ -1,4 +1,3 @@
-use Rattle.std.proofs.Common.{◌≡◌}
 use Rattle.nutloop.specs.OverMio.{error_of}
 use Rattle.upsd.specs.Connecting.{AreErrorsWrittenUpTo}
 use Rattle.upsd.proofs.journal.connecting.Connecting.write.Given as goal
