@@ -79,7 +79,7 @@ def messages_of(texts):
             for it in literals if re.search(r"[a-z]{2} ?[a-z]{2}", gap.sub("", it))]
 
 
-def faults_of(page, words, defined, members, options, messages):
+def faults_of(page, files, words, defined, members, options, messages):
     """What the page names that isn't there."""
     text = text_of(page)
     long = re.findall(r"(?<![\w/.-])[a-z]\w*?_[a-z0-9]+_\w*?_\w+(?![\w/.])", text)
@@ -95,7 +95,9 @@ def faults_of(page, words, defined, members, options, messages):
         if said and not any(re.search(f"(?:^|: |@\S+ ){it}$", said[1]) for it in messages):
             faults.add(tick)
         path = re.split(r"[ #]", tick)[0]
-        if re.match(f"({'|'.join(ROOTS + IN_CRATES)})/", path) and not is_path(path):
+        rooted = re.match(f"({'|'.join(ROOTS + IN_CRATES)})/", path)
+        is_file = re.fullmatch(r"[\w/]+\.(?:rt|antt|sh|py|bash)", path) or rooted
+        if is_file and not (is_path(path) if rooted else f"/{path}\n" in files):
             faults.add(path)
     faults |= set(re.findall(r"(?<![\w-])--[a-z][a-z-]*", text.replace("\\-", "-"))) - options
     faults |= {it for it in re.findall(r"\]\(([^)]+)\)", text) if not leads(page, it)}
@@ -105,6 +107,7 @@ def faults_of(page, words, defined, members, options, messages):
 def main():
     texts = sources()
     rust = "\n".join(text for path, text in texts.items() if path.endswith(".rt"))
+    files = "".join(f"/{it}\n" for it in texts)
     words = {word for text in texts.values() for word in re.findall(r"\w+", text)}
     defined = set(re.findall(r"\b(?:fn|const|struct|enum|trait|type|mod) (\w+)", rust))
     defined |= {os.path.basename(it)[:-5] for it in texts if it.endswith(".edit")}
@@ -118,7 +121,7 @@ def main():
     members = members_of(rust) | {it: defined for it in modules}
     failed = [f"names: FAILED: {page} names {fault}, which isn't there"
               for page in PAGES
-              for fault in faults_of(page, words, defined, members, options, messages)]
+              for fault in faults_of(page, files, words, defined, members, options, messages)]
     print("\n".join(failed or ["names: ok"]))
     return 1 if failed else 0
 

@@ -4,9 +4,9 @@
 usage: prose.py [FOLDER [PAGE..]]     a checkout of the repository, and some of its pages
 
 Pages: README.md, docs/*.md, man/*. A paragraph is a run of lines or an item of a list; code,
-headings and quotations are none. README's are shorter than those of other pages. PROVED's tables
-are made of the comments of laws, and aren't judged here. A page begins by its reader: "For ..".
-With some pages given, the sums over all pages are printed and not judged."""
+headings and quotations are none, nor what tools/proved makes of the sources. README's are shorter
+than those of other pages. A page begins by its reader: "For ..". With some pages given, the sums
+over all pages are printed and not judged."""
 import os
 import re
 import sys
@@ -25,6 +25,7 @@ def words(text):
 
 def of_markdown(text):
     """The paragraphs and the cells of a page."""
+    text = re.sub(r"<!-- made: .*?<!-- end -->", "\n", text, flags=re.S)
     text = re.sub(r"^```.*?^```$|<!--.*?-->|^#[^\n]*$|^!\[.*?$", "\n", text, flags=re.M | re.S)
     blocks = re.split(r"\n\s*\n|\n(?=\s*(?:[-*]|\d+\.) )|\n(?=.*\|)", text)
     rows = [it for it in blocks if re.match(r"\s*\||.* \| ", it)]
@@ -48,7 +49,6 @@ def faults_of(page, text):
         yield "its first line isn't `For ..`, its reader"
     if words(text) > SIZES.get(page, ALL_WORDS):
         yield f"{words(text):,} words, of at most {SIZES[page]:,}"
-    cells = [] if page == "docs/PROVED.md" else cells
     paragraph, sentence = (60, 30) if page == "README.md" else (80, 35)
     for kind, most, texts in ("paragraph", paragraph, paragraphs), ("cell", CELL, cells):
         for one in texts:
