@@ -18,8 +18,9 @@ PAGES = ["README.md", *sorted(glob("docs/*.md")), *sorted(glob("man/*"))]
 ROOTS = "crates tests docs tools man examples".split()
 IN_CRATES = "src specs proofs edits must-fail args stdout data".split()
 # Of std, of the system and of the kit.
-NOT_OURS = set("epoll_wait make_contiguous docs/ANSWERS.md".split()) | set(
-    "--follow-tags --since --only --allow-holes --start".split())
+NOT_OURS = set("""epoll_wait make_contiguous docs/ANSWERS.md
+    --follow-tags --since --test --only --allow-holes --start""".split())
+OPTION = re.compile(r"(?<![\w-])--[a-z][a-z-]*")
 MESSAGE = re.compile(r"(?:upsd|upsc|upsrw|upscmd|from_nut|started|metrics|demodriver): (.+)")
 
 
@@ -99,7 +100,7 @@ def faults_of(page, files, words, defined, members, options, messages):
         is_file = re.fullmatch(r"[\w/]+\.(?:rt|antt|sh|py|bash)", path) or rooted
         if is_file and not (is_path(path) if rooted else f"/{path}\n" in files):
             faults.add(path)
-    faults |= set(re.findall(r"(?<![\w-])--[a-z][a-z-]*", text.replace("\\-", "-"))) - options
+    faults |= set(OPTION.findall(text.replace("\\-", "-"))) - options
     faults |= {it for it in re.findall(r"\]\(([^)]+)\)", text) if not leads(page, it)}
     return sorted(faults - NOT_OURS)
 
@@ -114,8 +115,7 @@ def main():
     for text in texts.values():
         each = re.findall(r"^ *def (\w+)|^(\w+)\(\) *\{|\bpub (\w+)", text, re.M)
         defined |= {"".join(it) for it in each}
-    option = re.compile(r'(?:"|--)([a-z][a-z-]*)\b')
-    options = {f"--{it}" for text in texts.values() for it in option.findall(text)}
+    options = {it for text in texts.values() for it in OPTION.findall(text)}
     messages = messages_of(texts)
     modules = ["laws", *os.listdir("crates"), *re.findall(r"\bmod (\w+)", rust)]
     members = members_of(rust) | {it: defined for it in modules}
