@@ -19,6 +19,7 @@ within() {
         sleep 0.1
     done
     fails "$2"
+    cat "$folder/said"
 }
 # The demonstration shows this.
 shows() { within "$2" "no line $1" grep -qE "$1" "$folder/said"; }
@@ -29,7 +30,7 @@ is_ok() { within 1 "$1" eval "[[ \$($2) == OK ]]"; }
 ends() {
     local id
     id=$(eval "$3") || true
-    within 20 "$1" eval "[[ \$(crates/upsc/out/upsc --tracked $id $ups) == '$2' ]]"
+    within 50 "$1" eval "[[ \$(crates/upsc/out/upsc --tracked $id $ups) == '$2' ]]"
 }
 
 mkdir "$folder/room"
@@ -63,7 +64,7 @@ wire.sendall(b'DUMPALL\nSET battery.charge.low "55" TRACKING 7\nINSTCMD load.off
 said = b"".join(wire.recv(4096) for _ in range(3))
 assert b"DATAOK\nTRACKING 7 0\nTRACKING 8 1\n" in said, said
 PYTHON
-within 20 'what another connection set' eval "[[ \$(crates/upsc/out/upsc $ups battery.charge.low) == 55 ]]"
+within 50 'what another connection set' eval "[[ \$(crates/upsc/out/upsc $ups battery.charge.low) == 55 ]]"
 
 kill "$demo"
 wait "$demo" 2>/dev/null || true
@@ -77,10 +78,11 @@ orders='SET VAR battery.charge.low,INSTCMD test.failure.start,SET VAR ups.status
 grep -vE "^(upsd: demo: (driver connected|data good)|$ordered .*|make: .*)$" "$folder/told" && fails 'what was told'
 
 # A driver that ends leaves its socket. The next one takes its place; no other one does while that lives.
-drive() { timeout "$1" crates/demodriver/out/demodriver "$folder/driver" 2>&1 || true; }
-drive 0.3 >"$folder/drove"
-drive 2 >"$folder/drove" &
-within 15 'a socket that was left' grep -q listening "$folder/drove"
-[[ $(drive 0.3) == *AddrInUse* ]] || fails 'a socket that is taken'
+driver=(crates/demodriver/out/demodriver "$folder/driver")
+timeout 0.5 "${driver[@]}" >"$folder/drove" || [[ -S $folder/driver ]] || fails 'a socket is left'
+"${driver[@]}" >"$folder/drove" &
+demo=$!
+within 30 'a socket that was left' grep -q listening "$folder/drove"
+[[ $(timeout 5 "${driver[@]}" 2>&1) == *AddrInUse* ]] || fails 'a socket that is taken'
 ((failed == 0)) && echo "demo: ok: $checks checks"
 exit "$failed"

@@ -1,4 +1,4 @@
-//! What the driver reports, and the orders that it executes, in the lines of the drivers' protocol.
+//! What the driver reports, and the orders that it executes, as lines of the drivers' protocol.
 use crate::ups::{LOW_LEAST, LOW_MOST, Ups};
 use std::alloc::AllocError;
 use std::fmt::Write;
@@ -29,7 +29,8 @@ enum Ended {
     Invalid = 2,
 }
 
-/// The UPS that is simulated, and the status that was set: none where it is empty. Each change makes a new version.
+/// The UPS that is simulated, and the status that was set: none where it is empty. Each change
+/// makes a new version.
 #[derive(Drop)]
 pub struct Driver {
     ups: Ups,
@@ -58,7 +59,7 @@ impl Driver {
         }
     }
 
-    /// Answers a line of a server. One that is none of the protocol is an order that isn't known.
+    /// Answers a line of a server. Any other line is an order that the driver doesn't know.
     pub fn answer(&mut self, line: &str, owed: &mut String) -> Result<(), AllocError> {
         match line {
             "DUMPALL" => return self.push_all(owed),
@@ -73,7 +74,8 @@ impl Driver {
         }
     }
 
-    /// Executes `INSTCMD name` or `SET name "value"`. No command takes a value, and no value needs an escape.
+    /// Executes `INSTCMD name` or `SET name "value"`. No command takes a value, and no value needs
+    /// an escape.
     fn execute(&mut self, order: &str) -> Result<Ended, AllocError> {
         self.change();
         if let Some(name) = order.strip_prefix("INSTCMD ") {
@@ -100,12 +102,10 @@ impl Driver {
     /// Sets a variable.
     fn set(&mut self, name: &str, value: &str) -> Result<Ended, AllocError> {
         match name {
-            "battery.charge.low" => {
-                let Some(low) = low_in(value) else {
-                    return Ok(Ended::Invalid);
-                };
-                self.ups.low = low;
-            }
+            "battery.charge.low" => match low_in(value) {
+                Some(low) => self.ups.low = low,
+                None => return Ok(Ended::Invalid),
+            },
             "ups.status" if is_status(value) => {
                 self.status.clear();
                 self.status.push_str(value)?;
@@ -149,7 +149,7 @@ impl Driver {
     }
 }
 
-/// The order of a line, and the id after it where it is tracked. What ends in a quote is a value.
+/// The order of a line, and its id where it is tracked. What ends in a quote is part of a value.
 fn split_tracking(line: &str) -> (&str, Option<&str>) {
     match line.rsplit_once(" TRACKING ") {
         Some((order, id)) if !id.ends_with('"') => (order, Some(id)),
@@ -163,7 +163,7 @@ fn low_in(value: &str) -> Option<u8> {
     (LOW_LEAST..=LOW_MOST).contains(&low).then_some(low)
 }
 
-/// Whether each word may stand in a status. No word at all is none to be set.
+/// Whether each word may stand in a status. The empty one has the simulated one reported again.
 fn is_status(value: &str) -> bool {
     value.is_empty() || value.split(' ').all(|word| STATUS_WORDS.contains(&word))
 }

@@ -1,5 +1,5 @@
-//! A driver without hardware, for demonstrations and drills: it listens on a Unix socket as NUT's drivers do, reports a UPS
-//! that it simulates to each server that connects, and lets its power fail on command.
+//! A driver without hardware, for demonstrations and drills: it listens on a Unix socket as NUT's
+//! drivers do, reports a UPS that it simulates to each server, and lets its power fail on command.
 #![tactic(auto)]
 
 mod driver;

@@ -10,7 +10,8 @@ const PIECE: usize = 1024;
 /// The longest line of a server, with its LF: more without one ends the connection.
 const LINE: usize = 2048;
 
-/// A server, what it sent that is no whole line yet, and the version of the UPS that it was sent.
+/// A server, what it sent that is no whole line yet, what it is to be sent, and the version of the
+/// UPS that it knows.
 #[derive(Drop)]
 pub struct Server {
     stream: UnixStream,
@@ -30,7 +31,8 @@ impl Server {
         })
     }
 
-    /// Answers what the server sent, and sends it what changed. Fails where the server is gone, or takes nothing.
+    /// Answers what the server sent, and sends it what changed. Fails where the server is gone, or
+    /// takes nothing.
     pub fn serve(&mut self, driver: &mut Driver) -> io::Result<()> {
         self.hear()?;
         self.answer(driver)?;
@@ -69,7 +71,7 @@ impl Server {
     }
 }
 
-/// No line is longer than this.
+/// No line is longer than `LINE`.
 fn unless_long(heard: &[u8]) -> io::Result<()> {
     if heard.len() > LINE {
         return Err(io::Error::from(ErrorKind::InvalidData));
