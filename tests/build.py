@@ -40,10 +40,15 @@ def build_all(crates):
         print(f"build: {crate.name}: {'proved' if is_built else 'FAILED'} ({done} of {len(crates)})", flush=True)
         return is_built
 
-    # A crate waits only for crates that were handed in before it, so some work always goes on.
-    with concurrent.futures.ThreadPoolExecutor(rt.processors()) as pool:
+    # What the last crate stands on is one long chain: all else gives way to it. A crate waits only for crates that
+    # were handed in before it, so some work always goes on.
+    chain = {crates[-1], *crates[-1].below()}
+    pool, giving_way = (
+        concurrent.futures.ThreadPoolExecutor(rt.processors(), initializer=os.nice, initargs=[nice]) for nice in (0, 19)
+    )
+    with pool, giving_way:
         for it in crates:
-            built[it] = pool.submit(of, it)
+            built[it] = (pool if it in chain else giving_way).submit(of, it)
         return [it for it in crates if built[it].result()]
 
 

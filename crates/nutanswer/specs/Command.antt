@@ -33,20 +33,20 @@ abbrev pub alone : Command → List (List ℕ) → Result Command ErrWord
 alone command [] = Ok command
 alone command _ = Err InvalidArgument
 
--- `name`: a word that isn't as long as a user name may be is none.
+-- One word, and no other, which is read so. Where it is no such thing, it is none.
+abbrev pub text_alone
+    : (List ℕ → Option (List ℕ)) → List (List ℕ) → Result (Option (List ℕ)) ErrWord
+text_alone read (word ∷ []) = Ok (read word)
+text_alone read _ = Err InvalidArgument
+
 abbrev pub user_name_alone : List (List ℕ) → Result (Option (List ℕ)) ErrWord
-user_name_alone (name ∷ []) = Ok (read_user_name name)
-user_name_alone _ = Err InvalidArgument
+user_name_alone = text_alone read_user_name
 
--- `password`, likewise
 abbrev pub password_alone : List (List ℕ) → Result (Option (List ℕ)) ErrWord
-password_alone (password ∷ []) = Ok (read_password password)
-password_alone _ = Err InvalidArgument
+password_alone = text_alone read_password
 
--- `ups`: a word that is no lawful name names nothing, here and below.
 abbrev pub ups_alone : List (List ℕ) → Result (Option (List ℕ)) ErrWord
-ups_alone (ups ∷ []) = Ok (result_ok (read_ups_name ups))
-ups_alone _ = Err InvalidArgument
+ups_alone = text_alone (λ ups. result_ok (read_ups_name ups))
 
 -- `ups name`, the name of a variable or of a command
 abbrev pub ups_and_name : List (List ℕ) → Result (Option (List ℕ) × Option (List ℕ)) ErrWord

@@ -7,11 +7,11 @@ mod words;
 
 use crate::ErrWord;
 use arguments::{
-    alone, on_or_off, password_alone, tracking_asked, ups_alone, ups_and_name, ups_name_and_value,
-    ups_name_and_value_if_any, user_name_alone,
+    alone, on_or_off, text_alone, tracking_asked, ups_and_name, ups_name_and_value,
+    ups_name_and_value_if_any,
 };
 use nutwords::{SpelledWord, SpelledWords, spelled_words};
-pub use words::{IdWord, NameWord, PasswordWord, UpsWord, UserWord, ValueWord};
+pub use words::{IdWord, NameWord, PasswordWord, TextWord, UpsWord, UserWord, ValueWord};
 
 /// A command of a client, whose words are those of its line. A word that is no lawful name names nothing.
 #[derive(Debug, Drop)]
@@ -128,10 +128,10 @@ impl<'a> Command<'a> {
         ensures { result ≡ user_command (spelled first.now) words.entry }
     {
         if first.is_word(b"USERNAME") {
-            let name = user_name_alone(words)?;
+            let name = text_alone(words)?;
             Ok(Command::Username(name))
         } else if first.is_word(b"PASSWORD") {
-            let password = password_alone(words)?;
+            let password = text_alone(words)?;
             Ok(Command::Password(password))
         } else {
             Command::of_login(first, words)
@@ -143,15 +143,15 @@ impl<'a> Command<'a> {
         ensures { result ≡ login_command (spelled first.now) words.entry }
     {
         if first.is_word(b"LOGIN") || first.is_word(b"ATTACH") {
-            let ups = ups_alone(words)?;
+            let ups = text_alone(words)?;
             Ok(Command::Login(ups))
         } else if first.is_word(b"LOGOUT") || first.is_word(b"DETACH") {
             alone(Command::Logout, words)
         } else if first.is_word(b"PRIMARY") {
-            let ups = ups_alone(words)?;
+            let ups = text_alone(words)?;
             Ok(Command::Primary(ups))
         } else if first.is_word(b"FSD") {
-            let ups = ups_alone(words)?;
+            let ups = text_alone(words)?;
             Ok(Command::Fsd(ups))
         } else {
             Command::of_order(first, words)
@@ -243,13 +243,13 @@ impl<'a> Command<'a> {
             let (ups, name) = ups_and_name(words)?;
             Ok(Command::GetCmdDesc(ups, name))
         } else if kind.is_word(b"UPSDESC") {
-            let ups = ups_alone(words)?;
+            let ups = text_alone(words)?;
             Ok(Command::GetUpsDesc(ups))
         } else if kind.is_word(b"NUMLOGINS") {
-            let ups = ups_alone(words)?;
+            let ups = text_alone(words)?;
             Ok(Command::GetNumLogins(ups))
         } else if kind.is_word(b"NUMATTACH") {
-            let ups = ups_alone(words)?;
+            let ups = text_alone(words)?;
             Ok(Command::GetNumAttach(ups))
         } else if kind.is_word(b"TRACKING") {
             tracking_asked(words)
@@ -275,13 +275,13 @@ impl<'a> Command<'a> {
         if kind.is_word(b"UPS") {
             alone(Command::ListUps, words)
         } else if kind.is_word(b"VAR") {
-            let ups = ups_alone(words)?;
+            let ups = text_alone(words)?;
             Ok(Command::ListVar(ups))
         } else if kind.is_word(b"RW") {
-            let ups = ups_alone(words)?;
+            let ups = text_alone(words)?;
             Ok(Command::ListRw(ups))
         } else if kind.is_word(b"CMD") {
-            let ups = ups_alone(words)?;
+            let ups = text_alone(words)?;
             Ok(Command::ListCmd(ups))
         } else if kind.is_word(b"ENUM") {
             let (ups, name) = ups_and_name(words)?;
@@ -290,7 +290,7 @@ impl<'a> Command<'a> {
             let (ups, name) = ups_and_name(words)?;
             Ok(Command::ListRange(ups, name))
         } else if kind.is_word(b"CLIENT") {
-            let ups = ups_alone(words)?;
+            let ups = text_alone(words)?;
             Ok(Command::ListClient(ups))
         } else {
             Err(ErrWord::InvalidArgument)

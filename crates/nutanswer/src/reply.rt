@@ -46,14 +46,13 @@ pub struct GivenPassword<'a> {
 
 impl<'a> Model for GivenPassword<'a> {
     ghost use Rattle.std.specs.Prelude.{ℕ, List, IsTrue};
-    ghost use Rattle.nutusers.specs.Texts.{is_text_within};
-    ghost use Rattle.nutusers.specs.declared.limits.TheConstants.{PASSWORD_LIMIT};
+    ghost use Rattle.nutusers.specs.Credentials.{is_password};
 
     ghost Value = { List ℕ };
 
     ghost view = { λ p. p.bytes.now };
 
-    ghost invariant = { λ p. IsTrue (is_text_within PASSWORD_LIMIT p.bytes.now) };
+    ghost invariant = { λ p. IsTrue (is_password p.bytes.now) };
 }
 
 impl<'a> GivenPassword<'a> {

@@ -5,7 +5,7 @@ ghost use Rattle.nutwords.specs.Spelled.{spelled};
 ghost use Rattle.nutdriver.specs.Arguments.{lawful_value};
 
 use crate::DriverFault;
-use nutwords::{SpelledWord, VALUE_LIMIT, Value};
+use nutwords::{OfValue, SpelledWord, VALUE_LIMIT, Value};
 use smallvec::SmallVec;
 use std::alloc::{AllocError, Global};
 use std::marker::Model;
@@ -38,7 +38,7 @@ impl<'a> ValueWord<'a> {
     pub(crate) fn of(word: SpelledWord<'a>) -> Result<ValueWord<'a>, DriverFault>
         ensures { result ≡ lawful_value (read_value (spelled word.entry)) }
     {
-        match word.value() {
+        match word.read::<OfValue, VALUE_LIMIT>() {
             Ok(_) => Ok(ValueWord { word }),
             Err(_) => Err(DriverFault::TooLong),
         }
@@ -48,7 +48,7 @@ impl<'a> ValueWord<'a> {
     pub(crate) fn read(&self) -> Value
         ensures { result ≡ self.now }
     {
-        self.word.value().unwrap()
+        self.word.read().unwrap()
     }
 
     /// The value as a variable keeps it. Only a long one asks for memory.

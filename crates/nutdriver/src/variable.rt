@@ -96,12 +96,8 @@ impl Variable {
     fn of_kind(&self, kind: Kind) -> Change
         ensures { AnswersChange (Ok (Some (with_kind kind self.now))) result }
     {
-        let Ok(value) = self.value.copied(self.alloc) else {
-            return Err(DriverFault::Memory);
-        };
-        let Ok(kind) = Rc::new(self.alloc, kind) else {
-            return Err(DriverFault::Memory);
-        };
+        let value = self.value.copied(self.alloc)?;
+        let kind = Rc::new(self.alloc, kind)?;
         Ok(Some(Variable {
             alloc: self.alloc,
             value,
@@ -113,12 +109,8 @@ impl Variable {
     fn with_lists(&self, lists: Lists) -> Change
         ensures { AnswersChange (Ok (Some (with_lists lists self.now))) result }
     {
-        let Ok(kind) = self.kind.copied() else {
-            return Err(DriverFault::Memory);
-        };
-        let Ok(lists) = Rc::new(self.alloc, lists) else {
-            return Err(DriverFault::Memory);
-        };
+        let kind = self.kind.copied()?;
+        let lists = Rc::new(self.alloc, lists)?;
         self.of_kind(Kind {
             lists: Some(lists),
             ..kind
@@ -151,12 +143,8 @@ impl Variable {
     pub(crate) fn with_value(&self, value: &ValueWord<'_>) -> Change
         ensures { AnswersChange (Ok (Some (with_value value.now self.now))) result }
     {
-        let Ok(value) = value.kept(self.alloc) else {
-            return Err(DriverFault::Memory);
-        };
-        let Ok(kind) = self.kind.clone() else {
-            return Err(DriverFault::Memory);
-        };
+        let value = value.kept(self.alloc)?;
+        let kind = self.kind.clone()?;
         Ok(Some(Variable {
             alloc: self.alloc,
             value,
@@ -168,9 +156,7 @@ impl Variable {
     fn with_aux(&self, aux: u32) -> Change
         ensures { AnswersChange (Ok (Some (with_aux aux self.now))) result }
     {
-        let Ok(kind) = self.kind.copied() else {
-            return Err(DriverFault::Memory);
-        };
+        let kind = self.kind.copied()?;
         self.of_kind(Kind { aux, ..kind })
     }
 
@@ -178,9 +164,7 @@ impl Variable {
     fn with_flags(&self, flags: Flags) -> Change
         ensures { AnswersChange (Ok (Some (with_flags flags self.now))) result }
     {
-        let Ok(kind) = self.kind.copied() else {
-            return Err(DriverFault::Memory);
-        };
+        let kind = self.kind.copied()?;
         self.of_kind(Kind { flags, ..kind })
     }
 
@@ -194,12 +178,8 @@ impl Variable {
         if self.enum_values().len() >= ENUM_LIMIT {
             return Err(DriverFault::Full);
         }
-        let Ok(mut lists) = self.kind.copied_lists(self.alloc) else {
-            return Err(DriverFault::Memory);
-        };
-        let Ok(()) = lists.enum_values.push(value.copied()) else {
-            return Err(DriverFault::Memory);
-        };
+        let mut lists = self.kind.copied_lists(self.alloc)?;
+        lists.enum_values.push(value.copied())?;
         self.with_lists(lists)
     }
 
@@ -210,9 +190,7 @@ impl Variable {
         if !has_value(self.enum_values(), value) {
             return Err(DriverFault::NoSuchItem);
         }
-        let Ok(mut lists) = self.kind.copied_lists(self.alloc) else {
-            return Err(DriverFault::Memory);
-        };
+        let mut lists = self.kind.copied_lists(self.alloc)?;
         take_value_out(&mut lists.enum_values, value);
         self.with_lists(lists)
     }
@@ -227,12 +205,8 @@ impl Variable {
         if self.ranges().len() >= RANGE_LIMIT {
             return Err(DriverFault::Full);
         }
-        let Ok(mut lists) = self.kind.copied_lists(self.alloc) else {
-            return Err(DriverFault::Memory);
-        };
-        let Ok(()) = lists.ranges.push(range) else {
-            return Err(DriverFault::Memory);
-        };
+        let mut lists = self.kind.copied_lists(self.alloc)?;
+        lists.ranges.push(range)?;
         self.with_lists(lists)
     }
 
@@ -243,9 +217,7 @@ impl Variable {
         if !has_range(self.ranges(), range) {
             return Err(DriverFault::NoSuchItem);
         }
-        let Ok(mut lists) = self.kind.copied_lists(self.alloc) else {
-            return Err(DriverFault::Memory);
-        };
+        let mut lists = self.kind.copied_lists(self.alloc)?;
         take_range_out(&mut lists.ranges, range);
         self.with_lists(lists)
     }

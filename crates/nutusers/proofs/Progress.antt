@@ -1,7 +1,7 @@
 -- How far a file has been read.
 use Rattle.std.proofs.Common.{◌≡◌, ℕ, ◌+◌, ◌≤◌, Bool, true, List, [], ◌∷◌, ◌++◌, length, reverse, None, refl, sym, ap, ◌∙◌, append_assoc, append-nil, arith, length-append}
 use Rattle.std.proofs.lemmas.List.{reverse-append, reverse-reverse, length-reverse}
-use Rattle.nutusers.specs.File.{Format, AreAccepted, IsRefused, Means, verdict_of}
+use Rattle.nutusers.specs.File.{Format, AreAccepted, IsRefused, IsByLines, Means, verdict_of}
 use Rattle.nutusers.specs.declared.fault.Cause.{Cause}
 use Rattle.nutusers.specs.declared.fault.Cause.TheVariants.{Memory}
 
@@ -12,6 +12,15 @@ pub record HasRead (format : Format) {A : Type 0} (meaning : List (List ℕ) →
   pub accepted : AreAccepted format earlier
   pub number_is : number ≡ length earlier
   pub value_is : value ≡ meaning earlier
+
+-- what the lines come to, one after another
+pub comes_to : {A : Type 0} → (A → List ℕ → A) → A → List (List ℕ) → A
+comes_to with_line none [] = none
+comes_to with_line none (line ∷ earlier) = with_line (comes_to with_line none earlier) line
+
+pub by_lines : {A : Type 0} (with_line : A → List ℕ → A) (none : A) → IsByLines with_line none (comes_to with_line none)
+unfolding comes_to
+by_lines with_line none = record { nothing = refl; one_more = λ line earlier. refl }
 
 pub reverse-cons : {X : Type 0} (x : X) (xs : List X) → reverse (x ∷ xs) ≡ reverse xs ++ x ∷ []
 reverse-cons x xs = reverse-append (x ∷ []) xs

@@ -5,10 +5,9 @@ use Rattle.nutusers.specs.ConfigLine.{ConfigLine, read_config_line}
 use Rattle.nutusers.specs.Rights.{grant_of}
 use Rattle.nutusers.specs.Sections.{value_in}
 use Rattle.nutusers.specs.File.{AreAccepted}
-use Rattle.nutusers.specs.Texts.{is_text_within}
+use Rattle.nutusers.specs.Credentials.{is_user_name}
 use Rattle.nutusers.specs.UsersFile.{user_of, users_of, user_line_fault, users_format}
 use Rattle.nutusers.specs.Users.{User, HaveOneNameEach}
-use Rattle.nutusers.specs.declared.limits.TheConstants.{USER_NAME_LIMIT}
 use Rattle.nutusers.proofs.NamesApart.{HasNames, not_there, names_apart, accepted_apart}
 use Rattle.nutusers.specs.UsersStep.{new_user, with_user_line, with_grant, users_with}
 use Rattle.nutusers.specs.declared.rights.Grant.{Grant}
@@ -31,7 +30,7 @@ pub users_of-line : (line : List ℕ) (lines : List (List ℕ)) → users_of (li
 users_of-line line lines = sections-line user_by_lines (read_config_line line) (map read_config_line lines)
 
 users_names : HasNames (λ (user : User). user.name) user_of user_line_fault
-users_names = record { named = λ name lines. refl; is_new = λ all name fine. not_there (is_text_within USER_NAME_LIMIT name) _ _ fine }
+users_names = record { named = λ name lines. refl; is_new = λ all name fine. not_there (is_user_name name) _ _ fine }
 
 -- no two users of accepted lines have one name
 pub users_apart : (lines : List (List ℕ)) → AreAccepted users_format lines → HaveOneNameEach (users_of lines)

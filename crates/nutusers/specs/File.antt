@@ -54,3 +54,15 @@ pub record Means (format : Format) {A : Type 0} (meaning : List (List ℕ) → A
     (lines : List (List ℕ)) (value : A) : Type 0 where
   pub accepted : AreAccepted format (reverse lines)
   pub value_is : value ≡ meaning (reverse lines)
+
+-- The format of a file that is read a line at a time: why a line is refused after what the earlier
+-- ones mean.
+abbrev pub format_of : {A : Type 0} → (A → List ℕ → Option Cause) → (List (List ℕ) → A) → Format
+format_of refusal meaning earlier line = refusal (meaning earlier) line
+
+-- Read a line at a time, the lines come to their meaning.
+pub record IsByLines {A : Type 0} (with_line : A → List ℕ → A) (none : A)
+    (meaning : List (List ℕ) → A) : Type 0 where
+  pub nothing : none ≡ meaning []
+  pub one_more : (line : List ℕ) (earlier : List (List ℕ))
+      → meaning (line ∷ earlier) ≡ with_line (meaning earlier) line

@@ -8,10 +8,9 @@ use Rattle.nutusers.specs.ConfigLine.{is_section, read_config_line}
 use Rattle.nutusers.specs.File.{Format, bad_value_unless}
 use Rattle.nutusers.specs.Rights.{grant_of, role_grant, action_grant, command_grant}
 use Rattle.nutusers.specs.Sections.{sections, value_in, last_of, in_section}
-use Rattle.nutusers.specs.Texts.{is_text_within}
+use Rattle.nutusers.specs.Credentials.{is_user_name, is_password}
 use Rattle.nutusers.specs.Users.{user_named}
 pub use Rattle.nutusers.specs.Users.{User}
-use Rattle.nutusers.specs.declared.limits.TheConstants.{USER_NAME_LIMIT, PASSWORD_LIMIT}
 use Rattle.nutusers.specs.declared.fault.Cause.{Cause}
 use Rattle.nutusers.specs.declared.fault.Cause.TheVariants.{Malformed, BadName, Duplicate}
 use Rattle.nutusers.specs.declared.fault.Cause.TheVariants.{UnknownKey}
@@ -33,7 +32,7 @@ users_of lines = reverse (map user_of (sections (map read_config_line lines)))
 -- Why a section line is refused after lines that mean these users.
 abbrev pub section_fault : List User → List ℕ → Option Cause
 section_fault users name =
-    if not (is_text_within USER_NAME_LIMIT name) then Some BadName
+    if not (is_user_name name) then Some BadName
     else if is_some (user_named name users) then Some Duplicate
     else None
 
@@ -41,7 +40,7 @@ section_fault users name =
 abbrev pub password_fault : List ℕ → User → Option Cause
 password_fault value user =
     if is_some user.password then Some Duplicate
-    else bad_value_unless (is_text_within PASSWORD_LIMIT value)
+    else bad_value_unless (is_password value)
 
 -- Why `key = value` is refused in the section of this user.
 abbrev pub setting_fault : List ℕ → List ℕ → User → Option Cause

@@ -1,7 +1,7 @@
 //! Words that borrow their spelling from the line.
 ghost use Rattle.std.specs.Prelude.{◌≡◌, ◌≤◌, ◌<◌, ◌==◌, length, IfSome, List, ℕ, MatchOption, true, false, [], is_ok, is_some, not};
 ghost use Rattle.nutwords.specs.Keyword.{is_word};
-ghost use Rattle.nutwords.specs.Reading.{read_name, read_ups_name, read_address, read_value};
+ghost use Rattle.nutwords.specs.Reading.{read_text};
 ghost use Rattle.nutwords.specs.Scan.{read_from, read_line};
 ghost use Rattle.nutwords.specs.Spelled.{spelled, holds_escapes, is_borrowed};
 ghost use Rattle.nutwords.specs.Split.{unescaped, word_end, TakesWord, StartsInWord};
@@ -9,10 +9,7 @@ ghost use Rattle.nutwords.specs.Word.{bytes_of};
 ghost use Rattle.nutwords.specs.declared.scan.Place.TheVariants.{Bare, Quoted};
 
 use crate::scan::word_end;
-use crate::{
-    ADDRESS_LIMIT, Address, BadName, LINE_LIMIT, LINE_ROOM, NAME_LIMIT, Name, UPS_NAME_LIMIT,
-    UpsName, VALUE_LIMIT, Value, Word, is_word,
-};
+use crate::{BadName, LINE_LIMIT, Text, TextKind, Word, is_word};
 use arrayvec::ArrayVec;
 use std::marker::Model;
 
@@ -73,54 +70,15 @@ impl<'a> SpelledWord<'a> {
         }
     }
 
-    /// Reads it as a name, with the refusals of `Name::read`.
-    pub fn name(&self) -> Result<Name, BadName>
-        ensures { result ≡ read_name (spelled self.now) }
+    /// Reads it as a text of this kind, with the refusals of `Text::read`.
+    pub fn read<K: TextKind, const MOST: usize>(&self) -> Result<Text<K, MOST>, BadName>
+        ensures { result ≡ read_text K.allows K.MAY_BE_EMPTY MOST (spelled self.now) }
     {
         match self.as_plain() {
-            Some(bytes) => Name::read(bytes),
+            Some(bytes) => Text::read(bytes),
             None => {
-                let bytes = unescaped::<NAME_LIMIT>(self.text).ok_or(BadName::TooLong)?;
-                Name::read(bytes.as_slice())
-            }
-        }
-    }
-
-    /// Reads it as the name of a UPS, with the refusals of `UpsName::read`.
-    pub fn ups_name(&self) -> Result<UpsName, BadName>
-        ensures { result ≡ read_ups_name (spelled self.now) }
-    {
-        match self.as_plain() {
-            Some(bytes) => UpsName::read(bytes),
-            None => {
-                let bytes = unescaped::<UPS_NAME_LIMIT>(self.text).ok_or(BadName::TooLong)?;
-                UpsName::read(bytes.as_slice())
-            }
-        }
-    }
-
-    /// Reads it as an address, with the refusals of `Address::read`.
-    pub fn address(&self) -> Result<Address, BadName>
-        ensures { result ≡ read_address (spelled self.now) }
-    {
-        match self.as_plain() {
-            Some(bytes) => Address::read(bytes),
-            None => {
-                let bytes = unescaped::<ADDRESS_LIMIT>(self.text).ok_or(BadName::TooLong)?;
-                Address::read(bytes.as_slice())
-            }
-        }
-    }
-
-    /// Reads it as a value, with the refusals of `Value::read`.
-    pub fn value(&self) -> Result<Value, BadName>
-        ensures { result ≡ read_value (spelled self.now) }
-    {
-        match self.as_plain() {
-            Some(bytes) => Value::read(bytes),
-            None => {
-                let bytes = unescaped::<VALUE_LIMIT>(self.text).ok_or(BadName::TooLong)?;
-                Value::read(bytes.as_slice())
+                let bytes = unescaped::<MOST>(self.text).ok_or(BadName::TooLong)?;
+                Text::read(bytes.as_slice())
             }
         }
     }

@@ -1,12 +1,12 @@
 //! The commands of sessions: who asks, what it is logged in to, the forced shutdown (RFC 9271), and whether its orders are
 //! tracked.
-ghost use Rattle.std.specs.Prelude.{◌≡◌, ◌≤◌, ◌∷◌, [], Ok, codes, length, IsTrue};
+ghost use Rattle.std.specs.Prelude.{◌≤◌, Ok, length, IsTrue};
 ghost use Rattle.std.specs.List.{list_all};
 ghost use Rattle.nutwords.specs.Bytes.{is_lawful};
 ghost use Rattle.nutlisting.specs.declared.lines.TheConstants.{KIND_LIMIT};
 ghost use Rattle.nutanswer.specs.View.{Seen, AskerSeen, asker_seen};
-ghost use Rattle.nutanswer.specs.Answer.{answer_to, count_of_logins, one_line, ok};
-ghost use Rattle.nutanswer.specs.Promises.{CarriesAnswer, Gives, GivesReply, row};
+ghost use Rattle.nutanswer.specs.Answer.{answer_to, count_of_logins, ok};
+ghost use Rattle.nutanswer.specs.Promises.{Gives, GivesReply, row};
 ghost use Rattle.nutanswer.specs.declared.command.Command.TheVariants.{Username, Password, Login, Logout, Primary, Fsd, SetTracking, GetTracking, ListClient};
 
 use super::ok;

@@ -1,11 +1,13 @@
 //! What stands after the words that say which command it is.
 ghost use Rattle.std.specs.Prelude.{◌≡◌};
+ghost use Rattle.std.specs.Result.{result_ok};
+ghost use Rattle.nutwords.specs.Reading.{read_text};
 ghost use Rattle.nutwords.specs.Spelled.{spelled};
-ghost use Rattle.nutanswer.specs.Command.{alone, user_name_alone, password_alone, ups_alone, ups_and_name, ups_name_and_value, ups_name_and_value_if_any, tracking_asked, is_on, on_or_off};
+ghost use Rattle.nutanswer.specs.Command.{alone, text_alone, ups_and_name, ups_name_and_value, ups_name_and_value_if_any, tracking_asked, is_on, on_or_off};
 
-use super::{Command, IdWord, NameWord, PasswordWord, UpsWord, UserWord, ValueWord};
+use super::{Command, IdWord, NameWord, TextWord, UpsWord, ValueWord};
 use crate::ErrWord;
-use nutwords::{SpelledWord, SpelledWords};
+use nutwords::{SpelledWord, SpelledWords, TextKind};
 
 /// The command, where no further word stands after it.
 pub(crate) fn alone<'a>(
@@ -20,32 +22,15 @@ pub(crate) fn alone<'a>(
     }
 }
 
-/// The word, and no other, that is to be the name of a user.
-pub(crate) fn user_name_alone(mut words: SpelledWords<'_>) -> Result<UserWord<'_>, ErrWord>
-    ensures { result ≡ user_name_alone words.entry }
+/// The word, and no other, that is to be such a text.
+pub(crate) fn text_alone<K: TextKind, const MOST: usize>(
+    mut words: SpelledWords<'_>,
+) -> Result<TextWord<'_, K, MOST>, ErrWord>
+    ensures { result ≡ text_alone
+        (λ word. result_ok (read_text K.allows K.MAY_BE_EMPTY MOST word)) words.entry }
 {
     match (words.next(), words.next()) {
-        (Some(name), None) => Ok(UserWord::of(name)),
-        _ => Err(ErrWord::InvalidArgument),
-    }
-}
-
-/// The word, and no other, that is to be a password.
-pub(crate) fn password_alone(mut words: SpelledWords<'_>) -> Result<PasswordWord<'_>, ErrWord>
-    ensures { result ≡ password_alone words.entry }
-{
-    match (words.next(), words.next()) {
-        (Some(password), None) => Ok(PasswordWord::of(password)),
-        _ => Err(ErrWord::InvalidArgument),
-    }
-}
-
-/// The word, and no other, that is to name a UPS.
-pub(crate) fn ups_alone(mut words: SpelledWords<'_>) -> Result<UpsWord<'_>, ErrWord>
-    ensures { result ≡ ups_alone words.entry }
-{
-    match (words.next(), words.next()) {
-        (Some(ups), None) => Ok(UpsWord::of(ups)),
+        (Some(word), None) => Ok(TextWord::of(word)),
         _ => Err(ErrWord::InvalidArgument),
     }
 }

@@ -3,156 +3,64 @@
 ghost use Rattle.std.specs.Prelude.{◌≡◌, ℕ, List, Option};
 ghost use Rattle.std.specs.Result.{result_ok};
 ghost use Rattle.nuttracking.specs.Id.{read_id};
-ghost use Rattle.nutusers.specs.Credentials.{read_user_name, read_password};
-ghost use Rattle.nutwords.specs.Reading.{read_name, read_ups_name, read_value};
+ghost use Rattle.nutwords.specs.Reading.{read_text};
 ghost use Rattle.nutwords.specs.Spelled.{spelled};
 
 use nuttracking::{ID_LENGTH, read_id};
-use nutusers::{PASSWORD_LIMIT, Password, USER_NAME_LIMIT, UserName};
-use nutwords::{Name, SpelledWord, UpsName, Value};
-use std::marker::Model;
+use nutusers::{OfCredential, PASSWORD_LIMIT, USER_NAME_LIMIT};
+use nutwords::{
+    NAME_LIMIT, OfName, OfValue, SpelledWord, Text, TextKind, UPS_NAME_LIMIT, VALUE_LIMIT,
+};
+use std::marker::{Model, PhantomData};
 
-/// The word that names a UPS. What it names is none, where it is no lawful name.
-#[derive(Debug, Drop)]
-pub struct UpsWord<'a> {
+/// The word that is to be a text of this kind, none where it isn't one.
+#[derive(Drop)]
+#[derive_where(Debug)]
+pub struct TextWord<'a, K: TextKind, const MOST: usize> {
     word: SpelledWord<'a>,
+    kind: PhantomData<K>,
 }
 
-impl<'a> Model for UpsWord<'a> {
+impl<'a, K: TextKind, const MOST: usize> Model for TextWord<'a, K, MOST> {
     ghost Value = { Option (List ℕ) };
 
-    ghost view = { λ w. result_ok (read_ups_name (spelled w.word)) };
+    ghost view = { λ w. result_ok (read_text K.allows K.MAY_BE_EMPTY MOST (spelled w.word)) };
 }
 
-impl<'a> UpsWord<'a> {
-    /// The word that is to name a UPS.
-    pub(crate) fn of(word: SpelledWord<'a>) -> UpsWord<'a>
-        ensures { result ≡ result_ok (read_ups_name (spelled word.entry)) }
+impl<'a, K: TextKind, const MOST: usize> TextWord<'a, K, MOST> {
+    /// The word that is to be such a text.
+    pub(crate) fn of(word: SpelledWord<'a>) -> TextWord<'a, K, MOST>
+        ensures { result ≡ result_ok
+            (read_text K.allows K.MAY_BE_EMPTY MOST (spelled word.entry)) }
     {
-        UpsWord { word }
+        TextWord {
+            word,
+            kind: PhantomData,
+        }
     }
 
-    /// What it names.
-    pub fn read(&self) -> Option<UpsName>
+    /// The text.
+    pub fn read(&self) -> Option<Text<K, MOST>>
         ensures { result ≡ self.now }
     {
-        self.word.ups_name().ok()
+        self.word.read().ok()
     }
 }
 
-/// The word that names a variable or a command, none where it is no lawful name.
-#[derive(Debug, Drop)]
-pub struct NameWord<'a> {
-    word: SpelledWord<'a>,
-}
+/// The word that names a UPS.
+pub type UpsWord<'a> = TextWord<'a, OfName, UPS_NAME_LIMIT>;
 
-impl<'a> Model for NameWord<'a> {
-    ghost Value = { Option (List ℕ) };
+/// The word that names a variable or a command.
+pub type NameWord<'a> = TextWord<'a, OfName, NAME_LIMIT>;
 
-    ghost view = { λ w. result_ok (read_name (spelled w.word)) };
-}
+/// The word that is a value.
+pub type ValueWord<'a> = TextWord<'a, OfValue, VALUE_LIMIT>;
 
-impl<'a> NameWord<'a> {
-    /// The word that is to name a variable or a command.
-    pub(crate) fn of(word: SpelledWord<'a>) -> NameWord<'a>
-        ensures { result ≡ result_ok (read_name (spelled word.entry)) }
-    {
-        NameWord { word }
-    }
+/// The word that is the name of a user.
+pub type UserWord<'a> = TextWord<'a, OfCredential, USER_NAME_LIMIT>;
 
-    /// What it names.
-    pub fn read(&self) -> Option<Name>
-        ensures { result ≡ self.now }
-    {
-        self.word.name().ok()
-    }
-}
-
-/// The word that is a value, none where it isn't as short as one may be.
-#[derive(Debug, Drop)]
-pub struct ValueWord<'a> {
-    word: SpelledWord<'a>,
-}
-
-impl<'a> Model for ValueWord<'a> {
-    ghost Value = { Option (List ℕ) };
-
-    ghost view = { λ w. result_ok (read_value (spelled w.word)) };
-}
-
-impl<'a> ValueWord<'a> {
-    /// The word that is to be a value.
-    pub(crate) fn of(word: SpelledWord<'a>) -> ValueWord<'a>
-        ensures { result ≡ result_ok (read_value (spelled word.entry)) }
-    {
-        ValueWord { word }
-    }
-
-    /// The value.
-    pub(crate) fn read(&self) -> Option<Value>
-        ensures { result ≡ self.now }
-    {
-        self.word.value().ok()
-    }
-}
-
-/// The word that is the name of a user, none where it isn't as long as one may be.
-#[derive(Debug, Drop)]
-pub struct UserWord<'a> {
-    word: SpelledWord<'a>,
-}
-
-impl<'a> Model for UserWord<'a> {
-    ghost Value = { Option (List ℕ) };
-
-    ghost view = { λ w. read_user_name (spelled w.word) };
-}
-
-impl<'a> UserWord<'a> {
-    /// The word that is to be the name of a user.
-    pub(crate) fn of(word: SpelledWord<'a>) -> UserWord<'a>
-        ensures { result ≡ read_user_name (spelled word.entry) }
-    {
-        UserWord { word }
-    }
-
-    /// The name.
-    pub(crate) fn read(&self) -> Option<UserName>
-        ensures { result ≡ self.now }
-    {
-        let bytes = self.word.held::<USER_NAME_LIMIT>()?;
-        UserName::read(bytes.as_slice())
-    }
-}
-
-/// The word that is a password, none where it isn't as long as one may be.
-#[derive(Debug, Drop)]
-pub struct PasswordWord<'a> {
-    word: SpelledWord<'a>,
-}
-
-impl<'a> Model for PasswordWord<'a> {
-    ghost Value = { Option (List ℕ) };
-
-    ghost view = { λ w. read_password (spelled w.word) };
-}
-
-impl<'a> PasswordWord<'a> {
-    /// The word that is to be a password.
-    pub(crate) fn of(word: SpelledWord<'a>) -> PasswordWord<'a>
-        ensures { result ≡ read_password (spelled word.entry) }
-    {
-        PasswordWord { word }
-    }
-
-    /// The password.
-    pub(crate) fn read(&self) -> Option<Password>
-        ensures { result ≡ self.now }
-    {
-        let bytes = self.word.held::<PASSWORD_LIMIT>()?;
-        Password::read(bytes.as_slice())
-    }
-}
+/// The word that is a password.
+pub type PasswordWord<'a> = TextWord<'a, OfCredential, PASSWORD_LIMIT>;
 
 /// The word that is the id of a tracked order, none where it isn't one.
 #[derive(Debug, Drop)]

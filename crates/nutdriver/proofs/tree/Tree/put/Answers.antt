@@ -10,7 +10,7 @@ invariant_of-self-2 c =
     let P : TreeState → Type 0 = λ t. IsNone (variable_at t c.args.name.now) → length t.variables < VARIABLE_LIMIT in
     let room = subst P (sym c.self.view_is) c.requires in
     let few = few_inserted c.changes_count_one_entry.ensures.added c.changes_count_one_entry.ensures.replaced c.args.name.now c.args.variable VARIABLE_LIMIT c.self.inside.variables c.insert.ensures.rising c.self.invariant.0 room in
-    (rw (c.in-Ok.ensures.ok, c.copied.ensures) few, c.self.invariant.1, c.self.invariant.2)
+    (rw (c.in_ok-insert.ensures.ok, c.copied.ensures) few, c.self.invariant.1, c.self.invariant.2)
 
 pub returns-clause-step : goal.returns-clause-step
-returns-clause-step c = rw (← c.self.view_is, c.in-Ok.ensures.ok, c.copied.ensures) refl
+returns-clause-step c = rw (← c.self.view_is, c.in_ok-insert.ensures.ok, c.copied.ensures) refl

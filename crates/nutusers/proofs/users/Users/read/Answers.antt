@@ -1,41 +1,26 @@
-use Rattle.std.proofs.Common.{reverse, ◌∷◌, [], sym, ap, ◌∙◌, arith}
-use Rattle.nutwords.specs.Text.{lines_of}
+use Rattle.std.proofs.Common.{ℕ, List, Result, Ok, Err, [], reverse, refl}
+use Rattle.std.specs.Prelude.{IfOk}
 use Rattle.nutusers.specs.ConfigLine.{read_config_line}
-use Rattle.nutusers.specs.UsersFile.{users_format, users_of, adds_to_users}
+use Rattle.nutusers.specs.File.{Means, IsByLines}
+use Rattle.nutusers.specs.Users.{User, HaveOneNameEach}
+use Rattle.nutusers.specs.UsersFile.{users_of, users_format}
 use Rattle.nutusers.specs.UsersStep.{users_with}
-use Rattle.nutusers.proofs.Progress.{HasRead, nothing_read, one_read, all_read, next_refused, room}
+use Rattle.nutusers.specs.declared.fault.ConfFault.{ConfFault}
 use Rattle.nutusers.proofs.UsersLemmas.{users_of-line, users_apart}
 use Rattle.nutusers.proofs.users.Users.read.Goals as goal
 
-pub loop-line-init : goal.loop-line-init
-loop-line-init c = record {
-  read = rw (c.into_iter-line-iterator.ensures.into_iter_gives, c.of-line-items.ensures.value) (nothing_read c.none-users.result c.none-users.ensures);
-  can = tt;
-  finite = tt;
-}
+by_lines : IsByLines (λ users line. users_with users (read_config_line line)) [] users_of
+by_lines = record { nothing = refl; one_more = users_of-line }
 
-pub overflow_add-number : goal.overflow_add-number
-overflow_add-number c =
-    let read : HasRead users_format users_of (lines_of c.args.bytes.now) (c.in-Some.line.now ∷ c.next.new.self) c.loop-line.number c.loop-line.users = rw c.in-Some.ensures.steps at c.loop-line.invariant.read in
-    omega (arith, room _ _ _ _ read, c.of-line-items.ensures.few)
-
-pub returns-in-Err-clause-err : goal.returns-in-Err-clause-err
-returns-in-Err-clause-err c =
-    let read : HasRead users_format users_of (lines_of c.args.bytes.now) (c.in-Some.line.now ∷ c.next.new.self) c.loop-line.number c.loop-line.users = rw c.in-Some.ensures.steps at c.loop-line.invariant.read in
-    next_refused adds_to_users _ _ _ _ _ read (rw read.value_is at c.in-Err.ensures.fault) c.in-Err.ensures.memory
-
-pub loop-line-preserved : goal.loop-line-preserved
-loop-line-preserved c =
-    let read : HasRead users_format users_of (lines_of c.args.bytes.now) (c.in-Some.line.now ∷ c.next.new.self) c.loop-line.number c.loop-line.users = rw c.in-Some.ensures.steps at c.loop-line.invariant.read in
-    record { read = one_read _ _ _ _ _ read (rw read.value_is at c.in_default.ensures.fault) (c.in_default.ensures.ok ∙ ap (λ users. users_with users (read_config_line c.in-Some.line.now)) read.value_is ∙ sym (users_of-line c.in-Some.line.now read.earlier)); can = tt; finite = tt }
+one_name_each : (lines : List (List ℕ)) (read : Result (List User) ConfFault) → IfOk read (Means users_format users_of lines) → IfOk read HaveOneNameEach
+one_name_each lines (Ok users) means = rw means.value_is (users_apart (reverse lines) means.accepted)
+one_name_each lines (Err fault) means = tt
 
 pub returns-clause-ok : goal.returns-clause-ok
-returns-clause-ok c =
-    let read : HasRead users_format users_of (lines_of c.args.bytes.now) [] c.loop-line.number c.loop-line.users = rw c.in-None.ensures.steps.0 at c.loop-line.invariant.read in
-    all_read _ _ read
+returns-clause-ok c = c.read_lines.ensures.ok users_of (rw c.none.ensures by_lines)
 
 pub returns-clause-names : goal.returns-clause-names
-returns-clause-names c =
-    let read : HasRead users_format users_of (lines_of c.args.bytes.now) [] c.loop-line.number c.loop-line.users = rw c.in-None.ensures.steps.0 at c.loop-line.invariant.read in
-    let means = all_read _ _ read in
-    rw means.value_is (users_apart (reverse (lines_of c.args.bytes.now)) means.accepted)
+returns-clause-names c = one_name_each _ c.read_lines.result (c.read_lines.ensures.ok users_of (rw c.none.ensures by_lines))
+
+pub returns-clause-err : goal.returns-clause-err
+returns-clause-err c = c.read_lines.ensures.err users_of (rw c.none.ensures by_lines)
