@@ -70,9 +70,28 @@ class Variable:
         form += [b"STRING:%d" % self.aux] if b"STRING" in self.flags else []
         return b" ".join(words + (form or [b"NUMBER"]))
 
+    def change(self, verb, rest):
+        match verb, *rest:
+            case b"SETFLAGS", *flags if {flag.upper() for flag in flags} <= {b"RW", b"STRING", b"NUMBER"}:
+                self.flags = frozenset(flag.upper() for flag in flags)
+            case b"SETAUX", text if (number := number_of(text)) is not None and number >= 0:
+                self.aux = number
+            case (b"ADDENUM" | b"DELENUM"), value if len(value) <= VALUE:
+                change_list(verb, self.enums, value, 256)
+            case (b"ADDRANGE" | b"DELRANGE"), low, high if None not in (ends := (number_of(low), number_of(high))) and ends[0] <= ends[1]:
+                change_list(verb, self.ranges, ends, 32)
+
+
+def change_list(verb, items, item, most):
+    if verb.startswith(b"DEL"):
+        if item in items:
+            items.remove(item)
+    elif item not in items and len(items) < most:
+        items.append(item)
+
 
 class Ups:
-    def __init__(self, name, desc=None):
+    def __init__(self, name, desc):
         self.name, self.desc, self.forced = name, desc, False
         self.lose()
 
@@ -104,81 +123,23 @@ class Ups:
 
     def hear(self, line):
         """Does one whole line of the driver. A line that is refused does nothing."""
-        words = read_words(line)
-        if not words:
-            return
-        verb, rest = words[0].upper(), words[1:]
-        if verb in (b"DUMPDONE", b"DATAOK", b"DATASTALE", b"PONG"):
-            if not rest:
-                self.dumped |= verb == b"DUMPDONE"
-                self.ok = {b"DATAOK": True, b"DATASTALE": False}.get(verb, self.ok)
-            return
-        lengths = {b"SETINFO": 2, b"DELINFO": 1, b"ADDENUM": 2, b"DELENUM": 2, b"ADDRANGE": 3, b"DELRANGE": 3}
-        lengths |= {b"SETAUX": 2, b"ADDCMD": 1, b"DELCMD": 1}
-        fits = verb == b"SETFLAGS" and rest or len(rest) == lengths.get(verb)
-        if not fits or not is_name(rest[0]):
-            return
-        if verb in (b"ADDCMD", b"DELCMD"):
-            self.change_commands(verb, rest[0])
-        elif verb == b"SETINFO":
-            self.set_value(rest[0], rest[1])
-        elif rest[0] in self.variables:
-            self.change_variable(verb, rest[0], rest[1:])
-
-    def change_commands(self, verb, name):
-        if verb == b"DELCMD":
-            self.commands.discard(name)
-        elif len(self.commands) < 1024:
-            self.commands.add(name)
-
-    def set_value(self, name, value):
-        if len(value) <= VALUE and (name in self.variables or len(self.variables) < VARIABLES):
-            self.variables.setdefault(name, Variable()).value = value
-
-    def change_variable(self, verb, name, rest):
-        variable = self.variables[name]
-        if verb == b"DELINFO":
-            del self.variables[name]
-        elif verb == b"SETFLAGS":
-            flags = frozenset(word.upper() for word in rest)
-            if flags <= {b"RW", b"STRING", b"NUMBER"}:
-                variable.flags = flags
-        elif verb == b"SETAUX":
-            number = number_of(rest[0])
-            if number is not None and number >= 0:
-                variable.aux = number
-        elif verb in (b"ADDENUM", b"DELENUM"):
-            if len(rest[0]) <= VALUE:
-                change_list(verb, variable.enums, rest[0], 256)
-        else:
-            ends = tuple(number_of(word) for word in rest)
-            if None not in ends and ends[0] <= ends[1]:
-                change_list(verb, variable.ranges, ends, 32)
-
-
-def change_list(verb, items, item, most):
-    if verb.startswith(b"DEL"):
-        if item in items:
-            items.remove(item)
-    elif item not in items and len(items) < most:
-        items.append(item)
-
-
-class User:
-    """What the file of users says of one user."""
-
-    def __init__(self, password=None, actions=(), commands=(), upsmon=()):
-        self.password, self.actions, self.commands, self.upsmon = password, actions, commands, upsmon
-
-    def may(self, right):
-        if isinstance(right, tuple):
-            return b"ALL" in self.commands or right[0] in self.commands
-        return {
-            "login": bool(self.upsmon),
-            "primary": "primary" in self.upsmon,
-            "fsd": "FSD" in self.actions or "primary" in self.upsmon,
-            "set": "SET" in self.actions,
-        }[right]
+        verb, *rest = read_words(line) or [b""]
+        match verb.upper(), *rest:
+            case b"DUMPDONE",:
+                self.dumped = True
+            case ((b"DATAOK" | b"DATASTALE") as word,):
+                self.ok = word == b"DATAOK"
+            case b"ADDCMD", name if is_name(name) and len(self.commands) < 1024:
+                self.commands.add(name)
+            case b"DELCMD", name:
+                self.commands.discard(name)
+            case b"SETINFO", name, value if name in self.variables or (is_name(name) and len(self.variables) < VARIABLES):
+                if len(value) <= VALUE:
+                    self.variables.setdefault(name, Variable()).value = value
+            case b"DELINFO", name:
+                self.variables.pop(name, None)
+            case verb, name, *more if name in self.variables:
+                self.variables[name].change(verb, more)
 
 
 class Session:
@@ -208,7 +169,9 @@ TEXTS = {
 }
 LIVE = (b"GET VAR", b"GET TYPE", b"SET VAR", b"INSTCMD", b"LIST VAR", b"LIST RW", b"LIST CMD", b"LIST ENUM", b"LIST RANGE")
 OF_VARIABLE = (b"GET VAR", b"GET TYPE", b"SET VAR", b"LIST ENUM", b"LIST RANGE")
-RIGHTS = {b"LOGIN": "login", b"ATTACH": "login", b"PRIMARY": "primary", b"FSD": "fsd", b"SET VAR": "set"}
+# What a user has to have one of, in the file of users; of INSTCMD, see `allow`.
+PRIMARY, LOGIN = {(b"upsmon", b"primary")}, {(b"upsmon", b"primary"), (b"upsmon", b"secondary")}
+RIGHTS = {b"LOGIN": LOGIN, b"ATTACH": LOGIN, b"PRIMARY": PRIMARY, b"FSD": {(b"actions", b"FSD")} | PRIMARY, b"SET VAR": {(b"actions", b"SET")}}
 
 
 class Error(Exception):
@@ -219,10 +182,28 @@ class Listed(Exception):
     """A listing is due, and its memory is refused."""
 
 
+def lines_of(text):
+    """The words of the lines of a file."""
+    return [read_words(line) for line in text.split(b"\n") if line.strip(BLANKS) and not line.lstrip(BLANKS).startswith(b"#")]
+
+
+def sections_of(text):
+    """What stands in each section of a file: `key = value`, and `upsmon primary`."""
+    found = {}
+    for key, *rest in lines_of(text):
+        if rest:
+            section.append((key, rest[-1]))
+        else:
+            section = found.setdefault(key[1:-1], [])
+    return found
+
+
 class Server:
-    def __init__(self, upses=None, users=None, descriptions=None):
-        self.upses = {ups.name: ups for ups in sorted(upses or [Ups(b"su")], key=lambda ups: ups.name)}
-        self.users, self.descriptions = users or {}, descriptions or {}
+    """It takes the texts of its files."""
+
+    def __init__(self, ups=b"[su]\n", users=b"", vars=b""):
+        self.upses = {name: Ups(name, dict(entries).get(b"desc")) for name, entries in sorted(sections_of(ups).items())}
+        self.users, self.descriptions = sections_of(users), {(kind, name): text for kind, name, text in lines_of(vars)}
         self.sessions, self.moment = [], 0
         self.refuse = None  # how many lines of the event are executed before memory is refused
 
@@ -360,12 +341,13 @@ class Server:
             return self.list(verb, rest)
         return self.say(session, verb, rest) + b"\n"
 
-    def allow(self, session, right):
+    def allow(self, session, verb, rest):
+        right = RIGHTS.get(verb) or {(b"instcmds", b"ALL"), (b"instcmds", rest[1])}
         for given, word in ((session.username, b"USERNAME"), (session.password, b"PASSWORD")):
             if given is None:
                 raise Error(word + b"-REQUIRED")
-        user = self.users.get(session.username)
-        if not user or user.password is None or user.password != session.password or not user.may(right):
+        user = self.users.get(session.username, [])
+        if (b"password", session.password) not in user or right.isdisjoint(user):
             raise Error(b"ACCESS-DENIED")
 
     def check(self, verb, rest):
@@ -391,7 +373,7 @@ class Server:
         if verb in (b"USERNAME", b"PASSWORD"):
             return self.give(session, verb, rest[0])
         if verb in RIGHTS or verb == b"INSTCMD":
-            self.allow(session, RIGHTS.get(verb) or (rest[1],))
+            self.allow(session, verb, rest)
         ups = self.check(verb, rest)
         if verb.startswith(b"GET "):
             return self.get(ups, verb[4:], rest)

@@ -1,11 +1,14 @@
 """Runs of a built program, most of them of `upsd replay`, and the line that is printed a case."""
 import os
+import re
 import subprocess
 import sys
 import tempfile
 import time
 
 from plain_server import Replay, Server
+
+HERE = os.path.dirname(os.path.abspath(__file__))
 
 
 class Bench:
@@ -24,30 +27,34 @@ class Bench:
 
     def run(self, script, *options):
         """What a replay of this script ends with: its status, output, errors, and its greatest resident kilobytes."""
-        out, err = self.file("out", b""), self.file("err", b"")
-        words = [self.program, "replay", *options, self.file("script", script)]
-        with open(out, "wb") as told, open(err, "wb") as faults:
-            child = subprocess.Popen(words, cwd=self.folder.name, stdout=told, stderr=faults)
+        with tempfile.TemporaryFile() as out, tempfile.TemporaryFile() as err:
+            words = [self.program, "replay", *options, self.file("script", script)]
+            child = subprocess.Popen(words, cwd=self.folder.name, stdout=out, stderr=err)
             _, status, used = os.wait4(child.pid, 0)
             child.returncode = os.waitstatus_to_exitcode(status)
-        with open(out, "rb") as told, open(err, "rb") as faults:
-            return child.returncode, told.read(), faults.read(), used.ru_maxrss
+            out.seek(0)
+            err.seek(0)
+            return child.returncode, out.read(), err.read(), used.ru_maxrss
 
-    def prints(self, script, want, *options):
-        """The replay is done, and prints this. The answer is its greatest resident kilobytes."""
-        status, told, faults, kilobytes = self.run(script, *options)
+    def options(self, files):
+        """The words that name these files, which are written."""
+        return [f"--{kind}={self.file(kind, text)}" for kind, text in files.items()]
+
+    def prints(self, script, want, **files):
+        """The replay over these files is done, and prints this. The answer is its greatest resident kilobytes."""
+        status, told, faults, kilobytes = self.run(script, *self.options(files))
         assert (status, faults) == (0, b""), (status, faults)
         assert told == want, difference(told, want)
         return kilobytes
 
-    def agrees(self, script, server=None, options=()):
+    def agrees(self, script, **files):
         """The replay is done, and prints what the plain server does."""
-        want = Replay(server or Server(), None).output(script)
-        self.prints(script, want, *options)
+        want = Replay(Server(**files)).output(script)
+        self.prints(script, want, **files)
         return want
 
-    def faults(self, script, fault, *options):
-        status, told, faults, _ = self.run(script, *options)
+    def faults(self, script, fault, **files):
+        status, told, faults, _ = self.run(script, *self.options(files))
         assert (status, told, faults) == (1, b"", fault), (status, told[:200], faults)
 
     def ends(self, *words, program=None, **more):
@@ -81,6 +88,41 @@ class Bench:
     def end(self):
         self.folder.cleanup()
         sys.exit(1 if self.failed else 0)
+
+
+def text_of(path):
+    with open(os.path.join(HERE, path), encoding="utf-8") as file:
+        return file.read()
+
+
+def plain(text):
+    """The text with what stands for other bytes: `<TAB>`, `<CR>`, `<N>` for N bytes x, and `<TEXT*N>` for N times the text."""
+    text = re.sub(r"<([^<>]+)\*(\d+)>", lambda found: found[1] * int(found[2]), text)
+    return re.sub(r"<(\d+)>", lambda number: "x" * int(number[1]), text.replace("<TAB>", "\t").replace("<CR>", "\r"))
+
+
+def written(text):
+    """The lines that stand there. `N* LINE` is the line N times, `$` in it an LF, and <n> its number from 1, <#> in as many digits as N
+    has, <x> the number below it in hexadecimal."""
+    every = []
+    for line in text.splitlines():
+        count, star, repeated = line.partition("* ")
+        for number in range(1, int(count) + 1) if star and count.isdigit() else ():
+            marks = {"<n>": str(number), "<#>": str(number).zfill(len(count)), "<x>": f"{number - 1:02X}", "$": "\n"}
+            every.append(plain(re.sub("|".join(map(re.escape, marks)), lambda mark: marks[mark[0]], repeated)))
+        every += [] if star and count.isdigit() else [plain(line)]
+    return lines(every)
+
+
+def cases(path):
+    """The title of each case of a file, what it has, and its files. A case begins with a line `== TITLE`. After a line `-- list` stands
+    the file of UPSs, after `-- users` that of users, after `-- vars` the descriptions; after `-- script` the script, and after `-- output`
+    what is printed, whose last line is blank where a case follows; or after `-- fault` the fault."""
+    for case in re.split("^== ", text_of(path), flags=re.MULTILINE)[1:]:
+        title, text = case.split("\n", 1)
+        parts = dict(re.findall(r"^-- (\w+)\n(.*?)(?=^-- |\Z)", text, re.MULTILINE | re.DOTALL))
+        files = {"ups": parts.pop("list", None), "users": parts.pop("users", None), "vars": parts.pop("vars", None)}
+        yield title, parts, {kind: written(part) for kind, part in files.items() if part is not None}
 
 
 def ends_in_full(*words):
