@@ -119,7 +119,7 @@ class Peers:
     def is_so(self, seconds, title, want, command):
         """Whether the command prints this in time."""
         words, got = [Template(word).substitute(self.names) for word in shlex.split(command)], None
-        form = re.escape(want).replace(r"\*", ".*").replace("ID", "[0-9a-f]{8}(?:-[0-9a-f]{4}){3}-[0-9a-f]{12}").replace(r"\$", "\n")
+        form = re.escape(want).replace(r"\*", ".*").replace("<id>", "[0-9a-f]{8}(?:-[0-9a-f]{4}){3}-[0-9a-f]{12}").replace(r"\$", "\n")
 
         def is_printed():
             nonlocal got

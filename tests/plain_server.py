@@ -8,7 +8,6 @@ import re
 MAX_AGE = 15
 LINE, VALUE, VARIABLES = 2047, 512, 32_768
 HOLD, OWED, RING, DRIVER_OWED = LINE + 1, 4096, 8192, 2048
-LETTERS = frozenset(b"ABCDEFGHIJKLMNOPQRSTUVWXYZabcdefghijklmnopqrstuvwxyz0123456789.-_")
 BLANKS = b" \t"
 
 
@@ -37,17 +36,14 @@ def quoted(value):
     return b'"' + value.replace(b"\\", b"\\\\").replace(b'"', b'\\"') + b'"'
 
 
-def is_name(word, most=64):
-    return 1 <= len(word) <= most and all(byte in LETTERS for byte in word)
+def is_name(word):
+    return re.fullmatch(rb"[A-Za-z0-9._-]{1,64}", word)
 
 
 def number_of(word):
     """The number that the word is; None where it is none."""
-    digits = word[1:] if word.startswith(b"-") else word
-    if not digits.isdigit() or (digits.startswith(b"0") and word != b"0"):
-        return None
-    number = int(word)
-    return number if -(10**9) <= number <= 10**9 else None
+    number = int(word) if re.fullmatch(rb"0|-?[1-9][0-9]*", word) else None
+    return number if number is not None and abs(number) <= 10**9 else None
 
 
 class Variable:
@@ -92,7 +88,7 @@ def change_list(verb, items, item, most):
 
 class Ups:
     def __init__(self, name, desc):
-        self.name, self.desc, self.forced = name, desc, False
+        self.name, self.desc, self.forced, self.taken = name, desc, False, b""
         self.lose()
 
     def lose(self):
@@ -152,23 +148,25 @@ class Session:
     def end(self):
         self.ending, self.held, self.login = True, b"", None
 
+    def offered(self):
+        return self.owed[:RING]
 
-FORMS = {
-    b"USERNAME": (1,), b"PASSWORD": (1,), b"LOGIN": (1,), b"LOGOUT": (0,), b"PRIMARY": (1,), b"FSD": (1,),
-    b"ATTACH": (1,), b"DETACH": (0,), b"GET NUMATTACH": (1,),
-    b"INSTCMD": (2, 3), b"HELP": (0,), b"VER": (0,), b"NETVER": (0,), b"PROTVER": (0,), b"STARTTLS": (0,),
-    b"SET VAR": (3,), b"GET VAR": (2,), b"GET TYPE": (2,), b"GET DESC": (2,), b"GET CMDDESC": (2,),
-    b"GET UPSDESC": (1,), b"GET NUMLOGINS": (1,), b"LIST UPS": (0,), b"LIST VAR": (1,), b"LIST RW": (1,),
-    b"LIST CMD": (1,), b"LIST ENUM": (2,), b"LIST RANGE": (2,), b"LIST CLIENT": (1,),
-}  # fmt: skip
+
+# How many words may follow.
+FORMS = {verb.encode(): {count} for count, verbs in enumerate([
+    "HELP, VER, NETVER, PROTVER, STARTTLS, LOGOUT, DETACH, LIST UPS",
+    "USERNAME, PASSWORD, LOGIN, ATTACH, PRIMARY, FSD, GET UPSDESC, GET NUMLOGINS, GET NUMATTACH, LIST VAR, LIST RW, LIST CMD, LIST CLIENT",
+    "GET VAR, GET TYPE, GET DESC, GET CMDDESC, LIST ENUM, LIST RANGE, INSTCMD",
+    "SET VAR"]) for verb in verbs.split(", ")}  # fmt: skip
+FORMS[b"INSTCMD"].add(3)
 TEXTS = {
     b"HELP": b"Commands: HELP VER NETVER PROTVER GET LIST SET INSTCMD LOGIN LOGOUT PRIMARY FSD USERNAME PASSWORD STARTTLS",
     b"VER": b"Network UPS Tools upsd, profile 1",
     b"NETVER": b"1.3",
     b"PROTVER": b"1.3",
 }
-LIVE = (b"GET VAR", b"GET TYPE", b"SET VAR", b"INSTCMD", b"LIST VAR", b"LIST RW", b"LIST CMD", b"LIST ENUM", b"LIST RANGE")
 OF_VARIABLE = (b"GET VAR", b"GET TYPE", b"SET VAR", b"LIST ENUM", b"LIST RANGE")
+LIVE = OF_VARIABLE + (b"INSTCMD", b"LIST VAR", b"LIST RW", b"LIST CMD")
 # What a user has to have one of, in the file of users; of INSTCMD, see `allow`.
 PRIMARY, LOGIN = {(b"upsmon", b"primary")}, {(b"upsmon", b"primary"), (b"upsmon", b"secondary")}
 RIGHTS = {b"LOGIN": LOGIN, b"ATTACH": LOGIN, b"PRIMARY": PRIMARY, b"FSD": {(b"actions", b"FSD")} | PRIMARY, b"SET VAR": {(b"actions", b"SET")}}
@@ -176,10 +174,6 @@ RIGHTS = {b"LOGIN": LOGIN, b"ATTACH": LOGIN, b"PRIMARY": PRIMARY, b"FSD": {(b"ac
 
 class Error(Exception):
     """A line is answered by ERR and this word."""
-
-
-class Listed(Exception):
-    """A listing is due, and its memory is refused."""
 
 
 def lines_of(text):
@@ -247,8 +241,8 @@ class Server:
         ups = self.connected(name)
         if count > len(ups.owed):
             raise Refused(4)
-        taken, ups.owed = ups.owed[:count], ups.owed[count:]
-        return taken
+        ups.taken += ups.owed[:count]
+        ups.owed = ups.owed[count:]
 
     def tick(self, seconds):
         self.moment = max(self.moment, seconds)
@@ -263,10 +257,9 @@ class Server:
         return [session for session in self.sessions if session.is_open]
 
     def session(self, number):
-        for session in self.opened():
-            if session.number == number:
-                return session
-        raise Refused(2)
+        if not 1 <= number <= len(self.sessions) or not self.sessions[number - 1].is_open:
+            raise Refused(2)
+        return self.sessions[number - 1]
 
     def open(self, address):
         if len(self.opened()) == 64:
@@ -291,7 +284,7 @@ class Server:
 
     def took(self, number, count):
         session = self.session(number)
-        if count > len(session.owed[:RING]):
+        if count > len(session.offered()):
             raise Refused(4)
         session.sent += session.owed[:count]
         session.owed = session.owed[count:]
@@ -301,10 +294,7 @@ class Server:
         while not session.ending and len(session.owed) <= OWED:
             line, found, rest = session.held.partition(b"\n")
             if found:
-                try:
-                    session.owed += self.answer(session, line)
-                except Listed:
-                    raise Refused(8) from None
+                session.owed += self.answer(session, line)
                 session.held = b"" if session.ending else rest
             elif len(session.held) == HOLD:
                 session.owed += b"ERR TOO-LONG\n"
@@ -324,22 +314,17 @@ class Server:
         return text
 
     def execute(self, session, words):
-        if words is None:
-            raise Error(b"INVALID-ARGUMENT")
         if not words:
+            if words is None:
+                raise Error(b"INVALID-ARGUMENT")
             return b""
         verb, rest = words[0].upper(), words[1:]
-        if verb in (b"GET", b"LIST", b"SET"):
-            verb, rest = verb + b" " + (rest[0].upper() if rest else b""), rest[1:]
-            if verb not in FORMS:
-                raise Error(b"INVALID-ARGUMENT")
-        if verb not in FORMS:
-            raise Error(b"UNKNOWN-COMMAND")
-        if len(rest) not in FORMS[verb]:
-            raise Error(b"INVALID-ARGUMENT")
-        if verb.startswith(b"LIST "):
-            return self.list(verb, rest)
-        return self.say(session, verb, rest) + b"\n"
+        is_part = verb in (b"GET", b"LIST", b"SET")
+        if is_part:
+            verb, rest = verb + b" " + b"".join(rest[:1]).upper(), rest[1:]
+        if len(rest) not in FORMS.get(verb, ()):
+            raise Error(b"INVALID-ARGUMENT" if is_part or verb in FORMS else b"UNKNOWN-COMMAND")
+        return self.list(verb, rest) if verb.startswith(b"LIST ") else self.say(session, verb, rest) + b"\n"
 
     def allow(self, session, verb, rest):
         right = RIGHTS.get(verb) or {(b"instcmds", b"ALL"), (b"instcmds", rest[1])}
@@ -396,14 +381,22 @@ class Server:
         elif verb == b"FSD":
             ups.forced = True
             return b"OK FSD-SET"
-        elif verb == b"SET VAR":
-            self.set_variable(ups, *rest[1:])
-        elif verb == b"INSTCMD":
-            self.start(ups, *rest[1:])
+        elif verb != b"PRIMARY":
+            name, *values = rest[1:]
+            self.check_order(ups, verb, name, *values)
+            line = b" ".join([verb.split()[0], name, *map(quoted, values)])
+            if not ups.owe(line):
+                raise Error(verb.split()[0] + b"-FAILED")
         return b"OK"
 
     @staticmethod
-    def set_variable(ups, name, value):
+    def check_order(ups, verb, name, value=b""):
+        if verb == b"INSTCMD":
+            if name not in ups.commands:
+                raise Error(b"CMD-NOT-SUPPORTED")
+            if len(value) > VALUE:
+                raise Error(b"TOO-LONG")
+            return
         variable = ups.variables[name]
         if b"RW" not in variable.flags:
             raise Error(b"READONLY")
@@ -411,17 +404,6 @@ class Server:
             raise Error(b"TOO-LONG")
         if not variable.may_have(value):
             raise Error(b"INVALID-VALUE")
-        if not ups.owe(b"SET " + name + b" " + quoted(value)):
-            raise Error(b"SET-FAILED")
-
-    @staticmethod
-    def start(ups, name, value=None):
-        if name not in ups.commands:
-            raise Error(b"CMD-NOT-SUPPORTED")
-        if value is not None and len(value) > VALUE:
-            raise Error(b"TOO-LONG")
-        if not ups.owe(b"INSTCMD " + name + (b"" if value is None else b" " + quoted(value))):
-            raise Error(b"INSTCMD-FAILED")
 
     def logged_in(self, ups):
         return [session for session in self.opened() if session.login == ups.name]
@@ -449,7 +431,7 @@ class Server:
         else:
             items = [b" ".join(rest) + b" " + item for item in self.items(kind, ups, rest)]
         if self.refuse == 0 and kind != b"CLIENT":
-            raise Listed
+            raise Refused(8)
         head = b" LIST " + b" ".join([kind, *rest]) + b"\n"
         return b"BEGIN" + head + b"".join(kind + b" " + item + b"\n" for item in items) + b"END" + head
 
@@ -471,7 +453,7 @@ class Replay:
 
     def __init__(self, server, refused=None, after=0):
         self.server, self.refused, self.after = server, refused, after
-        self.told, self.taken = [], {name: b"" for name in server.upses}
+        self.told = []
 
     def output(self, script):
         for number, line in enumerate(script.split(b"\n"), 1):
@@ -481,8 +463,8 @@ class Replay:
         text = b"".join(self.told)
         for session in self.server.sessions:
             text += self.part(b"client %d" % session.number, session.sent)
-        for name in self.server.upses:
-            text += self.part(b"driver " + name, self.taken[name])
+        for ups in self.server.upses.values():
+            text += self.part(b"driver " + ups.name, ups.taken)
         return text
 
     @staticmethod
@@ -504,21 +486,19 @@ class Replay:
         server, (who, _, text) = self.server, rest.partition(b" ")
         end = b"\n" if verb in (b"driver", b"client") else b""
         piece = bytes.fromhex(text.decode()) if verb.endswith(b"-hex") else text + end
-        match verb:
-            case b"up" | b"down" | b"open":
-                self.event(number, {b"up": server.driver_up, b"down": server.driver_down, b"open": server.open}[verb], rest)
-            case b"tick" | b"close":
-                self.event(number, server.tick if verb == b"tick" else server.close, int(rest))
-            case b"took":
-                self.take(number, int(who), text)
-            case b"driver-took":
-                self.driver_take(number, who, text)
-            case b"driver" | b"driver-part" | b"driver-hex":
-                self.event(number, server.driver_bytes, who, piece)
-            case b"client" | b"part" | b"client-hex":
-                count = self.event(number, server.feed, int(who), piece)
-                if count is not None and count < len(piece):
-                    self.told.append(b"line %d: %d of %d bytes held\n" % (number, count, len(piece)))
+        calls = {b"up": server.driver_up, b"down": server.driver_down, b"open": server.open, b"tick": server.tick, b"close": server.close}
+        if verb in calls:
+            self.event(number, calls[verb], int(rest) if verb in (b"tick", b"close") else rest)
+        elif verb == b"took":
+            self.take(number, int(who), text)
+        elif verb == b"driver-took":
+            self.driver_take(number, who, text)
+        elif verb.startswith(b"driver"):
+            self.event(number, server.driver_bytes, who, piece)
+        else:
+            count = self.event(number, server.feed, int(who), piece)
+            if count is not None and count < len(piece):
+                self.told.append(b"line %d: %d of %d bytes held\n" % (number, count, len(piece)))
 
     def take(self, number, who, rest):
         if rest != b"all":
@@ -530,13 +510,9 @@ class Replay:
                 return
 
     def offered(self, who):
-        owed = [session.owed for session in self.server.opened() if session.number == who]
-        return min(len(owed[0]), RING) if owed else 0
+        return sum(len(session.offered()) for session in self.server.opened() if session.number == who)
 
     def driver_take(self, number, who, rest):
         ups = self.server.upses.get(who)
         count = (len(ups.owed) if ups else 0) if rest == b"all" else int(rest)
-        self.taken.setdefault(who, b"")
-        self.taken[who] += self.event(number, self.server.driver_took, who, count) or b""
-        if who not in self.server.upses:
-            del self.taken[who]
+        self.event(number, self.server.driver_took, who, count)
