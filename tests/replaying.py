@@ -115,14 +115,13 @@ def written(text):
 
 
 def cases(path):
-    """The title of each case of a file, what it has, and its files. A case begins with a line `== TITLE`. After a line `-- list` stands
-    the file of UPSs, after `-- users` that of users, after `-- vars` the descriptions; after `-- script` the script, and after `-- output`
-    what is printed, whose last line is blank where a case follows; or after `-- fault` the fault."""
+    """The title of each case of a file, what it has, and its files. A case begins with a line `== TITLE`. After lines `-- ups`, `-- users`
+    and `-- vars` stand the files, after `-- script` the script, and after `-- output` what is printed, whose last line is blank where a case
+    follows, or after `-- fault` the fault."""
     for case in re.split("^== ", text_of(path), flags=re.MULTILINE)[1:]:
         title, text = case.split("\n", 1)
         parts = dict(re.findall(r"^-- (\w+)\n(.*?)(?=^-- |\Z)", text, re.MULTILINE | re.DOTALL))
-        files = {"ups": parts.pop("list", None), "users": parts.pop("users", None), "vars": parts.pop("vars", None)}
-        yield title, parts, {kind: written(part) for kind, part in files.items() if part is not None}
+        yield title, parts, {kind: written(parts[kind]) for kind in ("ups", "users", "vars") if kind in parts}
 
 
 def ends_in_full(*words):
@@ -157,17 +156,5 @@ def lines(*parts):
     return b"".join((line.encode() if isinstance(line, str) else line) + b"\n" for line in every)
 
 
-def ready(ups="su", told=()):
-    """The lines with which a driver comes, tells these lines, and that all is told and right."""
-    return [f"up {ups}", *(f"driver {ups} {line}" for line in [*told, "DUMPDONE", "DATAOK"])]
-
-
-def hexed(verb, who, piece):
-    return f"{verb}-hex {who} {piece.hex()}"
-
-
 def sent(who, text):
     return Replay.part(who.encode(), text)
-
-
-VERSION = b"Network UPS Tools upsd, profile 1\n"

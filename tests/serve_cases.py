@@ -635,39 +635,6 @@ def drivers_and_ticks_are_not_late_in_a_flood():
             thread.join()
 
 
-def report(driver, seconds):
-    """The driver tells its moment, in the background, a thousand times a second."""
-    begin = time.monotonic()
-
-    def send():
-        while time.monotonic() < begin + seconds:
-            driver.send(b'SETINFO battery.charge "%d"\n' % int(1000 * (time.monotonic() - begin)))
-            time.sleep(0.001)
-    return begin, in_background(send)
-
-
-@case
-def a_driver_with_orders_at_each_moment_is_heard():
-    told = TWO + b'SETINFO ups.delay "20"\nSETFLAGS ups.delay RW\nADDRANGE ups.delay 0 600\n'
-    with served(told, "--maxage", "3") as (server, driver, good):
-        clients = [server.client() for _ in range(2)]
-        assert all(client.ask(ADMIN) == b"OK\n" * 2 for client in clients)
-        orders = drain(driver)
-        begin, reports = report(driver, 5.0)
-        threads = [flood(client, b"SET VAR su ups.delay 30\n" * 200, 4.5) for client in clients]
-        readers = [drain(client) for client in clients]
-        assert comes(lambda: good.ask(b"GET VAR su battery.charge\n") != b'VAR su battery.charge "100"\n')
-        worst = 0.0
-        while time.monotonic() < begin + 4.5:
-            line = good.ask(b"GET VAR su battery.charge\n")
-            assert line.startswith(b"VAR"), line
-            worst = max(worst, time.monotonic() - begin - int(line.split(b'"')[1]) / 1000)
-            time.sleep(0.02)
-        for thread in [*threads, *readers, reports, orders]:
-            thread.join()
-        assert worst < 1.0, f"what the driver told was {worst:.3f} s old"
-
-
 def ask_on(clients, seconds):
     """Each client asks again as soon as it is answered, all in a process of their own."""
     def run():
@@ -778,7 +745,7 @@ def alone(function):
             return "skipped: no network of its own can be made"
         ended = subprocess.run([*unshared, sys.executable, *sys.argv[:5], function.__name__], capture_output=True, text=True, check=False)
         assert ended.returncode == 0, ended.stdout + ended.stderr
-        return ended.stdout.partition(" s, ")[2].strip()  # whether a half was skipped
+        return None
     run.__name__ = function.__name__
     return run
 
@@ -787,42 +754,20 @@ def tool(*words):
     return subprocess.run(words, capture_output=True, text=True, check=True).stdout
 
 
-def vanish(server, seconds):
-    """A client logs in, and its network is away for so many seconds. The answer is which timers run for it."""
-    client = server.client("127.0.0.2")
-    assert client.ask(MON + b"LOGIN su\n") == b"OK\n" * 3
-    time.sleep(0.3)  # until what the server sent is acknowledged
-    timers = tool("ss", "-tnoH", "state", "established", f"sport = :{server.port}", "dst 127.0.0.2")
-    tool("ip", "link", "set", "lo", "down")
-    time.sleep(seconds)
-    tool("ip", "link", "set", "lo", "up")
-    return timers
-
-
-def logins(server):
-    return printed(UPSC, "-c", f"su@127.0.0.1:{server.port}")
-
-
 @case
 @alone
 def a_client_that_vanished_is_logged_out_by_hand():
-    """As docs/OPERATING.md has it: without keepalive it stays."""
-    with served(env={**os.environ, "KEEPIDLE": "1"}) as (server, _, _):
-        assert "keepalive" not in vanish(server, 1)
-        assert logins(server) == b"127.0.0.2\n"
+    """As docs/OPERATING.md has it: it stays until its connection is ended."""
+    with served() as (server, _, good):
+        client = server.client("127.0.0.2")
+        assert client.ask(MON + b"LOGIN su\n") == b"OK\n" * 3
+        time.sleep(0.3)  # until what the server sent is acknowledged
+        tool("ip", "link", "set", "lo", "down")
+        time.sleep(1)
+        tool("ip", "link", "set", "lo", "up")
+        assert good.ask(b"GET NUMLOGINS su\n") == b"NUMLOGINS su 1\n"
         assert len(tool("ss", "-KH", f"sport = :{server.port}", "dst 127.0.0.2").splitlines()) == 1
-        assert comes(lambda: logins(server) == b""), logins(server)
-
-
-@case
-@alone
-def keepalive_logs_out_a_client_that_vanished():
-    """By Debian's libkeepalive0, as docs/OPERATING.md has it."""
-    if not os.path.exists("/usr/lib/libkeepalive.so"):
-        return "skipped: libkeepalive.so isn't there"
-    with served(env={**os.environ, "LD_PRELOAD": "libkeepalive.so", "KEEPIDLE": "1", "KEEPINTVL": "1", "KEEPCNT": "2"}) as (server, _, _):
-        assert "keepalive" in vanish(server, 6)
-        assert logins(server) == b""
+        assert comes(lambda: good.ask(b"GET NUMLOGINS su\n") == b"NUMLOGINS su 0\n")
 
 
 file("users", USERS)

@@ -68,42 +68,36 @@ def until(server, ups, variable="ups.status"):
     client.close()
 
 
-def counted(kind, work):
-    """The instructions of a server that does this work, as callgrind counts them."""
-    with served(kind, {"small": (4096, 10)}, CALLGRIND) as (server, drivers):
-        work(server, drivers["small"])
-        server.process.send_signal(signal.SIGTERM)
-        server.process.wait()
-        return int(re.search(r"Collected : (\d+)", server.journal())[1])
+def instructions(kind, work, less, more, things):
+    """Of one thing more, as callgrind counts them: the difference of two runs, which do the work so many times."""
+    counts = []
+    for times in (less, more):
+        with served(kind, {"small": (4096, 10)}, CALLGRIND) as (server, drivers):
+            work(server, drivers["small"], times)
+            server.process.send_signal(signal.SIGTERM)
+            server.process.wait()
+            counts.append(int(re.search(r"Collected : (\d+)", server.journal())[1]))
+    return (counts[1] - counts[0]) // things
 
 
-def instructions(kind, connections, line, end, less, more, things):
-    """Of one thing more that is asked for: the difference of two runs. Each client asks, and then each takes its answer."""
-
-    def ask(times):
-        def work(server, _):
-            clients = [server.client() for _ in range(connections)]
-            for _ in range(times):
-                for client in clients:
-                    client.send(line)
-                for client in clients:
-                    while client.line() != end:
-                        pass
-        return work
-
-    return (counted(kind, ask(more)) - counted(kind, ask(less))) // things
+def asking(connections, line, end):
+    """Each client asks, and then each takes its answer."""
+    def work(server, _, times):
+        clients = [server.client() for _ in range(connections)]
+        for _ in range(times):
+            for client in clients:
+                client.send(line)
+            for client in clients:
+                while client.line() != end:
+                    pass
+    return work
 
 
-def instructions_of_report(kind):
-    def report(times):
-        def work(server, driver):
-            for text in (reports(4096, 10) * 2)[1 : times + 1]:
-                driver.send(text)
-            driver.send(b'SETINFO last.one "1"\n')
-            until(server, "small", "last.one")
-        return work
-
-    return (counted(kind, report(3)) - counted(kind, report(1))) // (2 * 4096)
+def reporting(server, driver, times, size=(4096, 10)):
+    for text in (reports(*size) * times)[1 : times + 1]:
+        driver.send(text)
+    driver.send(b'SETINFO last.one "1"\n')
+    until(server, "small", "last.one")
 
 
 def memory(kind):
@@ -137,10 +131,7 @@ def speed(kind):
                 found[f"GET VAR, {connections} connection{'s' * (connections > 1)}{at_once}"] = int(rate)
             found[f"LIST VAR of {count:,} values of {width} bytes"] = int(re.search(r"fresh connections: +(\d+)", said)[1])
         start = time.monotonic()
-        for text in reports(*SIZES["small"]) * 250:
-            drivers["small"].send(text)
-        drivers["small"].send(b'SETINFO last.one "1"\n')
-        until(server, "small", "last.one")
+        reporting(server, drivers["small"], 500, SIZES["small"])
         found["lines of a driver, 100 variables"] = int(500 * SIZES["small"][0] / (time.monotonic() - start))
     return found
 
@@ -163,13 +154,13 @@ def measure():
         ours, nut = (int(statistics.median(found[what] for found in rounds[kind])) for kind in rounds)
         rows.append(("speed", what, ours, nut))
     get, got = b"GET VAR small v2048\n", b'VAR small v2048 "xxxxxxxxxx"\n'
-    for what, words in (
-        ("GET VAR, 1 connection", (1, get, got, 64, 704, 640)),
-        ("GET VAR, 64 connections", (64, get, got, 2, 12, 640)),
-        ("an item of LIST VAR", (1, b"LIST VAR small\n", b"END LIST VAR small\n", 1, 3, 2 * 4097)),
+    for what, *words in (
+        ("GET VAR, 1 connection", asking(1, get, got), 64, 704, 640),
+        ("GET VAR, 64 connections", asking(64, get, got), 2, 12, 640),
+        ("an item of LIST VAR", asking(1, b"LIST VAR small\n", b"END LIST VAR small\n"), 1, 3, 2 * 4097),
+        ("a line of a driver", reporting, 1, 3, 2 * 4096),
     ):
         rows.append(("instructions", what, *(instructions(kind, *words) for kind in rounds)))
-    rows.append(("instructions", "a line of a driver", *(instructions_of_report(kind) for kind in rounds)))
     ours, nut = memory("ours"), memory("nut")
     rows += [("memory", what, ours[what], nut[what]) for what in ours]
     lines = [f"# {machine()}", "group\twhat\tours\tNUT's", *("\t".join(map(str, row)) for row in rows)]
@@ -183,6 +174,7 @@ def measured():
     return head[2:], [(group, what, int(ours), int(nut)) for group, what, ours, nut in rows]
 
 
+COLORS = {"speed": "#0a53a8", "instructions": "#9a3412", "memory": "#3f6f21"}
 UNITS = {"speed": "a second", "instructions": "instructions", "memory": "KiB"}
 
 
@@ -215,14 +207,11 @@ def chart(rows):
     for number, (group, what, ours, nut) in enumerate(rows):
         times, y = better(group, ours, nut), 44 + 26 * number
         first, last = sorted((middle, at(times)))
-        color = {"speed": "#0a53a8", "instructions": "#9a3412", "memory": "#3f6f21"}[group]
         out.append(f'<text x="{left}" y="{y + 13}" text-anchor="end">{what}</text>')
-        out.append(f'<rect x="{first:.1f}" y="{y}" width="{max(last - first, 1.5):.1f}" height="18" fill="{color}"/>')
+        out.append(f'<rect x="{first:.1f}" y="{y}" width="{max(last - first, 1.5):.1f}" height="18" fill="{COLORS[group]}"/>')
         out.append(f'<text x="{max(last, middle) + 6:.1f}" y="{y + 13}">{times:.2f}</text>')
-    x = left
-    for name, color in (("speed", "#0a53a8"), ("instructions", "#9a3412"), ("memory", "#3f6f21")):
+    for x, (name, color) in zip(range(left, width, 130), COLORS.items()):
         out.append(f'<rect x="{x}" y="{height - 20}" width="12" height="12" fill="{color}"/><text x="{x + 18}" y="{height - 10}">{name}</text>')
-        x += 130
     return "\n".join(out) + "\n</svg>\n"
 
 
