@@ -10,11 +10,9 @@ import mmap
 import os
 import re
 import signal
-import socketserver
 import struct
 import subprocess
 import sys
-import threading
 
 from plain_server import Replay, Server
 from replaying import Bench, cases, written
@@ -111,24 +109,6 @@ def replay_in_turn(script, files):
 
 # Clients.
 
-REPLIES = {
-    b"LIST VAR su": b'BEGIN LIST VAR su\nVAR su battery.charge "100"\nVAR su ups.status "OL"\nEND LIST VAR su\n',
-    b"LIST RW su": b'BEGIN LIST RW su\nRW su ups.delay "30"\nEND LIST RW su\n',
-    b"LIST CMD su": b"BEGIN LIST CMD su\nCMD su load.off\nCMD su load.on\nEND LIST CMD su\n",
-    b"LIST UPS": b'BEGIN LIST UPS\nUPS su "Rack 1"\nEND LIST UPS\n',
-    b"LIST CLIENT su": b"BEGIN LIST CLIENT su\nCLIENT su 192.0.2.1\nEND LIST CLIENT su\n",
-    b"GET VAR su ups.status": b'VAR su ups.status "OL"\n',
-}
-
-
-class Asked(socketserver.StreamRequestHandler):
-    """A server that answers."""
-
-    def handle(self):
-        for line in self.rfile:
-            self.wfile.write(REPLIES.get(line.rstrip(b"\n"), b"OK\n"))
-
-
 def client_in_turn(program, want, *words):
     """Each request of the client refused in turn: it prints all, or tells a fault and prints nothing."""
     by_name = "localhost" in words[-1]
@@ -143,25 +123,18 @@ def client_in_turn(program, want, *words):
 
 
 def client_cases():
-    with socketserver.ThreadingTCPServer(("127.0.0.1", 0), Asked) as answering:
-        answering.daemon_threads = True
-        threading.Thread(target=answering.serve_forever, daemon=True).start()
-        at = f"127.0.0.1:{answering.server_address[1]}"
+    BENCH.file("users", FILES["users"])
+    with served(FOLDER, UPSD, b'SETINFO a "1"\nSETFLAGS a RW\nSETINFO ups.status "OL"\nADDCMD test.start\n') as (server, _, good):
+        assert good.ask(b"USERNAME mon\nPASSWORD pw\nLOGIN su\n") == b"OK\n" * 3
+        at = f"127.0.0.1:{server.port}"
         su, user = f"su@{at}", ("-u", "admin", "-p", "s3 cret")
-        variables = b"battery.charge: 100\nups.status: OL\n"
-        for name, *case in [
-                ("upsc_variables", UPSC, variables, su),
-                ("upsc_variables_of_a_host_by_name", UPSC, variables, su.replace("127.0.0.1", "localhost")),
-                ("upsc_variable", UPSC, b"OL\n", su, "ups.status"),
-                ("upsc_names", UPSC, b"su\n", "-l", at),
-                ("upsc_descriptions", UPSC, b"su: Rack 1\n", "-L", at),
-                ("upsc_clients", UPSC, b"192.0.2.1\n", "-c", su),
-                ("upsrw_variables", UPSRW, b"ups.delay=30\n", su),
-                ("upsrw_sets", UPSRW, b"OK\n", "-s", "ups.delay=30", *user, su),
-                ("upscmd_commands", UPSCMD, b"load.off\nload.on\n", "-l", su),
-                ("upscmd_starts", UPSCMD, b"OK\n", *user, su, "load.off")]:
-            BENCH.case(name, client_in_turn, *case)
-        answering.shutdown()
+        for name, program, want, *words in [
+                ("variables", UPSC, b"a: 1\nups.status: OL\n", su), ("variable", UPSC, b"OL\n", su, "ups.status"),
+                ("variables of a host by name", UPSC, b"a: 1\nups.status: OL\n", su.replace("127.0.0.1", "localhost")),
+                ("names", UPSC, b"su\n", "-l", at), ("descriptions", UPSC, b"su: Rack 1\n", "-L", at), ("clients", UPSC, b"127.0.0.1\n", "-c", su),
+                ("variables", UPSRW, b"a=1\n", su), ("sets", UPSRW, b"OK\n", "-s", "a=1", *user, su),
+                ("commands", UPSCMD, b"test.start\n", "-l", su), ("starts", UPSCMD, b"OK\n", *user, su, "test.start")]:  # fmt: skip
+            BENCH.case(f"{os.path.basename(program)}: {name}", client_in_turn, program, want, *words)
 
 
 # The server that serves.
@@ -183,11 +156,10 @@ def serving(told):
 
 def a_listing_that_began_asks_for_no_memory():
     """From the first byte that a client has taken of it on, every request is refused: the listing comes whole."""
-    names = [b"%064d" % number for number in range(1, MANY)]
     value = b'"' + b'\\"' * 512 + b'"'
-    items = [b"VAR su %b %b\n" % (name, value) for name in names] + [SERVED]
-    want = b"BEGIN LIST VAR su\n" + b"".join(items) + b"END LIST VAR su\n"
-    with serving(b"".join(b"SETINFO %b %b\n" % (name, value) for name in names) + STATUS) as (server, _, _):
+    items = [b"su %064d %b\n" % (number, value) for number in range(1, MANY)]
+    want = b"BEGIN LIST VAR su\n" + b"".join(b"VAR " + item for item in items) + SERVED + b"END LIST VAR su\n"
+    with serving(b"".join(item.replace(b"su", b"SETINFO", 1) for item in items) + STATUS) as (server, _, _):
         client = server.client(buffer=4096)
         client.send(b"LIST VAR su\n")
         client.kept = client.wire.recv(1)
