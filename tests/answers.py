@@ -28,7 +28,7 @@ import tempfile
 import time
 import uuid
 
-from replaying import HERE, plain, text_of
+from replaying import HERE, plain, sections, text_of
 from serving import BUILT, Driver, OtherServer, comes, taken
 
 OURS = [BUILT["upsd"], "serve", "--listen", "127.0.0.1:{port}", "--maxage", "3600", "--ups", "{folder}/upses.conf",
@@ -51,9 +51,7 @@ class Row:
 
 def tables(path):
     """The title of each table of the file, and its rows and events."""
-    for table in re.split("^# ", text_of(path), flags=re.MULTILINE)[1:]:
-        title, *rows = table.split("\n")
-        yield title, [row if row[0] in "<>" else Row(row) for row in rows if row]
+    return [(title, [row if row[0] in "<>" else Row(row) for row in rows]) for title, rows in sections(path).items()]
 
 
 UPSES = dict(re.findall(r"\[(\w+)\]\n([^[]*)", text_of("answers/ups.conf")))

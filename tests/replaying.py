@@ -95,6 +95,12 @@ def text_of(path):
         return file.read()
 
 
+def sections(path):
+    """The lines below each title of a file, `# TITLE`."""
+    found = (section.split("\n") for section in re.split("^# ", text_of(path), flags=re.MULTILINE)[1:])
+    return {title: [row for row in rows if row] for title, *rows in found}
+
+
 def plain(text):
     """The text with what stands for other bytes: `<TAB>`, `<CR>`, `<N>` for N bytes x, and `<TEXT*N>` for N times the text."""
     text = re.sub(r"<([^<>]+)\*(\d+)>", lambda found: found[1] * int(found[2]), text)
