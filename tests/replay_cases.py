@@ -79,11 +79,11 @@ ENDS = [
     ("--ups two.conf --users monitors --vars texts login", 0, sent("client 1", b"OK\nOK\nOK\n" + DESCRIBED) + TWO_DRIVERS, b""),
     ("login --vars=texts --ups=two.conf", 0, sent("client 1", b"OK\nOK\nERR ACCESS-DENIED\n" + DESCRIBED) + TWO_DRIVERS, b""),
     ("login", 0, sent("client 1", b"OK\nOK\nERR ACCESS-DENIED\nERR UNKNOWN-UPS\n") + NO_DRIVER, b""),
-    ("--vars absent --ups key.conf login", 1, b"", b"upsd: key.conf:4: cause 5\n"),
-    ("bad --vars twice --ups two.conf", 1, b"", b"upsd: twice:2: cause 4\n"),
-    ("--ups two.conf --vars texts absent", 1, b"", b"upsd: absent: cannot read\n"),
-    ("--ups . login", 1, b"", b"upsd: .: cannot read\n"),
-    ("--ups two.conf ./bad", 1, b"", b"upsd: ./bad:2: bad event\n"),
+    ("--vars absent --ups key.conf login", 1, b"", b"upsd: key.conf:4: cause 5"),
+    ("bad --vars twice --ups two.conf", 1, b"", b"upsd: twice:2: cause 4"),
+    ("--ups two.conf --vars texts absent", 1, b"", b"upsd: absent: cannot read"),
+    ("--ups . login", 1, b"", b"upsd: .: cannot read"),
+    ("--ups two.conf ./bad", 1, b"", b"upsd: ./bad:2: bad event"),
 ]  # fmt: skip
 WRONG_WORDS = ["", "replay --ups two.conf", "replay --maxage 15 login", "replay login --ups", "replay --ups two.conf --ups two.conf login",
                "replay login login", "play login"]  # fmt: skip
@@ -95,15 +95,16 @@ HELP = {
 
 
 def ends_so(words, *want):
-    got = BENCH.ends("replay", *words.split(" "))
-    assert got == want, got
+    """What the system says of a fault may follow on a line of its own."""
+    status, told, faults = BENCH.ends("replay", *words.split(" "))
+    assert (status, told, faults.partition(b"\n")[0]) == want, (status, told, faults)
 
 
 def other_words():
     for words in WRONG_WORDS:
         BENCH.refuses_words(*words.split())
-    got = BENCH.ends("replay", b"\xff")
-    assert got == (2, b"", b"upsd: bad argument\n"), got
+    status, told, faults = BENCH.ends("replay", b"\xff")
+    assert (status, told, faults.partition(b"\n")[0]) == (2, b"", b"upsd: bad argument"), faults
     return each(HELP.items(), lambda words, named: BENCH.prints_help(named, *words.split(" ")))
 
 
