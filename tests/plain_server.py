@@ -15,6 +15,15 @@ class Refused(Exception):
     """An event is refused, with the number of its fault."""
 
 
+class Error(Exception):
+    """A line is answered by ERR and this word."""
+
+
+def demand(holds, otherwise):
+    if not holds:
+        raise otherwise
+
+
 # A byte that stands for itself within quotes, and in a bare word, or a backslash and a byte that it makes stand.
 UNITS = [rb"(?:[%s!#-\[\]-~\x80-\xff]|\\[\t -~\x80-\xff])" % blanks for blanks in (BLANKS, b"")]
 WORD = re.compile(rb'[ \t]*(?:"(%b*)"|(%b+))(?![^ \t])' % tuple(UNITS))
@@ -86,9 +95,23 @@ def change_list(verb, items, item, most):
         items.append(item)
 
 
-class Ups:
+class End:
+    """A driver or a client, which is owed bytes and takes them."""
+
+    owed = sent = b""
+
+    def offered(self):
+        return self.owed[:RING]
+
+    def take(self, count):
+        demand(count <= len(self.offered()), Refused(4))
+        self.sent += self.owed[:count]
+        self.owed = self.owed[count:]
+
+
+class Ups(End):
     def __init__(self, name, desc):
-        self.name, self.desc, self.forced, self.taken = name, desc, False, b""
+        self.name, self.desc, self.forced = name, desc, False
         self.lose()
 
     def lose(self):
@@ -138,18 +161,14 @@ class Ups:
                 self.variables[name].change(verb, more)
 
 
-class Session:
+class Session(End):
     def __init__(self, number, address):
         self.number, self.address = number, address
-        self.held, self.owed, self.sent = b"", b"", b""
-        self.ending, self.is_open = False, True
+        self.held, self.ending, self.is_open = b"", False, True
         self.username = self.password = self.login = None
 
     def end(self):
         self.ending, self.held, self.login = True, b"", None
-
-    def offered(self):
-        return self.owed[:RING]
 
 
 # How many words may follow.
@@ -172,10 +191,6 @@ PRIMARY, LOGIN = {(b"upsmon", b"primary")}, {(b"upsmon", b"primary"), (b"upsmon"
 RIGHTS = {b"LOGIN": LOGIN, b"ATTACH": LOGIN, b"PRIMARY": PRIMARY, b"FSD": {(b"actions", b"FSD")} | PRIMARY, b"SET VAR": {(b"actions", b"SET")}}
 
 
-class Error(Exception):
-    """A line is answered by ERR and this word."""
-
-
 def lines_of(text):
     """The words of the lines of a file."""
     return [read_words(line) for line in text.split(b"\n") if line.strip(BLANKS) and not line.lstrip(BLANKS).startswith(b"#")]
@@ -196,7 +211,7 @@ class Server:
     """It takes the texts of its files."""
 
     def __init__(self, ups=b"[su]\n", users=b"", vars=b""):
-        self.upses = {name: Ups(name, dict(entries).get(b"desc")) for name, entries in sorted(sections_of(ups).items())}
+        self.upses = {name: Ups(name, dict(entries).get(b"desc", b"Unavailable")) for name, entries in sorted(sections_of(ups).items())}
         self.users, self.descriptions = sections_of(users), {(kind, name): text for kind, name, text in lines_of(vars)}
         self.sessions, self.moment = [], 0
         self.refuse = None  # how many lines of the event are executed before memory is refused
@@ -204,19 +219,16 @@ class Server:
     # What drivers do.
 
     def ups(self, name):
-        if name not in self.upses:
-            raise Refused(1)
+        demand(name in self.upses, Refused(1))
         return self.upses[name]
 
     def connected(self, name):
         ups = self.ups(name)
-        if not ups.connected:
-            raise Refused(5)
+        demand(ups.connected, Refused(5))
         return ups
 
     def driver_up(self, name):
-        if self.ups(name).connected:
-            raise Refused(6)
+        demand(not self.ups(name).connected, Refused(6))
         self.ups(name).connect(self.moment)
 
     def driver_down(self, name):
@@ -238,11 +250,7 @@ class Server:
             raise Refused(7)
 
     def driver_took(self, name, count):
-        ups = self.connected(name)
-        if count > len(ups.owed):
-            raise Refused(4)
-        ups.taken += ups.owed[:count]
-        ups.owed = ups.owed[count:]
+        self.connected(name).take(count)
 
     def tick(self, seconds):
         self.moment = max(self.moment, seconds)
@@ -257,15 +265,12 @@ class Server:
         return [session for session in self.sessions if session.is_open]
 
     def session(self, number):
-        if not 1 <= number <= len(self.sessions) or not self.sessions[number - 1].is_open:
-            raise Refused(2)
+        demand(1 <= number <= len(self.sessions) and self.sessions[number - 1].is_open, Refused(2))
         return self.sessions[number - 1]
 
     def open(self, address):
-        if len(self.opened()) == 64:
-            raise Refused(3)
-        if self.refuse is not None:
-            raise Refused(8)
+        demand(len(self.opened()) < 64, Refused(3))
+        demand(self.refuse is None, Refused(8))
         self.sessions.append(Session(len(self.sessions) + 1, address))
 
     def close(self, number):
@@ -283,12 +288,8 @@ class Server:
         return count
 
     def took(self, number, count):
-        session = self.session(number)
-        if count > len(session.offered()):
-            raise Refused(4)
-        session.sent += session.owed[:count]
-        session.owed = session.owed[count:]
-        self.pump(session)
+        self.session(number).take(count)
+        self.pump(self.session(number))
 
     def pump(self, session):
         while not session.ending and len(session.owed) <= OWED:
@@ -314,44 +315,36 @@ class Server:
         return text
 
     def execute(self, session, words):
+        demand(words is not None, Error(b"INVALID-ARGUMENT"))
         if not words:
-            if words is None:
-                raise Error(b"INVALID-ARGUMENT")
             return b""
-        verb, rest = words[0].upper(), words[1:]
+        verb, rest = words[0].upper().replace(b" ", b"_"), words[1:]  # a blank within the word is no end of it
         is_part = verb in (b"GET", b"LIST", b"SET")
         if is_part:
             verb, rest = verb + b" " + b"".join(rest[:1]).upper(), rest[1:]
-        if len(rest) not in FORMS.get(verb, ()):
-            raise Error(b"INVALID-ARGUMENT" if is_part or verb in FORMS else b"UNKNOWN-COMMAND")
+        demand(len(rest) in FORMS.get(verb, ()), Error(b"INVALID-ARGUMENT" if is_part or verb in FORMS else b"UNKNOWN-COMMAND"))
         return self.list(verb, rest) if verb.startswith(b"LIST ") else self.say(session, verb, rest) + b"\n"
 
     def allow(self, session, verb, rest):
         right = RIGHTS.get(verb) or {(b"instcmds", b"ALL"), (b"instcmds", rest[1])}
         for given, word in ((session.username, b"USERNAME"), (session.password, b"PASSWORD")):
-            if given is None:
-                raise Error(word + b"-REQUIRED")
+            demand(given is not None, Error(word + b"-REQUIRED"))
         user = self.users.get(session.username, [])
-        if (b"password", session.password) not in user or right.isdisjoint(user):
-            raise Error(b"ACCESS-DENIED")
+        demand((b"password", session.password) in user and not right.isdisjoint(user), Error(b"ACCESS-DENIED"))
 
     def check(self, verb, rest):
         """The checks of the UPS, of its state and of the variable."""
-        if rest[0] not in self.upses:
-            raise Error(b"UNKNOWN-UPS")
+        demand(rest[0] in self.upses, Error(b"UNKNOWN-UPS"))
         ups = self.upses[rest[0]]
         why = ups.why_not_usable(self.moment)
-        if verb in LIVE and why:
-            raise Error(why)
-        if verb in OF_VARIABLE and rest[1] not in ups.variables:
-            raise Error(b"VAR-NOT-SUPPORTED")
+        demand(verb not in LIVE or not why, Error(why))
+        demand(verb not in OF_VARIABLE or rest[1] in ups.variables, Error(b"VAR-NOT-SUPPORTED"))
         return ups
 
     def say(self, session, verb, rest):
         if verb in TEXTS:
             return TEXTS[verb]
-        if verb == b"STARTTLS":
-            raise Error(b"FEATURE-NOT-CONFIGURED")
+        demand(verb != b"STARTTLS", Error(b"FEATURE-NOT-CONFIGURED"))
         if verb in (b"LOGOUT", b"DETACH"):
             session.end()
             return b"OK Goodbye"
@@ -366,17 +359,14 @@ class Server:
 
     def give(self, session, verb, word):
         attribute, most = ("username", 64) if verb == b"USERNAME" else ("password", 256)
-        if getattr(session, attribute) is not None:
-            raise Error(b"ALREADY-SET-" + verb)
-        if not 1 <= len(word) <= most:
-            raise Error(b"INVALID-ARGUMENT")
+        demand(getattr(session, attribute) is None, Error(b"ALREADY-SET-" + verb))
+        demand(1 <= len(word) <= most, Error(b"INVALID-ARGUMENT"))
         setattr(session, attribute, word)
         return b"OK"
 
     def order(self, session, ups, verb, rest):
         if verb in (b"LOGIN", b"ATTACH"):
-            if session.login:
-                raise Error(b"ALREADY-LOGGED-IN")
+            demand(not session.login, Error(b"ALREADY-LOGGED-IN"))
             session.login = ups.name
         elif verb == b"FSD":
             ups.forced = True
@@ -385,25 +375,19 @@ class Server:
             name, *values = rest[1:]
             self.check_order(ups, verb, name, *values)
             line = b" ".join([verb.split()[0], name, *map(quoted, values)])
-            if not ups.owe(line):
-                raise Error(verb.split()[0] + b"-FAILED")
+            demand(ups.owe(line), Error(verb.split()[0] + b"-FAILED"))
         return b"OK"
 
     @staticmethod
     def check_order(ups, verb, name, value=b""):
         if verb == b"INSTCMD":
-            if name not in ups.commands:
-                raise Error(b"CMD-NOT-SUPPORTED")
-            if len(value) > VALUE:
-                raise Error(b"TOO-LONG")
+            demand(name in ups.commands, Error(b"CMD-NOT-SUPPORTED"))
+            demand(len(value) <= VALUE, Error(b"TOO-LONG"))
             return
         variable = ups.variables[name]
-        if b"RW" not in variable.flags:
-            raise Error(b"READONLY")
-        if variable.is_too_long(value):
-            raise Error(b"TOO-LONG")
-        if not variable.may_have(value):
-            raise Error(b"INVALID-VALUE")
+        demand(b"RW" in variable.flags, Error(b"READONLY"))
+        demand(not variable.is_too_long(value), Error(b"TOO-LONG"))
+        demand(variable.may_have(value), Error(b"INVALID-VALUE"))
 
     def logged_in(self, ups):
         return [session for session in self.opened() if session.login == ups.name]
@@ -417,21 +401,18 @@ class Server:
         if kind in (b"NUMLOGINS", b"NUMATTACH"):
             return front + b"%d" % len(self.logged_in(ups))
         if kind == b"UPSDESC":
-            return front + quoted(b"Unavailable" if ups.desc is None else ups.desc)
-        if not is_name(rest[1]):
-            raise Error(b"VAR-NOT-SUPPORTED" if kind == b"DESC" else b"CMD-NOT-SUPPORTED")
-        text = self.descriptions.get((b"VARDESC" if kind == b"DESC" else b"CMDDESC", rest[1]))
-        return front + quoted(b"Description unavailable" if text is None else text)
+            return front + quoted(ups.desc)
+        demand(is_name(rest[1]), Error(b"VAR-NOT-SUPPORTED" if kind == b"DESC" else b"CMD-NOT-SUPPORTED"))
+        return front + quoted(self.descriptions.get((b"VARDESC" if kind == b"DESC" else b"CMDDESC", rest[1]), b"Description unavailable"))
 
     def list(self, verb, rest):
         ups = self.check(verb, rest) if rest else None
         kind = verb[5:]
         if kind == b"UPS":
-            items = [it.name + b" " + quoted(b"Unavailable" if it.desc is None else it.desc) for it in self.upses.values()]
+            items = [it.name + b" " + quoted(it.desc) for it in self.upses.values()]
         else:
             items = [b" ".join(rest) + b" " + item for item in self.items(kind, ups, rest)]
-        if self.refuse == 0 and kind != b"CLIENT":
-            raise Refused(8)
+        demand(self.refuse != 0 or kind == b"CLIENT", Refused(8))
         head = b" LIST " + b" ".join([kind, *rest]) + b"\n"
         return b"BEGIN" + head + b"".join(kind + b" " + item + b"\n" for item in items) + b"END" + head
 
@@ -464,7 +445,7 @@ class Replay:
         for session in self.server.sessions:
             text += self.part(b"client %d" % session.number, session.sent)
         for ups in self.server.upses.values():
-            text += self.part(b"driver " + ups.name, ups.taken)
+            text += self.part(b"driver " + ups.name, ups.sent)
         return text
 
     @staticmethod
@@ -514,5 +495,4 @@ class Replay:
 
     def driver_take(self, number, who, rest):
         ups = self.server.upses.get(who)
-        count = (len(ups.owed) if ups else 0) if rest == b"all" else int(rest)
-        self.event(number, self.server.driver_took, who, count)
+        self.event(number, self.server.driver_took, who, int(rest) if rest != b"all" else len(ups.owed) if ups else 0)
