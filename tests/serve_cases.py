@@ -145,22 +145,6 @@ def printed(*words):
     return got.stdout + got.stderr
 
 
-@case
-def clients_print_what_the_server_holds():
-    told = TWO + b'SETINFO device.model "Smart \\"X\\" \\\\ 5"\nSETFLAGS battery.charge RW\nADDCMD test.battery.start\nADDCMD load.off\n'
-    with served(told, "--vars", file("vars", 'VARDESC ups.status "UPS status"\n')) as (server, _, good):
-        assert good.ask(b"GET UPSDESC su\nGET DESC su ups.status\n") == b'UPSDESC su "Rack 1"\nDESC su ups.status "UPS status"\n'
-        at = f"127.0.0.1:{server.port}"
-        for words, want in [
-                ([UPSC, f"su@{at}"], b'battery.charge: 100\ndevice.model: Smart "X" \\ 5\nups.status: OL\n'),
-                ([UPSC, f"su@{at}", "device.model"], b'Smart "X" \\ 5\n'),
-                ([UPSRW, f"su@{at}"], b"battery.charge=100\n"),
-                ([UPSCMD, "-l", f"su@{at}"], b"load.off\ntest.battery.start\n"),
-                ([UPSC, "-l", at], b"su\n"),
-                ([UPSC, "-L", at], b"su: Rack 1\n")]:
-            assert printed(*words) == want, words
-
-
 ORDERS = TWO + b'SETINFO ups.delay "20"\nSETFLAGS ups.delay RW\nADDRANGE ups.delay 0 600\nADDCMD test.battery.start\n'
 
 
@@ -233,15 +217,6 @@ def clients_follow_an_order_to_its_end():
             assert printed(*progress) == b"PENDING\n"
             driver.send(b"TRACKING %s %d\n" % (known, number))
             assert comes(lambda: printed(*progress) == ended)
-
-
-@case
-def an_order_without_an_id_is_not_given():
-    with served(ORDERS) as (server, driver, good):
-        words = ("--track", "-u", "admin", "-p", "s3 cret", "-s", "ups.delay=30", f"su@127.0.0.1:{server.port}")
-        assert printed(UPSRW, *words) == b"upsrw: server answered ERR SET-FAILED\n"
-        assert good.ask(ADMIN + b"INSTCMD su test.battery.start\n") == b"OK\n" * 3
-        assert driver.line() == b"INSTCMD test.battery.start\n"
 
 
 @case
