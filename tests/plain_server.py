@@ -471,9 +471,10 @@ class Replay:
         if verb in calls:
             self.event(number, calls[verb], int(rest) if verb in (b"tick", b"close") else rest)
         elif verb == b"took":
-            self.take(number, int(who), text)
+            sessions = [session for session in server.opened() if session.number == int(who)]
+            self.take(number, server.took, int(who), text, sessions[0] if sessions else End())
         elif verb == b"driver-took":
-            self.driver_take(number, who, text)
+            self.take(number, server.driver_took, who, text, server.upses.get(who, End()))
         elif verb.startswith(b"driver"):
             self.event(number, server.driver_bytes, who, piece)
         else:
@@ -481,18 +482,9 @@ class Replay:
             if count is not None and count < len(piece):
                 self.told.append(b"line %d: %d of %d bytes held\n" % (number, count, len(piece)))
 
-    def take(self, number, who, rest):
-        if rest != b"all":
-            self.event(number, self.server.took, who, int(rest))
-            return
+    def take(self, number, call, who, rest, end):
+        """`all` is taken until nothing is offered."""
         while True:
-            self.event(number, self.server.took, who, self.offered(who))
-            if not self.offered(who):
+            self.event(number, call, who, len(end.offered()) if rest == b"all" else int(rest))
+            if rest != b"all" or not end.offered():
                 return
-
-    def offered(self, who):
-        return sum(len(session.offered()) for session in self.server.opened() if session.number == who)
-
-    def driver_take(self, number, who, rest):
-        ups = self.server.upses.get(who)
-        self.event(number, self.server.driver_took, who, int(rest) if rest != b"all" else len(ups.owed) if ups else 0)

@@ -13,20 +13,17 @@ cd "$folder"
 checks=0
 ok() { checks=$((checks + 1)); }
 cat >driver.py <<'PYTHON'
-import socket, sys, threading, time
+import socketserver, sys, time
 
-def tell(wire):
-    time.sleep(1)
-    if sys.argv[1] == "good":
-        wire.sendall(b'SETINFO ups.status "OB LB"\nSETINFO battery.charge "9.5"\nSETINFO ups.id "a b"\nDUMPDONE\nDATAOK\n')
-    while wire.recv(100):
-        pass
+class Driver(socketserver.BaseRequestHandler):
+    def handle(self):
+        time.sleep(1)
+        if sys.argv[1] == "good":
+            self.request.sendall(b'SETINFO ups.status "OB LB"\nSETINFO battery.charge "9.5"\nSETINFO ups.id "a b"\nDUMPDONE\nDATAOK\n')
+        while self.request.recv(100):
+            pass
 
-driver = socket.socket(socket.AF_UNIX)
-driver.bind(sys.argv[1])
-driver.listen()
-while True:
-    threading.Thread(target=tell, args=(driver.accept()[0],), daemon=True).start()
+socketserver.ThreadingUnixStreamServer(sys.argv[1], Driver).serve_forever()
 PYTHON
 for ups in good stale; do
     python3 driver.py $ups &
