@@ -89,6 +89,13 @@ def in_turn(words, want, judge):
     return f"{total} requests: {', '.join(f'{count} {kind}' for kind, count in sorted(seen.items()) if count)}"
 
 
+def every_request_is_counted():
+    """No program asks for memory by another call than those that the library counts."""
+    symbols = subprocess.run(["nm", "-D", "--undefined-only", UPSD, UPSC, UPSRW, UPSCMD], capture_output=True, text=True, check=True).stdout
+    calls = set(re.findall(r"\w*(?:alloc|memalign|map|brk)\w*", symbols))
+    assert calls == {"malloc", "realloc"}, calls
+
+
 def replay_in_turn(script, files):
     """A fault ends the program, with nothing printed; or an event is refused by 8, and then all that follows from it is printed."""
 
@@ -248,6 +255,7 @@ def an_insert_asks_for_the_nodes_that_it_counts():
     return f"{asked} requests for {made} nodes"
 
 
+BENCH.case("every request is counted", every_request_is_counted)
 for title, parts, files in CASES:
     BENCH.case(f"replay of {title}", replay_in_turn, written(parts["script"]), files)
 client_cases()
