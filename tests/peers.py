@@ -70,11 +70,8 @@ class Peers:
         ended.kill()
         ended.wait()
 
-    def pause(self, name):
-        self.running[name].send_signal(signal.SIGSTOP)
-
-    def go_on(self, name):
-        self.running[name].send_signal(signal.SIGCONT)
+    def send(self, name, number):
+        self.running[name].send_signal(getattr(signal, number))
 
     def driver(self, ups, port):
         """dummy-ups for a UPS, over its file of variables or over the UPS of a server that it repeats."""

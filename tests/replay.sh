@@ -4,5 +4,4 @@ set -euo pipefail
 # shellcheck source=tests/built.bash
 source "$(dirname "${BASH_SOURCE[0]}")/built.bash"
 built upsd
-library narrow.c
-python3 "$top/tests/replay_cases.py" "$library" "${programs[@]}"
+python3 "$top/tests/replay_cases.py" "${programs[@]}"

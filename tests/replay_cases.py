@@ -1,4 +1,4 @@
-"""The cases of tests/replay.sh. Words: the library that makes ends narrow (narrow.c), and the program upsd."""
+"""The cases of tests/replay.sh. Word: the program upsd."""
 import glob
 import os
 import re
@@ -7,8 +7,7 @@ import sys
 from answers import ADDRESS, Row, tables
 from replaying import HERE, Bench, cases, each, ends_in_full, lines, plain, sent, text_of, written
 
-NARROW = os.path.abspath(sys.argv[1])
-BENCH = Bench("replay", sys.argv[2])
+BENCH = Bench("replay", sys.argv[1])
 NO_DRIVER = sent("driver su", b"")
 
 
@@ -101,30 +100,21 @@ def ends_so(words, *want):
 
 
 def other_words():
+    """Words that are refused, one that is no text, an output that is full, and the help."""
     for words in WRONG_WORDS:
         BENCH.refuses_words(*words.split())
     status, told, faults = BENCH.ends("replay", b"\xff")
     assert (status, told, faults.partition(b"\n")[0]) == (2, b"", b"upsd: bad argument"), faults
+    full = ends_in_full(BENCH.program, "replay", BENCH.file("netver", b"open 192.0.2.1\nclient 1 NETVER\ntook 1 all\n"))
+    assert full == (1, b"upsd: write failed\n"), full
     return each(HELP.items(), lambda words, named: BENCH.prints_help(named, *words.split(" ")))
-
-
-def an_output_that_takes_less():
-    """It takes three bytes a call, and so many in all: it holds so much of what is printed, and the fault is reported."""
-    script, want = BENCH.file("netver", lines("open 192.0.2.1", "client 1 NETVER", "took 1 all")), sent("client 1", b"1.3\n") + NO_DRIVER
-    for room in range(len(want) + 2):
-        narrow = {**os.environ, "LD_PRELOAD": NARROW, "STEP": "3", "WRITE_ROOM": str(room)}
-        fault = (1, want[:room], b"upsd: write failed\n") if room < len(want) else (0, want, b"")
-        got = BENCH.ends("replay", script, env=narrow)
-        assert got == fault, f"room for {room} bytes: {got}"
-    got = ends_in_full(BENCH.program, "replay", script)
-    assert got == (1, b"upsd: write failed\n"), got
 
 
 for rows in sorted(glob.glob(f"{HERE}/answers/*.rows")):
     BENCH.case(os.path.basename(rows), each, tables(rows), table_case)
 for path in sorted(glob.glob(f"{HERE}/scripts/*.cases")):
     BENCH.case(os.path.basename(path), each, cases(path), script_case)
-for case in (bad_lines, other_words, an_output_that_takes_less):
-    BENCH.case(case.__name__, case)
+BENCH.case("bad_lines", bad_lines)
+BENCH.case("other_words", other_words)
 BENCH.case("files and their faults", each, ENDS, ends_so)
 BENCH.end()

@@ -25,42 +25,31 @@ class Bench:
         os.chmod(path, 0o600)
         return path
 
-    def run(self, script, *options):
-        """What a replay of this script ends with: its status, output, errors, and its greatest resident kilobytes."""
-        with tempfile.TemporaryFile() as out, tempfile.TemporaryFile() as err:
-            words = [self.program, "replay", *options, self.file("script", script)]
-            child = subprocess.Popen(words, cwd=self.folder.name, stdout=out, stderr=err)
-            _, status, used = os.wait4(child.pid, 0)
-            child.returncode = os.waitstatus_to_exitcode(status)
-            out.seek(0)
-            err.seek(0)
-            return child.returncode, out.read(), err.read(), used.ru_maxrss
-
     def options(self, files):
         """The words that name these files, which are written."""
         return [f"--{kind}={self.file(kind, text)}" for kind, text in files.items()]
 
+    def replay(self, script, files):
+        return self.ends("replay", *self.options(files), self.file("script", script))
+
     def prints(self, script, want, **files):
-        """The replay over these files is done, and prints this. The answer is its greatest resident kilobytes."""
-        status, told, faults, kilobytes = self.run(script, *self.options(files))
+        """The replay over these files is done, and prints this."""
+        status, told, faults = self.replay(script, files)
         assert (status, faults) == (0, b""), (status, faults)
         assert told == want, difference(told, want)
-        return kilobytes
 
     def agrees(self, script, **files):
         """The replay is done, and prints what the plain server does."""
-        want = Replay(Server(**files)).output(script)
-        self.prints(script, want, **files)
-        return want
+        self.prints(script, Replay(Server(**files)).output(script), **files)
 
     def faults(self, script, fault, **files):
-        status, told, faults, _ = self.run(script, *self.options(files))
+        status, told, faults = self.replay(script, files)
         assert (status, told, faults) == (1, b"", fault), (status, told[:200], faults)
 
     def ends(self, *words, program=None, **more):
         """How the program, given these words in the folder, ends: its status, output and errors."""
         ended = subprocess.run([program or self.program, *words], cwd=self.folder.name, stdin=subprocess.DEVNULL,
-                               capture_output=True, timeout=60, check=False, **more)  # fmt: skip
+                               capture_output=True, timeout=300, check=False, **more)  # fmt: skip
         return ended.returncode, ended.stdout, ended.stderr
 
     def refuses_words(self, *words, program=None):

@@ -4,7 +4,6 @@ import contextlib
 import multiprocessing
 import os
 import select
-import shutil
 import socket
 import subprocess
 import sys
@@ -707,42 +706,6 @@ def it_starts_again_at_its_port_and_at_none_that_is_taken():
             driver.accept(TWO)
             late = again.client()
             assert comes(lambda: late.ask(GET) == STATUS)
-
-
-def alone(function):
-    """The case takes its network away, so it has one of its own (unshare), where no other program is."""
-    def run():
-        unshared = ["unshare", "-rn", "env", "NETWORK=its own"]
-        if os.environ.get("NETWORK") == "its own":
-            tool("ip", "link", "set", "lo", "up")
-            return function()
-        if not shutil.which("ss") or subprocess.run([*unshared, "ip", "link", "set", "lo", "up"], capture_output=True, check=False).returncode:
-            return "skipped: no network of its own can be made"
-        ended = subprocess.run([*unshared, sys.executable, *sys.argv[:5], function.__name__], capture_output=True, text=True, check=False)
-        assert ended.returncode == 0, ended.stdout + ended.stderr
-        return None
-    run.__name__ = function.__name__
-    return run
-
-
-def tool(*words):
-    return subprocess.run(words, capture_output=True, text=True, check=True).stdout
-
-
-@case
-@alone
-def a_client_that_vanished_is_logged_out_by_hand():
-    """As docs/OPERATING.md has it: it stays until its connection is ended."""
-    with served() as (server, _, good):
-        client = server.client("127.0.0.2")
-        assert client.ask(MON + b"LOGIN su\n") == b"OK\n" * 3
-        time.sleep(0.3)  # until what the server sent is acknowledged
-        tool("ip", "link", "set", "lo", "down")
-        time.sleep(1)
-        tool("ip", "link", "set", "lo", "up")
-        assert good.ask(b"GET NUMLOGINS su\n") == b"NUMLOGINS su 1\n"
-        assert len(tool("ss", "-KH", f"sport = :{server.port}", "dst 127.0.0.2").splitlines()) == 1
-        assert comes(lambda: good.ask(b"GET NUMLOGINS su\n") == b"NUMLOGINS su 0\n")
 
 
 file("users", USERS)
