@@ -388,17 +388,11 @@ def the_sixty_fifth_client_is_closed():
         assert all(other.ask(GET) == STATUS for other in [good, *others])
         others.pop().close()
 
-        def is_served():
-            late = server.client()
-            others.append(late)
-            with contextlib.suppress(OSError):
-                return late.ask(GET) == STATUS
-            return False
-        assert comes(is_served)
+        assert comes(lambda: is_answered(server.client(), GET, STATUS))
         told = COME + "upsd: no room for a client\n"
         assert comes(lambda: server.journal() == told), server.journal()
-        for other in others:
-            other.close()
+        for client in server.clients[1:]:
+            client.close()
         told += "upsd: room for clients again: "
         assert comes(lambda: server.journal().startswith(told)), server.journal()
         count = server.journal()[len(told):]
@@ -456,10 +450,10 @@ def a_client_that_half_closes_gets_all():
             assert got.startswith(listed) and got.endswith(listed + STATUS), len(got)
 
 
-def in_background(function):
-    thread = threading.Thread(target=function)
-    thread.start()
-    return thread
+def in_background(function, kind=threading.Thread):
+    work = kind(target=function)
+    work.start()
+    return work
 
 
 def flood(client, text, seconds):
@@ -470,16 +464,6 @@ def flood(client, text, seconds):
             while time.monotonic() < end:
                 client.wire.send(text)
     return in_background(send)
-
-
-def drain(client):
-    """Reads and drops, in the background, up to the end or a pause."""
-    def read():
-        client.wire.settimeout(1)
-        with contextlib.suppress(OSError):
-            while client.wire.recv(1 << 20):
-                pass
-    return in_background(read)
 
 
 @case
@@ -573,8 +557,8 @@ def more_clients_than_descriptors_end_nothing():
         clients = [server.client() for _ in range(40)]
         for client in clients:
             client.wire.settimeout(0.2)
-            client.send(b"GET UPSDESC su\n")
-        answered = [client for client in clients if is_answered(client)]
+        asked = b"GET UPSDESC su\n", b'UPSDESC su "Unavailable"\n'
+        answered = [client for client in clients if is_answered(client, *asked)]
         assert 5 < len(answered) < 20, len(answered)
         before = server.seconds_of_work()
         time.sleep(1.5)
@@ -582,31 +566,13 @@ def more_clients_than_descriptors_end_nothing():
         for client in answered:
             client.close()
         waiting = [client for client in clients if client not in answered]
-        assert comes(lambda: any(is_answered(client) for client in waiting))
+        assert comes(lambda: any(is_answered(client, *asked) for client in waiting))
 
 
-def is_answered(client):
+def is_answered(client, line, answer):
     with contextlib.suppress(OSError):
-        return client.line() == b'UPSDESC su "Unavailable"\n'
+        return client.ask(line) == answer
     return False
-
-
-@case
-def drivers_and_ticks_are_not_late_in_a_flood():
-    with served(TWO, "--maxage", "6") as (server, driver, good):
-        floods = [server.client() for _ in range(8)]
-        threads = [flood(client, GET * 500, 3.5) for client in floods]
-        readers = [drain(client) for client in floods]
-        # A whole Unix socket of lines, written without waiting.
-        driver.wire.setblocking(False)
-        for i in range(270):
-            driver.wire.send(b'SETINFO battery.charge "%d"\n' % i)
-        assert comes(lambda: good.ask(b"GET VAR su battery.charge\n") == b'VAR su battery.charge "269"\n', 2)
-        assert worst_wait(good, 100) < 0.5
-        driver.wire.settimeout(5)
-        assert driver.line() == b"PING\n"
-        for thread in threads + readers:
-            thread.join()
 
 
 def ask_on(clients, seconds):
@@ -622,9 +588,7 @@ def ask_on(clients, seconds):
             for number, _ in waiting.poll(1):
                 assert wires[number].recv(4096) == STATUS
                 wires[number].send(GET)
-    process = multiprocessing.Process(target=run)
-    process.start()
-    return process
+    return in_background(run, multiprocessing.Process)
 
 
 def report_on(driver, seconds):
@@ -634,9 +598,7 @@ def report_on(driver, seconds):
         for number in range(seconds * 1000):
             driver.send(b'SETINFO battery.charge "%d"\n' % number)
             time.sleep(max(0.0, begin + number / 1000 - time.monotonic()))
-    process = multiprocessing.Process(target=run)
-    process.start()
-    return process
+    return in_background(run, multiprocessing.Process)
 
 
 @case
