@@ -63,7 +63,7 @@ class Ends:
 
     def __init__(self, folder, command):
         self.folder, self.clients = folder, []
-        self.drivers = {name: Driver(self.socket(name)) for name in ("su", "ups")}
+        self.drivers = {name: Driver(f"{folder}/dummy-ups-{name}") for name in ("su", "ups")}
         for name in ("upsd.users", "descriptions"):
             shutil.copy(f"{HERE}/answers/{name}", folder)
         open(f"{folder}/ids", "wb").close()
@@ -72,15 +72,13 @@ class Ends:
         self.server = OtherServer(command or OURS, folder, UPSES)
         self.control = self.server.client()
 
-    def socket(self, name):
-        return f"{self.folder}/dummy-ups-{name}"
-
     def happens(self, event):
         """The event, once the server knows of it."""
         _, verb, who, *text = event.split(" ", 3)
         line = "".join(plain(text) + "\n" for text in text).encode()
         if verb == "up":
-            self.drivers[who] = self.drivers.get(who) or Driver(self.socket(who))
+            if who not in self.drivers:
+                self.drivers[who] = Driver(f"{self.folder}/dummy-ups-{who}")
             self.drivers[who].accept()
         elif verb == "driver":
             self.drivers[who].send(line)

@@ -19,23 +19,13 @@ DRIVER, UPSD, UPSMON = (f"/lib/nut/{program}" for program in ("dummy-ups", "upsd
 # upsmon keeps its process's id in one file of the machine, whoever starts it.
 MONITOR_ID = "/run/nut/upsmon.pid"
 PYNUT = "import sys, PyNUT; nut = PyNUT.PyNUTClient(port=int(sys.argv[1]), login='admin', password='secret'); print(eval(sys.argv[2]))"
-FILES = {
-    "su.dev": "ups.status: OL\nbattery.charge: 100\nups.id: rack\n", "nu.dev": "ups.status: OL\nbattery.charge: 100\nups.id: rack\n",
-    "ours.conf": '[su]\ndesc = "Server room"\nsocket = {folder}/dummy-ups-su\n[twin]\nsocket = {folder}/dummy-ups-twin\n',
-    "ours.users": "[admin]\npassword = secret\nactions = SET\ninstcmds = load.off\nupsmon primary\n[mon]\npassword = pw\nupsmon secondary\n",
-    "ours.vars": 'VARDESC ups.id "Name of the UPS"\nCMDDESC load.off "Turn off the load"\n',
-    "upsd.users": '[admin]\npassword = "s3 cret"\nactions = set\ninstcmds = all\nupsmon primary\n',
-}  # fmt: skip
-UPSMON_CONF = """MONITOR {su} 1 {user} {password} {role}\nMINSUPPLIES 1\nRUN_AS_USER root\nPOLLFREQ 1\nPOLLFREQALERT 1
-HOSTSYNC 10\nDEADTIME 3\nFINALDELAY 0\nPOWERDOWNFLAG {folder}/killpower\nSHUTDOWNCMD "date +%s >>{folder}/down"\nNOTIFYCMD {folder}/notify
-"""
 
 
 class Peers:
     def __init__(self, folder):
         self.folder, self.running, self.writes = folder, {}, 0
-        for name, text in FILES.items():
-            self.file(name, text.format(folder=folder))
+        for name in ("su.dev", "nu.dev", "ours.conf", "ours.users", "ours.vars", "upsd.users"):
+            self.file(name, text_of(f"scripts/peers/{name}").format(folder=folder))
         os.environ.update(NUT_STATEPATH=folder, NUT_QUIET_INIT_UPSNOTIFY="true")
         self.driver("su", "su.dev")
         self.server, idless = self.serve("--ids", "/dev/urandom"), self.serve()
@@ -88,8 +78,8 @@ class Peers:
     def upsmon(self, role, user, password):
         folder = f"{self.folder}/{role}"
         os.mkdir(folder)
-        flags = "".join(f"NOTIFYFLAG {event} EXEC\n" for event in "ONLINE ONBATT LOWBATT FSD COMMOK COMMBAD SHUTDOWN NOCOMM".split())
-        self.file(f"{role}/upsmon.conf", flags + UPSMON_CONF.format(su=self.names["su"], user=user, password=password, role=role, folder=folder))
+        conf = text_of("scripts/peers/upsmon.conf").format(su=self.names["su"], user=user, password=password, role=role, folder=folder)
+        self.file(f"{role}/upsmon.conf", conf)
         self.file(f"{role}/notify", f'#!/bin/sh\necho "$NOTIFYTYPE" >>{folder}/told\n')
         self.file(f"{role}/told", "")
         forget(MONITOR_ID)
