@@ -304,41 +304,29 @@ def a_lost_driver_comes_back():
 
 @case
 def drivers_that_are_not_there_are_tried_again():
+    """And why they can't be connected to is told once a reason."""
     absent, plain, refusing = path("absent.sock"), file("plain", ""), Driver(path("refusing.sock"))
     refusing.listener.close()
     ups = file("three.conf", f"[a]\nsocket = {absent}\n[b]\nsocket = {plain}\n[c]\nsocket = {refusing.path}\n")
     asks = b"GET VAR a x\nGET VAR b x\nGET VAR c x\n"
+    told = ["upsd: a: " + NO_FILE, "upsd: b: " + REFUSED, "upsd: c: " + REFUSED]
     with begun(ups) as server:
         good = server.client()
         assert good.ask(asks) == AWAY * 3
-        assert comes(lambda: sorted(server.journal().splitlines(True)) == ["upsd: a: " + NO_FILE, "upsd: b: " + REFUSED, "upsd: c: " + REFUSED])
+        assert comes(lambda: sorted(server.journal().splitlines(True)) == told), server.journal()
+        time.sleep(1.2)
+        assert sorted(server.journal().splitlines(True)) == told, server.journal()
         os.unlink(plain)
         os.unlink(refusing.path)
         drivers = [Driver(there).accept(b'SETINFO x "1"\n') for there in (absent, plain, refusing.path)]
         assert comes(lambda: good.ask(asks).count(b'"1"') == 3)
         told = [f"upsd: {name}: {news}" for name in "abc" for news in ["data good", "driver connected"]]
-        lines = [line for line in sorted(server.journal().splitlines()) if "cannot connect" not in line]
-        assert lines == told, server.journal()
+        assert [line for line in sorted(server.journal().splitlines()) if "cannot connect" not in line] == told, server.journal()
+        drivers[0].lose()
+        drivers[0].listener.close()  # its file stays, and nobody listens
+        assert comes(lambda: server.journal().endswith("upsd: a: driver lost\nupsd: a: " + REFUSED)), server.journal()
         for driver in drivers:
             driver.close()
-
-
-@case
-def why_a_driver_cannot_be_connected_to_is_told_once_a_reason():
-    with begun(file("late.conf", f"[su]\nsocket = {path('late.sock')}\n")) as server:
-        assert comes(lambda: server.journal() == "upsd: su: " + NO_FILE), server.journal()
-        time.sleep(1.2)
-        assert server.journal() == "upsd: su: " + NO_FILE, server.journal()
-        with socket.socket(socket.AF_UNIX) as bound:
-            bound.bind(path("late.sock"))
-            told = f"upsd: su: {NO_FILE}upsd: su: {REFUSED}"
-            assert comes(lambda: server.journal() == told), server.journal()
-            time.sleep(1.2)
-            bound.listen(1)
-            assert comes(lambda: server.journal() == told + "upsd: su: driver connected\n"), server.journal()
-        # The driver is gone, and nobody listens at its path.
-        told += "upsd: su: driver connected\nupsd: su: driver lost\nupsd: su: " + REFUSED
-        assert comes(lambda: server.journal() == told), server.journal()
 
 
 @case
