@@ -7,7 +7,6 @@ import select
 import socket
 import subprocess
 import sys
-import threading
 import time
 import uuid
 
@@ -438,33 +437,6 @@ def a_client_that_half_closes_gets_all():
             assert got.startswith(listed) and got.endswith(listed + STATUS), len(got)
 
 
-def in_background(function, kind=threading.Thread):
-    work = kind(target=function)
-    work.start()
-    return work
-
-
-def flood(client, text, seconds):
-    """Sends on, in the background, as long as the server takes it."""
-    def send():
-        end = time.monotonic() + seconds
-        with contextlib.suppress(OSError):
-            while time.monotonic() < end:
-                client.wire.send(text)
-    return in_background(send)
-
-
-@case
-def too_long_is_received_under_a_flood():
-    with served() as (server, _, good):
-        client = server.client()
-        thread = flood(client, b"x" * 65536, 0.5)
-        got = client.up_to_end()
-        assert got == b"ERR TOO-LONG\n", got
-        assert good.ask(GET) == STATUS
-        thread.join()
-
-
 @case
 def clients_that_left_are_closed_at_their_end_or_after_two_ticks():
     with served() as (server, _, _):
@@ -527,19 +499,6 @@ def a_server_that_is_asked_nothing_does_nothing():
 
 
 @case
-def clients_that_are_gone_before_their_answers_end_nothing():
-    with served(many(MANY, 256)) as (server, _, good):
-        for i in range(200):
-            client = server.client()
-            client.send(b"LIST VAR su\n" * 3)
-            if i % 2:
-                client.wire.recv(1000)
-            client.reset()
-        assert good.ask(GET) == STATUS
-        assert comes(lambda: server.descriptors() < 12)
-
-
-@case
 def more_clients_than_descriptors_end_nothing():
     with begun(file("alone.conf", "[su]\n"), files=20) as server:
         clients = [server.client() for _ in range(40)]
@@ -563,6 +522,12 @@ def is_answered(client, line, answer):
     return False
 
 
+def in_background(function):
+    work = multiprocessing.Process(target=function)
+    work.start()
+    return work
+
+
 def ask_on(clients, seconds):
     """Each client asks again as soon as it is answered, all in a process of their own."""
     def run():
@@ -576,7 +541,7 @@ def ask_on(clients, seconds):
             for number, _ in waiting.poll(1):
                 assert wires[number].recv(4096) == STATUS
                 wires[number].send(GET)
-    return in_background(run, multiprocessing.Process)
+    return in_background(run)
 
 
 def report_on(driver, seconds):
@@ -586,7 +551,7 @@ def report_on(driver, seconds):
         for number in range(seconds * 1000):
             driver.send(b'SETINFO battery.charge "%d"\n' % number)
             time.sleep(max(0.0, begin + number / 1000 - time.monotonic()))
-    return in_background(run, multiprocessing.Process)
+    return in_background(run)
 
 
 @case
@@ -616,18 +581,22 @@ def nobody_waits_long_beside_busy_clients_and_drivers():
 
 
 def traffic(server, driver, good):
-    """Something of all that comes: listings, orders, faults, newcomers, floods of a driver."""
+    """Something of all that comes: listings, faults, newcomers, who is gone before the answer, floods of a driver and of a client."""
     for i in range(150):
         client = server.client()
         client.send(b"LIST VAR su\nGET VAR su nope\n\x00\n\"\nLOGOUT\n")
         client.up_to_end()
         client.close()
+        gone = server.client()
+        gone.send(b"LIST VAR su\n" * 30)
+        gone.wire.recv(1000)
+        gone.reset()
         driver.send(b"".join(b'SETINFO w%04d "%d"\nDELINFO w%04d\n' % (j, i, j) for j in range(40)))
         good.ask(GET * 20)
     for _ in range(10):
         client = server.client()
         client.send(b"x" * 200_000)
-        client.up_to_end()
+        assert client.up_to_end() == b"ERR TOO-LONG\n"
         client.close()
 
 
