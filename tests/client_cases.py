@@ -233,18 +233,10 @@ def servers_that_take_less():
 def outputs_that_take_less():
     for room in range(len(PRINTED)):
         yield Row(LIST, LISTED, ASKED, PRINTED[:room], fault=WRITE, narrow={"STEP": "1", "WRITE_ROOM": str(room)})
+    for row in asked_for():
+        yield row._replace(printed=b"", fault=WRITE, narrow={"WRITE_ROOM": "0"})
     # A listing without items prints nothing, which fits.
     yield Row(LIST, b"BEGIN LIST VAR su\nEND LIST VAR su\n", ASKED, narrow={"WRITE_ROOM": "0"})
-
-
-def check_full_outputs(rows):
-    """The output is full, as a disk is."""
-    for row in rows:
-        with open("/dev/full", "wb") as full:
-            child = start(row.words, {"LEAD_TO": str(PEER.port)}, full)
-            PEER.meet(row.reply, row.ending)
-            check_end(row.words, child, 1, WRITE)
-    return f"{len(rows)} rows"
 
 
 # Servers that say nothing, or no more.
@@ -310,7 +302,6 @@ def main():
     BENCH.case("what stands behind a reply is left", check, more_behind_a_reply())
     BENCH.case("a server that takes less is told", check, servers_that_take_less())
     BENCH.case("a full output holds a beginning", check, outputs_that_take_less())
-    BENCH.case("a full output is told", check_full_outputs, list(asked_for()))
     BENCH.case("a server that says no more is waited for 5 s", check_waits, list(rows("servers that say nothing, or no more", STAYS)))
     BENCH.case("a server that takes no connection, too", check_unreached, [LIST, SET, ("upscmd", "-l", "su")])
     BENCH.end()

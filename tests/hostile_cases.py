@@ -5,7 +5,7 @@ import resource
 import sys
 
 from plain_server import LINE, RING, VALUE
-from replaying import Bench, lines, written
+from replaying import Bench, cases, written
 
 BENCH = Bench("hostile", sys.argv[1])
 READY = "driver su DUMPDONE\ndriver su DATAOK\n"
@@ -50,23 +50,7 @@ took 1 all
 # begins where another one left the UPS's driver and the clock.
 
 RUNS, IN_A_SCRIPT = 10_000, 250
-USERS = b"""[admin]
-password = "s3 cret"
-actions = SET
-instcmds = ALL
-upsmon primary
-[mon]
-password = pw
-upsmon secondary
-[starter]
-password = go
-actions = FSD
-instcmds = test.start
-[nobody]
-actions = SET
-"""
-VARS = b'VARDESC a "the \\"a\\""\nCMDDESC test.start ""\n'
-UPSES = b'[su]\ndesc = "Room 1"\n[bay]\n'
+FILES = next(files for title, _, files in cases("scripts/refused.cases") if title == "the files of the random pieces")
 
 NAMES = [b"a", b"b", b"ups.status", b"test.start"] * 6 + [b"nope", b"A", b"x/y", b"", b"n" * 64, b"n" * 65]
 VALUES = [b"1", b"OL", b"20", b"8", b"030", b"-5", b"s3 cret", b"pw", b"go", b'q"u\\o', b"", b"v" * VALUE, b"v" * (VALUE + 1), b"\xff\t "]
@@ -167,13 +151,13 @@ class Pieces:
         runs += [b"driver su " + line for line in (b"SETINFO a 1", b"SETFLAGS a RW", b"SETINFO ups.status OL", b"DUMPDONE", b"DATAOK")]
         for client in range(1, IN_A_SCRIPT + 1):
             runs += self.run(client, client * 2)
-        return lines(runs)
+        return b"".join(line + b"\n" for line in runs)
 
 
 def random_pieces(seed):
     pieces = Pieces(seed)
     for _ in range(RUNS // IN_A_SCRIPT):
-        BENCH.agrees(pieces.script(), ups=UPSES, users=USERS, vars=VARS)
+        BENCH.agrees(pieces.script(), **FILES)
     return f"{RUNS} runs, seed {seed}"
 
 

@@ -217,7 +217,8 @@ def a_server_without_memory_goes_on():
         assert client.ask(b"GET VAR su a\n") == b"ERR DRIVER-NOT-CONNECTED\n"
         driver.lose()
         driver.accept(b"SETINFO a 1\n" + STATUS)
-        assert comes(lambda: server.client().ask(b"GET VAR su a\n") == b'VAR su a "1"\n')
+        again = server.client()
+        assert comes(lambda: again.ask(b"GET VAR su a\n") == b'VAR su a "1"\n')
         come = "upsd: su: driver connected\nupsd: su: data good\n"
         assert server.journal() == come + "upsd: su: driver lost\n" + come
 

@@ -19,7 +19,7 @@ FILES = {option: text_of(f"answers/{name}").encode() for option, name in
 
 def table_case(title, rows):
     """What the program prints of the table's script: each row is a client."""
-    script, orders, sessions, clients = [text_of("answers/server.events")[:-1]], "DUMPALL\n", b"", 0
+    script, orders, sessions, clients = text_of("answers/server.events").splitlines(), "DUMPALL\n", b"", 0
     for row in rows:
         if isinstance(row, Row):
             clients += 1
@@ -31,7 +31,7 @@ def table_case(title, rows):
         else:
             orders += row[2:] + "\n"
     drivers = sent("driver off", b"") + sent("driver su", orders.encode()) + sent("driver ups", b"")
-    BENCH.prints(lines(script, "driver-took su all"), sessions + drivers, **FILES)
+    BENCH.prints(lines([*script, "driver-took su all"]), sessions + drivers, **FILES)
 
 
 # Whole scripts.

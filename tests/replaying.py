@@ -143,12 +143,8 @@ def difference(told, want):
     return f"{len(told)} bytes, not {len(want)}; at byte {at}: {told[at - 40:at + 60]!r}, not {want[at - 40:at + 60]!r}"
 
 
-def lines(*parts):
-    """The lines of a script: each part is a line, or a list of lines."""
-    every = []
-    for part in parts:
-        every += [part] if isinstance(part, (bytes, str)) else part
-    return b"".join((line.encode() if isinstance(line, str) else line) + b"\n" for line in every)
+def lines(every):
+    return "".join(f"{line}\n" for line in every).encode()
 
 
 def sent(who, text):

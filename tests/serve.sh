@@ -1,6 +1,6 @@
 #!/usr/bin/env bash
-# What a real network asks of the server: the built upsd on real sockets. The cases of machines that are gone need unshare, ip and
-# ss, else they are skipped. Every program that is started is ended by its id, and the ports are those that the system gives.
+# What a real network asks of the server: the built upsd on real sockets. Every program that is started is ended by its id, and the
+# ports are those that the system gives.
 set -euo pipefail
 # shellcheck source=tests/built.bash
 source "$(dirname "${BASH_SOURCE[0]}")/built.bash"
