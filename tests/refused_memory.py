@@ -10,7 +10,6 @@ import mmap
 import os
 import re
 import signal
-import struct
 import subprocess
 import sys
 
@@ -28,28 +27,23 @@ ALL = 2**64 - 1
 
 
 class Control:
-    """What the library is told, and what it tells."""
+    """What the library is told, and what it tells: the four numbers of refuse.c."""
 
     def __init__(self):
         with open(BENCH.file("control", bytes(32)), "r+b") as file:
-            self.words = mmap.mmap(file.fileno(), 32)
+            self.words = memoryview(mmap.mmap(file.fileno(), 32)).cast("Q")
 
     def refuse(self, first, last):
-        struct.pack_into("4Q", self.words, 0, 0, first, last, 0)
+        self.words[0], self.words[1], self.words[2], self.words[3] = 0, first, last, 0
 
     def go_on(self):
-        struct.pack_into("2Q", self.words, 8, 0, 0)
+        self.words[1] = 0
 
     def refuse_all(self):
-        struct.pack_into("2Q", self.words, 8, 1, ALL)
+        self.words[2], self.words[1] = ALL, 1
 
-    @property
-    def requests(self):
-        return struct.unpack_from("Q", self.words, 0)[0]
-
-    @property
-    def refused(self):
-        return struct.unpack_from("Q", self.words, 24)[0]
+    requests = property(lambda self: self.words[0])
+    refused = property(lambda self: self.words[3])
 
 
 CONTROL = Control()
