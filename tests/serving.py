@@ -111,12 +111,7 @@ class Client:
 
     def up_to_end(self):
         """All that is still to come. A connection that is reset is a fault."""
-        pieces = [self.kept]
-        while True:
-            piece = self.wire.recv(1 << 20)
-            if not piece:
-                return b"".join(pieces)
-            pieces.append(piece)
+        return b"".join([self.kept, *iter(lambda: self.wire.recv(1 << 20), b"")])
 
     def listing(self):
         lines = [self.line()]
