@@ -28,6 +28,8 @@ import tempfile
 import time
 import uuid
 
+sys.dont_write_bytecode = True
+
 from replaying import HERE, plain, sections, text_of
 from serving import BUILT, Driver, OtherServer, comes, taken
 

@@ -105,16 +105,11 @@ class Peers:
 
     def is_so(self, seconds, title, want, command):
         """Whether the command prints this in time."""
-        words, got = [Template(word).substitute(self.names) for word in shlex.split(command)], None
+        words, got = [Template(word).substitute(self.names) for word in shlex.split(command)], []
         form = re.escape(want).replace(r"\*", ".*").replace("<id>", "[0-9a-f]{8}(?:-[0-9a-f]{4}){3}-[0-9a-f]{12}").replace(r"\$", "\n")
-
-        def is_printed():
-            nonlocal got
-            got = self.answer([*words])
-            return re.fullmatch(form, got, re.DOTALL)
-        well = comes(is_printed, float(seconds))
-        print(f"peers: ok: {title}" if well else f"peers: FAILED: {title}\nwanted: {want}\ngot: {got}", flush=True)
-        return bool(well)
+        well = comes(lambda: got.append(self.answer([*words])) or re.fullmatch(form, got[-1], re.DOTALL), float(seconds))
+        print(f"peers: ok: {title}" if well else f"peers: FAILED: {title}\nwanted: {want}\ngot: {got[-1]}", flush=True)
+        return well
 
 
 def forget(*ids):
