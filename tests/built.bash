@@ -1,11 +1,15 @@
 # Read by the scripts that use the built programs: `built NAME..` has crates/NAME/out/NAME be that of this source.
 # A program is built, and with it proved, where it is absent or older than a source; the gate builds all of them.
+# Their paths are `programs` then. Python's scripts leave no compiled files.
 top=$(cd "$(dirname "${BASH_SOURCE[0]}")/.." && pwd)
+export PYTHONDONTWRITEBYTECODE=1
+programs=()
 
 built() {
     local name made told
     for name in "$@"; do
         made=$top/crates/$name/out/$name
+        programs+=("$made")
         if [[ -x $made && -z $(newer_source "$made") ]]; then
             continue
         fi
@@ -20,4 +24,11 @@ built() {
 newer_source() {
     find "$top/crates.txt" "$top/crates" -name out -prune -o \
         \( -name '*.rt' -o -name '*.antt' -o -name crates.txt \) -newer "$1" -print -quit
+}
+
+# Compiles what is loaded before the C library: `library` is its path, until the script ends.
+library() {
+    library=$(mktemp)
+    trap 'rm "$library"' EXIT
+    cc -O2 -Wall -Wextra -shared -fPIC -o "$library" "$top/tests/$1"
 }

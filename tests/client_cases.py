@@ -5,6 +5,7 @@ library that makes ends narrow (narrow.c), and the programs upsc, upsrw and upsc
 import concurrent.futures
 import contextlib
 import os
+import shlex
 import socket
 import struct
 import subprocess
@@ -12,7 +13,7 @@ import sys
 import time
 from typing import NamedTuple
 
-from replaying import Bench
+from replaying import Bench, plain, sections
 
 NARROW, *PROGRAMS = (os.path.abspath(word) for word in sys.argv[1:5])
 PROGRAMS = {os.path.basename(program): program for program in PROGRAMS}
@@ -28,12 +29,7 @@ LISTED = b'BEGIN LIST VAR su\nVAR su a "1"\nVAR su b "2 \\"x\\\\"\nEND LIST VAR 
 PRINTED = b'a: 1\nb: 2 "x\\\n'
 ASKED = b"LIST VAR su\n"
 SET = ("upsrw", "-s", "ups.delay=30", "-u", "admin", "-p", "s3 cret", "su@localhost:3494")
-USER, PASSWORD = b'USERNAME "admin"\n', b'PASSWORD "s3 cret"\n'
 ID = "1bd31808-cb49-4aec-9d75-d056e6f018d2"
-COMMAND = ("upscmd", "-u", "admin", "-p", "s3 cret", "su", "load.off", "1 0")
-TRACKED_SET, TRACKED_COMMAND = ("upsrw", "--track", *SET[1:]), ("upscmd", "--track", *COMMAND[1:])
-TRACKED = USER + PASSWORD + b"SET TRACKING ON\n"
-PROGRESS = ("upsc", "--tracked", ID.upper(), "su")
 
 
 class Row(NamedTuple):
@@ -130,28 +126,15 @@ def check(rows):
 # What the programs' words ask for.
 
 
+def rows(title, ending=ENDS):
+    """The rows of scripts/clients.rows below this title: WORDS|REPLY|SENT|PRINTED|FAULT, `$` for an LF."""
+    for row in sections("scripts/clients.rows")[title]:
+        words, *texts, fault = f"{row}||||".split("|")[:5]
+        yield Row(tuple(shlex.split(words)), *(plain(text).replace("$", "\n").encode() for text in texts), fault, ending)
+
+
 def asked_for():
-    """What each program's words send, and what is printed of the reply."""
-    upses = b'BEGIN LIST UPS\nUPS su "Unavailable"\nEND LIST UPS\n'
-    described = b'BEGIN LIST UPS\nUPS bay-1 "Rack 1"\nUPS su ""\nEND LIST UPS\n'
-    clients = b"BEGIN LIST CLIENT su\nCLIENT su 192.0.2.1\nCLIENT su ::1\nEND LIST CLIENT su\n"
-    writable = b'BEGIN LIST RW su\nRW su ups.delay "30"\nEND LIST RW su\n'
-    commands = b"BEGIN LIST CMD su\nCMD su load.off\nCMD su load.on\nEND LIST CMD su\n"
-    status = b'VAR su ups.status "OL CHRG"\n'
-    yield Row(LIST, LISTED, ASKED, PRINTED)
-    yield Row(("upsc", "su", "ups.status"), status, b"GET VAR su ups.status\n", b"OL CHRG\n")
-    yield Row(("upsc", "-l", "localhost"), upses, b"LIST UPS\n", b"su\n")
-    yield Row(("upsc", "-L"), described, b"LIST UPS\n", b"bay-1: Rack 1\nsu: \n")
-    yield Row(("upsc", "-c", "su"), clients, b"LIST CLIENT su\n", b"192.0.2.1\n::1\n")
-    yield Row(("upsc", "--attached", "su"), b"NUMATTACH su 64\n", b"GET NUMATTACH su\n", b"64\n")
-    yield Row(("upsrw", "su"), writable, b"LIST RW su\n", b"ups.delay=30\n")
-    yield Row(("upscmd", "-l", "su"), commands, b"LIST CMD su\n", b"load.off\nload.on\n")
-    yield Row(SET, b"OK\n" * 3, USER + PASSWORD + b'SET VAR su ups.delay "30"\n', b"OK\n")
-    tracked = b"OK\n" * 3 + b"OK TRACKING %s\n" % ID.encode()
-    yield Row(TRACKED_SET, tracked, TRACKED + b'SET VAR su ups.delay "30"\n', ID.encode() + b"\n")
-    yield Row(TRACKED_COMMAND, tracked.upper(), TRACKED + b'INSTCMD su load.off "1 0"\n', ID.encode() + b"\n")
-    for progress in (b"PENDING", b"SUCCESS", b"FAILED 7"):
-        yield Row(PROGRESS, b"TRACKING %s %s\n" % (ID.encode(), progress), b"GET TRACKING %s\n" % ID.encode(), progress + b"\n")
+    return rows("what the words ask for")
 
 
 def in_pieces():
@@ -228,35 +211,12 @@ def cut_replies():
         yield Row(LIST, LISTED[:count], ASKED, fault=READ, ending=FAILS)
 
 
-def refusals():
-    yield Row(SET, b"OK\nERR ACCESS-DENIED\nOK\n", USER + PASSWORD, fault=DENIED)
-    yield Row(SET, b"OK Goodbye\n", USER, fault=BAD)
-    yield Row(SET, b"OK\n", USER + PASSWORD, fault=EARLY)
-    yield Row(COMMAND, b"OK\nERR ACCESS-DENIED\n", USER + PASSWORD, fault=DENIED)
-    yield Row(TRACKED_COMMAND, b"OK\nOK\nERR INVALID-ARGUMENT\n", TRACKED, fault="server answered ERR INVALID-ARGUMENT")
-    yield Row(PROGRESS, b"ERR INVALID-ARGUMENT\n", b"GET TRACKING %s\n" % ID.encode(), fault="server answered ERR INVALID-ARGUMENT")
-    yield Row(COMMAND, b"", USER, fault=EARLY)
-    yield Row(LIST, b"ERR DATA-STALE\n", ASKED, fault=STALE)
-    yield Row(LIST, b"ERR DATA-STALE", ASKED, fault=EARLY)
-    yield Row(LIST, b"x" * 2047, ASKED, fault=EARLY)
-
-
 def bad_replies():
     """Each is told at once, though the server could still send more. Which ones fit is what the contracts say; here are some
     of each kind."""
-    order, oks, known = b'SET VAR su ups.delay "30"\n', b"OK\n" * 3, ID.encode()
-    for words, sent, replies in [
-            (LIST, ASKED, [b"\n", b"BEGIN LIST VAR other\n", b"BEGIN LIST VAR su\r\n", b'BEGIN LIST VAR su\nVAR su a/b "1"\n',
-                           b"BEGIN LIST VAR su\nEND LIST RW su\n", b"BEGIN LIST VAR su\nERR DATA-STALE\n", b"ERR A1\n", b"x" * 2048]),
-            (("upsc", "--attached", "su"), b"GET NUMATTACH su\n", [b"NUMATTACH su 65\n", b"NUMATTACH su 07\n", b"NUMLOGINS su 1\n"]),
-            (SET, USER + PASSWORD + order, [b"OK\nOK\nOK TRACKING %s\n" % known]),
-            (TRACKED_SET, TRACKED + order, [oks + b"OK\n", oks + b"OK TRACKING %s\n" % known[:-1], oks + b"TRACKING %s\n" % known]),
-            (TRACKED_SET, TRACKED, [b"OK\nOK\nOK TRACKING %s\n" % known]),
-            (PROGRESS, b"GET TRACKING %s\n" % known, [b"SUCCESS\n", b"TRACKING %s SUCCESS\n" % known[::-1], b"TRACKING %s FAILED 0\n" % known,
-                                                      b"TRACKING %s FAILED 1000000001\n" % known, b"TRACKING %s DONE\n" % known])]:  # fmt: skip
-        for reply in replies:
-            yield Row(words, reply, sent, fault=BAD)
-            yield Row(words, reply, sent, fault=BAD, ending=STAYS)
+    for row in rows("bad replies"):
+        yield row
+        yield row._replace(ending=STAYS)
 
 
 def more_behind_a_reply():
@@ -273,33 +233,15 @@ def servers_that_take_less():
 def outputs_that_take_less():
     for room in range(len(PRINTED)):
         yield Row(LIST, LISTED, ASKED, PRINTED[:room], fault=WRITE, narrow={"STEP": "1", "WRITE_ROOM": str(room)})
+    for row in asked_for():
+        yield row._replace(printed=b"", fault=WRITE, narrow={"WRITE_ROOM": "0"})
     # A listing without items prints nothing, which fits.
     yield Row(LIST, b"BEGIN LIST VAR su\nEND LIST VAR su\n", ASKED, narrow={"WRITE_ROOM": "0"})
-
-
-def check_full_outputs(rows):
-    """The output is full, as a disk is."""
-    for row in rows:
-        with open("/dev/full", "wb") as full:
-            child = start(row.words, {"LEAD_TO": str(PEER.port)}, full)
-            PEER.meet(row.reply, row.ending)
-            check_end(row.words, child, 1, WRITE)
-    return f"{len(rows)} rows"
 
 
 # Servers that say nothing, or no more.
 
 WAIT, SLACK = 5.0, 3.0
-
-
-def silences():
-    """The server stays, and says nothing, or stops in the middle."""
-    yield Row(LIST, b"", ASKED, fault=READ, ending=STAYS)
-    yield Row(LIST, LISTED[:30], ASKED, fault=READ, ending=STAYS)
-    yield Row(("upsc", "-l"), b"BEGIN LIST UPS\n", b"LIST UPS\n", fault=READ, ending=STAYS)
-    yield Row(("upsrw", "su"), b"", b"LIST RW su\n", fault=READ, ending=STAYS)
-    yield Row(SET, b"OK\n", USER + PASSWORD, fault=READ, ending=STAYS)
-    yield Row(("upscmd", "-l", "su"), b"", b"LIST CMD su\n", fault=READ, ending=STAYS)
 
 
 def is_waited(began):
@@ -355,13 +297,12 @@ def main():
     BENCH.case("unlawful words are bad arguments", check_unlawful, unlawful)
     BENCH.case("other words and the help", other_words)
     BENCH.case("a cut reply prints nothing", check, cut_replies())
-    BENCH.case("nothing is sent behind a refusal", check, refusals())
+    BENCH.case("nothing is sent behind a refusal", check, rows("a reply that ends the job"))
     BENCH.case("a line that does not fit is a bad reply", check, bad_replies())
     BENCH.case("what stands behind a reply is left", check, more_behind_a_reply())
     BENCH.case("a server that takes less is told", check, servers_that_take_less())
     BENCH.case("a full output holds a beginning", check, outputs_that_take_less())
-    BENCH.case("a full output is told", check_full_outputs, list(asked_for()))
-    BENCH.case("a server that says no more is waited for 5 s", check_waits, list(silences()))
+    BENCH.case("a server that says no more is waited for 5 s", check_waits, list(rows("servers that say nothing, or no more", STAYS)))
     BENCH.case("a server that takes no connection, too", check_unreached, [LIST, SET, ("upscmd", "-l", "su")])
     BENCH.end()
 

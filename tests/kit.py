@@ -7,15 +7,8 @@ import sys
 
 sys.dont_write_bytecode = True
 KIT = os.path.dirname(os.path.dirname(os.path.realpath(shutil.which("rt"))))
-
-
-def load(name, file):
-    loader = importlib.machinery.SourceFileLoader(name, file)
-    module = importlib.util.module_from_spec(importlib.util.spec_from_loader(name, loader))
-    sys.modules[name] = module
-    loader.exec_module(module)
-    return module
-
-
-rt = load("rt_of_the_kit", f"{KIT}/bin/rt")
+LOADER = importlib.machinery.SourceFileLoader("rt_of_the_kit", f"{KIT}/bin/rt")
+rt = importlib.util.module_from_spec(importlib.util.spec_from_loader(LOADER.name, LOADER))
+sys.modules[LOADER.name] = rt
+LOADER.exec_module(rt)
 rtlib = rt.rtlib

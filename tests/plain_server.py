@@ -8,12 +8,20 @@ import re
 MAX_AGE = 15
 LINE, VALUE, VARIABLES = 2047, 512, 32_768
 HOLD, OWED, RING, DRIVER_OWED = LINE + 1, 4096, 8192, 2048
-LETTERS = frozenset(b"ABCDEFGHIJKLMNOPQRSTUVWXYZabcdefghijklmnopqrstuvwxyz0123456789.-_")
 BLANKS = b" \t"
 
 
 class Refused(Exception):
     """An event is refused, with the number of its fault."""
+
+
+class Error(Exception):
+    """A line is answered by ERR and this word."""
+
+
+def demand(holds, otherwise):
+    if not holds:
+        raise otherwise
 
 
 # A byte that stands for itself within quotes, and in a bare word, or a backslash and a byte that it makes stand.
@@ -37,17 +45,14 @@ def quoted(value):
     return b'"' + value.replace(b"\\", b"\\\\").replace(b'"', b'\\"') + b'"'
 
 
-def is_name(word, most=64):
-    return 1 <= len(word) <= most and all(byte in LETTERS for byte in word)
+def is_name(word):
+    return re.fullmatch(rb"[A-Za-z0-9._-]{1,64}", word)
 
 
 def number_of(word):
     """The number that the word is; None where it is none."""
-    digits = word[1:] if word.startswith(b"-") else word
-    if not digits.isdigit() or (digits.startswith(b"0") and word != b"0"):
-        return None
-    number = int(word)
-    return number if -(10**9) <= number <= 10**9 else None
+    number = int(word) if re.fullmatch(rb"0|-?[1-9][0-9]*", word) else None
+    return number if number is not None and abs(number) <= 10**9 else None
 
 
 class Variable:
@@ -70,9 +75,42 @@ class Variable:
         form += [b"STRING:%d" % self.aux] if b"STRING" in self.flags else []
         return b" ".join(words + (form or [b"NUMBER"]))
 
+    def change(self, verb, rest):
+        match verb, *rest:
+            case b"SETFLAGS", *flags if {flag.upper() for flag in flags} <= {b"RW", b"STRING", b"NUMBER"}:
+                self.flags = frozenset(flag.upper() for flag in flags)
+            case b"SETAUX", text if (number := number_of(text)) is not None and number >= 0:
+                self.aux = number
+            case (b"ADDENUM" | b"DELENUM"), value if len(value) <= VALUE:
+                change_list(verb, self.enums, value, 256)
+            case (b"ADDRANGE" | b"DELRANGE"), low, high if None not in (ends := (number_of(low), number_of(high))) and ends[0] <= ends[1]:
+                change_list(verb, self.ranges, ends, 32)
 
-class Ups:
-    def __init__(self, name, desc=None):
+
+def change_list(verb, items, item, most):
+    if verb.startswith(b"DEL"):
+        if item in items:
+            items.remove(item)
+    elif item not in items and len(items) < most:
+        items.append(item)
+
+
+class End:
+    """A driver or a client, which is owed bytes and takes them."""
+
+    owed = sent = b""
+
+    def offered(self):
+        return self.owed[:RING]
+
+    def take(self, count):
+        demand(count <= len(self.offered()), Refused(4))
+        self.sent += self.owed[:count]
+        self.owed = self.owed[count:]
+
+
+class Ups(End):
+    def __init__(self, name, desc):
         self.name, self.desc, self.forced = name, desc, False
         self.lose()
 
@@ -104,144 +142,93 @@ class Ups:
 
     def hear(self, line):
         """Does one whole line of the driver. A line that is refused does nothing."""
-        words = read_words(line)
-        if not words:
-            return
-        verb, rest = words[0].upper(), words[1:]
-        if verb in (b"DUMPDONE", b"DATAOK", b"DATASTALE", b"PONG"):
-            if not rest:
-                self.dumped |= verb == b"DUMPDONE"
-                self.ok = {b"DATAOK": True, b"DATASTALE": False}.get(verb, self.ok)
-            return
-        lengths = {b"SETINFO": 2, b"DELINFO": 1, b"ADDENUM": 2, b"DELENUM": 2, b"ADDRANGE": 3, b"DELRANGE": 3}
-        lengths |= {b"SETAUX": 2, b"ADDCMD": 1, b"DELCMD": 1}
-        fits = verb == b"SETFLAGS" and rest or len(rest) == lengths.get(verb)
-        if not fits or not is_name(rest[0]):
-            return
-        if verb in (b"ADDCMD", b"DELCMD"):
-            self.change_commands(verb, rest[0])
-        elif verb == b"SETINFO":
-            self.set_value(rest[0], rest[1])
-        elif rest[0] in self.variables:
-            self.change_variable(verb, rest[0], rest[1:])
-
-    def change_commands(self, verb, name):
-        if verb == b"DELCMD":
-            self.commands.discard(name)
-        elif len(self.commands) < 1024:
-            self.commands.add(name)
-
-    def set_value(self, name, value):
-        if len(value) <= VALUE and (name in self.variables or len(self.variables) < VARIABLES):
-            self.variables.setdefault(name, Variable()).value = value
-
-    def change_variable(self, verb, name, rest):
-        variable = self.variables[name]
-        if verb == b"DELINFO":
-            del self.variables[name]
-        elif verb == b"SETFLAGS":
-            flags = frozenset(word.upper() for word in rest)
-            if flags <= {b"RW", b"STRING", b"NUMBER"}:
-                variable.flags = flags
-        elif verb == b"SETAUX":
-            number = number_of(rest[0])
-            if number is not None and number >= 0:
-                variable.aux = number
-        elif verb in (b"ADDENUM", b"DELENUM"):
-            if len(rest[0]) <= VALUE:
-                change_list(verb, variable.enums, rest[0], 256)
-        else:
-            ends = tuple(number_of(word) for word in rest)
-            if None not in ends and ends[0] <= ends[1]:
-                change_list(verb, variable.ranges, ends, 32)
+        verb, *rest = read_words(line) or [b""]
+        match verb.upper(), *rest:
+            case b"DUMPDONE",:
+                self.dumped = True
+            case ((b"DATAOK" | b"DATASTALE") as word,):
+                self.ok = word == b"DATAOK"
+            case b"ADDCMD", name if is_name(name) and len(self.commands) < 1024:
+                self.commands.add(name)
+            case b"DELCMD", name:
+                self.commands.discard(name)
+            case b"SETINFO", name, value if name in self.variables or (is_name(name) and len(self.variables) < VARIABLES):
+                if len(value) <= VALUE:
+                    self.variables.setdefault(name, Variable()).value = value
+            case b"DELINFO", name:
+                self.variables.pop(name, None)
+            case verb, name, *more if name in self.variables:
+                self.variables[name].change(verb, more)
 
 
-def change_list(verb, items, item, most):
-    if verb.startswith(b"DEL"):
-        if item in items:
-            items.remove(item)
-    elif item not in items and len(items) < most:
-        items.append(item)
-
-
-class User:
-    """What the file of users says of one user."""
-
-    def __init__(self, password=None, actions=(), commands=(), upsmon=()):
-        self.password, self.actions, self.commands, self.upsmon = password, actions, commands, upsmon
-
-    def may(self, right):
-        if isinstance(right, tuple):
-            return b"ALL" in self.commands or right[0] in self.commands
-        return {
-            "login": bool(self.upsmon),
-            "primary": "primary" in self.upsmon,
-            "fsd": "FSD" in self.actions or "primary" in self.upsmon,
-            "set": "SET" in self.actions,
-        }[right]
-
-
-class Session:
+class Session(End):
     def __init__(self, number, address):
         self.number, self.address = number, address
-        self.held, self.owed, self.sent = b"", b"", b""
-        self.ending, self.is_open = False, True
+        self.held, self.ending, self.is_open = b"", False, True
         self.username = self.password = self.login = None
 
     def end(self):
         self.ending, self.held, self.login = True, b"", None
 
 
-FORMS = {
-    b"USERNAME": (1,), b"PASSWORD": (1,), b"LOGIN": (1,), b"LOGOUT": (0,), b"PRIMARY": (1,), b"FSD": (1,),
-    b"ATTACH": (1,), b"DETACH": (0,), b"GET NUMATTACH": (1,),
-    b"INSTCMD": (2, 3), b"HELP": (0,), b"VER": (0,), b"NETVER": (0,), b"PROTVER": (0,), b"STARTTLS": (0,),
-    b"SET VAR": (3,), b"GET VAR": (2,), b"GET TYPE": (2,), b"GET DESC": (2,), b"GET CMDDESC": (2,),
-    b"GET UPSDESC": (1,), b"GET NUMLOGINS": (1,), b"LIST UPS": (0,), b"LIST VAR": (1,), b"LIST RW": (1,),
-    b"LIST CMD": (1,), b"LIST ENUM": (2,), b"LIST RANGE": (2,), b"LIST CLIENT": (1,),
-}  # fmt: skip
+# How many words may follow.
+FORMS = {verb.encode(): {count} for count, verbs in enumerate([
+    "HELP, VER, NETVER, PROTVER, STARTTLS, LOGOUT, DETACH, LIST UPS",
+    "USERNAME, PASSWORD, LOGIN, ATTACH, PRIMARY, FSD, GET UPSDESC, GET NUMLOGINS, GET NUMATTACH, LIST VAR, LIST RW, LIST CMD, LIST CLIENT",
+    "GET VAR, GET TYPE, GET DESC, GET CMDDESC, LIST ENUM, LIST RANGE, INSTCMD",
+    "SET VAR"]) for verb in verbs.split(", ")}  # fmt: skip
+FORMS[b"INSTCMD"].add(3)
 TEXTS = {
     b"HELP": b"Commands: HELP VER NETVER PROTVER GET LIST SET INSTCMD LOGIN LOGOUT PRIMARY FSD USERNAME PASSWORD STARTTLS",
     b"VER": b"Network UPS Tools upsd, profile 1",
     b"NETVER": b"1.3",
     b"PROTVER": b"1.3",
 }
-LIVE = (b"GET VAR", b"GET TYPE", b"SET VAR", b"INSTCMD", b"LIST VAR", b"LIST RW", b"LIST CMD", b"LIST ENUM", b"LIST RANGE")
 OF_VARIABLE = (b"GET VAR", b"GET TYPE", b"SET VAR", b"LIST ENUM", b"LIST RANGE")
-RIGHTS = {b"LOGIN": "login", b"ATTACH": "login", b"PRIMARY": "primary", b"FSD": "fsd", b"SET VAR": "set"}
+LIVE = OF_VARIABLE + (b"INSTCMD", b"LIST VAR", b"LIST RW", b"LIST CMD")
+# What a user has to have one of, in the file of users; of INSTCMD, see `allow`.
+PRIMARY, LOGIN = {(b"upsmon", b"primary")}, {(b"upsmon", b"primary"), (b"upsmon", b"secondary")}
+RIGHTS = {b"LOGIN": LOGIN, b"ATTACH": LOGIN, b"PRIMARY": PRIMARY, b"FSD": {(b"actions", b"FSD")} | PRIMARY, b"SET VAR": {(b"actions", b"SET")}}
 
 
-class Error(Exception):
-    """A line is answered by ERR and this word."""
+def lines_of(text):
+    """The words of the lines of a file."""
+    return [read_words(line) for line in text.split(b"\n") if line.strip(BLANKS) and not line.lstrip(BLANKS).startswith(b"#")]
 
 
-class Listed(Exception):
-    """A listing is due, and its memory is refused."""
+def sections_of(text):
+    """What stands in each section of a file: `key = value`, and `upsmon primary`."""
+    found = {}
+    for key, *rest in lines_of(text):
+        if rest:
+            section.append((key, rest[-1]))
+        else:
+            section = found.setdefault(key[1:-1], [])
+    return found
 
 
 class Server:
-    def __init__(self, upses=None, users=None, descriptions=None):
-        self.upses = {ups.name: ups for ups in sorted(upses or [Ups(b"su")], key=lambda ups: ups.name)}
-        self.users, self.descriptions = users or {}, descriptions or {}
+    """It takes the texts of its files."""
+
+    def __init__(self, ups=b"[su]\n", users=b"", vars=b""):
+        self.upses = {name: Ups(name, dict(entries).get(b"desc", b"Unavailable")) for name, entries in sorted(sections_of(ups).items())}
+        self.users, self.descriptions = sections_of(users), {(kind, name): text for kind, name, text in lines_of(vars)}
         self.sessions, self.moment = [], 0
         self.refuse = None  # how many lines of the event are executed before memory is refused
 
     # What drivers do.
 
     def ups(self, name):
-        if name not in self.upses:
-            raise Refused(1)
+        demand(name in self.upses, Refused(1))
         return self.upses[name]
 
     def connected(self, name):
         ups = self.ups(name)
-        if not ups.connected:
-            raise Refused(5)
+        demand(ups.connected, Refused(5))
         return ups
 
     def driver_up(self, name):
-        if self.ups(name).connected:
-            raise Refused(6)
+        demand(not self.ups(name).connected, Refused(6))
         self.ups(name).connect(self.moment)
 
     def driver_down(self, name):
@@ -263,11 +250,7 @@ class Server:
             raise Refused(7)
 
     def driver_took(self, name, count):
-        ups = self.connected(name)
-        if count > len(ups.owed):
-            raise Refused(4)
-        taken, ups.owed = ups.owed[:count], ups.owed[count:]
-        return taken
+        self.connected(name).take(count)
 
     def tick(self, seconds):
         self.moment = max(self.moment, seconds)
@@ -282,16 +265,12 @@ class Server:
         return [session for session in self.sessions if session.is_open]
 
     def session(self, number):
-        for session in self.opened():
-            if session.number == number:
-                return session
-        raise Refused(2)
+        demand(1 <= number <= len(self.sessions) and self.sessions[number - 1].is_open, Refused(2))
+        return self.sessions[number - 1]
 
     def open(self, address):
-        if len(self.opened()) == 64:
-            raise Refused(3)
-        if self.refuse is not None:
-            raise Refused(8)
+        demand(len(self.opened()) < 64, Refused(3))
+        demand(self.refuse is None, Refused(8))
         self.sessions.append(Session(len(self.sessions) + 1, address))
 
     def close(self, number):
@@ -309,21 +288,14 @@ class Server:
         return count
 
     def took(self, number, count):
-        session = self.session(number)
-        if count > len(session.owed[:RING]):
-            raise Refused(4)
-        session.sent += session.owed[:count]
-        session.owed = session.owed[count:]
-        self.pump(session)
+        self.session(number).take(count)
+        self.pump(self.session(number))
 
     def pump(self, session):
         while not session.ending and len(session.owed) <= OWED:
             line, found, rest = session.held.partition(b"\n")
             if found:
-                try:
-                    session.owed += self.answer(session, line)
-                except Listed:
-                    raise Refused(8) from None
+                session.owed += self.answer(session, line)
                 session.held = b"" if session.ending else rest
             elif len(session.held) == HOLD:
                 session.owed += b"ERR TOO-LONG\n"
@@ -343,55 +315,43 @@ class Server:
         return text
 
     def execute(self, session, words):
-        if words is None:
-            raise Error(b"INVALID-ARGUMENT")
+        demand(words is not None, Error(b"INVALID-ARGUMENT"))
         if not words:
             return b""
-        verb, rest = words[0].upper(), words[1:]
-        if verb in (b"GET", b"LIST", b"SET"):
-            verb, rest = verb + b" " + (rest[0].upper() if rest else b""), rest[1:]
-            if verb not in FORMS:
-                raise Error(b"INVALID-ARGUMENT")
-        if verb not in FORMS:
-            raise Error(b"UNKNOWN-COMMAND")
-        if len(rest) not in FORMS[verb]:
-            raise Error(b"INVALID-ARGUMENT")
-        if verb.startswith(b"LIST "):
-            return self.list(verb, rest)
-        return self.say(session, verb, rest) + b"\n"
+        verb, rest = words[0].upper().replace(b" ", b"_"), words[1:]  # a blank within the word is no end of it
+        is_part = verb in (b"GET", b"LIST", b"SET")
+        if is_part:
+            verb, rest = verb + b" " + b"".join(rest[:1]).upper(), rest[1:]
+        demand(len(rest) in FORMS.get(verb, ()), Error(b"INVALID-ARGUMENT" if is_part or verb in FORMS else b"UNKNOWN-COMMAND"))
+        return self.list(verb, rest) if verb.startswith(b"LIST ") else self.say(session, verb, rest) + b"\n"
 
-    def allow(self, session, right):
+    def allow(self, session, verb, rest):
+        right = RIGHTS.get(verb) or {(b"instcmds", b"ALL"), (b"instcmds", rest[1])}
         for given, word in ((session.username, b"USERNAME"), (session.password, b"PASSWORD")):
-            if given is None:
-                raise Error(word + b"-REQUIRED")
-        user = self.users.get(session.username)
-        if not user or user.password is None or user.password != session.password or not user.may(right):
-            raise Error(b"ACCESS-DENIED")
+            demand(given is not None, Error(word + b"-REQUIRED"))
+        user = self.users.get(session.username, [])
+        demand((b"password", session.password) in user and not right.isdisjoint(user), Error(b"ACCESS-DENIED"))
 
     def check(self, verb, rest):
         """The checks of the UPS, of its state and of the variable."""
-        if rest[0] not in self.upses:
-            raise Error(b"UNKNOWN-UPS")
+        demand(rest[0] in self.upses, Error(b"UNKNOWN-UPS"))
         ups = self.upses[rest[0]]
         why = ups.why_not_usable(self.moment)
-        if verb in LIVE and why:
-            raise Error(why)
-        if verb in OF_VARIABLE and rest[1] not in ups.variables:
-            raise Error(b"VAR-NOT-SUPPORTED")
+        demand(verb not in LIVE or not why, Error(why))
+        demand(verb not in OF_VARIABLE or rest[1] in ups.variables, Error(b"VAR-NOT-SUPPORTED"))
         return ups
 
     def say(self, session, verb, rest):
         if verb in TEXTS:
             return TEXTS[verb]
-        if verb == b"STARTTLS":
-            raise Error(b"FEATURE-NOT-CONFIGURED")
+        demand(verb != b"STARTTLS", Error(b"FEATURE-NOT-CONFIGURED"))
         if verb in (b"LOGOUT", b"DETACH"):
             session.end()
             return b"OK Goodbye"
         if verb in (b"USERNAME", b"PASSWORD"):
             return self.give(session, verb, rest[0])
         if verb in RIGHTS or verb == b"INSTCMD":
-            self.allow(session, RIGHTS.get(verb) or (rest[1],))
+            self.allow(session, verb, rest)
         ups = self.check(verb, rest)
         if verb.startswith(b"GET "):
             return self.get(ups, verb[4:], rest)
@@ -399,47 +359,35 @@ class Server:
 
     def give(self, session, verb, word):
         attribute, most = ("username", 64) if verb == b"USERNAME" else ("password", 256)
-        if getattr(session, attribute) is not None:
-            raise Error(b"ALREADY-SET-" + verb)
-        if not 1 <= len(word) <= most:
-            raise Error(b"INVALID-ARGUMENT")
+        demand(getattr(session, attribute) is None, Error(b"ALREADY-SET-" + verb))
+        demand(1 <= len(word) <= most, Error(b"INVALID-ARGUMENT"))
         setattr(session, attribute, word)
         return b"OK"
 
     def order(self, session, ups, verb, rest):
         if verb in (b"LOGIN", b"ATTACH"):
-            if session.login:
-                raise Error(b"ALREADY-LOGGED-IN")
+            demand(not session.login, Error(b"ALREADY-LOGGED-IN"))
             session.login = ups.name
         elif verb == b"FSD":
             ups.forced = True
             return b"OK FSD-SET"
-        elif verb == b"SET VAR":
-            self.set_variable(ups, *rest[1:])
-        elif verb == b"INSTCMD":
-            self.start(ups, *rest[1:])
+        elif verb != b"PRIMARY":
+            name, *values = rest[1:]
+            self.check_order(ups, verb, name, *values)
+            line = b" ".join([verb.split()[0], name, *map(quoted, values)])
+            demand(ups.owe(line), Error(verb.split()[0] + b"-FAILED"))
         return b"OK"
 
     @staticmethod
-    def set_variable(ups, name, value):
+    def check_order(ups, verb, name, value=b""):
+        if verb == b"INSTCMD":
+            demand(name in ups.commands, Error(b"CMD-NOT-SUPPORTED"))
+            demand(len(value) <= VALUE, Error(b"TOO-LONG"))
+            return
         variable = ups.variables[name]
-        if b"RW" not in variable.flags:
-            raise Error(b"READONLY")
-        if variable.is_too_long(value):
-            raise Error(b"TOO-LONG")
-        if not variable.may_have(value):
-            raise Error(b"INVALID-VALUE")
-        if not ups.owe(b"SET " + name + b" " + quoted(value)):
-            raise Error(b"SET-FAILED")
-
-    @staticmethod
-    def start(ups, name, value=None):
-        if name not in ups.commands:
-            raise Error(b"CMD-NOT-SUPPORTED")
-        if value is not None and len(value) > VALUE:
-            raise Error(b"TOO-LONG")
-        if not ups.owe(b"INSTCMD " + name + (b"" if value is None else b" " + quoted(value))):
-            raise Error(b"INSTCMD-FAILED")
+        demand(b"RW" in variable.flags, Error(b"READONLY"))
+        demand(not variable.is_too_long(value), Error(b"TOO-LONG"))
+        demand(variable.may_have(value), Error(b"INVALID-VALUE"))
 
     def logged_in(self, ups):
         return [session for session in self.opened() if session.login == ups.name]
@@ -453,21 +401,18 @@ class Server:
         if kind in (b"NUMLOGINS", b"NUMATTACH"):
             return front + b"%d" % len(self.logged_in(ups))
         if kind == b"UPSDESC":
-            return front + quoted(b"Unavailable" if ups.desc is None else ups.desc)
-        if not is_name(rest[1]):
-            raise Error(b"VAR-NOT-SUPPORTED" if kind == b"DESC" else b"CMD-NOT-SUPPORTED")
-        text = self.descriptions.get((b"VARDESC" if kind == b"DESC" else b"CMDDESC", rest[1]))
-        return front + quoted(b"Description unavailable" if text is None else text)
+            return front + quoted(ups.desc)
+        demand(is_name(rest[1]), Error(b"VAR-NOT-SUPPORTED" if kind == b"DESC" else b"CMD-NOT-SUPPORTED"))
+        return front + quoted(self.descriptions.get((b"VARDESC" if kind == b"DESC" else b"CMDDESC", rest[1]), b"Description unavailable"))
 
     def list(self, verb, rest):
         ups = self.check(verb, rest) if rest else None
         kind = verb[5:]
         if kind == b"UPS":
-            items = [it.name + b" " + quoted(b"Unavailable" if it.desc is None else it.desc) for it in self.upses.values()]
+            items = [it.name + b" " + quoted(it.desc) for it in self.upses.values()]
         else:
             items = [b" ".join(rest) + b" " + item for item in self.items(kind, ups, rest)]
-        if self.refuse == 0 and kind != b"CLIENT":
-            raise Listed
+        demand(self.refuse != 0 or kind == b"CLIENT", Refused(8))
         head = b" LIST " + b" ".join([kind, *rest]) + b"\n"
         return b"BEGIN" + head + b"".join(kind + b" " + item + b"\n" for item in items) + b"END" + head
 
@@ -489,7 +434,7 @@ class Replay:
 
     def __init__(self, server, refused=None, after=0):
         self.server, self.refused, self.after = server, refused, after
-        self.told, self.taken = [], {name: b"" for name in server.upses}
+        self.told = []
 
     def output(self, script):
         for number, line in enumerate(script.split(b"\n"), 1):
@@ -499,8 +444,8 @@ class Replay:
         text = b"".join(self.told)
         for session in self.server.sessions:
             text += self.part(b"client %d" % session.number, session.sent)
-        for name in self.server.upses:
-            text += self.part(b"driver " + name, self.taken[name])
+        for ups in self.server.upses.values():
+            text += self.part(b"driver " + ups.name, ups.sent)
         return text
 
     @staticmethod
@@ -522,39 +467,24 @@ class Replay:
         server, (who, _, text) = self.server, rest.partition(b" ")
         end = b"\n" if verb in (b"driver", b"client") else b""
         piece = bytes.fromhex(text.decode()) if verb.endswith(b"-hex") else text + end
-        match verb:
-            case b"up" | b"down" | b"open":
-                self.event(number, {b"up": server.driver_up, b"down": server.driver_down, b"open": server.open}[verb], rest)
-            case b"tick" | b"close":
-                self.event(number, server.tick if verb == b"tick" else server.close, int(rest))
-            case b"took":
-                self.take(number, int(who), text)
-            case b"driver-took":
-                self.driver_take(number, who, text)
-            case b"driver" | b"driver-part" | b"driver-hex":
-                self.event(number, server.driver_bytes, who, piece)
-            case b"client" | b"part" | b"client-hex":
-                count = self.event(number, server.feed, int(who), piece)
-                if count is not None and count < len(piece):
-                    self.told.append(b"line %d: %d of %d bytes held\n" % (number, count, len(piece)))
+        calls = {b"up": server.driver_up, b"down": server.driver_down, b"open": server.open, b"tick": server.tick, b"close": server.close}
+        if verb in calls:
+            self.event(number, calls[verb], int(rest) if verb in (b"tick", b"close") else rest)
+        elif verb == b"took":
+            sessions = [session for session in server.opened() if session.number == int(who)]
+            self.take(number, server.took, int(who), text, sessions[0] if sessions else End())
+        elif verb == b"driver-took":
+            self.take(number, server.driver_took, who, text, server.upses.get(who, End()))
+        elif verb.startswith(b"driver"):
+            self.event(number, server.driver_bytes, who, piece)
+        else:
+            count = self.event(number, server.feed, int(who), piece)
+            if count is not None and count < len(piece):
+                self.told.append(b"line %d: %d of %d bytes held\n" % (number, count, len(piece)))
 
-    def take(self, number, who, rest):
-        if rest != b"all":
-            self.event(number, self.server.took, who, int(rest))
-            return
+    def take(self, number, call, who, rest, end):
+        """`all` is taken until nothing is offered."""
         while True:
-            self.event(number, self.server.took, who, self.offered(who))
-            if not self.offered(who):
+            self.event(number, call, who, len(end.offered()) if rest == b"all" else int(rest))
+            if rest != b"all" or not end.offered():
                 return
-
-    def offered(self, who):
-        owed = [session.owed for session in self.server.opened() if session.number == who]
-        return min(len(owed[0]), RING) if owed else 0
-
-    def driver_take(self, number, who, rest):
-        ups = self.server.upses.get(who)
-        count = (len(ups.owed) if ups else 0) if rest == b"all" else int(rest)
-        self.taken.setdefault(who, b"")
-        self.taken[who] += self.event(number, self.server.driver_took, who, count) or b""
-        if who not in self.server.upses:
-            del self.taken[who]

@@ -8,47 +8,42 @@ and then every 50th.
 import contextlib
 import mmap
 import os
+import re
 import signal
-import socketserver
-import struct
 import subprocess
 import sys
-import threading
 
-from plain_server import Replay, Server, Ups, User
-from replaying import Bench, lines, ready
+from plain_server import Replay, Server
+from replaying import Bench, cases, written
 from serving import comes, served
 
 LIBRARY, UPSD, UPSC, UPSRW, UPSCMD, DATATESTS = (os.path.abspath(word) for word in sys.argv[1:7])
 BENCH = Bench("refused_memory", UPSD)
 FOLDER = BENCH.folder.name
+CASES = list(cases("scripts/refused.cases"))
+FILES = next(files for title, _, files in CASES if title == "three files")
 EVERY, EACH, STEP = 2000, 300, 50
 ALL = 2**64 - 1
 
 
 class Control:
-    """What the library is told, and what it tells."""
+    """What the library is told, and what it tells: the four numbers of refuse.c."""
 
     def __init__(self):
         with open(BENCH.file("control", bytes(32)), "r+b") as file:
-            self.words = mmap.mmap(file.fileno(), 32)
+            self.words = memoryview(mmap.mmap(file.fileno(), 32)).cast("Q")
 
     def refuse(self, first, last):
-        struct.pack_into("4Q", self.words, 0, 0, first, last, 0)
+        self.words[0], self.words[1], self.words[2], self.words[3] = 0, first, last, 0
 
     def go_on(self):
-        struct.pack_into("2Q", self.words, 8, 0, 0)
+        self.words[1] = 0
 
     def refuse_all(self):
-        struct.pack_into("2Q", self.words, 8, 1, ALL)
+        self.words[2], self.words[1] = ALL, 1
 
-    @property
-    def requests(self):
-        return struct.unpack_from("Q", self.words, 0)[0]
-
-    @property
-    def refused(self):
-        return struct.unpack_from("Q", self.words, 24)[0]
+    requests = property(lambda self: self.words[0])
+    refused = property(lambda self: self.words[3])
 
 
 CONTROL = Control()
@@ -67,8 +62,8 @@ def turns():
 
 
 def in_turn(words, want, judge):
-    """Refuses each request of the program in turn, alone and with all after it. The answer is how many there are, and how often
-    which fault was told where one was refused alone."""
+    """Refuses each request of the program in turn, alone and with all after it. Tells how many there are, and how often which fault was told
+    where one was refused alone."""
     CONTROL.refuse(0, 0)
     got = run(words)
     assert got == (0, want, b""), got
@@ -85,102 +80,35 @@ def in_turn(words, want, judge):
         got = run(words)
         assert got == (0, want, b"") or judge(got) not in (None, "refused 8"), f"from request {request} on: {got}"
     seen["whole"] -= 1
-    return total, seen
+    return f"{total} requests: {', '.join(f'{count} {kind}' for kind, count in sorted(seen.items()) if count)}"
 
 
-def figures(total, seen):
-    told = ", ".join(f"{count} {kind}" for kind, count in sorted(seen.items()) if count)
-    return f"{total} requests: {told}"
+def every_request_is_counted():
+    """No program asks for memory by another call than those that the library counts."""
+    symbols = subprocess.run(["nm", "-D", "--undefined-only", UPSD, UPSC, UPSRW, UPSCMD], capture_output=True, text=True, check=True).stdout
+    calls = set(re.findall(r"\w*(?:alloc|memalign|map|brk)\w*", symbols))
+    assert calls == {"malloc", "realloc"}, calls
 
 
-# Replays.
-
-USERS = b'# users\n[admin]\npassword = "s3 cret"\nactions = SET\ninstcmds = test.start\nupsmon primary\n[mon]\npassword = pw\nupsmon secondary\n'
-VARS = b'VARDESC a "the first"\n\nCMDDESC test.start ""\nVARDESC b "the \\"second\\""\n'
-UPSES = b"# two\n[su]\ndesc = \"Room 1\"\nsocket = /run/nut/su\n[bay]\n"
-FILES = {"--ups": UPSES, "--users": USERS, "--vars": VARS}
-
-
-def server(options):
-    users = {b"admin": User(b"s3 cret", ["SET"], [b"test.start"], ["primary"]), b"mon": User(b"pw", upsmon=["secondary"])}
-    texts = {(b"VARDESC", b"a"): b"the first", (b"CMDDESC", b"test.start"): b"", (b"VARDESC", b"b"): b'the "second"'}
-    upses = [Ups(b"su", b"Room 1"), Ups(b"bay")] if "--ups" in options else [Ups(b"su")]
-    return Server(upses, users if "--users" in options else {}, texts if "--vars" in options else {})
-
-
-def judge_replay(script, options):
-    """A fault that ends the program, with nothing printed; or an event refused by 8, and then all that follows from it."""
+def replay_in_turn(script, files):
+    """A fault ends the program, with nothing printed; or an event is refused by 8, and then all that follows from it is printed."""
 
     def judge(got):
         if got == (1, b"", b"upsd: no memory\n"):
             return "no memory"
         status, told, faults = got
-        if (status, faults) != (0, b""):
+        said = re.findall(rb"^line (\d+): refused 8$", told, re.MULTILINE)
+        if (status, faults, len(said)) != (0, b"", 1):
             return None
-        said = [line for line in told.split(b"\n") if line.startswith(b"line ") and line.endswith(b": refused 8")]
-        for place in range(4 if len(said) == 1 else 0):
-            for after in range(8):
-                event = (int(said[0].split(b" ")[1][:-1]), place)
-                if Replay(server(options), event, after).output(script) == told:
-                    return "refused 8"
-        return None
+        events = ((int(said[0]), place) for place in range(4))
+        is_so = any(Replay(Server(**files), event, after).output(script) == told for event in events for after in range(8))
+        return "refused 8" if is_so else None
 
-    return judge
-
-
-def replays(name, script, *options):
-    words = [UPSD, "replay", "script"]
-    for option in options:
-        words += [option, BENCH.file(option[2:], FILES[option])]
-    BENCH.file("script", script)
-    want = Replay(server(options), None).output(script)
-    judge = judge_replay(script, options)
-    BENCH.case(f"replay_{name}", lambda: figures(*in_turn(words, want, judge)))
-
-
-SOME = ['SETINFO a "1"', 'SETINFO b "2"', "SETFLAGS a RW", "ADDENUM a 1", 'ADDENUM a "2"', "ADDRANGE b 0 9", "ADDCMD test.start", "SETAUX b 8"]
-PIECES = ["driver-part su SETINFO x 1", "driver-hex su 0A" + b'SETINFO y "2"\nDELINFO x\nADDENUM y 3\nADDCMD c\nSETINFO a 5\n'.hex()]
-LISTINGS = ["UPS", "VAR su", "RW su", "CMD su", "ENUM su a", "RANGE su b", "CLIENT su"]
-KEPT = ["open 192.0.2.1", "client 1 LIST VAR su", "took 1 4", "driver su SETINFO a 3", "driver su DELINFO b", "took 1 all"]
-AGAIN = ["client 1 LIST VAR su", "took 1 all", "driver-took su all"]
-
-
-def replay_cases():
-    replays("of_nothing", b"")
-    replays("of_files", b"", "--ups", "--users", "--vars")
-    replays("of_one_listing", lines(ready(told=SOME[:2]), "open 192.0.2.1", "client 1 LIST VAR su", "took 1 all"))
-    replays("of_a_driver_in_pieces", lines(ready(told=SOME), PIECES, KEPT[:2], AGAIN, "down su", ready(told=SOME[:3]), AGAIN))
-    asks = [f"client 1 LIST {kind}" for kind in LISTINGS]
-    replays("of_every_listing", lines(ready(told=SOME), "open 192.0.2.1", asks, "took 1 all"), "--ups", "--vars")
-    in_one = "client-hex 1 " + "".join(f"LIST {kind}\n" for kind in LISTINGS).encode().hex()
-    replays("of_listings_in_one_piece", lines(ready(told=SOME), "open 192.0.2.1", in_one, "took 1 all"), "--vars")
-    replays("of_a_listing_that_waits", lines(ready(told=SOME), KEPT, AGAIN))
-    orders = ["USERNAME admin", 'PASSWORD "s3 cret"', "SET VAR su a 2", "INSTCMD su test.start", "LOGIN su", "FSD su", "LIST CLIENT su"]
-    gives = [f"client 2 {order}" for order in orders] + ["took 2 all", "open 192.0.2.3", "client 3 GET DESC su a", "close 1", "took 3 all"]
-    replays("of_orders", lines(ready(told=SOME), "open 192.0.2.1", "open 192.0.2.2", gives, "tick 9", "driver-took su all"), *FILES)
-    many = [f'SETINFO v{number:03} "{number}"' for number in range(250)]
-    replays("of_many_variables", lines(ready(told=many), KEPT[:3], [f"driver su {line}" for line in many[:100]], "took 1 all", AGAIN))
+    words = [UPSD, "replay", BENCH.file("script", script), *BENCH.options(files)]
+    return in_turn(words, Replay(Server(**files)).output(script), judge)
 
 
 # Clients.
-
-REPLIES = {
-    b"LIST VAR su": b'BEGIN LIST VAR su\nVAR su battery.charge "100"\nVAR su ups.status "OL"\nEND LIST VAR su\n',
-    b"LIST RW su": b'BEGIN LIST RW su\nRW su ups.delay "30"\nEND LIST RW su\n',
-    b"LIST CMD su": b"BEGIN LIST CMD su\nCMD su load.off\nCMD su load.on\nEND LIST CMD su\n",
-    b"LIST UPS": b'BEGIN LIST UPS\nUPS su "Rack 1"\nEND LIST UPS\n',
-    b"LIST CLIENT su": b"BEGIN LIST CLIENT su\nCLIENT su 192.0.2.1\nEND LIST CLIENT su\n",
-    b"GET VAR su ups.status": b'VAR su ups.status "OL"\n',
-}
-
-
-class Asked(socketserver.StreamRequestHandler):
-    """A server that answers."""
-
-    def handle(self):
-        for line in self.rfile:
-            self.wfile.write(REPLIES.get(line.rstrip(b"\n"), b"OK\n"))
-
 
 def client_in_turn(program, want, *words):
     """Each request of the client refused in turn: it prints all, or tells a fault and prints nothing."""
@@ -192,29 +120,22 @@ def client_in_turn(program, want, *words):
             return "ended by the C library's look-up of a name"  # glibc 2.36: a null pointer, an assertion
         return next((fault for fault in faults if got == (1, b"", f"{os.path.basename(program)}: {fault}\n".encode())), None)
 
-    return figures(*in_turn([program, *words], want, judge))
+    return in_turn([program, *words], want, judge)
 
 
 def client_cases():
-    with socketserver.ThreadingTCPServer(("127.0.0.1", 0), Asked) as answering:
-        answering.daemon_threads = True
-        threading.Thread(target=answering.serve_forever, daemon=True).start()
-        at = f"127.0.0.1:{answering.server_address[1]}"
+    BENCH.file("users", FILES["users"])
+    with served(FOLDER, UPSD, b'SETINFO a "1"\nSETFLAGS a RW\nSETINFO ups.status "OL"\nADDCMD test.start\n') as (server, _, good):
+        assert good.ask(b"USERNAME mon\nPASSWORD pw\nLOGIN su\n") == b"OK\n" * 3
+        at = f"127.0.0.1:{server.port}"
         su, user = f"su@{at}", ("-u", "admin", "-p", "s3 cret")
-        variables = b"battery.charge: 100\nups.status: OL\n"
-        for name, *case in [
-                ("upsc_variables", UPSC, variables, su),
-                ("upsc_variables_of_a_host_by_name", UPSC, variables, su.replace("127.0.0.1", "localhost")),
-                ("upsc_variable", UPSC, b"OL\n", su, "ups.status"),
-                ("upsc_names", UPSC, b"su\n", "-l", at),
-                ("upsc_descriptions", UPSC, b"su: Rack 1\n", "-L", at),
-                ("upsc_clients", UPSC, b"192.0.2.1\n", "-c", su),
-                ("upsrw_variables", UPSRW, b"ups.delay=30\n", su),
-                ("upsrw_sets", UPSRW, b"OK\n", "-s", "ups.delay=30", *user, su),
-                ("upscmd_commands", UPSCMD, b"load.off\nload.on\n", "-l", su),
-                ("upscmd_starts", UPSCMD, b"OK\n", *user, su, "load.off")]:
-            BENCH.case(name, client_in_turn, *case)
-        answering.shutdown()
+        for name, program, want, *words in [
+                ("variables", UPSC, b"a: 1\nups.status: OL\n", su), ("variable", UPSC, b"OL\n", su, "ups.status"),
+                ("variables of a host by name", UPSC, b"a: 1\nups.status: OL\n", su.replace("127.0.0.1", "localhost")),
+                ("names", UPSC, b"su\n", "-l", at), ("descriptions", UPSC, b"su: Rack 1\n", "-L", at), ("clients", UPSC, b"127.0.0.1\n", "-c", su),
+                ("variables", UPSRW, b"a=1\n", su), ("sets", UPSRW, b"OK\n", "-s", "a=1", *user, su),
+                ("commands", UPSCMD, b"test.start\n", "-l", su), ("starts", UPSCMD, b"OK\n", *user, su, "test.start")]:  # fmt: skip
+            BENCH.case(f"{os.path.basename(program)}: {name}", client_in_turn, program, want, *words)
 
 
 # The server that serves.
@@ -228,7 +149,7 @@ SERVED = b'VAR su ups.status "OL"\n'
 def serving(told):
     """The built server, with the driver of su and a client that is there before memory is refused."""
     CONTROL.refuse(0, 0)
-    BENCH.file("users", USERS)
+    BENCH.file("users", FILES["users"])
     with served(FOLDER, UPSD, told, env=REFUSING) as ends:
         assert CONTROL.requests > 0, "no request was counted"
         yield ends
@@ -236,11 +157,10 @@ def serving(told):
 
 def a_listing_that_began_asks_for_no_memory():
     """From the first byte that a client has taken of it on, every request is refused: the listing comes whole."""
-    names = [b"%064d" % number for number in range(1, MANY)]
     value = b'"' + b'\\"' * 512 + b'"'
-    items = [b"VAR su %b %b\n" % (name, value) for name in names] + [SERVED]
-    want = b"BEGIN LIST VAR su\n" + b"".join(items) + b"END LIST VAR su\n"
-    with serving(b"".join(b"SETINFO %b %b\n" % (name, value) for name in names) + STATUS) as (server, _, _):
+    items = [b"su %064d %b\n" % (number, value) for number in range(1, MANY)]
+    want = b"BEGIN LIST VAR su\n" + b"".join(b"VAR " + item for item in items) + SERVED + b"END LIST VAR su\n"
+    with serving(b"".join(item.replace(b"su", b"SETINFO", 1) for item in items) + STATUS) as (server, _, _):
         client = server.client(buffer=4096)
         client.send(b"LIST VAR su\n")
         client.kept = client.wire.recv(1)
@@ -274,50 +194,32 @@ def what_is_no_listing_asks_for_no_memory():
         return "over 1,000 lines, no request"
 
 
-def a_refused_listing_is_answered_later():
-    """LIST UPS alone asks for memory. The line stays held, and what was sent behind it; both are answered at the next
-    bytes once there is memory."""
-    with serving(STATUS) as (_, _, client):
+def a_server_without_memory_goes_on():
+    """LIST UPS stays held, and what was sent after it; both are answered at the next bytes once there is memory. A client that comes is
+    closed without a word. A driver is lost; it is connected to again, and its data are right once it has told them."""
+    with serving(STATUS) as (server, driver, client):
         CONTROL.refuse_all()
         client.send(b"NETVER\nLIST UPS\nVER\n")
         assert client.line() == b"1.3\n" and client.is_silent()
-        client.send(b"\n")
-        assert client.is_silent() and CONTROL.refused >= 2, CONTROL.refused
-        CONTROL.go_on()
-        want = b'BEGIN LIST UPS\nUPS su "Rack 1"\nEND LIST UPS\nNetwork UPS Tools upsd, profile 1\n1.3\n'
-        got = client.ask(b"NETVER\n", 5)
-        assert got == want, got
-
-
-def a_client_without_memory_is_turned_away():
-    """A client that comes while memory is refused is closed without a word; the others go on, and later ones come in."""
-    with serving(STATUS) as (server, _, client):
-        CONTROL.refuse_all()
-        assert server.client().up_to_end() == b""
-        assert client.ask(b"NETVER\n") == b"1.3\n" and CONTROL.refused > 0
-        CONTROL.go_on()
-        assert server.client().ask(b"GET VAR su ups.status\n") == SERVED
-
-
-def a_driver_without_memory_is_lost():
-    """It is connected to again, and its data are right once it has told them."""
-    with serving(STATUS) as (server, driver, client):
-        CONTROL.refuse_all()
+        other = server.client()
+        assert other.up_to_end() == b""
         driver.send(b"SETINFO a 1\nSETINFO b 2\n")
-        assert driver.line() == b""
-        assert client.ask(b"GET VAR su a\n") == b"ERR DRIVER-NOT-CONNECTED\n"
+        assert driver.line() == b"" and CONTROL.refused >= 3, CONTROL.refused
         CONTROL.go_on()
+        got = client.ask(b"NETVER\n", 5)
+        assert got == b'BEGIN LIST UPS\nUPS su "Rack 1"\nEND LIST UPS\nNetwork UPS Tools upsd, profile 1\n1.3\n', got
+        assert client.ask(b"GET VAR su a\n") == b"ERR DRIVER-NOT-CONNECTED\n"
         driver.lose()
         driver.accept(b"SETINFO a 1\n" + STATUS)
-        assert comes(lambda: client.ask(b"GET VAR su a\n") == b'VAR su a "1"\n')
+        again = server.client()
+        assert comes(lambda: again.ask(b"GET VAR su a\n") == b'VAR su a "1"\n')
         come = "upsd: su: driver connected\nupsd: su: data good\n"
         assert server.journal() == come + "upsd: su: driver lost\n" + come
 
 
 def starting():
     """Each request before it listens: it tells that there is no memory, or it listens."""
-    words = [UPSD, "serve", "--ups", BENCH.file("two.conf", b"[su]\ndesc = x\n[bay]\n"), "--users", BENCH.file("users", USERS)]
-    words += ["--vars", BENCH.file("vars", VARS), "--listen", "127.0.0.1:0"]
+    words = [UPSD, "serve", *BENCH.options(FILES), "--listen", "127.0.0.1:0"]
     request, ended = 0, 0
     while True:
         request += 1
@@ -348,9 +250,11 @@ def an_insert_asks_for_the_nodes_that_it_counts():
     return f"{asked} requests for {made} nodes"
 
 
-replay_cases()
+BENCH.case("every request is counted", every_request_is_counted)
+for title, parts, files in CASES:
+    BENCH.case(f"replay of {title}", replay_in_turn, written(parts["script"]), files)
 client_cases()
 for case in (an_insert_asks_for_the_nodes_that_it_counts, starting, a_listing_that_began_asks_for_no_memory, what_is_no_listing_asks_for_no_memory,
-             a_refused_listing_is_answered_later, a_client_without_memory_is_turned_away, a_driver_without_memory_is_lost):  # fmt: skip
+             a_server_without_memory_goes_on):  # fmt: skip
     BENCH.case(case.__name__, case)
 BENCH.end()

@@ -1,11 +1,14 @@
 """Runs of a built program, most of them of `upsd replay`, and the line that is printed a case."""
 import os
+import re
 import subprocess
 import sys
 import tempfile
 import time
 
 from plain_server import Replay, Server
+
+HERE = os.path.dirname(os.path.abspath(__file__))
 
 
 class Bench:
@@ -22,38 +25,31 @@ class Bench:
         os.chmod(path, 0o600)
         return path
 
-    def run(self, script, *options):
-        """What a replay of this script ends with: its status, output, errors, and its greatest resident kilobytes."""
-        out, err = self.file("out", b""), self.file("err", b"")
-        words = [self.program, "replay", *options, self.file("script", script)]
-        with open(out, "wb") as told, open(err, "wb") as faults:
-            child = subprocess.Popen(words, cwd=self.folder.name, stdout=told, stderr=faults)
-            _, status, used = os.wait4(child.pid, 0)
-            child.returncode = os.waitstatus_to_exitcode(status)
-        with open(out, "rb") as told, open(err, "rb") as faults:
-            return child.returncode, told.read(), faults.read(), used.ru_maxrss
+    def options(self, files):
+        """The words that name these files, which are written."""
+        return [f"--{kind}={self.file(kind, text)}" for kind, text in files.items()]
 
-    def prints(self, script, want, *options):
-        """The replay is done, and prints this. The answer is its greatest resident kilobytes."""
-        status, told, faults, kilobytes = self.run(script, *options)
+    def replay(self, script, files):
+        return self.ends("replay", *self.options(files), self.file("script", script))
+
+    def prints(self, script, want, **files):
+        """The replay over these files is done, and prints this."""
+        status, told, faults = self.replay(script, files)
         assert (status, faults) == (0, b""), (status, faults)
         assert told == want, difference(told, want)
-        return kilobytes
 
-    def agrees(self, script, server=None, options=()):
+    def agrees(self, script, **files):
         """The replay is done, and prints what the plain server does."""
-        want = Replay(server or Server(), None).output(script)
-        self.prints(script, want, *options)
-        return want
+        self.prints(script, Replay(Server(**files)).output(script), **files)
 
-    def faults(self, script, fault, *options):
-        status, told, faults, _ = self.run(script, *options)
+    def faults(self, script, fault, **files):
+        status, told, faults = self.replay(script, files)
         assert (status, told, faults) == (1, b"", fault), (status, told[:200], faults)
 
     def ends(self, *words, program=None, **more):
         """How the program, given these words in the folder, ends: its status, output and errors."""
         ended = subprocess.run([program or self.program, *words], cwd=self.folder.name, stdin=subprocess.DEVNULL,
-                               capture_output=True, timeout=60, check=False, **more)  # fmt: skip
+                               capture_output=True, timeout=300, check=False, **more)  # fmt: skip
         return ended.returncode, ended.stdout, ended.stderr
 
     def refuses_words(self, *words, program=None):
@@ -83,6 +79,46 @@ class Bench:
         sys.exit(1 if self.failed else 0)
 
 
+def text_of(path):
+    with open(os.path.join(HERE, path), encoding="utf-8") as file:
+        return file.read()
+
+
+def sections(path):
+    """The lines below each title of a file, `# TITLE`."""
+    found = (section.split("\n") for section in re.split("^# ", text_of(path), flags=re.MULTILINE)[1:])
+    return {title: [row for row in rows if row] for title, *rows in found}
+
+
+def plain(text):
+    """The text with what stands for other bytes: `<TAB>`, `<CR>`, `<N>` for N bytes x, and `<TEXT*N>` for N times the text."""
+    text = re.sub(r"<([^<>]+)\*(\d+)>", lambda found: found[1] * int(found[2]), text)
+    return re.sub(r"<(\d+)>", lambda number: "x" * int(number[1]), text.replace("<TAB>", "\t").replace("<CR>", "\r"))
+
+
+def written(text):
+    """The lines that stand there. `N* LINE` is the line N times, `$` in it an LF, and <n> its number from 1, <#> in as many digits as N
+    has, <x> the number below it in hexadecimal."""
+    every = []
+    for line in text.splitlines():
+        count, star, repeated = line.partition("* ")
+        for number in range(1, int(count) + 1) if star and count.isdigit() else ():
+            marks = {"<n>": str(number), "<#>": str(number).zfill(len(count)), "<x>": f"{number - 1:02X}", "$": "\n"}
+            every.append(plain(re.sub("|".join(map(re.escape, marks)), lambda mark: marks[mark[0]], repeated)))
+        every += [] if star and count.isdigit() else [plain(line)]
+    return lines(every)
+
+
+def cases(path):
+    """The title of each case of a file, what it has, and its files. A case begins with a line `== TITLE`. After lines `-- ups`, `-- users`
+    and `-- vars` stand the files, after `-- script` the script, and after `-- output` what is printed, whose last line is blank where a case
+    follows, or after `-- fault` the fault."""
+    for case in re.split("^== ", text_of(path), flags=re.MULTILINE)[1:]:
+        title, text = case.split("\n", 1)
+        parts = dict(re.findall(r"^-- (\w+)\n(.*?)(?=^-- |\Z)", text, re.MULTILINE | re.DOTALL))
+        yield title, parts, {kind: written(parts[kind]) for kind in ("ups", "users", "vars") if kind in parts}
+
+
 def ends_in_full(*words):
     """How a program ends whose output is full: its status and errors."""
     with open("/dev/full", "wb") as full:
@@ -107,25 +143,9 @@ def difference(told, want):
     return f"{len(told)} bytes, not {len(want)}; at byte {at}: {told[at - 40:at + 60]!r}, not {want[at - 40:at + 60]!r}"
 
 
-def lines(*parts):
-    """The lines of a script: each part is a line, or a list of lines."""
-    every = []
-    for part in parts:
-        every += [part] if isinstance(part, (bytes, str)) else part
-    return b"".join((line.encode() if isinstance(line, str) else line) + b"\n" for line in every)
-
-
-def ready(ups="su", told=()):
-    """The lines with which a driver comes, tells these lines, and that all is told and right."""
-    return [f"up {ups}", *(f"driver {ups} {line}" for line in [*told, "DUMPDONE", "DATAOK"])]
-
-
-def hexed(verb, who, piece):
-    return f"{verb}-hex {who} {piece.hex()}"
+def lines(every):
+    return "".join(f"{line}\n" for line in every).encode()
 
 
 def sent(who, text):
     return Replay.part(who.encode(), text)
-
-
-VERSION = b"Network UPS Tools upsd, profile 1\n"

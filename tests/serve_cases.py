@@ -4,11 +4,9 @@ import contextlib
 import multiprocessing
 import os
 import select
-import shutil
 import socket
 import subprocess
 import sys
-import threading
 import time
 import uuid
 
@@ -145,22 +143,6 @@ def printed(*words):
     return got.stdout + got.stderr
 
 
-@case
-def clients_print_what_the_server_holds():
-    told = TWO + b'SETINFO device.model "Smart \\"X\\" \\\\ 5"\nSETFLAGS battery.charge RW\nADDCMD test.battery.start\nADDCMD load.off\n'
-    with served(told, "--vars", file("vars", 'VARDESC ups.status "UPS status"\n')) as (server, _, good):
-        assert good.ask(b"GET UPSDESC su\nGET DESC su ups.status\n") == b'UPSDESC su "Rack 1"\nDESC su ups.status "UPS status"\n'
-        at = f"127.0.0.1:{server.port}"
-        for words, want in [
-                ([UPSC, f"su@{at}"], b'battery.charge: 100\ndevice.model: Smart "X" \\ 5\nups.status: OL\n'),
-                ([UPSC, f"su@{at}", "device.model"], b'Smart "X" \\ 5\n'),
-                ([UPSRW, f"su@{at}"], b"battery.charge=100\n"),
-                ([UPSCMD, "-l", f"su@{at}"], b"load.off\ntest.battery.start\n"),
-                ([UPSC, "-l", at], b"su\n"),
-                ([UPSC, "-L", at], b"su: Rack 1\n")]:
-            assert printed(*words) == want, words
-
-
 ORDERS = TWO + b'SETINFO ups.delay "20"\nSETFLAGS ups.delay RW\nADDRANGE ups.delay 0 600\nADDCMD test.battery.start\n'
 
 
@@ -233,15 +215,6 @@ def clients_follow_an_order_to_its_end():
             assert printed(*progress) == b"PENDING\n"
             driver.send(b"TRACKING %s %d\n" % (known, number))
             assert comes(lambda: printed(*progress) == ended)
-
-
-@case
-def an_order_without_an_id_is_not_given():
-    with served(ORDERS) as (server, driver, good):
-        words = ("--track", "-u", "admin", "-p", "s3 cret", "-s", "ups.delay=30", f"su@127.0.0.1:{server.port}")
-        assert printed(UPSRW, *words) == b"upsrw: server answered ERR SET-FAILED\n"
-        assert good.ask(ADMIN + b"INSTCMD su test.battery.start\n") == b"OK\n" * 3
-        assert driver.line() == b"INSTCMD test.battery.start\n"
 
 
 @case
@@ -330,41 +303,29 @@ def a_lost_driver_comes_back():
 
 @case
 def drivers_that_are_not_there_are_tried_again():
+    """And why they can't be connected to is told once a reason."""
     absent, plain, refusing = path("absent.sock"), file("plain", ""), Driver(path("refusing.sock"))
     refusing.listener.close()
     ups = file("three.conf", f"[a]\nsocket = {absent}\n[b]\nsocket = {plain}\n[c]\nsocket = {refusing.path}\n")
     asks = b"GET VAR a x\nGET VAR b x\nGET VAR c x\n"
+    told = ["upsd: a: " + NO_FILE, "upsd: b: " + REFUSED, "upsd: c: " + REFUSED]
     with begun(ups) as server:
         good = server.client()
         assert good.ask(asks) == AWAY * 3
-        assert comes(lambda: sorted(server.journal().splitlines(True)) == ["upsd: a: " + NO_FILE, "upsd: b: " + REFUSED, "upsd: c: " + REFUSED])
+        assert comes(lambda: sorted(server.journal().splitlines(True)) == told), server.journal()
+        time.sleep(1.2)
+        assert sorted(server.journal().splitlines(True)) == told, server.journal()
         os.unlink(plain)
         os.unlink(refusing.path)
         drivers = [Driver(there).accept(b'SETINFO x "1"\n') for there in (absent, plain, refusing.path)]
         assert comes(lambda: good.ask(asks).count(b'"1"') == 3)
         told = [f"upsd: {name}: {news}" for name in "abc" for news in ["data good", "driver connected"]]
-        lines = [line for line in sorted(server.journal().splitlines()) if "cannot connect" not in line]
-        assert lines == told, server.journal()
+        assert [line for line in sorted(server.journal().splitlines()) if "cannot connect" not in line] == told, server.journal()
+        drivers[0].lose()
+        drivers[0].listener.close()  # its file stays, and nobody listens
+        assert comes(lambda: server.journal().endswith("upsd: a: driver lost\nupsd: a: " + REFUSED)), server.journal()
         for driver in drivers:
             driver.close()
-
-
-@case
-def why_a_driver_cannot_be_connected_to_is_told_once_a_reason():
-    with begun(file("late.conf", f"[su]\nsocket = {path('late.sock')}\n")) as server:
-        assert comes(lambda: server.journal() == "upsd: su: " + NO_FILE), server.journal()
-        time.sleep(1.2)
-        assert server.journal() == "upsd: su: " + NO_FILE, server.journal()
-        with socket.socket(socket.AF_UNIX) as bound:
-            bound.bind(path("late.sock"))
-            told = f"upsd: su: {NO_FILE}upsd: su: {REFUSED}"
-            assert comes(lambda: server.journal() == told), server.journal()
-            time.sleep(1.2)
-            bound.listen(1)
-            assert comes(lambda: server.journal() == told + "upsd: su: driver connected\n"), server.journal()
-        # The driver is gone, and nobody listens at its path.
-        told += "upsd: su: driver connected\nupsd: su: driver lost\nupsd: su: " + REFUSED
-        assert comes(lambda: server.journal() == told), server.journal()
 
 
 @case
@@ -414,17 +375,11 @@ def the_sixty_fifth_client_is_closed():
         assert all(other.ask(GET) == STATUS for other in [good, *others])
         others.pop().close()
 
-        def is_served():
-            late = server.client()
-            others.append(late)
-            with contextlib.suppress(OSError):
-                return late.ask(GET) == STATUS
-            return False
-        assert comes(is_served)
+        assert comes(lambda: is_answered(server.client(), GET, STATUS))
         told = COME + "upsd: no room for a client\n"
         assert comes(lambda: server.journal() == told), server.journal()
-        for other in others:
-            other.close()
+        for client in server.clients[1:]:
+            client.close()
         told += "upsd: room for clients again: "
         assert comes(lambda: server.journal().startswith(told)), server.journal()
         count = server.journal()[len(told):]
@@ -480,43 +435,6 @@ def a_client_that_half_closes_gets_all():
             got = client.up_to_end()
             listed = many_listed(MANY, 256)
             assert got.startswith(listed) and got.endswith(listed + STATUS), len(got)
-
-
-def in_background(function):
-    thread = threading.Thread(target=function)
-    thread.start()
-    return thread
-
-
-def flood(client, text, seconds):
-    """Sends on, in the background, as long as the server takes it."""
-    def send():
-        end = time.monotonic() + seconds
-        with contextlib.suppress(OSError):
-            while time.monotonic() < end:
-                client.wire.send(text)
-    return in_background(send)
-
-
-def drain(client):
-    """Reads and drops, in the background, up to the end or a pause."""
-    def read():
-        client.wire.settimeout(1)
-        with contextlib.suppress(OSError):
-            while client.wire.recv(1 << 20):
-                pass
-    return in_background(read)
-
-
-@case
-def too_long_is_received_under_a_flood():
-    with served() as (server, _, good):
-        client = server.client()
-        thread = flood(client, b"x" * 65536, 0.5)
-        got = client.up_to_end()
-        assert got == b"ERR TOO-LONG\n", got
-        assert good.ask(GET) == STATUS
-        thread.join()
 
 
 @case
@@ -581,26 +499,13 @@ def a_server_that_is_asked_nothing_does_nothing():
 
 
 @case
-def clients_that_are_gone_before_their_answers_end_nothing():
-    with served(many(MANY, 256)) as (server, _, good):
-        for i in range(200):
-            client = server.client()
-            client.send(b"LIST VAR su\n" * 3)
-            if i % 2:
-                client.wire.recv(1000)
-            client.reset()
-        assert good.ask(GET) == STATUS
-        assert comes(lambda: server.descriptors() < 12)
-
-
-@case
 def more_clients_than_descriptors_end_nothing():
     with begun(file("alone.conf", "[su]\n"), files=20) as server:
         clients = [server.client() for _ in range(40)]
         for client in clients:
             client.wire.settimeout(0.2)
-            client.send(b"GET UPSDESC su\n")
-        answered = [client for client in clients if is_answered(client)]
+        asked = b"GET UPSDESC su\n", b'UPSDESC su "Unavailable"\n'
+        answered = [client for client in clients if is_answered(client, *asked)]
         assert 5 < len(answered) < 20, len(answered)
         before = server.seconds_of_work()
         time.sleep(1.5)
@@ -608,64 +513,19 @@ def more_clients_than_descriptors_end_nothing():
         for client in answered:
             client.close()
         waiting = [client for client in clients if client not in answered]
-        assert comes(lambda: any(is_answered(client) for client in waiting))
+        assert comes(lambda: any(is_answered(client, *asked) for client in waiting))
 
 
-def is_answered(client):
+def is_answered(client, line, answer):
     with contextlib.suppress(OSError):
-        return client.line() == b'UPSDESC su "Unavailable"\n'
+        return client.ask(line) == answer
     return False
 
 
-@case
-def drivers_and_ticks_are_not_late_in_a_flood():
-    with served(TWO, "--maxage", "6") as (server, driver, good):
-        floods = [server.client() for _ in range(8)]
-        threads = [flood(client, GET * 500, 3.5) for client in floods]
-        readers = [drain(client) for client in floods]
-        # A whole Unix socket of lines, written without waiting.
-        driver.wire.setblocking(False)
-        for i in range(270):
-            driver.wire.send(b'SETINFO battery.charge "%d"\n' % i)
-        assert comes(lambda: good.ask(b"GET VAR su battery.charge\n") == b'VAR su battery.charge "269"\n', 2)
-        assert worst_wait(good, 100) < 0.5
-        driver.wire.settimeout(5)
-        assert driver.line() == b"PING\n"
-        for thread in threads + readers:
-            thread.join()
-
-
-def report(driver, seconds):
-    """The driver tells its moment, in the background, a thousand times a second."""
-    begin = time.monotonic()
-
-    def send():
-        while time.monotonic() < begin + seconds:
-            driver.send(b'SETINFO battery.charge "%d"\n' % int(1000 * (time.monotonic() - begin)))
-            time.sleep(0.001)
-    return begin, in_background(send)
-
-
-@case
-def a_driver_with_orders_at_each_moment_is_heard():
-    told = TWO + b'SETINFO ups.delay "20"\nSETFLAGS ups.delay RW\nADDRANGE ups.delay 0 600\n'
-    with served(told, "--maxage", "3") as (server, driver, good):
-        clients = [server.client() for _ in range(2)]
-        assert all(client.ask(ADMIN) == b"OK\n" * 2 for client in clients)
-        orders = drain(driver)
-        begin, reports = report(driver, 5.0)
-        threads = [flood(client, b"SET VAR su ups.delay 30\n" * 200, 4.5) for client in clients]
-        readers = [drain(client) for client in clients]
-        assert comes(lambda: good.ask(b"GET VAR su battery.charge\n") != b'VAR su battery.charge "100"\n')
-        worst = 0.0
-        while time.monotonic() < begin + 4.5:
-            line = good.ask(b"GET VAR su battery.charge\n")
-            assert line.startswith(b"VAR"), line
-            worst = max(worst, time.monotonic() - begin - int(line.split(b'"')[1]) / 1000)
-            time.sleep(0.02)
-        for thread in [*threads, *readers, reports, orders]:
-            thread.join()
-        assert worst < 1.0, f"what the driver told was {worst:.3f} s old"
+def in_background(function):
+    work = multiprocessing.Process(target=function)
+    work.start()
+    return work
 
 
 def ask_on(clients, seconds):
@@ -681,9 +541,7 @@ def ask_on(clients, seconds):
             for number, _ in waiting.poll(1):
                 assert wires[number].recv(4096) == STATUS
                 wires[number].send(GET)
-    process = multiprocessing.Process(target=run)
-    process.start()
-    return process
+    return in_background(run)
 
 
 def report_on(driver, seconds):
@@ -693,9 +551,7 @@ def report_on(driver, seconds):
         for number in range(seconds * 1000):
             driver.send(b'SETINFO battery.charge "%d"\n' % number)
             time.sleep(max(0.0, begin + number / 1000 - time.monotonic()))
-    process = multiprocessing.Process(target=run)
-    process.start()
-    return process
+    return in_background(run)
 
 
 @case
@@ -725,18 +581,22 @@ def nobody_waits_long_beside_busy_clients_and_drivers():
 
 
 def traffic(server, driver, good):
-    """Something of all that comes: listings, orders, faults, newcomers, floods of a driver."""
+    """Something of all that comes: listings, faults, newcomers, who is gone before the answer, floods of a driver and of a client."""
     for i in range(150):
         client = server.client()
         client.send(b"LIST VAR su\nGET VAR su nope\n\x00\n\"\nLOGOUT\n")
         client.up_to_end()
         client.close()
+        gone = server.client()
+        gone.send(b"LIST VAR su\n" * 30)
+        gone.wire.recv(1000)
+        gone.reset()
         driver.send(b"".join(b'SETINFO w%04d "%d"\nDELINFO w%04d\n' % (j, i, j) for j in range(40)))
         good.ask(GET * 20)
     for _ in range(10):
         client = server.client()
         client.send(b"x" * 200_000)
-        client.up_to_end()
+        assert client.up_to_end() == b"ERR TOO-LONG\n"
         client.close()
 
 
@@ -765,64 +625,6 @@ def it_starts_again_at_its_port_and_at_none_that_is_taken():
             driver.accept(TWO)
             late = again.client()
             assert comes(lambda: late.ask(GET) == STATUS)
-
-
-def alone(function):
-    """The case takes its network away, so it has one of its own (unshare), where no other program is."""
-    def run():
-        unshared = ["unshare", "-rn", "env", "NETWORK=its own"]
-        if os.environ.get("NETWORK") == "its own":
-            tool("ip", "link", "set", "lo", "up")
-            return function()
-        if not shutil.which("ss") or subprocess.run([*unshared, "ip", "link", "set", "lo", "up"], capture_output=True, check=False).returncode:
-            return "skipped: no network of its own can be made"
-        ended = subprocess.run([*unshared, sys.executable, *sys.argv[:5], function.__name__], capture_output=True, text=True, check=False)
-        assert ended.returncode == 0, ended.stdout + ended.stderr
-        return ended.stdout.partition(" s, ")[2].strip()  # whether a half was skipped
-    run.__name__ = function.__name__
-    return run
-
-
-def tool(*words):
-    return subprocess.run(words, capture_output=True, text=True, check=True).stdout
-
-
-def vanish(server, seconds):
-    """A client logs in, and its network is away for so many seconds. The answer is which timers run for it."""
-    client = server.client("127.0.0.2")
-    assert client.ask(MON + b"LOGIN su\n") == b"OK\n" * 3
-    time.sleep(0.3)  # until what the server sent is acknowledged
-    timers = tool("ss", "-tnoH", "state", "established", f"sport = :{server.port}", "dst 127.0.0.2")
-    tool("ip", "link", "set", "lo", "down")
-    time.sleep(seconds)
-    tool("ip", "link", "set", "lo", "up")
-    return timers
-
-
-def logins(server):
-    return printed(UPSC, "-c", f"su@127.0.0.1:{server.port}")
-
-
-@case
-@alone
-def a_client_that_vanished_is_logged_out_by_hand():
-    """As docs/OPERATING.md has it: without keepalive it stays."""
-    with served(env={**os.environ, "KEEPIDLE": "1"}) as (server, _, _):
-        assert "keepalive" not in vanish(server, 1)
-        assert logins(server) == b"127.0.0.2\n"
-        assert len(tool("ss", "-KH", f"sport = :{server.port}", "dst 127.0.0.2").splitlines()) == 1
-        assert comes(lambda: logins(server) == b""), logins(server)
-
-
-@case
-@alone
-def keepalive_logs_out_a_client_that_vanished():
-    """By Debian's libkeepalive0, as docs/OPERATING.md has it."""
-    if not os.path.exists("/usr/lib/libkeepalive.so"):
-        return "skipped: libkeepalive.so isn't there"
-    with served(env={**os.environ, "LD_PRELOAD": "libkeepalive.so", "KEEPIDLE": "1", "KEEPINTVL": "1", "KEEPCNT": "2"}) as (server, _, _):
-        assert "keepalive" in vanish(server, 6)
-        assert logins(server) == b""
 
 
 file("users", USERS)

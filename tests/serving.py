@@ -1,14 +1,19 @@
-"""The built server on real sockets, with its drivers and clients; for serve_cases.py and refused_memory.py."""
+"""Servers on real sockets, the built one or another, with their drivers and clients."""
+import array
 import contextlib
+import fcntl
 import os
+import random
 import resource
 import select
 import socket
 import struct
 import subprocess
 import tempfile
+import termios
 import time
 
+BUILT = {name: os.path.realpath(f"{os.path.dirname(__file__)}/../crates/{name}/out/{name}") for name in ("upsd", "upsc", "upsrw", "upscmd")}
 READY = b"DUMPDONE\nDATAOK\n"
 
 
@@ -20,6 +25,15 @@ def comes(holds, seconds=4.0):
             return False
         time.sleep(0.02)
     return True
+
+
+def taken(wire, want, patience):
+    """What comes, as long as it isn't what is wanted, and something comes in time."""
+    got = b""
+    with contextlib.suppress(ConnectionResetError):
+        while select.select([wire], [], [], 0 if got == want else patience)[0] and (piece := wire.recv(1 << 16)):
+            got += piece
+    return got
 
 
 class Driver:
@@ -45,6 +59,12 @@ class Driver:
 
     def send(self, text):
         self.wire.sendall(text)
+
+    def is_read(self):
+        """The server has read all that was sent."""
+        unread = array.array("i", [0])
+        fcntl.ioctl(self.wire, termios.TIOCOUTQ, unread)
+        return unread[0] == 0
 
     def line(self):
         return self.lines.readline()
@@ -91,12 +111,7 @@ class Client:
 
     def up_to_end(self):
         """All that is still to come. A connection that is reset is a fault."""
-        pieces = [self.kept]
-        while True:
-            piece = self.wire.recv(1 << 20)
-            if not piece:
-                return b"".join(pieces)
-            pieces.append(piece)
+        return b"".join([self.kept, *iter(lambda: self.wire.recv(1 << 20), b"")])
 
     def listing(self):
         lines = [self.line()]
@@ -157,6 +172,30 @@ class Server:
         self.process.stdout.close()
         for client in self.clients:
             client.close()
+
+
+class OtherServer(Server):
+    """Any server. In its words `{port}` is its port, and `{folder}` a folder with the files of ours and of NUT's."""
+
+    def __init__(self, words, folder, upses):
+        """Of each UPS the list has what its section says beside its driver, the socket dummy-ups-NAME in the folder."""
+        self.port = random.randrange(16_384, 32_768)  # below those that the system gives
+        for file, text in {
+                "upses.conf": "".join(f"[{ups}]\n{more}socket = {folder}/dummy-ups-{ups}\n" for ups, more in upses.items()),
+                "ups.conf": "".join(f"[{ups}]\n{more}driver = dummy-ups\nport = x\n" for ups, more in upses.items()),
+                "upsd.conf": f"LISTEN 127.0.0.1 {self.port}\nMAXAGE 3600\nMAXCONN 128\n"}.items():  # fmt: skip
+            with open(f"{folder}/{file}", "w", encoding="utf-8") as out:
+                out.write(text)
+        self.clients, self.errors = [], tempfile.TemporaryFile()
+        words = [word.format(folder=folder, port=self.port) for word in words]
+        paths = {f"NUT_{path}": folder for path in ("CONFPATH", "STATEPATH", "ALTPIDPATH")}
+        self.process = subprocess.Popen(words, stdout=subprocess.PIPE, stderr=self.errors, env={**os.environ, **paths})
+        assert comes(self.listens, 30), self.journal()
+
+    def listens(self):
+        with contextlib.suppress(OSError), socket.create_connection(("127.0.0.1", self.port)):
+            return True
+        return False
 
 
 @contextlib.contextmanager

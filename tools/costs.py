@@ -15,151 +15,98 @@ import pathlib
 import random
 import re
 import signal
-import socket
 import statistics
 import subprocess
 import sys
 import tempfile
-import threading
 import time
 
 TOP = pathlib.Path(__file__).resolve().parent.parent
+sys.path.insert(0, str(TOP / "tests"))
+sys.dont_write_bytecode = True
+
+from serving import Driver, OtherServer  # noqa: E402
+
 PAGE, TABLE, CHART = TOP / "docs/COSTS.md", TOP / "docs/costs.tsv", TOP / "docs/costs.svg"
-UPSD, NETBENCH = TOP / "crates/upsd/out/upsd", TOP / "crates/netbench/out/netbench"
-# Debian's /usr/sbin/upsd asks nut.conf whether it may start.
-NUT = "/lib/nut/upsd"
+UPSD, NETBENCH = f"{TOP}/crates/upsd/out/upsd", f"{TOP}/crates/netbench/out/netbench"
 ROUNDS, SEED = 3, 20261127
 SIZES = {"small": (100, 10), "large": (4096, 256)}
 CALLGRIND = ["valgrind", "--tool=callgrind", "--callgrind-out-file=/dev/null"]
+COMMANDS = {
+    "ours": [UPSD, "serve", "--ups", "{folder}/upses.conf", "--users", "{folder}/upsd.users", "--listen", "127.0.0.1:{port}", "--maxage", "3600"],
+    "nut": ["/lib/nut/upsd", "-F", "-u", "root"],
+}
 
 
-class Driver(threading.Thread):
-    """A driver of so many variables: it reports them in a shuffled order, and answers PING."""
-
-    def __init__(self, path, count, width):
-        super().__init__(daemon=True)
-        names = random.Random(SEED).sample(range(count), count)
-        self.reports = [b"".join(b'SETINFO v%04d "%s"\n' % (name, byte * width) for name in names) for byte in (b"x", b"y")]
-        self.count, self.server = count, None
-        self.listener = socket.socket(socket.AF_UNIX)
-        self.listener.bind(path)
-        self.listener.listen(1)
-
-    def run(self):
-        self.server = self.listener.accept()[0]
-        # NUT's server answers before all is reported, by the status WAIT. So the status comes last, and is waited for.
-        self.server.sendall(self.reports[0] + b'SETINFO ups.status "OL"\nDUMPDONE\nDATAOK\n')
-        with contextlib.suppress(ConnectionError):
-            while said := self.server.recv(1024):
-                if b"PING" in said:
-                    self.server.sendall(b"PONG\n")
-
-    def report(self, times):
-        """Reports all variables so many times, each time with another value."""
-        for number in range(times):
-            self.server.sendall(self.reports[(number + 1) % 2])
+def reports(count, width):
+    """All variables of a driver in a shuffled order, with one value and with another."""
+    names = random.Random(SEED).sample(range(count), count)
+    return [b"".join(b'SETINFO v%04d "%s"\n' % (name, byte * width) for name in names) for byte in (b"x", b"y")]
 
 
-class Server:
-    """Ours or NUT's, over drivers of these names and sizes, in a folder of its own."""
-
-    def __init__(self, kind, sizes, valgrind=()):
-        self.room = tempfile.TemporaryDirectory()
-        folder = self.room.name
-        self.drivers = {name: Driver(f"{folder}/dummy-ups-{name}", *size) for name, size in sizes.items()}
-        for driver in self.drivers.values():
-            driver.start()
-        with socket.create_server(("127.0.0.1", 0)) as free:
-            self.port = free.getsockname()[1]
-        sections = "".join(
-            f"[{name}]\n" + (f"socket = {folder}/dummy-ups-{name}\n" if kind == "ours" else "driver = dummy-ups\nport = x\n")
-            for name in sizes)  # fmt: skip
-        for file, text in (("ups.conf", sections), ("upsd.users", ""), ("upsd.conf", f"LISTEN 127.0.0.1 {self.port}\nMAXAGE 3600\nMAXCONN 128\n")):
-            pathlib.Path(folder, file).write_text(text, encoding="utf-8")
-        command = [UPSD, "serve", "--ups", f"{folder}/ups.conf", "--users", f"{folder}/upsd.users",
-                   "--listen", f"127.0.0.1:{self.port}", "--maxage", "3600"]  # fmt: skip
-        if kind == "nut":
-            command = [NUT, "-F", "-u", "root"]
-        os.chmod(folder, 0o700)
-        self.process = subprocess.Popen(
-            [*valgrind, *command], env={**os.environ, "NUT_CONFPATH": folder, "NUT_STATEPATH": folder, "NUT_ALTPIDPATH": folder},
-            stdout=subprocess.DEVNULL, stderr=subprocess.PIPE)  # fmt: skip
-        for name in sizes:
-            self.until(f"GET VAR {name} ups.status\n", f'VAR {name} ups.status "OL"')
-
-    def connect(self):
-        return socket.create_connection(("127.0.0.1", self.port))
-
-    def until(self, line, answer):
-        """Asks until the answer begins so."""
-        while self.process.poll() is None:
-            try:
-                with self.connect() as client:
-                    client.sendall(line.encode())
-                    if client.recv(4096).decode().startswith(answer):
-                        return
-            except OSError:
-                pass
-            time.sleep(0.05)
-        raise RuntimeError(self.process.communicate()[1].decode(errors="replace"))
-
-    def memory(self):
-        """KiB that are resident."""
-        return int(re.search(r"VmRSS:\s+(\d+)", pathlib.Path(f"/proc/{self.process.pid}/status").read_text())[1])
-
-    def end(self):
-        self.process.send_signal(signal.SIGTERM)
-        told = self.process.communicate()[1].decode(errors="replace")
-        self.room.cleanup()
-        counted = re.search(r"Collected : (\d+)", told)
-        return int(counted[1]) if counted else None
+@contextlib.contextmanager
+def served(kind, sizes, valgrind=()):
+    """Ours or NUT's server, and its drivers, each of which has reported variables of its size."""
+    with contextlib.ExitStack() as stack:
+        folder = stack.enter_context(tempfile.TemporaryDirectory())
+        drivers = {name: Driver(f"{folder}/dummy-ups-{name}") for name in sizes}
+        open(f"{folder}/upsd.users", "w", encoding="utf-8").close()
+        server = OtherServer([*valgrind, *COMMANDS[kind]], folder, dict.fromkeys(sizes, ""))
+        stack.callback(server.close)
+        for name, driver in drivers.items():
+            driver.accept(reports(*sizes[name])[0] + b'SETINFO ups.status "OL"\n')
+            until(server, name)
+        yield server, drivers
 
 
-def ask(clients, line, end, times):
-    """Each sends the line, and then each takes its answer, so many times."""
-    for _ in range(times):
-        for client in clients:
-            client.sendall(line)
-        for client in clients:
-            answer = b""
-            while not answer.endswith(end):
-                answer += client.recv(65536)
+def until(server, ups, variable="ups.status"):
+    """Asks until the UPS has the variable. NUT's server answers before all is reported, by the status WAIT."""
+    client = server.client()
+    client.wire.settimeout(60)
+    while not re.match(rb'VAR .* "(?!WAIT)', client.ask(f"GET VAR {ups} {variable}\n".encode())):
+        time.sleep(0.05)
+    client.close()
 
 
-def instructions(kind, connections, line, end, less, more, things):
-    """Of one thing more that is asked for: the difference of two runs."""
+def instructions(kind, work, less, more, things):
+    """Of one thing more, as callgrind counts them: the difference of two runs, which do the work so many times."""
     counts = []
     for times in (less, more):
-        server = Server(kind, {"small": (4096, 10)}, CALLGRIND)
-        clients = [server.connect() for _ in range(connections)]
-        ask(clients, line, end, times)
-        counts.append(server.end())
+        with served(kind, {"small": (4096, 10)}, CALLGRIND) as (server, drivers):
+            work(server, drivers["small"], times)
+            server.process.send_signal(signal.SIGTERM)
+            server.process.wait()
+            counts.append(int(re.search(r"Collected : (\d+)", server.journal())[1]))
     return (counts[1] - counts[0]) // things
 
 
-def instructions_of_report(kind):
-    counts = []
-    for times in (2, 4):
-        server = Server(kind, {"small": (4096, 10)}, CALLGRIND)
-        server.drivers["small"].report(times - 1)
-        server.drivers["small"].server.sendall(b'SETINFO last.one "1"\n')
-        server.until("GET VAR small last.one\n", "VAR ")
-        counts.append(server.end())
-    return (counts[1] - counts[0]) // (2 * 4096)
+def asking(connections, line, end):
+    """Each client asks, and then each takes its answer."""
+    def work(server, _, times):
+        clients = [server.client() for _ in range(connections)]
+        for _ in range(times):
+            for client in clients:
+                client.send(line)
+            for client in clients:
+                while client.line() != end:
+                    pass
+    return work
+
+
+def reporting(server, driver, times, size=(4096, 10)):
+    for text in (reports(*size) * times)[1 : times + 1]:
+        driver.send(text)
+    driver.send(b'SETINFO last.one "1"\n')
+    until(server, "small", "last.one")
 
 
 def memory(kind):
-    server = Server(kind, SIZES)
-    idle = server.memory()
-    slow = [server.connect() for _ in range(60)]
-    for client in slow:
-        client.sendall(b"LIST VAR large\n" * 8)
-    time.sleep(2)
-    paused = server.memory()
-    for client in slow:
-        client.close()
-    server.end()
-    return {"no client": idle, "60 clients that stop within a listing": paused}
+    with served(kind, SIZES) as (server, _):
+        idle = server.kilobytes()
+        for client in [server.client() for _ in range(60)]:
+            client.send(b"LIST VAR large\n" * 8)
+        time.sleep(2)
+        return {"no client": idle, "60 clients that stop within a listing": server.kilobytes()}
 
 
 def bench(port, ups):
@@ -174,29 +121,24 @@ def bench(port, ups):
 
 def speed(kind):
     """One round: what netbench prints, and how many lines of a driver are taken."""
-    server = Server(kind, SIZES)
     found = {}
-    for name, (count, width) in SIZES.items():
-        said = bench(server.port, name)
-        if name == "small":
-            for connections, depth in ((1, 1), (64, 1), (1, 512), (64, 32)):
+    with served(kind, SIZES) as (server, drivers):
+        for name, (count, width) in SIZES.items():
+            said = bench(server.port, name)
+            for connections, depth in ((1, 1), (64, 1), (1, 512), (64, 32)) if name == "small" else ():
                 rate = re.search(rf"GET VAR +{connections} connections, +{depth} at once: +(\d+)", said)[1]
                 at_once = f", {depth} requests at once" if depth > 1 else ""
                 found[f"GET VAR, {connections} connection{'s' * (connections > 1)}{at_once}"] = int(rate)
-        rate = re.search(r"fresh connections: +(\d+)", said)[1]
-        found[f"LIST VAR of {count:,} values of {width} bytes"] = int(rate)
-    driver, start = server.drivers["small"], time.monotonic()
-    driver.report(500)
-    driver.server.sendall(b'SETINFO last.one "1"\n')
-    server.until("GET VAR small last.one\n", "VAR ")
-    found["lines of a driver, 100 variables"] = int(500 * driver.count / (time.monotonic() - start))
-    server.end()
+            found[f"LIST VAR of {count:,} values of {width} bytes"] = int(re.search(r"fresh connections: +(\d+)", said)[1])
+        start = time.monotonic()
+        reporting(server, drivers["small"], 500, SIZES["small"])
+        found["lines of a driver, 100 variables"] = int(500 * SIZES["small"][0] / (time.monotonic() - start))
     return found
 
 
 def machine():
     cpu = re.search(r"model name\s*: (.*)", pathlib.Path("/proc/cpuinfo").read_text())[1]
-    nut = subprocess.run([NUT, "-V"], capture_output=True, text=True).stdout.split("\n")[0].split()[-1]
+    nut = subprocess.run(["/lib/nut/upsd", "-V"], capture_output=True, text=True).stdout.split("\n")[0].split()[-1]
     commit = subprocess.run(["git", "rev-parse", "--short", "HEAD"], cwd=TOP, capture_output=True, text=True).stdout.strip()
     return f"{os.cpu_count()} processors, {cpu}; Linux {os.uname().release}; NUT's upsd {nut}; upsd of {commit}"
 
@@ -211,14 +153,14 @@ def measure():
     for what in rounds["ours"][0]:
         ours, nut = (int(statistics.median(found[what] for found in rounds[kind])) for kind in rounds)
         rows.append(("speed", what, ours, nut))
-    get, got = b"GET VAR small v2048\n", b'"\n'
-    for what, words in (
-        ("GET VAR, 1 connection", (1, get, got, 64, 704, 640)),
-        ("GET VAR, 64 connections", (64, get, got, 2, 12, 640)),
-        ("an item of LIST VAR", (1, b"LIST VAR small\n", b"END LIST VAR small\n", 1, 3, 2 * 4097)),
+    get, got = b"GET VAR small v2048\n", b'VAR small v2048 "xxxxxxxxxx"\n'
+    for what, *words in (
+        ("GET VAR, 1 connection", asking(1, get, got), 64, 704, 640),
+        ("GET VAR, 64 connections", asking(64, get, got), 2, 12, 640),
+        ("an item of LIST VAR", asking(1, b"LIST VAR small\n", b"END LIST VAR small\n"), 1, 3, 2 * 4097),
+        ("a line of a driver", reporting, 1, 3, 2 * 4096),
     ):
         rows.append(("instructions", what, *(instructions(kind, *words) for kind in rounds)))
-    rows.append(("instructions", "a line of a driver", *(instructions_of_report(kind) for kind in rounds)))
     ours, nut = memory("ours"), memory("nut")
     rows += [("memory", what, ours[what], nut[what]) for what in ours]
     lines = [f"# {machine()}", "group\twhat\tours\tNUT's", *("\t".join(map(str, row)) for row in rows)]
@@ -232,6 +174,7 @@ def measured():
     return head[2:], [(group, what, int(ours), int(nut)) for group, what, ours, nut in rows]
 
 
+COLORS = {"speed": "#0a53a8", "instructions": "#9a3412", "memory": "#3f6f21"}
 UNITS = {"speed": "a second", "instructions": "instructions", "memory": "KiB"}
 
 
@@ -264,14 +207,11 @@ def chart(rows):
     for number, (group, what, ours, nut) in enumerate(rows):
         times, y = better(group, ours, nut), 44 + 26 * number
         first, last = sorted((middle, at(times)))
-        color = {"speed": "#0a53a8", "instructions": "#9a3412", "memory": "#3f6f21"}[group]
         out.append(f'<text x="{left}" y="{y + 13}" text-anchor="end">{what}</text>')
-        out.append(f'<rect x="{first:.1f}" y="{y}" width="{max(last - first, 1.5):.1f}" height="18" fill="{color}"/>')
+        out.append(f'<rect x="{first:.1f}" y="{y}" width="{max(last - first, 1.5):.1f}" height="18" fill="{COLORS[group]}"/>')
         out.append(f'<text x="{max(last, middle) + 6:.1f}" y="{y + 13}">{times:.2f}</text>')
-    x = left
-    for name, color in (("speed", "#0a53a8"), ("instructions", "#9a3412"), ("memory", "#3f6f21")):
+    for x, (name, color) in zip(range(left, width, 130), COLORS.items()):
         out.append(f'<rect x="{x}" y="{height - 20}" width="12" height="12" fill="{color}"/><text x="{x + 18}" y="{height - 10}">{name}</text>')
-        x += 130
     return "\n".join(out) + "\n</svg>\n"
 
 

@@ -2,13 +2,10 @@
 # What requests cost a server, as corebench loads it: instructions as callgrind counts them, by the difference of two runs,
 # and bytes of heap as dhat counts them at their most. Both are the same from run to run.
 #
-# The program is built by `rt run` in this folder, and upsd, where the sockets are measured too, in its own; valgrind runs
-# them.
+# The program is built by `rt run` in this folder; valgrind runs it. tools/costs.py measures the same over sockets.
 set -euo pipefail
 cd "$(dirname "${BASH_SOURCE[0]}")"
 program=$(realpath "${1:-out/corebench}")
-upsd=$(realpath -m "${2:-../upsd/out/upsd}")
-over_sockets=$(realpath over_sockets.py)
 folder=$(mktemp -d)
 trap 'rm -r "$folder"' EXIT
 cd "$folder"
@@ -52,10 +49,3 @@ without=$(($(instructions share 0 1100) - $(instructions share 0 100)))
 tell '256 enum values of a variable, at a SETINFO under a listing' 1000 \
     $(($(instructions share 256 100) + without)) "$(instructions share 256 1100)"
 tell 'bytes of heap of a session with a paused listing' 63 "$(heap report 256 1 0)" "$(heap report 256 64 0)"
-if [[ -x $upsd ]]; then
-    for connections in 1 64; do
-        tell "GET VAR over sockets, $connections at a time" $((64 * 100)) \
-            "$(python3 "$over_sockets" "$upsd" $connections $((64 / connections * 10)))" \
-            "$(python3 "$over_sockets" "$upsd" $connections $((64 / connections * 110)))"
-    done
-fi

@@ -1,0 +1,155 @@
+"""The rows of scripts/peers.rows, for tests/peers.sh. It installs nothing, listens on 127.0.0.1 alone, at ports that are free, keeps
+all its files in a folder of its own, and ends every program that it started by its id."""
+import contextlib
+import importlib.util
+import os
+import re
+import shlex
+import signal
+import subprocess
+import sys
+import tempfile
+import time
+from string import Template
+
+from replaying import text_of
+from serving import BUILT, OtherServer, Server, comes
+
+DRIVER, UPSD, UPSMON = (f"/lib/nut/{program}" for program in ("dummy-ups", "upsd", "upsmon"))
+# upsmon keeps its process's id in one file of the machine, whoever starts it.
+MONITOR_ID = "/run/nut/upsmon.pid"
+PYNUT = "import sys, PyNUT; nut = PyNUT.PyNUTClient(port=int(sys.argv[1]), login='admin', password='secret'); print(eval(sys.argv[2]))"
+
+
+class Peers:
+    def __init__(self, folder):
+        self.folder, self.running, self.writes = folder, {}, 0
+        for name in ("su.dev", "nu.dev", "ours.conf", "ours.users", "ours.vars", "upsd.users"):
+            self.file(name, text_of(f"scripts/peers/{name}").format(folder=folder))
+        os.environ.update(NUT_STATEPATH=folder, NUT_QUIET_INIT_UPSNOTIFY="true")
+        self.driver("su", "su.dev")
+        self.server, idless = self.serve("--ids", "/dev/urandom"), self.serve()
+        self.running["idless"] = idless
+        ours, pid = f"127.0.0.1:{self.server.port}", os.path.basename(folder)
+        self.names = {"ours": ours, "su": f"su@{ours}", "idless": f"su@127.0.0.1:{idless.port}", "pid": pid}
+
+    def file(self, name, text):
+        with open(f"{self.folder}/{name}", "w", encoding="utf-8") as out:
+            out.write(text)
+        os.chmod(out.name, 0o700)
+
+    def serve(self, *words):
+        ups, users, texts = (f"{self.folder}/ours.{kind}" for kind in ("conf", "users", "vars"))
+        return Server(BUILT["upsd"], ups, "--users", users, "--vars", texts, "--maxage", "3", *words)
+
+    # The events of the rows.
+
+    def start(self, name, *words, **env):
+        with open(f"{self.folder}/{name}.log", "wb") as log:
+            self.running[name] = subprocess.Popen(words, cwd=self.folder, stdin=subprocess.DEVNULL, stdout=log, stderr=log, env={**os.environ, **env})
+
+    def end(self, name):
+        ended = self.running.pop(name)
+        if isinstance(ended, Server):
+            ended.close()
+            return
+        ended.send_signal(signal.SIGCONT)
+        ended.terminate()
+        with contextlib.suppress(subprocess.TimeoutExpired):
+            ended.wait(3)
+        ended.kill()
+        ended.wait()
+
+    def send(self, name, number):
+        self.running[name].send_signal(getattr(signal, number))
+
+    def driver(self, ups, port):
+        """dummy-ups for a UPS, over its file of variables or over the UPS of a server that it repeats."""
+        port = f"{self.folder}/{port}" if port.endswith(".dev") else port
+        self.start(f"driver-{ups}", DRIVER, "-s", ups, "-x", f"port={port}", "-i", "1", "-F", "-u", "root")
+
+    def status(self, *words):
+        """dummy-ups reads its file again when its time differs in whole seconds: each that is written has a second of its own."""
+        self.writes += 1
+        self.file("su.dev.new", f"ups.status: {' '.join(words)}\nbattery.charge: 40\n")
+        os.utime(f"{self.folder}/su.dev.new", (self.writes, self.writes))
+        os.rename(f"{self.folder}/su.dev.new", f"{self.folder}/su.dev")
+
+    def upsmon(self, role, user, password):
+        folder = f"{self.folder}/{role}"
+        os.mkdir(folder)
+        conf = text_of("scripts/peers/upsmon.conf").format(su=self.names["su"], user=user, password=password, role=role, folder=folder)
+        self.file(f"{role}/upsmon.conf", conf)
+        self.file(f"{role}/notify", f'#!/bin/sh\necho "$NOTIFYTYPE" >>{folder}/told\n')
+        self.file(f"{role}/told", "")
+        forget(MONITOR_ID)
+        self.start(role, UPSMON, "-F", "-p", NUT_CONFPATH=folder)
+
+    def serve_nut(self):
+        server = self.running["nut"] = OtherServer([UPSD, "-F", "-u", "root"], self.folder, {"nu": 'desc = "Server room"\n'})
+        self.names |= {"nuts": f"127.0.0.1:{server.port}", "nu": f"nu@127.0.0.1:{server.port}"}
+
+    # The rows.
+
+    def answer(self, words):
+        """What a command prints, and its status. NUT's clients tell on standard error that they have no certificates."""
+        if words[0] == "journal":
+            return f"{self.server.journal().count(words[1])} [0]"
+        if words[0] == "pynut":
+            words = [sys.executable, "-c", PYNUT, str(self.server.port), words[1]]
+        words[0] = BUILT.get(words[0].removeprefix("our-"), "") if words[0].startswith("our-") else words[0]
+        ended = subprocess.run(words, cwd=self.folder, stdin=subprocess.DEVNULL, stdout=subprocess.PIPE, stderr=subprocess.STDOUT, text=True, timeout=10, check=False)
+        text = ended.stdout.replace("Init SSL without certificate database\n", "").strip("\n")
+        self.names["id"] = text
+        return f"{text} [{ended.returncode}]".lstrip(" ")
+
+    def is_so(self, seconds, title, want, command):
+        """Whether the command prints this in time."""
+        words, got = [Template(word).substitute(self.names) for word in shlex.split(command)], []
+        form = re.escape(want).replace(r"\*", ".*").replace("<id>", "[0-9a-f]{8}(?:-[0-9a-f]{4}){3}-[0-9a-f]{12}").replace(r"\$", "\n")
+        well = comes(lambda: got.append(self.answer([*words])) or re.fullmatch(form, got[-1], re.DOTALL), float(seconds))
+        print(f"peers: ok: {title}" if well else f"peers: FAILED: {title}\nwanted: {want}\ngot: {got[-1]}", flush=True)
+        return well
+
+
+def forget(*ids):
+    """Takes away files with the ids of processes; whoever may not write there has left none."""
+    for path in ids:
+        with contextlib.suppress(OSError):
+            os.unlink(path)
+
+
+def why_skipped():
+    programs = [DRIVER, UPSD, UPSMON, *(f"/bin/{name}" for name in ("upsc", "upsrw", "upscmd", "upslog"))]
+    missing = [program for program in programs if not os.access(program, os.X_OK)]
+    missing += [] if importlib.util.find_spec("PyNUT") else ["PyNUT"]
+    if os.path.exists(MONITOR_ID):
+        return f"this machine has an upsmon of its own, or one that is gone has left {MONITOR_ID}"
+    return f"{missing[0]} isn't there" if missing else None
+
+
+def main():
+    if why := why_skipped():
+        print(f"peers: skipped: {why}")
+        return 0
+    begun, well = time.monotonic(), []
+    with tempfile.TemporaryDirectory() as folder:
+        peers = Peers(folder)
+        try:
+            for row in text_of("scripts/peers.rows").splitlines():
+                if row.startswith("> "):
+                    event, *words = (Template(word).substitute(peers.names) for word in shlex.split(row[2:]))
+                    getattr(peers, event)(*words)
+                elif row and not row.startswith("#"):
+                    well.append(peers.is_so(*row.split("|")))
+        finally:
+            for name in [*peers.running]:
+                peers.end(name)
+            peers.server.close()
+            forget(MONITOR_ID, f"/run/nut/{peers.names['pid']}.pid")
+    print(f"peers: {sum(well)} of {len(well)} checks, {time.monotonic() - begun:.0f} s")
+    return 0 if all(well) else 1
+
+
+if __name__ == "__main__":
+    sys.exit(main())
