@@ -31,8 +31,8 @@ told=$({
 } | sort)
 alike upsd "$told" "$(messages_of upsd)"
 told=$(sed -nE 's/^ *ClientFault::.* => push\(line, b"(.*)"\),$/\1/p' crates/nutrequest/src/faults.rt | sort)
+alike upsc "$told" "$(messages_of upsc)" # upsrw(8) and upscmd(8) lead there
 for program in upsc upsrw upscmd; do
-    alike "$program" "$told" "$(messages_of "$program")"
     unknown=$(sed -nE 's/^\.B ".*: server answered ERR ([A-Z-]+)"$/\1/p' "man/$program.8" |
         grep -vxFf <(sed -nE 's/.*b"ERR ([A-Z-]+)\\n",$/\1/p' crates/nutanswer/src/err_word.rt) || true)
     alike "$program: words after ERR" '' "$unknown"
