@@ -5,6 +5,7 @@
 mod ids;
 mod rows;
 mod run;
+mod scripted;
 mod seen;
 
 use crate::ids::tell_ids;

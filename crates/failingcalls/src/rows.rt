@@ -1,6 +1,7 @@
 //! The turns of a run, in which nothing fails yet.
+use crate::scripted::Act;
 use nutcore::{Bytes, Peer, UpsId};
-use nutloop::{Act, Ready};
+use nutloop::Ready;
 use nutwords::Address;
 use std::alloc::{AllocError, Global};
 

@@ -1,8 +1,9 @@
 //! Runs, in each of which at most one call fails.
 use crate::rows::{Reply, Row, peer_of};
+use crate::scripted::{Act, Scripted};
 use anyhow::{Error, Result};
 use nutcore::{Descriptions, MAX_AGE_DEFAULT, MaxAge, Peer, Server, UpsList, Users};
-use nutloop::{Act, Call, LoopFault, Ready, Scripted, turn};
+use nutloop::{Call, LoopFault, Ready, turn};
 use nutwords::UpsName;
 use std::alloc::Global;
 

@@ -1,7 +1,8 @@
 //! What the sockets saw of a run.
+use crate::scripted::Scripted;
 use anyhow::Result;
 use nutcore::Peer;
-use nutloop::{Call, Scripted};
+use nutloop::Call;
 use std::alloc::Global;
 
 /// How often the peer's connection was shut.

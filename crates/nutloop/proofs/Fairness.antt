@@ -1,22 +1,15 @@
 -- Everybody has a turn between two looks, and turns are few.
-use Rattle.std.proofs.Common.{◌≡◌, ◌⊎◌, ◌+◌, ◌<◌, ◌≤◌, ℕ, Bool, true, false, List, [], ◌∷◌, length, refl, sym, subst, inl, inr, arith}
+use Rattle.std.proofs.Common.{◌≡◌, ◌⊎◌, ◌+◌, ◌<◌, ◌≤◌, ℕ, Bool, true, false, List, [], ◌∷◌, length, refl, sym, subst, ap, ◌∙◌, inl, inr, arith}
 use Rattle.std.specs.Prelude.{◌&&◌, not, nat_lt}
 use Rattle.nutloop.specs.declared.over_mio.pass.Pass.{Pass}
 use Rattle.nutloop.specs.declared.over_mio.pass.Stop.{Stop}
-use Rattle.nutloop.specs.declared.over_mio.pass.Stop.TheVariants as stop
-use Rattle.nutloop.specs.declared.over_mio.pass.Way.TheVariants.{Read, Write}
-use Rattle.nutloop.specs.declared.over_mio.pass.TheConstants.{TURNS_PER_LOOK}
-use Rattle.nutloop.specs.Pass.{HasTurn, IsOver, IsWithin, STOPS, WasVisited, again, fresh, goes_on, visited}
+use Rattle.nutloop.specs.declared.over_mio.pass.TheConstants.{STOPS, TURNS_PER_LOOK}
+use Rattle.nutloop.specs.Pass.{HasTurn, IsOver, WasVisited, again, fresh, goes_on}
 use Rattle.nutloop.specs.Fairness.{EverybodyHasATurn, GoThrough, HadTurn, HasNext, Turn, WasUnready}
-use Rattle.nutloop.proofs.Passing.{at_most_one}
 
 -- At the beginning of a pass no stop was visited.
 unvisited : (pass : Pass) (s : Stop) → WasVisited (again pass) s → ⊥
-unvisited pass stop.Listener h = cc
-unvisited pass (stop.Driver p Read) h = omega arith
-unvisited pass (stop.Driver p Write) h = omega arith
-unvisited pass (stop.Client p Read) h = omega arith
-unvisited pass (stop.Client p Write) h = omega arith
+unvisited pass s h = omega arith
 
 abbrev Had : Stop → Turn → Type 0
 Had s t = (t.told ≡ s) ⊎ (t.may s ≡ false)
@@ -61,51 +54,37 @@ each_has ts last over may s true is go ends =
 
 -- So many turns were had since the look, and these are few.
 record Counted (pass : Pass) : Type 0 where
-  within : IsWithin pass
-  few : pass.turns + 1 ≤ TURNS_PER_LOOK + visited pass
-
-all_stops : (pass : Pass) → IsWithin pass → visited pass ≤ STOPS
-all_stops pass within = omega (arith, at_most_one pass.was_at_listener)
+  within : pass.next ≤ STOPS
+  few : pass.turns + 1 ≤ TURNS_PER_LOOK + pass.next
 
 of_going : (b c : Bool) (n m : ℕ) → (b && not c && nat_lt n m) ≡ true → n < m
 of_going b c n m h = grind arith
 
 counted_again : (pass : Pass) → goes_on pass ≡ true → Counted (again pass)
-counted_again pass on = record {
-  within = record { driver_reads = omega arith; driver_writes = omega arith; client_reads = omega arith; client_writes = omega arith };
-  few = omega (arith, of_going pass.had_turn pass.was_driver_read pass.turns TURNS_PER_LOOK on);
-}
+counted_again pass on = record { within = omega arith; few = omega (arith, of_going pass.had_turn pass.was_driver_read pass.turns TURNS_PER_LOOK on) }
 
 counted_turn : (may : Stop → Bool) (old new : Pass) (told : Stop) → Counted old → HasTurn may old told new
     → (new.turns ≡ old.turns + 1) × Counted new
 counted_turn may old new told is turn =
-    let most = all_stops old is.within in
-    let more = turn.more is.within in
-    let turns : new.turns ≡ old.turns + 1 = omega (arith, turn.turns, is.few, most) in
-    (turns, record { within = turn.within is.within; few = omega (arith, turns, more, is.few) })
+    let turns : new.turns ≡ old.turns + 1 = omega (arith, turn.turns, is.few, is.within) in
+    (turns, record { within = turn.within; few = omega (arith, turns, turn.more, is.few) })
 
 counted_next : (t : Turn) (old : Pass) → Counted old → HasNext t.may old t.told t.pass
     → (t.pass.turns ≡ old.turns + 1) × Counted t.pass
 counted_next t old is (inl turn) = counted_turn t.may old t.pass t.told is turn
 counted_next t old is (inr (mid, over, on, turn)) =
     let next = counted_turn t.may (again mid) t.pass t.told (counted_again mid on) turn in
-    (omega (arith, next.0, over.turns), next.1)
+    (next.0 ∙ ap (λ (p : Pass). p.turns + 1) over.same, next.1)
 
 counted_all : (old : Pass) (ts : List Turn) (last : Pass) → Counted old → GoThrough old ts last
     → length ts + old.turns + 1 ≤ TURNS_PER_LOOK + STOPS
-counted_all old [] last is go = omega (arith, is.few, all_stops old is.within)
+counted_all old [] last is go = omega (arith, is.few, is.within)
 counted_all old (t ∷ ts) last is (next, go) =
     let now = counted_next t old is next in
     omega (arith, now.0, counted_all t.pass ts last now.1 go)
 
-counted_fresh : Counted fresh
-counted_fresh = record {
-  within = record { driver_reads = omega arith; driver_writes = omega arith; client_reads = omega arith; client_writes = omega arith };
-  few = omega arith;
-}
-
 pub everybody_has_a_turn : EverybodyHasATurn
 everybody_has_a_turn = record {
   each = λ ts last over may s go ends. each_has ts last over may s (may s) refl go ends;
-  few = λ ts last go. omega (arith, counted_all fresh ts last counted_fresh go);
+  few = λ ts last go. omega (arith, counted_all fresh ts last (record { within = omega arith; few = omega arith }) go);
 }

@@ -1,9 +1,7 @@
 pub mod Rows
 pub mod Moving
-pub mod Opening
 pub mod Turning
 pub mod SocketToSocket
 pub mod MoreTurns
-pub mod Passing
 pub mod Fairness
 pub mod Answering

@@ -1,6 +1,7 @@
 -- What the calls that are told and the events of a turn have in common: a reading of the calls, g, and one of the events, f, that fit.
 use Rattle.std.proofs.Common.{◌≡◌, ℕ, Bool, true, false, List, [], ◌∷◌, ◌++◌, length, Option, Some, None, refl, sym, ap, subst, ◌∙◌, append-nil}
-use Rattle.std.specs.Prelude.{◌≤◌, ◌==◌, if◌then◌else◌, is_some}
+use Rattle.std.specs.Prelude.{◌≤◌, ◌==◌, if◌then◌else◌, is_some, IsTrue}
+use Rattle.nutwords.specs.Reading.{is_address}
 use Rattle.std.specs.List.{flat_map}
 use Rattle.std.proofs.lemmas.Grind.{flat_map-append}
 use Rattle.nutusers.specs.declared.ups_list.UpsId.{UpsId}
@@ -35,7 +36,7 @@ pub record Fit (g : Call → List ℕ) (f : ServerState → Event → List ℕ) 
   pub downs : (s : ServerState) (u : UpsId) → f s (event.DriverDown u) ≡ []
   pub ticks : (s : ServerState) (n : ℕ) → f s (event.Tick n) ≡ []
   pub ids : (s : ServerState) (n : ℕ) → f s (event.Id n) ≡ []
-  pub opens : (s : ServerState) (a : List ℕ) → f s (event.Open a) ≡ []
+  pub opens : (s : ServerState) (a : List ℕ) → IsTrue (is_address a) → f s (event.Open a) ≡ []
   pub closes : (s : ServerState) (c : ℕ) → f s (event.Close c) ≡ []
   pub tries : (s : ServerState) (c : ℕ) → f s (event.Feed c []) ≡ []
   pub feeds : (s : ServerState) (c most : ℕ) (bytes : List ℕ) → length bytes ≤ room_at c s → g (Gave (Client c) most bytes) ≡ f s (event.Feed c bytes)
@@ -85,6 +86,16 @@ behind_all g f fit [] os = refl
 behind_all g f fit (e ∷ es) [] = refl
 behind_all g f fit (e ∷ es) (o ∷ os) = flat_map-append g (calls_behind e o) (calls_behind_all es os) ∙ ap (λ v. v ++ flat_map g (calls_behind_all es os)) (behind g f fit e o) ∙ behind_all g f fit es os
 
+-- What wasn't asked isn't answered.
+of_unasked : (answer : Answer) → MayAnswer nobody answer → (P : Answer → Type 0) → P unasked → P answer
+of_unasked unasked may P p = p
+of_unasked (newcomer a) may P p = absurd may
+of_unasked (gave bytes) may P p = absurd may
+of_unasked later may P p = absurd may
+of_unasked ended may P p = absurd may
+of_unasked (took k) may P p = absurd may
+of_unasked failed may P p = absurd may
+
 -- The rows.
 tried : (g : Call → List ℕ) (f : ServerState → Event → List ℕ) → Fit g f → (s mid : ServerState) (c : ℕ) (b : Bool) (os : List Outcome) → Run s (if b then event.Feed c [] ∷ [] else []) os mid → [] ≡ along f s (if b then event.Feed c [] ∷ [] else []) os
 tried g f fit s mid c true os r = sym (one_event f s mid (event.Feed c []) os r ∙ fit.tries s c)
@@ -92,13 +103,9 @@ tried g f fit s mid c false os r = refl
 
 from_client : (g : Call → List ℕ) (f : ServerState → Event → List ℕ) → Fit g f → (s mid : ServerState) (c n : ℕ) (b : Bool) (answer : Answer) (os : List Outcome) → n ≡ room_at c s
     → MayAnswer (if b then nobody else reads (Client c) n) answer → Run s (read_of_client s c answer) os mid → flat_map g (answered (if b then nobody else reads (Client c) n) answer) ≡ along f s (read_of_client s c answer) os
-from_client g f fit s mid c n true unasked os e may r = tried g f fit s mid c (is_some (session c s)) os r
-from_client g f fit s mid c n true (newcomer a) os e may r = absurd may
-from_client g f fit s mid c n true (gave bytes) os e may r = absurd may
-from_client g f fit s mid c n true later os e may r = absurd may
-from_client g f fit s mid c n true ended os e may r = absurd may
-from_client g f fit s mid c n true (took k) os e may r = absurd may
-from_client g f fit s mid c n true failed os e may r = absurd may
+from_client g f fit s mid c n true answer os e may r =
+    of_unasked answer may (λ a. Run s (read_of_client s c a) os mid → flat_map g (answered nobody a) ≡ along f s (read_of_client s c a) os)
+    (tried g f fit s mid c (is_some (session c s)) os) r
 from_client g f fit s mid c n false unasked os e may r = absurd may
 from_client g f fit s mid c n false (newcomer a) os e may r = absurd may
 from_client g f fit s mid c n false (gave bytes) os e may r = one_call g (Gave (Client c) n bytes) (f s (event.Feed c bytes)) (fit.feeds s c n bytes (subst (λ k. length bytes ≤ k) e may)) ∙ sym (one_event f s mid (event.Feed c bytes) os r)
@@ -109,13 +116,8 @@ from_client g f fit s mid c n false failed os e may r = sym (one_event f s mid (
 
 from_driver : (g : Call → List ℕ) (f : ServerState → Event → List ℕ) → Fit g f → (s mid : ServerState) (u : UpsId) (b : Bool) (answer : Answer) (os : List Outcome)
     → MayAnswer (if b then reads (Driver u) DRIVER_READ_LIMIT else nobody) answer → Run s (read_of_driver u answer) os mid → flat_map g (answered (if b then reads (Driver u) DRIVER_READ_LIMIT else nobody) answer) ≡ along f s (read_of_driver u answer) os
-from_driver g f fit s mid u false unasked os may r = refl
-from_driver g f fit s mid u false (newcomer a) os may r = absurd may
-from_driver g f fit s mid u false (gave bytes) os may r = absurd may
-from_driver g f fit s mid u false later os may r = absurd may
-from_driver g f fit s mid u false ended os may r = absurd may
-from_driver g f fit s mid u false (took k) os may r = absurd may
-from_driver g f fit s mid u false failed os may r = absurd may
+from_driver g f fit s mid u false answer os may r =
+    of_unasked answer may (λ a. flat_map g (answered nobody a) ≡ along f s (read_of_driver u a) os) refl
 from_driver g f fit s mid u true unasked os may r = absurd may
 from_driver g f fit s mid u true (newcomer a) os may r = absurd may
 from_driver g f fit s mid u true (gave bytes) os may r = one_call g (Gave (Driver u) DRIVER_READ_LIMIT bytes) (f s (event.DriverBytes u bytes)) (fit.comes s u DRIVER_READ_LIMIT bytes) ∙ sym (one_event f s mid (event.DriverBytes u bytes) os r)
@@ -126,13 +128,8 @@ from_driver g f fit s mid u true failed os may r = sym (one_event f s mid (event
 
 to_client : (g : Call → List ℕ) (f : ServerState → Event → List ℕ) → Fit g f → (s mid : ServerState) (c : ℕ) (xs : List ℕ) (answer : Answer) (os : List Outcome) → xs ≡ offered (session c s)
     → MayAnswer (write_of (Client c) xs) answer → Run s (write_to_client c answer) os mid → flat_map g (answered (write_of (Client c) xs) answer) ≡ along f s (write_to_client c answer) os
-to_client g f fit s mid c [] unasked os e may r = refl
-to_client g f fit s mid c [] (newcomer a) os e may r = absurd may
-to_client g f fit s mid c [] (gave bytes) os e may r = absurd may
-to_client g f fit s mid c [] later os e may r = absurd may
-to_client g f fit s mid c [] ended os e may r = absurd may
-to_client g f fit s mid c [] (took k) os e may r = absurd may
-to_client g f fit s mid c [] failed os e may r = absurd may
+to_client g f fit s mid c [] answer os e may r =
+    of_unasked answer may (λ a. flat_map g (answered nobody a) ≡ along f s (write_to_client c a) os) refl
 to_client g f fit s mid c (x ∷ xs) unasked os e may r = absurd may
 to_client g f fit s mid c (x ∷ xs) (newcomer a) os e may r = absurd may
 to_client g f fit s mid c (x ∷ xs) (gave bytes) os e may r = absurd may
@@ -143,13 +140,8 @@ to_client g f fit s mid c (x ∷ xs) failed os e may r = sym (one_event f s mid 
 
 to_driver : (g : Call → List ℕ) (f : ServerState → Event → List ℕ) → Fit g f → (s mid : ServerState) (u : UpsId) (xs : List ℕ) (answer : Answer) (os : List Outcome) → xs ≡ owed_to_driver u s
     → MayAnswer (write_of (Driver u) xs) answer → Run s (write_to_driver u answer) os mid → flat_map g (answered (write_of (Driver u) xs) answer) ≡ along f s (write_to_driver u answer) os
-to_driver g f fit s mid u [] unasked os e may r = refl
-to_driver g f fit s mid u [] (newcomer a) os e may r = absurd may
-to_driver g f fit s mid u [] (gave bytes) os e may r = absurd may
-to_driver g f fit s mid u [] later os e may r = absurd may
-to_driver g f fit s mid u [] ended os e may r = absurd may
-to_driver g f fit s mid u [] (took k) os e may r = absurd may
-to_driver g f fit s mid u [] failed os e may r = absurd may
+to_driver g f fit s mid u [] answer os e may r =
+    of_unasked answer may (λ a. flat_map g (answered nobody a) ≡ along f s (write_to_driver u a) os) refl
 to_driver g f fit s mid u (x ∷ xs) unasked os e may r = absurd may
 to_driver g f fit s mid u (x ∷ xs) (newcomer a) os e may r = absurd may
 to_driver g f fit s mid u (x ∷ xs) (gave bytes) os e may r = absurd may
@@ -159,18 +151,12 @@ to_driver g f fit s mid u (x ∷ xs) (took k) os e may r = one_call g (Wrote (Dr
 to_driver g f fit s mid u (x ∷ xs) failed os e may r = sym (one_event f s mid (event.DriverDown u) os r ∙ fit.downs s u)
 
 of_nobody : (g : Call → List ℕ) (answer : Answer) → MayAnswer nobody answer → flat_map g (answered nobody answer) ≡ []
-of_nobody g unasked may = refl
-of_nobody g (newcomer a) may = absurd may
-of_nobody g (gave bytes) may = absurd may
-of_nobody g later may = absurd may
-of_nobody g ended may = absurd may
-of_nobody g (took k) may = absurd may
-of_nobody g failed may = absurd may
+of_nobody g answer may = of_unasked answer may (λ a. flat_map g (answered nobody a) ≡ []) refl
 
 of_newcomer : (g : Call → List ℕ) (f : ServerState → Event → List ℕ) → Fit g f → (s mid : ServerState) (answer : Answer) (os : List Outcome) → MayAnswer accepts answer → Run s (opening answer) os mid → flat_map g (answered accepts answer) ≡ along f s (opening answer) os
 of_newcomer g f fit s mid unasked os may r = absurd may
 of_newcomer g f fit s mid (newcomer None) os may r = one_call g (Accepted None) [] (fit.accepted None)
-of_newcomer g f fit s mid (newcomer (Some a)) os may r = one_call g (Accepted (Some a)) [] (fit.accepted (Some a)) ∙ sym (one_event f s mid (event.Open a) os r ∙ fit.opens s a)
+of_newcomer g f fit s mid (newcomer (Some a)) os may r = one_call g (Accepted (Some a)) [] (fit.accepted (Some a)) ∙ sym (one_event f s mid (event.Open a) os r ∙ fit.opens s a may)
 of_newcomer g f fit s mid (gave bytes) os may r = absurd may
 of_newcomer g f fit s mid later os may r = absurd may
 of_newcomer g f fit s mid ended os may r = absurd may

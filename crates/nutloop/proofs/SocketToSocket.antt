@@ -1,5 +1,5 @@
 -- From socket to socket: what a socket gave has room, so that all of it is asked while its client goes on.
-use Rattle.std.proofs.Common.{◌≡◌, ◌∙◌, ◌<◌, ◌≤◌, ℕ, Bool, true, false, List, [], ◌∷◌, ◌++◌, length, take, Option, Some, None, refl, sym, ap, subst, ltb, append_assoc, arith}
+use Rattle.std.proofs.Common.{◌≡◌, ◌∙◌, ◌<◌, ◌≤◌, ℕ, Bool, true, false, List, [], ◌∷◌, ◌++◌, length, take, Option, Some, None, refl, sym, ap, subst, ltb, append_assoc, arith, rules}
 use Rattle.std.specs.Prelude.{◌==◌, ◌&&◌, not, nat_le, if◌then◌else◌, IfSome, is_some}
 use Rattle.std.specs.Option.{option_map_or}
 use Rattle.std.proofs.lemmas.Bool.{eqb-true, ltb-true, lt-ltb, le-leb}
@@ -40,27 +40,11 @@ with_room c s _ = []
 none_of : (b : Bool) (n : ℕ) → (if b then take {A = ℕ} n [] else []) ≡ []
 none_of b n = ap (λ ys. if b then ys else []) (take_all n [] (omega arith)) ∙ none b
 
+feeds_of : (b : Bool) (s : ServerState) (d : ℕ) (bytes : List ℕ) → length bytes ≤ room_at d s → (if b then bytes else []) ≡ (if b then take (room_at d s) bytes else [])
+feeds_of b s d bytes h = ap (λ ys. if b then ys else []) (sym (take_all (room_at d s) bytes h))
+
 room_fits : (c : ℕ) → Fit (gave_in (is_client c)) (with_room c)
-room_fits c = record {
-  readied = λ r. refl;
-  accepted = λ a. refl;
-  named = λ d. refl;
-  refused = refl;
-  waits = λ p most. refl;
-  ends = λ p most. refl;
-  shut = λ p. refl;
-  ups = λ s u. refl;
-  downs = λ s u. refl;
-  ticks = λ s n. refl;
-  ids = λ s n. refl;
-  opens = λ s a. refl;
-  closes = λ s d. refl;
-  tries = λ s d. none_of (d == c) (room_at d s);
-  feeds = λ s d most bytes h. ap (λ ys. if d == c then ys else []) (sym (take_all (room_at d s) bytes h));
-  comes = λ s u most bytes. refl;
-  takes = λ s d n xs e h. refl;
-  driver_takes = λ s u n xs e h. refl;
-}
+room_fits c = search (rules, none_of, feeds_of)
 
 -- A session that goes on joins all that it has room for, and one that is over nothing.
 all_joins : (o : Option SessionState) (b : Bool) (piece : List ℕ) → option_map_or (λ x. x.ending) o b ≡ false → accepted_bytes o piece ≡ take (option_map_or room_of o 0) piece
@@ -79,31 +63,19 @@ fed_when_over : (c d : ℕ) (s : ServerState) (piece : List ℕ) (b : Bool) → 
 fed_when_over c d s piece true same over = subst (λ k. accepted_bytes (session k s) piece ≡ []) (sym (eqb-true d c same)) (nothing_joins (session c s) (ltb c s.next_id) piece over)
 fed_when_over c d s piece false same over = refl
 
-asked_goes_on : (c : ℕ) (s : ServerState) (e : Event) → is_over c s ≡ false → asked_in_event c s e ≡ with_room c s e
+asked_is : (c : ℕ) (s : ServerState) (e : Event) (over : Bool) → is_over c s ≡ over → asked_in_event c s e ≡ (if over then [] else with_room c s e)
 unfolding asked_in_event
-asked_goes_on c s (event.Feed d piece) going = fed_goes_on c d s piece (d == c) refl going
-asked_goes_on c s (event.DriverUp u) going = refl
-asked_goes_on c s (event.DriverBytes u piece) going = refl
-asked_goes_on c s (event.DriverTook u n) going = refl
-asked_goes_on c s (event.DriverDown u) going = refl
-asked_goes_on c s (event.Tick n) going = refl
-asked_goes_on c s (event.Open a) going = refl
-asked_goes_on c s (event.Took d n) going = refl
-asked_goes_on c s (event.Close d) going = refl
-asked_goes_on c s (event.Id n) going = refl
-
-asked_when_over : (c : ℕ) (s : ServerState) (e : Event) → is_over c s ≡ true → asked_in_event c s e ≡ []
-unfolding asked_in_event
-asked_when_over c s (event.Feed d piece) over = fed_when_over c d s piece (d == c) refl over
-asked_when_over c s (event.DriverUp u) over = refl
-asked_when_over c s (event.DriverBytes u piece) over = refl
-asked_when_over c s (event.DriverTook u n) over = refl
-asked_when_over c s (event.DriverDown u) over = refl
-asked_when_over c s (event.Tick n) over = refl
-asked_when_over c s (event.Open a) over = refl
-asked_when_over c s (event.Took d n) over = refl
-asked_when_over c s (event.Close d) over = refl
-asked_when_over c s (event.Id n) over = refl
+asked_is c s (event.Feed d piece) true is = fed_when_over c d s piece (d == c) refl is
+asked_is c s (event.Feed d piece) false is = fed_goes_on c d s piece (d == c) refl is
+asked_is c s (event.DriverUp u) over is = sym (none over)
+asked_is c s (event.DriverBytes u piece) over is = sym (none over)
+asked_is c s (event.DriverTook u n) over is = sym (none over)
+asked_is c s (event.DriverDown u) over is = sym (none over)
+asked_is c s (event.Tick n) over is = sym (none over)
+asked_is c s (event.Open a) over is = sym (none over)
+asked_is c s (event.Took d n) over is = sym (none over)
+asked_is c s (event.Close d) over is = sym (none over)
+asked_is c s (event.Id n) over is = sym (none over)
 
 never_both : {A : Type 0} (b : Bool) → b ≡ true → b ≡ false → A
 never_both true e f = cc f
@@ -146,7 +118,7 @@ module _ (never : WhatNeverGoesBack) (sound : EachEventKeepsTheServerSound) (law
   nothing_asked c old new (e ∷ es) [] s r over = refl
   nothing_asked c old new (e ∷ es) (o ∷ os) s r over =
       let next : is_over c r.0 ≡ true = over_stays c old r.0 (e ∷ []) (o ∷ []) s (r.0, r.1, refl) over in
-      ap (λ v. v ++ asked c (after old e o) es os) (asked_when_over c old e over)
+      ap (λ v. v ++ asked c (after old e o) es os) (asked_is c old e true over)
       ∙ ap (λ t. asked c t es os) (sym r.1.leaves)
       ∙ nothing_asked c r.0 new es os (sound old r.0 e o r.1 s) r.2 next
 
@@ -163,8 +135,8 @@ module _ (never : WhatNeverGoesBack) (sound : EachEventKeepsTheServerSound) (law
         begins = subst (λ ys. IsBeginning ys (along (with_room c) old (e ∷ es) (o ∷ os))) (sym (nothing_asked c old new (e ∷ es) (o ∷ os) s r over)) (along (with_room c) old (e ∷ es) (o ∷ os), refl);
       }
       by_end rest false going = record {
-        going = λ h. ap (λ v. v ++ along (with_room c) (after old e o) es os) (sym (asked_goes_on c old e going)) ∙ ap (λ v. asked_in_event c old e ++ v) (rest.going h);
-        begins = subst (λ v. IsBeginning (asked c old (e ∷ es) (o ∷ os)) (v ++ along (with_room c) (after old e o) es os)) (asked_goes_on c old e going)
+        going = λ h. ap (λ v. v ++ along (with_room c) (after old e o) es os) (sym (asked_is c old e false going)) ∙ ap (λ v. asked_in_event c old e ++ v) (rest.going h);
+        begins = subst (λ v. IsBeginning (asked c old (e ∷ es) (o ∷ os)) (v ++ along (with_room c) (after old e o) es os)) (asked_is c old e false going)
             (begins_joined (asked_in_event c old e) (asked c (after old e o) es os) (along (with_room c) (after old e o) es os) rest.begins);
       }
 
@@ -220,27 +192,12 @@ took_here : (p q n : ℕ) (b : Bool) (s : ServerState) (xs : List ℕ) → (p ==
 took_here p q n false s xs same e h = refl
 took_here p q n true s xs same e h = subst (λ ys. take n xs ≡ (if nat_le n (length ys) then take n ys else [])) (e ∙ ap (λ k. option_map_or (λ x. x.owed) (ups_at k s) []) (eqb-true p q same)) (within n xs h)
 
+took_of_driver : (u v : UpsId) (s : ServerState) (n : ℕ) (xs : List ℕ) → xs ≡ owed_to_driver v s → n ≤ length xs
+    → (if v.place == u.place then take n xs else []) ≡ (if v.place == u.place && nat_le n (length (owed_to_driver u s)) then take n (owed_to_driver u s) else [])
+took_of_driver u v s n xs e h = took_here v.place u.place n (v.place == u.place) s xs refl e h
+
 took_fits : (u : UpsId) → Fit (took_in (is_driver u)) (took_of u)
-took_fits u = record {
-  readied = λ r. refl;
-  accepted = λ a. refl;
-  named = λ d. refl;
-  refused = refl;
-  waits = λ p most. refl;
-  ends = λ p most. refl;
-  shut = λ p. refl;
-  ups = λ s v. refl;
-  downs = λ s v. refl;
-  ticks = λ s n. refl;
-  ids = λ s n. refl;
-  opens = λ s a. refl;
-  closes = λ s d. refl;
-  tries = λ s d. refl;
-  feeds = λ s d most bytes h. refl;
-  comes = λ s v most bytes. refl;
-  takes = λ s d n xs e h. refl;
-  driver_takes = λ s v n xs e h. took_here v.place u.place n (v.place == u.place) s xs refl e h;
-}
+took_fits u = search (rules, took_of_driver)
 
 may_take_of : (n : ℕ) (o : Option UpsState) → option_map_or (λ x. x.report.connected) o false ≡ true → option_map_or (driver_may_take n) o false ≡ nat_le n (length (option_map_or (λ x. x.owed) o []))
 may_take_of n None h = cc h

@@ -1,10 +1,11 @@
 -- Turns, one after another, and what they move.
 use Rattle.std.proofs.Common.{◌≡◌, ℕ, zero, suc, Bool, true, false, List, [], ◌∷◌, ◌++◌, length, take, Option, Some, None, refl, sym, ap, subst, ◌∙◌, append-nil, append_assoc, arith, rules, All}
-use Rattle.std.specs.Prelude.{◌≤◌, ◌==◌, if◌then◌else◌, Result, Ok, Err, nat_le}
+use Rattle.std.specs.Prelude.{◌≤◌, ◌==◌, if◌then◌else◌, Result, Ok, Err, IfSome, IsTrue, nat_le}
+use Rattle.std.specs.Option.{option_map_or}
 use Rattle.std.specs.List.{flat_map}
 use Rattle.std.proofs.lemmas.Grind.{flat_map-append}
 use Rattle.std.proofs.lemmas.Bool.Decides.{nat_tests}
-use Rattle.std.proofs.lemmas.List.Elements.{All-nil, All-append}
+use Rattle.std.proofs.lemmas.List.Elements.{All-nil, All-cons}
 use Rattle.nutusers.specs.declared.ups_list.UpsId.{UpsId}
 use Rattle.nutcore.specs.declared.event.Event.{Event}
 use Rattle.nutcore.specs.declared.event.Outcome.{Outcome}
@@ -15,8 +16,10 @@ use Rattle.nutcore.specs.Step.{after, offered, may_take}
 use Rattle.nutcore.specs.Run.{Run}
 use Rattle.nutcore.specs.History.{taken, taken_in_event}
 use Rattle.nutcore.specs.DriverHistory.{came, came_in_event}
+use Rattle.nutcore.specs.DriverOrders.{owed_to_driver}
 use Rattle.nutcore.specs.ReadsBack.{HasLawfulAddress}
-use Rattle.nutcore.specs.Addresses.{OpensLawfully, EveryRunKeepsAddressesLawful}
+use Rattle.nutcore.specs.Addresses.{OpensLawfully, EveryRunKeepsAddressesLawful, opened_from}
+use Rattle.nutwords.specs.Reading.{is_address}
 use Rattle.nutloop.specs.declared.fault.LoopFault.{LoopFault}
 use Rattle.nutloop.specs.declared.fault.LoopFault.TheVariants as fault
 use Rattle.nutloop.specs.declared.sockets.Ready.{Ready}
@@ -29,7 +32,6 @@ use Rattle.nutloop.specs.Moved.{Turns, is_client, is_driver, gave_in, took_in, a
 use Rattle.nutloop.proofs.Rows.{grows_nothing, grows_joins}
 use Rattle.nutloop.specs.Serving.{IsOneRun, AnyTurnsAreOneRun, AnyTurnsKeepAddressesLawful}
 use Rattle.nutloop.proofs.Moving.{Fit, row_moves, last_moves, behind_all}
-use Rattle.nutloop.proofs.Opening.{row_opens, last_opens}
 
 -- Runs and what is found along them are joined.
 run_joins : (s mid new : ServerState) (es fs : List Event) (os qs : List Outcome) → Run s es os mid → Run mid fs qs new → Run s (es ++ fs) (os ++ qs) new
@@ -53,7 +55,6 @@ pub record Moves {S : Type 0} (calls : S → Option (List Call)) (old : ServerSt
   pub outcomes : List Outcome
   pub grown : Grows (calls sockets) (calls after) since
   pub run : Run old events outcomes new
-  pub opens : All OpensLawfully events
   pub moves : (g : Call → List ℕ) (f : ServerState → Event → List ℕ) → Fit g f → flat_map g since ≡ along f old events outcomes
 
 -- The calls of a row.
@@ -74,7 +75,6 @@ row_is_moved calls failures ready old sockets new after w = record {
   outcomes = w.outcomes ++ w.last;
   grown = w.told;
   run = run_joins old w.mid new (row_events old ready w.answer) (last_events w.mid ready w.answer) w.outcomes w.last w.makes w.finishes;
-  opens = All-append OpensLawfully (row_events old ready w.answer) (last_events w.mid ready w.answer) (row_opens old ready w.answer w.may) (last_opens w.mid ready w.answer);
   moves = λ g f fit. row_reads g f fit ready (answered (ask old ready) w.answer) (calls_behind_all (row_events old ready w.answer) w.outcomes) (calls_behind_all (last_events w.mid ready w.answer) w.last) (along f old (row_events old ready w.answer) w.outcomes)
       (row_moves g f fit old w.mid ready w.answer w.outcomes w.may w.makes) (behind_all g f fit (row_events old ready w.answer) w.outcomes) (behind_all g f fit (last_events w.mid ready w.answer) w.last)
       ∙ sym (along_joins f old w.mid (row_events old ready w.answer) (last_events w.mid ready w.answer) w.outcomes w.last w.makes
@@ -82,10 +82,10 @@ row_is_moved calls failures ready old sockets new after w = record {
 }
 
 nothing_is_moved : {S : Type 0} (calls : S → Option (List Call)) (old : ServerState) (sockets : S) (new : ServerState) (after : S) → Grows (calls sockets) (calls after) [] → new ≡ old → Moves calls old sockets new after
-nothing_is_moved calls old sockets new after told same = record { since = []; events = []; outcomes = []; grown = told; run = same; opens = All-nil OpensLawfully; moves = λ g f fit. refl }
+nothing_is_moved calls old sockets new after told same = record { since = []; events = []; outcomes = []; grown = told; run = same; moves = λ g f fit. refl }
 
 newcomer_is_moved : {S : Type 0} (calls : S → Option (List Call)) (old : ServerState) (sockets : S) (new : ServerState) (after : S) → Grows (calls sockets) (calls after) (Readied Newcomer ∷ []) → new ≡ old → Moves calls old sockets new after
-newcomer_is_moved calls old sockets new after told same = record { since = Readied Newcomer ∷ []; events = []; outcomes = []; grown = told; run = same; opens = All-nil OpensLawfully; moves = λ g f fit. append-nil (g (Readied Newcomer)) ∙ fit.readied Newcomer }
+newcomer_is_moved calls old sockets new after told same = record { since = Readied Newcomer ∷ []; events = []; outcomes = []; grown = told; run = same; moves = λ g f fit. append-nil (g (Readied Newcomer)) ∙ fit.readied Newcomer }
 
 turn_is_moved : {S : Type 0} (calls : S → Option (List Call)) (failures : S → ℕ) (old : ServerState) (sockets : S) (r : Result (Unit {0}) LoopFault) (new : ServerState) (after : S) → TurnGives calls failures old sockets r new after → Moves calls old sockets new after
 turn_is_moved calls failures old sockets (Ok u) new after t = row_is_moved calls failures t.0 old sockets new after t.1
@@ -99,7 +99,6 @@ both_are_moved calls old sockets mid middle new after x y = record {
   outcomes = x.outcomes ++ y.outcomes;
   grown = grows_joins (calls sockets) (calls middle) (calls after) x.since y.since x.grown y.grown;
   run = run_joins old mid new x.events y.events x.outcomes y.outcomes x.run y.run;
-  opens = All-append OpensLawfully x.events y.events x.opens y.opens;
   moves = λ g f fit. flat_map-append g x.since y.since ∙ ap (λ v. v ++ flat_map g y.since) (x.moves g f fit) ∙ ap (λ v. along f old x.events x.outcomes ++ v) (y.moves g f fit) ∙ sym (along_joins f old mid x.events y.events x.outcomes y.outcomes x.run);
 }
 
@@ -108,18 +107,52 @@ turns_are_moved calls failures [] old sockets new after t = nothing_is_moved cal
 turns_are_moved calls failures (r ∷ rs) old sockets new after t =
     both_are_moved calls old sockets t.0 t.1.0 new after (turn_is_moved calls failures old sockets r t.0 t.1.0 t.1.1) (turns_are_moved calls failures rs t.0 t.1.0 new after t.1.2)
 
+-- They open sessions from lawful addresses alone: of any other there would be something.
+abbrev unlawful : Option (List ℕ) → List ℕ
+unlawful address = option_map_or (λ a. if is_address a then [] else (0 ∷ [])) address []
+
+is_lawful : (address : Option (List ℕ)) → unlawful address ≡ [] → IfSome address (λ a. IsTrue (is_address a))
+is_lawful None h = tt
+is_lawful (Some a) h = of_test (is_address a) h
+  where
+    of_test : (b : Bool) → if◌then◌else◌ {A = List ℕ} b [] (0 ∷ []) ≡ [] → IsTrue b
+    of_test true h = search rules
+    of_test false h = cc h
+
+lawful_fits : Fit (λ x. []) (λ s e. unlawful (opened_from e))
+lawful_fits = search rules
+
+empty : (xs ys : List ℕ) → xs ++ ys ≡ [] → (xs ≡ []) × (ys ≡ [])
+empty [] ys h = (refl, h)
+empty (x ∷ xs) ys h = cc h
+
+none_given : (since : List Call) → flat_map {A = ℕ} (λ x. []) since ≡ []
+none_given [] = refl
+none_given (x ∷ since) = none_given since
+
+opens_lawfully : (s new : ServerState) (es : List Event) (os : List Outcome) → Run s es os new → along (λ s e. unlawful (opened_from e)) s es os ≡ [] → All OpensLawfully es
+opens_lawfully s new [] os r h = All-nil OpensLawfully
+opens_lawfully s new (e ∷ es) [] r h = absurd r
+opens_lawfully s new (e ∷ es) (o ∷ os) r h =
+    let no = empty (unlawful (opened_from e)) (along (λ s e. unlawful (opened_from e)) (after s e o) es os) h in
+    All-cons OpensLawfully e es (is_lawful (opened_from e) no.0) (opens_lawfully (after s e o) new es os (subst (λ t. Run t es os new) r.1.leaves r.2) no.1)
+
+open_lawfully : {S : Type 0} (calls : S → Option (List Call)) (old : ServerState) (sockets : S) (new : ServerState) (after : S) (m : Moves calls old sockets new after) → All OpensLawfully m.events
+open_lawfully calls old sockets new after m =
+    opens_lawfully old new m.events m.outcomes m.run (sym (m.moves (λ x. []) (λ s e. unlawful (opened_from e)) lawful_fits) ∙ none_given m.since)
+
 -- Any turns are one run.
 pub any_turns_are_one_run : {S : Type 0} (calls : S → Option (List Call)) (failures : S → ℕ) → AnyTurnsAreOneRun calls failures
 any_turns_are_one_run {S} calls failures = λ old new sockets after results turns. from old new sockets after (turns_are_moved calls failures results old sockets new after turns)
   where
     from : (old new : ServerState) (sockets after : S) → Moves calls old sockets new after → IsOneRun old new
-    from old new sockets after m = (m.events, (m.outcomes, m.run, m.opens))
+    from old new sockets after m = (m.events, (m.outcomes, m.run, open_lawfully calls old sockets new after m))
 
 pub any_turns_keep_addresses_lawful : {S : Type 0} (calls : S → Option (List Call)) (failures : S → ℕ) → EveryRunKeepsAddressesLawful → AnyTurnsKeepAddressesLawful calls failures
 any_turns_keep_addresses_lawful {S} calls failures kept = λ old new sockets after results turns lawful. from old new sockets after (turns_are_moved calls failures results old sockets new after turns) lawful
   where
     from : (old new : ServerState) (sockets after : S) → Moves calls old sockets new after → All HasLawfulAddress old.sessions → All HasLawfulAddress new.sessions
-    from old new sockets after m lawful = kept old new m.events m.outcomes m.run m.opens lawful
+    from old new sockets after m lawful = kept old new m.events m.outcomes m.run (open_lawfully calls old sockets new after m) lawful
 
 -- The four readings.
 pub none : (b : Bool) → if◌then◌else◌ {A = List ℕ} b [] [] ≡ []
@@ -127,26 +160,7 @@ none true = refl
 none false = refl
 
 fed_fits : (c : ℕ) → Fit (gave_in (is_client c)) (fed_in_event c)
-fed_fits c = record {
-  readied = λ r. refl;
-  accepted = λ a. refl;
-  named = λ d. refl;
-  refused = refl;
-  waits = λ p most. refl;
-  ends = λ p most. refl;
-  shut = λ p. refl;
-  ups = λ s u. refl;
-  downs = λ s u. refl;
-  ticks = λ s n. refl;
-  ids = λ s n. refl;
-  opens = λ s a. refl;
-  closes = λ s d. refl;
-  tries = λ s d. none (d == c);
-  feeds = λ s d most bytes h. refl;
-  comes = λ s u most bytes. refl;
-  takes = λ s d n xs e h. refl;
-  driver_takes = λ s u n xs e h. refl;
-}
+fed_fits c = search (rules, none)
 
 -- The front of a front.
 front : (n r : ℕ) (ys : List ℕ) → n ≤ length (take r ys) → take n (take r ys) ≡ take n ys
@@ -173,72 +187,23 @@ taken_of : (b : Bool) (n : ℕ) (o : Option SessionState) → n ≤ length (offe
 taken_of b n None h = nothing_of b n h
 taken_of b n (Some x) h = rw (within n (length (offered (Some x))) h) (ap (λ ys. if b then ys else []) (front_of n x h))
 
+takes_of : (c : ℕ) (s : ServerState) (d n : ℕ) (xs : List ℕ) → xs ≡ offered (session d s) → n ≤ length xs
+    → (if d == c then take n xs else []) ≡ (if may_take (session d s) n then (if d == c then take n (owed_of (session d s)) else []) else [])
+takes_of c s d n xs e h = ap (λ ys. if d == c then take n ys else []) e ∙ taken_of (d == c) n (session d s) (subst (λ ys. n ≤ length ys) e h)
+
 pub taken_fits : (c : ℕ) → Fit (took_in (is_client c)) (taken_in_event c)
 unfolding taken_in_event
-taken_fits c = record {
-  readied = λ r. refl;
-  accepted = λ a. refl;
-  named = λ d. refl;
-  refused = refl;
-  waits = λ p most. refl;
-  ends = λ p most. refl;
-  shut = λ p. refl;
-  ups = λ s u. refl;
-  downs = λ s u. refl;
-  ticks = λ s n. refl;
-  ids = λ s n. refl;
-  opens = λ s a. refl;
-  closes = λ s d. refl;
-  tries = λ s d. refl;
-  feeds = λ s d most bytes h. refl;
-  comes = λ s u most bytes. refl;
-  takes = λ s d n xs e h. ap (λ ys. if d == c then take n ys else []) e ∙ taken_of (d == c) n (session d s) (subst (λ ys. n ≤ length ys) e h);
-  driver_takes = λ s u n xs e h. refl;
-}
+taken_fits c = search (rules, takes_of)
 
 pub came_fits : (u : UpsId) → Fit (gave_in (is_driver u)) (λ s e. came_in_event u e)
-came_fits u = record {
-  readied = λ r. refl;
-  accepted = λ a. refl;
-  named = λ d. refl;
-  refused = refl;
-  waits = λ p most. refl;
-  ends = λ p most. refl;
-  shut = λ p. refl;
-  ups = λ s v. refl;
-  downs = λ s v. refl;
-  ticks = λ s n. refl;
-  ids = λ s n. refl;
-  opens = λ s a. refl;
-  closes = λ s d. refl;
-  tries = λ s d. refl;
-  feeds = λ s d most bytes h. refl;
-  comes = λ s v most bytes. refl;
-  takes = λ s d n xs e h. refl;
-  driver_takes = λ s v n xs e h. refl;
-}
+came_fits u = search rules
+
+driver_takes_of : (u v : UpsId) (s : ServerState) (n : ℕ) (xs : List ℕ) → xs ≡ owed_to_driver v s
+    → (if v.place == u.place then take n xs else []) ≡ (if v.place == u.place then take n (owed_to_driver v s) else [])
+driver_takes_of u v s n xs e = ap (λ ys. if v.place == u.place then take n ys else []) e
 
 driver_took_fits : (u : UpsId) → Fit (took_in (is_driver u)) (driver_took_in_event u)
-driver_took_fits u = record {
-  readied = λ r. refl;
-  accepted = λ a. refl;
-  named = λ d. refl;
-  refused = refl;
-  waits = λ p most. refl;
-  ends = λ p most. refl;
-  shut = λ p. refl;
-  ups = λ s v. refl;
-  downs = λ s v. refl;
-  ticks = λ s n. refl;
-  ids = λ s n. refl;
-  opens = λ s a. refl;
-  closes = λ s d. refl;
-  tries = λ s d. refl;
-  feeds = λ s d most bytes h. refl;
-  comes = λ s v most bytes. refl;
-  takes = λ s d n xs e h. refl;
-  driver_takes = λ s v n xs e h. ap (λ ys. if v.place == u.place then take n ys else []) e;
-}
+driver_took_fits u = search (rules, driver_takes_of)
 
 -- The histories of nutcore are such readings.
 pub taken_is_along : (c : ℕ) (s : ServerState) (es : List Event) (os : List Outcome) → along (taken_in_event c) s es os ≡ taken c s es os

@@ -2,8 +2,8 @@
 use Rattle.std.specs.Prelude.{◌≡◌, ◌⊎◌, ◌+◌, ◌≤◌, Bool, true, false, List, [], ◌∷◌, length}
 use Rattle.nutloop.specs.declared.over_mio.pass.Pass.{Pass}
 use Rattle.nutloop.specs.declared.over_mio.pass.Stop.{Stop}
-use Rattle.nutloop.specs.declared.over_mio.pass.TheConstants.{TURNS_PER_LOOK}
-use Rattle.nutloop.specs.Pass.{HasTurn, IsOver, STOPS, again, fresh, goes_on}
+use Rattle.nutloop.specs.declared.over_mio.pass.TheConstants.{STOPS, TURNS_PER_LOOK}
+use Rattle.nutloop.specs.Pass.{HasTurn, IsOver, again, fresh, goes_on}
 
 -- A turn without a look: one of this pass, or of the next one where the loop goes on without a look.
 abbrev pub HasNext : (Stop → Bool) → Pass → Stop → Pass → Type 0

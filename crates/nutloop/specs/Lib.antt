@@ -6,7 +6,6 @@ pub mod Moved
 pub mod Numbers
 pub mod OverMio
 pub mod Pass
-pub mod Scripted
 pub mod Serving
 pub mod SocketToSocket
 pub mod Sockets

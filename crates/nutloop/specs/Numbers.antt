@@ -1,10 +1,9 @@
 -- The numbers of the loop.
 use Rattle.std.specs.Prelude.{◌≡◌, ◌+◌, ◌-◌, ◌^◌}
 use Rattle.nutloop.specs.declared.over_mio.closing.TheConstants.{CLOSING_LIMIT, CLOSING_TICKS}
-use Rattle.nutloop.specs.declared.over_mio.pass.TheConstants.{TURNS_PER_LOOK}
+use Rattle.nutloop.specs.declared.over_mio.pass.TheConstants.{STOPS, TURNS_PER_LOOK}
 use Rattle.nutloop.specs.declared.serving.TheConstants.{TURN_LIMIT}
 use Rattle.nutloop.specs.declared.turns.TheConstants.{DRIVER_READ_LIMIT}
-use Rattle.nutloop.specs.Pass.{STOPS}
 
 pub record Numbers : Type 0 where
   pub driver_read : DRIVER_READ_LIMIT ≡ 512

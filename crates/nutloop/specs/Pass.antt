@@ -1,11 +1,9 @@
 -- One pass over all peers, and what holds between two looks at the system.
-use Rattle.std.specs.Prelude.{◌≡◌, ◌⊎◌, ◌+◌, ◌*◌, ◌^◌, ◌-◌, ◌<◌, ◌≤◌, ◌==◌, ◌&&◌, ◌||◌, ℕ, Bool, true, false, not}
+use Rattle.std.specs.Prelude.{◌≡◌, ◌⊎◌, ◌+◌, ◌^◌, ◌-◌, ◌<◌, ◌≤◌, ◌==◌, ◌&&◌, ◌||◌, ℕ, Bool, true, false, not}
 use Rattle.std.specs.Prelude.{List, Option, Some, None, if◌then◌else◌, length, min, nat_lt, slice_get}
 use Rattle.std.specs.Option.{option_map_or}
 use Rattle.nutusers.specs.UpsList.{id_at}
 use Rattle.nutusers.specs.declared.ups_list.UpsId.{UpsId}
-use Rattle.nutusers.specs.declared.limits.TheConstants.{UPS_LIMIT}
-use Rattle.nutlisting.specs.declared.listing.clients.TheConstants.{SESSION_LIMIT}
 use Rattle.nutcore.specs.Server.{ServerState}
 use Rattle.nutcore.specs.DriverHistory.{has_driver}
 use Rattle.nutcore.specs.DriverOrders.{owed_to_driver}
@@ -16,7 +14,7 @@ use Rattle.nutloop.specs.declared.over_mio.pass.Stop.{Stop}
 use Rattle.nutloop.specs.declared.over_mio.pass.Stop.TheVariants as stop
 use Rattle.nutloop.specs.declared.over_mio.pass.Way.{Way}
 use Rattle.nutloop.specs.declared.over_mio.pass.Way.TheVariants.{Read, Write}
-use Rattle.nutloop.specs.declared.over_mio.pass.TheConstants.{TURNS_PER_LOOK}
+use Rattle.nutloop.specs.declared.over_mio.pass.TheConstants.{CLIENT_READS, CLIENT_WRITES, DRIVER_READS, DRIVER_WRITES, STOPS, TURNS_PER_LOOK}
 
 -- A client that is owed something is read where its session has room, unless it has ended. One that
 -- is finished is written to, which closes it.
@@ -59,57 +57,36 @@ FirstFrom may from None = (k : ℕ) → from ≤ k → may k ≡ false
 
 -- The first pass after a look, and the next one without a look.
 abbrev pub fresh : Pass
-fresh =
-    record {
-      was_at_listener = false;
-      driver_reads = 0;
-      driver_writes = 0;
-      client_reads = 0;
-      client_writes = 0;
-      had_turn = false;
-      was_driver_read = false;
-      turns = 0;
-    }
+fresh = record { next = 0; had_turn = false; was_driver_read = false; turns = 0 }
 
 abbrev pub again : Pass → Pass
-again pass = record fresh { was_driver_read = pass.was_driver_read; turns = pass.turns }
+again pass = record pass { next = 0; had_turn = false }
+
+-- The numbers of the stops, in the order of their visits: the listener, the reads of drivers, the
+-- writes to them, the reads of clients, the writes to them.
+abbrev pub number : Stop → ℕ
+number stop.Listener = 0
+number (stop.Driver place Read) = DRIVER_READS + place
+number (stop.Driver place Write) = DRIVER_WRITES + place
+number (stop.Client place Read) = CLIENT_READS + place
+number (stop.Client place Write) = CLIENT_WRITES + place
 
 -- The stop was visited in this pass.
 abbrev pub WasVisited : Pass → Stop → Type 0
-WasVisited pass stop.Listener = pass.was_at_listener ≡ true
-WasVisited pass (stop.Driver place Read) = place < pass.driver_reads
-WasVisited pass (stop.Driver place Write) = place < pass.driver_writes
-WasVisited pass (stop.Client place Read) = place < pass.client_reads
-WasVisited pass (stop.Client place Write) = place < pass.client_writes
-
--- How many stops were visited, and that no more are than there are.
-abbrev pub visited : Pass → ℕ
-visited pass =
-    (if pass.was_at_listener then 1 else 0) + pass.driver_reads + pass.driver_writes
-    + pass.client_reads + pass.client_writes
-
-abbrev pub STOPS : ℕ
-STOPS = 1 + 2 * UPS_LIMIT + 2 * SESSION_LIMIT
-
-pub record IsWithin (pass : Pass) : Type 0 where
-  pub driver_reads : pass.driver_reads ≤ UPS_LIMIT
-  pub driver_writes : pass.driver_writes ≤ UPS_LIMIT
-  pub client_reads : pass.client_reads ≤ SESSION_LIMIT
-  pub client_writes : pass.client_writes ≤ SESSION_LIMIT
+WasVisited pass s = number s < pass.next
 
 -- A visit has one turn, at a stop that wasn't visited before and at which something may be done. Or
 -- the pass is over. Of the others nothing could be done at any that is visited from now on.
 pub record HasTurn (may : Stop → Bool) (old : Pass) (told : Stop) (new : Pass) : Type 0 where
   pub ready : may told ≡ true
   pub others : (s : Stop) → WasVisited new s → WasVisited old s ⊎ ((s ≡ told) ⊎ (may s ≡ false))
-  pub more : IsWithin old → visited old + 1 ≤ visited new
+  pub more : old.next < new.next
+  pub within : new.next ≤ STOPS
   pub turns : new.turns ≡ min (old.turns + 1) (2 ^ 32 - 1)
-  pub within : IsWithin old → IsWithin new
 
 pub record IsOver (may : Stop → Bool) (old new : Pass) : Type 0 where
   pub nobody : (s : Stop) → may s ≡ true → WasVisited old s
-  pub turns : new.turns ≡ old.turns
-  pub had_turn : new.had_turn ≡ old.had_turn
+  pub same : new ≡ old
 
 abbrev pub Visits : (Stop → Bool) → Pass → Option Stop → Pass → Type 0
 Visits may old (Some told) new = HasTurn may old told new

@@ -1,6 +1,6 @@
 //! Ids for tracked orders: where they come from, and how many are still to be handed in.
 ghost use Rattle.std.specs.Prelude.{◌≡◌, ◌+◌, ◌^◌, ◌-◌, min};
-ghost use Rattle.nutloop.specs.Ids.{GivesNext, ReadsId};
+ghost use Rattle.nutloop.specs.Ids.{GivesNext};
 ghost use Rattle.nuttracking.specs.declared.limits.TheConstants.{ID_LIMIT};
 
 use nuttracking::ID_LIMIT;
@@ -28,29 +28,19 @@ impl<F: Read> Ids<F> {
         }
     }
 
-    /// The id of the next sixteen bytes, the first of them the highest. A read that fails, or ends before them, gives none.
-    fn read(&mut self) -> Option<u128>
-        ensures id { ReadsId (F.remaining self.old.bytes) result (F.remaining self.new.bytes) }
-        ensures due { self.new.due ≡ self.old.due }
-    {
-        let mut bytes = [0; ID_SIZE];
-        match self.bytes.read_exact(&mut bytes) {
-            Ok(()) => Some(u128::from_be_bytes(bytes)),
-            Err(_) => None,
-        }
-    }
-
-    /// The next one. Where the reader gives none, no more are due up to the next tick.
+    /// The next one: the first of its sixteen bytes is the highest. Where a read fails, or ends before them, no more are due
+    /// up to the next tick.
     pub fn next(&mut self) -> Option<u128>
         ensures { GivesNext F.remaining
             self.old.due self.old.bytes result self.new.due self.new.bytes }
     {
-        if self.due == 0 {
-            return None;
+        self.due = self.due.checked_sub(1)?;
+        let mut bytes = [0; ID_SIZE];
+        if self.bytes.read_exact(&mut bytes).is_ok() {
+            return Some(u128::from_be_bytes(bytes));
         }
-        let id = self.read();
-        self.due = if id.is_some() { self.due - 1 } else { 0 };
-        id
+        self.due = 0;
+        None
     }
 
     /// After a tick one more is due.

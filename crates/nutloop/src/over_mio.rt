@@ -1,12 +1,12 @@
 //! The sockets over `mio`: clients come over TCP, and drivers are connected to over Unix sockets.
-ghost use Rattle.std.specs.Prelude.{◌≡◌, ◌≤◌, ◌*◌, ◌-◌, ◌∷◌, [], length, IfOk, None, OnOk};
+ghost use Rattle.std.specs.Prelude.{◌≡◌, ◌*◌, ◌-◌, ◌∷◌, [], IfOk, None, OnOk};
 ghost use Rattle.nutio.specs.Ends.{IsCounted, counted};
-ghost use Rattle.nutloop.specs.Sockets.{AtMost, Grows, Logs, read_call};
+ghost use Rattle.nutloop.specs.Sockets.{Grows};
 ghost use Rattle.std.specs.Duration.{as_nanos};
 ghost use Rattle.nutloop.specs.Clock.{Ticks, next_second};
 ghost use Rattle.nutloop.specs.OverMio.{AnswersReady, GivesTurn, client_turn, driver_turn, error_of, refused, turn_of};
 ghost use Rattle.nutloop.specs.Pass.{fresh};
-ghost use Rattle.nutloop.specs.declared.sockets.Call.TheVariants.{Accepted, Named, Readied, Refused, Shut, Wrote};
+ghost use Rattle.nutloop.specs.declared.sockets.Call.TheVariants.{Refused};
 
 mod clients;
 mod closing;
@@ -19,11 +19,10 @@ mod tokens;
 use crate::Ids;
 use crate::sockets::{Broken, Got, Ready, Sockets};
 use arrayvec::ArrayVec;
-use clients::{Client, Clients, read_client, take_in, take_out, write_client};
+use clients::{Client, Clients, slot_of, take_in};
 use closing::{CLOSING_LIMIT, Closing, close};
 use door::Door;
-use drivers::{Driver, Drivers, connect, read_driver, write_driver};
-use mio::event::Event;
+use drivers::{Driver, Drivers, connect, socket_of};
 use mio::{Events, Poll};
 use nutcore::{ClientId, Peer, Server, UpsId};
 use nutwords::Address;
@@ -58,40 +57,6 @@ pub struct MioSockets<'a, R, F> {
     here: usize,
     failures: u64,
     refusals: u64,
-}
-
-/// Notes what an event reports.
-fn hear(
-    door: &mut Door,
-    drivers: &mut Drivers,
-    clients: &mut Clients,
-    closing: &mut [Closing],
-    event: &Event,
-) {
-    match Source::of(event.token()) {
-        Source::Listener => door.is_knocked_at = true,
-        Source::Driver(place) => {
-            if let Some(
-                Driver {
-                    socket: Some(socket),
-                    ..
-                },
-            ) = drivers.get_mut(place)
-            {
-                socket.hear(event);
-            }
-        }
-        Source::Client(place) => {
-            if let Some(Some(client)) = clients.get_mut(place) {
-                client.socket.hear(event);
-            }
-        }
-        Source::Closing => {
-            for connection in closing.iter_mut() {
-                connection.readable = true;
-            }
-        }
-    }
 }
 
 impl<'a, R: Net + Clock, F: Read + Drop> MioSockets<'a, R, F> {
@@ -139,7 +104,7 @@ impl<'a, R: Net + Clock, F: Read + Drop> MioSockets<'a, R, F> {
     ///
     /// The system doesn't tell it.
     pub fn local_addr(&self) -> io::Result<SocketAddr> {
-        self.door.local_addr()
+        self.door.listener.local_addr()
     }
 
     /// The system's number of the error by which the driver of the UPS couldn't be connected to, when that was tried last.
@@ -223,15 +188,7 @@ impl<'a, R: Net + Clock, F: Read + Drop> MioSockets<'a, R, F> {
     {
         let wait = self.wait()?;
         self.poll.poll(&mut self.events, Some(wait))?;
-        for event in self.events.iter() {
-            hear(
-                &mut self.door,
-                &mut self.drivers,
-                &mut self.clients,
-                &mut self.closing,
-                event,
-            );
-        }
+        self.hear();
         self.pass = Pass::new();
         let second = self.start.elapsed(self.rt)?.as_secs();
         if !self.closing.is_empty() {
@@ -250,9 +207,41 @@ impl<'a, R: Net + Clock, F: Read + Drop> MioSockets<'a, R, F> {
         Ok(Some(second))
     }
 
+    /// Notes what the system reports.
+    fn hear(&mut self)
+        ensures { self.new ≡ record self.old {
+          door = self.new.door;
+          drivers = self.new.drivers;
+          clients = self.new.clients;
+          closing = self.new.closing;
+        } }
+    {
+        for event in self.events.iter() {
+            match Source::of(event.token()) {
+                Source::Listener => self.door.is_knocked_at = true,
+                Source::Driver(place) => {
+                    if let Some(socket) = socket_of(&mut self.drivers, place) {
+                        socket.hear(event);
+                    }
+                }
+                Source::Client(place) => {
+                    if let Some(Some(client)) = self.clients.get_mut(place) {
+                        client.socket.hear(event);
+                    }
+                }
+                Source::Closing => {
+                    for connection in self.closing.iter_mut() {
+                        connection.socket.readable = true;
+                    }
+                }
+            }
+        }
+    }
+
     /// How long the system may be waited for.
     fn wait(&self) -> io::Result<Duration> {
-        if self.pass.had_turn() || self.closing.iter().any(|connection| connection.readable) {
+        let is_left = self.closing.iter().any(|one| one.socket.readable);
+        if self.pass.had_turn || is_left {
             return Ok(Duration::ZERO);
         }
         Ok(up_to_tick(self.second, self.start.elapsed(self.rt)?))
@@ -312,26 +301,17 @@ impl<'a, R: Net + Clock, F: Read + Drop> Sockets for MioSockets<'a, R, F> {
 
     ghost failures = { λ s. s.failures };
 
-    fn ready(&mut self, server: &Server) -> Result<Ready, Broken>
-        ensures told { Logs None None Readied result }
-        ensures count { IsCounted self.old.failures self.new.failures result }
-    {
+    fn ready(&mut self, server: &Server) -> Result<Ready, Broken> {
         let answer = self.next(server).map_err(|_| Broken);
         self.count(answer)
     }
 
-    fn accept(&mut self) -> Result<Option<Address>, Broken>
-        ensures told { Logs None None Accepted result }
-        ensures count { IsCounted self.old.failures self.new.failures result }
-    {
+    fn accept(&mut self) -> Result<Option<Address>, Broken> {
         let answer = self.door.accept();
         self.count(answer)
     }
 
-    fn name(&mut self, c: ClientId)
-        ensures told { Grows None None (Named c ∷ []) }
-        ensures count { self.new.failures ≡ self.old.failures }
-    {
+    fn name(&mut self, c: ClientId) {
         if let Some(stream) = self.door.newcomer.take() {
             take_in(&mut self.clients, self.poll.registry(), c, stream);
         }
@@ -346,39 +326,42 @@ impl<'a, R: Net + Clock, F: Read + Drop> Sockets for MioSockets<'a, R, F> {
         self.refusals = self.refusals.saturating_add(1);
     }
 
-    fn read(&mut self, p: Peer, into: &mut [u8]) -> Result<Got, Broken>
-        ensures bound { AtMost result into.new }
-        ensures told { Logs None None (read_call p into.new) result }
-        ensures count { IsCounted self.old.failures self.new.failures result }
-    {
+    fn read(&mut self, p: Peer, into: &mut [u8]) -> Result<Got, Broken> {
         let answer = match p {
-            Peer::Client(c) => read_client(&mut self.clients, self.here, c, into),
-            Peer::Driver(u) => read_driver(&mut self.drivers, u, into),
+            Peer::Client(c) => match slot_of(&mut self.clients, self.here, c) {
+                Some(Some(client)) => client.socket.read(into, client.standing.is_owed),
+                _ => Ok(Got::End),
+            },
+            Peer::Driver(u) => match socket_of(&mut self.drivers, u.place as usize) {
+                Some(socket) => socket.read(into, false),
+                None => Ok(Got::End),
+            },
         };
         self.count(answer)
     }
 
-    fn write(&mut self, p: Peer, from: &[u8]) -> Result<usize, Broken>
-        ensures bound { IfOk result (λ n. n ≤ length from.now) }
-        ensures told { Logs None None (Wrote p from.now) result }
-        ensures count { IsCounted self.old.failures self.new.failures result }
-    {
+    fn write(&mut self, p: Peer, from: &[u8]) -> Result<usize, Broken> {
         let answer = match p {
-            Peer::Client(c) => write_client(&mut self.clients, self.here, c, from),
-            Peer::Driver(u) => write_driver(&mut self.drivers, u, from),
+            Peer::Client(c) => match slot_of(&mut self.clients, self.here, c) {
+                Some(Some(client)) => client.socket.write(from),
+                _ => Err(Broken),
+            },
+            Peer::Driver(u) => match socket_of(&mut self.drivers, u.place as usize) {
+                Some(socket) => socket.write(from),
+                None => Err(Broken),
+            },
         };
         self.count(answer)
     }
 
-    fn shut(&mut self, p: Peer)
-        ensures told { Grows None None (Shut p ∷ []) }
-        ensures count { self.new.failures ≡ self.old.failures }
-    {
+    fn shut(&mut self, p: Peer) {
         match p {
             Peer::Client(c) => {
-                if let Some(client) = take_out(&mut self.clients, self.here, c) {
-                    let registry = self.poll.registry();
-                    close(&mut self.closing, registry, client.socket, self.second);
+                if let Some(slot) = slot_of(&mut self.clients, self.here, c) {
+                    if let Some(client) = slot.take() {
+                        let registry = self.poll.registry();
+                        close(&mut self.closing, registry, client.socket, self.second);
+                    }
                 }
             }
             Peer::Driver(u) => {

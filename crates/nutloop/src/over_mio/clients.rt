@@ -1,14 +1,12 @@
 //! Clients.
-ghost use Rattle.std.specs.Prelude.{◌≡◌, ◌<◌, ◌≤◌, length, IfOk, IfSome};
+ghost use Rattle.std.specs.Prelude.{◌≡◌, ◌<◌, ◌≤◌, length, IfSome};
 ghost use Rattle.nutcore.specs.Status.{standing_of};
 ghost use Rattle.nutlisting.specs.declared.listing.clients.TheConstants.{SESSION_LIMIT};
-ghost use Rattle.nutloop.specs.Sockets.{AtMost};
 ghost use Rattle.nutloop.specs.Pass.{FirstFrom, client_at, client_may};
 
 use super::pass::Way;
 use super::socket::{Socket, both_ways};
 use super::tokens::Source;
-use crate::sockets::{Broken, Got};
 use arrayvec::ArrayVec;
 use mio::Registry;
 use mio::net::TcpStream;
@@ -67,52 +65,19 @@ pub(super) fn client_from(clients: &[Option<Client>], from: usize, way: Way) -> 
     None
 }
 
-/// The place of this client. It is looked for at one place first.
-fn place_of(clients: &[Option<Client>], here: usize, c: ClientId) -> Option<usize>
-    ensures { IfSome result (λ place. place < length clients.now) }
-{
-    match clients.get(here) {
-        Some(Some(client)) if client.id == c => Some(here),
+/// The slot of this client. It is looked for at one place first.
+pub(super) fn slot_of(
+    clients: &mut Clients,
+    here: usize,
+    c: ClientId,
+) -> Option<&mut Option<Client>> {
+    let place = match clients.get(here) {
+        Some(Some(client)) if client.id == c => here,
         _ => clients
             .iter()
-            .position(|slot| matches!(slot, Some(client) if client.id == c)),
-    }
-}
-
-/// The client of this session.
-fn client_of(clients: &mut Clients, here: usize, c: ClientId) -> Option<&mut Client> {
-    let place = place_of(clients.as_slice(), here, c)?;
-    clients.get_mut(place)?.as_mut()
-}
-
-/// Reads what the client sends. One that isn't here has ended.
-pub(super) fn read_client(
-    clients: &mut Clients,
-    here: usize,
-    c: ClientId,
-    into: &mut [u8],
-) -> Result<Got, Broken>
-    ensures { AtMost result into.new }
-{
-    match client_of(clients, here, c) {
-        Some(client) => client.socket.read(into, client.standing.is_owed),
-        None => Ok(Got::End),
-    }
-}
-
-/// Writes to the client.
-pub(super) fn write_client(
-    clients: &mut Clients,
-    here: usize,
-    c: ClientId,
-    from: &[u8],
-) -> Result<usize, Broken>
-    ensures { IfOk result (λ n. n ≤ length from.now) }
-{
-    match client_of(clients, here, c) {
-        Some(client) => client.socket.write(from),
-        None => Err(Broken),
-    }
+            .position(|slot| matches!(slot, Some(client) if client.id == c))?,
+    };
+    clients.get_mut(place)
 }
 
 /// The client has the first place that nobody has.
@@ -151,10 +116,4 @@ fn registered(registry: &Registry, id: ClientId, mut stream: TcpStream, place: u
             is_finished: false,
         },
     }
-}
-
-/// The client leaves its place.
-pub(super) fn take_out(clients: &mut Clients, here: usize, c: ClientId) -> Option<Client> {
-    let place = place_of(clients.as_slice(), here, c)?;
-    clients.get_mut(place)?.take()
 }

@@ -22,20 +22,19 @@ const PIECE: usize = 4096;
 /// with unread input is reset, and the client loses its last answer.
 #[derive(Drop)]
 pub(super) struct Closing {
-    stream: TcpStream,
+    pub socket: Socket<TcpStream>,
     /// The second at which it is closed.
     until: u64,
-    pub readable: bool,
 }
 
 impl Closing {
     /// Reads a piece and drops it. Whether the client has ended.
     fn has_ended(&mut self) -> bool {
         let mut bytes = [0; PIECE];
-        match self.stream.read(&mut bytes) {
+        match self.socket.stream.read(&mut bytes) {
             Ok(n) => n == 0,
             Err(error) => {
-                self.readable = false;
+                self.socket.readable = false;
                 error.kind() != ErrorKind::WouldBlock
             }
         }
@@ -43,7 +42,7 @@ impl Closing {
 
     /// Reads a piece, where there may be one. Whether the connection is read on: up to its second and its end.
     pub fn goes_on(&mut self, second: u64) -> bool {
-        second < self.until && !(self.readable && self.has_ended())
+        second < self.until && !(self.socket.readable && self.has_ended())
     }
 }
 
@@ -51,21 +50,16 @@ impl Closing {
 pub(super) fn close(
     closing: &mut Vec<Closing>,
     registry: &Registry,
-    socket: Socket<TcpStream>,
+    mut socket: Socket<TcpStream>,
     second: u64,
 )
     ensures { vec_len closing.old ≤ CLOSING_LIMIT → vec_len closing.new ≤ CLOSING_LIMIT }
 {
-    let Socket {
-        mut stream,
-        ended,
-        ..
-    } = socket;
-    let token = Source::Closing.token();
-    if ended
-        || stream.shutdown(Shutdown::Write).is_err()
+    let (token, interest) = (Source::Closing.token(), Interest::READABLE);
+    if socket.ended
+        || socket.stream.shutdown(Shutdown::Write).is_err()
         || registry
-            .reregister(&mut stream, token, Interest::READABLE)
+            .reregister(&mut socket.stream, token, interest)
             .is_err()
     {
         return;
@@ -73,9 +67,7 @@ pub(super) fn close(
     if closing.len() >= CLOSING_LIMIT {
         let _oldest = closing.remove(0);
     }
-    let _ = closing.push(Closing {
-        stream,
-        until: second.saturating_add(CLOSING_TICKS),
-        readable: true,
-    });
+    socket.readable = true;
+    let until = second.saturating_add(CLOSING_TICKS);
+    let _ = closing.push(Closing { socket, until });
 }

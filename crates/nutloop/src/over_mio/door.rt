@@ -1,5 +1,5 @@
 //! The listener, and the newcomer that it took in last.
-ghost use Rattle.std.specs.Prelude.{◌≡◌, ◌≢◌};
+ghost use Rattle.std.specs.Prelude.{◌≡◌, ◌≢◌, true, false, Ok, IsErr};
 
 use super::tokens::Source;
 use crate::sockets::Broken;
@@ -15,37 +15,28 @@ use std::{fmt, io};
 #[derive(Drop)]
 pub(super) struct Door {
     alloc: Global,
-    listener: TcpListener,
+    pub listener: TcpListener,
     /// Newcomers may be waiting.
     pub is_knocked_at: bool,
     pub newcomer: Option<TcpStream>,
 }
 
-/// Why no newcomer was taken in.
-#[derive(Clone, Copy, PartialEq, Eq)]
-pub(super) enum Cause {
-    /// The listener listens no more.
-    Dead,
-    /// The newcomer left. Others may be waiting.
-    Left,
-    /// Nobody is waiting, or descriptors or memory ran out: it is tried again at the next event or tick.
-    Later,
-}
-
-impl Cause {
-    /// What an error of `accept` means. Only a socket that doesn't listen gives EINVAL, and a newcomer that left gives
-    /// ECONNABORTED (accept(2)). All others pass by themselves.
-    pub fn of(kind: ErrorKind) -> Cause
-        ensures dead { kind ≡ ErrorKind.InvalidInput → result ≡ Cause.Dead }
-        ensures left { kind ≡ ErrorKind.ConnectionAborted → result ≡ Cause.Left }
-        ensures later { kind ≢ ErrorKind.InvalidInput → kind ≢ ErrorKind.ConnectionAborted
-            → result ≡ Cause.Later }
-    {
-        match kind {
-            ErrorKind::InvalidInput => Cause::Dead,
-            ErrorKind::ConnectionAborted => Cause::Left,
-            _ => Cause::Later,
-        }
+/// Whether newcomers may be waiting after this error of `accept`. A newcomer that left gives ECONNABORTED (accept(2)). All
+/// errors pass by themselves but one: it is tried again at the next event or tick.
+///
+/// # Errors
+///
+/// Only a socket that doesn't listen gives EINVAL.
+fn may_wait_after(kind: ErrorKind) -> Result<bool, Broken>
+    ensures dead { kind ≡ ErrorKind.InvalidInput → IsErr result }
+    ensures left { kind ≡ ErrorKind.ConnectionAborted → result ≡ Ok true }
+    ensures later { kind ≢ ErrorKind.InvalidInput → kind ≢ ErrorKind.ConnectionAborted
+        → result ≡ Ok false }
+{
+    match kind {
+        ErrorKind::InvalidInput => Err(Broken),
+        ErrorKind::ConnectionAborted => Ok(true),
+        _ => Ok(false),
     }
 }
 
@@ -67,11 +58,6 @@ impl Door {
         })
     }
 
-    /// The address at which it listens.
-    pub fn local_addr(&self) -> io::Result<SocketAddr> {
-        self.listener.local_addr()
-    }
-
     /// The next newcomer's address, or `None` where nobody is taken in.
     ///
     /// # Errors
@@ -80,14 +66,10 @@ impl Door {
     pub fn accept(&mut self) -> Result<Option<Address>, Broken> {
         match self.listener.accept() {
             Ok((stream, address)) => Ok(self.take_in(stream, address.ip()).ok()),
-            Err(error) => match Cause::of(error.kind()) {
-                Cause::Dead => Err(Broken),
-                Cause::Left => Ok(None),
-                Cause::Later => {
-                    self.is_knocked_at = false;
-                    Ok(None)
-                }
-            },
+            Err(error) => {
+                self.is_knocked_at = may_wait_after(error.kind())?;
+                Ok(None)
+            }
         }
     }
 

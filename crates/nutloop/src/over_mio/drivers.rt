@@ -1,13 +1,11 @@
 //! Drivers.
-ghost use Rattle.std.specs.Prelude.{◌≡◌, ◌<◌, ◌≤◌, length, IfOk, IfSome};
+ghost use Rattle.std.specs.Prelude.{◌≡◌, ◌<◌, ◌≤◌, length, IfSome};
 ghost use Rattle.nutusers.specs.declared.limits.TheConstants.{UPS_LIMIT};
-ghost use Rattle.nutloop.specs.Sockets.{AtMost};
 ghost use Rattle.nutloop.specs.Pass.{FirstFrom, driver_at, driver_may};
 
 use super::pass::Way;
 use super::socket::{Socket, both_ways};
 use super::tokens::Source;
-use crate::sockets::{Broken, Got};
 use arrayvec::ArrayVec;
 use mio::Registry;
 use mio::net::UnixStream;
@@ -107,27 +105,7 @@ pub(super) fn driver_from(
     None
 }
 
-/// The socket of a driver that is connected.
-fn socket_of(drivers: &mut Drivers, u: UpsId) -> Option<&mut Socket<UnixStream>> {
-    drivers.get_mut(u.place as usize)?.socket.as_mut()
-}
-
-/// Reads what the driver sends. One that isn't connected has ended.
-pub(super) fn read_driver(drivers: &mut Drivers, u: UpsId, into: &mut [u8]) -> Result<Got, Broken>
-    ensures { AtMost result into.new }
-{
-    match socket_of(drivers, u) {
-        Some(socket) => socket.read(into, false),
-        None => Ok(Got::End),
-    }
-}
-
-/// Writes to the driver.
-pub(super) fn write_driver(drivers: &mut Drivers, u: UpsId, from: &[u8]) -> Result<usize, Broken>
-    ensures { IfOk result (λ n. n ≤ length from.now) }
-{
-    match socket_of(drivers, u) {
-        Some(socket) => socket.write(from),
-        None => Err(Broken),
-    }
+/// The socket of the driver of a place, if it is connected.
+pub(super) fn socket_of(drivers: &mut Drivers, place: usize) -> Option<&mut Socket<UnixStream>> {
+    drivers.get_mut(place)?.socket.as_mut()
 }

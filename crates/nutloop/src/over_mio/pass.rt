@@ -1,5 +1,5 @@
 //! One pass over all peers, in which each is visited once.
-ghost use Rattle.std.specs.Prelude.{◌≡◌, ◌≤◌, ◌+◌, ◌-◌, ◌^◌, length, min, true};
+ghost use Rattle.std.specs.Prelude.{◌≡◌, ◌<◌, ◌≤◌, ◌+◌, ◌-◌, ◌^◌, Some, length, min, true};
 ghost use Rattle.nutlisting.specs.declared.listing.clients.TheConstants.{SESSION_LIMIT};
 ghost use Rattle.nutloop.specs.Pass.{Visits, again, fresh, goes_on, may};
 ghost use Rattle.nutusers.specs.declared.limits.TheConstants.{UPS_LIMIT};
@@ -28,18 +28,28 @@ pub(super) enum Stop {
     Client(usize, Way),
 }
 
-/// How far a pass has come, and what there was since the last look at the system. The listener is visited first, then
-/// drivers are read, and written to, then all clients are read, and then all are written to: each write wakes its client.
+/// The number of a pass's first read of a driver. The listener, which is visited first, has the one before it.
+const DRIVER_READS: usize = 1;
+
+/// The number of the first write to a driver.
+const DRIVER_WRITES: usize = DRIVER_READS + UPS_LIMIT;
+
+/// The number of the first read of a client.
+const CLIENT_READS: usize = DRIVER_WRITES + UPS_LIMIT;
+
+/// The number of the first write to a client. All clients are read before: each write wakes its client.
+const CLIENT_WRITES: usize = CLIENT_READS + SESSION_LIMIT;
+
+/// How many stops a pass has.
+const STOPS: usize = CLIENT_WRITES + SESSION_LIMIT;
+
+/// How far a pass has come, and what there was since the last look at the system.
 #[derive(Clone, Copy)]
 pub(super) struct Pass {
-    was_at_listener: bool,
-    /// The places before these were visited.
-    driver_reads: usize,
-    driver_writes: usize,
-    client_reads: usize,
-    client_writes: usize,
+    /// The stops of lower numbers were visited.
+    next: usize,
     /// There was a turn in this pass.
-    had_turn: bool,
+    pub had_turn: bool,
     /// A driver was read since the last look. Its lines cost as much as many answers.
     was_driver_read: bool,
     /// The turns since the last look.
@@ -52,11 +62,7 @@ impl Pass {
         ensures { result ≡ fresh }
     {
         Pass {
-            was_at_listener: false,
-            driver_reads: 0,
-            driver_writes: 0,
-            client_reads: 0,
-            client_writes: 0,
+            next: 0,
             had_turn: false,
             was_driver_read: false,
             turns: 0,
@@ -74,13 +80,6 @@ impl Pass {
         }
     }
 
-    /// There was a turn in this pass.
-    pub fn had_turn(&self) -> bool
-        ensures { result ≡ self.now.had_turn }
-    {
-        self.had_turn
-    }
-
     /// Whether the next pass begins without a look.
     pub fn goes_on(&self) -> bool
         ensures { result ≡ goes_on self.now }
@@ -88,12 +87,17 @@ impl Pass {
         self.had_turn && !self.was_driver_read && self.turns < TURNS_PER_LOOK
     }
 
-    /// There is a turn at this stop.
-    fn turn(&mut self, stop: Stop) -> Option<Stop>
+    /// There is a turn at this stop, of this number.
+    fn turn(&mut self, stop: Stop, number: usize) -> Option<Stop>
+        requires { number < STOPS }
         ensures stop { result ≡ Some stop }
-        ensures turn { self.new ≡ record self.old
-            { had_turn = true; turns = min (self.old.turns + 1) (2 ^ 32 - 1) } }
+        ensures turn { self.new ≡ record self.old {
+          next = number + 1;
+          had_turn = true;
+          turns = min (self.old.turns + 1) (2 ^ 32 - 1);
+        } }
     {
+        self.next = number + 1;
         self.had_turn = true;
         self.turns = self.turns.saturating_add(1);
         Some(stop)
@@ -112,32 +116,24 @@ impl Pass {
         ensures { Visits (may server.now.state is_knocked_at drivers.now clients.now)
             self.old result self.new }
     {
-        if !self.was_at_listener && is_knocked_at {
-            self.was_at_listener = true;
-            return self.turn(Stop::Listener);
+        if self.next == 0 && is_knocked_at {
+            return self.turn(Stop::Listener, 0);
         }
-        self.was_at_listener = true;
-        if let Some(place) = driver_from(drivers, self.driver_reads, Way::Read, server) {
-            self.driver_reads = place + 1;
+        let from = self.next.saturating_sub(DRIVER_READS);
+        if let Some(place) = driver_from(drivers, from, Way::Read, server) {
             self.was_driver_read = true;
-            return self.turn(Stop::Driver(place, Way::Read));
+            return self.turn(Stop::Driver(place, Way::Read), DRIVER_READS + place);
         }
-        self.driver_reads = UPS_LIMIT;
-        if let Some(place) = driver_from(drivers, self.driver_writes, Way::Write, server) {
-            self.driver_writes = place + 1;
-            return self.turn(Stop::Driver(place, Way::Write));
+        let from = self.next.saturating_sub(DRIVER_WRITES);
+        if let Some(place) = driver_from(drivers, from, Way::Write, server) {
+            return self.turn(Stop::Driver(place, Way::Write), DRIVER_WRITES + place);
         }
-        self.driver_writes = UPS_LIMIT;
-        if let Some(place) = client_from(clients, self.client_reads, Way::Read) {
-            self.client_reads = place + 1;
-            return self.turn(Stop::Client(place, Way::Read));
+        let from = self.next.saturating_sub(CLIENT_READS);
+        if let Some(place) = client_from(clients, from, Way::Read) {
+            return self.turn(Stop::Client(place, Way::Read), CLIENT_READS + place);
         }
-        self.client_reads = SESSION_LIMIT;
-        if let Some(place) = client_from(clients, self.client_writes, Way::Write) {
-            self.client_writes = place + 1;
-            return self.turn(Stop::Client(place, Way::Write));
-        }
-        self.client_writes = SESSION_LIMIT;
-        None
+        let from = self.next.saturating_sub(CLIENT_WRITES);
+        let place = client_from(clients, from, Way::Write)?;
+        self.turn(Stop::Client(place, Way::Write), CLIENT_WRITES + place)
     }
 }

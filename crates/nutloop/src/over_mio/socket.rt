@@ -53,16 +53,14 @@ impl<S: Read + Write> Socket<S> {
                 self.readable = n == into.len() || self.ended;
                 Ok(Got::Bytes(n))
             }
-            Err(error) => match error.kind() {
-                ErrorKind::WouldBlock => {
-                    self.readable = false;
-                    Ok(Got::Later)
-                }
-                _ => {
-                    self.ended = true;
-                    Err(Broken)
-                }
-            },
+            Err(error) if error.kind() == ErrorKind::WouldBlock => {
+                self.readable = false;
+                Ok(Got::Later)
+            }
+            Err(_) => {
+                self.ended = true;
+                Err(Broken)
+            }
         }
     }
 
@@ -75,16 +73,14 @@ impl<S: Read + Write> Socket<S> {
                 self.writable = n == from.len();
                 Ok(n)
             }
-            Err(error) => match error.kind() {
-                ErrorKind::WouldBlock => {
-                    self.writable = false;
-                    Ok(0)
-                }
-                _ => {
-                    self.ended = true;
-                    Err(Broken)
-                }
-            },
+            Err(error) if error.kind() == ErrorKind::WouldBlock => {
+                self.writable = false;
+                Ok(0)
+            }
+            Err(_) => {
+                self.ended = true;
+                Err(Broken)
+            }
         }
     }
 }
