@@ -20,12 +20,13 @@ messages_of() { sed -nE "s/^\.B \"$1: (.*)\"\$/\1/p" "man/$1.8" | grep -vE '^(se
 told=$({
     sed -nE 's/^ *#\[error\("(.*)"\)\]$/\1/p' crates/upsd/src/ending.rt crates/nutloop/src/fault.rt | grep -vxF '{0}' |
         sed -e 's/{path}/PATH/; s/{line}/LINE/; s/{cause}/N/'
-    sed -nE 's/^ *Danger::[A-Za-z]+ => "(.*)",$/warning: PATH:LINE: \1/p' crates/upsd/src/warnings.rt
-    sed -nE 's/.*"upsd: (warning: )\{path\}(: [^{]*)"\);$/\1PATH\2/p' crates/upsd/src/warnings.rt
+    sed -nE 's/^ *Danger::[A-Za-z]+ => "(.*)",$/warning: PATH: [NAME]: \1/p' crates/upsd/src/warnings.rt
+    sed -nE '/\{danger\}/d; s/.*"upsd: (warning: )\{path\}(: .*)"\);$/\1PATH\2/p' crates/upsd/src/warnings.rt | sed 's/{name}/NAME/'
+    sed -nE 's/.*"upsd: \{count\}( lines .*)\\n"\)\?;$/N\1/p' crates/upsd/src/log_buffer.rt
     sed -nE 's/^ *News::[A-Za-z]+ => "(.*)",$/su: \1/p' crates/upsd/src/journal.rt
     sed -nE 's/^ *Visit::[A-Za-z]+ => "(.*)",$/su: mon@192.0.2.1 \1/p' crates/upsd/src/journal/logins.rt
-    sed -nE 's/.*"upsd: \{name\}(: [^{]*)\{error\}"\);$/su\1ERROR/p' crates/upsd/src/journal/connecting.rt
-    sed -nE 's/.*"upsd: \{place\}\{who\} ([a-z ]+) \{what\}(: \{word\})?"\),?$/su: mon@192.0.2.1 \1 COMMAND\2/p' \
+    sed -nE 's/.*"upsd: \{name\}(: [^{]*)\{error\}\\n"\)\);$/su\1ERROR/p' crates/upsd/src/journal/connecting.rt
+    sed -nE 's/.*"upsd: \{place\}\{who\} ([a-z ]+) \{what\}(: \{word\})?\\n"\),?$/su: mon@192.0.2.1 \1 COMMAND\2/p' \
         crates/upsd/src/journal/deeds.rt | sed 's/{word}/WORD/'
     sed -nE 's/^ *RoomNews::.*"(.*)"\),$/\1/p' crates/upsd/src/journal/room.rt | sed -e 's/{count}/N/'
 } | sort)

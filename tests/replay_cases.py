@@ -235,16 +235,21 @@ REPLAYS = [
     ("--ups two.conf --users monitors --vars texts login", sent("client 1", b"OK\nOK\nOK\n" + DESCRIBED) + TWO_DRIVERS),
     ("--ups two.conf --vars texts login", sent("client 1", b"OK\nOK\nERR ACCESS-DENIED\n" + DESCRIBED) + TWO_DRIVERS),
 ]
+def unread(path, error):
+    return f"{path}: cannot read\nupsd: {path}: {error}"
+
+
+ABSENT = "No such file or directory (os error 2)"
 # The first fault is reported, in the order of the list, the users, the descriptions, the script.
 FAULTS = [
     ("--ups key.conf --vars absent events", "key.conf:4: cause 5"),
     ("--vars absent --ups key.conf events", "key.conf:4: cause 5"),
-    ("--vars twice --ups absent absent-too", "absent: cannot read"),
+    ("--vars twice --ups absent absent-too", unread("absent", ABSENT)),
     ("--users nobody --vars twice events", "nobody:2: cause 6"),
     ("bad --vars twice --ups two.conf", "twice:2: cause 4"),
-    ("--vars ./absent bad", "./absent: cannot read"),
-    ("--ups two.conf --vars texts absent", "absent: cannot read"),
-    ("--ups . events", ".: cannot read"),
+    ("--vars ./absent bad", unread("./absent", ABSENT)),
+    ("--ups two.conf --vars texts absent", unread("absent", ABSENT)),
+    ("--ups . events", unread(".", "Is a directory (os error 21)")),
     ("--ups two.conf ./bad", "./bad:2: bad event"),
     ("--vars malformed events", "malformed:1: cause 1"),
     ("--ups early.conf events", "early.conf:1: cause 2"),
@@ -269,7 +274,7 @@ def other_words():
     for words in WRONG_WORDS:
         BENCH.refuses_words(*words.split())
     got = BENCH.ends("replay", b"\xff")
-    assert got == (2, b"", b"upsd: bad argument\n"), got
+    assert got == (2, b"", b"upsd: bad argument\nupsd: a word is not UTF-8\n"), got
     return each(HELP.items(), lambda words, named: BENCH.prints_help(named, *words.split(" ")))
 
 

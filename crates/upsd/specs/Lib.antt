@@ -9,6 +9,7 @@ pub mod Deeds
 pub mod Logins
 pub mod Room
 pub mod Journal
+pub mod LogBuffer
 pub mod Connecting
 pub mod Looks
 pub mod Warnings

@@ -14,6 +14,7 @@ use self::connecting::Connecting;
 use self::deeds::Refusals;
 use self::logins::Logins;
 use self::room::Room;
+use crate::log_buffer::LogBuffer;
 use nutcore::{Server, UpsId};
 use nutloop::MioSockets;
 use nutusers::UPS_LIMIT;
@@ -100,11 +101,11 @@ impl Journal {
         }
     }
 
-    /// Writes what is new to standard error: what a client did in the server's last event, what is new of each UPS, and once
+    /// Logs what is new: what a client did in the server's last event, what is new of each UPS, and once
     /// a second all else. Where that fails it isn't written again.
     pub fn write<R: Net + Clock, F: Read + Drop>(
         &mut self,
-        rt: &HostRuntime,
+        log: &mut LogBuffer,
         server: &Server,
         sockets: &MioSockets<'_, R, F>,
     )
@@ -122,19 +123,19 @@ impl Journal {
             → (self.new.connecting ≡ self.old.connecting) × (self.new.logins ≡ self.old.logins)
             × (self.new.room ≡ self.old.room) }
     {
-        self.refusals.write(rt, server);
-        self.write_upses(rt, server);
+        self.refusals.write(log, server);
+        self.write_upses(log, server);
         let moment = Some(server.current_moment());
         if self.moment != moment {
             self.moment = moment;
-            self.connecting.write(rt, server, sockets);
-            self.logins.write(rt, server);
-            self.room.write(rt, server, sockets.refusals());
+            self.connecting.write(log, server, sockets);
+            self.logins.write(log, server);
+            self.room.write(log, server, sockets.refusals());
         }
     }
 
     /// Writes what is new of each UPS.
-    fn write_upses(&mut self, rt: &HostRuntime, server: &Server)
+    fn write_upses(&mut self, log: &mut LogBuffer, server: &Server)
         ensures written { IsWrittenUpTo (length server.now.state.list) server.now.state
             self.old.written self.new.written }
         ensures refusals { self.new.refusals ≡ self.old.refusals }
@@ -143,9 +144,9 @@ impl Journal {
         for place in 0..server.ups().len() {
             let u = UpsId { place: place as u8 };
             let news = self.take_news(place, standing_of(server, u));
-            write_news(rt, server, u, news.driver);
-            write_news(rt, server, u, news.freshness);
-            write_news(rt, server, u, news.shutdown);
+            write_news(log, server, u, news.driver);
+            write_news(log, server, u, news.freshness);
+            write_news(log, server, u, news.shutdown);
         }
     }
 
@@ -180,13 +181,13 @@ fn standing_of(server: &Server, u: UpsId) -> Standing
 }
 
 /// Writes a line of what is new of the UPS, if anything is.
-fn write_news(rt: &HostRuntime, server: &Server, u: UpsId, news: Option<News>) {
+fn write_news(log: &mut LogBuffer, server: &Server, u: UpsId, news: Option<News>) {
     let Some(news) = news else {
         return;
     };
     if let Some(name) = server.ups().name(u) {
         let name = name.as_bytes().escape_ascii();
-        let _ = eprintln!(rt; "upsd: {name}: {news}");
+        log.add(format!(in log.alloc(); "upsd: {name}: {news}\n"));
     }
 }
 

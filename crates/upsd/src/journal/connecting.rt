@@ -3,6 +3,7 @@ ghost use Rattle.std.specs.Prelude.{◌≡◌, ◌<◌, MatchOption, length, sli
 ghost use Rattle.nutloop.specs.OverMio.{error_of};
 ghost use Rattle.upsd.specs.Connecting.{AreErrorsWrittenUpTo, IsErrorNews};
 
+use crate::log_buffer::LogBuffer;
 use nutcore::{Server, UpsId};
 use nutloop::MioSockets;
 use nutusers::UPS_LIMIT;
@@ -30,7 +31,7 @@ impl Connecting {
     /// Writes a line of each driver that can't be connected to by another error than was written last.
     pub fn write<R: Net + Clock, F: Read + Drop>(
         &mut self,
-        rt: &HostRuntime,
+        log: &mut LogBuffer,
         server: &Server,
         sockets: &MioSockets<'_, R, F>,
     )
@@ -40,7 +41,7 @@ impl Connecting {
         for place in 0..server.ups().len() {
             let u = UpsId { place: place as u8 };
             if let Some(number) = self.take_news(place, sockets.driver_error(u)) {
-                write_error(rt, server, u, number);
+                write_error(log, server, u, number);
             }
         }
     }
@@ -59,7 +60,7 @@ impl Connecting {
 }
 
 /// Writes by which error the driver of the UPS can't be connected to.
-fn write_error(rt: &HostRuntime, server: &Server, u: UpsId, number: i32) {
+fn write_error(log: &mut LogBuffer, server: &Server, u: UpsId, number: i32) {
     let Some(name) = server.ups().name(u) else {
         return;
     };
@@ -67,7 +68,7 @@ fn write_error(rt: &HostRuntime, server: &Server, u: UpsId, number: i32) {
         name.as_bytes().escape_ascii(),
         Error::from_raw_os_error(number),
     );
-    let _ = eprintln!(rt; "upsd: {name}: cannot connect: {error}");
+    log.add(format!(in log.alloc(); "upsd: {name}: cannot connect: {error}\n"));
 }
 
 /// What is new of a driver that couldn't be connected to by one error or could, and can't by another or can.

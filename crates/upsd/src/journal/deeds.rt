@@ -5,6 +5,7 @@ ghost use Rattle.nutcore.specs.Server.{session};
 ghost use Rattle.nutcore.specs.Status.{visitor_of, visitor_seen};
 ghost use Rattle.upsd.specs.Deeds.{is_written, after_deed, after_deeds, may_write, after_refusal, words_of};
 
+use crate::log_buffer::LogBuffer;
 use arrayvec::ArrayVec;
 use nutcore::{ClientId, Deed, Server, Verb, Visitor};
 use std::fmt;
@@ -89,13 +90,13 @@ impl Refusals {
     }
 
     /// Writes a line of each thing that a client did in the server's last event.
-    pub fn write(&mut self, rt: &HostRuntime, server: &Server)
+    pub fn write(&mut self, log: &mut LogBuffer, server: &Server)
         ensures { self.new ≡ after_deeds self.old server.now.state.moment server.now.deeds }
     {
         let deeds = server.deeds();
         for deed in deeds {
             if self.take_turn(server.current_moment(), deed) {
-                write_deed(rt, server, deed);
+                write_deed(log, server, deed);
             }
         }
     }
@@ -127,18 +128,18 @@ impl Refusals {
 
 /// Writes a line of what a client did: who, at which address, and of which UPS. Its session is still there, since the event
 /// that executed its line ended none.
-fn write_deed(rt: &HostRuntime, server: &Server, deed: &Deed) {
+fn write_deed(log: &mut LogBuffer, server: &Server, deed: &Deed) {
     let Some(visitor) = who_did(server, deed) else {
         return;
     };
     let (place, who, what) = (Place(deed), Who(visitor), What(deed));
-    let _ = match &deed.refusal {
+    log.add(match &deed.refusal {
         Some(word) => {
             let word = word.as_bytes().escape_ascii();
-            eprintln!(rt; "upsd: {place}{who} was refused {what}: {word}")
+            format!(in log.alloc(); "upsd: {place}{who} was refused {what}: {word}\n")
         }
-        None => eprintln!(rt; "upsd: {place}{who} ordered {what}"),
-    };
+        None => format!(in log.alloc(); "upsd: {place}{who} ordered {what}\n"),
+    });
 }
 
 /// Who did it.

@@ -4,6 +4,7 @@ ghost use Rattle.std.specs.Option.{option_and_then};
 ghost use Rattle.nutcore.specs.Status.{visitor_of};
 ghost use Rattle.upsd.specs.Logins.{is_among, login_of, logins_of, text_of_visit};
 
+use crate::log_buffer::LogBuffer;
 use nutcore::{ClientId, SESSION_LIMIT, Server, UpsId};
 use nutusers::UserName;
 use nutwords::Address;
@@ -56,22 +57,22 @@ impl Logins {
     }
 
     /// Writes who isn't logged in any more, and who is now. Without memory that waits for the next time.
-    pub fn write(&mut self, rt: &HostRuntime, server: &Server)
+    pub fn write(&mut self, log: &mut LogBuffer, server: &Server)
         ensures { (self.new.written.items ≡ logins_of server.now.state)
             ⊎ (self.new.written.items ≡ self.old.written.items) }
     {
         let Ok(now) = logins_of(self.alloc, server) else {
             return;
         };
-        write_others(rt, server, &self.written, &now, Visit::Ended);
-        write_others(rt, server, &now, &self.written, Visit::Begun);
+        write_others(log, server, &self.written, &now, Visit::Ended);
+        write_others(log, server, &now, &self.written, Visit::Begun);
         self.written = now;
     }
 }
 
 /// Writes a line of each of the logins that isn't among the others.
 fn write_others(
-    rt: &HostRuntime,
+    log: &mut LogBuffer,
     server: &Server,
     logins: &[Login],
     others: &[Login],
@@ -79,20 +80,20 @@ fn write_others(
 ) {
     for login in logins {
         if !is_among(login.client, others) {
-            write_visit(rt, server, login, visit);
+            write_visit(log, server, login, visit);
         }
     }
 }
 
 /// Writes a line of a login.
-fn write_visit(rt: &HostRuntime, server: &Server, login: &Login, visit: Visit) {
+fn write_visit(log: &mut LogBuffer, server: &Server, login: &Login, visit: Visit) {
     let (Some(ups), Some(user)) = (server.ups().name(login.u), &login.user) else {
         return;
     };
     let ups = ups.as_bytes().escape_ascii();
     let user = user.as_bytes().escape_ascii();
     let address = login.address.as_bytes().escape_ascii();
-    let _ = eprintln!(rt; "upsd: {ups}: {user}@{address} {visit}");
+    log.add(format!(in log.alloc(); "upsd: {ups}: {user}@{address} {visit}\n"));
 }
 
 /// Whether one of the logins is this session's.

@@ -2,6 +2,7 @@
 ghost use Rattle.std.specs.Prelude.{◌≡◌, Some, false};
 ghost use Rattle.upsd.specs.Room.{has_room, room_after, room_news, text_of_room};
 
+use crate::log_buffer::LogBuffer;
 use nutcore::{SESSION_LIMIT, Server};
 use std::fmt;
 
@@ -49,12 +50,12 @@ impl Room {
     }
 
     /// Writes what is new, where so many were sent away up to now.
-    pub fn write(&mut self, rt: &HostRuntime, server: &Server, refusals: u64)
+    pub fn write(&mut self, log: &mut LogBuffer, server: &Server, refusals: u64)
         ensures { self.new ≡ room_after self.old refusals (has_room server.now.state) }
     {
         let has_room = server.visitor(LAST_PLACE).is_none();
         if let Some(news) = self.take_news(refusals, has_room) {
-            let _ = eprintln!(rt; "upsd: {news}");
+            log.add(format!(in log.alloc(); "upsd: {news}\n"));
         }
     }
 
