@@ -86,7 +86,7 @@ def run_to_end(*words):
 
 @case
 def words_and_files_are_told_as_faults():
-    ups, users = file("list", "[su]\n"), path("users")
+    ups, users = file("list", "[su]\nsocket = /run/nut/su\n"), path("users")
     files = ["--ups", ups, "--users", users]
     bad = file("bad", "nothing\n")
     for listen in ["localhost:3493", "127.0.0.1", "127.0.0.1:65536", ""]:
@@ -236,31 +236,40 @@ def a_forced_shutdown_is_seen_and_told_once():
         assert server.journal() == told, server.journal()
 
 
+def drain(driver):
+    with contextlib.suppress(OSError):
+        while driver.wire.recv(1 << 16):
+            pass
+
+
 @case
 def a_standard_error_that_nobody_reads_stops_nothing():
     count, slowest, told, (reading, errors) = 50_000, 0, b"", os.pipe()
-    with served(errors=errors) as (server, _, good):
+    with served(ORDERS, errors=errors) as (server, driver, good):
         os.close(errors)
+        threading.Thread(target=drain, args=(driver,), daemon=True).start()
         admin, mon = server.client(), server.client()
         assert admin.ask(ADMIN) == mon.ask(MON) == b"OK\n" * 2
-        for _ in range(count // 100):
-            admin.send(b"FSD su\n" * 100)
-            mon.send(b"FSD su\n" * 100)
+        order, what = b"INSTCMD su test.battery.start\n", "upsd: su: admin@127.0.0.1 ordered INSTCMD test.battery.start"
+        for _ in range(count // 50):
+            admin.send(order * 50)
+            mon.send(b"FSD su\n" * 50)
             begin = time.monotonic()
-            assert good.ask(GET).startswith(b"VAR su")
+            assert good.ask(GET) == STATUS
             slowest = max(slowest, time.monotonic() - begin)
-            assert all(admin.line() + mon.line() == b"OK FSD-SET\nERR ACCESS-DENIED\n" for _ in range(100))
+            assert all(admin.line() + mon.line() == b"OK\nERR ACCESS-DENIED\n" for _ in range(50))
         assert slowest < 0.2, f"{slowest:.3f} s for an answer"
         while not told.endswith(b"were dropped\n"):
             assert select.select([reading], [], [], 4)[0], told[-200:]
             told += os.read(reading, 1 << 16)
         lines = told.decode().splitlines()
-        ordered, dropped = sum(line.endswith(" ordered FSD") for line in lines), int(lines[-1].split()[1])
+        ordered, dropped = lines.count(what), int(lines[-1].split()[1])
         assert "".join(line + "\n" for line in lines[:2]) == COME, lines[:2]
         assert len(told) > 1 << 16 and count <= ordered + dropped <= count + 100, (len(told), ordered, dropped)
-        assert admin.ask(b"FSD su\n") == b"OK FSD-SET\n"
-        assert os.read(reading, 1 << 16) == b"upsd: su: admin@127.0.0.1 ordered FSD\n"
+        assert admin.ask(order) == b"OK\n"
+        assert os.read(reading, 1 << 16).decode() == what + "\n"
     os.close(reading)
+    return f"the slowest answer took {slowest * 1000:.1f} ms"
 
 
 @case
