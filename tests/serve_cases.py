@@ -162,6 +162,12 @@ def what_the_files_lack_is_told():
     assert judged.stderr == "", judged.stderr
 
 
+def printed(*words):
+    """What a client prints, and what it tells of a fault."""
+    got = subprocess.run(words, capture_output=True, timeout=10, check=False)
+    return got.stdout + got.stderr
+
+
 @case
 def clients_print_what_the_server_holds():
     told = TWO + b'SETINFO device.model "Smart \\"X\\" \\\\ 5"\nSETFLAGS battery.charge RW\nADDCMD test.battery.start\nADDCMD load.off\n'
