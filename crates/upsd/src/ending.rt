@@ -5,8 +5,8 @@ ghost use Rattle.upsd.specs.Ending.{IsToldOf, ending_of_replay, status_of};
 use nutloop::LoopFault;
 use nutreplay::ReplayFault;
 use nutusers::{Cause, ConfFault};
-use std::io;
 use std::net::SocketAddr;
+use std::{fmt, io};
 use thiserror::Error;
 
 /// The status of a run that is done.
@@ -104,19 +104,23 @@ pub fn status_of(ended: &Result<(), Ending<'_>>) -> u8
 /// Tells on standard error why the program isn't done, and on a second line the reason, where the first one has none.
 pub fn tell(rt: &HostRuntime, ending: &Ending<'_>) {
     let _ = eprintln!(rt; "upsd: {ending}");
-    let _ = match *ending {
-        Ending::BadArgument { address: Some(word) } => {
-            eprintln!(rt; "upsd: --listen {word}: not an IP address and a port")
+    match *ending {
+        Ending::BadArgument { address } => {
+            let _ = match address {
+                Some(word) => eprintln!(rt; "upsd: --listen {word}: not an IP address and a port"),
+                None => eprintln!(rt; "upsd: a word is not UTF-8"),
+            };
         }
-        Ending::BadArgument { address: None } => eprintln!(rt; "upsd: a word is not UTF-8"),
-        Ending::Unread { path, error: Some(number) } => {
-            let error = io::Error::from_raw_os_error(number);
-            eprintln!(rt; "upsd: {path}: {error}")
-        }
-        Ending::Listen { address, error: Some(number) } => {
-            let error = io::Error::from_raw_os_error(number);
-            eprintln!(rt; "upsd: {address}: {error}")
-        }
-        _ => Ok(()),
-    };
+        Ending::Unread { path, error } => tell_error(rt, &path, error),
+        Ending::Listen { address, error } => tell_error(rt, &address, error),
+        _ => {}
+    }
+}
+
+/// Tells the system's error of a file or an address, if it has one.
+fn tell_error<D: fmt::Display>(rt: &HostRuntime, of: &D, error: Option<i32>) {
+    if let Some(number) = error {
+        let error = io::Error::from_raw_os_error(number);
+        let _ = eprintln!(rt; "upsd: {of}: {error}");
+    }
 }

@@ -116,14 +116,10 @@ fn go_round<'a>(
     ensures run { IsOneRun server.old.state server.new.state }
 {
     let mut journal = Journal::new(rt.alloc());
-    match nutloop::serve(
-        server,
-        sockets,
-        |server, sockets| {
-            journal.write(log, server, sockets);
-            log.flush(rt);
-        },
-    ) {
+    match nutloop::serve(server, sockets, |server, sockets| {
+        journal.write(log, server, sockets);
+        log.flush(rt);
+    }) {
         Ok(()) => Ok(()),
         Err(fault) => Err(Ending::Loop(fault)),
     }
