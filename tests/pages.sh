@@ -20,8 +20,9 @@ messages_of() { sed -nE "s/^\.B \"$1: (.*)\"\$/\1/p" "man/$1.8" | grep -vE '^(se
 told=$({
     sed -nE 's/^ *#\[error\("(.*)"\)\]$/\1/p' crates/upsd/src/ending.rt crates/nutloop/src/fault.rt | grep -vxF '{0}' |
         sed -e 's/{path}/PATH/; s/{line}/LINE/; s/{cause}/N/'
-    sed -nE 's/^ *Danger::[A-Za-z]+ => "(.*)",$/warning: PATH:LINE: \1/p' crates/upsd/src/warnings.rt
-    sed -nE 's/.*"upsd: (warning: )\{path\}(: [^{]*)"\);$/\1PATH\2/p' crates/upsd/src/warnings.rt
+    sed -nE 's/^ *Danger::[A-Za-z]+ => "(.*)",$/warning: PATH: [NAME]: \1/p' crates/upsd/src/warnings.rt
+    sed -nE '/\{danger\}/d; s/.*"upsd: (warning: )\{path\}(: .*)"\);$/\1PATH\2/p' crates/upsd/src/warnings.rt | sed 's/{name}/NAME/'
+    sed -nE 's/.*"upsd: \{count\}( lines .*)\\n"\)\?;$/N\1/p' crates/upsd/src/log_buffer.rt
     entry=crates/upsd/src/journal/entry.rt
     sed -nE 's/^ *Note::[A-Za-z]+\(_\) => f\.write_str\("(.*)"\),$/su: \1/p' $entry | sed 's/: logged out/: mon@192.0.2.1 logged out/'
     sed -nE 's/^ *\(None, Verb::[A-Za-z]+\) => f\.write_str\("(.*)"\),$/su: mon@192.0.2.1 \1/p' $entry

@@ -45,9 +45,9 @@ def file(name, text):
     return BENCH.file(name, text.encode())
 
 
-def served(told=TWO, *words, env=None):
+def served(told=TWO, *words, env=None, errors=None):
     """A server over the UPS `su`, its driver, which has told this, and a good client."""
-    return serving.served(FOLDER, UPSD, told, *words, env=env)
+    return serving.served(FOLDER, UPSD, told, *words, env=env, errors=errors)
 
 
 @contextlib.contextmanager
@@ -84,25 +84,28 @@ def run_to_end(*words):
 
 @case
 def words_and_files_are_told_as_faults():
-    ups, users = file("list", "[su]\n"), path("users")
+    ups, users = file("list", "[su]\nsocket = /run/nut/su\n"), path("users")
     files = ["--ups", ups, "--users", users]
     bad = file("bad", "nothing\n")
     for listen in ["localhost:3493", "127.0.0.1", "127.0.0.1:65536", ""]:
-        assert run_to_end(*files, "--listen", listen) == (2, b"", b"upsd: bad argument\n"), listen
+        told = f"upsd: bad argument\nupsd: --listen {listen}: not an IP address and a port\n"
+        assert run_to_end(*files, "--listen", listen) == (2, b"", told.encode()), listen
     for words in [["--maxage", "2"], ["--maxage", "86401"], ["--maxage", "x"], ["more"]]:
         status, out, told = run_to_end(*files, *words)
         assert (status, out, told[:7]) == (2, b"", b"error: "), words
     assert run_to_end("--ups", ups)[0] == 2
     absent = path("absent")
+    missing = f"{absent}: cannot read\nupsd: {absent}: No such file or directory (os error 2)"
     # The first fault is told, in the order of the words, the list, the users, the descriptions, the ids, the address.
     for words, told in [
             (["--ups", bad, "--users", absent], f"{bad}:1: cause 1"),
-            (["--ups", ups, "--users", absent, "--vars", bad], f"{absent}: cannot read"),
+            (["--ups", ups, "--users", absent, "--vars", bad], missing),
+            (["--ups", ups, "--users", FOLDER], f"{FOLDER}: cannot read\nupsd: {FOLDER}: Is a directory (os error 21)"),
             (["--ups", ups, "--users", users, "--vars", bad], f"{bad}:1: cause 1"),
             (["--ups", bad, "--users", users, "--listen", "192.0.2.1:1"], f"{bad}:1: cause 1"),
             (files + ["--vars", bad, "--ids", absent], f"{bad}:1: cause 1"),
-            (files + ["--ids", absent, "--listen", "192.0.2.1:1"], f"{absent}: cannot read"),
-            (files + ["--listen", "192.0.2.1:1"], "cannot listen")]:
+            (files + ["--ids", absent, "--listen", "192.0.2.1:1"], missing),
+            (files + ["--listen", "192.0.2.1:1"], "cannot listen\nupsd: 192.0.2.1:1: Cannot assign requested address (os error 99)")]:
         assert run_to_end(*words) == (1, b"", f"upsd: {told}\n".encode()), words
     ended = ends_in_full(UPSD, "serve", *files, "--listen", "127.0.0.1:0")
     assert ended == (1, b"upsd: write failed\n"), ended
@@ -112,29 +115,49 @@ EXAMPLE, SMALL = "a password of the example, which everybody knows", "only ALL g
 NO_PASSWORD = "a user without a password, who may do nothing"
 
 
-def warned(users):
-    """What is told before it listens, of this file of users. The warnings are all there then."""
-    with begun(file("list", "[su]\n"), "--users", users) as server:
-        return server.journal().splitlines()
+def warned(*words):
+    """What is told by the time that it says that it listens, and by a replay of nothing."""
+    with contextlib.closing(serving.Server(UPSD, *words)) as server:
+        told = [line for line in server.journal().splitlines() if line.startswith("upsd: warning: ")]
+    replayed = subprocess.run([UPSD, "replay", "--ups", *words[:3], "/dev/null"], capture_output=True, text=True, check=True)
+    assert replayed.stderr.splitlines() == told[:len(replayed.stderr.splitlines())], replayed.stderr
+    return told, len(told) - len(replayed.stderr.splitlines())
 
 
 @case
-def dangers_of_the_users_file_are_told():
-    dangerous = "[a]\nactions = SET\n[b]\n# a comment of three words\npassword = \"change-me\"\ninstcmds = All\n"
+def dangers_of_the_files_are_told():
+    dangerous = "[a]\nactions = SET\n[b]\npassword = \"change-me\"\ninstcmds = All\n"
     dangerous += "[c]\npassword = change-me-too\ninstcmds = ALL\ninstcmds = test.all\n[d]\nupsmon secondary\n"
-    dangers = [(1, NO_PASSWORD), (5, EXAMPLE), (6, SMALL), (8, EXAMPLE), (11, NO_PASSWORD)]
-    users = file("dangerous", dangerous)
-    lines = [f"upsd: warning: {users}:{line}: {danger}" for line, danger in dangers]
-    assert warned(users) == lines, warned(users)
+    dangers = [("a", NO_PASSWORD), ("b", EXAMPLE), ("b", SMALL), ("c", EXAMPLE), ("d", NO_PASSWORD)]
+    users, ups = file("dangerous", dangerous), file("connected", "[su]\nsocket = /run/nut/su\n")
+    lines = [f"upsd: warning: {users}: [{name}]: {danger}" for name, danger in dangers]
     for mode, is_told in [(0o604, True), (0o640, False), (0o644, True)]:
         os.chmod(users, mode)
-        assert warned(users) == [f"upsd: warning: {users}: everybody may read it"] * is_told + lines, oct(mode)
-    assert warned(path("users")) == []
+        told = [f"upsd: warning: {users}: everybody may read it"] * is_told + lines
+        assert warned(ups, "--users", users) == (told, 0), oct(mode)
+    assert warned(ups, "--users", path("users")) == ([], 0)
     example = os.path.join(os.path.dirname(__file__), "..", "examples", "upsd.users")
-    assert sum(line.endswith(EXAMPLE) for line in warned(example)) == 2
+    assert sum(line.endswith(EXAMPLE) for line in warned(ups, "--users", example)[0]) == 2
     # A file that is refused is told by its cause alone.
     refused = file("refused", dangerous + "[d]\n")
-    assert run_to_end("--ups", path("list"), "--users", refused) == (1, b"", f"upsd: {refused}:13: cause 4\n".encode())
+    assert run_to_end("--ups", path("list"), "--users", refused) == (1, b"", f"upsd: {refused}:12: cause 4\n".encode())
+
+
+@case
+def what_the_files_lack_is_told():
+    some, none = file("some", f"[a]\n[b]\nsocket = {path('b.sock')}\n[c]\n"), file("none", "# nothing\n")
+    os.chmod(none, 0o600)
+    users = path("users")
+    assert warned(some, "--users", users) == ([f"upsd: warning: {some}: [{ups}]: no socket of a driver" for ups in "ac"], 0)
+    assert warned(none, "--users", none) == ([f"upsd: warning: {none}: no UPS", f"upsd: warning: {none}: no users"], 0)
+    for ids in FOLDER, none, "/dev/null":
+        told = f"upsd: warning: {ids}: gives no id for a tracked order"
+        assert warned(path("connected"), "--users", users, "--ids", ids) == ([told], 1)
+    assert warned(path("connected"), "--users", users, "--ids", "/dev/urandom") == ([], 0)
+    # Only a replay of nothing judges the files.
+    script = file("script", "tick 1\n")
+    judged = subprocess.run([UPSD, "replay", "--ups", some, "--users", none, script], capture_output=True, text=True, check=True)
+    assert judged.stderr == "", judged.stderr
 
 
 def printed(*words):
@@ -199,6 +222,42 @@ def a_forced_shutdown_is_seen_and_told_once():
         assert other.ask(GET) == b'VAR su ups.status "FSD OL"\n'
         told = COME + refused + "upsd: su: admin@127.0.0.1 ordered FSD: forced shutdown\n"
         assert server.journal() == told, server.journal()
+
+
+def drain(driver):
+    with contextlib.suppress(OSError):
+        while driver.wire.recv(1 << 16):
+            pass
+
+
+@case
+def a_standard_error_that_nobody_reads_stops_nothing():
+    count, slowest, told, (reading, errors) = 50_000, 0, b"", os.pipe()
+    with served(ORDERS, errors=errors) as (server, driver, good):
+        os.close(errors)
+        threading.Thread(target=drain, args=(driver,), daemon=True).start()
+        admin, mon = server.client(), server.client()
+        assert admin.ask(ADMIN) == mon.ask(MON) == b"OK\n" * 2
+        order, what = b"INSTCMD su test.battery.start\n", "upsd: su: admin@127.0.0.1 ordered INSTCMD test.battery.start"
+        for _ in range(count // 50):
+            admin.send(order * 50)
+            mon.send(b"FSD su\n" * 50)
+            begin = time.monotonic()
+            assert good.ask(GET) == STATUS
+            slowest = max(slowest, time.monotonic() - begin)
+            assert all(admin.line() + mon.line() == b"OK\nERR ACCESS-DENIED\n" for _ in range(50))
+        assert slowest < 0.2, f"{slowest:.3f} s for an answer"
+        while not told.endswith(b"were dropped\n"):
+            assert select.select([reading], [], [], 4)[0], told[-200:]
+            told += os.read(reading, 1 << 16)
+        lines = told.decode().splitlines()
+        ordered, dropped = lines.count(what), int(lines[-1].split()[1])
+        assert "".join(line + "\n" for line in lines[:2]) == COME, lines[:2]
+        assert len(told) > 1 << 16 and count <= ordered + dropped <= count + 100, (len(told), ordered, dropped)
+        assert admin.ask(order) == b"OK\n"
+        assert os.read(reading, 1 << 16).decode() == what + "\n"
+    os.close(reading)
+    return f"the slowest answer took {slowest * 1000:.1f} ms"
 
 
 @case
@@ -661,7 +720,8 @@ def nothing_grows():
 def it_starts_again_at_its_port_and_at_none_that_is_taken():
     with served() as (server, driver, good):
         words = ["--ups", path("su.conf"), "--users", path("users"), "--listen", f"127.0.0.1:{server.port}"]
-        assert run_to_end(*words) == (1, b"", b"upsd: cannot listen\n")
+        told = f"upsd: cannot listen\nupsd: {words[-1]}: Address already in use (os error 98)\n"
+        assert run_to_end(*words) == (1, b"", told.encode())
         server.close()
         driver.lose()
         with begun(path("su.conf"), port=server.port) as again:

@@ -136,9 +136,9 @@ class Client:
 class Server:
     """The built server with these words, at a port that the system gives, and its clients, which are closed with it."""
 
-    def __init__(self, upsd, ups, *words, port=0, files=None, env=None):
+    def __init__(self, upsd, ups, *words, port=0, files=None, env=None, errors=None):
         limit = (lambda: resource.setrlimit(resource.RLIMIT_NOFILE, (files, files))) if files else None
-        self.clients, self.errors = [], tempfile.TemporaryFile()
+        self.clients, self.errors = [], errors or tempfile.TemporaryFile()
         self.process = subprocess.Popen([upsd, "serve", "--ups", ups, "--listen", f"127.0.0.1:{port}", *words],
                                         stdout=subprocess.PIPE, stderr=self.errors, preexec_fn=limit, env=env)  # fmt: skip
         ready, _, _ = select.select([self.process.stdout], [], [], 10)
@@ -199,7 +199,7 @@ class OtherServer(Server):
 
 
 @contextlib.contextmanager
-def served(folder, upsd, told, *words, env=None):
+def served(folder, upsd, told, *words, env=None, errors=None):
     """A server over the UPS `su`, its driver, which has told this, and a good client."""
     with contextlib.ExitStack() as stack:
         driver = Driver(os.path.join(folder, "su.sock"))
@@ -207,7 +207,7 @@ def served(folder, upsd, told, *words, env=None):
         ups = os.path.join(folder, "su.conf")
         with open(ups, "w", encoding="utf-8") as out:
             out.write(f'[su]\ndesc = "Rack 1"\nsocket = {driver.path}\n')
-        server = Server(upsd, ups, "--users", os.path.join(folder, "users"), *words, env=env)
+        server = Server(upsd, ups, "--users", os.path.join(folder, "users"), *words, env=env, errors=errors)
         stack.callback(server.close)
         driver.accept(told)
         good = server.client()

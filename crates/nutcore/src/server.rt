@@ -130,6 +130,13 @@ impl Server {
         &self.list
     }
 
+    /// The users handed in.
+    pub fn users(&self) -> &Users
+        ensures { result.now ≡ self.now.state.users }
+    {
+        &self.users
+    }
+
     /// What the last event cost: the lines rendered and the bytes placed, none before any event.
     pub fn cost(&self) -> Cost
         ensures { result ≡ self.now.cost }

@@ -1,5 +1,5 @@
 -- How the program ends by what it meets.
-use Rattle.std.specs.Prelude.{◌≡◌, ◌≢◌, ◌⊎◌, ◌++◌, ◌∷◌, [], ℕ, Bool, List, Option, Result, Ok, Err}
+use Rattle.std.specs.Prelude.{◌≡◌, ◌≢◌, ◌⊎◌, ◌++◌, ◌∷◌, [], ℕ, ℤ, Bool, List, Option, Result, Ok, Err}
 use Rattle.std.specs.Prelude.{codes}
 use Rattle.std.specs.Net.Text.{socket_text}
 use Rattle.std.specs.declared.net.socket_addr.SocketAddr.{SocketAddr}
@@ -33,9 +33,10 @@ ending_of_replay script (faults.BadEvent line) = endings.BadEvent script line
 ending_of_replay script faults.Memory = endings.Memory
 ending_of_replay script faults.Write = endings.Write
 
--- How serving ends, once it has a server.
-abbrev pub IsEndOfServing : Ending → Type 0
-IsEndOfServing ending = (ending ≡ endings.Memory) ⊎ ((ending ≡ endings.Listen)
+-- How serving at this address ends, once it has a server.
+abbrev pub IsEndOfServing : SocketAddr → Ending → Type 0
+IsEndOfServing address ending = (ending ≡ endings.Memory)
+    ⊎ (((error : Option ℤ) × (ending ≡ endings.Listen address error))
     ⊎ ((ending ≡ endings.Write) ⊎ ((fault : LoopFault) × (ending ≡ endings.Loop fault))))
 
 -- The line that tells at which address clients are listened for.
@@ -56,5 +57,5 @@ TellsAddress contents failures address out result after = ⊥
 -- The status with which the program ends.
 abbrev pub status_of : Result (Unit {0}) Ending → ℕ
 status_of (Ok u) = DONE
-status_of (Err endings.BadArgument) = WORD_FAULT
+status_of (Err (endings.BadArgument address)) = WORD_FAULT
 status_of (Err _) = FAULT

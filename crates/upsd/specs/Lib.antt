@@ -8,5 +8,6 @@ pub mod Words
 pub mod Limits
 pub mod Room
 pub mod Journal
+pub mod LogBuffer
 pub mod Connecting
 pub mod Warnings

@@ -17,7 +17,7 @@ anything path reading = ⊤
 -- How the program ends where it can't read a file.
 abbrev pub ending_of_unread : Bor (List ℕ) → ReadFault → Ending
 ending_of_unread path faults.Memory = endings.Memory
-ending_of_unread path faults.Failed = endings.Unread path
+ending_of_unread path (faults.Failed error) = endings.Unread path error
 
 -- The file of this path can't be read or opened, which the ending tells.
 abbrev pub CantBeRead : Readings → Bor (List ℕ) → Ending → Type 0

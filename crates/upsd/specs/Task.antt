@@ -33,18 +33,11 @@ IsMaxAge (Some text) age = IsNumeral 10 (without_leading_plus text)
 abbrev pub IsMaxAgeIn : ArgMatches → ℕ → Type 0
 IsMaxAgeIn found age = IsMaxAge (one_text (found_of found) (codes "maxage")) age
 
--- The file of ids is that of the path after --ids.
-abbrev pub AreIdsIn : ArgMatches → Option (Bor (List ℕ)) → Type 0
-AreIdsIn found path =
-    option_map (λ s. s.now) path ≡ first_value (found_of found) (codes "ids")
-
 pub record IsServiceIn (found : ArgMatches) (service : Service) : Type 0 where
   pub address : IsAddressIn found service.address
   pub max_age : IsMaxAgeIn found service.max_age
-  pub ids : AreIdsIn found service.ids
 
--- The task is to serve over the files, at the address, with the greatest age and the ids
--- that were found.
+-- The task is to serve over the files, at the address and with the greatest age that were found.
 abbrev pub IsServing : ArgMatches → Task → Type 0
 IsServing found (Serve files service) = AreNamedIn found files × IsServiceIn found service
 IsServing found (Replay files script) = ⊥

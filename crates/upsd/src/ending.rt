@@ -5,6 +5,8 @@ ghost use Rattle.upsd.specs.Ending.{IsToldOf, ending_of_replay, status_of};
 use nutloop::LoopFault;
 use nutreplay::ReplayFault;
 use nutusers::{Cause, ConfFault};
+use std::net::SocketAddr;
+use std::{fmt, io};
 use thiserror::Error;
 
 /// The status of a run that is done.
@@ -16,12 +18,14 @@ pub const FAULT: u8 = 1;
 /// The status of a fault of the command's words.
 pub const WORD_FAULT: u8 = 2;
 
-/// Why the program isn't done. A path is told as it was typed.
+/// Why the program isn't done. A path is told as it was typed. An error is the system's number.
 #[derive(Clone, Copy, Debug, PartialEq, Eq, Error)]
 pub enum Ending<'a> {
-    /// One of the words isn't what it has to be.
+    /// One of the words isn't what it has to be: the address, or one that isn't UTF-8.
     #[error("bad argument")]
-    BadArgument,
+    BadArgument {
+        address: Option<&'a str>,
+    },
     /// Memory was refused.
     #[error("no memory")]
     Memory,
@@ -29,6 +33,7 @@ pub enum Ending<'a> {
     #[error("{path}: cannot read")]
     Unread {
         path: &'a str,
+        error: Option<i32>,
     },
     /// This line of a configuration file is refused, with the number of its cause.
     #[error("{path}:{line}: cause {cause}")]
@@ -48,7 +53,10 @@ pub enum Ending<'a> {
     Write,
     /// The address can't be listened at.
     #[error("cannot listen")]
-    Listen,
+    Listen {
+        address: SocketAddr,
+        error: Option<i32>,
+    },
     /// The loop can't go on.
     #[error("{0}")]
     Loop(LoopFault),
@@ -88,7 +96,31 @@ pub fn status_of(ended: &Result<(), Ending<'_>>) -> u8
 {
     match ended {
         Ok(()) => DONE,
-        Err(Ending::BadArgument) => WORD_FAULT,
+        Err(Ending::BadArgument { .. }) => WORD_FAULT,
         Err(_) => FAULT,
+    }
+}
+
+/// Tells on standard error why the program isn't done, and on a second line the reason, where the first one has none.
+pub fn tell(rt: &HostRuntime, ending: &Ending<'_>) {
+    let _ = eprintln!(rt; "upsd: {ending}");
+    match *ending {
+        Ending::BadArgument { address } => {
+            let _ = match address {
+                Some(word) => eprintln!(rt; "upsd: --listen {word}: not an IP address and a port"),
+                None => eprintln!(rt; "upsd: a word is not UTF-8"),
+            };
+        }
+        Ending::Unread { path, error } => tell_error(rt, &path, error),
+        Ending::Listen { address, error } => tell_error(rt, &address, error),
+        _ => {}
+    }
+}
+
+/// Tells the system's error of a file or an address, if it has one.
+fn tell_error<D: fmt::Display>(rt: &HostRuntime, of: &D, error: Option<i32>) {
+    if let Some(number) = error {
+        let error = io::Error::from_raw_os_error(number);
+        let _ = eprintln!(rt; "upsd: {of}: {error}");
     }
 }

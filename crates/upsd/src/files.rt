@@ -14,12 +14,14 @@ use nutcore::{Descriptions, UpsList, Users};
 use nutwords::UpsName;
 use std::alloc::{AllocError, Global};
 
-/// The configuration files that the words name, as they were typed.
+/// The files that the words name, as they were typed.
 #[derive(Clone, Copy)]
 pub struct Files<'a> {
     pub ups: Option<&'a str>,
     pub users: Option<&'a str>,
     pub vars: Option<&'a str>,
+    /// Its bytes make the ids of tracked orders.
+    pub ids: Option<&'a str>,
 }
 
 /// Which of the words is which file.
@@ -30,6 +32,7 @@ pub fn files_named<'a>(found: &ArgMatches<'a>) -> Files<'a>
         ups: found.get_str("ups"),
         users: found.get_str("users"),
         vars: found.get_str("vars"),
+        ids: found.get_str("ids"),
     }
 }
 
@@ -78,10 +81,7 @@ fn list_in<'a, R: FileReader>(
         return su_alone(alloc).map_err(|_| Ending::Memory);
     };
     let bytes = read(reader, path)?;
-    match UpsList::read(alloc, &bytes) {
-        Ok(list) => Ok(list),
-        Err(fault) => Err(ending_of_file(path, fault)),
-    }
+    UpsList::read(alloc, &bytes).map_err(|fault| ending_of_file(path, fault))
 }
 
 /// The users that the file of this path means. Without a file there are none.
@@ -99,10 +99,7 @@ fn users_in<'a, R: FileReader>(
         return Ok(Users::none(alloc));
     };
     let bytes = read(reader, path)?;
-    match Users::read(alloc, &bytes) {
-        Ok(users) => Ok(users),
-        Err(fault) => Err(ending_of_file(path, fault)),
-    }
+    Users::read(alloc, &bytes).map_err(|fault| ending_of_file(path, fault))
 }
 
 /// The descriptions that the file of this path means. Without a file there are none.
@@ -120,10 +117,7 @@ fn descriptions_in<'a, R: FileReader>(
         return Ok(Descriptions::none(alloc));
     };
     let bytes = read(reader, path)?;
-    match Descriptions::read(alloc, &bytes) {
-        Ok(descriptions) => Ok(descriptions),
-        Err(fault) => Err(ending_of_file(path, fault)),
-    }
+    Descriptions::read(alloc, &bytes).map_err(|fault| ending_of_file(path, fault))
 }
 
 /// The list of the UPS `su` alone.

@@ -13,6 +13,7 @@ use self::connecting::Connecting;
 use self::entry::Entry;
 use self::limits::Limits;
 use self::room::Room;
+use crate::log_buffer::LogBuffer;
 use nutcore::{Note, Server, UpsId};
 use nutloop::MioSockets;
 use nutusers::UPS_LIMIT;
@@ -47,7 +48,7 @@ impl Journal {
     /// Logs the notes of the server's last event, and once a second all else. Where that fails it isn't logged again.
     pub fn write<R: Net + Clock, F: Read + Drop>(
         &mut self,
-        rt: &HostRuntime,
+        log: &mut LogBuffer,
         server: &Server,
         sockets: &MioSockets<'_, R, F>,
     )
@@ -62,29 +63,29 @@ impl Journal {
     {
         let notes = server.notes();
         for note in notes {
-            self.write_note(rt, server, note);
+            self.write_note(log, server, note);
         }
         let moment = Some(server.current_moment());
         if self.moment != moment {
             self.moment = moment;
-            self.write_lines(rt, server);
-            self.connecting.write(rt, server, sockets);
-            self.room.write(rt, sockets.refusals(), server.has_room());
+            self.write_lines(log, server);
+            self.connecting.write(log, server, sockets);
+            self.room.write(log, sockets.refusals(), server.has_room());
         }
     }
 
     /// Logs a note, where it is logged at once and this moment has room for it.
-    fn write_note(&mut self, rt: &HostRuntime, server: &Server, note: &Note)
+    fn write_note(&mut self, log: &mut LogBuffer, server: &Server, note: &Note)
         ensures { self.new ≡ record self.old
             { limits = after_note server.now.state.moment self.old.limits note.now } }
     {
         if self.limits.take_turn(server.current_moment(), note) {
-            log(rt, &Entry { server, note });
+            add(log, &Entry { server, note });
         }
     }
 
     /// Logs how many lines of each driver were refused since the last second.
-    fn write_lines(&mut self, rt: &HostRuntime, server: &Server)
+    fn write_lines(&mut self, log: &mut LogBuffer, server: &Server)
         ensures { self.new ≡ record self.old
             { limits = record self.old.limits { lines = replicate UPS_LIMIT None } } }
     {
@@ -93,13 +94,13 @@ impl Journal {
             if let Some(lines) = lines[place] {
                 let u = UpsId { place: place as u8 };
                 let note = &Note::LinesRefused(u, lines.count, lines.fault);
-                log(rt, &Entry { server, note });
+                add(log, &Entry { server, note });
             }
         }
     }
 }
 
-/// Writes a line to standard error.
-fn log<D: fmt::Display>(rt: &HostRuntime, line: &D) {
-    let _ = eprintln!(rt; "upsd: {line}");
+/// Logs a line.
+fn add<D: fmt::Display>(log: &mut LogBuffer, line: &D) {
+    log.add(format!(in log.alloc(); "upsd: {line}\n"));
 }

@@ -3,14 +3,16 @@ ghost use Rattle.std.specs.Prelude.{◌≡◌, codes};
 ghost use Rattle.upsd.specs.Limits.{ARefusalIsLoggedOnceASecond};
 ghost use Rattle.upsd.specs.declared.ending.TheConstants.{DONE, FAULT, WORD_FAULT};
 ghost use Rattle.upsd.specs.declared.journal.limits.TheConstants.{REFUSAL_LIMIT};
+ghost use Rattle.upsd.specs.declared.log_buffer.TheConstants.{LOG_LIMIT};
 ghost use Rattle.upsd.specs.declared.task.TheConstants.{DEFAULT_ADDRESS};
 
-/// The statuses, the refusals logged in a second, and the default address.
+/// The statuses, the refusals logged in a second, the most bytes of the journal that wait, and the default address.
 pub fn numbers()
     ensures done { DONE ≡ 0 }
     ensures fault { FAULT ≡ 1 }
     ensures words { WORD_FAULT ≡ 2 }
     ensures refusals { REFUSAL_LIMIT ≡ 64 }
+    ensures waiting { LOG_LIMIT ≡ 32768 }
     ensures address { DEFAULT_ADDRESS.now ≡ codes "127.0.0.1:3493" }
 {}
 

@@ -12,16 +12,19 @@ mod ending;
 mod files;
 mod journal;
 mod laws;
+mod log_buffer;
 mod reading;
 mod replaying;
 mod serve;
 mod task;
 mod warnings;
 
-use crate::ending::{Ending, FAULT, WORD_FAULT, status_of};
+use crate::ending::{Ending, FAULT, WORD_FAULT, status_of, tell};
+use crate::files::Configuration;
 use crate::replaying::replay_files;
 use crate::serve::serve_files;
 use crate::task::{DEFAULT_ADDRESS, Task, task_of};
+use crate::warnings::warn;
 use clap::builder::ValueParser;
 use clap::error::ErrorKind;
 use clap::{Arg, ArgMatches, Command, Error};
@@ -46,17 +49,12 @@ fn main(rt: HostRuntime) -> ExitCode {
 /// The program's words. Words that are no text are bad arguments.
 fn words_of<'a>(rt: &HostRuntime) -> Result<Vec<String>, Ending<'a>>
     ensures { IfErr result (λ ending.
-        (ending ≡ Ending.BadArgument) ⊎ (ending ≡ Ending.Memory)) }
+        (ending ≡ Ending.BadArgument None) ⊎ (ending ≡ Ending.Memory)) }
 {
     match env::args(rt) {
         Ok(args) => args.collect(rt.alloc()).map_err(|_| Ending::Memory),
-        Err(error) => {
-            if error.kind() == io::ErrorKind::OutOfMemory {
-                Err(Ending::Memory)
-            } else {
-                Err(Ending::BadArgument)
-            }
-        }
+        Err(error) if error.kind() == io::ErrorKind::OutOfMemory => Err(Ending::Memory),
+        Err(_) => Err(Ending::BadArgument { address: None }),
     }
 }
 
@@ -97,7 +95,11 @@ fn serve_command<'a>(alloc: Global) -> Result<Command<'a>, AllocError>
         .required(true))?
         .arg(file(alloc, "users", "The users and their rights, upsd.users(5)").required(true))?
         .arg(vars(alloc))?
-        .arg(ids(alloc))?
+        .arg(file(
+            alloc,
+            "ids",
+            "Source of the ids of tracked orders, such as /dev/urandom [without it: no ids]",
+        ))?
         .arg(listen(alloc))?
         .arg(max_age(alloc))
 }
@@ -132,18 +134,6 @@ fn vars<'a>(alloc: Global) -> Arg<'a>
         alloc,
         "vars",
         "Descriptions of variables and commands, upsd.vars(5) [without it: none]",
-    )
-}
-
-/// The word that names the file whose bytes make ids.
-fn ids<'a>(alloc: Global) -> Arg<'a>
-    ensures word { rule_of result ≡ option_word (codes "ids") }
-    ensures local { result.global ≡ false }
-{
-    file(
-        alloc,
-        "ids",
-        "Source of the ids of tracked orders, such as /dev/urandom [without it: no ids]",
     )
 }
 
@@ -207,20 +197,25 @@ fn end(rt: &HostRuntime, error: &Error) -> ExitCode
 
 /// Does what the words ask for.
 fn run<'a>(rt: &HostRuntime, matches: &ArgMatches<'a>) -> Result<(), Ending<'a>>
-    ensures unnamed { subcommand_name_of matches.now ≡ None → result ≡ Err Ending.BadArgument }
+    ensures unnamed { subcommand_name_of matches.now ≡ None
+        → result ≡ Err (Ending.BadArgument None) }
     // Nothing that is to be done is refused as a bad argument.
-    ensures refused { result ≡ Err Ending.BadArgument → AsksNothing matches.now }
+    ensures refused { (address : _) → result ≡ Err (Ending.BadArgument address)
+        → AsksNothing matches.now }
 {
     let Some((name, found)) = matches.subcommand() else {
-        return Err(Ending::BadArgument);
+        return Err(Ending::BadArgument { address: None });
     };
     match task_of(name, found) {
         Some(Task::Serve(files, service)) => serve_files(rt, files, service),
         Some(Task::Replay(files, script)) => {
             let mut out = CountedWriter::new(io::writer(rt));
-            replay_files(rt.alloc(), rt, files, script, &mut out)
+            let judged = |c: &Configuration| warn(rt, files, &c.list, &c.users);
+            replay_files(rt.alloc(), rt, files, script, &mut out, judged)
         }
-        None => Err(Ending::BadArgument),
+        None => Err(Ending::BadArgument {
+            address: found.get_str("listen"),
+        }),
     }
 }
 
@@ -229,7 +224,7 @@ fn finish(rt: &HostRuntime, ended: &Result<(), Ending<'_>>) -> ExitCode
     ensures { exit_status result ≡ status_of ended.now }
 {
     if let Err(ending) = ended {
-        let _ = eprintln!(rt; "upsd: {ending}");
+        tell(rt, ending);
     }
     ExitCode::from(status_of(ended))
 }

@@ -1,8 +1,8 @@
 //! Reading files by their paths.
 ghost use Rattle.std.specs.Prelude.{◌≡◌, ◌≢◌, ℕ, List, Result, Ok, Err, IfErr, MatchResult};
-ghost use Rattle.std.specs.IoError.{error_kind};
+ghost use Rattle.std.specs.IoError.{error_kind, raw_os_error};
 ghost use Rattle.upsd.specs.declared.reading.ReadFault.{ReadFault};
-ghost use Rattle.upsd.specs.Reading.{CantBeRead, anything};
+ghost use Rattle.upsd.specs.Reading.{CantBeRead, anything, ending_of_unread};
 
 use crate::ending::Ending;
 use std::fs::{self, File};
@@ -13,8 +13,8 @@ use std::io::{Error, ErrorKind};
 pub enum ReadFault {
     /// Memory was refused.
     Memory,
-    /// The system doesn't give its bytes.
-    Failed,
+    /// The system doesn't give its bytes, and the number of its error, if it has one.
+    Failed(Option<i32>),
 }
 
 /// Where files are read.
@@ -36,21 +36,19 @@ impl FileReader for HostRuntime {
     ghost gives = { λ _ _ _. ⊤ };
 
     fn read_file(&self, path: &str) -> Result<Vec<u8>, ReadFault> {
-        match fs::read(self, path) {
-            Ok(bytes) => Ok(bytes),
-            Err(error) => Err(fault_of(&error)),
-        }
+        fs::read(self, path).map_err(|error| fault_of(&error))
     }
 }
 
 /// Why a read failed.
 fn fault_of(error: &Error) -> ReadFault
     ensures memory { error_kind error.now ≡ ErrorKind.OutOfMemory → result ≡ ReadFault.Memory }
-    ensures failed { error_kind error.now ≢ ErrorKind.OutOfMemory → result ≡ ReadFault.Failed }
+    ensures failed { error_kind error.now ≢ ErrorKind.OutOfMemory
+        → result ≡ ReadFault.Failed (raw_os_error error.now) }
 {
     match error.kind() {
         ErrorKind::OutOfMemory => ReadFault::Memory,
-        _ => ReadFault::Failed,
+        _ => ReadFault::Failed(error.raw_os_error()),
     }
 }
 
@@ -60,10 +58,18 @@ pub fn read<'a, R: FileReader>(reader: &R, path: &'a str) -> Result<Vec<u8>, End
         (λ bytes. R.gives reader.now path.entry.now (Ok bytes.items))
         (CantBeRead (R.gives reader.now) path.entry) }
 {
-    match reader.read_file(path) {
-        Ok(bytes) => Ok(bytes),
-        Err(ReadFault::Memory) => Err(Ending::Memory),
-        Err(ReadFault::Failed) => Err(Ending::Unread { path }),
+    reader
+        .read_file(path)
+        .map_err(|fault| ending_of_unread(path, fault))
+}
+
+/// How the program ends where it can't read a file.
+fn ending_of_unread(path: &str, fault: ReadFault) -> Ending<'_>
+    ensures { result ≡ ending_of_unread path.entry fault }
+{
+    match fault {
+        ReadFault::Memory => Ending::Memory,
+        ReadFault::Failed(error) => Ending::Unread { path, error },
     }
 }
 
@@ -71,11 +77,5 @@ pub fn read<'a, R: FileReader>(reader: &R, path: &'a str) -> Result<Vec<u8>, End
 pub fn open<'a>(rt: &HostRuntime, path: &'a str) -> Result<File, Ending<'a>>
     ensures { IfErr result (CantBeRead anything path.entry) }
 {
-    match fs::open(rt, path) {
-        Ok(file) => Ok(file),
-        Err(error) => match fault_of(&error) {
-            ReadFault::Memory => Err(Ending::Memory),
-            ReadFault::Failed => Err(Ending::Unread { path }),
-        },
-    }
+    fs::open(rt, path).map_err(|error| ending_of_unread(path, fault_of(&error)))
 }

@@ -11,18 +11,21 @@ use nutio::Sink;
 use nutreplay::replay;
 use std::alloc::Global;
 
-/// `upsd replay`: replays the script of the file over the UPSs, users and descriptions of theirs.
+/// `upsd replay`: replays the script of the file over the UPSs, users and descriptions of theirs. An empty script judges them:
+/// the watcher is shown what they mean.
 ///
 /// # Errors
 ///
 /// The first file that can't be read or is refused, the script last; `BadEvent`; `Memory`; `Write`.
-pub fn replay_files<'a, R: FileReader, W: Sink>(
+pub fn replay_files<'a, R: FileReader, W: Sink, J: FnOnce(&Configuration)>(
     alloc: Global,
     reader: &R,
     files: Files<'a>,
     script: &'a str,
     out: &mut W,
+    judge: J,
 ) -> Result<(), Ending<'a>>
+    requires { J.IsAlwaysCallable judge }
     ensures done { OnOk result (Replays W.contents W.failures
         (R.gives reader.now) files.entry script.entry out.old (Ok tt) out.new) }
     ensures fails { IfErr result (λ ending.
@@ -33,6 +36,9 @@ pub fn replay_files<'a, R: FileReader, W: Sink>(
 {
     let configuration = configuration_in(alloc, reader, files)?;
     let bytes = read(reader, script)?;
+    if bytes.is_empty() {
+        judge(&configuration);
+    }
     replay_over(alloc, configuration, script, &bytes, out)
 }
 

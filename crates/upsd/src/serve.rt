@@ -1,6 +1,6 @@
 //! Serving clients and drivers.
 ghost use Rattle.std.specs.Prelude.{◌≡◌, ◌≢◌, ◌⊎◌, MatchResult, IfOk, IfErr, Ok, Err, is_some};
-ghost use Rattle.std.specs.IoError.{error_kind};
+ghost use Rattle.std.specs.IoError.{error_kind, raw_os_error};
 ghost use Rattle.nutloop.specs.declared.fault.LoopFault.{LoopFault};
 ghost use Rattle.nutloop.specs.Serving.{IsOneRun, TurnsUpTo};
 ghost use Rattle.upsd.specs.Configuration.{FirstFails, IsServerOf};
@@ -10,6 +10,7 @@ ghost use Rattle.upsd.specs.Reading.{CantBeOpened, anything};
 use crate::ending::Ending;
 use crate::files::{Configuration, Files, configuration_in};
 use crate::journal::Journal;
+use crate::log_buffer::LogBuffer;
 use crate::reading::{FileReader, open};
 use crate::task::Service;
 use crate::warnings::warn;
@@ -22,7 +23,7 @@ use std::io;
 use std::io::{Error, ErrorKind};
 use std::net::SocketAddr;
 
-/// `upsd serve`: warns of what is dangerous in the file of users, and serves until the loop can't go on.
+/// `upsd serve`: warns of what is dangerous in the files, and serves until the loop can't go on.
 ///
 /// # Errors
 ///
@@ -30,16 +31,16 @@ use std::net::SocketAddr;
 pub fn serve_files<'a>(
     rt: &HostRuntime,
     files: Files<'a>,
-    service: Service<'a>,
+    service: Service,
 ) -> Result<(), Ending<'a>>
     ensures { IfErr result (λ ending.
         FirstFails anything files.entry ending
-        ⊎ (CantBeOpened service.entry.ids ending ⊎ IsEndOfServing ending)) }
+        ⊎ (CantBeOpened files.entry.ids ending
+        ⊎ IsEndOfServing service.address ending)) }
 {
     let server = server_of(rt.alloc(), rt, files, service.max_age)?;
-    let ids = ids_in(rt, service.ids)?;
-    warn(rt, files.users);
-    serve(rt, server, service.address, ids)
+    let ids = ids_in(rt, files.ids)?;
+    serve(rt, server, files, service.address, ids)
 }
 
 /// The ids of the file of this path, which is opened, and read while it is served. Without a path there are none.
@@ -47,12 +48,9 @@ fn ids_in<'a>(rt: &HostRuntime, path: Option<&'a str>) -> Result<Option<File>, E
     ensures named { IfOk result (λ ids. is_some ids ≡ is_some path.entry) }
     ensures fails { IfErr result (CantBeOpened path.entry) }
 {
-    let Some(path) = path else {
-        return Ok(None);
-    };
-    match open(rt, path) {
-        Ok(file) => Ok(Some(file)),
-        Err(ending) => Err(ending),
+    match path {
+        Some(path) => Ok(Some(open(rt, path)?)),
+        None => Ok(None),
     }
 }
 
@@ -72,27 +70,31 @@ fn server_of<'a, R: FileReader>(
         users,
         descriptions,
     } = configuration_in(alloc, reader, files)?;
-    match Server::new(alloc, list, users, descriptions, max_age) {
-        Ok(server) => Ok(server),
-        Err(_) => Err(Ending::Memory),
-    }
+    Server::new(alloc, list, users, descriptions, max_age).map_err(|_| Ending::Memory)
 }
 
-/// Listens at the address, tells it, and serves from then on.
+/// Listens at the address, warns, tells the address, and serves from then on.
 fn serve<'a>(
     rt: &HostRuntime,
     mut server: Server,
+    files: Files<'a>,
     address: SocketAddr,
     ids: Option<File>,
 ) -> Result<(), Ending<'a>>
-    ensures { IfErr result IsEndOfServing }
+    ensures { IfErr result (IsEndOfServing address) }
 {
+    let Ok(mut log) = LogBuffer::new(rt.alloc()) else {
+        return Err(Ending::Memory);
+    };
     match MioSockets::new(rt, rt.alloc(), address, &server, ids) {
-        Ok(mut sockets) => match tell(rt, &sockets) {
-            Ok(()) => go_round(rt, &mut server, &mut sockets),
-            Err(ending) => Err(ending),
-        },
-        Err(error) => Err(ending_of_listening(&error)),
+        Ok(mut sockets) => {
+            warn(rt, files, server.ups(), server.users());
+            match tell(rt, address, &sockets) {
+                Ok(()) => go_round(rt, &mut server, &mut sockets, &mut log),
+                Err(ending) => Err(ending),
+            }
+        }
+        Err(error) => Err(ending_of_listening(address, &error)),
     }
 }
 
@@ -102,6 +104,7 @@ fn go_round<'a>(
     rt: &HostRuntime,
     server: &mut Server,
     sockets: &mut MioSockets<'_, HostRuntime, File>,
+    log: &mut LogBuffer,
 ) -> Result<(), Ending<'a>>
     ensures turns { let calls = ⟦<MioSockets<'static, HostRuntime, File> as Sockets>⟧.calls in
         let failures = ⟦<MioSockets<'static, HostRuntime, File> as Sockets>⟧.failures in
@@ -113,25 +116,30 @@ fn go_round<'a>(
     ensures run { IsOneRun server.old.state server.new.state }
 {
     let mut journal = Journal::new();
-    match nutloop::serve(
-        server,
-        sockets,
-        |server, sockets| journal.write(rt, server, sockets),
-    ) {
+    match nutloop::serve(server, sockets, |server, sockets| {
+        journal.write(log, server, sockets);
+        log.flush(rt);
+    }) {
         Ok(()) => Ok(()),
         Err(fault) => Err(Ending::Loop(fault)),
     }
 }
 
 /// Tells on standard output at which address clients are listened for.
-fn tell<'a>(rt: &HostRuntime, sockets: &MioSockets<'_, HostRuntime, File>) -> Result<(), Ending<'a>>
-    ensures { IfErr result IsEndOfServing }
+fn tell<'a>(
+    rt: &HostRuntime,
+    address: SocketAddr,
+    sockets: &MioSockets<'_, HostRuntime, File>,
+) -> Result<(), Ending<'a>>
+    ensures { IfErr result (IsEndOfServing address) }
 {
-    let Ok(bound) = sockets.local_addr() else {
-        return Err(Ending::Listen);
-    };
-    let mut out = CountedWriter::new(io::writer(rt));
-    tell_address(rt.alloc(), &mut out, bound)
+    match sockets.local_addr() {
+        Ok(bound) => {
+            let mut out = CountedWriter::new(io::writer(rt));
+            tell_address(rt.alloc(), &mut out, bound)
+        }
+        Err(error) => Err(ending_of_listening(address, &error)),
+    }
 }
 
 /// Tells that clients are listened for at the address.
@@ -152,12 +160,17 @@ fn tell_address<'a, W: Sink>(
 }
 
 /// How the program ends where it can't listen.
-fn ending_of_listening<'a>(error: &Error) -> Ending<'a>
+fn ending_of_listening<'a>(address: SocketAddr, error: &Error) -> Ending<'a>
     ensures memory { error_kind error.now ≡ ErrorKind.OutOfMemory → result ≡ Ending.Memory }
-    ensures failed { error_kind error.now ≢ ErrorKind.OutOfMemory → result ≡ Ending.Listen }
+    ensures failed { error_kind error.now ≢ ErrorKind.OutOfMemory
+        → result ≡ Ending.Listen address (raw_os_error error.now) }
+    ensures ends { IsEndOfServing address result }
 {
     match error.kind() {
         ErrorKind::OutOfMemory => Ending::Memory,
-        _ => Ending::Listen,
+        _ => Ending::Listen {
+            address,
+            error: error.raw_os_error(),
+        },
     }
 }

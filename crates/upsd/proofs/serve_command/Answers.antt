@@ -16,7 +16,7 @@ returns c =
     let one = c.in_ok-arg.ensures.shape (ap is_local c.required.ensures ∙ c.file.ensures.local) ∙ ap₂ with_rule begun ups in
     let two = c.in_ok-arg-2.ensures.shape (ap is_local c.required-2.ensures ∙ c.file-2.ensures.local) ∙ ap₂ with_rule one users in
     let three = c.in_ok-arg-3.ensures.shape c.vars.ensures.local ∙ ap₂ with_rule two c.vars.ensures.word in
-    let four = c.in_ok-arg-4.ensures.shape c.ids.ensures.local ∙ ap₂ with_rule three c.ids.ensures.word in
+    let four = c.in_ok-arg-4.ensures.shape c.file-3.ensures.local ∙ ap₂ with_rule three c.file-3.ensures.word in
     let five = c.in_ok-arg-5.ensures.shape c.listen.ensures.local ∙ ap₂ with_rule four c.listen.ensures.word in
     IfOk-weaker c.arg-6.result _ _
     (λ r adds. adds.shape c.max_age.ensures.local ∙ ap₂ with_rule five c.max_age.ensures.word) c.arg-6.ensures

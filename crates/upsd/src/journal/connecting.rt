@@ -3,7 +3,8 @@ ghost use Rattle.std.specs.Prelude.{◌≡◌, ◌<◌, MatchOption, length, sli
 ghost use Rattle.nutloop.specs.OverMio.{error_of};
 ghost use Rattle.upsd.specs.Connecting.{AreErrorsWrittenUpTo, IsErrorNews};
 
-use super::log;
+use super::add;
+use crate::log_buffer::LogBuffer;
 use nutcore::{Server, UpsId};
 use nutloop::MioSockets;
 use nutusers::UPS_LIMIT;
@@ -33,7 +34,7 @@ impl Connecting {
     /// Writes a line of each driver that can't be connected to by another error than was written last.
     pub fn write<R: Net + Clock, F: Read + Drop>(
         &mut self,
-        rt: &HostRuntime,
+        log: &mut LogBuffer,
         server: &Server,
         sockets: &MioSockets<'_, R, F>,
     )
@@ -43,7 +44,7 @@ impl Connecting {
         for place in 0..server.ups().len() {
             let u = UpsId { place: place as u8 };
             if let Some(number) = self.take_news(place, sockets.driver_error(u)) {
-                write_error(rt, server, u, number);
+                write_error(log, server, u, number);
             }
         }
     }
@@ -73,10 +74,10 @@ impl<'a> fmt::Display for CannotConnect<'a> {
 }
 
 /// Logs it.
-fn write_error(rt: &HostRuntime, server: &Server, u: UpsId, number: i32) {
+fn write_error(log: &mut LogBuffer, server: &Server, u: UpsId, number: i32) {
     if let Some(name) = server.ups().name(u) {
         let error = Error::from_raw_os_error(number);
-        log(rt, &CannotConnect(name, &error));
+        add(log, &CannotConnect(name, &error));
     }
 }
 

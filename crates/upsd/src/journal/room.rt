@@ -2,7 +2,8 @@
 ghost use Rattle.std.specs.Prelude.{◌≡◌, false};
 ghost use Rattle.upsd.specs.Room.{room_after, room_news};
 
-use super::log;
+use super::add;
+use crate::log_buffer::LogBuffer;
 use std::fmt;
 
 /// What is new of the room for clients.
@@ -44,11 +45,11 @@ impl Room {
     }
 
     /// Writes what is new, where so many were sent away up to now, and there is room or none.
-    pub fn write(&mut self, rt: &HostRuntime, refusals: u64, has_room: bool)
+    pub fn write(&mut self, log: &mut LogBuffer, refusals: u64, has_room: bool)
         ensures { self.new ≡ room_after self.old refusals has_room }
     {
         if let Some(news) = self.take_news(refusals, has_room) {
-            log(rt, &news);
+            add(log, &news);
         }
     }
 

@@ -1,0 +1,104 @@
+//! The lines of the journal on their way to standard error. It may be a pipe that nobody reads, so no write waits.
+ghost use Rattle.std.specs.Prelude.{◌≡◌, [], IfOk, MatchResult, OnOk, OnErr, string_bytes};
+ghost use Rattle.upsd.specs.LogBuffer.{after_line, counted, dropped_line, one_dropped};
+
+use libc::STDERR_FILENO;
+use libc::net::{POLLOUT, poll};
+use libc::types::pollfd;
+use nutlisting::Ring;
+use std::alloc::{AllocError, Global};
+use std::io::Write;
+
+/// The most bytes of lines that wait.
+pub const LOG_LIMIT: usize = 32_768;
+
+/// How many bytes a pipe takes without waiting where it takes any (Linux's PIPE_BUF).
+const PIECE_LIMIT: usize = 4096;
+
+/// How many pieces are written at most before the server goes on.
+const PIECES: usize = LOG_LIMIT / PIECE_LIMIT + 1;
+
+/// The lines that standard error hasn't taken yet, and how many had no room among them.
+#[derive(Drop)]
+pub struct LogBuffer {
+    alloc: Global,
+    pub waiting: Ring<LOG_LIMIT>,
+    pub dropped: u64,
+}
+
+impl LogBuffer {
+    /// Nothing waits.
+    ///
+    /// # Errors
+    ///
+    /// `AllocError` where memory is refused.
+    pub fn new(alloc: Global) -> Result<LogBuffer, AllocError>
+        ensures waiting { IfOk result (λ log. log.waiting ≡ []) }
+        ensures dropped { IfOk result (λ log. log.dropped ≡ 0) }
+    {
+        Ok(LogBuffer {
+            alloc,
+            waiting: Ring::new(alloc)?,
+            dropped: 0,
+        })
+    }
+
+    /// Where memory for a line is asked for.
+    pub fn alloc(&self) -> Global {
+        self.alloc
+    }
+
+    /// Hands in a line, which ends with LF. One that has no room, or for which memory was refused, is dropped and counted.
+    /// So are those after it, until the count is logged.
+    pub fn add(&mut self, line: Result<String, AllocError>)
+        ensures { MatchResult line
+            (λ text. self.new ≡ after_line (string_bytes text) self.old)
+            (λ _. self.new ≡ one_dropped self.old) }
+    {
+        match line {
+            Ok(line) if self.dropped == 0 && line.len() <= self.waiting.free() => {
+                self.waiting.push(line.as_bytes());
+            }
+            _ => self.dropped = self.dropped.saturating_add(1),
+        }
+    }
+
+    /// Writes what waits, as far as standard error takes it without waiting.
+    pub fn flush(&mut self, rt: &HostRuntime) {
+        for _ in 0..PIECES {
+            if self.dropped > 0 && self.waiting.is_empty() {
+                let _ = self.count_dropped();
+            }
+            let count = self.waiting.len().min(PIECE_LIMIT);
+            if count == 0 || !takes_bytes() {
+                return;
+            }
+            match rt.stderr().write(&self.waiting.bytes()[..count]) {
+                Ok(written) => self.waiting.drop_front(written),
+                Err(_) => return,
+            }
+        }
+    }
+
+    /// The number of the dropped lines is the next line.
+    fn count_dropped(&mut self) -> Result<(), AllocError>
+        ensures counts { OnOk result (self.new ≡ counted self.old) }
+        ensures fails { OnErr result (self.new ≡ self.old) }
+    {
+        let count = self.dropped;
+        let line = format!(in self.alloc; "upsd: {count} lines of the journal were dropped\n")?;
+        self.dropped = 0;
+        self.add(Ok(line));
+        Ok(())
+    }
+}
+
+/// Whether standard error takes bytes without waiting: of a pipe `PIECE_LIMIT` at least.
+fn takes_bytes() -> bool {
+    let mut asked = [pollfd {
+        fd: STDERR_FILENO,
+        events: POLLOUT,
+        revents: 0,
+    }];
+    poll(&mut asked, 0) > 0 && asked[0].revents & POLLOUT != 0
+}
