@@ -22,6 +22,7 @@ LED = BENCH.file("led", b"")
 
 READ, WRITE, EARLY, BAD = "read failed", "write failed", "reply ended early", "bad reply"
 DENIED, STALE, ARGUMENT = "server answered ERR ACCESS-DENIED", "server answered ERR DATA-STALE", "bad argument"
+VALUE, ITEMS = 512, 65_536  # the longest value and listing
 ENDS, FAILS, STAYS = "the server ends", "its connection is reset", "it waits for more"
 
 LIST = ("upsc", "su")
@@ -83,7 +84,8 @@ def all_of(wire):
 def start(words, narrow, output=subprocess.PIPE):
     program, *rest = words
     more = {"LD_PRELOAD": NARROW, "LED": LED, **narrow}
-    return subprocess.Popen([PROGRAMS[program], *rest], env={**os.environ, **more}, stdin=subprocess.DEVNULL, stdout=output, stderr=subprocess.PIPE)
+    # The pipe has room for all that is printed, which is read last.
+    return subprocess.Popen([PROGRAMS[program], *rest], env={**os.environ, **more}, stdin=subprocess.DEVNULL, stdout=output, stderr=subprocess.PIPE, pipesize=1 << 20)
 
 
 def check_end(words, child, status, fault):
@@ -144,7 +146,7 @@ def in_pieces():
 
 
 def values():
-    """An order has a value or none; a setting is cut at its first equals sign."""
+    """An order has a value or none; a setting is cut at its first equals sign. The longest value is printed and sent."""
     command = ("upscmd", "-u", "admin", "-p", "pw", "su", "a")
     login = b'USERNAME "admin"\nPASSWORD "pw"\n'
     yield Row(command, b"OK\n" * 3, login + b"INSTCMD su a\n", b"OK\n")
@@ -152,13 +154,25 @@ def values():
     for setting, line in [("a=", b'SET VAR su a ""\n'), ("a=b=c", b'SET VAR su a "b=c"\n')]:
         words = ("upsrw", "-s", setting, "-u", "u", "-p", "p", "su")
         yield Row(words, b"OK\n" * 3, b'USERNAME "u"\nPASSWORD "p"\n' + line, b"OK\n")
+    for value, spelled in [(b"v" * VALUE, b"v" * VALUE), (b'"' * VALUE, b'\\"' * VALUE)]:
+        yield Row(("upsc", "su", "a"), b'VAR su a "%s"\n' % spelled, b"GET VAR su a\n", value + b"\n")
+        words = ("upsrw", "-s", b"a=" + value, "-u", "u", "-p", "p", "su")
+        yield Row(words, b"OK\n" * 3, b'USERNAME "u"\nPASSWORD "p"\nSET VAR su a "%s"\n' % spelled, b"OK\n")
 
 
-def check_led(rows):
+def longest_listings():
+    """One of as many items as a client reads, and one with one more."""
+    for count, fault in [(ITEMS, ""), (ITEMS + 1, BAD)]:
+        items = b"".join(b'VAR su v%d ""\n' % number for number in range(count))
+        printed = b"" if fault else b"".join(b"v%d: \n" % number for number in range(count))
+        yield Row(LIST, b"BEGIN LIST VAR su\n" + items + b"END LIST VAR su\n", ASKED, printed, fault)
+
+
+def check_led(rows, narrow):
     """Lawful words lead to their server, by what is looked up and connected to."""
     for ups, led in rows:
         BENCH.file("led", b"")
-        check([Row(("upsc", ups), LISTED, ASKED, PRINTED)])
+        check([Row(("upsc", ups), LISTED, ASKED, PRINTED, narrow=narrow)])
         with open(LED, encoding="utf-8") as file:
             got = file.read().splitlines()
         assert got == led, f"{ups}: {got}"
@@ -171,9 +185,11 @@ SERVERS = [
     ("su@192.0.2.1:65535", ["connect 192.0.2.1:65535"]),
     ("su@a-b.c:1", ["look up a-b.c", "connect 127.0.0.1:1"]),
 ]
+REFUSING = "127.0.0.2"
+TWO_ADDRESSES = [("su", ["look up localhost", f"connect {REFUSING}:3493", "connect 127.0.0.1:3493"])]
 UNLAWFUL_UPSES = ["", "s/u", "su@", "su@ho_st", "su@:3493", "su@a@b", "su@a:1:2", "su@host:", "su@host:0", "su@host:03493"]
 UNLAWFUL_UPSES += ["su@host:65536", "su@host:+1"]
-UNLAWFUL_SETTINGS = ["a", "=1", "a/b=1", "a=\x01"]
+UNLAWFUL_SETTINGS = ["a", "=1", "a/b=1", "a=\x01", "a=" + "v" * (VALUE + 1)]
 
 
 def check_unlawful(rows):
@@ -288,7 +304,9 @@ def check_unreached(programs):
 def main():
     BENCH.case("words and replies in pieces of every size", check, in_pieces())
     BENCH.case("values of orders and settings", check, values())
-    BENCH.case("lawful words lead to their server", check_led, SERVERS)
+    BENCH.case("listings of the most items, and one more", check, longest_listings())
+    BENCH.case("lawful words lead to their server", check_led, SERVERS, {})
+    BENCH.case("an address that refuses isn't the last", check_led, TWO_ADDRESSES, {"REFUSING": REFUSING})
     unlawful = [("upsc", ups) for ups in UNLAWFUL_UPSES]
     unlawful += [("upsrw", "-s", setting, "-u", "u", "-p", "p", "su") for setting in UNLAWFUL_SETTINGS]
     unlawful += [("upsc", "--tracked", text, "su") for text in ["", ID[:-1], ID.replace("-", ""), "{" + ID + "}"]]

@@ -7,6 +7,7 @@
  * WRITE_ROOM: how many bytes the standard output takes in all. Then it takes none.
  * LEAD_TO: the port of 127.0.0.1 that each connection is led to, and each name is looked up as that address. The names, and
  * the addresses and ports that were asked for, are added to the file that LED names, on a line each.
+ * REFUSING: an address that each name has before that one, and that refuses each connection.
  */
 #define _GNU_SOURCE
 #include <arpa/inet.h>
@@ -87,7 +88,14 @@ int getaddrinfo(const char *host, const char *service, const struct addrinfo *hi
     if (!getenv("LEAD_TO"))
         return real(host, service, hints, found);
     tell("look up", host, "");
-    return real("127.0.0.1", service, hints, found);
+    const char *refusing = getenv("REFUSING");
+    int fault = real(refusing ? refusing : "127.0.0.1", service, hints, found);
+    if (!refusing || fault)
+        return fault;
+    struct addrinfo *last = *found;
+    while (last->ai_next)
+        last = last->ai_next;
+    return real("127.0.0.1", service, hints, &last->ai_next);
 }
 
 int connect(int wire, const struct sockaddr *address, socklen_t length)
@@ -99,6 +107,11 @@ int connect(int wire, const struct sockaddr *address, socklen_t length)
     char port[8];
     snprintf(port, sizeof port, ":%d", ntohs(led.sin_port));
     tell("connect", inet_ntoa(led.sin_addr), port);
+    const char *refusing = getenv("REFUSING");
+    if (refusing && led.sin_addr.s_addr == inet_addr(refusing)) {
+        errno = ECONNREFUSED;
+        return -1;
+    }
     led.sin_addr.s_addr = htonl(INADDR_LOOPBACK);
     led.sin_port = htons((uint16_t)number_of("LEAD_TO", 0));
     return real(wire, (const struct sockaddr *)&led, sizeof led);

@@ -1,19 +1,16 @@
 -- How far a tracked order has come, as the server tells it and as a client prints it.
-use Rattle.std.proofs.Common.{◌≡◌, ◌∙◌, ℕ, ◌^◌, ◌<◌, ◌≤◌, Bool, true, false, eqb, leb, ltb, List, [], ◌∷◌, ◌++◌, length, append-nil, Option, Some, None, Ok, if◌then◌else◌, get_or, refl, ap, subst, arith}
+use Rattle.std.proofs.Common.{◌≡◌, ◌∙◌, ℕ, ◌^◌, ◌<◌, ◌≤◌, Bool, true, false, eqb, ltb, List, [], ◌∷◌, ◌++◌, length, append-nil, Option, Some, None, Ok, if◌then◌else◌, refl, ap, subst, arith}
 use Rattle.std.specs.Prelude.{codes, option_map, ◌==◌}
 use Rattle.std.specs.Fmt.{decimal}
-use Rattle.std.specs.List.{list_all, find}
+use Rattle.std.specs.List.{find}
 use Rattle.std.specs.Option.{ok_or}
-use Rattle.std.specs.Str.Parse.{AllDigits, digits_value}
-use Rattle.std.proofs.lemmas.Bool.{and_from, eq-eqb}
+use Rattle.std.proofs.lemmas.Bool.{eq-eqb}
 use Rattle.std.proofs.lemmas.Bool.Decides.{nat_tests}
-use Rattle.std.proofs.lemmas.Fmt.{decimal_is_IsNumeral, first_decimal, length-decimal-le}
+use Rattle.std.proofs.lemmas.Fmt.{decimal_is_IsNumeral, length-decimal-le}
 use Rattle.std.proofs.lemmas.List.Elements.{All-head, All-tail}
-use Rattle.std.proofs.lemmas.Str.Parse.{digit_from_value}
-use Rattle.nutwords.specs.Bytes.{is_bare}
 use Rattle.nutwords.specs.Frame.{line_of}
 use Rattle.nutwords.specs.Listing.{as_it_is, IsWrittenLine}
-use Rattle.nutwords.specs.Natural.{is_digit, is_natural, up_to, read_natural}
+use Rattle.nutwords.specs.Natural.{read_natural}
 use Rattle.nuttracking.specs.Id.{id_text}
 use Rattle.nuttracking.specs.Sound.{IsLawfulProgress, HaveLawfulNumbers}
 use Rattle.nuttracking.specs.Tracking.{has_id, progress_of}
@@ -40,6 +37,7 @@ use Rattle.nutclient.specs.declared.form.Form.TheVariants as forms
 use Rattle.endtoend.specs.Tracked.{UpscPrintsHowFarAnOrderHasCome}
 use Rattle.endtoend.specs.Served.{IsLineOf}
 use Rattle.endtoend.proofs.Ids.{id_written}
+use Rattle.endtoend.proofs.Numbers.{digits_all, written_read}
 use Rattle.endtoend.proofs.Refused.{first_read, refused_read}
 use Rattle.endtoend.proofs.Requests.{words_sent, line_of_three, line_of_four}
 
@@ -60,38 +58,21 @@ answered_by s c id line o read is =
     ap (text_to s c) read
     ∙ ap (λ (o : Option Progress). text_of_answer (ok_or (option_map (λ (progress : Progress). (id, progress)) o) InvalidArgument >>= (λ (p : ℕ × Progress). told (codes "TRACKING" ∷ id_text p.0 ∷ progress_words p.1)))) is
 
--- numbers, as they are written
-digits_all : (ds : List ℕ) → AllDigits 10 ds → (list_all is_digit ds ≡ true) × (list_all is_bare ds ≡ true)
-digits_all [] all = (refl, refl)
-digits_all (d ∷ ds) all =
-    let here = digit_from_value d all.0 in
-    let rest = digits_all ds all.1 in
-    (and_from (is_digit d) (list_all is_digit ds) (grind (arith, nat_tests)) rest.0, and_from (is_bare d) (list_all is_bare ds) (grind (arith, nat_tests)) rest.1)
-
-natural_of : (ds : List ℕ) → list_all is_digit ds ≡ true → 48 < get_or ds 0 0 → is_natural ds ≡ true
-natural_of [] all first = absurd (omega (arith, first))
-natural_of (d ∷ ds) all first = and_from (list_all is_digit (d ∷ ds)) _ all (grind (arith, nat_tests))
-
 number_read : (n : ℕ) → 0 < n → n ≤ 1000000000 → is_some_number (read_natural DONE_LIMIT (decimal n)) ≡ true
 number_read n some few =
-    let numeral = decimal_is_IsNumeral n (omega arith) in
-    let natural : is_natural (decimal n) ≡ true = natural_of (decimal n) (digits_all (decimal n) numeral.0.1).0 (first_decimal n some (omega arith)) in
-    let most : leb n DONE_LIMIT ≡ true = grind (arith, nat_tests) in
     let more : ltb 0 n ≡ true = grind (arith, nat_tests) in
-    ap (λ (b : Bool). is_some_number (if b then up_to DONE_LIMIT (digits_value 10 (decimal n)) else None)) natural
-    ∙ ap (λ (k : ℕ). is_some_number (up_to DONE_LIMIT k)) numeral.1
-    ∙ ap (λ (b : Bool). is_some_number (if b then Some n else None)) most ∙ more
+    ap is_some_number (written_read DONE_LIMIT n few (omega arith)) ∙ more
 
 -- what a client makes of the words
 abbrev told_text : Progress → List ℕ
 told_text Pending = codes "PENDING"
 told_text (Done number) = if number == 0 then codes "SUCCESS" else codes "FAILED " ++ decimal number
 
-words_told : (progress : Progress) → IsLawfulProgress progress → progress_in (Some (progress_words progress)) ≡ Some (told_text progress)
+words_told : (progress : Progress) → IsLawfulProgress progress → progress_in (progress_words progress) ≡ Some (told_text progress)
 words_told Pending lawful = refl
 words_told (Done n) lawful = by_zero (eqb n 0) refl
   where
-    by_zero : (b : Bool) → eqb n 0 ≡ b → progress_in (Some (if b then codes "SUCCESS" ∷ [] else codes "FAILED" ∷ decimal n ∷ [])) ≡ Some (if b then codes "SUCCESS" else codes "FAILED " ++ decimal n)
+    by_zero : (b : Bool) → eqb n 0 ≡ b → progress_in (if b then codes "SUCCESS" ∷ [] else codes "FAILED" ∷ decimal n ∷ []) ≡ Some (if b then codes "SUCCESS" else codes "FAILED " ++ decimal n)
     by_zero true e = refl
     by_zero false e =
         let some : 0 < n = grind (arith, nat_tests) in
@@ -100,10 +81,10 @@ words_told (Done n) lawful = by_zero (eqb n 0) refl
 abbrev all_words : ℕ → Progress → List (List ℕ)
 all_words id progress = codes "TRACKING" ∷ id_text id ∷ progress_words progress
 
-progress_told : (id : ℕ) (progress : Progress) → id < 2 ^ 128 → IsLawfulProgress progress → client.progress_of id (all_words id progress) ≡ Some (told_text progress)
+progress_told : (id : ℕ) (progress : Progress) → id < 2 ^ 128 → IsLawfulProgress progress → client.progress_of id (id_text id ∷ progress_words progress) ≡ Some (told_text progress)
 progress_told id progress small lawful =
-    ap (λ (o : Option ℕ). progress_in (if is_that id o then Some (progress_words progress) else None)) (written_is_read id small)
-    ∙ ap (λ (b : Bool). progress_in (if b then Some (progress_words progress) else None)) (eq-eqb id id refl)
+    ap (λ (o : Option ℕ). if is_that id o then progress_in (progress_words progress) else None) (written_is_read id small)
+    ∙ ap (λ (b : Bool). if b then progress_in (progress_words progress) else None) (eq-eqb id id refl)
     ∙ words_told progress lawful
 
 -- they are written as they are

@@ -52,20 +52,26 @@ run_answers rem rf con wf oc of requests form old xs new reader after writer sen
 run_answers rem rf con wf oc of requests form old xs new reader after writer sent out then (Err Write) (inl g) e r w o m = absurd (grew (wf writer) (wf sent) w g.0.3.failed)
 run_answers rem rf con wf oc of requests form old xs new reader after writer sent out then (Err Write) (inr g) e r w o m = absurd (grew (of out) (of then) o g.2.failed)
 run_answers rem rf con wf oc of requests form old xs new reader after writer sent out then (Err (ErrWord v)) (inl g) e r w o m =
-    let k = came_all (rem reader) (rem after) xs g.0.0 e g.0.2.bytes in
-    subst (λ p. Answers oc p out (Err (ErrWord v)) then) (all_printed requests form old g.0.0 k.0 xs (Faults (ErrWord v)) k.1 (λ more. ap (printed_of form) (g.0.5 more))) (refl, g.1)
+    let f = g.0.2 in
+    let k = came_all (rem reader) (rem after) xs f.0 e f.1.bytes in
+    subst (λ p. Answers oc p out (Err (ErrWord v)) then)
+    (all_printed requests form old f.0 k.0 xs (Faults (ErrWord v)) k.1 (λ more. ap (printed_of form) (f.2 more).1)) (refl, g.1)
 run_answers rem rf con wf oc of requests form old xs new reader after writer sent out then (Err BadReply) (inl g) e r w o m =
-    let k = came_all (rem reader) (rem after) xs g.0.0 e g.0.2.bytes in
-    subst (λ p. Answers oc p out (Err BadReply) then) (all_printed requests form old g.0.0 k.0 xs (Faults BadReply) k.1 (λ more. ap (printed_of form) (g.0.5 more))) (refl, g.1)
+    let f = g.0.2 in
+    let k = came_all (rem reader) (rem after) xs f.0 e f.1.bytes in
+    subst (λ p. Answers oc p out (Err BadReply) then)
+    (all_printed requests form old f.0 k.0 xs (Faults BadReply) k.1 (λ more. ap (printed_of form) (f.2 more).1)) (refl, g.1)
 run_answers rem rf con wf oc of requests form old xs new reader after writer sent out then (Err EarlyEnd) (inl g) e r w o m =
-    let k = came_all (rem reader) (rem after) xs g.0.0 e g.0.2.bytes in
-    let none : k.0 ≡ [] = at_end (rem after) k.0 k.2 g.0.4 in
-    let all : xs ≡ g.0.0 = k.1 ∙ ap (λ t. g.0.0 ++ t) none ∙ append-nil g.0.0 in
-    subst (λ p. Answers oc p out (Err EarlyEnd) then) (sym (ap (λ bs. printed requests form (old ++ bs)) all ∙ ap (printed_of form) g.0.6)) (refl, g.1)
-run_answers rem rf con wf oc of requests form old xs new reader after writer sent out then (Err Read) (inl g) e r w o m = absurd (grew (rf reader) (rf after) r g.0.2.failed)
+    let f = g.0.2 in
+    let k = came_all (rem reader) (rem after) xs f.0 e f.1.bytes in
+    let none : k.0 ≡ [] = at_end (rem after) k.0 k.2 f.2 in
+    let all : xs ≡ f.0 = k.1 ∙ ap (λ t. f.0 ++ t) none ∙ append-nil f.0 in
+    subst (λ p. Answers oc p out (Err EarlyEnd) then)
+    (sym (ap (λ bs. printed requests form (old ++ bs)) all ∙ ap (printed_of form) f.3.1)) (refl, g.1)
+run_answers rem rf con wf oc of requests form old xs new reader after writer sent out then (Err Read) (inl g) e r w o m = absurd (grew (rf reader) (rf after) r g.0.2.1.failed)
 run_answers rem rf con wf oc of requests form old xs new reader after writer sent out then (Err Memory) g e r w o m = absurd (m refl)
-run_answers rem rf con wf oc of requests form old xs new reader after writer sent out then (Err Connect) (inl g) e r w o m = absurd g.0
-run_answers rem rf con wf oc of requests form old xs new reader after writer sent out then (Err BadTarget) (inl g) e r w o m = absurd g.0
+run_answers rem rf con wf oc of requests form old xs new reader after writer sent out then (Err Connect) (inl g) e r w o m = absurd g.0.2
+run_answers rem rf con wf oc of requests form old xs new reader after writer sent out then (Err BadTarget) (inl g) e r w o m = absurd g.0.2
 run_answers rem rf con wf oc of requests form old xs new reader after writer sent out then (Err (ErrWord v)) (inr g) e r w o m = absurd g.2
 run_answers rem rf con wf oc of requests form old xs new reader after writer sent out then (Err BadReply) (inr g) e r w o m = absurd g.2
 run_answers rem rf con wf oc of requests form old xs new reader after writer sent out then (Err EarlyEnd) (inr g) e r w o m = absurd g.2
@@ -79,6 +85,6 @@ pub no_word_fault : {R W O : Type 0} (rem : R → Option (List ℕ)) (rf : R →
     → RunGives rem rf con wf oc of requests form old reader writer out result new after sent then → result ≡ Err BadTarget → ⊥
 no_word_fault rem rf con wf oc of requests form old new reader after writer sent out then result g e =
     elim (subst (λ r. RunGives rem rf con wf oc of requests form old reader writer out r new after sent then) e g) [
-      | inl refused ↦ absurd refused.0
+      | inl refused ↦ absurd refused.0.2
       | inr printed ↦ absurd printed.2
     ]

@@ -1,9 +1,18 @@
 -- With which status a program ends, and what it prints on standard error.
 use Rattle.std.specs.Prelude.{◌≡◌, ℕ, List, [], ◌∷◌, ◌++◌, Option, Result, Ok, Err, codes}
+use Rattle.std.specs.List.{flat_map}
+use Rattle.nutio.specs.Ends.{Received, Written}
+use Rattle.nutrequest.specs.Request.{request_line}
+use Rattle.nutrequest.specs.Reply.{Whole}
+use Rattle.nutrequest.specs.declared.item.Item.{Item}
+use Rattle.nutrequest.specs.declared.request.Request.{Request}
 use Rattle.nutrequest.specs.Fault.{status_of, fault_text}
 use Rattle.nutio.specs.Writing.{SendGives}
 use Rattle.nutio.specs.declared.ends.Failed.{Failed}
 use Rattle.nutrequest.specs.declared.faults.ClientFault.{ClientFault}
+use Rattle.nutclient.specs.Requests.{last_reply}
+use Rattle.nutclient.specs.Printed.{text_of}
+use Rattle.nutclient.specs.declared.form.Form.{Form}
 use Rattle.nutclient.specs.declared.program.Program.{Program}
 use Rattle.nutclient.specs.declared.program.Program.TheVariants.{Upsc, Upsrw, Upscmd}
 
@@ -28,3 +37,17 @@ abbrev pub EndsBy : {E : Type 0} → (E → Option (List ℕ)) → (E → ℕ) �
 EndsBy contents failures program (Ok done) err status after = (status ≡ 0) × (after ≡ err)
 EndsBy contents failures program (Err fault) err status after =
     (status ≡ status_of fault) × Tells contents failures (told_line program fault) err after
+
+-- A job that is done: the writer took the line of each request, once and in their order; what came
+-- is a whole reply to each; and the output took the text of the last one's items.
+pub record IsDone {R W O : Type 0} (remaining : R → Option (List ℕ)) (failures : R → ℕ)
+    (contents : W → Option (List ℕ)) (write_failures : W → ℕ) (printed : O → Option (List ℕ))
+    (print_failures : O → ℕ) (requests : List Request) (form : Form) (reader : R) (writer : W)
+    (out : O) (after : R) (sent : W) (then : O) : Type 0 where
+  pub came : List ℕ
+  pub items : List Item
+  pub rest : List ℕ
+  pub read : Received remaining failures reader came after
+  pub written : Written contents write_failures writer (flat_map request_line requests) sent
+  pub replies : last_reply requests came ≡ Whole items rest
+  pub output : Written printed print_failures out (text_of form items) then

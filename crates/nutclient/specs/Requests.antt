@@ -1,16 +1,15 @@
 -- Requests one after another, each sent after the one before is granted.
 use Rattle.std.specs.Prelude.{◌≡◌, ℕ, List, [], ◌∷◌, ◌++◌, Option, Result, Ok, Err}
-use Rattle.std.specs.Io.KnownBytes.{IsAtEnd}
-use Rattle.nutio.specs.Ends.{Received, ReadFailed, Written, WriteFailed, IsBeginning}
+use Rattle.nutio.specs.Ends.{Received, Written, WriteFailed, IsBeginning}
 use Rattle.nutrequest.specs.Request.{request_line}
 use Rattle.nutrequest.specs.Reply.{Reply, Refused, Whole, Bad, Unfinished, reply}
+use Rattle.nutrequest.specs.Session.{Fails}
 use Rattle.nutrequest.specs.declared.item.Item.{Item}
 use Rattle.nutrequest.specs.declared.request.Request.{Request}
 use Rattle.nutclient.specs.declared.requests.Requests.{Requests}
 use Rattle.nutclient.specs.declared.requests.Requests.TheVariants.{Alone, BehindLogin, Tracked}
 use Rattle.nutrequest.specs.declared.faults.ClientFault.{ClientFault}
-use Rattle.nutrequest.specs.declared.faults.ClientFault.TheVariants.{Read, Write, EarlyEnd, ErrWord}
-use Rattle.nutrequest.specs.declared.faults.ClientFault.TheVariants.{BadReply, Memory}
+use Rattle.nutrequest.specs.declared.faults.ClientFault.TheVariants.{Write, Memory}
 
 -- The requests of a job, in the order in which they are sent.
 abbrev pub requests_in : Requests → List Request
@@ -66,31 +65,12 @@ RequestsGive remaining failures contents write_failures requests old reader writ
     × WriteFailed contents write_failures writer text sent
     × ((more : List ℕ) → IsBeginning text (sent_lines requests (old ++ (came ++ more))))
 RequestsGive remaining failures contents write_failures requests old reader writer
-    (Err (ErrWord word)) new after sent =
-    (came : List ℕ) × (text : List ℕ) × Received remaining failures reader came after
-    × Written contents write_failures writer text sent
-    × ((more : List ℕ) → sent_lines requests (old ++ (came ++ more)) ≡ text)
-    × ((more : List ℕ) → last_reply requests (old ++ (came ++ more)) ≡ Refused word)
-RequestsGive remaining failures contents write_failures requests old reader writer
-    (Err BadReply) new after sent =
-    (came : List ℕ) × (text : List ℕ) × Received remaining failures reader came after
-    × Written contents write_failures writer text sent
-    × ((more : List ℕ) → sent_lines requests (old ++ (came ++ more)) ≡ text)
-    × ((more : List ℕ) → last_reply requests (old ++ (came ++ more)) ≡ Bad)
-RequestsGive remaining failures contents write_failures requests old reader writer
-    (Err EarlyEnd) new after sent =
-    (came : List ℕ) × (text : List ℕ) × Received remaining failures reader came after
-    × Written contents write_failures writer text sent × IsAtEnd (remaining after)
-    × (sent_lines requests (old ++ came) ≡ text) × (last_reply requests (old ++ came) ≡ Unfinished)
-RequestsGive remaining failures contents write_failures requests old reader writer
-    (Err Read) new after sent =
-    (came : List ℕ) × (text : List ℕ) × ReadFailed remaining failures reader came after
-    × Written contents write_failures writer text sent
-    × (sent_lines requests (old ++ came) ≡ text) × (last_reply requests (old ++ came) ≡ Unfinished)
-RequestsGive remaining failures contents write_failures requests old reader writer
     (Err Memory) new after sent =
     (came : List ℕ) × (text : List ℕ) × Received remaining failures reader came after
     × Written contents write_failures writer text sent
     × ((more : List ℕ) → IsBeginning text (sent_lines requests (old ++ (came ++ more))))
-RequestsGive remaining failures contents write_failures requests old reader writer result new after
-    sent = ⊥
+RequestsGive remaining failures contents write_failures requests old reader writer
+    (Err fault) new after sent =
+    (text : List ℕ) × Written contents write_failures writer text sent
+    × Fails remaining failures (λ came r. (sent_lines requests (old ++ came) ≡ text)
+    × (last_reply requests (old ++ came) ≡ r)) reader fault after

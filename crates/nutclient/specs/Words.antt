@@ -1,10 +1,10 @@
 -- The words of a command line, as the parser takes them.
 use Rattle.std.specs.Prelude.{◌≡◌, ℕ, List, [], ◌∷◌, Bool, true, false, Option, Some, None}
-use Rattle.std.specs.Prelude.{Result, Ok, Err, IfOk, codes, map, option_map, unwrap_or}
+use Rattle.std.specs.Prelude.{Result, IfOk, codes, map, option_map, unwrap_or}
 use Rattle.std.specs.declared.alloc.AllocError.{AllocError}
 use denote.Ref.{Bor}
 use Rattle.clap.specs.Simple.{new_shape}
-use Rattle.clap.specs.Words.{AddsArg, AddsConflicts, AddsRequiredUnless, AddsRequirements}
+use Rattle.clap.specs.Words.{AddsConflicts, AddsRequiredUnless, AddsRequirements}
 use Rattle.clap.specs.Words.{App, Rule, Text, app_of, new_rule, rule_of}
 use Rattle.clap.specs.Words.{first_value, found_of, one_text}
 use Rattle.clap.specs.declared.builder.action.ArgAction.TheVariants.{SetTrue}
@@ -12,12 +12,6 @@ use Rattle.clap.specs.declared.builder.arg.Arg.{Arg}
 use Rattle.clap.specs.declared.builder.arg.ArgPredicate.{ArgPredicate}
 use Rattle.clap.specs.declared.builder.command.Command.{Command}
 use Rattle.clap.specs.declared.parser.matches.ArgMatches.{ArgMatches}
-
--- The command with one word more.
-abbrev pub IsWith : Result Command AllocError → Result Arg AllocError → Command → Type 0
-IsWith (Ok command) (Ok word) new = AddsArg command word new
-IsWith (Ok command) (Err e) new = ⊥
-IsWith (Err e) word new = ⊥
 
 -- The command, where there is memory for it, takes these words.
 abbrev pub Takes : App → Result Command AllocError → Type 0

@@ -1,10 +1,10 @@
 //! The words of a program, as the parser takes them.
-ghost use Rattle.std.specs.Prelude.{◌≡◌, IfOk};
+ghost use Rattle.std.specs.Prelude.{◌≡◌};
 ghost use Rattle.clap.specs.Words.{App, Rule, with_rule};
 ghost use Rattle.clap.specs.declared.parser.matches.ArgMatches.{ArgMatches};
 ghost use Rattle.nutclient.specs.declared.given.Given.{Given};
 ghost use Rattle.nutclient.specs.declared.program.Program.{Program};
-ghost use Rattle.nutclient.specs.Words.{IsWith, IsWord, Takes};
+ghost use Rattle.nutclient.specs.Words.{IsWord, Takes};
 
 use crate::{Given, Program};
 use clap::{Arg, ArgMatches, Command};
@@ -39,7 +39,6 @@ pub fn with<'a>(
     command: Result<Command<'a>, AllocError>,
     word: Result<Arg<'static>, AllocError>,
 ) -> Result<Command<'a>, AllocError>
-    ensures added { IfOk result (IsWith command.entry word.entry) }
     ensures takes { (app : App) → (rule : Rule) → Takes app command.entry
         → IsWord rule word.entry → Takes (with_rule app rule) result }
 {

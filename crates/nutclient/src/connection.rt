@@ -20,10 +20,7 @@ pub fn connect(rt: &HostRuntime, target: &Target) -> Result<TcpStream, ClientFau
     ensures { IfErr result
         (λ fault. (fault ≡ ClientFault.Connect) ⊎ (fault ≡ ClientFault.Memory)) }
 {
-    match open(rt, target.address()) {
-        Ok(stream) => Ok(stream),
-        Err(error) => Err(fault_of(&error)),
-    }
+    open(rt, target.address()).map_err(|error| fault_of(&error))
 }
 
 /// The calls of the system that make a connection. No clause can say what they do.

@@ -1,37 +1,12 @@
-//! How a program ends: its status, and the fault that it tells. Each of its ends is one of nutio's, so that a contract
-//! says what goes where.
-ghost use Rattle.std.specs.Prelude.{◌≡◌, Result, false};
-ghost use Rattle.nutrequest.specs.State.{unread_of, reader_of, writer_of, is_over};
+//! How a program ends: its status, and the fault that it reports.
+ghost use Rattle.std.specs.Prelude.{◌≡◌};
 ghost use Rattle.nutrequest.specs.Fault.{status_of};
-ghost use Rattle.nutrequest.specs.declared.faults.ClientFault.{ClientFault};
-ghost use Rattle.nutclient.specs.Requests.{requests_in};
-ghost use Rattle.nutclient.specs.Printed.{RunGives};
 ghost use Rattle.nutclient.specs.Ending.{told_line, Tells, EndsBy};
 
-use crate::{Job, Program, run};
-use nutio::{Sink, Source, send};
-use nutrequest::{ClientFault, Session};
+use crate::Program;
+use nutio::{Sink, send};
+use nutrequest::ClientFault;
 use nutwords::Line;
-
-/// Does the job over the session, prints on `out`, and ends the program: a fault is told on `err`. Gives the status.
-pub fn finish<R: Source, W: Sink, O: Sink, E: Sink>(
-    session: &mut Session<R, W>,
-    out: &mut O,
-    err: &mut E,
-    program: Program,
-    job: &Job,
-) -> u8
-    // What was sent, what came, what was printed, and by that the status and what is told.
-    ensures { is_over session.old ≡ false → (outcome : Result (Unit {0}) ClientFault)
-        × RunGives R.remaining R.failures W.contents W.failures O.contents O.failures
-        (requests_in job.now.requests) job.now.form
-        (unread_of session.old) (reader_of session.old) (writer_of session.old) out.old outcome
-        (unread_of session.new) (reader_of session.new) (writer_of session.new) out.new
-        × EndsBy E.contents E.failures program outcome err.old result err.new }
-{
-    let outcome = run(session, out, job);
-    conclude(err, program, &outcome)
-}
 
 /// Ends the program by what came of it. A fault is told.
 pub(crate) fn conclude<E: Sink>(

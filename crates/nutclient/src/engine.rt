@@ -1,15 +1,47 @@
 //! The engine of the programs.
-ghost use Rattle.std.specs.Prelude.{◌≡◌, ◌≢◌, ◌++◌, [], Err, OnErr, OnOk, MatchResult, true, false, Some, List, ℕ};
+ghost use Rattle.std.specs.Prelude.{◌≡◌, ◌≢◌, ◌≤◌, ◌++◌, [], Err, OnErr, OnOk, true, false, Some, List, ℕ, Result};
 ghost use Rattle.nutio.specs.Ends.{NoneFailed};
 ghost use Rattle.nutrequest.specs.State.{unread_of, reader_of, writer_of, is_over};
+ghost use Rattle.nutrequest.specs.declared.faults.ClientFault.{ClientFault};
 ghost use Rattle.nutclient.specs.Requests.{RequestsGive, requests_in};
 ghost use Rattle.nutclient.specs.Printed.{text_of, printed, PrintGives, RunGives, Answers};
+ghost use Rattle.nutclient.specs.Ending.{EndsBy, IsDone};
 
+use crate::ending::conclude;
 use crate::printed::text_of;
-use crate::{Form, Job};
+use crate::{Form, Job, Program};
 use nutio::{Sink, Source, send};
 use nutrequest::{ClientFault, Items, Request, Session, ask};
 use std::alloc::Global;
+
+/// Does the job over a new session with these two ends: what a client program does once it is connected. It prints on `out`
+/// and reports a fault on `err`. Gives the exit status, and the session that it leaves.
+pub fn do_job<R: Source, W: Sink, O: Sink, E: Sink>(
+    alloc: Global,
+    reader: R,
+    writer: W,
+    out: &mut O,
+    err: &mut E,
+    program: Program,
+    job: &Job,
+) -> (u8, Session<R, W>)
+    // What was sent, what came and what was printed, and by that the status and what is reported.
+    ensures gives { (outcome : Result (Unit {0}) ClientFault)
+        × RunGives R.remaining R.failures W.contents W.failures O.contents O.failures
+        (requests_in job.now.requests) job.now.form [] reader writer out.old outcome
+        (unread_of result.1) (reader_of result.1) (writer_of result.1) out.new
+        × EndsBy E.contents E.failures program outcome err.old result.0 err.new }
+    // Status 0 says that each request was sent once, and that what is printed is the last reply.
+    ensures done { result.0 ≡ 0 → IsDone R.remaining R.failures W.contents W.failures O.contents
+        O.failures (requests_in job.now.requests) job.now.form reader writer out.old
+        (reader_of result.1) (writer_of result.1) out.new }
+    ensures most { result.0 ≤ 1 }
+{
+    let mut session = Session::new(alloc, reader, writer);
+    let outcome = run(&mut session, out, job);
+    let status = conclude(err, program, &outcome);
+    (status, session)
+}
 
 /// Does the job: sends its requests, each once the one before is granted, and prints the items of the last reply once
 /// it is whole. This is what upsc, upsrw and upscmd do.
@@ -83,8 +115,6 @@ fn ask_all<R: Source, W: Sink>(
 fn print<O: Sink>(alloc: Global, form: Form, items: &Items, out: &mut O) -> Result<(), ClientFault>
     ensures { PrintGives O.contents O.failures (text_of form items.now) out.old result out.new }
 {
-    match text_of(alloc, form, items) {
-        Ok(text) => send(out, text.as_slice()).map_err(|_| ClientFault::Write),
-        Err(_) => Err(ClientFault::Memory),
-    }
+    let text = text_of(alloc, form, items)?;
+    send(out, text.as_slice()).map_err(|_| ClientFault::Write)
 }

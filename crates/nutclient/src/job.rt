@@ -2,7 +2,6 @@
 ghost use Rattle.std.specs.Prelude.{◌≡◌, ◌∷◌, [], Some, None, MatchResult, option_map};
 ghost use Rattle.nutwords.specs.Reading.{read_name, read_value};
 ghost use Rattle.nuttracking.specs.Id.{read_id};
-ghost use Rattle.nutclient.specs.Requests.{requests_in};
 ghost use Rattle.nutclient.specs.Target.{both, lawful, ups_place_of};
 ghost use Rattle.nutclient.specs.Job.{parts_of, variable_of, listing_of, server_or_local, upses_of, word_of, login_of, setting_of, value_of, ordered, set_request, command_request, set_order, command_order, tracked_of, job_of};
 
@@ -104,9 +103,7 @@ fn job_of(given: &Given<'_>) -> Option<Job>
 
 /// One request.
 fn single(target: Target, request: Request, form: Form) -> Job
-    ensures target { result.target ≡ target }
-    ensures requests { requests_in result.requests ≡ request ∷ [] }
-    ensures form { result.form ≡ form }
+    ensures { parts_of result ≡ (target, request ∷ [], form) }
 {
     Job {
         target,

@@ -20,8 +20,7 @@ mod target;
 
 pub use client::{Client, with};
 pub use connection::connect;
-pub use ending::finish;
-pub use engine::run;
+pub use engine::{do_job, run};
 pub use form::Form;
 pub use given::Given;
 pub use host::Host;

@@ -1,24 +1,23 @@
 //! What the `main` of each program does: it takes the words, the network and the two outputs from the system, and hands
 //! them on.
-ghost use Rattle.std.specs.Prelude.{◌≡◌, ◌≢◌, ◌≤◌, ◌⊎◌, ◌↔◌, None, Err, IfErr, IfOk, MatchResult, Result, map, string_bytes};
+ghost use Rattle.std.specs.Prelude.{◌≡◌, ◌≢◌, ◌≤◌, ◌⊎◌, ◌↔◌, None, Some, IfErr, IfOk, MatchResult, Result, map, string_bytes};
 ghost use Rattle.std.specs.Process.{exit_status};
 ghost use Rattle.clap.specs.Words.{HasMatchesOf};
 ghost use Rattle.clap.specs.declared.error.Error.{Error};
 ghost use Rattle.clap.specs.declared.parser.matches.ArgMatches.{ArgMatches};
 ghost use Rattle.nutrequest.specs.Fault.{status_of};
-ghost use Rattle.nutrequest.specs.declared.faults.ClientFault.{ClientFault};
-ghost use Rattle.nutclient.specs.Job.{job_of};
-ghost use Rattle.nutclient.specs.Ending.{EndsBy};
+ghost use Rattle.nutclient.specs.Job.{job_of, parts_of};
 ghost use Rattle.nutclient.specs.Start.{EndsAsAsked, EndsAsRefused};
 
-use crate::ending::{conclude, finish};
+use crate::ending::conclude;
 use crate::limits::WORD_FAULT;
-use crate::{Client, Given, Job, Program, connect};
+use crate::{Client, Given, Job, Program, connect, do_job};
 use clap::error::ErrorKind;
 use clap::{ArgMatches, Error};
-use nutio::{CountedReader, CountedWriter, Sink};
-use nutrequest::{ClientFault, Session};
+use nutio::{CountedReader, CountedWriter};
+use nutrequest::ClientFault;
 use std::alloc::Global;
+use std::net::TcpStream;
 use std::process::ExitCode;
 use std::{env, io};
 
@@ -72,46 +71,37 @@ fn matches_of<C: Client>(alloc: Global, words: &[String]) -> Result<ArgMatches<'
     C::command(alloc)?.try_get_matches_from(words)
 }
 
-/// Does what is asked for: prints on standard output, and tells a fault on standard error.
+/// Does what is asked for at the server: prints on standard output, and tells a fault on standard error.
 fn perform(rt: &HostRuntime, program: Program, given: &Given<'_>) -> ExitCode
     // Status 2 tells that a word isn't lawful, and nothing else does.
     ensures unlawful { job_of given.now ≡ None → exit_status result ≡ WORD_FAULT }
     ensures lawful { job_of given.now ≢ None → exit_status result ≤ 1 }
 {
+    let (job, stream) = match reach(rt, given) {
+        Ok(reached) => reached,
+        Err(fault) => return tell(rt, program, fault),
+    };
     let stderr = rt.stderr();
-    let mut out = CountedWriter::new(io::writer(rt));
-    let mut err = CountedWriter::new(io::writer(&stderr));
-    ExitCode::from(answer(rt, &mut out, &mut err, program, given))
-}
-
-/// Asks the server, and prints on `out` what it answers. A fault is told on `err`. Gives the status.
-fn answer<O: Sink, E: Sink>(
-    rt: &HostRuntime,
-    out: &mut O,
-    err: &mut E,
-    program: Program,
-    given: &Given<'_>,
-) -> u8
-    // The program ends by what came of it: a bad argument where a word isn't lawful, and nowhere else.
-    ensures ends { (outcome : Result (Unit {0}) ClientFault)
-        × ((job_of given.now ≡ None) ↔ (outcome ≡ Err ClientFault.BadTarget))
-        × EndsBy E.contents E.failures program outcome err.old result err.new }
-    ensures unprinted { job_of given.now ≡ None → out.new ≡ out.old }
-{
-    let job = match Job::read(given) {
-        Ok(job) => job,
-        Err(fault) => return conclude(err, program, &Err(fault)),
-    };
-    let stream = match connect(rt, &job.target) {
-        Ok(stream) => stream,
-        Err(fault) => return conclude(err, program, &Err(fault)),
-    };
-    let mut session = Session::new(
+    let (status, _) = do_job(
         rt.alloc(),
         CountedReader::new(&stream),
         CountedWriter::new(&stream),
+        &mut CountedWriter::new(io::writer(rt)),
+        &mut CountedWriter::new(io::writer(&stderr)),
+        program,
+        &job,
     );
-    finish(&mut session, out, err, program, &job)
+    ExitCode::from(status)
+}
+
+/// Reads the job, and connects to its server.
+fn reach(rt: &HostRuntime, given: &Given<'_>) -> Result<(Job, TcpStream), ClientFault>
+    ensures { MatchResult result (λ reached. job_of given.now ≡ Some (parts_of reached.0))
+        (λ fault. (fault ≡ ClientFault.BadTarget) ↔ (job_of given.now ≡ None)) }
+{
+    let job = Job::read(given)?;
+    let stream = connect(rt, &job.target)?;
+    Ok((job, stream))
 }
 
 /// Tells a fault on standard error.

@@ -3,7 +3,8 @@ use Rattle.std.proofs.Common.{◌≡◌, ℕ, zero, suc, ◌+◌, ◌<◌, ◌�
 use Rattle.std.proofs.lemmas.Bool.Decides.{nat_tests}
 use Rattle.std.specs.Option.{option_map}
 use Rattle.nutwords.specs.SplitLine.{split_line}
-use Rattle.nutrequest.specs.Lines.{lines, lines_from, Line, TooLong}
+use Rattle.nutwords.specs.Lines.{line as a_line, unfinished, overlong}
+use Rattle.nutrequest.specs.Lines.{lines, lines_from, Line, TooLong, texts_of, LinesAreThoseOfTheCut}
 use Rattle.nutwords.specs.declared.limits.TheConstants.{LINE_LIMIT, LINE_ROOM}
 
 -- a byte more before the first line
@@ -96,3 +97,15 @@ first_too_long old came kept same h long more = rw (← append_assoc) (subst (λ
 
 pub first_open : (old kept : List ℕ) → kept ≡ old → split_line kept ≡ None → length kept < LINE_ROOM → lines old ≡ []
 first_open old kept same h few = subst (λ bs. lines bs ≡ []) same (lines_open [] kept h (omega arith))
+
+-- the lines are those of nutwords' cut
+pub those_of_the_cut : LinesAreThoseOfTheCut
+those_of_the_cut bytes (first ∷ found) tail (a_line {rest = rest} e few cuts) =
+    ap (λ bs. texts_of (lines bs)) (sym (append-nil bytes))
+    ∙ ap texts_of (lines_whole [] bytes first rest [] e (omega arith))
+    ∙ ap (λ bs. first ∷ texts_of (lines bs)) (append-nil rest)
+    ∙ ap (λ ls. first ∷ ls) (those_of_the_cut rest found tail cuts)
+those_of_the_cut bytes [] tail (unfinished none few) = ap texts_of (lines_open [] bytes none (omega arith))
+those_of_the_cut bytes [] tail (overlong none long) =
+    ap (λ bs. texts_of (lines bs)) (sym (append-nil bytes))
+    ∙ ap texts_of (lines_too_long LINE_ROOM [] bytes [] none refl (omega arith) long)

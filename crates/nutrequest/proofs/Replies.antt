@@ -1,24 +1,24 @@
 -- A reply that is read line by line.
-use Rattle.std.proofs.Common.{◌≡◌, ℕ, List, [], ◌∷◌, ◌++◌, Option, Result, Ok, Err, sym, ap, ◌∙◌, append_assoc}
+use Rattle.std.proofs.Common.{◌≡◌, ℕ, Bool, List, [], ◌∷◌, ◌++◌, Option, None, Result, Ok, Err, if◌then◌else◌, refl, sym, ap, ◌∙◌, append_assoc}
 use Rattle.nutwords.specs.Scan.{words_of}
 use Rattle.nutrequest.specs.Lines.{lines, FoundLine, Line, TooLong}
 use Rattle.nutio.specs.Ends.{Received, Written}
 use Rattle.nutrequest.specs.Inbox.{LineGives}
 use Rattle.nutrequest.specs.Request.{request_line}
-use Rattle.nutrequest.specs.Reply.{Reply, Bad, Unfinished, reply, items_from, later_of, after_later, after_expected}
-use Rattle.nutrequest.specs.Session.{Fails, FirstGives, TakeGives, ItemsGive, ReplyGives, AskGives}
+use Rattle.nutrequest.specs.Reply.{Reply, Bad, Unfinished, reply, items_from, later_of, after_later, after_expected, expected_of}
+use Rattle.nutrequest.specs.Session.{Fails, FirstGives, AddGives, ItemsGive, ReplyGives, AskGives}
+use Rattle.nutrequest.specs.declared.read.LaterLine.TheVariants.{Another}
 use Rattle.nutrequest.specs.declared.item.Item.{Item}
-use Rattle.nutrequest.specs.declared.read.LaterLine.{LaterLine}
 use Rattle.nutrequest.specs.declared.request.Query.{Query}
 use Rattle.nutrequest.specs.declared.request.Request.{Request}
-use Rattle.nutrequest.specs.declared.request.Request.TheVariants.{List as ListOf}
+use Rattle.nutrequest.specs.declared.request.Request.TheVariants.{List as ListOf, GetVar, GetNumAttach, TrackedSetVar, TrackedInstcmd, GetTracking}
 use Rattle.nutrequest.specs.declared.faults.ClientFault.{ClientFault}
 use Rattle.nutrequest.specs.declared.faults.ClientFault.TheVariants.{Connect, Read, Write, EarlyEnd, ErrWord, BadReply, BadTarget, Memory}
 use Rattle.nutio.proofs.PublicLaws.{received_joins, read_failed_joins}
 
 -- no line came: nothing that is read by lines goes on
 pub line_fault : {R : Type 0} (remaining : R → Option (List ℕ)) (failures : R → ℕ) (f : List FoundLine → Reply) (kept new : List ℕ) (reader after : R) (fault : ClientFault)
-    → f [] ≡ Unfinished → f (TooLong ∷ []) ≡ Bad → LineGives remaining failures kept reader (Err fault) new after → Fails remaining failures (λ bs. f (lines (kept ++ bs))) reader fault after
+    → f [] ≡ Unfinished → f (TooLong ∷ []) ≡ Bad → LineGives remaining failures kept reader (Err fault) new after → Fails remaining failures (λ bs r. f (lines (kept ++ bs)) ≡ r) reader fault after
 line_fault remaining failures f kept new reader after BadReply still bad h = (h.0, h.1, λ more. ap f (h.2 more) ∙ bad)
 line_fault remaining failures f kept new reader after EarlyEnd still bad h = (h.0, h.1, h.2, ap f h.3 ∙ still)
 line_fault remaining failures f kept new reader after Read still bad h = (h.0, h.1, ap f h.2 ∙ still)
@@ -30,7 +30,7 @@ line_fault remaining failures f kept new reader after Memory still bad h = absur
 
 -- a fault after a front of the bytes is a fault of all
 pub fails_behind : {R : Type 0} (remaining : R → Option (List ℕ)) (failures : R → ℕ) (F H : List ℕ → Reply) (x : List ℕ) (reader mid after : R) (fault : ClientFault)
-    → Received remaining failures reader x mid → ((more : List ℕ) → F (x ++ more) ≡ H more) → Fails remaining failures H mid fault after → Fails remaining failures F reader fault after
+    → Received remaining failures reader x mid → ((more : List ℕ) → F (x ++ more) ≡ H more) → Fails remaining failures (λ bs r. H bs ≡ r) mid fault after → Fails remaining failures (λ bs r. F bs ≡ r) reader fault after
 fails_behind remaining failures F H x reader mid after (ErrWord w) c h f = (x ++ f.0, received_joins remaining failures reader mid after x f.0 c f.1, λ more. ap F (append_assoc x f.0 more) ∙ h (f.0 ++ more) ∙ f.2 more)
 fails_behind remaining failures F H x reader mid after BadReply c h f = (x ++ f.0, received_joins remaining failures reader mid after x f.0 c f.1, λ more. ap F (append_assoc x f.0 more) ∙ h (f.0 ++ more) ∙ f.2 more)
 fails_behind remaining failures F H x reader mid after EarlyEnd c h f = (x ++ f.0, received_joins remaining failures reader mid after x f.0 c f.1, f.2, h f.0 ∙ f.3)
@@ -57,19 +57,6 @@ later_line query items F x y kept new line words_line h k e more =
     behind F (items_from query items) x y kept new line h k more
     ∙ ap (λ l. after_later (later_of query (words_of l)) items (new ++ more) (λ all. items_from query all (lines (new ++ more)))) (sym e)
 
--- a line that can't follow, or no memory
-pub take_fails : {R : Type 0} (remaining : R → Option (List ℕ)) (failures : R → ℕ) (F : List ℕ → Reply) (later : LaterLine) (go : List ℕ → List Item → Reply) (items after_items : List Item) (came new : List ℕ) (reader after : R) (fault : ClientFault)
-    → Received remaining failures reader came after → ((more : List ℕ) → F (came ++ more) ≡ after_later later items (new ++ more) (go more))
-    → TakeGives later items (Err fault) after_items → Fails remaining failures F reader fault after
-take_fails remaining failures F later go items after_items came new reader after BadReply c h t = (came, c, λ more. h more ∙ t (new ++ more) (go more))
-take_fails remaining failures F later go items after_items came new reader after Memory c h t = (came, c)
-take_fails remaining failures F later go items after_items came new reader after EarlyEnd c h t = absurd t
-take_fails remaining failures F later go items after_items came new reader after Read c h t = absurd t
-take_fails remaining failures F later go items after_items came new reader after Connect c h t = absurd t
-take_fails remaining failures F later go items after_items came new reader after Write c h t = absurd t
-take_fails remaining failures F later go items after_items came new reader after (ErrWord w) c h t = absurd t
-take_fails remaining failures F later go items after_items came new reader after BadTarget c h t = absurd t
-
 -- the answer is the reply's, where the request was sent
 pub asked_of_reply : {R W : Type 0} (remaining : R → Option (List ℕ)) (failures : R → ℕ) (contents : W → Option (List ℕ)) (write_failures : W → ℕ) (request : Request) (old new : List ℕ) (reader after : R) (writer sent : W) (result : Result (List Item) ClientFault)
     → Written contents write_failures writer (request_line request) sent → ReplyGives remaining failures request old reader result new after
@@ -92,3 +79,29 @@ reply_behind remaining failures request query value old kept new reader mid afte
     (f.0 ++ r.0, received_joins remaining failures reader mid after f.0 r.0 f.1 r.1, λ more. ap (λ bs. reply request (old ++ bs)) (append_assoc f.0 r.0 more) ∙ f.2 (r.0 ++ more) ∙ ap (λ q. after_expected q value (kept ++ (r.0 ++ more))) e ∙ r.2 more)
 reply_behind remaining failures request query value old kept new reader mid after (Err fault) e f r =
     fails_behind remaining failures (λ bs. reply request (old ++ bs)) (λ bs. items_from query [] (lines (kept ++ bs))) f.0 reader mid after fault f.1 (λ more. f.2 more ∙ ap (λ q. after_expected q value (kept ++ more)) e) r
+
+-- no request is granted by a line without words
+pub unexpected : (request : Request) → expected_of request [] ≡ None
+unexpected (ListOf query) = refl
+unexpected (GetVar ups name) = refl
+unexpected (GetNumAttach ups) = refl
+unexpected (TrackedSetVar ups name value) = refl
+unexpected (TrackedInstcmd ups name value) = refl
+unexpected (GetTracking id) = refl
+unexpected _ = refl
+
+-- a listing has no room for an item more, or memory was refused
+pub add_fails : {R : Type 0} (remaining : R → Option (List ℕ)) (failures : R → ℕ) (F : List ℕ → Reply) (item : Item)
+    (go : List ℕ → List Item → Reply) (items after_items : List Item) (came new : List ℕ) (reader after : R) (fault : ClientFault)
+    → Received remaining failures reader came after
+    → ((more : List ℕ) → F (came ++ more) ≡ after_later (Another item) items (new ++ more) (go more))
+    → AddGives items item (Err fault) after_items → Fails remaining failures (λ bs r. F bs ≡ r) reader fault after
+add_fails remaining failures F item go items after_items came new reader after BadReply c h t =
+    (came, c, λ more. h more ∙ ap (λ (b : Bool). if b then go more (items ++ item ∷ []) else Bad) t.0)
+add_fails remaining failures F item go items after_items came new reader after Memory c h t = (came, c)
+add_fails remaining failures F item go items after_items came new reader after EarlyEnd c h t = absurd t
+add_fails remaining failures F item go items after_items came new reader after Read c h t = absurd t
+add_fails remaining failures F item go items after_items came new reader after Connect c h t = absurd t
+add_fails remaining failures F item go items after_items came new reader after Write c h t = absurd t
+add_fails remaining failures F item go items after_items came new reader after (ErrWord w) c h t = absurd t
+add_fails remaining failures F item go items after_items came new reader after BadTarget c h t = absurd t

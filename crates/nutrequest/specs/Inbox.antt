@@ -9,9 +9,8 @@ use Rattle.nutrequest.specs.Lines.{lines, Line, TooLong}
 use Rattle.nutrequest.specs.declared.faults.ClientFault.{ClientFault}
 use Rattle.nutrequest.specs.declared.faults.ClientFault.TheVariants.{Read, EarlyEnd, BadReply}
 use Rattle.nutrequest.specs.declared.inbox.Inbox.{Inbox}
-use Rattle.nutrequest.specs.declared.inbox.Next.{Next}
-use Rattle.nutrequest.specs.declared.inbox.Next.TheVariants.{Line as NextLine, More as NextMore}
-use Rattle.nutrequest.specs.declared.inbox.Next.TheVariants.{TooLong as NextTooLong}
+use Rattle.nutwords.specs.declared.cut.Cut.{Cut}
+use Rattle.nutwords.specs.declared.cut.Cut.TheVariants.{Line as CutLine, More, TooLong as CutTooLong}
 use Rattle.arrayvec.specs.declared.array_vec.ArrayVec.{ArrayVec}
 
 -- the bytes read and not used
@@ -19,11 +18,11 @@ abbrev pub unread : Inbox → List ℕ
 unread i = i.cut ++ drop i.used i.kept.items
 
 -- the first line where it is whole and short enough
-abbrev pub NextGives : List ℕ → Next → List ℕ → Type 0
-NextGives old (NextLine line) new =
+abbrev pub NextGives : List ℕ → Cut → List ℕ → Type 0
+NextGives old (CutLine line used) new =
     (split_line old ≡ Some (line.items, new)) × (length line.items < LINE_ROOM)
-NextGives old NextMore new = (split_line old ≡ None) × (length old < LINE_ROOM) × (new ≡ old)
-NextGives old NextTooLong new = (split_line (take LINE_ROOM old) ≡ None) × (LINE_ROOM ≤ length old)
+NextGives old More new = (split_line old ≡ None) × (length old < LINE_ROOM) × (new ≡ old)
+NextGives old CutTooLong new = (split_line (take LINE_ROOM old) ≡ None) × (LINE_ROOM ≤ length old)
 
 -- Some bytes more; or the reader ended or failed, and nothing came. No other fault comes.
 abbrev pub FillGives : {R : Type 0} → (R → Option (List ℕ)) → (R → ℕ) → List ℕ → R

@@ -1,5 +1,6 @@
 -- Some bytes as a list of lines.
-use Rattle.std.specs.Prelude.{ℕ, List, [], ◌∷◌, ◌++◌, ◌==◌, length, nat_le, if◌then◌else◌}
+use Rattle.std.specs.Prelude.{◌≡◌, ℕ, List, [], ◌∷◌, ◌++◌, ◌==◌, length, nat_le, if◌then◌else◌}
+use Rattle.nutwords.specs.Lines.{IsCutInto, Tail}
 use Rattle.nutwords.specs.declared.limits.TheConstants.{LINE_LIMIT}
 
 -- A line without its LF and the bytes that follow it, or 2,048 bytes without LF.
@@ -19,3 +20,13 @@ lines_from held (b ∷ bytes) =
 -- last line is none.
 abbrev pub lines : List ℕ → List FoundLine
 lines bytes = lines_from [] bytes
+
+-- Their texts.
+abbrev pub texts_of : List FoundLine → List (List ℕ)
+texts_of (Line line rest ∷ more) = line ∷ texts_of more
+texts_of _ = []
+
+-- They are the lines into which nutwords cuts the bytes.
+abbrev pub LinesAreThoseOfTheCut : Type 0
+LinesAreThoseOfTheCut = (bytes : List ℕ) (found : List (List ℕ)) (tail : Tail)
+    → IsCutInto bytes found tail → texts_of (lines bytes) ≡ found

@@ -1,14 +1,14 @@
 -- How a reply is read from the bytes that come (RFC 9271).
-use Rattle.std.specs.Prelude.{ℕ, Bool, true, false, List, [], ◌∷◌, ◌++◌, ◌&&◌, ◌||◌, ◌==◌, ◌+◌, ◌-◌}
-use Rattle.std.specs.Prelude.{◌*◌, nat_le}
-use Rattle.std.specs.Prelude.{nat_lt, length, Option, Some, None, option_and_then, option_map}
-use Rattle.std.specs.Prelude.{Result, Ok, Err}
-use Rattle.std.specs.Prelude.{if◌then◌else◌, codes}
+use Rattle.std.specs.Prelude.{ℕ, Bool, true, false, List, [], ◌∷◌, ◌++◌, ◌&&◌, ◌||◌, ◌==◌, nat_le}
+use Rattle.std.specs.Prelude.{nat_lt, length, Option, Some, None, is_some, option_and_then}
+use Rattle.std.specs.Prelude.{option_map, Result, Ok, Err, if◌then◌else◌, codes}
 use Rattle.std.specs.Str.{bytes_eq}
 use Rattle.std.specs.List.{list_all}
-use Rattle.nutwords.specs.Natural.{is_digit, read_natural}
+use Rattle.std.specs.Option.{option_map_or}
+use Rattle.nutwords.specs.Natural.{read_natural}
 use Rattle.nutwords.specs.Scan.{words_of}
 use Rattle.nutwords.specs.Reading.{read_name, is_name, is_ups_name, is_address}
+use Rattle.nutwords.specs.Word.{bytes_of}
 use Rattle.nutwords.specs.declared.faults.BadName.{BadName}
 use Rattle.nuttracking.specs.Id.{id_text, read_id}
 use Rattle.nuttracking.specs.declared.limits.TheConstants.{DONE_LIMIT}
@@ -24,8 +24,17 @@ use Rattle.nutrequest.specs.declared.read.FirstLine.{FirstLine}
 use Rattle.nutrequest.specs.declared.read.FirstLine.TheVariants.{Expected, Refusal, Bad as BadFirst}
 use Rattle.nutrequest.specs.declared.read.LaterLine.{LaterLine}
 use Rattle.nutrequest.specs.declared.read.LaterLine.TheVariants.{End, Another, Bad as BadLater}
+use Rattle.nutrequest.specs.declared.read.Told.{Told}
+use Rattle.nutrequest.specs.declared.read.Told.TheVariants.{Fixed, Word, Id, Failure}
 use Rattle.nutrequest.specs.Lines.{lines, FoundLine, Line, TooLong}
 use Rattle.nutrequest.specs.Request.{asked_words, has_value}
+
+-- The bytes of what a line tells.
+abbrev pub text_told : Told → List ℕ
+text_told (Fixed text) = text.now
+text_told (Word word) = bytes_of word
+text_told (Id id) = id_text id
+text_told (Failure number) = codes "FAILED " ++ bytes_of number
 
 -- The words after this one, where it is the first.
 abbrev pub behind_word : List ℕ → List (List ℕ) → Option (List (List ℕ))
@@ -69,11 +78,7 @@ refusal_of words = refusal_of_word (only_word (behind (codes "ERR" ∷ []) words
 
 -- A number of clients, as a server writes it: 0 to 64, with no leading zero.
 abbrev pub is_count : List ℕ → Bool
-is_count (ones ∷ []) = is_digit ones
-is_count (tens ∷ ones ∷ []) =
-    is_digit tens && is_digit ones && nat_le 49 tens
-    && nat_le ((tens - 48) * 10 + (ones - 48)) COUNT_LIMIT
-is_count _ = false
+is_count word = is_some (read_natural COUNT_LIMIT word)
 
 abbrev pub count_in : Option (List ℕ) → Option (List ℕ)
 count_in (Some word) = if is_count word then Some word else None
@@ -91,11 +96,6 @@ abbrev pub is_that : ℕ → Option ℕ → Bool
 is_that id (Some read) = read == id
 is_that id None = false
 
--- The words after this id, where it is the first of them, in whichever case.
-abbrev pub behind_id : ℕ → Option (List (List ℕ)) → Option (List (List ℕ))
-behind_id id (Some (word ∷ words)) = if is_that id (read_id word) then Some words else None
-behind_id id _ = None
-
 -- A number that isn't 0.
 abbrev pub is_some_number : Option ℕ → Bool
 is_some_number (Some number) = nat_lt 0 number
@@ -112,15 +112,17 @@ abbrev pub stands_alone : List ℕ → Bool
 stands_alone word = bytes_eq word (codes "PENDING") || bytes_eq word (codes "SUCCESS")
 
 -- How far an order has come: PENDING or SUCCESS alone, or FAILED and a number.
-abbrev pub progress_in : Option (List (List ℕ)) → Option (List ℕ)
-progress_in (Some (word ∷ words)) =
+abbrev pub progress_in : List (List ℕ) → Option (List ℕ)
+progress_in [] = None
+progress_in (word ∷ words) =
     if bytes_eq word (codes "FAILED") then failure_in (only_word (Some words))
     else if stands_alone word && is_nothing (Some words) then Some word
     else None
-progress_in _ = None
 
+-- The same after an id, which has to be this one, in whichever case.
 abbrev pub progress_of : ℕ → List (List ℕ) → Option (List ℕ)
-progress_of id words = progress_in (behind_id id (behind (codes "TRACKING" ∷ []) words))
+progress_of id [] = None
+progress_of id (word ∷ words) = if is_that id (read_id word) then progress_in words else None
 
 -- What the first line tells, where it is the one that the request is granted by: BEGIN tells
 -- nothing, VAR a value, NUMATTACH a number, OK of a tracked order its id, TRACKING how far that of
@@ -132,7 +134,8 @@ expected_of (GetNumAttach ups) words =
     count_in (only_word (behind (codes "NUMATTACH" ∷ ups ∷ []) words))
 expected_of (TrackedSetVar ups name value) words = granted_id words
 expected_of (TrackedInstcmd ups name value) words = granted_id words
-expected_of (GetTracking id) words = progress_of id words
+expected_of (GetTracking id) words =
+    option_and_then (progress_of id) (behind (codes "TRACKING" ∷ []) words)
 expected_of _ words =
     if is_nothing (behind (codes "OK" ∷ []) words) then Some (codes "OK") else None
 
@@ -152,26 +155,23 @@ is_item_name _ word = is_name word
 
 -- What an item has after its name: one word where it has a value, else none.
 abbrev pub value_in : Bool → List (List ℕ) → Option (List ℕ)
-value_in true (value ∷ []) = Some value
-value_in true _ = None
-value_in false [] = Some []
-value_in false (word ∷ words) = None
+value_in true words = only_word (Some words)
+value_in false words = if is_nothing (Some words) then Some [] else None
 
-abbrev pub item_with : Bool → List ℕ → Option (List ℕ) → LaterLine
-item_with true name (Some value) = Another (record { name = name; value = value })
-item_with true name None = BadLater
-item_with false name value = BadLater
-
-abbrev pub item_in : Query → Option (List (List ℕ)) → LaterLine
-item_in query (Some (name ∷ rest)) =
-    item_with (is_item_name query name) name (value_in (has_value query) rest)
-item_in query _ = BadLater
+-- The item that words are.
+abbrev pub item_of : Query → List (List ℕ) → Option Item
+item_of query [] = None
+item_of query (name ∷ rest) =
+    if is_item_name query name
+    then option_map (λ value. record { name = name; value = value }) (value_in (has_value query) rest)
+    else None
 
 -- What a line after BEGIN is: the END of the same words, an item, or none of them.
 abbrev pub later_of : Query → List (List ℕ) → LaterLine
 later_of query words =
     if is_frame (codes "END") query words then End
-    else item_in query (behind (asked_words query) words)
+    else option_map_or Another (option_and_then (item_of query) (behind (asked_words query) words))
+    BadLater
 
 -- What the bytes that came are: a refusal by an error word; a whole reply, and the bytes after it;
 -- bytes that can't be the beginning of a reply; or the beginning of one.

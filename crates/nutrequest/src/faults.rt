@@ -4,6 +4,7 @@ ghost use Rattle.nutrequest.specs.declared.limits.TheConstants.{FAULT_LIMIT};
 
 use bstr::ByteSlice;
 use nutwords::{Line, Name};
+use std::alloc::AllocError;
 use std::error::Error;
 use std::fmt;
 use std::fmt::Formatter;
@@ -57,6 +58,7 @@ impl ClientFault {
             _ => 1,
         }
     }
+
     /// Appends the text that tells it.
     pub fn push_text(&self, line: &mut Line)
         requires { length line.old.items ≤ FAULT_LIMIT }
@@ -98,3 +100,13 @@ impl fmt::Display for ClientFault {
 }
 
 impl Error for ClientFault {}
+
+impl From<AllocError> for ClientFault {
+    ghost use Rattle.nutrequest.specs.declared.faults.ClientFault.TheVariants.{Memory};
+
+    ghost from_gives = { λ _ fault. fault ≡ Memory };
+
+    fn from(_error: AllocError) -> ClientFault {
+        ClientFault::Memory
+    }
+}

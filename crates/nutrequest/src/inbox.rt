@@ -15,14 +15,6 @@ pub struct Inbox {
     ghost within: { used ≤ length kept.items },
 }
 
-/// What an inbox gives.
-#[derive(Drop)]
-pub(crate) enum Next {
-    Line(Line),
-    More,
-    TooLong,
-}
-
 impl Inbox {
     ghost use Rattle.nutrequest.specs.Inbox.{unread, NextGives, FillGives, LineGives};
 
@@ -37,21 +29,16 @@ impl Inbox {
     }
 
     /// The next line that is whole.
-    fn take_line(&mut self) -> Next
+    fn take_line(&mut self) -> Cut
         ensures gives { NextGives (unread self.old) result (unread self.new) }
-        ensures used_up { result ≡ Next.More → self.new.used ≡ length self.new.kept.items }
+        ensures used_up { result ≡ Cut.More → self.new.used ≡ length self.new.kept.items }
     {
-        match self.cut.next(&self.kept[self.used..]) {
-            Cut::Line(line, used) => {
-                self.used += used;
-                Next::Line(line)
-            }
-            Cut::More => {
-                self.used = self.kept.len();
-                Next::More
-            }
-            Cut::TooLong => Next::TooLong,
+        let cut = self.cut.next(&self.kept[self.used..]);
+        match &cut {
+            Cut::Line(_, used) => self.used += *used,
+            Cut::More | Cut::TooLong => self.used = self.kept.len(),
         }
+        cut
     }
 
     /// Reads some bytes.
@@ -80,12 +67,9 @@ impl Inbox {
     {
         loop {
             match self.take_line() {
-                Next::Line(line) => return Ok(line),
-                Next::TooLong => return Err(ClientFault::BadReply),
-                Next::More => {}
-            }
-            if let Err(fault) = self.fill(reader) {
-                return Err(fault);
+                Cut::Line(line, _) => return Ok(line),
+                Cut::TooLong => return Err(ClientFault::BadReply),
+                Cut::More => self.fill(reader)?,
             }
         }
     }

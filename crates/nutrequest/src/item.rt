@@ -1,9 +1,9 @@
 //! The items of a reply.
-ghost use Rattle.std.specs.Prelude.{◌≡◌, ◌∷◌, ◌++◌, [], length, MatchResult, IsTrue, ◌↔◌};
+ghost use Rattle.std.specs.Prelude.{◌≡◌, [], length, IsTrue, ◌↔◌};
 
-use crate::ITEM_LIMIT;
+use crate::{ClientFault, ITEM_LIMIT};
 use nutwords::Bytes;
-use std::alloc::{AllocError, Global};
+use std::alloc::Global;
 use std::marker::Model;
 
 /// An item of a listing: its name, command or address, and its value or description, empty where it has none. A reply
@@ -30,7 +30,7 @@ impl Model for Items {
 }
 
 impl Items {
-    ghost use Rattle.nutrequest.specs.Reply.{has_room};
+    ghost use Rattle.nutrequest.specs.Session.{AddGives};
 
     /// No items. Takes no memory.
     pub fn new(alloc: Global) -> Items
@@ -55,13 +55,6 @@ impl Items {
         self.all.is_empty()
     }
 
-    /// Whether a listing may have an item more.
-    pub(crate) fn has_room(&self) -> bool
-        ensures { result ≡ has_room self.now }
-    {
-        self.all.len() < ITEM_LIMIT
-    }
-
     /// All of them.
     pub fn as_slice(&self) -> &[Item]
         ensures { result.now ≡ self.now }
@@ -69,14 +62,16 @@ impl Items {
         self.all.as_slice()
     }
 
-    /// Adds an item. Where memory is refused, the items are as before.
-    pub(crate) fn push(&mut self, item: Item) -> Result<(), AllocError>
-        ensures { MatchResult result
-            (λ _. self.new ≡ self.old ++ item ∷ []) (λ _. self.new ≡ self.old) }
+    /// Adds an item, where a listing may have one more. Else it is a bad reply, and the items are as before.
+    pub(crate) fn add(&mut self, item: Item) -> Result<(), ClientFault>
+        ensures { AddGives self.old item result self.new }
     {
+        if self.all.len() >= ITEM_LIMIT {
+            return Err(ClientFault::BadReply);
+        }
         match self.all.push(item) {
             Ok(()) => Ok(()),
-            Err(_) => Err(AllocError),
+            Err(_) => Err(ClientFault::Memory),
         }
     }
 }

@@ -12,7 +12,6 @@ mod line;
 mod read;
 mod request;
 mod session;
-mod tracked;
 
 pub use faults::ClientFault;
 pub use item::{Item, Items};

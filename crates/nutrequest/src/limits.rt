@@ -4,7 +4,7 @@
 pub const ITEM_LIMIT: usize = 65_536;
 
 /// The most clients that a server tells to be logged in to a UPS: as many as it may have sessions.
-pub const COUNT_LIMIT: usize = 64;
+pub const COUNT_LIMIT: u64 = 64;
 
 /// The most bytes of a fault's text.
 pub const FAULT_LIMIT: usize = 128;

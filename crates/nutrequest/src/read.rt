@@ -1,23 +1,23 @@
 //! The lines of a reply (RFC 9271).
-ghost use Rattle.std.specs.Prelude.{◌≡◌, ◌≤◌, ◌∷◌, [], length, codes, option_map, IfOk};
+ghost use Rattle.std.specs.Prelude.{◌≡◌, ◌≤◌, ◌∷◌, [], codes, length, map, option_map, option_and_then, IfOk, if◌then◌else◌, Some, None};
 ghost use Rattle.std.specs.List.{list_all};
 ghost use Rattle.nutwords.specs.Scan.{words_of};
 ghost use Rattle.nutwords.specs.Reading.{read_name};
 ghost use Rattle.nutwords.specs.Word.{bytes_of};
 ghost use Rattle.nutwords.specs.declared.limits.TheConstants.{LINE_LIMIT};
 ghost use Rattle.nutrequest.specs.Request.{asked_words};
-ghost use Rattle.nutrequest.specs.Reply.{behind_word, behind, is_nothing, only_word, is_frame, is_error_byte, count_in, is_count, refusal_by, refusal_of, expected_of, first_of, is_item_name, value_in, item_in, later_of};
+ghost use Rattle.nutrequest.specs.Reply.{behind, is_nothing, only_word, is_frame, is_error_byte, count_in, id_in, progress_of, progress_in, stands_alone, refusal_by, refusal_of, expected_of, first_of, is_item_name, value_in, item_of, later_of, text_told};
 
 use crate::limits::COUNT_LIMIT;
-use crate::tracked::{granted_id, told_progress};
 use crate::{Item, Query, Request};
-use nutwords::{Address, Bytes, Name, UpsName, Word, Words, words};
+use nuttracking::{DONE_LIMIT, id_text, read_id};
+use nutwords::{Address, Bytes, Name, UpsName, Word, Words, read_natural, words};
 use std::alloc::{AllocError, Global};
 
 /// What the first line of a reply is.
 #[derive(Drop)]
 pub(crate) enum FirstLine {
-    /// The line that grants the request, and the value that it tells, if it tells one.
+    /// The line that grants the request, and what it tells.
     Expected(Bytes),
     /// ERR and its word.
     Refusal(Name),
@@ -36,7 +36,40 @@ pub(crate) enum LaterLine {
     Bad,
 }
 
+/// What a line tells, before memory is taken for it.
+#[derive(Drop)]
+pub(crate) enum Told<'a> {
+    /// A text of the protocol.
+    Fixed(&'static [u8]),
+    /// A word of the line.
+    Word(Word<'a>),
+    /// An id, which is written in small letters.
+    Id(u128),
+    /// The number that an order failed with.
+    Failure(Word<'a>),
+}
+
+impl Told<'_> {
+    /// Its bytes.
+    fn to_bytes(&self, alloc: Global) -> Result<Bytes, AllocError>
+        ensures { IfOk result (λ bytes. bytes ≡ text_told self.now) }
+    {
+        let mut text = Vec::new(alloc);
+        match self {
+            Told::Fixed(bytes) => text.extend_from_slice(bytes)?,
+            Told::Word(word) => text.extend_from_slice(word.as_bytes())?,
+            Told::Id(id) => text.extend_from_slice(&id_text(*id))?,
+            Told::Failure(number) => {
+                text.extend_from_slice(b"FAILED ")?;
+                text.extend_from_slice(number.as_bytes())?;
+            }
+        }
+        Ok(Bytes::new(text))
+    }
+}
+
 /// What the first line of the reply is.
+#[tactic(auto, using(crate::proofs::Replies::unexpected))]
 pub(crate) fn first_line(
     alloc: Global,
     request: &Request,
@@ -45,9 +78,12 @@ pub(crate) fn first_line(
     requires { length line.now ≤ LINE_LIMIT }
     ensures { IfOk result (λ first. first ≡ first_of request.now (words_of line.now)) }
 {
-    match expected_value(alloc, request, line)? {
-        Some(value) => Ok(FirstLine::Expected(value)),
-        None => Ok(refusal(line)),
+    let Ok(words) = words(line) else {
+        return Ok(FirstLine::Bad);
+    };
+    match expected(request, words.clone()?) {
+        Some(told) => Ok(FirstLine::Expected(told.to_bytes(alloc)?)),
+        None => Ok(refusal(words)),
     }
 }
 
@@ -56,69 +92,67 @@ pub(crate) fn later_line(alloc: Global, query: &Query, line: &[u8]) -> Result<La
     requires { length line.now ≤ LINE_LIMIT }
     ensures { IfOk result (λ later. later ≡ later_of query.now (words_of line.now)) }
 {
-    if is_frame(b"END", query, line) {
+    let Ok(words) = words(line) else {
+        return Ok(LaterLine::Bad);
+    };
+    if is_frame(b"END", query, words.clone()?) {
         return Ok(LaterLine::End);
     }
-    match words(line) {
-        Ok(words) => listed_item(alloc, query, words),
-        Err(_) => Ok(LaterLine::Bad),
+    match item(query, words) {
+        Some((name, value)) => Ok(LaterLine::Another(Item {
+            name: name.to_bytes(alloc)?,
+            value: value.to_bytes(alloc)?,
+        })),
+        None => Ok(LaterLine::Bad),
     }
 }
 
-/// The words after this one, where it is the first.
-pub(crate) fn behind_word<'a>(word: &[u8], mut words: Words<'a>) -> Option<Words<'a>>
-    ensures { result ≡ behind_word word.now words.entry }
+/// What the words tell, where they grant the request.
+fn expected<'a>(request: &Request, words: Words<'a>) -> Option<Told<'a>>
+    ensures { option_map text_told result ≡ expected_of request.now words.entry }
 {
-    let first = words.next()?;
-    if first.as_bytes() == word {
-        Some(words)
-    } else {
-        None
+    match request {
+        Request::List(query) => begin(query, words),
+        Request::GetVar(ups, name) => {
+            value(behind(&[b"VAR", ups.as_bytes(), name.as_bytes()], words))
+        }
+        Request::GetNumAttach(ups) => count(behind(&[b"NUMATTACH", ups.as_bytes()], words)),
+        Request::TrackedSetVar(_, _, _) | Request::TrackedInstcmd(_, _, _) => {
+            id(behind(&[b"OK", b"TRACKING"], words))
+        }
+        Request::GetTracking(id) => progress_of(*id, behind(&[b"TRACKING"], words)),
+        _ => ok(words),
     }
 }
 
-/// The words after those that the query asked by, where these come first.
-fn behind_asked<'a>(query: &Query, words: Words<'a>) -> Option<Words<'a>>
-    ensures { result ≡ behind (asked_words query.now) words.entry }
+/// The words after these, where they come first.
+fn behind<'a>(front: &[&[u8]], mut words: Words<'a>) -> Option<Words<'a>>
+    ensures { result ≡ behind (map (λ word. word.now) front.now) words.entry }
 {
-    let words = behind_word(query.kind(), words)?;
-    match query.ups() {
-        Some(ups) => behind_word(ups.as_bytes(), words),
-        None => Some(words),
+    for word in front {
+        let first = words.next()?;
+        if first.as_bytes() != *word {
+            return None;
+        }
     }
+    Some(words)
 }
 
-/// Whether the line begins or ends the listing.
-fn is_frame(verb: &[u8], query: &Query, line: &[u8]) -> bool
-    requires { length line.now ≤ LINE_LIMIT }
-    ensures { result ≡ is_frame verb.now query.now (words_of line.now) }
+/// Whether there are words after, and they are none.
+fn is_nothing(words: Option<Words<'_>>) -> bool
+    ensures { result ≡ is_nothing words.entry }
 {
-    let Ok(words) = words(line) else {
-        return false;
-    };
-    let Some(words) = behind_word(verb, words) else {
-        return false;
-    };
-    let Some(words) = behind_word(b"LIST", words) else {
-        return false;
-    };
-    match behind_asked(query, words) {
-        Some(words) => is_empty(words),
+    match words {
+        Some(mut words) => words.next().is_none(),
         None => false,
     }
 }
 
-/// Whether no word is left.
-pub(crate) fn is_empty(mut words: Words<'_>) -> bool
-    ensures { result ≡ is_nothing (Some words.entry) }
+/// The words after, where they are one.
+fn only_word<'a>(words: Option<Words<'a>>) -> Option<Word<'a>>
+    ensures { option_map bytes_of result ≡ only_word words.entry }
 {
-    words.next().is_none()
-}
-
-/// The one word that is left.
-pub(crate) fn only_word<'a>(mut words: Words<'a>) -> Option<Word<'a>>
-    ensures { option_map bytes_of result ≡ only_word (Some words.entry) }
-{
+    let mut words = words?;
     let word = words.next()?;
     match words.next() {
         Some(_) => None,
@@ -126,154 +160,121 @@ pub(crate) fn only_word<'a>(mut words: Words<'a>) -> Option<Word<'a>>
     }
 }
 
-/// What the line tells, where it is the one that grants the request.
-fn expected_value(
-    alloc: Global,
-    request: &Request,
-    line: &[u8],
-) -> Result<Option<Bytes>, AllocError>
-    requires { length line.now ≤ LINE_LIMIT }
-    ensures { IfOk result (λ value. value ≡ expected_of request.now (words_of line.now)) }
+/// The words after those that the query asked by, where these come first.
+fn behind_asked<'a>(query: &Query, words: Words<'a>) -> Option<Words<'a>>
+    ensures { result ≡ behind (asked_words query.now) words.entry }
 {
-    match request {
-        Request::List(query) => {
-            if is_frame(b"BEGIN", query, line) {
-                Ok(Some(Bytes::new(Vec::new(alloc))))
-            } else {
-                Ok(None)
-            }
+    match query.ups() {
+        Some(ups) => behind(&[query.kind(), ups.as_bytes()], words),
+        None => behind(&[query.kind()], words),
+    }
+}
+
+/// Whether the words begin or end the listing.
+fn is_frame<'x>(verb: &'x [u8], query: &'x Query, words: Words<'_>) -> bool
+    ensures { result ≡ is_frame verb.now query.now words.entry }
+{
+    match query.ups() {
+        Some(ups) => is_nothing(behind(&[verb, b"LIST", query.kind(), ups.as_bytes()], words)),
+        None => is_nothing(behind(&[verb, b"LIST", query.kind()], words)),
+    }
+}
+
+/// This text, where it is told.
+fn fixed<'a>(text: &'static [u8], is_told: bool) -> Option<Told<'a>>
+    ensures { option_map text_told result ≡ (if is_told then Some text.entry.now else None) }
+{
+    if is_told {
+        Some(Told::Fixed(text))
+    } else {
+        None
+    }
+}
+
+/// Nothing, where the words begin the listing.
+fn begin<'a>(query: &Query, words: Words<'a>) -> Option<Told<'a>>
+    ensures { option_map text_told result
+        ≡ (if is_frame (codes "BEGIN") query.now words.entry then Some [] else None) }
+{
+    fixed(b"", is_frame(b"BEGIN", query, words))
+}
+
+/// OK, where the words are nothing else.
+fn ok<'a>(words: Words<'a>) -> Option<Told<'a>>
+    ensures { option_map text_told result ≡ (if is_nothing (behind (codes "OK" ∷ []) words.entry)
+        then Some (codes "OK") else None) }
+{
+    fixed(b"OK", is_nothing(behind(&[b"OK"], words)))
+}
+
+/// The one word after.
+fn value<'a>(words: Option<Words<'a>>) -> Option<Told<'a>>
+    ensures { option_map text_told result ≡ only_word words.entry }
+{
+    Some(Told::Word(only_word(words)?))
+}
+
+/// The one word after, where it is a number of clients.
+fn count<'a>(words: Option<Words<'a>>) -> Option<Told<'a>>
+    ensures { option_map text_told result ≡ count_in (only_word words.entry) }
+{
+    let word = only_word(words)?;
+    read_natural(word.as_bytes(), COUNT_LIMIT)?;
+    Some(Told::Word(word))
+}
+
+/// The one word after, where it is an id.
+fn id<'a>(words: Option<Words<'a>>) -> Option<Told<'a>>
+    ensures { option_map text_told result ≡ id_in (only_word words.entry) }
+{
+    let word = only_word(words)?;
+    Some(Told::Id(read_id(word.as_bytes())?))
+}
+
+/// How far the order of this id has come, where the words after begin with it.
+fn progress_of<'a>(id: u128, words: Option<Words<'a>>) -> Option<Told<'a>>
+    ensures { option_map text_told result ≡ option_and_then (progress_of id) words.entry }
+{
+    let mut words = words?;
+    let first = words.next()?;
+    if read_id(first.as_bytes())? == id {
+        progress(words)
+    } else {
+        None
+    }
+}
+
+/// How far an order has come.
+fn progress<'a>(mut words: Words<'a>) -> Option<Told<'a>>
+    ensures { option_map text_told result ≡ progress_in words.entry }
+{
+    let word = words.next()?;
+    if word.as_bytes() == b"FAILED".as_slice() {
+        let number = only_word(Some(words))?;
+        if read_natural(number.as_bytes(), u64::from(DONE_LIMIT))? == 0 {
+            return None;
         }
-        Request::GetVar(ups, name) => told_value(alloc, ups, name, line),
-        Request::GetNumAttach(ups) => told_count(alloc, ups, line),
-        Request::TrackedSetVar(_, _, _) | Request::TrackedInstcmd(_, _, _) => {
-            granted_id(alloc, line)
-        }
-        Request::GetTracking(id) => told_progress(alloc, *id, line),
-        _ => {
-            if is_ok(line) {
-                Ok(Some(Bytes::new(b"OK".to_vec(alloc)?)))
-            } else {
-                Ok(None)
-            }
-        }
+        return Some(Told::Failure(number));
+    }
+    if stands_alone(word.as_bytes()) && is_nothing(Some(words)) {
+        Some(Told::Word(word))
+    } else {
+        None
     }
 }
 
-/// The value that a line tells of the variable.
-fn told_value(
-    alloc: Global,
-    ups: &UpsName,
-    name: &Name,
-    line: &[u8],
-) -> Result<Option<Bytes>, AllocError>
-    requires { length line.now ≤ LINE_LIMIT }
-    ensures { IfOk result (λ value. value
-        ≡ only_word (behind (codes "VAR" ∷ ups.now ∷ name.now ∷ []) (words_of line.now))) }
+/// Whether the word tells by itself how far an order has come.
+fn stands_alone(word: &[u8]) -> bool
+    ensures { result ≡ stands_alone word.now }
 {
-    let Ok(words) = words(line) else {
-        return Ok(None);
-    };
-    match behind_names(ups, name, words) {
-        Some(words) => sole_bytes(alloc, words),
-        None => Ok(None),
-    }
+    word == b"PENDING".as_slice() || word == b"SUCCESS".as_slice()
 }
 
-/// The words after `VAR` and both names.
-fn behind_names<'a>(ups: &UpsName, name: &Name, words: Words<'a>) -> Option<Words<'a>>
-    ensures { result ≡ behind (codes "VAR" ∷ ups.now ∷ name.now ∷ []) words.entry }
+/// The refusal that the words are, if they are one.
+fn refusal(words: Words<'_>) -> FirstLine
+    ensures { result ≡ refusal_of words.entry }
 {
-    let words = behind_word(b"VAR", words)?;
-    let words = behind_word(ups.as_bytes(), words)?;
-    behind_word(name.as_bytes(), words)
-}
-
-/// The number that a line tells of the clients of the UPS.
-fn told_count(alloc: Global, ups: &UpsName, line: &[u8]) -> Result<Option<Bytes>, AllocError>
-    requires { length line.now ≤ LINE_LIMIT }
-    ensures { IfOk result (λ value. value
-        ≡ count_in (only_word (behind (codes "NUMATTACH" ∷ ups.now ∷ []) (words_of line.now)))) }
-{
-    let Ok(words) = words(line) else {
-        return Ok(None);
-    };
-    let Some(words) = behind_word(b"NUMATTACH", words) else {
-        return Ok(None);
-    };
-    match behind_word(ups.as_bytes(), words) {
-        Some(words) => sole_count(alloc, words),
-        None => Ok(None),
-    }
-}
-
-/// The one word that is left, where it is a number of clients.
-fn sole_count(alloc: Global, words: Words<'_>) -> Result<Option<Bytes>, AllocError>
-    ensures { IfOk result (λ value. value ≡ count_in (only_word (Some words.entry))) }
-{
-    match only_word(words) {
-        Some(word) => {
-            if is_count(word.as_bytes()) {
-                Ok(Some(Bytes::new(word.as_bytes().to_vec(alloc)?)))
-            } else {
-                Ok(None)
-            }
-        }
-        None => Ok(None),
-    }
-}
-
-/// Whether a word is a number of clients: 0 to 64, with no leading zero.
-fn is_count(word: &[u8]) -> bool
-    ensures { result ≡ is_count word.now }
-{
-    match word {
-        [ones] => ones.is_ascii_digit(),
-        [tens, ones] => {
-            tens.is_ascii_digit()
-                && ones.is_ascii_digit()
-                && *tens >= b'1'
-                && usize::from((*tens - b'0') * 10 + (*ones - b'0')) <= COUNT_LIMIT
-        }
-        _ => false,
-    }
-}
-
-/// The bytes of the one word that is left.
-fn sole_bytes(alloc: Global, words: Words<'_>) -> Result<Option<Bytes>, AllocError>
-    ensures { IfOk result (λ value. value ≡ only_word (Some words.entry)) }
-{
-    match only_word(words) {
-        Some(word) => Ok(Some(Bytes::new(word.as_bytes().to_vec(alloc)?))),
-        None => Ok(None),
-    }
-}
-
-/// Whether the line is OK alone.
-fn is_ok(line: &[u8]) -> bool
-    requires { length line.now ≤ LINE_LIMIT }
-    ensures { result ≡ is_nothing (behind (codes "OK" ∷ []) (words_of line.now)) }
-{
-    let Ok(words) = words(line) else {
-        return false;
-    };
-    match behind_word(b"OK", words) {
-        Some(words) => is_empty(words),
-        None => false,
-    }
-}
-
-/// The error word of a line, if it tells one.
-fn refusal(line: &[u8]) -> FirstLine
-    requires { length line.now ≤ LINE_LIMIT }
-    ensures { result ≡ refusal_of (words_of line.now) }
-{
-    let Ok(words) = words(line) else {
-        return FirstLine::Bad;
-    };
-    let Some(words) = behind_word(b"ERR", words) else {
-        return FirstLine::Bad;
-    };
-    match only_word(words) {
+    match only_word(behind(&[b"ERR"], words)) {
         Some(word) => refusal_by(word.as_bytes()),
         None => FirstLine::Bad,
     }
@@ -309,25 +310,29 @@ fn is_error_byte(b: u8) -> bool
     b.is_ascii_alphabetic() || b == b'-'
 }
 
-/// The item of a line's words.
-fn listed_item(alloc: Global, query: &Query, words: Words<'_>) -> Result<LaterLine, AllocError>
-    ensures { IfOk result (λ later. later
-        ≡ item_in query.now (behind (asked_words query.now) words.entry)) }
+/// The name and the value of the item that the words are, if they are one.
+fn item<'a>(query: &Query, words: Words<'a>) -> Option<(Told<'a>, Told<'a>)>
+    ensures { option_map (λ i. record { name = text_told i.0; value = text_told i.1 }) result
+        ≡ option_and_then (item_of query.now) (behind (asked_words query.now) words.entry) }
 {
-    let Some(mut words) = behind_asked(query, words) else {
-        return Ok(LaterLine::Bad);
-    };
-    let Some(name) = words.next() else {
-        return Ok(LaterLine::Bad);
-    };
+    let mut words = behind_asked(query, words)?;
+    let name = words.next()?;
     if !is_item_name(query, name.as_bytes()) {
-        return Ok(LaterLine::Bad);
+        return None;
     }
-    let Some(value) = item_value(alloc, query.has_value(), words)? else {
-        return Ok(LaterLine::Bad);
-    };
-    let name = Bytes::new(name.as_bytes().to_vec(alloc)?);
-    Ok(LaterLine::Another(Item { name, value }))
+    let value = item_value(query.has_value(), words)?;
+    Some((Told::Word(name), value))
+}
+
+/// The value of an item: the one word that is left, or nothing where items have no value and no word is left.
+fn item_value<'a>(has_value: bool, words: Words<'a>) -> Option<Told<'a>>
+    ensures { option_map text_told result ≡ value_in has_value words.entry }
+{
+    if has_value {
+        value(Some(words))
+    } else {
+        fixed(b"", is_nothing(Some(words)))
+    }
 }
 
 /// Whether an item of the listing may have this name.
@@ -338,19 +343,5 @@ fn is_item_name(query: &Query, word: &[u8]) -> bool
         Query::Ups => UpsName::read(word).is_ok(),
         Query::Client(_) => Address::read(word).is_ok(),
         _ => Name::read(word).is_ok(),
-    }
-}
-
-/// The value of an item: the one word that is left, or nothing where items have no value and no word is left.
-fn item_value(alloc: Global, has_value: bool, words: Words<'_>) -> Result<Option<Bytes>, AllocError>
-    ensures { IfOk result (λ value. value ≡ value_in has_value words.entry) }
-{
-    if has_value {
-        return sole_bytes(alloc, words);
-    }
-    if is_empty(words) {
-        Ok(Some(Bytes::new(Vec::new(alloc))))
-    } else {
-        Ok(None)
     }
 }

@@ -22,7 +22,7 @@ impl Query {
     ghost use Rattle.nutrequest.specs.Request.{kind_of, ups_of, has_value};
 
     /// The word of its kind.
-    pub(crate) fn kind(&self) -> &'static [u8]
+    pub(crate) fn kind(&self) -> &[u8]
         ensures { result.now ≡ kind_of self.now }
     {
         match self {

@@ -1,11 +1,9 @@
 //! A session: requests, each with its reply.
-ghost use Rattle.std.specs.Prelude.{◌≡◌, ◌≤◌, [], length, Err, OnErr, OnOk, MatchResult, true, false};
-ghost use Rattle.nutwords.specs.Scan.{words_of};
-ghost use Rattle.nutwords.specs.declared.limits.TheConstants.{LINE_LIMIT};
-ghost use Rattle.nutrequest.specs.Reply.{one_item, later_of};
+ghost use Rattle.std.specs.Prelude.{◌≡◌, [], Err, OnErr, OnOk, MatchResult, true, false};
+ghost use Rattle.nutrequest.specs.Reply.{one_item};
 ghost use Rattle.nutrequest.specs.Inbox.{unread};
 ghost use Rattle.nutrequest.specs.State.{unread_of, reader_of, writer_of, is_over};
-ghost use Rattle.nutrequest.specs.Session.{FirstGives, TakeGives, ItemsGive, ReplyGives, AskGives};
+ghost use Rattle.nutrequest.specs.Session.{FirstGives, ItemsGive, ReplyGives, AskGives};
 
 use crate::inbox::Inbox;
 use crate::line::request_line;
@@ -110,10 +108,7 @@ fn read_reply<R: Source>(
     ensures { ReplyGives R.remaining R.failures request.now (unread inbox.old) reader.old result
         (unread inbox.new) reader.new }
 {
-    let value = match read_first(alloc, inbox, reader, request) {
-        Ok(value) => value,
-        Err(fault) => return Err(fault),
-    };
+    let value = read_first(alloc, inbox, reader, request)?;
     match request {
         Request::List(query) => read_items(alloc, inbox, reader, query),
         _ => one_item(alloc, value),
@@ -130,15 +125,11 @@ fn read_first<R: Source>(
     ensures { FirstGives R.remaining R.failures request.now (unread inbox.old) reader.old result
         (unread inbox.new) reader.new }
 {
-    let line = match inbox.line(reader) {
-        Ok(line) => line,
-        Err(fault) => return Err(fault),
-    };
-    match first_line(alloc, request, &line) {
-        Ok(FirstLine::Expected(value)) => Ok(value),
-        Ok(FirstLine::Refusal(word)) => Err(ClientFault::ErrWord(word)),
-        Ok(FirstLine::Bad) => Err(ClientFault::BadReply),
-        Err(_) => Err(ClientFault::Memory),
+    let line = inbox.line(reader)?;
+    match first_line(alloc, request, &line)? {
+        FirstLine::Expected(value) => Ok(value),
+        FirstLine::Refusal(word) => Err(ClientFault::ErrWord(word)),
+        FirstLine::Bad => Err(ClientFault::BadReply),
     }
 }
 
@@ -154,55 +145,12 @@ fn read_items<R: Source>(
 {
     let mut items = Items::new(alloc);
     loop {
-        let line = match inbox.line(reader) {
-            Ok(line) => line,
-            Err(fault) => return Err(fault),
-        };
-        match take_later(alloc, query, &line, &mut items) {
-            Ok(Taken::All) => return Ok(items),
-            Ok(Taken::One) => {}
-            Err(fault) => return Err(fault),
+        let line = inbox.line(reader)?;
+        match later_line(alloc, query, &line)? {
+            LaterLine::End => return Ok(items),
+            LaterLine::Another(item) => items.add(item)?,
+            LaterLine::Bad => return Err(ClientFault::BadReply),
         }
-    }
-}
-
-/// What a later line brought.
-#[derive(Drop)]
-enum Taken {
-    /// An item more.
-    One,
-    /// The end: the items are all there.
-    All,
-}
-
-/// Takes a line of a listing after the first.
-fn take_later(
-    alloc: Global,
-    query: &Query,
-    line: &[u8],
-    items: &mut Items,
-) -> Result<Taken, ClientFault>
-    requires { length line.now ≤ LINE_LIMIT }
-    ensures { TakeGives (later_of query.now (words_of line.now)) items.old result items.new }
-{
-    match later_line(alloc, query, line) {
-        Ok(LaterLine::End) => Ok(Taken::All),
-        Ok(LaterLine::Another(item)) => add_item(items, item),
-        Ok(LaterLine::Bad) => Err(ClientFault::BadReply),
-        Err(_) => Err(ClientFault::Memory),
-    }
-}
-
-/// Adds an item, where the listing has room for it.
-fn add_item(items: &mut Items, item: Item) -> Result<Taken, ClientFault>
-    ensures { TakeGives (LaterLine.Another item) items.old result items.new }
-{
-    if !items.has_room() {
-        return Err(ClientFault::BadReply);
-    }
-    match items.push(item) {
-        Ok(()) => Ok(Taken::One),
-        Err(_) => Err(ClientFault::Memory),
     }
 }
 
@@ -213,8 +161,6 @@ fn one_item(alloc: Global, value: Bytes) -> Result<Items, ClientFault>
 {
     let name = Bytes::new(Vec::new(alloc));
     let mut items = Items::new(alloc);
-    if items.push(Item { name, value }).is_err() {
-        return Err(ClientFault::Memory);
-    }
+    items.add(Item { name, value })?;
     Ok(items)
 }

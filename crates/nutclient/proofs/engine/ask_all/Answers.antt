@@ -5,32 +5,52 @@ use Rattle.nutclient.proofs.Underway.{IsUnderWay, starts, goes_further, ends_ear
 use Rattle.nutclient.proofs.engine.ask_all.Goals as goal
 
 pub loop-request-init : goal.loop-request-init
-loop-request-init g c = record {
-  under_way = subst (λ items. IsUnderWay g.R.Source.remaining g.R.Source.failures g.W.Sink.contents g.W.Sink.failures c.args.requests.now (unread_of c.args.session.now) (reader_of c.args.session.now) (writer_of c.args.session.now)
-      items c.args.requests.now (unread_of c.args.session.now) (reader_of c.args.session.now) (writer_of c.args.session.now)) (sym c.new-items.ensures)
-      (starts g.R.Source.remaining g.R.Source.failures g.W.Sink.contents g.W.Sink.failures c.args.requests.now (unread_of c.args.session.now) (reader_of c.args.session.now) (writer_of c.args.session.now));
-  goes_on = c.requires;
-}
+loop-request-init g c =
+    let old = unread_of c.args.session.now in
+    let reader = reader_of c.args.session.now in
+    let writer = writer_of c.args.session.now in
+    record {
+      under_way = subst (λ items. IsUnderWay g.R.Source.remaining g.R.Source.failures g.W.Sink.contents g.W.Sink.failures
+          c.args.requests.now old reader writer items c.args.requests.now old reader writer) (sym c.new-items.ensures)
+          (starts g.R.Source.remaining g.R.Source.failures g.W.Sink.contents g.W.Sink.failures c.args.requests.now old reader writer);
+      goes_on = c.requires;
+    }
 
 pub returns-in-Err-clause-gives : goal.returns-in-Err-clause-gives
 returns-in-Err-clause-gives g c =
     let all : List Request = c.args.requests.now in
     let l = c.loop-request in
-    ends_early g.R.Source.remaining g.R.Source.failures g.W.Sink.contents g.W.Sink.failures all (unread_of c.args.session.now) (reader_of c.args.session.now) (writer_of c.args.session.now)
-    l.items c.request-item.result (drop (l.request-index + 1) all) (unread_of l.session) (unread_of c.ask.new.session) (reader_of l.session) (reader_of c.ask.new.session) (writer_of l.session) (writer_of c.ask.new.session) c.in-Err.fault
-    (comes_next g.R.Source.remaining g.R.Source.failures g.W.Sink.contents g.W.Sink.failures all (unread_of c.args.session.now) (reader_of c.args.session.now) (writer_of c.args.session.now)
-    l.items l.request-index c.request-item.result (unread_of l.session) (reader_of l.session) (writer_of l.session) l.invariant.under_way c.loop-request-test.true c.request-item.is)
+    let old = unread_of c.args.session.now in
+    let reader = reader_of c.args.session.now in
+    let writer = writer_of c.args.session.now in
+    let request = c.request-item.result in
+    let kept = unread_of l.session in
+    let mid = reader_of l.session in
+    let middle = writer_of l.session in
+    let next = comes_next g.R.Source.remaining g.R.Source.failures g.W.Sink.contents g.W.Sink.failures all old reader writer
+    l.items l.request-index request kept mid middle l.invariant.under_way c.loop-request-test.true c.request-item.is in
+    ends_early g.R.Source.remaining g.R.Source.failures g.W.Sink.contents g.W.Sink.failures all old reader writer
+    l.items request (drop (l.request-index + 1) all) kept mid middle next
+    (unread_of c.ask.new.session) (reader_of c.ask.new.session) (writer_of c.ask.new.session) c.in-Err.fault
     (c.in-Err.ensures.reply l.invariant.goes_on)
 
 pub loop-request-preserved : goal.loop-request-preserved
 loop-request-preserved g c =
     let all : List Request = c.args.requests.now in
     let l = c.loop-request in
+    let old = unread_of c.args.session.now in
+    let reader = reader_of c.args.session.now in
+    let writer = writer_of c.args.session.now in
+    let request = c.request-item.result in
+    let kept = unread_of l.session in
+    let mid = reader_of l.session in
+    let middle = writer_of l.session in
+    let next = comes_next g.R.Source.remaining g.R.Source.failures g.W.Sink.contents g.W.Sink.failures all old reader writer
+    l.items l.request-index request kept mid middle l.invariant.under_way c.loop-request-test.true c.request-item.is in
     record {
-      under_way = goes_further g.R.Source.remaining g.R.Source.failures g.W.Sink.contents g.W.Sink.failures all (unread_of c.args.session.now) (reader_of c.args.session.now) (writer_of c.args.session.now)
-          l.items c.request-item.result (drop (l.request-index + 1) all) (unread_of l.session) (unread_of c.ask.new.session) (reader_of l.session) (reader_of c.ask.new.session) (writer_of l.session) (writer_of c.ask.new.session) c.in-Ok.items
-          (comes_next g.R.Source.remaining g.R.Source.failures g.W.Sink.contents g.W.Sink.failures all (unread_of c.args.session.now) (reader_of c.args.session.now) (writer_of c.args.session.now)
-          l.items l.request-index c.request-item.result (unread_of l.session) (reader_of l.session) (writer_of l.session) l.invariant.under_way c.loop-request-test.true c.request-item.is)
+      under_way = goes_further g.R.Source.remaining g.R.Source.failures g.W.Sink.contents g.W.Sink.failures all old reader writer
+          l.items request (drop (l.request-index + 1) all) kept mid middle next
+          (unread_of c.ask.new.session) (reader_of c.ask.new.session) (writer_of c.ask.new.session) c.in-Ok.items
           (c.in-Ok.ensures.reply l.invariant.goes_on);
       goes_on = c.in-Ok.ensures.goes_on;
     }

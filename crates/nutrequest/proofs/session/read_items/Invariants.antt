@@ -7,9 +7,9 @@ use Rattle.nutrequest.proofs.session.read_items.Given as goal
 use Rattle.nutrequest.specs.declared.limits.TheConstants.{ITEM_LIMIT}
 
 -- What came is a front of the reply: with whatever stands after, it is the items so far and what is left to be read.
-abbrev pub invariant-loop-line : goal.invariant-loop-line
-invariant-loop-line g l = (came : List ℕ) × Received g.R.Source.remaining g.R.Source.failures l.fn.reader came l.reader
+abbrev pub invariant-loop-items : goal.invariant-loop-items
+invariant-loop-items g l = (came : List ℕ) × Received g.R.Source.remaining g.R.Source.failures l.fn.reader came l.reader
     × ((more : List ℕ) → items_from l.query [] (lines (unread l.fn.inbox ++ (came ++ more))) ≡ items_from l.query l.items (lines (unread l.inbox ++ more)))
 
-abbrev pub decreases-loop-line : goal.decreases-loop-line
-decreases-loop-line g l = ITEM_LIMIT - length l.items
+abbrev pub decreases-loop-items : goal.decreases-loop-items
+decreases-loop-items g l = ITEM_LIMIT - length l.items

@@ -4,5 +4,5 @@ use Rattle.nutrequest.proofs.session.read_reply.Goals as goal
 
 pub returns-in-List : goal.returns-in-List
 returns-in-List g c =
-    reply_behind g.R.Source.remaining g.R.Source.failures c.args.request.now c.in-List.query c.in-Ok.value (unread c.args.inbox.now) (unread c.read_first.new.inbox) (unread c.read_items.new.inbox)
-    c.args.reader.now c.read_first.new.reader c.read_items.new.reader c.read_items.result c.in-List.is c.in-Ok.ensures c.read_items.ensures
+    reply_behind g.R.Source.remaining g.R.Source.failures c.args.request.now c.in-List.query c.in_ok-value.value (unread c.args.inbox.now) (unread c.read_first.new.inbox) (unread c.read_items.new.inbox)
+    c.args.reader.now c.read_first.new.reader c.read_items.new.reader c.read_items.result c.in-List.is c.in_ok-value.ensures c.read_items.ensures
