@@ -27,7 +27,7 @@ told=$({
     sed -nE 's/^ *Note::[A-Za-z]+\(_\) => f\.write_str\("(.*)"\),$/su: \1/p' $entry | sed 's/: logged out/: mon@192.0.2.1 logged out/'
     sed -nE 's/^ *\(None, Verb::[A-Za-z]+\) => f\.write_str\("(.*)"\),$/su: mon@192.0.2.1 \1/p' $entry
     sed -nE 's/.*write!\(f, "([a-z ]+) \{what\}(: \{word\})?"\),?$/su: mon@192.0.2.1 \1 COMMAND\2/p' $entry | sed 's/{word}/WORD/'
-    sed -nE 's/.*write!\(f, "(.* of the driver .*)\{fault\}"\)$/su: \1REASON/p' $entry | sed 's/{count}/N/'
+    sed -nE 's/^ *(write!\(f, )?"(.* of the driver .*)\{fault\}"\)?$/su: \2REASON/p' $entry | sed 's/{count}/N/'
     sed -nE 's/.*write!\(f, "\{name\}(: [^{]*)\{error\}"\)$/su\1ERROR/p' crates/upsd/src/journal/connecting.rt
     sed -nE 's/^ *RoomNews::.*"(.*)"\),$/\1/p' crates/upsd/src/journal/room.rt | sed -e 's/{count}/N/'
 } | sort)
