@@ -11,8 +11,8 @@ use nutio::Sink;
 use nutreplay::replay;
 use std::alloc::Global;
 
-/// `upsd replay`: replays the script of the file over the UPSs, users and descriptions of theirs. An empty script judges them:
-/// the watcher is shown what they mean.
+/// `upsd replay`: replays the script of the file over the UPSs, users and descriptions of theirs. The script
+/// /dev/null judges them: the caller is shown what they mean.
 ///
 /// # Errors
 ///
@@ -36,7 +36,7 @@ pub fn replay_files<'a, R: FileReader, W: Sink, J: FnOnce(&Configuration)>(
 {
     let configuration = configuration_in(alloc, reader, files)?;
     let bytes = read(reader, script)?;
-    if bytes.is_empty() {
+    if script == "/dev/null" {
         judge(&configuration);
     }
     replay_over(alloc, configuration, script, &bytes, out)
