@@ -1,12 +1,12 @@
 #!/usr/bin/env bash
 # The manual pages: each message of the programs' sources is in the page of its program, and no other; each word after ERR is one
 # that a server answers; and what formats the pages finds nothing amiss, where it is there. What docs/ takes from the sources is what
-# they say, and what a page names is there.
+# they say, what a page names is there, and all pages are short and plain.
 set -euo pipefail
 cd "$(dirname "${BASH_SOURCE[0]}")/.."
 failed=0
 
-# What is told of a program in its page is what its sources tell.
+# What a page says of a program is what its sources say.
 alike() {
     if [[ $2 != "$3" ]]; then
         printf 'pages: FAILED: %s\n' "$1"
@@ -50,5 +50,6 @@ for formatter in 'groff -man -ww -z' 'mandoc -Tlint'; do
 done
 tools/proved --check || failed=1
 python3 tests/names.py || failed=1
+python3 tests/prose.py || failed=1
 ((failed == 0)) && echo 'pages: ok'
 exit "$failed"
