@@ -17,7 +17,6 @@ use crate::log_buffer::LogBuffer;
 use nutcore::{Note, Server, UpsId};
 use nutloop::MioSockets;
 use nutusers::UPS_LIMIT;
-use std::fmt;
 use std::io::Read;
 use std::net::Net;
 use std::time::Clock;
@@ -80,7 +79,7 @@ impl Journal {
             { limits = after_note server.now.state.moment self.old.limits note.now } }
     {
         if self.limits.take_turn(server.current_moment(), note) {
-            add(log, &Entry { server, note });
+            log.add(&Entry { server, note });
         }
     }
 
@@ -94,13 +93,8 @@ impl Journal {
             if let Some(lines) = lines[place] {
                 let u = UpsId { place: place as u8 };
                 let note = &Note::LinesRefused(u, lines.count, lines.fault);
-                add(log, &Entry { server, note });
+                log.add(&Entry { server, note });
             }
         }
     }
-}
-
-/// Logs a line.
-fn add<D: fmt::Display>(log: &mut LogBuffer, line: &D) {
-    log.add(format!(in log.alloc(); "upsd: {line}\n"));
 }

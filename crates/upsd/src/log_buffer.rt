@@ -1,16 +1,22 @@
 //! The lines of the journal on their way to standard error. It may be a pipe that nobody reads, so no write waits.
-ghost use Rattle.std.specs.Prelude.{◌≡◌, [], IfOk, MatchResult, OnOk, OnErr, string_bytes};
-ghost use Rattle.upsd.specs.LogBuffer.{after_line, counted, dropped_line, one_dropped};
+ghost use Rattle.std.specs.Prelude.{◌≡◌, [], IfOk, OnOk, OnErr};
+ghost use Rattle.upsd.specs.LogBuffer.{after_line, counted, dropped_line};
 
+use arrayvec::ArrayString;
 use libc::STDERR_FILENO;
 use libc::net::{POLLOUT, poll};
 use libc::types::pollfd;
 use nutlisting::Ring;
 use std::alloc::{AllocError, Global};
+use std::fmt;
+use std::fmt::Write as _;
 use std::io::Write;
 
 /// The most bytes of lines that wait.
 pub const LOG_LIMIT: usize = 32_768;
+
+/// The most bytes of a line. A user's name has at most 256 of them, each other name at most 64.
+const LINE_LIMIT: usize = 1024;
 
 /// How many bytes a pipe takes without waiting where it takes any (Linux's PIPE_BUF).
 const PIECE_LIMIT: usize = 4096;
@@ -43,23 +49,24 @@ impl LogBuffer {
         })
     }
 
-    /// Where memory for a line is asked for.
-    pub fn alloc(&self) -> Global {
-        self.alloc
+    /// Hands in a line, which is given without `upsd: ` and LF. One that has no room is dropped and counted. So are those
+    /// after it, until the count is logged. Takes no memory.
+    pub fn add<D: fmt::Display>(&mut self, line: &D) {
+        let mut text = ArrayString::<LINE_LIMIT>::new();
+        match writeln!(text, "upsd: {line}") {
+            Ok(()) => self.add_line(text.as_bytes()),
+            Err(_) => self.dropped = self.dropped.saturating_add(1),
+        }
     }
 
-    /// Hands in a line, which ends with LF. One that has no room, or for which memory was refused, is dropped and counted.
-    /// So are those after it, until the count is logged.
-    pub fn add(&mut self, line: Result<String, AllocError>)
-        ensures { MatchResult line
-            (λ text. self.new ≡ after_line (string_bytes text) self.old)
-            (λ _. self.new ≡ one_dropped self.old) }
+    /// Adds a line, or counts it as dropped.
+    fn add_line(&mut self, line: &[u8])
+        ensures { self.new ≡ after_line line.now self.old }
     {
-        match line {
-            Ok(line) if self.dropped == 0 && line.len() <= self.waiting.free() => {
-                self.waiting.push(line.as_bytes());
-            }
-            _ => self.dropped = self.dropped.saturating_add(1),
+        if self.dropped == 0 && line.len() <= self.waiting.free() {
+            self.waiting.push(line);
+        } else {
+            self.dropped = self.dropped.saturating_add(1);
         }
     }
 
@@ -88,7 +95,7 @@ impl LogBuffer {
         let count = self.dropped;
         let line = format!(in self.alloc; "upsd: {count} lines of the journal were dropped\n")?;
         self.dropped = 0;
-        self.add(Ok(line));
+        self.add_line(line.as_bytes());
         Ok(())
     }
 }

@@ -3,7 +3,6 @@ ghost use Rattle.std.specs.Prelude.{◌≡◌, ◌<◌, MatchOption, length, sli
 ghost use Rattle.nutloop.specs.OverMio.{error_of};
 ghost use Rattle.upsd.specs.Connecting.{AreErrorsWrittenUpTo, IsErrorNews};
 
-use super::add;
 use crate::log_buffer::LogBuffer;
 use nutcore::{Server, UpsId};
 use nutloop::MioSockets;
@@ -77,7 +76,7 @@ impl<'a> fmt::Display for CannotConnect<'a> {
 fn write_error(log: &mut LogBuffer, server: &Server, u: UpsId, number: i32) {
     if let Some(name) = server.ups().name(u) {
         let error = Error::from_raw_os_error(number);
-        add(log, &CannotConnect(name, &error));
+        log.add(&CannotConnect(name, &error));
     }
 }
 

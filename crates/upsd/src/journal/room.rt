@@ -2,7 +2,6 @@
 ghost use Rattle.std.specs.Prelude.{◌≡◌, false};
 ghost use Rattle.upsd.specs.Room.{room_after, room_news};
 
-use super::add;
 use crate::log_buffer::LogBuffer;
 use std::fmt;
 
@@ -49,7 +48,7 @@ impl Room {
         ensures { self.new ≡ room_after self.old refusals has_room }
     {
         if let Some(news) = self.take_news(refusals, has_room) {
-            add(log, &news);
+            log.add(&news);
         }
     }
 
