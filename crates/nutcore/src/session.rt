@@ -113,7 +113,7 @@ impl Session {
     {
         let u = self.login?;
         let user = match &self.username {
-            Some(name) => UserName::read(name.as_bytes()),
+            Some(name) => Some(name.copied()),
             None => None,
         };
         Some(Note::LoggedOut(Logout {
