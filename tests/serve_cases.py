@@ -630,6 +630,15 @@ def in_background(function):
     return work
 
 
+def repeat(function, seconds):
+    """Does it again and again, in a process of its own."""
+    def run():
+        end = time.monotonic() + seconds
+        while time.monotonic() < end:
+            function()
+    return in_background(run)
+
+
 def ask_on(clients, seconds):
     """Each client asks again as soon as it is answered, all in a process of their own."""
     def run():
@@ -654,6 +663,24 @@ def report_on(driver, seconds):
             driver.send(b'SETINFO battery.charge "%d"\n' % number)
             time.sleep(max(0.0, begin + number / 1000 - time.monotonic()))
     return in_background(run)
+
+
+@case
+def a_driver_with_orders_at_each_moment_is_heard():
+    with served(ORDERS) as (server, driver, good):
+        client = server.client()
+        assert client.ask(ADMIN) == b"OK\n" * 2
+        begin, worst = time.monotonic(), 0.0
+        busy = [report_on(driver, 4), repeat(lambda: driver.wire.recv(4096), 3.5),
+                repeat(lambda: client.ask(b"SET VAR su ups.delay 30\n" * 20), 4)]  # fmt: skip
+        assert comes(lambda: good.ask(b"GET VAR su battery.charge\n") != b'VAR su battery.charge "100"\n')
+        while (now := time.monotonic() - begin) < 3:
+            told = int(good.ask(b"GET VAR su battery.charge\n").split(b'"')[1])
+            worst = max(worst, now - told / 1000)
+            time.sleep(0.02)
+        for process in busy:
+            process.join()
+        assert worst < 1.0, f"what the driver reported was {worst:.3f} s old"
 
 
 @case
