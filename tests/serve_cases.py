@@ -445,7 +445,6 @@ def a_silent_driver_is_pinged_and_goes_stale():
 @case
 def data_that_a_driver_takes_back_are_told_once():
     with served() as (server, driver, good):
-        begin = time.monotonic()
         driver.send(b"DATASTALE\nDATASTALE\n")
         assert comes(lambda: good.ask(GET) == b"ERR DATA-STALE\n")
         driver.send(b'SETINFO battery.charge "99"\nDATASTALE\n')

@@ -154,8 +154,8 @@ impl Server {
         self.notes.as_slice()
     }
 
-    /// Nothing is rendered, placed or noted yet.
-    fn forget_cost(&mut self)
+    /// What the last event cost and did is forgotten, as once a journal has its notes.
+    pub fn forget(&mut self)
         ensures state { self.new.state ≡ self.old.state }
         ensures none { self.new.cost ≡ no_cost }
         ensures notes { self.new.notes ≡ [] }
@@ -184,7 +184,7 @@ impl Server {
         ensures notes { IsNoted self.old.state (Event.DriverUp u) (done result) self.new }
         ensures no_memory { (k : ℕ) → result ≢ Err (Fault.Memory k) }
     {
-        self.forget_cost();
+        self.forget();
         let was = self.condition(u);
         if self.ups_of(u)?.is_connected() {
             return Err(Fault::AlreadyConnected);
@@ -211,7 +211,7 @@ impl Server {
         ensures notes { IsNoted self.old.state (Event.DriverBytes u piece.now)
             (done result) self.new }
     {
-        self.forget_cost();
+        self.forget();
         let was = self.condition(u);
         self.connected(u)?;
         let result = self.feed_driver(u, piece);
@@ -262,7 +262,7 @@ impl Server {
         ensures notes { IsNoted self.old.state (Event.DriverTook u n) (done result) self.new }
         ensures no_memory { (k : ℕ) → result ≢ Err (Fault.Memory k) }
     {
-        self.forget_cost();
+        self.forget();
         self.connected(u)?;
         self.with_ups(u, |ups| ups.take(n))
     }
@@ -278,7 +278,7 @@ impl Server {
         ensures notes { IsNoted self.old.state (Event.DriverDown u) (done result) self.new }
         ensures no_memory { (k : ℕ) → result ≢ Err (Fault.Memory k) }
     {
-        self.forget_cost();
+        self.forget();
         let was = self.condition(u);
         self.connected(u)?;
         lawful_lines_keep_trees_sound();
@@ -295,7 +295,7 @@ impl Server {
         ensures cost { Costs self.old (Event.Tick seconds) self.new }
         ensures notes { IsNoted self.old.state (Event.Tick seconds) Outcome.Done self.new }
     {
-        self.forget_cost();
+        self.forget();
         let max_age = self.max_age.seconds();
         let moment = seconds.max(self.moment);
         note_stale(&self.upses, max_age, self.moment, moment, &mut self.notes);
@@ -327,7 +327,7 @@ impl Server {
         ensures cost { Costs self.old (Event.Open address) self.new }
         ensures notes { IsNoted self.old.state (Event.Open address) (opened_as result) self.new }
     {
-        self.forget_cost();
+        self.forget();
         if self.sessions.len() >= SESSION_LIMIT || self.last_id == u64::MAX {
             return Err(Fault::TooManyClients);
         }
@@ -368,7 +368,7 @@ impl Server {
         ensures notes { IsNoted self.old.state (Event.Feed c piece.now)
             (fed result) self.new }
     {
-        self.forget_cost();
+        self.forget();
         let place = self.place_of(c)?;
         let session = &mut self.sessions[place];
         let kept = session.offered();
@@ -433,7 +433,7 @@ impl Server {
         ensures cost { Costs self.old (Event.Took c n) self.new }
         ensures notes { IsNoted self.old.state (Event.Took c n) (done result) self.new }
     {
-        self.forget_cost();
+        self.forget();
         let place = self.place_of(c)?;
         let offered = self.sessions[place].offered();
         if n > offered {
@@ -466,7 +466,7 @@ impl Server {
         ensures notes { IsNoted self.old.state (Event.Close c) (done result) self.new }
         ensures no_memory { (k : ℕ) → result ≢ Err (Fault.Memory k) }
     {
-        self.forget_cost();
+        self.forget();
         let place = self.place_of(c)?;
         let session = self.sessions.remove(place);
         self.notes.add(session.logout());
@@ -485,7 +485,7 @@ impl Server {
         ensures notes { IsNoted self.old.state (Event.Id id) (done result) self.new }
         ensures no_memory { (k : ℕ) → result ≢ Err (Fault.Memory k) }
     {
-        self.forget_cost();
+        self.forget();
         match self.tracking.take_in(id) {
             Ok(()) => Ok(()),
             Err(IdFault::Known) => Err(Fault::KnownId),
@@ -530,7 +530,7 @@ impl Server {
         ensures cost { Costs self.old (Event.Open address.now) self.new }
     {
         let Ok(address) = address.clone() else {
-            self.forget_cost();
+            self.forget();
             return Outcome::Refused(Fault::Memory(0));
         };
         match self.open(address) {

@@ -8,7 +8,7 @@ use nutcore::Server;
 pub const TURN_LIMIT: u64 = u64::MAX;
 
 /// Makes turns one after another, up to the first that fails. After each that ended well the watcher is shown the server
-/// and the sockets.
+/// and the sockets, and the notes that it was shown are forgotten.
 ///
 /// # Errors
 ///
@@ -30,6 +30,7 @@ pub fn serve<S: Sockets, W: FnMut(&Server, &S)>(
             return Err(fault);
         }
         watch(server, sockets);
+        server.forget();
     }
     Ok(())
 }

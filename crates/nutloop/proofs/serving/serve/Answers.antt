@@ -1,7 +1,8 @@
-use Rattle.std.proofs.Common.{◌≡◌, refl, arith, of_calls}
+use Rattle.std.proofs.Common.{◌≡◌, ◌+◌, sym, subst, refl, arith, of_calls}
 use Rattle.std.specs.Prelude.{Ok, Err, replicate}
 use Rattle.nutloop.specs.declared.serving.TheConstants.{TURN_LIMIT}
-use Rattle.nutloop.specs.Serving.{IsShown, TurnsUpTo}
+use Rattle.nutcore.specs.Server.{ServerState}
+use Rattle.nutloop.specs.Serving.{IsShown, ShownTurns, TurnsUpTo}
 use Rattle.nutloop.proofs.MoreTurns.{turns_then, shown_then, turns_shown, is_one_run}
 use Rattle.nutloop.proofs.serving.serve.Goals as goal
 
@@ -11,8 +12,10 @@ loop-init g c = (c.requires, (refl, refl, refl))
 pub loop-preserved : goal.loop-preserved
 loop-preserved g c = (
   search of_calls,
-  shown_then g.S.Sockets.calls g.S.Sockets.failures (IsShown g.W.FnMut) c.loop.counter c.args.server.now.state c.args.sockets.now c.args.watch c.loop.server.state c.loop.sockets c.loop.watch c.turn.new.server c.turn.new.sockets c.watch.new.self c.loop.invariant.1 c.in_default.ensures
-      (record { first = _; second = _; shows = (refl, refl); called = c.watch.ensures }),
+  subst (λ (z : ServerState). ShownTurns g.S.Sockets.calls g.S.Sockets.failures (IsShown g.W.FnMut) (c.loop.counter + 1) c.args.server.now.state c.args.sockets.now c.args.watch z c.turn.new.sockets c.watch.new.self)
+      (sym c.forget.ensures.state)
+      (shown_then g.S.Sockets.calls g.S.Sockets.failures (IsShown g.W.FnMut) c.loop.counter c.args.server.now.state c.args.sockets.now c.args.watch c.loop.server.state c.loop.sockets c.loop.watch c.turn.new.server c.turn.new.sockets c.watch.new.self c.loop.invariant.1 c.in_default.ensures
+      (record { first = _; second = _; shows = (refl, refl); called = c.watch.ensures })),
 )
 
 pub returns-in-Err : goal.returns-in-Err

@@ -24,15 +24,15 @@ use Rattle.nutcore.proofs.server.Server.close.Goals as goal
 
 pub returns-in_err-place-clause-notes : goal.returns-in_err-place-clause-notes
 returns-in_err-place-clause-notes c =
-    let none : option_and_then logout_of (session c.args.c c.args.self.now.state) ≡ None = ap (option_and_then logout_of) (ap (session c.args.c) (sym c.forget_cost.ensures.state) ∙ c.in_err-place.ensures.place.1) in
-    c.forget_cost.ensures.notes ∙ ap (λ (o : Option Note). take NOTE_LIMIT (cons_option o [])) (sym none)
+    let none : option_and_then logout_of (session c.args.c c.args.self.now.state) ≡ None = ap (option_and_then logout_of) (ap (session c.args.c) (sym c.forget.ensures.state) ∙ c.in_err-place.ensures.place.1) in
+    c.forget.ensures.notes ∙ ap (λ (o : Option Note). take NOTE_LIMIT (cons_option o [])) (sym none)
 
 pub returns-in_err-place-clause-served : goal.returns-in_err-place-clause-served
 returns-in_err-place-clause-served c =
     let p = err_from_is_err_and c.from_residual.result c.from_residual.ensures.1 in
     let found = c.in_err-place.ensures.place in
-    subst (λ (r : Result (Unit {0}) Fault). Serves c.args.self.now.state (Close c.args.c) (done r) c.forget_cost.new.self.state) (sym (p.1 ∙ ap Err (p.2 ∙ found.0)))
-    (served_from _ _ _ _ _ c.forget_cost.ensures.state c.place_of.ensures.lawful (close_absent _ _ found.1))
+    subst (λ (r : Result (Unit {0}) Fault). Serves c.args.self.now.state (Close c.args.c) (done r) c.forget.new.self.state) (sym (p.1 ∙ ap Err (p.2 ∙ found.0)))
+    (served_from _ _ _ _ _ c.forget.ensures.state c.place_of.ensures.lawful (close_absent _ _ found.1))
 
 pub invariant_of-self : goal.invariant_of-self
 invariant_of-self c =
@@ -50,11 +50,11 @@ returns-clause-served c =
     let at : IsAt c.args.c c.in_ok-place.place v.sessions = subst (λ (z : ServerState). IsAt c.args.c c.in_ok-place.place z.sessions) (sym (state_is c.self.view_is)) c.in_ok-place.ensures.place in
     let left : c.remove-session.new.self.items ≡ without c.args.c v.sessions = c.remove-session.ensures.by_index.2 ∙ sym (left_out 1 v.next_id c.args.c c.in_ok-place.place v.sessions c.self.invariant.sound.ids at) in
     let t : ServerState = record v { sessions = c.remove-session.new.self.items } in
-    served_from _ _ _ _ _ c.forget_cost.ensures.state c.place_of.ensures.lawful (step_from v c.forget_cost.new.self.state t t (Close c.args.c) Done (state_is c.self.view_is) refl (close_present v c.args.c _ c.remove-session.new.self.items (at_found c.args.c c.in_ok-place.place v.sessions at) left))
+    served_from _ _ _ _ _ c.forget.ensures.state c.place_of.ensures.lawful (step_from v c.forget.new.self.state t t (Close c.args.c) Done (state_is c.self.view_is) refl (close_present v c.args.c _ c.remove-session.new.self.items (at_found c.args.c c.in_ok-place.place v.sessions at) left))
 
 pub returns-clause-notes : goal.returns-clause-notes
 returns-clause-notes c =
     let v : ServerState = (the_view c.self.inside).state in
-    let found : session c.args.c c.forget_cost.new.self.state ≡ Some c.remove-session.result = found_in c.args.c c.in_ok-place.place v c.forget_cost.new.self.state c.remove-session.result (state_is c.self.view_is) c.in_ok-place.ensures.place c.remove-session.ensures.value in
-    let noted : c.logout.result ≡ option_and_then logout_of (session c.args.c c.args.self.now.state) = c.logout.ensures ∙ sym (ap (option_and_then logout_of) (ap (session c.args.c) (sym c.forget_cost.ensures.state) ∙ found)) in
-    c.add.ensures ∙ one_noted [] c.logout.result c.self.inside.notes (ap (λ (r : RunningServer). r.notes) c.self.view_is ∙ c.forget_cost.ensures.notes) ∙ ap (λ (o : Option Note). take NOTE_LIMIT (cons_option o [])) noted
+    let found : session c.args.c c.forget.new.self.state ≡ Some c.remove-session.result = found_in c.args.c c.in_ok-place.place v c.forget.new.self.state c.remove-session.result (state_is c.self.view_is) c.in_ok-place.ensures.place c.remove-session.ensures.value in
+    let noted : c.logout.result ≡ option_and_then logout_of (session c.args.c c.args.self.now.state) = c.logout.ensures ∙ sym (ap (option_and_then logout_of) (ap (session c.args.c) (sym c.forget.ensures.state) ∙ found)) in
+    c.add.ensures ∙ one_noted [] c.logout.result c.self.inside.notes (ap (λ (r : RunningServer). r.notes) c.self.view_is ∙ c.forget.ensures.notes) ∙ ap (λ (o : Option Note). take NOTE_LIMIT (cons_option o [])) noted

@@ -14,38 +14,38 @@ pub returns-in_err-ups_of-clause-served : goal.returns-in_err-ups_of-clause-serv
 returns-in_err-ups_of-clause-served c =
     let p = err_from_is_err_and c.from_residual.result c.from_residual.ensures.1 in
     let found = c.in_err-ups_of.ensures.ups in
-    rw (p.1, p.2, found.0) (served_from _ _ _ _ _ c.forget_cost.ensures.state c.ups_of.ensures.lawful (up_absent c.forget_cost.new.self.state c.args.u found.1))
+    rw (p.1, p.2, found.0) (served_from _ _ _ _ _ c.forget.ensures.state c.ups_of.ensures.lawful (up_absent c.forget.new.self.state c.args.u found.1))
 
 pub returns-then-is_connected-clause-served : goal.returns-then-is_connected-clause-served
 returns-then-is_connected-clause-served c =
-    let there : IsThere c.forget_cost.new.self.state c.args.u true = record { ups = _; there = c.in_ok-ups_of.ensures.ups; is = sym c.is_connected.ensures ∙ c.if-is_connected.true } in
-    served_from _ _ _ _ _ c.forget_cost.ensures.state c.ups_of.ensures.lawful (up_again c.forget_cost.new.self.state c.args.u there)
+    let there : IsThere c.forget.new.self.state c.args.u true = record { ups = _; there = c.in_ok-ups_of.ensures.ups; is = sym c.is_connected.ensures ∙ c.if-is_connected.true } in
+    served_from _ _ _ _ _ c.forget.ensures.state c.ups_of.ensures.lawful (up_again c.forget.new.self.state c.args.u there)
 
 pub with_ups-requires-clause-there : goal.with_ups-requires-clause-there
 with_ups-requires-clause-there c =
-    let there : IsThere c.forget_cost.new.self.state c.args.u false = record { ups = _; there = c.in_ok-ups_of.ensures.ups; is = sym c.is_connected.ensures ∙ c.if-is_connected.false } in
-    there_within c.forget_cost.new.self.state c.args.u false there
+    let there : IsThere c.forget.new.self.state c.args.u false = record { ups = _; there = c.in_ok-ups_of.ensures.ups; is = sym c.is_connected.ensures ∙ c.if-is_connected.false } in
+    there_within c.forget.new.self.state c.args.u false there
 
 pub with_ups-requires-clause-sound : goal.with_ups-requires-clause-sound
 with_ups-requires-clause-sound c = λ x y r there called sound. (
-    let s = c.forget_cost.new.self.state in
+    let s = c.forget.new.self.state in
     let moment : c.self.inside.moment ≡ s.moment = ap (λ (z : ServerState). z.moment) (state_is c.self.view_is) in
     let is : y ≡ after_connecting c.self.inside.moment x = of_call (λ x y. y ≡ after_connecting c.self.inside.moment x) called (search rules) in
     subst (IsSoundUps s.moment) (sym (is ∙ ap (λ m. after_connecting m x) moment)) (sound_connecting c.lawful_lines_keep_trees_sound.ensures.empty c.each_line_keeps_the_tree_sound.ensures s.moment x))
 
 pub returns-clause-served : goal.returns-clause-served
 returns-clause-served c =
-    let s = c.forget_cost.new.self.state in
+    let s = c.forget.new.self.state in
     let there : IsThere s c.args.u false = record { ups = _; there = c.in_ok-ups_of.ensures.ups; is = sym c.is_connected.ensures ∙ c.if-is_connected.false } in
     let moment : c.self.inside.moment ≡ s.moment = ap (λ (z : ServerState). z.moment) (state_is c.self.view_is) in
-    served_from _ _ _ _ _ c.forget_cost.ensures.state c.ups_of.ensures.lawful
+    served_from _ _ _ _ _ c.forget.ensures.state c.ups_of.ensures.lawful
     (up_done s c.note_changes.new.self.state c.args.u there (c.note_changes.ensures.state ∙ changed_by c.with_ups.ensures.changes (after_connecting c.self.inside.moment) (search rules) ∙ ap (λ m. with_ups_changed (after_connecting m) c.args.u s) moment))
 
 pub returns-in_err-ups_of-clause-notes : goal.returns-in_err-ups_of-clause-notes
-returns-in_err-ups_of-clause-notes c = nothing_changed c.args.u c.args.self.now.state c.forget_cost.new.self.state c.forget_cost.new.self.notes c.forget_cost.ensures.state c.forget_cost.ensures.notes
+returns-in_err-ups_of-clause-notes c = nothing_changed c.args.u c.args.self.now.state c.forget.new.self.state c.forget.new.self.notes c.forget.ensures.state c.forget.ensures.notes
 
 pub returns-then-is_connected-clause-notes : goal.returns-then-is_connected-clause-notes
-returns-then-is_connected-clause-notes c = nothing_changed c.args.u c.args.self.now.state c.forget_cost.new.self.state c.forget_cost.new.self.notes c.forget_cost.ensures.state c.forget_cost.ensures.notes
+returns-then-is_connected-clause-notes c = nothing_changed c.args.u c.args.self.now.state c.forget.new.self.state c.forget.new.self.notes c.forget.ensures.state c.forget.ensures.notes
 
 pub returns-clause-notes : goal.returns-clause-notes
-returns-clause-notes c = ups_noted c.args.u c.args.self.now.state c.forget_cost.new.self.state c.with_ups.new.self.state c.note_changes.new.self.state c.condition-was.result _ _ c.forget_cost.ensures.state c.condition-was.ensures c.note_changes.ensures.state (c.with_ups.ensures.notes ∙ c.forget_cost.ensures.notes) c.note_changes.ensures.notes
+returns-clause-notes c = ups_noted c.args.u c.args.self.now.state c.forget.new.self.state c.with_ups.new.self.state c.note_changes.new.self.state c.condition-was.result _ _ c.forget.ensures.state c.condition-was.ensures c.note_changes.ensures.state (c.with_ups.ensures.notes ∙ c.forget.ensures.notes) c.note_changes.ensures.notes

@@ -28,11 +28,11 @@ returns-in_err-place c =
     let p = err_from_is_err_and c.from_residual.result c.from_residual.ensures.1 in
     let found = c.in_err-place.ensures.place in
     record {
-      served = subst (λ (r : Result ℕ Fault). Serves c.args.self.now.state (Feed c.args.c c.args.piece.now) (outcome_of_feed r) c.forget_cost.new.self.state) (sym (p.1 ∙ ap Err (p.2 ∙ found.0)))
-          (served_from _ _ _ _ _ c.forget_cost.ensures.state c.place_of.ensures.lawful (feed_absent _ _ _ found.1));
-      cost = c.forget_cost.ensures.none ∙ refused_feed_costs _ _ _ _ c.forget_cost.ensures.state;
-      notes = subst (λ (r : Result ℕ Fault). IsNoted c.args.self.now.state (Feed c.args.c c.args.piece.now) (outcome_of_feed r) c.forget_cost.new.self) (sym (p.1 ∙ ap Err (p.2 ∙ found.0)))
-          (fed_absent _ _ _ _ _ c.forget_cost.ensures.state found.1 c.forget_cost.ensures.notes);
+      served = subst (λ (r : Result ℕ Fault). Serves c.args.self.now.state (Feed c.args.c c.args.piece.now) (outcome_of_feed r) c.forget.new.self.state) (sym (p.1 ∙ ap Err (p.2 ∙ found.0)))
+          (served_from _ _ _ _ _ c.forget.ensures.state c.place_of.ensures.lawful (feed_absent _ _ _ found.1));
+      cost = c.forget.ensures.none ∙ refused_feed_costs _ _ _ _ c.forget.ensures.state;
+      notes = subst (λ (r : Result ℕ Fault). IsNoted c.args.self.now.state (Feed c.args.c c.args.piece.now) (outcome_of_feed r) c.forget.new.self) (sym (p.1 ∙ ap Err (p.2 ∙ found.0)))
+          (fed_absent _ _ _ _ _ c.forget.ensures.state found.1 c.forget.ensures.notes);
     }
 
 pub invariant_of-self : goal.invariant_of-self
@@ -46,10 +46,10 @@ invariant_of-self c =
 pub serve-requires : goal.serve-requires
 serve-requires c =
     let here = stands _ _ _ _ _ (state_is c.self.view_is) c.in_ok-place.ensures.place c.index_mut-session.ensures.value in
-    let none : c.self.inside.scratch.renders ≡ 0 = ap (λ (r : RunningServer). r.cost.rendered) c.self.view_is ∙ ap (λ (k : Cost). k.rendered) c.forget_cost.ensures.none in
+    let none : c.self.inside.scratch.renders ≡ 0 = ap (λ (r : RunningServer). r.cost.rendered) c.self.view_is ∙ ap (λ (k : Cost). k.rendered) c.forget.ensures.none in
     let before : IsCounted c.offered-kept.result c.index_mut-session.result.now.owed c.self.inside.scratch.renders = subst (λ (k : ℕ). IsCounted k c.index_mut-session.result.now.owed c.self.inside.scratch.renders) (sym c.offered-kept.ensures) (what_is_placed_is_counted.none _ _ none) in
     record {
-      unnoted = ap (λ (r : RunningServer). r.notes) c.self.view_is ∙ c.forget_cost.ensures.notes;
+      unnoted = ap (λ (r : RunningServer). r.notes) c.self.view_is ∙ c.forget.ensures.notes;
       at = at_set _ _ _ _ here.at (c.join-count.ensures.id ∙ find_id _ _ _ here.found);
       short = of_set (λ o. length (held_of o) ≤ HELD_LIMIT) (the_view c.self.inside).state _ _ _ _ here.at here.found c.join-count.ensures.id c.join-count.ensures.short;
       counted = of_set (λ o. IsCounted c.offered-kept.result (owed_of o) c.self.inside.scratch.renders) (the_view c.self.inside).state _ _ _ _ here.at here.found c.join-count.ensures.id
@@ -59,29 +59,29 @@ serve-requires c =
 pub returns : goal.returns
 returns c =
     let here = stands _ _ _ _ _ (state_is c.self.view_is) c.in_ok-place.ensures.place c.index_mut-session.ensures.value in
-    let found : session c.args.c c.forget_cost.new.self.state ≡ Some c.index_mut-session.result.now = ap (session c.args.c) (sym (state_is c.self.view_is)) ∙ here.found in
+    let found : session c.args.c c.forget.new.self.state ≡ Some c.index_mut-session.result.now = ap (session c.args.c) (sym (state_is c.self.view_is)) ∙ here.found in
     let fed = with_input_is _ _ _ _ _ _ here.at here.found c.join-count.ensures.joins ∙ ap (λ (z : ServerState). with_input z c.args.c c.args.piece.now) (state_is c.self.view_is) in
     let count = ap Fed c.join-count.ensures.count ∙ sym (ap (λ (o : Option SessionState). fed_by o c.args.piece.now false) found) in
-    let kept : c.offered-kept.result ≡ length (offered (session c.args.c c.forget_cost.new.self.state)) = c.offered-kept.ensures ∙ sym (ap (λ (o : Option SessionState). length (offered o)) found) in
+    let kept : c.offered-kept.result ≡ length (offered (session c.args.c c.forget.new.self.state)) = c.offered-kept.ensures ∙ sym (ap (λ (o : Option SessionState). length (offered o)) found) in
     record {
-      served = served_from _ _ _ _ _ c.forget_cost.ensures.state c.place_of.ensures.lawful
+      served = served_from _ _ _ _ _ c.forget.ensures.state c.place_of.ensures.lawful
           (feed_gives _ _ _ _ _ _ c.join-count.result (Ok tt) found fed count c.in_ok-serve.ensures.gives);
-      cost = c.in_ok-serve.ensures.cost ∙ feed_costs _ _ c.serve.new.self.state _ _ _ c.forget_cost.ensures.state kept c.in_ok-serve.ensures.within;
-      notes = fed_noted _ _ _ _ _ (outcome_of_feed (Ok c.join-count.result)) c.serve.new.self c.forget_cost.ensures.state fed c.in_ok-serve.ensures.notes;
+      cost = c.in_ok-serve.ensures.cost ∙ feed_costs _ _ c.serve.new.self.state _ _ _ c.forget.ensures.state kept c.in_ok-serve.ensures.within;
+      notes = fed_noted _ _ _ _ _ (outcome_of_feed (Ok c.join-count.result)) c.serve.new.self c.forget.ensures.state fed c.in_ok-serve.ensures.notes;
     }
 
 pub returns-in_err-serve : goal.returns-in_err-serve
 returns-in_err-serve c =
     let here = stands _ _ _ _ _ (state_is c.self.view_is) c.in_ok-place.ensures.place c.index_mut-session.ensures.value in
-    let found : session c.args.c c.forget_cost.new.self.state ≡ Some c.index_mut-session.result.now = ap (session c.args.c) (sym (state_is c.self.view_is)) ∙ here.found in
+    let found : session c.args.c c.forget.new.self.state ≡ Some c.index_mut-session.result.now = ap (session c.args.c) (sym (state_is c.self.view_is)) ∙ here.found in
     let fed = with_input_is _ _ _ _ _ _ here.at here.found c.join-count.ensures.joins ∙ ap (λ (z : ServerState). with_input z c.args.c c.args.piece.now) (state_is c.self.view_is) in
     let count = ap Fed c.join-count.ensures.count ∙ sym (ap (λ (o : Option SessionState). fed_by o c.args.piece.now false) found) in
-    let kept : c.offered-kept.result ≡ length (offered (session c.args.c c.forget_cost.new.self.state)) = c.offered-kept.ensures ∙ sym (ap (λ (o : Option SessionState). length (offered o)) found) in
+    let kept : c.offered-kept.result ≡ length (offered (session c.args.c c.forget.new.self.state)) = c.offered-kept.ensures ∙ sym (ap (λ (o : Option SessionState). length (offered o)) found) in
     let p = err_from_is_err_and c.from_residual-in_err-serve.result c.from_residual-in_err-serve.ensures.1 in
     record {
       served = subst (λ (r : Result ℕ Fault). Serves c.args.self.now.state (Feed c.args.c c.args.piece.now) (outcome_of_feed r) c.serve.new.self.state) (sym (p.1 ∙ ap Err p.2))
-          (served_from _ _ _ _ _ c.forget_cost.ensures.state c.place_of.ensures.lawful (feed_gives _ _ _ _ _ _ c.join-count.result (Err c.in_err-serve.field-0.0) found fed count c.in_err-serve.ensures.gives));
-      cost = c.in_err-serve.ensures.cost ∙ feed_costs _ _ c.serve.new.self.state _ _ _ c.forget_cost.ensures.state kept c.in_err-serve.ensures.within;
+          (served_from _ _ _ _ _ c.forget.ensures.state c.place_of.ensures.lawful (feed_gives _ _ _ _ _ _ c.join-count.result (Err c.in_err-serve.field-0.0) found fed count c.in_err-serve.ensures.gives));
+      cost = c.in_err-serve.ensures.cost ∙ feed_costs _ _ c.serve.new.self.state _ _ _ c.forget.ensures.state kept c.in_err-serve.ensures.within;
       notes = subst (λ (r : Result ℕ Fault). IsNoted c.args.self.now.state (Feed c.args.c c.args.piece.now) (outcome_of_feed r) c.serve.new.self) (sym (p.1 ∙ ap Err p.2))
-          (fed_noted _ _ _ _ _ (outcome_of_feed (Err c.in_err-serve.field-0.0)) c.serve.new.self c.forget_cost.ensures.state fed c.in_err-serve.ensures.notes);
+          (fed_noted _ _ _ _ _ (outcome_of_feed (Err c.in_err-serve.field-0.0)) c.serve.new.self c.forget.ensures.state fed c.in_err-serve.ensures.notes);
     }

@@ -33,6 +33,6 @@ returns-clause-served c =
       | in-Err-Known w ↦ ap done w.result-is ∙ ap id_outcome (sym (w.in-Err-Known.ensures.answer ∙ ap (λ (f : IdFault). Some f) w.in-Err-Known.field-0-is))
       | in-Err-TooMany w ↦ ap done w.result-is ∙ ap id_outcome (sym (w.in-Err-TooMany.ensures.answer ∙ ap (λ (f : IdFault). Some f) w.in-Err-TooMany.field-0-is))
     ] in
-    served_from _ _ _ _ _ c.forget_cost.ensures.state (lawful c.forget_cost.new.self.state (subst (λ (z : ServerState). IdsRise 1 z.next_id z.sessions) (state_is c.self.view_is) c.self.invariant.sound.ids))
-    (step_from v c.forget_cost.new.self.state (handed_in c.args.id v) t (Id c.args.id) (done c.match-take_in.result) (state_is c.self.view_is) (ap (λ (z : TrackingState). with_tracking z v) (sym c.take_in.ensures.after))
+    served_from _ _ _ _ _ c.forget.ensures.state (lawful c.forget.new.self.state (subst (λ (z : ServerState). IdsRise 1 z.next_id z.sessions) (state_is c.self.view_is) c.self.invariant.sound.ids))
+    (step_from v c.forget.new.self.state (handed_in c.args.id v) t (Id c.args.id) (done c.match-take_in.result) (state_is c.self.view_is) (ap (λ (z : TrackingState). with_tracking z v) (sym c.take_in.ensures.after))
     (id_handed v c.args.id o refl (done c.match-take_in.result) told))

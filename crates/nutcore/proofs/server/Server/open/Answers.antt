@@ -28,11 +28,11 @@ returns-then-len-ge-SESSION_LIMIT-clause-served c =
       | then-len-ge-SESSION_LIMIT-via-then-len-ge-SESSION_LIMIT w ↦ and_left _ _ (le-ltb _ _ (let le : 64 ≤ length v.sessions = omega arith in le))
       | then-len-ge-SESSION_LIMIT-via-else-len-ge-SESSION_LIMIT+then-self w ↦ and_right _ _ (le-ltb _ _ (let le : 18446744073709551616 ≤ v.next_id = omega arith in le))
     ] in
-    opening_served _ _ _ _ _ _ _ (state_is c.self.view_is) c.forget_cost.ensures.state (state_is c.self.view_is) c.self.invariant.sound.ids (open_full _ _ full)
+    opening_served _ _ _ _ _ _ _ (state_is c.self.view_is) c.forget.ensures.state (state_is c.self.view_is) c.self.invariant.sound.ids (open_full _ _ full)
 
 pub returns-in_default-clause-served : goal.returns-in_default-clause-served
 returns-in_default-clause-served c =
-    opening_served _ _ _ _ _ _ _ (state_is c.self.view_is) c.forget_cost.ensures.state (state_is c.self.view_is) c.self.invariant.sound.ids (open_refused _ _ (may_be_opened (the_view c.self.inside).state (omega arith) (omega arith)))
+    opening_served _ _ _ _ _ _ _ (state_is c.self.view_is) c.forget.ensures.state (state_is c.self.view_is) c.self.invariant.sound.ids (open_refused _ _ (may_be_opened (the_view c.self.inside).state (omega arith) (omega arith)))
 
 pub invariant_of-self : goal.invariant_of-self
 invariant_of-self c =
@@ -47,4 +47,4 @@ pub returns-clause-served : goal.returns-clause-served
 returns-clause-served c =
     let more : c.push.new.self.items ≡ c.self.inside.sessions.items ++ c.in-Ok.session ∷ [] = rw c.unwrap.ensures at c.push.ensures.items in
     let may = may_be_opened (the_view c.self.inside).state (omega arith) (omega arith) in
-    opening_served _ _ _ _ _ _ _ (state_is c.self.view_is) c.forget_cost.ensures.state refl c.self.invariant.sound.ids (open_done _ _ _ may (more ∙ ap (λ (x : SessionState). c.self.inside.sessions.items ++ x ∷ []) c.in-Ok.ensures))
+    opening_served _ _ _ _ _ _ _ (state_is c.self.view_is) c.forget.ensures.state refl c.self.invariant.sound.ids (open_done _ _ _ may (more ∙ ap (λ (x : SessionState). c.self.inside.sessions.items ++ x ∷ []) c.in-Ok.ensures))

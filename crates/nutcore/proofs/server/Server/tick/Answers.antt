@@ -18,8 +18,8 @@ returns-clause-served c =
     let xs : List UpsState = c.ping_upses.new.upses.items in
     let moment : ℕ = c.max-moment.result in
     let t : ServerState = record v { moment = moment; upses = xs } in
-    served_from _ _ _ _ _ c.forget_cost.ensures.state (lawful c.forget_cost.new.self.state (subst (λ (z : ServerState). IdsRise 1 z.next_id z.sessions) (state_is c.self.view_is) c.self.invariant.sound.ids))
-    (step_from v c.forget_cost.new.self.state t t (Tick c.args.seconds) Done (state_is c.self.view_is) refl (tick_done v t c.args.seconds (ticked_is v c.args.seconds moment _ xs c.max-moment.ensures c.seconds-max_age.ensures c.ping_upses.ensures.pinged)))
+    served_from _ _ _ _ _ c.forget.ensures.state (lawful c.forget.new.self.state (subst (λ (z : ServerState). IdsRise 1 z.next_id z.sessions) (state_is c.self.view_is) c.self.invariant.sound.ids))
+    (step_from v c.forget.new.self.state t t (Tick c.args.seconds) Done (state_is c.self.view_is) refl (tick_done v t c.args.seconds (ticked_is v c.args.seconds moment _ xs c.max-moment.ensures c.seconds-max_age.ensures c.ping_upses.ensures.pinged)))
 
 pub invariant_of-self : goal.invariant_of-self
 invariant_of-self c =
