@@ -22,11 +22,12 @@ told=$({
         sed -e 's/{path}/PATH/; s/{line}/LINE/; s/{cause}/N/'
     sed -nE 's/^ *Danger::[A-Za-z]+ => "(.*)",$/warning: PATH:LINE: \1/p' crates/upsd/src/warnings.rt
     sed -nE 's/.*"upsd: (warning: )\{path\}(: [^{]*)"\);$/\1PATH\2/p' crates/upsd/src/warnings.rt
-    sed -nE 's/^ *News::[A-Za-z]+ => "(.*)",$/su: \1/p' crates/upsd/src/journal.rt
-    sed -nE 's/^ *Visit::[A-Za-z]+ => "(.*)",$/su: mon@192.0.2.1 \1/p' crates/upsd/src/journal/logins.rt
-    sed -nE 's/.*"upsd: \{name\}(: [^{]*)\{error\}"\);$/su\1ERROR/p' crates/upsd/src/journal/connecting.rt
-    sed -nE 's/.*"upsd: \{place\}\{who\} ([a-z ]+) \{what\}(: \{word\})?"\),?$/su: mon@192.0.2.1 \1 COMMAND\2/p' \
-        crates/upsd/src/journal/deeds.rt | sed 's/{word}/WORD/'
+    entry=crates/upsd/src/journal/entry.rt
+    sed -nE 's/^ *Note::[A-Za-z]+\(_\) => f\.write_str\("(.*)"\),$/su: \1/p' $entry | sed 's/: logged out/: mon@192.0.2.1 logged out/'
+    sed -nE 's/^ *\(None, Verb::[A-Za-z]+\) => f\.write_str\("(.*)"\),$/su: mon@192.0.2.1 \1/p' $entry
+    sed -nE 's/.*write!\(f, "([a-z ]+) \{what\}(: \{word\})?"\),?$/su: mon@192.0.2.1 \1 COMMAND\2/p' $entry | sed 's/{word}/WORD/'
+    sed -nE 's/.*write!\(f, "(.* of the driver .*)\{fault\}"\)$/su: \1REASON/p' $entry | sed 's/{count}/N/'
+    sed -nE 's/.*write!\(f, "\{name\}(: [^{]*)\{error\}"\)$/su\1ERROR/p' crates/upsd/src/journal/connecting.rt
     sed -nE 's/^ *RoomNews::.*"(.*)"\),$/\1/p' crates/upsd/src/journal/room.rt | sed -e 's/{count}/N/'
 } | sort)
 alike upsd "$told" "$(messages_of upsd)"

@@ -271,7 +271,7 @@ both_told COMMOK 2 'the driver is back'
 status_is 'OB LB'
 comes 'upsmon, secondary: is shut down' '1*\[0\]' 12 cat "$folder/secondary/down"
 comes 'upsmon, primary: is shut down' '1*\[0\]' 15 cat "$folder/primary/down"
-says 'the forced shutdown was told once' '1 \[0\]' grep -c 'upsd: su: forced shutdown' "$folder/upsd.log"
+says 'the forced shutdown was told once' '1 \[0\]' grep -c 'ordered FSD: forced shutdown' "$folder/upsd.log"
 says 'the forced shutdown is shown' 'FSD OB LB \[0\]' upsc "$su" ups.status
 is 'the secondary one is shut down first' first \
     "$(awk '{ print $1 > "/dev/null"; t[FILENAME] = $1 } END { print (t[ARGV[1]] < t[ARGV[2]]) ? "first" : "not first" }' \

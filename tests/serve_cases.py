@@ -215,7 +215,7 @@ def a_forced_shutdown_is_seen_and_told_once():
         assert server.journal() == COME + refused, server.journal()
         assert good.ask(ADMIN + b"FSD su\nFSD su\n") == b"OK\nOK\nOK FSD-SET\nOK FSD-SET\n"
         assert other.ask(GET) == b'VAR su ups.status "FSD OL"\n'
-        told = COME + refused + "upsd: su: admin@127.0.0.1 ordered FSD\nupsd: su: forced shutdown\n"
+        told = COME + refused + "upsd: su: admin@127.0.0.1 ordered FSD: forced shutdown\n"
         assert server.journal() == told, server.journal()
 
 
@@ -258,24 +258,66 @@ def refused_logins_are_told_once_a_second():
 
 
 @case
-def who_logs_in_or_attaches_is_told_within_a_second_and_who_leaves():
+def a_client_that_is_refused_all_the_time_is_told_once_a_second():
     with served() as (server, _, good):
-        begun = "upsd: su: mon@127.0.0.2 logged in\nupsd: su: admin@127.0.0.3 logged in\n"
+        begin, refused = time.monotonic(), "upsd: su: mon@127.0.0.1 was refused FSD: ACCESS-DENIED\n"
+        assert good.ask(MON) == b"OK\n" * 2
+        while time.monotonic() < begin + 3:
+            assert good.ask(b"FSD su\n") == b"ERR ACCESS-DENIED\n"
+            time.sleep(0.01)
+        told = server.journal()
+        assert told == COME + refused * told.count(refused), told
+        assert 3 <= told.count(refused) <= 4, told
+
+
+@case
+def who_logs_in_or_attaches_is_told_and_who_leaves():
+    with served() as (server, _, good):
+        told = COME + "upsd: su: mon@127.0.0.2 logged in\n"
         first, second = server.client("127.0.0.2"), server.client("127.0.0.3")
         assert first.ask(MON + b"LOGIN su\n") == b"OK\n" * 3
-        assert comes(lambda: server.journal() == COME + begun.splitlines(True)[0], 1.5), server.journal()
+        assert server.journal() == told, server.journal()
         assert second.ask(ADMIN + b"ATTACH su\n") == b"OK\n" * 3
-        assert comes(lambda: server.journal() == COME + begun, 1.5), server.journal()
+        told += "upsd: su: admin@127.0.0.3 logged in\n"
+        assert server.journal() == told, server.journal()
         assert printed(UPSC, "--attached", f"su@127.0.0.1:{server.port}") == b"2\n"
         # One says so, one is gone; who isn't logged in isn't told.
         assert good.ask(MON) == b"OK\n" * 2
         assert first.ask(b"DETACH\n") == b"OK Goodbye\n"
+        told += "upsd: su: mon@127.0.0.2 logged out\n"
+        assert server.journal() == told, server.journal()
         second.reset()
-        told = COME + begun + "upsd: su: mon@127.0.0.2 logged out\nupsd: su: admin@127.0.0.3 logged out\n"
-        assert comes(lambda: len(server.journal()) == len(told), 1.5), server.journal()
-        assert sorted(server.journal().splitlines()) == sorted(told.splitlines())
+        told += "upsd: su: admin@127.0.0.3 logged out\n"
+        assert comes(lambda: server.journal() == told), server.journal()
+
+
+@case
+def a_login_of_one_piece_is_told_and_its_end():
+    """By LOGOUT, by a line that is too long, and by the end of the connection."""
+    with served() as (server, _, good):
+        for end in (b"LOGOUT\n", b"x" * 3000, b""):
+            client = server.client()
+            client.send(MON + b"LOGIN su\n" + end)
+            if end:
+                client.up_to_end()
+            client.close()
+        assert good.ask(GET) == STATUS
+        told = COME + "upsd: su: mon@127.0.0.1 logged in\nupsd: su: mon@127.0.0.1 logged out\n" * 3
+        assert comes(lambda: server.journal() == told), server.journal()
+
+
+@case
+def refused_lines_of_a_driver_are_told_with_their_number():
+    with served() as (server, driver, good):
+        driver.send(b'HELLO s3cret\nUNKNOWN x\nNOPE\nADDRANGE battery.charge 1 s3cret\n')
+        told = COME + "upsd: su: 4 lines of the driver were refused, the last one: bad number\n"
+        assert comes(lambda: server.journal() == told), server.journal()
+        driver.send(b'TRACKING 12345678-1234-1234-1234-123456789abc 0\n')
+        told += "upsd: su: a line of the driver was refused: no such order\n"
+        assert comes(lambda: server.journal() == told), server.journal()
         time.sleep(1.2)
-        assert len(server.journal()) == len(told), server.journal()
+        assert server.journal() == told, server.journal()
+        assert good.ask(GET) == STATUS
 
 
 @case

@@ -8,6 +8,7 @@ use Rattle.nutwords.specs.Found.{FindsLine, Finds}
 use Rattle.nutwords.specs.declared.cut.Found.{Found}
 use Rattle.nutwords.specs.declared.limits.TheConstants.{LINE_ROOM}
 use Rattle.nutdriver.specs.declared.report.Report.{Report}
+use Rattle.nutdriver.specs.declared.fault.DriverFault.{DriverFault}
 use Rattle.nutdriver.specs.declared.report.LineOutcome.{LineOutcome}
 use Rattle.nutdriver.specs.Report.{after_line, line_changes, OrderEnd, end_in, end_told}
 use Rattle.nutcore.specs.Reports.{with_end, is_unawaited}
@@ -15,7 +16,7 @@ use Rattle.nutcore.proofs.Common.{cond-true, cond-false, le-leb, lt-leb, option_
 use Rattle.nutcore.specs.declared.event.Fault.TheVariants.{LineTooLong, Memory}
 use Rattle.nutwords.specs.Lines.{Tail, Unfinished, Overlong, IsCutInto}
 use Rattle.nutwords.specs.WholeLines.{joined, whole_lines, unfinished_after, is_too_long, tail_after}
-use Rattle.nutcore.specs.Ups.{UpsState, after_loss, is_refused, with_faulty_line, after_text, with_unfinished, wants_memory_for}
+use Rattle.nutcore.specs.Ups.{UpsState, after_loss, fault_of, is_refused, with_faulty_line, after_text, with_unfinished, wants_memory_for}
 use Rattle.nutcore.specs.Step.{after_driver_line, after_driver_lines, with_rest, after_driver_text, wants_driver_memory}
 use Rattle.nutcore.specs.Calls.{is_connected}
 use Rattle.nutcore.specs.Promises.{front_or, IsCut, ChangesUps, OfUps, DoesLine, IsTold, IsStopped, holding_nothing, ExecutesDriverLine, ReadsDriverLine}
@@ -181,10 +182,10 @@ module _ {u : UpsId} {length : Option ℕ} {piece : List ℕ} {s t : ServerState
   line = front_or length piece h.before.unfinished
 
   -- It is done, and is counted where it is refused.
-  pub executes : (mid after : ServerState) (outcome : LineOutcome) (b : Bool) → r ≡ Ok outcome → mid ≡ with_tracking (with_end u.place (end_told outcome) t.tracking) t → b ≡ is_refused (is_unawaited u.place (end_told outcome) t.tracking) outcome
-      → after ≡ cond b (with_ups_changed with_faulty_line u mid) mid → OfUps u s (λ x. ExecutesDriverLine u (front_or length piece x.unfinished) x s (Ok tt) after)
+  pub executes : (mid after : ServerState) (outcome : LineOutcome) (b : Bool) (fault : Option DriverFault) → fault ≡ fault_of outcome → r ≡ Ok outcome → mid ≡ with_tracking (with_end u.place (end_told outcome) t.tracking) t → b ≡ is_refused (is_unawaited u.place (end_told outcome) t.tracking) outcome
+      → after ≡ cond b (with_ups_changed (with_faulty_line fault) u mid) mid → OfUps u s (λ x. ExecutesDriverLine u (front_or length piece x.unfinished) x s (Ok tt) after)
   unfolding after_driver_line
-  executes mid after outcome b was told refused counted =
+  executes mid after outcome b fault why was told refused counted =
       let x : UpsState = h.before in
       let y : UpsState = h.after in
       let (is, leaves) = subst (λ (q : Result LineOutcome AllocError). DoesLine s.moment line x q y) was h.does in
@@ -193,21 +194,22 @@ module _ {u : UpsId} {length : Option ℕ} {piece : List ℕ} {s t : ServerState
       let unawaited : Bool = is_unawaited u.place (end_in line) s.tracking in
       let next : TrackingState = with_end u.place (end_in line) s.tracking in
       let z : UpsState = record (with_unfinished [] x) { report = done.0 } in
-      let w : UpsState = cond b (with_faulty_line y) y in
+      let w : UpsState = cond b (with_faulty_line fault y) y in
+      let because : fault ≡ fault_of done.1 = why ∙ ap fault_of is in
       let does : UpsState → UpsState = λ z. after_text s.moment unawaited (with_unfinished [] z) line in
       let by : b ≡ is_refused unawaited done.1 = refused ∙ ap (λ (v : ServerState). is_refused (is_unawaited u.place (end_told outcome) v.tracking) outcome) h.leaves ∙ ap (λ (o : Option OrderEnd). is_refused (is_unawaited u.place o s.tracking) outcome) read ∙ ap (is_refused unawaited) is in
-      let same : w ≡ does x = ap (λ (v : UpsState). cond b (with_faulty_line v) v) leaves ∙ ap (λ (c : Bool). cond c (with_faulty_line z) z) by in
+      let same : w ≡ does x = ap (λ (v : UpsState). cond b (with_faulty_line fault v) v) leaves ∙ ap (λ (c : Bool). cond c (with_faulty_line fault z) z) by ∙ ap (λ (f : Option DriverFault). cond (is_refused unawaited done.1) (with_faulty_line f z) z) because in
       of_ups s u x (λ v. ExecutesDriverLine u (front_or length piece v.unfinished) v s (Ok tt) after) h.there (
       counted
-      ∙ ap (λ (v : ServerState). cond b (with_ups_changed with_faulty_line u v) v)
+      ∙ ap (λ (v : ServerState). cond b (with_ups_changed (with_faulty_line fault) u v) v)
       (told ∙ ap (λ (v : ServerState). with_tracking (with_end u.place (end_told outcome) v.tracking) v) h.leaves ∙ ap (λ (o : Option OrderEnd). with_tracking (with_end u.place o s.tracking) (with_ups_changed (λ z. y) u s)) read)
-      ∙ by_refusal y next b
+      ∙ by_refusal fault y next b
       ∙ ap (with_tracking next) (server_agree s u (λ z. w) does (of_ups s u x (λ z. w ≡ does z) h.there same) ∙ sym (server_twice (with_unfinished []) (λ z. after_text s.moment unawaited z line) u s)))
     where
-      by_refusal : (y : UpsState) (next : TrackingState) (c : Bool) → let v : ServerState = with_tracking next (with_ups_changed (λ z. y) u s) in
-          cond c (with_ups_changed with_faulty_line u v) v ≡ with_tracking next (with_ups_changed (λ z. cond c (with_faulty_line y) y) u s)
-      by_refusal y next true = ap (with_tracking next) (server_twice (λ z. y) with_faulty_line u s)
-      by_refusal y next false = refl
+      by_refusal : (f : Option DriverFault) (y : UpsState) (next : TrackingState) (c : Bool) → let v : ServerState = with_tracking next (with_ups_changed (λ z. y) u s) in
+          cond c (with_ups_changed (with_faulty_line f) u v) v ≡ with_tracking next (with_ups_changed (λ z. cond c (with_faulty_line f y) y) u s)
+      by_refusal f y next true = ap (with_tracking next) (server_twice (λ z. y) (with_faulty_line f) u s)
+      by_refusal f y next false = refl
 
   -- Or memory was refused.
   pub lacks : (e : AllocError) → r ≡ Err e → OfUps u s (λ x. ExecutesDriverLine u (front_or length piece x.unfinished) x s (Err e) t)
@@ -222,10 +224,10 @@ module _ {u : UpsId} {length : Option ℕ} {piece : List ℕ} {s t : ServerState
 pub settled_stays : (u : UpsId) (s t : ServerState) (k : TrackingState) → t ≡ with_tracking k s → option_map is_connected (ups_at u.place s) ≡ Some true → option_map is_connected (ups_at u.place t) ≡ Some true
 settled_stays u s t k settled connected = ap (λ (z : ServerState). option_map is_connected (ups_at u.place z)) settled ∙ connected
 
-pub counted_stays : (u : UpsId) (s t : ServerState) → t ≡ with_ups_changed with_faulty_line u s → option_map is_connected (ups_at u.place s) ≡ Some true → option_map is_connected (ups_at u.place t) ≡ Some true
-counted_stays u s t counted connected =
+pub counted_stays : (u : UpsId) (fault : Option DriverFault) (s t : ServerState) → t ≡ with_ups_changed (with_faulty_line fault) u s → option_map is_connected (ups_at u.place s) ≡ Some true → option_map is_connected (ups_at u.place t) ≡ Some true
+counted_stays u fault s t counted connected =
     let is = is_there s u true connected in
-    connected_at t u (with_faulty_line is.ups) (ap (ups_at u.place) counted ∙ at_changed with_faulty_line u.place s.upses is.ups is.there) is.is
+    connected_at t u (with_faulty_line fault is.ups) (ap (ups_at u.place) counted ∙ at_changed (with_faulty_line fault) u.place s.upses is.ups is.there) is.is
 
 -- What a UPS does that looked for its next line.
 module _ {F R : Type 0} {g : Once F (MutBor UpsState × Unit {0}) (R × (MutBor UpsState × Unit {0}))} {f : F} {u : UpsId} {s mid : ServerState} {r : R} (piece : List ℕ) (found : Found) (d : ChangesUps g f u s r mid) (looked : IsCut piece d.called.shown.now found d.called.left.now) where

@@ -21,7 +21,7 @@ mod Adding
 mod ApartFromBytes
 mod Events
 mod Kept
-mod Deeds
+mod Notes
 mod Runs
 mod DriverSteps
 mod Rows

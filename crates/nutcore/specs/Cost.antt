@@ -2,7 +2,7 @@
 use Rattle.std.specs.Prelude.{◌≡◌, ℕ, ◌+◌, ◌-◌, List, [], ◌∷◌, length, drop}
 use Rattle.nutlisting.specs.Counts.{lines}
 use Rattle.nutcore.specs.declared.cost.Cost.{Cost}
-use Rattle.nutcore.specs.declared.deed.Deed.{Deed}
+use Rattle.nutcore.specs.declared.note.Note.{Note}
 use Rattle.nutcore.specs.declared.event.Event.{Event}
 use Rattle.nutcore.specs.declared.event.Outcome.{Outcome}
 use Rattle.nutcore.specs.declared.event.Event.TheVariants.{Feed, Took}
@@ -14,14 +14,14 @@ use Rattle.nutcore.specs.History.{taken_in_event}
 pub record RunningServer : Type 0 where
   pub state : ServerState
   pub cost : Cost
-  pub deeds : List Deed
+  pub notes : List Note
 
 abbrev pub no_cost : Cost
 no_cost = record { rendered = 0; placed = 0 }
 
 -- A server before any event.
 abbrev pub begun : ServerState → RunningServer
-begun s = record { state = s; cost = no_cost; deeds = [] }
+begun s = record { state = s; cost = no_cost; notes = [] }
 
 -- What is offered to a client before and after, and how many bytes it took: those that are offered
 -- after, and those taken, less those offered before, were placed. They are the last of those

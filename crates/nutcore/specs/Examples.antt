@@ -14,6 +14,7 @@ use Rattle.nutusers.specs.Descriptions.{Descriptions, no_descriptions}
 use Rattle.nutusers.specs.Users.{User}
 use Rattle.nutusers.specs.declared.rights.Grant.TheVariants.{UpsmonSecondary}
 use Rattle.nutwords.specs.WholeLines.{whole_lines, unfinished_after, is_too_long}
+use Rattle.nutdriver.specs.declared.fault.DriverFault.TheVariants.{Unknown}
 use Rattle.nutcore.specs.Ups.{new_ups as no_driver}
 use Rattle.nutcore.specs.Step.{after_by, outcome_of, wants_driver_memory}
 use Rattle.nutcore.specs.History.{owed, held, taken_in_event, is_over}
@@ -110,10 +111,10 @@ pub record ToldInPieces : Type 0 where
       ≡ Refused LineTooLong
   pub lost : ups_at 0
       (after_events with_two_variables (from_driver (codes "HELLO\n" ++ letters LINE_ROOM) ∷ []))
-      ≡ Some (record no_driver { faulty = 1 })
+      ≡ Some (record no_driver { faulty = 1; fault = Some Unknown })
   pub out_of_memory : ups_at 0
       (after_by with_two_variables (from_driver (codes "HELLO\nSETINFO a 1\nHELLO\n")) (Some 1))
-      ≡ Some (record no_driver { faulty = 1 })
+      ≡ Some (record no_driver { faulty = 1; fault = Some Unknown })
   pub may_lack : wants_driver_memory (id_at 0)
       (codes "HELLO\nSETINFO a 1\nHELLO") 1 with_two_variables ≡ true
   pub changes_nothing : wants_driver_memory (id_at 0)

@@ -8,7 +8,7 @@ pub mod Pump
 pub mod Step
 pub mod Run
 pub mod History
-pub mod Deeds
+pub mod Notes
 pub mod Cost
 pub mod Headline
 pub mod Isolation

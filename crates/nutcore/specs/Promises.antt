@@ -39,9 +39,10 @@ use Rattle.nutcore.specs.Server.{ServerState, ups_at, with_ups_changed}
 use Rattle.nutcore.specs.Reply.{seen, asker, text_to, change_by, seen_client}
 use Rattle.nutcore.specs.declared.cost.Cost.{Cost}
 use Rattle.nutcore.specs.History.{owed, of_line}
-use Rattle.nutcore.specs.declared.deed.Deed.{Deed}
-use Rattle.nutcore.specs.declared.deed.TheConstants.{DEED_LIMIT}
-use Rattle.nutcore.specs.Deeds.{is_told, deed_read, deed_of}
+use Rattle.nutcore.specs.declared.note.Note.{Note}
+use Rattle.nutcore.specs.declared.note.TheConstants.{NOTE_LIMIT}
+use Rattle.nutcore.specs.declared.note.Condition.{Condition}
+use Rattle.nutcore.specs.Notes.{is_told, note_read, note_of, refusal_note, driver_note, data_note}
 use Rattle.nutcore.specs.Cost.{RunningServer}
 use Rattle.nutcore.specs.Pump.{pumped, after_all_lines, after_lines, is_overlong, wants_memory}
 use Rattle.nutcore.specs.Pump.{shares_version_read, next_line_for}
@@ -277,20 +278,28 @@ is_told_by upses (One text change) = is_told upses text.now change
 is_told_by upses (Many listing) = false
 is_told_by upses (Clients name u) = false
 
--- the deed of a line that was read and answered so, and is told
-abbrev pub deed_in_reply : ℕ → Result (Option Command) ErrWord → Reply → Option Deed
-deed_in_reply c read (One text change) = deed_read c read text.now
-deed_in_reply c read (Many listing) = None
-deed_in_reply c read (Clients name u) = None
+-- what is noted of a line of the session that was read and answered so
+abbrev pub note_in_reply : SessionState → Result (Option Command) ErrWord → Reply → Option Note
+note_in_reply x read (One text change) = note_read x read text.now
+note_in_reply x read (Many listing) = None
+note_in_reply x read (Clients name u) = None
 
--- the deeds, and one more, as many as are noted
-abbrev pub with_deed : Option Deed → List Deed → List Deed
-with_deed None deeds = deeds
-with_deed (Some deed) deeds = take DEED_LIMIT (deeds ++ deed ∷ [])
+-- the notes, and one more, if there is one and room for it
+abbrev pub with_note : Option Note → List Note → List Note
+with_note None notes = notes
+with_note (Some note) notes = take NOTE_LIMIT (notes ++ note ∷ [])
 
--- what is told of the client's next line, if it may be executed
-abbrev pub told_next : ServerState → ℕ → Option (List ℕ) → Option Deed
-told_next s c next = option_and_then (λ line. deed_of (of_line s c line)) next
+-- what is noted of the client's next line, if it may be executed
+abbrev pub told_next : ServerState → ℕ → Option (List ℕ) → Option Note
+told_next s c next = option_and_then (λ line. note_of (of_line s c line)) next
 
-abbrev pub with_next : ServerState → ℕ → List Deed → List Deed
-with_next s c deeds = with_deed (told_next s c (next_line_for s c)) deeds
+abbrev pub with_next : ServerState → ℕ → List Note → List Note
+with_next s c notes = with_note (told_next s c (next_line_for s c)) notes
+
+-- the notes, and those of a UPS that stood so and stands so
+abbrev pub with_changes : UpsId → Option Condition → Option Condition → List Note → List Note
+with_changes u (Some was) (Some is) notes =
+    with_note (data_note u was.is_usable is.is_usable is.is_connected)
+    (with_note (driver_note u was.is_connected is.is_connected)
+    (with_note (refusal_note u was is) notes))
+with_changes u _ _ notes = notes

@@ -40,7 +40,8 @@ pub record IsSoundUps (moment : ℕ) (x : UpsState) : Type 0 where
   pub pinged : x.pinged ≤ moment
   pub owed : length x.owed ≤ DRIVER_OWED_LIMIT
   pub unfinished : length x.unfinished ≤ LINE_LIMIT
-  pub lost : x.report.connected ≡ false → x ≡ record new_ups { fsd = x.fsd; faulty = x.faulty }
+  pub lost : x.report.connected ≡ false → x
+      ≡ record new_ups { fsd = x.fsd; faulty = x.faulty; fault = x.fault }
 
 -- The seconds are a greatest age of what a driver reported: from 3 to 86,400.
 abbrev pub IsMaxAge : ℕ → Type 0

@@ -1,7 +1,6 @@
 -- What the journal and the loop may ask of the server.
 use Rattle.std.specs.Prelude.{ℕ, Bool, true, false, not, List, Option, ◌==◌, length}
 use Rattle.std.specs.Option.{option_copied, option_map_or}
-use Rattle.nutusers.specs.declared.ups_list.UpsId.{UpsId}
 use Rattle.nutanswer.specs.View.{Readiness, not_connected, stale, usable, readiness}
 use Rattle.nutcore.specs.declared.standing.Standing.{Standing}
 use Rattle.nutcore.specs.declared.visitor.Visitor.{Visitor}
@@ -31,24 +30,14 @@ standing_of c s =
       is_finished = option_map_or is_finished (session c s) false;
     }
 
--- Who has an open session: its id, the client's address, the user name that it gave, and the UPS
--- that it is logged in to.
+-- Who has an open session: the client's address, and the user name that it gave.
 pub record VisitorSeen : Type 0 where
-  pub id : ℕ
   pub address : List ℕ
   pub username : Option (List ℕ)
-  pub login : Option UpsId
 
 abbrev pub visitor_of : SessionState → VisitorSeen
-visitor_of x =
-    record { id = x.id; address = x.address; username = x.username; login = x.login }
+visitor_of x = record { address = x.address; username = x.username }
 
 -- Who is handed out.
 abbrev pub visitor_seen : Visitor → VisitorSeen
-visitor_seen v =
-    record {
-      id = v.id;
-      address = v.address.now;
-      username = option_copied v.username;
-      login = v.login;
-    }
+visitor_seen v = record { address = v.address.now; username = option_copied v.username }

@@ -3,6 +3,7 @@ use Rattle.std.specs.Prelude.{ℕ, ◌+◌, ◌-◌, ◌^◌, Bool, true, false,
 use Rattle.std.specs.Prelude.{Some, None, codes, length, min, nat_le, ◌&&◌, ◌/◌}
 use Rattle.std.specs.Prelude.{if◌then◌else◌}
 use Rattle.nutcore.specs.declared.TheConstants.{DRIVER_OWED_LIMIT}
+use Rattle.nutdriver.specs.declared.fault.DriverFault.{DriverFault}
 use Rattle.nutdriver.specs.declared.report.Report.{Report}
 use Rattle.nutdriver.specs.declared.report.LineOutcome.{LineOutcome}
 use Rattle.nutdriver.specs.declared.report.LineOutcome.TheVariants.{Accepted, Tracked, Refused}
@@ -13,7 +14,8 @@ use Rattle.nutcore.specs.Reports.{with_end, is_unawaited}
 
 -- report: what its driver has reported. pinged: the moment of the last PING to it, in seconds. fsd:
 -- a forced shutdown is set. owed: what the driver is still to be sent. unfinished: what came of its
--- next line. faulty: how many of its lines were refused.
+-- next line. faulty: how many of its lines were refused. fault: why the last one
+-- was, none where it reported on an order that isn't awaited.
 pub record UpsState : Type 0 where
   pub report : Report
   pub pinged : ℕ
@@ -21,11 +23,20 @@ pub record UpsState : Type 0 where
   pub owed : List ℕ
   pub unfinished : List ℕ
   pub faulty : ℕ
+  pub fault : Option DriverFault
 
 -- A UPS of a new server.
 abbrev pub new_ups : UpsState
 new_ups =
-    record { report = lost_report; pinged = 0; fsd = false; owed = []; unfinished = []; faulty = 0 }
+    record {
+      report = lost_report;
+      pinged = 0;
+      fsd = false;
+      owed = [];
+      unfinished = [];
+      faulty = 0;
+      fault = None;
+    }
 
 -- Its driver is connected, and is asked for all that it knows.
 abbrev pub after_connecting : ℕ → UpsState → UpsState
@@ -77,8 +88,13 @@ after_tick max_age moment x =
 abbrev pub greatest_count : ℕ
 greatest_count = 2 ^ 64 - 1
 
-abbrev pub with_faulty_line : UpsState → UpsState
-with_faulty_line x = record x { faulty = min (x.faulty + 1) greatest_count }
+abbrev pub with_faulty_line : Option DriverFault → UpsState → UpsState
+with_faulty_line fault x =
+    record x { faulty = min (x.faulty + 1) greatest_count; fault = fault }
+
+abbrev pub fault_of : LineOutcome → Option DriverFault
+fault_of (Refused fault) = Some fault
+fault_of _ = None
 
 -- The line is refused: so is a report on an order that isn't awaited.
 abbrev pub is_refused : Bool → LineOutcome → Bool
@@ -89,7 +105,7 @@ is_refused unawaited (Refused fault) = true
 abbrev pub after_outcome : Bool → UpsState → Report × LineOutcome → UpsState
 after_outcome unawaited x r =
     let y : UpsState = record x { report = r.0 } in
-    if is_refused unawaited r.1 then with_faulty_line y else y
+    if is_refused unawaited r.1 then with_faulty_line (fault_of r.1) y else y
 
 -- A whole line does what it says of the report, and is counted where it is refused.
 abbrev pub after_text : ℕ → Bool → UpsState → List ℕ → UpsState

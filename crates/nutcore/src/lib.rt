@@ -2,11 +2,11 @@
 #![tactic(auto)]
 
 mod cost;
-mod deed;
 mod event;
 pub mod laws;
 mod lines;
 mod max_age;
+mod note;
 mod scratch;
 mod server;
 mod session;
@@ -15,9 +15,10 @@ mod ups;
 mod visitor;
 
 pub use cost::Cost;
-pub use deed::{DEED_LIMIT, Deed, Verb};
 pub use event::{ClientId, Event, Fault, Outcome, Peer};
 pub use max_age::{MAX_AGE_DEFAULT, MAX_AGE_LEAST, MAX_AGE_MOST, MaxAge};
+pub use note::{Deed, Logout, NOTE_LIMIT, Note, Verb};
+pub use nutdriver::DriverFault;
 pub use nutlisting::{OWED_LIMIT, Outbox, RING_LIMIT, SESSION_LIMIT};
 pub use nutusers::{Descriptions, UpsId, UpsList, Users};
 pub use nutwords::Bytes;

@@ -8,7 +8,7 @@ ghost use Rattle.nutusers.specs.UpsList.{place_of, id_at};
 ghost use Rattle.nutcore.specs.Step.{Step, offered};
 ghost use Rattle.nutcore.specs.Run.{Run};
 ghost use Rattle.nutcore.specs.Cost.{begun, no_cost, last_cost, Costs};
-ghost use Rattle.nutcore.specs.Deeds.{IsNoted};
+ghost use Rattle.nutcore.specs.Notes.{IsNoted};
 ghost use Rattle.nutcore.specs.Sound.{IsSound};
 ghost use Rattle.nutcore.specs.History.{owed};
 ghost use Rattle.nutcore.specs.Headline.{SentAndOwed, TakenUp, Serves};
@@ -24,10 +24,11 @@ mod status;
 mod view;
 
 use self::drivers::ping_upses;
+use self::status::note_stale;
 use crate::cost::Cost;
-use crate::deed::{Deed, Deeds};
 use crate::event::{ClientId, Event, Fault, Outcome};
 use crate::max_age::MaxAge;
+use crate::note::{Note, Notes};
 use crate::scratch::Scratch;
 use crate::session::Session;
 use crate::ups::Ups;
@@ -59,8 +60,8 @@ pub struct Server {
     scratch: Scratch,
     /// How many bytes the last event placed.
     placed: usize,
-    /// What is told of the last event.
-    deeds: Deeds,
+    /// What the last event did.
+    notes: Notes,
 }
 
 impl Model for Server {
@@ -71,7 +72,7 @@ impl Model for Server {
 
     ghost Value = { RunningServer };
 
-    ghost view = { λ s. record { state = record { moment = s.moment; max_age = s.max_age; list = s.list; users = s.users; descriptions = s.descriptions; upses = s.upses.items; sessions = s.sessions.items; next_id = s.last_id + 1; tracking = s.tracking }; cost = record { rendered = s.scratch.renders; placed = s.placed }; deeds = s.deeds } };
+    ghost view = { λ s. record { state = record { moment = s.moment; max_age = s.max_age; list = s.list; users = s.users; descriptions = s.descriptions; upses = s.upses.items; sessions = s.sessions.items; next_id = s.last_id + 1; tracking = s.tracking }; cost = record { rendered = s.scratch.renders; placed = s.placed }; notes = s.notes } };
 
     ghost invariant = { λ s. record {
       sound : IsSound (record { moment = s.moment; max_age = s.max_age; list = s.list; users = s.users; descriptions = s.descriptions; upses = s.upses.items; sessions = s.sessions.items; next_id = s.last_id + 1; tracking = s.tracking });
@@ -102,7 +103,7 @@ impl Server {
         let sessions = Vec::with_capacity(alloc, SESSION_LIMIT)?;
         let tracking = Tracking::new(alloc)?;
         let scratch = Scratch::new(alloc)?;
-        let deeds = Deeds::new(alloc)?;
+        let notes = Notes::new(alloc)?;
         Ok(Server {
             alloc,
             moment: 0,
@@ -117,7 +118,7 @@ impl Server {
             reply_line: Line::new(),
             scratch,
             placed: 0,
-            deeds,
+            notes,
         })
     }
 
@@ -139,23 +140,22 @@ impl Server {
         }
     }
 
-    /// What is told of the last event beside its answers, in its order: of each forced shutdown that a client set and each
-    /// order that it gave, and of each login, forced shutdown or order that was refused. All are of one session.
-    pub fn deeds(&self) -> &[Deed]
-        ensures { result.now ≡ self.now.deeds }
+    /// What the last event did that a journal logs, in its order.
+    pub fn notes(&self) -> &[Note]
+        ensures { result.now ≡ self.now.notes }
     {
-        self.deeds.as_slice()
+        self.notes.as_slice()
     }
 
     /// Nothing is rendered, placed or noted yet.
     fn forget_cost(&mut self)
         ensures state { self.new.state ≡ self.old.state }
         ensures none { self.new.cost ≡ no_cost }
-        ensures deeds { self.new.deeds ≡ [] }
+        ensures notes { self.new.notes ≡ [] }
     {
         self.scratch.renders = Renders::new();
         self.placed = 0;
-        self.deeds.clear();
+        self.notes.clear();
     }
 
     /// The UPS of this name.
@@ -174,10 +174,11 @@ impl Server {
     pub fn driver_up(&mut self, u: UpsId) -> Result<(), Fault>
         ensures served { Serves self.old.state (Event.DriverUp u) (done result) self.new.state }
         ensures cost { Costs self.old (Event.DriverUp u) self.new }
-        ensures deeds { self.new.deeds ≡ [] }
+        ensures notes { IsNoted self.old.state (Event.DriverUp u) (done result) self.new }
         ensures no_memory { (k : ℕ) → result ≢ Err (Fault.Memory k) }
     {
         self.forget_cost();
+        let was = self.condition(u);
         if self.ups_of(u)?.is_connected() {
             return Err(Fault::AlreadyConnected);
         }
@@ -185,6 +186,7 @@ impl Server {
         each_line_keeps_the_tree_sound();
         let moment = self.moment;
         self.with_ups(u, |ups| ups.connect(moment));
+        self.note_changes(u, was);
         Ok(())
     }
 
@@ -199,11 +201,15 @@ impl Server {
         ensures served { Serves self.old.state (Event.DriverBytes u piece.now)
             (done result) self.new.state }
         ensures cost { Costs self.old (Event.DriverBytes u piece.now) self.new }
-        ensures deeds { self.new.deeds ≡ [] }
+        ensures notes { IsNoted self.old.state (Event.DriverBytes u piece.now)
+            (done result) self.new }
     {
         self.forget_cost();
+        let was = self.condition(u);
         self.connected(u)?;
-        self.feed_driver(u, piece)
+        let result = self.feed_driver(u, piece);
+        self.note_changes(u, was);
+        result
     }
 
     /// What is offered to the driver: all that it is owed, at most 2,048 bytes, and nothing where it isn't connected. It
@@ -246,7 +252,7 @@ impl Server {
     pub fn driver_took(&mut self, u: UpsId, n: usize) -> Result<(), Fault>
         ensures served { Serves self.old.state (Event.DriverTook u n) (done result) self.new.state }
         ensures cost { Costs self.old (Event.DriverTook u n) self.new }
-        ensures deeds { self.new.deeds ≡ [] }
+        ensures notes { IsNoted self.old.state (Event.DriverTook u n) (done result) self.new }
         ensures no_memory { (k : ℕ) → result ≢ Err (Fault.Memory k) }
     {
         self.forget_cost();
@@ -262,14 +268,16 @@ impl Server {
     pub fn driver_down(&mut self, u: UpsId) -> Result<(), Fault>
         ensures served { Serves self.old.state (Event.DriverDown u) (done result) self.new.state }
         ensures cost { Costs self.old (Event.DriverDown u) self.new }
-        ensures deeds { self.new.deeds ≡ [] }
+        ensures notes { IsNoted self.old.state (Event.DriverDown u) (done result) self.new }
         ensures no_memory { (k : ℕ) → result ≢ Err (Fault.Memory k) }
     {
         self.forget_cost();
+        let was = self.condition(u);
         self.connected(u)?;
         lawful_lines_keep_trees_sound();
         each_line_keeps_the_tree_sound();
         self.with_ups(u, |ups| ups.disconnect());
+        self.note_changes(u, was);
         Ok(())
     }
 
@@ -278,11 +286,14 @@ impl Server {
     pub fn tick(&mut self, seconds: u64)
         ensures served { Serves self.old.state (Event.Tick seconds) Outcome.Done self.new.state }
         ensures cost { Costs self.old (Event.Tick seconds) self.new }
-        ensures deeds { self.new.deeds ≡ [] }
+        ensures notes { IsNoted self.old.state (Event.Tick seconds) Outcome.Done self.new }
     {
         self.forget_cost();
-        self.moment = seconds.max(self.moment);
-        ping_upses(&mut self.upses, self.max_age.seconds(), self.moment);
+        let max_age = self.max_age.seconds();
+        let moment = seconds.max(self.moment);
+        note_stale(&self.upses, max_age, self.moment, moment, &mut self.notes);
+        self.moment = moment;
+        ping_upses(&mut self.upses, max_age, moment);
     }
 
     /// How many lines of the UPS's drivers were refused. The count stops at its greatest number,
@@ -307,7 +318,7 @@ impl Server {
         ensures served { Serves self.old.state (Event.Open address)
             (opened_as result) self.new.state }
         ensures cost { Costs self.old (Event.Open address) self.new }
-        ensures deeds { self.new.deeds ≡ [] }
+        ensures notes { IsNoted self.old.state (Event.Open address) (opened_as result) self.new }
     {
         self.forget_cost();
         if self.sessions.len() >= SESSION_LIMIT || self.last_id == u64::MAX {
@@ -347,8 +358,8 @@ impl Server {
         ensures served { Serves self.old.state (Event.Feed c piece.now)
             (fed result) self.new.state }
         ensures cost { Costs self.old (Event.Feed c piece.now) self.new }
-        ensures deeds { IsNoted self.new.deeds self.old.state (Event.Feed c piece.now)
-            (fed result) }
+        ensures notes { IsNoted self.old.state (Event.Feed c piece.now)
+            (fed result) self.new }
     {
         self.forget_cost();
         let place = self.place_of(c)?;
@@ -413,7 +424,7 @@ impl Server {
     pub fn took(&mut self, c: ClientId, n: usize) -> Result<(), Fault>
         ensures served { Serves self.old.state (Event.Took c n) (done result) self.new.state }
         ensures cost { Costs self.old (Event.Took c n) self.new }
-        ensures deeds { IsNoted self.new.deeds self.old.state (Event.Took c n) (done result) }
+        ensures notes { IsNoted self.old.state (Event.Took c n) (done result) self.new }
     {
         self.forget_cost();
         let place = self.place_of(c)?;
@@ -445,12 +456,13 @@ impl Server {
     pub fn close(&mut self, c: ClientId) -> Result<(), Fault>
         ensures served { Serves self.old.state (Event.Close c) (done result) self.new.state }
         ensures cost { Costs self.old (Event.Close c) self.new }
-        ensures deeds { self.new.deeds ≡ [] }
+        ensures notes { IsNoted self.old.state (Event.Close c) (done result) self.new }
         ensures no_memory { (k : ℕ) → result ≢ Err (Fault.Memory k) }
     {
         self.forget_cost();
         let place = self.place_of(c)?;
-        let _session = self.sessions.remove(place);
+        let session = self.sessions.remove(place);
+        self.notes.add(session.logout());
         Ok(())
     }
 
@@ -463,7 +475,7 @@ impl Server {
     pub fn id(&mut self, id: u128) -> Result<(), Fault>
         ensures served { Serves self.old.state (Event.Id id) (done result) self.new.state }
         ensures cost { Costs self.old (Event.Id id) self.new }
-        ensures deeds { self.new.deeds ≡ [] }
+        ensures notes { IsNoted self.old.state (Event.Id id) (done result) self.new }
         ensures no_memory { (k : ℕ) → result ≢ Err (Fault.Memory k) }
     {
         self.forget_cost();

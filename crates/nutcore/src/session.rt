@@ -15,7 +15,8 @@ ghost use Rattle.nutlisting.specs.declared.ring.TheConstants.{RING_LIMIT};
 ghost use Rattle.nutwords.specs.declared.limits.TheConstants.{LINE_LIMIT};
 ghost use Rattle.nutcore.specs.Calls.{is_finished, room_of, IsOutboxOf};
 ghost use Rattle.nutlisting.specs.Counted.{IsCounted, KeepsCount};
-ghost use Rattle.nutcore.specs.Promises.{IsLineOrNone, IsShort, text_with, change_in, refused_overlong};
+ghost use Rattle.nutcore.specs.Notes.{logout_of};
+ghost use Rattle.nutcore.specs.Promises.{IsLineOrNone, IsShort, text_with, change_in, refused_overlong, with_note};
 ghost use Rattle.nutcore.specs.Reply.{asker_of, seen_client, changed_session};
 ghost use Rattle.nutanswer.specs.View.{asker_seen, is_logged_in, addresses_at};
 ghost use Rattle.nutlisting.specs.Owed.{owed};
@@ -23,6 +24,7 @@ ghost use Rattle.nutlisting.specs.Owed.{owed};
 use crate::HELD_LIMIT;
 use crate::event::Fault;
 use crate::lines::{drop_front, line_end};
+use crate::note::{Logout, Note, Notes};
 use crate::scratch::Scratch;
 use nutanswer::{Asker, Change, ErrWord, Reply};
 use nutlisting::{Clients, Listing, Outbox};
@@ -103,6 +105,22 @@ impl Session {
             login: self.login,
             tracking: self.tracking,
         }
+    }
+
+    /// Its logout, where it is logged in.
+    pub(crate) fn logout(&self) -> Option<Note>
+        ensures { result ≡ logout_of self.now }
+    {
+        let u = self.login?;
+        let user = match &self.username {
+            Some(name) => UserName::read(name.as_bytes()),
+            None => None,
+        };
+        Some(Note::LoggedOut(Logout {
+            u,
+            user,
+            address: self.address.copied(),
+        }))
     }
 
     /// How many logins to the UPS it has: one or none.
@@ -274,14 +292,20 @@ impl Session {
         self.executed = self.executed + end + 1;
     }
 
-    /// A session that holds 2,048 bytes without an LF is told so, and begins to end.
+    /// A session that holds 2,048 bytes without an LF is told so, and begins to end, which is noted.
     ///
     /// # Errors
     ///
     /// `LineTooLong`, where it is told so.
-    pub(crate) fn refuse_overlong(&mut self, scratch: &mut Scratch) -> Result<(), Fault>
+    pub(crate) fn refuse_overlong(
+        &mut self,
+        scratch: &mut Scratch,
+        notes: &mut Notes,
+    ) -> Result<(), Fault>
         ensures overlong { result ≡ refused_overlong (holds_overlong self.old) }
         ensures noticed { self.new ≡ with_notice self.old }
+        ensures noted { notes.new ≡ with_note
+            (if holds_overlong self.old then logout_of self.old else None) notes.old }
         ensures id { self.new.id ≡ self.old.id }
         ensures keeps { KeepsCount self.old.owed scratch.old.renders
             self.new.owed scratch.new.renders }
@@ -293,6 +317,7 @@ impl Session {
         {
             return Ok(());
         }
+        notes.add(self.logout());
         self.owe(ErrWord::TooLong.line(), scratch);
         self.begin_ending();
         Err(Fault::LineTooLong)

@@ -9,7 +9,7 @@ use crate::DRIVER_OWED_LIMIT;
 use crate::event::Fault;
 use arrayvec::ArrayVec;
 use nutanswer::UpsView;
-use nutdriver::{LineOutcome, Report};
+use nutdriver::{DriverFault, LineOutcome, Report};
 use nutmap::Meter;
 use nutwords::{Found, LineCut};
 use std::alloc::{AllocError, Global};
@@ -28,12 +28,13 @@ pub(crate) struct Ups {
     owed: ArrayVec<u8, DRIVER_OWED_LIMIT>,
     cut: LineCut,
     faulty: u64,
+    fault: Option<DriverFault>,
 }
 
 impl Model for Ups {
     ghost Value = { UpsState };
 
-    ghost view = { λ u. record { report = u.report; pinged = u.pinged; fsd = u.fsd; owed = u.owed.items; unfinished = u.cut; faulty = u.faulty } };
+    ghost view = { λ u. record { report = u.report; pinged = u.pinged; fsd = u.fsd; owed = u.owed.items; unfinished = u.cut; faulty = u.faulty; fault = u.fault } };
 }
 
 impl Ups {
@@ -49,6 +50,7 @@ impl Ups {
             owed: ArrayVec::new(),
             cut: LineCut::new(),
             faulty: 0,
+            fault: None,
         }
     }
 
@@ -198,10 +200,18 @@ impl Ups {
         Ok(outcome)
     }
 
-    /// A line of its driver is refused. The count stops at its greatest number.
-    pub(crate) fn count_refused(&mut self)
-        ensures { self.new ≡ with_faulty_line self.old }
+    /// Why the last one was, none where it reported on an order that isn't awaited.
+    pub(crate) fn fault(&self) -> Option<DriverFault>
+        ensures { result ≡ self.now.fault }
     {
+        self.fault
+    }
+
+    /// A line of its driver is refused, for this. The count stops at its greatest number.
+    pub(crate) fn count_refused(&mut self, fault: Option<DriverFault>)
+        ensures { self.new ≡ with_faulty_line fault self.old }
+    {
+        self.fault = fault;
         self.faulty = self.faulty.saturating_add(1);
     }
 }

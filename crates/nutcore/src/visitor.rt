@@ -1,18 +1,13 @@
 //! Who has an open session, for whoever keeps a journal.
 
-use crate::event::ClientId;
-use nutusers::{UpsId, UserName};
+use nutusers::UserName;
 use nutwords::Address;
 
 /// Who has an open session. Of the password nothing is told.
 #[derive(Clone, Copy)]
 pub struct Visitor<'a> {
-    /// The session's id.
-    pub id: ClientId,
     /// The client's address.
     pub address: &'a Address,
     /// The user name that it has given.
     pub username: Option<&'a UserName>,
-    /// The UPS that it is logged in to.
-    pub login: Option<UpsId>,
 }

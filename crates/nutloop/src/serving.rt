@@ -2,7 +2,7 @@
 ghost use Rattle.nutloop.specs.Serving.{IsOneRun, IsShown, ShownUpTo, TurnsUpTo};
 
 use crate::{LoopFault, Sockets, turn};
-use nutcore::Server;
+use nutcore::{Server, UpsId};
 
 /// The most turns that one call makes.
 pub const TURN_LIMIT: u64 = u64::MAX;
@@ -30,6 +30,8 @@ pub fn serve<S: Sockets, W: FnMut(&Server, &S)>(
             return Err(fault);
         }
         watch(server, sockets);
+        // What is shown is noted no more. No bytes taken are no change.
+        let _ = server.driver_took(UpsId { place: 0 }, 0);
     }
     Ok(())
 }

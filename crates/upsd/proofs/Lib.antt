@@ -1,3 +1,3 @@
 mod Commands
-mod Logins
+mod Limits
 mod Written

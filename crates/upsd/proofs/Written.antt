@@ -1,13 +1,10 @@
--- What is written of UPSs, when one more is written.
-use Rattle.std.proofs.Common.{◌≡◌, ◌≢◌, ◌+◌, ◌<◌, ◌∙◌, ℕ, zero, suc, List, [], ◌∷◌, Option, Some, None, MatchOption, length, set, slice_get, option_map, inl, inr, refl, ap, arith, length-set, get_or-set_same}
+-- What is written of drivers that can't be connected to, when one more is written.
+use Rattle.std.proofs.Common.{◌≡◌, ◌≢◌, ◌+◌, ◌<◌, ◌∙◌, ℕ, ℤ, zero, suc, List, [], ◌∷◌, Option, Some, None, MatchOption, length, set, slice_get, inl, inr, refl, ap, arith, length-set, get_or-set_same}
 use Rattle.std.proofs.lemmas.Option.{slice_get-get_or}
 use Rattle.std.proofs.lemmas.Bool.{cases_eq}
-use Rattle.upsd.specs.Journal.{AreWrittenUpTo}
-
--- what is mapped to something is something
-pub some_mapped : {A : Type 0} {B : Type 0} (f : A → B) (o : Option A) (y : B) → Some y ≡ option_map f o → (x : A) × (o ≡ Some x)
-some_mapped f None y e = absurd (cc)
-some_mapped f (Some x) y e = (x, refl)
+use Rattle.nutusers.specs.UpsList.{id_at}
+use Rattle.nutusers.specs.declared.ups_list.UpsId.{UpsId}
+use Rattle.upsd.specs.Connecting.{AreErrorsWrittenUpTo}
 
 -- what is matched by nothing but something is something
 pub matched : {A : Type 0} (o : Option A) (P : A → Type 0) → MatchOption o ⊥ P → (x : A) × (o ≡ Some x)
@@ -26,11 +23,11 @@ slice_get-set_other (y ∷ ys) zero (suc j) x other = refl
 slice_get-set_other (y ∷ ys) (suc i) zero x other = refl
 slice_get-set_other (y ∷ ys) (suc i) (suc j) x other = slice_get-set_other ys i j x (λ e. other (ap suc e))
 
-pub written_more : {A : Type 0} (n : ℕ) (now : ℕ → A) (before mid : List A) → AreWrittenUpTo n now before mid → n < length mid → AreWrittenUpTo (n + 1) now before (set mid n (now n))
-written_more n now before mid so_far within = record {
+pub written_more : (n : ℕ) (errors : UpsId → Option ℤ) (before mid : List (Option ℤ)) → AreErrorsWrittenUpTo n errors before mid → n < length mid → AreErrorsWrittenUpTo (n + 1) errors before (set mid n (errors (id_at n)))
+written_more n errors before mid so_far within = record {
   written = λ place below. elim (cases_eq place n) [
-    | inl same ↦ rw same (slice_get-set_same mid n (now n) within)
-    | inr other ↦ slice_get-set_other mid n place (now n) other ∙ so_far.written place (omega arith)
+    | inl same ↦ rw same (slice_get-set_same mid n (errors (id_at n)) within)
+    | inr other ↦ slice_get-set_other mid n place (errors (id_at n)) other ∙ so_far.written place (omega arith)
   ];
-  others = λ place above. slice_get-set_other mid n place (now n) (omega arith) ∙ so_far.others place (omega arith);
+  others = λ place above. slice_get-set_other mid n place (errors (id_at n)) (omega arith) ∙ so_far.others place (omega arith);
 }

@@ -5,10 +5,8 @@ pub mod Configuration
 pub mod Replaying
 pub mod Task
 pub mod Words
-pub mod Deeds
-pub mod Logins
+pub mod Limits
 pub mod Room
 pub mod Journal
 pub mod Connecting
-pub mod Looks
 pub mod Warnings

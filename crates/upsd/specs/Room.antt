@@ -1,22 +1,8 @@
 -- What is new of the room for clients.
 use Rattle.std.specs.Prelude.{ℕ, ◌-◌, Bool, true, false, Option, Some, None, if◌then◌else◌, nat_lt}
-use Rattle.std.specs.Prelude.{List, ◌++◌, codes, is_none, slice_get}
-use Rattle.std.specs.Fmt.{decimal}
-use Rattle.nutcore.specs.Server.{ServerState}
-use Rattle.upsd.specs.declared.journal.room.TheConstants.{LAST_PLACE}
 use Rattle.upsd.specs.declared.journal.room.Room.{Room}
 use Rattle.upsd.specs.declared.journal.room.RoomNews.{RoomNews}
 use Rattle.upsd.specs.declared.journal.room.RoomNews.TheVariants.{Full, Again}
-
--- The words of what is new of the room.
-abbrev pub text_of_room : RoomNews → List ℕ
-text_of_room Full = codes "no room for a client"
-text_of_room (Again count) =
-    codes "room for clients again: " ++ decimal count ++ codes " were sent away"
-
--- There is room for a client: the last place of all has no session.
-abbrev pub has_room : ServerState → Bool
-has_room s = is_none (slice_get s.sessions LAST_PLACE)
 
 -- By what was written of it, how many were sent away up to now, and whether there is room now. That
 -- somebody was sent away is told once, and once there is room again how many were.

@@ -112,7 +112,7 @@ fn go_round<'a>(
         server.old.state sockets.old (Err fault) server.new.state sockets.new) }
     ensures run { IsOneRun server.old.state server.new.state }
 {
-    let mut journal = Journal::new(rt.alloc());
+    let mut journal = Journal::new();
     match nutloop::serve(
         server,
         sockets,

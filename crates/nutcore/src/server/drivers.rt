@@ -4,7 +4,7 @@ ghost use Rattle.std.specs.Prelude.{◌≡◌, ◌<◌, ◌≤◌, ◌++◌, len
 ghost use Rattle.std.specs.Option.{option_map};
 ghost use Rattle.nutcore.specs.Server.{ups_at, with_tracking};
 ghost use Rattle.nutcore.specs.Headline.{IsLawful};
-ghost use Rattle.nutcore.specs.Ups.{after_tick, is_refused};
+ghost use Rattle.nutcore.specs.Ups.{after_tick, fault_of, is_refused};
 ghost use Rattle.nutcore.specs.Reports.{with_end, is_unawaited};
 ghost use Rattle.nutdriver.specs.Report.{HasLawfulNumber, end_told};
 ghost use Rattle.nutcore.specs.Promises.{OfUps, MayChangeUps, KeepsUpsSound, ChangesUps, IsNotConnected, ExecutesDriverLine, ReadsDriverLine, IsStopped, IsTold, IsFront, front_or};
@@ -14,10 +14,10 @@ ghost use Rattle.nutcore.specs.declared.event.Fault.TheVariants.{NoSuchUps};
 use super::Server;
 use crate::event::Fault;
 use crate::ups::Ups;
-use nutdriver::LineOutcome;
 use nutdriver::laws::{
     each_line_keeps_the_tree_sound, lawful_lines_keep_trees_sound, told_numbers_are_lawful,
 };
+use nutdriver::{DriverFault, LineOutcome};
 use nutusers::UpsId;
 use nutwords::Found;
 use std::alloc::AllocError;
@@ -61,7 +61,7 @@ impl Server {
         requires sound { KeepsUpsSound F.FnOnce f u self.old.state }
         ensures changes { ChangesUps F.FnOnce f u self.old.state result self.new.state }
         ensures cost { self.new.cost ≡ self.old.cost }
-        ensures deeds { self.new.deeds ≡ self.old.deeds }
+        ensures notes { self.new.notes ≡ self.old.notes }
     {
         f(&mut self.upses[u.place as usize])
     }
@@ -85,7 +85,7 @@ impl Server {
             (front_or length piece.now x.unfinished) x self.old.state result self.new.state) }
         ensures connected { option_map is_connected (ups_at u.place self.new.state) ≡ Some true }
         ensures cost { self.new.cost ≡ self.old.cost }
-        ensures deeds { self.new.deeds ≡ self.old.deeds }
+        ensures notes { self.new.notes ≡ self.old.notes }
     {
         lawful_lines_keep_trees_sound();
         each_line_keeps_the_tree_sound();
@@ -94,7 +94,8 @@ impl Server {
         let outcome = self.with_ups(u, |ups| ups.execute(moment, piece, length))?;
         let is_refused = self.settle(u, outcome);
         if is_refused {
-            self.with_ups(u, |ups| ups.count_refused());
+            let fault = fault_of(outcome);
+            self.with_ups(u, |ups| ups.count_refused(fault));
         }
         Ok(())
     }
@@ -108,7 +109,7 @@ impl Server {
         ensures after { self.new.state ≡ with_tracking
             (with_end u.place (end_told outcome) self.old.state.tracking) self.old.state }
         ensures cost { self.new.cost ≡ self.old.cost }
-        ensures deeds { self.new.deeds ≡ self.old.deeds }
+        ensures notes { self.new.notes ≡ self.old.notes }
     {
         match outcome {
             LineOutcome::Accepted => false,
@@ -137,7 +138,7 @@ impl Server {
             (λ x. ReadsDriverLine u piece.now done x self.old.state result self.new.state) }
         ensures connected { option_map is_connected (ups_at u.place self.new.state) ≡ Some true }
         ensures cost { self.new.cost ≡ self.old.cost }
-        ensures deeds { self.new.deeds ≡ self.old.deeds }
+        ensures notes { self.new.notes ≡ self.old.notes }
     {
         match self.with_ups(u, |ups| ups.find_line(piece)) {
             Found::InPiece(length) => match self.execute_driver_line(u, piece, Some(length)) {
@@ -160,7 +161,7 @@ impl Server {
             self.old.state result self.new.state) }
         ensures connected { option_map is_connected (ups_at u.place self.new.state) ≡ Some true }
         ensures cost { self.new.cost ≡ self.old.cost }
-        ensures deeds { self.new.deeds ≡ self.old.deeds }
+        ensures notes { self.new.notes ≡ self.old.notes }
     {
         let mut rest = piece;
         let mut done = 0;
@@ -187,7 +188,7 @@ impl Server {
         ensures told { OfUps u self.old.state (λ x. IsTold u (x.unfinished ++ piece.now)
             self.old.state result self.new.state) }
         ensures cost { self.new.cost ≡ self.old.cost }
-        ensures deeds { self.new.deeds ≡ self.old.deeds }
+        ensures notes { self.new.notes ≡ self.old.notes }
     {
         lawful_lines_keep_trees_sound();
         each_line_keeps_the_tree_sound();
@@ -196,6 +197,16 @@ impl Server {
             self.with_ups(u, |ups| ups.disconnect());
         }
         result
+    }
+}
+
+/// Why a line is refused that came to this, none where it reports on an order.
+fn fault_of(outcome: LineOutcome) -> Option<DriverFault>
+    ensures { result ≡ fault_of outcome }
+{
+    match outcome {
+        LineOutcome::Refused(fault) => Some(fault),
+        _ => None,
     }
 }
 

@@ -1,10 +1,10 @@
 //! The pump: which of a session's lines are executed, and what each does.
-ghost use Rattle.std.specs.Prelude.{◌≡◌, ◌≤◌, ◌<◌, length, slice_get, OnOk, OnErr, IsTrue, Some, None, []};
+ghost use Rattle.std.specs.Prelude.{◌≡◌, ◌≤◌, ◌<◌, length, slice_get, take, OnOk, OnErr, IsTrue, Some, None, []};
 ghost use Rattle.std.specs.Option.{option_map};
 ghost use Rattle.nutcore.specs.Server.{session, changed_at};
 ghost use Rattle.nutcore.specs.Pump.{next_line_for, after_line, held_of, wants_memory};
 ghost use Rattle.nutcore.specs.History.{owed, executions_until};
-ghost use Rattle.nutcore.specs.Deeds.{deeds_of};
+ghost use Rattle.nutcore.specs.Notes.{notes_of_pump};
 ghost use Rattle.nutcore.specs.Ups.{with_fsd, with_order, UpsState};
 ghost use Rattle.nutcore.specs.Calls.{done};
 ghost use Rattle.nutcore.specs.Step.{offered, refused_after};
@@ -13,11 +13,12 @@ ghost use Rattle.nutcore.specs.Promises.{IsAt, TakesLine, OrderFits, PumpGives, 
 ghost use Rattle.nutcore.specs.Reply.{changed_upses, changed_tracking};
 ghost use Rattle.nutlisting.specs.declared.listing.clients.TheConstants.{SESSION_LIMIT};
 ghost use Rattle.nutcore.specs.declared.TheConstants.{HELD_LIMIT};
+ghost use Rattle.nutcore.specs.declared.note.TheConstants.{NOTE_LIMIT};
 
 use super::Server;
 use super::view::ServerView;
-use crate::deed::{is_refusal, note};
 use crate::event::{ClientId, Fault};
+use crate::note::{is_refusal, note_line};
 use crate::session::Session;
 use crate::ups::Ups;
 use nutanswer::{Change, Command, Reply};
@@ -42,8 +43,8 @@ impl Server {
         ensures err { OnErr result (self.new.state ≡ self.old.state) }
         ensures memory { OnErr result (IsTrue (wants_memory self.old.state c)) }
         ensures keeps { KeepsCost c self.old self.new }
-        ensures noted { OnOk result (self.new.deeds ≡ with_next self.old.state c self.old.deeds) }
-        ensures unnoted { OnErr result (self.new.deeds ≡ self.old.deeds) }
+        ensures noted { OnOk result (self.new.notes ≡ with_next self.old.state c self.old.notes) }
+        ensures unnoted { OnErr result (self.new.notes ≡ self.old.notes) }
     {
         let view = ServerView {
             moment: self.moment,
@@ -59,7 +60,7 @@ impl Server {
         let read = Command::read(session.next_line(end));
         let reply = view.reply_to(session.asker(), &read, &mut self.reply_line)?;
         let is_told = is_told(&self.upses, &reply);
-        note(is_told, c, &read, &reply, &mut self.deeds);
+        note_line(is_told, session, &read, &reply, &mut self.notes);
         change_upses(&mut self.upses, &mut self.tracking, &reply);
         list_clients(&self.sessions, &reply, &mut self.scratch.clients);
         let session = &mut self.sessions[place];
@@ -72,10 +73,10 @@ impl Server {
     pub(super) fn pump(&mut self, c: ClientId, place: usize) -> Result<(), Fault>
         requires at { IsAt c place self.old.state.sessions }
         requires short { length (held_of (session c self.old.state)) ≤ HELD_LIMIT }
-        requires unnoted { self.old.deeds ≡ [] }
+        requires unnoted { self.old.notes ≡ [] }
         ensures gives { PumpGives self.old.state c result self.new.state }
-        ensures deeds { self.new.deeds
-            ≡ deeds_of (executions_until self.old.state c (refused_after (done result))) }
+        ensures notes { self.new.notes
+            ≡ take NOTE_LIMIT (notes_of_pump self.old.state c (refused_after (done result))) }
         ensures keeps { KeepsCost c self.old self.new }
         ensures at { IsAt c place self.new.state.sessions }
     {
@@ -87,7 +88,7 @@ impl Server {
             done += 1;
         }
         let session = &mut self.sessions[place];
-        session.refuse_overlong(&mut self.scratch)
+        session.refuse_overlong(&mut self.scratch, &mut self.notes)
     }
 
     /// Executes the session's lines, and counts as placed what is offered then after so many bytes, which were offered
@@ -95,11 +96,11 @@ impl Server {
     pub(super) fn serve(&mut self, c: ClientId, place: usize, kept: usize) -> Result<(), Fault>
         requires at { IsAt c place self.old.state.sessions }
         requires short { length (held_of (session c self.old.state)) ≤ HELD_LIMIT }
-        requires unnoted { self.old.deeds ≡ [] }
+        requires unnoted { self.old.notes ≡ [] }
         requires counted { IsCounted kept (owed c self.old.state) self.old.cost.rendered }
         ensures gives { PumpGives self.old.state c result self.new.state }
-        ensures deeds { self.new.deeds
-            ≡ deeds_of (executions_until self.old.state c (refused_after (done result))) }
+        ensures notes { self.new.notes
+            ≡ take NOTE_LIMIT (notes_of_pump self.old.state c (refused_after (done result))) }
         ensures within { kept ≤ length (offered (session c self.new.state)) }
         ensures cost { self.new.cost ≡ cost_beyond kept (offered (session c self.new.state)) }
     {
@@ -110,8 +111,8 @@ impl Server {
     }
 }
 
-/// Whether a line that is answered so is told: it sets a forced shutdown that isn't set, it is an order to a driver, or it
-/// is refused.
+/// Whether a line that is answered so is noted: it is a granted login, it ends its session, it sets a forced shutdown that
+/// isn't set, it is an order to a driver, or it is refused.
 fn is_told(upses: &Vec<Ups>, reply: &Reply<'_>) -> bool
     ensures { result ≡ is_told_by upses.now.items reply.now }
 {
@@ -123,7 +124,7 @@ fn is_told(upses: &Vec<Ups>, reply: &Reply<'_>) -> bool
             Some(ups) => !ups.fsd(),
             None => true,
         },
-        Change::Order(_, _) | Change::Tracked(_, _, _) => true,
+        Change::Login(_) | Change::Ending | Change::Order(_, _) | Change::Tracked(_, _, _) => true,
         _ => is_refusal(text),
     }
 }

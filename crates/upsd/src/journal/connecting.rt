@@ -3,9 +3,12 @@ ghost use Rattle.std.specs.Prelude.{◌≡◌, ◌<◌, MatchOption, length, sli
 ghost use Rattle.nutloop.specs.OverMio.{error_of};
 ghost use Rattle.upsd.specs.Connecting.{AreErrorsWrittenUpTo, IsErrorNews};
 
+use super::log;
 use nutcore::{Server, UpsId};
 use nutloop::MioSockets;
 use nutusers::UPS_LIMIT;
+use nutwords::UpsName;
+use std::fmt;
 use std::io::{Error, Read};
 use std::net::Net;
 use std::time::Clock;
@@ -58,16 +61,23 @@ impl Connecting {
     }
 }
 
-/// Writes by which error the driver of the UPS can't be connected to.
+/// By which error the driver of the UPS of this name can't be connected to.
+#[derive(Clone, Copy)]
+struct CannotConnect<'a>(&'a UpsName, &'a Error);
+
+impl<'a> fmt::Display for CannotConnect<'a> {
+    fn fmt<W: fmt::Write>(&self, f: &mut fmt::Formatter<W>) -> fmt::Result {
+        let (name, error) = (self.0.as_bytes().escape_ascii(), self.1);
+        write!(f, "{name}: cannot connect: {error}")
+    }
+}
+
+/// Logs it.
 fn write_error(rt: &HostRuntime, server: &Server, u: UpsId, number: i32) {
-    let Some(name) = server.ups().name(u) else {
-        return;
-    };
-    let (name, error) = (
-        name.as_bytes().escape_ascii(),
-        Error::from_raw_os_error(number),
-    );
-    let _ = eprintln!(rt; "upsd: {name}: cannot connect: {error}");
+    if let Some(name) = server.ups().name(u) {
+        let error = Error::from_raw_os_error(number);
+        log(rt, &CannotConnect(name, &error));
+    }
 }
 
 /// What is new of a driver that couldn't be connected to by one error or could, and can't by another or can.

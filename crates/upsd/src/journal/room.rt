@@ -1,12 +1,9 @@
 //! The journal of clients that were sent away for want of room.
-ghost use Rattle.std.specs.Prelude.{◌≡◌, Some, false};
-ghost use Rattle.upsd.specs.Room.{has_room, room_after, room_news, text_of_room};
+ghost use Rattle.std.specs.Prelude.{◌≡◌, false};
+ghost use Rattle.upsd.specs.Room.{room_after, room_news};
 
-use nutcore::{SESSION_LIMIT, Server};
+use super::log;
 use std::fmt;
-
-/// The last place of a session.
-pub const LAST_PLACE: usize = SESSION_LIMIT - 1;
 
 /// What is new of the room for clients.
 #[derive(Clone, Copy, Debug, PartialEq, Eq)]
@@ -18,8 +15,6 @@ pub enum RoomNews {
 }
 
 impl fmt::Display for RoomNews {
-    ghost output = { λ news. Some (text_of_room news) };
-
     fn fmt<W: fmt::Write>(&self, f: &mut fmt::Formatter<W>) -> fmt::Result {
         match *self {
             RoomNews::Full => f.write_str("no room for a client"),
@@ -48,13 +43,12 @@ impl Room {
         }
     }
 
-    /// Writes what is new, where so many were sent away up to now.
-    pub fn write(&mut self, rt: &HostRuntime, server: &Server, refusals: u64)
-        ensures { self.new ≡ room_after self.old refusals (has_room server.now.state) }
+    /// Writes what is new, where so many were sent away up to now, and there is room or none.
+    pub fn write(&mut self, rt: &HostRuntime, refusals: u64, has_room: bool)
+        ensures { self.new ≡ room_after self.old refusals has_room }
     {
-        let has_room = server.visitor(LAST_PLACE).is_none();
         if let Some(news) = self.take_news(refusals, has_room) {
-            let _ = eprintln!(rt; "upsd: {news}");
+            log(rt, &news);
         }
     }
 

@@ -1,8 +1,15 @@
 use Rattle.std.proofs.lemmas.Result.{err_from_is_err_and}
-use Rattle.nutcore.proofs.Common.{Fault, SessionState, ServerState}
+use Rattle.nutcore.proofs.Common.{Fault, SessionState, ServerState, session}
+use Rattle.nutcore.specs.declared.note.Note.{Note}
+use Rattle.nutcore.specs.declared.note.TheConstants.{NOTE_LIMIT}
+use Rattle.nutcore.specs.Notes.{logout_of}
+use Rattle.nutcore.specs.Cost.{RunningServer}
+use Rattle.nutcore.proofs.Notes.{one_noted}
 use Rattle.nutcore.specs.Calls.{done}
 use Rattle.nutcore.specs.Headline.{Serves}
-use Rattle.std.proofs.Common.{◌≡◌, ◌∙◌, ap, Result, Err, refl, sym, List, subst, arith}
+use Rattle.std.proofs.Common.{◌≡◌, ◌∙◌, ap, Result, Err, refl, sym, List, Option, Some, None, [], take, subst, arith}
+use Rattle.std.specs.List.{cons_option}
+use Rattle.std.specs.Option.{option_and_then}
 use Rattle.nutcore.specs.Session.{without}
 use Rattle.nutcore.specs.Promises.{IsAt}
 use Rattle.nutcore.specs.contracts.server.Server.{the_view}
@@ -10,10 +17,15 @@ use Rattle.nutcore.proofs.Sound.{sound_closed}
 use Rattle.nutcore.specs.Sound.{IsSound}
 use Rattle.nutcore.specs.declared.event.Event.TheVariants.{Close}
 use Rattle.nutcore.specs.declared.event.Outcome.TheVariants.{Done}
-use Rattle.nutcore.proofs.Serving.{at_found, left_out}
+use Rattle.nutcore.proofs.Serving.{at_found, found_in, left_out}
 use Rattle.nutcore.proofs.EventSteps.{close_absent, close_present, step_from}
 use Rattle.nutcore.proofs.Runs.{served_from, state_is}
 use Rattle.nutcore.proofs.server.Server.close.Goals as goal
+
+pub returns-in_err-place-clause-notes : goal.returns-in_err-place-clause-notes
+returns-in_err-place-clause-notes c =
+    let none : option_and_then logout_of (session c.args.c c.args.self.now.state) ≡ None = ap (option_and_then logout_of) (ap (session c.args.c) (sym c.forget_cost.ensures.state) ∙ c.in_err-place.ensures.place.1) in
+    c.forget_cost.ensures.notes ∙ ap (λ (o : Option Note). take NOTE_LIMIT (cons_option o [])) (sym none)
 
 pub returns-in_err-place-clause-served : goal.returns-in_err-place-clause-served
 returns-in_err-place-clause-served c =
@@ -39,3 +51,10 @@ returns-clause-served c =
     let left : c.remove-session.new.self.items ≡ without c.args.c v.sessions = c.remove-session.ensures.by_index.2 ∙ sym (left_out 1 v.next_id c.args.c c.in_ok-place.place v.sessions c.self.invariant.sound.ids at) in
     let t : ServerState = record v { sessions = c.remove-session.new.self.items } in
     served_from _ _ _ _ _ c.forget_cost.ensures.state c.place_of.ensures.lawful (step_from v c.forget_cost.new.self.state t t (Close c.args.c) Done (state_is c.self.view_is) refl (close_present v c.args.c _ c.remove-session.new.self.items (at_found c.args.c c.in_ok-place.place v.sessions at) left))
+
+pub returns-clause-notes : goal.returns-clause-notes
+returns-clause-notes c =
+    let v : ServerState = (the_view c.self.inside).state in
+    let found : session c.args.c c.forget_cost.new.self.state ≡ Some c.remove-session.result = found_in c.args.c c.in_ok-place.place v c.forget_cost.new.self.state c.remove-session.result (state_is c.self.view_is) c.in_ok-place.ensures.place c.remove-session.ensures.value in
+    let noted : c.logout.result ≡ option_and_then logout_of (session c.args.c c.args.self.now.state) = c.logout.ensures ∙ sym (ap (option_and_then logout_of) (ap (session c.args.c) (sym c.forget_cost.ensures.state) ∙ found)) in
+    c.add.ensures ∙ one_noted [] c.logout.result c.self.inside.notes (ap (λ (r : RunningServer). r.notes) c.self.view_is ∙ c.forget_cost.ensures.notes) ∙ ap (λ (o : Option Note). take NOTE_LIMIT (cons_option o [])) noted

@@ -1,7 +1,12 @@
-use Rattle.std.proofs.Common.{true}
+use Rattle.std.proofs.Common.{◌∙◌, true, sym, subst}
 use Rattle.std.proofs.lemmas.Result.{err_from_is_err_and}
 use Rattle.nutcore.proofs.DriverSteps.{is_there, bytes_refused, bytes_fed}
+use Rattle.nutcore.specs.declared.event.Event.TheVariants.{DriverBytes}
+use Rattle.nutcore.specs.Server.{ServerState}
+use Rattle.nutcore.specs.Step.{Step}
+use Rattle.nutcore.specs.Calls.{done}
 use Rattle.nutcore.proofs.Runs.{served_from}
+use Rattle.nutcore.proofs.Notes.{nothing_changed, ups_noted}
 use Rattle.nutcore.proofs.server.Server.driver_bytes.Goals as goal
 
 pub returns-in_err-connected-clause-served : goal.returns-in_err-connected-clause-served
@@ -12,4 +17,11 @@ returns-in_err-connected-clause-served c =
 pub returns-clause-served : goal.returns-clause-served
 returns-clause-served c =
     served_from _ _ _ _ _ c.forget_cost.ensures.state c.connected.ensures.lawful
-    (bytes_fed c.forget_cost.new.self.state c.feed_driver.new.self.state c.args.u c.args.piece.now c.feed_driver.result (is_there c.forget_cost.new.self.state c.args.u true c.in_ok-connected.ensures.connected) c.feed_driver.ensures.told)
+    (subst (λ (z : ServerState). Step c.forget_cost.new.self.state (DriverBytes c.args.u c.args.piece.now) (done c.feed_driver-result.result) z) (sym c.note_changes.ensures.state)
+    (bytes_fed c.forget_cost.new.self.state c.feed_driver-result.new.self.state c.args.u c.args.piece.now c.feed_driver-result.result (is_there c.forget_cost.new.self.state c.args.u true c.in_ok-connected.ensures.connected) c.feed_driver-result.ensures.told))
+
+pub returns-in_err-connected-clause-notes : goal.returns-in_err-connected-clause-notes
+returns-in_err-connected-clause-notes c = nothing_changed c.args.u c.args.self.now.state c.forget_cost.new.self.state c.forget_cost.new.self.notes c.forget_cost.ensures.state c.forget_cost.ensures.notes
+
+pub returns-clause-notes : goal.returns-clause-notes
+returns-clause-notes c = ups_noted c.args.u c.args.self.now.state c.forget_cost.new.self.state c.feed_driver-result.new.self.state c.note_changes.new.self.state c.condition-was.result _ _ c.forget_cost.ensures.state c.condition-was.ensures c.note_changes.ensures.state (c.feed_driver-result.ensures.notes ∙ c.forget_cost.ensures.notes) c.note_changes.ensures.notes

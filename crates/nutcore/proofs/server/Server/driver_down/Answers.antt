@@ -1,4 +1,4 @@
-use Rattle.std.proofs.Common.{◌≡◌, true, sym, subst, rules}
+use Rattle.std.proofs.Common.{◌≡◌, ◌∙◌, true, sym, subst, rules}
 use Rattle.std.proofs.lemmas.Result.{err_from_is_err_and}
 use Rattle.nutcore.proofs.DriverSteps.{is_there, there_within, down_refused, down_done}
 use Rattle.nutcore.specs.Ups.{after_loss}
@@ -6,6 +6,7 @@ use Rattle.nutcore.specs.Sound.{IsSoundUps}
 use Rattle.nutcore.proofs.SoundUps.{sound_loss}
 use Rattle.nutcore.proofs.KeptSound.{of_call, changed_by}
 use Rattle.nutcore.proofs.Runs.{served_from}
+use Rattle.nutcore.proofs.Notes.{nothing_changed, ups_noted}
 use Rattle.nutcore.proofs.server.Server.driver_down.Goals as goal
 
 pub returns-in_err-connected-clause-served : goal.returns-in_err-connected-clause-served
@@ -26,4 +27,10 @@ pub returns-clause-served : goal.returns-clause-served
 returns-clause-served c =
     let s = c.forget_cost.new.self.state in
     served_from _ _ _ _ _ c.forget_cost.ensures.state c.connected.ensures.lawful
-    (down_done s c.with_ups.new.self.state c.args.u (is_there s c.args.u true c.in_ok-connected.ensures.connected) (changed_by c.with_ups.ensures.changes after_loss (search rules)))
+    (down_done s c.note_changes.new.self.state c.args.u (is_there s c.args.u true c.in_ok-connected.ensures.connected) (c.note_changes.ensures.state ∙ changed_by c.with_ups.ensures.changes after_loss (search rules)))
+
+pub returns-in_err-connected-clause-notes : goal.returns-in_err-connected-clause-notes
+returns-in_err-connected-clause-notes c = nothing_changed c.args.u c.args.self.now.state c.forget_cost.new.self.state c.forget_cost.new.self.notes c.forget_cost.ensures.state c.forget_cost.ensures.notes
+
+pub returns-clause-notes : goal.returns-clause-notes
+returns-clause-notes c = ups_noted c.args.u c.args.self.now.state c.forget_cost.new.self.state c.with_ups.new.self.state c.note_changes.new.self.state c.condition-was.result _ _ c.forget_cost.ensures.state c.condition-was.ensures c.note_changes.ensures.state (c.with_ups.ensures.notes ∙ c.forget_cost.ensures.notes) c.note_changes.ensures.notes

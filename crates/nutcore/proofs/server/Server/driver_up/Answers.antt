@@ -7,6 +7,7 @@ use Rattle.nutcore.specs.Sound.{IsSoundUps}
 use Rattle.nutcore.proofs.SoundUps.{sound_connecting}
 use Rattle.nutcore.proofs.KeptSound.{of_call, changed_by}
 use Rattle.nutcore.proofs.Runs.{served_from, state_is}
+use Rattle.nutcore.proofs.Notes.{nothing_changed, ups_noted}
 use Rattle.nutcore.proofs.server.Server.driver_up.Goals as goal
 
 pub returns-in_err-ups_of-clause-served : goal.returns-in_err-ups_of-clause-served
@@ -38,4 +39,13 @@ returns-clause-served c =
     let there : IsThere s c.args.u false = record { ups = _; there = c.in_ok-ups_of.ensures.ups; is = sym c.is_connected.ensures ∙ c.if-is_connected.false } in
     let moment : c.self.inside.moment ≡ s.moment = ap (λ (z : ServerState). z.moment) (state_is c.self.view_is) in
     served_from _ _ _ _ _ c.forget_cost.ensures.state c.ups_of.ensures.lawful
-    (up_done s c.with_ups.new.self.state c.args.u there (changed_by c.with_ups.ensures.changes (after_connecting c.self.inside.moment) (search rules) ∙ ap (λ m. with_ups_changed (after_connecting m) c.args.u s) moment))
+    (up_done s c.note_changes.new.self.state c.args.u there (c.note_changes.ensures.state ∙ changed_by c.with_ups.ensures.changes (after_connecting c.self.inside.moment) (search rules) ∙ ap (λ m. with_ups_changed (after_connecting m) c.args.u s) moment))
+
+pub returns-in_err-ups_of-clause-notes : goal.returns-in_err-ups_of-clause-notes
+returns-in_err-ups_of-clause-notes c = nothing_changed c.args.u c.args.self.now.state c.forget_cost.new.self.state c.forget_cost.new.self.notes c.forget_cost.ensures.state c.forget_cost.ensures.notes
+
+pub returns-then-is_connected-clause-notes : goal.returns-then-is_connected-clause-notes
+returns-then-is_connected-clause-notes c = nothing_changed c.args.u c.args.self.now.state c.forget_cost.new.self.state c.forget_cost.new.self.notes c.forget_cost.ensures.state c.forget_cost.ensures.notes
+
+pub returns-clause-notes : goal.returns-clause-notes
+returns-clause-notes c = ups_noted c.args.u c.args.self.now.state c.forget_cost.new.self.state c.with_ups.new.self.state c.note_changes.new.self.state c.condition-was.result _ _ c.forget_cost.ensures.state c.condition-was.ensures c.note_changes.ensures.state (c.with_ups.ensures.notes ∙ c.forget_cost.ensures.notes) c.note_changes.ensures.notes

@@ -2,7 +2,7 @@ use Rattle.std.proofs.Common.{◌≡◌, ◌∙◌, true, false, ap, refl, sym, 
 use Rattle.std.proofs.lemmas.Result.{err_from_is_err_and}
 use Rattle.nutcore.specs.contracts.server.Server.{the_view}
 use Rattle.nutcore.specs.Server.{ServerState}
-use Rattle.nutcore.specs.Ups.{with_faulty_line}
+use Rattle.nutcore.specs.Ups.{fault_of, with_faulty_line}
 use Rattle.nutcore.specs.Promises.{front_or, DoesLine}
 use Rattle.nutcore.proofs.DriverSteps.{is_there, there_within, connected_as}
 use Rattle.nutcore.proofs.DriverLoops.{has_done, executes, lacks, settled_stays, counted_stays}
@@ -38,20 +38,20 @@ with_ups-requires-then-is_refused-clause-there c =
 pub returns-then-is_refused-clause-executes : goal.returns-then-is_refused-clause-executes
 returns-then-is_refused-clause-executes c =
     let h = has_done (the_view c.self.inside).state c.args.length c.args.piece.now (state_is c.self.view_is) c.requires.connected c.with_ups.ensures.changes (search rules) in
-    executes h c.settle-is_refused.new.self.state c.with_ups-then-is_refused.new.self.state c.in_ok-outcome.outcome true c.in_ok-outcome.was c.settle-is_refused.ensures.after (sym c.if-is_refused.true ∙ c.settle-is_refused.ensures.answer)
-    (changed_by c.with_ups-then-is_refused.ensures.changes with_faulty_line (search rules))
+    executes h c.settle-is_refused.new.self.state c.with_ups-then-is_refused.new.self.state c.in_ok-outcome.outcome true c.fault_of-fault.result c.fault_of-fault.ensures c.in_ok-outcome.was c.settle-is_refused.ensures.after (sym c.if-is_refused.true ∙ c.settle-is_refused.ensures.answer)
+    (changed_by c.with_ups-then-is_refused.ensures.changes (with_faulty_line c.fault_of-fault.result) (search rules))
 
 pub returns-then-is_refused-clause-connected : goal.returns-then-is_refused-clause-connected
 returns-then-is_refused-clause-connected c =
     let h = has_done (the_view c.self.inside).state c.args.length c.args.piece.now (state_is c.self.view_is) c.requires.connected c.with_ups.ensures.changes (search rules) in
     let mid = c.settle-is_refused.new.self.state in
-    counted_stays c.args.u mid c.with_ups-then-is_refused.new.self.state (changed_by c.with_ups-then-is_refused.ensures.changes with_faulty_line (search rules)) (settled_stays c.args.u c.with_ups.new.self.state mid _ c.settle-is_refused.ensures.after h.connected)
+    counted_stays c.args.u c.fault_of-fault.result mid c.with_ups-then-is_refused.new.self.state (changed_by c.with_ups-then-is_refused.ensures.changes (with_faulty_line c.fault_of-fault.result) (search rules)) (settled_stays c.args.u c.with_ups.new.self.state mid _ c.settle-is_refused.ensures.after h.connected)
 
 pub returns-else-is_refused-clause-executes : goal.returns-else-is_refused-clause-executes
 returns-else-is_refused-clause-executes c =
     let h = has_done (the_view c.self.inside).state c.args.length c.args.piece.now (state_is c.self.view_is) c.requires.connected c.with_ups.ensures.changes (search rules) in
     let mid = c.settle-is_refused.new.self.state in
-    executes h mid mid c.in_ok-outcome.outcome false c.in_ok-outcome.was c.settle-is_refused.ensures.after (sym c.if-is_refused.false ∙ c.settle-is_refused.ensures.answer) refl
+    executes h mid mid c.in_ok-outcome.outcome false (fault_of c.in_ok-outcome.outcome) refl c.in_ok-outcome.was c.settle-is_refused.ensures.after (sym c.if-is_refused.false ∙ c.settle-is_refused.ensures.answer) refl
 
 pub returns-else-is_refused-clause-connected : goal.returns-else-is_refused-clause-connected
 returns-else-is_refused-clause-connected c =

@@ -9,7 +9,7 @@ use Rattle.nutcore.specs.declared.event.Outcome.TheVariants.{Fed}
 use Rattle.nutcore.specs.declared.TheConstants.{HELD_LIMIT}
 use Rattle.nutcore.specs.Pump.{held_of, owed_of}
 use Rattle.nutcore.specs.Step.{with_input, offered, fed_by}
-use Rattle.nutcore.specs.Deeds.{IsNoted}
+use Rattle.nutcore.specs.Notes.{IsNoted}
 use Rattle.nutcore.specs.Cost.{RunningServer}
 use Rattle.nutcore.specs.contracts.server.Server.{the_view}
 use Rattle.nutcore.proofs.Runs.{state_is, served_from}
@@ -19,7 +19,7 @@ use Rattle.nutcore.proofs.KeptSound.{session_kept, joined_kept}
 use Rattle.nutcore.proofs.EventSteps.{with_input_is, feed_absent, feed_gives}
 use Rattle.nutlisting.proofs.PublicLaws.{what_is_placed_is_counted}
 use Rattle.nutcore.proofs.Costs.{of_set, refused_feed_costs, feed_costs}
-use Rattle.nutcore.proofs.Deeds.{fed_absent, fed_noted}
+use Rattle.nutcore.proofs.Notes.{fed_absent, fed_noted}
 use Rattle.nutcore.proofs.server.Server.feed.Goals as goal
 use Rattle.nutlisting.specs.Counted.{IsCounted}
 
@@ -31,8 +31,8 @@ returns-in_err-place c =
       served = subst (λ (r : Result ℕ Fault). Serves c.args.self.now.state (Feed c.args.c c.args.piece.now) (outcome_of_feed r) c.forget_cost.new.self.state) (sym (p.1 ∙ ap Err (p.2 ∙ found.0)))
           (served_from _ _ _ _ _ c.forget_cost.ensures.state c.place_of.ensures.lawful (feed_absent _ _ _ found.1));
       cost = c.forget_cost.ensures.none ∙ refused_feed_costs _ _ _ _ c.forget_cost.ensures.state;
-      deeds = subst (λ (r : Result ℕ Fault). IsNoted c.forget_cost.new.self.deeds c.args.self.now.state (Feed c.args.c c.args.piece.now) (outcome_of_feed r)) (sym (p.1 ∙ ap Err (p.2 ∙ found.0)))
-          (fed_absent _ _ _ _ _ c.forget_cost.ensures.state found.1 c.forget_cost.ensures.deeds);
+      notes = subst (λ (r : Result ℕ Fault). IsNoted c.args.self.now.state (Feed c.args.c c.args.piece.now) (outcome_of_feed r) c.forget_cost.new.self) (sym (p.1 ∙ ap Err (p.2 ∙ found.0)))
+          (fed_absent _ _ _ _ _ c.forget_cost.ensures.state found.1 c.forget_cost.ensures.notes);
     }
 
 pub invariant_of-self : goal.invariant_of-self
@@ -49,7 +49,7 @@ serve-requires c =
     let none : c.self.inside.scratch.renders ≡ 0 = ap (λ (r : RunningServer). r.cost.rendered) c.self.view_is ∙ ap (λ (k : Cost). k.rendered) c.forget_cost.ensures.none in
     let before : IsCounted c.offered-kept.result c.index_mut-session.result.now.owed c.self.inside.scratch.renders = subst (λ (k : ℕ). IsCounted k c.index_mut-session.result.now.owed c.self.inside.scratch.renders) (sym c.offered-kept.ensures) (what_is_placed_is_counted.none _ _ none) in
     record {
-      unnoted = ap (λ (r : RunningServer). r.deeds) c.self.view_is ∙ c.forget_cost.ensures.deeds;
+      unnoted = ap (λ (r : RunningServer). r.notes) c.self.view_is ∙ c.forget_cost.ensures.notes;
       at = at_set _ _ _ _ here.at (c.join-count.ensures.id ∙ find_id _ _ _ here.found);
       short = of_set (λ o. length (held_of o) ≤ HELD_LIMIT) (the_view c.self.inside).state _ _ _ _ here.at here.found c.join-count.ensures.id c.join-count.ensures.short;
       counted = of_set (λ o. IsCounted c.offered-kept.result (owed_of o) c.self.inside.scratch.renders) (the_view c.self.inside).state _ _ _ _ here.at here.found c.join-count.ensures.id
@@ -67,7 +67,7 @@ returns c =
       served = served_from _ _ _ _ _ c.forget_cost.ensures.state c.place_of.ensures.lawful
           (feed_gives _ _ _ _ _ _ c.join-count.result (Ok tt) found fed count c.in_ok-serve.ensures.gives);
       cost = c.in_ok-serve.ensures.cost ∙ feed_costs _ _ c.serve.new.self.state _ _ _ c.forget_cost.ensures.state kept c.in_ok-serve.ensures.within;
-      deeds = fed_noted _ _ _ _ _ _ c.serve.new.self.deeds c.forget_cost.ensures.state fed c.in_ok-serve.ensures.deeds;
+      notes = fed_noted _ _ _ _ _ (outcome_of_feed (Ok c.join-count.result)) c.serve.new.self c.forget_cost.ensures.state fed c.in_ok-serve.ensures.notes;
     }
 
 pub returns-in_err-serve : goal.returns-in_err-serve
@@ -82,6 +82,6 @@ returns-in_err-serve c =
       served = subst (λ (r : Result ℕ Fault). Serves c.args.self.now.state (Feed c.args.c c.args.piece.now) (outcome_of_feed r) c.serve.new.self.state) (sym (p.1 ∙ ap Err p.2))
           (served_from _ _ _ _ _ c.forget_cost.ensures.state c.place_of.ensures.lawful (feed_gives _ _ _ _ _ _ c.join-count.result (Err c.in_err-serve.field-0.0) found fed count c.in_err-serve.ensures.gives));
       cost = c.in_err-serve.ensures.cost ∙ feed_costs _ _ c.serve.new.self.state _ _ _ c.forget_cost.ensures.state kept c.in_err-serve.ensures.within;
-      deeds = subst (λ (r : Result ℕ Fault). IsNoted c.serve.new.self.deeds c.args.self.now.state (Feed c.args.c c.args.piece.now) (outcome_of_feed r)) (sym (p.1 ∙ ap Err p.2))
-          (fed_noted _ _ _ _ _ _ c.serve.new.self.deeds c.forget_cost.ensures.state fed c.in_err-serve.ensures.deeds);
+      notes = subst (λ (r : Result ℕ Fault). IsNoted c.args.self.now.state (Feed c.args.c c.args.piece.now) (outcome_of_feed r) c.serve.new.self) (sym (p.1 ∙ ap Err p.2))
+          (fed_noted _ _ _ _ _ (outcome_of_feed (Err c.in_err-serve.field-0.0)) c.serve.new.self c.forget_cost.ensures.state fed c.in_err-serve.ensures.notes);
     }

@@ -13,7 +13,7 @@ use Rattle.nutcore.proofs.Costs.{cost_kept}
 use Rattle.nutcore.proofs.Found.{find_id}
 use Rattle.nutcore.proofs.KeptSound.{session_kept, noticed_kept}
 use Rattle.nutcore.proofs.Serving.{begins, goes_on, ok_when, err_when, line_there, no_line_there, ends_at, StandsAt, stands, at_set, notice_is, at_line, pump_gives, refused}
-use Rattle.nutcore.proofs.Deeds.{noted_next, noted_all}
+use Rattle.nutcore.proofs.Notes.{noted_next, noted_all}
 use Rattle.nutcore.proofs.server.Server.pump.Goals as goal
 
 pub loop-end-init : goal.loop-end-init
@@ -48,7 +48,7 @@ loop-end-preserved c =
       at = subst (λ (z : ServerState). IsAt c.args.c c.args.place z.sessions) (sym e) (at_line t c.args.c c.args.place there.0 c.loop-end.invariant.at there.1);
       keeps = λ kept counted. c.execute.ensures.keeps kept (c.loop-end.invariant.keeps kept counted);
       done = goes_on c.args.self.now.state t c.execute.new.self.state c.args.c c.loop-end.done c.loop-end.invariant.done e;
-      noted = noted_next c.args.self.now.state t c.args.c c.loop-end.done c.loop-end.self.deeds c.execute.new.self.deeds c.loop-end.invariant.done c.loop-end.invariant.noted (ok_when c.execute.result _ (sym c.is_err.ensures.value ∙ c.if-is_err.false) c.execute.ensures.noted);
+      noted = noted_next c.args.self.now.state t c.args.c c.loop-end.done c.loop-end.self.notes c.execute.new.self.notes c.loop-end.invariant.done c.loop-end.invariant.noted (ok_when c.execute.result _ (sym c.is_err.ensures.value ∙ c.if-is_err.false) c.execute.ensures.noted);
       rest = omega (arith, rw (← e) at less, c.loop-end.invariant.rest);
     }
 
@@ -69,7 +69,7 @@ returns-then-is_err c =
     let same = err_when c.execute.result _ failed c.execute.ensures.err in
     record {
       gives = refused c.args.self.now.state c.loop-end.self.state c.execute.new.self.state c.args.c c.loop-end.done c.loop-end.invariant.done (err_when c.execute.result _ failed c.execute.ensures.memory) same;
-      deeds = err_when c.execute.result _ failed c.execute.ensures.unnoted ∙ c.loop-end.invariant.noted;
+      notes = err_when c.execute.result _ failed c.execute.ensures.unnoted ∙ c.loop-end.invariant.noted;
       keeps = λ kept counted. c.execute.ensures.keeps kept (c.loop-end.invariant.keeps kept counted);
       at = subst (λ (z : ServerState). IsAt c.args.c c.args.place z.sessions) (sym same) c.loop-end.invariant.at;
     }
@@ -92,7 +92,8 @@ returns c =
     record {
       gives = pump_gives c.args.self.now.state t _ c.args.c c.loop-end.done c.refuse_overlong.result c.loop-end.invariant.done le none noticed
           (c.refuse_overlong.ensures.overlong ∙ sym (ap (λ (o : Option SessionState). refused_overlong (option_map_or holds_overlong o false)) found));
-      deeds = noted_all c.args.self.now.state t c.args.c c.loop-end.done (holds_overlong x) c.refuse_overlong.result (the_view c.self-2.inside).deeds c.loop-end.invariant.done le none c.refuse_overlong.ensures.overlong (ap (λ (r : RunningServer). r.deeds) c.self-2.view_is ∙ c.loop-end.invariant.noted);
+      notes = noted_all c.args.self.now.state t c.args.c c.loop-end.done x c.refuse_overlong.result (the_view c.self-2.inside).notes c.refuse_overlong.new.notes c.loop-end.invariant.done le none found c.refuse_overlong.ensures.overlong
+          (ap (λ (r : RunningServer). r.notes) c.self-2.view_is ∙ c.loop-end.invariant.noted) c.refuse_overlong.ensures.noted;
       keeps = λ kept counted. keeps kept (c.loop-end.invariant.keeps kept counted);
       at = at_set c.args.c c.args.place v.sessions y here.at (c.refuse_overlong.ensures.id ∙ find_id c.args.c v.sessions x here.found);
     }

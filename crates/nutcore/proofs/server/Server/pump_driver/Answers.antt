@@ -8,7 +8,7 @@ loop-used-init c = record {
   at = λ x there. begins c.args.u c.args.self.now.state x c.args.piece.now there;
   connected = c.requires.connected;
   cost = refl;
-  deeds = refl;
+  notes = refl;
   left = omega arith;
 }
 
@@ -29,7 +29,7 @@ loop-used-preserved c =
           (read_on c.args.u c.loop-used.done c.in-Ok-Some.used (x.unfinished ++ c.args.piece.now) c.args.self.now.state c.loop-used.self.state c.read_driver_line.new.self.state c.loop-used.rest.now (c.loop-used.invariant.at x there) _ c.in-Ok-Some.field-0-is c.in-Ok-Some.ensures.reads);
       connected = c.read_driver_line.ensures.connected;
       cost = c.read_driver_line.ensures.cost ∙ c.loop-used.invariant.cost;
-      deeds = c.read_driver_line.ensures.deeds ∙ c.loop-used.invariant.deeds;
+      notes = c.read_driver_line.ensures.notes ∙ c.loop-used.invariant.notes;
       left = omega (arith, some.0, some.1, c.loop-used.invariant.left, ap length c.unused-rest.ensures, length-drop c.in-Ok-Some.used c.loop-used.rest.now);
     }
 

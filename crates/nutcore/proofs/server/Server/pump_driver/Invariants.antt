@@ -12,7 +12,7 @@ invariant-loop-used l = record {
   at : OfUps l.fn.u l.fn.self.state (λ x. IsAtLine l.u l.done (x.unfinished ++ l.fn.piece) l.fn.self.state l.self.state l.rest);
   connected : option_map is_connected (ups_at l.u.place l.self.state) ≡ Some true;
   cost : l.self.cost ≡ l.fn.self.cost;
-  deeds : l.self.deeds ≡ l.fn.self.deeds;
+  notes : l.self.notes ≡ l.fn.self.notes;
   left : l.done + length l.rest ≤ length l.fn.piece;
 }
 

@@ -1,0 +1,177 @@
+-- What is noted of an event.
+use Rattle.std.proofs.Common.{◌≡◌, ◌∙◌, ℕ, zero, suc, ◌+◌, ◌-◌, ◌≤◌, Bool, true, false, List, [], ◌∷◌, ◌++◌, Option, Some, None, Result, refl, ap, sym, arith, length, take, zero-add, append-nil, append_assoc, slice_get}
+use Rattle.std.specs.Prelude.{if◌then◌else◌}
+use Rattle.std.specs.List.{filter_map, cons_option}
+use Rattle.std.specs.Option.{option_and_then}
+use Rattle.std.proofs.lemmas.Bool.Decides.{nat_tests}
+use Rattle.std.proofs.lemmas.List.Elements.{filter_map-append}
+use Rattle.nutanswer.specs.declared.command.Command.{Command}
+use Rattle.nutanswer.specs.declared.err_word.ErrWord.{ErrWord}
+use Rattle.nutanswer.specs.Command.{read_command}
+use Rattle.nutanswer.specs.declared.reply.Reply.{Reply}
+use Rattle.nutusers.specs.UpsList.{id_at}
+use Rattle.nutcore.proofs.Common.{Fault, SessionState, ServerState, session, UpsId}
+use Rattle.nutcore.specs.declared.note.Note.{Note}
+use Rattle.nutcore.specs.declared.note.Note.TheVariants.{DataStale}
+use Rattle.nutcore.specs.declared.note.Condition.{Condition}
+use Rattle.nutcore.specs.declared.note.TheConstants.{NOTE_LIMIT}
+use Rattle.nutcore.specs.declared.event.Event.TheVariants.{Feed, Took}
+use Rattle.nutcore.specs.Ups.{UpsState}
+use Rattle.nutcore.specs.Calls.{done}
+use Rattle.nutcore.specs.Step.{with_input, without_output, may_take, refused_after}
+use Rattle.nutcore.specs.Pump.{next_line, next_line_for, after_line, after_lines, after_all_lines, pump_stops, held_of, holds_overlong}
+use Rattle.nutcore.specs.History.{Execution, next_execution, lines_executed, notice, pump_executions, executions_until}
+use Rattle.nutcore.specs.Notes.{note_of, notes_of_lines, notes_of_pump, note_of_notice, logout_of, refusal_note, driver_note, data_note, notes_between, condition_at, goes_stale, stale_notes, IsNoted}
+use Rattle.nutcore.specs.Cost.{RunningServer}
+use Rattle.nutcore.specs.declared.event.Outcome.{Outcome}
+use Rattle.nutcore.specs.Promises.{Replies, refused_overlong, is_told_by, note_in_reply, with_note, told_next, with_next, with_changes}
+use Rattle.nutcore.proofs.Loops.{none_of, stopped_line, all_lines_are}
+use Rattle.nutcore.proofs.EventSteps.{input_absent}
+
+-- the lines that are executed, and those after them
+executed-add : (j k : ℕ) (s : ServerState) (c : ℕ) → lines_executed (j + k) s c ≡ lines_executed j s c ++ lines_executed k (after_lines j s c) c
+unfolding lines_executed after_lines
+executed-add zero k s c = ap (λ n. lines_executed n s c) (zero-add k)
+executed-add (suc j) k s c =
+    let e : suc j + k ≡ suc (j + k) = omega arith in
+    cc (executed-add j k (after_line s c) c, append_assoc (next_execution s c (next_line_for s c)) (lines_executed j (after_line s c) c) (lines_executed k (after_lines j (after_line s c) c) c))
+
+-- where the pump stops, no more are
+none_executed : (k : ℕ) (s : ServerState) (c : ℕ) → pump_stops s c ≡ true → lines_executed k s c ≡ []
+unfolding lines_executed
+none_executed zero s c stop = refl
+none_executed (suc k) s c stop = cc (none_of (next_line_for s c) stop, stopped_line s c stop, none_executed k s c stop)
+
+all_executed : (k : ℕ) (s : ServerState) (c : ℕ) → k ≤ length (held_of (session c s)) → pump_stops (after_lines k s c) c ≡ true → lines_executed (length (held_of (session c s))) s c ≡ lines_executed k s c
+all_executed k s c le stop =
+    let n = length (held_of (session c s)) in
+    let e : n ≡ k + (n - k) = omega arith in
+    cc (executed-add k (n - k) s c, none_executed (n - k) (after_lines k s c) c stop, append-nil (lines_executed k s c))
+
+-- all that the pump notes, where it ends there
+pumped_all : (k : ℕ) (s t : ServerState) (c : ℕ) → t ≡ after_lines k s c → k ≤ length (held_of (session c s)) → next_line_for t c ≡ None → notes_of_pump s c None ≡ notes_of_lines (lines_executed k s c) ++ cons_option (note_of_notice t c) []
+unfolding executions_until pump_executions
+pumped_all k s t c e le none =
+    let stop : pump_stops (after_lines k s c) c ≡ true = cc (e, none) in
+    let all : List Execution = lines_executed (length (held_of (session c s))) s c in
+    let lines : notes_of_lines (executions_until s c None) ≡ notes_of_lines (lines_executed k s c) =
+    grind (arith, filter_map-append note_of all (notice (after_all_lines s c) c), append-nil (filter_map note_of all), all_executed k s c le stop) in
+    cc (lines, all_lines_are k s c le stop, e)
+
+-- as many are noted of what is there and what comes as of what was there before
+take_onto : (n : ℕ) (xs ys : List Note) → take n (take n xs ++ ys) ≡ take n (xs ++ ys)
+take_onto zero xs ys = refl
+take_onto (suc n) [] ys = refl
+take_onto (suc n) (x ∷ xs) ys = cc (take_onto n xs ys)
+
+pub one_noted : (xs : List Note) (o : Option Note) (notes : List Note) → notes ≡ take NOTE_LIMIT xs → with_note o notes ≡ take NOTE_LIMIT (xs ++ cons_option o [])
+one_noted xs o notes e = grind (arith, take_onto NOTE_LIMIT xs, append-nil)
+
+next_notes : (s : ServerState) (c : ℕ) (o : Option (List ℕ)) → cons_option (told_next s c o) [] ≡ filter_map note_of (next_execution s c o)
+next_notes s c o = grind arith
+
+-- it goes on
+pub noted_next : (s t : ServerState) (c k : ℕ) (notes notes' : List Note) → t ≡ after_lines k s c → notes ≡ take NOTE_LIMIT (notes_of_lines (lines_executed k s c)) → notes' ≡ with_next t c notes → notes' ≡ take NOTE_LIMIT (notes_of_lines (lines_executed (k + 1) s c))
+unfolding lines_executed
+noted_next s t c k notes notes' e so_far more =
+    let next : Option (List ℕ) = next_line_for t c in
+    let xs : List Execution = lines_executed k s c in
+    cc (one_noted (filter_map note_of xs) (told_next t c next) notes so_far, next_notes t c next, filter_map-append note_of xs (next_execution t c next), append-nil (next_execution t c next), executed-add k 1 s c)
+
+-- it ends: all lines are done
+pub noted_all : (s t : ServerState) (c k : ℕ) (x : SessionState) (r : Result (Unit {0}) Fault) (notes notes' : List Note) → t ≡ after_lines k s c → k ≤ length (held_of (session c s)) → next_line_for t c ≡ None → session c t ≡ Some x → r ≡ refused_overlong (holds_overlong x)
+    → notes ≡ take NOTE_LIMIT (notes_of_lines (lines_executed k s c)) → notes' ≡ with_note (if holds_overlong x then logout_of x else None) notes → notes' ≡ take NOTE_LIMIT (notes_of_pump s c (refused_after (done r)))
+noted_all s t c k x r notes notes' e le none found told so_far more =
+    let one = one_noted (notes_of_lines (lines_executed k s c)) (note_of_notice t c) notes so_far in
+    let noticed : note_of_notice t c ≡ (if holds_overlong x then logout_of x else None) = ap (λ (o : Option SessionState). option_and_then (λ y. if holds_overlong y then logout_of y else None) o) found in
+    let ends : refused_after (done r) ≡ None = grind (arith, told) in
+    cc (more, noticed, one, ends, pumped_all k s t c e le none)
+
+-- so it is noted, where it is told, and else nothing is
+pub noted_reply : (s : ServerState) (c : ℕ) (line : List ℕ) (r : Reply) (told : Bool) (read : Result (Option Command) ErrWord) (x : SessionState) (before notes : List Note) → next_line_for s c ≡ Some line → session c s ≡ Some x → Replies s c line r → told ≡ is_told_by s.upses r → read_command line ≡ read →
+    notes ≡ with_note (if told then note_in_reply x read r else None) before → notes ≡ with_next s c before
+noted_reply s c line r told read x before notes next found is e reads noted = grind arith
+
+-- where the client isn't open, nothing is
+pub fed_absent : (s s' : ServerState) (c : ℕ) (piece : List ℕ) (notes : List Note) → s' ≡ s → session c s' ≡ None → notes ≡ [] → notes ≡ take NOTE_LIMIT (notes_of_pump (with_input s c piece) c None)
+unfolding lines_executed after_lines
+fed_absent s s' c piece notes same absent none =
+    let stops : next_line_for s' c ≡ None = ap (option_and_then next_line) absent in
+    let nothing : note_of_notice s' c ≡ None = ap (option_and_then (λ (x : SessionState). if holds_overlong x then logout_of x else None)) absent in
+    let as_it_was : with_input s c piece ≡ s' = ap (λ (z : ServerState). with_input z c piece) (sym same) ∙ input_absent s' c piece absent in
+    none
+    ∙ sym (ap (λ (z : ServerState). take NOTE_LIMIT (notes_of_pump z c None)) as_it_was
+    ∙ ap (take NOTE_LIMIT) (pumped_all 0 s' s' c refl (omega arith) stops ∙ ap (λ (o : Option Note). cons_option o []) nothing))
+
+pub fed_noted : (s s' j : ServerState) (c : ℕ) (piece : List ℕ) (o : Outcome) (r : RunningServer) → s' ≡ s → j ≡ with_input s' c piece → r.notes ≡ take NOTE_LIMIT (notes_of_pump j c (refused_after o)) → IsNoted s (Feed c piece) o r
+fed_noted s s' j c piece o r same fed noted =
+    noted ∙ ap (λ (z : ServerState). take NOTE_LIMIT (notes_of_pump z c (refused_after o))) (fed ∙ ap (λ (z : ServerState). with_input z c piece) same)
+
+pub took_never : (s s' : ServerState) (c n : ℕ) (o : Outcome) (r : RunningServer) → s' ≡ s → may_take (session c s') n ≡ false → r.notes ≡ [] → IsNoted s (Took c n) o r
+took_never s s' c n o r same never none =
+    none ∙ sym (ap (λ (b : Bool). take NOTE_LIMIT (if b then notes_of_pump (without_output s c n) c (refused_after o) else [])) (ap (λ (z : ServerState). may_take (session c z) n) (sym same) ∙ never))
+
+pub took_noted : (s s' j : ServerState) (c n : ℕ) (o : Outcome) (r : RunningServer) → s' ≡ s → may_take (session c s') n ≡ true → j ≡ without_output s' c n → r.notes ≡ take NOTE_LIMIT (notes_of_pump j c (refused_after o)) → IsNoted s (Took c n) o r
+took_noted s s' j c n o r same may took noted =
+    noted
+    ∙ ap (λ (z : ServerState). take NOTE_LIMIT (notes_of_pump z c (refused_after o))) (took ∙ ap (λ (z : ServerState). without_output z c n) same)
+    ∙ sym (ap (λ (b : Bool). take NOTE_LIMIT (if b then notes_of_pump (without_output s c n) c (refused_after o) else [])) (ap (λ (z : ServerState). may_take (session c z) n) (sym same) ∙ may))
+
+-- what changed of a UPS, where nothing was noted before
+pub changes_noted : (u : UpsId) (was is : Option Condition) (notes before : List Note) → before ≡ [] → notes ≡ with_changes u was is before → notes ≡ take NOTE_LIMIT (notes_between u was is)
+changes_noted u None is notes before none e = cc
+changes_noted u (Some was) None notes before none e = cc
+changes_noted u (Some was) (Some is) notes before none e =
+    let a = refusal_note u was is in
+    let b = driver_note u was.is_connected is.is_connected in
+    let d = data_note u was.is_usable is.is_usable is.is_connected in
+    let one = one_noted [] a before none in
+    let two = one_noted ([] ++ cons_option a []) b (with_note a before) one in
+    let three = one_noted (([] ++ cons_option a []) ++ cons_option b []) d (with_note b (with_note a before)) two in
+    e ∙ three ∙ ap (take NOTE_LIMIT) (joined a b d)
+  where
+    joined : (a b d : Option Note) → (([] ++ cons_option a []) ++ cons_option b []) ++ cons_option d [] ≡ cons_option a (cons_option b (cons_option d []))
+    joined a b d = grind arith
+
+-- nothing changed
+pub nothing_changed : (u : UpsId) (s t : ServerState) (notes : List Note) → t ≡ s → notes ≡ [] → notes ≡ take NOTE_LIMIT (notes_between u (condition_at u s) (condition_at u t))
+nothing_changed u s t notes same none = none ∙ ap (take NOTE_LIMIT) (sym (unchanged u (condition_at u s))) ∙ ap (λ (z : ServerState). take NOTE_LIMIT (notes_between u (condition_at u s) (condition_at u z))) (sym same)
+  where
+    no_data : (u : UpsId) (b c : Bool) → data_note u b b c ≡ None
+    no_data u true c = refl
+    no_data u false c = refl
+
+    no_driver : (u : UpsId) (b : Bool) → driver_note u b b ≡ None
+    no_driver u true = refl
+    no_driver u false = refl
+
+    unchanged : (u : UpsId) (o : Option Condition) → notes_between u o o ≡ []
+    unchanged u None = refl
+    unchanged u (Some x) = grind (arith, nat_tests, no_data, no_driver)
+
+-- the clock makes one more stale, or doesn't
+abbrev pub stale_at : ℕ → ℕ → ℕ → ℕ → UpsState → List Note
+stale_at max_age was now place x = cons_option (if goes_stale max_age was now x then Some (DataStale (id_at place)) else None) []
+
+then_more : (o : Option Note) (xs ys : List Note) → cons_option o (xs ++ ys) ≡ cons_option o xs ++ ys
+then_more None xs ys = refl
+then_more (Some x) xs ys = refl
+
+pub stale_so_far : (max_age was now place p : ℕ) (xs : List UpsState) (x : UpsState) → slice_get xs p ≡ Some x → stale_notes max_age was now place (take (suc p) xs) ≡ stale_notes max_age was now place (take p xs) ++ stale_at max_age was now (place + p) x
+stale_so_far max_age was now place p [] x e = absurd (cc)
+stale_so_far max_age was now place zero (y ∷ ys) x e =
+    let same : y ≡ x = cc in
+    let here : place + 0 ≡ place = omega arith in
+    ap (stale_at max_age was now place) same ∙ ap (λ k. stale_at max_age was now k x) (sym here)
+stale_so_far max_age was now place (suc p) (y ∷ ys) x e =
+    let there : suc place + p ≡ place + suc p = omega arith in
+    let first : Option Note = if goes_stale max_age was now y then Some (DataStale (id_at place)) else None in
+    ap (cons_option first) (stale_so_far max_age was now (suc place) p ys x e ∙ ap (λ k. stale_notes max_age was now (suc place) (take p ys) ++ stale_at max_age was now k x) there)
+    ∙ then_more first (stale_notes max_age was now (suc place) (take p ys)) (stale_at max_age was now (place + suc p) x)
+
+-- what is noted of an event of a driver
+pub ups_noted : (u : UpsId) (s s' mid t : ServerState) (was : Option Condition) (notes before : List Note) → s' ≡ s → was ≡ condition_at u s' → t ≡ mid → before ≡ [] → notes ≡ with_changes u was (condition_at u mid) before → notes ≡ take NOTE_LIMIT (notes_between u (condition_at u s) (condition_at u t))
+ups_noted u s s' mid t was notes before same stood leaves none e =
+    changes_noted u was (condition_at u mid) notes before none e
+    ∙ ap (λ (o : Option Condition). take NOTE_LIMIT (notes_between u o (condition_at u mid))) (stood ∙ ap (condition_at u) same)
+    ∙ ap (λ (z : ServerState). take NOTE_LIMIT (notes_between u (condition_at u s) (condition_at u z))) (sym leaves)

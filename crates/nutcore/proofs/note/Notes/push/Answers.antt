@@ -1,0 +1,14 @@
+use Rattle.std.proofs.Common.{◌≡◌, ◌≤◌, ◌∙◌, ◌++◌, ◌∷◌, [], List, ap, sym, length, arith, length-append, take_all, take_at}
+use Rattle.nutcore.specs.declared.note.Note.{Note}
+use Rattle.nutcore.specs.declared.note.TheConstants.{NOTE_LIMIT}
+use Rattle.nutcore.proofs.note.Notes.push.Goals as goal
+
+pub returns-then-len-lt-NOTE_LIMIT : goal.returns-then-len-lt-NOTE_LIMIT
+returns-then-len-lt-NOTE_LIMIT c =
+    let more : c.push.new.self.items ≡ c.self.inside.noted.items ++ c.args.note ∷ [] = rw c.unwrap.ensures at c.push.ensures.items in
+    let all : c.push.new.self.items ≡ c.args.self.now ++ c.args.note ∷ [] = more ∙ ap (λ (xs : List Note). xs ++ c.args.note ∷ []) c.self.view_is in
+    let few : length (c.args.self.now ++ c.args.note ∷ []) ≤ NOTE_LIMIT = omega (arith, length-append c.args.self.now (c.args.note ∷ []), ap length c.self.view_is, c.len.ensures, c.if-len-lt-NOTE_LIMIT.true) in
+    all ∙ sym (take_all NOTE_LIMIT (c.args.self.now ++ c.args.note ∷ []) few)
+
+pub returns-else-len-lt-NOTE_LIMIT : goal.returns-else-len-lt-NOTE_LIMIT
+returns-else-len-lt-NOTE_LIMIT c = grind (arith, take_at c.args.self.now (c.args.note ∷ []) NOTE_LIMIT)

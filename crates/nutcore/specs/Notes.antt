@@ -1,0 +1,185 @@
+-- What is noted of an event, for the journal: names, and never a value or a password.
+use Rattle.std.specs.Prelude.{◌≡◌, ℕ, suc, ◌-◌, ◌==◌, ◌&&◌, Bool, true, false, not, List, [], ◌∷◌}
+use Rattle.std.specs.Prelude.{◌++◌, Option, Some, None, Result, Ok, codes, drop, nat_eq, slice_get}
+use Rattle.std.specs.Prelude.{take, max, if◌then◌else◌}
+use Rattle.std.specs.List.{starts_with, filter_map, cons_option}
+use Rattle.std.specs.Option.{option_map, option_map_or, option_and_then}
+use Rattle.std.specs.Result.{result_ok}
+use Rattle.nutwords.specs.Reading.{read_name}
+use Rattle.nutusers.specs.declared.ups_list.UpsId.{UpsId}
+use Rattle.nutanswer.specs.declared.command.Command.{Command}
+use Rattle.nutanswer.specs.declared.command.Command.TheVariants.{Login, Primary, Fsd, SetVar}
+use Rattle.nutanswer.specs.declared.command.Command.TheVariants.{InstCmd, Logout}
+use Rattle.nutanswer.specs.declared.err_word.ErrWord.{ErrWord}
+use Rattle.nutanswer.specs.declared.reply.Change.{Change}
+use Rattle.nutanswer.specs.declared.reply.Change.TheVariants as changes
+use Rattle.nutanswer.specs.Command.{read_command}
+use Rattle.nutcore.specs.declared.note.Note.{Note}
+use Rattle.nutcore.specs.declared.note.Note.TheVariants.{DriverConnected, DriverLost, DataGood}
+use Rattle.nutcore.specs.declared.note.Note.TheVariants.{DataStale, LinesRefused, LoggedOut, Did}
+use Rattle.nutcore.specs.declared.note.Condition.{Condition}
+use Rattle.nutcore.specs.declared.note.Verb.{Verb}
+use Rattle.nutcore.specs.declared.note.Verb.TheVariants as verbs
+use Rattle.nutcore.specs.declared.note.TheConstants.{NOTE_LIMIT}
+use Rattle.nutcore.specs.declared.event.Event.{Event}
+use Rattle.nutcore.specs.declared.event.Event.TheVariants.{DriverUp, DriverBytes, DriverDown, Tick}
+use Rattle.nutcore.specs.declared.event.Event.TheVariants.{Feed, Took, Close}
+use Rattle.nutcore.specs.declared.event.Outcome.{Outcome}
+use Rattle.nutwords.specs.SplitLine.{first_line}
+use Rattle.nutanswer.specs.View.{readiness}
+use Rattle.nutusers.specs.UpsList.{id_at}
+use Rattle.nutcore.specs.Ups.{UpsState}
+use Rattle.nutcore.specs.Session.{SessionState}
+use Rattle.nutcore.specs.Server.{ServerState, session, ups_at}
+use Rattle.nutcore.specs.Step.{with_input, without_output, may_take, refused_after}
+use Rattle.nutcore.specs.Pump.{after_all_lines, holds_overlong}
+use Rattle.nutcore.specs.Status.{is_usable, has_usable_data}
+use Rattle.nutcore.specs.Cost.{RunningServer}
+use Rattle.nutcore.specs.Reply.{reply, change_by}
+use Rattle.nutcore.specs.History.{Execution, of_line, of_notice, executions_until}
+
+-- A line is refused that is answered by ERR and a word.
+abbrev pub is_refusal : List ℕ → Bool
+is_refusal text = starts_with nat_eq text (codes "ERR ")
+
+-- That word.
+abbrev pub refusal_in : List ℕ → Option (List ℕ)
+refusal_in text =
+    if is_refusal text
+    then option_and_then (λ word. result_ok (read_name word)) (first_line (drop 4 text)) else None
+
+-- A forced shutdown of the UPS is set.
+abbrev pub is_forced : UpsId → List UpsState → Bool
+is_forced u upses = option_map_or (λ x. x.fsd) (slice_get upses u.place) false
+
+-- A line that is answered so, and changes this, is noted: where it is a granted login, where the
+-- session ends, where it sets a forced shutdown that isn't set, where it is an order to a driver,
+-- and where it is refused.
+abbrev pub is_told : List UpsState → List ℕ → Change → Bool
+is_told upses text (changes.Login u) = true
+is_told upses text changes.Ending = true
+is_told upses text (changes.Fsd u) = not (is_forced u upses)
+is_told upses text (changes.Order u line) = true
+is_told upses text (changes.Tracked u id line) = true
+is_told upses text _ = is_refusal text
+
+-- The logout of a session that is logged in.
+abbrev pub logout_of : SessionState → Option Note
+logout_of x =
+    option_map (λ u. LoggedOut (record { u = u; user = x.username; address = x.address })) x.login
+
+-- What the session did by a command that was refused by this word, or granted.
+abbrev pub did : SessionState → Option (List ℕ) → Verb → Option (List ℕ) → Option (List ℕ)
+    → Option Note
+did x refusal verb ups name =
+    Some (Did (record { client = x.id; verb = verb; ups = ups; name = name; refusal = refusal }))
+
+abbrev pub note_of_command : SessionState → Option (List ℕ) → Command → Option Note
+note_of_command x refusal (Login ups) = did x refusal verbs.Login ups None
+note_of_command x refusal (Primary ups) = did x refusal verbs.Primary ups None
+note_of_command x refusal (Fsd ups) = did x refusal verbs.Fsd ups None
+note_of_command x refusal (SetVar ups name value) = did x refusal verbs.SetVar ups name
+note_of_command x refusal (InstCmd ups name value) = did x refusal verbs.InstCmd ups name
+note_of_command x refusal Logout = logout_of x
+note_of_command x refusal _ = None
+
+-- What is noted of a line that was read so, and answered so.
+abbrev pub note_read : SessionState → Result (Option Command) ErrWord → List ℕ → Option Note
+note_read x (Ok (Some command)) text = note_of_command x (refusal_in text) command
+note_read x _ text = None
+
+-- What is noted of an executed line, on the server as it was at that moment.
+abbrev pub note_of : Execution → Option Note
+note_of (of_line s c line) =
+    if is_told s.upses (reply s c line) (change_by s c (read_command line))
+    then option_and_then (λ x. note_read x (read_command line) (reply s c line)) (session c s)
+    else None
+note_of (of_notice c) = None
+
+-- What is noted where the session is told that its line is too long: it begins to end.
+abbrev pub note_of_notice : ServerState → ℕ → Option Note
+note_of_notice s c =
+    option_and_then (λ x. if holds_overlong x then logout_of x else None) (session c s)
+
+-- What is noted of the lines that are executed, one after another, as far as memory lets it.
+abbrev pub notes_of_lines : List Execution → List Note
+notes_of_lines all = filter_map note_of all
+
+abbrev pub notes_of_pump : ServerState → ℕ → Option ℕ → List Note
+notes_of_pump s c None =
+    notes_of_lines (executions_until s c None)
+    ++ cons_option (note_of_notice (after_all_lines s c) c) []
+notes_of_pump s c (Some k) = notes_of_lines (executions_until s c (Some k))
+
+-- How a UPS stands: whether its driver is connected, whether clients are told its data, how many
+-- lines of its drivers were refused, and why the last one was.
+abbrev pub condition_of : ServerState → UpsState → Condition
+condition_of s x =
+    record {
+      is_connected = x.report.connected;
+      is_usable = has_usable_data s x;
+      refused = x.faulty;
+      fault = x.fault;
+    }
+
+-- What is noted of a UPS that stood so, and stands so: how many lines were refused meanwhile,
+abbrev pub refusal_note : UpsId → Condition → Condition → Option Note
+refusal_note u was is =
+    if is.refused == was.refused then None
+    else Some (LinesRefused u (is.refused - was.refused) is.fault)
+
+-- whether its driver came or is lost,
+abbrev pub driver_note : UpsId → Bool → Bool → Option Note
+driver_note u false true = Some (DriverConnected u)
+driver_note u true false = Some (DriverLost u)
+driver_note u _ _ = None
+
+-- and whether its data became good or stale. That those of a lost driver aren't good is no news.
+abbrev pub data_note : UpsId → Bool → Bool → Bool → Option Note
+data_note u false true is_connected = Some (DataGood u)
+data_note u true false true = Some (DataStale u)
+data_note u _ _ is_connected = None
+
+abbrev pub notes_between : UpsId → Option Condition → Option Condition → List Note
+notes_between u (Some was) (Some is) =
+    cons_option (refusal_note u was is)
+    (cons_option (driver_note u was.is_connected is.is_connected)
+    (cons_option (data_note u was.is_usable is.is_usable is.is_connected) []))
+notes_between u _ _ = []
+
+abbrev pub condition_at : UpsId → ServerState → Option Condition
+condition_at u s = option_map (condition_of s) (ups_at u.place s)
+
+-- Data become stale by the clock alone, from one moment to another: of the UPSs of which the first one
+-- stands at this place, in their order.
+abbrev pub goes_stale : ℕ → ℕ → ℕ → UpsState → Bool
+goes_stale max_age was now x =
+    is_usable (readiness was max_age x.report) && not (is_usable (readiness now max_age x.report))
+
+abbrev pub stale_notes : ℕ → ℕ → ℕ → ℕ → List UpsState → List Note
+stale_notes max_age was now place [] = []
+stale_notes max_age was now place (x ∷ xs) =
+    cons_option (if goes_stale max_age was now x then Some (DataStale (id_at place)) else None)
+    (stale_notes max_age was now (suc place) xs)
+
+-- All that is noted of an event, in its order, by the server before it and after it.
+abbrev pub all_notes : ServerState → Event → Option ℕ → ServerState → List Note
+all_notes old (DriverUp u) m new = notes_between u (condition_at u old) (condition_at u new)
+all_notes old (DriverBytes u piece) m new =
+    notes_between u (condition_at u old) (condition_at u new)
+all_notes old (DriverDown u) m new = notes_between u (condition_at u old) (condition_at u new)
+all_notes old (Tick seconds) m new =
+    stale_notes old.max_age old.moment (max seconds old.moment) 0 old.upses
+all_notes old (Feed c piece) m new = notes_of_pump (with_input old c piece) c m
+all_notes old (Took c n) m new =
+    if may_take (session c old) n then notes_of_pump (without_output old c n) c m else []
+all_notes old (Close c) m new = cons_option (option_and_then logout_of (session c old)) []
+all_notes old _ m new = []
+
+-- As many of them as there is room for.
+abbrev pub notes_of : ServerState → Event → Outcome → ServerState → List Note
+notes_of old e outcome new = take NOTE_LIMIT (all_notes old e (refused_after outcome) new)
+
+-- These are noted of an event.
+abbrev pub IsNoted : ServerState → Event → Outcome → RunningServer → Type 0
+IsNoted old e outcome new = new.notes ≡ notes_of old e outcome new.state

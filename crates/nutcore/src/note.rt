@@ -1,0 +1,284 @@
+//! What an event did that the journal logs.
+ghost use Rattle.std.specs.Prelude.{◌≡◌, ◌≤◌, ◌++◌, [], ◌∷◌, length, take, true, if◌then◌else◌, IfOk, None, Some, List, vec_capacity};
+ghost use Rattle.nutcore.specs.Notes.{data_note, driver_note, is_refusal, note_of_command, refusal_in, refusal_note};
+ghost use Rattle.nutcore.specs.Promises.{note_in_reply, with_changes, with_note};
+ghost use Rattle.nutcore.specs.declared.note.Note.{Note};
+ghost use Rattle.nutcore.specs.declared.note.TheConstants.{NOTE_LIMIT};
+
+use crate::HELD_LIMIT;
+use crate::event::ClientId;
+use crate::lines::{ReadLine, line_end};
+use crate::session::Session;
+use nutanswer::{Command, Reply};
+use nutdriver::DriverFault;
+use nutusers::{UpsId, UserName};
+use nutwords::{Address, Name, UpsName};
+use std::alloc::{AllocError, Global};
+use std::marker::Model;
+
+/// The fewest bytes of a line that is noted, with its LF.
+const SHORTEST_NOTED: usize = 6;
+
+/// The most notes of an event: a session holds at most so many lines of them.
+pub const NOTE_LIMIT: usize = HELD_LIMIT / SHORTEST_NOTED + 1;
+
+/// How many bytes of the line of a refusal stand before its word: `ERR` and a blank.
+const ERR_LEN: usize = 4;
+
+/// What an event did. It has names, and never a value or a password.
+#[derive(Debug, Drop)]
+pub enum Note {
+    /// A driver connected.
+    DriverConnected(UpsId),
+    /// A driver is lost.
+    DriverLost(UpsId),
+    /// Clients are told the data of the UPS from now on.
+    DataGood(UpsId),
+    /// They aren't any more, though its driver is connected.
+    DataStale(UpsId),
+    /// So many lines of the driver were refused, and why the last one was: none where it reported on an order that isn't
+    /// awaited.
+    LinesRefused(UpsId, u64, Option<DriverFault>),
+    /// A session with a login begins to end, or is closed.
+    LoggedOut(Logout),
+    /// What a line of a client did.
+    Did(Deed),
+}
+
+/// What a command asked for.
+#[derive(Clone, Copy, Debug, PartialEq, Eq)]
+pub enum Verb {
+    /// `LOGIN`.
+    Login,
+    /// `PRIMARY`.
+    Primary,
+    /// `FSD`.
+    Fsd,
+    /// `SET VAR`.
+    SetVar,
+    /// `INSTCMD`.
+    InstCmd,
+}
+
+/// What a line of a client did: it logged in, set a forced shutdown or gave an order to a driver; or it was refused.
+#[derive(Debug, Drop)]
+pub struct Deed {
+    /// The session's id.
+    pub client: ClientId,
+    /// What was asked for.
+    pub verb: Verb,
+    /// The UPS's name, none where the word was no lawful name.
+    pub ups: Option<UpsName>,
+    /// The name of the variable or command of an order, none where the word was no lawful name.
+    pub name: Option<Name>,
+    /// The word after `ERR`, where the line was refused.
+    pub refusal: Option<Name>,
+}
+
+/// Who logged out. The session may be gone.
+#[derive(Debug, Drop)]
+pub struct Logout {
+    /// The UPS that it was logged in to.
+    pub u: UpsId,
+    /// The user name that it gave.
+    pub user: Option<UserName>,
+    /// The client's address.
+    pub address: Address,
+}
+
+/// How a UPS stands.
+#[derive(Clone, Copy)]
+pub(crate) struct Condition {
+    /// A driver is connected.
+    pub is_connected: bool,
+    /// Clients are told its data.
+    pub is_usable: bool,
+    /// How many lines of its drivers were refused.
+    pub refused: u64,
+    /// Why the last one was.
+    pub fault: Option<DriverFault>,
+}
+
+/// The notes of an event. There is room for all of them once it is made.
+#[derive(Drop)]
+pub(crate) struct Notes {
+    noted: Vec<Note>,
+}
+
+impl Model for Notes {
+    ghost Value = { List Note };
+
+    ghost view = { λ n. n.noted.items };
+
+    ghost invariant = { λ n. (length n.noted.items ≤ NOTE_LIMIT) × (NOTE_LIMIT ≤ vec_capacity n.noted) };
+}
+
+impl Notes {
+    /// None. Only here it asks for memory.
+    ///
+    /// # Errors
+    ///
+    /// `AllocError` where memory is refused.
+    pub(crate) fn new(alloc: Global) -> Result<Notes, AllocError>
+        ensures { IfOk result (λ notes. notes ≡ []) }
+    {
+        let noted = Vec::with_capacity(alloc, NOTE_LIMIT)?;
+        Ok(Notes { noted })
+    }
+
+    /// All of them.
+    pub(crate) fn as_slice(&self) -> &[Note]
+        ensures { result.now ≡ self.now }
+    {
+        self.noted.as_slice()
+    }
+
+    /// None is noted.
+    pub(crate) fn clear(&mut self)
+        ensures { self.new ≡ [] }
+    {
+        self.noted.clear();
+    }
+
+    /// One more is noted, while there are fewer than may be.
+    fn push(&mut self, note: Note)
+        ensures { self.new ≡ take NOTE_LIMIT (self.old ++ note ∷ []) }
+    {
+        if self.noted.len() < NOTE_LIMIT {
+            self.noted.push(note).unwrap();
+        }
+    }
+
+    /// It is noted, if there is one.
+    pub(crate) fn add(&mut self, note: Option<Note>)
+        ensures { self.new ≡ with_note note self.old }
+    {
+        if let Some(note) = note {
+            self.push(note);
+        }
+    }
+
+    /// What changed of a UPS that stood so, and stands so.
+    pub(crate) fn add_changes(&mut self, u: UpsId, was: Option<Condition>, is: Option<Condition>)
+        ensures { self.new ≡ with_changes u was is self.old }
+    {
+        if let (Some(was), Some(is)) = (was, is) {
+            self.add(refusal_note(u, was, is));
+            self.add(driver_note(u, was.is_connected, is.is_connected));
+            self.add(data_note(u, was.is_usable, is.is_usable, is.is_connected));
+        }
+    }
+}
+
+/// How many lines were refused meanwhile.
+fn refusal_note(u: UpsId, was: Condition, is: Condition) -> Option<Note>
+    ensures { result ≡ refusal_note u was is }
+{
+    if is.refused == was.refused {
+        return None;
+    }
+    let count = is.refused.saturating_sub(was.refused);
+    Some(Note::LinesRefused(u, count, is.fault))
+}
+
+/// Whether a driver that was connected or not is now.
+fn driver_note(u: UpsId, was: bool, is: bool) -> Option<Note>
+    ensures { result ≡ driver_note u was is }
+{
+    match (was, is) {
+        (false, true) => Some(Note::DriverConnected(u)),
+        (true, false) => Some(Note::DriverLost(u)),
+        _ => None,
+    }
+}
+
+/// Whether data that were usable or not are now, of a driver that is connected or not.
+fn data_note(u: UpsId, was: bool, is: bool, is_connected: bool) -> Option<Note>
+    ensures { result ≡ data_note u was is is_connected }
+{
+    match (was, is, is_connected) {
+        (false, true, _) => Some(Note::DataGood(u)),
+        (true, false, true) => Some(Note::DataStale(u)),
+        _ => None,
+    }
+}
+
+/// Notes what a line did that was read and answered so, where that is to be noted.
+pub(crate) fn note_line(
+    is_told: bool,
+    session: &Session,
+    read: &ReadLine<'_>,
+    reply: &Reply<'_>,
+    notes: &mut Notes,
+)
+    ensures { notes.new ≡ with_note
+        (if is_told then note_in_reply session.now read.now reply.now else None) notes.old }
+{
+    if is_told {
+        note_told(session, read, reply, notes);
+    }
+}
+
+/// Notes what a line did that is to be noted. It is a call of its own, so that no other line pays
+/// for the room of a note.
+#[inline(never)]
+fn note_told(session: &Session, read: &ReadLine<'_>, reply: &Reply<'_>, notes: &mut Notes)
+    ensures { notes.new ≡ with_note (note_in_reply session.now read.now reply.now) notes.old }
+{
+    notes.add(note_in_reply(session, read, reply));
+}
+
+/// What a line did that was read and answered so, and is noted.
+fn note_in_reply(session: &Session, read: &ReadLine<'_>, reply: &Reply<'_>) -> Option<Note>
+    ensures { result ≡ note_in_reply session.now read.now reply.now }
+{
+    let Reply::One(text, _) = reply else {
+        return None;
+    };
+    match read {
+        Ok(Some(command)) => note_of_command(session, command, refusal_in(text)),
+        _ => None,
+    }
+}
+
+/// What a command of the session did, which was refused by this word or granted.
+fn note_of_command(session: &Session, command: &Command<'_>, refusal: Option<Name>) -> Option<Note>
+    ensures { result ≡ note_of_command session.now refusal command.now }
+{
+    let (verb, ups, name) = match command {
+        Command::Login(ups) => (Verb::Login, ups.read(), None),
+        Command::Primary(ups) => (Verb::Primary, ups.read(), None),
+        Command::Fsd(ups) => (Verb::Fsd, ups.read(), None),
+        Command::SetVar(ups, name, _) => (Verb::SetVar, ups.read(), name.read()),
+        Command::InstCmd(ups, name, _) => (Verb::InstCmd, ups.read(), name.read()),
+        Command::Logout => return session.logout(),
+        _ => return None,
+    };
+    Some(Note::Did(Deed {
+        client: session.id(),
+        verb,
+        ups,
+        name,
+        refusal,
+    }))
+}
+
+/// Whether a line is refused that is answered by this text.
+pub(crate) fn is_refusal(text: &[u8]) -> bool
+    ensures value { result ≡ is_refusal text.now }
+    ensures long { result ≡ true → ERR_LEN ≤ length text.now }
+{
+    text.starts_with(b"ERR ")
+}
+
+/// The word of a refusal, if the text is one.
+fn refusal_in(text: &[u8]) -> Option<Name>
+    ensures { result ≡ refusal_in text.now }
+{
+    if !is_refusal(text) {
+        return None;
+    }
+    let word = &text[ERR_LEN..];
+    let end = line_end(word)?;
+    Name::read(&word[..end]).ok()
+}
