@@ -1,4 +1,4 @@
-# Builds, tests, installs and packs the four programs. Each target as plain commands: docs/OPERATING.md.
+# Builds, tests, installs and packs the programs. Each target as plain commands: docs/OPERATING.md.
 PREFIX = /usr/local
 DESTDIR =
 # The version of all of it, which the programs have too.
@@ -10,16 +10,17 @@ PROGRAMS = upsd upsc upsrw upscmd
 CLIENTS = upsc upsrw upscmd
 ROOT = $(DESTDIR)$(PREFIX)
 UNIT = lib/systemd/system/upsd.service
+DRIVER = lib/voqarchay/demodriver
 
 # What is installed below ROOT, and the list of it that an installation leaves, so that no file of anybody else's is taken
 # for ours.
 MINE = share/voqarchay
 DOC = share/doc/voqarchay
 TEXTS = OPERATING.md power-failure.svg FROM_NUT.md INTEROP.md FILES.md CLIENTS.md PROTOCOL.md
-EXAMPLES = $(addprefix $(DOC)/examples/, upses.conf upsd.users cmdvartab from_ups_conf.conf upsd-metrics.service upsd-metrics.timer upsd-alerts.yml)
+EXAMPLES = $(addprefix $(DOC)/examples/, upses.conf upsd.users cmdvartab from_ups_conf.conf upsd-metrics.service upsd-metrics.timer upsd-alerts.yml demodriver@.service)
 PAGES = $(addprefix share/man/man5/, $(notdir $(wildcard man/*.5))) $(addprefix share/man/man8/, $(notdir $(wildcard man/*.8)))
 COMPLETIONS = $(addprefix share/bash-completion/completions/, $(PROGRAMS))
-FILES = sbin/upsd sbin/from_nut $(addprefix bin/, $(CLIENTS)) $(PAGES) $(addprefix $(DOC)/, $(TEXTS)) $(EXAMPLES) $(COMPLETIONS) $(MINE)/started $(MINE)/metrics $(UNIT)
+FILES = sbin/upsd sbin/from_nut $(addprefix bin/, $(CLIENTS)) $(PAGES) $(addprefix $(DOC)/, $(TEXTS)) $(EXAMPLES) $(COMPLETIONS) $(MINE)/started $(MINE)/metrics $(DRIVER) $(UNIT)
 LIST = $(ROOT)/$(MINE)/installed
 
 # Proves and builds: a program that isn't proved isn't built. It stands as crates/NAME/out/NAME then.
@@ -36,7 +37,7 @@ test:
 
 # Installs what stands built, and builds nothing. Where a file of another package stands in the way, nothing is installed.
 install:
-	for program in $(PROGRAMS); do test -x crates/$$program/out/$$program || { echo "$$program isn't built: make"; exit 1; }; done
+	for program in $(PROGRAMS) demodriver; do test -x crates/$$program/out/$$program || { echo "$$program isn't built: make"; exit 1; }; done
 	for file in $(FILES); do \
 	    test ! -e $(ROOT)/$$file || grep -qsxF $$file $(LIST) || { echo "$(ROOT)/$$file isn't of this package: take it away, or take another PREFIX"; exit 1; }; \
 	done
@@ -51,6 +52,7 @@ install:
 	    sed 's|/usr/local|$(PREFIX)|' examples/$$file >$(ROOT)/$(DOC)/examples/$$file && chmod 644 $(ROOT)/$(DOC)/examples/$$file || exit 1; \
 	done
 	for file in $(COMPLETIONS); do install -m 644 tools/completion.bash $(ROOT)/$$file || exit 1; done
+	install crates/demodriver/out/demodriver $(ROOT)/$(DRIVER)
 	install tools/from_nut $(ROOT)/sbin
 	install tools/started tools/metrics $(ROOT)/$(MINE)
 	sed 's|/usr/local|$(PREFIX)|' examples/upsd.service >$(ROOT)/$(UNIT)
@@ -60,7 +62,7 @@ install:
 uninstall:
 	test ! -e $(LIST) || while read -r file; do rm -f "$(ROOT)/$$file"; done <$(LIST)
 	rm -f $(LIST)
-	rmdir $(ROOT)/$(MINE) $(ROOT)/$(DOC)/examples $(ROOT)/$(DOC) 2>/dev/null || true
+	rmdir $(ROOT)/$(dir $(DRIVER)) $(ROOT)/$(MINE) $(ROOT)/$(DOC)/examples $(ROOT)/$(DOC) 2>/dev/null || true
 
 # Frees what a build leaves but its programs: 7 GB. The next build proves all again.
 clean:

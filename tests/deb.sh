@@ -13,7 +13,7 @@ if [[ $(id -u) != 0 ]]; then
     [[ -n $(type -P fakeroot) ]] || { echo 'deb: skipped: only root installs, and fakeroot is not there'; exit 0; }
     as_root=(fakeroot)
 fi
-built upsd upsc upsrw upscmd
+built upsd upsc upsrw upscmd demodriver
 cd "$top"
 folder=$(mktemp -d)
 trap 'rm -r "$folder"' EXIT
@@ -47,6 +47,7 @@ for program in upsc upsrw upscmd; do
 done
 "$usr/sbin/voqarchay-upsd" replay crates/upsd/data/first.txt | cmp -s - crates/upsd/stdout && ok
 [[ -x $root$(sed -n 's/^ExecStart=\([^ ]*\) .*/\1/p' "$usr/lib/systemd/system/upsd.service") ]] && ok
+[[ -x $root$(sed -n 's/^ExecStart=\([^ ]*\) .*/\1/p' "$usr/share/doc/voqarchay/examples/demodriver@.service") ]] && ok
 # The completion is of the package's names, and leaves NUT's programs alone.
 [[ $(bash -c 'source "$1/voqarchay-upsc" && complete -p' _ "$usr/share/bash-completion/completions" |
     grep -c '_voqarchay voqarchay-ups') == 4 ]] && ok
@@ -68,5 +69,5 @@ done
 dpkg_there -r voqarchay >"$folder/said" 2>&1 || cat "$folder/said"
 [[ -z $(find "$root" -path "$root/var" -prune -o -not -type d -print) ]] && ok
 [[ $(mine) == "$before" ]] && ok
-echo "deb: $checks of 18 checks"
-[[ $checks == 18 ]]
+echo "deb: $checks of 19 checks"
+[[ $checks == 19 ]]

@@ -1,6 +1,6 @@
 #!/usr/bin/env bash
-# `make demo`: living data within 3 seconds, a power failure that passes by the very commands that it prints, and nothing that
-# stays behind: no file, and no program.
+# `make demo`: living data within 3 seconds, a power failure that passes by the very commands that it prints, how tracked orders
+# end, and nothing that stays behind: no file, and no program. Its driver serves two at once, and takes a dead one's place.
 set -euo pipefail
 # shellcheck source=tests/built.bash
 source "$(dirname "${BASH_SOURCE[0]}")/built.bash"
@@ -11,18 +11,27 @@ demo=
 trap '[[ -z $demo ]] || kill "$demo" 2>/dev/null || true; rm -r "$folder"' EXIT
 failed=0 checks=0
 fails() { printf 'demo: FAILED: %s\n' "$1"; failed=1; }
-# What it printed has this within so many tenths of a second.
-shows() {
+# The rest of the words succeed within so many tenths of a second.
+within() {
     checks=$((checks + 1))
-    for _ in $(seq "$2"); do
-        grep -qE "$1" "$folder/said" && return
+    for _ in $(seq "$1"); do
+        "${@:3}" && return
         sleep 0.1
     done
-    fails "no line $1"
+    fails "$2"
     cat "$folder/said"
 }
-# The command of a power failure that was printed, as it stands there.
-printed() { sed -n "s/^ *\(crates.* test.failure.$1\)\$/\1/p" "$folder/said"; }
+# The demonstration shows this.
+shows() { within "$2" "no line $1" grep -qE "$1" "$folder/said"; }
+# The command that was printed, as it stands there.
+printed() { sed -n "s/^ *\(crates.*$1.*\)\$/\1/p" "$folder/said"; }
+is_ok() { within 1 "$1" eval "[[ \$($2) == OK ]]"; }
+# A tracked order comes to this end.
+ends() {
+    local id
+    id=$(eval "$3") || true
+    within 50 "$1" eval "[[ \$(crates/upsc/out/upsc --tracked $id $ups) == '$2' ]]"
+}
 
 mkdir "$folder/room"
 : >"$folder/said"
@@ -31,51 +40,49 @@ demo=$!
 shows '^ups\.status: OL$' 30
 shows '^battery\.charge: 100$' 1
 shows '^ups\.load: 2[0-9]$' 1
-shows 'test\.failure\.stop$' 10
-ups=$(sed -n 's/^\$ upsc //p' "$folder/said")
-is_ok() {
-    checks=$((checks + 1))
-    [[ $("${@:2}" 2>&1) == OK ]] || fails "$1"
-}
-crates/upsrw/out/upsrw "$ups" | grep -qxF 'battery.charge.low=30' || fails 'what can be set'
+shows 'upsrw.*OB LB' 10
+ups=$(sed -n 's/^\$ upsc //p' "$folder/said") upsrw="crates/upsrw/out/upsrw -u admin -p demo"
 # So that it need not wait until the battery is low.
-is_ok 'a charge that is set' crates/upsrw/out/upsrw -s battery.charge.low=90 -u admin -p demo "$ups"
-# shellcheck disable=SC2046 # the words of a command
-is_ok 'the command that starts it' $(printed start)
+ends 'a charge that is set' SUCCESS "$upsrw --track -s battery.charge.low=90 $ups"
+is_ok 'the command that starts it' "$(printed test.failure.start)"
 shows '^ups\.status: OB DISCHRG +battery\.charge: ' 30
 shows '^ups\.status: OB DISCHRG LB +battery\.charge: (9|8)' 40
-# shellcheck disable=SC2046
-is_ok 'the command that stops it' $(printed stop)
+is_ok 'a status that is set' "$(printed upsrw)"
+shows '^ups\.status: OB LB +battery' 30
+ends 'a status that is none' 'FAILED 2' "$upsrw --track -s ups.status=OX $ups"
+ends 'the command that stops it' SUCCESS "$(printed test.failure.stop) --track"
 shows '^ups\.status: OL CHRG +battery' 30
-for _ in $(seq 80); do
-    tail -n 1 "$folder/said" | grep -qE '^ups\.status: OL  ' && break
-    sleep 0.1
-done
-tail -n 1 "$folder/said" | grep -qE '^ups\.status: OL +battery\.charge: 100$' || fails 'the power is back'
+within 80 'the power is back' eval "tail -n 1 $folder/said | grep -qE '^ups\.status: OL +battery\.charge: 100\$'"
 
-# The programs that name its folder, each with its id.
-left() {
-    local words
-    for words in /proc/[0-9]*/cmdline; do
-        [[ $({ tr '\0' ' ' <"$words"; } 2>/dev/null) != *"$folder/room"* ]] || echo "$words"
-    done
-}
+# Another connection to its driver: an order there is executed, and the server learns of it.
+python3 - "$folder"/room/*/driver <<'PYTHON' || fails 'another connection'
+import socket, sys
+wire = socket.socket(socket.AF_UNIX)
+wire.connect(sys.argv[1])
+wire.settimeout(3)
+wire.sendall(b'DUMPALL\nSET battery.charge.low "55" TRACKING 7\nINSTCMD load.off TRACKING 8\n')
+said = b"".join(wire.recv(4096) for _ in range(3))
+assert b"DATAOK\nTRACKING 7 0\nTRACKING 8 1\n" in said, said
+PYTHON
+within 50 'what another connection set' eval "[[ \$(crates/upsc/out/upsc $ups battery.charge.low) == 55 ]]"
+
 kill "$demo"
 wait "$demo" 2>/dev/null || true
 demo=
-for _ in $(seq 30); do
-    [[ -z $(ls "$folder/room") && -z $(left) ]] && break
-    sleep 0.1
-done
-[[ -z $(ls "$folder/room") ]] || fails 'files stay'
-[[ -z $(left) ]] || fails 'programs stay'
+within 30 'files stay' eval "[[ -z \$(ls $folder/room) ]]"
+within 30 'programs stay' eval "! grep -qs '$folder/roo[m]' /proc/[0-9]*/cmdline"
 # The journal has the orders, each once, and no value.
 ordered="upsd: demo: admin@127.0.0.1 ordered"
-orders="$ordered SET VAR battery.charge.low
-$ordered INSTCMD test.failure.start
-$ordered INSTCMD test.failure.stop"
-checks=$((checks + 1))
-[[ $(grep -F "$ordered" "$folder/told") == "$orders" ]] || fails 'which orders were told'
+orders='SET VAR battery.charge.low,INSTCMD test.failure.start,SET VAR ups.status,SET VAR ups.status,INSTCMD test.failure.stop'
+[[ $(sed -n "s/^$ordered //p" "$folder/told" | paste -sd ,) == "$orders" ]] || fails 'which orders were told'
 grep -vE "^(upsd: demo: (driver connected|data good)|$ordered .*|make: .*)$" "$folder/told" && fails 'what was told'
+
+# A driver that ends leaves its socket. The next one takes its place; no other one does while that lives.
+driver=(crates/demodriver/out/demodriver "$folder/driver")
+timeout 0.5 "${driver[@]}" >"$folder/drove" || [[ -S $folder/driver ]] || fails 'a socket is left'
+"${driver[@]}" >"$folder/drove" &
+demo=$!
+within 30 'a socket that was left' grep -q listening "$folder/drove"
+[[ $(timeout 5 "${driver[@]}" 2>&1) == *AddrInUse* ]] || fails 'a socket that is taken'
 ((failed == 0)) && echo "demo: ok: $checks checks"
 exit "$failed"

@@ -5,7 +5,7 @@
 set -euo pipefail
 # shellcheck source=tests/built.bash
 source "$(dirname "${BASH_SOURCE[0]}")/built.bash"
-built upsd upsc upsrw upscmd
+built upsd upsc upsrw upscmd demodriver
 cd "$top"
 folder=$(mktemp -d)
 trap 'rm -r "$folder"' EXIT
@@ -21,6 +21,7 @@ files >"$folder/first"
 [[ $(wc -l <"$folder/first") -gt 24 ]] && ok
 grep -q 'ExecStart=/usr/sbin/upsd serve' "$unit" && ok
 "$usr/bin/upsc" --help >"$folder/help" && cmp -s "$folder/help" crates/upsc/stdout && ok
+[[ -x $folder/root$(sed -n 's/^ExecStart=\([^ ]*\) .*/\1/p' "$usr/share/doc/voqarchay/examples/demodriver@.service") ]] && ok
 in_root install
 files | cmp -s - "$folder/first" && ok
 
@@ -64,5 +65,5 @@ grep -q "usr/bin/upsc isn't of this package" "$folder/said" && ok
 [[ $(files) == "$usr/bin/upsc" ]] && ok
 in_root uninstall
 [[ $(cat "$usr/bin/upsc") == NUT ]] && ok
-echo "install: $checks of 18 checks"
-[[ $checks == 18 ]]
+echo "install: $checks of 19 checks"
+[[ $checks == 19 ]]

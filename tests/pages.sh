@@ -1,12 +1,12 @@
 #!/usr/bin/env bash
 # The manual pages: each message of the programs' sources is in the page of its program, and no other; each word after ERR is one
 # that a server answers; and what formats the pages finds nothing amiss, where it is there. What docs/ takes from the sources is what
-# they say, and what a page names is there.
+# they say, what a page names is there, and all pages are short and plain.
 set -euo pipefail
 cd "$(dirname "${BASH_SOURCE[0]}")/.."
 failed=0
 
-# What is told of a program in its page is what its sources tell.
+# What a page says of a program is what its sources say.
 alike() {
     if [[ $2 != "$3" ]]; then
         printf 'pages: FAILED: %s\n' "$1"
@@ -26,7 +26,7 @@ told=$({
     sed -nE 's/^ *Note::[A-Za-z]+\(_\) => f\.write_str\("(.*)"\),$/su: \1/p' $entry | sed 's/: logged out/: mon@192.0.2.1 logged out/'
     sed -nE 's/^ *\(None, Verb::[A-Za-z]+\) => f\.write_str\("(.*)"\),$/su: mon@192.0.2.1 \1/p' $entry
     sed -nE 's/.*write!\(f, "([a-z ]+) \{what\}(: \{word\})?"\),?$/su: mon@192.0.2.1 \1 COMMAND\2/p' $entry | sed 's/{word}/WORD/'
-    sed -nE 's/.*write!\(f, "(.* of the driver .*)\{fault\}"\)$/su: \1REASON/p' $entry | sed 's/{count}/N/'
+    sed -nE 's/.*"(.* of the driver .*)\{fault\}"\)?,?$/su: \1REASON/p' $entry | sed 's/{count}/N/'
     sed -nE 's/.*write!\(f, "\{name\}(: [^{]*)\{error\}"\)$/su\1ERROR/p' crates/upsd/src/journal/connecting.rt
     sed -nE 's/^ *RoomNews::.*"(.*)"\),$/\1/p' crates/upsd/src/journal/room.rt | sed -e 's/{count}/N/'
 } | sort)
@@ -51,5 +51,6 @@ for formatter in 'groff -man -ww -z' 'mandoc -Tlint'; do
 done
 tools/proved --check || failed=1
 python3 tests/names.py || failed=1
+python3 tests/prose.py || failed=1
 ((failed == 0)) && echo 'pages: ok'
 exit "$failed"

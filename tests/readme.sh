@@ -1,5 +1,5 @@
 #!/usr/bin/env bash
-# README: its size, its links, the laws and limits that it names, and what its commands print; `make` and `rt ci` aren't run here.
+# README: the laws and limits that it names, and what its commands print; `make` and `rt ci` aren't run here.
 # The tables and the chart of docs/COSTS.md are those of its measurements.
 set -euo pipefail
 # shellcheck source=tests/built.bash
@@ -22,32 +22,7 @@ def holds(true, fault):
         faults.append(fault)
 
 
-def words(text):
-    return len(text.split())
-
-
-def anchors(path):
-    """The headings of a page, as links name them."""
-    heads = re.findall(r"^#+ (.*)$", path.read_text(encoding="utf-8"), re.M)
-    return {re.sub(r"[^\w -]", "", head.lower()).replace(" ", "-") for head in heads}
-
-
-holds(words(page) <= 650, f"{words(page)} words")
 blocks = re.findall(r"^```\n(.*?)^```$", page, re.M | re.S)
-prose = re.sub(r"^```\n.*?^```$|^#[^\n]*$", "\n", page, flags=re.M | re.S)
-
-# A paragraph is a block of lines, and so is an item of a list. The headline is a theorem, and a table no paragraph.
-for paragraph in re.split(r"\n\n|\n(?=- )", prose):
-    if re.match(r"\s*>|.* \| ", paragraph):
-        continue
-    holds(words(paragraph) <= 60, f"a paragraph of {words(paragraph)} words: {paragraph[:60]}")
-    for sentence in re.split(r"(?<=[.!?])\s", paragraph):
-        holds(words(sentence) <= 30, f"a sentence of {words(sentence)} words: {sentence[:60]}")
-
-for link in re.findall(r"\]\(([^)]*)\)", page):
-    path, _, anchor = link.partition("#")
-    file = pathlib.Path(path or sys.argv[1])
-    holds(file.exists() and (not anchor or anchor in anchors(file)), f"a link that leads nowhere: {link}")
 
 laws = re.findall(r"\| `(\w+)` \| \[\w+\]\((\S+)\)", page)
 holds(len(laws) == 8, f"{len(laws)} laws")

@@ -1,13 +1,12 @@
--- The UPS that is played: how it begins, what a second and the power do to it, and what it tells.
+-- The UPS that is simulated: how it begins, what a second and the power do to it, and what it reports.
 use Rattle.std.specs.Prelude.{ℕ, ◌+◌, ◌-◌, ◌%◌, min, Bool, true, false, List, nat_le, codes}
 use Rattle.std.specs.Prelude.{if◌then◌else◌}
 use Rattle.demodriver.specs.declared.ups.Ups.{Ups}
-use Rattle.demodriver.specs.declared.ups.Sensitivity.TheVariants.{Medium}
 use Rattle.demodriver.specs.declared.ups.TheConstants.{FULL, STEP, LOW, VOLTS, LOAD, LOAD_TURN}
 
 abbrev pub new_ups : Ups
 new_ups =
-    record { is_failing = false; charge = FULL; low = LOW; sensitivity = Medium; seconds = 0 }
+    record { is_failing = false; charge = FULL; low = LOW; seconds = 0 }
 
 -- The power of a second takes from the charge, or gives to it.
 abbrev pub charge_after : Bool → ℕ → ℕ

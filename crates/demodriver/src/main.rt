@@ -1,19 +1,24 @@
-//! A driver without hardware, for demonstrations: it listens on a Unix socket as NUT's drivers do, tells a server of a UPS
-//! that it plays, and plays a power failure where it is told to.
+//! A driver without hardware, for demonstrations and drills: it listens on a Unix socket as NUT's
+//! drivers do, reports a UPS that it simulates to each server, and lets its power fail on command.
 #![tactic(auto)]
 
-mod order;
-mod report;
-mod session;
+mod driver;
+mod server;
 mod ups;
 
-use crate::session::serve;
-use crate::ups::Ups;
+use crate::driver::Driver;
+use crate::server::Server;
+use std::io::ErrorKind;
+use std::os::unix::fs::FileTypeExt;
 use std::os::unix::net::{UnixListener, UnixStream};
-use std::{env, io};
+use std::time::{Duration, Instant};
+use std::{env, fs, io, thread};
 
 /// What is printed without the one word.
 const USAGE: &str = "usage: demodriver SOCKET";
+
+/// How long the driver sleeps after it looked at each server, in milliseconds.
+const PAUSE: u64 = 100;
 
 fn main(rt: HostRuntime) -> io::Result<()> {
     let words = env::args(&rt)?.collect::<Vec<String>>(rt.alloc())?;
@@ -21,9 +26,9 @@ fn main(rt: HostRuntime) -> io::Result<()> {
         println!(rt; "{USAGE}")?;
         return Ok(());
     };
-    let listener = UnixListener::bind(&rt, path)?;
+    let listener = listen(&rt, path)?;
     println!(rt; "demodriver: listening on {path}")?;
-    serve_each(&rt, &listener)
+    serve(&rt, &listener)
 }
 
 /// The path of the socket, where it is the only word, and no option.
@@ -34,16 +39,40 @@ fn socket_in(words: &[String]) -> Option<&str> {
     (!path.starts_with('-')).then_some(path.as_str())
 }
 
-/// Serves one server after another. The UPS goes on as the last one left it.
-fn serve_each(rt: &HostRuntime, listener: &UnixListener) -> io::Result<()> {
-    let mut ups = Ups::new();
-    for stream in listener.incoming() {
-        serve_one(rt, &stream?, &mut ups);
+/// Listens at this path, in place of a driver that was killed and left its socket there.
+fn listen(rt: &HostRuntime, path: &str) -> io::Result<UnixListener> {
+    if is_left(rt, path) {
+        fs::remove_file(rt, path)?;
     }
-    Ok(())
+    let listener = UnixListener::bind(rt, path)?;
+    listener.set_nonblocking(true)?;
+    Ok(listener)
 }
 
-/// Serves a server until it is gone, whatever ended it.
-fn serve_one(rt: &HostRuntime, stream: &UnixStream, ups: &mut Ups) {
-    let _ = serve(rt, stream, ups);
+/// Whether a socket is there, and nobody listens at it.
+fn is_left(rt: &HostRuntime, path: &str) -> bool {
+    let is_socket = fs::symlink_metadata(rt, path).is_ok_and(|it| it.file_type().is_socket());
+    is_socket
+        && UnixStream::connect(rt, path).is_err_and(|error| error.kind()
+            == ErrorKind::ConnectionRefused)
+}
+
+/// Simulates the UPS, and serves each server that connects until it is gone.
+fn serve(rt: &HostRuntime, listener: &UnixListener) -> io::Result<()> {
+    let mut driver = Driver::new(rt);
+    let mut servers = Vec::new(rt.alloc());
+    let start = Instant::now(rt)?;
+    let mut second = 0;
+    for _ in 0..u64::MAX {
+        // A server that can't be let in now is tried again after the pause.
+        if let Ok((stream, _)) = listener.accept() {
+            servers.push(Server::new(rt, stream)?)?;
+        }
+        let now = start.elapsed(rt)?.as_secs();
+        driver.pass_seconds(now.saturating_sub(second));
+        second = now;
+        servers.retain_mut(|server| server.serve(&mut driver).is_ok());
+        thread::sleep(rt, Duration::from_millis(PAUSE));
+    }
+    Ok(())
 }

@@ -1,4 +1,4 @@
-//! The UPS that is played.
+//! The UPS that is simulated.
 ghost use Rattle.std.specs.Prelude.{◌≡◌, ◌≤◌, ◌*◌};
 ghost use Rattle.demodriver.specs.Ups.{new_ups, after_second, after_failure, after_return, status_of, input_of, load_at};
 
@@ -27,14 +27,6 @@ pub const LOAD: u32 = 24;
 /// After so many seconds the load is the same again.
 pub const LOAD_TURN: u32 = 4;
 
-/// How soon the UPS turns to its battery.
-#[derive(Clone, Copy, Debug, PartialEq, Eq)]
-pub enum Sensitivity {
-    Low,
-    Medium,
-    High,
-}
-
 /// The UPS.
 #[derive(Clone, Copy, Debug, PartialEq, Eq)]
 pub struct Ups {
@@ -44,8 +36,7 @@ pub struct Ups {
     pub charge: u8,
     /// The charge at which that is low, percent.
     pub low: u8,
-    pub sensitivity: Sensitivity,
-    /// How many seconds it has been played.
+    /// How many seconds it has been simulated.
     pub seconds: u32,
 }
 
@@ -58,7 +49,6 @@ impl Ups {
             is_failing: false,
             charge: FULL,
             low: LOW,
-            sensitivity: Sensitivity::Medium,
             seconds: 0,
         }
     }

@@ -12,15 +12,15 @@ use nutcore::laws::{
     what_was_asked_is_executed_or_held, what_was_sent_and_is_owed_is_the_answers,
 };
 
-/// Over any turns of sockets that tell their calls: what each client gave was fed to it and what each driver gave to it,
-/// all of it, once and in order; and what each of them took is what the server counts as taken.
+/// Over any turns of sockets that report their calls, each byte is moved once and in order. What each client and
+/// each driver gave was fed to the server, all of it. What each of them took is what the server counts as taken.
 pub fn every_byte_is_moved_once<S: Sockets>()
     ensures { EveryByteIsMovedOnce S.calls S.failures }
 {}
 
-/// Over any turns from `Server::new`, of sockets that tell their calls: what each client's socket took, followed by what it
-/// is owed, is the answers to its executed lines, in order; and these lines, followed by what is held, are all that its
-/// socket gave. Of a client that is ending or closed they are a beginning of that: what comes later is never executed.
+/// Over any turns from `Server::new`, of sockets that report their calls: what each client's socket took, followed
+/// by what it is owed, is the answers to its executed lines, in order. These lines, followed by the held input, are
+/// all that its socket gave. Of an ending or closed client they are a beginning of that.
 pub fn what_a_socket_gave_is_answered<S: Sockets>()
     ensures { WhatASocketGaveIsAnswered S.calls S.failures }
 {
@@ -31,9 +31,10 @@ pub fn what_a_socket_gave_is_answered<S: Sockets>()
     every_server_is_sound();
 }
 
-/// Over any turns of sockets that tell their calls: while a driver isn't lost, what was unfinished of it, followed by all
-/// that its socket gave, is its executed lines, followed by what is unfinished, and its report is what these lines made; and
-/// what it was owed, followed by what it was told, is what its socket took, followed by what it is owed.
+/// Over any turns of sockets that report their calls, while a driver isn't lost: its unfinished line, followed by
+/// all that its socket gave, is its executed lines and an unfinished line. Its report is what these lines made.
+/// What it was owed, followed by the lines that the server made for it, is what its socket took, followed by what
+/// it is owed.
 pub fn a_driver_is_heard_and_told_by_its_socket<S: Sockets>()
     ensures { ADriverIsHeardAndToldByItsSocket S.calls S.failures }
 {
@@ -41,8 +42,8 @@ pub fn a_driver_is_heard_and_told_by_its_socket<S: Sockets>()
     what_a_driver_was_sent_and_is_owed();
 }
 
-/// Any turns, over any sockets, are one run of the server. So the laws of every run hold of what `serve` does, whatever
-/// the sockets do.
+/// Any turns, over any sockets, are one run of the server. So the laws of every run hold of what `serve` does,
+/// whatever the sockets do.
 pub fn any_turns_are_one_run<S: Sockets>()
     ensures { AnyTurnsAreOneRun S.calls S.failures }
 {}
@@ -54,15 +55,14 @@ pub fn any_turns_keep_addresses_lawful<S: Sockets>()
     addresses_are_lawful();
 }
 
-/// From one look at the system to the next, whoever is ready all the while has a turn, whatever the turns do. A look comes
-/// after at most 208 turns.
+/// From one look at the system to the next, whoever is ready all the while has a turn, whatever the turns do. A
+/// look comes after at most 208 turns.
 pub fn everybody_has_a_turn()
     ensures { EverybodyHasATurn }
 {}
 
-/// The most bytes of a driver's read; after how many turns the system is asked once the pass is over, and one more than the
-/// turns between two looks can be; how many closing connections are read on, and for how many ticks; and how many turns
-/// `serve` makes.
+/// The most bytes of a driver's read, the turns after which a pass ends in a look, a bound of the turns between two
+/// looks, the closing connections and their ticks, and the turns of `serve`.
 pub fn numbers()
     ensures { Numbers }
 {}
