@@ -1,7 +1,7 @@
 //! What was sent to each client and each driver, as a transcript ends by it.
 ghost use Rattle.std.specs.Prelude.{◌≡◌, ◌++◌, ◌-◌, length, slice_get, IfOk, OnOk};
 ghost use Rattle.std.specs.List.{flat_map};
-ghost use Rattle.nutreplay.specs.Transcript.{is_same, sent_to, ending_of, sent_part, client_part, driver_part, drivers_part};
+ghost use Rattle.nutreplay.specs.Transcript.{sent_to, ending_of, sent_part, client_part, driver_part, drivers_part};
 
 use nutcore::{Bytes, ClientId, Peer, UpsId, UpsList};
 use std::alloc::{AllocError, Global};
@@ -37,22 +37,11 @@ fn sent_to(alloc: Global, peer: Peer, taken: &[Taken]) -> Result<Vec<u8>, AllocE
 {
     let mut sent = Vec::new(alloc);
     for t in taken {
-        if is_same(t.peer, peer) {
+        if t.peer == peer {
             sent.extend_from_slice(t.bytes.as_slice())?;
         }
     }
     Ok(sent)
-}
-
-fn is_same(one: Peer, other: Peer) -> bool
-    ensures { result ≡ is_same one other }
-{
-    match (one, other) {
-        (Peer::Client(c), Peer::Client(d)) => c == d,
-        (Peer::Driver(u), Peer::Driver(v)) => u.place == v.place,
-        (Peer::Client(_), Peer::Driver(_)) => false,
-        (Peer::Driver(_), Peer::Client(_)) => false,
-    }
 }
 
 /// What was sent to the driver of each UPS of the list.
