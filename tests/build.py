@@ -12,14 +12,15 @@ import tempfile
 
 from kit import rt, rtlib
 
-# What a library's check may use of the processors. From nutlisting on there is one chain of crates.
+# What a check may use of the processors. From nutlisting on there is one chain of crates, and upsd is its end.
 JOBS = "4"
 
 
 def build(crate):
     """Proves and builds a library or a program, and tells whether that went well."""
     if crate.is_program:
-        return subprocess.run(["rt", "run", "--", "--help"], cwd=crate.folder, stdout=subprocess.DEVNULL).returncode == 0
+        words = ["rt", "run", "--jobs", JOBS, "--", "--help"]
+        return subprocess.run(words, cwd=crate.folder, stdout=subprocess.DEVNULL).returncode == 0
     with tempfile.TemporaryFile("a+", errors="replace") as crate.out:
         status = crate.build_rlib(["--jobs", JOBS], anew=False)
         if status:
