@@ -15,7 +15,7 @@ import sys
 
 from plain_server import Replay, Server
 from replaying import Bench, cases, written
-from serving import comes, served
+from serving import comes, served, taken
 
 LIBRARY, UPSD, UPSC, UPSRW, UPSCMD, DATATESTS = (os.path.abspath(word) for word in sys.argv[1:7])
 BENCH = Bench("refused_memory", UPSD)
@@ -35,9 +35,6 @@ class Control:
 
     def refuse(self, first, last):
         self.words[0], self.words[1], self.words[2], self.words[3] = 0, first, last, 0
-
-    def go_on(self):
-        self.words[1] = 0
 
     def refuse_all(self):
         self.words[2], self.words[1] = ALL, 1
@@ -200,12 +197,12 @@ def a_server_without_memory_goes_on():
     with serving(STATUS) as (server, driver, client):
         CONTROL.refuse_all()
         client.send(b"NETVER\nLIST UPS\nVER\n")
-        assert client.line() == b"1.3\n" and client.is_silent()
+        assert client.line() == b"1.3\n" and taken(client.wire, None, 0.3) == b""
         other = server.client()
         assert other.up_to_end() == b""
         driver.send(b"SETINFO a 1\nSETINFO b 2\n")
         assert driver.line() == b"" and CONTROL.refused >= 3, CONTROL.refused
-        CONTROL.go_on()
+        CONTROL.refuse(0, 0)
         got = client.ask(b"NETVER\n", 5)
         assert got == b'BEGIN LIST UPS\nUPS su "Rack 1"\nEND LIST UPS\nNetwork UPS Tools upsd, profile 1\n1.3\n', got
         assert client.ask(b"GET VAR su a\n") == b"ERR DRIVER-NOT-CONNECTED\n"
