@@ -170,7 +170,7 @@ def a_listing_that_began_asks_for_no_memory():
 
 
 def what_is_no_listing_asks_for_no_memory():
-    """Every command but a listing is answered while every request is refused, and none is made."""
+    """Every command but a listing is answered, and a short value is set: no request is made."""
     login = b'USERNAME admin\nPASSWORD "s3 cret"\n'
     commands = b"VER\nNETVER\nHELP\nGET VAR su ups.status\nGET TYPE su ups.status\nGET DESC su a\nGET CMDDESC su a\nGET UPSDESC su\n"
     commands += b"GET NUMLOGINS su\nLIST CLIENT su\nSET VAR su ups.status OB\nINSTCMD su test.start\nLIST VAR none\nWHAT\n\x01\n\n"
@@ -184,7 +184,7 @@ def what_is_no_listing_asks_for_no_memory():
         assert got.count(b'VAR su ups.status "FSD OL"\n') == 50 and got.count(b"ERR UNKNOWN-UPS\n") == 50, got[-600:]
         orders = (line for line in iter(driver.line, b"") if line != b"PING\n")
         assert [next(orders) for _ in range(100)] == [b'SET ups.status "OB"\n', b"INSTCMD test.start\n"] * 50
-        driver.send(b"PONG\nDATASTALE\n")
+        driver.send(b'SETINFO ups.status "OB"\nPONG\nDATASTALE\n')
         assert comes(lambda: client.ask(b"GET VAR su ups.status\n") == b"ERR DATA-STALE\n")
         assert other.ask(b"LOGOUT\n") == b"OK Goodbye\n" and other.up_to_end() == b""
         assert (CONTROL.requests, CONTROL.refused) == (before, 0), f"{CONTROL.requests - before} requests"

@@ -476,6 +476,7 @@ def worst_wait(client, count):
 def nobody_waits_for_slow_readers():
     with served(many(MANY, 256)) as (server, _, good):
         before = server.kilobytes()
+        assert before < 4600, f"{before} KB for {MANY} values of 256 bytes"
         slow = [server.client() for _ in range(63)]
         for client in slow:
             client.send(b"LIST VAR su\n" * 8)
