@@ -475,13 +475,13 @@ def worst_wait(client, count):
 
 def nobody_waits_for_slow_readers():
     with served(many(MANY, 256)) as (server, _, good):
-        before = server.kilobytes()
-        assert before < 4600, f"{before} KB for {MANY} values of 256 bytes"
+        before = server.kilobytes("VmData")
+        assert before < 2900, f"{before} KB for {MANY} values of 256 bytes"
         slow = [server.client() for _ in range(63)]
         for client in slow:
             client.send(b"LIST VAR su\n" * 8)
         worst = worst_wait(good, 500)
-        grown = server.kilobytes() - before
+        grown = server.kilobytes("VmData") - before
         slow[7].send(b"LOGOUT\n")
         slow[7].wire.settimeout(20)
         got = slow[7].up_to_end()

@@ -152,9 +152,9 @@ class Server:
     def journal(self):
         return os.pread(self.errors.fileno(), 1 << 20, 0).decode()
 
-    def kilobytes(self):
+    def kilobytes(self, kind="VmRSS"):
         with open(f"/proc/{self.process.pid}/status", encoding="utf-8") as status:
-            return int(next(line for line in status if line.startswith("VmRSS")).split()[1])
+            return int(next(line for line in status if line.startswith(kind)).split()[1])
 
     def seconds_of_work(self):
         with open(f"/proc/{self.process.pid}/stat", encoding="utf-8") as stat:
