@@ -21,7 +21,7 @@ BENCH = Bench("clients", PROGRAMS["upsc"])
 LED = BENCH.file("led", b"")
 
 READ, WRITE, EARLY, BAD = "read failed", "write failed", "reply ended early", "bad reply"
-DENIED, STALE, ARGUMENT = "server answered ERR ACCESS-DENIED", "server answered ERR DATA-STALE", "bad argument"
+ARGUMENT = "bad argument"
 VALUE, ITEMS = 512, 65_536  # the longest value and listing
 ENDS, FAILS, STAYS = "the server ends", "its connection is reset", "it waits for more"
 

@@ -4,7 +4,7 @@ import random
 import resource
 import sys
 
-from plain_server import LINE, RING, VALUE
+from plain_server import LINE, RING, VALUE, quoted
 from replaying import Bench, cases, written
 
 BENCH = Bench("hostile", sys.argv[1])
@@ -77,10 +77,9 @@ class Pieces:
 
     def word(self, word):
         """The word bare, in quotes, or with backslashes."""
-        escaped = word.replace(b"\\", b"\\\\").replace(b'"', b'\\"')
         if self.chance() < 0.4 or not word or b" " in word or b"\t" in word:
-            return b'"' + escaped + b'"'
-        return escaped if self.chance() < 0.8 else b"".join(b"\\%c" % byte for byte in word)
+            return quoted(word)
+        return quoted(word)[1:-1] if self.chance() < 0.8 else b"".join(b"\\%c" % byte for byte in word)
 
     def spell(self, *words):
         """A line of these words; the first of them in any case."""

@@ -15,7 +15,7 @@ import sys
 
 from plain_server import Replay, Server
 from replaying import Bench, cases, written
-from serving import comes, served
+from serving import comes, served, taken
 
 LIBRARY, UPSD, UPSC, UPSRW, UPSCMD, DATATESTS = (os.path.abspath(word) for word in sys.argv[1:7])
 BENCH = Bench("refused_memory", UPSD)
@@ -35,9 +35,6 @@ class Control:
 
     def refuse(self, first, last):
         self.words[0], self.words[1], self.words[2], self.words[3] = 0, first, last, 0
-
-    def go_on(self):
-        self.words[1] = 0
 
     def refuse_all(self):
         self.words[2], self.words[1] = ALL, 1
@@ -173,7 +170,7 @@ def a_listing_that_began_asks_for_no_memory():
 
 
 def what_is_no_listing_asks_for_no_memory():
-    """Every command but a listing is answered while every request is refused, and none is made."""
+    """Every command but a listing is answered, and a short value is set: no request is made."""
     login = b'USERNAME admin\nPASSWORD "s3 cret"\n'
     commands = b"VER\nNETVER\nHELP\nGET VAR su ups.status\nGET TYPE su ups.status\nGET DESC su a\nGET CMDDESC su a\nGET UPSDESC su\n"
     commands += b"GET NUMLOGINS su\nLIST CLIENT su\nSET VAR su ups.status OB\nINSTCMD su test.start\nLIST VAR none\nWHAT\n\x01\n\n"
@@ -187,7 +184,7 @@ def what_is_no_listing_asks_for_no_memory():
         assert got.count(b'VAR su ups.status "FSD OL"\n') == 50 and got.count(b"ERR UNKNOWN-UPS\n") == 50, got[-600:]
         orders = (line for line in iter(driver.line, b"") if line != b"PING\n")
         assert [next(orders) for _ in range(100)] == [b'SET ups.status "OB"\n', b"INSTCMD test.start\n"] * 50
-        driver.send(b"PONG\nDATASTALE\n")
+        driver.send(b'SETINFO ups.status "OB"\nPONG\nDATASTALE\n')
         assert comes(lambda: client.ask(b"GET VAR su ups.status\n") == b"ERR DATA-STALE\n")
         assert other.ask(b"LOGOUT\n") == b"OK Goodbye\n" and other.up_to_end() == b""
         assert (CONTROL.requests, CONTROL.refused) == (before, 0), f"{CONTROL.requests - before} requests"
@@ -200,12 +197,12 @@ def a_server_without_memory_goes_on():
     with serving(STATUS) as (server, driver, client):
         CONTROL.refuse_all()
         client.send(b"NETVER\nLIST UPS\nVER\n")
-        assert client.line() == b"1.3\n" and client.is_silent()
+        assert client.line() == b"1.3\n" and taken(client.wire, None, 0.3) == b""
         other = server.client()
         assert other.up_to_end() == b""
         driver.send(b"SETINFO a 1\nSETINFO b 2\n")
         assert driver.line() == b"" and CONTROL.refused >= 3, CONTROL.refused
-        CONTROL.go_on()
+        CONTROL.refuse(0, 0)
         got = client.ask(b"NETVER\n", 5)
         assert got == b'BEGIN LIST UPS\nUPS su "Rack 1"\nEND LIST UPS\nNetwork UPS Tools upsd, profile 1\n1.3\n', got
         assert client.ask(b"GET VAR su a\n") == b"ERR DRIVER-NOT-CONNECTED\n"

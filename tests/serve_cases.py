@@ -1,6 +1,8 @@
 """The cases of tests/serve.sh: the built server on real sockets. Words: the programs upsd, upsc, upsrw and upscmd, and
-the names of the cases, if not all are to run."""
+the names of the cases, if not all are to run. A function without a parameter is a case."""
 import contextlib
+import functools
+import inspect
 import multiprocessing
 import os
 import select
@@ -13,11 +15,12 @@ import uuid
 
 import serving
 from replaying import Bench, ends_in_full
-from serving import Driver, comes
+from serving import TWO, Driver, comes
 
 UPSD, UPSC, UPSRW, UPSCMD = sys.argv[1:5]
 BENCH = Bench("serve", UPSD)
 FOLDER = BENCH.folder.name
+served = functools.partial(serving.served, FOLDER, UPSD)
 USERS = """[admin]
 password = "s3 cret"
 actions = SET
@@ -29,7 +32,6 @@ upsmon secondary
 """
 ADMIN = b'USERNAME admin\nPASSWORD "s3 cret"\n'
 MON = b"USERNAME mon\nPASSWORD pw\n"
-TWO = b'SETINFO ups.status "OL"\nSETINFO battery.charge "100"\n'
 GET, STATUS = b"GET VAR su ups.status\n", b'VAR su ups.status "OL"\n'
 AWAY = b"ERR DRIVER-NOT-CONNECTED\n"
 NO_FILE = "cannot connect: No such file or directory (os error 2)\n"
@@ -46,16 +48,10 @@ def file(name, text):
     return BENCH.file(name, text.encode())
 
 
-def served(told=TWO, *words, env=None, errors=None):
-    """A server over the UPS `su`, its driver, which has told this, and a good client."""
-    return serving.served(FOLDER, UPSD, told, *words, env=env, errors=errors)
-
-
-@contextlib.contextmanager
 def begun(ups, *words, files=None, port=0):
     """A server over this file of UPSs, whose drivers are up to the case."""
-    with contextlib.closing(serving.Server(UPSD, ups, *(words or ("--users", path("users"))), files=files, port=port)) as server:
-        yield server
+    words = words or ("--users", path("users"))
+    return contextlib.closing(serving.Server(UPSD, ups, *words, files=files, port=port))
 
 
 def many(count, size):
@@ -65,36 +61,21 @@ def many(count, size):
 
 
 def many_listed(count, size):
-    lines = [b"BEGIN LIST VAR su\n", b'VAR su ups.status "OL"\n']
-    lines += [b'VAR su v%04d "%s"\n' % (i, b"x" * size) for i in range(1, count)]
-    return b"".join(lines + [b"END LIST VAR su\n"])
+    items = many(count, size).replace(b"SETINFO", b"VAR su")
+    return b"BEGIN LIST VAR su\n" + items + b"END LIST VAR su\n"
 
 
-CASES = []
-
-
-def case(function):
-    CASES.append(function)
-    return function
-
-
-def run_to_end(*words):
-    ended = subprocess.run([UPSD, "serve", *words], capture_output=True, timeout=10, check=False)
-    return ended.returncode, ended.stdout, ended.stderr
-
-
-@case
 def words_and_files_are_told_as_faults():
     ups, users = file("list", "[su]\nsocket = /run/nut/su\n"), path("users")
     files = ["--ups", ups, "--users", users]
     bad = file("bad", "nothing\n")
     for listen in ["localhost:3493", "127.0.0.1", "127.0.0.1:65536", ""]:
         told = f"upsd: bad argument\nupsd: --listen {listen}: not an IP address and a port\n"
-        assert run_to_end(*files, "--listen", listen) == (2, b"", told.encode()), listen
+        assert BENCH.ends("serve", *files, "--listen", listen) == (2, b"", told.encode()), listen
     for words in [["--maxage", "2"], ["--maxage", "86401"], ["--maxage", "x"], ["more"]]:
-        status, out, told = run_to_end(*files, *words)
+        status, out, told = BENCH.ends("serve", *files, *words)
         assert (status, out, told[:7]) == (2, b"", b"error: "), words
-    assert run_to_end("--ups", ups)[0] == 2
+    assert BENCH.ends("serve", "--ups", ups)[0] == 2
     absent = path("absent")
     missing = f"{absent}: cannot read\nupsd: {absent}: No such file or directory (os error 2)"
     # The first fault is told, in the order of the words, the list, the users, the descriptions, the ids, the address.
@@ -107,7 +88,7 @@ def words_and_files_are_told_as_faults():
             (files + ["--vars", bad, "--ids", absent], f"{bad}:1: cause 1"),
             (files + ["--ids", absent, "--listen", "192.0.2.1:1"], missing),
             (files + ["--listen", "192.0.2.1:1"], "cannot listen\nupsd: 192.0.2.1:1: Cannot assign requested address (os error 99)")]:
-        assert run_to_end(*words) == (1, b"", f"upsd: {told}\n".encode()), words
+        assert BENCH.ends("serve", *words) == (1, b"", f"upsd: {told}\n".encode()), words
     ended = ends_in_full(UPSD, "serve", *files, "--listen", "127.0.0.1:0")
     assert ended == (1, b"upsd: write failed\n"), ended
 
@@ -125,7 +106,6 @@ def warned(*words):
     return told, len(told) - len(replayed.stderr.splitlines())
 
 
-@case
 def dangers_of_the_files_are_told():
     dangerous = "[a]\nactions = SET\n[b]\npassword = \"change-me\"\ninstcmds = All\n"
     dangerous += "[c]\npassword = change-me-too\ninstcmds = ALL\ninstcmds = test.all\n[d]\nupsmon secondary\n"
@@ -141,10 +121,10 @@ def dangers_of_the_files_are_told():
     assert sum(line.endswith(EXAMPLE) for line in warned(ups, "--users", example)[0]) == 2
     # A file that is refused is told by its cause alone.
     refused = file("refused", dangerous + "[d]\n")
-    assert run_to_end("--ups", path("list"), "--users", refused) == (1, b"", f"upsd: {refused}:12: cause 4\n".encode())
+    ended = BENCH.ends("serve", "--ups", path("list"), "--users", refused)
+    assert ended == (1, b"", f"upsd: {refused}:12: cause 4\n".encode())
 
 
-@case
 def what_the_files_lack_is_told():
     some, none = file("some", f"[a]\n[b]\nsocket = {path('b.sock')}\n[c]\n"), file("none", "# nothing\n")
     os.chmod(none, 0o600)
@@ -170,20 +150,30 @@ def printed(*words):
 ORDERS = TWO + b'SETINFO ups.delay "20"\nSETFLAGS ups.delay RW\nADDRANGE ups.delay 0 600\nADDCMD test.battery.start\n'
 
 
-@case
 def orders_reach_the_driver_and_are_told_once_and_no_value():
     with served(ORDERS) as (server, driver, good):
-        assert good.ask(ADMIN + b"SET VAR su ups.delay 30\n") == b"OK\n" * 3
-        assert driver.line() == b'SET ups.delay "30"\n'
-        assert good.ask(b"INSTCMD su test.battery.start\n") == b"OK\n"
-        assert driver.line() == b"INSTCMD test.battery.start\n"
+        order, command = b"SET VAR su ups.delay 30\n", b"INSTCMD su test.battery.start\n"
+        assert good.ask(ADMIN + order + command + order) == b"OK\n" * 5
+        given = [b'SET ups.delay "30"\n', b"INSTCMD test.battery.start\n", b'SET ups.delay "30"\n']
+        assert [driver.line() for _ in given] == given
         assert good.ask(GET) == STATUS
-        told = COME + "".join(
-            f"upsd: su: admin@127.0.0.1 ordered {what}\n" for what in ("SET VAR ups.delay", "INSTCMD test.battery.start")
-        )
+        logged = ("SET VAR ups.delay", "INSTCMD test.battery.start", "SET VAR ups.delay")
+        told = COME + "".join(f"upsd: su: admin@127.0.0.1 ordered {what}\n" for what in logged)
         assert server.journal() == told, server.journal()
         driver.send(b'SETINFO ups.delay "30"\n')
         assert comes(lambda: good.ask(b"GET VAR su ups.delay\n") == b'VAR su ups.delay "30"\n')
+
+
+def a_driver_that_took_none_gets_its_orders_again():
+    """Once it reads what its socket holds, and what it was owed beside that."""
+    order = b"INSTCMD su test.battery.start\n"
+    with served(ORDERS) as (_, driver, good):
+        assert good.ask(ADMIN) == b"OK\n" * 2
+        while good.ask(order) == b"OK\n":
+            pass
+        assert serving.taken(driver.wire, None, 0.3).endswith(b"\n")
+        assert good.ask(order) == b"OK\n"
+        assert driver.line() == b"INSTCMD test.battery.start\n"
 
 
 def put_ids(name, *numbers):
@@ -198,7 +188,6 @@ def given(number):
     return f"OK TRACKING {uuid.UUID(int=number)}\n".encode()
 
 
-@case
 def ids_are_those_of_their_file():
     first, order = 0x0102030405060708090A0B0C0D0E0F10, b"SET VAR su ups.delay 30\n"
     with served(ORDERS, "--ids", put_ids("ids", first, 7)) as (_, _, good):
@@ -212,7 +201,6 @@ def ids_are_those_of_their_file():
         assert good.ask(order) == b"ERR SET-FAILED\n"
 
 
-@case
 def a_forced_shutdown_is_seen_and_told_once():
     with served() as (server, _, good):
         other = server.client()
@@ -231,7 +219,6 @@ def drain(driver):
             pass
 
 
-@case
 def a_standard_error_that_nobody_reads_stops_nothing():
     count, slowest, told, (reading, errors) = 50_000, 0, b"", os.pipe()
     with served(ORDERS, errors=errors) as (server, driver, good):
@@ -261,7 +248,6 @@ def a_standard_error_that_nobody_reads_stops_nothing():
     return f"the slowest answer took {slowest * 1000:.1f} ms"
 
 
-@case
 def clients_follow_an_order_to_its_end():
     with served(ORDERS, "--ids", "/dev/urandom") as (server, driver, _):
         ups = f"su@127.0.0.1:{server.port}"
@@ -277,12 +263,13 @@ def clients_follow_an_order_to_its_end():
             assert comes(lambda: printed(*progress) == ended)
 
 
-@case
 def refused_logins_are_told_once_a_second():
     with served() as (server, _, good):
         other = server.client("127.0.0.2")
         assert other.ask(b"LOGIN su\nATTACH su\nLOGIN su\n") == b"ERR USERNAME-REQUIRED\n" * 3
-        told = COME + "upsd: su: 127.0.0.2 was refused LOGIN: USERNAME-REQUIRED\n"
+        assert good.ask(b"LOGIN su\n" * 2) == b"ERR USERNAME-REQUIRED\n" * 2
+        told = COME + "".join(
+            f"upsd: su: 127.0.0.{i} was refused LOGIN: USERNAME-REQUIRED\n" for i in (2, 1))
         assert server.journal() == told, server.journal()
         time.sleep(2.1)
         assert other.ask(b"USERNAME mon\nPASSWORD secret-word\nLOGIN su\n") == b"OK\nOK\nERR ACCESS-DENIED\n"
@@ -290,7 +277,6 @@ def refused_logins_are_told_once_a_second():
         assert server.journal() == told, server.journal()
 
 
-@case
 def a_client_that_is_refused_all_the_time_is_told_once_a_second():
     with served() as (server, _, good):
         begin, refused = time.monotonic(), "upsd: su: mon@127.0.0.1 was refused FSD: ACCESS-DENIED\n"
@@ -303,7 +289,6 @@ def a_client_that_is_refused_all_the_time_is_told_once_a_second():
         assert 3 <= told.count(refused) <= 4, told
 
 
-@case
 def who_logs_in_or_attaches_is_told_and_who_leaves():
     with served() as (server, _, good):
         told = COME + "upsd: su: mon@127.0.0.2 logged in\n"
@@ -324,7 +309,12 @@ def who_logs_in_or_attaches_is_told_and_who_leaves():
         assert comes(lambda: server.journal() == told), server.journal()
 
 
-@case
+def a_login_is_told_of_its_ups():
+    with begun(file("two.conf", "[a]\n[b]\n")) as server:
+        assert server.client().ask(MON + b"LOGIN b\n") == b"OK\n" * 3
+        assert server.journal().endswith("\nupsd: b: mon@127.0.0.1 logged in\n"), server.journal()
+
+
 def a_login_of_one_piece_is_told_and_its_end():
     """By LOGOUT, by a line that is too long, and by the end of the connection."""
     with served() as (server, _, good):
@@ -339,7 +329,6 @@ def a_login_of_one_piece_is_told_and_its_end():
         assert comes(lambda: server.journal() == told), server.journal()
 
 
-@case
 def refused_lines_of_a_driver_are_told_with_their_number():
     with served() as (server, driver, good):
         driver.send(b'HELLO s3cret\nUNKNOWN x\nNOPE\nADDRANGE battery.charge 1 s3cret\n')
@@ -353,7 +342,6 @@ def refused_lines_of_a_driver_are_told_with_their_number():
         assert good.ask(GET) == STATUS
 
 
-@case
 def a_client_is_listed_by_the_address_that_it_comes_from():
     with served() as (server, _, good):
         others = [server.client(f"127.0.0.{i}") for i in range(2, 5)]
@@ -366,7 +354,6 @@ def a_client_is_listed_by_the_address_that_it_comes_from():
         assert comes(lambda: good.ask(b"GET NUMLOGINS su\n") == b"NUMLOGINS su 0\n")
 
 
-@case
 def newcomers_are_let_in_as_they_come():
     with served() as (server, _, _):
         begin = time.monotonic()
@@ -379,7 +366,6 @@ def newcomers_are_let_in_as_they_come():
         assert waited < 2, f"they waited {waited:.2f} s"
 
 
-@case
 def drivers_are_connected_to_before_it_tells_that_it_listens():
     drivers = [Driver(path(f"{name}.sock")) for name in "de"]
     ups = file("two.conf", "".join(f"[{name}]\nsocket = {path(name)}.sock\n" for name in "de"))
@@ -389,7 +375,6 @@ def drivers_are_connected_to_before_it_tells_that_it_listens():
             driver.close()
 
 
-@case
 def a_lost_driver_comes_back():
     with served() as (server, driver, good):
         for lose in (driver.lose, lambda: driver.send(b"x" * 100_000)):  # it ends, or sends no LF
@@ -403,7 +388,6 @@ def a_lost_driver_comes_back():
         assert server.journal() == told, server.journal()
 
 
-@case
 def drivers_that_are_not_there_are_tried_again():
     """And why they can't be connected to is told once a reason."""
     absent, plain, refusing = path("absent.sock"), file("plain", ""), Driver(path("refusing.sock"))
@@ -430,7 +414,6 @@ def drivers_that_are_not_there_are_tried_again():
             driver.close()
 
 
-@case
 def a_silent_driver_is_pinged_and_goes_stale():
     with served(TWO, "--maxage", "3") as (server, driver, good):
         assert driver.line() == b"PING\n"
@@ -443,7 +426,6 @@ def a_silent_driver_is_pinged_and_goes_stale():
         assert server.journal() == told, server.journal()
 
 
-@case
 def data_that_a_driver_takes_back_are_told_once():
     with served() as (server, driver, good):
         driver.send(b"DATASTALE\nDATASTALE\n")
@@ -463,7 +445,6 @@ def data_that_a_driver_takes_back_are_told_once():
         assert server.journal() == told, server.journal()
 
 
-@case
 def the_sixty_fifth_client_is_closed():
     with served() as (server, _, good):
         others = [server.client() for _ in range(63)]
@@ -475,17 +456,12 @@ def the_sixty_fifth_client_is_closed():
                 assert late.wire.recv(1) == b""
             late.close()
         assert all(other.ask(GET) == STATUS for other in [good, *others])
-        others.pop().close()
-
-        assert comes(lambda: is_answered(server.client(), GET, STATUS))
         told = COME + "upsd: no room for a client\n"
         assert comes(lambda: server.journal() == told), server.journal()
-        for client in server.clients[1:]:
-            client.close()
-        told += "upsd: room for clients again: "
-        assert comes(lambda: server.journal().startswith(told)), server.journal()
-        count = server.journal()[len(told):]
-        assert count.endswith(" were sent away\n") and int(count.split()[0]) >= 3, server.journal()
+        others.pop().close()
+        told += "upsd: room for clients again: 3 were sent away\n"
+        assert comes(lambda: server.journal() == told), server.journal()
+        assert server.client().ask(GET) == STATUS
 
 
 def worst_wait(client, count):
@@ -497,15 +473,15 @@ def worst_wait(client, count):
     return worst
 
 
-@case
 def nobody_waits_for_slow_readers():
     with served(many(MANY, 256)) as (server, _, good):
-        before = server.kilobytes()
+        before = server.kilobytes("VmData")
+        assert before < 2900, f"{before} KB for {MANY} values of 256 bytes"
         slow = [server.client() for _ in range(63)]
         for client in slow:
             client.send(b"LIST VAR su\n" * 8)
         worst = worst_wait(good, 500)
-        grown = server.kilobytes() - before
+        grown = server.kilobytes("VmData") - before
         slow[7].send(b"LOGOUT\n")
         slow[7].wire.settimeout(20)
         got = slow[7].up_to_end()
@@ -514,7 +490,6 @@ def nobody_waits_for_slow_readers():
         assert grown < 24 * 64, f"{grown} KB more for 63 slow clients"
 
 
-@case
 def a_standing_connection_lists_without_delay():
     with served(many(1000, 10)) as (_, _, good):
         waits = []
@@ -526,7 +501,6 @@ def a_standing_connection_lists_without_delay():
         assert sorted(waits)[10] < 0.030, waits
 
 
-@case
 def a_client_that_half_closes_gets_all():
     with served(many(MANY, 256)) as (server, _, _):
         for _ in range(5):
@@ -539,7 +513,6 @@ def a_client_that_half_closes_gets_all():
             assert got.startswith(listed) and got.endswith(listed + STATUS), len(got)
 
 
-@case
 def clients_that_left_are_closed_at_their_end_or_after_two_ticks():
     with served() as (server, _, _):
         before = server.descriptors()
@@ -552,7 +525,6 @@ def clients_that_left_are_closed_at_their_end_or_after_two_ticks():
         assert comes(lambda: server.descriptors() == before, 3.5)
 
 
-@case
 def what_clients_send_after_their_end_is_read():
     with served() as (server, _, _):
         before = server.descriptors()
@@ -570,7 +542,6 @@ def what_clients_send_after_their_end_is_read():
         assert not early.was_reset() and not late.was_reset()
 
 
-@case
 def of_more_than_64_clients_that_left_the_oldest_are_closed():
     with served() as (server, _, _):
         before = server.descriptors()
@@ -585,7 +556,6 @@ def of_more_than_64_clients_that_left_the_oldest_are_closed():
         assert clients[-1].up_to_end() == b"OK Goodbye\n" and not clients[-1].was_reset()
 
 
-@case
 def a_server_that_is_asked_nothing_does_nothing():
     with served(many(MANY, 256)) as (server, driver, _):
         slow, gone = server.client(), server.client()
@@ -600,7 +570,6 @@ def a_server_that_is_asked_nothing_does_nothing():
         assert server.descriptors() == opened - 1
 
 
-@case
 def more_clients_than_descriptors_end_nothing():
     with begun(file("alone.conf", "[su]\n"), files=20) as server:
         clients = [server.client() for _ in range(40)]
@@ -665,7 +634,6 @@ def report_on(driver, seconds):
     return in_background(run)
 
 
-@case
 def a_driver_with_orders_at_each_moment_is_heard():
     with served(ORDERS) as (server, driver, good):
         client = server.client()
@@ -683,7 +651,6 @@ def a_driver_with_orders_at_each_moment_is_heard():
         assert worst < 1.0, f"what the driver reported was {worst:.3f} s old"
 
 
-@case
 def nobody_waits_long_beside_busy_clients_and_drivers():
     is_calm = os.getloadavg()[0] < len(os.sched_getaffinity(0))
     drivers = [Driver(path(f"{ups}.sock")) for ups in ("su", "sv")]
@@ -729,7 +696,6 @@ def traffic(server, driver, good):
         client.close()
 
 
-@case
 def nothing_grows():
     with served(many(500, 100)) as (server, driver, good):
         traffic(server, driver, good)
@@ -743,12 +709,11 @@ def nothing_grows():
         assert server.journal() == COME, server.journal()
 
 
-@case
 def it_starts_again_at_its_port_and_at_none_that_is_taken():
     with served() as (server, driver, good):
         words = ["--ups", path("su.conf"), "--users", path("users"), "--listen", f"127.0.0.1:{server.port}"]
         told = f"upsd: cannot listen\nupsd: {words[-1]}: Address already in use (os error 98)\n"
-        assert run_to_end(*words) == (1, b"", told.encode())
+        assert BENCH.ends("serve", *words) == (1, b"", told.encode())
         server.close()
         driver.lose()
         with begun(path("su.conf"), port=server.port) as again:
@@ -758,8 +723,8 @@ def it_starts_again_at_its_port_and_at_none_that_is_taken():
 
 
 file("users", USERS)
-named = sys.argv[5:]
-for function in CASES:
-    if not named or function.__name__ in named:
-        BENCH.case(function.__name__, function)
+CASES = {name: it for name, it in globals().items()
+         if inspect.isfunction(it) and not inspect.signature(it).parameters}  # fmt: skip
+for name in sys.argv[5:] or CASES:
+    BENCH.case(name, CASES[name])
 BENCH.end()

@@ -15,6 +15,7 @@ import time
 
 BUILT = {name: os.path.realpath(f"{os.path.dirname(__file__)}/../crates/{name}/out/{name}") for name in ("upsd", "upsc", "upsrw", "upscmd")}
 READY = b"DUMPDONE\nDATAOK\n"
+TWO = b'SETINFO ups.status "OL"\nSETINFO battery.charge "100"\n'
 
 
 def comes(holds, seconds=4.0):
@@ -119,9 +120,6 @@ class Client:
             lines.append(self.line())
         return b"".join(lines)
 
-    def is_silent(self, seconds=0.3):
-        return not select.select([self.wire], [], [], seconds)[0]
-
     def close(self):
         self.wire.close()
 
@@ -154,9 +152,9 @@ class Server:
     def journal(self):
         return os.pread(self.errors.fileno(), 1 << 20, 0).decode()
 
-    def kilobytes(self):
+    def kilobytes(self, kind="VmRSS"):
         with open(f"/proc/{self.process.pid}/status", encoding="utf-8") as status:
-            return int(next(line for line in status if line.startswith("VmRSS")).split()[1])
+            return int(next(line for line in status if line.startswith(kind)).split()[1])
 
     def seconds_of_work(self):
         with open(f"/proc/{self.process.pid}/stat", encoding="utf-8") as stat:
@@ -199,7 +197,7 @@ class OtherServer(Server):
 
 
 @contextlib.contextmanager
-def served(folder, upsd, told, *words, env=None, errors=None):
+def served(folder, upsd, told=TWO, *words, env=None, errors=None):
     """A server over the UPS `su`, its driver, which has told this, and a good client."""
     with contextlib.ExitStack() as stack:
         driver = Driver(os.path.join(folder, "su.sock"))

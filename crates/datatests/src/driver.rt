@@ -2,8 +2,7 @@
 use crate::kept::Kept;
 use crate::row::Row;
 use crate::shown::push_fault;
-use nutdriver::{DriverFault, DriverLine, Tree, laws};
-use nutmap::Meter;
+use nutdriver::{DriverFault, LineOutcome, laws};
 use nutwords::LINE_LIMIT;
 use std::alloc::AllocError;
 
@@ -14,7 +13,7 @@ pub fn push_answer(
     row: &Row<'_>,
 ) -> Result<bool, AllocError> {
     match row.kind {
-        "line" => push_done(answer, done(&mut kept.tree, row.text))?,
+        "line" => push_done(answer, done(kept, row.text))?,
         "driver_faults" => push_rare_faults(answer)?,
         "driver_laws" => call_laws(),
         _ => return Ok(false),
@@ -22,14 +21,15 @@ pub fn push_answer(
     Ok(true)
 }
 
-/// Reads a line, and does it where it isn't refused.
-fn done(tree: &mut Tree, line: &[u8]) -> Result<(), DriverFault> {
+/// Does a line where it isn't refused.
+fn done(kept: &mut Kept, line: &[u8]) -> Result<(), DriverFault> {
     if line.len() > LINE_LIMIT {
         return Err(DriverFault::Malformed);
     }
-    let line = DriverLine::read(line)?;
-    tree.apply(&line, &mut Meter::new())?;
-    Ok(())
+    match kept.report.execute(0, line, &mut kept.meter)? {
+        LineOutcome::Refused(fault) => Err(fault),
+        _ => Ok(()),
+    }
 }
 
 /// That it is done, or why it is refused.

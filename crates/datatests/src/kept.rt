@@ -1,5 +1,5 @@
 //! What is kept from row to row.
-use nutdriver::Tree;
+use nutdriver::Report;
 use nutmap::{Map, Meter};
 use std::alloc::Global;
 
@@ -10,7 +10,7 @@ pub struct Kept {
     pub map: Map<u32, u32>,
     pub map_version: Map<u32, u32>,
     pub meter: Meter,
-    pub tree: Tree,
+    pub report: Report,
 }
 
 impl Kept {
@@ -20,7 +20,7 @@ impl Kept {
             map: Map::new(alloc),
             map_version: Map::new(alloc),
             meter: Meter::new(),
-            tree: Tree::new(alloc),
+            report: Report::lost(alloc),
         }
     }
 }

@@ -18,7 +18,7 @@ use Rattle.nuttracking.specs.declared.limits.TheConstants.{DONE_LIMIT}
 use Rattle.nuttracking.specs.declared.order.Progress.{Progress}
 use Rattle.nuttracking.specs.declared.order.Progress.TheVariants.{Pending, Done}
 use Rattle.nuttracking.specs.declared.order.TrackedOrder.{TrackedOrder}
-use Rattle.nuttracking.proofs.PublicLaws.{ids_are_plain, written_is_read}
+use Rattle.nuttracking.proofs.PublicLaws.{ids_are_plain, written_is_read, read_is_written}
 use Rattle.nutlisting.specs.Tracked.{progress_words}
 use Rattle.nutanswer.specs.Answer.{told, text_of_answer}
 use Rattle.nutanswer.specs.Checks.{◌>>=◌}
@@ -130,18 +130,20 @@ lawful_found id progress (order ∷ orders) all e =
 
 pub prints_progress : UpscPrintsHowFarAnOrderHasCome
 prints_progress = record {
-  told = λ s c id line progress more small lawful is e.
+  told = λ s c id text line progress more read lawful is e.
+      let small : id < 2 ^ 128 = ((read_is_written text id).0 read).0 in
       let mine = lawful_found id progress s.tracking.orders lawful is in
-      let text = answered_by s c id line (Some progress) (get_tracking_read id line small e) is in
+      let answer = answered_by s c id line (Some progress) (get_tracking_read id line small e) is in
       let words = all_words id progress in
-      let read : reply (requests.GetTracking id) (line_of words ++ more) ≡ Whole (one_item (told_text progress)) more =
+      let whole : reply (requests.GetTracking id) (line_of words ++ more) ≡ Whole (one_item (told_text progress)) more =
       first_read (requests.GetTracking id) words words more (words_written id progress mine)
       ∙ ap (λ (o : Option (List ℕ)). after_first (requests.GetTracking id) (first_or o (refusal_of words)) more) (progress_told id progress small mine) in
-      ap (λ (t : List ℕ). printed (requests.GetTracking id ∷ []) forms.Value (t ++ more)) text
-      ∙ ap (λ (r : Reply). printed_of forms.Value (reply_behind r (λ items rest. Whole items rest))) read
+      ap (λ (t : List ℕ). printed (requests.GetTracking id ∷ []) forms.Value (t ++ more)) answer
+      ∙ ap (λ (r : Reply). printed_of forms.Value (reply_behind r (λ items rest. Whole items rest))) whole
       ∙ ap Prints (printed_text progress);
-  unknown = λ s c id line more small is e.
-      let text = answered_by s c id line None (get_tracking_read id line small e) is in
-      ap (λ (t : List ℕ). printed (requests.GetTracking id ∷ []) forms.Value (t ++ more)) text
+  unknown = λ s c id text line more read is e.
+      let small : id < 2 ^ 128 = ((read_is_written text id).0 read).0 in
+      let answer = answered_by s c id line None (get_tracking_read id line small e) is in
+      ap (λ (t : List ℕ). printed (requests.GetTracking id ∷ []) forms.Value (t ++ more)) answer
       ∙ ap (λ (r : Reply). printed_of forms.Value (reply_behind r (λ items rest. Whole items rest))) (refused_read (requests.GetTracking id) InvalidArgument more);
 }

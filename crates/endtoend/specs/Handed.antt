@@ -1,5 +1,5 @@
 -- What a client program does when it receives the server's answers.
-use Rattle.std.specs.Prelude.{◌≡◌, ◌≢◌, ◌≤◌, ◌<◌, ◌^◌, ℕ, List, [], ◌++◌, false, length, Option}
+use Rattle.std.specs.Prelude.{◌≡◌, ◌≢◌, ◌≤◌, ℕ, List, [], ◌++◌, false, length, Option}
 use Rattle.std.specs.Prelude.{Some, Result, Ok, Err}
 use Rattle.std.specs.Io.KnownBytes.{Appends}
 use denote.Ref.{Bor}
@@ -112,7 +112,7 @@ module _ {R W O : Type 0} (remaining : R → Option (List ℕ)) (failures : R �
       (s : ServerState) (client : ℕ) (words word : Bor (List ℕ)) (id : ℕ) (line : List ℕ)
       (progress : Progress) (more : List ℕ)
       → job_of (Tracked words word) ≡ Some (parts_of job) → read_id word.now ≡ Some id
-      → id < 2 ^ 128 → HaveLawfulNumbers s.tracking.orders
+      → HaveLawfulNumbers s.tracking.orders
       → progress_of id s.tracking ≡ Some progress → IsLineOf (GetTracking id) line
       → IsHanded (reply s client line ++ more) r
       → IsPrinted (line_of (progress_words progress)) r

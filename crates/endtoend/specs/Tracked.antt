@@ -1,9 +1,9 @@
 -- Tracked orders from the screen to the driver, and what `upsc --tracked` prints.
-use Rattle.std.specs.Prelude.{◌≡◌, ◌==◌, ◌<◌, ◌^◌, ℕ, List, [], ◌∷◌, ◌++◌, Option, Some, None}
+use Rattle.std.specs.Prelude.{◌≡◌, ◌==◌, ℕ, List, [], ◌∷◌, ◌++◌, Option, Some, None}
 use Rattle.std.specs.Prelude.{IsTrue, IfSome, if◌then◌else◌}
 use Rattle.nutwords.specs.Frame.{line_of}
 use Rattle.nutwords.specs.Reading.{is_name, is_ups_name, is_value}
-use Rattle.nuttracking.specs.Id.{id_text}
+use Rattle.nuttracking.specs.Id.{id_text, read_id}
 use Rattle.nuttracking.specs.Sound.{HaveLawfulNumbers}
 use Rattle.nuttracking.specs.Tracking.{next_id, with_order, progress_of}
 use Rattle.nuttracking.specs.declared.order.Progress.{Progress}
@@ -56,17 +56,18 @@ pub record ATrackedOrderThatIsPrintedIsGiven : Type 0 where
       ≡ Prints text
       → IsOrderedWithId s c line ups (λ id. instcmd_line name value (Some id)) text
 
--- `upsc --tracked id`. told: how far the order of this id has come is printed, where the order is
--- kept, and the numbers of the kept orders are lawful, as those of every server that events made
--- are. unknown: where no order that is kept has the id, nothing is printed, and the job ends with
--- INVALID-ARGUMENT.
+-- `upsc --tracked text`, of a text that is an id. told: how far the order of this id has come is
+-- printed, where the order is kept, and the numbers of the kept orders are lawful, as those of
+-- every server that events made are. unknown: where no order that is kept has the id, nothing is
+-- printed, and the job ends with INVALID-ARGUMENT.
 pub record UpscPrintsHowFarAnOrderHasCome : Type 0 where
-  pub told : (s : ServerState) (client id : ℕ) (line : List ℕ) (progress : Progress)
-      (more : List ℕ) → id < 2 ^ 128 → HaveLawfulNumbers s.tracking.orders
+  pub told : (s : ServerState) (client id : ℕ) (text line : List ℕ) (progress : Progress)
+      (more : List ℕ) → read_id text ≡ Some id → HaveLawfulNumbers s.tracking.orders
       → progress_of id s.tracking ≡ Some progress → IsLineOf (GetTracking id) line
       → printed (GetTracking id ∷ []) forms.Value (reply s client line ++ more)
       ≡ Prints (line_of (progress_words progress))
-  pub unknown : (s : ServerState) (client id : ℕ) (line more : List ℕ) → id < 2 ^ 128
+  pub unknown : (s : ServerState) (client id : ℕ) (text line more : List ℕ)
+      → read_id text ≡ Some id
       → progress_of id s.tracking ≡ None → IsLineOf (GetTracking id) line
       → printed (GetTracking id ∷ []) forms.Value (reply s client line ++ more)
       ≡ Faults (ServerRefused (spelling_of InvalidArgument))

@@ -6,6 +6,7 @@ use Rattle.nutlisting.specs.declared.ring.TheConstants.{RING_LIMIT}
 use Rattle.nutlisting.specs.declared.listing.clients.TheConstants.{SESSION_LIMIT}
 use Rattle.nutcore.specs.declared.max_age.TheConstants.{MAX_AGE_LEAST, MAX_AGE_MOST}
 use Rattle.nutcore.specs.declared.max_age.TheConstants.{MAX_AGE_DEFAULT}
+use Rattle.nutcore.specs.declared.note.TheConstants.{NOTE_LIMIT}
 
 pub record Limits : Type 0 where
   pub held : HELD_LIMIT ≡ 2048
@@ -13,6 +14,7 @@ pub record Limits : Type 0 where
   pub offered : RING_LIMIT ≡ 8192
   pub sessions : SESSION_LIMIT ≡ 64
   pub driver_owed : DRIVER_OWED_LIMIT ≡ 2048
+  pub notes : NOTE_LIMIT ≡ 342
   pub max_age_least : MAX_AGE_LEAST ≡ 3
   pub max_age_most : MAX_AGE_MOST ≡ 86400
   pub max_age_default : MAX_AGE_DEFAULT ≡ 15

@@ -331,7 +331,7 @@ pub fn each_event_is_a_function()
     ensures { EachEventIsAFunction }
 {}
 
-/// The limits of sessions and of what drivers are owed, and MAXAGE in seconds.
+/// The limits of sessions, of what drivers are owed and of an event's notes, and MAXAGE in seconds.
 pub fn limits()
     ensures { Limits }
 {}

@@ -1,5 +1,6 @@
 -- The numbers of the loop.
 use Rattle.std.specs.Prelude.{◌≡◌, ◌+◌, ◌-◌, ◌^◌}
+use Rattle.nutloop.specs.declared.ids.TheConstants.{ID_SIZE}
 use Rattle.nutloop.specs.declared.over_mio.closing.TheConstants.{CLOSING_LIMIT, CLOSING_TICKS}
 use Rattle.nutloop.specs.declared.over_mio.pass.TheConstants.{STOPS, TURNS_PER_LOOK}
 use Rattle.nutloop.specs.declared.serving.TheConstants.{TURN_LIMIT}
@@ -7,6 +8,7 @@ use Rattle.nutloop.specs.declared.turns.TheConstants.{DRIVER_READ_LIMIT}
 
 pub record Numbers : Type 0 where
   pub driver_read : DRIVER_READ_LIMIT ≡ 512
+  pub id : ID_SIZE ≡ 16
   pub turns_per_look : TURNS_PER_LOOK ≡ 16
   pub turns_between_looks : TURNS_PER_LOOK + STOPS ≡ 209
   pub closing : CLOSING_LIMIT ≡ 64

@@ -61,8 +61,9 @@ pub fn everybody_has_a_turn()
     ensures { EverybodyHasATurn }
 {}
 
-/// The most bytes of a driver's read, the turns after which a pass ends in a look, a bound of the turns between two
-/// looks, the closing connections and their ticks, and the turns of `serve`.
+/// The most bytes of a driver's read, the bytes of an id, the turns after which a pass ends in a
+/// look, a bound of the turns between two looks, the closing connections and their ticks, and the
+/// turns of `serve`.
 pub fn numbers()
     ensures { Numbers }
 {}

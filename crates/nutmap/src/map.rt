@@ -239,8 +239,8 @@ impl<K: Ord + Drop, V: Drop> Map<K, V> {
 
     /// Takes out the entry of a key, and answers its value, or answers `None` where the map does not have the key.
     ///
-    /// The nodes that it makes are counted by `meter`: none where the key is absent, and at most 8 d + 8, where d is
-    /// how many binary digits write one more than the entries before.
+    /// It adds nothing to `meter` where the key is absent, and at most 8 d + 8, where d is how many
+    /// binary digits write one more than the entries before.
     ///
     /// # Errors
     ///

@@ -1,5 +1,5 @@
 -- What one act does.
-use Rattle.std.proofs.Common.{◌≡◌, ℕ, zero, suc, ◌+◌, ◌-◌, ◌<◌, ◌≤◌, ◌==◌, ◌⊎◌, List, [], ◌∷◌, ◌++◌, length, map, drop, true, false, true≢false, inl, inr, Option, Some, None, is_some, unwrap_or, nat_le, arith, refl, sym, ap, ◌∙◌, append_assoc, append-nil, length-append, length-drop}
+use Rattle.std.proofs.Common.{◌≡◌, ℕ, zero, suc, ◌+◌, ◌-◌, ◌<◌, ◌≤◌, ◌==◌, ◌⊎◌, List, [], ◌∷◌, ◌++◌, length, map, drop, true, false, true≢false, inl, inr, Option, Some, None, is_some, unwrap_or, nat_le, nat_lt, ◌^◌, arith, refl, sym, ap, ◌∙◌, append_assoc, append-nil, length-append, length-drop}
 use Rattle.std.proofs.lemmas.Bool.Decides.{nat_tests}
 use Rattle.std.proofs.lemmas.List.{length-map, drop-drop}
 use Rattle.std.specs.List.{find}
@@ -11,7 +11,7 @@ use Rattle.nuttracking.specs.Acts.{Act, Given, after_act, after_acts, taken_by, 
 use Rattle.nuttracking.specs.Acts.Act.{handed_in, ordered, reported}
 use Rattle.nuttracking.specs.Laws.{as_given}
 use Rattle.nuttracking.specs.Sound.{IsSoundTracking, times}
-use Rattle.nuttracking.specs.Tracking.{TrackingState, has_id, is_known, id_fault, with_id, next_id, pending, with_order, awaits, settled, with_report, progress_of}
+use Rattle.nuttracking.specs.Tracking.{TrackingState, has_id, is_known, is_taken_in, with_id, next_id, pending, with_order, awaits, settled, with_report, progress_of}
 use Rattle.nuttracking.specs.declared.limits.TheConstants.{ID_LIMIT, ORDER_LIMIT}
 use Rattle.nuttracking.specs.declared.order.Progress.{Progress}
 use Rattle.nuttracking.specs.declared.order.Progress.TheVariants.{Pending, Done}
@@ -22,25 +22,31 @@ use Rattle.nuttracking.specs.declared.order.TrackedOrder.{TrackedOrder}
 more_than : (a b : ℕ) → nat_le a b ≡ false → b < a
 more_than a b e = grind (arith, nat_tests)
 
+pub less_than : (a b : ℕ) → nat_lt a b ≡ true → a < b
+less_than a b e = grind (arith, nat_tests)
+
 sound_handed_in : (t : TrackingState) (id : ℕ) → IsSoundTracking t → IsSoundTracking (with_id id t)
 sound_handed_in t id s = elim (either (is_known id t)) [
   | inl known ↦ rw known s
   | inr unknown ↦ elim (either (nat_le ID_LIMIT (length t.ids))) [
     | inl full ↦ rw (unknown, full) s
-    | inr room ↦ rw (unknown, room) (sound_with_id t id s unknown (more_than ID_LIMIT (length t.ids) room))
+    | inr room ↦ elim (either (nat_lt id (2 ^ 128))) [
+      | inl small ↦ rw (unknown, room, small) (sound_with_id t id s unknown (more_than ID_LIMIT (length t.ids) room) (less_than id (2 ^ 128) small))
+      | inr wide ↦ rw (unknown, room, wide) s
+    ]
   ]
 ]
 
 ids_handed_in : (t : TrackingState) (id : ℕ) → (with_id id t).ids ≡ t.ids ++ taken_by t (handed_in id)
-ids_handed_in t id = elim (either (is_some (id_fault id t))) [
-  | inl refused ↦ rw refused (sym (append-nil t.ids))
-  | inr taken ↦ rw taken refl
+ids_handed_in t id = elim (either (is_taken_in id t)) [
+  | inl taken ↦ rw taken refl
+  | inr refused ↦ rw refused (sym (append-nil t.ids))
 ]
 
 pub orders_handed_in : (t : TrackingState) (id : ℕ) → (with_id id t).orders ≡ t.orders
-orders_handed_in t id = elim (either (is_some (id_fault id t))) [
-  | inl refused ↦ rw refused refl
-  | inr taken ↦ rw taken refl
+orders_handed_in t id = elim (either (is_taken_in id t)) [
+  | inl taken ↦ rw taken refl
+  | inr refused ↦ rw refused refl
 ]
 
 -- ---- an order

@@ -87,6 +87,15 @@ bytes_of_number f small =
     let number : from_be_bytes w128 (by_index 16 f) ≡ number_up up = omega arith in
     ap (bytes_high_first 16) number ∙ bytes_back up bytes
 
+-- what some digits read as has no more
+pub digits_small : (k n : ℕ) → digits_value 16 (last_digits k n) < 16 ^ k
+unfolding last_digits
+digits_small zero n = omega arith
+digits_small (suc k) n =
+    let pushed = digits_value_push 16 (last_digits k (n / 16)) (digit_char (n % 16)) in
+    let digit : digit_value (digit_char (n % 16)) ≡ n % 16 = grind (arith, nat_tests) in
+    rw (pow-suc 16 k) (omega (arith, pushed, digit, digits_small k (n / 16)))
+
 -- the digits of a number read as it
 pub digits_back : (k n : ℕ) → n < 16 ^ k → digits_value 16 (last_digits k n) ≡ n
 unfolding last_digits

@@ -1,5 +1,5 @@
 -- What the operations keep.
-use Rattle.std.proofs.Common.{◌≡◌, ℕ, zero, suc, ◌+◌, ◌-◌, ◌<◌, ◌≤◌, ◌==◌, ◌⊎◌, ◌||◌, List, [], ◌∷◌, ◌++◌, length, map, drop, get_or, set, Bool, true, false, true≢false, not, inl, inr, nat_lt, slice_get, Option, Some, None, is_some, unwrap_or, arith, refl, sym, ap, ◌∙◌, length-append, length-drop}
+use Rattle.std.proofs.Common.{◌≡◌, ℕ, zero, suc, ◌+◌, ◌-◌, ◌^◌, ◌<◌, ◌≤◌, ◌==◌, ◌⊎◌, ◌||◌, List, [], ◌∷◌, ◌++◌, length, map, drop, get_or, set, Bool, true, false, true≢false, not, inl, inr, nat_lt, slice_get, Option, Some, None, is_some, unwrap_or, arith, refl, sym, ap, ◌∙◌, length-append, length-drop}
 use Rattle.std.proofs.lemmas.Bool.{eqb-true}
 use Rattle.std.proofs.lemmas.Bool.Decides.{nat_tests}
 use Rattle.std.proofs.lemmas.List.{length-map, map_push}
@@ -41,21 +41,31 @@ one_more id j xs ys here kept once =
           omega arith
     ]
 
-pub sound_with_id : (t : TrackingState) (id : ℕ) → IsSoundTracking t → is_known id t ≡ false → length t.ids < ID_LIMIT
+-- no number that is too great
+small_more : (id j k : ℕ) (xs ys : List ℕ) → id < k → k ≤ j → times j (xs ++ ys) ≡ 0 → times j ((xs ++ id ∷ []) ++ ys) ≡ 0
+small_more id j k xs ys below above none =
+    let before = times_append j xs ys in
+    let after = times_append j (xs ++ id ∷ []) ys in
+    let more = times_push j id xs in
+    let other : one_if j id ≡ 0 = grind (arith, nat_tests) in
+    omega arith
+
+pub sound_with_id : (t : TrackingState) (id : ℕ) → IsSoundTracking t → is_known id t ≡ false → length t.ids < ID_LIMIT → id < 2 ^ 128
     → IsSoundTracking (record { ids = t.ids ++ id ∷ []; orders = t.orders })
-sound_with_id t id s unknown room =
+sound_with_id t id s unknown room small =
     let parts = neither (list_any (λ (other : ℕ). other == id) t.ids) (list_any (has_id id) t.orders) unknown in
     record {
       ids_few = omega (arith, length-append t.ids (id ∷ []));
       orders_few = s.orders_few;
+      small = λ j h. small_more id j (2 ^ 128) t.ids (order_ids t.orders) small h (s.small j h);
       once = λ j. one_more id j t.ids (order_ids t.orders) (not_at_hand id t.ids parts.0) (not_kept id t.orders parts.1) (s.once j);
     }
 
 -- ---- an order more
 
-once_used : (place id j k : ℕ) (rest : List ℕ) (orders : List TrackedOrder) → times j ((id ∷ rest) ++ order_ids orders) ≤ 1
-    → times j (rest ++ order_ids (drop k (orders ++ pending place id ∷ []))) ≤ 1
-once_used place id j k rest orders once =
+no_more_used : (place id j k : ℕ) (rest : List ℕ) (orders : List TrackedOrder)
+    → times j (rest ++ order_ids (drop k (orders ++ pending place id ∷ []))) ≤ times j ((id ∷ rest) ++ order_ids orders)
+no_more_used place id j k rest orders =
     let before = times_append j (id ∷ rest) (order_ids orders) in
     let first = times_cons j id rest in
     let after = times_append j rest (order_ids (drop k (orders ++ pending place id ∷ []))) in
@@ -63,6 +73,14 @@ once_used place id j k rest orders once =
     let pushed : times j (order_ids (orders ++ pending place id ∷ [])) ≡ times j (order_ids orders) + one_if j id =
     ap (times j) (map_push (λ (order : TrackedOrder). order.id) orders (pending place id)) ∙ times_push j id (order_ids orders) in
     omega arith
+
+once_used : (place id j k : ℕ) (rest : List ℕ) (orders : List TrackedOrder) → times j ((id ∷ rest) ++ order_ids orders) ≤ 1
+    → times j (rest ++ order_ids (drop k (orders ++ pending place id ∷ []))) ≤ 1
+once_used place id j k rest orders once = omega (arith, no_more_used place id j k rest orders)
+
+small_used : (place id j k : ℕ) (rest : List ℕ) (orders : List TrackedOrder) → times j ((id ∷ rest) ++ order_ids orders) ≡ 0
+    → times j (rest ++ order_ids (drop k (orders ++ pending place id ∷ []))) ≡ 0
+small_used place id j k rest orders none = omega (arith, no_more_used place id j k rest orders)
 
 abbrev Lawful : TrackedOrder → Type 0
 Lawful order = IsLawfulProgress order.progress
@@ -78,6 +96,7 @@ sound_with_order place id rest orders s =
     record {
       ids_few = omega (arith, s.ids_few);
       orders_few = omega (arith, length-drop (length all - ORDER_LIMIT) all);
+      small = λ j h. small_used place id j (length all - ORDER_LIMIT) rest orders (s.small j h);
       once = λ j. once_used place id j (length all - ORDER_LIMIT) rest orders (s.once j);
     }
 
@@ -109,6 +128,7 @@ pub sound_with_report : (t : TrackingState) (place id number : ℕ) → IsSoundT
 sound_with_report t place id number s = record {
   ids_few = s.ids_few;
   orders_few = rw (length-map t.orders (settled place id number)) s.orders_few;
+  small = λ j h. rw (ids_settled place id number t.orders) (s.small j h);
   once = λ j. rw (ids_settled place id number t.orders) (s.once j);
 }
 
@@ -171,7 +191,7 @@ none_found p (x ∷ xs) h = elim (either (p x)) [
   | inr other ↦ rw other (none_found p xs (omega (arith, rw other at h)))
 ]
 
-not_below : (a b : ℕ) → nat_lt a b ≡ false → b ≤ a
+pub not_below : (a b : ℕ) → nat_lt a b ≡ false → b ≤ a
 not_below a b e = grind (arith, nat_tests)
 
 pub no_position : {X : Type 0} (p : X → Bool) (xs : List X) → position p xs ≡ None → list_any p xs ≡ false

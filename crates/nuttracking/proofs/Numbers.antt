@@ -9,7 +9,7 @@ use Rattle.std.specs.List.{filter, list_all, join_with_byte}
 use Rattle.std.specs.Str.{str_to_ascii_lowercase}
 use Rattle.std.specs.Str.Parse.{digits_value, digits_value_after}
 use Rattle.nuttracking.specs.Id.{hyphen, groups, last_digits, id_text, digits_number}
-use Rattle.nuttracking.proofs.Digits.{digits_back}
+use Rattle.nuttracking.proofs.Digits.{digits_back, digits_small}
 
 both : (a b : Bool) → (a && b) ≡ true → (a ≡ true) × (b ≡ true)
 both true true e = (refl, refl)
@@ -75,6 +75,12 @@ groups_stay digits all =
     let second = one_group 4 (drop 8 digits) _ (pass 8) (third ∙ sym (drop-drop 4 8 digits)) in
     one_group 8 digits _ all second
 
-pub text_number : (n : ℕ) → n < 16 ^ 32 → digits_number (id_text n) ≡ n
+text_digits : (n : ℕ) → digits_number (id_text n) ≡ digits_value 16 (last_digits 32 n)
 unfolding digits_number id_text
-text_number n h = ap (digits_value 16) (groups_stay (last_digits 32 n) (digits_pass 32 n)) ∙ digits_back 32 n h
+text_digits n = ap (digits_value 16) (groups_stay (last_digits 32 n) (digits_pass 32 n))
+
+pub text_number : (n : ℕ) → n < 16 ^ 32 → digits_number (id_text n) ≡ n
+text_number n h = text_digits n ∙ digits_back 32 n h
+
+pub text_small : (n : ℕ) → digits_number (id_text n) < 16 ^ 32
+text_small n = rw (text_digits n) (digits_small 32 n)

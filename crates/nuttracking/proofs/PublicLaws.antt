@@ -1,5 +1,5 @@
 -- The laws of this crate that a proof in a crate above may cite: each is what a function of src/laws.rt ensures.
-use Rattle.std.proofs.Common.{◌≡◌, ℕ, ◌-◌, List, [], ◌∷◌, ◌++◌, length, map, drop, Bool, true, false, true≢false, if◌then◌else◌, Option, Some, None, is_some, unwrap_or, arith, refl, sym, ap, ◌∙◌, append_assoc, append-nil, length-append}
+use Rattle.std.proofs.Common.{◌≡◌, ℕ, ◌-◌, ◌^◌, ◌<◌, ◌≤◌, inl, inr, nat_lt, subst, List, [], ◌∷◌, ◌++◌, length, map, drop, Bool, true, false, true≢false, if◌then◌else◌, Option, Some, None, is_some, unwrap_or, arith, refl, sym, ap, ◌∙◌, append_assoc, append-nil, length-append}
 use Rattle.std.proofs.lemmas.List.{length-map}
 use Rattle.std.proofs.lemmas.Slice.Eq.{bytes_eq-Decides}
 use Rattle.std.specs.Char.{to_ascii_lowercase}
@@ -7,17 +7,18 @@ use Rattle.std.specs.Str.{bytes_eq, str_to_ascii_lowercase}
 use Rattle.circular_buffer.specs.Buffer.{keep_last}
 use Rattle.nuttracking.proofs.ReadBack.{reads_text}
 use Rattle.nuttracking.proofs.Reading.{text_is_lower, text_plain}
+use Rattle.nuttracking.proofs.Numbers.{number_lowered, text_small}
 use Rattle.nuttracking.proofs.Texts.{id_text_length}
 use Rattle.nuttracking.specs.Acts.{Given, after_act, after_acts, taken_by, taken_in, given_by, given}
 use Rattle.nuttracking.specs.Acts.Act.{handed_in, ordered, reported}
 use Rattle.nuttracking.specs.Id.{id_text, digits_number, read_id, WrittenIsRead, ReadIsWritten, IdsArePlain}
 use Rattle.nuttracking.specs.Laws.{FirstInFirstOut, TheLastAreKept, ActsKeepItSound, LawfulActsKeepNumbersLawful, ItsDriverSettlesItOnce, as_given}
-use Rattle.nuttracking.specs.Sound.{IsSoundTracking, HaveLawfulNumbers}
+use Rattle.nuttracking.specs.Sound.{IsSoundTracking, KnownIdsAreWrittenApart, HaveLawfulNumbers, times, known_ids}
 use Rattle.nuttracking.specs.Tracking.{TrackingState, nothing_tracked, pending, with_order}
 use Rattle.nuttracking.specs.declared.limits.TheConstants.{ORDER_LIMIT}
 use Rattle.nuttracking.specs.declared.order.Progress.TheVariants.{Pending}
-use Rattle.nuttracking.proofs.ActSteps.{sound_after_act, id_step, order_step, map_append, all_kept, keep_keep, dropped_front, orders_after, orders_handed_in, settles}
-use Rattle.nuttracking.proofs.KeptSound.{lawful_with_order, lawful_settled}
+use Rattle.nuttracking.proofs.ActSteps.{less_than, sound_after_act, id_step, order_step, map_append, all_kept, keep_keep, dropped_front, orders_after, orders_handed_in, settles}
+use Rattle.nuttracking.proofs.KeptSound.{either, not_below, lawful_with_order, lawful_settled}
 
 -- ids_are_read_back
 is_read : (text : List ℕ) (n : ℕ) (b : Bool) → (if b then Some (digits_number text) else None) ≡ Some n → (b ≡ true) × (digits_number text ≡ n)
@@ -30,8 +31,14 @@ text_read text n e =
     let r = is_read text n (bytes_eq (str_to_ascii_lowercase text) (id_text (digits_number text))) e in
     (bytes_eq-Decides (str_to_ascii_lowercase text) (id_text (digits_number text))).0 r.0 ∙ ap id_text r.1
 
+small_read : (text : List ℕ) (n : ℕ) → read_id text ≡ Some n → n < 2 ^ 128
+unfolding read_id
+small_read text n e =
+    let number : digits_number (id_text n) ≡ n = ap digits_number (sym (text_read text n e)) ∙ number_lowered text ∙ (is_read text n _ e).1 in
+    subst (λ (m : ℕ). m < 2 ^ 128) number (text_small n)
+
 pub read_is_written : ReadIsWritten
-read_is_written text id small = (text_read text id, reads_text text id small)
+read_is_written text id = (λ e. (small_read text id e, text_read text id e), λ h. reads_text text id h.0 h.1)
 
 pub written_is_read : WrittenIsRead
 written_is_read id small = reads_text (id_text id) id small (text_is_lower id)
@@ -46,11 +53,23 @@ ids_are_plain = record {
 
 -- an_id_stands_for_one_order
 pub nothing_is_sound : IsSoundTracking nothing_tracked
-nothing_is_sound = record { ids_few = omega arith; orders_few = omega arith; once = λ id. omega arith }
+nothing_is_sound = record { ids_few = omega arith; orders_few = omega arith; small = λ id h. omega arith; once = λ id. omega arith }
 
 pub acts_keep_it_sound : ActsKeepItSound
 acts_keep_it_sound t [] s = s
 acts_keep_it_sound t (act ∷ acts) s = acts_keep_it_sound (after_act t act) acts (sound_after_act t act s)
+
+small_known : (t : TrackingState) (id : ℕ) → IsSoundTracking t → 1 ≤ times id (known_ids t) → id < 2 ^ 128
+small_known t id s known = elim (either (nat_lt id (2 ^ 128))) [
+  | inl small ↦ less_than id (2 ^ 128) small
+  | inr wide ↦ absurd (let none = s.small id (not_below id (2 ^ 128) wide) in omega arith)
+]
+
+pub known_ids_are_written_apart : KnownIdsAreWrittenApart
+known_ids_are_written_apart t one other s here there alike =
+    let first = written_is_read one (small_known t one s here) in
+    let second = written_is_read other (small_known t other s there) in
+    ap (λ (o : Option ℕ). unwrap_or o 0) (sym first ∙ ap read_id alike ∙ second)
 
 pub lawful_acts_keep_numbers_lawful : LawfulActsKeepNumbersLawful
 lawful_acts_keep_numbers_lawful t (handed_in id) lawful all = rw (orders_handed_in t id) all

@@ -1,9 +1,9 @@
 -- Ids and orders over time: what is taken in, given and reported.
 use Rattle.std.specs.Prelude.{ℕ, ◌==◌, ◌&&◌, List, [], ◌∷◌, ◌++◌, Option, Some, None}
-use Rattle.std.specs.Prelude.{is_some, if◌then◌else◌}
+use Rattle.std.specs.Prelude.{if◌then◌else◌}
 use Rattle.nuttracking.specs.declared.order.Progress.{Progress}
 use Rattle.nuttracking.specs.declared.order.Progress.TheVariants.{Pending, Done}
-use Rattle.nuttracking.specs.Tracking.{TrackingState, id_fault, next_id, with_id, with_order}
+use Rattle.nuttracking.specs.Tracking.{TrackingState, is_taken_in, next_id, with_id, with_order}
 use Rattle.nuttracking.specs.Tracking.{with_report}
 
 -- An id is handed in; an order is given to the driver of the UPS at a place; that driver reports on
@@ -24,7 +24,7 @@ after_acts t (act ∷ acts) = after_acts (after_act t act) acts
 
 -- The ids that were taken in, in order.
 abbrev pub taken_by : TrackingState → Act → List ℕ
-taken_by t (handed_in id) = if is_some (id_fault id t) then [] else id ∷ []
+taken_by t (handed_in id) = if is_taken_in id t then id ∷ [] else []
 taken_by t (ordered place) = []
 taken_by t (reported place id number) = []
 

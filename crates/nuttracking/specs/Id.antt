@@ -41,11 +41,12 @@ read_id text =
 abbrev pub WrittenIsRead : Type 0
 WrittenIsRead = (id : ℕ) → id < 2 ^ 128 → read_id (id_text id) ≡ Some id
 
--- A text is read as an id just where in lower case it is that id as it is written.
+-- A text is read as an id just where that is a number of 128 bits, and in lower case the text is
+-- that id as it is written.
 abbrev pub ReadIsWritten : Type 0
 ReadIsWritten =
-    (text : List ℕ) (id : ℕ) → id < 2 ^ 128
-    → (read_id text ≡ Some id ↔ str_to_ascii_lowercase text ≡ id_text id)
+    (text : List ℕ) (id : ℕ)
+    → (read_id text ≡ Some id ↔ (id < 2 ^ 128) × (str_to_ascii_lowercase text ≡ id_text id))
 
 -- A digit of base sixteen, or a hyphen.
 abbrev pub is_id_byte : ℕ → Bool

@@ -1,10 +1,11 @@
 -- What holds of every state of ids and orders.
-use Rattle.std.specs.Prelude.{◌≤◌, ⊤, ℕ, ◌==◌, List, ◌++◌, length, map, All}
+use Rattle.std.specs.Prelude.{◌≡◌, ◌≤◌, ⊤, ℕ, ◌^◌, ◌==◌, List, ◌++◌, length, map, All}
 use Rattle.std.specs.List.{count_by}
 use Rattle.nuttracking.specs.declared.limits.TheConstants.{ID_LIMIT, ORDER_LIMIT, DONE_LIMIT}
 use Rattle.nuttracking.specs.declared.order.Progress.{Progress}
 use Rattle.nuttracking.specs.declared.order.Progress.TheVariants.{Pending, Done}
 use Rattle.nuttracking.specs.declared.order.TrackedOrder.{TrackedOrder}
+use Rattle.nuttracking.specs.Id.{id_text}
 use Rattle.nuttracking.specs.Tracking.{TrackingState}
 
 -- How often the id stands there.
@@ -15,12 +16,19 @@ times id ids = count_by (λ other. other == id) ids
 abbrev pub known_ids : TrackingState → List ℕ
 known_ids t = t.ids ++ map (λ order. order.id) t.orders
 
--- No more ids are at hand, and no more orders are kept, than may be; and an id stands for one
--- thing: it is at hand, once, or one order that is kept has it.
+-- No more ids are at hand, and no more orders are kept, than may be; an id is a number of 128 bits;
+-- and it stands for one thing: it is at hand, once, or one order that is kept has it.
 pub record IsSoundTracking (t : TrackingState) : Type 0 where
   pub ids_few : length t.ids ≤ ID_LIMIT
   pub orders_few : length t.orders ≤ ORDER_LIMIT
+  pub small : (id : ℕ) → 2 ^ 128 ≤ id → times id (known_ids t) ≡ 0
   pub once : (id : ℕ) → times id (known_ids t) ≤ 1
+
+-- So no two that are known are written alike.
+abbrev pub KnownIdsAreWrittenApart : Type 0
+KnownIdsAreWrittenApart =
+    (t : TrackingState) (one other : ℕ) → IsSoundTracking t → 1 ≤ times one (known_ids t)
+    → 1 ≤ times other (known_ids t) → id_text one ≡ id_text other → one ≡ other
 
 abbrev pub IsLawfulProgress : Progress → Type 0
 IsLawfulProgress Pending = ⊤

@@ -1,6 +1,6 @@
 -- The available ids and the kept orders, and what each call does to them.
-use Rattle.std.specs.Prelude.{ℕ, Bool, true, false, ◌==◌, ◌&&◌, ◌||◌, nat_le, List, [], ◌∷◌, ◌++◌}
-use Rattle.std.specs.Prelude.{Option, Some, None, is_some, length, map, drop, slice_get}
+use Rattle.std.specs.Prelude.{ℕ, ◌^◌, Bool, true, false, ◌==◌, ◌&&◌, ◌||◌, nat_le, nat_lt, List, []}
+use Rattle.std.specs.Prelude.{◌∷◌, ◌++◌, Option, Some, None, is_none, length, map, drop, slice_get}
 use Rattle.std.specs.Prelude.{if◌then◌else◌}
 use Rattle.std.specs.List.{find, list_any}
 use Rattle.std.specs.Option.{option_map, option_map_or}
@@ -37,9 +37,13 @@ id_fault id t =
     else if nat_le ID_LIMIT (length t.ids) then Some TooMany
     else None
 
+-- It is taken in where that has no fault. A number of more than 128 bits is no id.
+abbrev pub is_taken_in : ℕ → TrackingState → Bool
+is_taken_in id t = is_none (id_fault id t) && nat_lt id (2 ^ 128)
+
 -- An id is handed in: one that is taken in comes behind those at hand.
 abbrev pub with_id : ℕ → TrackingState → TrackingState
-with_id id t = if is_some (id_fault id t) then t else record t { ids = t.ids ++ id ∷ [] }
+with_id id t = if is_taken_in id t then record t { ids = t.ids ++ id ∷ [] } else t
 
 -- The id that the next order uses.
 abbrev pub next_id : TrackingState → Option ℕ

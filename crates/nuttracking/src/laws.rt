@@ -2,7 +2,7 @@
 ghost use Rattle.std.specs.Prelude.{◌≡◌};
 ghost use Rattle.nuttracking.specs.Id.{WrittenIsRead, ReadIsWritten, IdsArePlain};
 ghost use Rattle.nuttracking.specs.Laws.{FirstInFirstOut, TheLastAreKept, ActsKeepItSound, LawfulActsKeepNumbersLawful, ItsDriverSettlesItOnce};
-ghost use Rattle.nuttracking.specs.Sound.{IsSoundTracking};
+ghost use Rattle.nuttracking.specs.Sound.{IsSoundTracking, KnownIdsAreWrittenApart};
 ghost use Rattle.nuttracking.specs.Tracking.{nothing_tracked};
 ghost use Rattle.nuttracking.specs.declared.limits.TheConstants.{ID_LIMIT, ORDER_LIMIT, DONE_LIMIT};
 
@@ -30,11 +30,12 @@ pub fn ids_are_used_in_their_order()
     ensures { FirstInFirstOut }
 {}
 
-/// No two kept orders have one id, and no id of theirs is available. At most 64 ids are available
-/// and 256 orders kept.
+/// No two kept orders have one id, and no id of theirs is available. No two ids are written alike.
+/// At most 64 ids are available and 256 orders kept.
 pub fn an_id_stands_for_one_order()
     ensures first { IsSoundTracking nothing_tracked }
     ensures kept { ActsKeepItSound }
+    ensures apart { KnownIdsAreWrittenApart }
     ensures numbers { LawfulActsKeepNumbersLawful }
 {}
 

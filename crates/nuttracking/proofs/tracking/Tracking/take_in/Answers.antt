@@ -17,6 +17,6 @@ invariant_of-self c =
     record {
       id_room = ap (λ (b : Buffer ℕ). b.capacity) c.push_back.ensures.items ∙ i.id_room;
       order_room = i.order_room;
-      sound = rw items (sound_with_id t c.args.id i.sound unknown (omega arith));
+      sound = rw items (sound_with_id t c.args.id i.sound unknown (omega arith) (omega (arith, c.ranges.id)));
       numbers = i.numbers;
     }
