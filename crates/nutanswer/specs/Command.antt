@@ -90,8 +90,9 @@ on_or_off (word ∷ []) = is_on word
 on_or_off _ = Err InvalidArgument
 
 -- SET: one case a second word.
-abbrev pub set_of : List ℕ → List (List ℕ) → Result Command ErrWord
-set_of kind words =
+abbrev pub read_set : List (List ℕ) → Result Command ErrWord
+read_set [] = Err InvalidArgument
+read_set (kind ∷ words) =
     if is_word kind (codes "VAR")
     then command_with (λ a. SetVar a.0 a.1 a.2) (ups_name_and_value words)
     else if is_word kind (codes "TRACKING")
@@ -101,10 +102,6 @@ set_of kind words =
 abbrev pub read_instcmd : List (List ℕ) → Result Command ErrWord
 read_instcmd words = command_with (λ a. InstCmd a.0 a.1 a.2) (ups_name_and_value_if_any words)
 
-abbrev pub read_set : List (List ℕ) → Result Command ErrWord
-read_set [] = Err InvalidArgument
-read_set (kind ∷ words) = set_of kind words
-
 -- GET TRACKING: alone, or with a word that is to be an id, and is none where it isn't one.
 abbrev pub tracking_asked : List (List ℕ) → Result Command ErrWord
 tracking_asked [] = Ok GetTracking
@@ -112,8 +109,9 @@ tracking_asked (id ∷ []) = Ok (GetProgress (read_id id))
 tracking_asked _ = Err InvalidArgument
 
 -- GET: one case a second word.
-abbrev pub get_of : List ℕ → List (List ℕ) → Result Command ErrWord
-get_of kind words =
+abbrev pub read_get : List (List ℕ) → Result Command ErrWord
+read_get [] = Err InvalidArgument
+read_get (kind ∷ words) =
     if is_word kind (codes "VAR") then command_with (λ a. GetVar a.0 a.1) (ups_and_name words)
     else if is_word kind (codes "TYPE")
     then command_with (λ a. GetType a.0 a.1) (ups_and_name words)
@@ -130,13 +128,10 @@ get_of kind words =
     else if is_word kind (codes "TRACKING") then tracking_asked words
     else Err InvalidArgument
 
-abbrev pub read_get : List (List ℕ) → Result Command ErrWord
-read_get [] = Err InvalidArgument
-read_get (kind ∷ words) = get_of kind words
-
 -- LIST: one case a second word.
-abbrev pub list_of : List ℕ → List (List ℕ) → Result Command ErrWord
-list_of kind words =
+abbrev pub read_list : List (List ℕ) → Result Command ErrWord
+read_list [] = Err InvalidArgument
+read_list (kind ∷ words) =
     if is_word kind (codes "UPS") then alone ListUps words
     else if is_word kind (codes "VAR") then command_with (λ ups. ListVar ups) (ups_alone words)
     else if is_word kind (codes "RW") then command_with (λ ups. ListRw ups) (ups_alone words)
@@ -149,53 +144,34 @@ list_of kind words =
     then command_with (λ ups. ListClient ups) (ups_alone words)
     else Err InvalidArgument
 
-abbrev pub read_list : List (List ℕ) → Result Command ErrWord
-read_list [] = Err InvalidArgument
-read_list (kind ∷ words) = list_of kind words
-
--- The commands that ask what the server is: one case a first word, here and below.
-abbrev pub server_command : List ℕ → List (List ℕ) → Result Command ErrWord
-server_command first words =
-    if is_word first (codes "HELP") then alone Help words
+-- The commands but GET and LIST, some of them by two words: one case a first word.
+abbrev pub other_command : List ℕ → List (List ℕ) → Result Command ErrWord
+other_command first words =
+    if is_word first (codes "USERNAME")
+    then command_with (λ name. Username name) (user_name_alone words)
+    else if is_word first (codes "PASSWORD")
+    then command_with (λ password. Password password) (password_alone words)
+    else if is_word first (codes "LOGIN") || is_word first (codes "ATTACH")
+    then command_with (λ ups. Login ups) (ups_alone words)
+    else if is_word first (codes "LOGOUT") || is_word first (codes "DETACH")
+    then alone Logout words
+    else if is_word first (codes "PRIMARY") then command_with (λ ups. Primary ups) (ups_alone words)
+    else if is_word first (codes "FSD") then command_with (λ ups. Fsd ups) (ups_alone words)
+    else if is_word first (codes "SET") then read_set words
+    else if is_word first (codes "INSTCMD") then read_instcmd words
+    else if is_word first (codes "HELP") then alone Help words
     else if is_word first (codes "VER") then alone Ver words
     else if is_word first (codes "NETVER") then alone NetVer words
     else if is_word first (codes "PROTVER") then alone ProtVer words
     else if is_word first (codes "STARTTLS") then alone StartTls words
     else Err UnknownCommand
 
--- Those of orders to drivers, and the ones above.
-abbrev pub order_command : List ℕ → List (List ℕ) → Result Command ErrWord
-order_command first words =
-    if is_word first (codes "SET") then read_set words
-    else if is_word first (codes "INSTCMD") then read_instcmd words
-    else server_command first words
-
--- Those of logins, each by two words, and of forced shutdowns, and the ones above.
-abbrev pub login_command : List ℕ → List (List ℕ) → Result Command ErrWord
-login_command first words =
-    if is_word first (codes "LOGIN") || is_word first (codes "ATTACH")
-    then command_with (λ ups. Login ups) (ups_alone words)
-    else if is_word first (codes "LOGOUT") || is_word first (codes "DETACH")
-    then alone Logout words
-    else if is_word first (codes "PRIMARY") then command_with (λ ups. Primary ups) (ups_alone words)
-    else if is_word first (codes "FSD") then command_with (λ ups. Fsd ups) (ups_alone words)
-    else order_command first words
-
--- Those of who asks, and the ones above.
-abbrev pub user_command : List ℕ → List (List ℕ) → Result Command ErrWord
-user_command first words =
-    if is_word first (codes "USERNAME")
-    then command_with (λ name. Username name) (user_name_alone words)
-    else if is_word first (codes "PASSWORD")
-    then command_with (λ password. Password password) (password_alone words)
-    else login_command first words
-
--- The command with this first word and these words after it: GET and LIST, and the ones above.
+-- The command with this first word and these words after it.
 abbrev pub command_named : List ℕ → List (List ℕ) → Result Command ErrWord
 command_named first words =
     if is_word first (codes "GET") then read_get words
     else if is_word first (codes "LIST") then read_list words
-    else user_command first words
+    else other_command first words
 
 abbrev pub some_command : Result Command ErrWord → Result (Option Command) ErrWord
 some_command (Err word) = Err word

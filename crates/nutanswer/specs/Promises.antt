@@ -1,5 +1,6 @@
 -- What the private parts of the code promise one another. A reader of the public contracts needs
 -- none of it.
+use denote.Ref.{Bor}
 use Rattle.std.specs.Prelude.{◌≡◌, ℕ, false, List, Option, None, Result, Ok, Err}
 use Rattle.std.specs.Option.{option_copied}
 use Rattle.nutdriver.specs.Variable.{VariableState}
@@ -7,7 +8,6 @@ use Rattle.nutusers.specs.UpsList.{new_ups}
 use Rattle.nutanswer.specs.declared.err_word.ErrWord.{ErrWord}
 use Rattle.nutanswer.specs.declared.known.Known.{Known}
 use Rattle.nutanswer.specs.declared.known.KnownVariable.{KnownVariable}
-use Rattle.nutanswer.specs.declared.known.KnownCommand.{KnownCommand}
 use Rattle.nutanswer.specs.declared.command.Command.{Command}
 use Rattle.nutanswer.specs.declared.reply.Reply.{Reply}
 use Rattle.nutanswer.specs.declared.reply.Reply.TheVariants.{One, Many, Clients}
@@ -52,8 +52,8 @@ live_variable s ups name = do
   Ok (u, v, x)
 
 -- The UPS and the command that were found.
-abbrev pub known_command : KnownCommand → KnownUps × List ℕ
-known_command k = (known_ups k.ups, k.name.now)
+abbrev pub known_command : Known × Bor (List ℕ) → KnownUps × List ℕ
+known_command k = (known_ups k.0, k.1.now)
 
 -- The command of this name, of a live UPS.
 abbrev pub live_command

@@ -11,12 +11,19 @@ mod orders;
 mod session;
 
 use crate::checks::{known_ups, live_ups, live_variable};
+use crate::err_word::Checked;
 use crate::{Asker, Change, Command, ErrWord, Listing, NameWord, Reply, UpsWord, View};
 use nutlisting::{
-    desc_line_into, plain_line_into, type_line_into, ups_line_into, variable_line_into,
+    described, plain_line_into, type_line_into, ups_line_into, value_line_into, variable_line_into,
 };
 use nutwords::Line;
 use std::alloc::AllocError;
+
+/// The reply of a row, or the word of its error.
+type Row<'a> = Checked<Reply<'a>>;
+
+/// The reply of a row that lists, where memory isn't refused.
+type Listed<'a> = Result<Reply<'a>, AllocError>;
 
 /// The answer to a command of this session, on the server as the view shows it. The line that it needs is made in
 /// `line`, in place of what that held.
@@ -89,20 +96,14 @@ fn get_var<'a, V: View>(
     ups: &UpsWord<'_>,
     name: &NameWord<'_>,
     line: &'a mut Line,
-) -> Result<Reply<'a>, ErrWord>
+) -> Row<'a>
     ensures { Gives (row (V.seen view.now) (GetVar ups.now name.now)) result }
 {
     let ups = ups.read();
     let name = name.read();
     let found = live_variable(view, &ups, &name)?;
-    variable_line_into(
-        b"VAR",
-        found.ups.name,
-        found.ups.state.fsd,
-        found.name,
-        found.variable,
-        line,
-    );
+    let (ups, fsd) = (found.ups.name, found.ups.state.fsd);
+    variable_line_into(b"VAR", ups, fsd, found.name, found.variable, line);
     Ok(Reply::One(line.as_slice(), Change::Nothing))
 }
 
@@ -113,7 +114,7 @@ fn get_type<'a, V: View>(
     ups: &UpsWord<'_>,
     name: &NameWord<'_>,
     line: &'a mut Line,
-) -> Result<Reply<'a>, ErrWord>
+) -> Row<'a>
     ensures { Gives (row (V.seen view.now) (GetType ups.now name.now)) result }
 {
     let ups = ups.read();
@@ -130,17 +131,15 @@ fn get_desc<'a, V: View>(
     ups: &UpsWord<'_>,
     name: &NameWord<'_>,
     line: &'a mut Line,
-) -> Result<Reply<'a>, ErrWord>
+) -> Row<'a>
     ensures { Gives (row (V.seen view.now) (GetDesc ups.now name.now)) result }
 {
     let ups = ups.read();
     let name = name.read();
     let ups = known_ups(view, &ups)?;
-    let Some(name) = &name else {
-        return Err(ErrWord::VarNotSupported);
-    };
-    let text = view.descriptions().var(name);
-    desc_line_into(b"DESC", ups.name, name, text, line);
+    let name = name.as_ref().ok_or(ErrWord::VarNotSupported)?;
+    let text = described(view.descriptions().var(name));
+    value_line_into(b"DESC", ups.name, name, text, line);
     Ok(Reply::One(line.as_slice(), Change::Nothing))
 }
 
@@ -151,27 +150,21 @@ fn get_cmd_desc<'a, V: View>(
     ups: &UpsWord<'_>,
     name: &NameWord<'_>,
     line: &'a mut Line,
-) -> Result<Reply<'a>, ErrWord>
+) -> Row<'a>
     ensures { Gives (row (V.seen view.now) (GetCmdDesc ups.now name.now)) result }
 {
     let ups = ups.read();
     let name = name.read();
     let ups = known_ups(view, &ups)?;
-    let Some(name) = &name else {
-        return Err(ErrWord::CmdNotSupported);
-    };
-    let text = view.descriptions().cmd(name);
-    desc_line_into(b"CMDDESC", ups.name, name, text, line);
+    let name = name.as_ref().ok_or(ErrWord::CmdNotSupported)?;
+    let text = described(view.descriptions().cmd(name));
+    value_line_into(b"CMDDESC", ups.name, name, text, line);
     Ok(Reply::One(line.as_slice(), Change::Nothing))
 }
 
 /// GET UPSDESC.
 #[inline(never)]
-fn get_ups_desc<'a, V: View>(
-    view: &V,
-    ups: &UpsWord<'_>,
-    line: &'a mut Line,
-) -> Result<Reply<'a>, ErrWord>
+fn get_ups_desc<'a, V: View>(view: &V, ups: &UpsWord<'_>, line: &'a mut Line) -> Row<'a>
     ensures { Gives (row (V.seen view.now) (GetUpsDesc ups.now)) result }
 {
     let ups = ups.read();
@@ -181,7 +174,7 @@ fn get_ups_desc<'a, V: View>(
 }
 
 /// The reply of a row, or the line of its error.
-fn given<'a>(row: Result<Reply<'a>, ErrWord>) -> Reply<'a>
+fn given<'a>(row: Row<'a>) -> Reply<'a>
     ensures { (s : Seen) (answer : Result Answer ErrWord)
         → GivesReply s answer row.entry → IsReply s answer result }
 {
@@ -207,7 +200,7 @@ fn refused<'a>(word: ErrWord) -> Reply<'a>
 }
 
 /// A text without its LF, as it stands.
-fn plain<'a>(text: &[u8], line: &'a mut Line) -> Result<Reply<'a>, ErrWord>
+fn plain<'a>(text: &[u8], line: &'a mut Line) -> Row<'a>
     requires short { length text.now ≤ 128 }
     requires lawful { IsTrue (list_all is_lawful text.now) }
     ensures { Gives (told (text.now ∷ [])) result }
@@ -217,7 +210,7 @@ fn plain<'a>(text: &[u8], line: &'a mut Line) -> Result<Reply<'a>, ErrWord>
 }
 
 /// LIST UPS.
-fn list_ups<'a, V: View>(view: &V) -> Result<Reply<'a>, AllocError>
+fn list_ups<'a, V: View>(view: &V) -> Listed<'a>
     ensures ok { IfOk result (CarriesAnswer (row (V.seen view.now) ListUps)) }
     ensures memory { OnErr result (IsTrue (shares_version (row (V.seen view.now) ListUps))) }
 {
@@ -226,7 +219,7 @@ fn list_ups<'a, V: View>(view: &V) -> Result<Reply<'a>, AllocError>
 
 /// LIST VAR.
 #[inline(never)]
-fn list_var<'a, V: View>(view: &V, ups: &UpsWord<'_>) -> Result<Reply<'a>, AllocError>
+fn list_var<'a, V: View>(view: &V, ups: &UpsWord<'_>) -> Listed<'a>
     ensures ok { IfOk result (CarriesAnswer
         (row (V.seen view.now) (ListVar ups.now))) }
     ensures memory { OnErr result
@@ -244,7 +237,7 @@ fn list_var<'a, V: View>(view: &V, ups: &UpsWord<'_>) -> Result<Reply<'a>, Alloc
 
 /// LIST RW.
 #[inline(never)]
-fn list_rw<'a, V: View>(view: &V, ups: &UpsWord<'_>) -> Result<Reply<'a>, AllocError>
+fn list_rw<'a, V: View>(view: &V, ups: &UpsWord<'_>) -> Listed<'a>
     ensures ok { IfOk result (CarriesAnswer
         (row (V.seen view.now) (ListRw ups.now))) }
     ensures memory { OnErr result
@@ -262,7 +255,7 @@ fn list_rw<'a, V: View>(view: &V, ups: &UpsWord<'_>) -> Result<Reply<'a>, AllocE
 
 /// LIST CMD.
 #[inline(never)]
-fn list_cmd<'a, V: View>(view: &V, ups: &UpsWord<'_>) -> Result<Reply<'a>, AllocError>
+fn list_cmd<'a, V: View>(view: &V, ups: &UpsWord<'_>) -> Listed<'a>
     ensures ok { IfOk result (CarriesAnswer
         (row (V.seen view.now) (ListCmd ups.now))) }
     ensures memory { OnErr result
@@ -279,11 +272,7 @@ fn list_cmd<'a, V: View>(view: &V, ups: &UpsWord<'_>) -> Result<Reply<'a>, Alloc
 
 /// LIST ENUM.
 #[inline(never)]
-fn list_enum<'a, V: View>(
-    view: &V,
-    ups: &UpsWord<'_>,
-    name: &NameWord<'_>,
-) -> Result<Reply<'a>, AllocError>
+fn list_enum<'a, V: View>(view: &V, ups: &UpsWord<'_>, name: &NameWord<'_>) -> Listed<'a>
     ensures ok { IfOk result (CarriesAnswer
         (row (V.seen view.now) (ListEnum ups.now name.now))) }
     ensures memory { OnErr result
@@ -302,11 +291,7 @@ fn list_enum<'a, V: View>(
 
 /// LIST RANGE.
 #[inline(never)]
-fn list_range<'a, V: View>(
-    view: &V,
-    ups: &UpsWord<'_>,
-    name: &NameWord<'_>,
-) -> Result<Reply<'a>, AllocError>
+fn list_range<'a, V: View>(view: &V, ups: &UpsWord<'_>, name: &NameWord<'_>) -> Listed<'a>
     ensures ok { IfOk result (CarriesAnswer
         (row (V.seen view.now) (ListRange ups.now name.now))) }
     ensures memory { OnErr result

@@ -5,26 +5,21 @@ ghost use Rattle.nutanswer.specs.Checks.{unknown_ups, user, too_long_of_command,
 ghost use Rattle.nutanswer.specs.Orders.{instcmd_right, is_short_enough, is_listed, is_in_ranges, is_within_one, is_within};
 ghost use Rattle.nutanswer.specs.Promises.{known_ups, known_variable, known_command, found, live_ups, live_variable, live_command, settable};
 
-use crate::known::{Known, KnownCommand, KnownVariable};
+use crate::err_word::Checked;
+use crate::known::{Known, KnownVariable};
 use crate::{Asker, ErrWord, ValueWord, View};
 use nutdriver::{Range, Variable, read_number};
 use nutusers::Right;
 use nutwords::{Name, UpsName, Value};
 
 /// The session has given the name and the password of a user to whom the right is granted.
-pub(crate) fn user<V: View>(view: &V, asker: Asker<'_>, right: Right<'_>) -> Result<(), ErrWord>
+pub(crate) fn user<V: View>(view: &V, asker: Asker<'_>, right: Right<'_>) -> Checked<()>
     ensures { result ≡ user (V.seen view.now) (asker_seen asker.entry) right.entry }
 {
-    let Some(name) = asker.username else {
-        return Err(ErrWord::UsernameRequired);
-    };
-    let Some(password) = asker.password else {
-        return Err(ErrWord::PasswordRequired);
-    };
-    if !view
-        .users()
-        .may(name.as_bytes(), password.as_bytes(), right)
-    {
+    let name = asker.username.ok_or(ErrWord::UsernameRequired)?;
+    let password = asker.password.ok_or(ErrWord::PasswordRequired)?;
+    let users = view.users();
+    if !users.may(name.as_bytes(), password.as_bytes(), right) {
         return Err(ErrWord::AccessDenied);
     }
     Ok(())
@@ -35,7 +30,7 @@ pub(crate) fn user_of_command<V: View>(
     view: &V,
     asker: Asker<'_>,
     name: &Option<Name>,
-) -> Result<(), ErrWord>
+) -> Checked<()>
     ensures { result ≡ user (V.seen view.now) (asker_seen asker.entry) (instcmd_right name.now) }
 {
     match name {
@@ -45,22 +40,14 @@ pub(crate) fn user_of_command<V: View>(
 }
 
 /// The UPS of this name.
-pub(crate) fn known_ups<'a, V: View>(
-    view: &'a V,
-    name: &'a Option<UpsName>,
-) -> Result<Known<'a>, ErrWord>
+pub(crate) fn known_ups<'a, V: View>(view: &'a V, name: &'a Option<UpsName>) -> Checked<Known<'a>>
     ensures { found known_ups result ≡ unknown_ups (V.seen view.now) name.now }
 {
-    let Some(name) = name else {
-        return Err(ErrWord::UnknownUps);
-    };
-    let Some(id) = view.list().find(name.as_bytes()) else {
-        return Err(ErrWord::UnknownUps);
-    };
-    let Some(state) = view.ups(id) else {
-        return Err(ErrWord::UnknownUps);
-    };
-    let desc = view.list().desc(id);
+    let name = name.as_ref().ok_or(ErrWord::UnknownUps)?;
+    let list = view.list();
+    let id = list.find(name.as_bytes()).ok_or(ErrWord::UnknownUps)?;
+    let state = view.ups(id).ok_or(ErrWord::UnknownUps)?;
+    let desc = list.desc(id);
     Ok(Known {
         name,
         desc,
@@ -70,10 +57,7 @@ pub(crate) fn known_ups<'a, V: View>(
 }
 
 /// The live UPS of this name: its driver is connected, and its data are right.
-pub(crate) fn live_ups<'a, V: View>(
-    view: &'a V,
-    name: &'a Option<UpsName>,
-) -> Result<Known<'a>, ErrWord>
+pub(crate) fn live_ups<'a, V: View>(view: &'a V, name: &'a Option<UpsName>) -> Checked<Known<'a>>
     ensures { found known_ups result ≡ live_ups (V.seen view.now) name.now }
 {
     let ups = known_ups(view, name)?;
@@ -93,16 +77,13 @@ pub(crate) fn live_variable<'a, V: View>(
     view: &'a V,
     ups: &'a Option<UpsName>,
     name: &'a Option<Name>,
-) -> Result<KnownVariable<'a>, ErrWord>
+) -> Checked<KnownVariable<'a>>
     ensures { found known_variable result ≡ live_variable (V.seen view.now) ups.now name.now }
 {
     let ups = live_ups(view, ups)?;
-    let Some(name) = name else {
-        return Err(ErrWord::VarNotSupported);
-    };
-    let Some(variable) = ups.state.report.tree.get(name) else {
-        return Err(ErrWord::VarNotSupported);
-    };
+    let name = name.as_ref().ok_or(ErrWord::VarNotSupported)?;
+    let tree = &ups.state.report.tree;
+    let variable = tree.get(name).ok_or(ErrWord::VarNotSupported)?;
     Ok(KnownVariable {
         ups,
         name,
@@ -110,37 +91,30 @@ pub(crate) fn live_variable<'a, V: View>(
     })
 }
 
-/// The command of this name, of a live UPS.
+/// The live UPS of this name, and the name of a command that it has.
 pub(crate) fn live_command<'a, V: View>(
     view: &'a V,
     ups: &'a Option<UpsName>,
     name: &'a Option<Name>,
-) -> Result<KnownCommand<'a>, ErrWord>
+) -> Checked<(Known<'a>, &'a Name)>
     ensures { found known_command result ≡ live_command (V.seen view.now) ups.now name.now }
 {
-    let live = live_ups(view, ups)?;
-    let Some(name) = name else {
-        return Err(ErrWord::CmdNotSupported);
-    };
-    if !live.state.report.tree.has_command(name) {
+    let ups = live_ups(view, ups)?;
+    let name = name.as_ref().ok_or(ErrWord::CmdNotSupported)?;
+    if !ups.state.report.tree.has_command(name) {
         return Err(ErrWord::CmdNotSupported);
     }
-    Ok(KnownCommand { ups: live, name })
+    Ok((ups, name))
 }
 
 /// The value, where it is one, and the variable may be set to it.
-pub(crate) fn settable<'v>(
-    variable: &Variable,
-    value: &'v Option<Value>,
-) -> Result<&'v Value, ErrWord>
+pub(crate) fn settable<'v>(variable: &Variable, value: &'v Option<Value>) -> Checked<&'v Value>
     ensures { found (λ value. value.now) result ≡ settable variable.now value.now }
 {
     if !variable.flags().rw {
         return Err(ErrWord::Readonly);
     }
-    let Some(value) = value else {
-        return Err(ErrWord::TooLong);
-    };
+    let value = value.as_ref().ok_or(ErrWord::TooLong)?;
     if !is_short_enough(variable, value) {
         return Err(ErrWord::TooLong);
     }
@@ -151,16 +125,13 @@ pub(crate) fn settable<'v>(
 }
 
 /// The value of a command, which may be left out.
-pub(crate) fn command_value(value: &Option<ValueWord<'_>>) -> Result<Option<Value>, ErrWord>
+pub(crate) fn command_value(value: &Option<ValueWord<'_>>) -> Checked<Option<Value>>
     ensures { result ≡ too_long_of_command value.now }
 {
     let Some(word) = value else {
         return Ok(None);
     };
-    match word.read() {
-        Some(value) => Ok(Some(value)),
-        None => Err(ErrWord::TooLong),
-    }
+    Ok(Some(word.read().ok_or(ErrWord::TooLong)?))
 }
 
 /// The id of an order of this session, where its orders are tracked, or this word where none is at hand.
@@ -168,16 +139,13 @@ pub(crate) fn order_id<V: View>(
     view: &V,
     asker: Asker<'_>,
     failed: ErrWord,
-) -> Result<Option<u128>, ErrWord>
+) -> Checked<Option<u128>>
     ensures { result ≡ no_id (V.seen view.now) (asker_seen asker.entry) failed }
 {
     if !asker.tracking {
         return Ok(None);
     }
-    match view.next_id() {
-        Some(id) => Ok(Some(id)),
-        None => Err(failed),
-    }
+    Ok(Some(view.tracking().next_id().ok_or(failed)?))
 }
 
 /// Whether a text is as short as the variable asks for.

@@ -6,6 +6,7 @@ mod arguments;
 mod words;
 
 use crate::ErrWord;
+use crate::err_word::Checked;
 use arguments::{
     alone, on_or_off, text_alone, tracking_asked, ups_and_name, ups_name_and_value,
     ups_name_and_value_if_any,
@@ -81,7 +82,7 @@ pub enum Command<'a> {
 
 impl<'a> Command<'a> {
     ghost use Rattle.nutwords.specs.Spelled.{spelled};
-    ghost use Rattle.nutanswer.specs.Command.{read_command, command_of, command_named, user_command, login_command, order_command, server_command, read_set, set_of, read_get, get_of, read_list, list_of};
+    ghost use Rattle.nutanswer.specs.Command.{read_command, command_of, command_named, other_command, read_set, read_get, read_list};
 
     /// Reads a line without its LF, of at most 2,047 bytes. A line without words is no command.
     ///
@@ -100,7 +101,7 @@ impl<'a> Command<'a> {
     }
 
     /// The command that the words are.
-    fn of(mut words: SpelledWords<'a>) -> Result<Option<Command<'a>>, ErrWord>
+    fn of(mut words: SpelledWords<'a>) -> Checked<Option<Command<'a>>>
         ensures { result ≡ command_of words.entry }
     {
         let Some(first) = words.next() else {
@@ -111,7 +112,7 @@ impl<'a> Command<'a> {
     }
 
     /// The command that is called so, with these words after its first: a GET or a LIST, or else of another kind.
-    fn named(first: &SpelledWord<'_>, words: SpelledWords<'a>) -> Result<Command<'a>, ErrWord>
+    fn named(first: &SpelledWord<'_>, words: SpelledWords<'a>) -> Checked<Command<'a>>
         ensures { result ≡ command_named (spelled first.now) words.entry }
     {
         if first.is_word(b"GET") {
@@ -119,64 +120,32 @@ impl<'a> Command<'a> {
         } else if first.is_word(b"LIST") {
             Command::list(words)
         } else {
-            Command::of_user(first, words)
+            Command::other(first, words)
         }
     }
 
-    /// The command of who asks, or else of another kind.
-    fn of_user(first: &SpelledWord<'_>, words: SpelledWords<'a>) -> Result<Command<'a>, ErrWord>
-        ensures { result ≡ user_command (spelled first.now) words.entry }
+    /// The command that is called so, but GET and LIST.
+    fn other(first: &SpelledWord<'_>, words: SpelledWords<'a>) -> Checked<Command<'a>>
+        ensures { result ≡ other_command (spelled first.now) words.entry }
     {
         if first.is_word(b"USERNAME") {
-            let name = text_alone(words)?;
-            Ok(Command::Username(name))
+            Ok(Command::Username(text_alone(words)?))
         } else if first.is_word(b"PASSWORD") {
-            let password = text_alone(words)?;
-            Ok(Command::Password(password))
-        } else {
-            Command::of_login(first, words)
-        }
-    }
-
-    /// The command of a login or a forced shutdown, or else of another kind.
-    fn of_login(first: &SpelledWord<'_>, words: SpelledWords<'a>) -> Result<Command<'a>, ErrWord>
-        ensures { result ≡ login_command (spelled first.now) words.entry }
-    {
-        if first.is_word(b"LOGIN") || first.is_word(b"ATTACH") {
-            let ups = text_alone(words)?;
-            Ok(Command::Login(ups))
+            Ok(Command::Password(text_alone(words)?))
+        } else if first.is_word(b"LOGIN") || first.is_word(b"ATTACH") {
+            Ok(Command::Login(text_alone(words)?))
         } else if first.is_word(b"LOGOUT") || first.is_word(b"DETACH") {
             alone(Command::Logout, words)
         } else if first.is_word(b"PRIMARY") {
-            let ups = text_alone(words)?;
-            Ok(Command::Primary(ups))
+            Ok(Command::Primary(text_alone(words)?))
         } else if first.is_word(b"FSD") {
-            let ups = text_alone(words)?;
-            Ok(Command::Fsd(ups))
-        } else {
-            Command::of_order(first, words)
-        }
-    }
-
-    /// The command of an order to a driver, or else of another kind.
-    fn of_order(first: &SpelledWord<'_>, words: SpelledWords<'a>) -> Result<Command<'a>, ErrWord>
-        ensures { result ≡ order_command (spelled first.now) words.entry }
-    {
-        if first.is_word(b"SET") {
+            Ok(Command::Fsd(text_alone(words)?))
+        } else if first.is_word(b"SET") {
             Command::set(words)
         } else if first.is_word(b"INSTCMD") {
             let (ups, name, value) = ups_name_and_value_if_any(words)?;
             Ok(Command::InstCmd(ups, name, value))
-        } else {
-            Command::of_server(first, words)
-        }
-    }
-
-    /// The command that asks what the server is.
-    fn of_server(first: &SpelledWord<'_>, words: SpelledWords<'a>) -> Result<Command<'a>, ErrWord>
-        ensures { result ≡ server_command (spelled first.now) words.entry }
-    {
-        if first.is_word(b"HELP") {
+        } else if first.is_word(b"HELP") {
             alone(Command::Help, words)
         } else if first.is_word(b"VER") {
             alone(Command::Ver, words)
@@ -192,44 +161,25 @@ impl<'a> Command<'a> {
     }
 
     /// What a SET asks for.
-    fn set(mut words: SpelledWords<'a>) -> Result<Command<'a>, ErrWord>
+    fn set(mut words: SpelledWords<'a>) -> Checked<Command<'a>>
         ensures { result ≡ read_set words.entry }
     {
-        match words.next() {
-            Some(kind) => Command::set_of(&kind, words),
-            None => Err(ErrWord::InvalidArgument),
-        }
-    }
-
-    /// What a SET with this second word asks for.
-    fn set_of(kind: &SpelledWord<'_>, words: SpelledWords<'a>) -> Result<Command<'a>, ErrWord>
-        ensures { result ≡ set_of (spelled kind.now) words.entry }
-    {
+        let kind = words.next().ok_or(ErrWord::InvalidArgument)?;
         if kind.is_word(b"VAR") {
             let (ups, name, value) = ups_name_and_value(words)?;
             Ok(Command::SetVar(ups, name, value))
         } else if kind.is_word(b"TRACKING") {
-            let on = on_or_off(words)?;
-            Ok(Command::SetTracking(on))
+            Ok(Command::SetTracking(on_or_off(words)?))
         } else {
             Err(ErrWord::InvalidArgument)
         }
     }
 
     /// What a GET asks for.
-    fn get(mut words: SpelledWords<'a>) -> Result<Command<'a>, ErrWord>
+    fn get(mut words: SpelledWords<'a>) -> Checked<Command<'a>>
         ensures { result ≡ read_get words.entry }
     {
-        match words.next() {
-            Some(kind) => Command::get_of(&kind, words),
-            None => Err(ErrWord::InvalidArgument),
-        }
-    }
-
-    /// What a GET with this second word asks for.
-    fn get_of(kind: &SpelledWord<'_>, words: SpelledWords<'a>) -> Result<Command<'a>, ErrWord>
-        ensures { result ≡ get_of (spelled kind.now) words.entry }
-    {
+        let kind = words.next().ok_or(ErrWord::InvalidArgument)?;
         if kind.is_word(b"VAR") {
             let (ups, name) = ups_and_name(words)?;
             Ok(Command::GetVar(ups, name))
@@ -243,14 +193,11 @@ impl<'a> Command<'a> {
             let (ups, name) = ups_and_name(words)?;
             Ok(Command::GetCmdDesc(ups, name))
         } else if kind.is_word(b"UPSDESC") {
-            let ups = text_alone(words)?;
-            Ok(Command::GetUpsDesc(ups))
+            Ok(Command::GetUpsDesc(text_alone(words)?))
         } else if kind.is_word(b"NUMLOGINS") {
-            let ups = text_alone(words)?;
-            Ok(Command::GetNumLogins(ups))
+            Ok(Command::GetNumLogins(text_alone(words)?))
         } else if kind.is_word(b"NUMATTACH") {
-            let ups = text_alone(words)?;
-            Ok(Command::GetNumAttach(ups))
+            Ok(Command::GetNumAttach(text_alone(words)?))
         } else if kind.is_word(b"TRACKING") {
             tracking_asked(words)
         } else {
@@ -259,30 +206,18 @@ impl<'a> Command<'a> {
     }
 
     /// What a LIST asks for.
-    fn list(mut words: SpelledWords<'a>) -> Result<Command<'a>, ErrWord>
+    fn list(mut words: SpelledWords<'a>) -> Checked<Command<'a>>
         ensures { result ≡ read_list words.entry }
     {
-        match words.next() {
-            Some(kind) => Command::list_of(&kind, words),
-            None => Err(ErrWord::InvalidArgument),
-        }
-    }
-
-    /// What a LIST with this second word asks for.
-    fn list_of(kind: &SpelledWord<'_>, words: SpelledWords<'a>) -> Result<Command<'a>, ErrWord>
-        ensures { result ≡ list_of (spelled kind.now) words.entry }
-    {
+        let kind = words.next().ok_or(ErrWord::InvalidArgument)?;
         if kind.is_word(b"UPS") {
             alone(Command::ListUps, words)
         } else if kind.is_word(b"VAR") {
-            let ups = text_alone(words)?;
-            Ok(Command::ListVar(ups))
+            Ok(Command::ListVar(text_alone(words)?))
         } else if kind.is_word(b"RW") {
-            let ups = text_alone(words)?;
-            Ok(Command::ListRw(ups))
+            Ok(Command::ListRw(text_alone(words)?))
         } else if kind.is_word(b"CMD") {
-            let ups = text_alone(words)?;
-            Ok(Command::ListCmd(ups))
+            Ok(Command::ListCmd(text_alone(words)?))
         } else if kind.is_word(b"ENUM") {
             let (ups, name) = ups_and_name(words)?;
             Ok(Command::ListEnum(ups, name))
@@ -290,8 +225,7 @@ impl<'a> Command<'a> {
             let (ups, name) = ups_and_name(words)?;
             Ok(Command::ListRange(ups, name))
         } else if kind.is_word(b"CLIENT") {
-            let ups = text_alone(words)?;
-            Ok(Command::ListClient(ups))
+            Ok(Command::ListClient(text_alone(words)?))
         } else {
             Err(ErrWord::InvalidArgument)
         }

@@ -45,6 +45,9 @@ pub enum ErrWord {
     InvalidValue,
 }
 
+/// What a check finds, or the word of its error.
+pub(crate) type Checked<T> = Result<T, ErrWord>;
+
 impl ErrWord {
     ghost use Rattle.nutanswer.specs.ErrWord.{error_line};
 

@@ -2,7 +2,7 @@
 ghost use Rattle.std.specs.Prelude.{◌≡◌, slice_get};
 
 use nutdriver::Report;
-use nuttracking::Progress;
+use nuttracking::Tracking;
 use nutusers::{Descriptions, Password, UpsId, UpsList, UserName, Users};
 
 /// The session that asks, as answers see it.
@@ -32,7 +32,6 @@ pub struct UpsView<'a> {
 /// What an answer may look at of a server.
 pub trait View {
     ghost use Rattle.std.specs.Option.{option_map};
-    ghost use Rattle.nuttracking.specs.Tracking.{next_id, progress_of};
     ghost use Rattle.nutanswer.specs.View.{Seen, ups_seen, login_count};
 
     /// What is seen.
@@ -66,11 +65,7 @@ pub trait View {
     fn login_count(&self, u: UpsId) -> usize
         ensures { result ≡ login_count u (seen self.now).clients };
 
-    /// The id that the next tracked order uses, if one is at hand.
-    fn next_id(&self) -> Option<u128>
-        ensures { result ≡ next_id (seen self.now).tracking };
-
-    /// How far the order of this id has come, if it is kept.
-    fn progress(&self, id: u128) -> Option<Progress>
-        ensures { result ≡ progress_of id (seen self.now).tracking };
+    /// The ids at hand, and the orders that are kept.
+    fn tracking(&self) -> &Tracking
+        ensures { result.now ≡ (seen self.now).tracking };
 }

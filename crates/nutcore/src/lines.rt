@@ -1,5 +1,5 @@
 //! Lines: in a run of bytes, and as they are read.
-ghost use Rattle.std.specs.Prelude.{◌≡◌, ◌≤◌, ◌<◌, drop, take, vec_len, vec_capacity, length, MatchOption, None, Some};
+ghost use Rattle.std.specs.Prelude.{◌≡◌, ◌<◌, take, length, MatchOption, None, Some};
 ghost use Rattle.nutwords.specs.SplitLine.{first_line};
 
 use bstr::ByteSlice;
@@ -15,15 +15,4 @@ pub(crate) fn line_end(bytes: &[u8]) -> Option<usize>
         (λ end. (end < length bytes.now) × (first_line bytes.now ≡ Some (take end bytes.now))) }
 {
     bytes.find_byte(b'\n')
-}
-
-/// Drops the first n bytes. The room stays.
-pub(crate) fn drop_front(bytes: &mut Vec<u8>, n: usize)
-    requires { n ≤ vec_len bytes.old }
-    ensures items { bytes.new.items ≡ drop n bytes.old.items }
-    ensures room { vec_capacity bytes.new ≡ vec_capacity bytes.old }
-{
-    let rest = bytes.len() - n;
-    bytes.copy_within(n.., 0);
-    bytes.truncate(rest);
 }

@@ -35,7 +35,7 @@ use crate::ups::Ups;
 use nutdriver::laws::{
     each_line_keeps_the_tree_sound, lawful_lines_keep_trees_sound, read_lines_are_lawful,
 };
-use nutlisting::{Outbox, Renders, SESSION_LIMIT};
+use nutlisting::{Clients, Outbox, Renders, SESSION_LIMIT};
 use nuttracking::{IdFault, Tracking};
 use nutusers::{Descriptions, UpsId, UpsList, Users};
 use nutwords::{Address, Line};
@@ -102,7 +102,7 @@ impl Server {
         }
         let sessions = Vec::with_capacity(alloc, SESSION_LIMIT)?;
         let tracking = Tracking::new(alloc)?;
-        let scratch = Scratch::new(alloc)?;
+        let clients = Clients::new(alloc)?;
         let notes = Notes::new(alloc)?;
         Ok(Server {
             alloc,
@@ -116,7 +116,11 @@ impl Server {
             last_id: 0,
             tracking,
             reply_line: Line::new(),
-            scratch,
+            scratch: Scratch {
+                line: Line::new(),
+                renders: Renders::new(),
+                clients,
+            },
             placed: 0,
             notes,
         })
@@ -503,8 +507,14 @@ impl Server {
             Event::DriverBytes(u, bytes) => done(self.driver_bytes(*u, bytes.as_slice())),
             Event::DriverTook(u, n) => done(self.driver_took(*u, *n)),
             Event::DriverDown(u) => done(self.driver_down(*u)),
-            Event::Tick(seconds) => self.tick_at(*seconds),
-            Event::Open(address) => self.open_at(address),
+            Event::Tick(seconds) => {
+                self.tick(*seconds);
+                Outcome::Done
+            }
+            Event::Open(address) => match self.open(address.copied()) {
+                Ok(c) => Outcome::Opened(c),
+                Err(fault) => Outcome::Refused(fault),
+            },
             Event::Feed(c, bytes) => match self.feed(*c, bytes.as_slice()) {
                 Ok(n) => Outcome::Fed(n),
                 Err(fault) => Outcome::Refused(fault),
@@ -512,30 +522,6 @@ impl Server {
             Event::Took(c, n) => done(self.took(*c, *n)),
             Event::Close(c) => done(self.close(*c)),
             Event::Id(id) => done(self.id(*id)),
-        }
-    }
-
-    /// The clock is at so many seconds.
-    fn tick_at(&mut self, seconds: u64) -> Outcome
-        ensures step { Step self.old.state (Event.Tick seconds) result self.new.state }
-        ensures cost { Costs self.old (Event.Tick seconds) self.new }
-    {
-        self.tick(seconds);
-        Outcome::Done
-    }
-
-    /// Opens a session for the client at an address.
-    fn open_at(&mut self, address: &Address) -> Outcome
-        ensures step { Step self.old.state (Event.Open address.now) result self.new.state }
-        ensures cost { Costs self.old (Event.Open address.now) self.new }
-    {
-        let Ok(address) = address.clone() else {
-            self.forget();
-            return Outcome::Refused(Fault::Memory(0));
-        };
-        match self.open(address) {
-            Ok(c) => Outcome::Opened(c),
-            Err(fault) => Outcome::Refused(fault),
         }
     }
 

@@ -1,5 +1,5 @@
 //! One session: what it holds of its client's input, and what it owes.
-ghost use Rattle.std.specs.Prelude.{◌≡◌, ◌≤◌, ◌<◌, ◌-◌, ◌++◌, ℕ, List, length, take, IfOk, true, false, Some, None, [], ◌∷◌, if◌then◌else◌, drop, vec_capacity, vec_len};
+ghost use Rattle.std.specs.Prelude.{◌≡◌, ◌≤◌, ◌<◌, ◌-◌, ◌++◌, ℕ, List, length, take, IfOk, true, false, Some, None, [], ◌∷◌, if◌then◌else◌, drop};
 ghost use Rattle.std.specs.Option.{option_map};
 ghost use Rattle.nutcore.specs.Session.{new_session, begin_ending, SessionState};
 ghost use Rattle.nutwords.specs.SplitLine.{first_line};
@@ -23,11 +23,11 @@ ghost use Rattle.nutlisting.specs.Owed.{owed};
 
 use crate::HELD_LIMIT;
 use crate::event::Fault;
-use crate::lines::{drop_front, line_end};
+use crate::lines::line_end;
 use crate::note::{Logout, Note, Notes};
 use crate::scratch::Scratch;
 use nutanswer::{Asker, Change, ErrWord, Reply};
-use nutlisting::{Clients, Listing, Outbox};
+use nutlisting::{Clients, Listing, Outbox, Ring};
 use nutusers::{Password, UpsId, UserName};
 use nutwords::{Address, UpsName};
 use std::alloc::{AllocError, Global};
@@ -38,7 +38,7 @@ use std::marker::Model;
 pub(crate) struct Session {
     id: u64,
     address: Address,
-    held: Vec<u8>,
+    held: Ring<HELD_LIMIT>,
     /// How many of the held bytes are lines that were executed. They go when the next piece comes.
     executed: usize,
     outbox: Outbox,
@@ -53,9 +53,9 @@ pub(crate) struct Session {
 impl Model for Session {
     ghost Value = { SessionState };
 
-    ghost view = { λ s. record { id = s.id; address = s.address; held = drop s.executed s.held.items; owed = owed s.outbox; username = s.username; password = s.password; login = s.login; ending = s.ending; tracking = s.tracking } };
+    ghost view = { λ s. record { id = s.id; address = s.address; held = drop s.executed s.held; owed = owed s.outbox; username = s.username; password = s.password; login = s.login; ending = s.ending; tracking = s.tracking } };
 
-    ghost invariant = { λ s. (HELD_LIMIT ≤ vec_capacity s.held) × (vec_len s.held ≤ HELD_LIMIT) × (s.executed ≤ vec_len s.held) };
+    ghost invariant = { λ s. s.executed ≤ length s.held };
 }
 
 impl Session {
@@ -65,7 +65,7 @@ impl Session {
     pub(crate) fn new(alloc: Global, id: u64, address: Address) -> Result<Self, AllocError>
         ensures { IfOk result (λ x. x ≡ new_session id address) }
     {
-        let held = Vec::with_capacity(alloc, HELD_LIMIT)?;
+        let held = Ring::new(alloc)?;
         let outbox = Outbox::new(alloc)?;
         Ok(Session {
             id,
@@ -166,7 +166,7 @@ impl Session {
         ensures value { result.now ≡ self.now.held }
         ensures short { length result.now ≤ HELD_LIMIT }
     {
-        &self.held[self.executed..]
+        &self.held.bytes()[self.executed..]
     }
 
     /// Joins as much of a piece as there is room for. An ending session drops it.
@@ -176,14 +176,14 @@ impl Session {
         ensures short { length self.new.held ≤ HELD_LIMIT }
         ensures count { result ≡ accepted self.old piece.now }
     {
+        // What the ring says of itself: it holds no more than its limit.
+        let _ = self.held.len();
         if self.ending {
             return piece.len();
         }
-        drop_front(&mut self.held, self.executed);
+        self.held.drop_front(self.executed);
         self.executed = 0;
-        let count = piece.len().min(HELD_LIMIT - self.held.len());
-        self.held.extend_from_slice(&piece[..count]).unwrap();
-        count
+        self.held.fill(piece)
     }
 
     /// Where its next line ends, if it may be executed.
@@ -289,6 +289,8 @@ impl Session {
         ensures id { self.new.id ≡ self.old.id }
         ensures owed { self.new.owed ≡ self.old.owed }
     {
+        // What the ring says of itself: it holds no more than its limit.
+        let _ = self.held.len();
         self.executed = self.executed + end + 1;
     }
 
@@ -383,7 +385,9 @@ impl Session {
         ensures counted { IsCounted (length (take RING_LIMIT self.old.owed) - n)
             self.new.owed scratch.new.renders }
     {
+        // What the outbox and the ring say of themselves.
         let _ = self.outbox.offered();
+        let _ = self.held.len();
         let Scratch { line, renders, .. } = scratch;
         self.outbox.take(n, line, renders);
     }

@@ -8,7 +8,7 @@ ghost use Rattle.nutwords.specs.Bytes.{is_lawful};
 ghost use Rattle.nutwords.specs.Frame.{line_of};
 ghost use Rattle.nutwords.specs.Spelling.{quoted};
 ghost use Rattle.nutwords.specs.declared.limits.TheConstants.{LINE_LIMIT};
-ghost use Rattle.nutlisting.specs.Shown.{description_of, text_or_unavailable};
+ghost use Rattle.nutlisting.specs.Shown.{text_or_unavailable};
 ghost use Rattle.nutlisting.specs.Items.{variable_item, command_item, range_item, client_item};
 ghost use Rattle.nutlisting.specs.Lines.{IsWholeLine};
 ghost use Rattle.nutlisting.specs.Tracked.{progress_words};
@@ -24,6 +24,7 @@ use itoa::Buffer;
 use nutdriver::{Range, Variable};
 use nuttracking::{Progress, id_text};
 use nutwords::{Address, Line, NAME_LIMIT, Name, UPS_NAME_LIMIT, UpsName, Value, quote_into};
+pub use shown::described;
 
 /// The most bytes of a line's kind: `NUMLOGINS`, `NUMATTACH`.
 pub const KIND_LIMIT: usize = 9;
@@ -52,7 +53,7 @@ pub fn variable_line_into(
     if fsd && name.as_bytes() == b"ups.status".as_slice() {
         marked_line_into(kind, ups, name, variable, line);
     } else {
-        value_line_into(kind, ups, name, shown::value_of(variable), line);
+        value_line_into(kind, ups, name, variable.value(), line);
     }
 }
 
@@ -68,24 +69,6 @@ fn marked_line_into(kind: &[u8], ups: &UpsName, name: &Name, variable: &Variable
 {
     let shown = shown::marked(variable);
     value_line_into(kind, ups, name, shown.as_slice(), line);
-}
-
-/// Makes the line of the description of a variable or a command.
-pub fn desc_line_into(
-    kind: &[u8],
-    ups: &UpsName,
-    name: &Name,
-    text: Option<&Value>,
-    line: &mut Line,
-)
-    requires kind { length kind.now ≤ KIND_LIMIT }
-    requires lawful { IsTrue (list_all is_lawful kind.now) }
-    ensures text { line.new.items
-        ≡ line_of (kind.now ∷ ups.now ∷ name.now ∷ quoted
-        (description_of (option_copied text.entry)) ∷ []) }
-    ensures whole { IsWholeLine line.new.items }
-{
-    value_line_into(kind, ups, name, shown::described(text), line);
 }
 
 /// Makes the line of a text that belongs to a variable or a command.

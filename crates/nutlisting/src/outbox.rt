@@ -191,7 +191,7 @@ fn clients_cursor(ups: &UpsName, addresses: &[Address], place: Clients) -> Curso
     Cursor::start(Listing::of_clients(ups, clients))
 }
 
-/// Fills the ring from a cursor, which goes once nothing rests.
+/// Fills the ring from a cursor, which goes once nothing rests, and gives back its place for clients.
 fn drain(
     cursor: Cursor,
     ring: &mut Ring<RING_LIMIT>,
@@ -212,7 +212,9 @@ fn drain(
     if !cursor.fill(ring, line, renders) {
         return Some(cursor);
     }
-    give_back(cursor, clients);
+    if let Some(place) = cursor.into_clients() {
+        *clients = Some(place);
+    }
     None
 }
 
@@ -240,15 +242,5 @@ fn resume(
     match cursor {
         Some(cursor) => drain(cursor, ring, clients, line, renders),
         None => None,
-    }
-}
-
-/// Keeps the place for clients of a cursor that is done.
-fn give_back(cursor: Cursor, clients: &mut Option<Clients>)
-    ensures { is_some clients.new
-        ≡ is_some clients.old || bytes_eq cursor.listing.kind (codes "CLIENT") }
-{
-    if let Some(place) = cursor.into_clients() {
-        *clients = Some(place);
     }
 }

@@ -60,15 +60,6 @@ impl Tracking {
         Ok(Tracking { ids, orders })
     }
 
-    /// How many ids are at hand.
-    pub fn ids_at_hand(&self) -> usize
-        ensures count { result ≡ length self.now.ids }
-        ensures sound { IsSoundTracking self.now }
-        ensures numbers { HaveLawfulNumbers self.now.orders }
-    {
-        self.ids.len()
-    }
-
     /// The id that the next order uses, if one is at hand.
     pub fn next_id(&self) -> Option<u128>
         ensures { result ≡ next_id self.now }

@@ -7,11 +7,10 @@ ghost use Rattle.nutanswer.specs.Promises.{CarriesAnswer, Gives, row};
 ghost use Rattle.nutanswer.specs.declared.command.Command.TheVariants.{SetVar, InstCmd, GetProgress};
 ghost use Rattle.nutanswer.specs.declared.lines.TheConstants.{ORDER_LINE_LIMIT};
 
-use super::ok;
+use super::{Row, ok};
 use crate::checks::{
     command_value, live_command, live_variable, order_id, settable, user, user_of_command,
 };
-use crate::known::KnownCommand;
 use crate::lines::{order_line_into, push_answer};
 use crate::{Asker, Change, ErrWord, IdWord, NameWord, OrderLine, Reply, UpsWord, ValueWord, View};
 use nutlisting::progress_line_into;
@@ -27,7 +26,7 @@ pub(crate) fn set_var<'a, V: View>(
     name: &NameWord<'_>,
     value: &ValueWord<'_>,
     line: &'a mut Line,
-) -> Result<Reply<'a>, ErrWord>
+) -> Row<'a>
     ensures { Gives
         (answer_to (V.seen view.now) (asker_seen asker.entry) (SetVar ups.now name.now value.now))
         result }
@@ -55,7 +54,7 @@ pub(crate) fn inst_cmd<'a, V: View>(
     name: &NameWord<'_>,
     value: &Option<ValueWord<'_>>,
     line: &'a mut Line,
-) -> Result<Reply<'a>, ErrWord>
+) -> Row<'a>
     ensures { Gives
         (answer_to (V.seen view.now) (asker_seen asker.entry) (InstCmd ups.now name.now value.now))
         result }
@@ -63,7 +62,7 @@ pub(crate) fn inst_cmd<'a, V: View>(
     let ups = ups.read();
     let name = name.read();
     user_of_command(view, asker, &name)?;
-    let KnownCommand { ups, name } = live_command(view, &ups, &name)?;
+    let (ups, name) = live_command(view, &ups, &name)?;
     let value = command_value(value)?;
     let id = order_id(view, asker, ErrWord::InstcmdFailed)?;
     order_line_into(b"INSTCMD", name, value.as_ref(), id, line);
@@ -98,19 +97,12 @@ fn tracked<'a>(u: UpsId, id: u128, line: &'a mut Line) -> Reply<'a>
 
 /// GET TRACKING of an id.
 #[inline(never)]
-pub(crate) fn progress<'a, V: View>(
-    view: &V,
-    id: &IdWord<'_>,
-    line: &'a mut Line,
-) -> Result<Reply<'a>, ErrWord>
+pub(crate) fn progress<'a, V: View>(view: &V, id: &IdWord<'_>, line: &'a mut Line) -> Row<'a>
     ensures { Gives (row (V.seen view.now) (GetProgress id.now)) result }
 {
-    let Some(id) = id.read() else {
-        return Err(ErrWord::InvalidArgument);
-    };
-    let Some(progress) = view.progress(id) else {
-        return Err(ErrWord::InvalidArgument);
-    };
+    let id = id.read().ok_or(ErrWord::InvalidArgument)?;
+    let progress = view.tracking().progress(id);
+    let progress = progress.ok_or(ErrWord::InvalidArgument)?;
     progress_line_into(id, progress, line);
     Ok(Reply::One(line.as_slice(), Change::Nothing))
 }

@@ -9,7 +9,7 @@ ghost use Rattle.nutanswer.specs.Answer.{answer_to, count_of_logins, ok};
 ghost use Rattle.nutanswer.specs.Promises.{Gives, GivesReply, row};
 ghost use Rattle.nutanswer.specs.declared.command.Command.TheVariants.{Username, Password, Login, Logout, Primary, Fsd, SetTracking, GetTracking, ListClient};
 
-use super::ok;
+use super::{Row, ok};
 use crate::checks::{known_ups, user};
 use crate::{Asker, Change, ErrWord, GivenPassword, PasswordWord, Reply, UpsWord, UserWord, View};
 use nutlisting::{count_line_into, plain_line_into};
@@ -18,17 +18,15 @@ use nutwords::Line;
 
 /// USERNAME.
 #[inline(never)]
-pub(crate) fn username<'a>(asker: Asker<'_>, name: &UserWord<'_>) -> Result<Reply<'a>, ErrWord>
+pub(crate) fn username<'a>(asker: Asker<'_>, name: &UserWord<'_>) -> Row<'a>
     ensures { (s : Seen) → Gives
         (answer_to s (asker_seen asker.entry) (Username name.now)) result }
 {
     if asker.username.is_some() {
         return Err(ErrWord::AlreadySetUsername);
     }
-    match name.read() {
-        Some(name) => Ok(ok(Change::Username(name))),
-        None => Err(ErrWord::InvalidArgument),
-    }
+    let name = name.read().ok_or(ErrWord::InvalidArgument)?;
+    Ok(ok(Change::Username(name)))
 }
 
 /// PASSWORD.
@@ -37,26 +35,20 @@ pub(crate) fn password<'a>(
     asker: Asker<'_>,
     password: &PasswordWord<'_>,
     line: &'a mut Line,
-) -> Result<Reply<'a>, ErrWord>
+) -> Row<'a>
     ensures { (s : Seen) → Gives
         (answer_to s (asker_seen asker.entry) (Password password.now)) result }
 {
     if asker.password.is_some() {
         return Err(ErrWord::AlreadySetPassword);
     }
-    match password.read() {
-        Some(password) => Ok(ok(Change::Password(GivenPassword::made(&password, line)))),
-        None => Err(ErrWord::InvalidArgument),
-    }
+    let password = password.read().ok_or(ErrWord::InvalidArgument)?;
+    Ok(ok(Change::Password(GivenPassword::made(&password, line))))
 }
 
 /// LOGIN.
 #[inline(never)]
-pub(crate) fn login<'a, V: View>(
-    view: &V,
-    asker: Asker<'_>,
-    ups: &UpsWord<'_>,
-) -> Result<Reply<'a>, ErrWord>
+pub(crate) fn login<'a, V: View>(view: &V, asker: Asker<'_>, ups: &UpsWord<'_>) -> Row<'a>
     ensures { Gives
         (answer_to (V.seen view.now) (asker_seen asker.entry) (Login ups.now)) result }
 {
@@ -70,7 +62,7 @@ pub(crate) fn login<'a, V: View>(
 }
 
 /// LOGOUT.
-pub(crate) fn logout<'a>(line: &'a mut Line) -> Result<Reply<'a>, ErrWord>
+pub(crate) fn logout<'a>(line: &'a mut Line) -> Row<'a>
     ensures { (s : Seen) (a : AskerSeen) → Gives (answer_to s a Logout) result }
 {
     plain_line_into(b"OK Goodbye", line);
@@ -79,11 +71,7 @@ pub(crate) fn logout<'a>(line: &'a mut Line) -> Result<Reply<'a>, ErrWord>
 
 /// PRIMARY.
 #[inline(never)]
-pub(crate) fn primary<'a, V: View>(
-    view: &V,
-    asker: Asker<'_>,
-    ups: &UpsWord<'_>,
-) -> Result<Reply<'a>, ErrWord>
+pub(crate) fn primary<'a, V: View>(view: &V, asker: Asker<'_>, ups: &UpsWord<'_>) -> Row<'a>
     ensures { Gives
         (answer_to (V.seen view.now) (asker_seen asker.entry) (Primary ups.now)) result }
 {
@@ -100,7 +88,7 @@ pub(crate) fn fsd<'a, V: View>(
     asker: Asker<'_>,
     ups: &UpsWord<'_>,
     line: &'a mut Line,
-) -> Result<Reply<'a>, ErrWord>
+) -> Row<'a>
     ensures { Gives
         (answer_to (V.seen view.now) (asker_seen asker.entry) (Fsd ups.now)) result }
 {
@@ -112,14 +100,14 @@ pub(crate) fn fsd<'a, V: View>(
 }
 
 /// SET TRACKING.
-pub(crate) fn set_tracking<'a>(on: bool) -> Result<Reply<'a>, ErrWord>
+pub(crate) fn set_tracking<'a>(on: bool) -> Row<'a>
     ensures { (s : Seen) (a : AskerSeen) → Gives (answer_to s a (SetTracking on)) result }
 {
     Ok(ok(Change::Tracking(on)))
 }
 
 /// GET TRACKING.
-pub(crate) fn get_tracking<'a>(asker: Asker<'_>, line: &'a mut Line) -> Result<Reply<'a>, ErrWord>
+pub(crate) fn get_tracking<'a>(asker: Asker<'_>, line: &'a mut Line) -> Row<'a>
     ensures { (s : Seen) → Gives (answer_to s (asker_seen asker.entry) GetTracking) result }
 {
     let text: &[u8] = if asker.tracking {
@@ -138,7 +126,7 @@ pub(crate) fn count_of_logins<'a, V: View>(
     kind: &[u8],
     ups: &UpsWord<'_>,
     line: &'a mut Line,
-) -> Result<Reply<'a>, ErrWord>
+) -> Row<'a>
     requires kind { length kind.now ≤ KIND_LIMIT }
     requires lawful { IsTrue (list_all is_lawful kind.now) }
     ensures { Gives (count_of_logins kind.now (V.seen view.now) ups.now) result }
@@ -151,7 +139,7 @@ pub(crate) fn count_of_logins<'a, V: View>(
 
 /// LIST CLIENT.
 #[inline(never)]
-pub(crate) fn list_client<'a, V: View>(view: &V, ups: &UpsWord<'_>) -> Result<Reply<'a>, ErrWord>
+pub(crate) fn list_client<'a, V: View>(view: &V, ups: &UpsWord<'_>) -> Row<'a>
     ensures { GivesReply (V.seen view.now) (row (V.seen view.now) (ListClient ups.now)) result }
 {
     let ups = ups.read();

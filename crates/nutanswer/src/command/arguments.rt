@@ -7,13 +7,11 @@ ghost use Rattle.nutanswer.specs.Command.{alone, text_alone, ups_and_name, ups_n
 
 use super::{Command, IdWord, NameWord, TextWord, UpsWord, ValueWord};
 use crate::ErrWord;
+use crate::err_word::Checked;
 use nutwords::{SpelledWord, SpelledWords, TextKind};
 
 /// The command, where no further word stands after it.
-pub(crate) fn alone<'a>(
-    command: Command<'a>,
-    mut words: SpelledWords<'a>,
-) -> Result<Command<'a>, ErrWord>
+pub(crate) fn alone<'a>(command: Command<'a>, mut words: SpelledWords<'a>) -> Checked<Command<'a>>
     ensures { result ≡ alone command.entry words.entry }
 {
     match words.next() {
@@ -25,7 +23,7 @@ pub(crate) fn alone<'a>(
 /// The word, and no other, that is to be such a text.
 pub(crate) fn text_alone<K: TextKind, const MOST: usize>(
     mut words: SpelledWords<'_>,
-) -> Result<TextWord<'_, K, MOST>, ErrWord>
+) -> Checked<TextWord<'_, K, MOST>>
     ensures { result ≡ text_alone
         (λ word. result_ok (read_text K.allows K.MAY_BE_EMPTY MOST word)) words.entry }
 {
@@ -36,17 +34,11 @@ pub(crate) fn text_alone<K: TextKind, const MOST: usize>(
 }
 
 /// The two words that are to name a UPS and a variable or command of it.
-pub(crate) fn ups_and_name(
-    mut words: SpelledWords<'_>,
-) -> Result<(UpsWord<'_>, NameWord<'_>), ErrWord>
+pub(crate) fn ups_and_name(mut words: SpelledWords<'_>) -> Checked<(UpsWord<'_>, NameWord<'_>)>
     ensures { result ≡ ups_and_name words.entry }
 {
     match (words.next(), words.next(), words.next()) {
-        (Some(ups), Some(name), None) => {
-            let ups = UpsWord::of(ups);
-            let name = NameWord::of(name);
-            Ok((ups, name))
-        }
+        (Some(ups), Some(name), None) => Ok((UpsWord::of(ups), NameWord::of(name))),
         _ => Err(ErrWord::InvalidArgument),
     }
 }
@@ -54,15 +46,12 @@ pub(crate) fn ups_and_name(
 /// The three words that are to name a UPS and a variable of it, and to be a value.
 pub(crate) fn ups_name_and_value(
     mut words: SpelledWords<'_>,
-) -> Result<(UpsWord<'_>, NameWord<'_>, ValueWord<'_>), ErrWord>
+) -> Checked<(UpsWord<'_>, NameWord<'_>, ValueWord<'_>)>
     ensures { result ≡ ups_name_and_value words.entry }
 {
     match (words.next(), words.next(), words.next(), words.next()) {
         (Some(ups), Some(name), Some(value), None) => {
-            let ups = UpsWord::of(ups);
-            let name = NameWord::of(name);
-            let value = ValueWord::of(value);
-            Ok((ups, name, value))
+            Ok((UpsWord::of(ups), NameWord::of(name), ValueWord::of(value)))
         }
         _ => Err(ErrWord::InvalidArgument),
     }
@@ -71,41 +60,32 @@ pub(crate) fn ups_name_and_value(
 /// The same of a command, whose value may be left out.
 pub(crate) fn ups_name_and_value_if_any(
     mut words: SpelledWords<'_>,
-) -> Result<(UpsWord<'_>, NameWord<'_>, Option<ValueWord<'_>>), ErrWord>
+) -> Checked<(UpsWord<'_>, NameWord<'_>, Option<ValueWord<'_>>)>
     ensures { result ≡ ups_name_and_value_if_any words.entry }
 {
     match (words.next(), words.next(), words.next(), words.next()) {
-        (Some(ups), Some(name), None, _) => {
-            let ups = UpsWord::of(ups);
-            let name = NameWord::of(name);
-            Ok((ups, name, None))
-        }
+        (Some(ups), Some(name), None, _) => Ok((UpsWord::of(ups), NameWord::of(name), None)),
         (Some(ups), Some(name), Some(value), None) => {
-            let ups = UpsWord::of(ups);
-            let name = NameWord::of(name);
             let value = ValueWord::of(value);
-            Ok((ups, name, Some(value)))
+            Ok((UpsWord::of(ups), NameWord::of(name), Some(value)))
         }
         _ => Err(ErrWord::InvalidArgument),
     }
 }
 
 /// What a GET TRACKING asks for: whether orders are tracked, or, with one more word, how far the order of that id has come.
-pub(crate) fn tracking_asked(mut words: SpelledWords<'_>) -> Result<Command<'_>, ErrWord>
+pub(crate) fn tracking_asked(mut words: SpelledWords<'_>) -> Checked<Command<'_>>
     ensures { result ≡ tracking_asked words.entry }
 {
     match (words.next(), words.next()) {
         (None, _) => Ok(Command::GetTracking),
-        (Some(id), None) => {
-            let id = IdWord::of(id);
-            Ok(Command::GetProgress(id))
-        }
+        (Some(id), None) => Ok(Command::GetProgress(IdWord::of(id))),
         _ => Err(ErrWord::InvalidArgument),
     }
 }
 
 /// Whether the word, and no other, is ON; it is to be ON or OFF.
-pub(crate) fn on_or_off(mut words: SpelledWords<'_>) -> Result<bool, ErrWord>
+pub(crate) fn on_or_off(mut words: SpelledWords<'_>) -> Checked<bool>
     ensures { result ≡ on_or_off words.entry }
 {
     match (words.next(), words.next()) {
@@ -115,7 +95,7 @@ pub(crate) fn on_or_off(mut words: SpelledWords<'_>) -> Result<bool, ErrWord>
 }
 
 /// Whether the word is ON; it is to be ON or OFF.
-fn is_on(word: &SpelledWord<'_>) -> Result<bool, ErrWord>
+fn is_on(word: &SpelledWord<'_>) -> Checked<bool>
     ensures { result ≡ is_on (spelled word.now) }
 {
     if word.is_word(b"ON") {

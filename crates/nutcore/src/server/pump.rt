@@ -31,12 +31,7 @@ impl Server {
     /// Executes the next line, which ends there. Without memory nothing changes. The view is for this line alone, so a session
     /// without a line doesn't pay for one.
     #[inline(never)]
-    pub(super) fn execute(
-        &mut self,
-        c: ClientId,
-        place: usize,
-        end: usize,
-    ) -> Result<(), AllocError>
+    fn execute(&mut self, c: ClientId, place: usize, end: usize) -> Result<(), AllocError>
         requires at { IsAt c place self.old.state.sessions }
         requires next { option_map length (next_line_for self.old.state c) ≡ Some end }
         ensures ok { OnOk result (self.new.state ≡ after_line self.old.state c) }
@@ -70,7 +65,7 @@ impl Server {
 
     /// Executes the session's lines, as long as they may be executed. A session that holds too long a line then is told
     /// so, and begins to end.
-    pub(super) fn pump(&mut self, c: ClientId, place: usize) -> Result<(), Fault>
+    fn pump(&mut self, c: ClientId, place: usize) -> Result<(), Fault>
         requires at { IsAt c place self.old.state.sessions }
         requires short { length (held_of (session c self.old.state)) ≤ HELD_LIMIT }
         requires unnoted { self.old.notes ≡ [] }

@@ -10,7 +10,7 @@ use crate::max_age::MaxAge;
 use crate::session::Session;
 use crate::ups::Ups;
 use nutanswer::{Asker, Change, Reply, UpsView, View, answer};
-use nuttracking::{Progress, Tracking};
+use nuttracking::Tracking;
 use nutusers::{Descriptions, UpsId, UpsList, Users};
 use nutwords::Line;
 use std::alloc::AllocError;
@@ -87,12 +87,8 @@ impl<'a> View for ServerView<'a> {
         self.users
     }
 
-    fn next_id(&self) -> Option<u128> {
-        self.tracking.next_id()
-    }
-
-    fn progress(&self, id: u128) -> Option<Progress> {
-        self.tracking.progress(id)
+    fn tracking(&self) -> &Tracking {
+        self.tracking
     }
 
     fn login_count(&self, u: UpsId) -> usize {
@@ -100,10 +96,7 @@ impl<'a> View for ServerView<'a> {
     }
 
     fn ups(&self, u: UpsId) -> Option<UpsView<'_>> {
-        match self.upses.get(u.place as usize) {
-            Some(ups) => Some(ups.view()),
-            None => None,
-        }
+        Some(self.upses.get(u.place as usize)?.view())
     }
 }
 

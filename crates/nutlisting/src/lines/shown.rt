@@ -16,15 +16,6 @@ const MARK_LENGTH: usize = 4;
 /// The most bytes of a value as clients see it: a whole value after `FSD `.
 pub const SHOWN_LIMIT: usize = MARK_LENGTH + VALUE_LIMIT;
 
-/// The value, as it is.
-pub(crate) fn value_of(variable: &Variable) -> &[u8]
-    ensures value { result.now ≡ variable.now.value }
-    ensures short { length result.now ≤ SHOWN_LIMIT }
-    ensures lawful { IsTrue (list_all is_lawful result.now) }
-{
-    variable.value()
-}
-
 /// The status as clients see it while a forced shutdown is set: `FSD ` stands before it.
 pub(crate) fn marked(variable: &Variable) -> ArrayVec<u8, SHOWN_LIMIT>
     ensures value { result.items ≡ codes "FSD " ++ variable.now.value }
@@ -38,7 +29,7 @@ pub(crate) fn marked(variable: &Variable) -> ArrayVec<u8, SHOWN_LIMIT>
 }
 
 /// The description of a variable or a command as clients see it.
-pub(crate) fn described(text: Option<&Value>) -> &[u8]
+pub fn described(text: Option<&Value>) -> &[u8]
     ensures value { result.now ≡ description_of (option_copied text.entry) }
     ensures short { length result.now ≤ VALUE_LIMIT }
     ensures lawful { IsTrue (list_all is_lawful result.now) }

@@ -8,8 +8,8 @@ pub returns : goal.returns
 returns c = (
   (refl, λ x. tt, refl),
   record {
-    value = c.bytes.ensures ∙ sym (offered_is c.outbox.inside.ring c.outbox.inside.cursor c.outbox.invariant.0) ∙ ap (λ (o : Owes). take RING_LIMIT (owed o)) c.outbox.view_is;
-    ring = c.bytes.ensures ∙ ap (λ (o : Owes). o.ring) c.outbox.view_is;
+    value = c.bytes.ensures.value ∙ sym (offered_is c.outbox.inside.ring c.outbox.inside.cursor c.outbox.invariant.0) ∙ ap (λ (o : Owes). take RING_LIMIT (owed o)) c.outbox.view_is;
+    ring = c.bytes.ensures.value ∙ ap (λ (o : Owes). o.ring) c.outbox.view_is;
     same = tt;
   },
 )
