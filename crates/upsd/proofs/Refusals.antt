@@ -26,8 +26,8 @@ after_one c refused (DriverLost u) never = never
 after_one c refused (DataGood u) never = never
 after_one c refused (DataStale u) never = never
 after_one c refused (LinesRefused u count fault) never = never
-after_one c refused (LoggedOut logout) never = never
-after_one c refused (Did deed) never = grind (arith, after_other c deed.client refused never)
+after_one c refused (LoggedOut u who) never = never
+after_one c refused (Did deed) never = grind (arith, after_other c deed.who.client refused never)
 
 after_all : (c : ℕ) (refused : List ℕ) (notes : List Note) → may_log refused c ≡ false → may_log (after_notes refused notes) c ≡ false
 after_all c refused [] never = never

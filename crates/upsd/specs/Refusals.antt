@@ -16,13 +16,13 @@ after_refusal refused c = if may_log refused c then refused ++ c ∷ [] else ref
 
 -- All else is logged each time.
 abbrev pub is_logged : List ℕ → Note → Bool
-is_logged refused (Did deed) = is_none deed.refusal || may_log refused deed.client
+is_logged refused (Did deed) = is_none deed.refusal || may_log refused deed.who.client
 is_logged refused _ = true
 
 -- The sessions after a note,
 abbrev pub after_note : List ℕ → Note → List ℕ
 after_note refused (Did deed) =
-    if is_none deed.refusal then refused else after_refusal refused deed.client
+    if is_none deed.refusal then refused else after_refusal refused deed.who.client
 after_note refused _ = refused
 
 -- and after one note after another.

@@ -17,7 +17,7 @@ pub fn take_turn(refused: &mut Refused, note: &Note) -> bool
     ensures after { refused.new.items ≡ after_note refused.old.items note.now }
 {
     match note {
-        Note::Did(deed) => deed.refusal.is_none() || take_refusal(refused, deed.client),
+        Note::Did(deed) => deed.refusal.is_none() || take_refusal(refused, deed.who.client),
         _ => true,
     }
 }
