@@ -201,7 +201,7 @@ def ids_are_those_of_their_file():
         assert good.ask(order) == b"ERR SET-FAILED\n"
 
 
-def a_forced_shutdown_is_seen_and_told_once():
+def a_forced_shutdown_is_seen_and_each_order_of_it_told():
     with served() as (server, _, good):
         other = server.client()
         assert other.ask(MON + b"FSD su\n") == b"OK\nOK\nERR ACCESS-DENIED\n"
@@ -209,7 +209,7 @@ def a_forced_shutdown_is_seen_and_told_once():
         assert server.journal() == COME + refused, server.journal()
         assert good.ask(ADMIN + b"FSD su\nFSD su\n") == b"OK\nOK\nOK FSD-SET\nOK FSD-SET\n"
         assert other.ask(GET) == b'VAR su ups.status "FSD OL"\n'
-        told = COME + refused + "upsd: su: admin@127.0.0.1 ordered FSD: forced shutdown\n"
+        told = COME + refused + "upsd: su: admin@127.0.0.1 ordered FSD: forced shutdown\n" * 2
         assert server.journal() == told, server.journal()
 
 

@@ -50,11 +50,11 @@ measures = record {
   closes = λ x u. record { owes = omega arith; holds = omega arith };
 }
 
-held_sound : (s : ServerState) (c : ℕ) → IsSound s → (o : Option SessionState) → session c s ≡ o → length (held_of o) ≤ HELD_LIMIT
+pub held_sound : (s : ServerState) (c : ℕ) → IsSound s → (o : Option SessionState) → session c s ≡ o → length (held_of o) ≤ HELD_LIMIT
 held_sound s c h None e = omega arith
 held_sound s c h (Some x) e = (each_found IsSoundSession c s.sessions x e h.sessions).held
 
-accepted_few : (o : Option SessionState) (piece : List ℕ) → length (held_of o) ≤ HELD_LIMIT → length (held_of o) + length (accepted_bytes o piece) ≤ HELD_LIMIT
+pub accepted_few : (o : Option SessionState) (piece : List ℕ) → length (held_of o) ≤ HELD_LIMIT → length (held_of o) + length (accepted_bytes o piece) ≤ HELD_LIMIT
 accepted_few o piece le = grind (arith, length-take {A = ℕ})
 
 -- so are all that an event executes

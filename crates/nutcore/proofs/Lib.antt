@@ -40,6 +40,8 @@ mod OrderFits
 mod SoundUps
 mod Sound
 mod Bounded
+mod NoteRoom
+mod Finishing
 mod Taking
 mod TakingAmongOthers
 mod NotStuck

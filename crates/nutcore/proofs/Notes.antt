@@ -9,10 +9,8 @@ use Rattle.nutanswer.specs.declared.command.Command.{Command}
 use Rattle.nutanswer.specs.declared.err_word.ErrWord.{ErrWord}
 use Rattle.nutanswer.specs.Command.{read_command}
 use Rattle.nutanswer.specs.declared.reply.Reply.{Reply}
-use Rattle.nutusers.specs.UpsList.{id_at}
 use Rattle.nutcore.proofs.Common.{Fault, SessionState, ServerState, session, UpsId}
 use Rattle.nutcore.specs.declared.note.Note.{Note}
-use Rattle.nutcore.specs.declared.note.Note.TheVariants.{DataStale}
 use Rattle.nutcore.specs.declared.note.Condition.{Condition}
 use Rattle.nutcore.specs.declared.note.TheConstants.{NOTE_LIMIT}
 use Rattle.nutcore.specs.declared.event.Event.TheVariants.{Feed, Took}
@@ -21,10 +19,10 @@ use Rattle.nutcore.specs.Calls.{done}
 use Rattle.nutcore.specs.Step.{with_input, without_output, may_take, refused_after}
 use Rattle.nutcore.specs.Pump.{next_line, next_line_for, after_line, after_lines, after_all_lines, pump_stops, held_of, holds_overlong}
 use Rattle.nutcore.specs.History.{Execution, next_execution, lines_executed, notice, pump_executions, executions_until}
-use Rattle.nutcore.specs.Notes.{note_of, notes_of_lines, notes_of_pump, note_of_notice, logout_of, refusal_note, driver_note, data_note, notes_between, condition_at, goes_stale, stale_notes, IsNoted}
+use Rattle.nutcore.specs.Notes.{note_of, notes_of_lines, notes_of_pump, note_of_notice, logout_of, refusal_note, driver_note, data_note, readiness_note, notes_between, condition_at, tick_note, tick_notes, IsNoted}
 use Rattle.nutcore.specs.Cost.{RunningServer}
 use Rattle.nutcore.specs.declared.event.Outcome.{Outcome}
-use Rattle.nutcore.specs.Promises.{Replies, refused_overlong, is_told_by, note_in_reply, with_note, told_next, with_next, with_changes}
+use Rattle.nutcore.specs.Promises.{Replies, refused_overlong, note_in_reply, with_note, told_next, with_next, with_changes}
 use Rattle.nutcore.proofs.Loops.{none_of, stopped_line, all_lines_are}
 use Rattle.nutcore.proofs.EventSteps.{input_absent}
 
@@ -87,10 +85,9 @@ noted_all s t c k x r notes notes' e le none found told so_far more =
     let ends : refused_after (done r) ≡ None = grind (arith, told) in
     cc (more, noticed, one, ends, pumped_all k s t c e le none)
 
--- so it is noted, where it is told, and else nothing is
-pub noted_reply : (s : ServerState) (c : ℕ) (line : List ℕ) (r : Reply) (told : Bool) (read : Result (Option Command) ErrWord) (x : SessionState) (before notes : List Note) → next_line_for s c ≡ Some line → session c s ≡ Some x → Replies s c line r → told ≡ is_told_by s.upses r → read_command line ≡ read →
-    notes ≡ with_note (if told then note_in_reply x read r else None) before → notes ≡ with_next s c before
-noted_reply s c line r told read x before notes next found is e reads noted = grind arith
+-- so the next line is noted
+pub noted_reply : (s : ServerState) (c : ℕ) (line : List ℕ) (r : Reply) (read : Result (Option Command) ErrWord) (x : SessionState) (before notes : List Note) → next_line_for s c ≡ Some line → session c s ≡ Some x → Replies s c line r → read_command line ≡ read → notes ≡ with_note (note_in_reply x read r) before → notes ≡ with_next s c before
+noted_reply s c line r read x before notes next found is reads noted = grind arith
 
 -- where the client isn't open, nothing is
 pub fed_absent : (s s' : ServerState) (c : ℕ) (piece : List ℕ) (notes : List Note) → s' ≡ s → session c s' ≡ None → notes ≡ [] → notes ≡ take NOTE_LIMIT (notes_of_pump (with_input s c piece) c None)
@@ -117,57 +114,52 @@ took_noted s s' j c n o r same may took noted =
     ∙ ap (λ (z : ServerState). take NOTE_LIMIT (notes_of_pump z c (refused_after o))) (took ∙ ap (λ (z : ServerState). without_output z c n) same)
     ∙ sym (ap (λ (b : Bool). take NOTE_LIMIT (if b then notes_of_pump (without_output s c n) c (refused_after o) else [])) (ap (λ (z : ServerState). may_take (session c z) n) (sym same) ∙ may))
 
+then_more : (o : Option Note) (xs ys : List Note) → cons_option o (xs ++ ys) ≡ cons_option o xs ++ ys
+then_more None xs ys = refl
+then_more (Some x) xs ys = refl
+
 -- what changed of a UPS, where nothing was noted before
 pub changes_noted : (u : UpsId) (was is : Option Condition) (notes before : List Note) → before ≡ [] → notes ≡ with_changes u was is before → notes ≡ take NOTE_LIMIT (notes_between u was is)
 changes_noted u None is notes before none e = cc
 changes_noted u (Some was) None notes before none e = cc
 changes_noted u (Some was) (Some is) notes before none e =
     let a = refusal_note u was is in
-    let b = driver_note u was.is_connected is.is_connected in
-    let d = data_note u was.is_usable is.is_usable is.is_connected in
+    let b = readiness_note u was is in
     let one = one_noted [] a before none in
     let two = one_noted ([] ++ cons_option a []) b (with_note a before) one in
-    let three = one_noted (([] ++ cons_option a []) ++ cons_option b []) d (with_note b (with_note a before)) two in
-    e ∙ three ∙ ap (take NOTE_LIMIT) (joined a b d)
-  where
-    joined : (a b d : Option Note) → (([] ++ cons_option a []) ++ cons_option b []) ++ cons_option d [] ≡ cons_option a (cons_option b (cons_option d []))
-    joined a b d = grind arith
+    e ∙ two ∙ ap (take NOTE_LIMIT) (sym (then_more a [] (cons_option b [])))
 
 -- nothing changed
 pub nothing_changed : (u : UpsId) (s t : ServerState) (notes : List Note) → t ≡ s → notes ≡ [] → notes ≡ take NOTE_LIMIT (notes_between u (condition_at u s) (condition_at u t))
 nothing_changed u s t notes same none = none ∙ ap (take NOTE_LIMIT) (sym (unchanged u (condition_at u s))) ∙ ap (λ (z : ServerState). take NOTE_LIMIT (notes_between u (condition_at u s) (condition_at u z))) (sym same)
   where
-    no_data : (u : UpsId) (b c : Bool) → data_note u b b c ≡ None
-    no_data u true c = refl
-    no_data u false c = refl
+    no_data : (u : UpsId) (b : Bool) → data_note u b b ≡ None
+    no_data u true = refl
+    no_data u false = refl
 
-    no_driver : (u : UpsId) (b : Bool) → driver_note u b b ≡ None
-    no_driver u true = refl
-    no_driver u false = refl
+    no_driver : (u : UpsId) (b : Bool) (other : Option Note) → driver_note u b b other ≡ other
+    no_driver u true other = refl
+    no_driver u false other = refl
 
     unchanged : (u : UpsId) (o : Option Condition) → notes_between u o o ≡ []
     unchanged u None = refl
     unchanged u (Some x) = grind (arith, nat_tests, no_data, no_driver)
 
 -- the clock makes one more stale, or doesn't
-abbrev pub stale_at : ℕ → ℕ → ℕ → ℕ → UpsState → List Note
-stale_at max_age was now place x = cons_option (if goes_stale max_age was now x then Some (DataStale (id_at place)) else None) []
+abbrev pub ticked : ℕ → ℕ → ℕ → ℕ → UpsState → List Note
+ticked max_age was now place x = cons_option (tick_note max_age was now place x) []
 
-then_more : (o : Option Note) (xs ys : List Note) → cons_option o (xs ++ ys) ≡ cons_option o xs ++ ys
-then_more None xs ys = refl
-then_more (Some x) xs ys = refl
-
-pub stale_so_far : (max_age was now place p : ℕ) (xs : List UpsState) (x : UpsState) → slice_get xs p ≡ Some x → stale_notes max_age was now place (take (suc p) xs) ≡ stale_notes max_age was now place (take p xs) ++ stale_at max_age was now (place + p) x
-stale_so_far max_age was now place p [] x e = absurd (cc)
-stale_so_far max_age was now place zero (y ∷ ys) x e =
+pub ticked_so_far : (max_age was now place p : ℕ) (xs : List UpsState) (x : UpsState) → slice_get xs p ≡ Some x → tick_notes max_age was now place (take (suc p) xs) ≡ tick_notes max_age was now place (take p xs) ++ ticked max_age was now (place + p) x
+ticked_so_far max_age was now place p [] x e = absurd (cc)
+ticked_so_far max_age was now place zero (y ∷ ys) x e =
     let same : y ≡ x = cc in
     let here : place + 0 ≡ place = omega arith in
-    ap (stale_at max_age was now place) same ∙ ap (λ k. stale_at max_age was now k x) (sym here)
-stale_so_far max_age was now place (suc p) (y ∷ ys) x e =
+    ap (ticked max_age was now place) same ∙ ap (λ k. ticked max_age was now k x) (sym here)
+ticked_so_far max_age was now place (suc p) (y ∷ ys) x e =
     let there : suc place + p ≡ place + suc p = omega arith in
-    let first : Option Note = if goes_stale max_age was now y then Some (DataStale (id_at place)) else None in
-    ap (cons_option first) (stale_so_far max_age was now (suc place) p ys x e ∙ ap (λ k. stale_notes max_age was now (suc place) (take p ys) ++ stale_at max_age was now k x) there)
-    ∙ then_more first (stale_notes max_age was now (suc place) (take p ys)) (stale_at max_age was now (place + suc p) x)
+    let first : Option Note = tick_note max_age was now place y in
+    ap (cons_option first) (ticked_so_far max_age was now (suc place) p ys x e ∙ ap (λ k. tick_notes max_age was now (suc place) (take p ys) ++ ticked max_age was now k x) there)
+    ∙ then_more first (tick_notes max_age was now (suc place) (take p ys)) (ticked max_age was now (place + suc p) x)
 
 -- what is noted of an event of a driver
 pub ups_noted : (u : UpsId) (s s' mid t : ServerState) (was : Option Condition) (notes before : List Note) → s' ≡ s → was ≡ condition_at u s' → t ≡ mid → before ≡ [] → notes ≡ with_changes u was (condition_at u mid) before → notes ≡ take NOTE_LIMIT (notes_between u (condition_at u s) (condition_at u t))

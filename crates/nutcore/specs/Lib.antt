@@ -9,6 +9,7 @@ pub mod Step
 pub mod Run
 pub mod History
 pub mod Notes
+pub mod Finishing
 pub mod Cost
 pub mod Headline
 pub mod Isolation

@@ -1,9 +1,9 @@
 -- What is noted of an event, for the journal: names, and never a value or a password.
-use Rattle.std.specs.Prelude.{◌≡◌, ℕ, suc, ◌-◌, ◌==◌, ◌&&◌, Bool, true, false, not, List, [], ◌∷◌}
-use Rattle.std.specs.Prelude.{◌++◌, Option, Some, None, Result, Ok, codes, drop, nat_eq, slice_get}
-use Rattle.std.specs.Prelude.{take, max, if◌then◌else◌}
+use Rattle.std.specs.Prelude.{◌≡◌, ℕ, suc, ◌-◌, ◌==◌, Bool, true, false, List, [], ◌∷◌, ◌++◌}
+use Rattle.std.specs.Prelude.{Option, Some, None, Result, Ok, codes, drop, nat_eq, take, max}
+use Rattle.std.specs.Prelude.{if◌then◌else◌}
 use Rattle.std.specs.List.{starts_with, filter_map, cons_option}
-use Rattle.std.specs.Option.{option_map, option_map_or, option_and_then}
+use Rattle.std.specs.Option.{option_map, option_and_then}
 use Rattle.std.specs.Result.{result_ok}
 use Rattle.nutwords.specs.Reading.{read_name}
 use Rattle.nutusers.specs.declared.ups_list.UpsId.{UpsId}
@@ -18,6 +18,7 @@ use Rattle.nutcore.specs.declared.note.Note.{Note}
 use Rattle.nutcore.specs.declared.note.Note.TheVariants.{DriverConnected, DriverLost, DataGood}
 use Rattle.nutcore.specs.declared.note.Note.TheVariants.{DataStale, LinesRefused, LoggedOut, Did}
 use Rattle.nutcore.specs.declared.note.Condition.{Condition}
+use Rattle.nutcore.specs.declared.note.Who.{Who}
 use Rattle.nutcore.specs.declared.note.Verb.{Verb}
 use Rattle.nutcore.specs.declared.note.Verb.TheVariants as verbs
 use Rattle.nutcore.specs.declared.note.TheConstants.{NOTE_LIMIT}
@@ -33,8 +34,9 @@ use Rattle.nutcore.specs.Session.{SessionState}
 use Rattle.nutcore.specs.Server.{ServerState, session, ups_at}
 use Rattle.nutcore.specs.Step.{with_input, without_output, may_take, refused_after}
 use Rattle.nutcore.specs.Pump.{after_all_lines, holds_overlong}
-use Rattle.nutcore.specs.Status.{is_usable, has_usable_data}
+use Rattle.nutcore.specs.Status.{is_usable}
 use Rattle.nutcore.specs.Cost.{RunningServer}
+use Rattle.nutcore.specs.Sound.{IsSound}
 use Rattle.nutcore.specs.Reply.{reply, change_by}
 use Rattle.nutcore.specs.History.{Execution, of_line, of_notice, executions_until}
 
@@ -48,31 +50,25 @@ refusal_in text =
     if is_refusal text
     then option_and_then (λ word. result_ok (read_name word)) (first_line (drop 4 text)) else None
 
--- A forced shutdown of the UPS is set.
-abbrev pub is_forced : UpsId → List UpsState → Bool
-is_forced u upses = option_map_or (λ x. x.fsd) (slice_get upses u.place) false
+-- A line that is answered so, and changes this, is noted: one that changes nothing only where it is
+-- refused.
+abbrev pub is_told : List ℕ → Change → Bool
+is_told text changes.Nothing = is_refusal text
+is_told text _ = true
 
--- A line that is answered so, and changes this, is noted: where it is a granted login, where the
--- session ends, where it sets a forced shutdown that isn't set, where it is an order to a driver,
--- and where it is refused.
-abbrev pub is_told : List UpsState → List ℕ → Change → Bool
-is_told upses text (changes.Login u) = true
-is_told upses text changes.Ending = true
-is_told upses text (changes.Fsd u) = not (is_forced u upses)
-is_told upses text (changes.Order u line) = true
-is_told upses text (changes.Tracked u id line) = true
-is_told upses text _ = is_refusal text
+-- Whose session it is.
+abbrev pub who_of : SessionState → Who
+who_of x = record { client = x.id; user = x.username; address = x.address }
 
 -- The logout of a session that is logged in.
 abbrev pub logout_of : SessionState → Option Note
-logout_of x =
-    option_map (λ u. LoggedOut (record { u = u; user = x.username; address = x.address })) x.login
+logout_of x = option_map (λ u. LoggedOut u (who_of x)) x.login
 
 -- What the session did by a command that was refused by this word, or granted.
 abbrev pub did : SessionState → Option (List ℕ) → Verb → Option (List ℕ) → Option (List ℕ)
     → Option Note
 did x refusal verb ups name =
-    Some (Did (record { client = x.id; verb = verb; ups = ups; name = name; refusal = refusal }))
+    Some (Did (record { who = who_of x; verb = verb; ups = ups; name = name; refusal = refusal }))
 
 abbrev pub note_of_command : SessionState → Option (List ℕ) → Command → Option Note
 note_of_command x refusal (Login ups) = did x refusal verbs.Login ups None
@@ -91,7 +87,7 @@ note_read x _ text = None
 -- What is noted of an executed line, on the server as it was at that moment.
 abbrev pub note_of : Execution → Option Note
 note_of (of_line s c line) =
-    if is_told s.upses (reply s c line) (change_by s c (read_command line))
+    if is_told (reply s c line) (change_by s c (read_command line))
     then option_and_then (λ x. note_read x (read_command line) (reply s c line)) (session c s)
     else None
 note_of (of_notice c) = None
@@ -111,13 +107,13 @@ notes_of_pump s c None =
     ++ cons_option (note_of_notice (after_all_lines s c) c) []
 notes_of_pump s c (Some k) = notes_of_lines (executions_until s c (Some k))
 
--- How a UPS stands: whether its driver is connected, whether clients are told its data, how many
--- lines of its drivers were refused, and why the last one was.
-abbrev pub condition_of : ServerState → UpsState → Condition
-condition_of s x =
+-- How a UPS stands, by the greatest age and the moment: whether its driver is connected, whether
+-- clients are told its data, how many lines of its drivers were refused, and why the last one was.
+abbrev pub condition_of : ℕ → ℕ → UpsState → Condition
+condition_of max_age moment x =
     record {
       is_connected = x.report.connected;
-      is_usable = has_usable_data s x;
+      is_usable = is_usable (readiness moment max_age x.report);
       refused = x.faulty;
       fault = x.fault;
     }
@@ -128,39 +124,39 @@ refusal_note u was is =
     if is.refused == was.refused then None
     else Some (LinesRefused u (is.refused - was.refused) is.fault)
 
--- whether its driver came or is lost,
-abbrev pub driver_note : UpsId → Bool → Bool → Option Note
-driver_note u false true = Some (DriverConnected u)
-driver_note u true false = Some (DriverLost u)
-driver_note u _ _ = None
+-- and whether its driver came or is lost, or else its data became good or stale.
+abbrev pub data_note : UpsId → Bool → Bool → Option Note
+data_note u false true = Some (DataGood u)
+data_note u true false = Some (DataStale u)
+data_note u _ _ = None
 
--- and whether its data became good or stale. That those of a lost driver aren't good is no news.
-abbrev pub data_note : UpsId → Bool → Bool → Bool → Option Note
-data_note u false true is_connected = Some (DataGood u)
-data_note u true false true = Some (DataStale u)
-data_note u _ _ is_connected = None
+abbrev pub driver_note : UpsId → Bool → Bool → Option Note → Option Note
+driver_note u false true other = Some (DriverConnected u)
+driver_note u true false other = Some (DriverLost u)
+driver_note u _ _ other = other
+
+abbrev pub readiness_note : UpsId → Condition → Condition → Option Note
+readiness_note u was is =
+    driver_note u was.is_connected is.is_connected (data_note u was.is_usable is.is_usable)
 
 abbrev pub notes_between : UpsId → Option Condition → Option Condition → List Note
 notes_between u (Some was) (Some is) =
-    cons_option (refusal_note u was is)
-    (cons_option (driver_note u was.is_connected is.is_connected)
-    (cons_option (data_note u was.is_usable is.is_usable is.is_connected) []))
+    cons_option (refusal_note u was is) (cons_option (readiness_note u was is) [])
 notes_between u _ _ = []
 
 abbrev pub condition_at : UpsId → ServerState → Option Condition
-condition_at u s = option_map (condition_of s) (ups_at u.place s)
+condition_at u s = option_map (condition_of s.max_age s.moment) (ups_at u.place s)
 
--- Data become stale by the clock alone, from one moment to another: of the UPSs of which the first one
--- stands at this place, in their order.
-abbrev pub goes_stale : ℕ → ℕ → ℕ → UpsState → Bool
-goes_stale max_age was now x =
-    is_usable (readiness was max_age x.report) && not (is_usable (readiness now max_age x.report))
+-- Data become stale by the clock alone, from one moment to another: of the UPSs of which the first
+-- one stands at this place, in their order.
+abbrev pub tick_note : ℕ → ℕ → ℕ → ℕ → UpsState → Option Note
+tick_note max_age was now place x =
+    readiness_note (id_at place) (condition_of max_age was x) (condition_of max_age now x)
 
-abbrev pub stale_notes : ℕ → ℕ → ℕ → ℕ → List UpsState → List Note
-stale_notes max_age was now place [] = []
-stale_notes max_age was now place (x ∷ xs) =
-    cons_option (if goes_stale max_age was now x then Some (DataStale (id_at place)) else None)
-    (stale_notes max_age was now (suc place) xs)
+abbrev pub tick_notes : ℕ → ℕ → ℕ → ℕ → List UpsState → List Note
+tick_notes max_age was now place [] = []
+tick_notes max_age was now place (x ∷ xs) =
+    cons_option (tick_note max_age was now place x) (tick_notes max_age was now (suc place) xs)
 
 -- All that is noted of an event, in its order, by the server before it and after it.
 abbrev pub all_notes : ServerState → Event → Option ℕ → ServerState → List Note
@@ -169,7 +165,7 @@ all_notes old (DriverBytes u piece) m new =
     notes_between u (condition_at u old) (condition_at u new)
 all_notes old (DriverDown u) m new = notes_between u (condition_at u old) (condition_at u new)
 all_notes old (Tick seconds) m new =
-    stale_notes old.max_age old.moment (max seconds old.moment) 0 old.upses
+    tick_notes old.max_age old.moment (max seconds old.moment) 0 old.upses
 all_notes old (Feed c piece) m new = notes_of_pump (with_input old c piece) c m
 all_notes old (Took c n) m new =
     if may_take (session c old) n then notes_of_pump (without_output old c n) c m else []
@@ -183,3 +179,9 @@ notes_of old e outcome new = take NOTE_LIMIT (all_notes old e (refused_after out
 -- These are noted of an event.
 abbrev pub IsNoted : ServerState → Event → Outcome → RunningServer → Type 0
 IsNoted old e outcome new = new.notes ≡ notes_of old e outcome new.state
+
+-- There is room for all that is noted of an event.
+abbrev pub NoNoteIsCut : Type 0
+NoNoteIsCut =
+    (old new : ServerState) (e : Event) (outcome : Outcome) → IsSound old
+    → notes_of old e outcome new ≡ all_notes old e (refused_after outcome) new

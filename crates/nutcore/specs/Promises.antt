@@ -42,7 +42,7 @@ use Rattle.nutcore.specs.History.{owed, of_line}
 use Rattle.nutcore.specs.declared.note.Note.{Note}
 use Rattle.nutcore.specs.declared.note.TheConstants.{NOTE_LIMIT}
 use Rattle.nutcore.specs.declared.note.Condition.{Condition}
-use Rattle.nutcore.specs.Notes.{is_told, note_read, note_of, refusal_note, driver_note, data_note}
+use Rattle.nutcore.specs.Notes.{is_told, note_read, note_of, refusal_note, readiness_note}
 use Rattle.nutcore.specs.Cost.{RunningServer}
 use Rattle.nutcore.specs.Pump.{pumped, after_all_lines, after_lines, is_overlong, wants_memory}
 use Rattle.nutcore.specs.Pump.{shares_version_read, next_line_for}
@@ -272,15 +272,10 @@ KeepsCost c old new =
 abbrev pub cost_beyond : ℕ → List ℕ → Cost
 cost_beyond kept after = record { rendered = lines (drop kept after); placed = length after - kept }
 
--- a line that is answered so is told, where the UPSs are these
-abbrev pub is_told_by : List UpsState → Reply → Bool
-is_told_by upses (One text change) = is_told upses text.now change
-is_told_by upses (Many listing) = false
-is_told_by upses (Clients name u) = false
-
 -- what is noted of a line of the session that was read and answered so
 abbrev pub note_in_reply : SessionState → Result (Option Command) ErrWord → Reply → Option Note
-note_in_reply x read (One text change) = note_read x read text.now
+note_in_reply x read (One text change) =
+    if is_told text.now change then note_read x read text.now else None
 note_in_reply x read (Many listing) = None
 note_in_reply x read (Clients name u) = None
 
@@ -299,7 +294,5 @@ with_next s c notes = with_note (told_next s c (next_line_for s c)) notes
 -- the notes, and those of a UPS that stood so and stands so
 abbrev pub with_changes : UpsId → Option Condition → Option Condition → List Note → List Note
 with_changes u (Some was) (Some is) notes =
-    with_note (data_note u was.is_usable is.is_usable is.is_connected)
-    (with_note (driver_note u was.is_connected is.is_connected)
-    (with_note (refusal_note u was is) notes))
+    with_note (readiness_note u was is) (with_note (refusal_note u was is) notes)
 with_changes u _ _ notes = notes

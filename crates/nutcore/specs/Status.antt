@@ -1,24 +1,17 @@
 -- What the journal and the loop may ask of the server.
-use Rattle.std.specs.Prelude.{ℕ, Bool, true, false, not, List, Option, ◌==◌, length}
-use Rattle.std.specs.Option.{option_copied, option_map_or}
-use Rattle.nutanswer.specs.View.{Readiness, not_connected, stale, usable, readiness}
+use Rattle.std.specs.Prelude.{ℕ, Bool, true, false, not, ◌==◌, length}
+use Rattle.std.specs.Option.{option_map_or}
+use Rattle.nutanswer.specs.View.{Readiness, not_connected, stale, usable}
 use Rattle.nutcore.specs.declared.standing.Standing.{Standing}
-use Rattle.nutcore.specs.declared.visitor.Visitor.{Visitor}
-use Rattle.nutcore.specs.Session.{SessionState}
-use Rattle.nutcore.specs.Ups.{UpsState}
 use Rattle.nutcore.specs.Server.{ServerState, session}
 use Rattle.nutcore.specs.Step.{offered}
 use Rattle.nutcore.specs.Calls.{is_finished, room_of}
 
--- Clients are told what a driver has reported,
+-- Clients are told what a driver has reported.
 abbrev pub is_usable : Readiness → Bool
 is_usable not_connected = false
 is_usable stale = false
 is_usable usable = true
-
--- of this UPS, at the server's moment.
-abbrev pub has_usable_data : ServerState → UpsState → Bool
-has_usable_data s x = is_usable (readiness s.moment s.max_age x.report)
 
 -- How a client stands: whether it is offered something, whether its session takes in bytes, and
 -- whether that is ending and owes nothing. None of this holds of one without a session.
@@ -29,15 +22,3 @@ standing_of c s =
       has_room = not (option_map_or room_of (session c s) 0 == 0);
       is_finished = option_map_or is_finished (session c s) false;
     }
-
--- Who has an open session: the client's address, and the user name that it gave.
-pub record VisitorSeen : Type 0 where
-  pub address : List ℕ
-  pub username : Option (List ℕ)
-
-abbrev pub visitor_of : SessionState → VisitorSeen
-visitor_of x = record { address = x.address; username = x.username }
-
--- Who is handed out.
-abbrev pub visitor_seen : Visitor → VisitorSeen
-visitor_seen v = record { address = v.address.now; username = option_copied v.username }

@@ -12,6 +12,8 @@ ghost use Rattle.nutcore.specs.Isolation.{AClientTouchesNoOther, ADriverTouchesN
 ghost use Rattle.nutcore.specs.Happenings.{AnswersComeOfWhatHappens, AQuietTakeChangesWhatIsOwedAlone, AReplyComesOfWhatIsSeen};
 ghost use Rattle.nutcore.specs.Limits.{Limits};
 ghost use Rattle.nutcore.specs.Bounded.{EachEventIsBounded};
+ghost use Rattle.nutcore.specs.Finishing.{ATakeThatFinishesIsNotNoted};
+ghost use Rattle.nutcore.specs.Notes.{NoNoteIsCut};
 ghost use Rattle.nutcore.specs.Taking.{WhoTakesGetsEverything, WhoTakesAmongOthersGetsEverything};
 ghost use Rattle.nutcore.specs.NotStuck.{WhoIsOwedLittleHasRoom, WhoEndsIsFinished};
 ghost use Rattle.nutcore.specs.Totals.{AServerIsBoundedInAll};
@@ -297,6 +299,18 @@ pub fn the_pump_executes_the_least()
 /// It adds at most 8,192 bytes to what is offered.
 pub fn each_event_is_bounded()
     ensures { EachEventIsBounded }
+{}
+
+/// There is room for all that is noted of an event.
+#[tactic(auto, using(crate::proofs::NoteRoom::no_note_is_cut))]
+pub fn no_note_is_cut()
+    ensures { NoNoteIsCut }
+{}
+
+/// A client whose session is finished by what it took did nothing in that event that is noted.
+#[tactic(auto, using(crate::proofs::Finishing::a_take_that_finishes_is_not_noted))]
+pub fn a_take_that_finishes_is_not_noted()
+    ensures { ATakeThatFinishesIsNotNoted }
 {}
 
 /// With memory there, a client that takes all that it is offered is owed nothing after a known

@@ -12,12 +12,11 @@ mod server;
 mod session;
 mod standing;
 mod ups;
-mod visitor;
 
 pub use cost::Cost;
 pub use event::{ClientId, Event, Fault, Outcome, Peer};
 pub use max_age::{MAX_AGE_DEFAULT, MAX_AGE_LEAST, MAX_AGE_MOST, MaxAge};
-pub use note::{Deed, Logout, NOTE_LIMIT, Note, Verb};
+pub use note::{Deed, NOTE_LIMIT, Note, Verb, Who};
 pub use nutdriver::DriverFault;
 pub use nutlisting::{OWED_LIMIT, Outbox, RING_LIMIT, SESSION_LIMIT};
 pub use nutusers::{Descriptions, UpsId, UpsList, Users};
@@ -25,7 +24,6 @@ pub use nutwords::Bytes;
 use nutwords::LINE_ROOM;
 pub use server::Server;
 pub use standing::Standing;
-pub use visitor::Visitor;
 
 /// The most bytes of input that a session holds: those of the longest line with its LF.
 pub const HELD_LIMIT: usize = LINE_ROOM;

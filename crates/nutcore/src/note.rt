@@ -1,7 +1,7 @@
 //! What an event did that the journal logs.
-ghost use Rattle.std.specs.Prelude.{◌≡◌, ◌≤◌, ◌++◌, [], ◌∷◌, length, take, true, if◌then◌else◌, IfOk, None, Some, List, vec_capacity};
-ghost use Rattle.nutcore.specs.Notes.{data_note, driver_note, is_refusal, note_of_command, refusal_in, refusal_note};
-ghost use Rattle.nutcore.specs.Promises.{note_in_reply, with_changes, with_note};
+ghost use Rattle.std.specs.Prelude.{◌≡◌, ◌≤◌, ◌++◌, [], ◌∷◌, length, take, true, IfOk, List, vec_capacity};
+ghost use Rattle.nutcore.specs.Notes.{is_refusal, note_of_command, note_read, readiness_note, refusal_in, refusal_note};
+ghost use Rattle.nutcore.specs.Promises.{note_in_reply, with_note};
 ghost use Rattle.nutcore.specs.declared.note.Note.{Note};
 ghost use Rattle.nutcore.specs.declared.note.TheConstants.{NOTE_LIMIT};
 
@@ -9,18 +9,18 @@ use crate::HELD_LIMIT;
 use crate::event::ClientId;
 use crate::lines::{ReadLine, line_end};
 use crate::session::Session;
-use nutanswer::{Command, Reply};
+use nutanswer::{Change, Command, Reply};
 use nutdriver::DriverFault;
 use nutusers::{UpsId, UserName};
 use nutwords::{Address, Name, UpsName};
 use std::alloc::{AllocError, Global};
 use std::marker::Model;
 
-/// The fewest bytes of a line that is noted, with its LF.
-const SHORTEST_NOTED: usize = 6;
+/// The fewest bytes of a command, with its LF.
+const SHORTEST_LINE: usize = 4;
 
-/// The most notes of an event: a session holds at most so many lines of them.
-pub const NOTE_LIMIT: usize = HELD_LIMIT / SHORTEST_NOTED + 1;
+/// The most notes of an event: those of as many commands as a session holds, and one where it begins to end.
+pub const NOTE_LIMIT: usize = HELD_LIMIT / SHORTEST_LINE + 1;
 
 /// How many bytes of the line of a refusal stand before its word: `ERR` and a blank.
 const ERR_LEN: usize = 4;
@@ -39,10 +39,21 @@ pub enum Note {
     /// So many lines of the driver were refused, and why the last one was: none where it reported on an order that isn't
     /// awaited.
     LinesRefused(UpsId, u64, Option<DriverFault>),
-    /// A session with a login begins to end, or is closed.
-    LoggedOut(Logout),
+    /// A session that is logged in to the UPS begins to end, or is closed.
+    LoggedOut(UpsId, Who),
     /// What a line of a client did.
     Did(Deed),
+}
+
+/// Whose session it is, as it was then.
+#[derive(Debug, Drop)]
+pub struct Who {
+    /// The session's id.
+    pub client: ClientId,
+    /// The user name that it had given.
+    pub user: Option<UserName>,
+    /// The client's address.
+    pub address: Address,
 }
 
 /// What a command asked for.
@@ -63,8 +74,8 @@ pub enum Verb {
 /// What a line of a client did: it logged in, set a forced shutdown or gave an order to a driver; or it was refused.
 #[derive(Debug, Drop)]
 pub struct Deed {
-    /// The session's id.
-    pub client: ClientId,
+    /// Whose line it was.
+    pub who: Who,
     /// What was asked for.
     pub verb: Verb,
     /// The UPS's name, none where the word was no lawful name.
@@ -73,17 +84,6 @@ pub struct Deed {
     pub name: Option<Name>,
     /// The word after `ERR`, where the line was refused.
     pub refusal: Option<Name>,
-}
-
-/// Who logged out. The session may be gone.
-#[derive(Debug, Drop)]
-pub struct Logout {
-    /// The UPS that it was logged in to.
-    pub u: UpsId,
-    /// The user name that it gave.
-    pub user: Option<UserName>,
-    /// The client's address.
-    pub address: Address,
 }
 
 /// How a UPS stands.
@@ -157,21 +157,10 @@ impl Notes {
             self.push(note);
         }
     }
-
-    /// What changed of a UPS that stood so, and stands so.
-    pub(crate) fn add_changes(&mut self, u: UpsId, was: Option<Condition>, is: Option<Condition>)
-        ensures { self.new ≡ with_changes u was is self.old }
-    {
-        if let (Some(was), Some(is)) = (was, is) {
-            self.add(refusal_note(u, was, is));
-            self.add(driver_note(u, was.is_connected, is.is_connected));
-            self.add(data_note(u, was.is_usable, is.is_usable, is.is_connected));
-        }
-    }
 }
 
 /// How many lines were refused meanwhile.
-fn refusal_note(u: UpsId, was: Condition, is: Condition) -> Option<Note>
+pub(crate) fn refusal_note(u: UpsId, was: Condition, is: Condition) -> Option<Note>
     ensures { result ≡ refusal_note u was is }
 {
     if is.refused == was.refused {
@@ -181,63 +170,45 @@ fn refusal_note(u: UpsId, was: Condition, is: Condition) -> Option<Note>
     Some(Note::LinesRefused(u, count, is.fault))
 }
 
-/// Whether a driver that was connected or not is now.
-fn driver_note(u: UpsId, was: bool, is: bool) -> Option<Note>
-    ensures { result ≡ driver_note u was is }
+/// Whether the driver came or is lost, or else whether the data became good or stale.
+pub(crate) fn readiness_note(u: UpsId, was: Condition, is: Condition) -> Option<Note>
+    ensures { result ≡ readiness_note u was is }
 {
-    match (was, is) {
+    match (was.is_connected, is.is_connected) {
         (false, true) => Some(Note::DriverConnected(u)),
         (true, false) => Some(Note::DriverLost(u)),
-        _ => None,
+        _ => match (was.is_usable, is.is_usable) {
+            (false, true) => Some(Note::DataGood(u)),
+            (true, false) => Some(Note::DataStale(u)),
+            _ => None,
+        },
     }
 }
 
-/// Whether data that were usable or not are now, of a driver that is connected or not.
-fn data_note(u: UpsId, was: bool, is: bool, is_connected: bool) -> Option<Note>
-    ensures { result ≡ data_note u was is is_connected }
-{
-    match (was, is, is_connected) {
-        (false, true, _) => Some(Note::DataGood(u)),
-        (true, false, true) => Some(Note::DataStale(u)),
-        _ => None,
-    }
-}
-
-/// Notes what a line did that was read and answered so, where that is to be noted.
+/// Notes what a line did that was read and answered so: one that changes nothing only where it is refused.
 pub(crate) fn note_line(
-    is_told: bool,
     session: &Session,
     read: &ReadLine<'_>,
     reply: &Reply<'_>,
     notes: &mut Notes,
 )
-    ensures { notes.new ≡ with_note
-        (if is_told then note_in_reply session.now read.now reply.now else None) notes.old }
+    ensures { notes.new ≡ with_note (note_in_reply session.now read.now reply.now) notes.old }
 {
-    if is_told {
-        note_told(session, read, reply, notes);
+    if let Reply::One(text, change) = reply {
+        if !matches!(change, Change::Nothing) || is_refusal(text) {
+            note_told(session, read, text, notes);
+        }
     }
 }
 
-/// Notes what a line did that is to be noted. It is a call of its own, so that no other line pays
+/// Notes what a line did that was read so, and answered by this text. It is a call of its own, so that no other line pays
 /// for the room of a note.
 #[inline(never)]
-fn note_told(session: &Session, read: &ReadLine<'_>, reply: &Reply<'_>, notes: &mut Notes)
-    ensures { notes.new ≡ with_note (note_in_reply session.now read.now reply.now) notes.old }
+fn note_told(session: &Session, read: &ReadLine<'_>, text: &[u8], notes: &mut Notes)
+    ensures { notes.new ≡ with_note (note_read session.now read.now text.now) notes.old }
 {
-    notes.add(note_in_reply(session, read, reply));
-}
-
-/// What a line did that was read and answered so, and is noted.
-fn note_in_reply(session: &Session, read: &ReadLine<'_>, reply: &Reply<'_>) -> Option<Note>
-    ensures { result ≡ note_in_reply session.now read.now reply.now }
-{
-    let Reply::One(text, _) = reply else {
-        return None;
-    };
-    match read {
-        Ok(Some(command)) => note_of_command(session, command, refusal_in(text)),
-        _ => None,
+    if let Ok(Some(command)) = read {
+        notes.add(note_of_command(session, command, refusal_in(text)));
     }
 }
 
@@ -255,7 +226,7 @@ fn note_of_command(session: &Session, command: &Command<'_>, refusal: Option<Nam
         _ => return None,
     };
     Some(Note::Did(Deed {
-        client: session.id(),
+        who: session.who(),
         verb,
         ups,
         name,
@@ -264,7 +235,7 @@ fn note_of_command(session: &Session, command: &Command<'_>, refusal: Option<Nam
 }
 
 /// Whether a line is refused that is answered by this text.
-pub(crate) fn is_refusal(text: &[u8]) -> bool
+fn is_refusal(text: &[u8]) -> bool
     ensures value { result ≡ is_refusal text.now }
     ensures long { result ≡ true → ERR_LEN ≤ length text.now }
 {

@@ -15,7 +15,7 @@ ghost use Rattle.nutlisting.specs.declared.ring.TheConstants.{RING_LIMIT};
 ghost use Rattle.nutwords.specs.declared.limits.TheConstants.{LINE_LIMIT};
 ghost use Rattle.nutcore.specs.Calls.{is_finished, room_of, IsOutboxOf};
 ghost use Rattle.nutlisting.specs.Counted.{IsCounted, KeepsCount};
-ghost use Rattle.nutcore.specs.Notes.{logout_of};
+ghost use Rattle.nutcore.specs.Notes.{logout_of, who_of};
 ghost use Rattle.nutcore.specs.Promises.{IsLineOrNone, IsShort, text_with, change_in, refused_overlong, with_note};
 ghost use Rattle.nutcore.specs.Reply.{asker_of, seen_client, changed_session};
 ghost use Rattle.nutanswer.specs.View.{asker_seen, is_logged_in, addresses_at};
@@ -24,7 +24,7 @@ ghost use Rattle.nutlisting.specs.Owed.{owed};
 use crate::HELD_LIMIT;
 use crate::event::Fault;
 use crate::lines::line_end;
-use crate::note::{Logout, Note, Notes};
+use crate::note::{Note, Notes, Who};
 use crate::scratch::Scratch;
 use nutanswer::{Asker, Change, ErrWord, Reply};
 use nutlisting::{Clients, Listing, Outbox, Ring};
@@ -88,11 +88,19 @@ impl Session {
         self.id
     }
 
-    /// Its client's address.
-    pub(crate) fn address(&self) -> &Address
-        ensures { result.now ≡ self.now.address }
+    /// Whose it is.
+    pub(crate) fn who(&self) -> Who
+        ensures { result ≡ who_of self.now }
     {
-        &self.address
+        let user = match &self.username {
+            Some(name) => Some(name.copied()),
+            None => None,
+        };
+        Who {
+            client: self.id,
+            user,
+            address: self.address.copied(),
+        }
     }
 
     /// The session as one that asks.
@@ -112,15 +120,7 @@ impl Session {
         ensures { result ≡ logout_of self.now }
     {
         let u = self.login?;
-        let user = match &self.username {
-            Some(name) => Some(name.copied()),
-            None => None,
-        };
-        Some(Note::LoggedOut(Logout {
-            u,
-            user,
-            address: self.address.copied(),
-        }))
+        Some(Note::LoggedOut(u, self.who()))
     }
 
     /// How many logins to the UPS it has: one or none.

@@ -3,10 +3,12 @@ ghost use Rattle.std.specs.Prelude.{◌≡◌, ◌≤◌, length};
 ghost use Rattle.nutcore.specs.Ups.{new_ups, after_connecting, after_loss, after_tick, with_fsd, free_room, with_order, with_faulty_line, UpsState};
 ghost use Rattle.nutanswer.specs.View.{ups_seen};
 ghost use Rattle.nutcore.specs.Reply.{seen_ups};
+ghost use Rattle.nutcore.specs.Notes.{condition_of};
 ghost use Rattle.nutcore.specs.Promises.{IsTaken, IsCut, DoesLine, IsFront, front_or};
 
 use crate::DRIVER_OWED_LIMIT;
 use crate::event::Fault;
+use crate::note::Condition;
 use arrayvec::ArrayVec;
 use nutanswer::UpsView;
 use nutdriver::{DriverFault, LineOutcome, Report};
@@ -61,25 +63,28 @@ impl Ups {
         self.report.connected
     }
 
-    /// What its driver has reported.
-    pub(crate) fn report(&self) -> &Report
-        ensures { result.now ≡ self.now.report }
-    {
-        &self.report
-    }
-
-    /// Whether a forced shutdown is set.
-    pub(crate) fn fsd(&self) -> bool
-        ensures { result ≡ self.now.fsd }
-    {
-        self.fsd
-    }
-
     /// How many lines of its drivers were refused.
     pub(crate) fn faulty(&self) -> u64
         ensures { result ≡ self.now.faulty }
     {
         self.faulty
+    }
+
+    /// How it stands at the moment. Clients are told what its driver has reported where that is connected, has reported all
+    /// that it knows, says that its data are right, and was heard no longer ago than the greatest age.
+    pub(crate) fn condition(&self, max_age: u32, moment: u64) -> Condition
+        ensures { result ≡ condition_of max_age moment self.now }
+    {
+        let report = &self.report;
+        Condition {
+            is_connected: report.connected,
+            is_usable: report.connected
+                && report.dumped
+                && report.ok
+                && moment.saturating_sub(report.heard) <= u64::from(max_age),
+            refused: self.faulty,
+            fault: self.fault,
+        }
     }
 
     /// What answers may look at.
@@ -198,13 +203,6 @@ impl Ups {
         let outcome = self.report.execute(moment, line, &mut Meter::new())?;
         self.cut.clear();
         Ok(outcome)
-    }
-
-    /// Why the last one was, none where it reported on an order that isn't awaited.
-    pub(crate) fn fault(&self) -> Option<DriverFault>
-        ensures { result ≡ self.now.fault }
-    {
-        self.fault
     }
 
     /// A line of its driver is refused, for this. The count stops at its greatest number.

@@ -1,3 +1,2 @@
 mod Commands
-mod Limits
-mod Written
+mod Refusals

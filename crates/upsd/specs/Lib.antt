@@ -5,9 +5,5 @@ pub mod Configuration
 pub mod Replaying
 pub mod Task
 pub mod Words
-pub mod Limits
-pub mod Room
-pub mod Journal
+pub mod Refusals
 pub mod LogBuffer
-pub mod Connecting
-pub mod Warnings

@@ -1,7 +1,6 @@
 -- What waits for standard error, and what is dropped.
 use Rattle.std.specs.Prelude.{ℕ, ◌+◌, ◌^◌, ◌-◌, min, List, ◌++◌, Bool, ◌&&◌, ◌==◌}
-use Rattle.std.specs.Prelude.{codes, length, nat_le, if◌then◌else◌}
-use Rattle.std.specs.Fmt.{decimal}
+use Rattle.std.specs.Prelude.{length, nat_le, if◌then◌else◌}
 use Rattle.upsd.specs.declared.log_buffer.LogBuffer.{LogBuffer}
 use Rattle.upsd.specs.declared.log_buffer.TheConstants.{LOG_LIMIT}
 
@@ -17,12 +16,3 @@ one_dropped was = record was { dropped = min (was.dropped + 1) (2 ^ 64 - 1) }
 abbrev pub after_line : List ℕ → LogBuffer → LogBuffer
 after_line line was =
     if has_room line was then record was { waiting = was.waiting ++ line } else one_dropped was
-
--- The line that tells how many were dropped.
-abbrev pub dropped_line : ℕ → List ℕ
-dropped_line count =
-    codes "upsd: " ++ decimal count ++ codes " lines of the journal were dropped\n"
-
--- The number of the dropped lines is the next line, and from now on none was dropped.
-abbrev pub counted : LogBuffer → LogBuffer
-counted was = after_line (dropped_line was.dropped) (record was { dropped = 0 })

@@ -1,46 +1,37 @@
 //! The journal of the UPSs and their clients while they are served.
-ghost use Rattle.std.specs.Prelude.{◌≡◌, ◌≢◌, [], None, Some, replicate};
-ghost use Rattle.nutloop.specs.OverMio.{error_of, refused};
-ghost use Rattle.upsd.specs.Journal.{IsLookedAt, RestsUntilTheNextSecond};
-ghost use Rattle.upsd.specs.Limits.{after_note};
+ghost use Rattle.std.specs.Prelude.{◌≡◌, ◌≢◌, [], Some};
+ghost use Rattle.upsd.specs.Refusals.{after_notes};
 
-mod connecting;
+mod each_second;
 mod entry;
-mod limits;
-mod room;
+mod refusals;
 
-use self::connecting::Connecting;
+use self::each_second::EachSecond;
 use self::entry::Entry;
-use self::limits::Limits;
-use self::room::Room;
+use self::refusals::{Refused, take_turn};
 use crate::log_buffer::LogBuffer;
-use nutcore::{Note, Server, UpsId};
+use nutcore::{Note, Server};
 use nutloop::MioSockets;
-use nutusers::UPS_LIMIT;
 use std::io::Read;
 use std::net::Net;
 use std::time::Clock;
 
-/// What was logged of the things that aren't logged each time: refusals, and what is looked at once a second.
+/// What was logged of the things that aren't logged each time.
 #[derive(Drop)]
 pub struct Journal {
-    pub limits: Limits,
-    moment: Option<u64>,
-    connecting: Connecting,
-    room: Room,
+    /// The second in which it was written last.
+    pub moment: Option<u64>,
+    pub refused: Refused,
+    each_second: EachSecond,
 }
 
 impl Journal {
     /// Nothing was logged yet.
-    pub fn new() -> Journal
-        ensures refusals { result.limits.refused.items ≡ [] }
-        ensures lines { result.limits.lines ≡ replicate UPS_LIMIT None }
-    {
+    pub fn new() -> Journal {
         Journal {
-            limits: Limits::new(),
             moment: None,
-            connecting: Connecting::new(),
-            room: Room::new(),
+            refused: Refused::new(),
+            each_second: EachSecond::new(),
         }
     }
 
@@ -52,47 +43,34 @@ impl Journal {
         sockets: &MioSockets<'_, R, F>,
     )
         ensures moment { self.new.moment ≡ Some server.now.state.moment }
-        // At each new moment the refused lines of drivers are logged that came since the last one, and all else,
-        ensures looks { self.old.moment ≢ Some server.now.state.moment
-            → IsLookedAt (error_of sockets.now) (refused sockets.now) server.now
-            self.old self.new }
-        // and until then they are counted, and nothing else is looked at.
-        ensures rests { self.old.moment ≡ Some server.now.state.moment
-            → RestsUntilTheNextSecond server.now self.old self.new }
+        ensures goes_on { self.old.moment ≡ Some server.now.state.moment
+            → self.new.refused.items ≡ after_notes self.old.refused.items server.now.notes }
+        ensures begins { self.old.moment ≢ Some server.now.state.moment
+            → self.new.refused.items ≡ after_notes [] server.now.notes }
+    {
+        let moment = Some(server.current_moment());
+        let is_new = self.moment != moment;
+        if is_new {
+            self.moment = moment;
+            self.refused.clear();
+        }
+        self.write_notes(log, server);
+        if is_new {
+            self.each_second.write(log, server, sockets);
+        }
+    }
+
+    /// Logs the notes, or counts them where they are logged once a second.
+    fn write_notes(&mut self, log: &mut LogBuffer, server: &Server)
+        ensures refused { self.new.refused.items
+            ≡ after_notes self.old.refused.items server.now.notes }
+        ensures moment { self.new.moment ≡ self.old.moment }
     {
         let notes = server.notes();
         for note in notes {
-            self.write_note(log, server, note);
-        }
-        let moment = Some(server.current_moment());
-        if self.moment != moment {
-            self.moment = moment;
-            self.write_lines(log, server);
-            self.connecting.write(log, server, sockets);
-            self.room.write(log, sockets.refusals(), server.has_room());
-        }
-    }
-
-    /// Logs a note, where it is logged at once and this moment has room for it.
-    fn write_note(&mut self, log: &mut LogBuffer, server: &Server, note: &Note)
-        ensures { self.new ≡ record self.old
-            { limits = after_note server.now.state.moment self.old.limits note.now } }
-    {
-        if self.limits.take_turn(server.current_moment(), note) {
-            log.add(&Entry { server, note });
-        }
-    }
-
-    /// Logs how many lines of each driver were refused since the last second.
-    fn write_lines(&mut self, log: &mut LogBuffer, server: &Server)
-        ensures { self.new ≡ record self.old
-            { limits = record self.old.limits { lines = replicate UPS_LIMIT None } } }
-    {
-        let lines = self.limits.take_lines();
-        for place in 0..UPS_LIMIT {
-            if let Some(lines) = lines[place] {
-                let u = UpsId { place: place as u8 };
-                let note = &Note::LinesRefused(u, lines.count, lines.fault);
+            if let Note::LinesRefused(u, count, fault) = note {
+                self.each_second.count_lines(*u, *count, *fault);
+            } else if take_turn(&mut self.refused, note) {
                 log.add(&Entry { server, note });
             }
         }

@@ -1,8 +1,8 @@
 //! The numbers of the program, and how often it logs what.
 ghost use Rattle.std.specs.Prelude.{◌≡◌, codes};
-ghost use Rattle.upsd.specs.Limits.{ARefusalIsLoggedOnceASecond};
+ghost use Rattle.upsd.specs.Refusals.{ARefusalIsLoggedOnceASecond};
 ghost use Rattle.upsd.specs.declared.ending.TheConstants.{DONE, FAULT, WORD_FAULT};
-ghost use Rattle.upsd.specs.declared.journal.limits.TheConstants.{REFUSAL_LIMIT};
+ghost use Rattle.upsd.specs.declared.journal.refusals.TheConstants.{REFUSAL_LIMIT};
 ghost use Rattle.upsd.specs.declared.log_buffer.TheConstants.{LOG_LIMIT};
 ghost use Rattle.upsd.specs.declared.task.TheConstants.{DEFAULT_ADDRESS};
 
@@ -17,7 +17,7 @@ pub fn numbers()
 {}
 
 /// Of each session at most one refusal is logged in a second, whatever else is noted meanwhile.
-#[tactic(auto, using(crate::proofs::Limits::a_refusal_is_logged_once_a_second))]
+#[tactic(auto, using(crate::proofs::Refusals::a_refusal_is_logged_once_a_second))]
 pub fn a_refusal_is_logged_once_a_second()
     ensures { ARefusalIsLoggedOnceASecond }
 {}

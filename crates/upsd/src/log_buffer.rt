@@ -1,6 +1,6 @@
 //! The lines of the journal on their way to standard error. It may be a pipe that nobody reads, so no write waits.
-ghost use Rattle.std.specs.Prelude.{◌≡◌, [], IfOk, OnOk, OnErr};
-ghost use Rattle.upsd.specs.LogBuffer.{after_line, counted, dropped_line};
+ghost use Rattle.std.specs.Prelude.{◌≡◌, [], IfOk};
+ghost use Rattle.upsd.specs.LogBuffer.{after_line};
 
 use arrayvec::ArrayString;
 use libc::STDERR_FILENO;
@@ -27,7 +27,6 @@ const PIECES: usize = LOG_LIMIT / PIECE_LIMIT + 1;
 /// The lines that standard error hasn't taken yet, and how many had no room among them.
 #[derive(Drop)]
 pub struct LogBuffer {
-    alloc: Global,
     pub waiting: Ring<LOG_LIMIT>,
     pub dropped: u64,
 }
@@ -43,7 +42,6 @@ impl LogBuffer {
         ensures dropped { IfOk result (λ log. log.dropped ≡ 0) }
     {
         Ok(LogBuffer {
-            alloc,
             waiting: Ring::new(alloc)?,
             dropped: 0,
         })
@@ -74,7 +72,9 @@ impl LogBuffer {
     pub fn flush(&mut self, rt: &HostRuntime) {
         for _ in 0..PIECES {
             if self.dropped > 0 && self.waiting.is_empty() {
-                let _ = self.count_dropped();
+                let count = self.dropped;
+                self.dropped = 0;
+                self.add(&format_args!("{count} lines of the journal were dropped"));
             }
             let count = self.waiting.len().min(PIECE_LIMIT);
             if count == 0 || !takes_bytes() {
@@ -85,18 +85,6 @@ impl LogBuffer {
                 Err(_) => return,
             }
         }
-    }
-
-    /// The number of the dropped lines is the next line.
-    fn count_dropped(&mut self) -> Result<(), AllocError>
-        ensures counts { OnOk result (self.new ≡ counted self.old) }
-        ensures fails { OnErr result (self.new ≡ self.old) }
-    {
-        let count = self.dropped;
-        let line = format!(in self.alloc; "upsd: {count} lines of the journal were dropped\n")?;
-        self.dropped = 0;
-        self.add_line(line.as_bytes());
-        Ok(())
     }
 }
 

@@ -9,7 +9,7 @@ ghost use Rattle.nutcore.specs.Ups.{with_fsd, with_order, UpsState};
 ghost use Rattle.nutcore.specs.Calls.{done};
 ghost use Rattle.nutcore.specs.Step.{offered, refused_after};
 ghost use Rattle.nutlisting.specs.Counted.{IsCounted};
-ghost use Rattle.nutcore.specs.Promises.{IsAt, TakesLine, OrderFits, PumpGives, ListsClients, change_in, KeepsCost, cost_beyond, is_told_by, with_next};
+ghost use Rattle.nutcore.specs.Promises.{IsAt, TakesLine, OrderFits, PumpGives, ListsClients, change_in, KeepsCost, cost_beyond, with_next};
 ghost use Rattle.nutcore.specs.Reply.{changed_upses, changed_tracking};
 ghost use Rattle.nutlisting.specs.declared.listing.clients.TheConstants.{SESSION_LIMIT};
 ghost use Rattle.nutcore.specs.declared.TheConstants.{HELD_LIMIT};
@@ -18,7 +18,7 @@ ghost use Rattle.nutcore.specs.declared.note.TheConstants.{NOTE_LIMIT};
 use super::Server;
 use super::view::ServerView;
 use crate::event::{ClientId, Fault};
-use crate::note::{is_refusal, note_line};
+use crate::note::note_line;
 use crate::session::Session;
 use crate::ups::Ups;
 use nutanswer::{Change, Command, Reply};
@@ -54,8 +54,7 @@ impl Server {
         let session = &self.sessions[place];
         let read = Command::read(session.next_line(end));
         let reply = view.reply_to(session.asker(), &read, &mut self.reply_line)?;
-        let is_told = is_told(&self.upses, &reply);
-        note_line(is_told, session, &read, &reply, &mut self.notes);
+        note_line(session, &read, &reply, &mut self.notes);
         change_upses(&mut self.upses, &mut self.tracking, &reply);
         list_clients(&self.sessions, &reply, &mut self.scratch.clients);
         let session = &mut self.sessions[place];
@@ -103,24 +102,6 @@ impl Server {
         let session = &self.sessions[place];
         self.placed = session.offered() - kept;
         pumped
-    }
-}
-
-/// Whether a line that is answered so is noted: it is a granted login, it ends its session, it sets a forced shutdown that
-/// isn't set, it is an order to a driver, or it is refused.
-fn is_told(upses: &Vec<Ups>, reply: &Reply<'_>) -> bool
-    ensures { result ≡ is_told_by upses.now.items reply.now }
-{
-    let Reply::One(text, change) = reply else {
-        return false;
-    };
-    match change {
-        Change::Fsd(u) => match upses.get(u.place as usize) {
-            Some(ups) => !ups.fsd(),
-            None => true,
-        },
-        Change::Login(_) | Change::Ending | Change::Order(_, _) | Change::Tracked(_, _, _) => true,
-        _ => is_refusal(text),
     }
 }
 

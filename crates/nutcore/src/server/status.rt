@@ -1,23 +1,19 @@
 //! What is told of the server beside the answers to clients.
-ghost use Rattle.std.specs.Prelude.{◌≡◌, ◌≤◌, length, option_map, take, if◌then◌else◌, None, Some, [], nat_lt};
-ghost use Rattle.nutanswer.specs.View.{readiness};
+ghost use Rattle.std.specs.Prelude.{◌≡◌, ◌≤◌, length, take, [], nat_lt};
 ghost use Rattle.nutcore.specs.Calls.{ReadsUps};
-ghost use Rattle.nutcore.specs.Notes.{condition_at, goes_stale, stale_notes};
+ghost use Rattle.nutcore.specs.Notes.{condition_at, tick_notes};
 ghost use Rattle.nutcore.specs.Promises.{with_changes};
-ghost use Rattle.nutcore.specs.Server.{session, ups_at};
-ghost use Rattle.nutcore.specs.Status.{is_usable, standing_of, visitor_of, visitor_seen};
-ghost use Rattle.nutcore.specs.declared.note.Note.TheVariants.{DataStale};
+ghost use Rattle.nutcore.specs.Server.{ups_at};
+ghost use Rattle.nutcore.specs.Status.{standing_of};
 ghost use Rattle.nutcore.specs.declared.note.TheConstants.{NOTE_LIMIT};
 ghost use Rattle.nutlisting.specs.declared.listing.clients.TheConstants.{SESSION_LIMIT};
 ghost use Rattle.nutusers.specs.declared.limits.TheConstants.{UPS_LIMIT};
 
 use super::Server;
 use crate::event::{ClientId, Fault};
-use crate::note::{Condition, Note, Notes};
+use crate::note::{Condition, Notes, readiness_note, refusal_note};
 use crate::standing::Standing;
 use crate::ups::Ups;
-use crate::visitor::Visitor;
-use nutdriver::Report;
 use nutlisting::SESSION_LIMIT;
 use nutusers::UpsId;
 
@@ -52,12 +48,7 @@ impl Server {
         ensures { result ≡ condition_at u self.now.state }
     {
         let ups = self.ups_of(u).ok()?;
-        Some(Condition {
-            is_connected: ups.is_connected(),
-            is_usable: is_usable(ups.report(), self.max_age.seconds(), self.moment),
-            refused: ups.faulty(),
-            fault: ups.fault(),
-        })
+        Some(ups.condition(self.max_age.seconds(), self.moment))
     }
 
     /// Notes what changed of the UPS, which stood so.
@@ -67,8 +58,10 @@ impl Server {
         ensures state { self.new.state ≡ self.old.state }
         ensures cost { self.new.cost ≡ self.old.cost }
     {
-        let is = self.condition(u);
-        self.notes.add_changes(u, was, is);
+        if let (Some(was), Some(is)) = (was, self.condition(u)) {
+            self.notes.add(refusal_note(u, was, is));
+            self.notes.add(readiness_note(u, was, is));
+        }
     }
 
     /// How the client stands: what `offered`, `room` and `finished` answer of it, by one look.
@@ -88,51 +81,19 @@ impl Server {
             },
         }
     }
-
-    /// Who has the open session of this id.
-    pub fn visitor_of(&self, c: ClientId) -> Option<Visitor<'_>>
-        ensures { option_map visitor_seen result
-            ≡ option_map visitor_of (session c self.now.state) }
-    {
-        let session = self.session(c).ok()?;
-        Some(Visitor {
-            address: session.address(),
-            username: session.asker().username,
-        })
-    }
-}
-
-/// Whether clients are told what a driver has reported: it is connected, has reported all that it knows, says that its data
-/// are right, and was heard no longer before the moment than the greatest age.
-fn is_usable(report: &Report, max_age: u32, moment: u64) -> bool
-    ensures { result ≡ is_usable (readiness moment max_age report.now) }
-{
-    report.connected
-        && report.dumped
-        && report.ok
-        && moment.saturating_sub(report.heard) <= u64::from(max_age)
-}
-
-/// That the data of the UPS become stale from one moment to another, where they do.
-fn stale_note(u: UpsId, ups: &Ups, max_age: u32, was: u64, is: u64) -> Option<Note>
-    ensures { result ≡ (if goes_stale max_age was is ups.now then Some (DataStale u) else None) }
-{
-    let report = ups.report();
-    if is_usable(report, max_age, was) && !is_usable(report, max_age, is) {
-        Some(Note::DataStale(u))
-    } else {
-        None
-    }
 }
 
 /// Notes whose data become stale from one moment to another.
 pub(super) fn note_stale(upses: &Vec<Ups>, max_age: u32, was: u64, is: u64, notes: &mut Notes)
     requires few { length upses.now.items ≤ UPS_LIMIT }
     requires unnoted { notes.old ≡ [] }
-    ensures { notes.new ≡ take NOTE_LIMIT (stale_notes max_age was is 0 upses.now.items) }
+    ensures { notes.new ≡ take NOTE_LIMIT (tick_notes max_age was is 0 upses.now.items) }
 {
     for place in 0..upses.len() {
         let u = UpsId { place: place as u8 };
-        notes.add(stale_note(u, &upses[place], max_age, was, is));
+        let ups = &upses[place];
+        let before = ups.condition(max_age, was);
+        let after = ups.condition(max_age, is);
+        notes.add(readiness_note(u, before, after));
     }
 }

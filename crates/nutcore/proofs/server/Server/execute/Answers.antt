@@ -7,9 +7,8 @@ use Rattle.nutcore.proofs.Common.{SessionState, ServerState}
 use Rattle.nutcore.specs.Pump.{next_line}
 use Rattle.nutcore.specs.History.{owed}
 use Rattle.nutcore.specs.Cost.{RunningServer}
-use Rattle.std.specs.Prelude.{if◌then◌else◌}
 use Rattle.nutlisting.specs.Counted.{KeepsCount}
-use Rattle.nutcore.specs.Promises.{RepliesOrLacks, OrderFits, change_in, text_with, note_in_reply, with_note, is_told_by}
+use Rattle.nutcore.specs.Promises.{RepliesOrLacks, OrderFits, change_in, text_with, note_in_reply, with_note}
 use Rattle.nutcore.specs.contracts.server.Server.{the_view}
 use Rattle.nutcore.proofs.Runs.{state_is}
 use Rattle.nutcore.proofs.Serving.{StandsAt, on_err, stands, heard, found_in, next_end_is, next_of_found, change_told, short_told, changes_made, line_is, wants_is}
@@ -93,10 +92,9 @@ returns c =
           at.next at.told c.list_clients.ensures made here (c.answer.ensures.answered line next);
       err = tt;
       memory = tt;
-      noted = noted_reply s c.args.c line reply c.is_told-is_told.result c.read-read.result c.index-session.result.now c.args.self.now.notes c.note_line.new.notes at.next
-          (found_in c.args.c c.args.place v s c.index-session.result.now (state_is c.self.view_is) c.requires.at c.index-session.ensures) at.told
-          (c.is_told-is_told.ensures ∙ ap (λ (z : ServerState). is_told_by z.upses reply) (state_is c.self.view_is)) (sym c.read-read.ensures)
-          (c.note_line.ensures ∙ ap (with_note (if c.is_told-is_told.result then note_in_reply c.index-session.result.now c.read-read.result reply else None)) (ap (λ (r : RunningServer). r.notes) c.self.view_is));
+      noted = noted_reply s c.args.c line reply c.read-read.result c.index-session.result.now c.args.self.now.notes c.note_line.new.notes at.next
+          (found_in c.args.c c.args.place v s c.index-session.result.now (state_is c.self.view_is) c.requires.at c.index-session.ensures) at.told (sym c.read-read.ensures)
+          (c.note_line.ensures ∙ ap (with_note (note_in_reply c.index-session.result.now c.read-read.result reply)) (ap (λ (r : RunningServer). r.notes) c.self.view_is));
       unnoted = tt;
       keeps = subst (λ (z : RunningServer). KeepsCount (owed c.args.c z.state) z.cost.rendered (owed c.args.c after) renders) c.self.view_is
           (cost_kept t c.args.c c.args.place x c.answer.new.self _ _ here.at here.found c.answer.ensures.id c.answer.ensures.keeps);

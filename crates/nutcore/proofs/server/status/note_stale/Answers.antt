@@ -1,24 +1,24 @@
-use Rattle.std.proofs.Common.{◌≡◌, ◌+◌, ◌<◌, ◌++◌, ◌∙◌, ℕ, suc, [], List, Option, Some, sym, ap, arith, length, take, slice_get, zero-add}
+use Rattle.std.proofs.Common.{◌≡◌, ◌+◌, ◌<◌, ◌++◌, ◌∙◌, ℕ, suc, [], List, Option, Some, sym, ap, ap₂, arith, length, take, slice_get, zero-add}
 use Rattle.std.specs.List.{cons_option}
 use Rattle.nutcore.specs.Ups.{UpsState}
 use Rattle.nutcore.specs.declared.note.Note.{Note}
 use Rattle.nutcore.specs.declared.note.TheConstants.{NOTE_LIMIT}
-use Rattle.nutcore.specs.Notes.{stale_notes}
+use Rattle.nutcore.specs.Notes.{readiness_note, tick_notes}
 use Rattle.nutcore.proofs.UpsPlaces.{there_is}
-use Rattle.nutcore.proofs.Notes.{one_noted, stale_at, stale_so_far}
+use Rattle.nutcore.proofs.Notes.{one_noted, ticked, ticked_so_far}
 use Rattle.nutcore.proofs.server.status.note_stale.Goals as goal
 
 pub loop-place-preserved : goal.loop-place-preserved
 loop-place-preserved c =
     let p : ℕ = c.loop-place.place in
     let xs : List UpsState = c.args.upses.now.items in
-    let x : UpsState = c.index.result.now in
-    let so_far : ℕ → List Note = λ n. stale_notes c.args.max_age c.args.was c.args.is 0 (take n xs) in
+    let x : UpsState = c.index-ups.result.now in
+    let so_far : ℕ → List Note = λ n. tick_notes c.args.max_age c.args.was c.args.is 0 (take n xs) in
     let within : p < length xs = omega (arith, c.loop-place-test.true, c.len-place-end.ensures) in
-    let there : slice_get xs p ≡ Some x = there_is xs p x within c.index.ensures in
+    let there : slice_get xs p ≡ Some x = there_is xs p x within c.index-ups.ensures in
     let next : suc p ≡ p + 1 = omega arith in
     c.add.ensures
-    ∙ one_noted (so_far p) c.stale_note.result c.loop-place.notes c.loop-place.invariant
-    ∙ ap (λ (o : Option Note). take NOTE_LIMIT (so_far p ++ cons_option o [])) c.stale_note.ensures
-    ∙ ap (λ (k : ℕ). take NOTE_LIMIT (so_far p ++ stale_at c.args.max_age c.args.was c.args.is k x)) (sym (zero-add p))
-    ∙ ap (take NOTE_LIMIT) (sym (stale_so_far c.args.max_age c.args.was c.args.is 0 p xs x there) ∙ ap so_far next)
+    ∙ one_noted (so_far p) c.readiness_note.result c.loop-place.notes c.loop-place.invariant
+    ∙ ap (λ (o : Option Note). take NOTE_LIMIT (so_far p ++ cons_option o [])) (c.readiness_note.ensures ∙ ap₂ (readiness_note _) c.condition-before.ensures c.condition-after.ensures)
+    ∙ ap (λ (k : ℕ). take NOTE_LIMIT (so_far p ++ ticked c.args.max_age c.args.was c.args.is k x)) (sym (zero-add p))
+    ∙ ap (take NOTE_LIMIT) (sym (ticked_so_far c.args.max_age c.args.was c.args.is 0 p xs x there) ∙ ap so_far next)
