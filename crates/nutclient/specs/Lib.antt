@@ -3,5 +3,4 @@ pub mod Printed
 pub mod Target
 pub mod Job
 pub mod Ending
-pub mod Words
 pub mod Start

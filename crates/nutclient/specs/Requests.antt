@@ -49,7 +49,7 @@ abbrev pub last_reply : List Request → List ℕ → Reply
 last_reply requests bytes = last_reply_after [] requests bytes
 
 -- What was sent, and what came, for each result of the requests in turn. What came decides them,
--- whatever stands after; at an end and at a failed read it is unfinished. No other fault comes.
+-- whatever follows; at an end and at a failed read it is unfinished. No other fault comes.
 abbrev pub RequestsGive : {R W : Type 0} → (R → Option (List ℕ)) → (R → ℕ) → (W → Option (List ℕ))
     → (W → ℕ) → List Request → List ℕ → R → W → Result (List Item) ClientFault → List ℕ → R → W
     → Type 0

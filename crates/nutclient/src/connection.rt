@@ -44,7 +44,7 @@ fn set_up(stream: TcpStream, wait: Duration) -> io::Result<TcpStream> {
     Ok(stream)
 }
 
-/// What an error of the connection is to a client: memory is told where it was refused, and nowhere else.
+/// The fault of a connection that failed by this error.
 fn fault_of(error: &io::Error) -> ClientFault
     ensures memory { error_kind error.now ≡ ErrorKind.OutOfMemory → result ≡ ClientFault.Memory }
     ensures failed { error_kind error.now ≢ ErrorKind.OutOfMemory → result ≡ ClientFault.Connect }

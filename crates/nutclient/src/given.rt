@@ -4,39 +4,27 @@
 #[derive(Clone, Copy, Debug, PartialEq, Eq)]
 pub enum Given<'a> {
     /// `upsc UPS`: the variables of a UPS.
-    Variables {
-        ups: &'a str,
-    },
+    Variables(&'a str),
     /// `upsc UPS VAR`: the value of a variable.
     Variable {
         ups: &'a str,
         name: &'a str,
     },
     /// `upsc -l [HOST]`: the names of the UPSs.
-    Upses {
-        server: Option<&'a str>,
-    },
+    Upses(Option<&'a str>),
     /// `upsc -L [HOST]`: the names of the UPSs with their descriptions.
-    Descriptions {
-        server: Option<&'a str>,
-    },
+    Descriptions(Option<&'a str>),
     /// `upsc -c UPS`: the clients that are logged in to a UPS.
-    Clients {
-        ups: &'a str,
-    },
+    Clients(&'a str),
     /// `upsc --attached UPS`: how many clients are logged in to a UPS.
-    Attached {
-        ups: &'a str,
-    },
+    Attached(&'a str),
     /// `upsc --tracked ID UPS`: how far the order of this id has come.
     Tracked {
         ups: &'a str,
         id: &'a str,
     },
     /// `upsrw UPS`: the variables that may be set.
-    Writable {
-        ups: &'a str,
-    },
+    Writable(&'a str),
     /// `upsrw [--track] -s VAR=VALUE -u USER -p PASS UPS`: set a variable, and track the order where it is said.
     Set {
         ups: &'a str,
@@ -46,9 +34,7 @@ pub enum Given<'a> {
         track: bool,
     },
     /// `upscmd -l UPS`: the commands of a UPS.
-    Commands {
-        ups: &'a str,
-    },
+    Commands(&'a str),
     /// `upscmd [--track] -u USER -p PASS UPS CMD [VALUE]`: do a command, and track the order where it is said.
     Command {
         ups: &'a str,

@@ -30,10 +30,8 @@ impl Host {
         if text.is_empty() || !are_host_bytes(text.as_bytes()) {
             return None;
         }
-        match ArrayString::from(text) {
-            Ok(text) => Some(Host { text }),
-            Err(_) => None,
-        }
+        let text = ArrayString::from(text).ok()?;
+        Some(Host { text })
     }
 
     /// The host itself.

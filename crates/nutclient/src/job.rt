@@ -39,10 +39,7 @@ impl Job {
             (λ job. job_of given.now ≡ Some (parts_of job))
             (λ fault. (fault ≡ ClientFault.BadTarget) × (job_of given.now ≡ None)) }
     {
-        match job_of(given) {
-            Some(job) => Ok(job),
-            None => Err(ClientFault::BadTarget),
-        }
+        job_of(given).ok_or(ClientFault::BadTarget)
     }
 }
 
@@ -51,27 +48,27 @@ fn job_of(given: &Given<'_>) -> Option<Job>
     ensures { option_map parts_of result ≡ job_of given.now }
 {
     match given {
-        Given::Variables { ups } => {
+        Given::Variables(ups) => {
             let (ups, target) = Target::read(ups)?;
             Some(single(target, Request::List(Query::Var(ups)), Form::Colon))
         }
         Given::Variable { ups, name } => variable_job(ups, name),
-        Given::Upses { server } => upses_job(*server, Form::Name),
-        Given::Descriptions { server } => upses_job(*server, Form::Colon),
-        Given::Clients { ups } => {
+        Given::Upses(server) => upses_job(*server, Form::Name),
+        Given::Descriptions(server) => upses_job(*server, Form::Colon),
+        Given::Clients(ups) => {
             let (ups, target) = Target::read(ups)?;
             Some(single(target, Request::List(Query::Client(ups)), Form::Name))
         }
-        Given::Attached { ups } => {
+        Given::Attached(ups) => {
             let (ups, target) = Target::read(ups)?;
             Some(single(target, Request::GetNumAttach(ups), Form::Value))
         }
         Given::Tracked { ups, id } => tracked_job(ups, id),
-        Given::Writable { ups } => {
+        Given::Writable(ups) => {
             let (ups, target) = Target::read(ups)?;
             Some(single(target, Request::List(Query::Rw(ups)), Form::Equals))
         }
-        Given::Commands { ups } => {
+        Given::Commands(ups) => {
             let (ups, target) = Target::read(ups)?;
             Some(single(target, Request::List(Query::Cmd(ups)), Form::Name))
         }

@@ -18,7 +18,7 @@ mod requests;
 mod start;
 mod target;
 
-pub use client::{Client, with};
+pub use client::Client;
 pub use connection::connect;
 pub use engine::{do_job, run};
 pub use form::Form;

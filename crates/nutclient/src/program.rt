@@ -2,7 +2,7 @@
 ghost use Rattle.std.specs.Prelude.{◌≡◌, ◌≤◌, length};
 ghost use Rattle.nutclient.specs.Ending.{name_of};
 
-/// A program, which tells its faults after its name.
+/// A program. It reports its faults after its name.
 #[derive(Clone, Copy, Debug, PartialEq, Eq)]
 pub enum Program {
     Upsc,

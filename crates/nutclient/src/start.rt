@@ -1,33 +1,34 @@
-//! What the `main` of each program does: it takes the words, the network and the two outputs from the system, and hands
-//! them on.
+//! What the `main` of each program does: it takes the words, the network and the two outputs from the system.
 ghost use Rattle.std.specs.Prelude.{◌≡◌, ◌≢◌, ◌≤◌, ◌⊎◌, ◌↔◌, None, Some, IfErr, IfOk, MatchResult, Result, map, string_bytes};
 ghost use Rattle.std.specs.Process.{exit_status};
 ghost use Rattle.clap.specs.Words.{HasMatchesOf};
 ghost use Rattle.clap.specs.declared.error.Error.{Error};
 ghost use Rattle.clap.specs.declared.parser.matches.ArgMatches.{ArgMatches};
 ghost use Rattle.nutrequest.specs.Fault.{status_of};
+ghost use Rattle.nutclient.specs.Ending.{name_of};
 ghost use Rattle.nutclient.specs.Job.{job_of, parts_of};
 ghost use Rattle.nutclient.specs.Start.{EndsAsAsked, EndsAsRefused};
+ghost use Rattle.nutcommand.specs.Words.{program_with};
 
 use crate::ending::conclude;
 use crate::limits::WORD_FAULT;
 use crate::{Client, Given, Job, Program, connect, do_job};
-use clap::error::ErrorKind;
-use clap::{ArgMatches, Error};
+use clap::{ArgMatches, Command, Error};
+use nutcommand::{print_refusal, program, with_words, words_of};
 use nutio::{CountedReader, CountedWriter};
 use nutrequest::ClientFault;
 use std::alloc::Global;
+use std::io;
 use std::net::TcpStream;
 use std::process::ExitCode;
-use std::{env, io};
 
 /// Does what the program's words ask for.
 pub fn main_of<C: Client>(rt: &HostRuntime) -> ExitCode
     ensures { exit_status result ≤ WORD_FAULT }
 {
-    match words_of(rt) {
+    match words_of(rt, ClientFault::BadTarget, ClientFault::Memory) {
         Ok(words) => obey::<C>(rt, &words),
-        Err(fault) => tell(rt, C::program(), fault),
+        Err(fault) => report(rt, C::program(), fault),
     }
 }
 
@@ -35,7 +36,8 @@ pub fn main_of<C: Client>(rt: &HostRuntime) -> ExitCode
 fn obey<C: Client>(rt: &HostRuntime, words: &[String]) -> ExitCode
     // The program ends by what was found in the words, or by why they were refused.
     ensures ends { (parsed : Result ArgMatches Error)
-        × IfOk parsed (HasMatchesOf C.words (map string_bytes words.now))
+        × IfOk parsed (HasMatchesOf (program_with (name_of C.which) C.words)
+        (map string_bytes words.now))
         × MatchResult parsed
         (λ found. EndsAsAsked C.asks found (exit_status result))
         (λ error. EndsAsRefused error (exit_status result)) }
@@ -47,39 +49,27 @@ fn obey<C: Client>(rt: &HostRuntime, words: &[String]) -> ExitCode
     }
 }
 
-/// The program's words. Words that are no text are bad arguments.
-fn words_of(rt: &HostRuntime) -> Result<Vec<String>, ClientFault>
-    ensures { IfErr result
-        (λ fault. (fault ≡ ClientFault.BadTarget) ⊎ (fault ≡ ClientFault.Memory)) }
-{
-    match env::args(rt) {
-        Ok(args) => args.collect(rt.alloc()).map_err(|_| ClientFault::Memory),
-        Err(error) => {
-            if error.kind() == io::ErrorKind::OutOfMemory {
-                Err(ClientFault::Memory)
-            } else {
-                Err(ClientFault::BadTarget)
-            }
-        }
-    }
-}
-
 /// What the words say.
-fn matches_of<C: Client>(alloc: Global, words: &[String]) -> Result<ArgMatches<'_>, Error>
-    ensures { IfOk result (HasMatchesOf C.words (map string_bytes words.entry.now)) }
+fn matches_of<'a, C: Client>(alloc: Global, words: &'a [String]) -> Result<ArgMatches<'a>, Error>
+    ensures { IfOk result (HasMatchesOf (program_with (name_of C.which) C.words)
+        (map string_bytes words.entry.now)) }
 {
-    C::command(alloc)?.try_get_matches_from(words)
+    let name: &'a str = C::program().name();
+    let about: &'a str = C::ABOUT;
+    let example: &'a str = C::EXAMPLE;
+    let command: Command<'a> = program(alloc, name, about, example)?;
+    with_words(command, C::words(alloc)?)?.try_get_matches_from(words)
 }
 
-/// Does what is asked for at the server: prints on standard output, and tells a fault on standard error.
+/// Does what is asked for at the server: prints on standard output, and reports a fault on standard error.
 fn perform(rt: &HostRuntime, program: Program, given: &Given<'_>) -> ExitCode
-    // Status 2 tells that a word isn't lawful, and nothing else does.
+    // The status is 2 exactly where a word isn't lawful.
     ensures unlawful { job_of given.now ≡ None → exit_status result ≡ WORD_FAULT }
     ensures lawful { job_of given.now ≢ None → exit_status result ≤ 1 }
 {
     let (job, stream) = match reach(rt, given) {
         Ok(reached) => reached,
-        Err(fault) => return tell(rt, program, fault),
+        Err(fault) => return report(rt, program, fault),
     };
     let stderr = rt.stderr();
     let (status, _) = do_job(
@@ -104,8 +94,8 @@ fn reach(rt: &HostRuntime, given: &Given<'_>) -> Result<(Job, TcpStream), Client
     Ok((job, stream))
 }
 
-/// Tells a fault on standard error.
-fn tell(rt: &HostRuntime, program: Program, fault: ClientFault) -> ExitCode
+/// Reports a fault on standard error.
+fn report(rt: &HostRuntime, program: Program, fault: ClientFault) -> ExitCode
     ensures { exit_status result ≡ status_of fault }
 {
     let stderr = rt.stderr();
@@ -118,9 +108,8 @@ fn end(rt: &HostRuntime, program: Program, error: &Error) -> ExitCode
     ensures ends { EndsAsRefused error.now (exit_status result) }
     ensures most { exit_status result ≤ WORD_FAULT }
 {
-    if error.kind() == ErrorKind::OutOfMemory {
-        return tell(rt, program, ClientFault::Memory);
+    match print_refusal(rt, error) {
+        Some(status) => ExitCode::from(status),
+        None => report(rt, program, ClientFault::Memory),
     }
-    let _ = error.print(rt);
-    ExitCode::from(if error.use_stderr() { WORD_FAULT } else { 0 })
 }

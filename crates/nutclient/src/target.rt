@@ -2,7 +2,7 @@
 ghost use Rattle.std.specs.Prelude.{◌≡◌};
 ghost use Rattle.std.specs.List.{list_all};
 ghost use Rattle.nutwords.specs.Natural.{is_digit};
-ghost use Rattle.nutclient.specs.Target.{both, is_numeral, port_of, server_of, local_server, ups_of, ups_place_of};
+ghost use Rattle.nutclient.specs.Target.{both, is_numeral, port_of, server_of, local_server, ups_place_of};
 
 use crate::{DEFAULT_PORT, Host};
 use nutwords::{UpsName, is_digit};
@@ -46,10 +46,11 @@ impl Target {
     pub fn read(text: &str) -> Option<(UpsName, Target)>
         ensures { result ≡ ups_place_of text.now }
     {
-        match text.split_once('@') {
-            Some((ups, server)) => with_ups(ups, Target::host(server)),
-            None => with_ups(text, Some(Target::local())),
-        }
+        let (ups, server) = match text.split_once('@') {
+            Some((ups, server)) => (ups, Target::host(server)),
+            None => (text, Some(Target::local())),
+        };
+        Some((UpsName::read(ups.as_bytes()).ok()?, server?))
     }
 }
 
@@ -61,16 +62,6 @@ fn at(host: Option<Host>, port: Option<u16>) -> Option<Target>
         host: host?,
         port: port?,
     })
-}
-
-/// The UPS of this name and the server, where both are lawful.
-fn with_ups(ups: &str, server: Option<Target>) -> Option<(UpsName, Target)>
-    ensures { result ≡ both (λ ups server. (ups, server)) (ups_of ups.now) server }
-{
-    match UpsName::read(ups.as_bytes()) {
-        Ok(ups) => Some((ups, server?)),
-        Err(_) => None,
-    }
 }
 
 /// The port that the digits write.

@@ -22,7 +22,7 @@ abbrev pub status_of : ClientFault → ℕ
 status_of BadTarget = 2
 status_of _ = 1
 
--- The text that tells the fault.
+-- The text of a fault.
 abbrev pub fault_text : ClientFault → List ℕ
 fault_text Connect = codes "cannot connect"
 fault_text Read = codes "read failed"

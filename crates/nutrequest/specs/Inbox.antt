@@ -36,7 +36,7 @@ FillGives remaining failures old reader (Err Read) new after =
     ReadFailed remaining failures reader [] after × (new ≡ old)
 FillGives remaining failures old reader result new after = ⊥
 
--- The next line of what was kept and what came, whatever stands after; no line can follow; or no
+-- The next line of what was kept and what came, whatever follows; no line can follow; or no
 -- line is whole. No other fault comes.
 abbrev pub LineGives : {R : Type 0} → (R → Option (List ℕ)) → (R → ℕ) → List ℕ → R
     → Result (ArrayVec ℕ LINE_ROOM (Unit {0})) ClientFault → List ℕ → R → Type 0

@@ -24,17 +24,17 @@ use Rattle.nutrequest.specs.declared.read.FirstLine.{FirstLine}
 use Rattle.nutrequest.specs.declared.read.FirstLine.TheVariants.{Expected, Refusal, Bad as BadFirst}
 use Rattle.nutrequest.specs.declared.read.LaterLine.{LaterLine}
 use Rattle.nutrequest.specs.declared.read.LaterLine.TheVariants.{End, Another, Bad as BadLater}
-use Rattle.nutrequest.specs.declared.read.Told.{Told}
-use Rattle.nutrequest.specs.declared.read.Told.TheVariants.{Fixed, Word, Id, Failure}
+use Rattle.nutrequest.specs.declared.read.Text.{Text}
+use Rattle.nutrequest.specs.declared.read.Text.TheVariants.{Fixed, Word, Id, Failure}
 use Rattle.nutrequest.specs.Lines.{lines, FoundLine, Line, TooLong}
 use Rattle.nutrequest.specs.Request.{asked_words, has_value}
 
--- The bytes of what a line tells.
-abbrev pub text_told : Told → List ℕ
-text_told (Fixed text) = text.now
-text_told (Word word) = bytes_of word
-text_told (Id id) = id_text id
-text_told (Failure number) = codes "FAILED " ++ bytes_of number
+-- The bytes of a text in a line.
+abbrev pub bytes_in : Text → List ℕ
+bytes_in (Fixed text) = text.now
+bytes_in (Word word) = bytes_of word
+bytes_in (Id id) = id_text id
+bytes_in (Failure number) = codes "FAILED " ++ bytes_of number
 
 -- The words after this one, where it is the first.
 abbrev pub behind_word : List ℕ → List (List ℕ) → Option (List (List ℕ))
@@ -107,7 +107,7 @@ failure_in (Some word) =
     if is_some_number (read_natural DONE_LIMIT word) then Some (codes "FAILED " ++ word) else None
 failure_in None = None
 
--- The word tells by itself how far an order has come.
+-- The word says by itself how far an order has come.
 abbrev pub stands_alone : List ℕ → Bool
 stands_alone word = bytes_eq word (codes "PENDING") || bytes_eq word (codes "SUCCESS")
 
@@ -124,9 +124,9 @@ abbrev pub progress_of : ℕ → List (List ℕ) → Option (List ℕ)
 progress_of id [] = None
 progress_of id (word ∷ words) = if is_that id (read_id word) then progress_in words else None
 
--- What the first line tells, where it is the one that the request is granted by: BEGIN tells
--- nothing, VAR a value, NUMATTACH a number, OK of a tracked order its id, TRACKING how far that of
--- this id has come, the others OK.
+-- The value in the first line, where it is the one that grants the request: after BEGIN there is
+-- none, after VAR a value, after NUMATTACH a number, after OK of a tracked order its id, after
+-- TRACKING how far the order of this id has come; of the others it is OK.
 abbrev pub expected_of : Request → List (List ℕ) → Option (List ℕ)
 expected_of (ListOf query) words = if is_frame (codes "BEGIN") query words then Some [] else None
 expected_of (GetVar ups name) words = only_word (behind (codes "VAR" ∷ ups ∷ name ∷ []) words)

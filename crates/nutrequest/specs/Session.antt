@@ -14,8 +14,8 @@ use Rattle.nutrequest.specs.declared.faults.ClientFault.{ClientFault}
 use Rattle.nutrequest.specs.declared.faults.ClientFault.TheVariants.{Read, Write, EarlyEnd, ErrWord}
 use Rattle.nutrequest.specs.declared.faults.ClientFault.TheVariants.{BadReply, Memory}
 
--- Why no reply is given, the bytes that come being read so: what came decides it, whatever stands
--- after; or what came is unfinished, and the reader ended or failed; or memory was refused. No
+-- Why no reply is given, the bytes that come being read so: what came decides it, whatever follows;
+-- or what came is unfinished, and the reader ended or failed; or memory was refused. No
 -- other fault comes.
 abbrev pub Fails : {R : Type 0} → (R → Option (List ℕ)) → (R → ℕ) → (List ℕ → Reply → Type 0) → R
     → ClientFault → R → Type 0
@@ -34,7 +34,7 @@ Fails remaining failures Reads reader Memory after =
     (came : List ℕ) × Received remaining failures reader came after
 Fails remaining failures Reads reader fault after = ⊥
 
--- What some bytes give that are read so: a value, whatever stands after them, and what is kept of
+-- What some bytes give that are read so: a value, whatever follows them, and what is kept of
 -- them for the next; or why none is given.
 abbrev pub ReadGives : {R A : Type 0} → (R → Option (List ℕ)) → (R → ℕ) → (List ℕ → Reply)
     → (A → List ℕ → Reply) → R → Result A ClientFault → List ℕ → R → Type 0
@@ -44,7 +44,7 @@ ReadGives remaining failures reading whole reader (Ok value) new after =
 ReadGives remaining failures reading whole reader (Err fault) new after =
     Fails remaining failures (λ came r. reading came ≡ r) reader fault after
 
--- The first line of a reply tells this, and the rest of the reply stands after what came.
+-- The first line of a reply holds this value, and the rest of the reply follows what came.
 abbrev pub FirstGives : {R : Type 0} → (R → Option (List ℕ)) → (R → ℕ) → Request → List ℕ → R
     → Result (List ℕ) ClientFault → List ℕ → R → Type 0
 FirstGives remaining failures request old =

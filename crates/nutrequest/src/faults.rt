@@ -22,7 +22,7 @@ pub enum ClientFault {
     EarlyEnd,
     /// 5: the server refused the request by this word (RFC 9271: ERR).
     ErrWord(Name),
-    /// 6: a line that can't follow what stands before it.
+    /// 6: a line that can't follow the lines before it.
     BadReply,
     /// 7: a word of the command that isn't lawful.
     BadTarget,
@@ -59,7 +59,7 @@ impl ClientFault {
         }
     }
 
-    /// Appends the text that tells it.
+    /// Appends its text.
     pub fn push_text(&self, line: &mut Line)
         requires { length line.old.items ≤ FAULT_LIMIT }
         ensures text { line.new.items ≡ line.old.items ++ fault_text self.now }

@@ -1,5 +1,5 @@
 //! The items of a reply.
-ghost use Rattle.std.specs.Prelude.{◌≡◌, [], length, IsTrue, ◌↔◌};
+ghost use Rattle.std.specs.Prelude.{◌≡◌, []};
 
 use crate::{ClientFault, ITEM_LIMIT};
 use nutwords::Bytes;
@@ -41,20 +41,6 @@ impl Items {
         }
     }
 
-    /// How many they are.
-    pub fn len(&self) -> usize
-        ensures { result ≡ length self.now }
-    {
-        self.all.len()
-    }
-
-    /// Whether there are none.
-    pub fn is_empty(&self) -> bool
-        ensures { IsTrue result ↔ (self.now ≡ []) }
-    {
-        self.all.is_empty()
-    }
-
     /// All of them.
     pub fn as_slice(&self) -> &[Item]
         ensures { result.now ≡ self.now }
@@ -69,9 +55,6 @@ impl Items {
         if self.all.len() >= ITEM_LIMIT {
             return Err(ClientFault::BadReply);
         }
-        match self.all.push(item) {
-            Ok(()) => Ok(()),
-            Err(_) => Err(ClientFault::Memory),
-        }
+        self.all.push(item).map_err(|_| ClientFault::Memory)
     }
 }

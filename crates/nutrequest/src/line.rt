@@ -1,12 +1,12 @@
 //! The line of a request.
-ghost use Rattle.std.specs.Prelude.{◌≡◌, ◌+◌, ◌*◌, ◌≤◌, ◌∷◌, ◌++◌, codes, length, map, sum_by, option_map, option_to_list};
+ghost use Rattle.std.specs.Prelude.{◌≡◌, ◌+◌, ◌≤◌, ◌∷◌, ◌++◌, length, map, sum_by, option_map, option_to_list};
 ghost use Rattle.std.specs.List.{flat_map};
 ghost use Rattle.nutwords.specs.Frame.{line_of};
 ghost use Rattle.nutwords.specs.Spelling.{quoted};
-ghost use Rattle.nutwords.specs.declared.limits.TheConstants.{LINE_LIMIT, VALUE_LIMIT};
-ghost use Rattle.nutrequest.specs.Request.{request_line, asked_words};
+ghost use Rattle.nutwords.specs.declared.limits.TheConstants.{LINE_LIMIT};
+ghost use Rattle.nutrequest.specs.Request.{request_line};
 
-use crate::{Query, Request};
+use crate::Request;
 use nuttracking::id_text;
 use nutwords::{Line, NAME_LIMIT, UPS_NAME_LIMIT, Value, quote_into};
 
@@ -21,7 +21,10 @@ pub(crate) fn request_line(request: &Request) -> Line
     ensures { result.items ≡ request_line request.now }
 {
     match request {
-        Request::List(query) => list_line(query),
+        Request::List(query) => match query.ups() {
+            Some(ups) => line(b"LIST", &[query.kind(), ups.as_bytes()], None),
+            None => line(b"LIST", &[query.kind()], None),
+        },
         Request::GetVar(ups, name) => {
             line(b"GET", &[b"VAR", ups.as_bytes(), name.as_bytes()], None)
         }
@@ -47,16 +50,6 @@ pub(crate) fn request_line(request: &Request) -> Line
     }
 }
 
-/// The line that asks for a listing.
-fn list_line(query: &Query) -> Line
-    ensures { result.items ≡ line_of (codes "LIST" ∷ asked_words query.now) }
-{
-    match query.ups() {
-        Some(ups) => line(b"LIST", &[query.kind(), ups.as_bytes()], None),
-        None => line(b"LIST", &[query.kind()], None),
-    }
-}
-
 /// The line of a verb and of the words after it, each as it is, and of a value in quotes.
 fn line(verb: &[u8], words: &[&[u8]], value: Option<&Value>) -> Line
     requires verb { length verb.now ≤ VERB_LIMIT }
@@ -75,7 +68,7 @@ fn line(verb: &[u8], words: &[&[u8]], value: Option<&Value>) -> Line
     line
 }
 
-/// Appends a value in quotes, where there is one.
+/// Appends a blank and a value in quotes, where there is one.
 fn push_value(line: &mut Line, value: Option<&Value>)
     requires { length line.old.items ≤ VERB_LIMIT + WORDS_LIMIT }
     ensures text { line.new.items ≡ line.old.items
@@ -84,16 +77,6 @@ fn push_value(line: &mut Line, value: Option<&Value>)
 {
     if let Some(value) = value {
         line.push(b' ');
-        push_quoted(line, value.as_bytes());
+        quote_into(value.as_bytes(), line);
     }
-}
-
-/// Appends a value in quotes.
-fn push_quoted(line: &mut Line, value: &[u8])
-    requires room { length line.old.items ≤ VERB_LIMIT + WORDS_LIMIT + 1 }
-    requires value { length value.now ≤ VALUE_LIMIT }
-    ensures text { line.new.items ≡ line.old.items ++ quoted value.now }
-    ensures short { length line.new.items ≤ length line.old.items + (2 * VALUE_LIMIT + 2) }
-{
-    quote_into(value, line);
 }

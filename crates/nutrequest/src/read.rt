@@ -6,7 +6,7 @@ ghost use Rattle.nutwords.specs.Reading.{read_name};
 ghost use Rattle.nutwords.specs.Word.{bytes_of};
 ghost use Rattle.nutwords.specs.declared.limits.TheConstants.{LINE_LIMIT};
 ghost use Rattle.nutrequest.specs.Request.{asked_words};
-ghost use Rattle.nutrequest.specs.Reply.{behind, is_nothing, only_word, is_frame, is_error_byte, count_in, id_in, progress_of, progress_in, stands_alone, refusal_by, refusal_of, expected_of, first_of, is_item_name, value_in, item_of, later_of, text_told};
+ghost use Rattle.nutrequest.specs.Reply.{behind, is_nothing, only_word, is_frame, is_error_byte, count_in, id_in, progress_of, progress_in, stands_alone, refusal_by, refusal_of, expected_of, first_of, is_item_name, value_in, item_of, later_of, bytes_in};
 
 use crate::limits::COUNT_LIMIT;
 use crate::{Item, Query, Request};
@@ -17,7 +17,7 @@ use std::alloc::{AllocError, Global};
 /// What the first line of a reply is.
 #[derive(Drop)]
 pub(crate) enum FirstLine {
-    /// The line that grants the request, and what it tells.
+    /// The line that grants the request, and the value in it.
     Expected(Bytes),
     /// ERR and its word.
     Refusal(Name),
@@ -36,9 +36,9 @@ pub(crate) enum LaterLine {
     Bad,
 }
 
-/// What a line tells, before memory is taken for it.
+/// A text in a line, before memory is taken for it.
 #[derive(Drop)]
-pub(crate) enum Told<'a> {
+pub(crate) enum Text<'a> {
     /// A text of the protocol.
     Fixed(&'static [u8]),
     /// A word of the line.
@@ -49,17 +49,17 @@ pub(crate) enum Told<'a> {
     Failure(Word<'a>),
 }
 
-impl Told<'_> {
+impl Text<'_> {
     /// Its bytes.
     fn to_bytes(&self, alloc: Global) -> Result<Bytes, AllocError>
-        ensures { IfOk result (λ bytes. bytes ≡ text_told self.now) }
+        ensures { IfOk result (λ bytes. bytes ≡ bytes_in self.now) }
     {
         let mut text = Vec::new(alloc);
         match self {
-            Told::Fixed(bytes) => text.extend_from_slice(bytes)?,
-            Told::Word(word) => text.extend_from_slice(word.as_bytes())?,
-            Told::Id(id) => text.extend_from_slice(&id_text(*id))?,
-            Told::Failure(number) => {
+            Text::Fixed(bytes) => text.extend_from_slice(bytes)?,
+            Text::Word(word) => text.extend_from_slice(word.as_bytes())?,
+            Text::Id(id) => text.extend_from_slice(&id_text(*id))?,
+            Text::Failure(number) => {
                 text.extend_from_slice(b"FAILED ")?;
                 text.extend_from_slice(number.as_bytes())?;
             }
@@ -82,7 +82,7 @@ pub(crate) fn first_line(
         return Ok(FirstLine::Bad);
     };
     match expected(request, words.clone()?) {
-        Some(told) => Ok(FirstLine::Expected(told.to_bytes(alloc)?)),
+        Some(text) => Ok(FirstLine::Expected(text.to_bytes(alloc)?)),
         None => Ok(refusal(words)),
     }
 }
@@ -107,9 +107,9 @@ pub(crate) fn later_line(alloc: Global, query: &Query, line: &[u8]) -> Result<La
     }
 }
 
-/// What the words tell, where they grant the request.
-fn expected<'a>(request: &Request, words: Words<'a>) -> Option<Told<'a>>
-    ensures { option_map text_told result ≡ expected_of request.now words.entry }
+/// The value in the words, where they grant the request.
+fn expected<'a>(request: &Request, words: Words<'a>) -> Option<Text<'a>>
+    ensures { option_map bytes_in result ≡ expected_of request.now words.entry }
 {
     match request {
         Request::List(query) => begin(query, words),
@@ -180,60 +180,60 @@ fn is_frame<'x>(verb: &'x [u8], query: &'x Query, words: Words<'_>) -> bool
     }
 }
 
-/// This text, where it is told.
-fn fixed<'a>(text: &'static [u8], is_told: bool) -> Option<Told<'a>>
-    ensures { option_map text_told result ≡ (if is_told then Some text.entry.now else None) }
+/// This text, where the test passes.
+fn fixed<'a>(text: &'static [u8], passes: bool) -> Option<Text<'a>>
+    ensures { option_map bytes_in result ≡ (if passes then Some text.entry.now else None) }
 {
-    if is_told {
-        Some(Told::Fixed(text))
+    if passes {
+        Some(Text::Fixed(text))
     } else {
         None
     }
 }
 
 /// Nothing, where the words begin the listing.
-fn begin<'a>(query: &Query, words: Words<'a>) -> Option<Told<'a>>
-    ensures { option_map text_told result
+fn begin<'a>(query: &Query, words: Words<'a>) -> Option<Text<'a>>
+    ensures { option_map bytes_in result
         ≡ (if is_frame (codes "BEGIN") query.now words.entry then Some [] else None) }
 {
     fixed(b"", is_frame(b"BEGIN", query, words))
 }
 
 /// OK, where the words are nothing else.
-fn ok<'a>(words: Words<'a>) -> Option<Told<'a>>
-    ensures { option_map text_told result ≡ (if is_nothing (behind (codes "OK" ∷ []) words.entry)
+fn ok<'a>(words: Words<'a>) -> Option<Text<'a>>
+    ensures { option_map bytes_in result ≡ (if is_nothing (behind (codes "OK" ∷ []) words.entry)
         then Some (codes "OK") else None) }
 {
     fixed(b"OK", is_nothing(behind(&[b"OK"], words)))
 }
 
 /// The one word after.
-fn value<'a>(words: Option<Words<'a>>) -> Option<Told<'a>>
-    ensures { option_map text_told result ≡ only_word words.entry }
+fn value<'a>(words: Option<Words<'a>>) -> Option<Text<'a>>
+    ensures { option_map bytes_in result ≡ only_word words.entry }
 {
-    Some(Told::Word(only_word(words)?))
+    Some(Text::Word(only_word(words)?))
 }
 
 /// The one word after, where it is a number of clients.
-fn count<'a>(words: Option<Words<'a>>) -> Option<Told<'a>>
-    ensures { option_map text_told result ≡ count_in (only_word words.entry) }
+fn count<'a>(words: Option<Words<'a>>) -> Option<Text<'a>>
+    ensures { option_map bytes_in result ≡ count_in (only_word words.entry) }
 {
     let word = only_word(words)?;
     read_natural(word.as_bytes(), COUNT_LIMIT)?;
-    Some(Told::Word(word))
+    Some(Text::Word(word))
 }
 
 /// The one word after, where it is an id.
-fn id<'a>(words: Option<Words<'a>>) -> Option<Told<'a>>
-    ensures { option_map text_told result ≡ id_in (only_word words.entry) }
+fn id<'a>(words: Option<Words<'a>>) -> Option<Text<'a>>
+    ensures { option_map bytes_in result ≡ id_in (only_word words.entry) }
 {
     let word = only_word(words)?;
-    Some(Told::Id(read_id(word.as_bytes())?))
+    Some(Text::Id(read_id(word.as_bytes())?))
 }
 
 /// How far the order of this id has come, where the words after begin with it.
-fn progress_of<'a>(id: u128, words: Option<Words<'a>>) -> Option<Told<'a>>
-    ensures { option_map text_told result ≡ option_and_then (progress_of id) words.entry }
+fn progress_of<'a>(id: u128, words: Option<Words<'a>>) -> Option<Text<'a>>
+    ensures { option_map bytes_in result ≡ option_and_then (progress_of id) words.entry }
 {
     let mut words = words?;
     let first = words.next()?;
@@ -245,8 +245,8 @@ fn progress_of<'a>(id: u128, words: Option<Words<'a>>) -> Option<Told<'a>>
 }
 
 /// How far an order has come.
-fn progress<'a>(mut words: Words<'a>) -> Option<Told<'a>>
-    ensures { option_map text_told result ≡ progress_in words.entry }
+fn progress<'a>(mut words: Words<'a>) -> Option<Text<'a>>
+    ensures { option_map bytes_in result ≡ progress_in words.entry }
 {
     let word = words.next()?;
     if word.as_bytes() == b"FAILED".as_slice() {
@@ -254,16 +254,16 @@ fn progress<'a>(mut words: Words<'a>) -> Option<Told<'a>>
         if read_natural(number.as_bytes(), u64::from(DONE_LIMIT))? == 0 {
             return None;
         }
-        return Some(Told::Failure(number));
+        return Some(Text::Failure(number));
     }
     if stands_alone(word.as_bytes()) && is_nothing(Some(words)) {
-        Some(Told::Word(word))
+        Some(Text::Word(word))
     } else {
         None
     }
 }
 
-/// Whether the word tells by itself how far an order has come.
+/// Whether the word says by itself how far an order has come.
 fn stands_alone(word: &[u8]) -> bool
     ensures { result ≡ stands_alone word.now }
 {
@@ -285,14 +285,8 @@ fn refusal_by(word: &[u8]) -> FirstLine
     ensures { result ≡ refusal_by (read_name word.now) }
 {
     match Name::read(word) {
-        Ok(name) => {
-            if are_error_bytes(name.as_bytes()) {
-                FirstLine::Refusal(name)
-            } else {
-                FirstLine::Bad
-            }
-        }
-        Err(_) => FirstLine::Bad,
+        Ok(name) if are_error_bytes(name.as_bytes()) => FirstLine::Refusal(name),
+        _ => FirstLine::Bad,
     }
 }
 
@@ -311,8 +305,8 @@ fn is_error_byte(b: u8) -> bool
 }
 
 /// The name and the value of the item that the words are, if they are one.
-fn item<'a>(query: &Query, words: Words<'a>) -> Option<(Told<'a>, Told<'a>)>
-    ensures { option_map (λ i. record { name = text_told i.0; value = text_told i.1 }) result
+fn item<'a>(query: &Query, words: Words<'a>) -> Option<(Text<'a>, Text<'a>)>
+    ensures { option_map (λ i. record { name = bytes_in i.0; value = bytes_in i.1 }) result
         ≡ option_and_then (item_of query.now) (behind (asked_words query.now) words.entry) }
 {
     let mut words = behind_asked(query, words)?;
@@ -321,12 +315,12 @@ fn item<'a>(query: &Query, words: Words<'a>) -> Option<(Told<'a>, Told<'a>)>
         return None;
     }
     let value = item_value(query.has_value(), words)?;
-    Some((Told::Word(name), value))
+    Some((Text::Word(name), value))
 }
 
 /// The value of an item: the one word that is left, or nothing where items have no value and no word is left.
-fn item_value<'a>(has_value: bool, words: Words<'a>) -> Option<Told<'a>>
-    ensures { option_map text_told result ≡ value_in has_value words.entry }
+fn item_value<'a>(has_value: bool, words: Words<'a>) -> Option<Text<'a>>
+    ensures { option_map bytes_in result ≡ value_in has_value words.entry }
 {
     if has_value {
         value(Some(words))

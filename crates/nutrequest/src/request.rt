@@ -72,11 +72,11 @@ pub enum Request {
     SetVar(UpsName, Name, Value),
     /// That a command be done, with a value for it or without.
     Instcmd(UpsName, Name, Option<Value>),
-    /// That the orders after it be tracked: an id is told for each.
+    /// That the orders after it be tracked: each is answered by its id.
     SetTracking,
-    /// The same as `SetVar`, behind `SetTracking`.
+    /// The same as `SetVar`, after `SetTracking`.
     TrackedSetVar(UpsName, Name, Value),
-    /// The same as `Instcmd`, behind `SetTracking`.
+    /// The same as `Instcmd`, after `SetTracking`.
     TrackedInstcmd(UpsName, Name, Option<Value>),
     /// How far the order of this id has come.
     GetTracking(u128),

@@ -115,7 +115,7 @@ fn read_reply<R: Source>(
     }
 }
 
-/// Reads the first line of a reply, and gives the value that it tells.
+/// Reads the first line of a reply, and returns the value in it.
 fn read_first<R: Source>(
     alloc: Global,
     inbox: &mut Inbox,

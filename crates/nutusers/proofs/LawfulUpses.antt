@@ -10,7 +10,8 @@ use Rattle.nutusers.specs.File.{AreAccepted}
 use Rattle.nutusers.specs.Sections.{last_of, in_section}
 use Rattle.nutusers.specs.SectionsStep.{with_last}
 use Rattle.nutusers.specs.Texts.{is_description}
-use Rattle.nutusers.specs.UpsFile.{upses_of, ups_format, ups_line_fault, ups_setting_fault, desc_fault, EachUpsThatIsReadIsLawful}
+use Rattle.nutusers.specs.File.{once_fault}
+use Rattle.nutusers.specs.UpsFile.{upses_of, ups_format, ups_line_fault, ups_setting_fault, EachUpsThatIsReadIsLawful}
 use Rattle.nutusers.specs.UpsList.{Ups, new_ups, IsLawfulUps}
 use Rattle.nutusers.specs.UpsStep.{with_ups_line, upses_with}
 use Rattle.nutusers.specs.declared.fault.Cause.{Cause}
@@ -37,7 +38,7 @@ desc_lawful false false fine = cc fine
 setting_lawful : (key value : List ℕ) (ups : Ups) → ups_setting_fault key value ups ≡ None → IsLawfulUps ups → IsLawfulUps (with_ups_line (setting key value) ups)
 setting_lawful key value ups fine h = record { name = h.name; description = by_key (bytes_eq key (codes "desc")) _ fine }
   where
-    by_key : (b : Bool) (other : Option Cause) → cond b (desc_fault value ups) other ≡ None → IfSome (option_or (cond b (Some value) None) ups.desc) (λ text. IsTrue (is_description text))
+    by_key : (b : Bool) (other : Option Cause) → cond b (once_fault (is_some ups.desc) (is_description value)) other ≡ None → IfSome (option_or (cond b (Some value) None) ups.desc) (λ text. IsTrue (is_description text))
     by_key true other e = desc_lawful (is_some ups.desc) (is_description value) e
     by_key false other e = h.description
 

@@ -16,7 +16,7 @@ number_of_cause UnknownKey = 5
 number_of_cause BadValue = 6
 number_of_cause Memory = 7
 
--- What a format says of a line that stands after earlier ones: why it is refused, if it is. The
+-- What a format says of a line that follows earlier ones: why it is refused, if it is. The
 -- earlier lines are listed from the last to the first, here and below.
 abbrev pub Format : Type 0
 Format = List (List ℕ) → List ℕ → Option Cause
@@ -35,6 +35,10 @@ verdict_of cause = Some cause
 -- The value that a key takes is lawful, or why not.
 abbrev pub bad_value_unless : Bool → Option Cause
 bad_value_unless lawful = if lawful then None else Some BadValue
+
+-- Why a setting is refused that a section has once: it is there already, or the value isn't lawful.
+abbrev pub once_fault : Bool → Bool → Option Cause
+once_fault is_there lawful = if is_there then Some Duplicate else bad_value_unless lawful
 
 -- The file is refused at the first line that the format refuses, and for its cause; or out of
 -- memory at a line that adds something, which is accepted, as all before it are.

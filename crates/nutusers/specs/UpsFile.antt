@@ -5,7 +5,7 @@ use Rattle.std.specs.Str.{bytes_eq, is_utf8}
 use Rattle.nutwords.specs.Reading.{is_ups_name}
 use Rattle.nutusers.specs.ConfigLine.{ConfigLine, silent, malformed, section, setting, upsmon}
 use Rattle.nutusers.specs.ConfigLine.{is_section, read_config_line}
-use Rattle.nutusers.specs.File.{Format, AreAccepted, bad_value_unless}
+use Rattle.nutusers.specs.File.{Format, AreAccepted, bad_value_unless, once_fault}
 use Rattle.nutusers.specs.Sections.{sections, value_in, last_of, in_section}
 use Rattle.nutusers.specs.Texts.{is_text_within, is_description}
 use Rattle.nutusers.specs.UpsList.{IsLawfulUps, AreByName, ups_named}
@@ -40,20 +40,11 @@ ups_section_fault upses name =
     else if is_some (ups_named name upses) then Some Duplicate
     else bad_value_unless (not (nat_le UPS_LIMIT (length upses)))
 
--- Why a description, and why a socket, is refused in the section of this UPS.
-abbrev pub desc_fault : List ℕ → Ups → Option Cause
-desc_fault value ups =
-    if is_some ups.desc then Some Duplicate else bad_value_unless (is_description value)
-
-abbrev pub socket_fault : List ℕ → Ups → Option Cause
-socket_fault value ups =
-    if is_some ups.socket then Some Duplicate else bad_value_unless (is_socket value)
-
 -- Why `key = value` is refused in the section of this UPS.
 abbrev pub ups_setting_fault : List ℕ → List ℕ → Ups → Option Cause
 ups_setting_fault key value ups =
-    if bytes_eq key (codes "desc") then desc_fault value ups
-    else if bytes_eq key (codes "socket") then socket_fault value ups
+    if bytes_eq key (codes "desc") then once_fault (is_some ups.desc) (is_description value)
+    else if bytes_eq key (codes "socket") then once_fault (is_some ups.socket) (is_socket value)
     else Some UnknownKey
 
 -- Why a line is refused after lines that mean these UPSs.

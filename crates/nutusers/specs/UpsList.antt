@@ -16,7 +16,7 @@ pub record Ups : Type 0 where
   pub desc : Option (List ℕ)
   pub socket : Option (List ℕ)
 
--- A UPS of which only the name is told.
+-- A UPS of which only the name is known.
 abbrev pub new_ups : List ℕ → Ups
 new_ups name = record { name = name; desc = None; socket = None }
 

@@ -5,7 +5,7 @@ use Rattle.std.specs.List.{filter_map}
 use Rattle.std.specs.Str.{bytes_eq}
 use Rattle.nutusers.specs.ConfigLine.{ConfigLine, silent, malformed, section, setting, upsmon}
 use Rattle.nutusers.specs.ConfigLine.{is_section, read_config_line}
-use Rattle.nutusers.specs.File.{Format, bad_value_unless}
+use Rattle.nutusers.specs.File.{Format, bad_value_unless, once_fault}
 use Rattle.nutusers.specs.Rights.{grant_of, role_grant, action_grant, command_grant}
 use Rattle.nutusers.specs.Sections.{sections, value_in, last_of, in_section}
 use Rattle.nutusers.specs.Credentials.{is_user_name, is_password}
@@ -36,16 +36,10 @@ section_fault users name =
     else if is_some (user_named name users) then Some Duplicate
     else None
 
--- Why a password is refused in the section of this user.
-abbrev pub password_fault : List ℕ → User → Option Cause
-password_fault value user =
-    if is_some user.password then Some Duplicate
-    else bad_value_unless (is_password value)
-
 -- Why `key = value` is refused in the section of this user.
 abbrev pub setting_fault : List ℕ → List ℕ → User → Option Cause
 setting_fault key value user =
-    if bytes_eq key (codes "password") then password_fault value user
+    if bytes_eq key (codes "password") then once_fault (is_some user.password) (is_password value)
     else if bytes_eq key (codes "actions") then bad_value_unless (is_some (action_grant value))
     else if bytes_eq key (codes "instcmds") then bad_value_unless (is_some (command_grant value))
     else Some UnknownKey

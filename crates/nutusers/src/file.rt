@@ -1,10 +1,13 @@
-//! A file, read a line at a time.
-ghost use Rattle.std.specs.Prelude.{◌≡◌, ℕ, List, IfOk, IfErr};
-ghost use Rattle.nutusers.specs.File.{Means, IsRefused, IsByLines, format_of};
+//! What the three files have in common: each is read a line at a time.
+ghost use Rattle.std.specs.Prelude.{◌≡◌, ◌≢◌, ℕ, List, IfOk, IfErr, OnOk, is_some, true, Some, None, if◌then◌else◌};
+ghost use Rattle.nutusers.specs.File.{Means, IsRefused, IsByLines, format_of, once_fault};
+ghost use Rattle.nutusers.specs.SectionsStep.{verdict};
+ghost use Rattle.nutusers.specs.Line.{words_in};
+ghost use Rattle.nutusers.specs.Texts.{is_description};
 ghost use Rattle.nutwords.specs.Text.{lines_of};
 
-use crate::{Cause, ConfFault};
-use nutwords::TextLines;
+use crate::{Cause, ConfFault, DESCRIPTION_LIMIT};
+use nutwords::{LINE_LIMIT, TextLines, Value, Words, words};
 
 /// What a file is read into, a line after the other.
 pub(crate) trait FromLines: Drop {
@@ -26,6 +29,42 @@ pub(crate) trait FromLines: Drop {
         ensures fault { refusal self.old line.now ≡ verdict result }
         ensures memory { IfErr result (λ cause. cause ≡ Cause.Memory → adds line.now ≡ true) }
         ensures ok { OnOk result (self.new ≡ with_line self.old line.now) };
+}
+
+/// The words of a line that says something, unless it is too long or isn't a line of words.
+pub(crate) fn words_in(line: &[u8]) -> Option<Words<'_>>
+    ensures { result ≡ words_in line.now }
+{
+    if line.len() > LINE_LIMIT {
+        return None;
+    }
+    words(line).ok()
+}
+
+/// The text as a description, where it is one.
+pub(crate) fn description(text: &[u8]) -> Option<Value>
+    ensures { result ≡ (if is_description text.now then Some text.now else None) }
+{
+    if text.len() > DESCRIPTION_LIMIT {
+        return None;
+    }
+    Value::read(text).ok()
+}
+
+/// Sets what a section sets once.
+pub(crate) fn set_once<T: Drop>(place: &mut Option<T>, value: Option<T>) -> Result<(), Cause>
+    ensures fault { once_fault (is_some place.old) (is_some value) ≡ verdict result }
+    ensures memory { IfErr result (λ cause. cause ≢ Cause.Memory) }
+    ensures ok { OnOk result ((place.new ≡ value) × (is_some value ≡ true)) }
+{
+    if place.is_some() {
+        return Err(Cause::Duplicate);
+    }
+    if value.is_none() {
+        return Err(Cause::BadValue);
+    }
+    *place = value;
+    Ok(())
 }
 
 /// Reads the lines of a file into what holds none of them.

@@ -1,20 +1,34 @@
 -- The words that upsc takes, and what they ask for.
-use Rattle.std.specs.Prelude.{◌≡◌, ◌∷◌, [], Some, None, true, false, codes}
-use Rattle.clap.specs.Words.{App, first_value, found_of, new_rule}
+use Rattle.std.specs.Prelude.{◌≡◌, List, ◌∷◌, [], Some, None, true, false, codes}
+use Rattle.clap.specs.Words.{first_value, found_of}
 use Rattle.clap.specs.declared.parser.matches.ArgMatches.{ArgMatches}
-use Rattle.nutclient.specs.Words.{IsFlag, IsGiven, IsMaybe, bound, long_flag, long_option, named}
-use Rattle.nutclient.specs.Words.{program_with, short_flag}
+use Rattle.nutcommand.specs.Words.{IsFlag, IsGiven, IsMaybe, Word, Excludes, StandsUnless, Free}
+use Rattle.nutcommand.specs.Words.{long_flag, long_option, operand, short_flag}
 use Rattle.nutclient.specs.declared.given.Given.{Given}
 use Rattle.nutclient.specs.declared.given.Given.TheVariants.{Attached, Clients, Descriptions}
 use Rattle.nutclient.specs.declared.given.Given.TheVariants.{Tracked, Upses, Variable, Variables}
 
 -- `upsc [-l | -L | -c | --attached | --tracked ID] [UPS|HOST] [VAR]`.
-abbrev pub upsc_words : App
-upsc_words = program_with (codes "upsc")
-    (bound (short_flag (codes "l") 108) ∷ bound (short_flag (codes "L") 76)
-    ∷ bound (short_flag (codes "c") 99) ∷ bound (long_flag (codes "attached"))
-    ∷ bound (long_option (codes "tracked")) ∷ bound (named (codes "UPS"))
-    ∷ new_rule (codes "VAR") ∷ [])
+abbrev pub upsc_words : List Word
+upsc_words = (
+  short_flag (codes "l") 108,
+  Excludes
+      (codes "L" ∷ codes "c" ∷ codes "attached" ∷ codes "tracked" ∷ codes "VAR" ∷ []),
+)
+    ∷ (
+      short_flag (codes "L") 76,
+      Excludes
+          (codes "c" ∷ codes "attached" ∷ codes "tracked" ∷ codes "VAR" ∷ []),
+    )
+    ∷ (
+      short_flag (codes "c") 99,
+      Excludes
+          (codes "attached" ∷ codes "tracked" ∷ codes "VAR" ∷ []),
+    )
+    ∷ (long_flag (codes "attached"), Excludes (codes "tracked" ∷ codes "VAR" ∷ []))
+    ∷ (long_option (codes "tracked"), Excludes (codes "VAR" ∷ []))
+    ∷ (operand (codes "UPS"), StandsUnless (codes "l" ∷ codes "L" ∷ []))
+    ∷ (operand (codes "VAR"), Free) ∷ []
 
 -- Neither the UPSs of a server are asked for,
 abbrev pub AsksOfAUps : ArgMatches → Type 0

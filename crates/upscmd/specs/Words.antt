@@ -1,19 +1,24 @@
 -- The words that upscmd takes, and what they ask for.
-use Rattle.std.specs.Prelude.{◌∷◌, [], true, false, codes}
-use Rattle.clap.specs.Words.{App, new_rule}
+use Rattle.std.specs.Prelude.{List, ◌∷◌, [], true, false, codes}
 use Rattle.clap.specs.declared.parser.matches.ArgMatches.{ArgMatches}
-use Rattle.nutclient.specs.Words.{IsFlag, IsGiven, IsMaybe, bound, long_flag, program_with}
-use Rattle.nutclient.specs.Words.{required, short_flag, short_option}
+use Rattle.nutcommand.specs.Words.{IsFlag, IsGiven, IsMaybe, Word, Excludes, StandsUnless, Free}
+use Rattle.nutcommand.specs.Words.{long_flag, operand, required, short_flag, short_option}
 use Rattle.nutclient.specs.declared.given.Given.{Given}
 use Rattle.nutclient.specs.declared.given.Given.TheVariants.{Command, Commands}
 
 -- `upscmd -l UPS` and `upscmd -u USER -p PASS [--track] UPS CMD [VALUE]`.
-abbrev pub upscmd_words : App
-upscmd_words = program_with (codes "upscmd")
-    (bound (short_flag (codes "l") 108) ∷ bound (short_option (codes "u") 117)
-    ∷ bound (short_option (codes "p") 112) ∷ long_flag (codes "track")
-    ∷ required (new_rule (codes "UPS")) ∷ bound (new_rule (codes "CMD"))
-    ∷ new_rule (codes "VALUE") ∷ [])
+abbrev pub upscmd_words : List Word
+upscmd_words = (
+  short_flag (codes "l") 108,
+  Excludes
+      (codes "u" ∷ codes "p" ∷ codes "track" ∷ codes "CMD" ∷ codes "VALUE" ∷ []),
+)
+    ∷ (short_option (codes "u") 117, StandsUnless (codes "l" ∷ []))
+    ∷ (short_option (codes "p") 112, StandsUnless (codes "l" ∷ []))
+    ∷ (long_flag (codes "track"), Free)
+    ∷ (required (operand (codes "UPS")), Free)
+    ∷ (operand (codes "CMD"), StandsUnless (codes "l" ∷ []))
+    ∷ (operand (codes "VALUE"), Free) ∷ []
 
 -- What is asked for by the words that were found: the commands are listed where `-l` was given.
 abbrev pub IsAsked : ArgMatches → Given → Type 0

@@ -1,12 +1,66 @@
 //! upsrw: the variables of a UPS that may be set, and setting one (upsrw(8)).
 #![tactic(auto)]
 
-mod words;
+ghost use Rattle.nutclient.specs.declared.program.Program.TheVariants as program;
+ghost use Rattle.upsrw.specs.Words.{IsAsked, upsrw_words};
 
-use crate::words::Upsrw;
-use nutclient::main_of;
+use clap::{Arg, ArgMatches, arg};
+use nutclient::{Client, Given, Program, main_of};
+use std::alloc::{AllocError, Global};
 use std::process::ExitCode;
 
 fn main(rt: HostRuntime) -> ExitCode {
     main_of::<Upsrw>(&rt)
+}
+
+/// The program.
+struct Upsrw;
+
+impl Client for Upsrw {
+    ghost which = { program.Upsrw };
+
+    ghost words = { upsrw_words };
+
+    ghost asks = { IsAsked };
+
+    const ABOUT: &'static str =
+        "Shows the variables of a UPS that can be set, or sets one (RFC 9271)";
+
+    const EXAMPLE: &'static str =
+        "Example: upsrw -s ups.delay=30 -u admin -p change-me su@localhost";
+
+    fn program() -> Program {
+        Program::Upsrw
+    }
+
+    fn words(alloc: Global) -> Result<Vec<Arg<'static>>, AllocError> {
+        let mut words = Vec::new(alloc);
+        let word = arg!(in alloc; s: -'s' <"VAR=VALUE"> "Set the variable to the value");
+        words.push(word.requires_all(&["u", "p"])?)?;
+        let word = arg!(in alloc; u: -'u' <USER> "The user's name, for -s");
+        words.push(word.requires_arg("s")?)?;
+        let word = arg!(in alloc; p: -'p' <PASS> "The user's password, for -s");
+        words.push(word.requires_arg("s")?)?;
+        let word = arg!(in alloc; --track
+            "Have the server track the order, and print its id instead of OK, for -s");
+        words.push(word.requires_arg("s")?)?;
+        let word = arg!(in alloc; <UPS> "The UPS, as ups[@host[:port]]");
+        words.push(word)?;
+        Ok(words)
+    }
+
+    fn given<'a>(matches: &ArgMatches<'a>) -> Given<'a> {
+        // The parser demands a UPS, and a user and a password where a variable is to be set.
+        let ups = matches.get_str("UPS").unwrap_or("");
+        match matches.get_str("s") {
+            Some(setting) => Given::Set {
+                ups,
+                setting,
+                user: matches.get_str("u").unwrap_or(""),
+                password: matches.get_str("p").unwrap_or(""),
+                track: matches.get_flag("track"),
+            },
+            None => Given::Writable(ups),
+        }
+    }
 }

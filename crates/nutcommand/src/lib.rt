@@ -1,0 +1,9 @@
+//! The command lines of the programs: their words, and how they end where these are refused.
+#![tactic(auto)]
+
+pub mod laws;
+mod refusal;
+mod words;
+
+pub use refusal::print_refusal;
+pub use words::{program, with_words, words_of};

@@ -1,0 +1,48 @@
+-- Each word is read by its rule, and bound to the others that its row names.
+use Rattle.std.proofs.Common.{◌≡◌, ◌∙◌, ◌++◌, ◌∷◌, [], ap, subst, sym, Bool, Some, true, codes, refl}
+use Rattle.clap.specs.Words.{Rule, rule_of}
+use Rattle.clap.specs.declared.builder.action.ArgAction.TheVariants.{Set, SetTrue}
+use Rattle.clap.specs.declared.builder.arg.Arg.{Arg}
+use Rattle.nutcommand.specs.Words.{AreWords, IsWord, Free, long_flag, long_option, operand, required}
+use Rattle.nutcommand.proofs.PublicLaws.{excluding_binds, standing_unless_binds}
+use Rattle.upsc.specs.Words.{upsc_words}
+use Rattle.upsc.proofs.UpscClient.words.Goals as goal
+
+abbrev is_global : Arg → Bool
+is_global a = a.global
+
+pub returns : goal.returns
+returns c =
+    let word1 = excluding_binds _ c.arg-word.result c.in_ok-conflicts_with_all.field-0 _ _ (
+      ap rule_of c.arg-word.ensures ∙ (ap rule_of c.arg-action.ensures ∙ ap (λ (r : Rule). record r { action = Some SetTrue }) (ap rule_of c.arg-short.ensures ∙ ap (λ (r : Rule). record r { short = Some 108 }) c.arg-new.ensures.rule)),
+      ap is_global c.arg-word.ensures ∙ ap is_global c.arg-action.ensures ∙ ap is_global c.arg-short.ensures ∙ c.arg-new.ensures.optional.1,
+    ) refl c.in_ok-conflicts_with_all.ensures in
+    let word2 = excluding_binds _ c.arg-word-2.result c.in_ok-conflicts_with_all-2.field-0 _ _ (
+      ap rule_of c.arg-word-2.ensures ∙ (ap rule_of c.arg-action-2.ensures ∙ ap (λ (r : Rule). record r { action = Some SetTrue }) (ap rule_of c.arg-short-2.ensures ∙ ap (λ (r : Rule). record r { short = Some 76 }) c.arg-new-2.ensures.rule)),
+      ap is_global c.arg-word-2.ensures ∙ ap is_global c.arg-action-2.ensures ∙ ap is_global c.arg-short-2.ensures ∙ c.arg-new-2.ensures.optional.1,
+    ) refl c.in_ok-conflicts_with_all-2.ensures in
+    let word3 = excluding_binds _ c.arg-word-3.result c.in_ok-conflicts_with_all-3.field-0 _ _ (
+      ap rule_of c.arg-word-3.ensures ∙ (ap rule_of c.arg-action-3.ensures ∙ ap (λ (r : Rule). record r { action = Some SetTrue }) (ap rule_of c.arg-short-3.ensures ∙ ap (λ (r : Rule). record r { short = Some 99 }) c.arg-new-3.ensures.rule)),
+      ap is_global c.arg-word-3.ensures ∙ ap is_global c.arg-action-3.ensures ∙ ap is_global c.arg-short-3.ensures ∙ c.arg-new-3.ensures.optional.1,
+    ) refl c.in_ok-conflicts_with_all-3.ensures in
+    let word4 = excluding_binds _ c.arg-word-4.result c.in_ok-conflicts_with_all-4.field-0 _ _ (
+      ap rule_of c.arg-word-4.ensures ∙ (ap rule_of c.arg-action-4.ensures ∙ ap (λ (r : Rule). record r { action = Some SetTrue }) (ap rule_of c.arg-long.ensures ∙ ap (λ (r : Rule). record r { long = Some (codes "attached") }) c.arg-new-4.ensures.rule)),
+      ap is_global c.arg-word-4.ensures ∙ ap is_global c.arg-action-4.ensures ∙ ap is_global c.arg-long.ensures ∙ c.arg-new-4.ensures.optional.1,
+    ) refl c.in_ok-conflicts_with_all-4.ensures in
+    let word5 = excluding_binds _ c.arg-word-5.result c.in_ok-conflicts_with.field-0 _ _ (
+      ap rule_of c.arg-word-5.ensures ∙ (ap rule_of c.arg-action-5.ensures ∙ ap (λ (r : Rule). record r { action = Some Set }) (ap rule_of c.arg-value_name.ensures ∙ ap (λ (r : Rule). record r { value_names = 1 }) (ap rule_of c.arg-long-2.ensures ∙ ap (λ (r : Rule). record r { long = Some (codes "tracked") }) c.arg-new-5.ensures.rule))),
+      ap is_global c.arg-word-5.ensures ∙ ap is_global c.arg-action-5.ensures ∙ ap is_global c.arg-value_name.ensures ∙ ap is_global c.arg-long-2.ensures ∙ c.arg-new-5.ensures.optional.1,
+    ) refl c.in_ok-conflicts_with.ensures in
+    let word6 = standing_unless_binds _ c.arg-word-6.result c.in_ok-required_unless_present_any.field-0 _ _ (
+      ap rule_of c.arg-word-6.ensures ∙ (ap rule_of c.arg-action-6.ensures ∙ ap (λ (r : Rule). record r { action = Some Set }) (ap rule_of c.arg-value_name-2.ensures ∙ ap (λ (r : Rule). record r { value_names = 1 }) c.arg-new-6.ensures.rule)),
+      ap is_global c.arg-word-6.ensures ∙ ap is_global c.arg-action-6.ensures ∙ ap is_global c.arg-value_name-2.ensures ∙ c.arg-new-6.ensures.optional.1,
+    ) refl c.in_ok-required_unless_present_any.ensures in
+    let word7 : IsWord (operand (codes "VAR"), Free) c.arg-word-7.result = (
+      (
+        ap rule_of c.arg-word-7.ensures ∙ (ap rule_of c.arg-action-7.ensures ∙ ap (λ (r : Rule). record r { action = Some Set }) (ap rule_of c.arg-value_name-3.ensures ∙ ap (λ (r : Rule). record r { value_names = 1 }) c.arg-new-7.ensures.rule)),
+        ap is_global c.arg-word-7.ensures ∙ ap is_global c.arg-action-7.ensures ∙ ap is_global c.arg-value_name-3.ensures ∙ c.arg-new-7.ensures.optional.1,
+      ),
+      tt,
+    ) in
+    let items = c.in_ok-push-7.ensures.items ∙ ap (λ xs. xs ++ c.arg-word-7.result ∷ []) (c.in_ok-push-6.ensures.items ∙ ap (λ xs. xs ++ c.in_ok-required_unless_present_any.field-0 ∷ []) (c.in_ok-push-5.ensures.items ∙ ap (λ xs. xs ++ c.in_ok-conflicts_with.field-0 ∷ []) (c.in_ok-push-4.ensures.items ∙ ap (λ xs. xs ++ c.in_ok-conflicts_with_all-4.field-0 ∷ []) (c.in_ok-push-3.ensures.items ∙ ap (λ xs. xs ++ c.in_ok-conflicts_with_all-3.field-0 ∷ []) (c.in_ok-push-2.ensures.items ∙ ap (λ xs. xs ++ c.in_ok-conflicts_with_all-2.field-0 ∷ []) (c.in_ok-push.ensures.items ∙ ap (λ xs. xs ++ c.in_ok-conflicts_with_all.field-0 ∷ []) c.new-words.ensures.items)))))) in
+    subst (AreWords upsc_words) (sym items) (word1, (word2, (word3, (word4, (word5, (word6, (word7, tt)))))))
