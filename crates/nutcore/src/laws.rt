@@ -307,7 +307,7 @@ pub fn no_note_is_cut()
     ensures { NoNoteIsCut }
 {}
 
-/// A client whose session is finished by what it took did nothing in that event that is noted.
+/// A take that finishes its session is not noted.
 #[tactic(auto, using(crate::proofs::Finishing::a_take_that_finishes_is_not_noted))]
 pub fn a_take_that_finishes_is_not_noted()
     ensures { ATakeThatFinishesIsNotNoted }
