@@ -6,7 +6,6 @@ usage: build.py NAME ..     at the top of the repository; each stands as crates/
 `rt run` in a program's folder does the same, one crate after another. Ends with status 1 where one isn't proved."""
 import concurrent.futures
 import os
-import subprocess
 import sys
 import tempfile
 
@@ -17,12 +16,12 @@ JOBS = "4"
 
 
 def build(crate):
-    """Proves and builds a library or a program, and tells whether that went well."""
-    if crate.is_program:
-        words = ["rt", "run", "--jobs", JOBS, "--", "--help"]
-        return subprocess.run(words, cwd=crate.folder, stdout=subprocess.DEVNULL).returncode == 0
+    """Proves and builds a library, or a program, which then says its version, and tells whether that went well."""
+    # No lock is held, for which programs over the same libraries would wait: a crate is built once those below it are.
+    crate.held = []
     with tempfile.TemporaryFile("a+", errors="replace") as crate.out:
-        status = crate.build_rlib(["--jobs", JOBS], anew=False)
+        flags = ["--jobs", JOBS]
+        status = crate.run(flags, ["--version"]) if crate.is_program else crate.build_rlib(flags, anew=False)
         if status:
             crate.out.seek(0)
             print(crate.out.read(), end="", flush=True)
