@@ -43,7 +43,7 @@ def edits_of(crate):
     return [Edit(crate, it) for it in entries]
 
 
-def check(crate, edits):
+def check(crate, edits, kept):
     """Checks the edited functions of a copy of the crate with all these edits, and returns its status and lines."""
     only = [word for it in edits for word in ("--only", it.function)]
     with tempfile.TemporaryDirectory(prefix="edits-") as room:
@@ -57,7 +57,7 @@ def check(crate, edits):
                 text = text.replace(old, new)
             with open(f"{room}/{it.path}", "w", encoding="utf-8") as file:
                 file.write(text)
-        words = [rtlib.RATTLE, "check", *crate.words(["--jobs", "1"], keeps=False), *only]
+        words = [rtlib.RATTLE, "check", *crate.words(["--jobs", "1"], keeps=False), "--incremental", kept, *only]
         how = {"stdin": subprocess.DEVNULL, "stdout": subprocess.PIPE, "stderr": subprocess.STDOUT}
         ran = subprocess.run([*rtlib.guarded(), *words], cwd=room, text=True, errors="replace", **how)
         return ran.returncode, ran.stdout.rstrip("\n").split("\n")
@@ -91,11 +91,11 @@ def is_of(function, crate, edit):
     return plain == symbol or plain.startswith((f"{symbol}::", f"{owner}::fn::{name}::"))
 
 
-def in_round(crate, edits):
+def in_round(crate, edits, kept):
     """Judges edits in one check. Returns what is said of each that is refused; nothing of those that have to be tried alone."""
     if not edits:
         return {}
-    status, lines = check(crate, edits)
+    status, lines = check(crate, edits, kept)
     reached = status in (0, 1) and lines[-1].startswith("only=")
     unread = any(rt.unread(line, {it.path for it in edits}) for line in lines)
     goals = open_goals(lines, crate)
@@ -103,51 +103,45 @@ def in_round(crate, edits):
         said = {it: [f"{f}: {why}" for f, why in goals.items() if is_of(f, crate, it)] for it in edits}
         return {it: why[0] for it, why in said.items() if why}
     half = len(edits) // 2
-    return {**in_round(crate, edits[:half]), **in_round(crate, edits[half:])} if half else {}
-
-
-# The most edits of a round. A check takes as long to begin as for a few edits, and a long one keeps the run from its end.
-ROUND = 10
+    return {**in_round(crate, edits[:half], kept), **in_round(crate, edits[half:], kept)} if half else {}
 
 
 def rounds_of(edits):
     """Returns rounds of edits, in each at most one of a function."""
     rounds = []
     for edit in edits:
-        fit = next((it for it in rounds if len(it) < ROUND and edit.function not in {other.function for other in it}), None)
+        fit = next((it for it in rounds if edit.function not in {other.function for other in it}), None)
         if fit is None:
             rounds.append(fit := [])
         fit.append(edit)
     return rounds
 
 
-def alone(crate, edits):
-    """Tries each edit by the kit's own way, and returns of each whether it is refused, and what is said."""
-    with tempfile.TemporaryDirectory(prefix="edits-kept-") as kept:
-        # By that way an edit says something only where the crate itself is proved.
-        if edits and rt.checked(crate, {}, ["--jobs", "1"], kept).returncode:
-            return {it: (False, f"{crate.name} isn't proved as it stands") for it in edits}
-        tried = {}
-        for edit in edits:
+def alone(crate, edits, kept):
+    """Tries each edit by the kit's own way, and returns whether it is refused, and what is said."""
+    # By that way an edit says something only where the crate itself is proved.
+    is_sound = not edits or rt.checked(crate, {}, ["--jobs", "1"], kept).returncode == 0
+    for edit in edits:
+        answer, said = None, f": {crate.name} isn't proved as it stands"
+        if is_sound:
             with tempfile.NamedTemporaryFile("w", suffix=".edit", encoding="utf-8") as it:
                 it.write(edit.text)
                 it.flush()
                 answer, said = rt.must_fail(crate, it.name, ["--jobs", "1"], kept)
-            tried[edit] = answer == rt.REFUSED, said.partition(": ")[2]
-        return tried
+        yield edit, answer == rt.REFUSED, said.partition(": ")[2]
 
 
-def judge(crate, pool):
+def judge(crate):
     """Judges a crate's edits. Returns the lines to print, and the titles of those that aren't refused."""
-    edits = edits_of(crate)
-    rounds = [pool.submit(in_round, crate, it) for it in rounds_of([it for it in edits if it.function and not it.why])]
-    judged = {it: why for some in rounds for it, why in some.result().items()}
-    tried = pool.submit(alone, crate, [it for it in edits if it not in judged]).result()
-    return [
-        *[f"{it.name}: refused: {why[:160]}" for it, why in judged.items()],
-        *[f"{it.name}: tried alone: {why[:160]}" for it, (_, why) in tried.items()],
-        f"{crate.name}: {len(edits)} edits in {len(rounds)} rounds, {len(tried)} of them alone",
-    ], [it.name for it, (is_refused, _) in tried.items() if not is_refused]
+    edits, failed = edits_of(crate), []
+    with tempfile.TemporaryDirectory(prefix="edits-kept-") as kept:
+        rounds = rounds_of([it for it in edits if it.function and not it.why])
+        judged = {it: why for some in rounds for it, why in in_round(crate, some, kept).items()}
+        said = [f"{it.name}: refused: {why[:160]}" for it, why in judged.items()]
+        for it, refused, why in alone(crate, [it for it in edits if it not in judged], kept):
+            said.append(f"{it.name}: tried alone: {why[:160]}")
+            failed += [it.name] * (not refused)
+    return [*said, f"{crate.name}: {len(edits)} edits in {len(rounds)} rounds, {len(edits) - len(judged)} of them alone"], failed
 
 
 def is_there(crate):
@@ -161,8 +155,8 @@ def main(names):
     well = [it for it in crates if all(is_there(dep) for dep in it.below())]
     failed = [f"{it.name} (a library below it isn't built, or has changed since)" for it in crates if it not in well]
     refused = 0
-    with futures.ThreadPoolExecutor(rt.processors()) as checks, futures.ThreadPoolExecutor() as judges:
-        for said, stayed in judges.map(lambda it: judge(it, checks), sorted(well, key=lambda it: -len(edits_of(it)))):
+    with futures.ThreadPoolExecutor(rt.processors()) as pool:
+        for said, stayed in pool.map(judge, sorted(well, key=lambda it: -len(edits_of(it)))):
             print(*[f"edits: {it}" for it in said], sep="\n", flush=True)
             refused += len(said) - 1 - len(stayed)
             failed += stayed
