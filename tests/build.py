@@ -4,6 +4,7 @@
 usage: build.py NAME ..     at the top of the repository; each stands as crates/NAME/out/NAME then
 
 `rt run` in a program's folder does the same, one crate after another. Ends with status 1 where one isn't proved."""
+import collections
 import concurrent.futures
 import os
 import sys
@@ -11,16 +12,13 @@ import tempfile
 
 from kit import rt, rtlib
 
-# What a check may use of the processors. From nutlisting on there is one chain of crates, and upsd is its end.
-JOBS = "4"
 
-
-def build(crate):
+def build(crate, jobs):
     """Proves and builds a library, or a program, which then says its version, and tells whether that went well."""
     # No lock is held, for which programs over the same libraries would wait: a crate is built once those below it are.
     crate.held = []
     with tempfile.TemporaryFile("a+", errors="replace") as crate.out:
-        flags = ["--jobs", JOBS]
+        flags = ["--jobs", str(jobs)]
         status = crate.run(flags, ["--version"]) if crate.is_program else crate.build_rlib(flags, anew=False)
         if status:
             crate.out.seek(0)
@@ -35,7 +33,7 @@ def build_all(crates):
 
     def of(crate):
         nonlocal done
-        is_built = all(built[it].result() for it in crate.below()) and build(crate)
+        is_built = all(built[it].result() for it in crate.below()) and build(crate, jobs[crate])
         done += 1
         print(f"build: {crate.name}: {'proved' if is_built else 'FAILED'} ({done} of {len(crates)})", flush=True)
         return is_built
@@ -43,6 +41,13 @@ def build_all(crates):
     # What the last crate stands on is one long chain: all else gives way to it. A crate waits only for crates that
     # were handed in before it, so some work always goes on.
     chain = {crates[-1], *crates[-1].below()}
+    # Crates of the chain that can be proved at once share the processors: a check by four jobs takes twice the work of
+    # a check by one.
+    storey = {}
+    for it in crates:
+        storey[it] = 1 + max((storey[dep] for dep in it.below()), default=0)
+    beside = collections.Counter(storey[it] for it in chain)
+    jobs = {it: max(1, rt.processors() // beside[storey[it]]) if it in chain else 1 for it in crates}
     pool, giving_way = (
         concurrent.futures.ThreadPoolExecutor(rt.processors(), initializer=os.nice, initargs=[nice]) for nice in (0, 19)
     )

@@ -9,8 +9,7 @@ pairs "- TEXT" and "+ TEXT", each of one line, whose first stands in the file ex
 Entries of different functions make a round: one check of the edited functions and what they call. Refused is an
 entry only where a goal of its own function stays open; that a callee isn't proved counts for nothing, since a caller
 is checked against its callee's contract. A round counts only where it reached the prover and no function that nobody
-edited has an open goal; else it is halved. What no round refuses is tried alone by the kit's own way, which proves
-the whole crate. The last line says how many were refused."""
+edited has an open goal; else it is halved. The last line says how many were refused."""
 import concurrent.futures as futures
 import os
 import re
@@ -92,7 +91,7 @@ def is_of(function, crate, edit):
 
 
 def in_round(crate, edits, kept):
-    """Judges edits in one check. Returns what is said of each that is refused; nothing of those that have to be tried alone."""
+    """Judges edits in one check. Returns what is said of each that is refused."""
     if not edits:
         return {}
     status, lines = check(crate, edits, kept)
@@ -117,31 +116,15 @@ def rounds_of(edits):
     return rounds
 
 
-def alone(crate, edits, kept):
-    """Tries each edit by the kit's own way, and returns whether it is refused, and what is said."""
-    # By that way an edit says something only where the crate itself is proved.
-    is_sound = not edits or rt.checked(crate, {}, ["--jobs", "1"], kept).returncode == 0
-    for edit in edits:
-        answer, said = None, f": {crate.name} isn't proved as it stands"
-        if is_sound:
-            with tempfile.NamedTemporaryFile("w", suffix=".edit", encoding="utf-8") as it:
-                it.write(edit.text)
-                it.flush()
-                answer, said = rt.must_fail(crate, it.name, ["--jobs", "1"], kept)
-        yield edit, answer == rt.REFUSED, said.partition(": ")[2]
-
-
 def judge(crate):
-    """Judges a crate's edits. Returns the lines to print, and the titles of those that aren't refused."""
-    edits, failed = edits_of(crate), []
+    """Judges a crate's edits. Returns the lines to print, and the names of those that aren't refused."""
+    edits = edits_of(crate)
     with tempfile.TemporaryDirectory(prefix="edits-kept-") as kept:
         rounds = rounds_of([it for it in edits if it.function and not it.why])
         judged = {it: why for some in rounds for it, why in in_round(crate, some, kept).items()}
-        said = [f"{it.name}: refused: {why[:160]}" for it, why in judged.items()]
-        for it, refused, why in alone(crate, [it for it in edits if it not in judged], kept):
-            said.append(f"{it.name}: tried alone: {why[:160]}")
-            failed += [it.name] * (not refused)
-    return [*said, f"{crate.name}: {len(edits)} edits in {len(rounds)} rounds, {len(edits) - len(judged)} of them alone"], failed
+    said = [f"{it.name}: refused: {why[:160]}" for it, why in judged.items()]
+    failed = [f"{it.name}{it.why and f' ({it.why})'}" for it in edits if it not in judged]
+    return [*said, f"{crate.name}: {len(edits)} edits in {len(rounds)} rounds"], failed
 
 
 def is_there(crate):
@@ -156,9 +139,9 @@ def main(names):
     failed = [f"{it.name} (a library below it isn't built, or has changed since)" for it in crates if it not in well]
     refused = 0
     with futures.ThreadPoolExecutor(rt.processors()) as pool:
-        for said, stayed in pool.map(judge, sorted(well, key=lambda it: -len(edits_of(it)))):
+        for said, stayed in pool.map(judge, sorted(well, key=lambda it: -it.count(rb"\n"))):
             print(*[f"edits: {it}" for it in said], sep="\n", flush=True)
-            refused += len(said) - 1 - len(stayed)
+            refused += len(said) - 1
             failed += stayed
     for name in failed:
         print(f"edits: FAILED: {name}")

@@ -45,7 +45,7 @@ edit counting 'Four is five' four '    3 + 1' '    3 + 2'
 judge counting
 says 'a wrong body is refused at its own function' 'counting: Two is three: refused: counting::two: '
 says 'each of a round is judged by itself' 'counting: Four is five: refused: counting::four: '
-says 'one round is enough' 'counting: 2 edits in 1 rounds, 0 of them alone'
+says 'one round is enough' 'counting: 2 edits in 1 rounds'
 says 'they are counted' '^edits: 2 refused, 0 failed$'
 
 edit counting 'Two is three' two '    1 + 1' '    1 + 2'
@@ -53,13 +53,13 @@ edit counting 'Six in another order' six 'two() + four()' 'four() + two()'
 edit counting 'Six is a text' six 'two() + four()' '"six"'
 edit counting 'Text moved' three '    7 + 1' '    7 + 2'
 edit counting 'Another function' five '    2 + 1' '    2 + 2'
-edit counting 'Three is said to be four' '' '≡ 3' '≡ 4'
+edit counting 'No function is named' '' '2 + 1' '2 + 2'
 judge
 says 'an edit that changes nothing fails' '^edits: FAILED: counting: Six in another order$'
 says 'an edit that does not compile fails' '^edits: FAILED: counting: Six is a text$'
-says 'an edit whose text has moved fails' '^edits: FAILED: counting: Text moved$'
-says 'what is no body is tried alone' 'counting: Three is said to be four: tried alone: refused, as it must be'
-says 'a round with an edit that does not compile is halved' '^edits: 3 refused, 3 failed$'
+says 'an edit whose text has moved fails' '^edits: FAILED: counting: Text moved \('
+says 'an edit that names no function fails' '^edits: FAILED: counting: No function is named$'
+says 'a round with an edit that does not compile is halved' '^edits: 1 refused, 5 failed$'
 
 crate unproved "$(function_of one 1 '2')" "$(function_of two 2 'one() + 1')"
 edit unproved 'Two is three' two 'one() + 1' 'one() + 2'
