@@ -41,13 +41,13 @@ def build_all(crates):
     # What the last crate stands on is one long chain: all else gives way to it. A crate waits only for crates that
     # were handed in before it, so some work always goes on.
     chain = {crates[-1], *crates[-1].below()}
-    # Crates of the chain that can be proved at once share the processors: a check by four jobs takes twice the work of
-    # a check by one.
+    # A check by two jobs takes hardly more work than by one, by four twice as much: so much only where a crate of the
+    # chain is alone on its storey.
     storey = {}
     for it in crates:
         storey[it] = 1 + max((storey[dep] for dep in it.below()), default=0)
     beside = collections.Counter(storey[it] for it in chain)
-    jobs = {it: max(1, rt.processors() // beside[storey[it]]) if it in chain else 1 for it in crates}
+    jobs = {it: 4 if it in chain and beside[storey[it]] == 1 else 2 for it in crates}
     pool, giving_way = (
         concurrent.futures.ThreadPoolExecutor(rt.processors(), initializer=os.nice, initargs=[nice]) for nice in (0, 19)
     )
