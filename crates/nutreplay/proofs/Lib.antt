@@ -1,4 +1,3 @@
-mod Reading
 mod Taking
 mod Doing
 mod OneRun

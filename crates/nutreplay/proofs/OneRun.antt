@@ -24,8 +24,8 @@ use Rattle.nutreplay.specs.declared.script.action.Action.{Action}
 use Rattle.nutreplay.specs.declared.script.action.Action.TheVariants as asked
 use Rattle.nutreplay.specs.declared.script.ScriptLine.{ScriptLine}
 use Rattle.nutreplay.specs.declared.transcript.sent.Taken.{Taken}
-use Rattle.nutreplay.specs.Script.{actions_of}
-use Rattle.nutreplay.specs.Transcript.{TranscriptState, new_transcript, Happens, TakesAgain, all_taken, again, IsDone, AreDone, IsOutput, count_offered, count_owed, sent_to, taken_by, opened_by}
+use Rattle.nutreplay.specs.Script.{took, actions_of}
+use Rattle.nutreplay.specs.Transcript.{TranscriptState, new_transcript, Happens, TakesAgain, all_taken, again, IsDone, AreDone, IsOutput, count_offered, sent_to, taken_by, opened_by}
 use Rattle.nutreplay.proofs.Taking.{when_true, when_false}
 use Rattle.nutreplay.specs.OneRun.{Happening, events_of, outcomes_of, once, takings, of_line, of_lines, RecordsRun}
 
@@ -155,16 +155,15 @@ once_runs line event old new h = record {
       ∙ ap (λ (xs : List ℕ). sent_to (Driver u) old.taken ++ xs) (driver_sent_by u old.server event ∙ sym (append-nil (driver_taken_in_event u old.server event)));
 }
 
-takings_run : (line c : ℕ) (old new : TranscriptState) (h : TakesAgain line c old new) → IsRun (takings line c old new h) old new
-takings_run line c old new (all_taken t none) = nothing t t refl refl refl
-takings_run line c old new (again first mid last some h rest) =
-    joined (once line (Took c (count_offered c first)) first mid h) (takings line c mid last rest) first mid last (once_runs line (Took c (count_offered c first)) first mid h) (takings_run line c mid last rest)
+takings_run : (line : ℕ) (p : Peer) (old new : TranscriptState) (h : TakesAgain line p old new) → IsRun (takings line p old new h) old new
+takings_run line p old new (all_taken t none) = nothing t t refl refl refl
+takings_run line p old new (again first mid last some h rest) =
+    joined (once line (took p (count_offered p first)) first mid h) (takings line p mid last rest) first mid last (once_runs line (took p (count_offered p first)) first mid h) (takings_run line p mid last rest)
 
 line_runs : (line : ℕ) (action : Action) (old new : TranscriptState) (h : IsDone line action old new) → IsRun (of_line line action old new h) old new
 line_runs line (asked.Happens event) old new h = once_runs line event old new h
-line_runs line (asked.TookAll c) old new h =
-    joined (once line (Took c (count_offered c old)) old h.0 h.1) (takings line c h.0 new h.2) old h.0 new (once_runs line (Took c (count_offered c old)) old h.0 h.1) (takings_run line c h.0 new h.2)
-line_runs line (asked.DriverTookAll u) old new h = once_runs line (DriverTook u (count_owed u old)) old new h
+line_runs line (asked.TookAll p) old new h =
+    joined (once line (took p (count_offered p old)) old h.0 h.1) (takings line p h.0 new h.2) old h.0 new (once_runs line (took p (count_offered p old)) old h.0 h.1) (takings_run line p h.0 new h.2)
 
 pub lines_run : (lines : List ScriptLine) (old new : TranscriptState) (h : AreDone lines old new) → IsRun (of_lines lines old new h) old new
 lines_run [] old new h = nothing old new (ap (λ (t : TranscriptState). t.server) h) (ap (λ (t : TranscriptState). t.clients) h) (ap (λ (t : TranscriptState). t.taken) h)

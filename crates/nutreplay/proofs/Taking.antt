@@ -20,23 +20,30 @@ use Rattle.nutcore.specs.History.{taken_in_event}
 use Rattle.nutcore.specs.declared.event.Event.TheVariants.{Took, DriverTook}
 use Rattle.nutlisting.specs.declared.ring.TheConstants.{RING_LIMIT}
 use Rattle.nutreplay.specs.declared.transcript.sent.Taken.{Taken}
-use Rattle.nutreplay.specs.Transcript.{TranscriptState, Happens, TakesAgain, count_offered}
+use Rattle.nutcore.specs.declared.event.Peer.{Peer}
+use Rattle.nutcore.specs.declared.event.Peer.TheVariants.{Client, Driver}
+use Rattle.nutreplay.specs.Script.{took}
+use Rattle.nutreplay.specs.Transcript.{TranscriptState, Happens, TakesAgain, count_offered, taken_by}
 use Rattle.nutreplay.specs.Transcript.TakesAgain.{again}
 
 -- each taking is kept
-pub taken_longer : (line c n : ℕ) (old new : TranscriptState) → Happens line (Took c n) old new → length new.taken ≡ length old.taken + 1
-taken_longer line c n old new h = ap (λ (ts : List Taken). length ts) h.taken ∙ length-append old.taken _
+one_taken : (p : Peer) (n : ℕ) (s : ServerState) → length (taken_by s (took p n)) ≡ 1
+one_taken (Client c) n s = refl
+one_taken (Driver u) n s = refl
 
-pub takes_again : (line c n : ℕ) (old mid new : TranscriptState) → n ≡ count_offered c old → 0 < n → Happens line (Took c n) old mid → TakesAgain line c mid new → TakesAgain line c old new
-takes_again line c n old mid new e some h rest =
-    let more : count_offered c old ≢ 0 = omega (arith, e, some) in
-    again old mid new more (subst (λ (m : ℕ). Happens line (Took c m) old mid) e h) rest
+pub taken_longer : (line : ℕ) (p : Peer) (n : ℕ) (old new : TranscriptState) → Happens line (took p n) old new → length new.taken ≡ length old.taken + 1
+taken_longer line p n old new h = ap (λ (ts : List Taken). length ts) h.taken ∙ length-append old.taken _ ∙ ap (λ (m : ℕ). length old.taken + m) (one_taken p n old.server)
+
+pub takes_again : (line : ℕ) (p : Peer) (n : ℕ) (old mid new : TranscriptState) → n ≡ count_offered p old → 0 < n → Happens line (took p n) old mid → TakesAgain line p mid new → TakesAgain line p old new
+takes_again line p n old mid new e some h rest =
+    let more : count_offered p old ≢ 0 = omega (arith, e, some) in
+    again old mid new more (subst (λ (m : ℕ). Happens line (took p m) old mid) e h) rest
 
 -- the first taking, of the transcript as its fields say
-pub first_time : (line c n : ℕ) (t fields : TranscriptState) (s : ServerState) (mid : TranscriptState) → fields ≡ t → s ≡ fields.server → n ≡ count_offered c fields → Happens line (Took c n) (record fields { server = s }) mid → Happens line (Took c (count_offered c t)) t mid
-first_time line c n t fields s mid is same count h =
-    let first : Happens line (Took c (count_offered c fields)) fields mid = subst (λ (m : ℕ). Happens line (Took c m) fields mid) count (subst (λ (z : ServerState). Happens line (Took c n) (record fields { server = z }) mid) same h) in
-    subst (λ (z : TranscriptState). Happens line (Took c (count_offered c z)) z mid) is first
+pub first_time : (line : ℕ) (p : Peer) (n : ℕ) (t fields : TranscriptState) (s : ServerState) (mid : TranscriptState) → fields ≡ t → s ≡ fields.server → n ≡ count_offered p fields → Happens line (took p n) (record fields { server = s }) mid → Happens line (took p (count_offered p t)) t mid
+first_time line p n t fields s mid is same count h =
+    let first : Happens line (took p (count_offered p fields)) fields mid = subst (λ (m : ℕ). Happens line (took p m) fields mid) count (subst (λ (z : ServerState). Happens line (took p n) (record fields { server = z }) mid) same h) in
+    subst (λ (z : TranscriptState). Happens line (took p (count_offered p z)) z mid) is first
 
 -- what is taken, by the session
 pub client_taken_of : (c n : ℕ) (s : ServerState) (o : Option SessionState) → session c s ≡ o → taken_in_event c s (Took c n) ≡ (if may_take o n then take n (owed_of o) else [])

@@ -6,7 +6,7 @@ use Rattle.nutusers.specs.UpsList.{Ups}
 use Rattle.nutusers.specs.Users.{User}
 use Rattle.nutusers.specs.Descriptions.{Descriptions}
 use Rattle.nutcore.specs.declared.event.Event.{Event}
-use Rattle.nutcore.specs.declared.event.Event.TheVariants.{DriverTook, Took}
+use Rattle.nutcore.specs.declared.event.Peer.{Peer}
 use Rattle.nutcore.specs.declared.event.Peer.TheVariants.{Client, Driver}
 use Rattle.nutcore.specs.declared.event.Outcome.{Outcome}
 use Rattle.nutcore.specs.Server.{ServerState, new_server}
@@ -16,10 +16,10 @@ use Rattle.nutcore.specs.DriverOrders.{all_taken as driver_taken}
 use Rattle.nutreplay.specs.declared.script.action.Action.{Action}
 use Rattle.nutreplay.specs.declared.script.action.Action.TheVariants as asked
 use Rattle.nutreplay.specs.declared.script.ScriptLine.{ScriptLine}
-use Rattle.nutreplay.specs.Script.{actions_of}
+use Rattle.nutreplay.specs.Script.{took, actions_of}
 use Rattle.nutreplay.specs.Transcript.{TranscriptState, new_transcript, Happens}
 use Rattle.nutreplay.specs.Transcript.{TakesAgain, all_taken, again, IsDone, AreDone, IsOutput}
-use Rattle.nutreplay.specs.Transcript.{opened_by, count_offered, count_owed, sent_to}
+use Rattle.nutreplay.specs.Transcript.{opened_by, count_offered, sent_to}
 
 pub record Happening : Type 0 where
   pub event : Event
@@ -36,21 +36,19 @@ abbrev pub once : (line : ℕ) (event : Event) (old new : TranscriptState)
     → Happens line event old new → List Happening
 once line event old new h = record { event = event; outcome = h.outcome } ∷ []
 
--- A client's takings, until nothing is offered.
-abbrev pub takings : (line c : ℕ) (old new : TranscriptState) → TakesAgain line c old new
+-- The takings of a client or a driver, until nothing is offered.
+abbrev pub takings : (line : ℕ) (p : Peer) (old new : TranscriptState) → TakesAgain line p old new
     → List Happening
-takings line c old new (all_taken t none) = []
-takings line c old new (again first mid last some h rest) =
-    once line (Took c (count_offered c first)) first mid h ++ takings line c mid last rest
+takings line p old new (all_taken t none) = []
+takings line p old new (again first mid last some h rest) =
+    once line (took p (count_offered p first)) first mid h ++ takings line p mid last rest
 
 -- The events of a line.
 abbrev pub of_line : (line : ℕ) (action : Action) (old new : TranscriptState)
     → IsDone line action old new → List Happening
 of_line line (asked.Happens event) old new h = once line event old new h
-of_line line (asked.TookAll c) old new h =
-    once line (Took c (count_offered c old)) old h.0 h.1 ++ takings line c h.0 new h.2
-of_line line (asked.DriverTookAll u) old new h =
-    once line (DriverTook u (count_owed u old)) old new h
+of_line line (asked.TookAll p) old new h =
+    once line (took p (count_offered p old)) old h.0 h.1 ++ takings line p h.0 new h.2
 
 -- The events of the lines.
 abbrev pub of_lines : (lines : List ScriptLine) (old new : TranscriptState) → AreDone lines old new

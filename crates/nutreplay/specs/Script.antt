@@ -1,6 +1,6 @@
 -- What each line of a replay script means.
-use Rattle.std.specs.Prelude.{ℕ, ◌+◌, ◌-◌, ◌^◌, Bool, true, false, List, [], ◌∷◌, ◌++◌, Option}
-use Rattle.std.specs.Prelude.{Some, None, ◌==◌, if◌then◌else◌, length, take, drop, position, codes}
+use Rattle.std.specs.Prelude.{ℕ, ◌+◌, ◌-◌, ◌^◌, Bool, List, [], ◌∷◌, ◌++◌, Option}
+use Rattle.std.specs.Prelude.{Some, None, ◌==◌, ◌&&◌, if◌then◌else◌, length, take, drop, position, codes, is_some, not}
 use Rattle.std.specs.Option.{option_map, option_map_or}
 use Rattle.std.specs.Result.{result_ok}
 use Rattle.std.specs.Str.{bytes_eq}
@@ -16,13 +16,13 @@ use Rattle.nutcore.specs.declared.event.Event.{Event}
 use Rattle.nutcore.specs.declared.event.Event.TheVariants.{DriverUp, DriverBytes, DriverTook}
 use Rattle.nutcore.specs.declared.event.Event.TheVariants.{DriverDown, Tick, Open, Feed, Took}
 use Rattle.nutcore.specs.declared.event.Event.TheVariants.{Close, Id}
+use Rattle.nutcore.specs.declared.event.Peer.{Peer}
+use Rattle.nutcore.specs.declared.event.Peer.TheVariants.{Client, Driver}
 use Rattle.nutreplay.specs.declared.script.action.TheConstants.{UNLISTED}
 use Rattle.nutreplay.specs.declared.script.action.Action.{Action}
-use Rattle.nutreplay.specs.declared.script.action.Action.TheVariants.{Happens, TookAll, DriverTookAll}
+use Rattle.nutreplay.specs.declared.script.action.Action.TheVariants.{Happens, TookAll}
 use Rattle.nutreplay.specs.declared.script.action.Form.{Form}
 use Rattle.nutreplay.specs.declared.script.action.Form.TheVariants.{Line, Part, Hex}
-use Rattle.nutreplay.specs.declared.script.Meaning.{Meaning}
-use Rattle.nutreplay.specs.declared.script.Meaning.TheVariants.{Nothing, Does, Bad}
 use Rattle.nutreplay.specs.declared.script.ScriptLine.{ScriptLine}
 
 -- The bytes before the first space, and those after it.
@@ -50,24 +50,24 @@ abbrev pub with_rest : {A : Type 0} → (List ℕ → Option A) → Option (List
 with_rest read None = None
 with_rest read (Some parts) = option_map (λ first. (first, parts.1)) (read parts.0)
 
-abbrev pub ups_and_rest : List Ups → List ℕ → Option (UpsId × List ℕ)
-ups_and_rest list text = with_rest (ups list) (split_at_space text)
+abbrev pub driver_and_rest : List Ups → List ℕ → Option (Peer × List ℕ)
+driver_and_rest list text =
+    with_rest (λ name. option_map (λ u. Driver u) (ups list name)) (split_at_space text)
 
-abbrev pub client_and_rest : List ℕ → Option (ℕ × List ℕ)
-client_and_rest text = with_rest number (split_at_space text)
+abbrev pub client_and_rest : List ℕ → Option (Peer × List ℕ)
+client_and_rest text =
+    with_rest (λ digits. option_map (λ c. Client c) (number digits)) (split_at_space text)
+
+abbrev pub took : Peer → ℕ → Event
+took (Client c) n = Took c n
+took (Driver u) n = DriverTook u n
 
 -- So many bytes, or `all`.
-abbrev pub taking : Option (ℕ × List ℕ) → Option Action
+abbrev pub taking : Option (Peer × List ℕ) → Option Action
 taking None = None
 taking (Some parts) =
     if bytes_eq parts.1 (codes "all") then Some (TookAll parts.0)
-    else option_map (λ n. Happens (Took parts.0 n)) (number parts.1)
-
-abbrev pub driver_taking : Option (UpsId × List ℕ) → Option Action
-driver_taking None = None
-driver_taking (Some parts) =
-    if bytes_eq parts.1 (codes "all") then Some (DriverTookAll parts.0)
-    else option_map (λ n. Happens (DriverTook parts.0 n)) (number parts.1)
+    else option_map (λ n. Happens (took parts.0 n)) (number parts.1)
 
 -- The bytes that an even number of hexadecimal digits writes, in either case, two digits at least.
 abbrev pub hex_bytes : List ℕ → Option (List ℕ)
@@ -79,23 +79,22 @@ bytes_of Line text = Some (with_lf text)
 bytes_of Part text = Some text
 bytes_of Hex text = hex_bytes text
 
-abbrev pub driver_bytes : Form → Option (UpsId × List ℕ) → Option Event
-driver_bytes form None = None
-driver_bytes form (Some parts) =
-    option_map (λ piece. DriverBytes parts.0 piece) (bytes_of form parts.1)
+abbrev pub sent : Peer → List ℕ → Event
+sent (Client c) piece = Feed c piece
+sent (Driver u) piece = DriverBytes u piece
 
-abbrev pub client_bytes : Form → Option (ℕ × List ℕ) → Option Event
-client_bytes form None = None
-client_bytes form (Some parts) = option_map (λ piece. Feed parts.0 piece) (bytes_of form parts.1)
+abbrev pub sending : Form → Option (Peer × List ℕ) → Option Event
+sending form None = None
+sending form (Some parts) = option_map (λ piece. sent parts.0 piece) (bytes_of form parts.1)
 
 -- The event of a verb, with the bytes after its space: one case a verb, here and below. First the
 -- verbs of clients, of the clock and of ids.
 abbrev pub client_event : List ℕ → List ℕ → Option Event
 client_event verb text =
     if bytes_eq verb (codes "open") then option_map (λ a. Open a) (address text)
-    else if bytes_eq verb (codes "client") then client_bytes Line (client_and_rest text)
-    else if bytes_eq verb (codes "part") then client_bytes Part (client_and_rest text)
-    else if bytes_eq verb (codes "client-hex") then client_bytes Hex (client_and_rest text)
+    else if bytes_eq verb (codes "client") then sending Line (client_and_rest text)
+    else if bytes_eq verb (codes "part") then sending Part (client_and_rest text)
+    else if bytes_eq verb (codes "client-hex") then sending Hex (client_and_rest text)
     else if bytes_eq verb (codes "close") then option_map (λ c. Close c) (number text)
     else if bytes_eq verb (codes "tick") then option_map (λ n. Tick n) (number text)
     else if bytes_eq verb (codes "id") then option_map (λ id. Id id) (read_id text)
@@ -106,50 +105,44 @@ abbrev pub event_of : List Ups → List ℕ → List ℕ → Option Event
 event_of list verb text =
     if bytes_eq verb (codes "up") then option_map (λ u. DriverUp u) (ups list text)
     else if bytes_eq verb (codes "down") then option_map (λ u. DriverDown u) (ups list text)
-    else if bytes_eq verb (codes "driver") then driver_bytes Line (ups_and_rest list text)
-    else if bytes_eq verb (codes "driver-part") then driver_bytes Part (ups_and_rest list text)
-    else if bytes_eq verb (codes "driver-hex") then driver_bytes Hex (ups_and_rest list text)
+    else if bytes_eq verb (codes "driver") then sending Line (driver_and_rest list text)
+    else if bytes_eq verb (codes "driver-part") then sending Part (driver_and_rest list text)
+    else if bytes_eq verb (codes "driver-hex") then sending Hex (driver_and_rest list text)
     else client_event verb text
 
 abbrev pub action_of : List Ups → List ℕ → List ℕ → Option Action
 action_of list verb text =
     if bytes_eq verb (codes "took") then taking (client_and_rest text)
-    else if bytes_eq verb (codes "driver-took") then driver_taking (ups_and_rest list text)
+    else if bytes_eq verb (codes "driver-took") then taking (driver_and_rest list text)
     else option_map (λ event. Happens event) (event_of list verb text)
 
-abbrev pub read_action : List Ups → Option (List ℕ × List ℕ) → Option Action
-read_action list None = None
-read_action list (Some parts) = action_of list parts.0 parts.1
+abbrev pub read_parts : List Ups → Option (List ℕ × List ℕ) → Option Action
+read_parts list None = None
+read_parts list (Some parts) = action_of list parts.0 parts.1
 
-abbrev pub meaning : Option Action → Meaning
-meaning None = Bad
-meaning (Some action) = Does action
+-- What a line asks for, if it is one of a script's.
+unfoldable pub read_line : List Ups → List ℕ → Option Action
+read_line list line = read_parts list (split_at_space line)
 
--- What a line means: nothing, an action, or it is bad.
-unfoldable pub read_line : List Ups → List ℕ → Meaning
-read_line list line =
-    if is_silent line then Nothing else meaning (read_action list (split_at_space line))
-
--- The actions of lines that are numbered from here on, each with its line's number.
-abbrev pub numbered : ℕ → Meaning → List ScriptLine
-numbered n (Does action) = record { number = n; action = action } ∷ []
-numbered n Nothing = []
-numbered n Bad = []
+-- The actions of lines that are numbered from here on, each with its line's number. A blank line and a
+-- comment ask for nothing.
+abbrev pub numbered : ℕ → Option Action → List ScriptLine
+numbered n None = []
+numbered n (Some action) = record { number = n; action = action } ∷ []
 
 abbrev pub actions_from : List Ups → ℕ → List (List ℕ) → List ScriptLine
 actions_from list n [] = []
 actions_from list n (line ∷ lines) =
-    numbered n (read_line list line) ++ actions_from list (n + 1) lines
+    (if is_silent line then [] else numbered n (read_line list line))
+    ++ actions_from list (n + 1) lines
 
-abbrev pub is_bad : Meaning → Bool
-is_bad Bad = true
-is_bad Nothing = false
-is_bad (Does action) = false
+abbrev pub is_bad : List Ups → List ℕ → Bool
+is_bad list line = not (is_silent line) && not (is_some (read_line list line))
 
 abbrev pub bad_line_from : List Ups → ℕ → List (List ℕ) → Option ℕ
 bad_line_from list n [] = None
 bad_line_from list n (line ∷ lines) =
-    if is_bad (read_line list line) then Some n else bad_line_from list (n + 1) lines
+    if is_bad list line then Some n else bad_line_from list (n + 1) lines
 
 -- What a script asks for over this list of UPSs, and the number of its first bad line. Lines are
 -- numbered from 1.

@@ -3,7 +3,6 @@ use Rattle.std.specs.Prelude.{◌≡◌, ◌≢◌, ℕ, ◌+◌, ◌-◌, Bool,
 use Rattle.std.specs.Prelude.{None, ◌==◌, nat_lt, if◌then◌else◌, length, slice_get, codes}
 use Rattle.std.specs.List.{flat_map}
 use Rattle.std.specs.Fmt.{decimal}
-use Rattle.nutusers.specs.declared.ups_list.UpsId.{UpsId}
 use Rattle.nutusers.specs.UpsList.{Ups, id_at}
 use Rattle.nutusers.specs.Users.{User}
 use Rattle.nutusers.specs.Descriptions.{Descriptions}
@@ -25,7 +24,7 @@ use Rattle.nutreplay.specs.declared.script.action.Action.{Action}
 use Rattle.nutreplay.specs.declared.script.action.Action.TheVariants as asked
 use Rattle.nutreplay.specs.declared.script.ScriptLine.{ScriptLine}
 use Rattle.nutreplay.specs.declared.transcript.sent.Taken.{Taken}
-use Rattle.nutreplay.specs.Script.{actions_of}
+use Rattle.nutreplay.specs.Script.{took, actions_of}
 
 -- A transcript after the events so far. server: what they left. text: the notes of them. clients:
 -- the ids, in the order of opening. taken: what clients and drivers took, in order.
@@ -96,37 +95,35 @@ pub record Happens (line : ℕ) (event : Event) (old new : TranscriptState) : Ty
   pub clients : new.clients ≡ old.clients ++ opened_by outcome
   pub taken : new.taken ≡ old.taken ++ taken_by old.server event
 
--- How many bytes the client is offered.
-abbrev pub count_offered : ℕ → TranscriptState → ℕ
-count_offered c t = length (offered (session c t.server))
-
--- A client takes what it is offered, again and again, while something is offered.
-pub data TakesAgain (line c : ℕ) : TranscriptState → TranscriptState → Type 0 where
-  all_taken : (t : TranscriptState) → count_offered c t ≡ 0 → TakesAgain line c t t
-  again : (old mid new : TranscriptState) → count_offered c old ≢ 0
-      → Happens line (Took c (count_offered c old)) old mid → TakesAgain line c mid new
-      → TakesAgain line c old new
-
--- A client takes what it is offered: once, and again while something is offered.
-abbrev pub TakesAll : ℕ → ℕ → TranscriptState → TranscriptState → Type 0
-TakesAll line c old new =
-    (mid : TranscriptState) × Happens line (Took c (count_offered c old)) old mid
-    × TakesAgain line c mid new
-
--- How many bytes the driver is offered.
 abbrev pub owed_of : Option UpsState → List ℕ
 owed_of None = []
 owed_of (Some x) = owed_to x
 
-abbrev pub count_owed : UpsId → TranscriptState → ℕ
-count_owed u t = length (owed_of (ups_at u.place t.server))
+-- What a client or a driver is offered.
+abbrev pub offered_to : Peer → ServerState → List ℕ
+offered_to (Client c) s = offered (session c s)
+offered_to (Driver u) s = owed_of (ups_at u.place s)
+
+abbrev pub count_offered : Peer → TranscriptState → ℕ
+count_offered p t = length (offered_to p t.server)
+
+-- It takes what it is offered, again and again, while something is offered.
+pub data TakesAgain (line : ℕ) (p : Peer) : TranscriptState → TranscriptState → Type 0 where
+  all_taken : (t : TranscriptState) → count_offered p t ≡ 0 → TakesAgain line p t t
+  again : (old mid new : TranscriptState) → count_offered p old ≢ 0
+      → Happens line (took p (count_offered p old)) old mid → TakesAgain line p mid new
+      → TakesAgain line p old new
+
+-- It takes what it is offered: once, and again while something is offered.
+abbrev pub TakesAll : ℕ → Peer → TranscriptState → TranscriptState → Type 0
+TakesAll line p old new =
+    (mid : TranscriptState) × Happens line (took p (count_offered p old)) old mid
+    × TakesAgain line p mid new
 
 -- What a line asks for is done.
 abbrev pub IsDone : ℕ → Action → TranscriptState → TranscriptState → Type 0
 IsDone line (asked.Happens event) old new = Happens line event old new
-IsDone line (asked.TookAll c) old new = TakesAll line c old new
-IsDone line (asked.DriverTookAll u) old new =
-    Happens line (DriverTook u (count_owed u old)) old new
+IsDone line (asked.TookAll p) old new = TakesAll line p old new
 
 -- The lines are done, one after another.
 abbrev pub AreDone : List ScriptLine → TranscriptState → TranscriptState → Type 0

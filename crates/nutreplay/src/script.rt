@@ -1,33 +1,22 @@
 //! The replay script: what each of its lines means.
 ghost use Rattle.std.specs.Prelude.{◌≡◌, ◌⊎◌, ℕ, IfOk, IfErr, None, Some};
-ghost use Rattle.nutreplay.specs.Script.{read_line, actions_of, first_bad_line};
+ghost use Rattle.nutreplay.specs.Script.{actions_of, first_bad_line};
 
 mod action;
 
 pub use self::action::Action;
-use self::action::read_action;
+use self::action::read_line;
+pub(crate) use self::action::took;
 use crate::replaying::ReplayFault;
-use hex::FromHexError;
 use nutcore::UpsList;
 use nutwords::{TextLines, is_silent};
-use std::alloc::{AllocError, Global};
+use std::alloc::Global;
 
 /// An action, with the number of its line, from 1.
 #[derive(Debug, Drop)]
 pub struct ScriptLine {
     pub number: usize,
     pub action: Action,
-}
-
-/// What one line means.
-#[derive(Debug, Drop)]
-pub enum Meaning {
-    /// It is blank or a comment.
-    Nothing,
-    /// It asks for an action.
-    Does(Action),
-    /// It is none of a script's lines.
-    Bad,
 }
 
 /// The actions of a script over this list of UPSs, in the order of its lines.
@@ -50,25 +39,12 @@ pub fn read_script(
     let mut number = 0;
     for line in TextLines::of(script) {
         number += 1;
-        match read_line(alloc, list, line)? {
-            Meaning::Nothing => {}
-            Meaning::Does(action) => lines.push(ScriptLine { number, action })?,
-            Meaning::Bad => return Err(ReplayFault::BadEvent(number)),
+        if !is_silent(line) {
+            let Some(action) = read_line(alloc, list, line)? else {
+                return Err(ReplayFault::BadEvent(number));
+            };
+            lines.push(ScriptLine { number, action })?;
         }
     }
     Ok(lines)
-}
-
-/// What a line means.
-#[tactic(auto, unfolding(crate::specs::Script::read_line))]
-fn read_line(alloc: Global, list: &UpsList, line: &[u8]) -> Result<Meaning, AllocError>
-    ensures { IfOk result (λ meaning. meaning ≡ read_line list.now line.now) }
-{
-    if is_silent(line) {
-        return Ok(Meaning::Nothing);
-    }
-    match read_action(alloc, list, line)? {
-        Some(action) => Ok(Meaning::Does(action)),
-        None => Ok(Meaning::Bad),
-    }
 }

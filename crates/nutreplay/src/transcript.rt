@@ -4,12 +4,13 @@ ghost use Rattle.nutcore.specs.Step.{Step, offered};
 ghost use Rattle.nutcore.specs.Server.{session, ups_at};
 ghost use Rattle.nutcore.specs.History.{taken_in_event};
 ghost use Rattle.nutcore.specs.DriverOrders.{taken_in_event as driver_taken_in_event};
-ghost use Rattle.nutreplay.specs.Transcript.{new_transcript, note_of_refusal, note_of_held, held_count, held_total, note_of, opened_by, taken_by, taken_of, Happens, TakesAll, IsDone, AreDone, count_offered, count_owed, owed_of, whole_text};
+ghost use Rattle.nutreplay.specs.Script.{took};
+ghost use Rattle.nutreplay.specs.Transcript.{new_transcript, note_of_refusal, note_of_held, held_count, held_total, note_of, opened_by, taken_by, Happens, TakesAll, IsDone, AreDone, offered_to, count_offered, whole_text};
 
 mod sent;
 
 use self::sent::{Taken, write_clients, write_drivers};
-use crate::script::{Action, ScriptLine};
+use crate::script::{Action, ScriptLine, took};
 use nutcore::{
     Bytes, ClientId, Descriptions, Event, Fault, MaxAge, Outcome, Peer, Server, UpsId, UpsList,
     Users,
@@ -72,8 +73,7 @@ impl Transcript {
     {
         match action {
             Action::Happens(event) => self.event(line, &event),
-            Action::TookAll(c) => self.take_all(line, c),
-            Action::DriverTookAll(u) => self.driver_take_all(line, u),
+            Action::TookAll(peer) => self.take_all(line, peer),
         }
     }
 
@@ -91,24 +91,17 @@ impl Transcript {
         ensures { OnOk result (self.new ≡ record self.old
             { taken = self.old.taken ++ taken_by self.old.server event.now }) }
     {
-        match event {
+        let (peer, bytes) = match event {
             Event::Took(c, n) => {
                 let bytes = bytes_taken(self.alloc, &mut self.server, *c, *n)?;
-                self.keep(Peer::Client(*c), bytes)
+                (Peer::Client(*c), bytes)
             }
             Event::DriverTook(u, n) => {
                 let bytes = driver_bytes_taken(self.alloc, &mut self.server, *u, *n)?;
-                self.keep(Peer::Driver(*u), bytes)
+                (Peer::Driver(*u), bytes)
             }
-            _ => Ok(()),
-        }
-    }
-
-    /// Keeps what a peer took.
-    fn keep(&mut self, peer: Peer, bytes: Vec<u8>) -> Result<(), AllocError>
-        ensures { OnOk result (self.new ≡ record self.old
-            { taken = self.old.taken ++ taken_of peer bytes.items }) }
-    {
+            _ => return Ok(()),
+        };
         let bytes = Bytes::new(bytes);
         Ok(self.taken.push(Taken { peer, bytes })?)
     }
@@ -191,35 +184,26 @@ impl Transcript {
         self.text.extend_from_slice(text.as_bytes())
     }
 
-    /// A client takes what it is offered, once, and again while something is offered.
-    fn take_all(&mut self, line: usize, c: ClientId) -> Result<(), AllocError>
-        ensures { OnOk result (TakesAll line c self.old self.new) }
+    /// A client or a driver takes what it is offered, once, and again while something is offered.
+    fn take_all(&mut self, line: usize, peer: Peer) -> Result<(), AllocError>
+        ensures { OnOk result (TakesAll line peer self.old self.new) }
     {
-        let n = count_offered(&mut self.server, c);
-        let mut left = self.take(line, c, n)?;
+        let n = count_offered(&mut self.server, peer);
+        let mut left = self.take(line, peer, n)?;
         while left > 0 {
-            left = self.take(line, c, left)?;
+            left = self.take(line, peer, left)?;
         }
         Ok(())
     }
 
-    /// A driver takes all that it is offered.
-    fn driver_take_all(&mut self, line: usize, u: UpsId) -> Result<(), AllocError>
-        ensures { OnOk result (Happens line (Event.DriverTook u (count_owed u self.old))
-            self.old self.new) }
-    {
-        let n = count_owed(&self.server, u);
-        self.event(line, &Event::DriverTook(u, n))
-    }
-
-    /// A client takes n bytes. The answer is how many it is offered then.
-    fn take(&mut self, line: usize, c: ClientId, n: usize) -> Result<usize, AllocError>
-        ensures happens { OnOk result (Happens line (Event.Took c n) self.old self.new) }
-        ensures left { IfOk result (λ left. left ≡ count_offered c self.new) }
+    /// It takes n bytes. The answer is how many it is offered then.
+    fn take(&mut self, line: usize, peer: Peer, n: usize) -> Result<usize, AllocError>
+        ensures happens { OnOk result (Happens line (took peer n) self.old self.new) }
+        ensures left { IfOk result (λ left. left ≡ count_offered peer self.new) }
         ensures few { OnOk result (length self.new.taken < 2 ^ 64) }
     {
-        self.event(line, &Event::Took(c, n))?;
-        Ok(count_offered(&mut self.server, c))
+        self.event(line, &took(peer, n))?;
+        Ok(count_offered(&mut self.server, peer))
     }
 
     /// The whole text.
@@ -240,14 +224,17 @@ impl Transcript {
     }
 }
 
-/// How many bytes the client is offered: none where it isn't open.
-fn count_offered(server: &mut Server, c: ClientId) -> usize
-    ensures count { result ≡ length (offered (session c server.old.state)) }
+/// How many bytes a client or a driver is offered: none where there is no such client or UPS.
+fn count_offered(server: &mut Server, peer: Peer) -> usize
+    ensures count { result ≡ length (offered_to peer server.old.state) }
     ensures same { server.new ≡ server.old }
 {
-    match server.offer(c) {
-        Ok(bytes) => bytes.len(),
-        Err(_) => 0,
+    match peer {
+        Peer::Client(c) => match server.offer(c) {
+            Ok(bytes) => bytes.len(),
+            Err(_) => 0,
+        },
+        Peer::Driver(u) => server.driver_offered(u).unwrap_or(0),
     }
 }
 
@@ -269,16 +256,6 @@ fn bytes_taken(
         }
     }
     Ok(taken)
-}
-
-/// How many bytes the driver is offered: none where there is no such UPS.
-fn count_owed(server: &Server, u: UpsId) -> usize
-    ensures { result ≡ length (owed_of (ups_at u.place server.now.state)) }
-{
-    match server.driver_offered(u) {
-        Ok(n) => n,
-        Err(_) => 0,
-    }
 }
 
 /// The bytes that the driver takes, if it may take so many.

@@ -1,10 +1,10 @@
 //! What one line of a script asks for.
 ghost use Rattle.std.specs.Prelude.{◌≡◌, ◌<◌, ◌==◌, ℕ, length, position, IfOk, IfSome, MatchOption, None, Some};
-ghost use Rattle.nutwords.specs.Text.{with_lf};
-ghost use Rattle.nutreplay.specs.Script.{split_at_space, number, ups, address, ups_and_rest, client_and_rest, taking, driver_taking, hex_bytes, bytes_of, driver_bytes, client_bytes, event_of, client_event, action_of, read_action};
+ghost use Rattle.std.specs.Option.{option_map};
+ghost use Rattle.nutreplay.specs.Script.{split_at_space, number, ups, address, driver_and_rest, client_and_rest, took, taking, sending, hex_bytes, bytes_of, event_of, client_event, action_of, read_line};
 
 use hex::FromHexError;
-use nutcore::{Bytes, ClientId, Event, UpsId, UpsList};
+use nutcore::{Bytes, Event, Peer, UpsId, UpsList};
 use nuttracking::read_id;
 use nutwords::{Address, UpsName, read_natural};
 use std::alloc::{AllocError, Global};
@@ -18,10 +18,8 @@ const UNLISTED: u8 = 255;
 pub enum Action {
     /// This event happens.
     Happens(Event),
-    /// `took N all`: a client takes what it is offered, as long as something is.
-    TookAll(ClientId),
-    /// `driver-took U all`: the driver of a UPS takes all that it is offered.
-    DriverTookAll(UpsId),
+    /// `took N all` and `driver-took U all`: a client or a driver takes what it is offered, as long as something is.
+    TookAll(Peer),
 }
 
 /// How a line writes the bytes that a peer sends.
@@ -36,12 +34,13 @@ enum Form {
 }
 
 /// What a line asks for, if it is one of a script's.
-pub(super) fn read_action(
+#[tactic(auto, unfolding(crate::specs::Script::read_line))]
+pub(super) fn read_line(
     alloc: Global,
     list: &UpsList,
     line: &[u8],
 ) -> Result<Option<Action>, AllocError>
-    ensures { IfOk result (λ action. action ≡ read_action list.now (split_at_space line.now)) }
+    ensures { IfOk result (λ action. action ≡ read_line list.now line.now) }
 {
     match split_at_space(line) {
         Some((verb, text)) => action_of(alloc, list, verb, text),
@@ -59,9 +58,9 @@ fn action_of(
     ensures { IfOk result (λ action. action ≡ action_of list.now verb.now text.now) }
 {
     if verb == b"took".as_slice() {
-        Ok(taking(text))
+        Ok(taking(client_and_rest(text)))
     } else if verb == b"driver-took".as_slice() {
-        Ok(driver_taking(list, text))
+        Ok(taking(driver_and_rest(list, text)))
     } else {
         let event = event_of(alloc, list, verb, text)?;
         Ok(event.map(|event| Action::Happens(event)))
@@ -82,11 +81,11 @@ fn event_of(
     } else if verb == b"down".as_slice() {
         Ok(ups(list, text).map(|u| Event::DriverDown(u)))
     } else if verb == b"driver".as_slice() {
-        driver_bytes(alloc, list, Form::Line, text)
+        sending(alloc, Form::Line, driver_and_rest(list, text))
     } else if verb == b"driver-part".as_slice() {
-        driver_bytes(alloc, list, Form::Part, text)
+        sending(alloc, Form::Part, driver_and_rest(list, text))
     } else if verb == b"driver-hex".as_slice() {
-        driver_bytes(alloc, list, Form::Hex, text)
+        sending(alloc, Form::Hex, driver_and_rest(list, text))
     } else {
         client_event(alloc, verb, text)
     }
@@ -99,11 +98,11 @@ fn client_event(alloc: Global, verb: &[u8], text: &[u8]) -> Result<Option<Event>
     if verb == b"open".as_slice() {
         Ok(address(text).map(|from| Event::Open(from)))
     } else if verb == b"client".as_slice() {
-        client_bytes(alloc, Form::Line, text)
+        sending(alloc, Form::Line, client_and_rest(text))
     } else if verb == b"part".as_slice() {
-        client_bytes(alloc, Form::Part, text)
+        sending(alloc, Form::Part, client_and_rest(text))
     } else if verb == b"client-hex".as_slice() {
-        client_bytes(alloc, Form::Hex, text)
+        sending(alloc, Form::Hex, client_and_rest(text))
     } else if verb == b"close".as_slice() {
         Ok(read_number(text).map(|c| Event::Close(c)))
     } else if verb == b"tick".as_slice() {
@@ -115,67 +114,59 @@ fn client_event(alloc: Global, verb: &[u8], text: &[u8]) -> Result<Option<Event>
     }
 }
 
-/// What a client takes: so many bytes, or `all`.
-fn taking(text: &[u8]) -> Option<Action>
-    ensures { result ≡ taking (client_and_rest text.now) }
+/// What a client or a driver takes: so many bytes, or `all`.
+fn taking(parts: Option<(Peer, &[u8])>) -> Option<Action>
+    ensures { result ≡ taking (option_map (λ p. (p.0, p.1.now)) parts.entry) }
 {
-    let (c, count) = client_and_rest(text)?;
+    let (peer, count) = parts?;
     if count == b"all".as_slice() {
-        return Some(Action::TookAll(c));
+        return Some(Action::TookAll(peer));
     }
     let n = read_number(count)?;
-    Some(Action::Happens(Event::Took(c, n as usize)))
+    Some(Action::Happens(took(peer, n as usize)))
 }
 
-/// What the driver of a UPS takes: so many bytes, or `all`.
-fn driver_taking(list: &UpsList, text: &[u8]) -> Option<Action>
-    ensures { result ≡ driver_taking (ups_and_rest list.now text.now) }
+/// A client or a driver takes so many bytes.
+pub(crate) fn took(peer: Peer, n: usize) -> Event
+    ensures { result ≡ took peer n }
 {
-    let (u, count) = ups_and_rest(list, text)?;
-    if count == b"all".as_slice() {
-        return Some(Action::DriverTookAll(u));
+    match peer {
+        Peer::Client(c) => Event::Took(c, n),
+        Peer::Driver(u) => Event::DriverTook(u, n),
     }
-    let n = read_number(count)?;
-    Some(Action::Happens(Event::DriverTook(u, n as usize)))
 }
 
-/// What the driver of a UPS sends.
-fn driver_bytes(
+/// What a client or a driver sends.
+fn sending(
     alloc: Global,
-    list: &UpsList,
     form: Form,
-    text: &[u8],
+    parts: Option<(Peer, &[u8])>,
 ) -> Result<Option<Event>, AllocError>
-    ensures { IfOk result (λ event. event
-        ≡ driver_bytes form (ups_and_rest list.now text.now)) }
+    ensures { IfOk result (λ event. event ≡ sending form (option_map (λ p. (p.0, p.1.now)) parts.entry)) }
 {
-    let Some((u, rest)) = ups_and_rest(list, text) else {
+    let Some((peer, rest)) = parts else {
         return Ok(None);
     };
     let piece = bytes_of(alloc, form, rest)?;
-    Ok(piece.map(|piece| Event::DriverBytes(u, piece)))
-}
-
-/// What a client sends.
-fn client_bytes(alloc: Global, form: Form, text: &[u8]) -> Result<Option<Event>, AllocError>
-    ensures { IfOk result (λ event. event ≡ client_bytes form (client_and_rest text.now)) }
-{
-    let Some((c, rest)) = client_and_rest(text) else {
-        return Ok(None);
-    };
-    let piece = bytes_of(alloc, form, rest)?;
-    Ok(piece.map(|piece| Event::Feed(c, piece)))
+    Ok(piece.map(|piece| match peer {
+        Peer::Client(c) => Event::Feed(c, piece),
+        Peer::Driver(u) => Event::DriverBytes(u, piece),
+    }))
 }
 
 /// The bytes that are written in this form.
 fn bytes_of(alloc: Global, form: Form, text: &[u8]) -> Result<Option<Bytes>, AllocError>
     ensures { IfOk result (λ bytes. bytes ≡ bytes_of form text.now) }
 {
-    match form {
-        Form::Line => Ok(Some(whole_line(alloc, text)?)),
-        Form::Part => Ok(Some(piece(alloc, text)?)),
-        Form::Hex => hex_bytes(alloc, text),
-    }
+    let end: &[u8] = match form {
+        Form::Line => b"\n",
+        Form::Part => b"",
+        Form::Hex => return hex_bytes(alloc, text),
+    };
+    let mut bytes = Vec::new(alloc);
+    bytes.extend_from_slice(text)?;
+    bytes.extend_from_slice(end)?;
+    Ok(Some(Bytes::new(bytes)))
 }
 
 /// The bytes that an even number of hexadecimal digits writes, two digits at least.
@@ -192,24 +183,22 @@ fn hex_bytes(alloc: Global, digits: &[u8]) -> Result<Option<Bytes>, AllocError>
     }
 }
 
-/// A UPS and the bytes after the space that follows its name.
-fn ups_and_rest<'t>(list: &UpsList, text: &'t [u8]) -> Option<(UpsId, &'t [u8])>
-    ensures { MatchOption result (ups_and_rest list.now text.now ≡ None)
-        (λ p. ups_and_rest list.now text.now ≡ Some (p.0, p.1.now)) }
+/// The driver of a UPS, and the bytes after the space that follows the name.
+fn driver_and_rest<'t>(list: &UpsList, text: &'t [u8]) -> Option<(Peer, &'t [u8])>
+    ensures { option_map (λ p. (p.0, p.1.now)) result ≡ driver_and_rest list.now text.now }
 {
     let (first, rest) = split_at_space(text)?;
     let u = ups(list, first)?;
-    Some((u, rest))
+    Some((Peer::Driver(u), rest))
 }
 
-/// A client's id and the bytes after the space that follows it.
-fn client_and_rest(text: &[u8]) -> Option<(ClientId, &[u8])>
-    ensures { MatchOption result (client_and_rest text.now ≡ None)
-        (λ p. client_and_rest text.now ≡ Some (p.0, p.1.now)) }
+/// A client, and the bytes after the space that follows its id.
+fn client_and_rest(text: &[u8]) -> Option<(Peer, &[u8])>
+    ensures { option_map (λ p. (p.0, p.1.now)) result ≡ client_and_rest text.now }
 {
     let (first, rest) = split_at_space(text)?;
     let c = read_number(first)?;
-    Some((c, rest))
+    Some((Peer::Client(c), rest))
 }
 
 /// The UPS of this name.
@@ -244,25 +233,6 @@ fn space_in(line: &[u8]) -> Option<usize>
     ensures within { IfSome result (λ i. i < length line.now) }
 {
     line.iter().position(|b| *b == b' ')
-}
-
-/// A copy of the bytes, with an LF.
-fn whole_line(alloc: Global, rest: &[u8]) -> Result<Bytes, AllocError>
-    ensures { IfOk result (λ bytes. bytes ≡ with_lf rest.now) }
-{
-    let mut bytes = Vec::new(alloc);
-    bytes.extend_from_slice(rest)?;
-    bytes.push(b'\n')?;
-    Ok(Bytes::new(bytes))
-}
-
-/// A copy of the bytes.
-fn piece(alloc: Global, rest: &[u8]) -> Result<Bytes, AllocError>
-    ensures { IfOk result (λ bytes. bytes ≡ rest.now) }
-{
-    let mut bytes = Vec::new(alloc);
-    bytes.extend_from_slice(rest)?;
-    Ok(Bytes::new(bytes))
 }
 
 /// A number: `0`, or digits that don't begin with 0, below 2^64.

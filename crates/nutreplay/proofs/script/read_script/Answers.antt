@@ -1,7 +1,6 @@
-use Rattle.std.proofs.Common.{◌≡◌, ◌+◌, ◌∷◌, ◌∙◌, refl, ap, arith, inr, length}
+use Rattle.std.proofs.Common.{◌≡◌, ◌+◌, ◌∷◌, ◌∙◌, refl, ap, arith, length}
 use Rattle.nutwords.specs.Text.{lines_of}
 use Rattle.nutreplay.specs.Script.{actions_of, first_bad_line}
-use Rattle.nutreplay.proofs.Reading.{bad_here}
 use Rattle.nutreplay.proofs.script.read_script.Goals as goal
 
 pub loop-line-init : goal.loop-line-init
@@ -20,8 +19,3 @@ pub overflow_add-number : goal.overflow_add-number
 overflow_add-number c =
     let short : c.loop-line.number + length (c.in-Some.line.now ∷ c.next.new.self) ≡ length (lines_of c.args.script.now) = rw c.in-Some.ensures.steps at c.loop-line.invariant.short in
     omega (arith, short, c.of-line-items.ensures.few)
-
-pub returns-in-Bad-clause-err : goal.returns-in-Bad-clause-err
-returns-in-Bad-clause-err c =
-    let bad = rw c.in-Bad.is at c.in_ok-read_line.ensures in
-    inr (c.loop-line.number + 1, refl, bad_here _ _ _ _ _ _ _ c.in-Some.ensures.steps bad refl c.loop-line.invariant.bad)
