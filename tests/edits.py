@@ -123,7 +123,7 @@ def judge(crate):
         rounds = rounds_of([it for it in edits if it.function and not it.why])
         judged = {it: why for some in rounds for it, why in in_round(crate, some, kept).items()}
     said = [f"{it.name}: refused: {why[:160]}" for it, why in judged.items()]
-    failed = [f"{it.name}{it.why and f' ({it.why})'}" for it in edits if it not in judged]
+    failed = [it.name + f" ({it.why})" * bool(it.why) for it in edits if it not in judged]
     return [*said, f"{crate.name}: {len(edits)} edits in {len(rounds)} rounds"], failed
 
 
