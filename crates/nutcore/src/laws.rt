@@ -1,8 +1,8 @@
 //! Laws of every server, event and run. No program calls them.
 ghost use Rattle.nutcore.specs.Headline.{WhatWasSentAndIsOwedIsTheAnswers, WhatWasAskedIsExecutedOrHeld, EachAnswerIsTimely, NothingIsLeftToExecute, OneAnswerAtMostIsOwedAbove, AListingIsWhatIsHeld, ARefusedLineChangesNothing, ThePumpExecutesTheLeast, EachEventIsAFunction};
-ghost use Rattle.nutcore.specs.ByRight.{AForcedShutdownIsSetByRight, ALoginIsByRight, CredentialsAreGivenByLines, WhatIsCountedIsWhoIsThere};
+ghost use Rattle.nutcore.specs.ByRight.{AForcedShutdownReachesEverybody, ALoginIsByRight, CredentialsAreGivenByLines, WhatIsCountedIsWhoIsThere};
 ghost use Rattle.nutcore.specs.Lasting.{WhatNeverGoesBack};
-ghost use Rattle.nutcore.specs.Endings.{WhoIsOverIsAskedNoMore, IdsThatAreGivenRise, AGrantedShutdownIsSet, ATickTouchesNoSession, AnOpeningTouchesNoOther};
+ghost use Rattle.nutcore.specs.Endings.{WhoIsOverIsAskedNoMore, IdsThatAreGivenRise, ATickTouchesNoSession, AnOpeningTouchesNoOther};
 ghost use Rattle.nutcore.specs.Waiting.{ALineIsAnswered};
 ghost use Rattle.nutcore.specs.Alone.{OneLineIsAnswered};
 ghost use Rattle.nutcore.specs.OrdersByRight.{EachOrderIsByRight, TheOrdersToldAreThoseOfTheLines};
@@ -84,11 +84,11 @@ pub fn a_refused_line_changes_nothing()
     only_ok_changes();
 }
 
-/// A forced shutdown is set only by an executed `FSD`, answered `OK FSD-SET`, of a session with the
-/// name and password of a user with that right.
+/// `ups.status` is shown with `FSD ` in front exactly if an `FSD` of that UPS was executed before,
+/// answered `OK FSD-SET`, by right. Everybody is shown that, also after the driver is lost.
 #[tactic(auto, using(crate::proofs::ShutdownMarks::shutdowns))]
-pub fn a_forced_shutdown_is_set_by_right()
-    ensures { AForcedShutdownIsSetByRight }
+pub fn a_forced_shutdown_reaches_everybody()
+    ensures { AForcedShutdownReachesEverybody }
 {}
 
 /// A session is logged in only by its own `LOGIN`, answered `OK`, with the right to it.
@@ -125,7 +125,7 @@ pub fn one_line_is_answered()
 {}
 
 /// A session's user name, password and login stay as given. An ending session goes on ending, a
-/// closed one never returns, and a forced shutdown stays set.
+/// closed one never returns.
 #[tactic(auto, using(crate::proofs::Lasting::never_back))]
 pub fn what_never_goes_back()
     ensures { WhatNeverGoesBack }
@@ -141,12 +141,6 @@ pub fn who_is_over_is_asked_no_more()
 #[tactic(auto, using(crate::proofs::Endings::ids_rise))]
 pub fn ids_that_are_given_rise()
     ensures { IdsThatAreGivenRise }
-{}
-
-/// After an `FSD` that was answered `OK FSD-SET` by right, the forced shutdown of its UPS is set.
-#[tactic(auto, using(crate::proofs::Endings::granted_is_set))]
-pub fn a_granted_shutdown_is_set()
-    ensures { AGrantedShutdownIsSet }
 {}
 
 /// A tick changes no session. A newcomer changes no other session.
