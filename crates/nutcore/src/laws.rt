@@ -20,7 +20,7 @@ ghost use Rattle.nutcore.specs.Totals.{AServerIsBoundedInAll};
 ghost use Rattle.nutcore.specs.TakingSome.{WhoTakesSomeGetsEverything};
 ghost use Rattle.nutcore.specs.DriverHistory.{WhatADriverToldIsExecuted};
 ghost use Rattle.nutcore.specs.DriverRuns.{WhatCameSinceConnectingIsExecuted, ALostDriversLinesAreABeginning, WhichLinesAreRefused, RefusedLinesAreCounted, ANewServerCountsAllRefusedLines};
-ghost use Rattle.nutcore.specs.FreshRuns.{TheMomentIsTheGreatestTick, WhateverIsToldIsFresh, WhatADriverSetLastIsHeld};
+ghost use Rattle.nutcore.specs.FreshRuns.{TheMomentIsTheGreatestTick, WhateverIsToldIsFresh, WhatADriverSetLastIsHeld, ASilentDriverIsAsked};
 ghost use Rattle.nutcore.specs.DriverOrders.{WhatADriverWasSentAndIsOwedIsWhatItWasTold};
 ghost use Rattle.nutcore.specs.TrackedRuns.{WhatIsTrackedComesOfTheActs, EachRunTracksItsOrders};
 ghost use Rattle.nutcore.specs.Listed.{EachIsListedOnce, WhatIsListedIsWhatIsHeld};
@@ -238,6 +238,12 @@ pub fn whatever_is_told_is_fresh()
     what_is_told_is_fresh();
     every_server_is_sound();
 }
+
+/// At each tick, a driver that was silent for a third of MAXAGE has been asked since its last line,
+/// if there is room for a `PING`. So ticks at least that often ask it before its data are stale.
+pub fn a_silent_driver_is_asked()
+    ensures { ASilentDriverIsAsked }
+{}
 
 /// The last accepted line of a connected driver on a variable decides what the UPS holds of it.
 #[tactic(auto, using(crate::proofs::FreshRuns::set_last_is_held))]
