@@ -10,6 +10,7 @@ pub mod FromDriver
 pub mod Refused
 pub mod Ids
 pub mod Progress
+pub mod Sent
 pub mod Ordered
 pub mod OverRuns
 pub mod OrdersOverRuns

@@ -35,21 +35,21 @@ use Rattle.nutclient.specs.Requests.{reply_behind}
 use Rattle.nutclient.specs.Printed.{Prints, printed, printed_of}
 use Rattle.nutclient.specs.declared.form.Form.TheVariants as forms
 use Rattle.endtoend.specs.Tracked.{UpscPrintsHowFarAnOrderHasCome}
-use Rattle.endtoend.specs.Served.{IsLineOf}
+use Rattle.endtoend.specs.Served.{IsReadAsAsked}
 use Rattle.endtoend.proofs.Ids.{id_written}
 use Rattle.endtoend.proofs.Numbers.{digits_all, written_read}
 use Rattle.endtoend.proofs.Refused.{first_read, refused_read}
-use Rattle.endtoend.proofs.Requests.{words_sent, line_of_three, line_of_four}
+use Rattle.endtoend.proofs.Requests.{sent_as, line_of_three, line_of_four}
 
 -- the line of the request
-get_tracking_read : (id : ℕ) (line : List ℕ) → id < 2 ^ 128 → IsLineOf (requests.GetTracking id) line → read_command line ≡ Ok (Some (commands.GetProgress (Some id)))
-get_tracking_read id line small e =
+pub get_tracking_read : (id : ℕ) → id < 2 ^ 128 → IsReadAsAsked (requests.GetTracking id)
+get_tracking_read id small line e =
     let words : List (List ℕ) = codes "GET" ∷ codes "TRACKING" ∷ id_text id ∷ [] in
     let written : IsWrittenLine words words = record {
       written = (as_it_is (omega arith) refl, (as_it_is (omega arith) refl, (id_written id, tt)));
       fits = omega (arith, ids_are_plain.long id, line_of_three (codes "GET") (codes "TRACKING") (id_text id));
     } in
-    words_sent (requests.GetTracking id) line written e ∙ ap (λ (o : Option ℕ). Ok (Some (commands.GetProgress o))) (written_is_read id small)
+    cc (sent_as (requests.GetTracking id) words written line e, written_is_read id small)
 
 -- what the server answers
 answered_by : (s : ServerState) (c id : ℕ) (line : List ℕ) (o : Option Progress) → read_command line ≡ Ok (Some (commands.GetProgress (Some id))) → progress_of id s.tracking ≡ o
@@ -133,7 +133,7 @@ prints_progress = record {
   told = λ s c id text line progress more read lawful is e.
       let small : id < 2 ^ 128 = ((read_is_written text id).0 read).0 in
       let mine = lawful_found id progress s.tracking.orders lawful is in
-      let answer = answered_by s c id line (Some progress) (get_tracking_read id line small e) is in
+      let answer = answered_by s c id line (Some progress) (get_tracking_read id small line e) is in
       let words = all_words id progress in
       let whole : reply (requests.GetTracking id) (line_of words ++ more) ≡ Whole (one_item (told_text progress)) more =
       first_read (requests.GetTracking id) words words more (words_written id progress mine)
@@ -143,7 +143,7 @@ prints_progress = record {
       ∙ ap Prints (printed_text progress);
   unknown = λ s c id text line more read is e.
       let small : id < 2 ^ 128 = ((read_is_written text id).0 read).0 in
-      let answer = answered_by s c id line None (get_tracking_read id line small e) is in
+      let answer = answered_by s c id line None (get_tracking_read id small line e) is in
       ap (λ (t : List ℕ). printed (requests.GetTracking id ∷ []) forms.Value (t ++ more)) answer
       ∙ ap (λ (r : Reply). printed_of forms.Value (reply_behind r (λ items rest. Whole items rest))) (refused_read (requests.GetTracking id) InvalidArgument more);
 }

@@ -1,5 +1,6 @@
 //! Laws over both ends: the server's `reply` and the client's `printed`, each as its own crate defines it.
 ghost use Rattle.endtoend.specs.Frames.{AFrameIsReadAsItsItems};
+ghost use Rattle.endtoend.specs.Served.{EachRequestIsReadAsAsked};
 ghost use Rattle.endtoend.specs.FromDriver.{UpscPrintsWhatTheDriverSetLast, UpscPrintsAllThatTheDriverSetLast};
 ghost use Rattle.endtoend.specs.Refused.{ARefusalIsTold};
 ghost use Rattle.endtoend.specs.Ordered.{AnOrderThatIsPrintedIsGiven};
@@ -14,6 +15,13 @@ use nutcore::laws::{
     the_orders_told_are_those_of_the_lines, what_a_driver_set_last_is_held,
     what_is_counted_is_who_is_there, whatever_is_told_is_fresh,
 };
+
+/// What `upsc`, `upsrw` and `upscmd` send is read by the server as the commands that their words
+/// ask for.
+#[tactic(auto, using(crate::proofs::Sent::each_read))]
+pub fn each_request_is_read_as_asked()
+    ensures { EachRequestIsReadAsAsked }
+{}
 
 /// A client reads the text of a listing of up to 65,536 items as these items, in order, whatever
 /// follows it.
