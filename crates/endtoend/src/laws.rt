@@ -4,14 +4,14 @@ ghost use Rattle.endtoend.specs.Served.{EachRequestIsReadAsAsked};
 ghost use Rattle.endtoend.specs.FromDriver.{UpscPrintsWhatTheDriverSetLast, UpscPrintsAllThatTheDriverSetLast};
 ghost use Rattle.endtoend.specs.Refused.{ARefusalIsTold};
 ghost use Rattle.endtoend.specs.Ordered.{AnOrderThatIsPrintedIsGiven};
-ghost use Rattle.endtoend.specs.Tracked.{ATrackedOrderThatIsPrintedIsGiven, UpscPrintsHowFarAnOrderHasCome};
+ghost use Rattle.endtoend.specs.Tracked.{ATrackedOrderThatIsPrintedIsGiven, UpscPrintsHowFarAnOrderHasCome, UpscPrintsWhatItsDriverReported};
 ghost use Rattle.endtoend.specs.OverRuns.{UpscPrintsWhatItTook};
 ghost use Rattle.endtoend.specs.OrdersOverRuns.{AnOrderThatIsPrintedIsToldInTheRun, ATrackedOrderThatIsPrintedIsToldInTheRun};
 ghost use Rattle.endtoend.specs.Printed.{UpscPrintsTheVariables, UpscPrintsTheVariable, UpscPrintsHowManyAreLoggedIn, UpscPrintsTheUpses, UpsrwPrintsTheVariables, UpscmdPrintsTheCommands};
 
 use nutanswer::laws::each_order_answered_ok_is_given;
 use nutcore::laws::{
-    a_listing_is_what_is_held, every_server_is_sound, one_line_is_answered,
+    a_listing_is_what_is_held, each_run_tracks_its_orders, every_server_is_sound, one_line_is_answered,
     the_orders_told_are_those_of_the_lines, what_a_driver_set_last_is_held,
     what_is_counted_is_who_is_there, whatever_is_told_is_fresh,
 };
@@ -116,6 +116,16 @@ pub fn a_tracked_order_that_is_printed_is_given()
     ensures { ATrackedOrderThatIsPrintedIsGiven }
 {
     each_order_answered_ok_is_given();
+}
+
+/// What `upsc --tracked` prints of that id is `PENDING` up to that driver's first report on it, and
+/// then what this said, until 256 more orders are given.
+pub fn upsc_prints_what_its_driver_reported()
+    ensures { UpscPrintsWhatItsDriverReported }
+{
+    each_run_tracks_its_orders();
+    every_server_is_sound();
+    upsc_prints_how_far_an_order_has_come();
 }
 
 /// In a run that executed its line, that order and its id are among those given to that driver.
