@@ -1,11 +1,12 @@
 -- An order whose OK a client printed was given, and one whose id it printed was given with that id.
-use Rattle.std.proofs.Common.{◌≡◌, ◌⊎◌, ◌∙◌, ◌+◌, ℕ, true, false, List, [], ◌∷◌, ◌++◌, length, length-append, append-nil, if◌then◌else◌, Bool, Option, Some, None, Result, Ok, Err, IfSome, refl, sym, ap, subst, inl, inr, arith}
+use Rattle.std.proofs.Common.{◌≡◌, ◌⊎◌, ◌∙◌, ℕ, true, false, true≢false, List, [], ◌∷◌, ◌++◌, length, length-append, append-nil, if◌then◌else◌, Bool, Option, Some, None, Result, Ok, Err, IfSome, refl, sym, ap, subst, inl, inr, arith}
 use Rattle.std.specs.Prelude.{codes, IsTrue}
 use Rattle.std.specs.Option.{ok_or, option_map_or}
 use Rattle.nutwords.specs.Frame.{line_of}
 use Rattle.nuttracking.specs.Id.{id_text}
 use Rattle.nuttracking.specs.Tracking.{next_id}
 use Rattle.nutusers.specs.declared.rights.Right.TheVariants as rights
+use Rattle.nutusers.specs.declared.ups_list.UpsId.{UpsId}
 use Rattle.nutanswer.specs.declared.command.Command.{Command}
 use Rattle.nutanswer.specs.declared.command.Command.TheVariants as commands
 use Rattle.nutanswer.specs.declared.err_word.ErrWord.{ErrWord}
@@ -21,12 +22,14 @@ use Rattle.nutcore.specs.Server.{ServerState, session, with_session, with_sessio
 use Rattle.nutcore.specs.Session.{SessionState}
 use Rattle.nutcore.specs.Reply.{seen, asker, text_to, change_by, changed, changed_session, changed_upses, changed_tracking}
 use Rattle.nutcore.specs.Reply as server
-use Rattle.nutcore.specs.DriverOrders.{told_by_change}
+use Rattle.nutcore.specs.DriverOrders.{told_by_change, told_by_line}
+use Rattle.nutcore.specs.History.{of_line}
 use Rattle.nutrequest.specs.Reply.{Reply, Whole, Bad, reply as client_reply, one_item}
+use Rattle.nutrequest.specs.declared.faults.ClientFault.{ClientFault}
 use Rattle.nutrequest.specs.declared.request.Request.{Request}
 use Rattle.nutrequest.specs.declared.request.Request.TheVariants as requests
 use Rattle.nutclient.specs.Requests.{reply_behind}
-use Rattle.nutclient.specs.Printed.{Printed, Prints, printed, printed_of}
+use Rattle.nutclient.specs.Printed.{Printed, Prints, Faults, printed, printed_of}
 use Rattle.nutclient.specs.declared.form.Form.TheVariants as forms
 use Rattle.endtoend.specs.Refused.{is_granted_by_ok}
 use Rattle.endtoend.specs.Ordered.{IsOrdered, AnOrderThatIsPrintedIsGiven}
@@ -143,6 +146,11 @@ module _ (s : ServerState) (c : ℕ) (line ups : List ℕ) (command : Command) (
     text_is = prints_same text (line_of ok) (sym h ∙ printed_by _ _ e (granted_read request more by_ok));
   }
 
+  nothing_given : is_granted_by_ok request ≡ true → IsEither (seen s) (asker c s) (Some ups) answer → (fault : ClientFault) → prints ≡ Faults fault → (asker c s).tracking ≡ false → (u : UpsId) → told_by_line u (of_line s c line) ≡ []
+  nothing_given by_ok (inl (word, e)) fault h untracked u = ap (told_by_change u) (change_is_of ∙ ap change_of_answer e)
+  nothing_given by_ok (inr (known, Some id, named, is, e)) fault h untracked u = absurd (true≢false (sym is.0 ∙ untracked))
+  nothing_given by_ok (inr (known, None, named, is, e)) fault h untracked u = absurd (cc (sym (printed_by _ _ e (granted_read request more by_ok)) ∙ h))
+
   -- of one that an id grants
   ordered_with_id : (bytes : ℕ → List ℕ) → WantsId request → IsEither (seen s) (asker c s) (Some ups) answer
       → ((known : KnownUps) (id : ℕ) → ups_named (seen s) (Some ups) ≡ Some known → next_id s.tracking ≡ Some id → text_of_answer answer ≡ line_of (ok_words (Some id)) → change_of_answer answer ≡ order_to known.id (bytes id) (Some id))
@@ -170,12 +178,24 @@ module _ (s : ServerState) (c : ℕ) (line ups : List ℕ) (command : Command) (
 pub orders_given : EachOrderAnsweredOkIsGiven → AnOrderThatIsPrintedIsGiven
 unfolding answer prints
 orders_given given = record {
-  set = λ s c line ups name value more text n m v e h.
-      ordered s c line ups (commands.SetVar (Some ups) (Some name) (Some value)) (requests.SetVar ups name value) more text (set_read ups name value n m v line e) (set_line name value None) refl
-      (set_either (seen s) (asker c s) (Some ups) (Some name) (Some value)) (λ known named is. given.set (seen s) (asker c s) (Some ups) name value known named is) h;
-  command = λ s c line ups name value more text n m v e h.
-      ordered s c line ups (commands.InstCmd (Some ups) (Some name) (value_given value)) (requests.Instcmd ups name value) more text (command_read ups name value n m v line e) (instcmd_line name value None) refl
-      (command_either (seen s) (asker c s) (Some ups) (Some name) (value_given value)) (λ known named is. given.command (seen s) (asker c s) (Some ups) name value known named is) h;
+  set = λ s c line ups name value more n m v e.
+      let of_ups : Command = commands.SetVar (Some ups) (Some name) (Some value) in
+      let read = set_read ups name value n m v line e in
+      let either = set_either (seen s) (asker c s) (Some ups) (Some name) (Some value) in
+      record {
+        given = λ text h. ordered s c line ups of_ups (requests.SetVar ups name value) more text read (set_line name value None) refl either
+            (λ known named is. given.set (seen s) (asker c s) (Some ups) name value known named is) h;
+        nothing = nothing_given s c line ups of_ups (requests.SetVar ups name value) more [] read refl either;
+      };
+  command = λ s c line ups name value more n m v e.
+      let of_ups : Command = commands.InstCmd (Some ups) (Some name) (value_given value) in
+      let read = command_read ups name value n m v line e in
+      let either = command_either (seen s) (asker c s) (Some ups) (Some name) (value_given value) in
+      record {
+        given = λ text h. ordered s c line ups of_ups (requests.Instcmd ups name value) more text read (instcmd_line name value None) refl either
+            (λ known named is. given.command (seen s) (asker c s) (Some ups) name value known named is) h;
+        nothing = nothing_given s c line ups of_ups (requests.Instcmd ups name value) more [] read refl either;
+      };
 }
 
 -- a tracked order is sent as any other

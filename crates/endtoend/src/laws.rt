@@ -6,7 +6,7 @@ ghost use Rattle.endtoend.specs.Refused.{ARefusalIsTold};
 ghost use Rattle.endtoend.specs.Ordered.{AnOrderThatIsPrintedIsGiven};
 ghost use Rattle.endtoend.specs.Tracked.{ATrackedOrderThatIsPrintedIsGiven, UpscPrintsHowFarAnOrderHasCome, UpscPrintsWhatItsDriverReported};
 ghost use Rattle.endtoend.specs.OverRuns.{UpscPrintsWhatItTook};
-ghost use Rattle.endtoend.specs.OrdersOverRuns.{AnOrderThatIsPrintedIsToldInTheRun, ATrackedOrderThatIsPrintedIsToldInTheRun};
+ghost use Rattle.endtoend.specs.OrdersOverRuns.{APrintedOrderIsGivenOnce};
 ghost use Rattle.endtoend.specs.Printed.{UpscPrintsTheVariables, UpscPrintsTheVariable, UpscPrintsHowManyAreLoggedIn, UpscPrintsTheUpses, UpsrwPrintsTheVariables, UpscmdPrintsTheCommands};
 
 use nutanswer::laws::each_order_answered_ok_is_given;
@@ -94,20 +94,12 @@ pub fn a_refusal_is_told()
     ensures { ARefusalIsTold }
 {}
 
-/// If `upsrw -s` or `upscmd` prints `OK`, the server gave the order to the driver of that UPS,
-/// once, and nothing to any other driver.
+/// `upsrw -s` and `upscmd` print `OK` exactly if the server gave the order to the driver of that
+/// UPS, once, and nothing to any other driver.
 pub fn an_order_that_is_printed_is_given()
     ensures { AnOrderThatIsPrintedIsGiven }
 {
     each_order_answered_ok_is_given();
-}
-
-/// In a run that executed its line, that order is among those given to that driver.
-pub fn an_order_that_is_printed_is_told_in_the_run()
-    ensures { AnOrderThatIsPrintedIsToldInTheRun }
-{
-    the_orders_told_are_those_of_the_lines();
-    an_order_that_is_printed_is_given();
 }
 
 /// If `upsrw --track -s` or `upscmd --track` prints an id, the server gave the order with that id
@@ -128,12 +120,12 @@ pub fn upsc_prints_what_its_driver_reported()
     upsc_prints_how_far_an_order_has_come();
 }
 
-/// In a run that executed its line, that order and its id are among those given to that driver.
-pub fn a_tracked_order_that_is_printed_is_told_in_the_run()
-    ensures { ATrackedOrderThatIsPrintedIsToldInTheRun }
+/// A run that executed the line of an order that was printed gave it to that driver once for it, in
+/// the order of the lines.
+pub fn a_printed_order_is_given_once()
+    ensures { APrintedOrderIsGivenOnce }
 {
     the_orders_told_are_those_of_the_lines();
-    a_tracked_order_that_is_printed_is_given();
 }
 
 /// In a run of any clients and drivers, what the client of `upsc` took is a reply that is printed
