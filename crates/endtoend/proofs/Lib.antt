@@ -3,7 +3,6 @@ pub mod FrameReading
 pub mod Texts
 pub mod Numbers
 pub mod Requests
-pub mod Rows
 pub mod Printing
 pub mod Handing
 pub mod FromDriver

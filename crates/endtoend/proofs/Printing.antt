@@ -21,9 +21,11 @@ use Rattle.nutdriver.specs.Variable.{VariableState}
 use Rattle.nutusers.specs.UpsList.{Ups, IsLawfulUps}
 use Rattle.nutlisting.specs.Items.{variable_item, is_rw, command_item, ups_item}
 use Rattle.nutlisting.specs.Shown.{shown, ups_description}
-use Rattle.nutanswer.specs.Checks.{KnownUps}
+use Rattle.nutanswer.specs.Checks.{KnownUps, ups_named}
+use Rattle.nutanswer.specs.View.{Seen}
+use Rattle.nutanswer.proofs.PublicLaws.{a_named_ups_is_seen}
 use Rattle.nutcore.specs.ByRight.{WhatIsCountedIsWhoIsThere, logged_in, is_logged_in_of}
-use Rattle.nutcore.specs.Headline.{AListingIsWhatIsHeld}
+use Rattle.nutcore.specs.Listed.{EachIsListedOnce, WhatIsListedIsWhatIsHeld}
 use Rattle.nutcore.specs.Reply.{seen}
 use Rattle.nutcore.specs.Reply as server
 use Rattle.nutrequest.specs.declared.item.Item.{Item}
@@ -45,7 +47,6 @@ use Rattle.endtoend.proofs.Numbers.{written_number}
 use Rattle.nutwords.proofs.PublicLaws.{quoted_is_short}
 use Rattle.endtoend.proofs.Texts.{text_short, name_written, ups_name_written, quoted_written, shown_lawful, description_lawful}
 use Rattle.endtoend.proofs.Requests.{list_var_read, list_rw_read, list_cmd_read, list_ups_read, num_attach_read, get_var_read, line_of_three, line_of_four}
-use Rattle.endtoend.proofs.Rows.{name_kept, settings_answered, commands_answered, variable_answered, upses_answered}
 use Rattle.nutwords.specs.declared.limits.TheConstants.{LINE_ROOM, NAME_LIMIT, UPS_NAME_LIMIT}
 use Rattle.nutrequest.specs.declared.limits.TheConstants.{ITEM_LIMIT}
 
@@ -105,15 +106,19 @@ variables_text form fsd line_of (entry ∷ entries) same = ap (λ t. t ++ text_o
 listing_written : (kind ups : List ℕ) → length kind ≤ 64 → is_ups_name ups ≡ true → length (begin_line kind (ups ∷ [])) ≤ LINE_ROOM
 listing_written kind ups few h = omega (arith, few, text_short is_name_byte false UPS_NAME_LIMIT ups h, line_of_four (codes "BEGIN") (codes "LIST") kind ups)
 
-pub prints_variables : AListingIsWhatIsHeld → UpscPrintsTheVariables
-prints_variables held = λ s client ups line known more n u e.
+-- a UPS that is found by a name has the name
+name_kept : (s : Seen) (ups : List ℕ) (known : KnownUps) → ups_named s (Some ups) ≡ Some known → known.name ≡ ups
+name_kept s ups known named = let same : Some ups ≡ Some known.name = (a_named_ups_is_seen s (Some ups) known named).name_is in cc same
+
+pub prints_variables : EachIsListedOnce → UpscPrintsTheVariables
+prints_variables listed = λ s client ups line known more n u e.
     let query = queries.Var ups in
     let entries = known.state.report.tree.variables in
     let fsd = known.state.fsd in
     let lawful = entries_lawful entries u.sound.names u.sound.variables in
     let read = list_var_read ups n line e in
     let same : known.name ≡ ups = name_kept (seen s) ups known u.named in
-    let text = held.variables s client line ups known read u.named u.ready in
+    let text = (listed.variables s client line (Some ups) known read (record { named = u.named; ready = u.ready })).0 in
     let few : length (map (variable_of fsd) entries) ≤ ITEM_LIMIT = omega (arith, u.sound.variables_few, length-map entries (variable_of fsd)) in
     let written = variables_written query (codes "VAR") ups fsd entries (λ item. refl) (as_it_is (omega arith) refl) (omega arith) n lawful in
     let items = variables_known query fsd entries (λ name h. h) refl lawful in
@@ -133,15 +138,15 @@ filter_short p [] = omega arith
 filter_short p (x ∷ xs) = kept_short (p x) x (filter p xs) xs (filter_short p xs)
 
 -- the variables that may be set are some of them
-pub prints_settings : UpsrwPrintsTheVariables
-prints_settings = λ s client ups line known more n u e.
+pub prints_settings : EachIsListedOnce → UpsrwPrintsTheVariables
+prints_settings listed = λ s client ups line known more n u e.
     let query = queries.Rw ups in
     let entries = filter is_rw known.state.report.tree.variables in
     let fsd = known.state.fsd in
     let lawful = All-filter is_rw IsLawfulEntry known.state.report.tree.variables (entries_lawful known.state.report.tree.variables u.sound.names u.sound.variables) in
     let read = list_rw_read ups n line e in
     let same : known.name ≡ ups = name_kept (seen s) ups known u.named in
-    let text = settings_answered s client ups line known u.named u.ready read in
+    let text = (listed.rw s client line (Some ups) known read (record { named = u.named; ready = u.ready })).0 in
     let few : length (map (variable_of fsd) entries) ≤ ITEM_LIMIT = omega (arith, u.sound.variables_few, filter_short is_rw known.state.report.tree.variables, length-map entries (variable_of fsd)) in
     let written = variables_written query (codes "RW") ups fsd entries (λ item. refl) (as_it_is (omega arith) refl) (omega arith) n lawful in
     let items = variables_known query fsd entries (λ name h. h) refl lawful in
@@ -178,13 +183,13 @@ commands_text : (commands : List (List ℕ)) → text_of forms.Name (map command
 commands_text [] = refl
 commands_text (name ∷ commands) = ap (λ t. with_lf name ++ t) (commands_text commands)
 
-pub prints_commands : UpscmdPrintsTheCommands
-prints_commands = λ s client ups line known more n u e.
+pub prints_commands : EachIsListedOnce → UpscmdPrintsTheCommands
+prints_commands listed = λ s client ups line known more n u e.
     let query = queries.Cmd ups in
     let commands = known.state.report.tree.commands in
     let read = list_cmd_read ups n line e in
     let same : known.name ≡ ups = name_kept (seen s) ups known u.named in
-    let text = commands_answered s client ups line known u.named u.ready read in
+    let text = (listed.commands s client line (Some ups) known read (record { named = u.named; ready = u.ready })).0 in
     let few : length (map command_of commands) ≤ ITEM_LIMIT = omega (arith, u.sound.commands_few, length-map commands command_of) in
     let whole = frame_read query (map (command_item ups) commands) (map command_of commands) more
     ((as_it_is (omega arith) refl, (ups_name_written ups n, tt)), listing_written (codes "CMD") ups (omega arith) n, commands_written ups commands n u.sound.commands) (commands_known ups commands u.sound.commands) few in
@@ -196,14 +201,14 @@ prints_commands = λ s client ups line known more n u e.
 value_there : (known : KnownUps) (name : List ℕ) (variable : VariableState) → IsSoundTree known.state.report.tree → HasVariable known name variable → is_value variable.value ≡ true
 value_there known name variable sound has = (subst (λ o. IfSome o IsSoundVariable) has (IfSome-lookup_from_All IsSoundVariable (is_at (byte_order name)) known.state.report.tree.variables sound.variables)).value
 
-pub prints_variable : UpscPrintsTheVariable
-prints_variable = λ s client ups name line known variable more n m u has e.
+pub prints_variable : WhatIsListedIsWhatIsHeld → UpscPrintsTheVariable
+prints_variable held = λ s client ups name line known variable more n m u has e.
     let fsd = known.state.fsd in
     let value = shown fsd name variable in
     let lawful = shown_lawful fsd name variable (value_there known name variable u.sound has) in
     let read = get_var_read ups name n m line e in
     let same : known.name ≡ ups = name_kept (seen s) ups known u.named in
-    let text = variable_answered s client ups name line known variable u.named u.ready has read in
+    let text = held.got s client line (Some ups) name known variable read (record { named = u.named; ready = u.ready }) has in
     let texts : List (List ℕ) = codes "VAR" ∷ ups ∷ name ∷ quoted value ∷ [] in
     let written : IsWrittenLine texts (codes "VAR" ∷ ups ∷ name ∷ value ∷ []) = record {
       written = (as_it_is (omega arith) refl, (ups_name_written ups n, (name_written name m, (quoted_written value lawful.0, tt))));
@@ -263,10 +268,10 @@ descriptions_text : (list : List Ups) → text_of forms.Colon (map ups_of_list l
 descriptions_text [] = refl
 descriptions_text (ups ∷ list) = ap (λ t. description_line ups ++ t) (descriptions_text list)
 
-pub prints_upses : UpscPrintsTheUpses
-prints_upses = λ s client line more is e.
+pub prints_upses : EachIsListedOnce → UpscPrintsTheUpses
+prints_upses listed = λ s client line more is e.
     let list = s.list in
-    let text = upses_answered s client line (list_ups_read line e) in
+    let text = (listed.upses s client line (list_ups_read line e)).0 in
     let few : length (map ups_of_list list) ≤ ITEM_LIMIT = omega (arith, is.few, length-map list ups_of_list) in
     let whole = frame_read queries.Ups (map ups_item list) (map ups_of_list list) more
     ((as_it_is (omega arith) refl, tt), omega arith, upses_written list is.lawful)

@@ -11,9 +11,9 @@ ghost use Rattle.endtoend.specs.Printed.{UpscPrintsTheVariables, UpscPrintsTheVa
 
 use nutanswer::laws::each_order_answered_ok_is_given;
 use nutcore::laws::{
-    a_listing_is_what_is_held, each_run_tracks_its_orders, every_server_is_sound, one_line_is_answered,
+    each_is_listed_once, each_run_tracks_its_orders, every_server_is_sound, one_line_is_answered,
     the_orders_told_are_those_of_the_lines, what_a_driver_set_last_is_held,
-    what_is_counted_is_who_is_there, whatever_is_told_is_fresh,
+    what_is_counted_is_who_is_there, what_is_listed_is_what_is_held, whatever_is_told_is_fresh,
 };
 
 /// What `upsc`, `upsrw` and `upscmd` send is read by the server as the commands that their words
@@ -35,14 +35,16 @@ pub fn a_frame_is_read_as_its_items()
 pub fn upsc_prints_the_variables()
     ensures { UpscPrintsTheVariables }
 {
-    a_listing_is_what_is_held();
+    each_is_listed_once();
 }
 
 /// `upsc UPS VAR` prints the value of a usable UPS's variable, as clients see it.
 #[tactic(auto, using(crate::proofs::Printing::prints_variable))]
 pub fn upsc_prints_the_variable()
     ensures { UpscPrintsTheVariable }
-{}
+{
+    what_is_listed_is_what_is_held();
+}
 
 /// `upsc --attached UPS` prints how many sessions are logged in to the UPS.
 pub fn upsc_prints_how_many_are_logged_in()
@@ -54,19 +56,25 @@ pub fn upsc_prints_how_many_are_logged_in()
 /// `upsc -l` and `upsc -L` print exactly one line for each UPS of the server, by rising names.
 pub fn upsc_prints_the_upses()
     ensures { UpscPrintsTheUpses }
-{}
+{
+    each_is_listed_once();
+}
 
 /// `upsrw UPS` prints exactly one line `name=value` for each variable that clients may set.
 #[tactic(auto, using(crate::proofs::Printing::prints_settings))]
 pub fn upsrw_prints_the_variables()
     ensures { UpsrwPrintsTheVariables }
-{}
+{
+    each_is_listed_once();
+}
 
 /// `upscmd -l UPS` prints exactly one line for each command of the UPS.
 #[tactic(auto, using(crate::proofs::Printing::prints_commands))]
 pub fn upscmd_prints_the_commands()
     ensures { UpscmdPrintsTheCommands }
-{}
+{
+    each_is_listed_once();
+}
 
 /// `upsc --tracked ID UPS` prints `PENDING`, `SUCCESS`, or `FAILED` and the driver's number. For an
 /// unknown id it prints nothing and ends with `INVALID-ARGUMENT`.
@@ -120,8 +128,8 @@ pub fn upsc_prints_what_its_driver_reported()
     upsc_prints_how_far_an_order_has_come();
 }
 
-/// A run that executed the line of an order that was printed gave it to that driver once for it, in
-/// the order of the lines.
+/// A run that executed the line of a printed order gave it to that driver once, at the line's place
+/// among all orders.
 pub fn a_printed_order_is_given_once()
     ensures { APrintedOrderIsGivenOnce }
 {

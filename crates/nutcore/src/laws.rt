@@ -1,5 +1,5 @@
 //! Laws of every server, event and run. No program calls them.
-ghost use Rattle.nutcore.specs.Headline.{WhatWasSentAndIsOwedIsTheAnswers, WhatWasAskedIsExecutedOrHeld, EachAnswerIsTimely, NothingIsLeftToExecute, OneAnswerAtMostIsOwedAbove, AListingIsWhatIsHeld, ARefusedLineChangesNothing, ThePumpExecutesTheLeast, EachEventIsAFunction};
+ghost use Rattle.nutcore.specs.Headline.{WhatWasSentAndIsOwedIsTheAnswers, WhatWasAskedIsExecutedOrHeld, EachAnswerIsTimely, NothingIsLeftToExecute, OneAnswerAtMostIsOwedAbove, ARefusedLineChangesNothing, ThePumpExecutesTheLeast, EachEventIsAFunction};
 ghost use Rattle.nutcore.specs.ByRight.{AForcedShutdownReachesEverybody, ALoginIsByRight, CredentialsAreGivenByLines, WhatIsCountedIsWhoIsThere};
 ghost use Rattle.nutcore.specs.Lasting.{WhatNeverGoesBack};
 ghost use Rattle.nutcore.specs.Endings.{WhoIsOverIsAskedNoMore, IdsThatAreGivenRise, ATickTouchesNoSession, AnOpeningTouchesNoOther};
@@ -69,13 +69,6 @@ pub fn one_answer_at_most_is_owed_above()
     ensures { OneAnswerAtMostIsOwedAbove }
 {}
 
-/// A listing has exactly the items that its row gives when its line is executed. For `LIST VAR`
-/// these are the variables that the UPS holds.
-#[tactic(auto, using(crate::proofs::HeldFrames::listing_is_held))]
-pub fn a_listing_is_what_is_held()
-    ensures { AListingIsWhatIsHeld }
-{}
-
 /// A line answered by `ERR` changes only the held input and owed output of its own session.
 #[tactic(auto, using(crate::proofs::HeldFrames::refused_line))]
 pub fn a_refused_line_changes_nothing()
@@ -84,8 +77,8 @@ pub fn a_refused_line_changes_nothing()
     only_ok_changes();
 }
 
-/// `ups.status` is shown with `FSD ` in front exactly if an `FSD` of that UPS was executed before,
-/// answered `OK FSD-SET`, by right. Everybody is shown that, also after the driver is lost.
+/// Clients are shown `FSD ` before `ups.status` exactly after an `FSD` of that UPS, answered `OK
+/// FSD-SET`, from a session with a user's name, password and right.
 #[tactic(auto, using(crate::proofs::ShutdownMarks::shutdowns))]
 pub fn a_forced_shutdown_reaches_everybody()
     ensures { AForcedShutdownReachesEverybody }
@@ -227,9 +220,8 @@ pub fn refused_lines_are_counted()
     ensures from_new { ANewServerCountsAllRefusedLines }
 {}
 
-/// In every run from a new server, data are answered and orders accepted only from fresh reports:
-/// the driver is connected, has reported all, says its data are right, and was heard at most MAXAGE
-/// ago.
+/// In every run from a new server, data are answered and orders accepted only from fresh reports,
+/// as `what_is_told_is_fresh` has it.
 #[tactic(auto, using(crate::proofs::FreshRuns::moment_is_greatest_tick, crate::proofs::FreshRuns::whatever_is_told_is_fresh))]
 pub fn whatever_is_told_is_fresh()
     ensures fresh { WhateverIsToldIsFresh }
@@ -239,8 +231,8 @@ pub fn whatever_is_told_is_fresh()
     every_server_is_sound();
 }
 
-/// At each tick, a driver that was silent for a third of MAXAGE has been asked since its last line,
-/// if there is room for a `PING`. So ticks at least that often ask it before its data are stale.
+/// A driver that is silent for a third of MAXAGE is sent a `PING` by the next tick, if there is
+/// room: before its data are stale.
 pub fn a_silent_driver_is_asked()
     ensures { ASilentDriverIsAsked }
 {}

@@ -1,5 +1,5 @@
 -- The users that the lines mean, a line at a time.
-use Rattle.std.proofs.Common.{◌≡◌, ℕ, Bool, true, false, List, [], ◌∷◌, ◌++◌, ◌∙◌, map, reverse, Option, None, Some, cond, codes, refl, sym, ap}
+use Rattle.std.proofs.Common.{◌≡◌, ℕ, true, false, List, [], ◌∷◌, ◌++◌, ◌∙◌, map, reverse, Option, None, Some, cond, codes, refl, sym, ap}
 use Rattle.std.specs.List.{find, filter_map, cons_option}
 use Rattle.std.specs.Prelude.{option_map}
 use Rattle.std.specs.Str.{bytes_eq}
