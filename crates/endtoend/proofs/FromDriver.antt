@@ -31,7 +31,7 @@ module _ (fresh : WhateverIsToldIsFresh) (held : WhatADriverSetLastIsHeld) (old 
   told all before after is = all_at (IsToldFresh old events outcomes) before after (of_line s c line) (subst (All (IsToldFresh old events outcomes)) is all)
 
   usable_then : (ups : List ℕ) (was : WasFresh old events outcomes s c line (Some ups)) → IsUsable s ups was.known
-  usable_then ups was = record { named = was.named; ready = was.ready; sound = was.sound }
+  usable_then ups was = record { asks = record { named = was.named; ready = was.ready }; sound = was.sound }
 
   decided_then : (ups : List ℕ) (was : WasFresh old events outcomes s c line (Some ups)) (name : List ℕ) → TheLastLineDecides was.known.state.report.tree (changes_since was.fresh.connected) name
   decided_then ups was name =

@@ -36,7 +36,6 @@ use Rattle.endtoend.specs.Ordered.{IsOrdered, AnOrderThatIsPrintedIsGiven}
 use Rattle.endtoend.specs.Tracked.{IsOrderedWithId, ATrackedOrderThatIsPrintedIsGiven}
 use Rattle.endtoend.proofs.Ids.{WantsId, unwanted_id, missing_id, wanted_id}
 use Rattle.endtoend.proofs.Refused.{refused_read, granted_read}
-use Rattle.endtoend.proofs.Requests.{set_read, command_read}
 
 -- a row of an order is answered by an error, or its UPS is there and it is answered by OK, behind which the id stands where the order is tracked
 abbrev IsEither : Seen → AskerSeen → Option (List ℕ) → Result Answer ErrWord → Type 0
@@ -178,36 +177,33 @@ module _ (s : ServerState) (c : ℕ) (line ups : List ℕ) (command : Command) (
 pub orders_given : EachOrderAnsweredOkIsGiven → AnOrderThatIsPrintedIsGiven
 unfolding answer prints
 orders_given given = record {
-  set = λ s c line ups name value more n m v e.
-      let of_ups : Command = commands.SetVar (Some ups) (Some name) (Some value) in
-      let read = set_read ups name value n m v line e in
+  set = λ s c line ups name value more asked e.
+      let command : Command = commands.SetVar (Some ups) (Some name) (Some value) in
       let either = set_either (seen s) (asker c s) (Some ups) (Some name) (Some value) in
       record {
-        given = λ text h. ordered s c line ups of_ups (requests.SetVar ups name value) more text read (set_line name value None) refl either
+        given = λ text h. ordered s c line ups command (requests.SetVar ups name value) more text (asked line e) (set_line name value None) refl either
             (λ known named is. given.set (seen s) (asker c s) (Some ups) name value known named is) h;
-        nothing = nothing_given s c line ups of_ups (requests.SetVar ups name value) more [] read refl either;
+        nothing = nothing_given s c line ups command (requests.SetVar ups name value) more [] (asked line e) refl either;
       };
-  command = λ s c line ups name value more n m v e.
-      let of_ups : Command = commands.InstCmd (Some ups) (Some name) (value_given value) in
-      let read = command_read ups name value n m v line e in
+  command = λ s c line ups name value more asked e.
+      let command : Command = commands.InstCmd (Some ups) (Some name) (value_given value) in
       let either = command_either (seen s) (asker c s) (Some ups) (Some name) (value_given value) in
       record {
-        given = λ text h. ordered s c line ups of_ups (requests.Instcmd ups name value) more text read (instcmd_line name value None) refl either
+        given = λ text h. ordered s c line ups command (requests.Instcmd ups name value) more text (asked line e) (instcmd_line name value None) refl either
             (λ known named is. given.command (seen s) (asker c s) (Some ups) name value known named is) h;
-        nothing = nothing_given s c line ups of_ups (requests.Instcmd ups name value) more [] read refl either;
+        nothing = nothing_given s c line ups command (requests.Instcmd ups name value) more [] (asked line e) refl either;
       };
 }
 
--- a tracked order is sent as any other
 pub tracked_orders_given : EachOrderAnsweredOkIsGiven → ATrackedOrderThatIsPrintedIsGiven
 unfolding answer prints
 tracked_orders_given given = record {
-  set = λ s c line ups name value more text n m v e h.
-      ordered_with_id s c line ups (commands.SetVar (Some ups) (Some name) (Some value)) (requests.TrackedSetVar ups name value) more text (set_read ups name value n m v line e) (λ id. set_line name value (Some id))
+  set = λ s c line ups name value more text asked e h.
+      ordered_with_id s c line ups (commands.SetVar (Some ups) (Some name) (Some value)) (requests.TrackedSetVar ups name value) more text (asked line e) (λ id. set_line name value (Some id))
       (record { expected = λ words. refl; whole = λ value rest. refl }) (set_either (seen s) (asker c s) (Some ups) (Some name) (Some value))
       (λ known id named next is. given.tracked_set (seen s) (asker c s) (Some ups) name value known id named next is) h;
-  command = λ s c line ups name value more text n m v e h.
-      ordered_with_id s c line ups (commands.InstCmd (Some ups) (Some name) (value_given value)) (requests.TrackedInstcmd ups name value) more text (command_read ups name value n m v line e) (λ id. instcmd_line name value (Some id))
+  command = λ s c line ups name value more text asked e h.
+      ordered_with_id s c line ups (commands.InstCmd (Some ups) (Some name) (value_given value)) (requests.TrackedInstcmd ups name value) more text (asked line e) (λ id. instcmd_line name value (Some id))
       (record { expected = λ words. refl; whole = λ value rest. refl }) (command_either (seen s) (asker c s) (Some ups) (Some name) (value_given value))
       (λ known id named next is. given.tracked_command (seen s) (asker c s) (Some ups) name value known id named next is) h;
 }

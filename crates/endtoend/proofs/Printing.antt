@@ -117,8 +117,8 @@ prints_variables listed = λ s client ups line known more n u e.
     let fsd = known.state.fsd in
     let lawful = entries_lawful entries u.sound.names u.sound.variables in
     let read = list_var_read ups n line e in
-    let same : known.name ≡ ups = name_kept (seen s) ups known u.named in
-    let text = (listed.variables s client line (Some ups) known read (record { named = u.named; ready = u.ready })).0 in
+    let same : known.name ≡ ups = name_kept (seen s) ups known u.asks.named in
+    let text = (listed.variables s client line (Some ups) known read u.asks).0 in
     let few : length (map (variable_of fsd) entries) ≤ ITEM_LIMIT = omega (arith, u.sound.variables_few, length-map entries (variable_of fsd)) in
     let written = variables_written query (codes "VAR") ups fsd entries (λ item. refl) (as_it_is (omega arith) refl) (omega arith) n lawful in
     let items = variables_known query fsd entries (λ name h. h) refl lawful in
@@ -128,15 +128,6 @@ prints_variables listed = λ s client ups line known more n u e.
     (ap (λ t. reply (requests.List query) (t ++ more)) (text ∙ ap (λ x. frame (codes "VAR") (x ∷ []) (map (variable_item (codes "VAR") x fsd) entries)) same) ∙ whole)
     ∙ ap Prints (variables_text forms.Colon fsd (variable_line fsd) entries (λ entry. refl))
 
--- those that pass a test are no more
-kept_short : {X : Type 0} (v : Bool) (x : X) (kept xs : List X) → length kept ≤ length xs → length (cond v (x ∷ kept) kept) ≤ length (x ∷ xs)
-kept_short true x kept xs few = omega (arith, few)
-kept_short false x kept xs few = omega (arith, few)
-
-filter_short : {X : Type 0} (p : X → Bool) (xs : List X) → length (filter p xs) ≤ length xs
-filter_short p [] = omega arith
-filter_short p (x ∷ xs) = kept_short (p x) x (filter p xs) xs (filter_short p xs)
-
 -- the variables that may be set are some of them
 pub prints_settings : EachIsListedOnce → UpsrwPrintsTheVariables
 prints_settings listed = λ s client ups line known more n u e.
@@ -145,9 +136,9 @@ prints_settings listed = λ s client ups line known more n u e.
     let fsd = known.state.fsd in
     let lawful = All-filter is_rw IsLawfulEntry known.state.report.tree.variables (entries_lawful known.state.report.tree.variables u.sound.names u.sound.variables) in
     let read = list_rw_read ups n line e in
-    let same : known.name ≡ ups = name_kept (seen s) ups known u.named in
-    let text = (listed.rw s client line (Some ups) known read (record { named = u.named; ready = u.ready })).0 in
-    let few : length (map (variable_of fsd) entries) ≤ ITEM_LIMIT = omega (arith, u.sound.variables_few, filter_short is_rw known.state.report.tree.variables, length-map entries (variable_of fsd)) in
+    let same : known.name ≡ ups = name_kept (seen s) ups known u.asks.named in
+    let text = (listed.rw s client line (Some ups) known read u.asks).0 in
+    let few : length (map (variable_of fsd) entries) ≤ ITEM_LIMIT = omega (arith, u.sound.variables_few, length-filter is_rw known.state.report.tree.variables, count_by-le-length is_rw known.state.report.tree.variables, length-map entries (variable_of fsd)) in
     let written = variables_written query (codes "RW") ups fsd entries (λ item. refl) (as_it_is (omega arith) refl) (omega arith) n lawful in
     let items = variables_known query fsd entries (λ name h. h) refl lawful in
     let whole = frame_read query (map (variable_item (codes "RW") ups fsd) entries) (map (variable_of fsd) entries) more
@@ -188,8 +179,8 @@ prints_commands listed = λ s client ups line known more n u e.
     let query = queries.Cmd ups in
     let commands = known.state.report.tree.commands in
     let read = list_cmd_read ups n line e in
-    let same : known.name ≡ ups = name_kept (seen s) ups known u.named in
-    let text = (listed.commands s client line (Some ups) known read (record { named = u.named; ready = u.ready })).0 in
+    let same : known.name ≡ ups = name_kept (seen s) ups known u.asks.named in
+    let text = (listed.commands s client line (Some ups) known read u.asks).0 in
     let few : length (map command_of commands) ≤ ITEM_LIMIT = omega (arith, u.sound.commands_few, length-map commands command_of) in
     let whole = frame_read query (map (command_item ups) commands) (map command_of commands) more
     ((as_it_is (omega arith) refl, (ups_name_written ups n, tt)), listing_written (codes "CMD") ups (omega arith) n, commands_written ups commands n u.sound.commands) (commands_known ups commands u.sound.commands) few in
@@ -207,8 +198,8 @@ prints_variable held = λ s client ups name line known variable more n m u has e
     let value = shown fsd name variable in
     let lawful = shown_lawful fsd name variable (value_there known name variable u.sound has) in
     let read = get_var_read ups name n m line e in
-    let same : known.name ≡ ups = name_kept (seen s) ups known u.named in
-    let text = held.got s client line (Some ups) name known variable read (record { named = u.named; ready = u.ready }) has in
+    let same : known.name ≡ ups = name_kept (seen s) ups known u.asks.named in
+    let text = held.got s client line (Some ups) name known variable read u.asks has in
     let texts : List (List ℕ) = codes "VAR" ∷ ups ∷ name ∷ quoted value ∷ [] in
     let written : IsWrittenLine texts (codes "VAR" ∷ ups ∷ name ∷ value ∷ []) = record {
       written = (as_it_is (omega arith) refl, (ups_name_written ups n, (name_written name m, (quoted_written value lawful.0, tt))));

@@ -1,8 +1,7 @@
 -- From the screen to the driver: an order was given exactly where its `OK` is printed.
-use Rattle.std.specs.Prelude.{◌≡◌, ◌==◌, ℕ, false, List, [], ◌∷◌, ◌++◌, Option, Some, codes, IsTrue}
-use Rattle.std.specs.Prelude.{IfSome, None, if◌then◌else◌}
+use Rattle.std.specs.Prelude.{◌≡◌, ◌==◌, ℕ, false, List, [], ◌∷◌, ◌++◌, Option, Some, None, codes}
+use Rattle.std.specs.Prelude.{if◌then◌else◌}
 use Rattle.nutwords.specs.Frame.{line_of}
-use Rattle.nutwords.specs.Reading.{is_name, is_ups_name, is_value}
 use Rattle.nutusers.specs.declared.ups_list.UpsId.{UpsId}
 use Rattle.nutanswer.specs.Checks.{KnownUps, ups_named}
 use Rattle.nutanswer.specs.Orders.{set_line, instcmd_line}
@@ -14,7 +13,7 @@ use Rattle.nutrequest.specs.declared.faults.ClientFault.{ClientFault}
 use Rattle.nutrequest.specs.declared.request.Request.TheVariants.{SetVar, Instcmd}
 use Rattle.nutclient.specs.Printed.{Printed, Prints, Faults, printed}
 use Rattle.nutclient.specs.declared.form.Form.TheVariants as forms
-use Rattle.endtoend.specs.Served.{IsLineOf}
+use Rattle.endtoend.specs.Served.{IsLineOf, IsReadAsAsked}
 
 -- The line was answered by OK; it tells the driver of this UPS the order, once, and no other driver
 -- anything. What was printed is `OK`.
@@ -37,13 +36,11 @@ pub record IsGivenAsPrinted (s : ServerState) (c : ℕ) (line ups bytes : List �
 -- Of the order of `upsrw -s` or `upscmd`, whatever comes after the server's answer.
 pub record AnOrderThatIsPrintedIsGiven : Type 0 where
   pub set : (s : ServerState) (c : ℕ) (line ups name value more : List ℕ)
-      → IsTrue (is_ups_name ups) → IsTrue (is_name name) → IsTrue (is_value value)
-      → IsLineOf (SetVar ups name value) line
+      → IsReadAsAsked (SetVar ups name value) → IsLineOf (SetVar ups name value) line
       → IsGivenAsPrinted s c line ups (set_line name value None)
       (printed (SetVar ups name value ∷ []) forms.Value (reply s c line ++ more))
   pub command : (s : ServerState) (c : ℕ) (line ups name : List ℕ) (value : Option (List ℕ))
       (more : List ℕ)
-      → IsTrue (is_ups_name ups) → IsTrue (is_name name)
-      → IfSome value (λ v. IsTrue (is_value v)) → IsLineOf (Instcmd ups name value) line
+      → IsReadAsAsked (Instcmd ups name value) → IsLineOf (Instcmd ups name value) line
       → IsGivenAsPrinted s c line ups (instcmd_line name value None)
       (printed (Instcmd ups name value ∷ []) forms.Value (reply s c line ++ more))

@@ -4,13 +4,12 @@ use Rattle.nutwords.specs.Text.{with_lf}
 use Rattle.nutdriver.specs.Sound.{IsSoundTree}
 use Rattle.nutdriver.specs.Tree.{variable_at}
 use Rattle.nutdriver.specs.Variable.{VariableState}
-use Rattle.nutanswer.specs.Checks.{KnownUps, ups_named}
+use Rattle.nutanswer.specs.Checks.{KnownUps}
 use Rattle.nutanswer.specs.Command.{read_command}
 use Rattle.nutanswer.specs.Rows.{value_given}
 use Rattle.nutanswer.specs.declared.command.Command.{Command}
 use Rattle.nutanswer.specs.declared.command.Command.TheVariants as commands
-use Rattle.nutanswer.specs.View.{readiness, usable}
-use Rattle.nutcore.specs.Reply.{seen}
+use Rattle.nutcore.specs.Listed.{AsksOf}
 use Rattle.nutcore.specs.Server.{ServerState}
 use Rattle.nutrequest.specs.Request.{request_line}
 use Rattle.nutrequest.specs.declared.request.Query.TheVariants as queries
@@ -59,8 +58,7 @@ EachRequestIsReadAsAsked =
 -- Clients are told what the driver of the UPS of this name has reported. It is sound, as whatever a
 -- driver's lines have made is.
 pub record IsUsable (s : ServerState) (ups : List ℕ) (known : KnownUps) : Type 0 where
-  pub named : ups_named (seen s) (Some ups) ≡ Some known
-  pub ready : readiness s.moment s.max_age known.state.report ≡ usable
+  pub asks : AsksOf s (Some ups) known
   pub sound : IsSoundTree known.state.report.tree
 
 -- The UPS has this variable of this name.

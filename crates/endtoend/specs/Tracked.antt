@@ -1,8 +1,7 @@
 -- Tracked orders from the screen to the driver, and what `upsc --tracked` prints.
 use Rattle.std.specs.Prelude.{◌≡◌, ◌<◌, ◌==◌, ℕ, List, [], ◌∷◌, ◌++◌, length, Option, Some, None}
-use Rattle.std.specs.Prelude.{IsTrue, IfSome, if◌then◌else◌}
+use Rattle.std.specs.Prelude.{if◌then◌else◌}
 use Rattle.nutwords.specs.Frame.{line_of}
-use Rattle.nutwords.specs.Reading.{is_name, is_ups_name, is_value}
 use Rattle.nuttracking.specs.declared.limits.TheConstants.{ORDER_LIMIT}
 use Rattle.nuttracking.specs.Acts.{given, first_report}
 use Rattle.nuttracking.specs.Id.{id_text, read_id}
@@ -29,7 +28,7 @@ use Rattle.nutrequest.specs.declared.request.Request.TheVariants.{TrackedSetVar,
 use Rattle.nutrequest.specs.declared.request.Request.TheVariants.{GetTracking}
 use Rattle.nutclient.specs.Printed.{Prints, Faults, printed}
 use Rattle.nutclient.specs.declared.form.Form.TheVariants as forms
-use Rattle.endtoend.specs.Served.{IsLineOf}
+use Rattle.endtoend.specs.Served.{IsLineOf, IsReadAsAsked}
 
 -- The line was answered by OK and an id, the first at hand; it tells the driver of this UPS the
 -- order with that id, once, and no other driver anything, and the order is kept, pending, with that
@@ -50,15 +49,14 @@ pub record IsOrderedWithId (s : ServerState) (c : ℕ) (line ups : List ℕ) (by
 -- `upscmd --track`: where a text is printed, the order was given with an id.
 pub record ATrackedOrderThatIsPrintedIsGiven : Type 0 where
   pub set : (s : ServerState) (c : ℕ) (line ups name value more text : List ℕ)
-      → IsTrue (is_ups_name ups) → IsTrue (is_name name) → IsTrue (is_value value)
-      → IsLineOf (TrackedSetVar ups name value) line
+      → IsReadAsAsked (TrackedSetVar ups name value) → IsLineOf (TrackedSetVar ups name value) line
       → printed (TrackedSetVar ups name value ∷ []) forms.Value (reply s c line ++ more)
       ≡ Prints text
       → IsOrderedWithId s c line ups (λ id. set_line name value (Some id)) text
   pub command : (s : ServerState) (c : ℕ) (line ups name : List ℕ) (value : Option (List ℕ))
       (more text : List ℕ)
-      → IsTrue (is_ups_name ups) → IsTrue (is_name name)
-      → IfSome value (λ v. IsTrue (is_value v)) → IsLineOf (TrackedInstcmd ups name value) line
+      → IsReadAsAsked (TrackedInstcmd ups name value)
+      → IsLineOf (TrackedInstcmd ups name value) line
       → printed (TrackedInstcmd ups name value ∷ []) forms.Value (reply s c line ++ more)
       ≡ Prints text
       → IsOrderedWithId s c line ups (λ id. instcmd_line name value (Some id)) text
