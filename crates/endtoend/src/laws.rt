@@ -7,7 +7,7 @@ ghost use Rattle.endtoend.specs.Ordered.{AnOrderThatIsPrintedIsGiven};
 ghost use Rattle.endtoend.specs.Tracked.{ATrackedOrderThatIsPrintedIsGiven, UpscPrintsHowFarAnOrderHasCome, UpscPrintsWhatItsDriverReported};
 ghost use Rattle.endtoend.specs.OverRuns.{UpscPrintsWhatItTook};
 ghost use Rattle.endtoend.specs.OrdersOverRuns.{APrintedOrderIsGivenOnce};
-ghost use Rattle.endtoend.specs.Printed.{UpscPrintsTheVariables, UpscPrintsTheVariable, UpscPrintsHowManyAreLoggedIn, UpscPrintsTheUpses, UpsrwPrintsTheVariables, UpscmdPrintsTheCommands};
+ghost use Rattle.endtoend.specs.Printed.{UpscPrintsTheVariables, UpscPrintsTheVariable, UpscPrintsHowManyAreLoggedIn, UpscPrintsWhoIsLoggedIn, UpscPrintsTheUpses, UpsrwPrintsTheVariables, UpscmdPrintsTheCommands};
 
 use nutanswer::laws::each_order_answered_ok_is_given;
 use nutcore::laws::{
@@ -46,9 +46,11 @@ pub fn upsc_prints_the_variable()
     what_is_listed_is_what_is_held();
 }
 
-/// `upsc --attached UPS` prints how many sessions are logged in to the UPS.
-pub fn upsc_prints_how_many_are_logged_in()
-    ensures { UpscPrintsHowManyAreLoggedIn }
+/// `upsc --attached UPS` prints how many sessions are logged in to the UPS, and `upsc -c UPS` exactly
+/// their addresses, in the order of opening.
+pub fn upsc_prints_who_is_logged_in()
+    ensures number { UpscPrintsHowManyAreLoggedIn }
+    ensures addresses { UpscPrintsWhoIsLoggedIn }
 {
     what_is_counted_is_who_is_there();
 }
