@@ -31,7 +31,7 @@ module _ (fresh : WhateverIsToldIsFresh) (held : WhatADriverSetLastIsHeld) (old 
   told all before after is = all_at (IsToldFresh old events outcomes) before after (of_line s c line) (subst (All (IsToldFresh old events outcomes)) is all)
 
   usable_then : (ups : List ℕ) (was : WasFresh old events outcomes s c line (Some ups)) → IsUsable s ups was.known
-  usable_then ups was = record { named = was.named; ready = was.ready; sound = was.sound }
+  usable_then ups was = record { asks = record { named = was.named; ready = was.ready }; sound = was.sound }
 
   decided_then : (ups : List ℕ) (was : WasFresh old events outcomes s c line (Some ups)) (name : List ℕ) → TheLastLineDecides was.known.state.report.tree (changes_since was.fresh.connected) name
   decided_then ups was name =
@@ -57,7 +57,7 @@ shown_by_value fsd name value v is = ap (λ (w : List ℕ). shown fsd name (new_
 pub prints_last : WhateverIsToldIsFresh → WhatADriverSetLastIsHeld → UpscPrintsTheVariable → UpscPrintsWhatTheDriverSetLast
 prints_last fresh held prints = λ old events outcomes s c line ups name n m h.
     let at = told fresh held old events outcomes s c line (fresh old h.new events outcomes h.begins h.run) h.executed.0 h.executed.1 h.executed.2 in
-    let was = at (commands.GetVar (Some ups) (Some name)) (Some ups) (get_var_read ups name line n m h.asks) refl h.granted in
+    let was = at (commands.GetVar (Some ups) (Some name)) (Some ups) (get_var_read ups name n m line h.asks) refl h.granted in
     record {
       was = was;
       prints = λ earlier later value more is none.
@@ -69,7 +69,7 @@ prints_last fresh held prints = λ old events outcomes s c line ups name n m h.
 pub prints_all_last : WhateverIsToldIsFresh → WhatADriverSetLastIsHeld → UpscPrintsTheVariables → UpscPrintsAllThatTheDriverSetLast
 prints_all_last fresh held prints = λ old events outcomes s c line ups n h.
     let at = told fresh held old events outcomes s c line (fresh old h.new events outcomes h.begins h.run) h.executed.0 h.executed.1 h.executed.2 in
-    let was = at (commands.ListVar (Some ups)) (Some ups) (list_var_read ups line n h.asks) refl h.granted in
+    let was = at (commands.ListVar (Some ups)) (Some ups) (list_var_read ups n line h.asks) refl h.granted in
     record {
       was = was;
       prints = λ more. prints s c ups line was.known more n (usable_then fresh held old events outcomes s c line ups was) h.asks;

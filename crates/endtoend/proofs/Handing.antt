@@ -2,9 +2,9 @@
 use Rattle.std.proofs.Common.{◌≡◌, ℕ, true, false, List, [], ◌∷◌, ◌++◌, Option, Some, None, Err, sym, ap, subst, ◌∙◌, Bool, cond, Result, Ok, refl}
 use Rattle.nutwords.specs.declared.faults.BadName.{BadName}
 use Rattle.std.specs.List.{before_first, after_first}
-use Rattle.std.specs.Prelude.{◌≢◌, ◌==◌, is_ok}
+use Rattle.std.specs.Prelude.{◌≢◌, ◌==◌, is_ok, IfSome}
 use Rattle.nutwords.specs.Bytes.{is_name_byte}
-use Rattle.nutwords.specs.Reading.{read_name, is_name, read_ups_name, is_ups_name}
+use Rattle.nutwords.specs.Reading.{read_text, read_name, is_name, is_ups_name}
 use Rattle.nutio.specs.Ends.{NoneFailed}
 use Rattle.nutrequest.specs.State.{unread_of, reader_of, writer_of, is_over}
 use Rattle.nutrequest.specs.declared.faults.ClientFault.TheVariants.{Memory}
@@ -31,34 +31,36 @@ some_same : {A : Type 0} {x y : A} → Some x ≡ Some y → x ≡ y
 some_same h = cc
 
 -- what is lawful was read as it is
-lawful_name : (text name : List ℕ) → ups_of text ≡ Some name → is_ups_name name ≡ true
-lawful_name text name h = by (read_ups_name text) refl
+pub lawful_read : (allowed : ℕ → Bool) (may_be_empty : Bool) (most : ℕ) (text : List ℕ) → IfSome (lawful (read_text allowed may_be_empty most text)) (λ read. is_ok (read_text allowed may_be_empty most read) ≡ true)
+lawful_read allowed may_be_empty most text = by (read_text allowed may_be_empty most text) refl
   where
-    by : (r : Result (List ℕ) BadName) → read_ups_name text ≡ r → is_ups_name name ≡ true
-    by (Err bad) e = let k : None ≡ Some name = sym (ap lawful e) ∙ h in absurd (none-not_some k)
-    by (Ok read) e =
-        let k : Some read ≡ Some name = sym (ap lawful e) ∙ h in
-        let same : text ≡ read = text_same is_name_byte false UPS_NAME_LIMIT text read e in
-        ap is_ups_name (sym (same ∙ some_same k)) ∙ ap is_ok e
+    by : (r : Result (List ℕ) BadName) → read_text allowed may_be_empty most text ≡ r → IfSome (lawful r) (λ read. is_ok (read_text allowed may_be_empty most read) ≡ true)
+    by (Err bad) e = tt
+    by (Ok read) e = subst (λ t. is_ok (read_text allowed may_be_empty most t) ≡ true) (text_same allowed may_be_empty most text read e) (ap is_ok e)
+
+-- what two of them make
+pub of_both : {A B C : Type 0} (make : A → B → C) (P : A → Type 0) (Q : B → Type 0) (R : C → Type 0) (a : Option A) (b : Option B) → IfSome a P → IfSome b Q → ((x : A) (y : B) → P x → Q y → R (make x y)) → IfSome (both make a b) R
+of_both make P Q R (Some x) (Some y) p q h = h x y p q
+of_both make P Q R (Some x) None p q h = tt
+of_both make P Q R None b p q h = tt
+
+pub of_any : {A : Type 0} (o : Option A) → IfSome o (λ a. Unit {0})
+of_any None = tt
+of_any (Some a) = tt
 
 -- the UPS that the words name
-both_first : (a : Option (List ℕ)) (b : Option Target) (place : UpsPlace) → both (λ ups server. (ups, server)) a b ≡ Some place → a ≡ Some place.0
-both_first (Some a) (Some b) place h = ap (λ (p : UpsPlace). Some p.0) (some_same h)
-both_first (Some a) None place h = absurd (none-not_some h)
-both_first None b place h = absurd (none-not_some h)
+pub place_read : (text : List ℕ) → IfSome (ups_place_of text) (λ place. is_ups_name place.0 ≡ true)
+place_read text = by (has_byte 64 text)
+  where
+    named : (name : List ℕ) (server : Option Target) → IfSome {T = UpsPlace} (both (λ ups server. (ups, server)) (ups_of name) server) (λ place. is_ups_name place.0 ≡ true)
+    named name server = of_both {C = UpsPlace} (λ ups server. (ups, server)) (λ ups. is_ups_name ups ≡ true) (λ server. Unit {0}) (λ place. is_ups_name place.0 ≡ true) (ups_of name) server (lawful_read is_name_byte false UPS_NAME_LIMIT name) (of_any server) (λ ups server h any. h)
+
+    by : (v : Bool) → IfSome {T = UpsPlace} (cond v (both (λ ups server. (ups, server)) (ups_of (before_first (λ b. b == 64) text)) (server_of (after_first (λ b. b == 64) text))) (both (λ ups server. (ups, server)) (ups_of text) (Some local_server))) (λ place. is_ups_name place.0 ≡ true)
+    by true = named (before_first (λ b. b == 64) text) (server_of (after_first (λ b. b == 64) text))
+    by false = named text (Some local_server)
 
 pub place_lawful : (text : List ℕ) (place : UpsPlace) → ups_place_of text ≡ Some place → is_ups_name place.0 ≡ true
-place_lawful text place h = by (has_byte 64 text) h
-  where
-    front : List ℕ
-    front = before_first (λ b. b == 64) text
-
-    behind : List ℕ
-    behind = after_first (λ b. b == 64) text
-
-    by : (v : Bool) → cond v (both (λ ups server. (ups, server)) (ups_of front) (server_of behind)) (both (λ ups server. (ups, server)) (ups_of text) (Some local_server)) ≡ Some place → is_ups_name place.0 ≡ true
-    by true k = lawful_name front place.0 (both_first (ups_of front) (server_of behind) place k)
-    by false k = lawful_name text place.0 (both_first (ups_of text) (Some local_server) place k)
+place_lawful text place h = subst (λ o. IfSome o (λ place. is_ups_name place.0 ≡ true)) h (place_read text)
 
 -- what a job asks for, and in which form it is printed
 pub record Asks (requests : List Request) (form : Form) (job : Job) : Type 0 where

@@ -2,9 +2,8 @@
 use Rattle.std.proofs.Common.{◌≡◌, ◌∙◌, ℕ, zero, suc, ◌/◌, ◌%◌, ◌<◌, Bool, true, false, true≢false, List, [], ◌∷◌, ◌++◌, take, drop, Option, Some, None, is_some, unwrap_or, if◌then◌else◌, ◌⊎◌, inl, inr, refl, sym, ap, arith}
 use Rattle.std.specs.Prelude.{codes, option_map}
 use Rattle.std.specs.Char.{digit_char, to_ascii_lowercase}
-use Rattle.std.specs.List.{join_with_byte, list_all}
+use Rattle.std.specs.List.{join_with_byte}
 use Rattle.std.specs.Str.{bytes_eq, str_to_ascii_lowercase}
-use Rattle.std.proofs.lemmas.Bool.{and_parts, and_from}
 use Rattle.std.proofs.lemmas.Bool.Decides.{nat_tests}
 use Rattle.std.proofs.lemmas.List.{map-append, take-map, drop-map}
 use Rattle.std.proofs.lemmas.Slice.Eq.{bytes_eq-Decides}
@@ -20,6 +19,7 @@ use Rattle.nutrequest.specs.Reply.{Bad, Whole, reply, first_or, first_of, after_
 use Rattle.endtoend.specs.Refused.{is_granted_by_ok}
 use Rattle.endtoend.proofs.Refused.{first_read}
 use Rattle.endtoend.proofs.Requests.{line_of_three}
+use Rattle.endtoend.proofs.Texts.{all_bare}
 
 -- in lower case it is the same
 abbrev Stays : List ℕ → Type 0
@@ -74,14 +74,8 @@ read_same id read e =
 id_byte-bare : (b : ℕ) → is_id_byte b ≡ true → is_bare b ≡ true
 id_byte-bare b h = grind (arith, nat_tests)
 
-id_bytes-bare : (bytes : List ℕ) → list_all is_id_byte bytes ≡ true → list_all is_bare bytes ≡ true
-id_bytes-bare [] h = refl
-id_bytes-bare (b ∷ bytes) h =
-    let p = and_parts (is_id_byte b) (list_all is_id_byte bytes) h in
-    and_from (is_bare b) (list_all is_bare bytes) (id_byte-bare b p.0) (id_bytes-bare bytes p.1)
-
 pub id_written : (id : ℕ) → IsWritten (id_text id) (id_text id)
-id_written id = as_it_is (omega (arith, ids_are_plain.long id)) (id_bytes-bare (id_text id) (ids_are_plain.digits id))
+id_written id = as_it_is (omega (arith, ids_are_plain.long id)) (all_bare is_id_byte id_byte-bare (id_text id) (ids_are_plain.digits id))
 
 -- OK and an id
 granting_written : (id : ℕ) → IsWrittenLine (ok_words (Some id)) (ok_words (Some id))

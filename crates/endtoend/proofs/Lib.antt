@@ -3,13 +3,13 @@ pub mod FrameReading
 pub mod Texts
 pub mod Numbers
 pub mod Requests
-pub mod Rows
 pub mod Printing
 pub mod Handing
 pub mod FromDriver
 pub mod Refused
 pub mod Ids
 pub mod Progress
+pub mod Sent
 pub mod Ordered
 pub mod OverRuns
 pub mod OrdersOverRuns

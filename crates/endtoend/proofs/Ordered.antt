@@ -1,25 +1,18 @@
 -- An order whose OK a client printed was given, and one whose id it printed was given with that id.
-use Rattle.std.proofs.Common.{◌≡◌, ◌⊎◌, ◌∙◌, ◌+◌, ℕ, true, false, List, [], ◌∷◌, ◌++◌, length, length-append, append-nil, if◌then◌else◌, Bool, Option, Some, None, Result, Ok, Err, IfSome, refl, sym, ap, subst, inl, inr, arith}
+use Rattle.std.proofs.Common.{◌≡◌, ◌⊎◌, ◌∙◌, ℕ, true, false, true≢false, List, [], ◌∷◌, ◌++◌, length, length-append, append-nil, if◌then◌else◌, Bool, Option, Some, None, Result, Ok, Err, IfSome, refl, sym, ap, subst, inl, inr, arith}
 use Rattle.std.specs.Prelude.{codes, IsTrue}
-use Rattle.std.specs.Result.{result_ok}
 use Rattle.std.specs.Option.{ok_or, option_map_or}
-use Rattle.std.proofs.lemmas.List.{append_cancel_right}
-use Rattle.nutwords.specs.Bytes.{is_name_byte, is_lawful}
 use Rattle.nutwords.specs.Frame.{line_of}
-use Rattle.nutwords.specs.Grammar.{Reads}
-use Rattle.nutwords.specs.Listing.{as_it_is, IsWrittenLine}
-use Rattle.nutwords.specs.Reading.{read_name, read_value, is_name, is_ups_name, is_value}
-use Rattle.nutwords.specs.Spelling.{quoted}
-use Rattle.nutwords.proofs.PublicLaws.{read_line_is_the_grammar}
 use Rattle.nuttracking.specs.Id.{id_text}
 use Rattle.nuttracking.specs.Tracking.{next_id}
 use Rattle.nutusers.specs.declared.rights.Right.TheVariants as rights
+use Rattle.nutusers.specs.declared.ups_list.UpsId.{UpsId}
 use Rattle.nutanswer.specs.declared.command.Command.{Command}
 use Rattle.nutanswer.specs.declared.command.Command.TheVariants as commands
 use Rattle.nutanswer.specs.declared.err_word.ErrWord.{ErrWord}
 use Rattle.nutanswer.specs.declared.err_word.ErrWord.TheVariants.{UnknownUps, SetFailed, InstcmdFailed}
 use Rattle.nutanswer.specs.declared.reply.Change.{Change}
-use Rattle.nutanswer.specs.Command.{read_command, command_from}
+use Rattle.nutanswer.specs.Command.{read_command}
 use Rattle.nutanswer.specs.Checks.{◌>>=◌, ◌>>◌, KnownUps, ups_named, unknown_ups, user, live, var_not_supported, readonly, too_long, invalid_value, first_id, no_id, set_failed, cmd_not_supported, too_long_of_command, instcmd_failed}
 use Rattle.nutanswer.specs.Orders.{instcmd_right, set_line, instcmd_line, ok_words, order as order_to}
 use Rattle.nutanswer.specs.Answer.{Answer, one_line, answer_to, text_of_answer, change_of_answer, ok}
@@ -29,83 +22,20 @@ use Rattle.nutcore.specs.Server.{ServerState, session, with_session, with_sessio
 use Rattle.nutcore.specs.Session.{SessionState}
 use Rattle.nutcore.specs.Reply.{seen, asker, text_to, change_by, changed, changed_session, changed_upses, changed_tracking}
 use Rattle.nutcore.specs.Reply as server
-use Rattle.nutcore.specs.DriverOrders.{told_by_change}
-use Rattle.nutrequest.specs.Request.{request_words}
+use Rattle.nutcore.specs.DriverOrders.{told_by_change, told_by_line}
+use Rattle.nutcore.specs.History.{of_line}
 use Rattle.nutrequest.specs.Reply.{Reply, Whole, Bad, reply as client_reply, one_item}
+use Rattle.nutrequest.specs.declared.faults.ClientFault.{ClientFault}
 use Rattle.nutrequest.specs.declared.request.Request.{Request}
 use Rattle.nutrequest.specs.declared.request.Request.TheVariants as requests
 use Rattle.nutclient.specs.Requests.{reply_behind}
-use Rattle.nutclient.specs.Printed.{Printed, Prints, printed, printed_of}
+use Rattle.nutclient.specs.Printed.{Printed, Prints, Faults, printed, printed_of}
 use Rattle.nutclient.specs.declared.form.Form.TheVariants as forms
-use Rattle.endtoend.specs.Served.{IsLineOf}
 use Rattle.endtoend.specs.Refused.{is_granted_by_ok}
 use Rattle.endtoend.specs.Ordered.{IsOrdered, AnOrderThatIsPrintedIsGiven}
 use Rattle.endtoend.specs.Tracked.{IsOrderedWithId, ATrackedOrderThatIsPrintedIsGiven}
 use Rattle.endtoend.proofs.Ids.{WantsId, unwanted_id, missing_id, wanted_id}
-use Rattle.endtoend.proofs.LineReading.{written_line}
 use Rattle.endtoend.proofs.Refused.{refused_read, granted_read}
-use Rattle.endtoend.proofs.Requests.{line_of_three, line_of_four}
-use Rattle.endtoend.proofs.Texts.{text_short, text_all, text_itself, name_written, ups_name_written, quoted_written}
-use Rattle.nutwords.proofs.PublicLaws.{quoted_is_short}
-use Rattle.nutwords.specs.declared.limits.TheConstants.{VALUE_LIMIT, NAME_LIMIT, UPS_NAME_LIMIT}
-
--- a request that is written so is read as these words
-sent_as : (request : Request) (words : List (List ℕ)) (line : List ℕ) → IsWrittenLine (request_words request) words → IsLineOf request line → read_command line ≡ command_from (Ok words)
-sent_as request words line h e =
-    let r = written_line (request_words request) words h in
-    let same : r.line ≡ line = append_cancel_right r.line line (10 ∷ []) (sym r.whole ∙ sym e) in
-    ap command_from ((read_line_is_the_grammar line words).1 (subst (λ l. Reads l words) same r.reads))
-
-line_of_five : (a b c d e : List ℕ) → length (line_of (a ∷ b ∷ c ∷ d ∷ e ∷ [])) ≡ length a + length b + length c + length d + length e + 5
-line_of_five a b c d e =
-    omega (arith, length-append (a ++ 32 ∷ (b ++ 32 ∷ (c ++ 32 ∷ (d ++ 32 ∷ e)))) (10 ∷ []), length-append a (32 ∷ (b ++ 32 ∷ (c ++ 32 ∷ (d ++ 32 ∷ e)))), length-append b (32 ∷ (c ++ 32 ∷ (d ++ 32 ∷ e))), length-append c (32 ∷ (d ++ 32 ∷ e)), length-append d (32 ∷ e))
-
-set_read : (ups name value line : List ℕ) → is_ups_name ups ≡ true → is_name name ≡ true → is_value value ≡ true → IsLineOf (requests.SetVar ups name value) line
-    → read_command line ≡ Ok (Some (commands.SetVar (Some ups) (Some name) (Some value)))
-set_read ups name value line h k v e =
-    let few = text_short is_name_byte false UPS_NAME_LIMIT ups h in
-    let short = text_short is_name_byte false NAME_LIMIT name k in
-    let lawful = text_all is_lawful true VALUE_LIMIT value v in
-    let value_few = text_short is_lawful true VALUE_LIMIT value v in
-    let quoted_few = quoted_is_short value in
-    let words : List (List ℕ) = codes "SET" ∷ codes "VAR" ∷ ups ∷ name ∷ value ∷ [] in
-    let written : IsWrittenLine (request_words (requests.SetVar ups name value)) words = record {
-      written = (as_it_is (omega arith) refl, (as_it_is (omega arith) refl, (ups_name_written ups h, (name_written name k, (quoted_written value lawful, tt)))));
-      fits = omega (arith, few, short, value_few, quoted_few, line_of_five (codes "SET") (codes "VAR") ups name (quoted value));
-    } in
-    sent_as (requests.SetVar ups name value) words line written e
-    ∙ ap (λ r. Ok (Some (commands.SetVar (result_ok r) (result_ok (read_name name)) (result_ok (read_value value))))) (text_itself is_name_byte false UPS_NAME_LIMIT ups h)
-    ∙ ap (λ r. Ok (Some (commands.SetVar (Some ups) (result_ok r) (result_ok (read_value value))))) (text_itself is_name_byte false NAME_LIMIT name k)
-    ∙ ap (λ r. Ok (Some (commands.SetVar (Some ups) (Some name) (result_ok r)))) (text_itself is_lawful true VALUE_LIMIT value v)
-
-command_read : (ups name : List ℕ) (value : Option (List ℕ)) (line : List ℕ) → is_ups_name ups ≡ true → is_name name ≡ true → IfSome value (λ v. IsTrue (is_value v)) → IsLineOf (requests.Instcmd ups name value) line
-    → read_command line ≡ Ok (Some (commands.InstCmd (Some ups) (Some name) (value_given value)))
-command_read ups name None line h k v e =
-    let few = text_short is_name_byte false UPS_NAME_LIMIT ups h in
-    let short = text_short is_name_byte false NAME_LIMIT name k in
-    let words : List (List ℕ) = codes "INSTCMD" ∷ ups ∷ name ∷ [] in
-    let written : IsWrittenLine (request_words (requests.Instcmd ups name None)) words = record {
-      written = (as_it_is (omega arith) refl, (ups_name_written ups h, (name_written name k, tt)));
-      fits = omega (arith, few, short, line_of_three (codes "INSTCMD") ups name);
-    } in
-    sent_as (requests.Instcmd ups name None) words line written e
-    ∙ ap (λ r. Ok (Some (commands.InstCmd (result_ok r) (result_ok (read_name name)) None))) (text_itself is_name_byte false UPS_NAME_LIMIT ups h)
-    ∙ ap (λ r. Ok (Some (commands.InstCmd (Some ups) (result_ok r) None))) (text_itself is_name_byte false NAME_LIMIT name k)
-command_read ups name (Some value) line h k v e =
-    let few = text_short is_name_byte false UPS_NAME_LIMIT ups h in
-    let short = text_short is_name_byte false NAME_LIMIT name k in
-    let lawful = text_all is_lawful true VALUE_LIMIT value v in
-    let value_few = text_short is_lawful true VALUE_LIMIT value v in
-    let quoted_few = quoted_is_short value in
-    let words : List (List ℕ) = codes "INSTCMD" ∷ ups ∷ name ∷ value ∷ [] in
-    let written : IsWrittenLine (request_words (requests.Instcmd ups name (Some value))) words = record {
-      written = (as_it_is (omega arith) refl, (ups_name_written ups h, (name_written name k, (quoted_written value lawful, tt))));
-      fits = omega (arith, few, short, value_few, quoted_few, line_of_four (codes "INSTCMD") ups name (quoted value));
-    } in
-    sent_as (requests.Instcmd ups name (Some value)) words line written e
-    ∙ ap (λ r. Ok (Some (commands.InstCmd (result_ok r) (result_ok (read_name name)) (Some (result_ok (read_value value)))))) (text_itself is_name_byte false UPS_NAME_LIMIT ups h)
-    ∙ ap (λ r. Ok (Some (commands.InstCmd (Some ups) (result_ok r) (Some (result_ok (read_value value)))))) (text_itself is_name_byte false NAME_LIMIT name k)
-    ∙ ap (λ r. Ok (Some (commands.InstCmd (Some ups) (Some name) (Some (result_ok r))))) (text_itself is_lawful true VALUE_LIMIT value v)
 
 -- a row of an order is answered by an error, or its UPS is there and it is answered by OK, behind which the id stands where the order is tracked
 abbrev IsEither : Seen → AskerSeen → Option (List ℕ) → Result Answer ErrWord → Type 0
@@ -215,6 +145,11 @@ module _ (s : ServerState) (c : ℕ) (line ups : List ℕ) (command : Command) (
     text_is = prints_same text (line_of ok) (sym h ∙ printed_by _ _ e (granted_read request more by_ok));
   }
 
+  nothing_given : is_granted_by_ok request ≡ true → IsEither (seen s) (asker c s) (Some ups) answer → (fault : ClientFault) → prints ≡ Faults fault → (asker c s).tracking ≡ false → (u : UpsId) → told_by_line u (of_line s c line) ≡ []
+  nothing_given by_ok (inl (word, e)) fault h untracked u = ap (told_by_change u) (change_is_of ∙ ap change_of_answer e)
+  nothing_given by_ok (inr (known, Some id, named, is, e)) fault h untracked u = absurd (true≢false (sym is.0 ∙ untracked))
+  nothing_given by_ok (inr (known, None, named, is, e)) fault h untracked u = absurd (cc (sym (printed_by _ _ e (granted_read request more by_ok)) ∙ h))
+
   -- of one that an id grants
   ordered_with_id : (bytes : ℕ → List ℕ) → WantsId request → IsEither (seen s) (asker c s) (Some ups) answer
       → ((known : KnownUps) (id : ℕ) → ups_named (seen s) (Some ups) ≡ Some known → next_id s.tracking ≡ Some id → text_of_answer answer ≡ line_of (ok_words (Some id)) → change_of_answer answer ≡ order_to known.id (bytes id) (Some id))
@@ -242,24 +177,33 @@ module _ (s : ServerState) (c : ℕ) (line ups : List ℕ) (command : Command) (
 pub orders_given : EachOrderAnsweredOkIsGiven → AnOrderThatIsPrintedIsGiven
 unfolding answer prints
 orders_given given = record {
-  set = λ s c line ups name value more text n m v e h.
-      ordered s c line ups (commands.SetVar (Some ups) (Some name) (Some value)) (requests.SetVar ups name value) more text (set_read ups name value line n m v e) (set_line name value None) refl
-      (set_either (seen s) (asker c s) (Some ups) (Some name) (Some value)) (λ known named is. given.set (seen s) (asker c s) (Some ups) name value known named is) h;
-  command = λ s c line ups name value more text n m v e h.
-      ordered s c line ups (commands.InstCmd (Some ups) (Some name) (value_given value)) (requests.Instcmd ups name value) more text (command_read ups name value line n m v e) (instcmd_line name value None) refl
-      (command_either (seen s) (asker c s) (Some ups) (Some name) (value_given value)) (λ known named is. given.command (seen s) (asker c s) (Some ups) name value known named is) h;
+  set = λ s c line ups name value more asked e.
+      let command : Command = commands.SetVar (Some ups) (Some name) (Some value) in
+      let either = set_either (seen s) (asker c s) (Some ups) (Some name) (Some value) in
+      record {
+        given = λ text h. ordered s c line ups command (requests.SetVar ups name value) more text (asked line e) (set_line name value None) refl either
+            (λ known named is. given.set (seen s) (asker c s) (Some ups) name value known named is) h;
+        nothing = nothing_given s c line ups command (requests.SetVar ups name value) more [] (asked line e) refl either;
+      };
+  command = λ s c line ups name value more asked e.
+      let command : Command = commands.InstCmd (Some ups) (Some name) (value_given value) in
+      let either = command_either (seen s) (asker c s) (Some ups) (Some name) (value_given value) in
+      record {
+        given = λ text h. ordered s c line ups command (requests.Instcmd ups name value) more text (asked line e) (instcmd_line name value None) refl either
+            (λ known named is. given.command (seen s) (asker c s) (Some ups) name value known named is) h;
+        nothing = nothing_given s c line ups command (requests.Instcmd ups name value) more [] (asked line e) refl either;
+      };
 }
 
--- a tracked order is sent as any other
 pub tracked_orders_given : EachOrderAnsweredOkIsGiven → ATrackedOrderThatIsPrintedIsGiven
 unfolding answer prints
 tracked_orders_given given = record {
-  set = λ s c line ups name value more text n m v e h.
-      ordered_with_id s c line ups (commands.SetVar (Some ups) (Some name) (Some value)) (requests.TrackedSetVar ups name value) more text (set_read ups name value line n m v e) (λ id. set_line name value (Some id))
+  set = λ s c line ups name value more text asked e h.
+      ordered_with_id s c line ups (commands.SetVar (Some ups) (Some name) (Some value)) (requests.TrackedSetVar ups name value) more text (asked line e) (λ id. set_line name value (Some id))
       (record { expected = λ words. refl; whole = λ value rest. refl }) (set_either (seen s) (asker c s) (Some ups) (Some name) (Some value))
       (λ known id named next is. given.tracked_set (seen s) (asker c s) (Some ups) name value known id named next is) h;
-  command = λ s c line ups name value more text n m v e h.
-      ordered_with_id s c line ups (commands.InstCmd (Some ups) (Some name) (value_given value)) (requests.TrackedInstcmd ups name value) more text (command_read ups name value line n m v e) (λ id. instcmd_line name value (Some id))
+  command = λ s c line ups name value more text asked e h.
+      ordered_with_id s c line ups (commands.InstCmd (Some ups) (Some name) (value_given value)) (requests.TrackedInstcmd ups name value) more text (asked line e) (λ id. instcmd_line name value (Some id))
       (record { expected = λ words. refl; whole = λ value rest. refl }) (command_either (seen s) (asker c s) (Some ups) (Some name) (value_given value))
       (λ known id named next is. given.tracked_command (seen s) (asker c s) (Some ups) name value known id named next is) h;
 }

@@ -8,8 +8,8 @@ use Rattle.std.specs.Fmt.{decimal}
 use Rattle.std.proofs.lemmas.List.{length-map}
 use Rattle.std.proofs.lemmas.List.Sums.{length-filter, count_by-le-length}
 use Rattle.std.proofs.lemmas.Map.Views.{IfSome-lookup_from_All}
-use Rattle.std.proofs.lemmas.List.Elements.{All-head, All-tail, All-nil, All-cons, All-filter}
-use Rattle.nutwords.specs.Bytes.{is_name_byte}
+use Rattle.std.proofs.lemmas.List.Elements.{All-head, All-tail, All-nil, All-cons, All-filter, All-weaker}
+use Rattle.nutwords.specs.Bytes.{is_name_byte, is_address_byte}
 use Rattle.nutwords.specs.Frame.{frame, line_of, begin_line}
 use Rattle.nutwords.specs.Listing.{as_it_is, IsWrittenLine, IsWritten}
 use Rattle.nutwords.specs.Reading.{is_name, is_ups_name, is_value}
@@ -19,13 +19,17 @@ use Rattle.nutdriver.specs.Sound.{IsSoundVariable, IsSoundTree}
 use Rattle.nutdriver.specs.Tree.{byte_order}
 use Rattle.nutdriver.specs.Variable.{VariableState}
 use Rattle.nutusers.specs.UpsList.{Ups, IsLawfulUps}
-use Rattle.nutlisting.specs.Items.{variable_item, is_rw, command_item, ups_item}
+use Rattle.nutlisting.specs.Items.{variable_item, is_rw, command_item, client_item, ups_item}
 use Rattle.nutlisting.specs.Shown.{shown, ups_description}
-use Rattle.nutanswer.specs.Checks.{KnownUps}
+use Rattle.nutanswer.specs.Checks.{KnownUps, ups_named}
+use Rattle.nutanswer.specs.View.{Seen}
+use Rattle.nutanswer.proofs.PublicLaws.{a_named_ups_is_seen}
 use Rattle.nutcore.specs.ByRight.{WhatIsCountedIsWhoIsThere, logged_in, is_logged_in_of}
-use Rattle.nutcore.specs.Headline.{AListingIsWhatIsHeld}
+use Rattle.nutcore.specs.Listed.{EachIsListedOnce, WhatIsListedIsWhatIsHeld}
+use Rattle.nutcore.specs.ReadsBack.{HasLawfulAddress}
 use Rattle.nutcore.specs.Reply.{seen}
 use Rattle.nutcore.specs.Reply as server
+use Rattle.nutcore.specs.Session.{SessionState}
 use Rattle.nutrequest.specs.declared.item.Item.{Item}
 use Rattle.nutrequest.specs.declared.request.Query.TheVariants as queries
 use Rattle.nutrequest.specs.declared.request.Request.{Request}
@@ -39,14 +43,13 @@ use Rattle.nutclient.specs.declared.form.Form.{Form}
 use Rattle.nutclient.specs.declared.form.Form.TheVariants as forms
 use Rattle.endtoend.specs.Frames.{item_words, IsItem}
 use Rattle.endtoend.specs.Served.{HasVariable}
-use Rattle.endtoend.specs.Printed.{variable_line, setting_line, UpsrwPrintsTheVariables, UpscmdPrintsTheCommands, name_lines, description_line, description_lines, UpscPrintsTheVariables, UpscPrintsTheVariable, UpscPrintsHowManyAreLoggedIn, UpscPrintsTheUpses}
+use Rattle.endtoend.specs.Printed.{variable_line, setting_line, UpsrwPrintsTheVariables, UpscmdPrintsTheCommands, name_lines, description_line, description_lines, UpscPrintsTheVariables, UpscPrintsTheVariable, UpscPrintsHowManyAreLoggedIn, UpscPrintsWhoIsLoggedIn, UpscPrintsTheUpses}
 use Rattle.endtoend.proofs.FrameReading.{frame_read, number_read, value_read}
 use Rattle.endtoend.proofs.Numbers.{written_number}
 use Rattle.nutwords.proofs.PublicLaws.{quoted_is_short}
-use Rattle.endtoend.proofs.Texts.{text_short, name_written, ups_name_written, quoted_written, shown_lawful, description_lawful}
-use Rattle.endtoend.proofs.Requests.{list_var_read, list_rw_read, list_cmd_read, list_ups_read, num_attach_read, get_var_read, line_of_three, line_of_four}
-use Rattle.endtoend.proofs.Rows.{name_kept, settings_answered, commands_answered, variable_answered, upses_answered}
-use Rattle.nutwords.specs.declared.limits.TheConstants.{LINE_ROOM, NAME_LIMIT, UPS_NAME_LIMIT}
+use Rattle.endtoend.proofs.Texts.{text_short, name_written, ups_name_written, address_written, quoted_written, shown_lawful, description_lawful}
+use Rattle.endtoend.proofs.Requests.{list_var_read, list_rw_read, list_cmd_read, list_client_read, list_ups_read, num_attach_read, get_var_read, line_of_three, line_of_four}
+use Rattle.nutwords.specs.declared.limits.TheConstants.{LINE_ROOM, NAME_LIMIT, UPS_NAME_LIMIT, ADDRESS_LIMIT}
 use Rattle.nutrequest.specs.declared.limits.TheConstants.{ITEM_LIMIT}
 
 -- one request, whose reply is whole
@@ -105,15 +108,19 @@ variables_text form fsd line_of (entry ∷ entries) same = ap (λ t. t ++ text_o
 listing_written : (kind ups : List ℕ) → length kind ≤ 64 → is_ups_name ups ≡ true → length (begin_line kind (ups ∷ [])) ≤ LINE_ROOM
 listing_written kind ups few h = omega (arith, few, text_short is_name_byte false UPS_NAME_LIMIT ups h, line_of_four (codes "BEGIN") (codes "LIST") kind ups)
 
-pub prints_variables : AListingIsWhatIsHeld → UpscPrintsTheVariables
-prints_variables held = λ s client ups line known more n u e.
+-- a UPS that is found by a name has the name
+name_kept : (s : Seen) (ups : List ℕ) (known : KnownUps) → ups_named s (Some ups) ≡ Some known → known.name ≡ ups
+name_kept s ups known named = let same : Some ups ≡ Some known.name = (a_named_ups_is_seen s (Some ups) known named).name_is in cc same
+
+pub prints_variables : EachIsListedOnce → UpscPrintsTheVariables
+prints_variables listed = λ s client ups line known more n u e.
     let query = queries.Var ups in
     let entries = known.state.report.tree.variables in
     let fsd = known.state.fsd in
     let lawful = entries_lawful entries u.sound.names u.sound.variables in
-    let read = list_var_read ups line n e in
-    let same : known.name ≡ ups = name_kept (seen s) ups known u.named in
-    let text = held.variables s client line ups known read u.named u.ready in
+    let read = list_var_read ups n line e in
+    let same : known.name ≡ ups = name_kept (seen s) ups known u.asks.named in
+    let text = (listed.variables s client line (Some ups) known read u.asks).0 in
     let few : length (map (variable_of fsd) entries) ≤ ITEM_LIMIT = omega (arith, u.sound.variables_few, length-map entries (variable_of fsd)) in
     let written = variables_written query (codes "VAR") ups fsd entries (λ item. refl) (as_it_is (omega arith) refl) (omega arith) n lawful in
     let items = variables_known query fsd entries (λ name h. h) refl lawful in
@@ -123,26 +130,17 @@ prints_variables held = λ s client ups line known more n u e.
     (ap (λ t. reply (requests.List query) (t ++ more)) (text ∙ ap (λ x. frame (codes "VAR") (x ∷ []) (map (variable_item (codes "VAR") x fsd) entries)) same) ∙ whole)
     ∙ ap Prints (variables_text forms.Colon fsd (variable_line fsd) entries (λ entry. refl))
 
--- those that pass a test are no more
-kept_short : {X : Type 0} (v : Bool) (x : X) (kept xs : List X) → length kept ≤ length xs → length (cond v (x ∷ kept) kept) ≤ length (x ∷ xs)
-kept_short true x kept xs few = omega (arith, few)
-kept_short false x kept xs few = omega (arith, few)
-
-filter_short : {X : Type 0} (p : X → Bool) (xs : List X) → length (filter p xs) ≤ length xs
-filter_short p [] = omega arith
-filter_short p (x ∷ xs) = kept_short (p x) x (filter p xs) xs (filter_short p xs)
-
 -- the variables that may be set are some of them
-pub prints_settings : UpsrwPrintsTheVariables
-prints_settings = λ s client ups line known more n u e.
+pub prints_settings : EachIsListedOnce → UpsrwPrintsTheVariables
+prints_settings listed = λ s client ups line known more n u e.
     let query = queries.Rw ups in
     let entries = filter is_rw known.state.report.tree.variables in
     let fsd = known.state.fsd in
     let lawful = All-filter is_rw IsLawfulEntry known.state.report.tree.variables (entries_lawful known.state.report.tree.variables u.sound.names u.sound.variables) in
-    let read = list_rw_read ups line n e in
-    let same : known.name ≡ ups = name_kept (seen s) ups known u.named in
-    let text = settings_answered s client ups line known u.named u.ready read in
-    let few : length (map (variable_of fsd) entries) ≤ ITEM_LIMIT = omega (arith, u.sound.variables_few, filter_short is_rw known.state.report.tree.variables, length-map entries (variable_of fsd)) in
+    let read = list_rw_read ups n line e in
+    let same : known.name ≡ ups = name_kept (seen s) ups known u.asks.named in
+    let text = (listed.rw s client line (Some ups) known read u.asks).0 in
+    let few : length (map (variable_of fsd) entries) ≤ ITEM_LIMIT = omega (arith, u.sound.variables_few, length-filter is_rw known.state.report.tree.variables, count_by-le-length is_rw known.state.report.tree.variables, length-map entries (variable_of fsd)) in
     let written = variables_written query (codes "RW") ups fsd entries (λ item. refl) (as_it_is (omega arith) refl) (omega arith) n lawful in
     let items = variables_known query fsd entries (λ name h. h) refl lawful in
     let whole = frame_read query (map (variable_item (codes "RW") ups fsd) entries) (map (variable_of fsd) entries) more
@@ -151,59 +149,83 @@ prints_settings = λ s client ups line known more n u e.
     (ap (λ t. reply (requests.List query) (t ++ more)) (text ∙ ap (λ x. frame (codes "RW") (x ∷ []) (map (variable_item (codes "RW") x fsd) entries)) same) ∙ whole)
     ∙ ap Prints (variables_text forms.Equals fsd (setting_line fsd) entries (λ entry. refl))
 
--- a command as an item
-abbrev command_of : List ℕ → Item
-command_of name = record { name = name; value = [] }
+-- a command, or an address, as an item
+abbrev named_item : List ℕ → Item
+named_item name = record { name = name; value = [] }
 
-commands_written : (ups : List ℕ) (commands : List (List ℕ)) → is_ups_name ups ≡ true → All (λ name. IsTrue (is_name name)) commands
-    → AllZip IsWrittenLine (map (command_item ups) commands) (map (item_words (queries.Cmd ups)) (map command_of commands))
-commands_written ups [] h names = tt
-commands_written ups (name ∷ commands) h names =
-    let k = All-head (λ name. IsTrue (is_name name)) name commands names in (
-      record {
-        written = (as_it_is (omega arith) refl, (ups_name_written ups h, (name_written name k, tt)));
-        fits = omega (arith, text_short is_name_byte false UPS_NAME_LIMIT ups h, text_short is_name_byte false NAME_LIMIT name k, line_of_three (codes "CMD") ups name);
-      },
-      commands_written ups commands h (All-tail (λ name. IsTrue (is_name name)) name commands names),
-    )
+record IsNamed (query : Query) (name : List ℕ) : Type 0 where
+  written : IsWritten name name
+  short : length name ≤ 64
+  named : is_item_name query name ≡ true
 
-commands_known : (ups : List ℕ) (commands : List (List ℕ)) → All (λ name. IsTrue (is_name name)) commands → All (IsItem (queries.Cmd ups)) (map command_of commands)
-commands_known ups [] names = All-nil (IsItem (queries.Cmd ups))
-commands_known ups (name ∷ commands) names =
-    All-cons (IsItem (queries.Cmd ups)) (command_of name) (map command_of commands)
-    (record { name = All-head (λ name. IsTrue (is_name name)) name commands names; value = λ none. refl })
-    (commands_known ups commands (All-tail (λ name. IsTrue (is_name name)) name commands names))
+module _ {X : Type 0} (name_of : X → List ℕ) (query : Query) where
+  names_written : (word ups : List ℕ) → ((item : Item) → item_words query item ≡ word ∷ ups ∷ item.name ∷ []) → IsWritten word word → length word ≤ 64 → is_ups_name ups ≡ true → (xs : List X) → All (λ x. IsNamed query (name_of x)) xs
+      → AllZip IsWrittenLine (map (λ x. word ∷ ups ∷ name_of x ∷ []) xs) (map (item_words query) (map (λ x. named_item (name_of x)) xs))
+  names_written word ups same w few h [] all = tt
+  names_written word ups same w few h (x ∷ xs) all =
+      let name : List ℕ = name_of x in
+      let is = All-head (λ x. IsNamed query (name_of x)) x xs all in
+      let line : IsWrittenLine (word ∷ ups ∷ name ∷ []) (word ∷ ups ∷ name ∷ []) = record {
+        written = (w, (ups_name_written ups h, (is.written, tt)));
+        fits = omega (arith, few, text_short is_name_byte false UPS_NAME_LIMIT ups h, is.short, line_of_three word ups name);
+      } in
+      (subst (λ words. IsWrittenLine (word ∷ ups ∷ name ∷ []) words) (sym (same (named_item name))) line, names_written word ups same w few h xs (All-tail (λ x. IsNamed query (name_of x)) x xs all))
 
-commands_text : (commands : List (List ℕ)) → text_of forms.Name (map command_of commands) ≡ flat_map with_lf commands
-commands_text [] = refl
-commands_text (name ∷ commands) = ap (λ t. with_lf name ++ t) (commands_text commands)
+  names_known : (xs : List X) → All (λ x. IsNamed query (name_of x)) xs → All (IsItem query) (map (λ x. named_item (name_of x)) xs)
+  names_known [] all = All-nil (IsItem query)
+  names_known (x ∷ xs) all =
+      All-cons (IsItem query) (named_item (name_of x)) (map (λ x. named_item (name_of x)) xs)
+      (record { name = (All-head (λ x. IsNamed query (name_of x)) x xs all).named; value = λ none. refl })
+      (names_known xs (All-tail (λ x. IsNamed query (name_of x)) x xs all))
 
-pub prints_commands : UpscmdPrintsTheCommands
-prints_commands = λ s client ups line known more n u e.
+  words_text : (xs : List X) → text_of forms.Name (map (λ x. named_item (name_of x)) xs) ≡ flat_map (λ x. with_lf (name_of x)) xs
+  words_text [] = refl
+  words_text (x ∷ xs) = ap (λ t. with_lf (name_of x) ++ t) (words_text xs)
+
+pub prints_commands : EachIsListedOnce → UpscmdPrintsTheCommands
+prints_commands listed = λ s client ups line known more n u e.
     let query = queries.Cmd ups in
     let commands = known.state.report.tree.commands in
-    let read = list_cmd_read ups line n e in
-    let same : known.name ≡ ups = name_kept (seen s) ups known u.named in
-    let text = commands_answered s client ups line known u.named u.ready read in
-    let few : length (map command_of commands) ≤ ITEM_LIMIT = omega (arith, u.sound.commands_few, length-map commands command_of) in
-    let whole = frame_read query (map (command_item ups) commands) (map command_of commands) more
-    ((as_it_is (omega arith) refl, (ups_name_written ups n, tt)), listing_written (codes "CMD") ups (omega arith) n, commands_written ups commands n u.sound.commands) (commands_known ups commands u.sound.commands) few in
-    printed_whole (requests.List query) forms.Name ((server.reply s client line) ++ more) (map command_of commands) more
+    let all = All-weaker (λ name. IsTrue (is_name name)) (IsNamed query) (λ name h. record { written = name_written name h; short = text_short is_name_byte false NAME_LIMIT name h; named = h }) commands u.sound.commands in
+    let read = list_cmd_read ups n line e in
+    let same : known.name ≡ ups = name_kept (seen s) ups known u.asks.named in
+    let text = (listed.commands s client line (Some ups) known read u.asks).0 in
+    let few : length (map named_item commands) ≤ ITEM_LIMIT = omega (arith, u.sound.commands_few, length-map commands named_item) in
+    let whole = frame_read query (map (command_item ups) commands) (map named_item commands) more
+    ((as_it_is (omega arith) refl, (ups_name_written ups n, tt)), listing_written (codes "CMD") ups (omega arith) n, names_written (λ name. name) query (codes "CMD") ups (λ item. refl) (as_it_is (omega arith) refl) (omega arith) n commands all) (names_known (λ name. name) query commands all) few in
+    printed_whole (requests.List query) forms.Name ((server.reply s client line) ++ more) (map named_item commands) more
     (ap (λ t. reply (requests.List query) (t ++ more)) (text ∙ ap (λ x. frame (codes "CMD") (x ∷ []) (map (command_item x) commands)) same) ∙ whole)
-    ∙ ap Prints (commands_text commands)
+    ∙ ap Prints (words_text (λ name. name) query commands)
+
+-- who is logged in
+pub prints_clients : WhatIsCountedIsWhoIsThere → UpscPrintsWhoIsLoggedIn
+prints_clients counted = λ s client ups line known more few lawful n named e.
+    let query = queries.Client ups in
+    let clients = logged_in known.id s in
+    let all = All-weaker HasLawfulAddress (λ x. IsNamed query x.address) (λ x h. record { written = address_written x.address h; short = text_short is_address_byte false ADDRESS_LIMIT x.address h; named = h }) clients (All-filter (is_logged_in_of known.id) HasLawfulAddress s.sessions lawful) in
+    let read = list_client_read ups n line e in
+    let same : known.name ≡ ups = name_kept (seen s) ups known named in
+    let text = counted.listed s client line (Some ups) known read named in
+    let items = map (λ (x : SessionState). named_item x.address) clients in
+    let few : length items ≤ ITEM_LIMIT = omega (arith, few, length-map clients (λ (x : SessionState). named_item x.address), length-filter (is_logged_in_of known.id) s.sessions, count_by-le-length (is_logged_in_of known.id) s.sessions) in
+    let whole = frame_read query (map (λ (x : SessionState). client_item ups x.address) clients) items more
+    ((as_it_is (omega arith) refl, (ups_name_written ups n, tt)), listing_written (codes "CLIENT") ups (omega arith) n, names_written (λ (x : SessionState). x.address) query (codes "CLIENT") ups (λ item. refl) (as_it_is (omega arith) refl) (omega arith) n clients all) (names_known (λ (x : SessionState). x.address) query clients all) few in
+    printed_whole (requests.List query) forms.Name ((server.reply s client line) ++ more) items more
+    (ap (λ t. reply (requests.List query) (t ++ more)) (text ∙ ap (λ name. frame (codes "CLIENT") (name ∷ []) (map (λ (x : SessionState). client_item name x.address) clients)) same) ∙ whole)
+    ∙ ap Prints (words_text (λ (x : SessionState). x.address) query clients)
 
 -- the value of a variable that is there is lawful
 value_there : (known : KnownUps) (name : List ℕ) (variable : VariableState) → IsSoundTree known.state.report.tree → HasVariable known name variable → is_value variable.value ≡ true
 value_there known name variable sound has = (subst (λ o. IfSome o IsSoundVariable) has (IfSome-lookup_from_All IsSoundVariable (is_at (byte_order name)) known.state.report.tree.variables sound.variables)).value
 
-pub prints_variable : UpscPrintsTheVariable
-prints_variable = λ s client ups name line known variable more n m u has e.
+pub prints_variable : WhatIsListedIsWhatIsHeld → UpscPrintsTheVariable
+prints_variable held = λ s client ups name line known variable more n m u has e.
     let fsd = known.state.fsd in
     let value = shown fsd name variable in
     let lawful = shown_lawful fsd name variable (value_there known name variable u.sound has) in
-    let read = get_var_read ups name line n m e in
-    let same : known.name ≡ ups = name_kept (seen s) ups known u.named in
-    let text = variable_answered s client ups name line known variable u.named u.ready has read in
+    let read = get_var_read ups name n m line e in
+    let same : known.name ≡ ups = name_kept (seen s) ups known u.asks.named in
+    let text = held.got s client line (Some ups) name known variable read u.asks has in
     let texts : List (List ℕ) = codes "VAR" ∷ ups ∷ name ∷ quoted value ∷ [] in
     let written : IsWrittenLine texts (codes "VAR" ∷ ups ∷ name ∷ value ∷ []) = record {
       written = (as_it_is (omega arith) refl, (ups_name_written ups n, (name_written name m, (quoted_written value lawful.0, tt))));
@@ -219,7 +241,7 @@ prints_number counted = λ s client ups line known more few n named e.
     let logged = logged_in known.id s in
     let number = decimal (length logged) in
     let short = written_number (length logged) (omega (arith, few, length-filter (is_logged_in_of known.id) s.sessions, count_by-le-length (is_logged_in_of known.id) s.sessions)) in
-    let read = num_attach_read ups line n e in
+    let read = num_attach_read ups n line e in
     let same : known.name ≡ ups = name_kept (seen s) ups known named in
     let text = counted.attached s client line (Some ups) known read named in
     let words : List (List ℕ) = codes "NUMATTACH" ∷ ups ∷ number ∷ [] in
@@ -263,10 +285,10 @@ descriptions_text : (list : List Ups) → text_of forms.Colon (map ups_of_list l
 descriptions_text [] = refl
 descriptions_text (ups ∷ list) = ap (λ t. description_line ups ++ t) (descriptions_text list)
 
-pub prints_upses : UpscPrintsTheUpses
-prints_upses = λ s client line more is e.
+pub prints_upses : EachIsListedOnce → UpscPrintsTheUpses
+prints_upses listed = λ s client line more is e.
     let list = s.list in
-    let text = upses_answered s client line (list_ups_read line e) in
+    let text = (listed.upses s client line (list_ups_read line e)).0 in
     let few : length (map ups_of_list list) ≤ ITEM_LIMIT = omega (arith, is.few, length-map list ups_of_list) in
     let whole = frame_read queries.Ups (map ups_item list) (map ups_of_list list) more
     ((as_it_is (omega arith) refl, tt), omega arith, upses_written list is.lawful)

@@ -1,24 +1,26 @@
 -- How far a tracked order has come, as the server tells it and as a client prints it.
 use Rattle.std.proofs.Common.{◌≡◌, ◌∙◌, ℕ, ◌^◌, ◌<◌, ◌≤◌, Bool, true, false, eqb, ltb, List, [], ◌∷◌, ◌++◌, length, append-nil, Option, Some, None, Ok, if◌then◌else◌, refl, ap, subst, arith}
-use Rattle.std.specs.Prelude.{codes, option_map, ◌==◌}
+use Rattle.std.specs.Prelude.{codes, map, option_map, slice_get, ◌==◌}
 use Rattle.std.specs.Fmt.{decimal}
 use Rattle.std.specs.List.{find}
 use Rattle.std.specs.Option.{ok_or}
 use Rattle.std.proofs.lemmas.Bool.{eq-eqb}
 use Rattle.std.proofs.lemmas.Bool.Decides.{nat_tests}
+use Rattle.std.proofs.lemmas.Grind.{common_steps}
 use Rattle.std.proofs.lemmas.Fmt.{decimal_is_IsNumeral, length-decimal-le}
 use Rattle.std.proofs.lemmas.List.Elements.{All-head, All-tail}
 use Rattle.nutwords.specs.Frame.{line_of}
 use Rattle.nutwords.specs.Listing.{as_it_is, IsWrittenLine}
 use Rattle.nutwords.specs.Natural.{read_natural}
 use Rattle.nuttracking.specs.Id.{id_text}
-use Rattle.nuttracking.specs.Sound.{IsLawfulProgress, HaveLawfulNumbers}
-use Rattle.nuttracking.specs.Tracking.{has_id, progress_of}
-use Rattle.nuttracking.specs.declared.limits.TheConstants.{DONE_LIMIT}
+use Rattle.nuttracking.specs.Acts.{after_acts, given, first_report}
+use Rattle.nuttracking.specs.Sound.{IsLawfulProgress, HaveLawfulNumbers, IsSoundTracking, times}
+use Rattle.nuttracking.specs.Tracking.{TrackingState, has_id, next_id, with_order, progress_of}
+use Rattle.nuttracking.specs.declared.limits.TheConstants.{DONE_LIMIT, ORDER_LIMIT}
 use Rattle.nuttracking.specs.declared.order.Progress.{Progress}
 use Rattle.nuttracking.specs.declared.order.Progress.TheVariants.{Pending, Done}
 use Rattle.nuttracking.specs.declared.order.TrackedOrder.{TrackedOrder}
-use Rattle.nuttracking.proofs.PublicLaws.{ids_are_plain, written_is_read, read_is_written}
+use Rattle.nuttracking.proofs.PublicLaws.{ids_are_plain, written_is_read, read_is_written, its_driver_settles_it_once}
 use Rattle.nutlisting.specs.Tracked.{progress_words}
 use Rattle.nutanswer.specs.Answer.{told, text_of_answer}
 use Rattle.nutanswer.specs.Checks.{◌>>=◌}
@@ -26,6 +28,8 @@ use Rattle.nutanswer.specs.Command.{read_command}
 use Rattle.nutanswer.specs.declared.command.Command.TheVariants as commands
 use Rattle.nutanswer.specs.declared.err_word.ErrWord.TheVariants.{InvalidArgument}
 use Rattle.nutcore.specs.Server.{ServerState}
+use Rattle.nutcore.specs.Sound.{EveryRunKeepsTheServerSound}
+use Rattle.nutcore.specs.TrackedRuns.{acts, WhatIsTrackedComesOfTheActs}
 use Rattle.nutcore.specs.Reply.{text_to}
 use Rattle.nutcore.specs.Reply as server
 use Rattle.nutrequest.specs.declared.request.Request.TheVariants as requests
@@ -34,22 +38,22 @@ use Rattle.nutrequest.specs.Reply as client
 use Rattle.nutclient.specs.Requests.{reply_behind}
 use Rattle.nutclient.specs.Printed.{Prints, printed, printed_of}
 use Rattle.nutclient.specs.declared.form.Form.TheVariants as forms
-use Rattle.endtoend.specs.Tracked.{UpscPrintsHowFarAnOrderHasCome}
-use Rattle.endtoend.specs.Served.{IsLineOf}
+use Rattle.endtoend.specs.Tracked.{UpscPrintsHowFarAnOrderHasCome, UpscPrintsWhatItsDriverReported}
+use Rattle.endtoend.specs.Served.{IsReadAsAsked}
 use Rattle.endtoend.proofs.Ids.{id_written}
 use Rattle.endtoend.proofs.Numbers.{digits_all, written_read}
 use Rattle.endtoend.proofs.Refused.{first_read, refused_read}
-use Rattle.endtoend.proofs.Requests.{words_sent, line_of_three, line_of_four}
+use Rattle.endtoend.proofs.Requests.{sent_as, line_of_three, line_of_four}
 
 -- the line of the request
-get_tracking_read : (id : ℕ) (line : List ℕ) → id < 2 ^ 128 → IsLineOf (requests.GetTracking id) line → read_command line ≡ Ok (Some (commands.GetProgress (Some id)))
-get_tracking_read id line small e =
+pub get_tracking_read : (id : ℕ) → id < 2 ^ 128 → IsReadAsAsked (requests.GetTracking id)
+get_tracking_read id small line e =
     let words : List (List ℕ) = codes "GET" ∷ codes "TRACKING" ∷ id_text id ∷ [] in
     let written : IsWrittenLine words words = record {
       written = (as_it_is (omega arith) refl, (as_it_is (omega arith) refl, (id_written id, tt)));
       fits = omega (arith, ids_are_plain.long id, line_of_three (codes "GET") (codes "TRACKING") (id_text id));
     } in
-    words_sent (requests.GetTracking id) line written e ∙ ap (λ (o : Option ℕ). Ok (Some (commands.GetProgress o))) (written_is_read id small)
+    cc (sent_as (requests.GetTracking id) words written line e, written_is_read id small)
 
 -- what the server answers
 answered_by : (s : ServerState) (c id : ℕ) (line : List ℕ) (o : Option Progress) → read_command line ≡ Ok (Some (commands.GetProgress (Some id))) → progress_of id s.tracking ≡ o
@@ -133,7 +137,7 @@ prints_progress = record {
   told = λ s c id text line progress more read lawful is e.
       let small : id < 2 ^ 128 = ((read_is_written text id).0 read).0 in
       let mine = lawful_found id progress s.tracking.orders lawful is in
-      let answer = answered_by s c id line (Some progress) (get_tracking_read id line small e) is in
+      let answer = answered_by s c id line (Some progress) (get_tracking_read id small line e) is in
       let words = all_words id progress in
       let whole : reply (requests.GetTracking id) (line_of words ++ more) ≡ Whole (one_item (told_text progress)) more =
       first_read (requests.GetTracking id) words words more (words_written id progress mine)
@@ -143,7 +147,23 @@ prints_progress = record {
       ∙ ap Prints (printed_text progress);
   unknown = λ s c id text line more read is e.
       let small : id < 2 ^ 128 = ((read_is_written text id).0 read).0 in
-      let answer = answered_by s c id line None (get_tracking_read id line small e) is in
+      let answer = answered_by s c id line None (get_tracking_read id small line e) is in
       ap (λ (t : List ℕ). printed (requests.GetTracking id ∷ []) forms.Value (t ++ more)) answer
       ∙ ap (λ (r : Reply). printed_of forms.Value (reply_behind r (λ items rest. Whole items rest))) (refused_read (requests.GetTracking id) InvalidArgument more);
 }
+
+-- the next id is one of 128 bits
+next_small : (t : TrackingState) (id : ℕ) → IsSoundTracking t → next_id t ≡ Some id → id < 2 ^ 128
+next_small t id sound next = by t.ids next (λ large. sound.small id large)
+  where
+    by : (ids : List ℕ) → slice_get ids 0 ≡ Some id → (2 ^ 128 ≤ id → times id (ids ++ map (λ (order : TrackedOrder). order.id) t.orders) ≡ 0) → id < 2 ^ 128
+    by [] e none = cc e
+    by (i ∷ ids) e none = let same : i ≡ id = cc e in grind (arith, nat_tests, common_steps)
+
+pub prints_report : WhatIsTrackedComesOfTheActs → EveryRunKeepsTheServerSound → UpscPrintsHowFarAnOrderHasCome → UpscPrintsWhatItsDriverReported
+prints_report tracked keeps how_far s left new c line ups text bytes events outcomes client asks more sound o sound_left is run few sent =
+    let begun : left.tracking ≡ with_order o.known.id.place s.tracking = is ∙ o.kept in
+    let done = acts left events outcomes in
+    how_far.told new client o.id (id_text o.id) asks (first_report o.known.id.place o.id done) more (written_is_read o.id (next_small s.tracking o.id sound.tracking o.first)) (keeps left new events outcomes run sound_left).numbers
+    (ap (progress_of o.id) (tracked left new events outcomes run ∙ ap (λ (t : TrackingState). after_acts t done) begun)
+    ∙ its_driver_settles_it_once s.tracking o.known.id.place o.id done sound.tracking o.first (subst (λ (t : TrackingState). length (given t done) < ORDER_LIMIT) begun few)) sent

@@ -6,9 +6,9 @@ use Rattle.std.specs.Str.{bytes_eq}
 use Rattle.std.proofs.lemmas.Bool.{and_parts, and_from}
 use Rattle.std.proofs.lemmas.Bool.Decides.{nat_tests}
 use Rattle.std.proofs.lemmas.Grind.{common_steps}
-use Rattle.nutwords.specs.Bytes.{is_lawful, is_bare, is_name_byte}
+use Rattle.nutwords.specs.Bytes.{is_lawful, is_bare, is_name_byte, is_address_byte}
 use Rattle.nutwords.specs.Listing.{IsWritten, as_it_is, in_quotes}
-use Rattle.nutwords.specs.Reading.{read_text, is_name, is_ups_name, is_value}
+use Rattle.nutwords.specs.Reading.{read_text, is_name, is_ups_name, is_address, is_value}
 use Rattle.nutwords.specs.Spelling.{quoted}
 use Rattle.nutdriver.specs.Variable.{VariableState}
 use Rattle.nutusers.specs.Texts.{is_description}
@@ -16,7 +16,7 @@ use Rattle.nutusers.specs.UpsList.{Ups}
 use Rattle.nutlisting.specs.Shown.{shown, ups_description}
 use Rattle.nutlisting.specs.declared.lines.shown.TheConstants.{SHOWN_LIMIT}
 use Rattle.nutusers.specs.declared.limits.TheConstants.{DESCRIPTION_LIMIT}
-use Rattle.nutwords.specs.declared.limits.TheConstants.{VALUE_LIMIT, NAME_LIMIT, UPS_NAME_LIMIT}
+use Rattle.nutwords.specs.declared.limits.TheConstants.{VALUE_LIMIT, NAME_LIMIT, UPS_NAME_LIMIT, ADDRESS_LIMIT}
 
 -- what is read as a text: its length, its bytes, and itself
 pub text_short : (allowed : ℕ → Bool) (may_be_empty : Bool) (most : ℕ) (bytes : List ℕ) → is_ok (read_text allowed may_be_empty most bytes) ≡ true → length bytes ≤ most
@@ -37,18 +37,24 @@ text_same allowed may_be_empty most bytes read h = grind (arith, nat_tests, comm
 name_byte-bare : (b : ℕ) → is_name_byte b ≡ true → is_bare b ≡ true
 name_byte-bare b h = grind (arith, nat_tests)
 
-name_bytes-bare : (bytes : List ℕ) → list_all is_name_byte bytes ≡ true → list_all is_bare bytes ≡ true
-name_bytes-bare [] h = refl
-name_bytes-bare (b ∷ bytes) h =
-    let p = and_parts (is_name_byte b) (list_all is_name_byte bytes) h in
-    and_from (is_bare b) (list_all is_bare bytes) (name_byte-bare b p.0) (name_bytes-bare bytes p.1)
+address_byte-bare : (b : ℕ) → is_address_byte b ≡ true → is_bare b ≡ true
+address_byte-bare b h = grind (arith, nat_tests)
+
+pub all_bare : (allowed : ℕ → Bool) → ((b : ℕ) → allowed b ≡ true → is_bare b ≡ true) → (bytes : List ℕ) → list_all allowed bytes ≡ true → list_all is_bare bytes ≡ true
+all_bare allowed bare [] h = refl
+all_bare allowed bare (b ∷ bytes) h =
+    let p = and_parts (allowed b) (list_all allowed bytes) h in
+    and_from (is_bare b) (list_all is_bare bytes) (bare b p.0) (all_bare allowed bare bytes p.1)
 
 -- a name is written as it is
 pub name_written : (name : List ℕ) → is_name name ≡ true → IsWritten name name
-name_written name h = as_it_is (text_some is_name_byte NAME_LIMIT name h) (name_bytes-bare name (text_all is_name_byte false NAME_LIMIT name h))
+name_written name h = as_it_is (text_some is_name_byte NAME_LIMIT name h) (all_bare is_name_byte name_byte-bare name (text_all is_name_byte false NAME_LIMIT name h))
 
 pub ups_name_written : (name : List ℕ) → is_ups_name name ≡ true → IsWritten name name
-ups_name_written name h = as_it_is (text_some is_name_byte UPS_NAME_LIMIT name h) (name_bytes-bare name (text_all is_name_byte false UPS_NAME_LIMIT name h))
+ups_name_written name h = as_it_is (text_some is_name_byte UPS_NAME_LIMIT name h) (all_bare is_name_byte name_byte-bare name (text_all is_name_byte false UPS_NAME_LIMIT name h))
+
+pub address_written : (address : List ℕ) → is_address address ≡ true → IsWritten address address
+address_written address h = as_it_is (text_some is_address_byte ADDRESS_LIMIT address h) (all_bare is_address_byte address_byte-bare address (text_all is_address_byte false ADDRESS_LIMIT address h))
 
 -- a text of lawful bytes is written in quotes
 pub quoted_written : (text : List ℕ) → list_all is_lawful text ≡ true → IsWritten (quoted text) text

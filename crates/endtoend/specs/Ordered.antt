@@ -1,19 +1,19 @@
--- From the screen to the driver: an order whose `OK` is printed was given.
-use Rattle.std.specs.Prelude.{◌≡◌, ◌==◌, ℕ, List, [], ◌∷◌, ◌++◌, Option, Some, codes, IsTrue}
-use Rattle.std.specs.Prelude.{IfSome, None, if◌then◌else◌}
+-- From the screen to the driver: an order was given exactly where its `OK` is printed.
+use Rattle.std.specs.Prelude.{◌≡◌, ◌==◌, ℕ, false, List, [], ◌∷◌, ◌++◌, Option, Some, None, codes}
+use Rattle.std.specs.Prelude.{if◌then◌else◌}
 use Rattle.nutwords.specs.Frame.{line_of}
-use Rattle.nutwords.specs.Reading.{is_name, is_ups_name, is_value}
 use Rattle.nutusers.specs.declared.ups_list.UpsId.{UpsId}
 use Rattle.nutanswer.specs.Checks.{KnownUps, ups_named}
 use Rattle.nutanswer.specs.Orders.{set_line, instcmd_line}
 use Rattle.nutcore.specs.Server.{ServerState}
-use Rattle.nutcore.specs.Reply.{seen, reply}
+use Rattle.nutcore.specs.Reply.{seen, asker, reply}
 use Rattle.nutcore.specs.History.{of_line}
 use Rattle.nutcore.specs.DriverOrders.{order, told_by_line}
+use Rattle.nutrequest.specs.declared.faults.ClientFault.{ClientFault}
 use Rattle.nutrequest.specs.declared.request.Request.TheVariants.{SetVar, Instcmd}
-use Rattle.nutclient.specs.Printed.{Prints, printed}
+use Rattle.nutclient.specs.Printed.{Printed, Prints, Faults, printed}
 use Rattle.nutclient.specs.declared.form.Form.TheVariants as forms
-use Rattle.endtoend.specs.Served.{IsLineOf}
+use Rattle.endtoend.specs.Served.{IsLineOf, IsReadAsAsked}
 
 -- The line was answered by OK; it tells the driver of this UPS the order, once, and no other driver
 -- anything. What was printed is `OK`.
@@ -25,17 +25,22 @@ pub record IsOrdered (s : ServerState) (c : ℕ) (line ups bytes text : List ℕ
       ≡ (if known.id.place == u.place then order bytes ∷ [] else [])
   pub text_is : text ≡ line_of (codes "OK" ∷ [])
 
--- Whatever comes after the server's answer to the order of `upsrw -s` or `upscmd`: where a text is
--- printed, the order was given.
+-- What is printed of the answer: where it is a text, the order was given; where it is a fault, and
+-- the session's orders aren't tracked, no driver was told anything.
+pub record IsGivenAsPrinted (s : ServerState) (c : ℕ) (line ups bytes : List ℕ) (shown : Printed)
+    : Type 0 where
+  pub given : (text : List ℕ) → shown ≡ Prints text → IsOrdered s c line ups bytes text
+  pub nothing : (fault : ClientFault) → shown ≡ Faults fault → (asker c s).tracking ≡ false
+      → (u : UpsId) → told_by_line u (of_line s c line) ≡ []
+
+-- Of the order of `upsrw -s` or `upscmd`, whatever comes after the server's answer.
 pub record AnOrderThatIsPrintedIsGiven : Type 0 where
-  pub set : (s : ServerState) (c : ℕ) (line ups name value more text : List ℕ)
-      → IsTrue (is_ups_name ups) → IsTrue (is_name name) → IsTrue (is_value value)
-      → IsLineOf (SetVar ups name value) line
-      → printed (SetVar ups name value ∷ []) forms.Value (reply s c line ++ more) ≡ Prints text
-      → IsOrdered s c line ups (set_line name value None) text
+  pub set : (s : ServerState) (c : ℕ) (line ups name value more : List ℕ)
+      → IsReadAsAsked (SetVar ups name value) → IsLineOf (SetVar ups name value) line
+      → IsGivenAsPrinted s c line ups (set_line name value None)
+      (printed (SetVar ups name value ∷ []) forms.Value (reply s c line ++ more))
   pub command : (s : ServerState) (c : ℕ) (line ups name : List ℕ) (value : Option (List ℕ))
-      (more text : List ℕ)
-      → IsTrue (is_ups_name ups) → IsTrue (is_name name)
-      → IfSome value (λ v. IsTrue (is_value v)) → IsLineOf (Instcmd ups name value) line
-      → printed (Instcmd ups name value ∷ []) forms.Value (reply s c line ++ more) ≡ Prints text
-      → IsOrdered s c line ups (instcmd_line name value None) text
+      (more : List ℕ)
+      → IsReadAsAsked (Instcmd ups name value) → IsLineOf (Instcmd ups name value) line
+      → IsGivenAsPrinted s c line ups (instcmd_line name value None)
+      (printed (Instcmd ups name value ∷ []) forms.Value (reply s c line ++ more))

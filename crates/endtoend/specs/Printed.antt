@@ -1,6 +1,6 @@
 -- What a client prints of the server's answer.
 use Rattle.std.specs.Prelude.{◌≡◌, ◌≤◌, ℕ, Bool, List, [], ◌∷◌, ◌++◌, Some, codes, filter}
-use Rattle.std.specs.Prelude.{length, IsTrue}
+use Rattle.std.specs.Prelude.{length, All, IsTrue}
 use Rattle.std.specs.Fmt.{decimal}
 use Rattle.std.specs.List.{flat_map}
 use Rattle.nutwords.specs.Reading.{is_name, is_ups_name}
@@ -12,6 +12,7 @@ use Rattle.nutlisting.specs.Shown.{shown, ups_description}
 use Rattle.nutlisting.specs.declared.listing.clients.TheConstants.{SESSION_LIMIT}
 use Rattle.nutanswer.specs.Checks.{KnownUps, ups_named}
 use Rattle.nutcore.specs.ByRight.{logged_in}
+use Rattle.nutcore.specs.ReadsBack.{HasLawfulAddress}
 use Rattle.nutcore.specs.Reply.{seen, reply}
 use Rattle.nutcore.specs.Server.{ServerState}
 use Rattle.nutrequest.specs.declared.request.Query.TheVariants as queries
@@ -60,6 +61,20 @@ UpscPrintsHowManyAreLoggedIn =
     → ups_named (seen s) (Some ups) ≡ Some known → IsLineOf (GetNumAttach ups) line
     → printed (GetNumAttach ups ∷ []) forms.Value (reply s client line ++ more)
     ≡ Prints (number_line s known)
+
+-- The address of each session that is logged in to the UPS, in the order of opening.
+abbrev pub address_lines : ServerState → KnownUps → List ℕ
+address_lines s known = flat_map (λ x. with_lf x.address) (logged_in known.id s)
+
+-- `upsc -c ups`, of such a server, whose sessions have lawful addresses.
+abbrev pub UpscPrintsWhoIsLoggedIn : Type 0
+UpscPrintsWhoIsLoggedIn =
+    (s : ServerState) (client : ℕ) (ups line : List ℕ) (known : KnownUps) (more : List ℕ)
+    → length s.sessions ≤ SESSION_LIMIT → All HasLawfulAddress s.sessions
+    → IsTrue (is_ups_name ups) → ups_named (seen s) (Some ups) ≡ Some known
+    → IsLineOf (ListOf (queries.Client ups)) line
+    → printed (ListOf (queries.Client ups) ∷ []) forms.Name (reply s client line ++ more)
+    ≡ Prints (address_lines s known)
 
 -- A line `name=value`.
 abbrev pub setting_line : Bool → List ℕ × VariableState → List ℕ

@@ -1,8 +1,9 @@
 -- Tracked orders from the screen to the driver, and what `upsc --tracked` prints.
-use Rattle.std.specs.Prelude.{◌≡◌, ◌==◌, ℕ, List, [], ◌∷◌, ◌++◌, Option, Some, None}
-use Rattle.std.specs.Prelude.{IsTrue, IfSome, if◌then◌else◌}
+use Rattle.std.specs.Prelude.{◌≡◌, ◌<◌, ◌==◌, ℕ, List, [], ◌∷◌, ◌++◌, length, Option, Some, None}
+use Rattle.std.specs.Prelude.{if◌then◌else◌}
 use Rattle.nutwords.specs.Frame.{line_of}
-use Rattle.nutwords.specs.Reading.{is_name, is_ups_name, is_value}
+use Rattle.nuttracking.specs.declared.limits.TheConstants.{ORDER_LIMIT}
+use Rattle.nuttracking.specs.Acts.{given, first_report}
 use Rattle.nuttracking.specs.Id.{id_text, read_id}
 use Rattle.nuttracking.specs.Sound.{HaveLawfulNumbers}
 use Rattle.nuttracking.specs.Tracking.{next_id, with_order, progress_of}
@@ -13,16 +14,21 @@ use Rattle.nutanswer.specs.Checks.{KnownUps, ups_named}
 use Rattle.nutanswer.specs.ErrWord.{spelling_of}
 use Rattle.nutanswer.specs.Orders.{set_line, instcmd_line, ok_words}
 use Rattle.nutanswer.specs.declared.err_word.ErrWord.TheVariants.{InvalidArgument}
+use Rattle.nutcore.specs.declared.event.Event.{Event}
+use Rattle.nutcore.specs.declared.event.Outcome.{Outcome}
 use Rattle.nutcore.specs.DriverOrders.{order, told_by_line}
 use Rattle.nutcore.specs.History.{of_line}
 use Rattle.nutcore.specs.Reply.{seen, reply, after_change}
+use Rattle.nutcore.specs.Run.{Run}
 use Rattle.nutcore.specs.Server.{ServerState}
+use Rattle.nutcore.specs.Sound.{IsSound}
+use Rattle.nutcore.specs.TrackedRuns.{acts}
 use Rattle.nutrequest.specs.declared.faults.ClientFault.TheVariants.{ErrWord as ServerRefused}
 use Rattle.nutrequest.specs.declared.request.Request.TheVariants.{TrackedSetVar, TrackedInstcmd}
 use Rattle.nutrequest.specs.declared.request.Request.TheVariants.{GetTracking}
 use Rattle.nutclient.specs.Printed.{Prints, Faults, printed}
 use Rattle.nutclient.specs.declared.form.Form.TheVariants as forms
-use Rattle.endtoend.specs.Served.{IsLineOf}
+use Rattle.endtoend.specs.Served.{IsLineOf, IsReadAsAsked}
 
 -- The line was answered by OK and an id, the first at hand; it tells the driver of this UPS the
 -- order with that id, once, and no other driver anything, and the order is kept, pending, with that
@@ -43,15 +49,14 @@ pub record IsOrderedWithId (s : ServerState) (c : ℕ) (line ups : List ℕ) (by
 -- `upscmd --track`: where a text is printed, the order was given with an id.
 pub record ATrackedOrderThatIsPrintedIsGiven : Type 0 where
   pub set : (s : ServerState) (c : ℕ) (line ups name value more text : List ℕ)
-      → IsTrue (is_ups_name ups) → IsTrue (is_name name) → IsTrue (is_value value)
-      → IsLineOf (TrackedSetVar ups name value) line
+      → IsReadAsAsked (TrackedSetVar ups name value) → IsLineOf (TrackedSetVar ups name value) line
       → printed (TrackedSetVar ups name value ∷ []) forms.Value (reply s c line ++ more)
       ≡ Prints text
       → IsOrderedWithId s c line ups (λ id. set_line name value (Some id)) text
   pub command : (s : ServerState) (c : ℕ) (line ups name : List ℕ) (value : Option (List ℕ))
       (more text : List ℕ)
-      → IsTrue (is_ups_name ups) → IsTrue (is_name name)
-      → IfSome value (λ v. IsTrue (is_value v)) → IsLineOf (TrackedInstcmd ups name value) line
+      → IsReadAsAsked (TrackedInstcmd ups name value)
+      → IsLineOf (TrackedInstcmd ups name value) line
       → printed (TrackedInstcmd ups name value ∷ []) forms.Value (reply s c line ++ more)
       ≡ Prints text
       → IsOrderedWithId s c line ups (λ id. instcmd_line name value (Some id)) text
@@ -71,3 +76,18 @@ pub record UpscPrintsHowFarAnOrderHasCome : Type 0 where
       → progress_of id s.tracking ≡ None → IsLineOf (GetTracking id) line
       → printed (GetTracking id ∷ []) forms.Value (reply s client line ++ more)
       ≡ Faults (ServerRefused (spelling_of InvalidArgument))
+
+-- What is printed of an order that was given with an id. On every server to which a run leads from
+-- the ids and orders that its line left, that is PENDING up to the first report on the id by the
+-- driver of its UPS, and from then on what that said, unless 256 orders were given meanwhile.
+abbrev pub UpscPrintsWhatItsDriverReported : Type 0
+UpscPrintsWhatItsDriverReported =
+    (s left new : ServerState) (c : ℕ) (line ups text : List ℕ) (bytes : ℕ → List ℕ)
+    (events : List Event) (outcomes : List Outcome) (client : ℕ) (asks more : List ℕ) → IsSound s
+    → (o : IsOrderedWithId s c line ups bytes text) → IsSound left
+    → left.tracking ≡ (after_change s c line).tracking → Run left events outcomes new
+    → length (given left.tracking (acts left events outcomes)) < ORDER_LIMIT
+    → IsLineOf (GetTracking o.id) asks
+    → printed (GetTracking o.id ∷ []) forms.Value (reply new client asks ++ more)
+    ≡ Prints (line_of (progress_words
+    (first_report o.known.id.place o.id (acts left events outcomes))))

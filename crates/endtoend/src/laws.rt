@@ -1,19 +1,27 @@
 //! Laws over both ends: the server's `reply` and the client's `printed`, each as its own crate defines it.
 ghost use Rattle.endtoend.specs.Frames.{AFrameIsReadAsItsItems};
+ghost use Rattle.endtoend.specs.Served.{EachRequestIsReadAsAsked};
 ghost use Rattle.endtoend.specs.FromDriver.{UpscPrintsWhatTheDriverSetLast, UpscPrintsAllThatTheDriverSetLast};
 ghost use Rattle.endtoend.specs.Refused.{ARefusalIsTold};
 ghost use Rattle.endtoend.specs.Ordered.{AnOrderThatIsPrintedIsGiven};
-ghost use Rattle.endtoend.specs.Tracked.{ATrackedOrderThatIsPrintedIsGiven, UpscPrintsHowFarAnOrderHasCome};
+ghost use Rattle.endtoend.specs.Tracked.{ATrackedOrderThatIsPrintedIsGiven, UpscPrintsHowFarAnOrderHasCome, UpscPrintsWhatItsDriverReported};
 ghost use Rattle.endtoend.specs.OverRuns.{UpscPrintsWhatItTook};
-ghost use Rattle.endtoend.specs.OrdersOverRuns.{AnOrderThatIsPrintedIsToldInTheRun, ATrackedOrderThatIsPrintedIsToldInTheRun};
-ghost use Rattle.endtoend.specs.Printed.{UpscPrintsTheVariables, UpscPrintsTheVariable, UpscPrintsHowManyAreLoggedIn, UpscPrintsTheUpses, UpsrwPrintsTheVariables, UpscmdPrintsTheCommands};
+ghost use Rattle.endtoend.specs.OrdersOverRuns.{APrintedOrderIsGivenOnce};
+ghost use Rattle.endtoend.specs.Printed.{UpscPrintsTheVariables, UpscPrintsTheVariable, UpscPrintsHowManyAreLoggedIn, UpscPrintsWhoIsLoggedIn, UpscPrintsTheUpses, UpsrwPrintsTheVariables, UpscmdPrintsTheCommands};
 
 use nutanswer::laws::each_order_answered_ok_is_given;
 use nutcore::laws::{
-    a_listing_is_what_is_held, every_server_is_sound, one_line_is_answered,
+    each_is_listed_once, each_run_tracks_its_orders, every_server_is_sound, one_line_is_answered,
     the_orders_told_are_those_of_the_lines, what_a_driver_set_last_is_held,
-    what_is_counted_is_who_is_there, whatever_is_told_is_fresh,
+    what_is_counted_is_who_is_there, what_is_listed_is_what_is_held, whatever_is_told_is_fresh,
 };
+
+/// What `upsc`, `upsrw` and `upscmd` send is read by the server as the commands that their words
+/// ask for.
+#[tactic(auto, using(crate::proofs::Sent::each_read))]
+pub fn each_request_is_read_as_asked()
+    ensures { EachRequestIsReadAsAsked }
+{}
 
 /// A client reads the text of a listing of up to 65,536 items as these items, in order, whatever
 /// follows it.
@@ -27,18 +35,22 @@ pub fn a_frame_is_read_as_its_items()
 pub fn upsc_prints_the_variables()
     ensures { UpscPrintsTheVariables }
 {
-    a_listing_is_what_is_held();
+    each_is_listed_once();
 }
 
 /// `upsc UPS VAR` prints the value of a usable UPS's variable, as clients see it.
 #[tactic(auto, using(crate::proofs::Printing::prints_variable))]
 pub fn upsc_prints_the_variable()
     ensures { UpscPrintsTheVariable }
-{}
+{
+    what_is_listed_is_what_is_held();
+}
 
-/// `upsc --attached UPS` prints how many sessions are logged in to the UPS.
-pub fn upsc_prints_how_many_are_logged_in()
-    ensures { UpscPrintsHowManyAreLoggedIn }
+/// `upsc --attached UPS` prints how many sessions are logged in to the UPS, and `upsc -c UPS` exactly
+/// their addresses, in the order of opening.
+pub fn upsc_prints_who_is_logged_in()
+    ensures number { UpscPrintsHowManyAreLoggedIn }
+    ensures addresses { UpscPrintsWhoIsLoggedIn }
 {
     what_is_counted_is_who_is_there();
 }
@@ -46,19 +58,25 @@ pub fn upsc_prints_how_many_are_logged_in()
 /// `upsc -l` and `upsc -L` print exactly one line for each UPS of the server, by rising names.
 pub fn upsc_prints_the_upses()
     ensures { UpscPrintsTheUpses }
-{}
+{
+    each_is_listed_once();
+}
 
 /// `upsrw UPS` prints exactly one line `name=value` for each variable that clients may set.
 #[tactic(auto, using(crate::proofs::Printing::prints_settings))]
 pub fn upsrw_prints_the_variables()
     ensures { UpsrwPrintsTheVariables }
-{}
+{
+    each_is_listed_once();
+}
 
 /// `upscmd -l UPS` prints exactly one line for each command of the UPS.
 #[tactic(auto, using(crate::proofs::Printing::prints_commands))]
 pub fn upscmd_prints_the_commands()
     ensures { UpscmdPrintsTheCommands }
-{}
+{
+    each_is_listed_once();
+}
 
 /// `upsc --tracked ID UPS` prints `PENDING`, `SUCCESS`, or `FAILED` and the driver's number. For an
 /// unknown id it prints nothing and ends with `INVALID-ARGUMENT`.
@@ -86,20 +104,12 @@ pub fn a_refusal_is_told()
     ensures { ARefusalIsTold }
 {}
 
-/// If `upsrw -s` or `upscmd` prints `OK`, the server gave the order to the driver of that UPS,
-/// once, and nothing to any other driver.
+/// `upsrw -s` and `upscmd` print `OK` exactly if the server gave the order to the driver of that
+/// UPS, once, and nothing to any other driver.
 pub fn an_order_that_is_printed_is_given()
     ensures { AnOrderThatIsPrintedIsGiven }
 {
     each_order_answered_ok_is_given();
-}
-
-/// In a run that executed its line, that order is among those given to that driver.
-pub fn an_order_that_is_printed_is_told_in_the_run()
-    ensures { AnOrderThatIsPrintedIsToldInTheRun }
-{
-    the_orders_told_are_those_of_the_lines();
-    an_order_that_is_printed_is_given();
 }
 
 /// If `upsrw --track -s` or `upscmd --track` prints an id, the server gave the order with that id
@@ -110,12 +120,22 @@ pub fn a_tracked_order_that_is_printed_is_given()
     each_order_answered_ok_is_given();
 }
 
-/// In a run that executed its line, that order and its id are among those given to that driver.
-pub fn a_tracked_order_that_is_printed_is_told_in_the_run()
-    ensures { ATrackedOrderThatIsPrintedIsToldInTheRun }
+/// What `upsc --tracked` prints of that id is `PENDING` up to that driver's first report on it, and
+/// then what this said, until 256 more orders are given.
+pub fn upsc_prints_what_its_driver_reported()
+    ensures { UpscPrintsWhatItsDriverReported }
+{
+    each_run_tracks_its_orders();
+    every_server_is_sound();
+    upsc_prints_how_far_an_order_has_come();
+}
+
+/// A run that executed the line of a printed order gave it to that driver once, at the line's place
+/// among all orders.
+pub fn a_printed_order_is_given_once()
+    ensures { APrintedOrderIsGivenOnce }
 {
     the_orders_told_are_those_of_the_lines();
-    a_tracked_order_that_is_printed_is_given();
 }
 
 /// In a run of any clients and drivers, what the client of `upsc` took is a reply that is printed

@@ -2,9 +2,9 @@
 ghost use Rattle.endtoend.specs.Handed.{run_by, PrintsTheVariables, PrintsTheVariable, PrintsTheNumber, PrintsTheProgress, PrintsTheSettings, PrintsTheCommands, PrintsTheNames, PrintsTheDescriptions};
 
 use crate::laws::{
-    upsc_prints_how_far_an_order_has_come, upsc_prints_how_many_are_logged_in,
-    upsc_prints_the_upses, upsc_prints_the_variable, upsc_prints_the_variables,
-    upscmd_prints_the_commands, upsrw_prints_the_variables,
+    upsc_prints_how_far_an_order_has_come, upsc_prints_the_upses, upsc_prints_the_variable,
+    upsc_prints_the_variables, upsc_prints_who_is_logged_in, upscmd_prints_the_commands,
+    upsrw_prints_the_variables,
 };
 use nutclient::{Job, run};
 use nutio::{Sink, Source};
@@ -44,7 +44,7 @@ pub fn print_what_is_held<R: Source, W: Sink, O: Sink>(
 {
     upsc_prints_the_variables();
     upsc_prints_the_variable();
-    upsc_prints_how_many_are_logged_in();
+    upsc_prints_who_is_logged_in();
     upsc_prints_how_far_an_order_has_come();
     upsrw_prints_the_variables();
     upscmd_prints_the_commands();

@@ -11,14 +11,13 @@ use Rattle.nutcore.specs.Step.{may_open, opened, ticked, after_by, refused_after
 use Rattle.nutcore.specs.History.{Execution, executions, of_client, texts_of, owed, is_over}
 use Rattle.nutcore.specs.Headline.{IsLawful}
 use Rattle.nutcore.specs.Addresses.{opened_from}
-use Rattle.nutcore.specs.Endings.{WhoIsOverIsAskedNoMore, id_given, ids_given, RiseFrom, IdsThatAreGivenRise, AGrantedShutdownIsSet, ATickTouchesNoSession, LeavesOlderSessions, AnOpeningTouchesNoOther}
+use Rattle.nutcore.specs.Endings.{WhoIsOverIsAskedNoMore, id_given, ids_given, RiseFrom, IdsThatAreGivenRise, ATickTouchesNoSession, LeavesOlderSessions, AnOpeningTouchesNoOther}
 use Rattle.nutcore.proofs.Changed.{of_opened}
 use Rattle.nutcore.proofs.Found.{of_pushed}
 use Rattle.nutcore.proofs.Histories.{IsOfClient, of_run_of_client}
 use Rattle.nutcore.proofs.Progress.{presence}
 use Rattle.std.proofs.lemmas.Bool.{false≢true}
 use Rattle.nutcore.proofs.Kept.{IsAny, any_address, by_event, ids_kept}
-use Rattle.nutcore.proofs.ShutdownMarks.{AnySets, any_of, stays_set}
 use Rattle.nutcore.proofs.Lasting.{IsThere}
 use Rattle.nutcore.proofs.Stepping.{run_sent}
 
@@ -97,10 +96,6 @@ ids_rise old new (e ∷ es) (o ∷ os) (mid, step, r) =
     joined_rise old.next_id mid.next_id new.next_id (id_given o) (ids_given os)
     (subst (λ (s : ServerState). RiseFrom old.next_id s.next_id (id_given o)) (sym step.leaves) (event_rises old e o step.allowed)) (ids_rise mid new es os r)
 ids_rise old new es os r = absurd r
-
--- a forced shutdown that is granted
-pub granted_is_set : AGrantedShutdownIsSet
-granted_is_set old new es os u x r (before, after, is) sets = stays_set u old new es os r (inr (subst (AnySets u) (sym is) (any_of u before after x sets)))
 
 -- ticks and openings
 pub tick_alone : ATickTouchesNoSession

@@ -1,23 +1,21 @@
 -- What a client took that finishes its session made nothing happen that is noted.
-use Rattle.std.proofs.Common.{◌≡◌, ◌∙◌, ℕ, ◌+◌, ◌≤◌, Bool, true, false, List, [], ◌∷◌, ◌++◌, Option, Some, None, Result, Ok, Err, refl, sym, ap, cond, arith, length, length-append, inl, inr}
-use Rattle.std.specs.List.{cons_option}
+use Rattle.std.proofs.Common.{◌≡◌, ◌∙◌, ℕ, ◌+◌, ◌≤◌, Bool, true, false, List, [], ◌∷◌, ◌++◌, Option, Some, None, Result, Ok, refl, ap, cond, arith, length, length-append}
 use Rattle.std.specs.Option.{option_map, option_and_then, option_map_or}
-use Rattle.std.proofs.lemmas.Bool.{cond_both, cases_Bool}
+use Rattle.std.proofs.lemmas.Bool.{cond_both}
 use Rattle.nutanswer.specs.Command.{read_command}
 use Rattle.nutanswer.specs.Answer.{Answer, answer_to, text_of_answer}
 use Rattle.nutanswer.specs.declared.command.Command.{Command}
 use Rattle.nutanswer.specs.declared.err_word.ErrWord.{ErrWord}
-use Rattle.nutcore.proofs.Common.{flat_map-append, Event, Outcome, SessionState, ServerState, session, with_session_changed, Step}
-use Rattle.nutcore.specs.declared.event.Event.TheVariants.{Took}
+use Rattle.nutcore.proofs.Common.{flat_map-append, SessionState, ServerState, session}
 use Rattle.nutcore.specs.declared.note.Note.{Note}
 use Rattle.nutcore.specs.Calls.{is_finished}
 use Rattle.nutcore.specs.Reply.{seen, asker, reply, text_to, change_by, too_long_notice}
-use Rattle.nutcore.specs.Pump.{answered, after_line, after_lines, after_all_lines, is_overlong, holds_overlong, notified, held_of, owed_of}
+use Rattle.nutcore.specs.Pump.{answered, after_all_lines, holds_overlong, notified, held_of, owed_of}
 use Rattle.nutcore.specs.Step.{without_output, may_take, pumped_until, after_by, refused_after}
 use Rattle.nutcore.specs.History.{Execution, of_line, of_notice, lines_executed, notice, pump_executions, executions_until, text_of, texts_of}
-use Rattle.nutcore.specs.Notes.{is_told, note_read, note_of, note_of_notice, notes_of_lines, notes_of_pump, logout_of, all_notes}
+use Rattle.nutcore.specs.Notes.{is_told, note_read, note_of, note_of_notice, notes_of_lines, notes_of_pump}
 use Rattle.nutcore.specs.Finishing.{ATakeThatFinishesIsNotNoted}
-use Rattle.nutcore.proofs.Changed.{at_client, presence_changed}
+use Rattle.nutcore.proofs.Changed.{presence_changed}
 use Rattle.nutcore.proofs.Changes.{keeps}
 use Rattle.nutcore.proofs.Histories.{until_keeps}
 use Rattle.nutcore.proofs.Loops.{found_after_line}

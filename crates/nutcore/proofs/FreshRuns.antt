@@ -1,7 +1,8 @@
 -- What is told of a UPS's data is fresh, over every run from a new server.
-use Rattle.std.proofs.Common.{◌≡◌, ◌≤◌, ◌<◌, ◌-◌, ◌∙◌, ℕ, Bool, zero, suc, true, false, List, [], ◌∷◌, ◌++◌, Option, Some, Result, Ok, Err, refl, sym, ap, subst, map, max, length, arith}
+use Rattle.std.proofs.Common.{◌≡◌, ◌⊎◌, ◌≤◌, ◌<◌, ◌+◌, ◌-◌, ◌/◌, ◌∙◌, ℕ, Bool, zero, suc, true, false, List, [], ◌∷◌, ◌++◌, Option, Some, Result, Ok, Err, refl, sym, ap, subst, map, max, length, arith}
 use Rattle.std.specs.Prelude.{codes, nat_eq, slice_get, option_map}
 use Rattle.std.specs.List.{starts_with}
+use Rattle.std.proofs.lemmas.Bool.Decides.{nat_tests}
 use Rattle.std.proofs.lemmas.List.Elements.{All-weaker}
 use Rattle.nutcore.proofs.Common.{same_Some, slice_get_within, UpsId, Event, Outcome, UpsState, ServerState, ups_at, Run, slice_get-map}
 use Rattle.nutdriver.specs.declared.report.Report.{Report}
@@ -17,6 +18,8 @@ use Rattle.nutanswer.specs.Answer.{Answer, answer_to, text_of_answer}
 use Rattle.nutanswer.specs.Fresh.{WhatIsToldIsFresh}
 use Rattle.nutanswer.proofs.PublicLaws.{a_named_ups_is_seen}
 use Rattle.nutcore.specs.declared.event.Event.TheVariants.{Feed, Took}
+use Rattle.nutcore.specs.declared.TheConstants.{DRIVER_OWED_LIMIT}
+use Rattle.nutcore.specs.Ups.{ping_line, after_tick}
 use Rattle.nutcore.specs.Reply.{seen, seen_ups, asker, text_to, reply}
 use Rattle.nutcore.specs.Step.{after_by, refused_after, ticked}
 use Rattle.nutcore.specs.History.{Execution, of_line, of_notice}
@@ -25,7 +28,7 @@ use Rattle.nutcore.specs.Isolation.{ups_of, without_commands, kept_from_clients}
 use Rattle.nutcore.specs.Sound.{IsSoundUps, IsSound, ANewServerIsSound, EveryRunKeepsTheServerSound}
 use Rattle.nutcore.specs.DriverHistory.{bytes_heard}
 use Rattle.nutcore.specs.DriverRuns.{IsNewServer, ConnectedInRun}
-use Rattle.nutcore.specs.FreshRuns.{tick_of, greatest_tick, TheMomentIsTheGreatestTick, lines_since, IsToldFresh, WhateverIsToldIsFresh, WhatADriverSetLastIsHeld}
+use Rattle.nutcore.specs.FreshRuns.{tick_of, greatest_tick, TheMomentIsTheGreatestTick, lines_since, IsToldFresh, WhateverIsToldIsFresh, WhatADriverSetLastIsHeld, ASilentDriverIsAsked}
 use Rattle.nutcore.proofs.Addresses.{run_keeps_list}
 use Rattle.nutcore.proofs.DriverRuns.{since_connecting}
 use Rattle.nutcore.proofs.Changed.{of_opened}
@@ -216,3 +219,19 @@ whatever_is_told_is_fresh told opening keeps old new es os is_new r =
 -- what a driver set last
 pub set_last_is_held : TheLastLineOnAVariableDecidesIt → WhatADriverSetLastIsHeld
 set_last_is_held decides old es os u now name k = grind arith
+
+-- a tick asks who told nothing for a third of the greatest age
+abbrev IsAskedOrFull : UpsState → Type 0
+IsAskedOrFull x = (x.report.heard < x.pinged) ⊎ (DRIVER_OWED_LIMIT < length x.owed + length ping_line)
+
+tick_asks : (max_age moment : ℕ) (x : UpsState) → 3 ≤ max_age → (after_tick max_age moment x).report.connected ≡ true → (after_tick max_age moment x).report.heard + max_age / 3 ≤ moment → IsAskedOrFull (after_tick max_age moment x)
+tick_asks max_age moment x some connected silent = grind (arith, nat_tests)
+
+pub silent_asked : ASilentDriverIsAsked
+unfolding after_by ticked
+silent_asked old new seconds outcome u x sound step there connected silent =
+    let moment : ℕ = max seconds old.moment in
+    let at = mapped_at (after_tick old.max_age moment) old.upses u.place x (sym (ap (ups_at u.place) step.leaves) ∙ there) in
+    let now : x.report.heard + old.max_age / 3 ≤ moment = subst (λ (s : ServerState). x.report.heard + old.max_age / 3 ≤ s.moment) step.leaves silent in
+    subst IsAskedOrFull at.is
+    (tick_asks old.max_age moment at.of sound.max_age.0 (subst (λ (z : UpsState). z.report.connected ≡ true) (sym at.is) connected) (subst (λ (z : UpsState). z.report.heard + old.max_age / 3 ≤ moment) (sym at.is) now))

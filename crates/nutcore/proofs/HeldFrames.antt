@@ -1,31 +1,19 @@
--- A listing is the frame of what is held.
+-- What begins with ERR changes nothing.
 use Rattle.std.proofs.Common.{◌≡◌, ℕ, true, List, ◌∷◌, Option, Some, Result, Ok, refl, subst, arith}
 use Rattle.std.specs.Prelude.{codes, nat_eq}
 use Rattle.std.specs.List.{starts_with}
 use Rattle.std.proofs.lemmas.Slice.Eq.{bytes_eq-Decides}
-use Rattle.nutwords.specs.Frame.{frame, line_of}
+use Rattle.nutwords.specs.Frame.{line_of}
 use Rattle.nutanswer.specs.declared.command.Command.{Command}
 use Rattle.nutanswer.specs.declared.err_word.ErrWord.{ErrWord}
 use Rattle.nutanswer.specs.Command.{read_command}
-use Rattle.nutlisting.specs.Items.{ListingState, variable_listing}
-use Rattle.nutanswer.specs.Answer.{Answer, one_line, answer_to, listing, text_of_answer}
+use Rattle.nutanswer.specs.Answer.{Answer, one_line, answer_to, text_of_answer}
 use Rattle.nutcore.proofs.Common.{SessionState, ServerState, session, with_session}
 use Rattle.nutcore.specs.Reply.{seen, asker, reply, text_to, change_by}
 use Rattle.nutcore.specs.Pump.{next_line_for, after_line, answered as answered_line}
 use Rattle.nutcore.proofs.Pumping.{after_line_is}
 use Rattle.nutanswer.specs.declared.reply.Change.TheVariants.{Nothing}
 use Rattle.nutanswer.specs.Laws.{is_ok_line, OnlyOkChanges}
-use Rattle.nutcore.specs.Headline.{AListingIsWhatIsHeld}
-use Rattle.nutcore.proofs.Listed.{usable_row}
-
-framed : (s : ServerState) (c : ℕ) (line : List ℕ) (command : Command) (l : ListingState) → read_command line ≡ Ok (Some command) → answer_to (seen s) (asker c s) command ≡ Ok (listing l) → (reply s c line) ≡ frame l.kind l.names l.items
-framed s c line command l read answer = cc
-
-pub listing_is_held : AListingIsWhatIsHeld
-listing_is_held = record {
-  framed = framed;
-  variables = λ s c line ups known read named ready. framed s c line _ (variable_listing known.name known.state.fsd known.state.report.tree.variables) read (usable_row s (Some ups) known (λ k. Ok (listing (variable_listing k.name k.state.fsd k.state.report.tree.variables))) (record { named = named; ready = ready }));
-}
 
 -- a line of OK doesn't begin with ERR
 ok_text : (answer : Result Answer ErrWord) → is_ok_line answer ≡ true → starts_with nat_eq (text_of_answer answer) (codes "ERR") ≡ true → ⊥

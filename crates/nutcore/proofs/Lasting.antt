@@ -20,7 +20,6 @@ use Rattle.nutcore.specs.Step.{joined, taken_from}
 use Rattle.std.proofs.lemmas.Bool.{false≢true, lt-ltb}
 use Rattle.nutcore.proofs.Pumping.{IsNext, change_at, session_after}
 use Rattle.nutcore.proofs.Rows.{comes_of_line}
-use Rattle.nutcore.proofs.ShutdownMarks.{stays_set}
 
 -- what a line, bytes that come and go, and a notice keep of a session
 pub record IsLasting (IsSo : SessionState → Type 0) : Type 0 where
@@ -124,5 +123,4 @@ never_back = record {
   ending = λ owed. lasts (IsEnding owed) (ending_lasts owed);
   closed = λ old new events outcomes c run lt gone. no_one (session c new) (lasts_where (λ x. ⊥) none_lasting old new events outcomes c run lt (subst (λ o. IfSome o (λ x. ⊥)) (sym gone) tt));
   ids = λ old new events outcomes run. by_run (λ s. old.next_id ≤ s.next_id) IsAny (ids_kept old.next_id) old new events outcomes run (any_event events) (omega arith);
-  shutdown = λ old new events outcomes u run set. stays_set u old new events outcomes run (inl set);
 }

@@ -1,5 +1,5 @@
 -- What a sound server lists comes once, in the stated order.
-use Rattle.std.proofs.Common.{◌≡◌, ◌↔◌, ◌∙◌, ℕ, Bool, true, List, [], ◌∷◌, Option, Some, None, Result, sym, ap, subst, arith, ◌++◌, ◌+◌}
+use Rattle.std.proofs.Common.{◌≡◌, ◌↔◌, ◌∙◌, ℕ, Bool, true, List, [], ◌∷◌, Option, Some, None, Result, Ok, sym, ap, subst, arith, ◌++◌, ◌+◌}
 use Rattle.std.specs.Prelude.{codes}
 use Rattle.std.specs.List.{Contains, filter, AllByRecursion}
 use Rattle.std.specs.List.Sorted.{IsStrictlySortedBy}
@@ -18,12 +18,12 @@ use Rattle.nutmap.specs.Entries.{value_at}
 use Rattle.nutdriver.specs.Variable.{VariableState}
 use Rattle.nutdriver.specs.Tree.{byte_order, variable_at}
 use Rattle.nutdriver.specs.Sound.{IsSoundTree}
-use Rattle.nutlisting.specs.Items.{variable_item, is_rw}
+use Rattle.nutlisting.specs.Items.{variable_item, is_rw, enum_listing, range_listing}
 use Rattle.nutanswer.specs.declared.err_word.ErrWord.{ErrWord}
 use Rattle.nutanswer.specs.declared.err_word.ErrWord.TheVariants.{VarNotSupported}
 use Rattle.nutanswer.specs.View.{Seen, UpsSeen}
 use Rattle.nutanswer.specs.Checks.{◌>>=◌, ◌>>◌, KnownUps, ups_named, unknown_ups, live, var_not_supported}
-use Rattle.nutanswer.specs.Answer.{Answer, told, text_of_answer}
+use Rattle.nutanswer.specs.Answer.{Answer, listing, told, text_of_answer}
 use Rattle.nutcore.specs.Server.{ServerState}
 use Rattle.nutcore.specs.Reply.{seen, seen_ups, text_to}
 use Rattle.nutcore.specs.Sound.{Each, IsSoundUps, IsSound}
@@ -44,11 +44,7 @@ tree_of : (s : ServerState) (ups : Option (List ℕ)) (u : KnownUps) → IsSound
 tree_of s ups u sound named =
     of_named has_sound_tree (seen s) (each_map (IsSoundUps s.moment) has_sound_tree seen_ups (λ x h. h.tree) s.upses sound.upses) ups u named
 
--- the row of a usable UPS
-pub usable_row : (s : ServerState) (ups : Option (List ℕ)) (u : KnownUps) (row : KnownUps → Result Answer ErrWord) → AsksOf s ups u → (unknown_ups (seen s) ups >>= (λ k. live (seen s) k >> row k)) ≡ row u
-usable_row s ups u row asks = cc (asks.named, asks.ready)
-
--- of a variable that it has
+-- the row of a usable UPS, and of a variable that it has
 variable_row : (s : ServerState) (ups : Option (List ℕ)) (u : KnownUps) (name : List ℕ) (o : Option VariableState) (row : KnownUps → List ℕ × VariableState → Result Answer ErrWord) → AsksOf s ups u → variable_at u.state.report.tree name ≡ o
     → (unknown_ups (seen s) ups >>= (λ k. live (seen s) k >> (var_not_supported k (Some name) >>= (λ v. row k v)))) ≡ (ok_or (option_map (λ x. (name, x)) o) VarNotSupported >>= (λ v. row u v))
 variable_row s ups u name o row asks e = cc (asks.named, asks.ready, e)
@@ -65,18 +61,12 @@ left_rise p (e ∷ es) rise = grind (arith, all_left p (λ k. byte_order e.0 k �
 
 pub listed_once : EachIsListedOnce
 listed_once = record {
-  variables = λ s c line ups u sound read asks. (cc (read, asks.named, asks.ready), (tree_of s ups u sound asks.named).names_rise);
-  commands = λ s c line ups u sound read asks. (cc (read, asks.named, asks.ready), (tree_of s ups u sound asks.named).commands_rise);
-  rw = λ s c line ups u sound read asks. (cc (read, asks.named, asks.ready), record { rising = left_rise is_rw u.state.report.tree.variables (tree_of s ups u sound asks.named).names_rise.rising });
-  enum_values = λ s c line ups name u variable sound read asks there. (
-    cc (read, asks.named, asks.ready, there),
-    (sound_entries.found u.state.report.tree name variable (tree_of s ups u sound asks.named) there).enum_values_once,
-  );
-  ranges = λ s c line ups name u variable sound read asks there. (
-    cc (read, asks.named, asks.ready, there),
-    (sound_entries.found u.state.report.tree name variable (tree_of s ups u sound asks.named) there).ranges_once,
-  );
-  upses = λ s c line sound read. (ap (text_to s c) read, sound.list.by_name);
+  variables = λ s c line ups u read asks. (cc (read, asks.named, asks.ready), λ sound. sound.names_rise);
+  commands = λ s c line ups u read asks. (cc (read, asks.named, asks.ready), λ sound. sound.commands_rise);
+  rw = λ s c line ups u read asks. (cc (read, asks.named, asks.ready), λ sound. record { rising = left_rise is_rw u.state.report.tree.variables sound.names_rise.rising });
+  enum_values = λ s c line ups name u variable read asks there. (ap (text_to s c) read ∙ ap text_of_answer (variable_row s ups u name (Some variable) (λ k v. Ok (listing (enum_listing k.name v.0 (Some v.1)))) asks there), λ sound. (sound_entries.found u.state.report.tree name variable sound there).enum_values_once);
+  ranges = λ s c line ups name u variable read asks there. (ap (text_to s c) read ∙ ap text_of_answer (variable_row s ups u name (Some variable) (λ k v. Ok (listing (range_listing k.name v.0 (Some v.1)))) asks there), λ sound. (sound_entries.found u.state.report.tree name variable sound there).ranges_once);
+  upses = λ s c line read. (ap (text_to s c) read, λ sound. sound.list.by_name);
   tree = tree_of;
 }
 

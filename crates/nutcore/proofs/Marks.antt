@@ -1,4 +1,4 @@
--- What lines alone bring about, one of the lines that a run executed brought about.
+-- What goes on holding of a server and of what was executed before, over a run; so what lines alone bring about, one of them brought about.
 use Rattle.std.proofs.Common.{◌≡◌, ◌⊎◌, ℕ, List, [], ◌∷◌, ◌++◌, Option, Some, refl, sym, ◌∙◌, ap, subst, append_assoc, append-nil, inl, inr}
 use Rattle.nutcore.proofs.Common.{Event, Outcome, ServerState, with_session_changed, Run}
 use Rattle.nutcore.specs.Pump.{next_line_for, after_line, notified}
@@ -28,6 +28,53 @@ each_at : (Q : List Execution → Execution → Type 0) (before front back : Lis
 each_at Q before [] back x each = subst (λ (zs : List Execution). Q zs x) (sym (append-nil before)) each.0
 each_at Q before (y ∷ front) back x each = subst (λ (zs : List Execution). Q zs x) (append_assoc before (y ∷ []) front) (each_at Q (before ++ y ∷ []) front back x each.1)
 
+-- what goes on holding of a server and of what was executed before
+pub record GoesOn (Holds : List Execution → ServerState → Type 0) : Type 0 where
+  pub line : (before : List Execution) (s : ServerState) (d : ℕ) (line : List ℕ) → next_line_for s d ≡ Some line → Holds before s → Holds (before ++ of_line s d line ∷ []) (after_line s d)
+  pub notice : (before : List Execution) (s : ServerState) (d : ℕ) → Holds before s → Holds (before ++ of_notice d ∷ []) (with_session_changed notified d s)
+  pub joins : (before : List Execution) (s : ServerState) (d : ℕ) (piece : List ℕ) → Holds before s → Holds before (with_session_changed (joined piece) d s)
+  pub gives : (before : List Execution) (s : ServerState) (d n : ℕ) → Holds before s → Holds before (with_session_changed (taken_from n) d s)
+  pub plain : (before : List Execution) (s : ServerState) (e : Event) (m : Option ℕ) → IsPlain e → Holds before s → Holds before (after_by s e m)
+
+module _ {Holds : List Execution → ServerState → Type 0} (goes : GoesOn Holds) where
+  -- on the server of each line, with those before it
+  abbrev HeldAt : List Execution → Execution → Type 0
+  HeldAt before (of_line s d line) = Holds before s
+  HeldAt before (of_notice d) = Unit {0}
+
+  -- executions that lead from a server to another
+  record Leads (s : ServerState) (xs : List Execution) (t : ServerState) : Type 0 where
+    each : (before : List Execution) → Holds before s → EachWith HeldAt before xs
+    then : (before : List Execution) → Holds before s → Holds (before ++ xs) t
+
+  -- none does
+  leads_by_none : (s t : ServerState) → ((before : List Execution) → Holds before s → Holds before t) → Leads s [] t
+  leads_by_none s t holds = record { each = λ before h. tt; then = λ before h. subst (λ (zs : List Execution). Holds zs t) (sym (append-nil before)) (holds before h) }
+
+  leads : IsOfEvents 0 (λ s xs taken asked t. Leads s xs t)
+  unfolding with_input without_output
+  leads = record {
+    stays = λ s. leads_by_none s s (λ before h. h);
+    joins = λ s m t xs ys k k' a a' f g. record {
+      each = λ before h. both HeldAt before xs ys (f.each before h) (g.each (before ++ xs) (f.then before h));
+      then = λ before h. subst (λ (zs : List Execution). Holds zs t) (append_assoc before xs ys) (g.then (before ++ xs) (f.then before h));
+    };
+    by_line = λ d s line next. record { each = λ before h. (h, tt); then = λ before h. goes.line before s d line next h };
+    by_notice = λ d s long. record { each = λ before h. (tt, tt); then = λ before h. goes.notice before s d h };
+    by_input = λ d s piece. leads_by_none s _ (λ before h. goes.joins before s d piece h);
+    by_output = λ d s n may. leads_by_none s _ (λ before h. goes.gives before s d n h);
+    by_plain = λ s e m plain. leads_by_none s _ (λ before h. goes.plain before s e m plain h);
+  }
+
+  module _ (start t : ServerState) (es : List Event) (os : List Outcome) (r : Run start es os t) (begins : Holds [] start) where
+    -- after a run, and on the server of each of its lines
+    pub held_after : Holds (executions start es os) t
+    held_after = (run_keeps 0 (λ s xs taken asked t. Leads s xs t) leads start t es os r).then [] begins
+
+    pub held_at : (front back : List Execution) (s : ServerState) (d : ℕ) (line : List ℕ) → executions start es os ≡ front ++ of_line s d line ∷ back → Holds front s
+    held_at front back s d line e =
+        each_at HeldAt [] front back (of_line s d line) (subst (EachWith HeldAt []) e ((run_keeps 0 (λ s xs taken asked t. Leads s xs t) leads start t es os r).each [] begins))
+
 -- what such lines alone bring about: a line may, and nothing else does
 pub record IsMark (IsSo : ServerState → Type 0) (Sets : Execution → Type 0) : Type 0 where
   pub line : (s : ServerState) (d : ℕ) (line : List ℕ) → next_line_for s d ≡ Some line → IsSo (after_line s d) → IsSo s ⊎ Sets (of_line s d line)
@@ -36,48 +83,22 @@ pub record IsMark (IsSo : ServerState → Type 0) (Sets : Execution → Type 0) 
   pub gives : (s : ServerState) (d n : ℕ) → IsSo (with_session_changed (taken_from n) d s) → IsSo s
   pub plain : (s : ServerState) (e : Event) (m : Option ℕ) → IsPlain e → IsSo (after_by s e m) → IsSo s
 
-module _ (IsSo : ServerState → Type 0) (Sets : Execution → Type 0) (mark : IsMark IsSo Sets) (start : ServerState) where
-  -- where it is so, it was at the start, or one of those before is such a line
-  abbrev Told : List Execution → ServerState → Type 0
-  Told before s = IsSo s → IsSo start ⊎ OneIs Sets before
+-- where it is so, it was at the start, or one of those before is such a line
+abbrev pub Told : (ServerState → Type 0) → (Execution → Type 0) → ServerState → List Execution → ServerState → Type 0
+Told IsSo Sets start before s = IsSo s → IsSo start ⊎ OneIs Sets before
 
-  abbrev pub WasTold : List Execution → Execution → Type 0
-  WasTold before (of_line s d line) = Told before s
-  WasTold before (of_notice d) = Unit {0}
-
-  as_before : (before more : List Execution) (s t : ServerState) → (IsSo t → IsSo s) → Told before s → Told (before ++ more) t
-  as_before before more s t back told so = elim (told (back so)) [ inl was ↦ inl was | inr one ↦ inr (first_one Sets before more one) ]
-
-  -- executions that lead from a server to another
-  record Leads (s : ServerState) (xs : List Execution) (t : ServerState) : Type 0 where
-    each : (before : List Execution) → Told before s → EachWith WasTold before xs
-    then : (before : List Execution) → Told before s → Told (before ++ xs) t
-
-  leads : IsOfEvents 0 (λ s xs taken asked t. Leads s xs t)
-  unfolding with_input without_output
-  leads = record {
-    stays = λ s. record { each = λ before told. tt; then = λ before. as_before before [] s s (λ so. so) };
-    joins = λ s m t xs ys k k' a a' f g. record {
-      each = λ before told. both WasTold before xs ys (f.each before told) (g.each (before ++ xs) (f.then before told));
-      then = λ before told. subst (λ (zs : List Execution). Told zs t) (append_assoc before xs ys) (g.then (before ++ xs) (f.then before told));
-    };
-    by_line = λ d s line next. record {
-      each = λ before told. (told, tt);
-      then = λ before told so. elim (mark.line s d line next so) [
-        | inl was ↦ as_before before (of_line s d line ∷ []) s s (λ so. so) told was
-        | inr sets ↦ inr (of_line s d line, (before, [], refl), sets)
-      ];
-    };
-    by_notice = λ d s long. record { each = λ before told. (tt, tt); then = λ before. as_before before (of_notice d ∷ []) s _ (mark.notice s d) };
-    by_input = λ d s piece. record { each = λ before told. tt; then = λ before. as_before before [] s _ (mark.joins s d piece) };
-    by_output = λ d s n may. record { each = λ before told. tt; then = λ before. as_before before [] s _ (mark.gives s d n) };
-    by_plain = λ s e m plain. record { each = λ before told. tt; then = λ before. as_before before [] s _ (mark.plain s e m plain) };
-  }
-
-  -- after a run, and on the server of each of its lines
-  pub told_after : (t : ServerState) (es : List Event) (os : List Outcome) → Run start es os t → Told (executions start es os) t
-  told_after t es os r = (run_keeps 0 (λ s xs taken asked t. Leads s xs t) leads start t es os r).then [] (λ so. inl so)
-
-  pub told_at : (t : ServerState) (es : List Event) (os : List Outcome) → Run start es os t → (front back : List Execution) (x : Execution) → executions start es os ≡ front ++ x ∷ back → WasTold front x
-  told_at t es os r front back x e =
-      each_at WasTold [] front back x (subst (EachWith WasTold []) e ((run_keeps 0 (λ s xs taken asked t. Leads s xs t) leads start t es os r).each [] (λ so. inl so)))
+pub told : {IsSo : ServerState → Type 0} {Sets : Execution → Type 0} → IsMark IsSo Sets → (start : ServerState) → GoesOn (Told IsSo Sets start)
+told {IsSo = IsSo} {Sets = Sets} mark start = record {
+  line = λ before s d line next told so. elim (mark.line s d line next so) [
+    | inl was ↦ still before (of_line s d line) (told was)
+    | inr sets ↦ inr (of_line s d line, (before, [], refl), sets)
+  ];
+  notice = λ before s d told so. still before (of_notice d) (told (mark.notice s d so));
+  joins = λ before s d piece told so. told (mark.joins s d piece so);
+  gives = λ before s d n told so. told (mark.gives s d n so);
+  plain = λ before s e m plain told so. told (mark.plain s e m plain so);
+}
+  where
+    still : (before : List Execution) (x : Execution) → IsSo start ⊎ OneIs Sets before → IsSo start ⊎ OneIs Sets (before ++ x ∷ [])
+    still before x (inl was) = inl was
+    still before x (inr one) = inr (first_one Sets before (x ∷ []) one)

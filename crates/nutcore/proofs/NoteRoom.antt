@@ -18,7 +18,6 @@ use Rattle.nutanswer.specs.Command.{command_named, command_from, some_command, r
 use Rattle.nutanswer.specs.declared.command.Command.{Command}
 use Rattle.nutanswer.specs.declared.err_word.ErrWord.{ErrWord}
 use Rattle.nutcore.proofs.Common.{length-map, Event, SessionState, ServerState, session, UpsId}
-use Rattle.nutcore.specs.declared.TheConstants.{HELD_LIMIT}
 use Rattle.nutcore.specs.declared.event.Event.TheVariants.{DriverUp, DriverBytes, DriverTook, DriverDown, Tick, Open, Feed, Took, Close, Id}
 use Rattle.nutcore.specs.declared.note.Note.{Note}
 use Rattle.nutcore.specs.declared.note.Condition.{Condition}

@@ -43,23 +43,23 @@ clients_back s u named lawful =
 pub listings_read_back : EachListingReadsBack
 listings_read_back = record {
   variables = λ s c line ups u sound read asks.
-      told _ _ _ _ (listed_once.variables s c line ups u sound read asks).0
+      told _ _ _ _ (listed_once.variables s c line ups u read asks).0
       (lawful_listings_read_back.variables u.name u.state.fsd u.state.report.tree (named_lawful s ups u (lawful_of line _ read) asks.named) (listed_once.tree s ups u sound asks.named));
   rw = λ s c line ups u sound read asks.
-      told _ _ _ _ (listed_once.rw s c line ups u sound read asks).0
+      told _ _ _ _ (listed_once.rw s c line ups u read asks).0
       (lawful_listings_read_back.rw u.name u.state.fsd u.state.report.tree (named_lawful s ups u (lawful_of line _ read) asks.named) (listed_once.tree s ups u sound asks.named));
   commands = λ s c line ups u sound read asks.
-      told _ _ _ _ (listed_once.commands s c line ups u sound read asks).0
+      told _ _ _ _ (listed_once.commands s c line ups u read asks).0
       (lawful_listings_read_back.commands u.name u.state.report.tree (named_lawful s ups u (lawful_of line _ read) asks.named) (listed_once.tree s ups u sound asks.named));
   enum_values = λ s c line ups name u variable sound read asks there.
       let lawful = lawful_of line _ read in
-      told _ _ _ _ (listed_once.enum_values s c line ups name u variable sound read asks there).0
+      told _ _ _ _ (listed_once.enum_values s c line ups name u variable read asks there).0
       (lawful_listings_read_back.enum_values u.name name variable (named_lawful s ups u lawful.0 asks.named) (lawful.1 name refl) (sound_entries.found u.state.report.tree name variable (listed_once.tree s ups u sound asks.named) there));
   ranges = λ s c line ups name u variable sound read asks there.
       let lawful = lawful_of line _ read in
-      told _ _ _ _ (listed_once.ranges s c line ups name u variable sound read asks there).0
+      told _ _ _ _ (listed_once.ranges s c line ups name u variable read asks there).0
       (lawful_listings_read_back.ranges u.name name variable (named_lawful s ups u lawful.0 asks.named) (lawful.1 name refl) (sound_entries.found u.state.report.tree name variable (listed_once.tree s ups u sound asks.named) there));
-  upses = λ s c line sound read. told _ _ _ _ (listed_once.upses s c line sound read).0 (lawful_listings_read_back.upses s.list sound.list.lawful);
+  upses = λ s c line sound read. told _ _ _ _ (listed_once.upses s c line read).0 (lawful_listings_read_back.upses s.list sound.list.lawful);
   clients = λ s c line ups u sound read found lawful.
       told _ _ _ _ (who_is_there.listed s c line ups u read found) (clients_back s u (named_lawful s ups u (lawful_of line _ read) found) lawful);
 }

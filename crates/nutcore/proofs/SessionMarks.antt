@@ -16,7 +16,7 @@ use Rattle.nutcore.proofs.Changed.{session_changed, presence_other}
 use Rattle.nutcore.proofs.Changes.{keeps}
 use Rattle.nutcore.proofs.Histories.{own_or_other, of_plain}
 use Rattle.nutcore.proofs.Loops.{found_after_line}
-use Rattle.nutcore.proofs.Marks.{IsMark, told_after, told_at}
+use Rattle.nutcore.proofs.Marks.{IsMark, told, held_after, held_at}
 use Rattle.nutcore.proofs.Progress.{Presence}
 use Rattle.nutcore.proofs.Pumping.{is_next, change_at, session_after, other_after_line}
 use Rattle.nutcore.proofs.Rows.{some_command, comes_of_line, by_right}
@@ -83,8 +83,8 @@ logs_in u c =
 -- on a server without sessions nobody has given anything
 pub given_before : CredentialsAreGivenByLines
 given_before old new events outcomes before after s c line empty run e = record {
-  username = λ name asked. elim (told_at _ _ (usernames name c) old new events outcomes run before after (of_line s c line) e asked) [ inl was ↦ (let never : None ≡ Some name = ap (λ (xs : List SessionState). (asker_of (find c xs)).username) (sym empty) ∙ was in cc never) | inr one ↦ one ];
-  password = λ word asked. elim (told_at _ _ (passwords word c) old new events outcomes run before after (of_line s c line) e asked) [ inl was ↦ (let never : None ≡ Some word = ap (λ (xs : List SessionState). (asker_of (find c xs)).password) (sym empty) ∙ was in cc never) | inr one ↦ one ];
+  username = λ name asked. elim (held_at (told (usernames name c) old) old new events outcomes run (λ so. inl so) before after s c line e asked) [ inl was ↦ (let never : None ≡ Some name = ap (λ (xs : List SessionState). (asker_of (find c xs)).username) (sym empty) ∙ was in cc never) | inr one ↦ one ];
+  password = λ word asked. elim (held_at (told (passwords word c) old) old new events outcomes run (λ so. inl so) before after s c line e asked) [ inl was ↦ (let never : None ≡ Some word = ap (λ (xs : List SessionState). (asker_of (find c xs)).password) (sym empty) ∙ was in cc never) | inr one ↦ one ];
 }
 
 -- the login of an open session
@@ -96,4 +96,4 @@ logged_in_so u o e = grind arith
 
 pub logins : ALoginIsByRight
 logins old new events outcomes c u run before after =
-    elim (told_after _ _ (logs_in u c) old new events outcomes run (logged_in u (session c new) after)) [ inl was ↦ absurd (both_ways _ before (logged_in_so u (session c old) was)) | inr one ↦ one ]
+    elim (held_after (told (logs_in u c) old) old new events outcomes run (λ so. inl so) (logged_in u (session c new) after)) [ inl was ↦ absurd (both_ways _ before (logged_in_so u (session c old) was)) | inr one ↦ one ]

@@ -1,9 +1,11 @@
 -- A forced shutdown is set by lines alone, and by those that have the right.
-use Rattle.std.proofs.Common.{arith, ◌≡◌, ℕ, zero, suc, Bool, true, false, List, [], ◌∷◌, ◌++◌, Option, Some, None, refl, sym, ◌∙◌, ap, take, inl, inr}
-use Rattle.std.specs.Prelude.{slice_get}
+use Rattle.std.proofs.Common.{arith, ◌≡◌, ◌⊎◌, ℕ, zero, suc, Bool, true, false, List, [], ◌∷◌, ◌++◌, Option, Some, None, refl, sym, ◌∙◌, ap, subst, take, inl, inr}
+use Rattle.std.specs.Prelude.{slice_get, codes, All}
 use Rattle.std.specs.Option.{option_map_or}
-use Rattle.std.proofs.lemmas.Bool.{cases_Bool}
+use Rattle.std.proofs.lemmas.Bool.{cases_Bool, false≢true}
+use Rattle.std.proofs.lemmas.List.Elements.{All-nil, All-head, All-tail, All-push, All-weaker}
 use Rattle.nutcore.proofs.Common.{slice_get-map, never_both, UpsId, Change, TrackingState, Event, SessionState, UpsState, ServerState, changed_at, with_session_changed}
+use Rattle.nutdriver.specs.Variable.{VariableState}
 use Rattle.nutdriver.specs.declared.report.Report.{Report}
 use Rattle.nutdriver.specs.declared.report.LineOutcome.{LineOutcome}
 use Rattle.nutdriver.specs.Report.{after_line as report_after, end_in}
@@ -12,9 +14,9 @@ use Rattle.nutcore.specs.Reports.{with_end, is_unawaited}
 use Rattle.nutcore.specs.Ups.{with_fsd, after_outcome, after_texts}
 use Rattle.nutcore.specs.Reply.{changed_upses}
 use Rattle.nutcore.specs.Pump.{next_line_for, after_line, notified}
-use Rattle.nutcore.specs.Step.{after_by, joined, with_input, taken_from, without_output, opened, ticked}
-use Rattle.nutcore.specs.History.{Execution, of_line}
-use Rattle.nutcore.specs.ByRight.{SetsShutdownByRight, is_shut_down, AForcedShutdownIsSetByRight}
+use Rattle.nutcore.specs.Step.{after_by, joined, taken_from, opened, ticked}
+use Rattle.nutcore.specs.History.{Execution, of_line, of_notice}
+use Rattle.nutcore.specs.ByRight.{SetsShutdownByRight, WasShutDown, is_shut_down, AForcedShutdownReachesEverybody}
 use Rattle.nutcore.proofs.Changed.{by_change}
 use Rattle.nutcore.proofs.Changes.{of_upses as of_changed_upses}
 use Rattle.nutcore.proofs.UpsPlaces.{same_ups}
@@ -22,18 +24,18 @@ use Rattle.nutcore.proofs.DriverText.{ups_after_text, ups_after_bytes}
 use Rattle.nutcore.proofs.Pumping.{is_next, after_line_is, change_at}
 use Rattle.nutcore.proofs.Rows.{comes_of_line, by_right}
 use Rattle.nutcore.proofs.Events.{IsPlain, OfDrivers, of_parts}
-use Rattle.nutcore.proofs.Marks.{IsMark, told_after}
+use Rattle.nutcore.proofs.Marks.{IsMark, GoesOn, told, held_after, held_at}
 use Rattle.nutanswer.specs.declared.command.Command.TheVariants.{Fsd}
+use Rattle.nutlisting.specs.Shown.{shown}
+use Rattle.nutanswer.specs.Checks.{KnownUps, ups_named}
+use Rattle.nutanswer.specs.View.{UpsSeen}
 use Rattle.nutanswer.proofs.PublicLaws.{a_named_ups_is_seen}
 use Rattle.nutusers.specs.declared.rights.Right.TheVariants as rights
 use Rattle.nutcore.specs.Reply.{seen, seen_ups}
 use Rattle.nutcore.specs.ByRight.{IsByRight}
 use Rattle.nutcore.specs.History.{executions}
 use Rattle.nutcore.proofs.FreshRuns.{mapped_at}
-use Rattle.nutcore.proofs.Histories.{IsOfEvents, run_keeps}
 use Rattle.nutcore.proofs.UpsPlaces.{at_changed}
-use Rattle.nutcore.proofs.Common.{Outcome, Run}
-use Rattle.std.proofs.Common.{◌⊎◌}
 use Rattle.nutwords.specs.WholeLines.{whole_lines}
 
 -- the forced shutdown of the UPS at a place
@@ -125,10 +127,6 @@ set_by_lines u = record {
   plain = λ s e m plain set. sym (by_plain u s e m plain) ∙ set;
 }
 
-pub shutdowns : AForcedShutdownIsSetByRight
-shutdowns old new events outcomes u run before after =
-    elim (told_after _ _ (set_by_lines u) old new events outcomes run after) [ inl was ↦ never_both _ was before | inr one ↦ one ]
-
 -- a forced shutdown that is granted
 granted_changes : (u : UpsId) (s : ServerState) (c : ℕ) (line : List ℕ) (words : List (List ℕ)) → (h : IsByRight s c line Fsd rights.Fsd words u) → change_at s c line ≡ changes.Fsd u
 granted_changes u s c line words h = rw (h.command, h.username_given, h.password_given, h.granted, h.named) (ap (λ (v : UpsId). changes.Fsd v) h.this)
@@ -138,22 +136,6 @@ line_shuts_down u s c line next h =
     let n = is_next s c line next in
     let stands = mapped_at seen_ups s.upses u.place h.known.state (ap (λ (v : UpsId). slice_get (seen s).upses v.place) (sym h.this) ∙ (a_named_ups_is_seen (seen s) h.ups h.known h.named).stands) in
     rw (after_line_is s c line n.asking n.found next, granted_changes u s c line _ h, at_changed with_fsd u.place s.upses stands.of stands.there)
-
--- one of them does
-pub AnySets : UpsId → List Execution → Type 0
-AnySets u [] = ⊥
-AnySets u (x ∷ xs) = SetsShutdownByRight u x ⊎ AnySets u xs
-
-pub any_of : (u : UpsId) (before after : List Execution) (x : Execution) → SetsShutdownByRight u x → AnySets u (before ++ x ∷ after)
-unfolding AnySets
-any_of u [] after x sets = inl sets
-any_of u (y ∷ before) after x sets = inr (any_of u before after x sets)
-
-either_sets : (u : UpsId) (xs ys : List Execution) → AnySets u (xs ++ ys) → AnySets u xs ⊎ AnySets u ys
-unfolding AnySets
-either_sets u [] ys h = inr h
-either_sets u (x ∷ xs) ys (inl sets) = inl (inl sets)
-either_sets u (x ∷ xs) ys (inr h) = elim (either_sets u xs ys h) [ inl first ↦ inl (inr first) | inr last ↦ inr last ]
 
 -- so a line that is executed leaves it set where it was
 forced_stays : (f : UpsState → UpsState) → ((x : UpsState) → x.fsd ≡ true → (f x).fsd ≡ true) → (p q : ℕ) (xs : List UpsState) → fsd_at q xs ≡ true → fsd_at q (changed_at f p xs) ≡ true
@@ -169,20 +151,58 @@ line_keeps u s c line next set =
     rw (after_line_is s c line n.asking n.found next)
     (of_changed_upses (λ told ys. fsd_at u.place ys ≡ true) (change_at s c line) s.upses set (λ v f told does. forced_stays f (λ x forced. elim (does.fsd x) [ inl same ↦ same ∙ forced | inr by ↦ by.0 ]) v.place u.place s.upses set))
 
-shuts_down : (u : UpsId) → IsOfEvents 0 (λ s xs taken asked t. (is_shut_down u s ≡ true) ⊎ AnySets u xs → is_shut_down u t ≡ true)
-unfolding with_input without_output AnySets
-shuts_down u = record {
-  stays = λ s h. elim h [ inl set ↦ set | inr none ↦ absurd none ];
-  joins = λ s m t xs ys taken taken' asked asked' f g h. elim h [
-    | inl set ↦ g (inl (f (inl set)))
-    | inr any ↦ elim (either_sets u xs ys any) [ inl first ↦ g (inl (f (inr first))) | inr last ↦ g (inr last) ]
-  ];
-  by_line = λ d s line next h. elim h [ inl set ↦ line_keeps u s d line next set | inr (inl sets) ↦ line_shuts_down u s d line next sets | inr (inr none) ↦ absurd none ];
-  by_notice = λ d s long h. elim h [ inl set ↦ by_session u notified s d ∙ set | inr (inl never) ↦ absurd never | inr (inr none) ↦ absurd none ];
-  by_input = λ d s piece h. elim h [ inl set ↦ by_session u (joined piece) s d ∙ set | inr none ↦ absurd none ];
-  by_output = λ d s n may h. elim h [ inl set ↦ by_session u (taken_from n) s d ∙ set | inr none ↦ absurd none ];
-  by_plain = λ s e m plain h. elim h [ inl set ↦ by_plain u s e m plain ∙ set | inr none ↦ absurd none ];
-}
+-- what was set, and what one of those before set
+module _ (u : UpsId) (start : ServerState) where
+  abbrev Shows : ServerState → Execution → Type 0
+  Shows s x = SetsShutdownByRight u x → is_shut_down u s ≡ true
 
-pub stays_set : (u : UpsId) (old new : ServerState) (es : List Event) (os : List Outcome) → Run old es os new → (is_shut_down u old ≡ true) ⊎ AnySets u (executions old es os) → is_shut_down u new ≡ true
-stays_set u old new es os r = run_keeps 0 _ (shuts_down u) old new es os r
+  abbrev Reaches : List Execution → ServerState → Type 0
+  Reaches before s = (is_shut_down u start ≡ true → is_shut_down u s ≡ true) × All (Shows s) before
+
+  carried : (before : List Execution) (s t : ServerState) → (is_shut_down u s ≡ true → is_shut_down u t ≡ true) → Reaches before s → Reaches before t
+  carried before s t stays h = (λ was. stays (h.0 was), All-weaker (Shows s) (Shows t) (λ x set sets. stays (set sets)) before h.1)
+
+  with_one : (before : List Execution) (s t : ServerState) (x : Execution) → (is_shut_down u s ≡ true → is_shut_down u t ≡ true) → Shows t x → Reaches before s → Reaches (before ++ x ∷ []) t
+  with_one before s t x stays sets h = let more = carried before s t stays h in (more.0, All-push (Shows t) before x more.1 sets)
+
+  reaches : GoesOn Reaches
+  reaches = record {
+    line = λ before s d line next. with_one before s (after_line s d) (of_line s d line) (line_keeps u s d line next) (line_shuts_down u s d line next);
+    notice = λ before s d. with_one before s (with_session_changed notified d s) (of_notice d) (λ set. by_session u notified s d ∙ set) (λ never. absurd never);
+    joins = λ before s d piece. carried before s (with_session_changed (joined piece) d s) (λ set. by_session u (joined piece) s d ∙ set);
+    gives = λ before s d n. carried before s (with_session_changed (taken_from n) d s) (λ set. by_session u (taken_from n) s d ∙ set);
+    plain = λ before s e m plain. carried before s (after_by s e m) (λ set. by_plain u s e m plain ∙ set);
+  }
+
+  one_of : (P : Execution → Type 0) (before after : List Execution) (x : Execution) → All P (before ++ x ∷ after) → P x
+  one_of P [] after x all = All-head P x after all
+  one_of P (y ∷ before) after x all = one_of P before after x (All-tail P y (before ++ x ∷ after) all)
+
+  reached : (executed : List Execution) (s : ServerState) → Reaches executed s → WasShutDown u start executed → is_shut_down u s ≡ true
+  reached executed s h (inl was) = h.0 was
+  reached executed s h (inr (x, (before, after, is), sets)) = one_of (Shows s) before after x (subst (All (Shows s)) is h.1) sets
+
+-- what clients are shown of it
+is_seen : (s : ServerState) (ups : Option (List ℕ)) (known : KnownUps) → ups_named (seen s) ups ≡ Some known → known.state.fsd ≡ is_shut_down known.id s
+is_seen s ups known named =
+    let stands = mapped_at seen_ups s.upses known.id.place known.state (a_named_ups_is_seen (seen s) ups known named).stands in
+    rw stands.there (ap (λ (x : UpsSeen). x.fsd) (sym stands.is))
+
+status_shown : (fsd : Bool) (status : VariableState) (Was : Type 0) → (fsd ≡ true → Was) → (Was → fsd ≡ true)
+    → (Was × (shown fsd (codes "ups.status") status ≡ codes "FSD " ++ status.value)) ⊎ ((Was → ⊥) × (shown fsd (codes "ups.status") status ≡ status.value))
+status_shown true status Was was set = inl (was refl, refl)
+status_shown false status Was was set = inr (λ h. absurd (false≢true (set h)), refl)
+
+pub shutdowns : AForcedShutdownReachesEverybody
+shutdowns = record {
+  set = λ old new events outcomes u run. (
+    held_after (told (set_by_lines u) old) old new events outcomes run (λ so. inl so),
+    reached u old (executions old events outcomes) new (held_after (reaches u old) old new events outcomes run (λ so. so, All-nil (Shows u old old))),
+  );
+  shown = λ old new events outcomes before after s c line ups known status run e named.
+      let u : UpsId = known.id in
+      let same = is_seen s ups known named in
+      status_shown known.state.fsd status (WasShutDown u old before)
+      (λ fsd. held_at (told (set_by_lines u) old) old new events outcomes run (λ so. inl so) before after s c line e (sym same ∙ fsd))
+      (λ was. same ∙ reached u old before s (held_at (reaches u old) old new events outcomes run (λ so. so, All-nil (Shows u old old)) before after s c line e) was);
+}

@@ -1,11 +1,13 @@
 -- Forced shutdowns and logins come of lines with the right to them (upsd.users(5)).
-use Rattle.std.specs.Prelude.{◌≡◌, ℕ, Bool, false, true, List, [], ◌∷◌, ◌++◌, Option, Some, Ok}
-use Rattle.std.specs.Prelude.{codes, length, map}
+use Rattle.std.specs.Prelude.{◌≡◌, ◌↔◌, ◌⊎◌, ℕ, Bool, false, true, List, [], ◌∷◌, ◌++◌, Option}
+use Rattle.std.specs.Prelude.{Some, Ok, codes, length, map}
 use Rattle.std.specs.List.{filter}
 use Rattle.std.specs.Fmt.{decimal}
 use Rattle.std.specs.Option.{option_map_or}
 use Rattle.nutwords.specs.Frame.{frame, line_of as text_line}
+use Rattle.nutdriver.specs.Variable.{VariableState}
 use Rattle.nutlisting.specs.Items.{client_item}
+use Rattle.nutlisting.specs.Shown.{shown}
 use Rattle.nutusers.specs.Users.{may}
 use Rattle.nutusers.specs.declared.rights.Right.{Right}
 use Rattle.nutusers.specs.declared.rights.Right.TheVariants as rights
@@ -68,15 +70,31 @@ is_logged_in_of u x = is_logged_in_as_seen u (seen_client x)
 abbrev pub is_logged_in : ℕ → UpsId → ServerState → Bool
 is_logged_in c u s = option_map_or (is_logged_in_of u) (session c s) false
 
--- A forced shutdown is set only by right: where it is set after a run and wasn't before, one of the
--- lines that the run executed set it by right.
-abbrev pub AForcedShutdownIsSetByRight : Type 0
-AForcedShutdownIsSetByRight =
-    (old new : ServerState) (events : List Event) (outcomes : List Outcome) (u : UpsId)
-    → Run old events outcomes new → is_shut_down u old ≡ false → is_shut_down u new ≡ true
-    → (x : Execution) × IsAmong x (executions old events outcomes) × SetsShutdownByRight u x
+-- The forced shutdown of the UPS was set before a run, or one of these lines of it set it by right.
+abbrev pub WasShutDown : UpsId → ServerState → List Execution → Type 0
+WasShutDown u old executed =
+    (is_shut_down u old ≡ true) ⊎ ((x : Execution) × IsAmong x executed × SetsShutdownByRight u x)
 
--- The same of a login.
+-- After a run it is set exactly where that is so of all lines that the run executed. And the answer
+-- to each of these lines, whoever asks, shows the status with `FSD` in front exactly where it is so
+-- of the lines before. A listing has one answer, so what comes after its line isn't shown.
+pub record AForcedShutdownReachesEverybody : Type 0 where
+  pub set : (old new : ServerState) (events : List Event) (outcomes : List Outcome) (u : UpsId)
+      → Run old events outcomes new
+      → (is_shut_down u new ≡ true) ↔ WasShutDown u old (executions old events outcomes)
+  pub shown : (old new : ServerState) (events : List Event) (outcomes : List Outcome)
+      (before after : List Execution) (s : ServerState) (c : ℕ) (line : List ℕ)
+      (ups : Option (List ℕ)) (known : KnownUps) (status : VariableState)
+      → Run old events outcomes new
+      → executions old events outcomes ≡ before ++ of_line s c line ∷ after
+      → ups_named (seen s) ups ≡ Some known
+      → (WasShutDown known.id old before
+      × (shown known.state.fsd (codes "ups.status") status ≡ codes "FSD " ++ status.value))
+      ⊎ ((WasShutDown known.id old before → ⊥)
+      × (shown known.state.fsd (codes "ups.status") status ≡ status.value))
+
+-- A login is by right: where a client is logged in after a run and wasn't before, one of the lines
+-- that the run executed logged it in by right.
 abbrev pub ALoginIsByRight : Type 0
 ALoginIsByRight =
     (old new : ServerState) (events : List Event) (outcomes : List Outcome) (c : ℕ) (u : UpsId)

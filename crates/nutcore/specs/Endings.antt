@@ -1,7 +1,6 @@
--- Clients that are over stay over, ids rise, granted shutdowns are set.
+-- Clients that are over stay over, and ids rise.
 use Rattle.std.specs.Prelude.{◌≡◌, ◌<◌, ◌≤◌, ◌+◌, ℕ, true, false, List, [], ◌∷◌, ◌++◌}
 use Rattle.std.specs.List.{flat_map}
-use Rattle.nutusers.specs.declared.ups_list.UpsId.{UpsId}
 use Rattle.nutcore.specs.declared.event.Event.{Event}
 use Rattle.nutcore.specs.declared.event.Event.TheVariants.{Tick, Open}
 use Rattle.nutcore.specs.declared.event.Outcome.{Outcome}
@@ -9,9 +8,8 @@ use Rattle.nutcore.specs.declared.event.Outcome.TheVariants.{Opened}
 use Rattle.nutcore.specs.Server.{ServerState, session}
 use Rattle.nutcore.specs.Step.{Step}
 use Rattle.nutcore.specs.Run.{Run}
-use Rattle.nutcore.specs.History.{Execution, executions, of_client, taken, owed, is_closed, is_over}
+use Rattle.nutcore.specs.History.{executions, of_client, taken, owed, is_closed, is_over}
 use Rattle.nutcore.specs.Headline.{IsLawful}
-use Rattle.nutcore.specs.ByRight.{IsAmong, SetsShutdownByRight, is_shut_down}
 
 -- Of a client that is ending, or was closed, a run executes nothing; and what it takes, followed by
 -- what it is owed after, is what it was owed before, until it is closed.
@@ -44,14 +42,6 @@ abbrev pub IdsThatAreGivenRise : Type 0
 IdsThatAreGivenRise =
     (old new : ServerState) (events : List Event) (outcomes : List Outcome)
     → Run old events outcomes new → RiseFrom old.next_id new.next_id (ids_given outcomes)
-
--- Where one of the lines that a run executed set the forced shutdown of the UPS, by right, it is
--- set after the run.
-abbrev pub AGrantedShutdownIsSet : Type 0
-AGrantedShutdownIsSet =
-    (old new : ServerState) (events : List Event) (outcomes : List Outcome) (u : UpsId)
-    (x : Execution) → Run old events outcomes new → IsAmong x (executions old events outcomes)
-    → SetsShutdownByRight u x → is_shut_down u new ≡ true
 
 -- A tick leaves every session as it is, and but for the moment and the UPSs the whole server.
 abbrev pub ATickTouchesNoSession : Type 0

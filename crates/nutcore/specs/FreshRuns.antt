@@ -1,6 +1,6 @@
 -- Over every run from a new server, data are answered only while they are fresh.
-use Rattle.std.specs.Prelude.{◌≡◌, ◌≤◌, ◌+◌, ℕ, true, false, List, [], ◌∷◌, ◌++◌, Option, Some}
-use Rattle.std.specs.Prelude.{Ok, All, codes, max, nat_eq}
+use Rattle.std.specs.Prelude.{◌≡◌, ◌⊎◌, ◌<◌, ◌≤◌, ◌+◌, ◌/◌, ℕ, true, false, List, [], ◌∷◌, ◌++◌}
+use Rattle.std.specs.Prelude.{length, Option, Some, Ok, All, codes, max, nat_eq}
 use Rattle.std.specs.List.{starts_with}
 use Rattle.nutdriver.specs.declared.line.DriverLine.{DriverLine}
 use Rattle.nutdriver.specs.Report.{connected_report}
@@ -17,10 +17,12 @@ use Rattle.nutcore.specs.declared.event.Event.{Event}
 use Rattle.nutcore.specs.declared.event.Event.TheVariants.{DriverUp, Tick}
 use Rattle.nutcore.specs.declared.event.Outcome.{Outcome}
 use Rattle.nutcore.specs.declared.event.Outcome.TheVariants.{Done}
-use Rattle.nutcore.specs.Ups.{UpsState}
+use Rattle.nutcore.specs.declared.TheConstants.{DRIVER_OWED_LIMIT}
+use Rattle.nutcore.specs.Ups.{UpsState, ping_line}
 use Rattle.nutcore.specs.Server.{ServerState, ups_at}
 use Rattle.nutcore.specs.Reply.{seen, seen_ups, reply}
-use Rattle.nutcore.specs.Step.{after}
+use Rattle.nutcore.specs.Step.{Step, after}
+use Rattle.nutcore.specs.Sound.{IsSound}
 use Rattle.nutcore.specs.Run.{Run}
 use Rattle.nutcore.specs.History.{Execution, of_line, of_notice, executions}
 use Rattle.nutcore.specs.Headline.{IsTimely}
@@ -111,3 +113,13 @@ WhatADriverSetLastIsHeld =
     (old : ServerState) (events : List Event) (outcomes : List Outcome) (u : UpsId) (now : UpsState)
     (name : List ℕ) (c : ConnectedInRun u old events outcomes now)
     → TheLastLineDecides now.report.tree (changes_since c) name
+
+-- After each tick, a connected driver of which nothing was heard for a third of the greatest age
+-- has been asked since its last line, or has no room for a PING in what it may be owed. So it is
+-- asked before its data are stale, where ticks come at least each third of that age.
+abbrev pub ASilentDriverIsAsked : Type 0
+ASilentDriverIsAsked =
+    (old new : ServerState) (seconds : ℕ) (outcome : Outcome) (u : UpsId) (x : UpsState)
+    → IsSound old → Step old (Tick seconds) outcome new → ups_at u.place new ≡ Some x
+    → x.report.connected ≡ true → x.report.heard + old.max_age / 3 ≤ new.moment
+    → (x.report.heard < x.pinged) ⊎ (DRIVER_OWED_LIMIT < length x.owed + length ping_line)

@@ -1,8 +1,7 @@
 -- The laws of every run: what was sent and is owed is the answers.
 use Rattle.std.specs.Prelude.{◌≡◌, ◌⊎◌, ℕ, ◌<◌, ◌≤◌, length, true, false, List, [], ◌∷◌, ◌++◌, All}
-use Rattle.std.specs.Prelude.{Some, Ok, is_some, codes, map, nat_eq}
+use Rattle.std.specs.Prelude.{Some, is_some, codes, nat_eq}
 use Rattle.std.specs.List.{starts_with}
-use Rattle.nutwords.specs.Frame.{frame}
 use Rattle.nutlisting.specs.declared.outbox.TheConstants.{OWED_LIMIT}
 use Rattle.nutcore.specs.declared.event.Event.{Event}
 use Rattle.nutcore.specs.declared.event.Event.TheVariants.{DriverUp, DriverBytes, DriverTook}
@@ -11,16 +10,9 @@ use Rattle.nutcore.specs.declared.event.Event.TheVariants.{Close, Id}
 use Rattle.nutcore.specs.declared.event.Outcome.{Outcome}
 use Rattle.nutcore.specs.declared.event.Outcome.TheVariants.{Done, Fed, Refused}
 use Rattle.nutcore.specs.declared.event.Fault.TheVariants.{Memory}
-use Rattle.nutanswer.specs.declared.command.Command.{Command}
-use Rattle.nutanswer.specs.declared.command.Command.TheVariants.{ListVar}
-use Rattle.nutanswer.specs.Command.{read_command}
-use Rattle.nutanswer.specs.View.{readiness, usable}
-use Rattle.nutlisting.specs.Items.{ListingState, variable_item}
-use Rattle.nutanswer.specs.Checks.{KnownUps, ups_named}
-use Rattle.nutanswer.specs.Answer.{answer_to, listing}
 use Rattle.nutcore.specs.Session.{SessionState}
 use Rattle.nutcore.specs.Server.{ServerState, session, with_session}
-use Rattle.nutcore.specs.Reply.{seen, asker, reply}
+use Rattle.nutcore.specs.Reply.{reply}
 use Rattle.nutcore.specs.Pump.{next_line_for, pump_stops, after_line, after_lines, after_notice}
 use Rattle.nutcore.specs.Pump.{after_all_lines, is_overlong, pumped, answered}
 use Rattle.nutcore.specs.Step.{Step, with_input, without_output, outcome_of}
@@ -133,22 +125,6 @@ abbrev pub OneAnswerAtMostIsOwedAbove : Type 0
 OneAnswerAtMostIsOwedAbove =
     (s : ServerState) (c : ℕ) (line : List ℕ) → next_line_for s c ≡ Some line
     → (length (owed c s) ≤ OWED_LIMIT) × (owed c (after_line s c) ≡ owed c s ++ (reply s c line))
-
--- The text that answers a listing's line is BEGIN, exactly the items that the server has then, and
--- END. Of LIST VAR, of a UPS that is usable, they are the variables that it holds.
-pub record AListingIsWhatIsHeld : Type 0 where
-  pub framed : (s : ServerState) (c : ℕ) (line : List ℕ) (command : Command) (l : ListingState)
-      → read_command line ≡ Ok (Some command)
-      → answer_to (seen s) (asker c s) command ≡ Ok (listing l)
-      → reply s c line ≡ frame l.kind l.names l.items
-  pub variables : (s : ServerState) (c : ℕ) (line ups : List ℕ) (known : KnownUps)
-      → read_command line ≡ Ok (Some (ListVar (Some ups)))
-      → ups_named (seen s) (Some ups) ≡ Some known
-      → readiness s.moment s.max_age known.state.report ≡ usable
-      → reply s c line
-      ≡ frame (codes "VAR") (known.name ∷ [])
-      (map (variable_item
-      (codes "VAR") known.name known.state.fsd) known.state.report.tree.variables)
 
 -- A whole line that is refused, by an answer that begins with ERR, changes nothing but its own
 -- session's held and owed bytes.

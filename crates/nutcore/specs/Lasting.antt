@@ -5,7 +5,6 @@ use Rattle.nutcore.specs.declared.event.Event.{Event}
 use Rattle.nutcore.specs.declared.event.Outcome.{Outcome}
 use Rattle.nutcore.specs.Session.{SessionState}
 use Rattle.nutcore.specs.Server.{ServerState, session}
-use Rattle.nutcore.specs.ByRight.{is_shut_down}
 use Rattle.nutcore.specs.Run.{Run}
 
 -- A session that is so stays so as long as it is open, whatever events come.
@@ -23,7 +22,7 @@ pub record IsEnding (owed : List ℕ) (x : SessionState) : Type 0 where
 
 -- What a session gave, it gave for good: a user name, a password, and a login up to its end. A
 -- session that is ending goes on ending, and is owed no more than before. A session that is closed
--- is never there again, ids rise, and a forced shutdown that is set stays set.
+-- is never there again, and ids rise.
 pub record WhatNeverGoesBack : Type 0 where
   pub username : (name : List ℕ) → Lasts (λ x. x.username ≡ Some name)
   pub password : (word : List ℕ) → Lasts (λ x. x.password ≡ Some word)
@@ -34,6 +33,3 @@ pub record WhatNeverGoesBack : Type 0 where
       → session c new ≡ None
   pub ids : (old new : ServerState) (events : List Event) (outcomes : List Outcome)
       → Run old events outcomes new → old.next_id ≤ new.next_id
-  pub shutdown : (old new : ServerState) (events : List Event) (outcomes : List Outcome)
-      (u : UpsId) → Run old events outcomes new → is_shut_down u old ≡ true
-      → is_shut_down u new ≡ true

@@ -26,50 +26,53 @@ pub record AsksOf (s : ServerState) (ups : Option (List ℕ)) (known : KnownUps)
   pub named : ups_named (seen s) ups ≡ Some known
   pub ready : readiness s.moment s.max_age known.state.report ≡ usable
 
--- The listing is the frame of these items, whose names strictly rise: so each comes once, in the
--- order of names.
+-- The listing is the frame of these items, whose names strictly rise where the tree is sound: so
+-- each comes once, in the order of names.
 pub record EachIsListedOnce : Type 0 where
   pub variables : (s : ServerState) (c : ℕ) (line : List ℕ) (ups : Option (List ℕ))
-      (known : KnownUps) → IsSound s → read_command line ≡ Ok (Some (ListVar ups))
-      → AsksOf s ups known
+      (known : KnownUps) → read_command line ≡ Ok (Some (ListVar ups)) → AsksOf s ups known
       → (reply s c line
       ≡ frame (codes "VAR") (known.name ∷ [])
       (map (variable_item
       (codes "VAR") known.name known.state.fsd) known.state.report.tree.variables))
-      × HasRisingKeys byte_order known.state.report.tree.variables
+      × (IsSoundTree known.state.report.tree
+      → HasRisingKeys byte_order known.state.report.tree.variables)
   pub commands : (s : ServerState) (c : ℕ) (line : List ℕ) (ups : Option (List ℕ))
-      (known : KnownUps) → IsSound s → read_command line ≡ Ok (Some (ListCmd ups))
-      → AsksOf s ups known
+      (known : KnownUps) → read_command line ≡ Ok (Some (ListCmd ups)) → AsksOf s ups known
       → (reply s c line
       ≡ frame (codes "CMD") (known.name ∷ [])
       (map (command_item known.name) known.state.report.tree.commands))
-      × IsStrictlySortedBy byte_order known.state.report.tree.commands
+      × (IsSoundTree known.state.report.tree
+      → IsStrictlySortedBy byte_order known.state.report.tree.commands)
   pub rw : (s : ServerState) (c : ℕ) (line : List ℕ) (ups : Option (List ℕ)) (known : KnownUps)
-      → IsSound s → read_command line ≡ Ok (Some (ListRw ups)) → AsksOf s ups known
+      → read_command line ≡ Ok (Some (ListRw ups)) → AsksOf s ups known
       → (reply s c line
       ≡ frame (codes "RW") (known.name ∷ [])
       (map (variable_item (codes "RW") known.name known.state.fsd)
       (filter is_rw known.state.report.tree.variables)))
-      × HasRisingKeys byte_order (filter is_rw known.state.report.tree.variables)
+      × (IsSoundTree known.state.report.tree
+      → HasRisingKeys byte_order (filter is_rw known.state.report.tree.variables))
   -- Enum values and ranges stand in the order of the tree's lists, each once.
   pub enum_values : (s : ServerState) (c : ℕ) (line : List ℕ) (ups : Option (List ℕ))
-      (name : List ℕ) (known : KnownUps) (variable : VariableState) → IsSound s
+      (name : List ℕ) (known : KnownUps) (variable : VariableState)
       → read_command line ≡ Ok (Some (ListEnum ups (Some name))) → AsksOf s ups known
       → variable_at known.state.report.tree name ≡ Some variable
       → (reply s c line
       ≡ frame (codes "ENUM") (known.name ∷ name ∷ [])
-      (map (enum_item known.name name) variable.enum_values)) × HasNoRepeats variable.enum_values
+      (map (enum_item known.name name) variable.enum_values))
+      × (IsSoundTree known.state.report.tree → HasNoRepeats variable.enum_values)
   pub ranges : (s : ServerState) (c : ℕ) (line : List ℕ) (ups : Option (List ℕ)) (name : List ℕ)
-      (known : KnownUps) (variable : VariableState) → IsSound s
+      (known : KnownUps) (variable : VariableState)
       → read_command line ≡ Ok (Some (ListRange ups (Some name))) → AsksOf s ups known
       → variable_at known.state.report.tree name ≡ Some variable
       → (reply s c line
       ≡ frame (codes "RANGE") (known.name ∷ name ∷ [])
-      (map (range_item known.name name) variable.ranges)) × HasNoRepeats variable.ranges
+      (map (range_item known.name name) variable.ranges))
+      × (IsSoundTree known.state.report.tree → HasNoRepeats variable.ranges)
   -- UPSs stand in the order of the list, which is that of their names.
-  pub upses : (s : ServerState) (c : ℕ) (line : List ℕ) → IsSound s
-      → read_command line ≡ Ok (Some ListUps)
-      → (reply s c line ≡ frame (codes "UPS") [] (map ups_item s.list)) × AreByName s.list
+  pub upses : (s : ServerState) (c : ℕ) (line : List ℕ) → read_command line ≡ Ok (Some ListUps)
+      → (reply s c line ≡ frame (codes "UPS") [] (map ups_item s.list))
+      × (IsSound s → AreByName s.list)
   -- Whatever an answer tells of a UPS stands in a sound tree.
   pub tree : (s : ServerState) (ups : Option (List ℕ)) (known : KnownUps) → IsSound s
       → ups_named (seen s) ups ≡ Some known → IsSoundTree known.state.report.tree

@@ -1,8 +1,8 @@
 //! Laws of every server, event and run. No program calls them.
-ghost use Rattle.nutcore.specs.Headline.{WhatWasSentAndIsOwedIsTheAnswers, WhatWasAskedIsExecutedOrHeld, EachAnswerIsTimely, NothingIsLeftToExecute, OneAnswerAtMostIsOwedAbove, AListingIsWhatIsHeld, ARefusedLineChangesNothing, ThePumpExecutesTheLeast, EachEventIsAFunction};
-ghost use Rattle.nutcore.specs.ByRight.{AForcedShutdownIsSetByRight, ALoginIsByRight, CredentialsAreGivenByLines, WhatIsCountedIsWhoIsThere};
+ghost use Rattle.nutcore.specs.Headline.{WhatWasSentAndIsOwedIsTheAnswers, WhatWasAskedIsExecutedOrHeld, EachAnswerIsTimely, NothingIsLeftToExecute, OneAnswerAtMostIsOwedAbove, ARefusedLineChangesNothing, ThePumpExecutesTheLeast, EachEventIsAFunction};
+ghost use Rattle.nutcore.specs.ByRight.{AForcedShutdownReachesEverybody, ALoginIsByRight, CredentialsAreGivenByLines, WhatIsCountedIsWhoIsThere};
 ghost use Rattle.nutcore.specs.Lasting.{WhatNeverGoesBack};
-ghost use Rattle.nutcore.specs.Endings.{WhoIsOverIsAskedNoMore, IdsThatAreGivenRise, AGrantedShutdownIsSet, ATickTouchesNoSession, AnOpeningTouchesNoOther};
+ghost use Rattle.nutcore.specs.Endings.{WhoIsOverIsAskedNoMore, IdsThatAreGivenRise, ATickTouchesNoSession, AnOpeningTouchesNoOther};
 ghost use Rattle.nutcore.specs.Waiting.{ALineIsAnswered};
 ghost use Rattle.nutcore.specs.Alone.{OneLineIsAnswered};
 ghost use Rattle.nutcore.specs.OrdersByRight.{EachOrderIsByRight, TheOrdersToldAreThoseOfTheLines};
@@ -20,7 +20,7 @@ ghost use Rattle.nutcore.specs.Totals.{AServerIsBoundedInAll};
 ghost use Rattle.nutcore.specs.TakingSome.{WhoTakesSomeGetsEverything};
 ghost use Rattle.nutcore.specs.DriverHistory.{WhatADriverToldIsExecuted};
 ghost use Rattle.nutcore.specs.DriverRuns.{WhatCameSinceConnectingIsExecuted, ALostDriversLinesAreABeginning, WhichLinesAreRefused, RefusedLinesAreCounted, ANewServerCountsAllRefusedLines};
-ghost use Rattle.nutcore.specs.FreshRuns.{TheMomentIsTheGreatestTick, WhateverIsToldIsFresh, WhatADriverSetLastIsHeld};
+ghost use Rattle.nutcore.specs.FreshRuns.{TheMomentIsTheGreatestTick, WhateverIsToldIsFresh, WhatADriverSetLastIsHeld, ASilentDriverIsAsked};
 ghost use Rattle.nutcore.specs.DriverOrders.{WhatADriverWasSentAndIsOwedIsWhatItWasTold};
 ghost use Rattle.nutcore.specs.TrackedRuns.{WhatIsTrackedComesOfTheActs, EachRunTracksItsOrders};
 ghost use Rattle.nutcore.specs.Listed.{EachIsListedOnce, WhatIsListedIsWhatIsHeld};
@@ -69,13 +69,6 @@ pub fn one_answer_at_most_is_owed_above()
     ensures { OneAnswerAtMostIsOwedAbove }
 {}
 
-/// A listing has exactly the items that its row gives when its line is executed. For `LIST VAR`
-/// these are the variables that the UPS holds.
-#[tactic(auto, using(crate::proofs::HeldFrames::listing_is_held))]
-pub fn a_listing_is_what_is_held()
-    ensures { AListingIsWhatIsHeld }
-{}
-
 /// A line answered by `ERR` changes only the held input and owed output of its own session.
 #[tactic(auto, using(crate::proofs::HeldFrames::refused_line))]
 pub fn a_refused_line_changes_nothing()
@@ -84,11 +77,11 @@ pub fn a_refused_line_changes_nothing()
     only_ok_changes();
 }
 
-/// A forced shutdown is set only by an executed `FSD`, answered `OK FSD-SET`, of a session with the
-/// name and password of a user with that right.
+/// Clients are shown `FSD ` before `ups.status` exactly after an `FSD` of that UPS, answered `OK
+/// FSD-SET`, from a session with a user's name, password and right.
 #[tactic(auto, using(crate::proofs::ShutdownMarks::shutdowns))]
-pub fn a_forced_shutdown_is_set_by_right()
-    ensures { AForcedShutdownIsSetByRight }
+pub fn a_forced_shutdown_reaches_everybody()
+    ensures { AForcedShutdownReachesEverybody }
 {}
 
 /// A session is logged in only by its own `LOGIN`, answered `OK`, with the right to it.
@@ -125,7 +118,7 @@ pub fn one_line_is_answered()
 {}
 
 /// A session's user name, password and login stay as given. An ending session goes on ending, a
-/// closed one never returns, and a forced shutdown stays set.
+/// closed one never returns.
 #[tactic(auto, using(crate::proofs::Lasting::never_back))]
 pub fn what_never_goes_back()
     ensures { WhatNeverGoesBack }
@@ -141,12 +134,6 @@ pub fn who_is_over_is_asked_no_more()
 #[tactic(auto, using(crate::proofs::Endings::ids_rise))]
 pub fn ids_that_are_given_rise()
     ensures { IdsThatAreGivenRise }
-{}
-
-/// After an `FSD` that was answered `OK FSD-SET` by right, the forced shutdown of its UPS is set.
-#[tactic(auto, using(crate::proofs::Endings::granted_is_set))]
-pub fn a_granted_shutdown_is_set()
-    ensures { AGrantedShutdownIsSet }
 {}
 
 /// A tick changes no session. A newcomer changes no other session.
@@ -233,9 +220,8 @@ pub fn refused_lines_are_counted()
     ensures from_new { ANewServerCountsAllRefusedLines }
 {}
 
-/// In every run from a new server, data are answered and orders accepted only from fresh reports:
-/// the driver is connected, has reported all, says its data are right, and was heard at most MAXAGE
-/// ago.
+/// In every run from a new server, data are answered and orders accepted only from fresh reports,
+/// as `what_is_told_is_fresh` has it.
 #[tactic(auto, using(crate::proofs::FreshRuns::moment_is_greatest_tick, crate::proofs::FreshRuns::whatever_is_told_is_fresh))]
 pub fn whatever_is_told_is_fresh()
     ensures fresh { WhateverIsToldIsFresh }
@@ -244,6 +230,12 @@ pub fn whatever_is_told_is_fresh()
     what_is_told_is_fresh();
     every_server_is_sound();
 }
+
+/// A driver that is silent for a third of MAXAGE is sent a `PING` by the next tick, if there is
+/// room: before its data are stale.
+pub fn a_silent_driver_is_asked()
+    ensures { ASilentDriverIsAsked }
+{}
 
 /// The last accepted line of a connected driver on a variable decides what the UPS holds of it.
 #[tactic(auto, using(crate::proofs::FreshRuns::set_last_is_held))]

@@ -12,15 +12,15 @@ use nutcore::laws::{
     what_was_asked_is_executed_or_held, what_was_sent_and_is_owed_is_the_answers,
 };
 
-/// Over any turns of sockets that report their calls, each byte is moved once and in order. What each client and
-/// each driver gave was fed to the server, all of it. What each of them took is what the server counts as taken.
+/// Over any turns of sockets that report their calls, what each client and each driver gave was fed to the server,
+/// all of it, in order. What each took is what the server counts as taken.
 pub fn every_byte_is_moved_once<S: Sockets>()
     ensures { EveryByteIsMovedOnce S.calls S.failures }
 {}
 
-/// Over any turns from `Server::new`, of sockets that report their calls: what each client's socket took, followed
-/// by what it is owed, is the answers to its executed lines, in order. These lines, followed by the held input, are
-/// all that its socket gave. Of an ending or closed client they are a beginning of that.
+/// Over such turns from `Server::new`, what a client's socket took, followed by what it is owed, is the answers to
+/// its executed lines. These, followed by the held input, are all that its socket gave. Of an ending or closed
+/// client they are a beginning of that.
 pub fn what_a_socket_gave_is_answered<S: Sockets>()
     ensures { WhatASocketGaveIsAnswered S.calls S.failures }
 {
@@ -31,10 +31,9 @@ pub fn what_a_socket_gave_is_answered<S: Sockets>()
     every_server_is_sound();
 }
 
-/// Over any turns of sockets that report their calls, while a driver isn't lost: its unfinished line, followed by
-/// all that its socket gave, is its executed lines and an unfinished line. Its report is what these lines made.
-/// What it was owed, followed by the lines that the server made for it, is what its socket took, followed by what
-/// it is owed.
+/// The same of a driver that isn't lost: its unfinished line and all that its socket gave are its executed lines,
+/// which made its report, and an unfinished line. What its socket took and what it is owed are what it was owed and
+/// the lines that the server made for it.
 pub fn a_driver_is_heard_and_told_by_its_socket<S: Sockets>()
     ensures { ADriverIsHeardAndToldByItsSocket S.calls S.failures }
 {
@@ -61,9 +60,8 @@ pub fn everybody_has_a_turn()
     ensures { EverybodyHasATurn }
 {}
 
-/// The most bytes of a driver's read, the bytes of an id, the turns after which a pass ends in a
-/// look, a bound of the turns between two looks, the closing connections and their ticks, and the
-/// turns of `serve`.
+/// The bytes of a driver's read and of an id, the turns of a pass, between two looks and of `serve`, the closing
+/// connections and their ticks.
 pub fn numbers()
     ensures { Numbers }
 {}

@@ -1,13 +1,16 @@
 -- The users that the lines mean, a line at a time.
-use Rattle.std.proofs.Common.{◌≡◌, ℕ, List, ◌∷◌, map, reverse, Option, None, Some, codes, refl, ap}
-use Rattle.std.specs.List.{filter_map, cons_option}
+use Rattle.std.proofs.Common.{◌≡◌, ℕ, true, false, List, [], ◌∷◌, ◌++◌, ◌∙◌, map, reverse, Option, None, Some, cond, codes, refl, sym, ap}
+use Rattle.std.specs.List.{find, filter_map, cons_option}
+use Rattle.std.specs.Prelude.{option_map}
+use Rattle.std.specs.Str.{bytes_eq}
+use Rattle.std.proofs.lemmas.List.{map-append}
 use Rattle.nutusers.specs.ConfigLine.{ConfigLine, read_config_line}
 use Rattle.nutusers.specs.Rights.{grant_of}
-use Rattle.nutusers.specs.Sections.{value_in}
+use Rattle.nutusers.specs.Sections.{value_in, sections}
 use Rattle.nutusers.specs.File.{AreAccepted}
 use Rattle.nutusers.specs.Credentials.{is_user_name}
-use Rattle.nutusers.specs.UsersFile.{user_of, users_of, user_line_fault, users_format}
-use Rattle.nutusers.specs.Users.{User, HaveOneNameEach}
+use Rattle.nutusers.specs.UsersFile.{user_of, users_of, section_of, user_line_fault, users_format, RightsComeOfTheOwnSection}
+use Rattle.nutusers.specs.Users.{User, HaveOneNameEach, user_named}
 use Rattle.nutusers.proofs.NamesApart.{HasNames, not_there, names_apart, accepted_apart}
 use Rattle.nutusers.specs.UsersStep.{new_user, with_user_line, with_grant, users_with}
 use Rattle.nutusers.specs.declared.rights.Grant.{Grant}
@@ -35,3 +38,18 @@ users_names = record { named = λ name lines. refl; is_new = λ all name fine. n
 -- no two users of accepted lines have one name
 pub users_apart : (lines : List (List ℕ)) → AreAccepted users_format lines → HaveOneNameEach (users_of lines)
 users_apart lines fine = names_apart (λ (user : User). user.name) (users_of lines) (accepted_apart users_names lines fine)
+
+-- a user is what the section of this name means
+map-reverse : {A B : Type 0} (f : A → B) (xs : List A) → map f (reverse xs) ≡ reverse (map f xs)
+map-reverse f [] = refl
+map-reverse f (x ∷ xs) = ap (map f) (reverse-cons x xs) ∙ map-append f (reverse xs) (x ∷ []) ∙ ap (λ front. front ++ f x ∷ []) (map-reverse f xs) ∙ sym (reverse-cons (f x) (map f xs))
+
+named_in : (name : List ℕ) (ss : List (List ℕ × List ConfigLine)) → user_named name (map user_of ss) ≡ option_map user_of (find (λ s. bytes_eq s.0 name) ss)
+named_in name [] = refl
+named_in name (s ∷ ss) = elim (bytes_eq s.0 name) as (λ b. cond b (Some (user_of s)) (user_named name (map user_of ss)) ≡ option_map user_of (cond b (Some s) (find (λ t. bytes_eq t.0 name) ss))) [ true ↦ refl | false ↦ named_in name ss ]
+
+user_is : (name : List ℕ) (lines : List (List ℕ)) → user_named name (users_of lines) ≡ option_map user_of (section_of name lines)
+user_is name lines = let ss = sections (map read_config_line lines) in ap (user_named name) (sym (map-reverse user_of ss)) ∙ named_in name (reverse ss)
+
+pub rights_of_section : RightsComeOfTheOwnSection
+rights_of_section lines other name password right same = rw (user_is name lines, user_is name other, same) refl

@@ -1,6 +1,6 @@
 -- The file of users (upsd.users(5)).
-use Rattle.std.specs.Prelude.{ℕ, Bool, ◌||◌, not, List, map, reverse, codes, is_some, Option, None}
-use Rattle.std.specs.Prelude.{Some, if◌then◌else◌}
+use Rattle.std.specs.Prelude.{◌≡◌, ℕ, Bool, ◌||◌, not, List, map, reverse, codes, find, is_some}
+use Rattle.std.specs.Prelude.{Option, None, Some, if◌then◌else◌}
 use Rattle.std.specs.List.{filter_map}
 use Rattle.std.specs.Str.{bytes_eq}
 use Rattle.nutusers.specs.ConfigLine.{ConfigLine, silent, malformed, section, setting, upsmon}
@@ -9,11 +9,12 @@ use Rattle.nutusers.specs.File.{Format, bad_value_unless, once_fault}
 use Rattle.nutusers.specs.Rights.{grant_of, role_grant, action_grant, command_grant}
 use Rattle.nutusers.specs.Sections.{sections, value_in, last_of, in_section}
 use Rattle.nutusers.specs.Credentials.{is_user_name, is_password}
-use Rattle.nutusers.specs.Users.{user_named}
+use Rattle.nutusers.specs.Users.{user_named, may}
 pub use Rattle.nutusers.specs.Users.{User}
 use Rattle.nutusers.specs.declared.fault.Cause.{Cause}
 use Rattle.nutusers.specs.declared.fault.Cause.TheVariants.{Malformed, BadName, Duplicate}
 use Rattle.nutusers.specs.declared.fault.Cause.TheVariants.{UnknownKey}
+use Rattle.nutusers.specs.declared.rights.Right.{Right}
 
 -- The user of a section.
 abbrev pub user_of : List ℕ × List ConfigLine → User
@@ -28,6 +29,18 @@ user_of (name, lines) =
 -- last to the first.
 abbrev pub users_of : List (List ℕ) → List User
 users_of lines = reverse (map user_of (sections (map read_config_line lines)))
+
+-- The section of this user, as the lines have it.
+abbrev pub section_of : List ℕ → List (List ℕ) → Option (List ℕ × List ConfigLine)
+section_of name lines =
+    find (λ s. bytes_eq s.0 name) (reverse (sections (map read_config_line lines)))
+
+-- Where two files have the same section of a user, this user may do the same.
+abbrev pub RightsComeOfTheOwnSection : Type 0
+RightsComeOfTheOwnSection =
+    (lines other : List (List ℕ)) (name password : List ℕ) (right : Right)
+    → section_of name lines ≡ section_of name other
+    → may (users_of lines) name password right ≡ may (users_of other) name password right
 
 -- Why a section line is refused after lines that mean these users.
 abbrev pub section_fault : List User → List ℕ → Option Cause

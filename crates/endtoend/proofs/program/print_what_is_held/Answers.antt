@@ -22,7 +22,7 @@ pub returns-clause-number : goal.returns-clause-number
 returns-clause-number g c = λ s client words place line known more job at few named sent h.
     handed _ _ _ _ _ c.args.job.now _ _ _ _ _ c.run.ensures.printed
     (asks_number (ups_place_of words.now) place c.args.job.now job at)
-    (c.upsc_prints_how_many_are_logged_in.ensures s client place.0 line known more few (place_lawful words.now place at) named sent) h
+    (c.upsc_prints_who_is_logged_in.ensures.number s client place.0 line known more few (place_lawful words.now place at) named sent) h
 
 pub returns-clause-progress : goal.returns-clause-progress
 returns-clause-progress g c = λ s client words word id line progress more job is lawful at sent h.
