@@ -34,10 +34,7 @@ pub fn described(text: Option<&Value>) -> &[u8]
     ensures short { length result.now ≤ VALUE_LIMIT }
     ensures lawful { IsTrue (list_all is_lawful result.now) }
 {
-    match text {
-        Some(text) => text.as_bytes(),
-        None => b"Description unavailable",
-    }
+    text.map_or(b"Description unavailable", |text| text.as_bytes())
 }
 
 /// The description of a UPS as clients see it.
@@ -46,8 +43,5 @@ pub(crate) fn ups_described(text: Option<&Value>) -> &[u8]
     ensures short { length result.now ≤ VALUE_LIMIT }
     ensures lawful { IsTrue (list_all is_lawful result.now) }
 {
-    match text {
-        Some(text) => text.as_bytes(),
-        None => b"Unavailable",
-    }
+    text.map_or(b"Unavailable", |text| text.as_bytes())
 }
