@@ -1,7 +1,7 @@
 //! The answers to commands (RFC 9271).
-ghost use Rattle.std.specs.Prelude.{◌≡◌, ◌≤◌, [], ◌∷◌, length, IfOk, OnErr, Result, Ok, Err, IsTrue};
-ghost use Rattle.std.specs.List.{list_all};
-ghost use Rattle.nutwords.specs.Bytes.{is_lawful};
+ghost use Rattle.std.specs.Prelude.{◌≡◌, ℕ, List, IfOk, OnErr, Result, Ok, Err, IsTrue};
+ghost use Rattle.nutwords.specs.Frame.{line_of};
+ghost use Rattle.nutlisting.specs.Lines.{IsWholeLine};
 ghost use Rattle.nutanswer.specs.View.{Seen, asker_seen};
 ghost use Rattle.nutanswer.specs.Answer.{answer_to, shares_version, told, one_line, ok, Answer, IsReply};
 ghost use Rattle.nutanswer.specs.Promises.{CarriesAnswer, Gives, GivesReply, row};
@@ -13,9 +13,7 @@ mod session;
 use crate::checks::{known_ups, live_ups, live_variable};
 use crate::err_word::Checked;
 use crate::{Asker, Change, Command, ErrWord, Listing, NameWord, Reply, UpsWord, View};
-use nutlisting::{
-    described, plain_line_into, type_line_into, ups_line_into, value_line_into, variable_line_into,
-};
+use nutlisting::{described, type_line_into, ups_line_into, value_line_into, variable_line_into};
 use nutwords::Line;
 use std::alloc::AllocError;
 
@@ -49,9 +47,9 @@ pub fn answer<'a, V: View>(
         Command::Username(name) => session::username(asker, name),
         Command::Password(password) => session::password(asker, password, line),
         Command::Login(ups) => session::login(view, asker, ups),
-        Command::Logout => session::logout(line),
+        Command::Logout => session::logout(),
         Command::Primary(ups) => session::primary(view, asker, ups),
-        Command::Fsd(ups) => session::fsd(view, asker, ups, line),
+        Command::Fsd(ups) => session::fsd(view, asker, ups),
         Command::SetVar(ups, name, value) => {
             orders::set_var(view, asker, ups, name, value, line)
         }
@@ -66,7 +64,7 @@ pub fn answer<'a, V: View>(
         Command::GetUpsDesc(ups) => get_ups_desc(view, ups, line),
         Command::GetNumLogins(ups) => session::count_of_logins(view, b"NUMLOGINS", ups, line),
         Command::GetNumAttach(ups) => session::count_of_logins(view, b"NUMATTACH", ups, line),
-        Command::GetTracking => session::get_tracking(asker, line),
+        Command::GetTracking => session::get_tracking(asker),
         Command::GetProgress(id) => orders::progress(view, id, line),
         Command::ListUps => return list_ups(view),
         Command::ListVar(ups) => return list_var(view, ups),
@@ -76,11 +74,10 @@ pub fn answer<'a, V: View>(
         Command::ListRange(ups, name) => return list_range(view, ups, name),
         Command::ListClient(ups) => session::list_client(view, ups),
         Command::Help => plain(
-            b"Commands: HELP VER NETVER PROTVER GET LIST SET INSTCMD LOGIN LOGOUT PRIMARY FSD USERNAME PASSWORD STARTTLS",
-            line,
+            b"Commands: HELP VER NETVER PROTVER GET LIST SET INSTCMD LOGIN LOGOUT PRIMARY FSD USERNAME PASSWORD STARTTLS\n",
         ),
-        Command::Ver => plain(b"Network UPS Tools upsd, profile 1", line),
-        Command::NetVer | Command::ProtVer => plain(b"1.3", line),
+        Command::Ver => plain(b"Network UPS Tools upsd, profile 1\n"),
+        Command::NetVer | Command::ProtVer => plain(b"1.3\n"),
         Command::StartTls => Err(ErrWord::FeatureNotConfigured),
     };
     Ok(given(row))
@@ -199,14 +196,12 @@ fn refused<'a>(word: ErrWord) -> Reply<'a>
     Reply::One(word.line(), Change::Nothing)
 }
 
-/// A text without its LF, as it stands.
-fn plain<'a>(text: &[u8], line: &'a mut Line) -> Row<'a>
-    requires short { length text.now ≤ 128 }
-    requires lawful { IsTrue (list_all is_lawful text.now) }
-    ensures { Gives (told (text.now ∷ [])) result }
+/// A line of the program's own, with its LF.
+pub(crate) fn plain<'a>(line: &'static [u8]) -> Row<'a>
+    requires { IsWholeLine line.now }
+    ensures { (words : List (List ℕ)) → line.now ≡ line_of words → Gives (told words) result }
 {
-    plain_line_into(text, line);
-    Ok(Reply::One(line.as_slice(), Change::Nothing))
+    Ok(Reply::One(line, Change::Nothing))
 }
 
 /// LIST UPS.

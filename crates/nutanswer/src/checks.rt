@@ -6,11 +6,27 @@ ghost use Rattle.nutanswer.specs.Orders.{instcmd_right, is_short_enough, is_list
 ghost use Rattle.nutanswer.specs.Promises.{known_ups, known_variable, known_command, found, live_ups, live_variable, live_command, settable};
 
 use crate::err_word::Checked;
-use crate::known::{Known, KnownVariable};
-use crate::{Asker, ErrWord, ValueWord, View};
+use crate::{Asker, ErrWord, UpsView, ValueWord, View};
 use nutdriver::{Range, Variable, read_number};
-use nutusers::Right;
+use nutusers::{Right, UpsId};
 use nutwords::{Name, UpsName, Value};
+
+/// A UPS that is there, by the name that the command has.
+#[derive(Clone, Copy)]
+pub(crate) struct Known<'a> {
+    pub(crate) name: &'a UpsName,
+    pub(crate) desc: Option<&'a Value>,
+    pub(crate) id: UpsId,
+    pub(crate) state: UpsView<'a>,
+}
+
+/// A variable of a UPS, both by the names that the command has.
+#[derive(Clone, Copy)]
+pub(crate) struct KnownVariable<'a> {
+    pub(crate) ups: Known<'a>,
+    pub(crate) name: &'a Name,
+    pub(crate) variable: &'a Variable,
+}
 
 /// The session has given the name and the password of a user to whom the right is granted.
 pub(crate) fn user<V: View>(view: &V, asker: Asker<'_>, right: Right<'_>) -> Checked<()>

@@ -8,8 +8,7 @@ mod words;
 use crate::ErrWord;
 use crate::err_word::Checked;
 use arguments::{
-    alone, on_or_off, text_alone, tracking_asked, ups_and_name, ups_name_and_value,
-    ups_name_and_value_if_any,
+    alone, on_or_off, text_alone, tracking_asked, ups_and_name, ups_name_and_value_if_any,
 };
 use nutwords::{SpelledWord, SpelledWords, spelled_words};
 pub use words::{IdWord, NameWord, PasswordWord, TextWord, UpsWord, UserWord, ValueWord};
@@ -82,7 +81,7 @@ pub enum Command<'a> {
 
 impl<'a> Command<'a> {
     ghost use Rattle.nutwords.specs.Spelled.{spelled};
-    ghost use Rattle.nutanswer.specs.Command.{read_command, command_of, command_named, other_command, read_set, read_get, read_list};
+    ghost use Rattle.nutanswer.specs.Command.{read_command, command_named, other_command, read_set, read_get, read_list};
 
     /// Reads a line without its LF, of at most 2,047 bytes. A line without words is no command.
     ///
@@ -94,21 +93,11 @@ impl<'a> Command<'a> {
         requires { length line.now ≤ LINE_LIMIT }
         ensures { result ≡ read_command line.now }
     {
-        match spelled_words(line) {
-            Ok(words) => Command::of(words),
-            Err(_) => Err(ErrWord::InvalidArgument),
-        }
-    }
-
-    /// The command that the words are.
-    fn of(mut words: SpelledWords<'a>) -> Checked<Option<Command<'a>>>
-        ensures { result ≡ command_of words.entry }
-    {
+        let mut words = spelled_words(line).map_err(|_| ErrWord::InvalidArgument)?;
         let Some(first) = words.next() else {
             return Ok(None);
         };
-        let command = Command::named(&first, words)?;
-        Ok(Some(command))
+        Ok(Some(Command::named(&first, words)?))
     }
 
     /// The command that is called so, with these words after its first: a GET or a LIST, or else of another kind.
@@ -166,7 +155,8 @@ impl<'a> Command<'a> {
     {
         let kind = words.next().ok_or(ErrWord::InvalidArgument)?;
         if kind.is_word(b"VAR") {
-            let (ups, name, value) = ups_name_and_value(words)?;
+            let (ups, name, value) = ups_name_and_value_if_any(words)?;
+            let value = value.ok_or(ErrWord::InvalidArgument)?;
             Ok(Command::SetVar(ups, name, value))
         } else if kind.is_word(b"TRACKING") {
             Ok(Command::SetTracking(on_or_off(words)?))
@@ -181,17 +171,13 @@ impl<'a> Command<'a> {
     {
         let kind = words.next().ok_or(ErrWord::InvalidArgument)?;
         if kind.is_word(b"VAR") {
-            let (ups, name) = ups_and_name(words)?;
-            Ok(Command::GetVar(ups, name))
+            ups_and_name(words).map(|(ups, name)| Command::GetVar(ups, name))
         } else if kind.is_word(b"TYPE") {
-            let (ups, name) = ups_and_name(words)?;
-            Ok(Command::GetType(ups, name))
+            ups_and_name(words).map(|(ups, name)| Command::GetType(ups, name))
         } else if kind.is_word(b"DESC") {
-            let (ups, name) = ups_and_name(words)?;
-            Ok(Command::GetDesc(ups, name))
+            ups_and_name(words).map(|(ups, name)| Command::GetDesc(ups, name))
         } else if kind.is_word(b"CMDDESC") {
-            let (ups, name) = ups_and_name(words)?;
-            Ok(Command::GetCmdDesc(ups, name))
+            ups_and_name(words).map(|(ups, name)| Command::GetCmdDesc(ups, name))
         } else if kind.is_word(b"UPSDESC") {
             Ok(Command::GetUpsDesc(text_alone(words)?))
         } else if kind.is_word(b"NUMLOGINS") {
@@ -219,11 +205,9 @@ impl<'a> Command<'a> {
         } else if kind.is_word(b"CMD") {
             Ok(Command::ListCmd(text_alone(words)?))
         } else if kind.is_word(b"ENUM") {
-            let (ups, name) = ups_and_name(words)?;
-            Ok(Command::ListEnum(ups, name))
+            ups_and_name(words).map(|(ups, name)| Command::ListEnum(ups, name))
         } else if kind.is_word(b"RANGE") {
-            let (ups, name) = ups_and_name(words)?;
-            Ok(Command::ListRange(ups, name))
+            ups_and_name(words).map(|(ups, name)| Command::ListRange(ups, name))
         } else if kind.is_word(b"CLIENT") {
             Ok(Command::ListClient(text_alone(words)?))
         } else {

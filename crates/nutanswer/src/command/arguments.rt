@@ -2,13 +2,12 @@
 ghost use Rattle.std.specs.Prelude.{◌≡◌};
 ghost use Rattle.std.specs.Result.{result_ok};
 ghost use Rattle.nutwords.specs.Reading.{read_text};
-ghost use Rattle.nutwords.specs.Spelled.{spelled};
-ghost use Rattle.nutanswer.specs.Command.{alone, text_alone, ups_and_name, ups_name_and_value, ups_name_and_value_if_any, tracking_asked, is_on, on_or_off};
+ghost use Rattle.nutanswer.specs.Command.{alone, text_alone, ups_and_name, ups_name_and_value_if_any, tracking_asked, on_or_off};
 
 use super::{Command, IdWord, NameWord, TextWord, UpsWord, ValueWord};
 use crate::ErrWord;
 use crate::err_word::Checked;
-use nutwords::{SpelledWord, SpelledWords, TextKind};
+use nutwords::{SpelledWords, TextKind};
 
 /// The command, where no further word stands after it.
 pub(crate) fn alone<'a>(command: Command<'a>, mut words: SpelledWords<'a>) -> Checked<Command<'a>>
@@ -43,31 +42,16 @@ pub(crate) fn ups_and_name(mut words: SpelledWords<'_>) -> Checked<(UpsWord<'_>,
     }
 }
 
-/// The three words that are to name a UPS and a variable of it, and to be a value.
-pub(crate) fn ups_name_and_value(
-    mut words: SpelledWords<'_>,
-) -> Checked<(UpsWord<'_>, NameWord<'_>, ValueWord<'_>)>
-    ensures { result ≡ ups_name_and_value words.entry }
-{
-    match (words.next(), words.next(), words.next(), words.next()) {
-        (Some(ups), Some(name), Some(value), None) => {
-            Ok((UpsWord::of(ups), NameWord::of(name), ValueWord::of(value)))
-        }
-        _ => Err(ErrWord::InvalidArgument),
-    }
-}
-
-/// The same of a command, whose value may be left out.
+/// The words that are to name a UPS and a variable or command of it, and to be a value, which may be left out.
 pub(crate) fn ups_name_and_value_if_any(
     mut words: SpelledWords<'_>,
 ) -> Checked<(UpsWord<'_>, NameWord<'_>, Option<ValueWord<'_>>)>
     ensures { result ≡ ups_name_and_value_if_any words.entry }
 {
     match (words.next(), words.next(), words.next(), words.next()) {
-        (Some(ups), Some(name), None, _) => Ok((UpsWord::of(ups), NameWord::of(name), None)),
-        (Some(ups), Some(name), Some(value), None) => {
-            let value = ValueWord::of(value);
-            Ok((UpsWord::of(ups), NameWord::of(name), Some(value)))
+        (Some(ups), Some(name), value, None) => {
+            let value = value.map(|value| ValueWord::of(value));
+            Ok((UpsWord::of(ups), NameWord::of(name), value))
         }
         _ => Err(ErrWord::InvalidArgument),
     }
@@ -89,20 +73,8 @@ pub(crate) fn on_or_off(mut words: SpelledWords<'_>) -> Checked<bool>
     ensures { result ≡ on_or_off words.entry }
 {
     match (words.next(), words.next()) {
-        (Some(word), None) => is_on(&word),
+        (Some(word), None) if word.is_word(b"ON") => Ok(true),
+        (Some(word), None) if word.is_word(b"OFF") => Ok(false),
         _ => Err(ErrWord::InvalidArgument),
-    }
-}
-
-/// Whether the word is ON; it is to be ON or OFF.
-fn is_on(word: &SpelledWord<'_>) -> Checked<bool>
-    ensures { result ≡ is_on (spelled word.now) }
-{
-    if word.is_word(b"ON") {
-        Ok(true)
-    } else if word.is_word(b"OFF") {
-        Ok(false)
-    } else {
-        Err(ErrWord::InvalidArgument)
     }
 }
