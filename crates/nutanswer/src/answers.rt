@@ -96,9 +96,8 @@ fn get_var<'a, V: View>(
 ) -> Row<'a>
     ensures { Gives (row (V.seen view.now) (GetVar ups.now name.now)) result }
 {
-    let ups = ups.read();
     let name = name.read();
-    let found = live_variable(view, &ups, &name)?;
+    let found = live_variable(view, ups, &name)?;
     let (ups, fsd) = (found.ups.name, found.ups.state.fsd);
     variable_line_into(b"VAR", ups, fsd, found.name, found.variable, line);
     Ok(Reply::One(line.as_slice(), Change::Nothing))
@@ -114,9 +113,8 @@ fn get_type<'a, V: View>(
 ) -> Row<'a>
     ensures { Gives (row (V.seen view.now) (GetType ups.now name.now)) result }
 {
-    let ups = ups.read();
     let name = name.read();
-    let found = live_variable(view, &ups, &name)?;
+    let found = live_variable(view, ups, &name)?;
     type_line_into(found.ups.name, found.name, found.variable, line);
     Ok(Reply::One(line.as_slice(), Change::Nothing))
 }
@@ -131,12 +129,10 @@ fn get_desc<'a, V: View>(
 ) -> Row<'a>
     ensures { Gives (row (V.seen view.now) (GetDesc ups.now name.now)) result }
 {
-    let ups = ups.read();
-    let name = name.read();
-    let ups = known_ups(view, &ups)?;
-    let name = name.as_ref().ok_or(ErrWord::VarNotSupported)?;
-    let text = described(view.descriptions().var(name));
-    value_line_into(b"DESC", ups.name, name, text, line);
+    let ups = known_ups(view, ups)?;
+    let name = name.read().ok_or(ErrWord::VarNotSupported)?;
+    let text = described(view.descriptions().var(&name));
+    value_line_into(b"DESC", ups.name, &name, text, line);
     Ok(Reply::One(line.as_slice(), Change::Nothing))
 }
 
@@ -150,12 +146,10 @@ fn get_cmd_desc<'a, V: View>(
 ) -> Row<'a>
     ensures { Gives (row (V.seen view.now) (GetCmdDesc ups.now name.now)) result }
 {
-    let ups = ups.read();
-    let name = name.read();
-    let ups = known_ups(view, &ups)?;
-    let name = name.as_ref().ok_or(ErrWord::CmdNotSupported)?;
-    let text = described(view.descriptions().cmd(name));
-    value_line_into(b"CMDDESC", ups.name, name, text, line);
+    let ups = known_ups(view, ups)?;
+    let name = name.read().ok_or(ErrWord::CmdNotSupported)?;
+    let text = described(view.descriptions().cmd(&name));
+    value_line_into(b"CMDDESC", ups.name, &name, text, line);
     Ok(Reply::One(line.as_slice(), Change::Nothing))
 }
 
@@ -164,8 +158,7 @@ fn get_cmd_desc<'a, V: View>(
 fn get_ups_desc<'a, V: View>(view: &V, ups: &UpsWord<'_>, line: &'a mut Line) -> Row<'a>
     ensures { Gives (row (V.seen view.now) (GetUpsDesc ups.now)) result }
 {
-    let ups = ups.read();
-    let ups = known_ups(view, &ups)?;
+    let ups = known_ups(view, ups)?;
     ups_line_into(b"UPSDESC", ups.name, ups.desc, line);
     Ok(Reply::One(line.as_slice(), Change::Nothing))
 }
@@ -220,13 +213,11 @@ fn list_var<'a, V: View>(view: &V, ups: &UpsWord<'_>) -> Listed<'a>
     ensures memory { OnErr result
         (IsTrue (shares_version (row (V.seen view.now) (ListVar ups.now)))) }
 {
-    let ups = ups.read();
-    let ups = match live_ups(view, &ups) {
+    let ups = match live_ups(view, ups) {
         Ok(ups) => ups,
         Err(word) => return Ok(refused(word)),
     };
-    let state = ups.state;
-    let listing = Listing::of_variables(ups.name, state.fsd, &state.report.tree)?;
+    let listing = Listing::of_variables(ups.name, ups.state.fsd, &ups.state.report.tree)?;
     Ok(Reply::Many(listing))
 }
 
@@ -238,13 +229,11 @@ fn list_rw<'a, V: View>(view: &V, ups: &UpsWord<'_>) -> Listed<'a>
     ensures memory { OnErr result
         (IsTrue (shares_version (row (V.seen view.now) (ListRw ups.now)))) }
 {
-    let ups = ups.read();
-    let ups = match live_ups(view, &ups) {
+    let ups = match live_ups(view, ups) {
         Ok(ups) => ups,
         Err(word) => return Ok(refused(word)),
     };
-    let state = ups.state;
-    let listing = Listing::of_rw(ups.name, state.fsd, &state.report.tree)?;
+    let listing = Listing::of_rw(ups.name, ups.state.fsd, &ups.state.report.tree)?;
     Ok(Reply::Many(listing))
 }
 
@@ -256,8 +245,7 @@ fn list_cmd<'a, V: View>(view: &V, ups: &UpsWord<'_>) -> Listed<'a>
     ensures memory { OnErr result
         (IsTrue (shares_version (row (V.seen view.now) (ListCmd ups.now)))) }
 {
-    let ups = ups.read();
-    let ups = match live_ups(view, &ups) {
+    let ups = match live_ups(view, ups) {
         Ok(ups) => ups,
         Err(word) => return Ok(refused(word)),
     };
@@ -273,9 +261,8 @@ fn list_enum<'a, V: View>(view: &V, ups: &UpsWord<'_>, name: &NameWord<'_>) -> L
     ensures memory { OnErr result
         (IsTrue (shares_version (row (V.seen view.now) (ListEnum ups.now name.now)))) }
 {
-    let ups = ups.read();
     let name = name.read();
-    let found = match live_variable(view, &ups, &name) {
+    let found = match live_variable(view, ups, &name) {
         Ok(found) => found,
         Err(word) => return Ok(refused(word)),
     };
@@ -292,9 +279,8 @@ fn list_range<'a, V: View>(view: &V, ups: &UpsWord<'_>, name: &NameWord<'_>) -> 
     ensures memory { OnErr result
         (IsTrue (shares_version (row (V.seen view.now) (ListRange ups.now name.now)))) }
 {
-    let ups = ups.read();
     let name = name.read();
-    let found = match live_variable(view, &ups, &name) {
+    let found = match live_variable(view, ups, &name) {
         Ok(found) => found,
         Err(word) => return Ok(refused(word)),
     };

@@ -32,9 +32,8 @@ pub(crate) fn set_var<'a, V: View>(
         result }
 {
     user(view, asker, Right::Set)?;
-    let ups = ups.read();
     let name = name.read();
-    let found = live_variable(view, &ups, &name)?;
+    let found = live_variable(view, ups, &name)?;
     let value = value.read();
     let value = settable(found.variable, &value)?;
     let id = order_id(view, asker, ErrWord::SetFailed)?;
@@ -59,10 +58,9 @@ pub(crate) fn inst_cmd<'a, V: View>(
         (answer_to (V.seen view.now) (asker_seen asker.entry) (InstCmd ups.now name.now value.now))
         result }
 {
-    let ups = ups.read();
     let name = name.read();
     user_of_command(view, asker, &name)?;
-    let (ups, name) = live_command(view, &ups, &name)?;
+    let (ups, name) = live_command(view, ups, &name)?;
     let value = command_value(value)?;
     let id = order_id(view, asker, ErrWord::InstcmdFailed)?;
     order_line_into(b"INSTCMD", name, value.as_ref(), id, line);

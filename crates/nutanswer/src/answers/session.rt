@@ -53,8 +53,7 @@ pub(crate) fn login<'a, V: View>(view: &V, asker: Asker<'_>, ups: &UpsWord<'_>) 
         (answer_to (V.seen view.now) (asker_seen asker.entry) (Login ups.now)) result }
 {
     user(view, asker, Right::Login)?;
-    let ups = ups.read();
-    let ups = known_ups(view, &ups)?;
+    let ups = known_ups(view, ups)?;
     if asker.login.is_some() {
         return Err(ErrWord::AlreadyLoggedIn);
     }
@@ -75,8 +74,7 @@ pub(crate) fn primary<'a, V: View>(view: &V, asker: Asker<'_>, ups: &UpsWord<'_>
         (answer_to (V.seen view.now) (asker_seen asker.entry) (Primary ups.now)) result }
 {
     user(view, asker, Right::Primary)?;
-    let ups = ups.read();
-    known_ups(view, &ups)?;
+    known_ups(view, ups)?;
     Ok(ok(Change::Nothing))
 }
 
@@ -87,8 +85,7 @@ pub(crate) fn fsd<'a, V: View>(view: &V, asker: Asker<'_>, ups: &UpsWord<'_>) ->
         (answer_to (V.seen view.now) (asker_seen asker.entry) (Fsd ups.now)) result }
 {
     user(view, asker, Right::Fsd)?;
-    let ups = ups.read();
-    let ups = known_ups(view, &ups)?;
+    let ups = known_ups(view, ups)?;
     Ok(Reply::One(b"OK FSD-SET\n", Change::Fsd(ups.id)))
 }
 
@@ -122,8 +119,7 @@ pub(crate) fn count_of_logins<'a, V: View>(
     requires lawful { IsTrue (list_all is_lawful kind.now) }
     ensures { Gives (count_of_logins kind.now (V.seen view.now) ups.now) result }
 {
-    let ups = ups.read();
-    let ups = known_ups(view, &ups)?;
+    let ups = known_ups(view, ups)?;
     count_line_into(kind, ups.name, view.login_count(ups.id), line);
     Ok(Reply::One(line.as_slice(), Change::Nothing))
 }
@@ -133,7 +129,6 @@ pub(crate) fn count_of_logins<'a, V: View>(
 pub(crate) fn list_client<'a, V: View>(view: &V, ups: &UpsWord<'_>) -> Row<'a>
     ensures { GivesReply (V.seen view.now) (row (V.seen view.now) (ListClient ups.now)) result }
 {
-    let ups = ups.read();
-    let ups = known_ups(view, &ups)?;
+    let ups = known_ups(view, ups)?;
     Ok(Reply::Clients(ups.name.copied(), ups.id))
 }
