@@ -129,13 +129,8 @@ impl Outbox {
     {
         let _ = &self.cursor;
         self.cursor = Some(Cursor::start(listing));
-        drain(
-            &mut self.cursor,
-            &mut self.ring,
-            &mut self.clients,
-            line,
-            renders,
-        );
+        let (ring, clients) = (&mut self.ring, &mut self.clients);
+        drain(&mut self.cursor, ring, clients, line, renders);
     }
 
     /// Joins the listing of these clients of a UPS, which are copied. It takes no memory.
@@ -184,13 +179,8 @@ impl Outbox {
             (lines (what_fits (drop n self.old.ring) (rest_of self.old.cursor))) }
     {
         self.ring.drop_front(n);
-        drain(
-            &mut self.cursor,
-            &mut self.ring,
-            &mut self.clients,
-            line,
-            renders,
-        );
+        let (ring, clients) = (&mut self.ring, &mut self.clients);
+        drain(&mut self.cursor, ring, clients, line, renders);
     }
 }
 
