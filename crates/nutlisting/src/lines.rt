@@ -24,6 +24,7 @@ use itoa::Buffer;
 use nutdriver::{Range, Variable};
 use nuttracking::{Progress, id_text};
 use nutwords::{Address, Line, NAME_LIMIT, Name, UPS_NAME_LIMIT, UpsName, Value, quote_into};
+use shown::SHOWN_LIMIT;
 pub use shown::described;
 
 /// The most bytes of a line's kind: `NUMLOGINS`, `NUMATTACH`.
@@ -67,7 +68,9 @@ fn marked_line_into(kind: &[u8], ups: &UpsName, name: &Name, variable: &Variable
         ≡ line_of (kind.now ∷ ups.now ∷ name.now ∷ quoted (codes "FSD " ++ variable.now.value) ∷ []) }
     ensures whole { IsWholeLine line.new.items }
 {
-    let shown = shown::marked(variable);
+    let mut shown: ArrayVec<u8, SHOWN_LIMIT> = ArrayVec::new();
+    shown.try_extend_from_slice(b"FSD ").unwrap();
+    shown.try_extend_from_slice(variable.value()).unwrap();
     value_line_into(kind, ups, name, shown.as_slice(), line);
 }
 
