@@ -1,12 +1,19 @@
 -- A reply that carries its answer gives it, whatever is seen.
-use Rattle.std.proofs.Common.{◌≡◌, sym, subst}
+use Rattle.std.proofs.Common.{◌≡◌, ℕ, true, List, [], ◌∷◌, ◌++◌, length, leb, refl, sym, subst}
+use Rattle.std.proofs.lemmas.Bool.{leb-true}
 use Rattle.std.specs.Prelude.{Result, Ok, Err}
+use Rattle.std.specs.List.{list_all}
+use Rattle.nutwords.specs.Bytes.{is_lawful}
+use Rattle.nutwords.specs.Frame.{line_of}
+use Rattle.nutwords.specs.declared.limits.TheConstants.{LINE_LIMIT}
+use Rattle.nutlisting.specs.Lines.{IsWholeLine}
 use Rattle.nutanswer.specs.declared.err_word.ErrWord.{ErrWord}
 use Rattle.nutanswer.specs.declared.reply.Reply.{Reply}
 use Rattle.nutanswer.specs.declared.reply.Reply.TheVariants.{One, Many, Clients}
 use Rattle.nutanswer.specs.declared.command.Command.{Command}
 use Rattle.nutanswer.specs.View.{Seen, AskerSeen}
-use Rattle.nutanswer.specs.Answer.{Answer, answer_to, IsReply}
+use Rattle.nutanswer.specs.declared.reply.Change.{Change}
+use Rattle.nutanswer.specs.Answer.{Answer, one_line, answer_to, IsOneLine, IsReply}
 use Rattle.nutanswer.specs.Promises.{CarriesAnswer, Gives, GivesReply}
 
 pub carried : (s : Seen) (answer : Result Answer ErrWord) (reply : Reply) → CarriesAnswer answer reply → IsReply s answer reply
@@ -27,3 +34,12 @@ module _ (s : Seen) (asker : AskerSeen) (command its_row : Command) (r result : 
 
   pub given : Gives (answer_to s asker its_row) result → GivesReply s (answer_to s asker command) r
   given h = given_seen (gives s (answer_to s asker its_row) result h)
+
+-- a line of the program's own
+pub own_line : (line : List ℕ) → list_all is_lawful line ≡ true → leb (length line) LINE_LIMIT ≡ true → IsWholeLine (line ++ 10 ∷ [])
+own_line line lawful short = record { line = line; whole = refl; answer = record { fits = leb-true _ _ short; lawful = lawful } }
+
+-- answers its command
+pub own : (line : List ℕ) (words : List (List ℕ)) (change : Change) → line ++ 10 ∷ [] ≡ line_of words → IsWholeLine (line ++ 10 ∷ [])
+    → IsOneLine (Ok (one_line words change)) (line ++ 10 ∷ []) change
+own line words change text whole = record { text = text; changes = refl; one = refl; whole_line = whole }

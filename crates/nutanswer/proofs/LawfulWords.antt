@@ -9,6 +9,8 @@ use Rattle.nutwords.specs.Bytes.{is_name_byte, is_lawful}
 use Rattle.nutwords.specs.Reading.{read_text, is_value}
 use Rattle.nutanswer.specs.declared.command.Command.{Command}
 use Rattle.nutanswer.specs.declared.err_word.ErrWord.{ErrWord}
+use Rattle.nutanswer.specs.declared.err_word.ErrWord.TheVariants.{InvalidArgument}
+use Rattle.std.specs.Option.{ok_or}
 use Rattle.nutanswer.specs.Command.{command_with, alone, ups_alone, ups_and_name, Names, value_of, ups_name_and_value, ups_name_and_value_if_any}
 use Rattle.nutanswer.specs.Lawful.{HasLawfulName, HasLawfulUpsName, HasLawfulValue, HasLawfulValueIfAny, IsLawfulCommand}
 use Rattle.nutwords.specs.declared.limits.TheConstants.{NAME_LIMIT, VALUE_LIMIT, UPS_NAME_LIMIT}
@@ -100,3 +102,16 @@ two_words (u ∷ v ∷ []) a e =
     let second : result_ok (read_text is_name_byte false NAME_LIMIT v) ≡ a.1 = cc e in
     (λ name is. read_is is_name_byte false UPS_NAME_LIMIT u name (first ∙ is), λ name is. read_is is_name_byte false NAME_LIMIT v name (second ∙ is))
 two_words (u ∷ v ∷ w ∷ words) a e = cc e
+
+-- the words of SET VAR are those of INSTCMD with a value
+pub with_value : (words : List (List ℕ)) (a : Names (Option (Option (List ℕ)))) (value : Option (List ℕ)) → Ok a ≡ ups_name_and_value_if_any words
+    → Ok value ≡ ok_or a.2 InvalidArgument → ups_name_and_value words ≡ Ok (a.0, a.1, value)
+with_value [] a value e h = cc e
+with_value (u ∷ []) a value e h = cc e
+with_value (u ∷ n ∷ []) a value e h = let none : None ≡ a.2 = cc e in absurd (cc (none, h))
+with_value (u ∷ n ∷ v ∷ []) a value e h =
+    let first : result_ok (read_text is_name_byte false UPS_NAME_LIMIT u) ≡ a.0 = cc e in
+    let second : result_ok (read_text is_name_byte false NAME_LIMIT n) ≡ a.1 = cc e in
+    let third : Some (value_of v) ≡ a.2 = cc e in
+    cc (first, second, third, h)
+with_value (u ∷ n ∷ v ∷ w ∷ words) a value e h = cc e

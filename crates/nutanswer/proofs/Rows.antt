@@ -15,11 +15,6 @@ use Rattle.std.specs.Prelude.{◌≤◌, ◌<◌, length}
 use Rattle.std.proofs.Common.{subst}
 use Rattle.std.proofs.lemmas.Bool.{le-leb, lt-leb}
 
--- what a row's words are read as is what they are to its checks
-pub as_read : {A : Type 0} (check : Option (List ℕ) → Option (List ℕ) → A) (ups name ups_read name_read : Option (List ℕ))
-    → ups_read ≡ ups → name_read ≡ name → check ups_read name_read ≡ check ups name
-as_read check ups name ups_read name_read e f = ap (λ (ups : Option (List ℕ)). check ups name_read) e ∙ ap (check ups) f
-
 -- a row that is refused by this word is answered so
 pub refused_by : (answer : Result Answer ErrWord) (word : ErrWord) (r : Result Reply ErrWord) → answer ≡ Err word → r ≡ Err word → Gives answer r
 refused_by answer word r h is = subst (λ (r : Result Reply ErrWord). Gives answer r) (sym is) h

@@ -6,8 +6,8 @@ use Rattle.std.specs.Option.{option_copied}
 use Rattle.nutdriver.specs.Variable.{VariableState}
 use Rattle.nutusers.specs.UpsList.{new_ups}
 use Rattle.nutanswer.specs.declared.err_word.ErrWord.{ErrWord}
-use Rattle.nutanswer.specs.declared.known.Known.{Known}
-use Rattle.nutanswer.specs.declared.known.KnownVariable.{KnownVariable}
+use Rattle.nutanswer.specs.declared.checks.Known.{Known}
+use Rattle.nutanswer.specs.declared.checks.KnownVariable.{KnownVariable}
 use Rattle.nutanswer.specs.declared.command.Command.{Command}
 use Rattle.nutanswer.specs.declared.reply.Reply.{Reply}
 use Rattle.nutanswer.specs.declared.reply.Reply.TheVariants.{One, Many, Clients}

@@ -1,7 +1,7 @@
 //! The answers to commands (RFC 9271).
-ghost use Rattle.std.specs.Prelude.{◌≡◌, ◌≤◌, [], ◌∷◌, length, IfOk, OnErr, Result, Ok, Err, IsTrue};
-ghost use Rattle.std.specs.List.{list_all};
-ghost use Rattle.nutwords.specs.Bytes.{is_lawful};
+ghost use Rattle.std.specs.Prelude.{◌≡◌, ℕ, List, IfOk, OnErr, Result, Ok, Err, IsTrue};
+ghost use Rattle.nutwords.specs.Frame.{line_of};
+ghost use Rattle.nutlisting.specs.Lines.{IsWholeLine};
 ghost use Rattle.nutanswer.specs.View.{Seen, asker_seen};
 ghost use Rattle.nutanswer.specs.Answer.{answer_to, shares_version, told, one_line, ok, Answer, IsReply};
 ghost use Rattle.nutanswer.specs.Promises.{CarriesAnswer, Gives, GivesReply, row};
@@ -13,9 +13,7 @@ mod session;
 use crate::checks::{known_ups, live_ups, live_variable};
 use crate::err_word::Checked;
 use crate::{Asker, Change, Command, ErrWord, Listing, NameWord, Reply, UpsWord, View};
-use nutlisting::{
-    described, plain_line_into, type_line_into, ups_line_into, value_line_into, variable_line_into,
-};
+use nutlisting::{described, type_line_into, ups_line_into, value_line_into, variable_line_into};
 use nutwords::Line;
 use std::alloc::AllocError;
 
@@ -49,9 +47,9 @@ pub fn answer<'a, V: View>(
         Command::Username(name) => session::username(asker, name),
         Command::Password(password) => session::password(asker, password, line),
         Command::Login(ups) => session::login(view, asker, ups),
-        Command::Logout => session::logout(line),
+        Command::Logout => session::logout(),
         Command::Primary(ups) => session::primary(view, asker, ups),
-        Command::Fsd(ups) => session::fsd(view, asker, ups, line),
+        Command::Fsd(ups) => session::fsd(view, asker, ups),
         Command::SetVar(ups, name, value) => {
             orders::set_var(view, asker, ups, name, value, line)
         }
@@ -66,7 +64,7 @@ pub fn answer<'a, V: View>(
         Command::GetUpsDesc(ups) => get_ups_desc(view, ups, line),
         Command::GetNumLogins(ups) => session::count_of_logins(view, b"NUMLOGINS", ups, line),
         Command::GetNumAttach(ups) => session::count_of_logins(view, b"NUMATTACH", ups, line),
-        Command::GetTracking => session::get_tracking(asker, line),
+        Command::GetTracking => session::get_tracking(asker),
         Command::GetProgress(id) => orders::progress(view, id, line),
         Command::ListUps => return list_ups(view),
         Command::ListVar(ups) => return list_var(view, ups),
@@ -76,11 +74,10 @@ pub fn answer<'a, V: View>(
         Command::ListRange(ups, name) => return list_range(view, ups, name),
         Command::ListClient(ups) => session::list_client(view, ups),
         Command::Help => plain(
-            b"Commands: HELP VER NETVER PROTVER GET LIST SET INSTCMD LOGIN LOGOUT PRIMARY FSD USERNAME PASSWORD STARTTLS",
-            line,
+            b"Commands: HELP VER NETVER PROTVER GET LIST SET INSTCMD LOGIN LOGOUT PRIMARY FSD USERNAME PASSWORD STARTTLS\n",
         ),
-        Command::Ver => plain(b"Network UPS Tools upsd, profile 1", line),
-        Command::NetVer | Command::ProtVer => plain(b"1.3", line),
+        Command::Ver => plain(b"Network UPS Tools upsd, profile 1\n"),
+        Command::NetVer | Command::ProtVer => plain(b"1.3\n"),
         Command::StartTls => Err(ErrWord::FeatureNotConfigured),
     };
     Ok(given(row))
@@ -99,9 +96,8 @@ fn get_var<'a, V: View>(
 ) -> Row<'a>
     ensures { Gives (row (V.seen view.now) (GetVar ups.now name.now)) result }
 {
-    let ups = ups.read();
     let name = name.read();
-    let found = live_variable(view, &ups, &name)?;
+    let found = live_variable(view, ups, &name)?;
     let (ups, fsd) = (found.ups.name, found.ups.state.fsd);
     variable_line_into(b"VAR", ups, fsd, found.name, found.variable, line);
     Ok(Reply::One(line.as_slice(), Change::Nothing))
@@ -117,9 +113,8 @@ fn get_type<'a, V: View>(
 ) -> Row<'a>
     ensures { Gives (row (V.seen view.now) (GetType ups.now name.now)) result }
 {
-    let ups = ups.read();
     let name = name.read();
-    let found = live_variable(view, &ups, &name)?;
+    let found = live_variable(view, ups, &name)?;
     type_line_into(found.ups.name, found.name, found.variable, line);
     Ok(Reply::One(line.as_slice(), Change::Nothing))
 }
@@ -134,12 +129,10 @@ fn get_desc<'a, V: View>(
 ) -> Row<'a>
     ensures { Gives (row (V.seen view.now) (GetDesc ups.now name.now)) result }
 {
-    let ups = ups.read();
-    let name = name.read();
-    let ups = known_ups(view, &ups)?;
-    let name = name.as_ref().ok_or(ErrWord::VarNotSupported)?;
-    let text = described(view.descriptions().var(name));
-    value_line_into(b"DESC", ups.name, name, text, line);
+    let ups = known_ups(view, ups)?;
+    let name = name.read().ok_or(ErrWord::VarNotSupported)?;
+    let text = described(view.descriptions().var(&name));
+    value_line_into(b"DESC", ups.name, &name, text, line);
     Ok(Reply::One(line.as_slice(), Change::Nothing))
 }
 
@@ -153,12 +146,10 @@ fn get_cmd_desc<'a, V: View>(
 ) -> Row<'a>
     ensures { Gives (row (V.seen view.now) (GetCmdDesc ups.now name.now)) result }
 {
-    let ups = ups.read();
-    let name = name.read();
-    let ups = known_ups(view, &ups)?;
-    let name = name.as_ref().ok_or(ErrWord::CmdNotSupported)?;
-    let text = described(view.descriptions().cmd(name));
-    value_line_into(b"CMDDESC", ups.name, name, text, line);
+    let ups = known_ups(view, ups)?;
+    let name = name.read().ok_or(ErrWord::CmdNotSupported)?;
+    let text = described(view.descriptions().cmd(&name));
+    value_line_into(b"CMDDESC", ups.name, &name, text, line);
     Ok(Reply::One(line.as_slice(), Change::Nothing))
 }
 
@@ -167,8 +158,7 @@ fn get_cmd_desc<'a, V: View>(
 fn get_ups_desc<'a, V: View>(view: &V, ups: &UpsWord<'_>, line: &'a mut Line) -> Row<'a>
     ensures { Gives (row (V.seen view.now) (GetUpsDesc ups.now)) result }
 {
-    let ups = ups.read();
-    let ups = known_ups(view, &ups)?;
+    let ups = known_ups(view, ups)?;
     ups_line_into(b"UPSDESC", ups.name, ups.desc, line);
     Ok(Reply::One(line.as_slice(), Change::Nothing))
 }
@@ -199,14 +189,12 @@ fn refused<'a>(word: ErrWord) -> Reply<'a>
     Reply::One(word.line(), Change::Nothing)
 }
 
-/// A text without its LF, as it stands.
-fn plain<'a>(text: &[u8], line: &'a mut Line) -> Row<'a>
-    requires short { length text.now ≤ 128 }
-    requires lawful { IsTrue (list_all is_lawful text.now) }
-    ensures { Gives (told (text.now ∷ [])) result }
+/// A line of the program's own, with its LF.
+pub(crate) fn plain<'a>(line: &'static [u8]) -> Row<'a>
+    requires { IsWholeLine line.now }
+    ensures { (words : List (List ℕ)) → line.now ≡ line_of words → Gives (told words) result }
 {
-    plain_line_into(text, line);
-    Ok(Reply::One(line.as_slice(), Change::Nothing))
+    Ok(Reply::One(line, Change::Nothing))
 }
 
 /// LIST UPS.
@@ -225,13 +213,11 @@ fn list_var<'a, V: View>(view: &V, ups: &UpsWord<'_>) -> Listed<'a>
     ensures memory { OnErr result
         (IsTrue (shares_version (row (V.seen view.now) (ListVar ups.now)))) }
 {
-    let ups = ups.read();
-    let ups = match live_ups(view, &ups) {
+    let ups = match live_ups(view, ups) {
         Ok(ups) => ups,
         Err(word) => return Ok(refused(word)),
     };
-    let state = ups.state;
-    let listing = Listing::of_variables(ups.name, state.fsd, &state.report.tree)?;
+    let listing = Listing::of_variables(ups.name, ups.state.fsd, &ups.state.report.tree)?;
     Ok(Reply::Many(listing))
 }
 
@@ -243,13 +229,11 @@ fn list_rw<'a, V: View>(view: &V, ups: &UpsWord<'_>) -> Listed<'a>
     ensures memory { OnErr result
         (IsTrue (shares_version (row (V.seen view.now) (ListRw ups.now)))) }
 {
-    let ups = ups.read();
-    let ups = match live_ups(view, &ups) {
+    let ups = match live_ups(view, ups) {
         Ok(ups) => ups,
         Err(word) => return Ok(refused(word)),
     };
-    let state = ups.state;
-    let listing = Listing::of_rw(ups.name, state.fsd, &state.report.tree)?;
+    let listing = Listing::of_rw(ups.name, ups.state.fsd, &ups.state.report.tree)?;
     Ok(Reply::Many(listing))
 }
 
@@ -261,8 +245,7 @@ fn list_cmd<'a, V: View>(view: &V, ups: &UpsWord<'_>) -> Listed<'a>
     ensures memory { OnErr result
         (IsTrue (shares_version (row (V.seen view.now) (ListCmd ups.now)))) }
 {
-    let ups = ups.read();
-    let ups = match live_ups(view, &ups) {
+    let ups = match live_ups(view, ups) {
         Ok(ups) => ups,
         Err(word) => return Ok(refused(word)),
     };
@@ -278,9 +261,8 @@ fn list_enum<'a, V: View>(view: &V, ups: &UpsWord<'_>, name: &NameWord<'_>) -> L
     ensures memory { OnErr result
         (IsTrue (shares_version (row (V.seen view.now) (ListEnum ups.now name.now)))) }
 {
-    let ups = ups.read();
     let name = name.read();
-    let found = match live_variable(view, &ups, &name) {
+    let found = match live_variable(view, ups, &name) {
         Ok(found) => found,
         Err(word) => return Ok(refused(word)),
     };
@@ -297,9 +279,8 @@ fn list_range<'a, V: View>(view: &V, ups: &UpsWord<'_>, name: &NameWord<'_>) -> 
     ensures memory { OnErr result
         (IsTrue (shares_version (row (V.seen view.now) (ListRange ups.now name.now)))) }
 {
-    let ups = ups.read();
     let name = name.read();
-    let found = match live_variable(view, &ups, &name) {
+    let found = match live_variable(view, ups, &name) {
         Ok(found) => found,
         Err(word) => return Ok(refused(word)),
     };

@@ -6,11 +6,27 @@ ghost use Rattle.nutanswer.specs.Orders.{instcmd_right, is_short_enough, is_list
 ghost use Rattle.nutanswer.specs.Promises.{known_ups, known_variable, known_command, found, live_ups, live_variable, live_command, settable};
 
 use crate::err_word::Checked;
-use crate::known::{Known, KnownVariable};
-use crate::{Asker, ErrWord, ValueWord, View};
+use crate::{Asker, ErrWord, UpsView, UpsWord, ValueWord, View};
 use nutdriver::{Range, Variable, read_number};
-use nutusers::Right;
+use nutusers::{Right, UpsId};
 use nutwords::{Name, UpsName, Value};
+
+/// A UPS that is there.
+#[derive(Clone, Copy)]
+pub(crate) struct Known<'a> {
+    pub(crate) name: &'a UpsName,
+    pub(crate) desc: Option<&'a Value>,
+    pub(crate) id: UpsId,
+    pub(crate) state: UpsView<'a>,
+}
+
+/// A variable of a UPS, by the name that the command has.
+#[derive(Clone, Copy)]
+pub(crate) struct KnownVariable<'a> {
+    pub(crate) ups: Known<'a>,
+    pub(crate) name: &'a Name,
+    pub(crate) variable: &'a Variable,
+}
 
 /// The session has given the name and the password of a user to whom the right is granted.
 pub(crate) fn user<V: View>(view: &V, asker: Asker<'_>, right: Right<'_>) -> Checked<()>
@@ -40,12 +56,13 @@ pub(crate) fn user_of_command<V: View>(
 }
 
 /// The UPS of this name.
-pub(crate) fn known_ups<'a, V: View>(view: &'a V, name: &'a Option<UpsName>) -> Checked<Known<'a>>
-    ensures { found known_ups result ≡ unknown_ups (V.seen view.now) name.now }
+pub(crate) fn known_ups<'a, V: View>(view: &'a V, ups: &UpsWord<'_>) -> Checked<Known<'a>>
+    ensures { found known_ups result ≡ unknown_ups (V.seen view.now) ups.now }
 {
-    let name = name.as_ref().ok_or(ErrWord::UnknownUps)?;
+    let word = ups.read().ok_or(ErrWord::UnknownUps)?;
     let list = view.list();
-    let id = list.find(name.as_bytes()).ok_or(ErrWord::UnknownUps)?;
+    let id = list.find(word.as_bytes()).ok_or(ErrWord::UnknownUps)?;
+    let name = list.name(id).ok_or(ErrWord::UnknownUps)?;
     let state = view.ups(id).ok_or(ErrWord::UnknownUps)?;
     let desc = list.desc(id);
     Ok(Known {
@@ -57,10 +74,10 @@ pub(crate) fn known_ups<'a, V: View>(view: &'a V, name: &'a Option<UpsName>) -> 
 }
 
 /// The live UPS of this name: its driver is connected, and its data are right.
-pub(crate) fn live_ups<'a, V: View>(view: &'a V, name: &'a Option<UpsName>) -> Checked<Known<'a>>
-    ensures { found known_ups result ≡ live_ups (V.seen view.now) name.now }
+pub(crate) fn live_ups<'a, V: View>(view: &'a V, ups: &UpsWord<'_>) -> Checked<Known<'a>>
+    ensures { found known_ups result ≡ live_ups (V.seen view.now) ups.now }
 {
-    let ups = known_ups(view, name)?;
+    let ups = known_ups(view, ups)?;
     if !ups.state.report.connected {
         return Err(ErrWord::DriverNotConnected);
     }
@@ -75,7 +92,7 @@ pub(crate) fn live_ups<'a, V: View>(view: &'a V, name: &'a Option<UpsName>) -> C
 /// The variable of this name, of a live UPS.
 pub(crate) fn live_variable<'a, V: View>(
     view: &'a V,
-    ups: &'a Option<UpsName>,
+    ups: &UpsWord<'_>,
     name: &'a Option<Name>,
 ) -> Checked<KnownVariable<'a>>
     ensures { found known_variable result ≡ live_variable (V.seen view.now) ups.now name.now }
@@ -94,7 +111,7 @@ pub(crate) fn live_variable<'a, V: View>(
 /// The live UPS of this name, and the name of a command that it has.
 pub(crate) fn live_command<'a, V: View>(
     view: &'a V,
-    ups: &'a Option<UpsName>,
+    ups: &UpsWord<'_>,
     name: &'a Option<Name>,
 ) -> Checked<(Known<'a>, &'a Name)>
     ensures { found known_command result ≡ live_command (V.seen view.now) ups.now name.now }

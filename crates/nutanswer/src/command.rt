@@ -1,17 +1,15 @@
 //! The commands of clients (RFC 9271).
 ghost use Rattle.std.specs.Prelude.{◌≡◌, ◌≤◌, length};
+ghost use Rattle.std.specs.Result.{result_ok};
+ghost use Rattle.nutwords.specs.Reading.{read_text};
 ghost use Rattle.nutwords.specs.declared.limits.TheConstants.{LINE_LIMIT};
+ghost use Rattle.nutanswer.specs.Command.{alone, text_alone, ups_and_name, ups_name_and_value_if_any, tracking_asked, on_or_off};
 
-mod arguments;
 mod words;
 
 use crate::ErrWord;
 use crate::err_word::Checked;
-use arguments::{
-    alone, on_or_off, text_alone, tracking_asked, ups_and_name, ups_name_and_value,
-    ups_name_and_value_if_any,
-};
-use nutwords::{SpelledWord, SpelledWords, spelled_words};
+use nutwords::{SpelledWord, SpelledWords, TextKind, spelled_words};
 pub use words::{IdWord, NameWord, PasswordWord, TextWord, UpsWord, UserWord, ValueWord};
 
 /// A command of a client, whose words are those of its line. A word that is no lawful name names nothing.
@@ -82,7 +80,7 @@ pub enum Command<'a> {
 
 impl<'a> Command<'a> {
     ghost use Rattle.nutwords.specs.Spelled.{spelled};
-    ghost use Rattle.nutanswer.specs.Command.{read_command, command_of, command_named, other_command, read_set, read_get, read_list};
+    ghost use Rattle.nutanswer.specs.Command.{read_command, command_named, other_command, read_set, read_get, read_list};
 
     /// Reads a line without its LF, of at most 2,047 bytes. A line without words is no command.
     ///
@@ -94,21 +92,11 @@ impl<'a> Command<'a> {
         requires { length line.now ≤ LINE_LIMIT }
         ensures { result ≡ read_command line.now }
     {
-        match spelled_words(line) {
-            Ok(words) => Command::of(words),
-            Err(_) => Err(ErrWord::InvalidArgument),
-        }
-    }
-
-    /// The command that the words are.
-    fn of(mut words: SpelledWords<'a>) -> Checked<Option<Command<'a>>>
-        ensures { result ≡ command_of words.entry }
-    {
+        let mut words = spelled_words(line).map_err(|_| ErrWord::InvalidArgument)?;
         let Some(first) = words.next() else {
             return Ok(None);
         };
-        let command = Command::named(&first, words)?;
-        Ok(Some(command))
+        Ok(Some(Command::named(&first, words)?))
     }
 
     /// The command that is called so, with these words after its first: a GET or a LIST, or else of another kind.
@@ -166,7 +154,8 @@ impl<'a> Command<'a> {
     {
         let kind = words.next().ok_or(ErrWord::InvalidArgument)?;
         if kind.is_word(b"VAR") {
-            let (ups, name, value) = ups_name_and_value(words)?;
+            let (ups, name, value) = ups_name_and_value_if_any(words)?;
+            let value = value.ok_or(ErrWord::InvalidArgument)?;
             Ok(Command::SetVar(ups, name, value))
         } else if kind.is_word(b"TRACKING") {
             Ok(Command::SetTracking(on_or_off(words)?))
@@ -181,17 +170,13 @@ impl<'a> Command<'a> {
     {
         let kind = words.next().ok_or(ErrWord::InvalidArgument)?;
         if kind.is_word(b"VAR") {
-            let (ups, name) = ups_and_name(words)?;
-            Ok(Command::GetVar(ups, name))
+            ups_and_name(words).map(|(ups, name)| Command::GetVar(ups, name))
         } else if kind.is_word(b"TYPE") {
-            let (ups, name) = ups_and_name(words)?;
-            Ok(Command::GetType(ups, name))
+            ups_and_name(words).map(|(ups, name)| Command::GetType(ups, name))
         } else if kind.is_word(b"DESC") {
-            let (ups, name) = ups_and_name(words)?;
-            Ok(Command::GetDesc(ups, name))
+            ups_and_name(words).map(|(ups, name)| Command::GetDesc(ups, name))
         } else if kind.is_word(b"CMDDESC") {
-            let (ups, name) = ups_and_name(words)?;
-            Ok(Command::GetCmdDesc(ups, name))
+            ups_and_name(words).map(|(ups, name)| Command::GetCmdDesc(ups, name))
         } else if kind.is_word(b"UPSDESC") {
             Ok(Command::GetUpsDesc(text_alone(words)?))
         } else if kind.is_word(b"NUMLOGINS") {
@@ -219,15 +204,83 @@ impl<'a> Command<'a> {
         } else if kind.is_word(b"CMD") {
             Ok(Command::ListCmd(text_alone(words)?))
         } else if kind.is_word(b"ENUM") {
-            let (ups, name) = ups_and_name(words)?;
-            Ok(Command::ListEnum(ups, name))
+            ups_and_name(words).map(|(ups, name)| Command::ListEnum(ups, name))
         } else if kind.is_word(b"RANGE") {
-            let (ups, name) = ups_and_name(words)?;
-            Ok(Command::ListRange(ups, name))
+            ups_and_name(words).map(|(ups, name)| Command::ListRange(ups, name))
         } else if kind.is_word(b"CLIENT") {
             Ok(Command::ListClient(text_alone(words)?))
         } else {
             Err(ErrWord::InvalidArgument)
         }
+    }
+}
+
+/// The command, where no further word stands after it.
+fn alone<'a>(command: Command<'a>, mut words: SpelledWords<'a>) -> Checked<Command<'a>>
+    ensures { result ≡ alone command.entry words.entry }
+{
+    match words.next() {
+        None => Ok(command),
+        Some(_) => Err(ErrWord::InvalidArgument),
+    }
+}
+
+/// The word, and no other, that is to be such a text.
+fn text_alone<K: TextKind, const MOST: usize>(
+    mut words: SpelledWords<'_>,
+) -> Checked<TextWord<'_, K, MOST>>
+    ensures { result ≡ text_alone
+        (λ word. result_ok (read_text K.allows K.MAY_BE_EMPTY MOST word)) words.entry }
+{
+    match (words.next(), words.next()) {
+        (Some(word), None) => Ok(TextWord::of(word)),
+        _ => Err(ErrWord::InvalidArgument),
+    }
+}
+
+/// The two words that are to name a UPS and a variable or command of it.
+fn ups_and_name(mut words: SpelledWords<'_>) -> Checked<(UpsWord<'_>, NameWord<'_>)>
+    ensures { result ≡ ups_and_name words.entry }
+{
+    match (words.next(), words.next(), words.next()) {
+        (Some(ups), Some(name), None) => Ok((UpsWord::of(ups), NameWord::of(name))),
+        _ => Err(ErrWord::InvalidArgument),
+    }
+}
+
+/// The words that are to name a UPS and a variable or command of it, and to be a value, which may be left out.
+fn ups_name_and_value_if_any(
+    mut words: SpelledWords<'_>,
+) -> Checked<(UpsWord<'_>, NameWord<'_>, Option<ValueWord<'_>>)>
+    ensures { result ≡ ups_name_and_value_if_any words.entry }
+{
+    match (words.next(), words.next(), words.next(), words.next()) {
+        (Some(ups), Some(name), value, None) => {
+            let value = value.map(|value| ValueWord::of(value));
+            Ok((UpsWord::of(ups), NameWord::of(name), value))
+        }
+        _ => Err(ErrWord::InvalidArgument),
+    }
+}
+
+/// What a GET TRACKING asks for: whether orders are tracked, or, with one more word, how far the order of that id has come.
+fn tracking_asked(mut words: SpelledWords<'_>) -> Checked<Command<'_>>
+    ensures { result ≡ tracking_asked words.entry }
+{
+    match (words.next(), words.next()) {
+        (None, _) => Ok(Command::GetTracking),
+        (Some(id), None) => Ok(Command::GetProgress(IdWord::of(id))),
+        _ => Err(ErrWord::InvalidArgument),
+    }
+}
+
+/// Whether the word, and no other, is ON; it is to be ON or OFF.
+fn on_or_off(mut words: SpelledWords<'_>) -> Checked<bool>
+    ensures { result ≡ on_or_off words.entry }
+{
+    match (words.next(), words.next()) {
+        (Some(word), None) if word.is_word(b"ON") => Ok(true),
+        (Some(word), None) if word.is_word(b"OFF") => Ok(false),
+        _ => Err(ErrWord::InvalidArgument),
     }
 }

@@ -5,7 +5,6 @@ mod answers;
 mod checks;
 mod command;
 mod err_word;
-mod known;
 pub mod laws;
 mod lines;
 mod reply;

@@ -38,15 +38,16 @@ names_of_entries es None = refl
 names_of_entries es (Some name) = keys_filtered (λ other. is_lt (byte_order name other)) es
 
 -- the commands after a name, as the listing has them
-pub command_items : (content : Content) (ups : List ℕ) (tree : TreeState) (es : List (List ℕ × Unit {0})) (last : Option (List ℕ)) (line : List ℕ) (found : Option (List ℕ)) → content ≡ Commands ups tree → keys_of es ≡ tree.commands
-    → MatchOption found (entries_after byte_order es last ≡ []) (λ name. IsFirst (map (command_item ups) (keys_of (entries_after byte_order es last))) line (map (command_item ups) (keys_of (entries_after byte_order es (Some name)))))
-    → MatchOption found (items_past content (After last) ≡ []) (λ name. IsFirst (items_past content (After last)) line (items_past content (After (Some name))))
-command_items content ups tree es last line found is keys h = cases found h
-  where
-    past : (name : Option (List ℕ)) → items_past content (After name) ≡ map (command_item ups) (keys_of (entries_after byte_order es name))
-    past name = ap (λ (x : Content). items_past x (After name)) is ∙ ap (λ names. map (command_item ups) (names_after names name)) (sym keys) ∙ ap (map (command_item ups)) (sym (names_of_entries es name))
+module _ (content : Content) (ups : List ℕ) (tree : TreeState) (last : Option (List ℕ)) (es : List (List ℕ × Unit {0})) (is : content ≡ Commands ups tree) (keys : keys_of es ≡ tree.commands) where
+  commands_past : (name : Option (List ℕ)) → items_past content (After name) ≡ map (command_item ups) (keys_of (entries_after byte_order es name))
+  commands_past name = ap (λ (x : Content). items_past x (After name)) is ∙ ap (λ names. map (command_item ups) (names_after names name)) (sym keys) ∙ ap (map (command_item ups)) (sym (names_of_entries es name))
 
-    cases : (found : Option (List ℕ)) → MatchOption found (entries_after byte_order es last ≡ []) (λ name. IsFirst (map (command_item ups) (keys_of (entries_after byte_order es last))) line (map (command_item ups) (keys_of (entries_after byte_order es (Some name)))))
-        → MatchOption found (items_past content (After last) ≡ []) (λ name. IsFirst (items_past content (After last)) line (items_past content (After (Some name))))
-    cases None h = past last ∙ ap (λ (rest : List (List ℕ × Unit {0})). map (command_item ups) (keys_of rest)) h
-    cases (Some name) h = rw (past last, past (Some name)) h
+  pub no_command : entries_after byte_order es last ≡ [] → items_past content (After last) ≡ []
+  no_command none = commands_past last ∙ ap (λ (rest : List (List ℕ × Unit {0})). map (command_item ups) (keys_of rest)) none
+
+  pub command_first : (line : List ℕ) (e : List ℕ × Unit {0}) → Walks byte_order es last → entry_after byte_order es last ≡ Some e
+      → line ≡ line_of (command_item ups e.0) → IsWholeLine line
+      → IsFirst (items_past content (After last)) line (items_past content (After (Some e.0)))
+  command_first line e walks entry text whole =
+      rw (commands_past last, commands_past (Some e.0))
+      (first_of (command_item ups) _ _ e.0 line (ap keys_of (walks_on byte_order es last e walks entry)) text whole)

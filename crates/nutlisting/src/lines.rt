@@ -11,12 +11,12 @@ ghost use Rattle.nutwords.specs.declared.limits.TheConstants.{LINE_LIMIT};
 ghost use Rattle.nutlisting.specs.Shown.{text_or_unavailable};
 ghost use Rattle.nutlisting.specs.Items.{variable_item, command_item, range_item, client_item};
 ghost use Rattle.nutlisting.specs.Lines.{IsWholeLine};
+ghost use Rattle.nutlisting.specs.Spaced.{spaced};
 ghost use Rattle.nutlisting.specs.Tracked.{progress_words};
 ghost use Rattle.nutlisting.specs.Types.{type_words};
 ghost use Rattle.nutlisting.specs.declared.lines.shown.TheConstants.{SHOWN_LIMIT};
 
 mod shown;
-mod tracked;
 mod types;
 
 use arrayvec::ArrayVec;
@@ -24,6 +24,7 @@ use itoa::Buffer;
 use nutdriver::{Range, Variable};
 use nuttracking::{Progress, id_text};
 use nutwords::{Address, Line, NAME_LIMIT, Name, UPS_NAME_LIMIT, UpsName, Value, quote_into};
+use shown::SHOWN_LIMIT;
 pub use shown::described;
 
 /// The most bytes of a line's kind: `NUMLOGINS`, `NUMATTACH`.
@@ -67,7 +68,9 @@ fn marked_line_into(kind: &[u8], ups: &UpsName, name: &Name, variable: &Variable
         ≡ line_of (kind.now ∷ ups.now ∷ name.now ∷ quoted (codes "FSD " ++ variable.now.value) ∷ []) }
     ensures whole { IsWholeLine line.new.items }
 {
-    let shown = shown::marked(variable);
+    let mut shown: ArrayVec<u8, SHOWN_LIMIT> = ArrayVec::new();
+    shown.try_extend_from_slice(b"FSD ").unwrap();
+    shown.try_extend_from_slice(variable.value()).unwrap();
     value_line_into(kind, ups, name, shown.as_slice(), line);
 }
 
@@ -142,17 +145,6 @@ pub fn type_line_into(ups: &UpsName, name: &Name, variable: &Variable, line: &mu
     finish(line);
 }
 
-/// Makes a line of a text of at most 128 bytes.
-pub fn plain_line_into(text: &[u8], line: &mut Line)
-    requires short { length text.now ≤ 128 }
-    requires lawful { IsTrue (list_all is_lawful text.now) }
-    ensures text { line.new.items ≡ text.now ++ 10 ∷ [] }
-    ensures whole { IsWholeLine line.new.items }
-{
-    begin(line, text);
-    finish(line);
-}
-
 /// Makes the line of how many sessions are logged in to a UPS.
 #[tactic(auto, using(crate::proofs::Lawful::lawful_steps, crate::proofs::Lawful::decimal_lawful))]
 pub fn count_line_into(kind: &[u8], ups: &UpsName, count: usize, line: &mut Line)
@@ -176,8 +168,28 @@ pub fn progress_line_into(id: u128, progress: Progress, line: &mut Line)
 {
     begin(line, b"TRACKING");
     push_word(line, &id_text(id));
-    tracked::push_progress(line, progress);
+    push_progress(line, progress);
     finish(line);
+}
+
+/// Appends how far the order has come: it is pending, it succeeded, or it failed with a number.
+#[tactic(auto, using(crate::proofs::Lawful::lawful_steps, crate::proofs::Lawful::decimal_lawful))]
+fn push_progress(line: &mut Line, progress: Progress)
+    requires { length line.old.items ≤ 128 }
+    ensures text { line.new.items ≡ line.old.items ++ spaced (progress_words progress) }
+    ensures short { length line.new.items ≤ length line.old.items + 64 }
+    ensures lawful { IsTrue (list_all is_lawful line.old.items)
+        → IsTrue (list_all is_lawful line.new.items) }
+{
+    match progress {
+        Progress::Pending => push_word(line, b"PENDING"),
+        Progress::Done(0) => push_word(line, b"SUCCESS"),
+        Progress::Done(number) => {
+            let mut digits = Buffer::new();
+            push_word(line, b"FAILED");
+            push_word(line, digits.format(number).as_bytes());
+        }
+    }
 }
 
 /// Begins a line: its kind, and the names of a UPS and of a variable or a command.

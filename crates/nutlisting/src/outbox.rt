@@ -127,8 +127,10 @@ impl Outbox {
         ensures counts { renders.new ≡ count_more renders.old
             (lines (what_fits self.old.ring (text_of listing))) }
     {
-        let cursor = Cursor::start(listing);
-        self.cursor = drain(cursor, &mut self.ring, &mut self.clients, line, renders);
+        let _ = &self.cursor;
+        self.cursor = Some(Cursor::start(listing));
+        let (ring, clients) = (&mut self.ring, &mut self.clients);
+        drain(&mut self.cursor, ring, clients, line, renders);
     }
 
     /// Joins the listing of these clients of a UPS, which are copied. It takes no memory.
@@ -154,8 +156,14 @@ impl Outbox {
     {
         let _ = &self.cursor;
         let place = self.clients.take().unwrap();
-        let cursor = clients_cursor(ups, addresses, place);
-        self.cursor = drain(cursor, &mut self.ring, &mut self.clients, line, renders);
+        self.cursor = Some(clients_cursor(ups, addresses, place));
+        drain(
+            &mut self.cursor,
+            &mut self.ring,
+            &mut self.clients,
+            line,
+            renders,
+        );
     }
 
     /// The client took so many bytes, and the ring is filled again. It takes no memory.
@@ -171,12 +179,8 @@ impl Outbox {
             (lines (what_fits (drop n self.old.ring) (rest_of self.old.cursor))) }
     {
         self.ring.drop_front(n);
-        // What the count says of itself: it is a number of 64 bits.
-        let _ = renders.made();
-        if self.cursor.is_some() {
-            let cursor = self.cursor.take();
-            self.cursor = resume(cursor, &mut self.ring, &mut self.clients, line, renders);
-        }
+        let (ring, clients) = (&mut self.ring, &mut self.clients);
+        drain(&mut self.cursor, ring, clients, line, renders);
     }
 }
 
@@ -191,56 +195,32 @@ fn clients_cursor(ups: &UpsName, addresses: &[Address], place: Clients) -> Curso
     Cursor::start(Listing::of_clients(ups, clients))
 }
 
-/// Fills the ring from a cursor, which goes once nothing rests, and gives back its place for clients.
+/// Fills the ring from the cursor, where there is one; it goes once nothing rests, and gives back its place for clients.
 fn drain(
-    cursor: Cursor,
+    cursor: &mut Option<Cursor>,
     ring: &mut Ring<RING_LIMIT>,
     clients: &mut Option<Clients>,
     line: &mut Line,
     renders: &mut Renders,
-) -> Option<Cursor>
+)
     requires ring { length ring.old ≤ RING_LIMIT }
-    requires clients { HasPlaceForClients (Some cursor) clients.old }
-    ensures outbox { IsOutbox ring.new result }
-    ensures clients { HasPlaceForClients result clients.new }
-    ensures ring { ring.new ≡ ring.old ++ what_fits ring.old (rest cursor) }
-    ensures rest { rest_of result ≡ what_stays ring.old (rest cursor) }
+    requires clients { HasPlaceForClients cursor.old clients.old }
+    ensures outbox { IsOutbox ring.new cursor.new }
+    ensures clients { HasPlaceForClients cursor.new clients.new }
+    ensures ring { ring.new ≡ ring.old ++ what_fits ring.old (rest_of cursor.old) }
+    ensures rest { rest_of cursor.new ≡ what_stays ring.old (rest_of cursor.old) }
     ensures counts { renders.new ≡ count_more renders.old
-        (lines (what_fits ring.old (rest cursor))) }
-{
-    let mut cursor = cursor;
-    if !cursor.fill(ring, line, renders) {
-        return Some(cursor);
-    }
-    if let Some(place) = cursor.into_clients() {
-        *clients = Some(place);
-    }
-    None
-}
-
-/// Fills the ring from a cursor, where there is one. It is a call of its own: a cursor that is moved here is cleared where
-/// the function begins, and a session without one pays for none.
-#[inline(never)]
-fn resume(
-    cursor: Option<Cursor>,
-    ring: &mut Ring<RING_LIMIT>,
-    clients: &mut Option<Clients>,
-    line: &mut Line,
-    renders: &mut Renders,
-) -> Option<Cursor>
-    requires ring { length ring.old ≤ RING_LIMIT }
-    requires clients { HasPlaceForClients cursor clients.old }
-    ensures outbox { IsOutbox ring.new result }
-    ensures clients { HasPlaceForClients result clients.new }
-    ensures ring { ring.new ≡ ring.old ++ what_fits ring.old (rest_of cursor) }
-    ensures rest { rest_of result ≡ what_stays ring.old (rest_of cursor) }
-    ensures counts { renders.new ≡ count_more renders.old
-        (lines (what_fits ring.old (rest_of cursor))) }
+        (lines (what_fits ring.old (rest_of cursor.old))) }
 {
     // What the count says of itself: it is a number of 64 bits.
     let _ = renders.made();
-    match cursor {
-        Some(cursor) => drain(cursor, ring, clients, line, renders),
-        None => None,
+    let Some(begun) = cursor else {
+        return;
+    };
+    if !begun.fill(ring, line, renders) {
+        return;
+    }
+    if let Some(place) = cursor.take().and_then(|done| done.into_clients()) {
+        *clients = Some(place);
     }
 }

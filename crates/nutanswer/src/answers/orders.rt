@@ -1,5 +1,5 @@
 //! Orders to drivers: SET VAR and INSTCMD (RFC 9271), and how far they have come.
-ghost use Rattle.std.specs.Prelude.{◌≤◌, Ok, Some, length};
+ghost use Rattle.std.specs.Prelude.{◌≤◌, Ok, length};
 ghost use Rattle.nutanswer.specs.View.{asker_seen};
 ghost use Rattle.nutanswer.specs.Answer.{answer_to, one_line};
 ghost use Rattle.nutanswer.specs.Orders.{order, ok_words};
@@ -32,9 +32,8 @@ pub(crate) fn set_var<'a, V: View>(
         result }
 {
     user(view, asker, Right::Set)?;
-    let ups = ups.read();
     let name = name.read();
-    let found = live_variable(view, &ups, &name)?;
+    let found = live_variable(view, ups, &name)?;
     let value = value.read();
     let value = settable(found.variable, &value)?;
     let id = order_id(view, asker, ErrWord::SetFailed)?;
@@ -59,10 +58,9 @@ pub(crate) fn inst_cmd<'a, V: View>(
         (answer_to (V.seen view.now) (asker_seen asker.entry) (InstCmd ups.now name.now value.now))
         result }
 {
-    let ups = ups.read();
     let name = name.read();
     user_of_command(view, asker, &name)?;
-    let (ups, name) = live_command(view, &ups, &name)?;
+    let (ups, name) = live_command(view, ups, &name)?;
     let value = command_value(value)?;
     let id = order_id(view, asker, ErrWord::InstcmdFailed)?;
     order_line_into(b"INSTCMD", name, value.as_ref(), id, line);
@@ -72,23 +70,15 @@ pub(crate) fn inst_cmd<'a, V: View>(
     Ok(ordered(ups.id, id, line))
 }
 
-/// The OK of a command by which the driver of this UPS is owed this line.
+/// The OK of a command by which the driver of this UPS is owed this line. Where the order is tracked, the answer tells
+/// its id, and is made behind the line.
 fn ordered<'a>(u: UpsId, id: Option<u128>, line: &'a mut Line) -> Reply<'a>
     requires { length line.old.items ≤ ORDER_LINE_LIMIT }
     ensures { CarriesAnswer (Ok (one_line (ok_words id) (order u line.old.items id))) result }
 {
-    match id {
-        Some(id) => tracked(u, id, line),
-        None => ok(Change::Order(u, OrderLine::of(line.as_slice()))),
-    }
-}
-
-/// The same of a tracked order. The answer, which tells its id, is made behind its line.
-fn tracked<'a>(u: UpsId, id: u128, line: &'a mut Line) -> Reply<'a>
-    requires { length line.old.items ≤ ORDER_LINE_LIMIT }
-    ensures { CarriesAnswer (Ok
-        (one_line (ok_words (Some id)) (order u line.old.items (Some id)))) result }
-{
+    let Some(id) = id else {
+        return ok(Change::Order(u, OrderLine::of(line.as_slice())));
+    };
     let length = line.len();
     push_answer(line, id);
     let (order, answer) = line.as_slice().split_at(length);

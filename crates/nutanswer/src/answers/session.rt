@@ -9,10 +9,10 @@ ghost use Rattle.nutanswer.specs.Answer.{answer_to, count_of_logins, ok};
 ghost use Rattle.nutanswer.specs.Promises.{Gives, GivesReply, row};
 ghost use Rattle.nutanswer.specs.declared.command.Command.TheVariants.{Username, Password, Login, Logout, Primary, Fsd, SetTracking, GetTracking, ListClient};
 
-use super::{Row, ok};
+use super::{Row, ok, plain};
 use crate::checks::{known_ups, user};
 use crate::{Asker, Change, ErrWord, GivenPassword, PasswordWord, Reply, UpsWord, UserWord, View};
-use nutlisting::{count_line_into, plain_line_into};
+use nutlisting::count_line_into;
 use nutusers::Right;
 use nutwords::Line;
 
@@ -53,8 +53,7 @@ pub(crate) fn login<'a, V: View>(view: &V, asker: Asker<'_>, ups: &UpsWord<'_>) 
         (answer_to (V.seen view.now) (asker_seen asker.entry) (Login ups.now)) result }
 {
     user(view, asker, Right::Login)?;
-    let ups = ups.read();
-    let ups = known_ups(view, &ups)?;
+    let ups = known_ups(view, ups)?;
     if asker.login.is_some() {
         return Err(ErrWord::AlreadyLoggedIn);
     }
@@ -62,11 +61,10 @@ pub(crate) fn login<'a, V: View>(view: &V, asker: Asker<'_>, ups: &UpsWord<'_>) 
 }
 
 /// LOGOUT.
-pub(crate) fn logout<'a>(line: &'a mut Line) -> Row<'a>
+pub(crate) fn logout<'a>() -> Row<'a>
     ensures { (s : Seen) (a : AskerSeen) → Gives (answer_to s a Logout) result }
 {
-    plain_line_into(b"OK Goodbye", line);
-    Ok(Reply::One(line.as_slice(), Change::Ending))
+    Ok(Reply::One(b"OK Goodbye\n", Change::Ending))
 }
 
 /// PRIMARY.
@@ -76,27 +74,19 @@ pub(crate) fn primary<'a, V: View>(view: &V, asker: Asker<'_>, ups: &UpsWord<'_>
         (answer_to (V.seen view.now) (asker_seen asker.entry) (Primary ups.now)) result }
 {
     user(view, asker, Right::Primary)?;
-    let ups = ups.read();
-    known_ups(view, &ups)?;
+    known_ups(view, ups)?;
     Ok(ok(Change::Nothing))
 }
 
 /// FSD.
 #[inline(never)]
-pub(crate) fn fsd<'a, V: View>(
-    view: &V,
-    asker: Asker<'_>,
-    ups: &UpsWord<'_>,
-    line: &'a mut Line,
-) -> Row<'a>
+pub(crate) fn fsd<'a, V: View>(view: &V, asker: Asker<'_>, ups: &UpsWord<'_>) -> Row<'a>
     ensures { Gives
         (answer_to (V.seen view.now) (asker_seen asker.entry) (Fsd ups.now)) result }
 {
     user(view, asker, Right::Fsd)?;
-    let ups = ups.read();
-    let ups = known_ups(view, &ups)?;
-    plain_line_into(b"OK FSD-SET", line);
-    Ok(Reply::One(line.as_slice(), Change::Fsd(ups.id)))
+    let ups = known_ups(view, ups)?;
+    Ok(Reply::One(b"OK FSD-SET\n", Change::Fsd(ups.id)))
 }
 
 /// SET TRACKING.
@@ -107,16 +97,14 @@ pub(crate) fn set_tracking<'a>(on: bool) -> Row<'a>
 }
 
 /// GET TRACKING.
-pub(crate) fn get_tracking<'a>(asker: Asker<'_>, line: &'a mut Line) -> Row<'a>
+pub(crate) fn get_tracking<'a>(asker: Asker<'_>) -> Row<'a>
     ensures { (s : Seen) → Gives (answer_to s (asker_seen asker.entry) GetTracking) result }
 {
-    let text: &[u8] = if asker.tracking {
-        b"TRACKING ON"
+    if asker.tracking {
+        plain(b"TRACKING ON\n")
     } else {
-        b"TRACKING OFF"
-    };
-    plain_line_into(text, line);
-    Ok(Reply::One(line.as_slice(), Change::Nothing))
+        plain(b"TRACKING OFF\n")
+    }
 }
 
 /// GET NUMLOGINS and GET NUMATTACH, by the word that their line begins with.
@@ -131,8 +119,7 @@ pub(crate) fn count_of_logins<'a, V: View>(
     requires lawful { IsTrue (list_all is_lawful kind.now) }
     ensures { Gives (count_of_logins kind.now (V.seen view.now) ups.now) result }
 {
-    let ups = ups.read();
-    let ups = known_ups(view, &ups)?;
+    let ups = known_ups(view, ups)?;
     count_line_into(kind, ups.name, view.login_count(ups.id), line);
     Ok(Reply::One(line.as_slice(), Change::Nothing))
 }
@@ -142,7 +129,6 @@ pub(crate) fn count_of_logins<'a, V: View>(
 pub(crate) fn list_client<'a, V: View>(view: &V, ups: &UpsWord<'_>) -> Row<'a>
     ensures { GivesReply (V.seen view.now) (row (V.seen view.now) (ListClient ups.now)) result }
 {
-    let ups = ups.read();
-    let ups = known_ups(view, &ups)?;
+    let ups = known_ups(view, ups)?;
     Ok(Reply::Clients(ups.name.copied(), ups.id))
 }

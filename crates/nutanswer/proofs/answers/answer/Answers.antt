@@ -1,9 +1,19 @@
-use Rattle.std.proofs.Common.{refl, inl, inr}
+use Rattle.std.proofs.Common.{[], ◌∷◌, refl, inl, inr}
+use Rattle.std.specs.Prelude.{codes}
 use Rattle.nutanswer.specs.View.{asker_seen}
-use Rattle.nutanswer.specs.Answer.{answer_to}
-use Rattle.nutanswer.proofs.Carried.{given, given_seen}
+use Rattle.nutanswer.specs.Answer.{answer_to, help_text}
+use Rattle.nutanswer.proofs.Carried.{given, given_seen, own_line}
 use Rattle.nutanswer.proofs.answers.answer.Goals as goal
 use Rattle.nutanswer.proofs.answers.answer.Goals.{in-Username, in-Password, in-Login, in-Logout, in-Primary, in-Fsd, in-SetVar, in-InstCmd, in-SetTracking, in-GetVar, in-GetType, in-GetDesc, in-GetCmdDesc, in-GetUpsDesc, in-GetNumLogins, in-GetNumAttach, in-GetTracking, in-GetProgress, in-ListClient, in-Help, in-Ver, in-StartTls, in-NetVer}
+
+pub plain-row-requires : goal.plain-row-requires
+plain-row-requires g c = own_line help_text refl refl
+
+pub plain-row-requires-in-Ver : goal.plain-row-requires-in-Ver
+plain-row-requires-in-Ver g c = own_line (codes "Network UPS Tools upsd, profile 1") refl refl
+
+pub plain-row-requires-in-NetVer : goal.plain-row-requires-in-NetVer
+plain-row-requires-in-NetVer g c = own_line (codes "1.3") refl refl
 
 pub returns-clause-ok : goal.returns-clause-ok
 returns-clause-ok g c =
@@ -28,11 +38,11 @@ returns-clause-ok g c =
       | in-GetNumAttach w ↦ given s a _ _ _ _ w.in-GetNumAttach.is w.row-is w.count_of_logins-row-in-GetNumAttach.ensures
       | in-GetTracking w ↦ given s a _ _ _ _ w.in-GetTracking.is w.row-is (w.get_tracking-row.ensures s)
       | in-GetProgress w ↦ given s a _ _ _ _ w.in-GetProgress.is w.row-is w.progress-row.ensures
-      | in-Help w ↦ given s a _ _ _ _ w.in-Help.is w.row-is w.plain-row.ensures
-      | in-Ver w ↦ given s a _ _ _ _ w.in-Ver.is w.row-is w.plain-row-in-Ver.ensures
+      | in-Help w ↦ given s a _ _ _ _ w.in-Help.is w.row-is (w.plain-row.ensures (help_text ∷ []) refl)
+      | in-Ver w ↦ given s a _ _ _ _ w.in-Ver.is w.row-is (w.plain-row-in-Ver.ensures (codes "Network UPS Tools upsd, profile 1" ∷ []) refl)
       | in-NetVer w ↦ elim w.in-NetVer.is [
-        | inl is ↦ given s a _ _ _ _ is w.row-is w.plain-row-in-NetVer.ensures
-        | inr is ↦ given s a _ _ _ _ is w.row-is w.plain-row-in-NetVer.ensures
+        | inl is ↦ given s a _ _ _ _ is w.row-is (w.plain-row-in-NetVer.ensures (codes "1.3" ∷ []) refl)
+        | inr is ↦ given s a _ _ _ _ is w.row-is (w.plain-row-in-NetVer.ensures (codes "1.3" ∷ []) refl)
       ]
       | in-StartTls w ↦ given s a _ _ _ _ w.in-StartTls.is w.row-is refl
       | in-ListClient w ↦ given_seen s a _ _ _ _ w.in-ListClient.is w.row-is w.list_client-row.ensures

@@ -5,13 +5,13 @@ use Rattle.std.specs.Prelude.{codes}
 use Rattle.nutanswer.specs.Answer.{told, shares_version, text_of_answer, change_of_answer}
 use Rattle.nutlisting.specs.Types.{type_words}
 use Rattle.nutanswer.specs.Promises.{known_variable, live_variable}
-use Rattle.nutanswer.proofs.Rows.{as_read, refused_by, with_variable, without_variable}
+use Rattle.nutanswer.proofs.Rows.{refused_by, with_variable, without_variable}
 use Rattle.nutanswer.proofs.answers.get_type.Goals as goal
 
 pub returns : goal.returns
 returns g c =
     let s = g.V.View.seen c.args.view.now in
-    let found = c.in_ok-found.ensures ∙ as_read (live_variable s) c.args.ups.now c.args.name.now c.read-ups.result c.read-name.result c.read-ups.ensures c.read-name.ensures in
+    let found = c.in_ok-found.ensures ∙ ap (live_variable s c.args.ups.now) c.read-name.ensures in
     let k = known_variable c.in_ok-found.found in
     let row = with_variable s c.args.ups.now c.args.name.now (λ u v x. told (codes "TYPE" ∷ u.name ∷ v ∷ type_words x)) k found in
     record {
@@ -24,7 +24,7 @@ returns g c =
 pub returns-in_err-found : goal.returns-in_err-found
 returns-in_err-found g c =
     let s = g.V.View.seen c.args.view.now in
-    let missing = c.in_err-found.ensures ∙ as_read (live_variable s) c.args.ups.now c.args.name.now c.read-ups.result c.read-name.result c.read-ups.ensures c.read-name.ensures in
+    let missing = c.in_err-found.ensures ∙ ap (live_variable s c.args.ups.now) c.read-name.ensures in
     let p = err_from_is_err_and c.from_residual.result c.from_residual.ensures.1 in
     refused_by _ c.in_err-found.field-0.0 c.from_residual.result
     (without_variable s c.args.ups.now c.args.name.now (λ u v x. told (codes "TYPE" ∷ u.name ∷ v ∷ type_words x)) c.in_err-found.field-0.0 missing)

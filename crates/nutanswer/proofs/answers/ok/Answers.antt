@@ -1,15 +1,8 @@
-use Rattle.std.proofs.Common.{refl, arith}
+use Rattle.std.proofs.Common.{refl}
 use Rattle.std.specs.Prelude.{codes}
+use Rattle.nutanswer.specs.Answer.{ok}
+use Rattle.nutanswer.proofs.Carried.{own, own_line}
 use Rattle.nutanswer.proofs.answers.ok.Goals as goal
 
 pub returns : goal.returns
-returns c = record {
-  text = refl;
-  changes = refl;
-  one = refl;
-  whole_line = record {
-    line = codes "OK";
-    whole = refl;
-    answer = record { fits = omega arith; lawful = refl };
-  };
-}
+returns c = own (codes "OK") ok c.args.change refl (own_line (codes "OK") refl refl)

@@ -6,13 +6,13 @@ use Rattle.nutanswer.specs.declared.err_word.ErrWord.{ErrWord}
 use Rattle.nutanswer.specs.Orders.{order, ok_words}
 use Rattle.nutanswer.specs.Promises.{CarriesAnswer, known_variable}
 use Rattle.nutanswer.specs.Promises.{live_variable, settable}
-use Rattle.nutanswer.proofs.Rows.{as_read, set_without, set_refused, set_without_id, set_full, set_done}
+use Rattle.nutanswer.proofs.Rows.{set_without, set_refused, set_without_id, set_full, set_done}
 use Rattle.nutanswer.proofs.answers.orders.set_var.Goals as goal
 
 pub returns-in_err-value : goal.returns-in_err-value
 returns-in_err-value g c =
     let s = g.V.View.seen c.args.view.now in
-    let found = c.in_ok-found.ensures ∙ as_read (live_variable s) c.args.ups.now c.args.name.now c.read-ups.result c.read-name.result c.read-ups.ensures c.read-name.ensures in
+    let found = c.in_ok-found.ensures ∙ ap (live_variable s c.args.ups.now) c.read-name.ensures in
     let given = ap (settable c.in_ok-found.found.variable.now) c.read-value.ensures in
     let p = err_from_is_err_and c.from_residual-in_err-value.result c.from_residual-in_err-value.ensures.1 in
     set_refused s (asker_seen c.args.asker) c.args.ups.now c.args.name.now c.args.value.now (known_variable c.in_ok-found.found) c.in_ok-user.ensures found
@@ -21,7 +21,7 @@ returns-in_err-value g c =
 pub returns-in_err-id : goal.returns-in_err-id
 returns-in_err-id g c =
     let s = g.V.View.seen c.args.view.now in
-    let found = c.in_ok-found.ensures ∙ as_read (live_variable s) c.args.ups.now c.args.name.now c.read-ups.result c.read-name.result c.read-ups.ensures c.read-name.ensures in
+    let found = c.in_ok-found.ensures ∙ ap (live_variable s c.args.ups.now) c.read-name.ensures in
     let given = ap (settable c.in_ok-found.found.variable.now) c.read-value.ensures in
     let p = err_from_is_err_and c.from_residual-in_err-id.result c.from_residual-in_err-id.ensures.1 in
     set_without_id s (asker_seen c.args.asker) c.args.ups.now c.args.name.now c.args.value.now (known_variable c.in_ok-found.found) c.in_ok-user.ensures found
@@ -30,7 +30,7 @@ returns-in_err-id g c =
 pub returns-then-len-found : goal.returns-then-len-found
 returns-then-len-found g c =
     let s = g.V.View.seen c.args.view.now in
-    let found = c.in_ok-found.ensures ∙ as_read (live_variable s) c.args.ups.now c.args.name.now c.read-ups.result c.read-name.result c.read-ups.ensures c.read-name.ensures in
+    let found = c.in_ok-found.ensures ∙ ap (live_variable s c.args.ups.now) c.read-name.ensures in
     let given = ap (settable c.in_ok-found.found.variable.now) c.read-value.ensures in
     set_full s (asker_seen c.args.asker) c.args.ups.now c.args.name.now c.args.value.now (known_variable c.in_ok-found.found) c.in_ok-user.ensures found
     c.in_ok-value.value.now (c.in_ok-value.ensures ∙ given) c.in_ok-id.id c.in_ok-id.ensures (omega (arith, c.if-len-found.true, c.len.ensures.value, ap length c.order_line_into.ensures.text))
@@ -38,7 +38,7 @@ returns-then-len-found g c =
 pub returns : goal.returns
 returns g c =
     let s = g.V.View.seen c.args.view.now in
-    let found = c.in_ok-found.ensures ∙ as_read (live_variable s) c.args.ups.now c.args.name.now c.read-ups.result c.read-name.result c.read-ups.ensures c.read-name.ensures in
+    let found = c.in_ok-found.ensures ∙ ap (live_variable s c.args.ups.now) c.read-name.ensures in
     let given = ap (settable c.in_ok-found.found.variable.now) c.read-value.ensures in
     let done = set_done s (asker_seen c.args.asker) c.args.ups.now c.args.name.now c.args.value.now (known_variable c.in_ok-found.found) c.in_ok-user.ensures found
     c.in_ok-value.value.now (c.in_ok-value.ensures ∙ given) c.in_ok-id.id c.in_ok-id.ensures (omega (arith, c.if-len-found.false, c.len.ensures.value, ap length c.order_line_into.ensures.text)) in
@@ -48,7 +48,7 @@ returns g c =
 pub returns-in_err-found : goal.returns-in_err-found
 returns-in_err-found g c =
     let s = g.V.View.seen c.args.view.now in
-    let missing = c.in_err-found.ensures ∙ as_read (live_variable s) c.args.ups.now c.args.name.now c.read-ups.result c.read-name.result c.read-ups.ensures c.read-name.ensures in
+    let missing = c.in_err-found.ensures ∙ ap (live_variable s c.args.ups.now) c.read-name.ensures in
     let p = err_from_is_err_and c.from_residual-in_err-found.result c.from_residual-in_err-found.ensures.1 in
     set_without s (asker_seen c.args.asker) c.args.ups.now c.args.name.now c.args.value.now c.in_ok-user.ensures c.in_err-found.field-0.0 missing
     c.from_residual-in_err-found.result (p.1 ∙ ap Err p.2)

@@ -2,14 +2,15 @@ use Rattle.std.proofs.Common.{length}
 use Rattle.nutlisting.specs.Ahead.{IsAhead}
 use Rattle.nutlisting.specs.Filled.{PlacesAlike}
 use Rattle.nutlisting.specs.Places.{IsPosition, rest_at}
-use Rattle.nutlisting.proofs.cursor.place_lines.Given as goal
+use Rattle.nutlisting.specs.Rest.{rest}
+use Rattle.nutlisting.proofs.cursor.Cursor.fill.Given as goal
 
 -- what fits comes out the same
 abbrev pub invariant-loop-progress : goal.invariant-loop-progress
 invariant-loop-progress l = record {
   at : IsPosition l.content l.progress.place l.progress.offset;
   ahead : IsAhead l.content l.progress.place l.ahead;
-  alike : PlacesAlike l.fn.ring (rest_at l.content l.fn.progress.place l.fn.progress.offset) l.fn.renders l.ring (rest_at l.content l.progress.place l.progress.offset) l.renders;
+  alike : PlacesAlike l.fn.ring (rest l.fn.self) l.fn.renders l.ring (rest_at l.content l.progress.place l.progress.offset) l.renders;
 }
 
 -- how much rests
