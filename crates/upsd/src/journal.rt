@@ -1,5 +1,5 @@
 //! The journal of the UPSs and their clients while they are served.
-ghost use Rattle.std.specs.Prelude.{◌≡◌, ◌≢◌, [], Some};
+ghost use Rattle.std.specs.Prelude.{◌≡◌, ◌≢◌, ◌<◌, [], Some};
 ghost use Rattle.upsd.specs.Refusals.{after_notes};
 
 mod each_second;
@@ -12,9 +12,7 @@ use self::refusals::{Refused, take_turn};
 use crate::log_buffer::LogBuffer;
 use nutcore::{Note, Server};
 use nutloop::MioSockets;
-use std::io::Read;
-use std::net::Net;
-use std::time::Clock;
+use std::fs::File;
 
 /// What was logged of the things that aren't logged each time.
 #[derive(Drop)]
@@ -36,11 +34,11 @@ impl Journal {
     }
 
     /// Logs the notes of the server's last event, and once a second all else. Where that fails it isn't logged again.
-    pub fn write<R: Net + Clock, F: Read + Drop>(
+    pub fn write(
         &mut self,
         log: &mut LogBuffer,
         server: &Server,
-        sockets: &MioSockets<'_, R, F>,
+        sockets: &MioSockets<'_, HostRuntime, File>,
     )
         ensures moment { self.new.moment ≡ Some server.now.state.moment }
         ensures goes_on { self.old.moment ≡ Some server.now.state.moment
@@ -66,12 +64,12 @@ impl Journal {
             ≡ after_notes self.old.refused.items server.now.notes }
         ensures moment { self.new.moment ≡ self.old.moment }
     {
-        let notes = server.notes();
+        let (list, notes) = (server.ups(), server.notes());
         for note in notes {
             if let Note::LinesRefused(u, count, fault) = note {
                 self.each_second.count_lines(*u, *count, *fault);
             } else if take_turn(&mut self.refused, note) {
-                log.add(&Entry { server, note });
+                log.add(&Entry { list, note });
             }
         }
     }

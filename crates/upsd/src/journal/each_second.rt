@@ -4,12 +4,12 @@ ghost use Rattle.std.specs.Prelude.{◌<◌};
 
 use super::entry::Entry;
 use crate::log_buffer::LogBuffer;
-use nutcore::{DriverFault, Note, Server, UpsId};
+use nutcore::{DriverFault, Note, Server, UpsId, UpsList};
 use nutloop::MioSockets;
 use nutusers::UPS_LIMIT;
-use std::io::{Error, Read};
-use std::net::Net;
-use std::time::Clock;
+use std::fs::File;
+use std::io::Error;
+use std::mem;
 
 /// What was seen when it was looked at last.
 #[derive(Drop)]
@@ -37,49 +37,43 @@ impl EachSecond {
 
     /// More lines of the driver were refused, the last one for this.
     pub fn count_lines(&mut self, u: UpsId, more: u64, fault: Option<DriverFault>) {
-        let place = u.place as usize;
-        if place < UPS_LIMIT {
-            let (count, _) = self.lines[place];
-            self.lines[place] = (count.saturating_add(more), fault);
+        if let Some(lines) = self.lines.get_mut(u.place as usize) {
+            *lines = (lines.0.saturating_add(more), fault);
         }
     }
 
     /// Logs what is new.
-    pub fn write<R: Net + Clock, F: Read + Drop>(
+    pub fn write(
         &mut self,
         log: &mut LogBuffer,
         server: &Server,
-        sockets: &MioSockets<'_, R, F>,
+        sockets: &MioSockets<'_, HostRuntime, File>,
     ) {
         for place in 0..server.ups().len() {
             let u = UpsId { place: place as u8 };
-            self.write_lines(log, server, u);
-            self.write_error(log, server, u, sockets.driver_error(u));
+            self.write_lines(log, server.ups(), u);
+            self.write_error(log, server.ups(), u, sockets.driver_error(u));
         }
         self.write_room(log, sockets.refusals(), server.has_room());
     }
 
     /// Logs how many lines of the driver were refused, if any was.
-    fn write_lines(&mut self, log: &mut LogBuffer, server: &Server, u: UpsId)
+    fn write_lines(&mut self, log: &mut LogBuffer, list: &UpsList, u: UpsId)
         requires { u.place < UPS_LIMIT }
     {
-        let (count, fault) = self.lines[u.place as usize];
+        let (count, fault) = mem::replace(&mut self.lines[u.place as usize], (0, None));
         if count > 0 {
-            self.lines[u.place as usize] = (0, None);
             let note = &Note::LinesRefused(u, count, fault);
-            log.add(&Entry { server, note });
+            log.add(&Entry { list, note });
         }
     }
 
     /// Logs the error by which the driver can't be connected to, where it is another one than before.
-    fn write_error(&mut self, log: &mut LogBuffer, server: &Server, u: UpsId, error: Option<i32>)
+    fn write_error(&mut self, log: &mut LogBuffer, list: &UpsList, u: UpsId, error: Option<i32>)
         requires { u.place < UPS_LIMIT }
     {
-        if error == self.errors[u.place as usize] {
-            return;
-        }
-        self.errors[u.place as usize] = error;
-        if let (Some(number), Some(name)) = (error, server.ups().name(u)) {
+        let was = mem::replace(&mut self.errors[u.place as usize], error);
+        if let (Some(number), Some(name), true) = (error, list.name(u), error != was) {
             let error = Error::from_raw_os_error(number);
             let name = name.as_bytes().escape_ascii();
             log.add(&format_args!("{name}: cannot connect: {error}"));
