@@ -21,7 +21,7 @@ told=$({
     sed -nE 's/^ *#\[error\("(.*)"\)\]$/\1/p' crates/upsd/src/ending.rt crates/nutloop/src/fault.rt | grep -vxF '{0}' |
         sed -e 's/{path}/PATH/; s/{line}/LINE/; s/{cause}/N/'
     sed -nE 's/.*warn_if\(.*, "(.*)"\);$/warning: PATH: \1/p; s/.*warn_of\(.*, "(.*)"\);$/warning: PATH: [NAME]: \1/p; s/^ *\([a-z]+, "(.*)"\),$/warning: PATH: [NAME]: \1/p' crates/upsd/src/warnings.rt
-    sed -nE 's/.*\.add\(&(format_args!\()?"(.*)"\)+;$/\2/p' crates/upsd/src/log_buffer.rt crates/upsd/src/journal/each_second.rt |
+    sed -nE 's/.*\.add\(&(format_args!\()?"(.*)"\)+;$/\2/p' crates/upsd/src/log_buffer.rt crates/upsd/src/journal.rt |
         sed 's/{name}/su/; s/{count}/N/; s/{error}/ERROR/'
     entry=crates/upsd/src/journal/entry.rt
     sed -nE 's/^ *Note::.* => write_of\(.*, "(.*)"\),$/su: \1/p; s/^ *Note::.* => write_by\(.*, "(.*)"\),$/su: mon@192.0.2.1 \1/p' $entry
