@@ -84,17 +84,15 @@ fn serve_command<'a>(alloc: Global) -> Result<Command<'a>, AllocError>
 fn serve_words(alloc: Global) -> Result<Vec<Arg<'static>>, AllocError>
     ensures { IfOk result (λ words. AreWords serve_words words.items) }
 {
+    let ups = arg!(in alloc; --ups <F> "The list of UPSs, upsd.ups(5); not NUT's ups.conf");
+    let listen = arg!(in alloc; --listen <"A:P"> "The IP address and port for clients");
     let words = vec![in alloc;
-        arg!(in alloc; --ups <F> "The list of UPSs, upsd.ups(5); not NUT's ups.conf").required(
-            true
-        ),
+        ups.required(true),
         arg!(in alloc; --users <F> "The users and their rights, upsd.users(5)").required(true),
         vars(alloc),
         arg!(in alloc; --ids <F>
             "Source of the ids of tracked orders, such as /dev/urandom [without it: no ids]"),
-        arg!(in alloc; --listen <"A:P"> "The IP address and port for clients").default_value(
-            DEFAULT_ADDRESS
-        ),
+        listen.default_value(DEFAULT_ADDRESS),
         arg!(in alloc; --maxage <N>
             "Seconds without a line from its driver until a UPS is stale [without it: 15]")
         .value_parser(ValueParser::unsigned(MAX_AGE_LEAST as u64, MAX_AGE_MOST as u64)),
