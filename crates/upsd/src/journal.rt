@@ -11,13 +11,15 @@ use crate::log_buffer::LogBuffer;
 use nutcore::{DriverFault, Note, Server, UpsId, UpsList};
 use nutloop::MioSockets;
 use nutusers::UPS_LIMIT;
+use std::alloc::{AllocError, Global};
 use std::fs::File;
 use std::io::Error;
 use std::mem;
 
-/// What was logged of the things that aren't logged each time.
+/// The lines on their way out, and what was logged of the things that aren't logged each time.
 #[derive(Drop)]
 pub struct Journal {
+    log: LogBuffer,
     /// The second in which it was written last.
     pub moment: Option<u64>,
     pub refused: Refused,
@@ -26,18 +28,23 @@ pub struct Journal {
 
 impl Journal {
     /// Nothing was logged yet.
-    pub fn new() -> Journal {
-        Journal {
+    ///
+    /// # Errors
+    ///
+    /// `AllocError` where memory is refused.
+    pub fn new(alloc: Global) -> Result<Journal, AllocError> {
+        Ok(Journal {
+            log: LogBuffer::new(alloc)?,
             moment: None,
             refused: Refused::new(),
             each_second: EachSecond::new(),
-        }
+        })
     }
 
     /// Logs the notes of the server's last event, and once a second all else. Where that fails it isn't logged again.
     pub fn write(
         &mut self,
-        log: &mut LogBuffer,
+        rt: &HostRuntime,
         server: &Server,
         sockets: &MioSockets<'_, HostRuntime, File>,
     )
@@ -53,14 +60,15 @@ impl Journal {
             self.moment = moment;
             self.refused.clear();
         }
-        self.write_notes(log, server);
+        self.write_notes(server);
         if is_new {
-            self.each_second.write(log, server, sockets);
+            self.each_second.write(&mut self.log, server, sockets);
         }
+        self.log.flush(rt);
     }
 
     /// Logs the notes, or counts them where they are logged once a second.
-    fn write_notes(&mut self, log: &mut LogBuffer, server: &Server)
+    fn write_notes(&mut self, server: &Server)
         ensures refused { self.new.refused.items
             ≡ after_notes self.old.refused.items server.now.notes }
         ensures moment { self.new.moment ≡ self.old.moment }
@@ -70,7 +78,7 @@ impl Journal {
             if let Note::LinesRefused(u, count, fault) = note {
                 self.each_second.count_lines(*u, *count, *fault);
             } else if take_turn(&mut self.refused, note) {
-                log.add(&Entry { list, note });
+                self.log.add(&Entry { list, note });
             }
         }
     }

@@ -10,7 +10,6 @@ ghost use Rattle.upsd.specs.Reading.{CantBeOpened, anything};
 use crate::ending::Ending;
 use crate::files::{Configuration, Files, configuration_in};
 use crate::journal::Journal;
-use crate::log_buffer::LogBuffer;
 use crate::reading::{FileReader, open};
 use crate::task::Service;
 use crate::warnings::warn;
@@ -100,12 +99,12 @@ fn serve_over<'a>(
 ) -> Result<(), Ending<'a>>
     ensures { IfErr result (IsEndOfServing address) }
 {
-    let Ok(mut log) = LogBuffer::new(rt.alloc()) else {
+    let Ok(mut journal) = Journal::new(rt.alloc()) else {
         return Err(Ending::Memory);
     };
     warn(rt, files, server.ups(), server.users());
     tell(rt, address, sockets)?;
-    go_round(rt, server, sockets, &mut log)
+    go_round(rt, server, sockets, &mut journal)
 }
 
 /// Goes round the peers up to the first fault of the loop, and writes what is new. Whatever the sockets do, it is one run
@@ -114,7 +113,7 @@ fn go_round<'a>(
     rt: &HostRuntime,
     server: &mut Server,
     sockets: &mut MioSockets<'_, HostRuntime, File>,
-    log: &mut LogBuffer,
+    journal: &mut Journal,
 ) -> Result<(), Ending<'a>>
     ensures turns { let calls = ⟦<MioSockets<'static, HostRuntime, File> as Sockets>⟧.calls in
         let failures = ⟦<MioSockets<'static, HostRuntime, File> as Sockets>⟧.failures in
@@ -125,10 +124,8 @@ fn go_round<'a>(
         server.old.state sockets.old (Err fault) server.new.state sockets.new) }
     ensures run { IsOneRun server.old.state server.new.state }
 {
-    let mut journal = Journal::new();
     match nutloop::serve(server, sockets, |server, sockets| {
-        journal.write(log, server, sockets);
-        log.flush(rt);
+        journal.write(rt, server, sockets);
     }) {
         Ok(()) => Ok(()),
         Err(fault) => Err(Ending::Loop(fault)),
