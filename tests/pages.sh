@@ -20,15 +20,14 @@ messages_of() { sed -nE "s/^\.B \"$1: (.*)\"\$/\1/p" "man/$1.8" | grep -vE '^(se
 told=$({
     sed -nE 's/^ *#\[error\("(.*)"\)\]$/\1/p' crates/upsd/src/ending.rt crates/nutloop/src/fault.rt | grep -vxF '{0}' |
         sed -e 's/{path}/PATH/; s/{line}/LINE/; s/{cause}/N/'
-    sed -nE 's/.*warn_if\(.*, "(.*)"\);$/warning: PATH: \1/p; s/.*warn_of\(.*, "(.*)"\);$/warning: PATH: [NAME]: \1/p; s/^ *"(.*)",$/warning: PATH: [NAME]: \1/p' crates/upsd/src/warnings.rt
-    sed -nE 's/.*\.add\(&(format_args!\()?"(.*)"\)+;$/\2/p' crates/upsd/src/log_buffer.rt crates/upsd/src/journal/each_second.rt |
+    sed -nE 's/.*warn_if\(.*, "(.*)"\);$/warning: PATH: \1/p; s/.*warn_of\(.*, "(.*)"\);$/warning: PATH: [NAME]: \1/p; s/^ *\([a-z]+, "(.*)"\),$/warning: PATH: [NAME]: \1/p' crates/upsd/src/warnings.rt
+    sed -nE 's/.*\.add\(&(format_args!\()?"(.*)"\)+;$/\2/p' crates/upsd/src/log_buffer.rt crates/upsd/src/journal.rt |
         sed 's/{name}/su/; s/{count}/N/; s/{error}/ERROR/'
     entry=crates/upsd/src/journal/entry.rt
-    sed -nE 's/^ *Note::[A-Za-z]+\(_\) => f\.write_str\("(.*)"\),$/su: \1/p' $entry
-    sed -nE 's/^ *f\.write_str\("(.*)"\)$/su: mon@192.0.2.1 \1/p' $entry
+    sed -nE 's/^ *Note::.* => write_of\(.*, "(.*)"\),$/su: \1/p; s/^ *Note::.* => write_by\(.*, "(.*)"\),$/su: mon@192.0.2.1 \1/p' $entry
     sed -nE 's/^ *\(None, Verb::[A-Za-z]+\) => f\.write_str\("(.*)"\),$/su: mon@192.0.2.1 \1/p' $entry
-    sed -nE 's/.*write!\(f, "([a-z ]+) \{what\}(: \{word\})?"\),?$/su: mon@192.0.2.1 \1 COMMAND\2/p' $entry | sed 's/{word}/WORD/'
-    sed -nE 's/.*"(.* of the driver .*: )".*/su: \1REASON/p' $entry | sed 's/{count}/N/'
+    sed -nE 's/.*write!\(f, "([a-z ]+) \{verb\}\{blank\}\{name\}(: \{word\})?"\),?$/su: mon@192.0.2.1 \1 COMMAND\2/p' $entry | sed 's/{word}/WORD/'
+    sed -nE 's/.*"(.* of the driver .*: )".*/su: \1REASON/p' $entry | sed 's/{n}/N/'
 } | sort)
 alike upsd "$told" "$(messages_of upsd)"
 told=$(sed -nE 's/^ *ClientFault::.* => push\(line, b"(.*)"\),$/\1/p' crates/nutrequest/src/faults.rt | sort)

@@ -1,6 +1,6 @@
 //! What an event did that the journal logs.
-ghost use Rattle.std.specs.Prelude.{◌≡◌, ◌≤◌, ◌++◌, [], ◌∷◌, length, take, true, IfOk, List, vec_capacity};
-ghost use Rattle.nutcore.specs.Notes.{is_refusal, note_of_command, note_read, readiness_note, refusal_in, refusal_note};
+ghost use Rattle.std.specs.Prelude.{◌≡◌, ◌≤◌, ◌++◌, [], ◌∷◌, length, take, IfOk, List, vec_capacity};
+ghost use Rattle.nutcore.specs.Notes.{is_refusal, note_read, readiness_note, refusal_in, refusal_note};
 ghost use Rattle.nutcore.specs.Promises.{note_in_reply, with_note};
 ghost use Rattle.nutcore.specs.declared.note.Note.{Note};
 ghost use Rattle.nutcore.specs.declared.note.TheConstants.{NOTE_LIMIT};
@@ -21,9 +21,6 @@ const SHORTEST_LINE: usize = 4;
 
 /// The most notes of an event: those of as many commands as a session holds, and one where it begins to end.
 pub const NOTE_LIMIT: usize = HELD_LIMIT / SHORTEST_LINE + 1;
-
-/// How many bytes of the line of a refusal stand before its word: `ERR` and a blank.
-const ERR_LEN: usize = 4;
 
 /// What an event did. It has names, and never a value or a password.
 #[derive(Debug, Drop)]
@@ -207,37 +204,30 @@ pub(crate) fn note_line(
 fn note_told(session: &Session, read: &ReadLine<'_>, text: &[u8], notes: &mut Notes)
     ensures { notes.new ≡ with_note (note_read session.now read.now text.now) notes.old }
 {
-    if let Ok(Some(command)) = read {
-        notes.add(note_of_command(session, command, refusal_in(text)));
-    }
-}
-
-/// What a command of the session did, which was refused by this word or granted.
-fn note_of_command(session: &Session, command: &Command<'_>, refusal: Option<Name>) -> Option<Note>
-    ensures { result ≡ note_of_command session.now refusal command.now }
-{
+    let Ok(Some(command)) = read else {
+        return;
+    };
     let (verb, ups, name) = match command {
         Command::Login(ups) => (Verb::Login, ups.read(), None),
         Command::Primary(ups) => (Verb::Primary, ups.read(), None),
         Command::Fsd(ups) => (Verb::Fsd, ups.read(), None),
         Command::SetVar(ups, name, _) => (Verb::SetVar, ups.read(), name.read()),
         Command::InstCmd(ups, name, _) => (Verb::InstCmd, ups.read(), name.read()),
-        Command::Logout => return session.logout(),
-        _ => return None,
+        Command::Logout => return notes.add(session.logout()),
+        _ => return,
     };
-    Some(Note::Did(Deed {
+    notes.push(Note::Did(Deed {
         who: session.who(),
         verb,
         ups,
         name,
-        refusal,
+        refusal: refusal_in(text),
     }))
 }
 
 /// Whether a line is refused that is answered by this text.
 fn is_refusal(text: &[u8]) -> bool
-    ensures value { result ≡ is_refusal text.now }
-    ensures long { result ≡ true → ERR_LEN ≤ length text.now }
+    ensures { result ≡ is_refusal text.now }
 {
     text.starts_with(b"ERR ")
 }
@@ -246,10 +236,7 @@ fn is_refusal(text: &[u8]) -> bool
 fn refusal_in(text: &[u8]) -> Option<Name>
     ensures { result ≡ refusal_in text.now }
 {
-    if !is_refusal(text) {
-        return None;
-    }
-    let word = &text[ERR_LEN..];
+    let word = text.strip_prefix(b"ERR ")?;
     let end = line_end(word)?;
     Name::read(&word[..end]).ok()
 }

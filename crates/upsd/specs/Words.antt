@@ -1,53 +1,42 @@
 -- The words that the program takes, as its parser reads them.
-use Rattle.std.specs.Prelude.{List, [], ◌∷◌, Some, true, false, codes, Result, IfOk}
+use Rattle.std.specs.Prelude.{List, [], ◌∷◌, Some, false, true, codes, Result, IfOk}
 use Rattle.clap.specs.Simple.{new_shape}
-use Rattle.clap.specs.Words.{App, FailsBy, HasMatchesOf, Rule, Shape, Text, fault_of, new_rule}
+use Rattle.clap.specs.Words.{App, FailsBy, HasMatchesOf, Shape, Text, fault_of, new_app}
 use Rattle.clap.specs.declared.builder.value_parser.ValueParser.TheVariants.{Unsigned}
 use Rattle.clap.specs.declared.error.Error.{Error}
 use Rattle.clap.specs.declared.parser.matches.ArgMatches.{ArgMatches}
+use Rattle.nutcommand.specs.Words.{Free, Word, long_option, operand, required, with_words}
 use Rattle.nutcore.specs.declared.max_age.TheConstants.{MAX_AGE_LEAST, MAX_AGE_MOST}
 use Rattle.upsd.specs.declared.task.TheConstants.{DEFAULT_ADDRESS}
 
--- A value after `--name`.
-abbrev pub option_word : Text → Rule
-option_word name = record (new_rule name) { long = Some name; value_names = 1 }
+-- `serve --ups F --users F [--vars F] [--ids F] [--listen A:P] [--maxage N]`. The address is the
+-- default one where none is named.
+abbrev pub serve_words : List Word
+serve_words =
+    (required (long_option (codes "ups")), Free)
+    ∷ (required (long_option (codes "users")), Free)
+    ∷ (long_option (codes "vars"), Free) ∷ (long_option (codes "ids"), Free)
+    ∷ (record (long_option (codes "listen")) { defaults = DEFAULT_ADDRESS.now ∷ [] }, Free)
+    ∷ (
+      record (long_option (codes "maxage")) {
+        parser = Some (Unsigned MAX_AGE_LEAST MAX_AGE_MOST);
+      },
+      Free,
+    )
+    ∷ []
 
--- It has to be there.
-abbrev pub required : Rule → Rule
-required word = record word { required = true }
-
--- The address to listen at, which is the default one where none is named.
-abbrev pub listen_word : Rule
-listen_word = record (option_word (codes "listen")) { defaults = DEFAULT_ADDRESS.now ∷ [] }
-
--- The greatest age, a number of seconds.
-abbrev pub max_age_word : Rule
-max_age_word =
-    record (option_word (codes "maxage")) { parser = Some (Unsigned MAX_AGE_LEAST MAX_AGE_MOST) }
-
--- The script, which stands without a name.
-abbrev pub script_word : Rule
-script_word = required (new_rule (codes "SCRIPT"))
-
--- `serve --ups F --users F [--vars F] [--ids F] [--listen A:P] [--maxage N]`.
-abbrev pub serve_shape : Shape
-serve_shape =
-    record (new_shape (codes "serve")) {
-      rules =
-          required (option_word (codes "ups"))
-          ∷ required (option_word (codes "users"))
-          ∷ option_word (codes "vars") ∷ option_word (codes "ids")
-          ∷ listen_word ∷ max_age_word ∷ [];
-    }
+abbrev pub serve_app : App
+serve_app = with_words (new_app (codes "serve")) serve_words
 
 -- `replay [--ups F] [--users F] [--vars F] SCRIPT`.
-abbrev pub replay_shape : Shape
-replay_shape =
-    record (new_shape (codes "replay")) {
-      rules =
-          option_word (codes "ups")
-          ∷ option_word (codes "users") ∷ option_word (codes "vars") ∷ script_word ∷ [];
-    }
+abbrev pub replay_words : List Word
+replay_words =
+    (long_option (codes "ups"), Free)
+    ∷ (long_option (codes "users"), Free) ∷ (long_option (codes "vars"), Free)
+    ∷ (required (operand (codes "SCRIPT")), Free) ∷ []
+
+abbrev pub replay_app : App
+replay_app = with_words (new_app (codes "replay")) replay_words
 
 -- One of the two has to be named.
 abbrev pub upsd_shape : Shape
@@ -59,7 +48,7 @@ upsd_shape =
     }
 
 abbrev pub upsd_app : App
-upsd_app = record { top = upsd_shape; subs = serve_shape ∷ replay_shape ∷ [] }
+upsd_app = record { top = upsd_shape; subs = serve_app.top ∷ replay_app.top ∷ [] }
 
 -- What is found in the words is what the program takes of them; they are refused by what is wrong
 -- with them, or for want of memory, and else taken.

@@ -19,7 +19,7 @@ pub const FAULT: u8 = 1;
 pub const WORD_FAULT: u8 = 2;
 
 /// Why the program isn't done. A path is told as it was typed. An error is the system's number.
-#[derive(Clone, Copy, Debug, PartialEq, Eq, Error)]
+#[derive(Clone, Copy, Debug, Error)]
 pub enum Ending<'a> {
     /// One of the words isn't what it has to be: the address, or one that isn't UTF-8.
     #[error("bad argument")]

@@ -5,14 +5,14 @@ ghost use Rattle.nutusers.specs.UsersFile.{users_format, adds_to_users};
 ghost use Rattle.nutusers.specs.DescriptionFile.{descriptions_format, adds_text};
 ghost use Rattle.nutusers.specs.Descriptions.{no_descriptions};
 ghost use Rattle.upsd.specs.Files.{AreNamedIn};
-ghost use Rattle.upsd.specs.Configuration.{su_alone, IsListOf, AreUsersOf, AreDescriptionsOf, AreMeant, FailsBy, FirstFails};
+ghost use Rattle.upsd.specs.Configuration.{IsListOf, AreUsersOf, AreDescriptionsOf, AreMeant, FailsBy, FirstFails};
 
 use crate::ending::{Ending, ending_of_file};
 use crate::reading::{FileReader, read};
 use clap::ArgMatches;
 use nutcore::{Descriptions, UpsList, Users};
 use nutwords::UpsName;
-use std::alloc::{AllocError, Global};
+use std::alloc::Global;
 
 /// The files that the words name, as they were typed.
 #[derive(Clone, Copy)]
@@ -78,7 +78,8 @@ fn list_in<'a, R: FileReader>(
         (FailsBy (R.gives reader.now) ups_format adds_ups path.entry) }
 {
     let Some(path) = path else {
-        return su_alone(alloc).map_err(|_| Ending::Memory);
+        let su = UpsName::read(b"su").unwrap();
+        return UpsList::one(alloc, su).map_err(|_| Ending::Memory);
     };
     let bytes = read(reader, path)?;
     UpsList::read(alloc, &bytes).map_err(|fault| ending_of_file(path, fault))
@@ -118,12 +119,4 @@ fn descriptions_in<'a, R: FileReader>(
     };
     let bytes = read(reader, path)?;
     Descriptions::read(alloc, &bytes).map_err(|fault| ending_of_file(path, fault))
-}
-
-/// The list of the UPS `su` alone.
-pub fn su_alone(alloc: Global) -> Result<UpsList, AllocError>
-    ensures { IfOk result (λ list. list ≡ su_alone) }
-{
-    let name = UpsName::read(b"su").unwrap();
-    UpsList::one(alloc, name)
 }

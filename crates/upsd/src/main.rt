@@ -1,12 +1,15 @@
 //! upsd: a server that publishes the state of UPSs, as their drivers report it, on the network (RFC 9271).
 #![tactic(auto)]
 
-ghost use Rattle.std.specs.Prelude.{◌≡◌, ◌≢◌, ◌⊎◌, [], Err, IfErr, IfOk, None, codes, false, map, string_bytes};
+ghost use Rattle.std.specs.Prelude.{◌≡◌, Err, IfOk, None, codes, map, string_bytes, unwrap_or};
 ghost use Rattle.std.specs.Process.{exit_status};
-ghost use Rattle.clap.specs.Words.{app_of, kind_of, rule_of, subcommand_name_of};
+ghost use Rattle.clap.specs.Words.{app_of, kind_of, subcommand_name_of};
+ghost use Rattle.nutcommand.specs.Refusal.{refusal_status};
+ghost use Rattle.nutcommand.specs.Words.{AreWords, Free, IsWord, long_option};
 ghost use Rattle.upsd.specs.Ending.{status_of};
 ghost use Rattle.upsd.specs.Task.{AsksNothing};
-ghost use Rattle.upsd.specs.Words.{AreRead, listen_word, max_age_word, option_word, replay_shape, script_word, serve_shape};
+ghost use Rattle.upsd.specs.declared.ending.TheConstants.{FAULT};
+ghost use Rattle.upsd.specs.Words.{AreRead, replay_app, replay_words, serve_app, serve_words};
 
 mod ending;
 mod files;
@@ -19,42 +22,30 @@ mod serve;
 mod task;
 mod warnings;
 
-use crate::ending::{Ending, FAULT, WORD_FAULT, status_of, tell};
+use crate::ending::{Ending, status_of, tell};
 use crate::files::Configuration;
 use crate::replaying::replay_files;
 use crate::serve::serve_files;
 use crate::task::{DEFAULT_ADDRESS, Task, task_of};
 use crate::warnings::warn;
 use clap::builder::ValueParser;
-use clap::error::ErrorKind;
-use clap::{Arg, ArgMatches, Command, Error};
+use clap::{Arg, ArgMatches, Command, Error, arg};
+use nutcommand::{print_refusal, with_words, words_of};
 use nutcore::{MAX_AGE_LEAST, MAX_AGE_MOST};
 use nutio::CountedWriter;
 use nutversion::VERSION;
 use std::alloc::{AllocError, Global};
+use std::io;
 use std::process::ExitCode;
-use std::{env, io};
 
 fn main(rt: HostRuntime) -> ExitCode {
-    let words = match words_of(&rt) {
+    let words = match words_of(&rt, Ending::BadArgument { address: None }, Ending::Memory) {
         Ok(words) => words,
         Err(ending) => return finish(&rt, &Err(ending)),
     };
     match matches_of(rt.alloc(), &words) {
         Ok(matches) => finish(&rt, &run(&rt, &matches)),
         Err(error) => end(&rt, &error),
-    }
-}
-
-/// The program's words. Words that are no text are bad arguments.
-fn words_of<'a>(rt: &HostRuntime) -> Result<Vec<String>, Ending<'a>>
-    ensures { IfErr result (λ ending.
-        (ending ≡ Ending.BadArgument None) ⊎ (ending ≡ Ending.Memory)) }
-{
-    match env::args(rt) {
-        Ok(args) => args.collect(rt.alloc()).map_err(|_| Ending::Memory),
-        Err(error) if error.kind() == io::ErrorKind::OutOfMemory => Err(Ending::Memory),
-        Err(_) => Err(Ending::BadArgument { address: None }),
     }
 }
 
@@ -79,120 +70,75 @@ A refused line of a file is reported as PATH:LINE: cause N:
 
 Example: upsd serve --ups upses.conf --users upsd.users --ids /dev/urandom";
 
-/// The words of `serve`.
+/// `serve` and its words.
 fn serve_command<'a>(alloc: Global) -> Result<Command<'a>, AllocError>
-    ensures { IfOk result (λ c. app_of c ≡ record { top = serve_shape; subs = [] }) }
+    ensures { IfOk result (λ c. app_of c ≡ serve_app) }
 {
-    // Each word is made where it is added, so that a refusal drops nothing else.
-    Command::new(alloc, "serve")
+    let serve = Command::new(alloc, "serve")
         .about("Serves the state of UPSs to clients on the network")
-        .after_help(SERVE_NOTES)
-        .arg(file(
-            alloc,
-            "ups",
-            "The list of UPSs, upsd.ups(5); not NUT's ups.conf",
-        )
-        .required(true))?
-        .arg(file(alloc, "users", "The users and their rights, upsd.users(5)").required(true))?
-        .arg(vars(alloc))?
-        .arg(file(
-            alloc,
-            "ids",
-            "Source of the ids of tracked orders, such as /dev/urandom [without it: no ids]",
-        ))?
-        .arg(listen(alloc))?
-        .arg(max_age(alloc))
+        .after_help(SERVE_NOTES);
+    with_words(serve, serve_words(alloc)?)
+}
+
+/// The words of `serve`.
+fn serve_words(alloc: Global) -> Result<Vec<Arg<'static>>, AllocError>
+    ensures { IfOk result (λ words. AreWords serve_words words.items) }
+{
+    let ups = arg!(in alloc; --ups <F> "The list of UPSs, upsd.ups(5); not NUT's ups.conf");
+    let listen = arg!(in alloc; --listen <"A:P"> "The IP address and port for clients");
+    let words = vec![in alloc;
+        ups.required(true),
+        arg!(in alloc; --users <F> "The users and their rights, upsd.users(5)").required(true),
+        vars(alloc),
+        arg!(in alloc; --ids <F>
+            "Source of the ids of tracked orders, such as /dev/urandom [without it: no ids]"),
+        listen.default_value(DEFAULT_ADDRESS),
+        arg!(in alloc; --maxage <N>
+            "Seconds without a line from its driver until a UPS is stale [without it: 15]")
+        .value_parser(ValueParser::unsigned(MAX_AGE_LEAST as u64, MAX_AGE_MOST as u64)),
+    ]?;
+    Ok(words)
+}
+
+/// `replay` and its words.
+fn replay_command<'a>(alloc: Global) -> Result<Command<'a>, AllocError>
+    ensures { IfOk result (λ c. app_of c ≡ replay_app) }
+{
+    let replay = Command::new(alloc, "replay")
+        .about("Replays a script of events and prints what the server sent")
+        .after_help("Example: upsd replay data/first.txt");
+    with_words(replay, replay_words(alloc)?)
 }
 
 /// The words of `replay`.
-fn replay_command<'a>(alloc: Global) -> Result<Command<'a>, AllocError>
-    ensures { IfOk result (λ c. app_of c ≡ record { top = replay_shape; subs = [] }) }
+fn replay_words(alloc: Global) -> Result<Vec<Arg<'static>>, AllocError>
+    ensures { IfOk result (λ words. AreWords replay_words words.items) }
 {
-    Command::new(alloc, "replay")
-        .about("Replays a script of events and prints what the server sent")
-        .after_help("Example: upsd replay data/first.txt")
-        .arg(file(
-            alloc,
-            "ups",
-            "The list of UPSs, upsd.ups(5) [without it: only su]",
-        ))?
-        .arg(file(
-            alloc,
-            "users",
-            "The users and their rights, upsd.users(5) [without it: none]",
-        ))?
-        .arg(vars(alloc))?
-        .arg(script(alloc))
+    let words = vec![in alloc;
+        arg!(in alloc; --ups <F> "The list of UPSs, upsd.ups(5) [without it: only su]"),
+        arg!(in alloc; --users <F> "The users and their rights, upsd.users(5) [without it: none]"),
+        vars(alloc),
+        arg!(in alloc; <SCRIPT> "The script of events"),
+    ]?;
+    Ok(words)
 }
 
 /// The word that names the file of the descriptions.
-fn vars<'a>(alloc: Global) -> Arg<'a>
-    ensures word { rule_of result ≡ option_word (codes "vars") }
-    ensures local { result.global ≡ false }
+fn vars(alloc: Global) -> Arg<'static>
+    ensures { IsWord (long_option (codes "vars"), Free) result }
 {
-    file(
-        alloc,
-        "vars",
-        "Descriptions of variables and commands, upsd.vars(5) [without it: none]",
-    )
-}
-
-/// The word that names the address to listen at.
-fn listen<'a>(alloc: Global) -> Arg<'a>
-    ensures word { rule_of result ≡ listen_word }
-    ensures local { result.global ≡ false }
-{
-    Arg::new(alloc, "listen")
-        .long("listen")
-        .value_name("A:P")
-        .default_value(DEFAULT_ADDRESS)
-        .help("The IP address and port for clients")
-}
-
-/// The word that says after how many seconds data are stale.
-fn max_age<'a>(alloc: Global) -> Arg<'a>
-    ensures word { rule_of result ≡ max_age_word }
-    ensures local { result.global ≡ false }
-{
-    Arg::new(alloc, "maxage")
-        .long("maxage")
-        .value_name("N")
-        .value_parser(ValueParser::unsigned(MAX_AGE_LEAST as u64, MAX_AGE_MOST as u64))
-        .help("Seconds without a line from its driver until a UPS is stale [without it: 15]")
-}
-
-/// The word that names the script.
-fn script<'a>(alloc: Global) -> Arg<'a>
-    ensures word { rule_of result ≡ script_word }
-    ensures local { result.global ≡ false }
-{
-    Arg::new(alloc, "SCRIPT")
-        .required(true)
-        .help("The script of events")
-}
-
-/// The word that names a file.
-fn file<'a>(alloc: Global, name: &'a str, help: &'a str) -> Arg<'a>
-    ensures word { rule_of result ≡ option_word name.entry.now }
-    ensures local { result.global ≡ false }
-{
-    Arg::new(alloc, name).long(name).value_name("F").help(help)
+    arg!(in alloc; --vars <F>
+        "Descriptions of variables and commands, upsd.vars(5) [without it: none]")
 }
 
 /// Prints what the parser of the words says: the help, the version, or a fault of the words.
 fn end(rt: &HostRuntime, error: &Error) -> ExitCode
-    ensures memory { kind_of error.now ≡ ErrorKind.OutOfMemory → exit_status result ≡ FAULT }
-    ensures help { kind_of error.now ≡ ErrorKind.DisplayHelp → exit_status result ≡ 0 }
-    ensures version { kind_of error.now ≡ ErrorKind.DisplayVersion → exit_status result ≡ 0 }
-    ensures words { kind_of error.now ≢ ErrorKind.OutOfMemory
-        → kind_of error.now ≢ ErrorKind.DisplayHelp
-        → kind_of error.now ≢ ErrorKind.DisplayVersion → exit_status result ≡ WORD_FAULT }
+    ensures { exit_status result ≡ unwrap_or (refusal_status (kind_of error.now)) FAULT }
 {
-    if error.kind() == ErrorKind::OutOfMemory {
-        return finish(rt, &Err(Ending::Memory));
+    match print_refusal(rt, error) {
+        Some(status) => ExitCode::from(status),
+        None => finish(rt, &Err(Ending::Memory)),
     }
-    let _ = error.print(rt);
-    ExitCode::from(if error.use_stderr() { WORD_FAULT } else { 0 })
 }
 
 /// Does what the words ask for.

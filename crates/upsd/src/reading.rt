@@ -9,7 +9,7 @@ use std::fs::{self, File};
 use std::io::{Error, ErrorKind};
 
 /// Why a file can't be read.
-#[derive(Clone, Copy, Debug, PartialEq, Eq)]
+#[derive(Clone, Copy)]
 pub enum ReadFault {
     /// Memory was refused.
     Memory,

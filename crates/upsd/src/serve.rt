@@ -10,7 +10,6 @@ ghost use Rattle.upsd.specs.Reading.{CantBeOpened, anything};
 use crate::ending::Ending;
 use crate::files::{Configuration, Files, configuration_in};
 use crate::journal::Journal;
-use crate::log_buffer::LogBuffer;
 use crate::reading::{FileReader, open};
 use crate::task::Service;
 use crate::warnings::warn;
@@ -38,9 +37,8 @@ pub fn serve_files<'a>(
         ⊎ (CantBeOpened files.entry.ids ending
         ⊎ IsEndOfServing service.address ending)) }
 {
-    let server = server_of(rt.alloc(), rt, files, service.max_age)?;
-    let ids = ids_in(rt, files.ids)?;
-    serve(rt, server, files, service.address, ids)
+    let mut server = server_of(rt.alloc(), rt, files, service.max_age)?;
+    serve(rt, &mut server, files, service.address)
 }
 
 /// The ids of the file of this path, which is opened, and read while it is served. Without a path there are none.
@@ -73,29 +71,40 @@ fn server_of<'a, R: FileReader>(
     Server::new(alloc, list, users, descriptions, max_age).map_err(|_| Ending::Memory)
 }
 
-/// Listens at the address, warns, tells the address, and serves from then on.
+/// Opens the ids' file, listens at the address, and serves there. It owns the sockets alone, and what it calls owns none:
+/// a function that may end early while it owns a server or sockets takes long to prove.
 fn serve<'a>(
     rt: &HostRuntime,
-    mut server: Server,
+    server: &mut Server,
     files: Files<'a>,
     address: SocketAddr,
-    ids: Option<File>,
+) -> Result<(), Ending<'a>>
+    ensures { IfErr result (λ ending.
+        CantBeOpened files.entry.ids ending ⊎ IsEndOfServing address ending) }
+{
+    let ids = ids_in(rt, files.ids)?;
+    match MioSockets::new(rt, rt.alloc(), address, server, ids) {
+        Ok(mut sockets) => serve_over(rt, server, &mut sockets, files, address),
+        Err(error) => Err(ending_of_listening(address, &error)),
+    }
+}
+
+/// Warns, tells the address, and serves from then on.
+fn serve_over<'a>(
+    rt: &HostRuntime,
+    server: &mut Server,
+    sockets: &mut MioSockets<'_, HostRuntime, File>,
+    files: Files<'a>,
+    address: SocketAddr,
 ) -> Result<(), Ending<'a>>
     ensures { IfErr result (IsEndOfServing address) }
 {
-    let Ok(mut log) = LogBuffer::new(rt.alloc()) else {
+    let Ok(mut journal) = Journal::new(rt.alloc()) else {
         return Err(Ending::Memory);
     };
-    match MioSockets::new(rt, rt.alloc(), address, &server, ids) {
-        Ok(mut sockets) => {
-            warn(rt, files, server.ups(), server.users());
-            match tell(rt, address, &sockets) {
-                Ok(()) => go_round(rt, &mut server, &mut sockets, &mut log),
-                Err(ending) => Err(ending),
-            }
-        }
-        Err(error) => Err(ending_of_listening(address, &error)),
-    }
+    warn(rt, files, server.ups(), server.users());
+    tell(rt, address, sockets)?;
+    go_round(rt, server, sockets, &mut journal)
 }
 
 /// Goes round the peers up to the first fault of the loop, and writes what is new. Whatever the sockets do, it is one run
@@ -104,7 +113,7 @@ fn go_round<'a>(
     rt: &HostRuntime,
     server: &mut Server,
     sockets: &mut MioSockets<'_, HostRuntime, File>,
-    log: &mut LogBuffer,
+    journal: &mut Journal,
 ) -> Result<(), Ending<'a>>
     ensures turns { let calls = ⟦<MioSockets<'static, HostRuntime, File> as Sockets>⟧.calls in
         let failures = ⟦<MioSockets<'static, HostRuntime, File> as Sockets>⟧.failures in
@@ -115,10 +124,8 @@ fn go_round<'a>(
         server.old.state sockets.old (Err fault) server.new.state sockets.new) }
     ensures run { IsOneRun server.old.state server.new.state }
 {
-    let mut journal = Journal::new();
     match nutloop::serve(server, sockets, |server, sockets| {
-        journal.write(log, server, sockets);
-        log.flush(rt);
+        journal.write(rt, server, sockets);
     }) {
         Ok(()) => Ok(()),
         Err(fault) => Err(Ending::Loop(fault)),

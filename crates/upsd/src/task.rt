@@ -63,10 +63,7 @@ fn address_named(found: &ArgMatches<'_>) -> Option<SocketAddr>
     ensures { MatchOption result
         ((address : SocketAddr) → ¬ (IsAddressIn found.now address)) (IsAddressIn found.now) }
 {
-    let text = match found.get_str("listen") {
-        Some(text) => text,
-        None => DEFAULT_ADDRESS,
-    };
+    let text = found.get_str("listen").unwrap_or(DEFAULT_ADDRESS);
     text.parse::<SocketAddr>().ok()
 }
 

@@ -29,9 +29,8 @@ pub fn warn(rt: &HostRuntime, files: Files<'_>, list: &UpsList, users: &Users) {
         warn_if(rt, read.is_err(), path, "gives no id for a tracked order");
     }
     if let Some(path) = files.users {
-        let is_for_all = fs::metadata(rt, path).is_ok_and(|metadata| metadata.permissions().mode()
-            & READ_BY_ALL
-            != 0);
+        let mode = fs::metadata(rt, path).map(|file| file.permissions().mode());
+        let is_for_all = mode.is_ok_and(|mode| mode & READ_BY_ALL != 0);
         warn_if(rt, is_for_all, path, "everybody may read it");
         warn_if(rt, users.as_slice().is_empty(), path, "no users");
         for user in users.as_slice() {
@@ -41,19 +40,13 @@ pub fn warn(rt: &HostRuntime, files: Files<'_>, list: &UpsList, users: &Users) {
 }
 
 fn warn_of_user(rt: &HostRuntime, path: &str, user: &User) {
+    let known = user.password().is_some_and(is_of_example);
+    let small = user.grants().iter().any(|grant| is_small_all(grant));
+    let unset = user.password().is_none();
     let dangers = [
-        (
-            user.password().is_some_and(is_of_example),
-            "a password of the example, which everybody knows",
-        ),
-        (
-            user.grants().iter().any(|grant| is_small_all(grant)),
-            "only ALL grants every command",
-        ),
-        (
-            user.password().is_none(),
-            "a user without a password, who may do nothing",
-        ),
+        (known, "a password of the example, which everybody knows"),
+        (small, "only ALL grants every command"),
+        (unset, "a user without a password, who may do nothing"),
     ];
     for (is_so, danger) in dangers {
         if is_so {

@@ -1,103 +1,88 @@
 //! The text of a line of the journal: of which UPS it is, who did it, and what.
 
-use nutcore::{Deed, Note, Server, Verb, Who};
+use nutcore::{Deed, DriverFault, Note, UpsList, Verb, Who};
 use nutwords::UpsName;
-use std::fmt;
+use std::fmt::{self, Formatter, Write};
 
-/// A note of an event of the server, or of lines that a driver sent since the last second.
+/// A note of an event of a server with these UPSs, or of lines that a driver sent since the last second.
 #[derive(Clone, Copy)]
 pub struct Entry<'a> {
-    pub server: &'a Server,
+    pub list: &'a UpsList,
     pub note: &'a Note,
 }
 
 impl<'a> fmt::Display for Entry<'a> {
-    fn fmt<W: fmt::Write>(&self, f: &mut fmt::Formatter<W>) -> fmt::Result {
-        if let Some(ups) = self.ups() {
-            write!(f, "{}: ", ups.as_bytes().escape_ascii())?;
-        }
+    fn fmt<W: Write>(&self, f: &mut Formatter<W>) -> fmt::Result {
+        let list = self.list;
         match self.note {
-            Note::DriverConnected(_) => f.write_str("driver connected"),
-            Note::DriverLost(_) => f.write_str("driver lost"),
-            Note::DataGood(_) => f.write_str("data good"),
-            Note::DataStale(_) => f.write_str("data stale"),
-            Note::LinesRefused(_, count, fault) => {
-                match count {
-                    1 => f.write_str("a line of the driver was refused: ")?,
-                    _ => write!(
-                        f,
-                        "{count} lines of the driver were refused, the last one: "
-                    )?,
-                }
-                match fault {
-                    Some(fault) => write!(f, "{fault}"),
-                    None => f.write_str("no such order"),
-                }
+            Note::DriverConnected(u) => write_of(f, list.name(*u), "driver connected"),
+            Note::DriverLost(u) => write_of(f, list.name(*u), "driver lost"),
+            Note::DataGood(u) => write_of(f, list.name(*u), "data good"),
+            Note::DataStale(u) => write_of(f, list.name(*u), "data stale"),
+            Note::LinesRefused(u, count, fault) => {
+                write_of(f, list.name(*u), "")?;
+                write_lines(f, *count, *fault)
             }
-            Note::LoggedOut(_, who) => {
-                write_who(f, who)?;
-                f.write_str("logged out")
-            }
-            Note::Did(deed) => {
-                write_who(f, &deed.who)?;
-                write_deed(f, deed)
-            }
+            Note::LoggedOut(u, who) => write_by(f, list.name(*u), who, "logged out"),
+            Note::Did(deed) => write_deed(f, deed),
         }
     }
 }
 
-impl<'a> Entry<'a> {
-    /// The UPS of the note, if its line named one.
-    fn ups(&self) -> Option<&'a UpsName> {
-        let list = self.server.ups();
-        match self.note {
-            Note::DriverConnected(u) => list.name(*u),
-            Note::DriverLost(u) => list.name(*u),
-            Note::DataGood(u) => list.name(*u),
-            Note::DataStale(u) => list.name(*u),
-            Note::LinesRefused(u, _, _) => list.name(*u),
-            Note::LoggedOut(u, _) => list.name(*u),
-            Note::Did(deed) => deed.ups.as_ref(),
-        }
+/// What is so of the UPS, if the note has one.
+fn write_of<W: Write>(f: &mut Formatter<W>, ups: Option<&UpsName>, what: &str) -> fmt::Result {
+    if let Some(ups) = ups {
+        write!(f, "{}: ", ups.as_bytes().escape_ascii())?;
+    }
+    f.write_str(what)
+}
+
+fn write_lines<W: Write>(f: &mut Formatter<W>, n: u64, fault: Option<DriverFault>) -> fmt::Result {
+    match n {
+        1 => f.write_str("a line of the driver was refused: ")?,
+        _ => write!(f, "{n} lines of the driver were refused, the last one: ")?,
+    }
+    match fault {
+        Some(fault) => write!(f, "{fault}"),
+        None => f.write_str("no such order"),
     }
 }
 
-fn write_who<W: fmt::Write>(f: &mut fmt::Formatter<W>, who: &Who) -> fmt::Result {
+/// Who did it, with the UPS.
+fn write_by<W: Write>(
+    f: &mut Formatter<W>,
+    ups: Option<&UpsName>,
+    who: &Who,
+    what: &str,
+) -> fmt::Result {
+    write_of(f, ups, "")?;
     if let Some(user) = &who.user {
         write!(f, "{}@", user.as_bytes().escape_ascii())?;
     }
-    write!(f, "{} ", who.address.as_bytes().escape_ascii())
+    write!(f, "{} {what}", who.address.as_bytes().escape_ascii())
 }
 
-fn write_deed<W: fmt::Write>(f: &mut fmt::Formatter<W>, deed: &Deed) -> fmt::Result {
-    let what = What(deed);
+/// What was asked for, by the command and the name of a variable or command of the UPS; and whether it was granted.
+fn write_deed<W: Write>(f: &mut Formatter<W>, deed: &Deed) -> fmt::Result {
+    write_by(f, deed.ups.as_ref(), &deed.who, "")?;
+    let verb = match deed.verb {
+        Verb::Login => "LOGIN",
+        Verb::Primary => "PRIMARY",
+        Verb::Fsd => "FSD",
+        Verb::SetVar => "SET VAR",
+        Verb::InstCmd => "INSTCMD",
+    };
+    let (blank, name) = match &deed.name {
+        Some(name) => (" ", name.as_bytes().escape_ascii()),
+        None => ("", b"".escape_ascii()),
+    };
     match (&deed.refusal, deed.verb) {
         (None, Verb::Login) => f.write_str("logged in"),
         (None, Verb::Fsd) => f.write_str("ordered FSD: forced shutdown"),
-        (None, _) => write!(f, "ordered {what}"),
+        (None, _) => write!(f, "ordered {verb}{blank}{name}"),
         (Some(word), _) => {
             let word = word.as_bytes().escape_ascii();
-            write!(f, "was refused {what}: {word}")
-        }
-    }
-}
-
-/// What was asked for: the command, and the name of a variable or command of the UPS.
-#[derive(Clone, Copy)]
-struct What<'a>(&'a Deed);
-
-impl<'a> fmt::Display for What<'a> {
-    fn fmt<W: fmt::Write>(&self, f: &mut fmt::Formatter<W>) -> fmt::Result {
-        f.write_str(match self.0.verb {
-            Verb::Login => "LOGIN",
-            Verb::Primary => "PRIMARY",
-            Verb::Fsd => "FSD",
-            Verb::SetVar => "SET VAR",
-            Verb::InstCmd => "INSTCMD",
-        })?;
-        match &self.0.name {
-            Some(name) => write!(f, " {}", name.as_bytes().escape_ascii()),
-            None => Ok(()),
+            write!(f, "was refused {verb}{blank}{name}: {word}")
         }
     }
 }
