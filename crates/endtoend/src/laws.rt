@@ -17,7 +17,6 @@ use nutcore::laws::{
 
 /// A client reads the text of a listing of up to 65,536 items as these items, in order, whatever
 /// follows it.
-#[tactic(auto, using(crate::proofs::FrameReading::frame_read))]
 pub fn a_frame_is_read_as_its_items()
     ensures { AFrameIsReadAsItsItems }
 {}
