@@ -7,6 +7,7 @@ use Rattle.nutrequest.specs.Inbox.{LineGives}
 use Rattle.nutrequest.specs.Request.{request_line}
 use Rattle.nutrequest.specs.Reply.{Reply, Bad, Unfinished, reply, items_from, later_of, after_later, after_expected, expected_of}
 use Rattle.nutrequest.specs.Session.{Fails, AddGives, ItemsGive, ReplyGives, AskGives}
+use Rattle.nutrequest.specs.declared.read.LaterLine.{LaterLine}
 use Rattle.nutrequest.specs.declared.read.LaterLine.TheVariants.{Another}
 use Rattle.nutrequest.specs.declared.item.Item.{Item}
 use Rattle.nutrequest.specs.declared.request.Query.{Query}
@@ -48,14 +49,15 @@ pub behind : (F : List ℕ → Reply) (f : List FoundLine → Reply) (x y kept n
 behind F f x y kept new line h k more = ap F (append_assoc x y more) ∙ h (y ++ more) ∙ ap f (k more)
 
 -- one later line more of a listing
-pub later_line : (query : Query) (items : List Item) (F : List ℕ → Reply) (x y kept new line words_line : List ℕ)
+pub later_line : (query : Query) (items : List Item) (F : List ℕ → Reply) (x y kept new line words_line : List ℕ) (later : LaterLine)
     → ((more : List ℕ) → F (x ++ more) ≡ items_from query items (lines (kept ++ more)))
     → ((more : List ℕ) → lines (kept ++ (y ++ more)) ≡ Line line (new ++ more) ∷ lines (new ++ more))
-    → words_line ≡ line
-    → (more : List ℕ) → F ((x ++ y) ++ more) ≡ after_later (later_of query (words_of words_line)) items (new ++ more) (λ all. items_from query all (lines (new ++ more)))
-later_line query items F x y kept new line words_line h k e more =
+    → words_line ≡ line → later_of query (words_of words_line) ≡ later
+    → (more : List ℕ) → F ((x ++ y) ++ more) ≡ after_later later items (new ++ more) (λ all. items_from query all (lines (new ++ more)))
+later_line query items F x y kept new line words_line later h k e is more =
     behind F (items_from query items) x y kept new line h k more
     ∙ ap (λ l. after_later (later_of query (words_of l)) items (new ++ more) (λ all. items_from query all (lines (new ++ more)))) (sym e)
+    ∙ ap (λ l. after_later l items (new ++ more) (λ all. items_from query all (lines (new ++ more)))) is
 
 -- the answer is the reply's, where the request was sent
 pub asked_of_reply : {R W : Type 0} (remaining : R → Option (List ℕ)) (failures : R → ℕ) (contents : W → Option (List ℕ)) (write_failures : W → ℕ) (request : Request) (old new : List ℕ) (reader after : R) (writer sent : W) (result : Result (List Item) ClientFault)
