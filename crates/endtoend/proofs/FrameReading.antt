@@ -12,6 +12,7 @@ use Rattle.nutwords.specs.Lines.{IsCutInto, Unfinished, line, unfinished}
 use Rattle.nutwords.specs.Listing.{IsWrittenLine, ReadsLineByLine, listing_words}
 use Rattle.nutwords.proofs.PublicLaws.{lines_are_read_back}
 use Rattle.nutrequest.specs.Lines.{lines}
+use Rattle.nutrequest.proofs.PublicLaws.{the_first_line_is_found}
 use Rattle.nutrequest.specs.declared.item.Item.{Item}
 use Rattle.nutrequest.specs.declared.request.Query.{Query}
 use Rattle.nutrequest.specs.declared.request.Query.TheVariants.{Ups, Var, Rw, Cmd, Client}
@@ -19,7 +20,7 @@ use Rattle.nutrequest.specs.declared.request.Request.TheVariants.{List as ListOf
 use Rattle.nutrequest.specs.Request.{kind_of, ups_of, asked_words}
 use Rattle.nutrequest.specs.Reply.{Reply, Whole, reply, reply_from, first_of, later_of, after_later, after_first, items_from, one_item, behind, is_count, is_nothing, is_frame}
 use Rattle.endtoend.specs.Frames.{item_words, IsItem, AFrameIsReadAsItsItems}
-use Rattle.endtoend.proofs.LineReading.{first_found, words_read, written_line, line_before}
+use Rattle.endtoend.proofs.LineReading.{words_read, written_line, line_before}
 use Rattle.nutrequest.specs.declared.limits.TheConstants.{ITEM_LIMIT}
 
 pub bytes_eq-same : (xs : List ℕ) → bytes_eq xs xs ≡ true
@@ -67,12 +68,12 @@ items_read : (query : Query) (text : List ℕ) (ls : List (List ℕ)) (items bef
     → IsCutInto text ls (Unfinished []) → AllZip Reads ls (map (item_words query) items ++ end_words query ∷ []) → All (IsItem query) items → length before + length items ≤ ITEM_LIMIT
     → items_from query before (lines (text ++ more)) ≡ Whole (before ++ items) more
 items_read query text (first ∷ []) [] before more (line {rest = rest} cut few (unfinished e f)) (r, t) known fits =
-    ap (items_from query before) (first_found text first [] more cut few)
+    ap (items_from query before) (the_first_line_is_found text first [] more cut few)
     ∙ ap (next_items query before more) (words_read first (end_words query) r)
     ∙ end_read query before more (λ all. items_from query all (lines more))
     ∙ ap (λ all. Whole all more) (sym (append-nil before))
 items_read query text (first ∷ ls) (item ∷ items) before more (line {rest = rest} cut few cuts) (r, reads) known fits =
-    ap (items_from query before) (first_found text first rest more cut few)
+    ap (items_from query before) (the_first_line_is_found text first rest more cut few)
     ∙ ap (next_items query before (rest ++ more)) (words_read first (item_words query item) r)
     ∙ item_read query item before (rest ++ more) (λ all. items_from query all (lines (rest ++ more))) (All-head (IsItem query) item items known) (omega arith)
     ∙ items_read query rest ls items (before ++ item ∷ []) more cuts reads (All-tail (IsItem query) item items known) (omega (arith, length-append before (item ∷ [])))
@@ -89,7 +90,7 @@ frame_read = λ query written items more h known few. whole query written items 
         → reply (ListOf query) (frame (kind_of query) (option_to_list (ups_of query)) written ++ more) ≡ Whole items more
     whole query written items more ([], e, cut, reads) known fits = absurd reads
     whole query written items more (first ∷ ls, e, line {rest = rest} cut few cuts, (r, reads)) known fits =
-        ap (reply_from (ListOf query)) (first_found (frame (kind_of query) (option_to_list (ups_of query)) written) first rest more cut few)
+        ap (reply_from (ListOf query)) (the_first_line_is_found (frame (kind_of query) (option_to_list (ups_of query)) written) first rest more cut few)
         ∙ ap (λ words. after_first (ListOf query) (first_of (ListOf query) words) (rest ++ more)) (words_read first (begin_words query) r)
         ∙ begin_read query (rest ++ more)
         ∙ items_read query rest ls items [] more cuts reads known (omega arith)

@@ -25,7 +25,6 @@ pub fn each_request_is_read_as_asked()
 
 /// A client reads the text of a listing of up to 65,536 items as these items, in order, whatever
 /// follows it.
-#[tactic(auto, using(crate::proofs::FrameReading::frame_read))]
 pub fn a_frame_is_read_as_its_items()
     ensures { AFrameIsReadAsItsItems }
 {}

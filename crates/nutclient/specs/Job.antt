@@ -11,8 +11,9 @@ use Rattle.nutrequest.specs.declared.request.Request.{Request}
 use Rattle.nutrequest.specs.declared.request.Request.TheVariants.{List as ListOf, GetVar}
 use Rattle.nutrequest.specs.declared.request.Request.TheVariants.{GetNumAttach}
 use Rattle.nutrequest.specs.declared.request.Request.TheVariants.{Username, Password, SetVar}
-use Rattle.nutrequest.specs.declared.request.Request.TheVariants.{Instcmd, SetTracking, TrackedSetVar}
-use Rattle.nutrequest.specs.declared.request.Request.TheVariants.{TrackedInstcmd, GetTracking}
+use Rattle.nutrequest.specs.declared.request.Request.TheVariants.{Instcmd, SetTracking}
+use Rattle.nutrequest.specs.declared.request.Request.TheVariants.{TrackedSetVar, TrackedInstcmd}
+use Rattle.nutrequest.specs.declared.request.Request.TheVariants.{GetTracking}
 use Rattle.nutclient.specs.Target.{lawful, both, has_byte, server_of, local_server, ups_place_of}
 use Rattle.nutclient.specs.declared.limits.TheConstants.{USER_LIMIT, PASSWORD_LIMIT}
 use Rattle.nutclient.specs.Requests.{requests_in}
@@ -23,7 +24,8 @@ use Rattle.nutclient.specs.declared.form.Form.TheVariants.{Name, Value, Colon, E
 use Rattle.nutclient.specs.declared.given.Given.{Given}
 use Rattle.nutclient.specs.declared.given.Given.TheVariants.{Variables, Variable, Upses}
 use Rattle.nutclient.specs.declared.given.Given.TheVariants.{Descriptions, Clients, Attached}
-use Rattle.nutclient.specs.declared.given.Given.TheVariants.{Tracked, Writable, Set, Commands, Command}
+use Rattle.nutclient.specs.declared.given.Given.TheVariants.{Tracked, Writable, Set, Commands}
+use Rattle.nutclient.specs.declared.given.Given.TheVariants.{Command}
 
 -- A UPS and its server.
 abbrev pub UpsPlace : Type 0

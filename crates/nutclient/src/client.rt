@@ -1,5 +1,5 @@
 //! What each program has of its own: its words, and what they ask for.
-ghost use Rattle.std.specs.Prelude.{◌≡◌, IfOk, List};
+ghost use Rattle.std.specs.Prelude.{IfOk, List};
 ghost use Rattle.clap.specs.declared.parser.matches.ArgMatches.{ArgMatches};
 ghost use Rattle.nutclient.specs.declared.given.Given.{Given};
 ghost use Rattle.nutclient.specs.declared.program.Program.{Program};
@@ -11,8 +11,7 @@ use std::alloc::{AllocError, Global};
 
 /// A program of the three.
 pub trait Client {
-    /// Which of the programs it is.
-    ghost which: { Program };
+    ghost PROGRAM: { Program };
 
     /// The words that it takes.
     ghost words: { List Word };
@@ -20,14 +19,14 @@ pub trait Client {
     /// What the words that were found ask for.
     ghost asks: { ArgMatches → Given → Type 0 };
 
+    /// Which of the programs it is.
+    const PROGRAM: Program;
+
     /// What the program does, as its help says it.
     const ABOUT: &'static str;
 
     /// The example below its help.
     const EXAMPLE: &'static str;
-
-    fn program() -> Program
-        ensures { result ≡ which };
 
     /// The table of its words.
     fn words(alloc: Global) -> Result<Vec<Arg<'static>>, AllocError>

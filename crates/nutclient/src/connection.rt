@@ -23,25 +23,22 @@ pub fn connect(rt: &HostRuntime, target: &Target) -> Result<TcpStream, ClientFau
     open(rt, target.address()).map_err(|error| fault_of(&error))
 }
 
-/// The calls of the system that make a connection. No clause can say what they do.
+/// The calls of the system that make a connection, which sends each line at once. No clause can say what they do.
 fn open(rt: &HostRuntime, server: (&str, u16)) -> io::Result<TcpStream> {
     let wait = Duration::from_secs(WAIT_SECONDS);
     let mut last = io::Error::from(ErrorKind::NotFound);
     for address in server.to_socket_addrs(rt)? {
         match TcpStream::connect_timeout(rt, &address, wait) {
-            Ok(stream) => return set_up(stream, wait),
+            Ok(stream) => {
+                stream.set_nodelay(true)?;
+                stream.set_read_timeout(Some(wait))?;
+                stream.set_write_timeout(Some(wait))?;
+                return Ok(stream);
+            }
             Err(error) => last = error,
         }
     }
     Err(last)
-}
-
-/// The stream, which sends each line at once, and waits no longer than this.
-fn set_up(stream: TcpStream, wait: Duration) -> io::Result<TcpStream> {
-    stream.set_nodelay(true)?;
-    stream.set_read_timeout(Some(wait))?;
-    stream.set_write_timeout(Some(wait))?;
-    Ok(stream)
 }
 
 /// The fault of a connection that failed by this error.

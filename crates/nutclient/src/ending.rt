@@ -1,14 +1,13 @@
 //! How a program ends: its status, and the fault that it reports.
 ghost use Rattle.std.specs.Prelude.{◌≡◌};
-ghost use Rattle.nutrequest.specs.Fault.{status_of};
-ghost use Rattle.nutclient.specs.Ending.{fault_line, Reports, EndsBy};
+ghost use Rattle.nutclient.specs.Ending.{fault_line, EndsBy};
 
 use crate::Program;
 use nutio::{Sink, send};
 use nutrequest::ClientFault;
 use nutwords::Line;
 
-/// Ends the program by what came of it, and reports a fault.
+/// Ends the program by what came of it, and reports a fault. A line that isn't taken can't be reported either.
 pub(crate) fn conclude<E: Sink>(
     err: &mut E,
     program: Program,
@@ -18,17 +17,11 @@ pub(crate) fn conclude<E: Sink>(
 {
     match outcome {
         Ok(()) => 0,
-        Err(fault) => report(err, program, fault),
+        Err(fault) => {
+            let _ = send(err, &fault_line(program, fault));
+            fault.status()
+        }
     }
-}
-
-/// Reports a fault after the program's name, and returns its status. A line that isn't taken can't be reported either.
-fn report<E: Sink>(err: &mut E, program: Program, fault: &ClientFault) -> u8
-    ensures status { result ≡ status_of fault.now }
-    ensures reported { Reports E.contents E.failures (fault_line program fault.now) err.old err.new }
-{
-    let _ = send(err, &fault_line(program, fault));
-    fault.status()
 }
 
 /// The line that reports a fault, after the program's name.

@@ -4,14 +4,14 @@ ghost use Rattle.nutio.specs.Ends.{NoneFailed};
 ghost use Rattle.nutrequest.specs.State.{unread_of, reader_of, writer_of, is_over};
 ghost use Rattle.nutrequest.specs.declared.faults.ClientFault.{ClientFault};
 ghost use Rattle.nutclient.specs.Requests.{RequestsGive, requests_in};
-ghost use Rattle.nutclient.specs.Printed.{text_of, printed, PrintGives, RunGives, Answers};
+ghost use Rattle.nutclient.specs.Printed.{printed, RunGives, Answers};
 ghost use Rattle.nutclient.specs.Ending.{EndsBy, IsDone};
 
 use crate::ending::conclude;
-use crate::printed::text_of;
-use crate::{Form, Job, Program};
-use nutio::{Sink, Source, send};
-use nutrequest::{ClientFault, Items, Request, Session, ask};
+use crate::printed::print;
+use crate::{Job, Program};
+use nutio::{Sink, Source};
+use nutrequest::{ClientFault, Items, Session, ask};
 use std::alloc::Global;
 
 /// Does the job over a new session with these two ends: what a client program does once it is connected. It prints on `out`
@@ -76,45 +76,16 @@ pub fn run<R: Source, W: Sink, O: Sink>(
     if session.is_over() {
         return Err(ClientFault::EarlyEnd);
     }
-    let items = match ask_all(session, job.requests.as_slice()) {
-        Ok(items) => items,
-        Err(fault) => return Err(fault),
-    };
-    match print(session.alloc(), job.form, &items, out) {
-        Ok(()) => Ok(()),
-        Err(fault) => {
-            session.end();
-            Err(fault)
-        }
-    }
-}
-
-/// Sends each request once the one before is granted, and gives the items of the last reply.
-fn ask_all<R: Source, W: Sink>(
-    session: &mut Session<R, W>,
-    requests: &[Request],
-) -> Result<Items, ClientFault>
-    requires { is_over session.old ≡ false }
-    ensures gives { RequestsGive R.remaining R.failures W.contents W.failures requests.now
-        (unread_of session.old) (reader_of session.old) (writer_of session.old) result
-        (unread_of session.new) (reader_of session.new) (writer_of session.new) }
-    ensures fault { OnErr result (is_over session.new ≡ true) }
-    ensures goes_on { OnOk result (is_over session.new ≡ false) }
-{
     let mut items = Items::new(session.alloc());
-    for request in requests {
+    for request in job.requests.as_slice() {
         items = match ask(session, request) {
             Ok(items) => items,
             Err(fault) => return Err(fault),
         };
     }
-    Ok(items)
-}
-
-/// Prints the items, each on a line.
-fn print<O: Sink>(alloc: Global, form: Form, items: &Items, out: &mut O) -> Result<(), ClientFault>
-    ensures { PrintGives O.contents O.failures (text_of form items.now) out.old result out.new }
-{
-    let text = text_of(alloc, form, items)?;
-    send(out, text.as_slice()).map_err(|_| ClientFault::Write)
+    let printed = print(session.alloc(), job.form, &items, out);
+    if printed.is_err() {
+        session.end();
+    }
+    printed
 }

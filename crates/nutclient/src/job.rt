@@ -26,7 +26,7 @@ type Login = (Request, Request);
 type Order = (Target, Request);
 
 /// A UPS, and its server.
-type Place = (UpsName, Target);
+type UpsPlace = (UpsName, Target);
 
 impl Job {
     /// Reads what is asked for.
@@ -179,7 +179,7 @@ fn word(text: &str, most: usize) -> Option<Value>
 }
 
 /// The order to set a variable of a UPS.
-fn set_order(track: bool, place: Option<Place>, setting: &str) -> Option<Order>
+fn set_order(track: bool, place: Option<UpsPlace>, setting: &str) -> Option<Order>
     ensures { result ≡ set_order track place (setting_of setting.now) }
 {
     let (ups, target) = place?;
@@ -211,7 +211,7 @@ fn setting_parts(text: &str) -> Option<(Name, Value)>
 /// The order to do a command of a UPS, with a value or without.
 fn command_order(
     track: bool,
-    place: Option<Place>,
+    place: Option<UpsPlace>,
     name: &str,
     value: Option<&str>,
 ) -> Option<Order>

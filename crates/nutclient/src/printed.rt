@@ -1,20 +1,26 @@
 //! What is printed of the items of a reply.
-ghost use Rattle.std.specs.Prelude.{◌≡◌, ◌++◌, OnOk, IfOk};
-ghost use Rattle.nutclient.specs.Printed.{item_line, text_of};
+ghost use Rattle.std.specs.Prelude.{◌≡◌, ◌++◌, OnOk};
+ghost use Rattle.nutclient.specs.Printed.{item_line, text_of, PrintGives};
 
 use crate::Form;
-use nutrequest::{Item, Items};
+use nutio::{Sink, send};
+use nutrequest::{ClientFault, Item, Items};
 use std::alloc::{AllocError, Global};
 
-/// The lines that are printed of the items.
-pub(crate) fn text_of(alloc: Global, form: Form, items: &Items) -> Result<Vec<u8>, AllocError>
-    ensures { IfOk result (λ text. text.items ≡ text_of form items.now) }
+/// Prints the items, each on a line.
+pub(crate) fn print<O: Sink>(
+    alloc: Global,
+    form: Form,
+    items: &Items,
+    out: &mut O,
+) -> Result<(), ClientFault>
+    ensures { PrintGives O.contents O.failures (text_of form items.now) out.old result out.new }
 {
     let mut text = Vec::new(alloc);
     for item in items.as_slice() {
         put_line(&mut text, form, item)?;
     }
-    Ok(text)
+    send(out, text.as_slice()).map_err(|_| ClientFault::Write)
 }
 
 /// Adds the line that is printed of an item.

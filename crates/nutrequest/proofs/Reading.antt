@@ -15,7 +15,7 @@ pub line_fails : {R : Type 0} (remaining : R → Option (List ℕ)) (failures : 
 line_fails remaining failures reader mid after old kept came new EarlyEnd h same none few f =
     (came ++ [], received_joins remaining failures reader mid after came [] h f.0, f.1, rw append-nil (first_open (old ++ came) kept same none few))
 line_fails remaining failures reader mid after old kept came new Read h same none few f =
-    (came ++ [], read_failed_joins remaining failures reader mid after came [] h f.0, rw append-nil (first_open (old ++ came) kept same none few))
+    (came ++ [], read_failed_joins remaining failures reader mid after came [] h f, rw append-nil (first_open (old ++ came) kept same none few))
 line_fails remaining failures reader mid after old kept came new Connect h same none few f = absurd f
 line_fails remaining failures reader mid after old kept came new Write h same none few f = absurd f
 line_fails remaining failures reader mid after old kept came new (ErrWord w) h same none few f = absurd f

@@ -6,7 +6,8 @@ use Rattle.nutio.specs.Ends.{Received, Written}
 use Rattle.nutrequest.specs.Inbox.{LineGives}
 use Rattle.nutrequest.specs.Request.{request_line}
 use Rattle.nutrequest.specs.Reply.{Reply, Bad, Unfinished, reply, items_from, later_of, after_later, after_expected, expected_of}
-use Rattle.nutrequest.specs.Session.{Fails, FirstGives, AddGives, ItemsGive, ReplyGives, AskGives}
+use Rattle.nutrequest.specs.Session.{Fails, AddGives, ItemsGive, ReplyGives, AskGives}
+use Rattle.nutrequest.specs.declared.read.LaterLine.{LaterLine}
 use Rattle.nutrequest.specs.declared.read.LaterLine.TheVariants.{Another}
 use Rattle.nutrequest.specs.declared.item.Item.{Item}
 use Rattle.nutrequest.specs.declared.request.Query.{Query}
@@ -48,14 +49,15 @@ pub behind : (F : List ℕ → Reply) (f : List FoundLine → Reply) (x y kept n
 behind F f x y kept new line h k more = ap F (append_assoc x y more) ∙ h (y ++ more) ∙ ap f (k more)
 
 -- one later line more of a listing
-pub later_line : (query : Query) (items : List Item) (F : List ℕ → Reply) (x y kept new line words_line : List ℕ)
+pub later_line : (query : Query) (items : List Item) (F : List ℕ → Reply) (x y kept new line words_line : List ℕ) (later : LaterLine)
     → ((more : List ℕ) → F (x ++ more) ≡ items_from query items (lines (kept ++ more)))
     → ((more : List ℕ) → lines (kept ++ (y ++ more)) ≡ Line line (new ++ more) ∷ lines (new ++ more))
-    → words_line ≡ line
-    → (more : List ℕ) → F ((x ++ y) ++ more) ≡ after_later (later_of query (words_of words_line)) items (new ++ more) (λ all. items_from query all (lines (new ++ more)))
-later_line query items F x y kept new line words_line h k e more =
+    → words_line ≡ line → later_of query (words_of words_line) ≡ later
+    → (more : List ℕ) → F ((x ++ y) ++ more) ≡ after_later later items (new ++ more) (λ all. items_from query all (lines (new ++ more)))
+later_line query items F x y kept new line words_line later h k e is more =
     behind F (items_from query items) x y kept new line h k more
     ∙ ap (λ l. after_later (later_of query (words_of l)) items (new ++ more) (λ all. items_from query all (lines (new ++ more)))) (sym e)
+    ∙ ap (λ l. after_later l items (new ++ more) (λ all. items_from query all (lines (new ++ more)))) is
 
 -- the answer is the reply's, where the request was sent
 pub asked_of_reply : {R W : Type 0} (remaining : R → Option (List ℕ)) (failures : R → ℕ) (contents : W → Option (List ℕ)) (write_failures : W → ℕ) (request : Request) (old new : List ℕ) (reader after : R) (writer sent : W) (result : Result (List Item) ClientFault)
@@ -72,13 +74,13 @@ asked_of_reply remaining failures contents write_failures request old new reader
 asked_of_reply remaining failures contents write_failures request old new reader after writer sent (Err Memory) t r = (t, r)
 
 -- what the items give, after the first line, is what the reply gives
-pub reply_behind : {R : Type 0} (remaining : R → Option (List ℕ)) (failures : R → ℕ) (request : Request) (query : Query) (value old kept new : List ℕ) (reader mid after : R) (result : Result (List Item) ClientFault)
-    → request ≡ ListOf query → FirstGives remaining failures request old reader (Ok value) kept mid
+pub reply_behind : {R : Type 0} (remaining : R → Option (List ℕ)) (failures : R → ℕ) (request : Request) (query : Query) (value old kept new came : List ℕ) (reader mid after : R) (result : Result (List Item) ClientFault)
+    → request ≡ ListOf query → Received remaining failures reader came mid → ((more : List ℕ) → reply request (old ++ (came ++ more)) ≡ after_expected request value (kept ++ more))
     → ItemsGive remaining failures query kept mid result new after → ReplyGives remaining failures request old reader result new after
-reply_behind remaining failures request query value old kept new reader mid after (Ok items) e f r =
-    (f.0 ++ r.0, received_joins remaining failures reader mid after f.0 r.0 f.1 r.1, λ more. ap (λ bs. reply request (old ++ bs)) (append_assoc f.0 r.0 more) ∙ f.2 (r.0 ++ more) ∙ ap (λ q. after_expected q value (kept ++ (r.0 ++ more))) e ∙ r.2 more)
-reply_behind remaining failures request query value old kept new reader mid after (Err fault) e f r =
-    fails_behind remaining failures (λ bs. reply request (old ++ bs)) (λ bs. items_from query [] (lines (kept ++ bs))) f.0 reader mid after fault f.1 (λ more. f.2 more ∙ ap (λ q. after_expected q value (kept ++ more)) e) r
+reply_behind remaining failures request query value old kept new came reader mid after (Ok items) e c f r =
+    (came ++ r.0, received_joins remaining failures reader mid after came r.0 c r.1, λ more. ap (λ bs. reply request (old ++ bs)) (append_assoc came r.0 more) ∙ f (r.0 ++ more) ∙ ap (λ q. after_expected q value (kept ++ (r.0 ++ more))) e ∙ r.2 more)
+reply_behind remaining failures request query value old kept new came reader mid after (Err fault) e c f r =
+    fails_behind remaining failures (λ bs. reply request (old ++ bs)) (λ bs. items_from query [] (lines (kept ++ bs))) came reader mid after fault c (λ more. f more ∙ ap (λ q. after_expected q value (kept ++ more)) e) r
 
 -- no request is granted by a line without words
 pub unexpected : (request : Request) → expected_of request [] ≡ None

@@ -1,28 +1,18 @@
 -- Bytes that a client has read, cut into lines.
-use Rattle.std.specs.Prelude.{◌≡◌, ℕ, ◌<◌, ◌≤◌, List, [], ◌∷◌, ◌++◌, length, take, drop, Some, None}
+use Rattle.std.specs.Prelude.{◌≡◌, ℕ, ◌<◌, List, [], ◌∷◌, ◌++◌, length, drop}
 use Rattle.std.specs.Prelude.{Option, Result, Ok, Err}
 use Rattle.std.specs.Io.KnownBytes.{IsAtEnd}
-use Rattle.nutwords.specs.SplitLine.{split_line}
 use Rattle.nutwords.specs.declared.limits.TheConstants.{LINE_ROOM}
 use Rattle.nutio.specs.Ends.{Received, ReadFailed}
 use Rattle.nutrequest.specs.Lines.{lines, Line, TooLong}
 use Rattle.nutrequest.specs.declared.faults.ClientFault.{ClientFault}
 use Rattle.nutrequest.specs.declared.faults.ClientFault.TheVariants.{Read, EarlyEnd, BadReply}
 use Rattle.nutrequest.specs.declared.inbox.Inbox.{Inbox}
-use Rattle.nutwords.specs.declared.cut.Cut.{Cut}
-use Rattle.nutwords.specs.declared.cut.Cut.TheVariants.{Line as CutLine, More, TooLong as CutTooLong}
 use Rattle.arrayvec.specs.declared.array_vec.ArrayVec.{ArrayVec}
 
 -- the bytes read and not used
 abbrev pub unread : Inbox → List ℕ
 unread i = i.cut ++ drop i.used i.kept.items
-
--- the first line where it is whole and short enough
-abbrev pub NextGives : List ℕ → Cut → List ℕ → Type 0
-NextGives old (CutLine line used) new =
-    (split_line old ≡ Some (line.items, new)) × (length line.items < LINE_ROOM)
-NextGives old More new = (split_line old ≡ None) × (length old < LINE_ROOM) × (new ≡ old)
-NextGives old CutTooLong new = (split_line (take LINE_ROOM old) ≡ None) × (LINE_ROOM ≤ length old)
 
 -- Some bytes more; or the reader ended or failed, and nothing came. No other fault comes.
 abbrev pub FillGives : {R : Type 0} → (R → Option (List ℕ)) → (R → ℕ) → List ℕ → R
@@ -31,9 +21,9 @@ FillGives remaining failures old reader (Ok u) new after =
     (came : List ℕ) × Received remaining failures reader came after × (0 < length came)
     × (new ≡ old ++ came)
 FillGives remaining failures old reader (Err EarlyEnd) new after =
-    Received remaining failures reader [] after × IsAtEnd (remaining after) × (new ≡ old)
+    Received remaining failures reader [] after × IsAtEnd (remaining after)
 FillGives remaining failures old reader (Err Read) new after =
-    ReadFailed remaining failures reader [] after × (new ≡ old)
+    ReadFailed remaining failures reader [] after
 FillGives remaining failures old reader result new after = ⊥
 
 -- The next line of what was kept and what came, whatever follows; no line can follow; or no

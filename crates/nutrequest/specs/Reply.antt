@@ -24,13 +24,13 @@ use Rattle.nutrequest.specs.declared.read.FirstLine.{FirstLine}
 use Rattle.nutrequest.specs.declared.read.FirstLine.TheVariants.{Expected, Refusal, Bad as BadFirst}
 use Rattle.nutrequest.specs.declared.read.LaterLine.{LaterLine}
 use Rattle.nutrequest.specs.declared.read.LaterLine.TheVariants.{End, Another, Bad as BadLater}
-use Rattle.nutrequest.specs.declared.read.Text.{Text}
-use Rattle.nutrequest.specs.declared.read.Text.TheVariants.{Fixed, Word, Id, Failure}
+use Rattle.nutrequest.specs.declared.read.Excerpt.{Excerpt}
+use Rattle.nutrequest.specs.declared.read.Excerpt.TheVariants.{Fixed, Word, Id, Failure}
 use Rattle.nutrequest.specs.Lines.{lines, FoundLine, Line, TooLong}
 use Rattle.nutrequest.specs.Request.{asked_words, has_value}
 
 -- The bytes of a text in a line.
-abbrev pub bytes_in : Text → List ℕ
+abbrev pub bytes_in : Excerpt → List ℕ
 bytes_in (Fixed text) = text.now
 bytes_in (Word word) = bytes_of word
 bytes_in (Id id) = id_text id
@@ -163,7 +163,8 @@ abbrev pub item_of : Query → List (List ℕ) → Option Item
 item_of query [] = None
 item_of query (name ∷ rest) =
     if is_item_name query name
-    then option_map (λ value. record { name = name; value = value }) (value_in (has_value query) rest)
+    then option_map (λ value. record { name = name; value = value })
+    (value_in (has_value query) rest)
     else None
 
 -- What a line after BEGIN is: the END of the same words, an item, or none of them.

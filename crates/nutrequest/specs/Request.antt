@@ -9,9 +9,10 @@ use Rattle.nutrequest.specs.declared.request.Query.TheVariants.{Ups, Var, Rw, Cm
 use Rattle.nutrequest.specs.declared.request.Request.{Request}
 use Rattle.nutrequest.specs.declared.request.Request.TheVariants.{List as ListOf, GetVar}
 use Rattle.nutrequest.specs.declared.request.Request.TheVariants.{GetNumAttach}
-use Rattle.nutrequest.specs.declared.request.Request.TheVariants.{Username, Password, SetVar, Instcmd}
-use Rattle.nutrequest.specs.declared.request.Request.TheVariants.{SetTracking, TrackedSetVar}
-use Rattle.nutrequest.specs.declared.request.Request.TheVariants.{TrackedInstcmd, GetTracking}
+use Rattle.nutrequest.specs.declared.request.Request.TheVariants.{Username, Password, SetVar}
+use Rattle.nutrequest.specs.declared.request.Request.TheVariants.{Instcmd, SetTracking}
+use Rattle.nutrequest.specs.declared.request.Request.TheVariants.{TrackedSetVar, TrackedInstcmd}
+use Rattle.nutrequest.specs.declared.request.Request.TheVariants.{GetTracking}
 
 -- The word of a listing's kind.
 abbrev pub kind_of : Query → List ℕ

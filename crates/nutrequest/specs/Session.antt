@@ -6,7 +6,7 @@ use Rattle.nutio.specs.Ends.{Received, ReadFailed, Written, WriteFailed}
 use Rattle.nutrequest.specs.Lines.{lines}
 use Rattle.nutrequest.specs.Request.{request_line}
 use Rattle.nutrequest.specs.Reply.{Reply, Refused, Whole, Bad, Unfinished, reply, items_from}
-use Rattle.nutrequest.specs.Reply.{has_room, after_expected}
+use Rattle.nutrequest.specs.Reply.{has_room}
 use Rattle.nutrequest.specs.declared.item.Item.{Item}
 use Rattle.nutrequest.specs.declared.request.Query.{Query}
 use Rattle.nutrequest.specs.declared.request.Request.{Request}
@@ -44,13 +44,8 @@ ReadGives remaining failures reading whole reader (Ok value) new after =
 ReadGives remaining failures reading whole reader (Err fault) new after =
     Fails remaining failures (λ came r. reading came ≡ r) reader fault after
 
--- The first line of a reply holds this value, and the rest of the reply follows what came.
-abbrev pub FirstGives : {R : Type 0} → (R → Option (List ℕ)) → (R → ℕ) → Request → List ℕ → R
-    → Result (List ℕ) ClientFault → List ℕ → R → Type 0
-FirstGives remaining failures request old =
-    ReadGives remaining failures (λ came. reply request (old ++ came)) (after_expected request)
-
--- What becomes of the items of a listing with one more; it has 65,536 at most. No other fault comes.
+-- What becomes of the items of a listing with one more; it has 65,536 at most. No other
+-- fault comes.
 abbrev pub AddGives : List Item → Item → Result (Unit {0}) ClientFault → List Item → Type 0
 AddGives old item (Ok done) new = (has_room old ≡ true) × (new ≡ old ++ item ∷ [])
 AddGives old item (Err BadReply) new = (has_room old ≡ false) × (new ≡ old)

@@ -16,7 +16,7 @@ pub struct Inbox {
 }
 
 impl Inbox {
-    ghost use Rattle.nutrequest.specs.Inbox.{unread, NextGives, FillGives, LineGives};
+    ghost use Rattle.nutrequest.specs.Inbox.{unread, FillGives, LineGives};
 
     pub(crate) fn new() -> Inbox
         ensures { unread result ≡ [] }
@@ -28,23 +28,9 @@ impl Inbox {
         }
     }
 
-    /// The next line that is whole.
-    fn take_line(&mut self) -> Cut
-        ensures gives { NextGives (unread self.old) result (unread self.new) }
-        ensures used_up { result ≡ Cut.More → self.new.used ≡ length self.new.kept.items }
-    {
-        let cut = self.cut.next(&self.kept[self.used..]);
-        match &cut {
-            Cut::Line(_, used) => self.used += *used,
-            Cut::More | Cut::TooLong => self.used = self.kept.len(),
-        }
-        cut
-    }
-
-    /// Reads some bytes.
+    /// Reads some bytes, which come after those that the cut holds.
     fn fill<R: Source>(&mut self, reader: &mut R) -> Result<(), ClientFault>
-        requires { self.old.used ≡ length self.old.kept.items }
-        ensures { FillGives R.remaining R.failures (unread self.old) reader.old result
+        ensures { FillGives R.remaining R.failures self.old.cut reader.old result
             (unread self.new) reader.new }
     {
         let mut bytes = [0; LINE_ROOM];
@@ -66,8 +52,11 @@ impl Inbox {
             (unread self.new) reader.new }
     {
         loop {
-            match self.take_line() {
-                Cut::Line(line, _) => return Ok(line),
+            match self.cut.next(&self.kept[self.used..]) {
+                Cut::Line(line, used) => {
+                    self.used += used;
+                    return Ok(line);
+                }
                 Cut::TooLong => return Err(ClientFault::BadReply),
                 Cut::More => self.fill(reader)?,
             }

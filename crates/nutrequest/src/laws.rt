@@ -1,6 +1,6 @@
 //! Laws of the definitions that the contracts of this crate cite. No program calls them.
 ghost use Rattle.std.specs.Prelude.{◌≡◌};
-ghost use Rattle.nutrequest.specs.Lines.{LinesAreThoseOfTheCut};
+ghost use Rattle.nutrequest.specs.Lines.{TheFirstLineIsFound};
 ghost use Rattle.nutrequest.specs.declared.limits.TheConstants.{ITEM_LIMIT, COUNT_LIMIT};
 
 /// The most items of a listing that a client reads, and the greatest number of logged-in clients.
@@ -11,5 +11,5 @@ pub fn limits()
 
 /// A reply is read from the lines into which nutwords cuts the bytes.
 pub fn lines_are_those_of_the_cut()
-    ensures { LinesAreThoseOfTheCut }
+    ensures { TheFirstLineIsFound }
 {}

@@ -38,7 +38,7 @@ pub(crate) enum LaterLine {
 
 /// A text in a line, before memory is taken for it.
 #[derive(Drop)]
-pub(crate) enum Text<'a> {
+pub(crate) enum Excerpt<'a> {
     /// A text of the protocol.
     Fixed(&'static [u8]),
     /// A word of the line.
@@ -49,17 +49,17 @@ pub(crate) enum Text<'a> {
     Failure(Word<'a>),
 }
 
-impl Text<'_> {
+impl Excerpt<'_> {
     /// Its bytes.
     fn to_bytes(&self, alloc: Global) -> Result<Bytes, AllocError>
         ensures { IfOk result (λ bytes. bytes ≡ bytes_in self.now) }
     {
         let mut text = Vec::new(alloc);
         match self {
-            Text::Fixed(bytes) => text.extend_from_slice(bytes)?,
-            Text::Word(word) => text.extend_from_slice(word.as_bytes())?,
-            Text::Id(id) => text.extend_from_slice(&id_text(*id))?,
-            Text::Failure(number) => {
+            Excerpt::Fixed(bytes) => text.extend_from_slice(bytes)?,
+            Excerpt::Word(word) => text.extend_from_slice(word.as_bytes())?,
+            Excerpt::Id(id) => text.extend_from_slice(&id_text(*id))?,
+            Excerpt::Failure(number) => {
                 text.extend_from_slice(b"FAILED ")?;
                 text.extend_from_slice(number.as_bytes())?;
             }
@@ -108,20 +108,20 @@ pub(crate) fn later_line(alloc: Global, query: &Query, line: &[u8]) -> Result<La
 }
 
 /// The value in the words, where they grant the request.
-fn expected<'a>(request: &Request, words: Words<'a>) -> Option<Text<'a>>
+fn expected<'a>(request: &Request, words: Words<'a>) -> Option<Excerpt<'a>>
     ensures { option_map bytes_in result ≡ expected_of request.now words.entry }
 {
     match request {
-        Request::List(query) => begin(query, words),
+        Request::List(query) => is_frame(b"BEGIN", query, words).then_some(Excerpt::Fixed(b"")),
         Request::GetVar(ups, name) => {
-            value(behind(&[b"VAR", ups.as_bytes(), name.as_bytes()], words))
+            only_word(behind(&[b"VAR", ups.as_bytes(), name.as_bytes()], words)).map(Excerpt::Word)
         }
         Request::GetNumAttach(ups) => count(behind(&[b"NUMATTACH", ups.as_bytes()], words)),
         Request::TrackedSetVar(_, _, _) | Request::TrackedInstcmd(_, _, _) => {
             id(behind(&[b"OK", b"TRACKING"], words))
         }
         Request::GetTracking(id) => progress_of(*id, behind(&[b"TRACKING"], words)),
-        _ => ok(words),
+        _ => is_nothing(behind(&[b"OK"], words)).then_some(Excerpt::Fixed(b"OK")),
     }
 }
 
@@ -171,68 +171,34 @@ fn behind_asked<'a>(query: &Query, words: Words<'a>) -> Option<Words<'a>>
 }
 
 /// Whether the words begin or end the listing.
-fn is_frame<'x>(verb: &'x [u8], query: &'x Query, words: Words<'_>) -> bool
+fn is_frame(verb: &[u8], query: &Query, words: Words<'_>) -> bool
     ensures { result ≡ is_frame verb.now query.now words.entry }
 {
-    match query.ups() {
-        Some(ups) => is_nothing(behind(&[verb, b"LIST", query.kind(), ups.as_bytes()], words)),
-        None => is_nothing(behind(&[verb, b"LIST", query.kind()], words)),
+    match behind(&[verb, b"LIST"], words) {
+        Some(words) => is_nothing(behind_asked(query, words)),
+        None => false,
     }
-}
-
-/// This text, where the test passes.
-fn fixed<'a>(text: &'static [u8], passes: bool) -> Option<Text<'a>>
-    ensures { option_map bytes_in result ≡ (if passes then Some text.entry.now else None) }
-{
-    if passes {
-        Some(Text::Fixed(text))
-    } else {
-        None
-    }
-}
-
-/// Nothing, where the words begin the listing.
-fn begin<'a>(query: &Query, words: Words<'a>) -> Option<Text<'a>>
-    ensures { option_map bytes_in result
-        ≡ (if is_frame (codes "BEGIN") query.now words.entry then Some [] else None) }
-{
-    fixed(b"", is_frame(b"BEGIN", query, words))
-}
-
-/// OK, where the words are nothing else.
-fn ok<'a>(words: Words<'a>) -> Option<Text<'a>>
-    ensures { option_map bytes_in result ≡ (if is_nothing (behind (codes "OK" ∷ []) words.entry)
-        then Some (codes "OK") else None) }
-{
-    fixed(b"OK", is_nothing(behind(&[b"OK"], words)))
-}
-
-/// The one word after.
-fn value<'a>(words: Option<Words<'a>>) -> Option<Text<'a>>
-    ensures { option_map bytes_in result ≡ only_word words.entry }
-{
-    Some(Text::Word(only_word(words)?))
 }
 
 /// The one word after, where it is a number of clients.
-fn count<'a>(words: Option<Words<'a>>) -> Option<Text<'a>>
+fn count<'a>(words: Option<Words<'a>>) -> Option<Excerpt<'a>>
     ensures { option_map bytes_in result ≡ count_in (only_word words.entry) }
 {
     let word = only_word(words)?;
     read_natural(word.as_bytes(), COUNT_LIMIT)?;
-    Some(Text::Word(word))
+    Some(Excerpt::Word(word))
 }
 
 /// The one word after, where it is an id.
-fn id<'a>(words: Option<Words<'a>>) -> Option<Text<'a>>
+fn id<'a>(words: Option<Words<'a>>) -> Option<Excerpt<'a>>
     ensures { option_map bytes_in result ≡ id_in (only_word words.entry) }
 {
     let word = only_word(words)?;
-    Some(Text::Id(read_id(word.as_bytes())?))
+    Some(Excerpt::Id(read_id(word.as_bytes())?))
 }
 
 /// How far the order of this id has come, where the words after begin with it.
-fn progress_of<'a>(id: u128, words: Option<Words<'a>>) -> Option<Text<'a>>
+fn progress_of<'a>(id: u128, words: Option<Words<'a>>) -> Option<Excerpt<'a>>
     ensures { option_map bytes_in result ≡ option_and_then (progress_of id) words.entry }
 {
     let mut words = words?;
@@ -245,7 +211,7 @@ fn progress_of<'a>(id: u128, words: Option<Words<'a>>) -> Option<Text<'a>>
 }
 
 /// How far an order has come.
-fn progress<'a>(mut words: Words<'a>) -> Option<Text<'a>>
+fn progress<'a>(mut words: Words<'a>) -> Option<Excerpt<'a>>
     ensures { option_map bytes_in result ≡ progress_in words.entry }
 {
     let word = words.next()?;
@@ -254,10 +220,10 @@ fn progress<'a>(mut words: Words<'a>) -> Option<Text<'a>>
         if read_natural(number.as_bytes(), u64::from(DONE_LIMIT))? == 0 {
             return None;
         }
-        return Some(Text::Failure(number));
+        return Some(Excerpt::Failure(number));
     }
     if stands_alone(word.as_bytes()) && is_nothing(Some(words)) {
-        Some(Text::Word(word))
+        Some(Excerpt::Word(word))
     } else {
         None
     }
@@ -304,8 +270,9 @@ fn is_error_byte(b: u8) -> bool
     b.is_ascii_alphabetic() || b == b'-'
 }
 
-/// The name and the value of the item that the words are, if they are one.
-fn item<'a>(query: &Query, words: Words<'a>) -> Option<(Text<'a>, Text<'a>)>
+/// The name and the value of the item that the words are, if they are one. The value is the one word that is left, or
+/// nothing where items have no value and no word is left.
+fn item<'a>(query: &Query, words: Words<'a>) -> Option<(Excerpt<'a>, Excerpt<'a>)>
     ensures { option_map (λ i. record { name = bytes_in i.0; value = bytes_in i.1 }) result
         ≡ option_and_then (item_of query.now) (behind (asked_words query.now) words.entry) }
 {
@@ -314,19 +281,12 @@ fn item<'a>(query: &Query, words: Words<'a>) -> Option<(Text<'a>, Text<'a>)>
     if !is_item_name(query, name.as_bytes()) {
         return None;
     }
-    let value = item_value(query.has_value(), words)?;
-    Some((Text::Word(name), value))
-}
-
-/// The value of an item: the one word that is left, or nothing where items have no value and no word is left.
-fn item_value<'a>(has_value: bool, words: Words<'a>) -> Option<Text<'a>>
-    ensures { option_map bytes_in result ≡ value_in has_value words.entry }
-{
-    if has_value {
-        value(Some(words))
+    let value = if query.has_value() {
+        only_word(Some(words)).map(Excerpt::Word)
     } else {
-        fixed(b"", is_nothing(Some(words)))
-    }
+        is_nothing(Some(words)).then_some(Excerpt::Fixed(b""))
+    };
+    Some((Excerpt::Word(name), value?))
 }
 
 /// Whether an item of the listing may have this name.

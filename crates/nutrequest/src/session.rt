@@ -3,7 +3,7 @@ ghost use Rattle.std.specs.Prelude.{◌≡◌, [], Err, OnErr, OnOk, MatchResult
 ghost use Rattle.nutrequest.specs.Reply.{one_item};
 ghost use Rattle.nutrequest.specs.Inbox.{unread};
 ghost use Rattle.nutrequest.specs.State.{unread_of, reader_of, writer_of, is_over};
-ghost use Rattle.nutrequest.specs.Session.{FirstGives, ItemsGive, ReplyGives, AskGives};
+ghost use Rattle.nutrequest.specs.Session.{ItemsGive, ReplyGives, AskGives};
 
 use crate::inbox::Inbox;
 use crate::line::request_line;
@@ -61,21 +61,9 @@ impl<R: Source, W: Sink> Session<R, W> {
     {
         self.is_over = true;
     }
-
-    /// Sends the request's line and reads its reply.
-    fn exchange(&mut self, request: &Request) -> Result<Items, ClientFault>
-        ensures { AskGives R.remaining R.failures W.contents W.failures request.now
-            (unread self.old.inbox) self.old.reader self.old.writer result
-            (unread self.new.inbox) self.new.reader self.new.writer }
-    {
-        let Ok(()) = send(&mut self.writer, &request_line(request)) else {
-            return Err(ClientFault::Write);
-        };
-        read_reply(self.alloc, &mut self.inbox, &mut self.reader, request)
-    }
 }
 
-/// Asks, and gives the reply's items once the reply is whole.
+/// Sends the request's line, and gives the reply's items once the reply is whole.
 pub fn ask<R: Source, W: Sink>(
     session: &mut Session<R, W>,
     request: &Request,
@@ -93,9 +81,18 @@ pub fn ask<R: Source, W: Sink>(
     if session.is_over {
         return Err(ClientFault::EarlyEnd);
     }
-    let result = session.exchange(request);
-    session.is_over = result.is_err();
-    result
+    session.is_over = true;
+    if send(&mut session.writer, &request_line(request)).is_err() {
+        return Err(ClientFault::Write);
+    }
+    let items = read_reply(
+        session.alloc,
+        &mut session.inbox,
+        &mut session.reader,
+        request,
+    )?;
+    session.is_over = false;
+    Ok(items)
 }
 
 /// Reads the reply to a request.
@@ -108,28 +105,15 @@ fn read_reply<R: Source>(
     ensures { ReplyGives R.remaining R.failures request.now (unread inbox.old) reader.old result
         (unread inbox.new) reader.new }
 {
-    let value = read_first(alloc, inbox, reader, request)?;
+    let line = inbox.line(reader)?;
+    let value = match first_line(alloc, request, &line)? {
+        FirstLine::Expected(value) => value,
+        FirstLine::Refusal(word) => return Err(ClientFault::ErrWord(word)),
+        FirstLine::Bad => return Err(ClientFault::BadReply),
+    };
     match request {
         Request::List(query) => read_items(alloc, inbox, reader, query),
         _ => one_item(alloc, value),
-    }
-}
-
-/// Reads the first line of a reply, and returns the value in it.
-fn read_first<R: Source>(
-    alloc: Global,
-    inbox: &mut Inbox,
-    reader: &mut R,
-    request: &Request,
-) -> Result<Bytes, ClientFault>
-    ensures { FirstGives R.remaining R.failures request.now (unread inbox.old) reader.old result
-        (unread inbox.new) reader.new }
-{
-    let line = inbox.line(reader)?;
-    match first_line(alloc, request, &line)? {
-        FirstLine::Expected(value) => Ok(value),
-        FirstLine::Refusal(word) => Err(ClientFault::ErrWord(word)),
-        FirstLine::Bad => Err(ClientFault::BadReply),
     }
 }
 

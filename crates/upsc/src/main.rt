@@ -17,19 +17,17 @@ fn main(rt: HostRuntime) -> ExitCode {
 struct Upsc;
 
 impl Client for Upsc {
-    ghost which = { program.Upsc };
+    ghost PROGRAM = { program.Upsc };
 
     ghost words = { upsc_words };
 
     ghost asks = { IsAsked };
 
+    const PROGRAM: Program = Program::Upsc;
+
     const ABOUT: &'static str = "Shows what a UPS server knows about a UPS (RFC 9271)";
 
     const EXAMPLE: &'static str = "Example: upsc su@localhost ups.status";
-
-    fn program() -> Program {
-        Program::Upsc
-    }
 
     fn words(alloc: Global) -> Result<Vec<Arg<'static>>, AllocError> {
         let mut words = Vec::new(alloc);

@@ -17,20 +17,18 @@ fn main(rt: HostRuntime) -> ExitCode {
 struct Upscmd;
 
 impl Client for Upscmd {
-    ghost which = { program.Upscmd };
+    ghost PROGRAM = { program.Upscmd };
 
     ghost words = { upscmd_words };
 
     ghost asks = { IsAsked };
 
+    const PROGRAM: Program = Program::Upscmd;
+
     const ABOUT: &'static str = "Lists the commands of a UPS, or sends one (RFC 9271)";
 
     const EXAMPLE: &'static str =
         "Example: upscmd -u admin -p change-me su@localhost test.battery.start";
-
-    fn program() -> Program {
-        Program::Upscmd
-    }
 
     fn words(alloc: Global) -> Result<Vec<Arg<'static>>, AllocError> {
         let mut words = Vec::new(alloc);

@@ -17,21 +17,19 @@ fn main(rt: HostRuntime) -> ExitCode {
 struct Upsrw;
 
 impl Client for Upsrw {
-    ghost which = { program.Upsrw };
+    ghost PROGRAM = { program.Upsrw };
 
     ghost words = { upsrw_words };
 
     ghost asks = { IsAsked };
+
+    const PROGRAM: Program = Program::Upsrw;
 
     const ABOUT: &'static str =
         "Shows the variables of a UPS that can be set, or sets one (RFC 9271)";
 
     const EXAMPLE: &'static str =
         "Example: upsrw -s ups.delay=30 -u admin -p change-me su@localhost";
-
-    fn program() -> Program {
-        Program::Upsrw
-    }
 
     fn words(alloc: Global) -> Result<Vec<Arg<'static>>, AllocError> {
         let mut words = Vec::new(alloc);

@@ -1,11 +1,63 @@
-use Rattle.std.proofs.Common.{Err, refl, subst, inl}
+use Rattle.std.proofs.Common.{◌+◌, ◌∙◌, Err, List, drop, inl, refl, sym, subst}
 use Rattle.nutrequest.specs.State.{unread_of, reader_of, writer_of}
+use Rattle.nutrequest.specs.declared.request.Request.{Request}
 use Rattle.nutclient.specs.Requests.{RequestsGive}
+use Rattle.nutclient.proofs.Underway.{IsUnderWay, starts, goes_further, ends_early, comes_next}
 use Rattle.nutclient.proofs.engine.run.Goals as goal
 
+pub loop-request-init : goal.loop-request-init
+loop-request-init g c =
+    let all : List Request = c.as_slice-request-items.result.now in
+    let old = unread_of c.args.session.now in
+    let reader = reader_of c.args.session.now in
+    let writer = writer_of c.args.session.now in
+    record {
+      under_way = subst (λ items. IsUnderWay g.R.Source.remaining g.R.Source.failures g.W.Sink.contents g.W.Sink.failures
+          all old reader writer items all old reader writer) (sym c.new-items.ensures)
+          (starts g.R.Source.remaining g.R.Source.failures g.W.Sink.contents g.W.Sink.failures all old reader writer);
+      goes_on = sym c.is_over.ensures ∙ c.if-is_over.false;
+    }
+
 pub returns-in-Err-clause-gives : goal.returns-in-Err-clause-gives
-returns-in-Err-clause-gives g c h = inl (
-  subst (λ requests. RequestsGive g.R.Source.remaining g.R.Source.failures g.W.Sink.contents g.W.Sink.failures requests (unread_of c.args.session.now) (reader_of c.args.session.now) (writer_of c.args.session.now)
-      (Err c.in-Err.fault) (unread_of c.ask_all.new.session) (reader_of c.ask_all.new.session) (writer_of c.ask_all.new.session)) c.as_slice.ensures c.in-Err.ensures.gives,
-  refl,
-)
+returns-in-Err-clause-gives g c h =
+    let all : List Request = c.as_slice-request-items.result.now in
+    let l = c.loop-request in
+    let old = unread_of c.args.session.now in
+    let reader = reader_of c.args.session.now in
+    let writer = writer_of c.args.session.now in
+    let request = c.request-item.result in
+    let kept = unread_of l.session in
+    let mid = reader_of l.session in
+    let middle = writer_of l.session in
+    let next = comes_next g.R.Source.remaining g.R.Source.failures g.W.Sink.contents g.W.Sink.failures all old reader writer
+    l.items l.request-index request kept mid middle l.invariant.under_way c.loop-request-test.true c.request-item.is in
+    inl (
+      subst (λ requests. RequestsGive g.R.Source.remaining g.R.Source.failures g.W.Sink.contents g.W.Sink.failures requests old reader writer
+          (Err c.in-Err.fault) (unread_of c.ask.new.session) (reader_of c.ask.new.session) (writer_of c.ask.new.session)) c.as_slice-request-items.ensures
+          (ends_early g.R.Source.remaining g.R.Source.failures g.W.Sink.contents g.W.Sink.failures all old reader writer
+          l.items request (drop (l.request-index + 1) all) kept mid middle next
+          (unread_of c.ask.new.session) (reader_of c.ask.new.session) (writer_of c.ask.new.session) c.in-Err.fault
+          (c.in-Err.ensures.reply l.invariant.goes_on)),
+      refl,
+    )
+
+pub loop-request-preserved : goal.loop-request-preserved
+loop-request-preserved g c =
+    let all : List Request = c.as_slice-request-items.result.now in
+    let l = c.loop-request in
+    let old = unread_of c.args.session.now in
+    let reader = reader_of c.args.session.now in
+    let writer = writer_of c.args.session.now in
+    let request = c.request-item.result in
+    let kept = unread_of l.session in
+    let mid = reader_of l.session in
+    let middle = writer_of l.session in
+    let next = comes_next g.R.Source.remaining g.R.Source.failures g.W.Sink.contents g.W.Sink.failures all old reader writer
+    l.items l.request-index request kept mid middle l.invariant.under_way c.loop-request-test.true c.request-item.is in
+    record {
+      under_way = goes_further g.R.Source.remaining g.R.Source.failures g.W.Sink.contents g.W.Sink.failures all old reader writer
+          l.items request (drop (l.request-index + 1) all) kept mid middle next
+          (unread_of c.ask.new.session) (reader_of c.ask.new.session) (writer_of c.ask.new.session) c.in-Ok.items
+          (c.in-Ok.ensures.reply l.invariant.goes_on);
+      goes_on = c.in-Ok.ensures.goes_on;
+    }

@@ -1,9 +1,8 @@
-use Rattle.std.proofs.Common.{◌≡◌, ◌++◌, ◌∷◌, ◌∙◌, Bool, [], Err, if◌then◌else◌, refl, sym, ap, subst}
+use Rattle.std.proofs.Common.{◌++◌, ◌∷◌, ◌∙◌, Bool, [], Err, if◌then◌else◌, refl, sym, ap, subst}
 use Rattle.std.proofs.lemmas.Result.{err_from_is_err_and}
-use Rattle.nutwords.specs.Scan.{words_of}
 use Rattle.nutrequest.specs.Inbox.{unread}
 use Rattle.nutrequest.specs.Lines.{lines}
-use Rattle.nutrequest.specs.Reply.{Bad, items_from, later_of, after_later}
+use Rattle.nutrequest.specs.Reply.{Bad, items_from}
 use Rattle.nutrequest.specs.Session.{ItemsGive}
 use Rattle.nutrequest.specs.declared.read.LaterLine.TheVariants.{End, Another, Bad as BadLater}
 use Rattle.nutio.proofs.PublicLaws.{received_joins}
@@ -43,30 +42,22 @@ pub returns-in-End : goal.returns-in-End
 returns-in-End g c =
     let i = c.loop-items.invariant in
     let l = c.in_ok-line.ensures in
-    let query = c.args.query.now in
-    let items = c.loop-items.items in
-    let new = unread c.line.new.self in
-    let is : later_of query (words_of c.deref.result.now) ≡ End = sym c.in_ok-later_line.ensures ∙ c.in-End.is in (
+    let query = c.args.query.now in (
       i.0 ++ l.0,
       received_joins g.R.Source.remaining g.R.Source.failures c.args.reader.now c.loop-items.reader c.line.new.reader i.0 l.0 i.1 l.1,
-      λ more. later_line query items (λ bs. items_from query [] (lines (unread c.args.inbox.now ++ bs))) i.0 l.0
-          (unread c.loop-items.inbox) new c.in_ok-line.line.items c.deref.result.now i.2 l.3 c.deref.ensures.0 more
-          ∙ ap (λ later. after_later later items (new ++ more) (λ all. items_from query all (lines (new ++ more)))) is,
+      later_line query c.loop-items.items (λ bs. items_from query [] (lines (unread c.args.inbox.now ++ bs))) i.0 l.0 (unread c.loop-items.inbox)
+          (unread c.line.new.self) c.in_ok-line.line.items c.deref.result.now End i.2 l.3 c.deref.ensures.0 (sym c.in_ok-later_line.ensures ∙ c.in-End.is),
     )
 
 pub returns-in-Bad : goal.returns-in-Bad
 returns-in-Bad g c =
     let i = c.loop-items.invariant in
     let l = c.in_ok-line.ensures in
-    let query = c.args.query.now in
-    let items = c.loop-items.items in
-    let new = unread c.line.new.self in
-    let is : later_of query (words_of c.deref.result.now) ≡ BadLater = sym c.in_ok-later_line.ensures ∙ c.in-Bad.is in (
+    let query = c.args.query.now in (
       i.0 ++ l.0,
       received_joins g.R.Source.remaining g.R.Source.failures c.args.reader.now c.loop-items.reader c.line.new.reader i.0 l.0 i.1 l.1,
-      λ more. later_line query items (λ bs. items_from query [] (lines (unread c.args.inbox.now ++ bs))) i.0 l.0
-          (unread c.loop-items.inbox) new c.in_ok-line.line.items c.deref.result.now i.2 l.3 c.deref.ensures.0 more
-          ∙ ap (λ later. after_later later items (new ++ more) (λ all. items_from query all (lines (new ++ more)))) is,
+      later_line query c.loop-items.items (λ bs. items_from query [] (lines (unread c.args.inbox.now ++ bs))) i.0 l.0 (unread c.loop-items.inbox)
+          (unread c.line.new.self) c.in_ok-line.line.items c.deref.result.now BadLater i.2 l.3 c.deref.ensures.0 (sym c.in_ok-later_line.ensures ∙ c.in-Bad.is),
     )
 
 pub returns-in_err-add-in-Another : goal.returns-in_err-add-in-Another
@@ -78,7 +69,6 @@ returns-in_err-add-in-Another g c =
     let old = unread c.args.inbox.now in
     let new = unread c.line.new.self in
     let item = c.in-Another.item in
-    let is : later_of query (words_of c.deref.result.now) ≡ Another item = sym c.in_ok-later_line.ensures ∙ c.in-Another.is in
     let p = err_from_is_err_and c.from_residual-in_err-add-in-Another.result c.from_residual-in_err-add-in-Another.ensures.1 in
     subst (λ r. ItemsGive g.R.Source.remaining g.R.Source.failures query old c.args.reader.now r new c.line.new.reader)
     (sym (p.1 ∙ ap Err p.2))
@@ -86,9 +76,8 @@ returns-in_err-add-in-Another g c =
     (λ more all. items_from query all (lines (new ++ more))) items c.add.new.self (i.0 ++ l.0) new c.args.reader.now
     c.line.new.reader c.in_err-add-in-Another.field-0.0
     (received_joins g.R.Source.remaining g.R.Source.failures c.args.reader.now c.loop-items.reader c.line.new.reader i.0 l.0 i.1 l.1)
-    (λ more. later_line query items (λ bs. items_from query [] (lines (old ++ bs))) i.0 l.0 (unread c.loop-items.inbox) new
-    c.in_ok-line.line.items c.deref.result.now i.2 l.3 c.deref.ensures.0 more
-    ∙ ap (λ later. after_later later items (new ++ more) (λ all. items_from query all (lines (new ++ more)))) is)
+    (later_line query items (λ bs. items_from query [] (lines (old ++ bs))) i.0 l.0 (unread c.loop-items.inbox) new
+    c.in_ok-line.line.items c.deref.result.now (Another item) i.2 l.3 c.deref.ensures.0 (sym c.in_ok-later_line.ensures ∙ c.in-Another.is))
     c.in_err-add-in-Another.ensures)
 
 pub loop-items-preserved : goal.loop-items-preserved
@@ -99,13 +88,11 @@ loop-items-preserved g c =
     let items = c.loop-items.items in
     let new = unread c.line.new.self in
     let item = c.in-Another.item in
-    let t = c.in_ok-add-in-Another.ensures in
-    let is : later_of query (words_of c.deref.result.now) ≡ Another item = sym c.in_ok-later_line.ensures ∙ c.in-Another.is in (
+    let t = c.in_ok-add-in-Another.ensures in (
       i.0 ++ l.0,
       received_joins g.R.Source.remaining g.R.Source.failures c.args.reader.now c.loop-items.reader c.line.new.reader i.0 l.0 i.1 l.1,
-      λ more. later_line query items (λ bs. items_from query [] (lines (unread c.args.inbox.now ++ bs))) i.0 l.0
-          (unread c.loop-items.inbox) new c.in_ok-line.line.items c.deref.result.now i.2 l.3 c.deref.ensures.0 more
-          ∙ ap (λ later. after_later later items (new ++ more) (λ all. items_from query all (lines (new ++ more)))) is
+      λ more. later_line query items (λ bs. items_from query [] (lines (unread c.args.inbox.now ++ bs))) i.0 l.0 (unread c.loop-items.inbox) new
+          c.in_ok-line.line.items c.deref.result.now (Another item) i.2 l.3 c.deref.ensures.0 (sym c.in_ok-later_line.ensures ∙ c.in-Another.is) more
           ∙ ap (λ (b : Bool). if b then items_from query (items ++ item ∷ []) (lines (new ++ more)) else Bad) t.0
           ∙ ap (λ all. items_from query all (lines (new ++ more))) (sym t.1),
     )

@@ -1,12 +1,12 @@
 use Rattle.std.proofs.Common.{◌≡◌, drop, false}
 use Rattle.nutrequest.specs.State.{unread_of, reader_of, writer_of, is_over}
 use Rattle.nutclient.proofs.Underway.{IsUnderWay}
-use Rattle.nutclient.proofs.engine.ask_all.Given as goal
+use Rattle.nutclient.proofs.engine.run.Given as goal
 
 -- the requests up to here are granted
 abbrev pub invariant-loop-request : goal.invariant-loop-request
 invariant-loop-request g l = record {
-  under_way : IsUnderWay g.R.Source.remaining g.R.Source.failures g.W.Sink.contents g.W.Sink.failures l.fn.requests (unread_of l.fn.session) (reader_of l.fn.session) (writer_of l.fn.session)
-      l.items (drop l.request-index l.requests) (unread_of l.session) (reader_of l.session) (writer_of l.session);
+  under_way : IsUnderWay g.R.Source.remaining g.R.Source.failures g.W.Sink.contents g.W.Sink.failures l.request-items (unread_of l.fn.session) (reader_of l.fn.session) (writer_of l.fn.session)
+      l.items (drop l.request-index l.request-items) (unread_of l.session) (reader_of l.session) (writer_of l.session);
   goes_on : is_over l.session ≡ false;
 }
