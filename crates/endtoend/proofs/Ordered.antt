@@ -1,6 +1,5 @@
 -- An order whose OK a client printed was given, and one whose id it printed was given with that id.
-use Rattle.std.proofs.Common.{◌≡◌, ◌⊎◌, ◌∙◌, ℕ, true, false, true≢false, List, [], ◌∷◌, ◌++◌, length, length-append, append-nil, if◌then◌else◌, Bool, Option, Some, None, Result, Ok, Err, IfSome, refl, sym, ap, subst, inl, inr, arith}
-use Rattle.std.specs.Prelude.{codes, IsTrue}
+use Rattle.std.proofs.Common.{◌≡◌, ◌⊎◌, ◌∙◌, ℕ, true, false, true≢false, List, [], ◌∷◌, ◌++◌, append-nil, if◌then◌else◌, Bool, Option, Some, None, Result, Ok, Err, refl, sym, ap, inl, inr}
 use Rattle.std.specs.Option.{ok_or, option_map_or}
 use Rattle.nutwords.specs.Frame.{line_of}
 use Rattle.nuttracking.specs.Id.{id_text}

@@ -1,5 +1,5 @@
 -- What is printed of what the server answers.
-use Rattle.std.proofs.Common.{◌≡◌, ℕ, ◌≤◌, Bool, true, Some, List, [], ◌∷◌, ◌++◌, length, refl, ap, subst, ◌∙◌, arith, append-nil, sym, false, cond}
+use Rattle.std.proofs.Common.{◌≡◌, ℕ, ◌≤◌, Bool, true, Some, List, [], ◌∷◌, ◌++◌, length, refl, ap, subst, ◌∙◌, arith, append-nil, sym, false}
 use Rattle.std.specs.Prelude.{false, codes, map, All, IsTrue, IfSome, filter}
 use Rattle.std.specs.List.{AllZip, flat_map}
 use Rattle.std.specs.BTreeMap.{is_at}

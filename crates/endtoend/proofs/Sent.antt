@@ -1,8 +1,7 @@
 -- What a program's words ask for is sent in requests that the server reads as that.
-use Rattle.std.proofs.Common.{◌≡◌, ◌<◌, ◌^◌, ℕ, Bool, true, false, cond, leb, List, [], ◌∷◌, ◌++◌, length, Option, Some, None, Result, Ok, Err, IfSome, refl, subst, arith}
-use Rattle.std.specs.Prelude.{◌&&◌, ◌==◌, IsTrue, All, option_map, is_ok}
+use Rattle.std.proofs.Common.{◌≡◌, ◌<◌, ◌^◌, ℕ, Bool, true, false, cond, leb, List, [], ◌∷◌, length, Option, Some, None, Result, Ok, Err, IfSome, refl, subst, arith}
+use Rattle.std.specs.Prelude.{◌&&◌, ◌==◌, IsTrue, All, option_map}
 use Rattle.std.specs.List.{before_first, after_first}
-use Rattle.std.proofs.lemmas.Bool.{and_parts}
 use Rattle.std.proofs.lemmas.Bool.Decides.{nat_tests}
 use Rattle.std.proofs.lemmas.List.Elements.{All-nil, All-cons, All-push}
 use denote.Ref.{Bor}
@@ -12,20 +11,18 @@ use Rattle.nutwords.specs.declared.faults.BadName.{BadName}
 use Rattle.nutwords.specs.declared.limits.TheConstants.{NAME_LIMIT, VALUE_LIMIT}
 use Rattle.nuttracking.specs.Id.{read_id}
 use Rattle.nuttracking.proofs.PublicLaws.{read_is_written}
-use Rattle.nutrequest.specs.declared.request.Query.{Query}
 use Rattle.nutrequest.specs.declared.request.Query.TheVariants as queries
 use Rattle.nutrequest.specs.declared.request.Request.{Request}
 use Rattle.nutrequest.specs.declared.request.Request.TheVariants as requests
-use Rattle.nutclient.specs.Job.{UpsPlace, JobParts, listing_of, server_or_local, upses_of, word_of, login_of, setting_of, value_of, before_order, ordered, set_request, command_request, set_order, named_place, command_order, job_of}
+use Rattle.nutclient.specs.Job.{UpsPlace, JobParts, server_or_local, upses_of, word_of, login_of, setting_of, value_of, before_order, ordered, set_request, command_request}
 use Rattle.nutclient.specs.Target.{lawful, both, has_byte, ups_place_of}
 use Rattle.nutclient.specs.declared.form.Form.{Form}
 use Rattle.nutclient.specs.declared.form.Form.TheVariants as forms
-use Rattle.nutclient.specs.declared.given.Given.{Given}
 use Rattle.nutclient.specs.declared.given.Given.TheVariants.{Variables, Variable, Upses, Descriptions, Clients, Attached, Tracked, Writable, Set, Commands, Command}
 use Rattle.nutclient.specs.declared.limits.TheConstants.{USER_LIMIT, PASSWORD_LIMIT}
 use Rattle.nutclient.specs.declared.target.Target.{Target}
 use Rattle.endtoend.specs.Served.{IsReadAsAsked, EachRequestIsReadAsAsked}
-use Rattle.endtoend.proofs.Handing.{lawful_read, of_both, of_any, place_read}
+use Rattle.endtoend.proofs.Handing.{lawful_read, of_both, place_read}
 use Rattle.endtoend.proofs.Progress.{get_tracking_read}
 use Rattle.endtoend.proofs.Requests.{IsWord, list_var_read, list_rw_read, list_cmd_read, list_client_read, list_ups_read, num_attach_read, get_var_read, set_read, command_read, username_read, password_read, set_tracking_read}
 use Rattle.endtoend.proofs.Texts.{text_all, text_same}
