@@ -71,7 +71,7 @@ fn server_of<'a, R: FileReader>(
     Server::new(alloc, list, users, descriptions, max_age).map_err(|_| Ending::Memory)
 }
 
-/// Opens the ids' file, listens at the address, and serves there. It owns the sockets alone, and what it calls owns none:
+/// Opens the ids' file, listens at the address, and serves there. It owns only the sockets, and what it calls owns none:
 /// a function that may end early while it owns a server or sockets takes long to prove.
 fn serve<'a>(
     rt: &HostRuntime,
