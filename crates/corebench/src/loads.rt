@@ -1,7 +1,7 @@
 //! The loads, each so many times. Each answers how many bytes the clients took.
 use crate::sample::Sample;
 use anyhow::Result;
-use nutcore::ClientId;
+use nutcore::{ClientId, Fault};
 use std::alloc::Global;
 
 /// The length of a short value, in bytes.
@@ -72,7 +72,7 @@ impl Sample {
     }
 
     /// How many bytes the client is offered once it has sent these lines, all of which it takes.
-    fn answer(&mut self, client: ClientId, lines: &[u8]) -> Result<u64> {
+    fn answer(&mut self, client: ClientId, lines: &[u8]) -> Result<u64, Fault> {
         self.send(client, lines)?;
         Ok(self.take_offered(client)? as u64)
     }
@@ -125,7 +125,7 @@ impl Sample {
             0 => self.open()?,
             _ => 1,
         };
-        self.take(client)
+        Ok(self.take(client)?)
     }
 
     /// The driver reports a variable of so many enum values again, so often, each time while a client waits who has asked

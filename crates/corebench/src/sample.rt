@@ -1,6 +1,6 @@
 //! A server whose UPS has 4,096 variables.
 use anyhow::{Error, Result};
-use nutcore::{ClientId, Descriptions, MaxAge, Server, UpsId, UpsList, Users};
+use nutcore::{ClientId, Descriptions, Fault, MaxAge, Server, UpsId, UpsList, Users};
 use nutwords::{Address, UpsName, VALUE_LIMIT};
 use std::alloc::Global;
 use std::fmt::Write;
@@ -90,7 +90,8 @@ impl Sample {
     fn begin(&mut self) -> Result<()> {
         self.connect()?;
         self.tell_all()?;
-        self.tell(b"SETFLAGS v2048 RW STRING\nDUMPDONE\nDATAOK\n")
+        self.tell(b"SETFLAGS v2048 RW STRING\nDUMPDONE\nDATAOK\n")?;
+        Ok(())
     }
 
     /// The driver connects.
@@ -111,9 +112,8 @@ impl Sample {
     }
 
     /// The driver reports these lines.
-    pub fn tell(&mut self, lines: &[u8]) -> Result<()> {
-        self.server.driver_bytes(SU, lines)?;
-        Ok(())
+    pub fn tell(&mut self, lines: &[u8]) -> Result<(), Fault> {
+        self.server.driver_bytes(SU, lines)
     }
 
     /// The driver reports of each variable.
@@ -123,7 +123,7 @@ impl Sample {
     }
 
     /// A driver reports so many variables again, one a call.
-    pub fn report(&mut self, count: u32) -> Result<()> {
+    pub fn report(&mut self, count: u32) -> Result<(), Fault> {
         for line in self
             .lines
             .chunks(self.line_length.max(1))
@@ -137,7 +137,7 @@ impl Sample {
 
     /// A driver reports its variables again, and this is what one read of it gives. Reads go round
     /// all lines.
-    pub fn report_a_read(&mut self, number: usize) -> Result<()> {
+    pub fn report_a_read(&mut self, number: usize) -> Result<(), Fault> {
         let reads = self.lines.len() / DRIVER_READ;
         let read = self.lines.chunks(DRIVER_READ).nth(number % reads.max(1));
         if let Some(piece) = read {
@@ -147,10 +147,9 @@ impl Sample {
     }
 
     /// The driver takes all that it is owed.
-    pub fn take_orders(&mut self) -> Result<()> {
+    pub fn take_orders(&mut self) -> Result<(), Fault> {
         let offered = self.server.driver_offered(SU)?;
-        self.server.driver_took(SU, offered)?;
-        Ok(())
+        self.server.driver_took(SU, offered)
     }
 
     /// A client's session.
@@ -159,26 +158,25 @@ impl Sample {
     }
 
     /// The client is gone.
-    pub fn close(&mut self, client: ClientId) -> Result<()> {
-        self.server.close(client)?;
-        Ok(())
+    pub fn close(&mut self, client: ClientId) -> Result<(), Fault> {
+        self.server.close(client)
     }
 
     /// The client sends these lines.
-    pub fn send(&mut self, client: ClientId, lines: &[u8]) -> Result<()> {
+    pub fn send(&mut self, client: ClientId, lines: &[u8]) -> Result<(), Fault> {
         self.server.feed(client, lines)?;
         Ok(())
     }
 
     /// The client takes what it is offered. The answer is how many bytes there were.
-    pub fn take_offered(&mut self, client: ClientId) -> Result<usize> {
+    pub fn take_offered(&mut self, client: ClientId) -> Result<usize, Fault> {
         let offered = self.server.offer(client)?.len();
         self.server.took(client, offered)?;
         Ok(offered)
     }
 
     /// The client takes all that it is owed. The answer is how many bytes there were.
-    pub fn take(&mut self, client: ClientId) -> Result<u64> {
+    pub fn take(&mut self, client: ClientId) -> Result<u64, Fault> {
         let mut taken = 0u64;
         for _ in 0..u32::MAX {
             match self.take_offered(client)? {

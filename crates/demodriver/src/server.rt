@@ -4,10 +4,11 @@ use std::io::{ErrorKind, Read, Write};
 use std::os::unix::net::UnixStream;
 use std::{io, str};
 
-/// How many bytes are read at once.
+/// How many bytes are read at once. What is more than that waits in the socket for the next read.
 const PIECE: usize = 1024;
 
-/// The longest line of a server, with its LF: more without one ends the connection.
+/// The longest line of a server, with its LF: upsd owes a driver no more bytes than these. More
+/// without an LF end the connection.
 const LINE: usize = 2048;
 
 /// A server, what it sent that is no whole line yet, what it is to be sent, and the version of the

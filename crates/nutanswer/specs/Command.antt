@@ -144,7 +144,7 @@ read_list (kind ∷ words) =
     then command_with (λ ups. ListClient ups) (ups_alone words)
     else Err InvalidArgument
 
--- The commands but GET and LIST, some of them by two words: one case a first word.
+-- The commands except GET, LIST and SET, some of them by two words: one case a first word.
 abbrev pub other_command : List ℕ → List (List ℕ) → Result Command ErrWord
 other_command first words =
     if is_word first (codes "USERNAME")
@@ -157,7 +157,6 @@ other_command first words =
     then alone Logout words
     else if is_word first (codes "PRIMARY") then command_with (λ ups. Primary ups) (ups_alone words)
     else if is_word first (codes "FSD") then command_with (λ ups. Fsd ups) (ups_alone words)
-    else if is_word first (codes "SET") then read_set words
     else if is_word first (codes "INSTCMD") then read_instcmd words
     else if is_word first (codes "HELP") then alone Help words
     else if is_word first (codes "VER") then alone Ver words
@@ -171,6 +170,7 @@ abbrev pub command_named : List ℕ → List (List ℕ) → Result Command ErrWo
 command_named first words =
     if is_word first (codes "GET") then read_get words
     else if is_word first (codes "LIST") then read_list words
+    else if is_word first (codes "SET") then read_set words
     else other_command first words
 
 abbrev pub some_command : Result Command ErrWord → Result (Option Command) ErrWord

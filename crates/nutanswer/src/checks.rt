@@ -1,5 +1,6 @@
 //! The checks of commands (RFC 9271: error responses), each in the order of the table.
 ghost use Rattle.std.specs.Prelude.{◌≡◌};
+ghost use Rattle.std.specs.Result.{result_ok};
 ghost use Rattle.nutanswer.specs.View.{asker_seen};
 ghost use Rattle.nutanswer.specs.Checks.{unknown_ups, user, too_long_of_command, no_id};
 ghost use Rattle.nutanswer.specs.Orders.{instcmd_right, is_short_enough, is_listed, is_in_ranges, is_within_one, is_within};
@@ -9,7 +10,7 @@ use crate::err_word::Checked;
 use crate::{Asker, ErrWord, UpsView, UpsWord, ValueWord, View};
 use nutdriver::{Range, Variable, read_number};
 use nutusers::{Right, UpsId};
-use nutwords::{Name, UpsName, Value};
+use nutwords::{BadName, Name, UpsName, Value};
 
 /// A UPS that is there.
 #[derive(Clone, Copy)]
@@ -125,13 +126,16 @@ pub(crate) fn live_command<'a, V: View>(
 }
 
 /// The value, where it is one, and the variable may be set to it.
-pub(crate) fn settable<'v>(variable: &Variable, value: &'v Option<Value>) -> Checked<&'v Value>
-    ensures { found (λ value. value.now) result ≡ settable variable.now value.now }
+pub(crate) fn settable<'v>(
+    variable: &Variable,
+    value: &'v Result<Value, BadName>,
+) -> Checked<&'v Value>
+    ensures { found (λ value. value.now) result ≡ settable variable.now (result_ok value.now) }
 {
     if !variable.flags().rw {
         return Err(ErrWord::Readonly);
     }
-    let value = value.as_ref().ok_or(ErrWord::TooLong)?;
+    let value = value.as_ref().or(Err(ErrWord::TooLong))?;
     if !is_short_enough(variable, value) {
         return Err(ErrWord::TooLong);
     }

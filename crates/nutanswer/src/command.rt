@@ -99,7 +99,7 @@ impl<'a> Command<'a> {
         Ok(Some(Command::named(&first, words)?))
     }
 
-    /// The command that is called so, with these words after its first: a GET or a LIST, or else of another kind.
+    /// The command that is called so, with these words after its first: a GET, LIST or SET, or else of another kind.
     fn named(first: &SpelledWord<'_>, words: SpelledWords<'a>) -> Checked<Command<'a>>
         ensures { result ≡ command_named (spelled first.now) words.entry }
     {
@@ -107,12 +107,14 @@ impl<'a> Command<'a> {
             Command::get(words)
         } else if first.is_word(b"LIST") {
             Command::list(words)
+        } else if first.is_word(b"SET") {
+            Command::set(words)
         } else {
             Command::other(first, words)
         }
     }
 
-    /// The command that is called so, but GET and LIST.
+    /// The command that is called so, except GET, LIST and SET.
     fn other(first: &SpelledWord<'_>, words: SpelledWords<'a>) -> Checked<Command<'a>>
         ensures { result ≡ other_command (spelled first.now) words.entry }
     {
@@ -128,8 +130,6 @@ impl<'a> Command<'a> {
             Ok(Command::Primary(text_alone(words)?))
         } else if first.is_word(b"FSD") {
             Ok(Command::Fsd(text_alone(words)?))
-        } else if first.is_word(b"SET") {
-            Command::set(words)
         } else if first.is_word(b"INSTCMD") {
             let (ups, name, value) = ups_name_and_value_if_any(words)?;
             Ok(Command::InstCmd(ups, name, value))

@@ -208,19 +208,22 @@ fn note_told(session: &Session, read: &ReadLine<'_>, text: &[u8], notes: &mut No
         return;
     };
     let (verb, ups, name) = match command {
-        Command::Login(ups) => (Verb::Login, ups.read(), None),
-        Command::Primary(ups) => (Verb::Primary, ups.read(), None),
-        Command::Fsd(ups) => (Verb::Fsd, ups.read(), None),
-        Command::SetVar(ups, name, _) => (Verb::SetVar, ups.read(), name.read()),
-        Command::InstCmd(ups, name, _) => (Verb::InstCmd, ups.read(), name.read()),
+        Command::Login(ups) => (Verb::Login, ups, None),
+        Command::Primary(ups) => (Verb::Primary, ups, None),
+        Command::Fsd(ups) => (Verb::Fsd, ups, None),
+        Command::SetVar(ups, name, _) => (Verb::SetVar, ups, Some(name)),
+        Command::InstCmd(ups, name, _) => (Verb::InstCmd, ups, Some(name)),
         Command::Logout => return notes.add(session.logout()),
         _ => return,
     };
     notes.push(Note::Did(Deed {
         who: session.who(),
         verb,
-        ups,
-        name,
+        ups: ups.read(),
+        name: match name {
+            Some(name) => name.read(),
+            None => None,
+        },
         refusal: refusal_in(text),
     }))
 }

@@ -55,7 +55,7 @@ impl Model for Session {
 
     ghost view = { λ s. record { id = s.id; address = s.address; held = drop s.executed s.held; owed = owed s.outbox; username = s.username; password = s.password; login = s.login; ending = s.ending; tracking = s.tracking } };
 
-    ghost invariant = { λ s. s.executed ≤ length s.held };
+    ghost invariant = { λ s. (s.executed ≤ length s.held) × (length s.held ≤ HELD_LIMIT) };
 }
 
 impl Session {
@@ -176,8 +176,6 @@ impl Session {
         ensures short { length self.new.held ≤ HELD_LIMIT }
         ensures count { result ≡ accepted self.old piece.now }
     {
-        // What the ring says of itself: it holds no more than its limit.
-        let _ = self.held.len();
         if self.ending {
             return piece.len();
         }
@@ -289,8 +287,6 @@ impl Session {
         ensures id { self.new.id ≡ self.old.id }
         ensures owed { self.new.owed ≡ self.old.owed }
     {
-        // What the ring says of itself: it holds no more than its limit.
-        let _ = self.held.len();
         self.executed = self.executed + end + 1;
     }
 
@@ -385,9 +381,8 @@ impl Session {
         ensures counted { IsCounted (length (take RING_LIMIT self.old.owed) - n)
             self.new.owed scratch.new.renders }
     {
-        // What the outbox and the ring say of themselves.
+        // What the outbox says of itself.
         let _ = self.outbox.offered();
-        let _ = self.held.len();
         let Scratch { line, renders, .. } = scratch;
         self.outbox.take(n, line, renders);
     }

@@ -89,7 +89,7 @@ fn serve<'a>(
     }
 }
 
-/// Warns, tells the address, and serves from then on.
+/// Writes the warnings, prints the address, and serves from then on.
 fn serve_over<'a>(
     rt: &HostRuntime,
     server: &mut Server,

@@ -1,4 +1,4 @@
-//! What is told of the server beside the answers to clients.
+//! What the server reports beside the answers to clients.
 ghost use Rattle.std.specs.Prelude.{◌≡◌, ◌≤◌, length, take, [], nat_lt};
 ghost use Rattle.nutcore.specs.Calls.{ReadsUps};
 ghost use Rattle.nutcore.specs.Notes.{condition_at, tick_notes};
@@ -43,7 +43,7 @@ impl Server {
         self.sessions.len() < SESSION_LIMIT
     }
 
-    /// How the UPS stands, if there is one.
+    /// The condition of the UPS at this moment, if there is such a UPS.
     pub(super) fn condition(&self, u: UpsId) -> Option<Condition>
         ensures { result ≡ condition_at u self.now.state }
     {
@@ -51,7 +51,7 @@ impl Server {
         Some(ups.condition(self.max_age.seconds(), self.moment))
     }
 
-    /// Notes what changed of the UPS, which stood so.
+    /// Notes how the condition of the UPS differs from this earlier one.
     pub(super) fn note_changes(&mut self, u: UpsId, was: Option<Condition>)
         ensures notes { self.new.notes
             ≡ with_changes u was (condition_at u self.old.state) self.old.notes }
@@ -64,7 +64,7 @@ impl Server {
         }
     }
 
-    /// How the client stands: what `offered`, `room` and `finished` answer of it, by one look.
+    /// What `offered`, `room` and `finished` answer about the client, by one look-up.
     pub fn standing(&self, c: ClientId) -> Standing
         ensures { result ≡ standing_of c self.now.state }
     {
@@ -83,7 +83,7 @@ impl Server {
     }
 }
 
-/// Notes whose data become stale from one moment to another.
+/// Notes each UPS whose data become stale between the two moments.
 pub(super) fn note_stale(upses: &Vec<Ups>, max_age: u32, was: u64, is: u64, notes: &mut Notes)
     requires few { length upses.now.items ≤ UPS_LIMIT }
     requires unnoted { notes.old ≡ [] }
