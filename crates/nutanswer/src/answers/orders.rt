@@ -34,7 +34,7 @@ pub(crate) fn set_var<'a, V: View>(
     user(view, asker, Right::Set)?;
     let name = name.read();
     let found = live_variable(view, ups, &name)?;
-    let value = value.checked();
+    let value = value.word.read();
     let value = settable(found.variable, &value)?;
     let id = order_id(view, asker, ErrWord::SetFailed)?;
     order_line_into(b"SET", found.name, Some(value), id, line);

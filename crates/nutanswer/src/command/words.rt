@@ -9,7 +9,7 @@ ghost use Rattle.nutwords.specs.Spelled.{spelled};
 use nuttracking::{ID_LENGTH, read_id};
 use nutusers::{OfCredential, PASSWORD_LIMIT, USER_NAME_LIMIT};
 use nutwords::{
-    BadName, NAME_LIMIT, OfName, OfValue, SpelledWord, Text, TextKind, UPS_NAME_LIMIT, VALUE_LIMIT,
+    NAME_LIMIT, OfName, OfValue, SpelledWord, Text, TextKind, UPS_NAME_LIMIT, VALUE_LIMIT,
 };
 use std::marker::{Model, PhantomData};
 
@@ -17,7 +17,7 @@ use std::marker::{Model, PhantomData};
 #[derive(Drop)]
 #[derive_where(Debug)]
 pub struct TextWord<'a, K: TextKind, const MOST: usize> {
-    word: SpelledWord<'a>,
+    pub(crate) word: SpelledWord<'a>,
     kind: PhantomData<K>,
 }
 
@@ -43,14 +43,7 @@ impl<'a, K: TextKind, const MOST: usize> TextWord<'a, K, MOST> {
     pub fn read(&self) -> Option<Text<K, MOST>>
         ensures { result ≡ self.now }
     {
-        self.checked().ok()
-    }
-
-    /// The text, or why the word is none. A value of 520 bytes isn't moved here, as it is by `read`.
-    pub(crate) fn checked(&self) -> Result<Text<K, MOST>, BadName>
-        ensures { result_ok result ≡ self.now }
-    {
-        self.word.read()
+        self.word.read().ok()
     }
 }
 

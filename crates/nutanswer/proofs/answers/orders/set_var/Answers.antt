@@ -1,4 +1,5 @@
 use Rattle.std.proofs.Common.{ℕ, List, Result, Ok, Err, sym, ◌∙◌, ap, subst, length, arith}
+use Rattle.std.specs.Result.{result_ok}
 use Rattle.std.proofs.lemmas.Result.{err_from_is_err_and}
 use Rattle.nutanswer.specs.View.{asker_seen}
 use Rattle.nutanswer.specs.Answer.{Answer, one_line}
@@ -13,7 +14,7 @@ pub returns-in_err-value : goal.returns-in_err-value
 returns-in_err-value g c =
     let s = g.V.View.seen c.args.view.now in
     let found = c.in_ok-found.ensures ∙ ap (live_variable s c.args.ups.now) c.read-name.ensures in
-    let given = ap (settable c.in_ok-found.found.variable.now) c.checked-value.ensures in
+    let given = ap (settable c.in_ok-found.found.variable.now) (ap result_ok c.read-value.ensures ∙ c.value.view_is) in
     let p = err_from_is_err_and c.from_residual-in_err-value.result c.from_residual-in_err-value.ensures.1 in
     set_refused s (asker_seen c.args.asker) c.args.ups.now c.args.name.now c.args.value.now (known_variable c.in_ok-found.found) c.in_ok-user.ensures found
     c.in_err-value.field-0.0 (c.in_err-value.ensures ∙ given) c.from_residual-in_err-value.result (p.1 ∙ ap Err p.2)
@@ -22,7 +23,7 @@ pub returns-in_err-id : goal.returns-in_err-id
 returns-in_err-id g c =
     let s = g.V.View.seen c.args.view.now in
     let found = c.in_ok-found.ensures ∙ ap (live_variable s c.args.ups.now) c.read-name.ensures in
-    let given = ap (settable c.in_ok-found.found.variable.now) c.checked-value.ensures in
+    let given = ap (settable c.in_ok-found.found.variable.now) (ap result_ok c.read-value.ensures ∙ c.value.view_is) in
     let p = err_from_is_err_and c.from_residual-in_err-id.result c.from_residual-in_err-id.ensures.1 in
     set_without_id s (asker_seen c.args.asker) c.args.ups.now c.args.name.now c.args.value.now (known_variable c.in_ok-found.found) c.in_ok-user.ensures found
     c.in_ok-value.value.now (c.in_ok-value.ensures ∙ given) c.in_err-id.field-0.0 c.in_err-id.ensures c.from_residual-in_err-id.result (p.1 ∙ ap Err p.2)
@@ -31,7 +32,7 @@ pub returns-then-len-found : goal.returns-then-len-found
 returns-then-len-found g c =
     let s = g.V.View.seen c.args.view.now in
     let found = c.in_ok-found.ensures ∙ ap (live_variable s c.args.ups.now) c.read-name.ensures in
-    let given = ap (settable c.in_ok-found.found.variable.now) c.checked-value.ensures in
+    let given = ap (settable c.in_ok-found.found.variable.now) (ap result_ok c.read-value.ensures ∙ c.value.view_is) in
     set_full s (asker_seen c.args.asker) c.args.ups.now c.args.name.now c.args.value.now (known_variable c.in_ok-found.found) c.in_ok-user.ensures found
     c.in_ok-value.value.now (c.in_ok-value.ensures ∙ given) c.in_ok-id.id c.in_ok-id.ensures (omega (arith, c.if-len-found.true, c.len.ensures.value, ap length c.order_line_into.ensures.text))
 
@@ -39,7 +40,7 @@ pub returns : goal.returns
 returns g c =
     let s = g.V.View.seen c.args.view.now in
     let found = c.in_ok-found.ensures ∙ ap (live_variable s c.args.ups.now) c.read-name.ensures in
-    let given = ap (settable c.in_ok-found.found.variable.now) c.checked-value.ensures in
+    let given = ap (settable c.in_ok-found.found.variable.now) (ap result_ok c.read-value.ensures ∙ c.value.view_is) in
     let done = set_done s (asker_seen c.args.asker) c.args.ups.now c.args.name.now c.args.value.now (known_variable c.in_ok-found.found) c.in_ok-user.ensures found
     c.in_ok-value.value.now (c.in_ok-value.ensures ∙ given) c.in_ok-id.id c.in_ok-id.ensures (omega (arith, c.if-len-found.false, c.len.ensures.value, ap length c.order_line_into.ensures.text)) in
     subst (λ (answer : Result Answer ErrWord). CarriesAnswer answer c.ordered.result)
