@@ -76,14 +76,14 @@ pub fn run<R: Source, W: Sink, O: Sink>(
     if session.is_over() {
         return Err(ClientFault::EarlyEnd);
     }
-    let mut items = Items::new(session.alloc());
+    let mut items = Items::new(session.alloc);
     for request in job.requests.as_slice() {
         items = match ask(session, request) {
             Ok(items) => items,
             Err(fault) => return Err(fault),
         };
     }
-    let printed = print(session.alloc(), job.form, &items, out);
+    let printed = print(session.alloc, job.form, &items, out);
     if printed.is_err() {
         session.end();
     }

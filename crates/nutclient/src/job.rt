@@ -6,7 +6,7 @@ ghost use Rattle.nutclient.specs.Target.{both, lawful, ups_place_of};
 ghost use Rattle.nutclient.specs.Job.{parts_of, variable_of, listing_of, server_or_local, upses_of, word_of, login_of, setting_of, value_of, ordered, set_request, command_request, set_order, command_order, tracked_of, job_of};
 
 use crate::{Form, Given, PASSWORD_LIMIT, Requests, Target, USER_LIMIT};
-use nutrequest::{ClientFault, Query, Request};
+use nutrequest::{Query, Request};
 use nuttracking::read_id;
 use nutwords::{Name, UpsName, Value};
 
@@ -29,72 +29,59 @@ type Order = (Target, Request);
 type UpsPlace = (UpsName, Target);
 
 impl Job {
-    /// Reads what is asked for.
-    ///
-    /// # Errors
-    ///
-    /// `BadTarget` where a word isn't lawful.
-    pub fn read(given: &Given<'_>) -> Result<Job, ClientFault>
-        ensures { MatchResult result
-            (λ job. job_of given.now ≡ Some (parts_of job))
-            (λ fault. (fault ≡ ClientFault.BadTarget) × (job_of given.now ≡ None)) }
+    /// Reads what is asked for: nothing where a word isn't lawful.
+    pub fn read(given: &Given<'_>) -> Option<Job>
+        ensures { option_map parts_of result ≡ job_of given.now }
     {
-        job_of(given).ok_or(ClientFault::BadTarget)
-    }
-}
-
-/// What is asked for, where each word is lawful.
-fn job_of(given: &Given<'_>) -> Option<Job>
-    ensures { option_map parts_of result ≡ job_of given.now }
-{
-    match given {
-        Given::Variables(ups) => {
-            let (ups, target) = Target::read(ups)?;
-            Some(single(target, Request::List(Query::Var(ups)), Form::Colon))
+        match given {
+            Given::Variables(ups) => {
+                let (ups, target) = Target::read(ups)?;
+                Some(single(target, Request::List(Query::Var(ups)), Form::Colon))
+            }
+            Given::Variable { ups, name } => variable_job(ups, name),
+            Given::Upses(server) => upses_job(*server, Form::Name),
+            Given::Descriptions(server) => upses_job(*server, Form::Colon),
+            Given::Clients(ups) => {
+                let (ups, target) = Target::read(ups)?;
+                Some(single(target, Request::List(Query::Client(ups)), Form::Name))
+            }
+            Given::Attached(ups) => {
+                let (ups, target) = Target::read(ups)?;
+                Some(single(target, Request::GetNumAttach(ups), Form::Value))
+            }
+            Given::Tracked { ups, id } => tracked_job(ups, id),
+            Given::Writable(ups) => {
+                let (ups, target) = Target::read(ups)?;
+                Some(single(target, Request::List(Query::Rw(ups)), Form::Equals))
+            }
+            Given::Commands(ups) => {
+                let (ups, target) = Target::read(ups)?;
+                Some(single(target, Request::List(Query::Cmd(ups)), Form::Name))
+            }
+            Given::Set {
+                ups,
+                setting,
+                user,
+                password,
+                track,
+            } => ordered(
+                *track,
+                login(user, password),
+                set_order(*track, Target::read(ups), setting),
+            ),
+            Given::Command {
+                ups,
+                name,
+                value,
+                user,
+                password,
+                track,
+            } => ordered(
+                *track,
+                login(user, password),
+                command_order(*track, Target::read(ups), name, *value),
+            ),
         }
-        Given::Variable { ups, name } => variable_job(ups, name),
-        Given::Upses(server) => upses_job(*server, Form::Name),
-        Given::Descriptions(server) => upses_job(*server, Form::Colon),
-        Given::Clients(ups) => {
-            let (ups, target) = Target::read(ups)?;
-            Some(single(target, Request::List(Query::Client(ups)), Form::Name))
-        }
-        Given::Attached(ups) => {
-            let (ups, target) = Target::read(ups)?;
-            Some(single(target, Request::GetNumAttach(ups), Form::Value))
-        }
-        Given::Tracked { ups, id } => tracked_job(ups, id),
-        Given::Writable(ups) => {
-            let (ups, target) = Target::read(ups)?;
-            Some(single(target, Request::List(Query::Rw(ups)), Form::Equals))
-        }
-        Given::Commands(ups) => {
-            let (ups, target) = Target::read(ups)?;
-            Some(single(target, Request::List(Query::Cmd(ups)), Form::Name))
-        }
-        Given::Set {
-            ups,
-            setting,
-            user,
-            password,
-            track,
-        } => ordered(
-            *track,
-            login(user, password),
-            set_order(*track, Target::read(ups), setting),
-        ),
-        Given::Command {
-            ups,
-            name,
-            value,
-            user,
-            password,
-            track,
-        } => ordered(
-            *track,
-            login(user, password),
-            command_order(*track, Target::read(ups), name, *value),
-        ),
     }
 }
 

@@ -27,23 +27,16 @@ pub(crate) fn print<O: Sink>(
 fn put_line(text: &mut Vec<u8>, form: Form, item: &Item) -> Result<(), AllocError>
     ensures { OnOk result (text.new.items ≡ text.old.items ++ item_line form item.now) }
 {
-    match form {
-        Form::Name => text.extend_from_slice(item.name.as_slice())?,
-        Form::Value => text.extend_from_slice(item.value.as_slice())?,
-        Form::Colon => put_pair(text, item, b": ")?,
-        Form::Equals => put_pair(text, item, b"=")?,
-    }
-    text.push(b'\n')?;
-    Ok(())
-}
-
-/// Adds the item's name and its value, and this between them.
-fn put_pair(text: &mut Vec<u8>, item: &Item, between: &[u8]) -> Result<(), AllocError>
-    ensures { OnOk result (text.new.items
-        ≡ text.old.items ++ (item.now.name ++ between.now ++ item.now.value)) }
-{
-    text.extend_from_slice(item.name.as_slice())?;
+    let (name, value) = (item.name.as_slice(), item.value.as_slice());
+    let (front, between, end): (&[u8], &[u8], &[u8]) = match form {
+        Form::Name => (name, b"", b""),
+        Form::Value => (b"", b"", value),
+        Form::Colon => (name, b": ", value),
+        Form::Equals => (name, b"=", value),
+    };
+    text.extend_from_slice(front)?;
     text.extend_from_slice(between)?;
-    text.extend_from_slice(item.value.as_slice())?;
+    text.extend_from_slice(end)?;
+    text.push(b'\n')?;
     Ok(())
 }

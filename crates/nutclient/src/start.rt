@@ -13,9 +13,10 @@ use crate::ending::conclude;
 use crate::limits::WORD_FAULT;
 use crate::{Client, Job, Program, connect, do_job};
 use clap::{ArgMatches, Command, Error};
-use nutcommand::{print_refusal, program, with_words, words_of};
+use nutcommand::{print_refusal, with_words, words_of};
 use nutio::{CountedReader, CountedWriter};
 use nutrequest::ClientFault;
+use nutversion::VERSION;
 use std::alloc::Global;
 use std::io;
 use std::process::ExitCode;
@@ -49,7 +50,7 @@ fn obey<C: Client>(rt: &HostRuntime, words: &[String]) -> Result<u8, ClientFault
         Ok(found) => found,
         Err(error) => return print_refusal(rt, &error).ok_or(ClientFault::Memory),
     };
-    let job = Job::read(&C::given(&found))?;
+    let job = Job::read(&C::given(&found)).ok_or(ClientFault::BadTarget)?;
     let stream = connect(rt, &job.target)?;
     let stderr = rt.stderr();
     let (status, _) = do_job(
@@ -70,9 +71,11 @@ fn matches_of<'a, C: Client>(alloc: Global, words: &'a [String]) -> Result<ArgMa
         (map string_bytes words.entry.now)) }
 {
     let name: &'a str = C::PROGRAM.name();
-    let about: &'a str = C::ABOUT;
-    let example: &'a str = C::EXAMPLE;
-    let command: Command<'a> = program(alloc, name, about, example)?;
+    let command: Command<'a> = Command::new(alloc, name)
+        .about(C::ABOUT)
+        .version(VERSION)
+        .after_help(C::EXAMPLE)
+        .bin_name(name)?;
     with_words(command, C::words(alloc)?)?.try_get_matches_from(words)
 }
 

@@ -6,4 +6,4 @@ mod refusal;
 mod words;
 
 pub use refusal::print_refusal;
-pub use words::{program, with_words, words_of};
+pub use words::{with_words, words_of};

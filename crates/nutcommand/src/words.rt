@@ -1,11 +1,10 @@
 //! The words of a program: from the system, and as its parser takes them.
-ghost use Rattle.std.specs.Prelude.{◌≡◌, ◌⊎◌, IfErr, IfOk, List, []};
+ghost use Rattle.std.specs.Prelude.{◌≡◌, ◌⊎◌, IfErr, IfOk, List};
 ghost use Rattle.clap.specs.Words.{App, app_of};
-ghost use Rattle.nutcommand.specs.Words.{AreWords, Word, program_with, with_words};
+ghost use Rattle.nutcommand.specs.Words.{AreWords, Word, with_words};
 
 use clap::{Arg, Command};
-use nutversion::VERSION;
-use std::alloc::{AllocError, Global};
+use std::alloc::AllocError;
 use std::{env, io};
 
 /// The program's words, or one of these faults: a word is no text, or memory is refused.
@@ -17,22 +16,6 @@ pub fn words_of<F: Drop>(rt: &HostRuntime, no_text: F, no_memory: F) -> Result<V
         Err(error) if error.kind() == io::ErrorKind::OutOfMemory => Err(no_memory),
         Err(_) => Err(no_text),
     }
-}
-
-/// A program of this name, without words of its own.
-pub fn program<'a>(
-    alloc: Global,
-    name: &'a str,
-    about: &'a str,
-    example: &'a str,
-) -> Result<Command<'a>, AllocError>
-    ensures { IfOk result (λ c. app_of c ≡ program_with name.entry.now []) }
-{
-    Command::new(alloc, name)
-        .about(about)
-        .version(VERSION)
-        .after_help(example)
-        .bin_name(name)
 }
 
 /// The command, which takes these words too.

@@ -281,10 +281,11 @@ fn item<'a>(query: &Query, words: Words<'a>) -> Option<(Excerpt<'a>, Excerpt<'a>
     if !is_item_name(query, name.as_bytes()) {
         return None;
     }
-    let value = if query.has_value() {
-        only_word(Some(words)).map(Excerpt::Word)
-    } else {
-        is_nothing(Some(words)).then_some(Excerpt::Fixed(b""))
+    let value = match query {
+        Query::Ups | Query::Var(_) | Query::Rw(_) => only_word(Some(words)).map(Excerpt::Word),
+        Query::Cmd(_) | Query::Client(_) => {
+            is_nothing(Some(words)).then_some(Excerpt::Fixed(b""))
+        }
     };
     Some((Excerpt::Word(name), value?))
 }

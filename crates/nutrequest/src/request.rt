@@ -19,7 +19,7 @@ pub enum Query {
 }
 
 impl Query {
-    ghost use Rattle.nutrequest.specs.Request.{kind_of, ups_of, has_value};
+    ghost use Rattle.nutrequest.specs.Request.{kind_of, ups_of};
 
     /// The word of its kind.
     pub(crate) fn kind(&self) -> &[u8]
@@ -41,16 +41,6 @@ impl Query {
         match self {
             Query::Ups => None,
             Query::Var(ups) | Query::Rw(ups) | Query::Cmd(ups) | Query::Client(ups) => Some(ups),
-        }
-    }
-
-    /// Whether its items have a value or a description.
-    pub(crate) fn has_value(&self) -> bool
-        ensures { result ≡ has_value self.now }
-    {
-        match self {
-            Query::Ups | Query::Var(_) | Query::Rw(_) => true,
-            Query::Cmd(_) | Query::Client(_) => false,
         }
     }
 }

@@ -16,7 +16,8 @@ use std::alloc::Global;
 /// A session over a reader and a writer. It keeps what was read past a reply, for the next.
 #[derive(Drop)]
 pub struct Session<R, W> {
-    alloc: Global,
+    /// Where its memory comes from.
+    pub alloc: Global,
     reader: R,
     writer: W,
     inbox: Inbox,
@@ -38,11 +39,6 @@ impl<R: Source, W: Sink> Session<R, W> {
             inbox: Inbox::new(),
             is_over: false,
         }
-    }
-
-    /// Where its memory comes from.
-    pub fn alloc(&self) -> Global {
-        self.alloc
     }
 
     /// Whether it met a fault: every further request is refused then.

@@ -12,7 +12,7 @@ use std::net::TcpStream;
 /// driver hasn't told all.
 pub fn print_variables(rt: &HostRuntime, served: &mut Served<'_>) -> Result<bool> {
     let ups = format!(in rt.alloc(); "su@127.0.0.1:{}", served.port()?)?;
-    let job = Job::read(&Given::Variables(ups.as_str()))?;
+    let job = Job::read(&Given::Variables(ups.as_str())).ok_or(ClientFault::BadTarget)?;
     let stream = connect(rt, &job.target)?;
     stream.set_nonblocking(true)?;
     match print(rt, &stream, served, &job) {
