@@ -1,20 +1,23 @@
 -- A reply that carries its answer gives it, whatever is seen.
-use Rattle.std.proofs.Common.{◌≡◌, ℕ, true, List, [], ◌∷◌, ◌++◌, length, leb, refl, sym, subst}
+use Rattle.std.proofs.Common.{◌≡◌, ℕ, true, List, [], ◌∷◌, ◌++◌, length, leb, refl, sym, subst, ap, ◌∙◌}
 use Rattle.std.proofs.lemmas.Bool.{leb-true}
-use Rattle.std.specs.Prelude.{Result, Ok, Err}
+use Rattle.std.specs.Prelude.{Result, Ok, Err, IfOk}
 use Rattle.std.specs.List.{list_all}
 use Rattle.nutwords.specs.Bytes.{is_lawful}
 use Rattle.nutwords.specs.Frame.{line_of}
 use Rattle.nutwords.specs.declared.limits.TheConstants.{LINE_LIMIT}
+use Rattle.nutlisting.specs.Items.{ListingState, ups_listing}
 use Rattle.nutlisting.specs.Lines.{IsWholeLine}
+use Rattle.nutusers.specs.UpsList.{Ups}
 use Rattle.nutanswer.specs.declared.err_word.ErrWord.{ErrWord}
 use Rattle.nutanswer.specs.declared.reply.Reply.{Reply}
 use Rattle.nutanswer.specs.declared.reply.Reply.TheVariants.{One, Many, Clients}
 use Rattle.nutanswer.specs.declared.command.Command.{Command}
+use Rattle.nutanswer.specs.declared.command.Command.TheVariants.{ListUps}
 use Rattle.nutanswer.specs.View.{Seen, AskerSeen}
 use Rattle.nutanswer.specs.declared.reply.Change.{Change}
-use Rattle.nutanswer.specs.Answer.{Answer, one_line, answer_to, IsOneLine, IsReply}
-use Rattle.nutanswer.specs.Promises.{CarriesAnswer, Gives, GivesReply}
+use Rattle.nutanswer.specs.Answer.{Answer, one_line, listing, answer_to, IsOneLine, IsReply}
+use Rattle.nutanswer.specs.Promises.{CarriesAnswer, Gives, GivesReply, GivesListing}
 
 pub carried : (s : Seen) (answer : Result Answer ErrWord) (reply : Reply) → CarriesAnswer answer reply → IsReply s answer reply
 carried s answer (One line change) h = h
@@ -34,6 +37,16 @@ module _ (s : Seen) (asker : AskerSeen) (command its_row : Command) (r result : 
 
   pub given : Gives (answer_to s asker its_row) result → GivesReply s (answer_to s asker command) r
   given h = given_seen (gives s (answer_to s asker its_row) result h)
+
+-- and so is the listing that it gives
+pub given_listing : {E : Type 0} (s : Seen) (asker : AskerSeen) (command its_row : Command) (row : Result (Result ListingState E) ErrWord) → command ≡ its_row
+    → GivesListing (answer_to s asker its_row) row → GivesListing (answer_to s asker command) row
+given_listing {E} s asker command its_row row is h = subst (λ (c : Command). GivesListing (answer_to s asker c) row) (sym is) h
+
+-- the listing of all UPSs
+pub ups_listed : {E : Type 0} (s : Seen) (asker : AskerSeen) (list : List Ups) (r : Result ListingState E) → list ≡ s.list → IfOk r (λ l. l ≡ ups_listing list) → GivesListing (answer_to s asker ListUps) (Ok r)
+ups_listed s asker list (Ok l) is h = ap (λ (l : ListingState). let a : Result Answer ErrWord = Ok (listing l) in a) (sym (h ∙ ap ups_listing is))
+ups_listed s asker list (Err memory) is h = refl
 
 -- a line of the program's own
 pub own_line : (line : List ℕ) → list_all is_lawful line ≡ true → leb (length line) LINE_LIMIT ≡ true → IsWholeLine (line ++ 10 ∷ [])

@@ -27,7 +27,7 @@ use Rattle.nutwords.specs.Scan.{read_line}
 use Rattle.nuttracking.specs.Id.{read_id}
 use Rattle.nutwords.specs.Reading.{is_value, is_name, is_address}
 use Rattle.nutwords.specs.Keyword.{is_word}
-use Rattle.nutanswer.specs.Command.{user_name_alone, password_alone, ups_alone, ups_and_name, Names, ups_name_and_value, ups_name_and_value_if_any, on_or_off, read_set, tracking_asked, read_instcmd, read_get, read_list, command_named, some_command, command_of, command_from}
+use Rattle.nutanswer.specs.Command.{user_name_alone, password_alone, ups_alone, ups_and_name, Names, ups_name_and_value_if_any, on_or_off, read_set, tracking_asked, read_instcmd, read_get, read_list, command_named, some_command, command_of, command_from}
 use Rattle.nutanswer.specs.Lawful.{IsLawfulReading, WhatIsReadIsLawful}
 use Rattle.std.proofs.lemmas.List.Elements.{All-filter}
 use Rattle.nutdriver.specs.Sound.{IsSoundRange}
@@ -37,11 +37,11 @@ use Rattle.nutlisting.specs.Shown.{shown, description_of}
 use Rattle.nutanswer.proofs.CheckLemmas as checks
 use Rattle.nutanswer.proofs.CheckLemmas.{unless_ok, none_given, both_true, has_right}
 use Rattle.nutanswer.proofs.Fresh as fresh
-use Rattle.nutanswer.proofs.LawfulWords.{IsLawfulResult, none_lawful, one_lawful, with_lawful, alone_lawful, either_lawful, ups_lawful, set_words, instcmd_words, ups_words, two_words}
+use Rattle.nutanswer.proofs.LawfulWords.{IsLawfulResult, none_lawful, one_lawful, with_lawful, alone_lawful, either_lawful, ups_lawful, set_var_lawful, instcmd_words, ups_words, two_words}
 use Rattle.nutanswer.proofs.Plain.{quoted_plain, type_plain, progress_plain}
 use Rattle.nutlisting.specs.Lawful.{IsSoundEntry}
 use Rattle.nutlisting.proofs.PublicLaws.{ids_are_lawful, texts_are_lawful}
-use Rattle.nutlisting.specs.declared.lines.shown.TheConstants.{SHOWN_LIMIT}
+use Rattle.nutlisting.specs.declared.lines.TheConstants.{SHOWN_LIMIT}
 use Rattle.nutwords.specs.declared.limits.TheConstants.{VALUE_LIMIT}
 use Rattle.nutanswer.proofs.Shapes.{listing_shaped, items_of, line_shaped, ok_shaped, on_or_off_plain, progress_found, entry_item, command_inside, enum_inside, range_inside, ups_inside, client_inside, text_lawful, name_found, lawful_known, lawful_found, variables_of, count_plain, lawful_clients}
 use Rattle.nutanswer.proofs.TableRows.{IsRow, refused, tells, lists, lists_clients, does, orders, held, found, of_ups, of_usable, of_variable}
@@ -300,7 +300,7 @@ list_lawful (kind ∷ words) =
 set_lawful : (words : List (List ℕ)) → IsLawfulResult (read_set words)
 set_lawful [] = none_lawful _
 set_lawful (kind ∷ words) =
-    either_lawful (is_word kind (codes "VAR")) (with_lawful (λ (a : Names (Option (List ℕ))). SetVar a.0 a.1 a.2) (ups_name_and_value words) (set_words words))
+    either_lawful (is_word kind (codes "VAR")) (set_var_lawful (ups_name_and_value_if_any words) (instcmd_words words))
     (either_lawful (is_word kind (codes "TRACKING")) (with_lawful (λ (on : Bool). SetTracking on) (on_or_off words) (λ on e. tt))
     (none_lawful _))
 

@@ -8,11 +8,11 @@ use Rattle.nutwords.specs.declared.faults.BadName.TheVariants.{Empty, TooLong, A
 use Rattle.nutwords.specs.Bytes.{is_name_byte, is_lawful}
 use Rattle.nutwords.specs.Reading.{read_text, is_value}
 use Rattle.nutanswer.specs.declared.command.Command.{Command}
+use Rattle.nutanswer.specs.declared.command.Command.TheVariants.{SetVar}
 use Rattle.nutanswer.specs.declared.err_word.ErrWord.{ErrWord}
-use Rattle.nutanswer.specs.declared.err_word.ErrWord.TheVariants.{InvalidArgument}
-use Rattle.std.specs.Option.{ok_or}
-use Rattle.nutanswer.specs.Command.{command_with, alone, ups_alone, ups_and_name, Names, value_of, ups_name_and_value, ups_name_and_value_if_any}
-use Rattle.nutanswer.specs.Lawful.{HasLawfulName, HasLawfulUpsName, HasLawfulValue, HasLawfulValueIfAny, IsLawfulCommand}
+use Rattle.nutanswer.specs.Command.{command_with, alone, ups_alone, ups_and_name, Names, value_of, ups_name_and_value_if_any, set_var_with}
+use Rattle.nutanswer.specs.Promises.{IsCommandWith}
+use Rattle.nutanswer.specs.Lawful.{HasLawfulName, HasLawfulUpsName, HasLawfulValueIfAny, IsLawfulCommand}
 use Rattle.nutwords.specs.declared.limits.TheConstants.{NAME_LIMIT, VALUE_LIMIT, UPS_NAME_LIMIT}
 
 -- a text that is read stands for itself
@@ -55,16 +55,6 @@ pub either_lawful : (b : Bool) {x y : Result Command ErrWord} → IsLawfulResult
 either_lawful true h k = h
 either_lawful false h k = k
 
-pub set_words : (words : List (List ℕ)) (a : Names (Option (List ℕ))) → ups_name_and_value words ≡ Ok a → HasLawfulName a.1 × HasLawfulValue a.2
-set_words [] a e = cc e
-set_words (ups ∷ []) a e = cc e
-set_words (ups ∷ v ∷ []) a e = cc e
-set_words (ups ∷ v ∷ w ∷ []) a e =
-    let first : result_ok (read_text is_name_byte false NAME_LIMIT v) ≡ a.1 = cc e in
-    let second : value_of w ≡ a.2 = cc e in
-    (λ name is. read_is is_name_byte false NAME_LIMIT v name (first ∙ is), λ value is. read_is is_lawful true VALUE_LIMIT w value (second ∙ is))
-set_words (ups ∷ v ∷ w ∷ x ∷ words) a e = cc e
-
 pub instcmd_words : (words : List (List ℕ)) (a : Names (Option (Option (List ℕ)))) → ups_name_and_value_if_any words ≡ Ok a → HasLawfulName a.1 × HasLawfulValueIfAny a.2
 instcmd_words [] a e = cc e
 instcmd_words (ups ∷ []) a e = cc e
@@ -83,6 +73,12 @@ instcmd_words (ups ∷ v ∷ w ∷ []) a e =
     one : (value : List ℕ) → Some (value_of w) ≡ Some (Some value) → value_of w ≡ Some value
     one value k = cc k
 instcmd_words (ups ∷ v ∷ w ∷ x ∷ words) a e = cc e
+
+pub set_var_lawful : (r : Result (Names (Option (Option (List ℕ)))) ErrWord)
+    → ((a : Names (Option (Option (List ℕ)))) → r ≡ Ok a → HasLawfulName a.1 × HasLawfulValueIfAny a.2) → IsLawfulResult (set_var_with r)
+set_var_lawful (Err word) h = none_lawful word
+set_var_lawful (Ok (ups, name, None)) h = none_lawful _
+set_var_lawful (Ok (ups, name, Some value)) h = one_lawful (SetVar ups name value) ((h _ refl).0, λ v is. (h _ refl).1 v (ap Some is))
 
 pub ups_lawful : (f : Option (List ℕ) → Command) (words : List (List ℕ)) → ((ups : Option (List ℕ)) → IsLawfulCommand (f ups)) → IsLawfulResult (command_with f (ups_alone words))
 ups_lawful f words h = with_lawful f (ups_alone words) (λ ups e. h ups)
@@ -103,15 +99,8 @@ two_words (u ∷ v ∷ []) a e =
     (λ name is. read_is is_name_byte false UPS_NAME_LIMIT u name (first ∙ is), λ name is. read_is is_name_byte false NAME_LIMIT v name (second ∙ is))
 two_words (u ∷ v ∷ w ∷ words) a e = cc e
 
--- the words of SET VAR are those of INSTCMD with a value
-pub with_value : (words : List (List ℕ)) (a : Names (Option (Option (List ℕ)))) (value : Option (List ℕ)) → Ok a ≡ ups_name_and_value_if_any words
-    → Ok value ≡ ok_or a.2 InvalidArgument → ups_name_and_value words ≡ Ok (a.0, a.1, value)
-with_value [] a value e h = cc e
-with_value (u ∷ []) a value e h = cc e
-with_value (u ∷ n ∷ []) a value e h = let none : None ≡ a.2 = cc e in absurd (cc (none, h))
-with_value (u ∷ n ∷ v ∷ []) a value e h =
-    let first : result_ok (read_text is_name_byte false UPS_NAME_LIMIT u) ≡ a.0 = cc e in
-    let second : result_ok (read_text is_name_byte false NAME_LIMIT n) ≡ a.1 = cc e in
-    let third : Some (value_of v) ≡ a.2 = cc e in
-    cc (first, second, third, h)
-with_value (u ∷ n ∷ v ∷ w ∷ words) a value e h = cc e
+-- what is made of the arguments is the command with them
+pub made_of : {X : Type 0} (f : X → Command) (arguments : Result X ErrWord) (result : Result Command ErrWord)
+    → IsCommandWith (λ a command. Unit {0} × Unit {0} × (command ≡ f a)) arguments result → result ≡ command_with f arguments
+made_of f (Err word) result h = h
+made_of f (Ok a) result h = h.1 ∙ ap Ok h.2.2

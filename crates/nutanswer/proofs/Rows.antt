@@ -8,7 +8,8 @@ use Rattle.nutanswer.specs.declared.command.Command.TheVariants.{SetVar, InstCmd
 use Rattle.nutanswer.specs.Answer.{Answer, answer_to, one_line}
 use Rattle.nutanswer.specs.Checks.{◌>>=◌, ◌>>◌, KnownUps, user, unknown_ups, live, var_not_supported, cmd_not_supported, readonly, too_long, too_long_of_command, invalid_value, no_id, set_failed, instcmd_failed}
 use Rattle.nutanswer.specs.Orders.{set_line, instcmd_line, instcmd_right, order, ok_words}
-use Rattle.nutanswer.specs.Promises.{live_ups, live_variable, live_command, settable, Gives}
+use Rattle.nutanswer.specs.Promises.{live_ups, live_variable, live_command, settable, Gives, GivesLine, GivesListing}
+use Rattle.nutlisting.specs.Items.{ListingState}
 use Rattle.nutanswer.specs.declared.reply.Reply.{Reply}
 use Rattle.nutanswer.specs.declared.err_word.ErrWord.TheVariants.{SetFailed, InstcmdFailed}
 use Rattle.std.specs.Prelude.{◌≤◌, ◌<◌, length}
@@ -18,6 +19,12 @@ use Rattle.std.proofs.lemmas.Bool.{le-leb, lt-leb}
 -- a row that is refused by this word is answered so
 pub refused_by : (answer : Result Answer ErrWord) (word : ErrWord) (r : Result Reply ErrWord) → answer ≡ Err word → r ≡ Err word → Gives answer r
 refused_by answer word r h is = subst (λ (r : Result Reply ErrWord). Gives answer r) (sym is) h
+
+pub refused_line : (answer : Result Answer ErrWord) (word : ErrWord) (r : Result (Unit {0}) ErrWord) (line : List ℕ) → answer ≡ Err word → r ≡ Err word → GivesLine answer r line
+refused_line answer word r line h is = subst (λ (r : Result (Unit {0}) ErrWord). GivesLine answer r line) (sym is) h
+
+pub refused_listing : {E : Type 0} (answer : Result Answer ErrWord) (word : ErrWord) (r : Result (Result ListingState E) ErrWord) → answer ≡ Err word → r ≡ Err word → GivesListing answer r
+refused_listing {E} answer word r h is = subst (λ (r : Result (Result ListingState E) ErrWord). GivesListing answer r) (sym is) h
 
 -- what comes after a check, in two parts
 after_check : {A B C : Type 0} (m : Result A ErrWord) (both : A → Result C ErrWord) (first : A → Result B ErrWord) (next : B → Result C ErrWord)

@@ -28,7 +28,7 @@ use Rattle.nutusers.specs.Descriptions.{Texts, text_at, AreLawfulTexts}
 use Rattle.nutusers.specs.Texts.{is_description}
 use Rattle.nutusers.specs.UpsList.{Ups, IsLawfulUps}
 use Rattle.nutwords.specs.declared.limits.TheConstants.{VALUE_LIMIT}
-use Rattle.nutlisting.specs.declared.lines.shown.TheConstants.{SHOWN_LIMIT}
+use Rattle.nutlisting.specs.declared.lines.TheConstants.{SHOWN_LIMIT}
 use Rattle.nutlisting.specs.Lawful.{IsLawfulText, IsSoundEntry}
 use Rattle.nutlisting.specs.Items.{ups_item, variable_item, command_item, enum_item, range_item, client_item}
 use Rattle.nutlisting.specs.Shown.{shown, description_of, ups_description}

@@ -1,5 +1,5 @@
 -- The checks of commands, each named for the error word that it answers. A row of the table is a
--- `do` block of them: what stands below a check that fails isn't looked at.
+-- `do` block of them: what comes after a check that fails isn't looked at.
 use Rattle.std.specs.Prelude.{ℕ, Bool, ◌&&◌, nat_le, length, is_none, List, Option, Some, None}
 use Rattle.std.specs.Prelude.{Result, Ok, Err, slice_get, if◌then◌else◌}
 use Rattle.std.specs.Option.{ok_or, option_map, option_and_then}
@@ -43,7 +43,7 @@ abbrev pub ◌>>◌ : {B : Type 0} → Result (Unit {0}) ErrWord → Result B Er
 abbrev pub unless : Bool → ErrWord → Result (Unit {0}) ErrWord
 unless holds word = if holds then Ok tt else Err word
 
--- A UPS that is there: its name, its description as clients are told it, the name that the server
+-- A UPS that is there: its name, its description as clients see it, the name that the server
 -- has for it, and what is known of it.
 pub record KnownUps : Type 0 where
   pub name : List ℕ
@@ -80,11 +80,11 @@ data_stale not_connected = Ok tt
 data_stale stale = Err DataStale
 data_stale usable = Ok tt
 
--- Whether clients are told what its driver has reported.
+-- Whether clients see what its driver has reported.
 abbrev pub ready : Seen → KnownUps → Readiness
 ready s u = readiness s.moment s.max_age u.state.report
 
--- Clients are told what the driver has reported.
+-- Clients see what the driver has reported.
 abbrev pub live : Seen → KnownUps → Result (Unit {0}) ErrWord
 live s u = do
   driver_not_connected (ready s u)
@@ -165,7 +165,7 @@ abbrev pub invalid_value : VariableState → List ℕ → Result (Unit {0}) ErrW
 invalid_value x value =
     unless (is_listed x.enum_values value && is_in_ranges x.ranges value) InvalidValue
 
--- The id at hand that an order uses, or the word where there is none.
+-- The available id that an order uses, or the word where there is none.
 abbrev pub first_id : Option ℕ → ErrWord → Result (Option ℕ) ErrWord
 first_id None word = Err word
 first_id (Some id) word = Ok (Some id)

@@ -63,12 +63,6 @@ Names A = Option (List ℕ) × Option (List ℕ) × A
 abbrev pub value_of : List ℕ → Option (List ℕ)
 value_of word = result_ok (read_value word)
 
--- `ups name value`
-abbrev pub ups_name_and_value : List (List ℕ) → Result (Names (Option (List ℕ))) ErrWord
-ups_name_and_value (ups ∷ name ∷ value ∷ []) =
-    Ok (result_ok (read_ups_name ups), result_ok (read_name name), value_of value)
-ups_name_and_value _ = Err InvalidArgument
-
 -- `ups name`, or `ups name value`
 abbrev pub ups_name_and_value_if_any
     : List (List ℕ) → Result (Names (Option (Option (List ℕ)))) ErrWord
@@ -89,12 +83,18 @@ abbrev pub on_or_off : List (List ℕ) → Result Bool ErrWord
 on_or_off (word ∷ []) = is_on word
 on_or_off _ = Err InvalidArgument
 
+-- SET VAR: its value may not be left out.
+abbrev pub set_var_with
+    : Result (Names (Option (Option (List ℕ)))) ErrWord → Result Command ErrWord
+set_var_with (Err word) = Err word
+set_var_with (Ok (ups, name, None)) = Err InvalidArgument
+set_var_with (Ok (ups, name, Some value)) = Ok (SetVar ups name value)
+
 -- SET: one case a second word.
 abbrev pub read_set : List (List ℕ) → Result Command ErrWord
 read_set [] = Err InvalidArgument
 read_set (kind ∷ words) =
-    if is_word kind (codes "VAR")
-    then command_with (λ a. SetVar a.0 a.1 a.2) (ups_name_and_value words)
+    if is_word kind (codes "VAR") then set_var_with (ups_name_and_value_if_any words)
     else if is_word kind (codes "TRACKING")
     then command_with (λ on. SetTracking on) (on_or_off words)
     else Err InvalidArgument

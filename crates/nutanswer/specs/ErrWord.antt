@@ -15,7 +15,7 @@ use Rattle.nutanswer.specs.declared.err_word.ErrWord.TheVariants.{UsernameRequir
 use Rattle.nutanswer.specs.declared.err_word.ErrWord.TheVariants.{PasswordRequired, UnknownCommand}
 use Rattle.nutanswer.specs.declared.err_word.ErrWord.TheVariants.{InvalidValue}
 
--- The word that stands after ERR.
+-- The word after ERR.
 abbrev pub spelling_of : ErrWord → List ℕ
 spelling_of AccessDenied = codes "ACCESS-DENIED"
 spelling_of UnknownUps = codes "UNKNOWN-UPS"

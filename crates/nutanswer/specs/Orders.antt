@@ -47,15 +47,15 @@ abbrev pub tracking_words : Option ℕ → List (List ℕ)
 tracking_words None = []
 tracking_words (Some id) = codes "TRACKING" ∷ id_text id ∷ []
 
--- The line of an order with its LF: its words, and behind them its id, if it is tracked.
+-- The line of an order with its LF: its words, and after them its id, if it is tracked.
 abbrev pub order_line : List ℕ → List ℕ → Option (List ℕ) → Option ℕ → List ℕ
 order_line verb name value id = line_of (order_words verb name value ++ tracking_words id)
 
--- The line by which a driver is told to set a variable,
+-- The line that asks a driver to set a variable,
 abbrev pub set_line : List ℕ → List ℕ → Option ℕ → List ℕ
 set_line name value id = order_line (codes "SET") name (Some value) id
 
--- and that by which it is told a command.
+-- and the one that asks for a command.
 abbrev pub instcmd_line : List ℕ → Option (List ℕ) → Option ℕ → List ℕ
 instcmd_line name value id = order_line (codes "INSTCMD") name value id
 
@@ -64,7 +64,7 @@ abbrev pub order : UpsId → List ℕ → Option ℕ → Change
 order u line None = changes.Order u (record { items = line })
 order u line (Some id) = changes.Tracked u id (record { items = line })
 
--- The words that answer an order: OK, and behind it the id, if the order is tracked.
+-- The words that answer an order: OK, and after it the id, if the order is tracked.
 abbrev pub ok_words : Option ℕ → List (List ℕ)
 ok_words id = codes "OK" ∷ tracking_words id
 
@@ -72,8 +72,7 @@ ok_words id = codes "OK" ∷ tracking_words id
 abbrev pub on_or_off_word : Bool → List ℕ
 on_or_off_word on = if on then codes "ON" else codes "OFF"
 
--- The right to the command that this word names. What is asked of a right is its bytes alone, not
--- where they stand.
+-- The right to the command that this word names. Only its bytes decide, not their address.
 abbrev pub right_to : List ℕ → Right
 right_to command = rights.Instcmd (record { ref_ptr = (0, 0); now = command })
 

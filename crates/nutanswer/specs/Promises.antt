@@ -1,21 +1,22 @@
 -- What the private parts of the code promise one another. A reader of the public contracts needs
 -- none of it.
 use denote.Ref.{Bor}
-use Rattle.std.specs.Prelude.{◌≡◌, ℕ, false, List, Option, None, Result, Ok, Err}
+use Rattle.std.specs.Prelude.{◌≡◌, ℕ, false, List, Option, None, Result, Ok, Err, IsTrue}
 use Rattle.std.specs.Option.{option_copied}
 use Rattle.nutdriver.specs.Variable.{VariableState}
 use Rattle.nutusers.specs.UpsList.{new_ups}
 use Rattle.nutanswer.specs.declared.err_word.ErrWord.{ErrWord}
 use Rattle.nutanswer.specs.declared.checks.Known.{Known}
-use Rattle.nutanswer.specs.declared.checks.KnownVariable.{KnownVariable}
 use Rattle.nutanswer.specs.declared.command.Command.{Command}
+use Rattle.nutanswer.specs.declared.reply.Change.TheVariants.{Nothing}
 use Rattle.nutanswer.specs.declared.reply.Reply.{Reply}
 use Rattle.nutanswer.specs.declared.reply.Reply.TheVariants.{One, Many, Clients}
 use Rattle.nutlisting.specs.Shown.{ups_description}
 use Rattle.nutanswer.specs.View.{Seen, AskerSeen, ups_seen}
 use Rattle.nutanswer.specs.Checks.{◌>>=◌, ◌>>◌, KnownUps, unknown_ups, live, var_not_supported}
 use Rattle.nutanswer.specs.Checks.{cmd_not_supported, readonly, too_long, invalid_value}
-use Rattle.nutanswer.specs.Answer.{Answer, listing, answer_to, IsOneLine, IsReply}
+use Rattle.nutlisting.specs.Items.{ListingState}
+use Rattle.nutanswer.specs.Answer.{Answer, listing, answer_to, shares_version, IsOneLine, IsReply}
 
 -- The UPS that was found.
 abbrev pub known_ups : Known → KnownUps
@@ -28,8 +29,9 @@ known_ups k =
     }
 
 -- The UPS and the variable that were found.
-abbrev pub known_variable : KnownVariable → KnownUps × List ℕ × VariableState
-known_variable k = (known_ups k.ups, k.name.now, k.variable.now)
+abbrev pub known_variable
+    : Known × Bor (List ℕ) × Bor VariableState → KnownUps × List ℕ × VariableState
+known_variable k = (known_ups k.0, k.1.now, k.2.now)
 
 -- What was found, or the word of the check that failed.
 abbrev pub found : {A B : Type 0} → (A → B) → Result A ErrWord → Result B ErrWord
@@ -87,6 +89,25 @@ Gives answer (Err word) = answer ≡ Err word
 abbrev pub GivesReply : Seen → Result Answer ErrWord → Result Reply ErrWord → Type 0
 GivesReply s answer (Ok reply) = IsReply s answer reply
 GivesReply s answer (Err word) = answer ≡ Err word
+
+-- The line of the row is the answer, and changes nothing; or the row gives the word of its error.
+abbrev pub GivesLine : Result Answer ErrWord → Result (Unit {0}) ErrWord → List ℕ → Type 0
+GivesLine answer (Ok none) line = IsOneLine answer line Nothing
+GivesLine answer (Err word) line = answer ≡ Err word
+
+-- The row gives this listing, the refusal of its memory, or the word of its error.
+abbrev pub GivesListing
+    : {E : Type 0} → Result Answer ErrWord → Result (Result ListingState E) ErrWord → Type 0
+GivesListing answer (Ok (Ok l)) = answer ≡ Ok (listing l)
+GivesListing answer (Ok (Err memory)) = IsTrue (shares_version answer)
+GivesListing answer (Err word) = answer ≡ Err word
+
+-- The command that is made of these arguments, or their refusal.
+abbrev pub IsCommandWith
+    : {X : Type 0} → (X → Command → Type 0) → Result X ErrWord → Result Command ErrWord → Type 0
+IsCommandWith makes (Err word) result = result ≡ Err word
+IsCommandWith makes (Ok arguments) result =
+    (command : Command) × (result ≡ Ok command) × makes arguments command
 
 -- A session that has given nothing.
 abbrev pub nobody : AskerSeen

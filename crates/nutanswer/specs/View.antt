@@ -25,7 +25,7 @@ pub record ClientSeen : Type 0 where
 
 -- The moment and the greatest age, in seconds; the list of UPSs, and what is known of each, in the
 -- order of the list; the users; the descriptions of variables and commands; the open sessions, in
--- the order of opening; the ids at hand, and the tracked orders that are kept.
+-- the order of opening; the available ids, and the tracked orders that are kept.
 pub record Seen : Type 0 where
   pub moment : ℕ
   pub max_age : ℕ
@@ -69,7 +69,7 @@ login_count u clients = count_by (is_logged_in u) clients
 abbrev pub addresses_at : UpsId → List ClientSeen → List (List ℕ)
 addresses_at u clients = map (λ client. client.address) (filter (is_logged_in u) clients)
 
--- Whether clients are told what the driver has reported.
+-- Whether clients see what the driver has reported.
 pub data Readiness : Type 0 where
   not_connected : Readiness
   stale : Readiness

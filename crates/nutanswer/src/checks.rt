@@ -21,14 +21,6 @@ pub(crate) struct Known<'a> {
     pub(crate) state: UpsView<'a>,
 }
 
-/// A variable of a UPS, by the name that the command has.
-#[derive(Clone, Copy)]
-pub(crate) struct KnownVariable<'a> {
-    pub(crate) ups: Known<'a>,
-    pub(crate) name: &'a Name,
-    pub(crate) variable: &'a Variable,
-}
-
 /// The session has given the name and the password of a user to whom the right is granted.
 pub(crate) fn user<V: View>(view: &V, asker: Asker<'_>, right: Right<'_>) -> Checked<()>
     ensures { result ≡ user (V.seen view.now) (asker_seen asker.entry) right.entry }
@@ -90,23 +82,19 @@ pub(crate) fn live_ups<'a, V: View>(view: &'a V, ups: &UpsWord<'_>) -> Checked<K
     Ok(ups)
 }
 
-/// The variable of this name, of a live UPS.
+/// The live UPS of this name, and the name and the variable of it that the command names.
 pub(crate) fn live_variable<'a, V: View>(
     view: &'a V,
     ups: &UpsWord<'_>,
     name: &'a Option<Name>,
-) -> Checked<KnownVariable<'a>>
+) -> Checked<(Known<'a>, &'a Name, &'a Variable)>
     ensures { found known_variable result ≡ live_variable (V.seen view.now) ups.now name.now }
 {
     let ups = live_ups(view, ups)?;
     let name = name.as_ref().ok_or(ErrWord::VarNotSupported)?;
     let tree = &ups.state.report.tree;
     let variable = tree.get(name).ok_or(ErrWord::VarNotSupported)?;
-    Ok(KnownVariable {
-        ups,
-        name,
-        variable,
-    })
+    Ok((ups, name, variable))
 }
 
 /// The live UPS of this name, and the name of a command that it has.
@@ -155,7 +143,7 @@ pub(crate) fn command_value(value: &Option<ValueWord<'_>>) -> Checked<Option<Val
     Ok(Some(word.read().ok_or(ErrWord::TooLong)?))
 }
 
-/// The id of an order of this session, where its orders are tracked, or this word where none is at hand.
+/// The id of an order of this session, where its orders are tracked, or this word where none is available.
 pub(crate) fn order_id<V: View>(
     view: &V,
     asker: Asker<'_>,

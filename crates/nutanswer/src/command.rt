@@ -3,6 +3,7 @@ ghost use Rattle.std.specs.Prelude.{◌≡◌, ◌≤◌, length};
 ghost use Rattle.std.specs.Result.{result_ok};
 ghost use Rattle.nutwords.specs.Reading.{read_text};
 ghost use Rattle.nutwords.specs.declared.limits.TheConstants.{LINE_LIMIT};
+ghost use Rattle.nutanswer.specs.Promises.{IsCommandWith};
 ghost use Rattle.nutanswer.specs.Command.{alone, text_alone, ups_and_name, ups_name_and_value_if_any, tracking_asked, on_or_off};
 
 mod words;
@@ -10,7 +11,8 @@ mod words;
 use crate::ErrWord;
 use crate::err_word::Checked;
 use nutwords::{SpelledWord, SpelledWords, TextKind, spelled_words};
-pub use words::{IdWord, NameWord, PasswordWord, TextWord, UpsWord, UserWord, ValueWord};
+use words::id_of;
+pub use words::{NameWord, PasswordWord, TextWord, UpsWord, UserWord, ValueWord};
 
 /// A command of a client, whose words are those of its line. A word that is no lawful name names nothing.
 #[derive(Debug, Drop)]
@@ -51,7 +53,7 @@ pub enum Command<'a> {
     /// `GET TRACKING`: whether the session's orders are tracked.
     GetTracking,
     /// `GET TRACKING` of an id: how far its order has come; none where it isn't an id.
-    GetProgress(IdWord<'a>),
+    GetProgress(Option<u128>),
     /// `LIST UPS`: the UPSs of the server.
     ListUps,
     /// `LIST VAR`: the variables of a UPS.
@@ -103,14 +105,11 @@ impl<'a> Command<'a> {
     fn named(first: &SpelledWord<'_>, words: SpelledWords<'a>) -> Checked<Command<'a>>
         ensures { result ≡ command_named (spelled first.now) words.entry }
     {
-        if first.is_word(b"GET") {
-            Command::get(words)
-        } else if first.is_word(b"LIST") {
-            Command::list(words)
-        } else if first.is_word(b"SET") {
-            Command::set(words)
-        } else {
-            Command::other(first, words)
+        match first {
+            _ if first.is_word(b"GET") => Command::get(words),
+            _ if first.is_word(b"LIST") => Command::list(words),
+            _ if first.is_word(b"SET") => Command::set(words),
+            _ => Command::other(first, words),
         }
     }
 
@@ -118,33 +117,27 @@ impl<'a> Command<'a> {
     fn other(first: &SpelledWord<'_>, words: SpelledWords<'a>) -> Checked<Command<'a>>
         ensures { result ≡ other_command (spelled first.now) words.entry }
     {
-        if first.is_word(b"USERNAME") {
-            Ok(Command::Username(text_alone(words)?))
-        } else if first.is_word(b"PASSWORD") {
-            Ok(Command::Password(text_alone(words)?))
-        } else if first.is_word(b"LOGIN") || first.is_word(b"ATTACH") {
-            Ok(Command::Login(text_alone(words)?))
-        } else if first.is_word(b"LOGOUT") || first.is_word(b"DETACH") {
-            alone(Command::Logout, words)
-        } else if first.is_word(b"PRIMARY") {
-            Ok(Command::Primary(text_alone(words)?))
-        } else if first.is_word(b"FSD") {
-            Ok(Command::Fsd(text_alone(words)?))
-        } else if first.is_word(b"INSTCMD") {
-            let (ups, name, value) = ups_name_and_value_if_any(words)?;
-            Ok(Command::InstCmd(ups, name, value))
-        } else if first.is_word(b"HELP") {
-            alone(Command::Help, words)
-        } else if first.is_word(b"VER") {
-            alone(Command::Ver, words)
-        } else if first.is_word(b"NETVER") {
-            alone(Command::NetVer, words)
-        } else if first.is_word(b"PROTVER") {
-            alone(Command::ProtVer, words)
-        } else if first.is_word(b"STARTTLS") {
-            alone(Command::StartTls, words)
-        } else {
-            Err(ErrWord::UnknownCommand)
+        match first {
+            _ if first.is_word(b"USERNAME") => Ok(Command::Username(text_alone(words)?)),
+            _ if first.is_word(b"PASSWORD") => Ok(Command::Password(text_alone(words)?)),
+            _ if first.is_word(b"LOGIN") || first.is_word(b"ATTACH") => {
+                Ok(Command::Login(text_alone(words)?))
+            }
+            _ if first.is_word(b"LOGOUT") || first.is_word(b"DETACH") => {
+                alone(Command::Logout, words)
+            }
+            _ if first.is_word(b"PRIMARY") => Ok(Command::Primary(text_alone(words)?)),
+            _ if first.is_word(b"FSD") => Ok(Command::Fsd(text_alone(words)?)),
+            _ if first.is_word(b"INSTCMD") => {
+                let (ups, name, value) = ups_name_and_value_if_any(words)?;
+                Ok(Command::InstCmd(ups, name, value))
+            }
+            _ if first.is_word(b"HELP") => alone(Command::Help, words),
+            _ if first.is_word(b"VER") => alone(Command::Ver, words),
+            _ if first.is_word(b"NETVER") => alone(Command::NetVer, words),
+            _ if first.is_word(b"PROTVER") => alone(Command::ProtVer, words),
+            _ if first.is_word(b"STARTTLS") => alone(Command::StartTls, words),
+            _ => Err(ErrWord::UnknownCommand),
         }
     }
 
@@ -152,15 +145,14 @@ impl<'a> Command<'a> {
     fn set(mut words: SpelledWords<'a>) -> Checked<Command<'a>>
         ensures { result ≡ read_set words.entry }
     {
-        let kind = words.next().ok_or(ErrWord::InvalidArgument)?;
-        if kind.is_word(b"VAR") {
-            let (ups, name, value) = ups_name_and_value_if_any(words)?;
-            let value = value.ok_or(ErrWord::InvalidArgument)?;
-            Ok(Command::SetVar(ups, name, value))
-        } else if kind.is_word(b"TRACKING") {
-            Ok(Command::SetTracking(on_or_off(words)?))
-        } else {
-            Err(ErrWord::InvalidArgument)
+        match words.next().ok_or(ErrWord::InvalidArgument)? {
+            kind if kind.is_word(b"VAR") => {
+                let (ups, name, value) = ups_name_and_value_if_any(words)?;
+                let value = value.ok_or(ErrWord::InvalidArgument)?;
+                Ok(Command::SetVar(ups, name, value))
+            }
+            kind if kind.is_word(b"TRACKING") => Ok(Command::SetTracking(on_or_off(words)?)),
+            _ => Err(ErrWord::InvalidArgument),
         }
     }
 
@@ -168,25 +160,16 @@ impl<'a> Command<'a> {
     fn get(mut words: SpelledWords<'a>) -> Checked<Command<'a>>
         ensures { result ≡ read_get words.entry }
     {
-        let kind = words.next().ok_or(ErrWord::InvalidArgument)?;
-        if kind.is_word(b"VAR") {
-            ups_and_name(words).map(|(ups, name)| Command::GetVar(ups, name))
-        } else if kind.is_word(b"TYPE") {
-            ups_and_name(words).map(|(ups, name)| Command::GetType(ups, name))
-        } else if kind.is_word(b"DESC") {
-            ups_and_name(words).map(|(ups, name)| Command::GetDesc(ups, name))
-        } else if kind.is_word(b"CMDDESC") {
-            ups_and_name(words).map(|(ups, name)| Command::GetCmdDesc(ups, name))
-        } else if kind.is_word(b"UPSDESC") {
-            Ok(Command::GetUpsDesc(text_alone(words)?))
-        } else if kind.is_word(b"NUMLOGINS") {
-            Ok(Command::GetNumLogins(text_alone(words)?))
-        } else if kind.is_word(b"NUMATTACH") {
-            Ok(Command::GetNumAttach(text_alone(words)?))
-        } else if kind.is_word(b"TRACKING") {
-            tracking_asked(words)
-        } else {
-            Err(ErrWord::InvalidArgument)
+        match words.next().ok_or(ErrWord::InvalidArgument)? {
+            kind if kind.is_word(b"VAR") => ups_and_name(words, Command::GetVar),
+            kind if kind.is_word(b"TYPE") => ups_and_name(words, Command::GetType),
+            kind if kind.is_word(b"DESC") => ups_and_name(words, Command::GetDesc),
+            kind if kind.is_word(b"CMDDESC") => ups_and_name(words, Command::GetCmdDesc),
+            kind if kind.is_word(b"UPSDESC") => Ok(Command::GetUpsDesc(text_alone(words)?)),
+            kind if kind.is_word(b"NUMLOGINS") => Ok(Command::GetNumLogins(text_alone(words)?)),
+            kind if kind.is_word(b"NUMATTACH") => Ok(Command::GetNumAttach(text_alone(words)?)),
+            kind if kind.is_word(b"TRACKING") => tracking_asked(words),
+            _ => Err(ErrWord::InvalidArgument),
         }
     }
 
@@ -194,28 +177,20 @@ impl<'a> Command<'a> {
     fn list(mut words: SpelledWords<'a>) -> Checked<Command<'a>>
         ensures { result ≡ read_list words.entry }
     {
-        let kind = words.next().ok_or(ErrWord::InvalidArgument)?;
-        if kind.is_word(b"UPS") {
-            alone(Command::ListUps, words)
-        } else if kind.is_word(b"VAR") {
-            Ok(Command::ListVar(text_alone(words)?))
-        } else if kind.is_word(b"RW") {
-            Ok(Command::ListRw(text_alone(words)?))
-        } else if kind.is_word(b"CMD") {
-            Ok(Command::ListCmd(text_alone(words)?))
-        } else if kind.is_word(b"ENUM") {
-            ups_and_name(words).map(|(ups, name)| Command::ListEnum(ups, name))
-        } else if kind.is_word(b"RANGE") {
-            ups_and_name(words).map(|(ups, name)| Command::ListRange(ups, name))
-        } else if kind.is_word(b"CLIENT") {
-            Ok(Command::ListClient(text_alone(words)?))
-        } else {
-            Err(ErrWord::InvalidArgument)
+        match words.next().ok_or(ErrWord::InvalidArgument)? {
+            kind if kind.is_word(b"UPS") => alone(Command::ListUps, words),
+            kind if kind.is_word(b"VAR") => Ok(Command::ListVar(text_alone(words)?)),
+            kind if kind.is_word(b"RW") => Ok(Command::ListRw(text_alone(words)?)),
+            kind if kind.is_word(b"CMD") => Ok(Command::ListCmd(text_alone(words)?)),
+            kind if kind.is_word(b"ENUM") => ups_and_name(words, Command::ListEnum),
+            kind if kind.is_word(b"RANGE") => ups_and_name(words, Command::ListRange),
+            kind if kind.is_word(b"CLIENT") => Ok(Command::ListClient(text_alone(words)?)),
+            _ => Err(ErrWord::InvalidArgument),
         }
     }
 }
 
-/// The command, where no further word stands after it.
+/// The command, where no further word comes after it.
 fn alone<'a>(command: Command<'a>, mut words: SpelledWords<'a>) -> Checked<Command<'a>>
     ensures { result ≡ alone command.entry words.entry }
 {
@@ -238,12 +213,17 @@ fn text_alone<K: TextKind, const MOST: usize>(
     }
 }
 
-/// The two words that are to name a UPS and a variable or command of it.
-fn ups_and_name(mut words: SpelledWords<'_>) -> Checked<(UpsWord<'_>, NameWord<'_>)>
-    ensures { result ≡ ups_and_name words.entry }
+/// The command of these two words, which are to name a UPS and a variable or command of it.
+fn ups_and_name<'a, F: FnOnce(UpsWord<'a>, NameWord<'a>) -> Command<'a>>(
+    mut words: SpelledWords<'a>,
+    command: F,
+) -> Checked<Command<'a>>
+    requires { F.IsAlwaysCallable command }
+    ensures { IsCommandWith (λ a given. F.post command a.0 a.1 given)
+        (ups_and_name words.entry) result }
 {
     match (words.next(), words.next(), words.next()) {
-        (Some(ups), Some(name), None) => Ok((UpsWord::of(ups), NameWord::of(name))),
+        (Some(ups), Some(name), None) => Ok(command(UpsWord::of(ups), NameWord::of(name))),
         _ => Err(ErrWord::InvalidArgument),
     }
 }
@@ -269,7 +249,7 @@ fn tracking_asked(mut words: SpelledWords<'_>) -> Checked<Command<'_>>
 {
     match (words.next(), words.next()) {
         (None, _) => Ok(Command::GetTracking),
-        (Some(id), None) => Ok(Command::GetProgress(IdWord::of(id))),
+        (Some(id), None) => Ok(Command::GetProgress(id_of(&id))),
         _ => Err(ErrWord::InvalidArgument),
     }
 }

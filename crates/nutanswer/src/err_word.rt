@@ -15,9 +15,9 @@ pub enum ErrWord {
     CmdNotSupported,
     /// `INVALID-ARGUMENT`: the line reads as no words, or the command has other words than it may have.
     InvalidArgument,
-    /// `INSTCMD-FAILED`: the driver can't be told the command.
+    /// `INSTCMD-FAILED`: the command can't be sent to the driver.
     InstcmdFailed,
-    /// `SET-FAILED`: the driver can't be told the value.
+    /// `SET-FAILED`: the value can't be sent to the driver.
     SetFailed,
     /// `READONLY`: the variable may not be set.
     Readonly,
@@ -27,7 +27,7 @@ pub enum ErrWord {
     FeatureNotConfigured,
     /// `DRIVER-NOT-CONNECTED`: the UPS's driver isn't connected.
     DriverNotConnected,
-    /// `DATA-STALE`: the UPS's driver isn't known to tell the truth.
+    /// `DATA-STALE`: what the UPS's driver reported may no longer be right.
     DataStale,
     /// `ALREADY-LOGGED-IN`: the session is logged in to a UPS.
     AlreadyLoggedIn,
@@ -51,7 +51,7 @@ pub(crate) type Checked<T> = Result<T, ErrWord>;
 impl ErrWord {
     ghost use Rattle.nutanswer.specs.ErrWord.{error_line};
 
-    /// The line that tells the refusal, with its LF: at most 2,048 bytes.
+    /// The line of the refusal, with its LF: at most 2,048 bytes.
     pub fn line(self) -> &'static [u8]
         ensures line { result.now ≡ error_line self }
         ensures short { length result.now ≤ LINE_ROOM }

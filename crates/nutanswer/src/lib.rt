@@ -11,9 +11,7 @@ mod reply;
 mod view;
 
 pub use answers::answer;
-pub use command::{
-    Command, IdWord, NameWord, PasswordWord, TextWord, UpsWord, UserWord, ValueWord,
-};
+pub use command::{Command, NameWord, PasswordWord, TextWord, UpsWord, UserWord, ValueWord};
 pub use err_word::ErrWord;
 pub use nutlisting::Listing;
 pub use reply::{Change, GivenPassword, OrderLine, Reply};

@@ -15,10 +15,10 @@ const VERB_LIMIT: usize = 7;
 /// The most bytes of an order before its value: its verb, the name of a variable or a command, a blank.
 const ORDER_FRONT_LIMIT: usize = VERB_LIMIT + 1 + NAME_LIMIT;
 
-/// The most bytes of an order before its id: each byte of its value may stand after a backslash.
+/// The most bytes of an order before its id: each byte of its value may follow a backslash.
 const ORDER_LIMIT: usize = ORDER_FRONT_LIMIT + 1 + 2 * VALUE_LIMIT + 2;
 
-/// How many bytes the id of an order is told in, with the word and the blanks before it.
+/// How many bytes the id of an order takes, with the word and the blanks before it.
 const TRACKING_LENGTH: usize = 1 + 8 + 1 + ID_LENGTH;
 
 /// The most bytes of an order with its LF.

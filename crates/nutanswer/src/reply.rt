@@ -94,12 +94,12 @@ pub enum Change<'a> {
     Order(UpsId, OrderLine<'a>),
     /// The session's orders are tracked from now on, or they aren't.
     Tracking(bool),
-    /// The driver of this UPS is owed this line, with its LF, which names the id: the first one at hand, which is used for
+    /// The driver of this UPS is owed this line, with its LF, which names the id: the first available one, which is used for
     /// the order.
     Tracked(UpsId, u128, OrderLine<'a>),
 }
 
-/// The answer to a command. Its line, that of an order and a password stand where they were made.
+/// The answer to a command. Its line, that of an order and a password lie where they were made.
 #[derive(Drop)]
 pub enum Reply<'a> {
     /// One line with its LF, and what the command changes.

@@ -41,7 +41,7 @@ pub trait View {
     fn moment(&self) -> u64
         ensures { result ≡ (seen self.now).moment };
 
-    /// For how many seconds the data of a driver that tells nothing are right (upsd.conf(5): MAXAGE).
+    /// For how many seconds the data of a driver that sends nothing are right (upsd.conf(5): MAXAGE).
     fn max_age(&self) -> u32
         ensures { result ≡ (seen self.now).max_age };
 
@@ -65,7 +65,7 @@ pub trait View {
     fn login_count(&self, u: UpsId) -> usize
         ensures { result ≡ login_count u (seen self.now).clients };
 
-    /// The ids at hand, and the orders that are kept.
+    /// The available ids, and the orders that are kept.
     fn tracking(&self) -> &Tracking
         ensures { result.now ≡ (seen self.now).tracking };
 }

@@ -1,5 +1,5 @@
 //! What the pump works in.
-use nutlisting::{Clients, Renders};
+use nutlisting::Clients;
 use nutwords::Line;
 
 /// Where a line of an answer is made before it is placed, the count of those lines, and where the clients of a UPS are
@@ -7,6 +7,6 @@ use nutwords::Line;
 #[derive(Drop)]
 pub(crate) struct Scratch {
     pub(crate) line: Line,
-    pub(crate) renders: Renders,
+    pub(crate) renders: u64,
     pub(crate) clients: Clients,
 }

@@ -35,7 +35,7 @@ use crate::ups::Ups;
 use nutdriver::laws::{
     each_line_keeps_the_tree_sound, lawful_lines_keep_trees_sound, read_lines_are_lawful,
 };
-use nutlisting::{Clients, Outbox, Renders, SESSION_LIMIT};
+use nutlisting::{Clients, Outbox, SESSION_LIMIT};
 use nuttracking::{IdFault, Tracking};
 use nutusers::{Descriptions, UpsId, UpsList, Users};
 use nutwords::{Address, Line};
@@ -118,7 +118,7 @@ impl Server {
             reply_line: Line::new(),
             scratch: Scratch {
                 line: Line::new(),
-                renders: Renders::new(),
+                renders: 0,
                 clients,
             },
             placed: 0,
@@ -146,7 +146,7 @@ impl Server {
         ensures { result ≡ self.now.cost }
     {
         Cost {
-            rendered: self.scratch.renders.made(),
+            rendered: self.scratch.renders,
             placed: self.placed,
         }
     }
@@ -164,7 +164,7 @@ impl Server {
         ensures none { self.new.cost ≡ no_cost }
         ensures notes { self.new.notes ≡ [] }
     {
-        self.scratch.renders = Renders::new();
+        self.scratch.renders = 0;
         self.placed = 0;
         self.notes.clear();
     }

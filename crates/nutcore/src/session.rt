@@ -247,8 +247,7 @@ impl Session {
             renders,
             clients,
         } = scratch;
-        self.outbox
-            .accept_clients(ups, clients.addresses(), line, renders);
+        self.outbox.accept_clients(ups, clients, line, renders);
     }
 
     /// Joins an answer of one line to what is owed, if there is one.

@@ -26,7 +26,7 @@ use Rattle.nutusers.specs.Texts.{is_description}
 use Rattle.nutlisting.specs.Lawful.{IsLawfulText, room, TextsAreLawful, LawfulWordsAreALine}
 use Rattle.nutlisting.specs.Lines.{IsWholeLine}
 use Rattle.nutlisting.specs.Shown.{shown}
-use Rattle.nutlisting.specs.declared.lines.shown.TheConstants.{SHOWN_LIMIT}
+use Rattle.nutlisting.specs.declared.lines.TheConstants.{SHOWN_LIMIT}
 
 -- each byte is lawful
 abbrev pub Lawful : List ℕ → Type 0

@@ -25,7 +25,7 @@ use Rattle.nutlisting.specs.Lawful.{IsLawfulText, room, IsSoundEntry, SoundTrees
 use Rattle.nutlisting.specs.Items.{is_rw, variable_item, command_item, enum_item, range_item, ups_item, client_item}
 use Rattle.nutlisting.specs.ReadsBack.{variable_words, enum_words, range_words, ups_words, ReadsBack, LawfulListingsReadBack}
 use Rattle.nutlisting.specs.Shown.{shown, ups_description}
-use Rattle.nutlisting.specs.declared.lines.shown.TheConstants.{SHOWN_LIMIT}
+use Rattle.nutlisting.specs.declared.lines.TheConstants.{SHOWN_LIMIT}
 use Rattle.nutlisting.proofs.Lawful.{text_all, all_also, joined_text, texts_are_lawful}
 
 -- a word of a line: what it means, how it is written, and that it has at most so many bytes

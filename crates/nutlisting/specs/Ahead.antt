@@ -9,7 +9,7 @@ use Rattle.nutlisting.specs.declared.listing.place.Place.{Place}
 use Rattle.nutlisting.specs.declared.listing.place.Place.TheVariants.{After}
 
 module _ {E : Type 0} where
-  -- The first of the entries stand ahead, any number of them.
+  -- The first of the entries are ahead, any number of them.
   abbrev pub AreFirst : List E → List (Option E) → Type 0
   AreFirst entries ahead = ahead ≡ map Some (take (length ahead) entries)
 
@@ -18,18 +18,18 @@ module _ {E : Type 0} where
     pub first : AreFirst entries ahead
     pub some : ahead ≡ [] → entries ≡ []
 
-  -- The first one that stands ahead.
+  -- The first one that is ahead.
   abbrev pub front : List (Option E) → Option E
   front [] = None
   front (e ∷ ahead) = e
 
--- No variable comes after the name, and none stands ahead.
+-- No variable comes after the name, and none is ahead.
 pub record IsEnd (variables : List (List ℕ × VariableState)) (last : Option (List ℕ))
     (ahead : List (Option (List ℕ × VariableState))) : Type 0 where
   pub none : entries_after byte_order variables last ≡ []
   pub empty : ahead ≡ []
 
--- The variable comes after the name, and those after it stand ahead.
+-- The variable comes after the name, and those after it are ahead.
 pub record IsTaken (variables : List (List ℕ × VariableState)) (last : Option (List ℕ))
     (e : List ℕ × VariableState) (ahead : List (Option (List ℕ × VariableState))) : Type 0 where
   pub walks : entries_after byte_order variables last
@@ -42,6 +42,6 @@ variables_past (After last) (Variables ups fsd tree) = entries_after byte_order 
 variables_past (After last) (Rw ups fsd tree) = entries_after byte_order tree.variables last
 variables_past place content = []
 
--- The next variables stand ahead.
+-- The next variables are ahead.
 abbrev pub IsAhead : Content → Place → List (Option (List ℕ × VariableState)) → Type 0
 IsAhead content place ahead = AreFirst (variables_past place content) ahead

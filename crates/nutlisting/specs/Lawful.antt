@@ -17,14 +17,14 @@ use Rattle.nutdriver.specs.declared.limits.TheConstants.{NUMBER_LIMIT}
 use Rattle.nutusers.specs.Texts.{is_description}
 use Rattle.nutlisting.specs.Lines.{IsWholeLine}
 use Rattle.nutlisting.specs.Shown.{shown, description_of, text_or_unavailable}
-use Rattle.nutlisting.specs.declared.lines.shown.TheConstants.{SHOWN_LIMIT}
+use Rattle.nutlisting.specs.declared.lines.TheConstants.{SHOWN_LIMIT}
 
 -- The text has at most so many bytes, and each is lawful.
 pub record IsLawfulText (most : ℕ) (text : List ℕ) : Type 0 where
   pub short : length text ≤ most
   pub lawful : IsTrue (list_all is_lawful text)
 
--- The most bytes that words of so many bytes take, each with one behind it.
+-- The most bytes that words of so many bytes take, each with one after it.
 abbrev pub room : List ℕ → ℕ
 room [] = 0
 room (most ∷ mosts) = most + 1 + room mosts

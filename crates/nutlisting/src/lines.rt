@@ -7,25 +7,23 @@ ghost use Rattle.nuttracking.specs.Id.{id_text};
 ghost use Rattle.nutwords.specs.Bytes.{is_lawful};
 ghost use Rattle.nutwords.specs.Frame.{line_of};
 ghost use Rattle.nutwords.specs.Spelling.{quoted};
-ghost use Rattle.nutwords.specs.declared.limits.TheConstants.{LINE_LIMIT};
-ghost use Rattle.nutlisting.specs.Shown.{text_or_unavailable};
+ghost use Rattle.nutwords.specs.declared.limits.TheConstants.{LINE_LIMIT, VALUE_LIMIT};
+ghost use Rattle.nutlisting.specs.Shown.{description_of, text_or_unavailable};
 ghost use Rattle.nutlisting.specs.Items.{variable_item, command_item, range_item, client_item};
 ghost use Rattle.nutlisting.specs.Lines.{IsWholeLine};
 ghost use Rattle.nutlisting.specs.Spaced.{spaced};
 ghost use Rattle.nutlisting.specs.Tracked.{progress_words};
 ghost use Rattle.nutlisting.specs.Types.{type_words};
-ghost use Rattle.nutlisting.specs.declared.lines.shown.TheConstants.{SHOWN_LIMIT};
 
-mod shown;
 mod types;
 
 use arrayvec::ArrayVec;
 use itoa::Buffer;
 use nutdriver::{Range, Variable};
 use nuttracking::{Progress, id_text};
-use nutwords::{Address, Line, NAME_LIMIT, Name, UPS_NAME_LIMIT, UpsName, Value, quote_into};
-use shown::SHOWN_LIMIT;
-pub use shown::described;
+use nutwords::{
+    Address, Line, NAME_LIMIT, Name, UPS_NAME_LIMIT, UpsName, VALUE_LIMIT, Value, quote_into,
+};
 
 /// The most bytes of a line's kind: `NUMLOGINS`, `NUMATTACH`.
 pub const KIND_LIMIT: usize = 9;
@@ -33,8 +31,11 @@ pub const KIND_LIMIT: usize = 9;
 /// The most bytes of a line's kind and the name of a UPS, with a blank.
 const UPS_FRONT_LIMIT: usize = KIND_LIMIT + 1 + UPS_NAME_LIMIT;
 
-/// The most bytes of a line before what it tells: its kind, the names of a UPS and a variable, two blanks.
+/// The most bytes of a line before its values: its kind, the names of a UPS and a variable, two blanks.
 pub(crate) const FRONT_LIMIT: usize = UPS_FRONT_LIMIT + 1 + NAME_LIMIT;
+
+/// The most bytes of a value as clients see it: a whole value after `FSD `.
+pub const SHOWN_LIMIT: usize = 4 + VALUE_LIMIT;
 
 /// Makes the line of a variable's value as clients see it.
 pub fn variable_line_into(
@@ -58,8 +59,8 @@ pub fn variable_line_into(
     }
 }
 
-/// Makes the line of a status while a forced shutdown is set. It alone has room for the text that is shown, which is
-/// cleared where the function begins: so it is a call of its own.
+/// Makes the line of a status while a forced shutdown is set. The room for the text that is shown is cleared where the
+/// function begins: so it is a call of its own.
 #[inline(never)]
 fn marked_line_into(kind: &[u8], ups: &UpsName, name: &Name, variable: &Variable, line: &mut Line)
     requires kind { length kind.now ≤ KIND_LIMIT }
@@ -99,8 +100,26 @@ pub fn ups_line_into(kind: &[u8], ups: &UpsName, desc: Option<&Value>, line: &mu
     ensures whole { IsWholeLine line.new.items }
 {
     front(line, kind, ups);
-    push_quoted(line, shown::ups_described(desc));
+    push_quoted(line, ups_described(desc));
     finish(line);
+}
+
+/// The description of a variable or a command as clients see it.
+pub fn described(text: Option<&Value>) -> &[u8]
+    ensures value { result.now ≡ description_of (option_copied text.entry) }
+    ensures short { length result.now ≤ VALUE_LIMIT }
+    ensures lawful { IsTrue (list_all is_lawful result.now) }
+{
+    text.map_or(b"Description unavailable", |text| text.as_bytes())
+}
+
+/// The description of a UPS as clients see it.
+fn ups_described(text: Option<&Value>) -> &[u8]
+    ensures value { result.now ≡ text_or_unavailable (option_copied text.entry) }
+    ensures short { length result.now ≤ VALUE_LIMIT }
+    ensures lawful { IsTrue (list_all is_lawful result.now) }
+{
+    text.map_or(b"Unavailable", |text| text.as_bytes())
 }
 
 /// Makes the line of a command.
@@ -218,7 +237,7 @@ fn front(line: &mut Line, kind: &[u8], ups: &UpsName)
     push_word(line, ups.as_bytes());
 }
 
-/// Begins a line by words of at most 128 bytes, as they stand, in place of what the line held.
+/// Begins a line by words of at most 128 bytes, in place of what the line held.
 pub(crate) fn begin(line: &mut Line, text: &[u8])
     requires { length text.now ≤ 128 }
     ensures { line.new.items ≡ text.now }

@@ -14,11 +14,11 @@ ghost use Rattle.nutlisting.specs.declared.ring.TheConstants.{RING_LIMIT};
 
 use crate::cursor::Cursor;
 use crate::listing::{Clients, Listing};
-use crate::renders::Renders;
 use crate::ring::{RING_LIMIT, Ring};
-use nutwords::{Address, Line, UpsName};
+use nutwords::{Line, UpsName};
 use std::alloc::{AllocError, Global};
 use std::marker::Model;
+use std::mem;
 
 /// The next line of a client is executed while at most so many bytes are owed to it.
 pub const OWED_LIMIT: usize = 4096;
@@ -31,7 +31,7 @@ pub const OWED_LIMIT: usize = 4096;
 pub struct Outbox {
     ring: Ring<RING_LIMIT>,
     cursor: Option<Cursor>,
-    /// The place for the clients of a listing, but while the cursor has it.
+    /// The place for the clients of a listing, except while the cursor has it.
     clients: Option<Clients>,
 }
 
@@ -103,7 +103,7 @@ impl Outbox {
     }
 
     /// Joins an answer of one line, and counts it. It takes no memory.
-    pub fn push(&mut self, line: &[u8], renders: &mut Renders)
+    pub fn push(&mut self, line: &[u8], renders: &mut u64)
         requires ready { length (owed self.old) ≤ OWED_LIMIT }
         requires short { length line.now ≤ OWED_LIMIT }
         ensures owed { owed self.new ≡ owed self.old ++ line.now }
@@ -114,11 +114,11 @@ impl Outbox {
     {
         let _ = &self.cursor;
         self.ring.push(line);
-        renders.count();
+        *renders = renders.saturating_add(1);
     }
 
     /// Joins a listing: what fits is placed, and a cursor keeps the rest. It takes no memory.
-    pub fn accept(&mut self, listing: Listing, line: &mut Line, renders: &mut Renders)
+    pub fn accept(&mut self, listing: Listing, line: &mut Line, renders: &mut u64)
         requires ready { length (owed self.old) ≤ OWED_LIMIT }
         ensures owed { owed self.new ≡ owed self.old ++ text_of listing }
         ensures ring { self.new.ring ≡ self.old.ring ++ what_fits self.old.ring (text_of listing) }
@@ -133,41 +133,35 @@ impl Outbox {
         drain(&mut self.cursor, ring, clients, line, renders);
     }
 
-    /// Joins the listing of these clients of a UPS, which are copied. It takes no memory.
+    /// Joins the listing of these clients of a UPS. In their place it leaves room for as many. It takes no memory.
     pub fn accept_clients(
         &mut self,
         ups: &UpsName,
-        addresses: &[Address],
+        clients: &mut Clients,
         line: &mut Line,
-        renders: &mut Renders,
+        renders: &mut u64,
     )
         requires ready { length (owed self.old) ≤ OWED_LIMIT }
-        requires few { length addresses.now ≤ SESSION_LIMIT }
         ensures owed { owed self.new
-            ≡ owed self.old ++ text_of (client_listing ups.now addresses.now) }
+            ≡ owed self.old ++ text_of (client_listing ups.now clients.old) }
         ensures ring { self.new.ring
             ≡ self.old.ring ++ what_fits self.old.ring
-            (text_of (client_listing ups.now addresses.now)) }
+            (text_of (client_listing ups.now clients.old)) }
         ensures rest { rest_of self.new.cursor
-            ≡ what_stays self.old.ring (text_of (client_listing ups.now addresses.now)) }
+            ≡ what_stays self.old.ring (text_of (client_listing ups.now clients.old)) }
         ensures outbox { IsOutbox self.old.ring self.old.cursor }
         ensures counts { renders.new ≡ count_more renders.old
-            (lines (what_fits self.old.ring (text_of (client_listing ups.now addresses.now)))) }
+            (lines (what_fits self.old.ring (text_of (client_listing ups.now clients.old)))) }
     {
         let _ = &self.cursor;
         let place = self.clients.take().unwrap();
-        self.cursor = Some(clients_cursor(ups, addresses, place));
-        drain(
-            &mut self.cursor,
-            &mut self.ring,
-            &mut self.clients,
-            line,
-            renders,
-        );
+        self.cursor = Some(clients_cursor(ups, clients, place));
+        let (ring, clients) = (&mut self.ring, &mut self.clients);
+        drain(&mut self.cursor, ring, clients, line, renders);
     }
 
     /// The client took so many bytes, and the ring is filled again. It takes no memory.
-    pub fn take(&mut self, n: usize, line: &mut Line, renders: &mut Renders)
+    pub fn take(&mut self, n: usize, line: &mut Line, renders: &mut u64)
         requires { n ≤ length self.old.ring }
         ensures owed { owed self.new ≡ drop n (owed self.old) }
         ensures ring { self.new.ring
@@ -184,15 +178,12 @@ impl Outbox {
     }
 }
 
-/// Stands for the listing of these clients, which are copied to the place.
-fn clients_cursor(ups: &UpsName, addresses: &[Address], place: Clients) -> Cursor
-    requires { length addresses.now ≤ SESSION_LIMIT }
-    ensures whole { rest result ≡ text_of (client_listing ups.now addresses.now) }
-    ensures place { IsTrue (bytes_eq result.listing.kind (codes "CLIENT")) }
+/// Stands for the listing of these clients, for which it leaves the other place.
+fn clients_cursor(ups: &UpsName, clients: &mut Clients, place: Clients) -> Cursor
+    ensures whole { rest result ≡ text_of (client_listing ups.now clients.old) }
+    ensures kind { IsTrue (bytes_eq result.listing.kind (codes "CLIENT")) }
 {
-    let mut clients = place;
-    clients.set(addresses);
-    Cursor::start(Listing::of_clients(ups, clients))
+    Cursor::start(Listing::of_clients(ups, mem::replace(clients, place)))
 }
 
 /// Fills the ring from the cursor, where there is one; it goes once nothing rests, and gives back its place for clients.
@@ -201,7 +192,7 @@ fn drain(
     ring: &mut Ring<RING_LIMIT>,
     clients: &mut Option<Clients>,
     line: &mut Line,
-    renders: &mut Renders,
+    renders: &mut u64,
 )
     requires ring { length ring.old ≤ RING_LIMIT }
     requires clients { HasPlaceForClients cursor.old clients.old }
@@ -212,8 +203,8 @@ fn drain(
     ensures counts { renders.new ≡ count_more renders.old
         (lines (what_fits ring.old (rest_of cursor.old))) }
 {
-    // What the count says of itself: it is a number of 64 bits.
-    let _ = renders.made();
+    // The proof reads here that the count is a number of 64 bits.
+    let _count = *renders;
     let Some(begun) = cursor else {
         return;
     };

@@ -3,16 +3,16 @@ ghost use Rattle.std.specs.Prelude.{◌≤◌, Ok, length};
 ghost use Rattle.nutanswer.specs.View.{asker_seen};
 ghost use Rattle.nutanswer.specs.Answer.{answer_to, one_line};
 ghost use Rattle.nutanswer.specs.Orders.{order, ok_words};
-ghost use Rattle.nutanswer.specs.Promises.{CarriesAnswer, Gives, row};
+ghost use Rattle.nutanswer.specs.Promises.{CarriesAnswer, Gives, GivesLine, row};
 ghost use Rattle.nutanswer.specs.declared.command.Command.TheVariants.{SetVar, InstCmd, GetProgress};
 ghost use Rattle.nutanswer.specs.declared.lines.TheConstants.{ORDER_LINE_LIMIT};
 
-use super::{Row, ok};
+use super::{Made, Row, ok};
 use crate::checks::{
     command_value, live_command, live_variable, order_id, settable, user, user_of_command,
 };
 use crate::lines::{order_line_into, push_answer};
-use crate::{Asker, Change, ErrWord, IdWord, NameWord, OrderLine, Reply, UpsWord, ValueWord, View};
+use crate::{Asker, Change, ErrWord, NameWord, OrderLine, Reply, UpsWord, ValueWord, View};
 use nutlisting::progress_line_into;
 use nutusers::{Right, UpsId};
 use nutwords::Line;
@@ -33,15 +33,15 @@ pub(crate) fn set_var<'a, V: View>(
 {
     user(view, asker, Right::Set)?;
     let name = name.read();
-    let found = live_variable(view, ups, &name)?;
+    let (ups, name, variable) = live_variable(view, ups, &name)?;
     let value = value.word.read();
-    let value = settable(found.variable, &value)?;
+    let value = settable(variable, &value)?;
     let id = order_id(view, asker, ErrWord::SetFailed)?;
-    order_line_into(b"SET", found.name, Some(value), id, line);
-    if line.len() > found.ups.state.free {
+    order_line_into(b"SET", name, Some(value), id, line);
+    if line.len() > ups.state.free {
         return Err(ErrWord::SetFailed);
     }
-    Ok(ordered(found.ups.id, id, line))
+    Ok(ordered(ups.id, id, line))
 }
 
 /// INSTCMD.
@@ -70,8 +70,8 @@ pub(crate) fn inst_cmd<'a, V: View>(
     Ok(ordered(ups.id, id, line))
 }
 
-/// The OK of a command by which the driver of this UPS is owed this line. Where the order is tracked, the answer tells
-/// its id, and is made behind the line.
+/// The OK of a command by which the driver of this UPS is owed this line. Where the order is tracked, the answer names
+/// its id, and is made after the line.
 fn ordered<'a>(u: UpsId, id: Option<u128>, line: &'a mut Line) -> Reply<'a>
     requires { length line.old.items ≤ ORDER_LINE_LIMIT }
     ensures { CarriesAnswer (Ok (one_line (ok_words id) (order u line.old.items id))) result }
@@ -87,12 +87,12 @@ fn ordered<'a>(u: UpsId, id: Option<u128>, line: &'a mut Line) -> Reply<'a>
 
 /// GET TRACKING of an id.
 #[inline(never)]
-pub(crate) fn progress<'a, V: View>(view: &V, id: &IdWord<'_>, line: &'a mut Line) -> Row<'a>
-    ensures { Gives (row (V.seen view.now) (GetProgress id.now)) result }
+pub(crate) fn progress<V: View>(view: &V, id: Option<u128>, line: &mut Line) -> Made
+    ensures { GivesLine (row (V.seen view.now) (GetProgress id)) result line.new.items }
 {
-    let id = id.read().ok_or(ErrWord::InvalidArgument)?;
+    let id = id.ok_or(ErrWord::InvalidArgument)?;
     let progress = view.tracking().progress(id);
     let progress = progress.ok_or(ErrWord::InvalidArgument)?;
     progress_line_into(id, progress, line);
-    Ok(Reply::One(line.as_slice(), Change::Nothing))
+    Ok(())
 }

@@ -1,18 +1,14 @@
 //! The commands of sessions: who asks, what it is logged in to, the forced shutdown (RFC 9271), and whether its orders are
 //! tracked.
-ghost use Rattle.std.specs.Prelude.{◌≤◌, Ok, length, IsTrue};
-ghost use Rattle.std.specs.List.{list_all};
-ghost use Rattle.nutwords.specs.Bytes.{is_lawful};
-ghost use Rattle.nutlisting.specs.declared.lines.TheConstants.{KIND_LIMIT};
-ghost use Rattle.nutanswer.specs.View.{Seen, AskerSeen, asker_seen};
-ghost use Rattle.nutanswer.specs.Answer.{answer_to, count_of_logins, ok};
+ghost use Rattle.std.specs.Prelude.{Ok};
+ghost use Rattle.nutanswer.specs.View.{Seen, asker_seen};
+ghost use Rattle.nutanswer.specs.Answer.{answer_to, ok};
 ghost use Rattle.nutanswer.specs.Promises.{Gives, GivesReply, row};
-ghost use Rattle.nutanswer.specs.declared.command.Command.TheVariants.{Username, Password, Login, Logout, Primary, Fsd, SetTracking, GetTracking, ListClient};
+ghost use Rattle.nutanswer.specs.declared.command.Command.TheVariants.{Username, Password, Login, Primary, Fsd, GetTracking, ListClient};
 
 use super::{Row, ok, plain};
 use crate::checks::{known_ups, user};
 use crate::{Asker, Change, ErrWord, GivenPassword, PasswordWord, Reply, UpsWord, UserWord, View};
-use nutlisting::count_line_into;
 use nutusers::Right;
 use nutwords::Line;
 
@@ -60,13 +56,6 @@ pub(crate) fn login<'a, V: View>(view: &V, asker: Asker<'_>, ups: &UpsWord<'_>) 
     Ok(ok(Change::Login(ups.id)))
 }
 
-/// LOGOUT.
-pub(crate) fn logout<'a>() -> Row<'a>
-    ensures { (s : Seen) (a : AskerSeen) → Gives (answer_to s a Logout) result }
-{
-    Ok(Reply::One(b"OK Goodbye\n", Change::Ending))
-}
-
 /// PRIMARY.
 #[inline(never)]
 pub(crate) fn primary<'a, V: View>(view: &V, asker: Asker<'_>, ups: &UpsWord<'_>) -> Row<'a>
@@ -89,13 +78,6 @@ pub(crate) fn fsd<'a, V: View>(view: &V, asker: Asker<'_>, ups: &UpsWord<'_>) ->
     Ok(Reply::One(b"OK FSD-SET\n", Change::Fsd(ups.id)))
 }
 
-/// SET TRACKING.
-pub(crate) fn set_tracking<'a>(on: bool) -> Row<'a>
-    ensures { (s : Seen) (a : AskerSeen) → Gives (answer_to s a (SetTracking on)) result }
-{
-    Ok(ok(Change::Tracking(on)))
-}
-
 /// GET TRACKING.
 pub(crate) fn get_tracking<'a>(asker: Asker<'_>) -> Row<'a>
     ensures { (s : Seen) → Gives (answer_to s (asker_seen asker.entry) GetTracking) result }
@@ -105,23 +87,6 @@ pub(crate) fn get_tracking<'a>(asker: Asker<'_>) -> Row<'a>
     } else {
         plain(b"TRACKING OFF\n")
     }
-}
-
-/// GET NUMLOGINS and GET NUMATTACH, by the word that their line begins with.
-#[inline(never)]
-pub(crate) fn count_of_logins<'a, V: View>(
-    view: &V,
-    kind: &[u8],
-    ups: &UpsWord<'_>,
-    line: &'a mut Line,
-) -> Row<'a>
-    requires kind { length kind.now ≤ KIND_LIMIT }
-    requires lawful { IsTrue (list_all is_lawful kind.now) }
-    ensures { Gives (count_of_logins kind.now (V.seen view.now) ups.now) result }
-{
-    let ups = known_ups(view, ups)?;
-    count_line_into(kind, ups.name, view.login_count(ups.id), line);
-    Ok(Reply::One(line.as_slice(), Change::Nothing))
 }
 
 /// LIST CLIENT.

@@ -62,31 +62,10 @@ pub type UserWord<'a> = TextWord<'a, OfCredential, USER_NAME_LIMIT>;
 /// The word that is a password.
 pub type PasswordWord<'a> = TextWord<'a, OfCredential, PASSWORD_LIMIT>;
 
-/// The word that is the id of a tracked order, none where it isn't one.
-#[derive(Debug, Drop)]
-pub struct IdWord<'a> {
-    word: SpelledWord<'a>,
-}
-
-impl<'a> Model for IdWord<'a> {
-    ghost Value = { Option ℕ };
-
-    ghost view = { λ w. read_id (spelled w.word) };
-}
-
-impl<'a> IdWord<'a> {
-    /// The word that is to be an id.
-    pub(crate) fn of(word: SpelledWord<'a>) -> IdWord<'a>
-        ensures { result ≡ read_id (spelled word.entry) }
-    {
-        IdWord { word }
-    }
-
-    /// The id.
-    pub(crate) fn read(&self) -> Option<u128>
-        ensures { result ≡ self.now }
-    {
-        let bytes = self.word.held::<ID_LENGTH>()?;
-        read_id(bytes.as_slice())
-    }
+/// The id of a tracked order that the word is, none where it isn't one.
+pub(super) fn id_of(word: &SpelledWord<'_>) -> Option<u128>
+    ensures { result ≡ read_id (spelled word.now) }
+{
+    let bytes = word.held::<ID_LENGTH>()?;
+    read_id(bytes.as_slice())
 }

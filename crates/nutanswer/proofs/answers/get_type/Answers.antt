@@ -1,31 +1,31 @@
-use Rattle.std.proofs.Common.{ℕ, List, Err, ◌∷◌, sym, ◌∙◌, ap, subst}
-use Rattle.std.proofs.lemmas.Result.{err_from_is_err_and}
-use Rattle.nutlisting.specs.Lines.{IsWholeLine}
+use Rattle.std.proofs.Common.{Err, Result, ◌∷◌, ◌∙◌, ap, sym, subst}
 use Rattle.std.specs.Prelude.{codes}
-use Rattle.nutanswer.specs.Answer.{told, shares_version, text_of_answer, change_of_answer}
+use Rattle.std.proofs.lemmas.Result.{err_from_is_err_and}
 use Rattle.nutlisting.specs.Types.{type_words}
-use Rattle.nutanswer.specs.Promises.{known_variable, live_variable}
-use Rattle.nutanswer.proofs.Rows.{refused_by, with_variable, without_variable}
+use Rattle.nutanswer.specs.declared.err_word.ErrWord.{ErrWord}
+use Rattle.nutanswer.specs.Answer.{told, shares_version, text_of_answer, change_of_answer}
+use Rattle.nutanswer.specs.Promises.{known_variable, live_variable, GivesLine}
+use Rattle.nutanswer.proofs.Rows.{refused_line, with_variable, without_variable}
 use Rattle.nutanswer.proofs.answers.get_type.Goals as goal
 
 pub returns : goal.returns
 returns g c =
     let s = g.V.View.seen c.args.view.now in
-    let found = c.in_ok-found.ensures ∙ ap (live_variable s c.args.ups.now) c.read-name.ensures in
-    let k = known_variable c.in_ok-found.found in
+    let found = c.in_ok-ups.ensures ∙ ap (live_variable s c.args.ups.now) c.read-name.ensures in
+    let k = known_variable (c.in_ok-ups.ups, c.in_ok-ups.name, c.in_ok-ups.variable) in
     let row = with_variable s c.args.ups.now c.args.name.now (λ u v x. told (codes "TYPE" ∷ u.name ∷ v ∷ type_words x)) k found in
     record {
-      text = c.as_slice.ensures.value ∙ c.type_line_into.ensures.text ∙ ap text_of_answer (sym row);
+      text = c.type_line_into.ensures.text ∙ ap text_of_answer (sym row);
       changes = ap change_of_answer (sym row);
       one = ap shares_version row;
-      whole_line = subst (λ (line : List ℕ). IsWholeLine line) (sym c.as_slice.ensures.value) c.type_line_into.ensures.whole;
+      whole_line = c.type_line_into.ensures.whole;
     }
 
-pub returns-in_err-found : goal.returns-in_err-found
-returns-in_err-found g c =
+pub returns-in_err-ups : goal.returns-in_err-ups
+returns-in_err-ups g c =
     let s = g.V.View.seen c.args.view.now in
-    let missing = c.in_err-found.ensures ∙ ap (live_variable s c.args.ups.now) c.read-name.ensures in
+    let missing = c.in_err-ups.ensures ∙ ap (live_variable s c.args.ups.now) c.read-name.ensures in
     let p = err_from_is_err_and c.from_residual.result c.from_residual.ensures.1 in
-    refused_by _ c.in_err-found.field-0.0 c.from_residual.result
-    (without_variable s c.args.ups.now c.args.name.now (λ u v x. told (codes "TYPE" ∷ u.name ∷ v ∷ type_words x)) c.in_err-found.field-0.0 missing)
+    refused_line _ c.in_err-ups.field-0.0 c.from_residual.result _
+    (without_variable s c.args.ups.now c.args.name.now (λ u v x. told (codes "TYPE" ∷ u.name ∷ v ∷ type_words x)) c.in_err-ups.field-0.0 missing)
     (p.1 ∙ ap Err p.2)

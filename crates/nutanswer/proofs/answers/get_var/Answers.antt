@@ -5,14 +5,14 @@ use Rattle.nutwords.specs.Spelling.{quoted}
 use Rattle.nutlisting.specs.Shown.{shown}
 use Rattle.nutanswer.specs.Answer.{told}
 use Rattle.nutanswer.specs.Promises.{live_variable}
-use Rattle.nutanswer.proofs.Rows.{refused_by, without_variable}
+use Rattle.nutanswer.proofs.Rows.{refused_line, without_variable}
 use Rattle.nutanswer.proofs.answers.get_var.Goals as goal
 
-pub returns-in_err-found : goal.returns-in_err-found
-returns-in_err-found g c =
+pub returns-in_err-ups : goal.returns-in_err-ups
+returns-in_err-ups g c =
     let s = g.V.View.seen c.args.view.now in
-    let missing = c.in_err-found.ensures ∙ ap (live_variable s c.args.ups.now) c.read-name.ensures in
+    let missing = c.in_err-ups.ensures ∙ ap (live_variable s c.args.ups.now) c.read-name.ensures in
     let p = err_from_is_err_and c.from_residual.result c.from_residual.ensures.1 in
-    refused_by _ c.in_err-found.field-0.0 c.from_residual.result
-    (without_variable s c.args.ups.now c.args.name.now (λ u v x. told (codes "VAR" ∷ u.name ∷ v ∷ quoted (shown u.state.fsd v x) ∷ [])) c.in_err-found.field-0.0 missing)
+    refused_line _ c.in_err-ups.field-0.0 c.from_residual.result _
+    (without_variable s c.args.ups.now c.args.name.now (λ u v x. told (codes "VAR" ∷ u.name ∷ v ∷ quoted (shown u.state.fsd v x) ∷ [])) c.in_err-ups.field-0.0 missing)
     (p.1 ∙ ap Err p.2)

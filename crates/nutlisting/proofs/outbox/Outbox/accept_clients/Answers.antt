@@ -1,0 +1,10 @@
+use Rattle.std.proofs.Common.{◌≤◌, length, subst, sym}
+use Rattle.nutlisting.specs.Owed.{Owes, owed}
+use Rattle.nutlisting.specs.declared.outbox.TheConstants.{OWED_LIMIT}
+use Rattle.nutlisting.proofs.Owing.{joined_owed}
+use Rattle.nutlisting.proofs.outbox.Outbox.accept_clients.Goals as goal
+
+pub returns-clause-owed : goal.returns-clause-owed
+returns-clause-owed c =
+    let few = subst (λ (o : Owes). length (owed o) ≤ OWED_LIMIT) (sym c.self.view_is) c.requires.ready in
+    rw (← c.self.view_is) (joined_owed c.self.inside.ring c.self.inside.cursor c.drain.new.ring c.drain.new.cursor c.clients_cursor.result _ c.self.invariant.0 few c.drain.ensures.ring c.drain.ensures.rest c.clients_cursor.ensures.whole)
