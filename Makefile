@@ -20,7 +20,7 @@ TEXTS = OPERATING.md power-failure.svg FROM_NUT.md INTEROP.md FILES.md CLIENTS.m
 EXAMPLES = $(addprefix $(DOC)/examples/, upses.conf upsd.users cmdvartab from_ups_conf.conf upsd-metrics.service upsd-metrics.timer upsd-alerts.yml demodriver@.service)
 PAGES = $(addprefix share/man/man5/, $(notdir $(wildcard man/*.5))) $(addprefix share/man/man8/, $(notdir $(wildcard man/*.8)))
 COMPLETIONS = $(addprefix share/bash-completion/completions/, $(PROGRAMS))
-FILES = sbin/upsd sbin/from_nut $(addprefix bin/, $(CLIENTS)) $(PAGES) $(addprefix $(DOC)/, $(TEXTS)) $(EXAMPLES) $(COMPLETIONS) $(MINE)/started $(MINE)/metrics $(DRIVER) $(UNIT)
+FILES = sbin/upsd sbin/from_nut $(addprefix bin/, $(CLIENTS)) $(PAGES) $(addprefix $(DOC)/, $(TEXTS)) $(EXAMPLES) $(COMPLETIONS) $(MINE)/started $(MINE)/metrics $(MINE)/mask $(DRIVER) $(UNIT)
 LIST = $(ROOT)/$(MINE)/installed
 
 # Proves and builds: a program that isn't proved isn't built. It stands as crates/NAME/out/NAME then.
@@ -54,7 +54,7 @@ install:
 	for file in $(COMPLETIONS); do install -m 644 tools/completion.bash $(ROOT)/$$file || exit 1; done
 	install crates/demodriver/out/demodriver $(ROOT)/$(DRIVER)
 	install tools/from_nut $(ROOT)/sbin
-	install tools/started tools/metrics $(ROOT)/$(MINE)
+	install tools/started tools/metrics tools/mask $(ROOT)/$(MINE)
 	sed 's|/usr/local|$(PREFIX)|' examples/upsd.service >$(ROOT)/$(UNIT)
 	chmod 644 $(ROOT)/$(UNIT)
 

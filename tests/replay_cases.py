@@ -88,7 +88,7 @@ WRONG_WORDS = ["", "replay --ups two.conf", "replay --maxage 15 login", "replay 
                "replay login login", "play login"]  # fmt: skip
 HELP = {
     "--help": ["serve", "replay"],
-    "serve --help": ["--ups <F>", "--users <F>", "--vars <F>", "--ids <F>", "--listen <A:P>", "127.0.0.1:3493", "--maxage <N>", "cause N:", "1 malformed line,", "6 bad value"],
+    "serve --help": ["--ups <F>", "--users <F>", "--vars <F>", "--ids <F>", "--listen <A:P>", "127.0.0.1:3493", "--maxage <N>", "--record <F>", "--record-limit <N>", "cause N:", "1 malformed line,", "6 bad value"],
     "replay --help": ["<SCRIPT>", "--ups <F>", "--users <F>", "--vars <F>"],
 }  # fmt: skip
 

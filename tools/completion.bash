@@ -6,13 +6,13 @@
 # can be told. Given: the program, the word before, the subcommand of upsd, and the UPS that was named.
 _voqarchay_words() {
     case $1:$2 in
-    upsd:--ups | upsd:--users | upsd:--vars | upsd:--ids) echo FILE ;;
-    upsd:--listen | upsd:--maxage | upsrw:-[up] | upscmd:-[up] | upsc:--tracked) ;;
+    upsd:--ups | upsd:--users | upsd:--vars | upsd:--ids | upsd:--record) echo FILE ;;
+    upsd:--listen | upsd:--maxage | upsd:--record-limit | upsrw:-[up] | upscmd:-[up] | upsc:--tracked) ;;
     upsrw:-s) echo VAR ;;
     upsc:-c | upsc:--attached | upscmd:-l) echo UPS ;;
     upsd:*)
         case $3 in
-        serve) printf '%s\n' --ups --users --vars --ids --listen --maxage -h --help ;;
+        serve) printf '%s\n' --ups --users --vars --ids --listen --maxage --record --record-limit -h --help ;;
         replay) printf '%s\n' --ups --users --vars -h --help FILE ;;
         help) printf '%s\n' serve replay ;;
         *) printf '%s\n' serve replay help -h --help -V --version ;;

@@ -2,9 +2,9 @@
 ghost use Rattle.std.specs.Prelude.{◌≡◌, ◌∷◌, []};
 ghost use Rattle.std.specs.Option.{option_map};
 ghost use Rattle.nutio.specs.Ends.{counted};
-ghost use Rattle.nutloop.specs.Sockets.{Grows};
+ghost use Rattle.nutloop.specs.Sockets.{Grows, nothing_told};
 
-use nutcore::{Bytes, ClientId, Peer, Server};
+use nutcore::{Bytes, ClientId, Event, Peer, Server};
 use nutloop::{Broken, Call, Got, Ready, Sockets};
 use nutwords::Address;
 use std::alloc::Global;
@@ -64,8 +64,10 @@ impl Scripted {
     }
 
     fn keep(&mut self, call: Call)
-        ensures told { Grows (option_map (λ calls. calls.items) self.old.calls)
-            (option_map (λ calls. calls.items) self.new.calls) (call ∷ []) }
+        ensures told { Grows
+            (record nothing_told { answered = option_map (λ calls. calls.items) self.old.calls })
+            (record nothing_told { answered = option_map (λ calls. calls.items) self.new.calls })
+            (call ∷ []) }
         ensures count { self.new.failures ≡ self.old.failures }
     {
         if let Some(calls) = &mut self.calls {
@@ -93,7 +95,7 @@ impl Scripted {
 }
 
 impl Sockets for Scripted {
-    ghost calls = { λ s. option_map (λ calls. calls.items) s.calls };
+    ghost calls = { λ s. record nothing_told { answered = option_map (λ calls. calls.items) s.calls } };
 
     ghost failures = { λ s. s.failures };
 
@@ -162,5 +164,21 @@ impl Sockets for Scripted {
 
     fn shut(&mut self, p: Peer) {
         self.keep(Call::Shut(p));
+    }
+
+    fn happens(&mut self, event: Event) {
+        self.keep(Call::Happens(event));
+    }
+
+    fn comes(&mut self, from: Peer, bytes: &[u8]) {
+        let Ok(bytes) = Vec::from_slice(self.alloc, bytes) else {
+            self.calls = None;
+            return;
+        };
+        let bytes = Bytes::new(bytes);
+        self.keep(Call::Happens(match from {
+            Peer::Client(c) => Event::Feed(c, bytes),
+            Peer::Driver(u) => Event::DriverBytes(u, bytes),
+        }));
     }
 }

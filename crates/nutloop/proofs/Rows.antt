@@ -3,6 +3,9 @@ use Rattle.std.proofs.Common.{◌≡◌, ℕ, suc, Bool, true, false, eqb, List,
 use Rattle.std.specs.Prelude.{◌-◌, ◌≤◌, is_some, Result, Ok, Err, if◌then◌else◌, replicate}
 use Rattle.std.specs.Option.{option_map, option_map_or}
 use Rattle.std.specs.Result.{result_unwrap_or}
+use Rattle.std.specs.Io.KnownBytes.{Appends}
+use Rattle.std.specs.List.{flat_map}
+use Rattle.std.proofs.lemmas.Grind.{flat_map-append}
 use Rattle.std.proofs.lemmas.Bool.Decides.{nat_tests}
 use Rattle.std.proofs.lemmas.List.{length-replicate}
 use Rattle.nutusers.specs.declared.ups_list.UpsId.{UpsId}
@@ -23,54 +26,90 @@ use Rattle.nutcore.specs.DriverHistory.{has_driver}
 use Rattle.nutloop.specs.declared.sockets.Ready.{Ready}
 use Rattle.nutloop.specs.declared.sockets.Ready.TheVariants.{Read}
 use Rattle.nutloop.specs.declared.sockets.Call.{Call}
-use Rattle.nutloop.specs.declared.sockets.Call.TheVariants.{Readied}
+use Rattle.nutloop.specs.declared.sockets.Call.TheVariants.{Readied, Happens}
 use Rattle.nutloop.specs.declared.turns.TheConstants.{DRIVER_READ_LIMIT}
-use Rattle.nutloop.specs.Sockets.{Grows}
+use Rattle.nutloop.specs.Sockets.{Told, event_in, events_in, GrowsBy, GrowsText, Grows}
 use Rattle.nutcore.specs.DriverOrders.{owed_to_driver}
 use Rattle.nutloop.specs.Turn.{Ask, nobody, reads, writes, Answer, ask, read_of, write_of, MayAnswer, answered, row_events, last_events, end_of, calls_behind, calls_behind_all, Does, failures_by, IsRow}
 
-pub grows_nothing : (a : Option (List Call)) → Grows a a []
-grows_nothing None = tt
-grows_nothing (Some xs) = sym (append-nil xs)
+calls_nothing : (a : Option (List Call)) → GrowsBy a a []
+calls_nothing None = tt
+calls_nothing (Some xs) = sym (append-nil xs)
 
-pub grows_joins : (a b c : Option (List Call)) (x y : List Call) → Grows a b x → Grows b c y → Grows a c (x ++ y)
-grows_joins None None None x y h k = tt
-grows_joins None None (Some zs) x y h k = absurd k
-grows_joins None (Some ys) c x y h k = absurd h
-grows_joins (Some xs) None None x y h k = tt
-grows_joins (Some xs) None (Some zs) x y h k = absurd k
-grows_joins (Some xs) (Some ys) None x y h k = tt
-grows_joins (Some xs) (Some ys) (Some zs) x y h k = k ∙ ap (λ t. t ++ y) h ∙ append_assoc xs x y
+calls_join : (a b c : Option (List Call)) (x y : List Call) → GrowsBy a b x → GrowsBy b c y → GrowsBy a c (x ++ y)
+calls_join None None None x y h k = tt
+calls_join None None (Some zs) x y h k = absurd k
+calls_join None (Some ys) c x y h k = absurd h
+calls_join (Some xs) None None x y h k = tt
+calls_join (Some xs) None (Some zs) x y h k = absurd k
+calls_join (Some xs) (Some ys) None x y h k = tt
+calls_join (Some xs) (Some ys) (Some zs) x y h k = k ∙ ap (λ t. t ++ y) h ∙ append_assoc xs x y
 
--- One event is done, and then the call after it is made.
-pub does_one : {S : Type 0} (calls : S → Option (List Call)) (failures : S → ℕ) (e : Event) (o : Outcome) (old : ServerState) (sockets : S) (new : ServerState) (after : S)
-    → Step old e o new → Grows (calls sockets) (calls after) (calls_behind e o) → failures after ≡ failures sockets
+text_nothing : (a : Option (Option (List ℕ))) → GrowsText a a []
+text_nothing None = tt
+text_nothing (Some None) = tt
+text_nothing (Some (Some xs)) = sym (append-nil xs)
+
+appends_join : (a b c : Option (List ℕ)) (x y : List ℕ) → Appends a b x → Appends b c y → Appends a c (x ++ y)
+appends_join None b c x y h k = tt
+appends_join (Some xs) None c x y h k = absurd h
+appends_join (Some xs) (Some ys) None x y h k = absurd k
+appends_join (Some xs) (Some ys) (Some zs) x y h k = k ∙ ap (λ t. t ++ y) h ∙ append_assoc xs x y
+
+text_joins : (a b c : Option (Option (List ℕ))) (x y : List ℕ) → GrowsText a b x → GrowsText b c y → GrowsText a c (x ++ y)
+text_joins None None None x y h k = tt
+text_joins None None (Some zs) x y h k = absurd k
+text_joins None (Some ys) c x y h k = absurd h
+text_joins (Some xs) None None x y h k = tt
+text_joins (Some xs) None (Some zs) x y h k = absurd k
+text_joins (Some xs) (Some ys) None x y h k = tt
+text_joins (Some xs) (Some ys) (Some zs) x y h k = appends_join xs ys zs x y h k
+
+pub grows_nothing : (a : Told) → Grows a a []
+grows_nothing a = (calls_nothing a.answered, text_nothing a.written, refl)
+
+pub grows_joins : (a b c : Told) (x y : List Call) → Grows a b x → Grows b c y → Grows a c (x ++ y)
+grows_joins a b c x y h k =
+    let lines : flat_map a.line (events_in x) ++ flat_map b.line (events_in y) ≡ flat_map a.line (events_in (x ++ y)) =
+    ap (λ line. flat_map a.line (events_in x) ++ flat_map line (events_in y)) h.2
+    ∙ sym (ap (flat_map a.line) (flat_map-append event_in x y) ∙ flat_map-append a.line (events_in x) (events_in y)) in (
+      calls_join a.answered b.answered c.answered x y h.0 k.0,
+      subst (λ text. GrowsText a.written c.written text) lines (text_joins a.written b.written c.written (flat_map a.line (events_in x)) (flat_map b.line (events_in y)) h.1 k.1),
+      k.2 ∙ h.2,
+    )
+
+-- One event is told and done, and then the call after it is made.
+pub does_one : {S : Type 0} (calls : S → Told) (failures : S → ℕ) (e : Event) (o : Outcome) (old : ServerState) (sockets middle : S) (new : ServerState) (after : S)
+    → Grows (calls sockets) (calls middle) (Happens e ∷ []) → failures middle ≡ failures sockets
+    → Step old e o new → Grows (calls middle) (calls after) (calls_behind e o) → failures after ≡ failures middle
     → Does calls failures (e ∷ []) old sockets new after
-does_one calls failures e o old sockets new after step told count = record {
+does_one calls failures e o old sockets middle new after happens no_failure step told count = record {
   outcomes = o ∷ [];
   run = (new, step, refl);
-  told = subst (λ cs. Grows (calls sockets) (calls after) cs) (sym (append-nil (calls_behind e o))) told;
-  count = count;
+  told = subst (λ cs. Grows (calls sockets) (calls after) (Happens e ∷ cs)) (sym (append-nil (calls_behind e o)))
+      (grows_joins (calls sockets) (calls middle) (calls after) (Happens e ∷ []) (calls_behind e o) happens told);
+  count = count ∙ no_failure;
 }
 
--- One event is done, after which no call is made.
-pub does_quietly : {S : Type 0} (calls : S → Option (List Call)) (failures : S → ℕ) (e : Event) (o : Outcome) (old : ServerState) (sockets : S) (new : ServerState)
+-- One event is told and done, after which no call is made.
+pub does_quietly : {S : Type 0} (calls : S → Told) (failures : S → ℕ) (e : Event) (o : Outcome) (old : ServerState) (sockets : S) (new : ServerState) (after : S)
+    → Grows (calls sockets) (calls after) (Happens e ∷ []) → failures after ≡ failures sockets
     → calls_behind e o ≡ [] → Step old e o new
-    → Does calls failures (e ∷ []) old sockets new sockets
-does_quietly calls failures e o old sockets new quiet step =
-    does_one calls failures e o old sockets new sockets step (subst (λ cs. Grows (calls sockets) (calls sockets) cs) (sym quiet) (grows_nothing (calls sockets))) refl
+    → Does calls failures (e ∷ []) old sockets new after
+does_quietly calls failures e o old sockets new after happens no_failure quiet step =
+    does_one calls failures e o old sockets after new after happens no_failure step (subst (λ cs. Grows (calls after) (calls after) cs) (sym quiet) (grows_nothing (calls after))) refl
 
-pub does_nothing : {S : Type 0} (calls : S → Option (List Call)) (failures : S → ℕ) (old : ServerState) (sockets : S) (new : ServerState)
+pub does_nothing : {S : Type 0} (calls : S → Told) (failures : S → ℕ) (old : ServerState) (sockets : S) (new : ServerState)
     → new ≡ old → Does calls failures [] old sockets new sockets
 does_nothing calls failures old sockets new same = record { outcomes = []; run = same; told = grows_nothing (calls sockets); count = refl }
 
 -- The same from a server that is the same.
-pub does_from : {S : Type 0} (calls : S → Option (List Call)) (failures : S → ℕ) (es : List Event) (old mid : ServerState) (sockets : S) (new : ServerState) (after : S)
+pub does_from : {S : Type 0} (calls : S → Told) (failures : S → ℕ) (es : List Event) (old mid : ServerState) (sockets : S) (new : ServerState) (after : S)
     → mid ≡ old → Does calls failures es mid sockets new after → Does calls failures es old sockets new after
 does_from calls failures es old mid sockets new after same rest = subst (λ s. Does calls failures es s sockets new after) same rest
 
 -- A row: the call that it makes, the events and the last events.
-pub row : {S : Type 0} (calls : S → Option (List Call)) (failures : S → ℕ) (ready : Ready) (answer : Answer) (a : Ask) (es ls : List Event) (old : ServerState) (sockets middle : S) (mid : ServerState) (later : S) (new : ServerState) (after : S)
+pub row : {S : Type 0} (calls : S → Told) (failures : S → ℕ) (ready : Ready) (answer : Answer) (a : Ask) (es ls : List Event) (old : ServerState) (sockets middle : S) (mid : ServerState) (later : S) (new : ServerState) (after : S)
     → ask old ready ≡ a → row_events old ready answer ≡ es → last_events mid ready answer ≡ ls
     → MayAnswer a answer → Grows (calls sockets) (calls middle) (answered a answer) → failures middle ≡ failures_by answer (failures sockets)
     → Does calls failures es old middle mid later → Does calls failures ls mid later new after
@@ -92,7 +131,7 @@ row calls failures ready answer a es ls old sockets middle mid later new after a
 }
 
 -- A row without last events.
-pub row_of : {S : Type 0} (calls : S → Option (List Call)) (failures : S → ℕ) (ready : Ready) (answer : Answer) (a : Ask) (es : List Event) (old : ServerState) (sockets middle : S) (new : ServerState) (after : S)
+pub row_of : {S : Type 0} (calls : S → Told) (failures : S → ℕ) (ready : Ready) (answer : Answer) (a : Ask) (es : List Event) (old : ServerState) (sockets middle : S) (new : ServerState) (after : S)
     → ask old ready ≡ a → row_events old ready answer ≡ es → last_events new ready answer ≡ []
     → MayAnswer a answer → Grows (calls sockets) (calls middle) (answered a answer) → failures middle ≡ failures_by answer (failures sockets)
     → Does calls failures es old middle new after
@@ -101,7 +140,7 @@ row_of calls failures ready answer a es old sockets middle new after asked rows 
     row calls failures ready answer a es [] old sockets middle new after new after asked rows ends may told count first (does_nothing calls failures new after new refl)
 
 -- A row after the answer of ready.
-pub row_behind : {S : Type 0} (calls : S → Option (List Call)) (failures : S → ℕ) (ready : Ready) (old : ServerState) (sockets middle : S) (new : ServerState) (after : S)
+pub row_behind : {S : Type 0} (calls : S → Told) (failures : S → ℕ) (ready : Ready) (old : ServerState) (sockets middle : S) (new : ServerState) (after : S)
     → Grows (calls sockets) (calls middle) (Readied ready ∷ []) → failures middle ≡ failures sockets → IsRow calls failures [] ready old middle new after
     → IsRow calls failures (Readied ready ∷ []) ready old sockets new after
 row_behind calls failures ready old sockets middle new after told count r = record {

@@ -26,6 +26,7 @@ use Rattle.nutcore.specs.DriverOrders.{owed_to_driver, connections}
 use Rattle.nutcore.specs.DriverOrders as driver
 use Rattle.nutcore.specs.OrdersByRight.{all_told}
 use Rattle.nutloop.specs.declared.sockets.Call.{Call}
+use Rattle.nutloop.specs.Sockets.{Told}
 use Rattle.nutloop.specs.Turn.{room_at}
 use Rattle.nutloop.specs.Moved.{is_client, is_driver, gave_in, took_in, bytes_given, bytes_taken, along}
 use Rattle.nutloop.specs.SocketToSocket.{IsAnswered, AreAnswered, WhatASocketGaveIsAnswered, DriversAreHeardAndTold, ADriverIsHeardAndToldByItsSocket}
@@ -152,18 +153,18 @@ is_answered c since old new es os none nothing gave took a sent up = record {
   took_once_closed = λ h. subst (λ v. IsBeginning v (answers c old es os)) (sym took) (subst (λ v. IsBeginning (taken c old es os) (v ++ answers c old es os)) nothing (sent.once_closed h));
 }
 
-pub what_a_socket_gave_is_answered : {S : Type 0} (calls : S → Option (List Call)) (failures : S → ℕ)
+pub what_a_socket_gave_is_answered : {S : Type 0} (calls : S → Told) (failures : S → ℕ)
     → WhatWasSentAndIsOwedIsTheAnswers → WhatWasAskedIsExecutedOrHeld → EachAnswerIsTimely → WhatNeverGoesBack
     → ANewServerIsSound → EachEventKeepsTheServerSound → ASoundServerIsLawful → WhatASocketGaveIsAnswered calls failures
 what_a_socket_gave_is_answered {S} calls failures sent up timely never opening sound lawful = λ old new sockets after results before now is_new turns told told_after.
     from old new sockets after before now is_new (turns_are_moved calls failures results old sockets new after turns) told told_after
   where
-    from : (old new : ServerState) (sockets after : S) (before now : List Call) → IsNewServer old → Moves calls old sockets new after → calls sockets ≡ Some before → calls after ≡ Some now
+    from : (old new : ServerState) (sockets after : S) (before now : List Call) → IsNewServer old → Moves calls old sockets new after → (calls sockets).answered ≡ Some before → (calls after).answered ≡ Some now
         → (since : List Call) × (now ≡ before ++ since) × AreAnswered since old new
     from old new sockets after before now n m told told_after =
         let s : IsSound old = subst IsSound (sym n.is) (opening n.list n.users n.descriptions n.max_age n.is_list n.are_lawful n.is_max_age) in (
           m.since,
-          told_since (calls sockets) (calls after) before now m.since m.grown told told_after,
+          told_since (calls sockets).answered (calls after).answered before now m.since m.grown.0 told told_after,
           record {
             events = m.events;
             outcomes = m.outcomes;
@@ -254,15 +255,15 @@ is_told u since old new es os took stays sent =
     ∙ subst (λ v. driver.IsSentAndOwed (owed_to_driver u old) v (owed_to_driver u new)) one.is sent
     ∙ ap (λ v. v ++ owed_to_driver u new) (sym took)
 
-pub a_driver_is_heard_and_told_by_its_socket : {S : Type 0} (calls : S → Option (List Call)) (failures : S → ℕ) → WhatADriverToldIsExecuted → driver.WhatADriverWasSentAndIsOwedIsWhatItWasTold → ADriverIsHeardAndToldByItsSocket calls failures
+pub a_driver_is_heard_and_told_by_its_socket : {S : Type 0} (calls : S → Told) (failures : S → ℕ) → WhatADriverToldIsExecuted → driver.WhatADriverWasSentAndIsOwedIsWhatItWasTold → ADriverIsHeardAndToldByItsSocket calls failures
 a_driver_is_heard_and_told_by_its_socket {S} calls failures executed_all sent_all = λ old new sockets after results before now sound turns told told_after.
     from old new sockets after before now sound (turns_are_moved calls failures results old sockets new after turns) told told_after
   where
-    from : (old new : ServerState) (sockets after : S) (before now : List Call) → IsSound old → Moves calls old sockets new after → calls sockets ≡ Some before → calls after ≡ Some now
+    from : (old new : ServerState) (sockets after : S) (before now : List Call) → IsSound old → Moves calls old sockets new after → (calls sockets).answered ≡ Some before → (calls after).answered ≡ Some now
         → (since : List Call) × (now ≡ before ++ since) × DriversAreHeardAndTold since old new
     from old new sockets after before now sound m told told_after = (
       m.since,
-      told_since (calls sockets) (calls after) before now m.since m.grown told told_after,
+      told_since (calls sockets).answered (calls after).answered before now m.since m.grown.0 told told_after,
       record {
         events = m.events;
         outcomes = m.outcomes;

@@ -8,7 +8,10 @@ use Rattle.std.proofs.lemmas.Bool.Decides.{nat_tests}
 use Rattle.std.proofs.lemmas.List.Elements.{All-nil, All-cons}
 use Rattle.nutusers.specs.declared.ups_list.UpsId.{UpsId}
 use Rattle.nutcore.specs.declared.event.Event.{Event}
+use Rattle.nutcore.specs.declared.event.Event.TheVariants as event
 use Rattle.nutcore.specs.declared.event.Outcome.{Outcome}
+use Rattle.nutcore.specs.declared.event.Outcome.TheVariants as outcome
+use Rattle.nutcore.specs.declared.event.Peer.TheVariants.{Driver}
 use Rattle.nutcore.specs.Session.{SessionState}
 use Rattle.nutcore.specs.Server.{ServerState, session}
 use Rattle.nutcore.specs.Pump.{owed_of}
@@ -25,12 +28,12 @@ use Rattle.nutloop.specs.declared.fault.LoopFault.TheVariants as fault
 use Rattle.nutloop.specs.declared.sockets.Ready.{Ready}
 use Rattle.nutloop.specs.declared.sockets.Ready.TheVariants.{Newcomer}
 use Rattle.nutloop.specs.declared.sockets.Call.{Call}
-use Rattle.nutloop.specs.declared.sockets.Call.TheVariants.{Readied}
-use Rattle.nutloop.specs.Sockets.{Grows}
-use Rattle.nutloop.specs.Turn.{ask, answered, row_events, last_events, calls_behind_all, IsRow, TurnGives}
+use Rattle.nutloop.specs.declared.sockets.Call.TheVariants.{Readied, Shut}
+use Rattle.nutloop.specs.Sockets.{Told, event_in, events_in, GrowsBy, GrowsText, Grows}
+use Rattle.nutloop.specs.Turn.{Ask, nobody, accepts, reads, writes, Answer, unasked, newcomer, gave, later, ended, took, failed, ask, answered, row_events, last_events, calls_behind, calls_behind_all, loses_driver, IsRow, TurnGives}
 use Rattle.nutloop.specs.Moved.{Turns, is_client, is_driver, gave_in, took_in, along, fed_in_event, driver_took_in_event, AreMoved, EveryByteIsMovedOnce}
 use Rattle.nutloop.proofs.Rows.{grows_nothing, grows_joins}
-use Rattle.nutloop.specs.Serving.{IsOneRun, AnyTurnsAreOneRun, AnyTurnsKeepAddressesLawful}
+use Rattle.nutloop.specs.Serving.{IsOneRun, AnyTurnsAreOneRun, EveryEventIsWritten, AnyTurnsKeepAddressesLawful}
 use Rattle.nutloop.proofs.Moving.{Fit, row_moves, last_moves, behind_all}
 
 -- Runs and what is found along them are joined.
@@ -49,13 +52,55 @@ along_joins f s mid (e ∷ es) fs (o ∷ os) qs r =
     ap (λ v. f s e ++ v) (along_joins f (after s e o) mid es fs os qs rest) ∙ sym (append_assoc (f s e) (along f (after s e o) es os) (along f mid fs qs))
 
 -- What turns did, in the words of any reading of calls and events that fit.
-pub record Moves {S : Type 0} (calls : S → Option (List Call)) (old : ServerState) (sockets : S) (new : ServerState) (after : S) : Type 0 where
+pub record Moves {S : Type 0} (calls : S → Told) (old : ServerState) (sockets : S) (new : ServerState) (after : S) : Type 0 where
   pub since : List Call
   pub events : List Event
   pub outcomes : List Outcome
   pub grown : Grows (calls sockets) (calls after) since
   pub run : Run old events outcomes new
+  pub tells : events_in since ≡ events
   pub moves : (g : Call → List ℕ) (f : ServerState → Event → List ℕ) → Fit g f → flat_map g since ≡ along f old events outcomes
+
+-- The events among the calls of a row.
+none_answered : (a : Ask) (x : Answer) → events_in (answered a x) ≡ []
+none_answered nobody x = elim x as (λ y. events_in (answered nobody y) ≡ []) [ unasked ↦ refl | newcomer a ↦ refl | gave b ↦ refl | later ↦ refl | ended ↦ refl | took n ↦ refl | failed ↦ refl ]
+none_answered accepts x = elim x as (λ y. events_in (answered accepts y) ≡ []) [ unasked ↦ refl | newcomer a ↦ refl | gave b ↦ refl | later ↦ refl | ended ↦ refl | took n ↦ refl | failed ↦ refl ]
+none_answered (reads p most) x = elim x as (λ y. events_in (answered (reads p most) y) ≡ []) [ unasked ↦ refl | newcomer a ↦ refl | gave b ↦ refl | later ↦ refl | ended ↦ refl | took n ↦ refl | failed ↦ refl ]
+none_answered (writes p bytes) x = elim x as (λ y. events_in (answered (writes p bytes) y) ≡ []) [ unasked ↦ refl | newcomer a ↦ refl | gave b ↦ refl | later ↦ refl | ended ↦ refl | took n ↦ refl | failed ↦ refl ]
+
+none_lost : (u : UpsId) (b : Bool) → events_in (if b then Shut (Driver u) ∷ [] else []) ≡ []
+none_lost u true = refl
+none_lost u false = refl
+
+none_behind : (e : Event) (o : Outcome) → events_in (calls_behind e o) ≡ []
+none_behind (event.DriverBytes u piece) (outcome.Refused r) = none_lost u (loses_driver r)
+none_behind (event.DriverBytes u piece) outcome.Done = refl
+none_behind (event.DriverBytes u piece) (outcome.Fed n) = refl
+none_behind (event.DriverBytes u piece) (outcome.Opened c) = refl
+none_behind (event.Open a) outcome.Done = refl
+none_behind (event.Open a) (outcome.Fed n) = refl
+none_behind (event.Open a) (outcome.Opened c) = refl
+none_behind (event.Open a) (outcome.Refused r) = refl
+none_behind (event.DriverUp u) o = refl
+none_behind (event.DriverTook u n) o = refl
+none_behind (event.DriverDown u) o = refl
+none_behind (event.Tick n) o = refl
+none_behind (event.Feed c piece) o = refl
+none_behind (event.Took c n) o = refl
+none_behind (event.Close c) o = refl
+none_behind (event.Id n) o = refl
+
+told_behind : (s new : ServerState) (es : List Event) (os : List Outcome) → Run s es os new → events_in (calls_behind_all es os) ≡ es
+told_behind s new [] os r = refl
+told_behind s new (e ∷ es) [] r = absurd r
+told_behind s new (e ∷ es) (o ∷ os) r =
+    ap (λ v. e ∷ v) (flat_map-append event_in (calls_behind e o) (calls_behind_all es os)
+    ∙ ap (λ v. v ++ events_in (calls_behind_all es os)) (none_behind e o) ∙ told_behind r.0 new es os r.2)
+
+row_tells : (r : Ready) (a b c : List Call) (es ls : List Event) → events_in a ≡ [] → events_in b ≡ es → events_in c ≡ ls → events_in ((Readied r ∷ a) ++ (b ++ c)) ≡ es ++ ls
+row_tells r a b c es ls ha hb hc =
+    flat_map-append event_in (Readied r ∷ a) (b ++ c) ∙ ap (λ v. v ++ events_in (b ++ c)) ha
+    ∙ flat_map-append event_in b c ∙ ap (λ v. v ++ events_in c) hb ∙ ap (λ v. es ++ v) hc
 
 -- The calls of a row.
 row_reads : (g : Call → List ℕ) (f : ServerState → Event → List ℕ) → Fit g f → (r : Ready) (a b c : List Call) (bytes : List ℕ) → flat_map g a ≡ bytes → flat_map g b ≡ [] → flat_map g c ≡ [] → flat_map g ((Readied r ∷ a) ++ (b ++ c)) ≡ bytes
@@ -68,41 +113,44 @@ row_reads g f fit r a b c bytes ha hb hc =
     ∙ append-nil (flat_map g a)
     ∙ ha
 
-row_is_moved : {S : Type 0} (calls : S → Option (List Call)) (failures : S → ℕ) (ready : Ready) (old : ServerState) (sockets : S) (new : ServerState) (after : S) → IsRow calls failures (Readied ready ∷ []) ready old sockets new after → Moves calls old sockets new after
+row_is_moved : {S : Type 0} (calls : S → Told) (failures : S → ℕ) (ready : Ready) (old : ServerState) (sockets : S) (new : ServerState) (after : S) → IsRow calls failures (Readied ready ∷ []) ready old sockets new after → Moves calls old sockets new after
 row_is_moved calls failures ready old sockets new after w = record {
   since = (Readied ready ∷ answered (ask old ready) w.answer) ++ (calls_behind_all (row_events old ready w.answer) w.outcomes ++ calls_behind_all (last_events w.mid ready w.answer) w.last);
   events = row_events old ready w.answer ++ last_events w.mid ready w.answer;
   outcomes = w.outcomes ++ w.last;
   grown = w.told;
   run = run_joins old w.mid new (row_events old ready w.answer) (last_events w.mid ready w.answer) w.outcomes w.last w.makes w.finishes;
+  tells = row_tells ready (answered (ask old ready) w.answer) (calls_behind_all (row_events old ready w.answer) w.outcomes) (calls_behind_all (last_events w.mid ready w.answer) w.last) (row_events old ready w.answer) (last_events w.mid ready w.answer)
+      (none_answered (ask old ready) w.answer) (told_behind old w.mid (row_events old ready w.answer) w.outcomes w.makes) (told_behind w.mid new (last_events w.mid ready w.answer) w.last w.finishes);
   moves = λ g f fit. row_reads g f fit ready (answered (ask old ready) w.answer) (calls_behind_all (row_events old ready w.answer) w.outcomes) (calls_behind_all (last_events w.mid ready w.answer) w.last) (along f old (row_events old ready w.answer) w.outcomes)
       (row_moves g f fit old w.mid ready w.answer w.outcomes w.may w.makes) (behind_all g f fit (row_events old ready w.answer) w.outcomes) (behind_all g f fit (last_events w.mid ready w.answer) w.last)
       ∙ sym (along_joins f old w.mid (row_events old ready w.answer) (last_events w.mid ready w.answer) w.outcomes w.last w.makes
       ∙ ap (λ v. along f old (row_events old ready w.answer) w.outcomes ++ v) (last_moves g f fit w.mid new ready w.answer w.last w.finishes) ∙ append-nil (along f old (row_events old ready w.answer) w.outcomes));
 }
 
-nothing_is_moved : {S : Type 0} (calls : S → Option (List Call)) (old : ServerState) (sockets : S) (new : ServerState) (after : S) → Grows (calls sockets) (calls after) [] → new ≡ old → Moves calls old sockets new after
-nothing_is_moved calls old sockets new after told same = record { since = []; events = []; outcomes = []; grown = told; run = same; moves = λ g f fit. refl }
+nothing_is_moved : {S : Type 0} (calls : S → Told) (old : ServerState) (sockets : S) (new : ServerState) (after : S) → Grows (calls sockets) (calls after) [] → new ≡ old → Moves calls old sockets new after
+nothing_is_moved calls old sockets new after told same = record { since = []; events = []; outcomes = []; grown = told; run = same; tells = refl; moves = λ g f fit. refl }
 
-newcomer_is_moved : {S : Type 0} (calls : S → Option (List Call)) (old : ServerState) (sockets : S) (new : ServerState) (after : S) → Grows (calls sockets) (calls after) (Readied Newcomer ∷ []) → new ≡ old → Moves calls old sockets new after
-newcomer_is_moved calls old sockets new after told same = record { since = Readied Newcomer ∷ []; events = []; outcomes = []; grown = told; run = same; moves = λ g f fit. append-nil (g (Readied Newcomer)) ∙ fit.readied Newcomer }
+newcomer_is_moved : {S : Type 0} (calls : S → Told) (old : ServerState) (sockets : S) (new : ServerState) (after : S) → Grows (calls sockets) (calls after) (Readied Newcomer ∷ []) → new ≡ old → Moves calls old sockets new after
+newcomer_is_moved calls old sockets new after told same = record { since = Readied Newcomer ∷ []; events = []; outcomes = []; grown = told; run = same; tells = refl; moves = λ g f fit. append-nil (g (Readied Newcomer)) ∙ fit.readied Newcomer }
 
-turn_is_moved : {S : Type 0} (calls : S → Option (List Call)) (failures : S → ℕ) (old : ServerState) (sockets : S) (r : Result (Unit {0}) LoopFault) (new : ServerState) (after : S) → TurnGives calls failures old sockets r new after → Moves calls old sockets new after
+turn_is_moved : {S : Type 0} (calls : S → Told) (failures : S → ℕ) (old : ServerState) (sockets : S) (r : Result (Unit {0}) LoopFault) (new : ServerState) (after : S) → TurnGives calls failures old sockets r new after → Moves calls old sockets new after
 turn_is_moved calls failures old sockets (Ok u) new after t = row_is_moved calls failures t.0 old sockets new after t.1
 turn_is_moved calls failures old sockets (Err fault.Ready) new after t = nothing_is_moved calls old sockets new after t.told t.same
 turn_is_moved calls failures old sockets (Err fault.Accept) new after t = newcomer_is_moved calls old sockets new after t.told t.same
 
-both_are_moved : {S : Type 0} (calls : S → Option (List Call)) (old : ServerState) (sockets : S) (mid : ServerState) (middle : S) (new : ServerState) (after : S) → Moves calls old sockets mid middle → Moves calls mid middle new after → Moves calls old sockets new after
+both_are_moved : {S : Type 0} (calls : S → Told) (old : ServerState) (sockets : S) (mid : ServerState) (middle : S) (new : ServerState) (after : S) → Moves calls old sockets mid middle → Moves calls mid middle new after → Moves calls old sockets new after
 both_are_moved calls old sockets mid middle new after x y = record {
   since = x.since ++ y.since;
   events = x.events ++ y.events;
   outcomes = x.outcomes ++ y.outcomes;
   grown = grows_joins (calls sockets) (calls middle) (calls after) x.since y.since x.grown y.grown;
   run = run_joins old mid new x.events y.events x.outcomes y.outcomes x.run y.run;
+  tells = flat_map-append event_in x.since y.since ∙ ap (λ v. v ++ events_in y.since) x.tells ∙ ap (λ v. x.events ++ v) y.tells;
   moves = λ g f fit. flat_map-append g x.since y.since ∙ ap (λ v. v ++ flat_map g y.since) (x.moves g f fit) ∙ ap (λ v. along f old x.events x.outcomes ++ v) (y.moves g f fit) ∙ sym (along_joins f old mid x.events y.events x.outcomes y.outcomes x.run);
 }
 
-pub turns_are_moved : {S : Type 0} (calls : S → Option (List Call)) (failures : S → ℕ) (rs : List (Result (Unit {0}) LoopFault)) (old : ServerState) (sockets : S) (new : ServerState) (after : S) → Turns calls failures old sockets rs new after → Moves calls old sockets new after
+pub turns_are_moved : {S : Type 0} (calls : S → Told) (failures : S → ℕ) (rs : List (Result (Unit {0}) LoopFault)) (old : ServerState) (sockets : S) (new : ServerState) (after : S) → Turns calls failures old sockets rs new after → Moves calls old sockets new after
 turns_are_moved calls failures [] old sockets new after t = nothing_is_moved calls old sockets new after (subst (λ k. Grows (calls sockets) (calls k) []) (sym t.1) (grows_nothing (calls sockets))) t.0
 turns_are_moved calls failures (r ∷ rs) old sockets new after t =
     both_are_moved calls old sockets t.0 t.1.0 new after (turn_is_moved calls failures old sockets r t.0 t.1.0 t.1.1) (turns_are_moved calls failures rs t.0 t.1.0 new after t.1.2)
@@ -137,18 +185,18 @@ opens_lawfully s new (e ∷ es) (o ∷ os) r h =
     let no = empty (unlawful (opened_from e)) (along (λ s e. unlawful (opened_from e)) (after s e o) es os) h in
     All-cons OpensLawfully e es (is_lawful (opened_from e) no.0) (opens_lawfully (after s e o) new es os (subst (λ t. Run t es os new) r.1.leaves r.2) no.1)
 
-open_lawfully : {S : Type 0} (calls : S → Option (List Call)) (old : ServerState) (sockets : S) (new : ServerState) (after : S) (m : Moves calls old sockets new after) → All OpensLawfully m.events
+open_lawfully : {S : Type 0} (calls : S → Told) (old : ServerState) (sockets : S) (new : ServerState) (after : S) (m : Moves calls old sockets new after) → All OpensLawfully m.events
 open_lawfully calls old sockets new after m =
     opens_lawfully old new m.events m.outcomes m.run (sym (m.moves (λ x. []) (λ s e. unlawful (opened_from e)) lawful_fits) ∙ none_given m.since)
 
 -- Any turns are one run.
-pub any_turns_are_one_run : {S : Type 0} (calls : S → Option (List Call)) (failures : S → ℕ) → AnyTurnsAreOneRun calls failures
+pub any_turns_are_one_run : {S : Type 0} (calls : S → Told) (failures : S → ℕ) → AnyTurnsAreOneRun calls failures
 any_turns_are_one_run {S} calls failures = λ old new sockets after results turns. from old new sockets after (turns_are_moved calls failures results old sockets new after turns)
   where
     from : (old new : ServerState) (sockets after : S) → Moves calls old sockets new after → IsOneRun old new
     from old new sockets after m = (m.events, (m.outcomes, m.run, open_lawfully calls old sockets new after m))
 
-pub any_turns_keep_addresses_lawful : {S : Type 0} (calls : S → Option (List Call)) (failures : S → ℕ) → EveryRunKeepsAddressesLawful → AnyTurnsKeepAddressesLawful calls failures
+pub any_turns_keep_addresses_lawful : {S : Type 0} (calls : S → Told) (failures : S → ℕ) → EveryRunKeepsAddressesLawful → AnyTurnsKeepAddressesLawful calls failures
 any_turns_keep_addresses_lawful {S} calls failures kept = λ old new sockets after results turns lawful. from old new sockets after (turns_are_moved calls failures results old sockets new after turns) lawful
   where
     from : (old new : ServerState) (sockets after : S) → Moves calls old sockets new after → All HasLawfulAddress old.sessions → All HasLawfulAddress new.sessions
@@ -217,15 +265,15 @@ came_is_along u s new [] (o ∷ os) r = absurd r
 came_is_along u s new (e ∷ es) [] r = absurd r
 came_is_along u s new (e ∷ es) (o ∷ os) r = ap (λ v. came_in_event u e ++ v) (came_is_along u (after s e o) new es os (subst (λ t. Run t es os new) r.1.leaves r.2))
 
-pub told_since : (a b : Option (List Call)) (before now since : List Call) → Grows a b since → a ≡ Some before → b ≡ Some now → now ≡ before ++ since
+pub told_since : (a b : Option (List Call)) (before now since : List Call) → GrowsBy a b since → a ≡ Some before → b ≡ Some now → now ≡ before ++ since
 told_since (Some xs) (Some ys) before now since h e k = cc
 told_since None b before now since h e k = cc
 told_since (Some xs) None before now since h e k = cc
 
-pub every_byte_is_moved_once : {S : Type 0} (calls : S → Option (List Call)) (failures : S → ℕ) → EveryByteIsMovedOnce calls failures
+pub every_byte_is_moved_once : {S : Type 0} (calls : S → Told) (failures : S → ℕ) → EveryByteIsMovedOnce calls failures
 every_byte_is_moved_once {S} calls failures = λ old new sockets after results before now turns told told_after. from old new sockets after before now (turns_are_moved calls failures results old sockets new after turns) told told_after
   where
-    from : (old new : ServerState) (sockets after : S) (before now : List Call) → Moves calls old sockets new after → calls sockets ≡ Some before → calls after ≡ Some now
+    from : (old new : ServerState) (sockets after : S) (before now : List Call) → Moves calls old sockets new after → (calls sockets).answered ≡ Some before → (calls after).answered ≡ Some now
         → (since : List Call) × ((events : List Event) × ((outcomes : List Outcome) × (now ≡ before ++ since) × AreMoved since old events outcomes new))
     from old new sockets after before now m told told_after = (
       m.since,
@@ -233,7 +281,7 @@ every_byte_is_moved_once {S} calls failures = λ old new sockets after results b
         m.events,
         (
           m.outcomes,
-          told_since (calls sockets) (calls after) before now m.since m.grown told told_after,
+          told_since (calls sockets).answered (calls after).answered before now m.since m.grown.0 told told_after,
           record {
             run = m.run;
             fed = λ c. m.moves (gave_in (is_client c)) (fed_in_event c) (fed_fits c);
@@ -242,5 +290,28 @@ every_byte_is_moved_once {S} calls failures = λ old new sockets after results b
             taken_by_driver = λ u. m.moves (took_in (is_driver u)) (driver_took_in_event u) (driver_took_fits u);
           },
         ),
+      ),
+    )
+
+-- What is written of the events.
+written_since : (a b : Option (Option (List ℕ))) (before now since : List ℕ) → GrowsText a b since → a ≡ Some (Some before) → b ≡ Some (Some now) → now ≡ before ++ since
+written_since None b before now since h e k = cc e
+written_since (Some x) None before now since h e k = cc k
+written_since (Some None) (Some y) before now since h e k = cc e
+written_since (Some (Some xs)) (Some None) before now since h e k = cc k
+written_since (Some (Some xs)) (Some (Some ys)) before now since h e k = cc
+
+pub every_event_is_written : {S : Type 0} (calls : S → Told) (failures : S → ℕ) → EveryEventIsWritten calls failures
+every_event_is_written {S} calls failures = λ old new sockets after results before now turns told told_after. from old new sockets after before now (turns_are_moved calls failures results old sockets new after turns) told told_after
+  where
+    from : (old new : ServerState) (sockets after : S) (before now : List ℕ) → Moves calls old sockets new after → (calls sockets).written ≡ Some (Some before) → (calls after).written ≡ Some (Some now)
+        → (events : List Event) × ((outcomes : List Outcome) × Run old events outcomes new × (now ≡ before ++ flat_map (calls sockets).line events))
+    from old new sockets after before now m told told_after = (
+      m.events,
+      (
+        m.outcomes,
+        m.run,
+        written_since (calls sockets).written (calls after).written before now (flat_map (calls sockets).line (events_in m.since)) m.grown.1 told told_after
+            ∙ ap (λ es. before ++ flat_map (calls sockets).line es) m.tells,
       ),
     )

@@ -17,10 +17,11 @@ use Rattle.nutloop.specs.declared.sockets.Call.{Call}
 use Rattle.nutloop.specs.declared.sockets.Call.TheVariants.{Gave, Wrote}
 use Rattle.nutloop.specs.declared.fault.LoopFault.{LoopFault}
 use Rattle.nutcore.specs.DriverOrders.{owed_to_driver}
+use Rattle.nutloop.specs.Sockets.{Told}
 use Rattle.nutloop.specs.Turn.{TurnGives}
 
 -- Turns, one after another, with the answer of each.
-abbrev pub Turns : {S : Type 0} → (S → Option (List Call)) → (S → ℕ) → ServerState → S
+abbrev pub Turns : {S : Type 0} → (S → Told) → (S → ℕ) → ServerState → S
     → List (Result (Unit {0}) LoopFault) → ServerState → S → Type 0
 Turns calls failures old sockets [] new after = (new ≡ old) × (after ≡ sockets)
 Turns {S} calls failures old sockets (r ∷ rs) new after =
@@ -82,11 +83,11 @@ pub record AreMoved (since : List Call) (old : ServerState) (events : List Event
       → bytes_taken (is_driver u) since ≡ along (driver_took_in_event u) old events outcomes
 
 -- Over any turns of sockets that tell their calls.
-abbrev pub EveryByteIsMovedOnce : {S : Type 0} → (S → Option (List Call)) → (S → ℕ) → Type 0
+abbrev pub EveryByteIsMovedOnce : {S : Type 0} → (S → Told) → (S → ℕ) → Type 0
 EveryByteIsMovedOnce {S} calls failures =
     (old new : ServerState) (sockets after : S) (results : List (Result (Unit {0}) LoopFault))
     (before now : List Call) → Turns calls failures old sockets results new after
-    → calls sockets ≡ Some before → calls after ≡ Some now
+    → (calls sockets).answered ≡ Some before → (calls after).answered ≡ Some now
     → (since : List Call)
     × ((events : List Event)
     × ((outcomes : List Outcome) × (now ≡ before ++ since)

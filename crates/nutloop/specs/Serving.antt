@@ -1,6 +1,7 @@
 -- Serving: turns one after another, up to the first that fails; and what holds of any turns.
-use Rattle.std.specs.Prelude.{◌≡◌, ℕ, zero, suc, List, [], ◌∷◌, ◌++◌, Option, Result, Ok, Err, All}
+use Rattle.std.specs.Prelude.{◌≡◌, ℕ, zero, suc, List, [], ◌∷◌, ◌++◌, Some, Result, Ok, Err, All}
 use Rattle.std.specs.Prelude.{replicate}
+use Rattle.std.specs.List.{flat_map}
 use Rattle.std.specs.Fn.{Called, Mut}
 use denote.Ref.{Bor}
 use Rattle.nutcore.specs.declared.event.Event.{Event}
@@ -10,14 +11,14 @@ use Rattle.nutcore.specs.Cost.{RunningServer}
 use Rattle.nutcore.specs.Run.{Run}
 use Rattle.nutcore.specs.ReadsBack.{HasLawfulAddress}
 use Rattle.nutcore.specs.Addresses.{OpensLawfully}
-use Rattle.nutloop.specs.declared.sockets.Call.{Call}
 use Rattle.nutloop.specs.declared.fault.LoopFault.{LoopFault}
 use Rattle.nutloop.specs.declared.serving.TheConstants.{TURN_LIMIT}
+use Rattle.nutloop.specs.Sockets.{Told}
 use Rattle.nutloop.specs.Turn.{TurnGives}
 use Rattle.nutloop.specs.Moved.{Turns}
 
 -- Turns that ended well, and then one with this fault; or as many that ended well as are made.
-abbrev pub TurnsUpTo : {S : Type 0} → (S → Option (List Call)) → (S → ℕ) → ServerState → S
+abbrev pub TurnsUpTo : {S : Type 0} → (S → Told) → (S → ℕ) → ServerState → S
     → Result (Unit {0}) LoopFault → ServerState → S → Type 0
 TurnsUpTo calls failures old sockets (Ok u) new after =
     (n : ℕ) × (n ≡ TURN_LIMIT) × Turns calls failures old sockets (replicate n (Ok tt)) new after
@@ -34,7 +35,7 @@ pub record IsShown {W S : Type 0} (g : Mut W (Bor RunningServer × (Bor S × Uni
 
 -- So many turns that ended well, one after another. After each the watcher is shown the server and
 -- the sockets.
-abbrev pub ShownTurns : {S W : Type 0} → (S → Option (List Call)) → (S → ℕ)
+abbrev pub ShownTurns : {S W : Type 0} → (S → Told) → (S → ℕ)
     → (W → RunningServer → S → W → Type 0) → ℕ → ServerState → S → W → ServerState → S → W → Type 0
 ShownTurns calls failures shows zero old sockets watcher new after last =
     (new ≡ old) × (after ≡ sockets) × (last ≡ watcher)
@@ -47,7 +48,7 @@ ShownTurns {S} {W} calls failures shows (suc n) old sockets watcher new after la
 
 -- The watcher is shown the server and the sockets after each turn that ended well, and not after
 -- one that failed.
-abbrev pub ShownUpTo : {S W : Type 0} → (S → Option (List Call)) → (S → ℕ)
+abbrev pub ShownUpTo : {S W : Type 0} → (S → Told) → (S → ℕ)
     → (W → RunningServer → S → W → Type 0) → ServerState → S → W → Result (Unit {0}) LoopFault
     → ServerState → S → Type 0
 ShownUpTo {S} {W} calls failures shows old sockets watcher (Ok u) new after =
@@ -68,12 +69,23 @@ IsOneRun old new =
     × ((outcomes : List Outcome) × Run old events outcomes new × All OpensLawfully events)
 
 -- Any turns are one run of the server, also those of sockets that don't tell their calls.
-abbrev pub AnyTurnsAreOneRun : {S : Type 0} → (S → Option (List Call)) → (S → ℕ) → Type 0
+abbrev pub AnyTurnsAreOneRun : {S : Type 0} → (S → Told) → (S → ℕ) → Type 0
 AnyTurnsAreOneRun {S} calls failures =
     (old new : ServerState) (sockets after : S) (results : List (Result (Unit {0}) LoopFault))
     → Turns calls failures old sockets results new after → IsOneRun old new
 
-abbrev pub AnyTurnsKeepAddressesLawful : {S : Type 0} → (S → Option (List Call)) → (S → ℕ)
+-- What sockets write over any turns, where it is known, is the lines of the events of one run, in
+-- order, and nothing else.
+abbrev pub EveryEventIsWritten : {S : Type 0} → (S → Told) → (S → ℕ) → Type 0
+EveryEventIsWritten {S} calls failures =
+    (old new : ServerState) (sockets after : S) (results : List (Result (Unit {0}) LoopFault))
+    (before now : List ℕ) → Turns calls failures old sockets results new after
+    → (calls sockets).written ≡ Some (Some before) → (calls after).written ≡ Some (Some now)
+    → (events : List Event)
+    × ((outcomes : List Outcome) × Run old events outcomes new
+    × (now ≡ before ++ flat_map (calls sockets).line events))
+
+abbrev pub AnyTurnsKeepAddressesLawful : {S : Type 0} → (S → Told) → (S → ℕ)
     → Type 0
 AnyTurnsKeepAddressesLawful {S} calls failures =
     (old new : ServerState) (sockets after : S) (results : List (Result (Unit {0}) LoopFault))

@@ -17,6 +17,7 @@ use Rattle.nutcore.specs.OrdersByRight.{all_told}
 use Rattle.nutcore.specs.Sound.{IsSound}
 use Rattle.nutloop.specs.declared.sockets.Call.{Call}
 use Rattle.nutloop.specs.declared.fault.LoopFault.{LoopFault}
+use Rattle.nutloop.specs.Sockets.{Told}
 use Rattle.nutloop.specs.Moved.{Turns, is_client, is_driver, bytes_given, bytes_taken}
 
 -- Of one client and what was executed for it: all that its socket gave is the executed lines, in
@@ -44,11 +45,11 @@ pub record AreAnswered (since : List Call) (old new : ServerState) : Type 0 wher
   pub answered : (c : ℕ) → IsAnswered c since (of_client c (executions old events outcomes)) new
 
 -- Over any turns from a new server, of sockets that tell their calls.
-abbrev pub WhatASocketGaveIsAnswered : {S : Type 0} → (S → Option (List Call)) → (S → ℕ) → Type 0
+abbrev pub WhatASocketGaveIsAnswered : {S : Type 0} → (S → Told) → (S → ℕ) → Type 0
 WhatASocketGaveIsAnswered {S} calls failures =
     (old new : ServerState) (sockets after : S) (results : List (Result (Unit {0}) LoopFault))
     (before now : List Call) → IsNewServer old → Turns calls failures old sockets results new after
-    → calls sockets ≡ Some before → calls after ≡ Some now
+    → (calls sockets).answered ≡ Some before → (calls after).answered ≡ Some now
     → (since : List Call) × (now ≡ before ++ since) × AreAnswered since old new
 
 -- Of one driver in a run: what was unfinished of it, followed by all that its socket gave, is its
@@ -72,10 +73,10 @@ pub record DriversAreHeardAndTold (since : List Call) (old new : ServerState) : 
       → IsHeardAndTold u since old events outcomes new
 
 -- Over any turns from a sound server, as each is, of sockets that tell their calls.
-abbrev pub ADriverIsHeardAndToldByItsSocket : {S : Type 0} → (S → Option (List Call)) → (S → ℕ)
+abbrev pub ADriverIsHeardAndToldByItsSocket : {S : Type 0} → (S → Told) → (S → ℕ)
     → Type 0
 ADriverIsHeardAndToldByItsSocket {S} calls failures =
     (old new : ServerState) (sockets after : S) (results : List (Result (Unit {0}) LoopFault))
     (before now : List Call) → IsSound old → Turns calls failures old sockets results new after
-    → calls sockets ≡ Some before → calls after ≡ Some now
+    → (calls sockets).answered ≡ Some before → (calls after).answered ≡ Some now
     → (since : List Call) × (now ≡ before ++ since) × DriversAreHeardAndTold since old new

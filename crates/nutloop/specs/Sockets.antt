@@ -1,8 +1,13 @@
 -- What the sockets answer, and what they tell of it.
 use Rattle.std.specs.Prelude.{◌≡◌, ℕ, ◌≤◌, List, [], ◌∷◌, ◌++◌, ⊤, Option, Some}
 use Rattle.std.specs.Prelude.{None, Result, Ok, Err, length, take}
+use Rattle.std.specs.Io.KnownBytes.{Appends}
+use Rattle.std.specs.List.{flat_map}
+use Rattle.nutcore.specs.declared.event.Event.{Event}
+use Rattle.nutcore.specs.declared.event.Event.TheVariants as event
+use Rattle.nutcore.specs.declared.event.Peer.TheVariants.{Client, Driver}
 use Rattle.nutloop.specs.declared.sockets.Call.{Call}
-use Rattle.nutloop.specs.declared.sockets.Call.TheVariants.{Gave, Waits, Ended}
+use Rattle.nutloop.specs.declared.sockets.Call.TheVariants.{Gave, Waits, Ended, Happens}
 use Rattle.nutloop.specs.declared.sockets.Got.{Got}
 use Rattle.nutloop.specs.declared.sockets.Got.TheVariants.{Bytes, Later, End}
 use Rattle.nutcore.specs.declared.event.Peer.{Peer}
@@ -21,15 +26,51 @@ AtMost (Ok Later) into = ⊤
 AtMost (Ok End) into = ⊤
 AtMost (Err e) into = ⊤
 
--- What is told grows by these calls, or is told no more from here on.
-abbrev pub Grows : Option (List Call) → Option (List Call) → List Call → Type 0
-Grows None None cs = ⊤
-Grows None (Some ys) cs = ⊥
-Grows (Some xs) None cs = ⊤
-Grows (Some xs) (Some ys) cs = ys ≡ xs ++ cs
+-- What sockets tell: the calls that were answered, where they are known; the text that they have
+-- written of the events, as long as they write it and where it is known; and the line of an event.
+pub record Told : Type 0 where
+  pub answered : Option (List Call)
+  pub written : Option (Option (List ℕ))
+  pub line : Event → List ℕ
+
+-- Sockets that tell nothing.
+abbrev pub nothing_told : Told
+nothing_told = record { answered = None; written = None; line = λ e. [] }
+
+-- The event that these bytes come from the peer.
+abbrev pub came_from : Peer → List ℕ → Event
+came_from (Client c) bytes = event.Feed c bytes
+came_from (Driver u) bytes = event.DriverBytes u bytes
+
+-- The events among the calls.
+abbrev pub event_in : Call → List Event
+event_in (Happens e) = e ∷ []
+event_in _ = []
+
+abbrev pub events_in : List Call → List Event
+events_in calls = flat_map event_in calls
+
+-- The calls grow by these, or are known no more from here on.
+abbrev pub GrowsBy : Option (List Call) → Option (List Call) → List Call → Type 0
+GrowsBy None None more = ⊤
+GrowsBy None (Some ys) more = ⊥
+GrowsBy (Some xs) None more = ⊤
+GrowsBy (Some xs) (Some ys) more = ys ≡ xs ++ more
+
+-- The text grows by this, or is written no more from here on.
+abbrev pub GrowsText : Option (Option (List ℕ)) → Option (Option (List ℕ)) → List ℕ → Type 0
+GrowsText None None more = ⊤
+GrowsText None (Some y) more = ⊥
+GrowsText (Some x) None more = ⊤
+GrowsText (Some x) (Some y) more = Appends x y more
+
+-- What is told grows by these calls, and what is written by the lines of their events.
+abbrev pub Grows : Told → Told → List Call → Type 0
+Grows old new calls = GrowsBy old.answered new.answered calls
+    × GrowsText old.written new.written (flat_map old.line (events_in calls))
+    × (new.line ≡ old.line)
 
 -- A call that is answered is told, and one that fails isn't.
-abbrev pub Logs : {T E : Type 0} → Option (List Call) → Option (List Call) → (T → Call) → Result T E
-    → Type 0
+abbrev pub Logs : {T E : Type 0} → Told → Told → (T → Call) → Result T E → Type 0
 Logs old new call (Ok x) = Grows old new (call x ∷ [])
 Logs old new call (Err e) = Grows old new []

@@ -24,12 +24,12 @@ use Rattle.nutloop.specs.declared.sockets.Ready.TheVariants.{Nothing, Tick, Newc
 use Rattle.nutloop.specs.declared.sockets.Ready.TheVariants.{DriverUp, Read, Write}
 use Rattle.nutloop.specs.declared.sockets.Call.{Call}
 use Rattle.nutloop.specs.declared.sockets.Call.TheVariants.{Readied, Accepted, Named, Refused, Gave}
-use Rattle.nutloop.specs.declared.sockets.Call.TheVariants.{Waits, Ended, Wrote, Shut}
+use Rattle.nutloop.specs.declared.sockets.Call.TheVariants.{Waits, Ended, Wrote, Shut, Happens}
 use Rattle.nutloop.specs.declared.fault.LoopFault.{LoopFault}
 use Rattle.nutloop.specs.declared.fault.LoopFault.TheVariants as fault
 use Rattle.nutloop.specs.declared.turns.TheConstants.{DRIVER_READ_LIMIT}
 use Rattle.nutio.specs.Ends.{counted}
-use Rattle.nutloop.specs.Sockets.{Grows}
+use Rattle.nutloop.specs.Sockets.{Told, Grows}
 
 -- The one call that a row makes of the sockets and that may fail, if it makes one: reads has how
 -- many bytes are asked for, writes which ones are offered.
@@ -166,13 +166,14 @@ calls_behind (event.DriverBytes u piece) (outcome.Refused fault) =
     if loses_driver fault then Shut (Driver u) ∷ [] else []
 calls_behind _ _ = []
 
+-- Each event is told, and then the calls after it.
 abbrev pub calls_behind_all : List Event → List Outcome → List Call
 calls_behind_all [] os = []
 calls_behind_all (e ∷ es) [] = []
-calls_behind_all (e ∷ es) (o ∷ os) = calls_behind e o ++ calls_behind_all es os
+calls_behind_all (e ∷ es) (o ∷ os) = Happens e ∷ (calls_behind e o ++ calls_behind_all es os)
 
 -- These events were done, with the calls after them, and no call failed.
-pub record Does {S : Type 0} (calls : S → Option (List Call)) (failures : S → ℕ)
+pub record Does {S : Type 0} (calls : S → Told) (failures : S → ℕ)
     (events : List Event) (old : ServerState) (sockets : S) (new : ServerState) (after : S)
     : Type 0 where
   pub outcomes : List Outcome
@@ -186,7 +187,7 @@ failures_by _ n = n
 
 -- A row is done, after what was told before it: its call is answered, then its events are done,
 -- with the calls after them.
-pub record IsRow {S : Type 0} (calls : S → Option (List Call)) (failures : S → ℕ)
+pub record IsRow {S : Type 0} (calls : S → Told) (failures : S → ℕ)
     (before : List Call) (ready : Ready) (old : ServerState) (sockets : S) (new : ServerState)
     (after : S) : Type 0 where
   pub answer : Answer
@@ -203,7 +204,7 @@ pub record IsRow {S : Type 0} (calls : S → Option (List Call)) (failures : S �
   pub count : failures after ≡ failures_by answer (failures sockets)
 
 -- A call of the loop failed: only what was answered before it is told, and the server is as it was.
-pub record Fails {S : Type 0} (calls : S → Option (List Call)) (failures : S → ℕ)
+pub record Fails {S : Type 0} (calls : S → Told) (failures : S → ℕ)
     (before : List Call) (old : ServerState) (sockets : S) (new : ServerState) (after : S)
     : Type 0 where
   pub told : Grows (calls sockets) (calls after) before
@@ -211,7 +212,7 @@ pub record Fails {S : Type 0} (calls : S → Option (List Call)) (failures : S �
   pub same : new ≡ old
 
 -- A newcomer's row, or `accept` fails.
-abbrev pub NewcomerGives : {S : Type 0} → (S → Option (List Call)) → (S → ℕ) → ServerState → S
+abbrev pub NewcomerGives : {S : Type 0} → (S → Told) → (S → ℕ) → ServerState → S
     → Result (Unit {0}) LoopFault → ServerState → S → Type 0
 NewcomerGives calls failures old sockets (Ok u) new after =
     IsRow calls failures [] Newcomer old sockets new after
@@ -220,7 +221,7 @@ NewcomerGives calls failures old sockets (Err fault.Accept) new after =
     Fails calls failures [] old sockets new after
 
 -- A turn: `ready` is asked once, and then one row is done; or `ready` fails, or `accept` after it.
-abbrev pub TurnGives : {S : Type 0} → (S → Option (List Call)) → (S → ℕ) → ServerState → S
+abbrev pub TurnGives : {S : Type 0} → (S → Told) → (S → ℕ) → ServerState → S
     → Result (Unit {0}) LoopFault → ServerState → S → Type 0
 TurnGives calls failures old sockets (Ok u) new after =
     (ready : Ready) × IsRow calls failures (Readied ready ∷ []) ready old sockets new after

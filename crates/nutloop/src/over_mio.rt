@@ -1,7 +1,7 @@
 //! The sockets over `mio`: clients come over TCP, and drivers are connected to over Unix sockets.
 ghost use Rattle.std.specs.Prelude.{◌≡◌, ◌*◌, ◌-◌, ◌∷◌, [], IfOk, None, OnOk};
 ghost use Rattle.nutio.specs.Ends.{IsCounted, counted};
-ghost use Rattle.nutloop.specs.Sockets.{Grows};
+ghost use Rattle.nutloop.specs.Sockets.{Grows, nothing_told};
 ghost use Rattle.std.specs.Duration.{as_nanos};
 ghost use Rattle.nutloop.specs.Clock.{Ticks, next_second};
 ghost use Rattle.nutloop.specs.OverMio.{AnswersReady, GivesTurn, client_turn, driver_turn, error_of, refused, turn_of};
@@ -24,7 +24,7 @@ use closing::{CLOSING_LIMIT, Closing, close};
 use door::Door;
 use drivers::{Driver, Drivers, connect, socket_of};
 use mio::{Events, Poll};
-use nutcore::{ClientId, Peer, Server, UpsId};
+use nutcore::{ClientId, Event, Peer, Server, UpsId};
 use nutwords::Address;
 use pass::{Pass, Stop, Way};
 use std::alloc::Global;
@@ -297,7 +297,7 @@ fn up_to_tick(second: u64, elapsed: Duration) -> Duration
 }
 
 impl<'a, R: Net + Clock, F: Read + Drop> Sockets for MioSockets<'a, R, F> {
-    ghost calls = { λ _. None };
+    ghost calls = { λ _. nothing_told };
 
     ghost failures = { λ s. s.failures };
 
@@ -318,7 +318,7 @@ impl<'a, R: Net + Clock, F: Read + Drop> Sockets for MioSockets<'a, R, F> {
     }
 
     fn refuse(&mut self)
-        ensures told { Grows None None (Refused ∷ []) }
+        ensures told { Grows nothing_told nothing_told (Refused ∷ []) }
         ensures count { self.new.failures ≡ self.old.failures }
         ensures refused { refused self.new ≡ counted (refused self.old) }
     {
@@ -371,4 +371,8 @@ impl<'a, R: Net + Clock, F: Read + Drop> Sockets for MioSockets<'a, R, F> {
             }
         }
     }
+
+    fn happens(&mut self, _event: Event) {}
+
+    fn comes(&mut self, _from: Peer, _bytes: &[u8]) {}
 }

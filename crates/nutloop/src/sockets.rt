@@ -1,11 +1,10 @@
 //! The sockets of all peers, as a turn sees them.
-ghost use Rattle.std.specs.Prelude.{◌≡◌, ◌≤◌, ◌∷◌, [], ℕ, List, Option, length, IfOk};
-ghost use Rattle.nutloop.specs.declared.sockets.Call.{Call};
-ghost use Rattle.nutloop.specs.declared.sockets.Call.TheVariants.{Readied, Accepted, Named, Refused, Wrote, Shut};
+ghost use Rattle.std.specs.Prelude.{◌≡◌, ◌≤◌, ◌∷◌, [], ℕ, length, IfOk};
+ghost use Rattle.nutloop.specs.declared.sockets.Call.TheVariants.{Readied, Accepted, Named, Refused, Wrote, Shut, Happens};
 ghost use Rattle.nutio.specs.Ends.{IsCounted};
-ghost use Rattle.nutloop.specs.Sockets.{Grows, Logs, AtMost, read_call};
+ghost use Rattle.nutloop.specs.Sockets.{Told, Grows, Logs, AtMost, came_from, read_call};
 
-use nutcore::{Bytes, ClientId, Peer, Server, UpsId};
+use nutcore::{Bytes, ClientId, Event, Peer, Server, UpsId};
 use nutwords::Address;
 
 /// What is ready, and so what a turn does.
@@ -59,6 +58,8 @@ pub enum Call {
     Wrote(Peer, Bytes, usize),
     /// The peer's connection is shut.
     Shut(Peer),
+    /// This event of the server is next.
+    Happens(Event),
 }
 
 /// A call failed.
@@ -67,8 +68,9 @@ pub struct Broken;
 
 /// The sockets of all peers. No call waits for a peer but `ready`, which waits for all of them.
 pub trait Sockets {
-    /// The calls that were answered so far, where these sockets tell them. A call that failed isn't among them.
-    ghost calls: { Self → Option (List Call) };
+    /// The calls that were answered so far, where these sockets tell them, and what they wrote of the events, where that
+    /// is known. A call that failed isn't among them.
+    ghost calls: { Self → Told };
 
     /// How many calls failed. The count stops at its greatest number.
     ghost failures: { Self → ℕ };
@@ -108,5 +110,15 @@ pub trait Sockets {
     /// Shuts the connection of a peer. A client's is gone for good.
     fn shut(&mut self, p: Peer)
         ensures told { Grows (calls self.old) (calls self.new) (Shut p ∷ []) }
+        ensures count { failures self.new ≡ failures self.old };
+
+    /// This event of the server is next: one without bytes of a peer.
+    fn happens(&mut self, event: Event)
+        ensures told { Grows (calls self.old) (calls self.new) (Happens event ∷ []) }
+        ensures count { failures self.new ≡ failures self.old };
+
+    /// The next event of the server is that these bytes come from the peer.
+    fn comes(&mut self, from: Peer, bytes: &[u8])
+        ensures told { Grows (calls self.old) (calls self.new) (Happens (came_from from bytes.now) ∷ []) }
         ensures count { failures self.new ≡ failures self.old };
 }

@@ -7,7 +7,7 @@ ghost use Rattle.nutcore.specs.declared.event.Peer.TheVariants.{Client, Driver};
 ghost use Rattle.nutloop.specs.declared.sockets.Ready.TheVariants.{Newcomer, Read, Write};
 
 use crate::{Got, LoopFault, Ready, Sockets};
-use nutcore::{ClientId, Fault, HELD_LIMIT, Peer, Server, UpsId};
+use nutcore::{ClientId, Event, Fault, HELD_LIMIT, Peer, Server, UpsId};
 use nutwords::Address;
 
 /// The most bytes that one read of a driver takes in. It bounds how long one turn of a driver keeps
@@ -19,6 +19,7 @@ fn close<S: Sockets>(server: &mut Server, sockets: &mut S, c: ClientId)
     ensures { Does S.calls S.failures (event.Close c ∷ [])
         server.old.state sockets.old server.new.state sockets.new }
 {
+    sockets.happens(Event::Close(c));
     let _ = server.close(c);
     sockets.shut(Peer::Client(c));
 }
@@ -28,6 +29,7 @@ fn lose<S: Sockets>(server: &mut Server, sockets: &mut S, u: UpsId)
     ensures { Does S.calls S.failures (event.DriverDown u ∷ [])
         server.old.state sockets.old server.new.state sockets.new }
 {
+    sockets.happens(Event::DriverDown(u));
     let _ = server.driver_down(u);
     sockets.shut(Peer::Driver(u));
 }
@@ -48,6 +50,7 @@ fn open<S: Sockets>(server: &mut Server, sockets: &mut S, address: Address)
         server.old.state sockets.old server.new.state sockets.new }
     ensures lawful { IsTrue (is_address address) }
 {
+    sockets.happens(Event::Open(address.copied()));
     match server.open(address) {
         Ok(c) => sockets.name(c),
         Err(_) => sockets.refuse(),
@@ -70,12 +73,67 @@ fn feed_driver<S: Sockets>(server: &mut Server, sockets: &mut S, u: UpsId, piece
     ensures { Does S.calls S.failures (event.DriverBytes u piece.now ∷ [])
         server.old.state sockets.old server.new.state sockets.new }
 {
+    sockets.comes(Peer::Driver(u), piece);
     let Err(fault) = server.driver_bytes(u, piece) else {
         return;
     };
     if loses_driver(fault) {
         sockets.shut(Peer::Driver(u));
     }
+}
+
+/// A client's bytes are fed.
+fn feed<S: Sockets>(server: &mut Server, sockets: &mut S, c: ClientId, piece: &[u8])
+    ensures { Does S.calls S.failures (event.Feed c piece.now ∷ [])
+        server.old.state sockets.old server.new.state sockets.new }
+{
+    sockets.comes(Peer::Client(c), piece);
+    let _ = server.feed(c, piece);
+}
+
+/// A client took so many bytes.
+fn took<S: Sockets>(server: &mut Server, sockets: &mut S, c: ClientId, n: usize)
+    ensures { Does S.calls S.failures (event.Took c n ∷ [])
+        server.old.state sockets.old server.new.state sockets.new }
+{
+    sockets.happens(Event::Took(c, n));
+    let _ = server.took(c, n);
+}
+
+/// A driver took so many bytes.
+fn driver_took<S: Sockets>(server: &mut Server, sockets: &mut S, u: UpsId, n: usize)
+    ensures { Does S.calls S.failures (event.DriverTook u n ∷ [])
+        server.old.state sockets.old server.new.state sockets.new }
+{
+    sockets.happens(Event::DriverTook(u, n));
+    let _ = server.driver_took(u, n);
+}
+
+/// A driver is there.
+fn driver_up<S: Sockets>(server: &mut Server, sockets: &mut S, u: UpsId)
+    ensures { Does S.calls S.failures (event.DriverUp u ∷ [])
+        server.old.state sockets.old server.new.state sockets.new }
+{
+    sockets.happens(Event::DriverUp(u));
+    let _ = server.driver_up(u);
+}
+
+/// The clock goes on.
+fn tick<S: Sockets>(server: &mut Server, sockets: &mut S, seconds: u64)
+    ensures { Does S.calls S.failures (event.Tick seconds ∷ [])
+        server.old.state sockets.old server.new.state sockets.new }
+{
+    sockets.happens(Event::Tick(seconds));
+    server.tick(seconds);
+}
+
+/// An id is handed in.
+fn hand_in<S: Sockets>(server: &mut Server, sockets: &mut S, id: u128)
+    ensures { Does S.calls S.failures (event.Id id ∷ [])
+        server.old.state sockets.old server.new.state sockets.new }
+{
+    sockets.happens(Event::Id(id));
+    let _ = server.id(id);
 }
 
 fn newcomer<S: Sockets>(server: &mut Server, sockets: &mut S) -> Result<(), LoopFault>
@@ -99,15 +157,13 @@ fn read_client<S: Sockets>(server: &mut Server, sockets: &mut S, c: ClientId)
         return;
     };
     if room == 0 {
-        let _ = server.feed(c, &[]);
+        feed(server, sockets, c, &[]);
         return;
     }
     let mut bytes = [0; HELD_LIMIT];
     let into = &mut bytes[..room];
     match sockets.read(Peer::Client(c), into) {
-        Ok(Got::Bytes(n)) => {
-            let _ = server.feed(c, &into[..n]);
-        }
+        Ok(Got::Bytes(n)) => feed(server, sockets, c, &into[..n]),
         Ok(Got::Later) => {}
         Ok(Got::End) => close(server, sockets, c),
         Err(_) => close(server, sockets, c),
@@ -153,7 +209,7 @@ fn write_client<S: Sockets>(server: &mut Server, sockets: &mut S, c: ClientId)
     }
     match sockets.write(Peer::Client(c), offered) {
         Ok(n) => {
-            let _ = server.took(c, n);
+            took(server, sockets, c, n);
             close_finished(server, sockets, c);
         }
         Err(_) => close(server, sockets, c),
@@ -171,9 +227,7 @@ fn write_driver<S: Sockets>(server: &mut Server, sockets: &mut S, u: UpsId)
         return;
     }
     match sockets.write(Peer::Driver(u), owed) {
-        Ok(n) => {
-            let _ = server.driver_took(u, n);
-        }
+        Ok(n) => driver_took(server, sockets, u, n),
         Err(_) => lose(server, sockets, u),
     }
 }
@@ -189,7 +243,7 @@ fn write<S: Sockets>(server: &mut Server, sockets: &mut S, p: Peer)
 }
 
 /// One turn: asks once what is ready, and does that row: at most one read or write, and at most two
-/// events of the server.
+/// events of the server, each of which the sockets are told before it happens.
 ///
 /// # Errors
 ///
@@ -203,14 +257,10 @@ pub fn turn<S: Sockets>(server: &mut Server, sockets: &mut S) -> Result<(), Loop
     };
     match ready {
         Ready::Nothing => {}
-        Ready::Tick(seconds) => server.tick(seconds),
+        Ready::Tick(seconds) => tick(server, sockets, seconds),
         Ready::Newcomer => return newcomer(server, sockets),
-        Ready::Id(id) => {
-            let _ = server.id(id);
-        }
-        Ready::DriverUp(u) => {
-            let _ = server.driver_up(u);
-        }
+        Ready::Id(id) => hand_in(server, sockets, id),
+        Ready::DriverUp(u) => driver_up(server, sockets, u),
         Ready::Read(p) => read(server, sockets, p),
         Ready::Write(p) => write(server, sockets, p),
     }

@@ -1,3 +1,4 @@
 mod Taking
 mod Doing
 mod OneRun
+mod ReadBack

@@ -2,3 +2,4 @@ pub mod Script
 pub mod Transcript
 pub mod ReplayFault
 pub mod OneRun
+pub mod Written

@@ -1,4 +1,4 @@
-//! Scripts of events, replayed over a server of their own: what a line of one means, and the transcript of all.
+//! Scripts of events: how an event is written, what a line means, and the transcript of a replay over a server of its own.
 #![tactic(auto)]
 
 pub mod laws;
@@ -7,3 +7,4 @@ mod script;
 mod transcript;
 
 pub use replaying::{REPLAY_MAX_AGE, ReplayFault, replay};
+pub use script::{line_of, line_of_bytes};

@@ -3,10 +3,12 @@ ghost use Rattle.std.specs.Prelude.{◌≡◌, ◌⊎◌, ℕ, IfOk, IfErr, None
 ghost use Rattle.nutreplay.specs.Script.{actions_of, first_bad_line};
 
 mod action;
+mod line;
 
 pub use self::action::Action;
 use self::action::read_line;
 pub(crate) use self::action::took;
+pub use self::line::{line_of, line_of_bytes};
 use crate::replaying::ReplayFault;
 use nutcore::UpsList;
 use nutwords::{TextLines, is_silent};

@@ -37,7 +37,8 @@ ending_of_replay script faults.Write = endings.Write
 abbrev pub IsEndOfServing : SocketAddr → Ending → Type 0
 IsEndOfServing address ending = (ending ≡ endings.Memory)
     ⊎ (((error : Option ℤ) × (ending ≡ endings.Listen address error))
-    ⊎ ((ending ≡ endings.Write) ⊎ ((fault : LoopFault) × (ending ≡ endings.Loop fault))))
+    ⊎ ((ending ≡ endings.Write) ⊎ (((fault : LoopFault) × (ending ≡ endings.Loop fault))
+    ⊎ ((path : Bor (List ℕ)) × ((error : Option ℤ) × (ending ≡ endings.Uncreated path error))))))
 
 -- The line that tells at which address clients are listened for.
 abbrev pub listening_line : SocketAddr → List ℕ

@@ -7,3 +7,4 @@ pub mod Task
 pub mod Words
 pub mod Refusals
 pub mod LogBuffer
+pub mod Recorded

@@ -1,5 +1,5 @@
 -- What the program is to do, by the words that were found after a subcommand.
-use Rattle.std.specs.Prelude.{◌≡◌, ◌⊎◌, ℕ, List, Option, Some, None, codes, unwrap_or}
+use Rattle.std.specs.Prelude.{◌≡◌, ◌⊎◌, ◌<◌, ◌^◌, ℕ, List, Option, Some, None, codes, unwrap_or}
 use Rattle.std.specs.Option.{option_map}
 use Rattle.std.specs.Str.Parse.{IsNumeral, digits_value, without_leading_plus}
 use Rattle.std.specs.Net.Grammar.{IsSocketText}
@@ -10,7 +10,7 @@ use Rattle.clap.specs.Words.{subcommand_rows_of}
 use Rattle.clap.specs.declared.parser.matches.ArgMatches.{ArgMatches}
 use Rattle.nutcore.specs.Server.{read_max_age}
 use Rattle.nutcore.specs.declared.max_age.TheConstants.{MAX_AGE_DEFAULT}
-use Rattle.upsd.specs.declared.task.TheConstants.{DEFAULT_ADDRESS}
+use Rattle.upsd.specs.declared.task.TheConstants.{DEFAULT_ADDRESS, RECORD_MIB}
 use Rattle.upsd.specs.declared.task.Service.{Service}
 use Rattle.upsd.specs.declared.task.Task.{Task}
 use Rattle.upsd.specs.declared.task.Task.TheVariants.{Serve, Replay}
@@ -33,9 +33,19 @@ IsMaxAge (Some text) age = IsNumeral 10 (without_leading_plus text)
 abbrev pub IsMaxAgeIn : ArgMatches → ℕ → Type 0
 IsMaxAgeIn found age = IsMaxAge (one_text (found_of found) (codes "maxage")) age
 
+-- The text is digits that write the MiB of a record; without it these are 64.
+abbrev pub IsRecordLimit : Option (List ℕ) → ℕ → Type 0
+IsRecordLimit None limit = limit ≡ RECORD_MIB
+IsRecordLimit (Some text) limit = IsNumeral 10 (without_leading_plus text)
+    × (limit ≡ digits_value 10 (without_leading_plus text)) × (limit < 2 ^ 64)
+
+abbrev pub IsRecordLimitIn : ArgMatches → ℕ → Type 0
+IsRecordLimitIn found limit = IsRecordLimit (one_text (found_of found) (codes "record-limit")) limit
+
 pub record IsServiceIn (found : ArgMatches) (service : Service) : Type 0 where
   pub address : IsAddressIn found service.address
   pub max_age : IsMaxAgeIn found service.max_age
+  pub record_limit : IsRecordLimitIn found service.record_limit
 
 -- The task is to serve over the files, at the address and with the greatest age that were found.
 abbrev pub IsServing : ArgMatches → Task → Type 0

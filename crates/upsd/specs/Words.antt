@@ -7,10 +7,16 @@ use Rattle.clap.specs.declared.error.Error.{Error}
 use Rattle.clap.specs.declared.parser.matches.ArgMatches.{ArgMatches}
 use Rattle.nutcommand.specs.Words.{Free, Word, long_option, operand, required, with_words}
 use Rattle.nutcore.specs.declared.max_age.TheConstants.{MAX_AGE_LEAST, MAX_AGE_MOST}
-use Rattle.upsd.specs.declared.task.TheConstants.{DEFAULT_ADDRESS}
+use Rattle.upsd.specs.declared.task.TheConstants.{DEFAULT_ADDRESS, RECORD_MIB_MOST}
 
--- `serve --ups F --users F [--vars F] [--ids F] [--listen A:P] [--maxage N]`. The address is the
--- default one where none is named.
+abbrev pub record_limit : Word
+record_limit = (
+  record (long_option (codes "record-limit")) { parser = Some (Unsigned 1 RECORD_MIB_MOST) },
+  Free,
+)
+
+-- `serve --ups F --users F [--vars F] [--ids F] [--listen A:P] [--maxage N] [--record F]
+-- [--record-limit N]`. The address is the default one where none is named.
 abbrev pub serve_words : List Word
 serve_words =
     (required (long_option (codes "ups")), Free)
@@ -23,6 +29,8 @@ serve_words =
       },
       Free,
     )
+    ∷ (long_option (codes "record"), Free)
+    ∷ record_limit
     ∷ []
 
 abbrev pub serve_app : App

@@ -35,6 +35,12 @@ pub enum Ending<'a> {
         path: &'a str,
         error: Option<i32>,
     },
+    /// The file of a record can't be made.
+    #[error("{path}: cannot create")]
+    Uncreated {
+        path: &'a str,
+        error: Option<i32>,
+    },
     /// This line of a configuration file is refused, with the number of its cause.
     #[error("{path}:{line}: cause {cause}")]
     Refused {
@@ -112,6 +118,7 @@ pub fn tell(rt: &HostRuntime, ending: &Ending<'_>) {
             };
         }
         Ending::Unread { path, error } => tell_error(rt, &path, error),
+        Ending::Uncreated { path, error } => tell_error(rt, &path, error),
         Ending::Listen { address, error } => tell_error(rt, &address, error),
         _ => {}
     }

@@ -22,6 +22,8 @@ pub struct Files<'a> {
     pub vars: Option<&'a str>,
     /// Its bytes make the ids of tracked orders.
     pub ids: Option<&'a str>,
+    /// What happens is written there.
+    pub to_record: Option<&'a str>,
 }
 
 /// Which of the words is which file.
@@ -33,6 +35,7 @@ pub fn files_named<'a>(found: &ArgMatches<'a>) -> Files<'a>
         users: found.get_str("users"),
         vars: found.get_str("vars"),
         ids: found.get_str("ids"),
+        to_record: found.get_str("record"),
     }
 }
 

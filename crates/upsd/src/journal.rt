@@ -24,6 +24,7 @@ pub struct Journal {
     pub moment: Option<u64>,
     pub refused: Refused,
     each_second: EachSecond,
+    is_record_cut: bool,
 }
 
 impl Journal {
@@ -38,6 +39,7 @@ impl Journal {
             moment: None,
             refused: Refused::new(),
             each_second: EachSecond::new(),
+            is_record_cut: false,
         })
     }
 
@@ -65,6 +67,18 @@ impl Journal {
             self.each_second.write(&mut self.log, server, sockets);
         }
         self.log.flush(rt);
+    }
+
+    /// Logs once that the record has ended, if it has.
+    pub fn write_record(&mut self, is_cut: bool)
+        ensures moment { self.new.moment ≡ self.old.moment }
+        ensures refused { self.new.refused ≡ self.old.refused }
+    {
+        if is_cut && !self.is_record_cut {
+            self.is_record_cut = true;
+            self.log
+                .add(&"the record has ended, at its limit or by a failed write");
+        }
     }
 
     /// Logs the notes, or counts them where they are logged once a second.

@@ -1,10 +1,17 @@
-//! The numbers of the program, and how often it logs what.
+//! The numbers of the program, how often it logs what, and what a record is read as.
 ghost use Rattle.std.specs.Prelude.{◌≡◌, codes};
+ghost use Rattle.upsd.specs.Recorded.{ARecordIsTheRun};
 ghost use Rattle.upsd.specs.Refusals.{ARefusalIsLoggedOnceASecond};
 ghost use Rattle.upsd.specs.declared.ending.TheConstants.{DONE, FAULT, WORD_FAULT};
 ghost use Rattle.upsd.specs.declared.journal.refusals.TheConstants.{REFUSAL_LIMIT};
 ghost use Rattle.upsd.specs.declared.log_buffer.TheConstants.{LOG_LIMIT};
 ghost use Rattle.upsd.specs.declared.task.TheConstants.{DEFAULT_ADDRESS};
+
+use crate::recorded::Recorded;
+use nutio::Sink;
+use nutloop::Sockets;
+use nutloop::laws::every_event_is_written;
+use nutreplay::laws::what_is_written_is_read_back;
 
 /// The statuses, the refusals logged in a second, the most bytes of the journal that wait, and the default address.
 pub fn numbers()
@@ -21,3 +28,12 @@ pub fn numbers()
 pub fn a_refusal_is_logged_once_a_second()
     ensures { ARefusalIsLoggedOnceASecond }
 {}
+
+/// Over any turns, whatever the sockets do, what is written of the events after comments is read by `replay` as exactly
+/// the events of these turns, as long as it is written.
+pub fn a_record_is_the_run<S: Sockets, W: Sink + Drop>()
+    ensures { ARecordIsTheRun ⟦<Recorded<S, W> as Sockets>⟧.calls ⟦<Recorded<S, W> as Sockets>⟧.failures }
+{
+    every_event_is_written::<Recorded<S, W>>();
+    what_is_written_is_read_back();
+}

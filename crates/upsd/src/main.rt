@@ -9,7 +9,7 @@ ghost use Rattle.nutcommand.specs.Words.{AreWords, Free, IsWord, long_option};
 ghost use Rattle.upsd.specs.Ending.{status_of};
 ghost use Rattle.upsd.specs.Task.{AsksNothing};
 ghost use Rattle.upsd.specs.declared.ending.TheConstants.{FAULT};
-ghost use Rattle.upsd.specs.Words.{AreRead, replay_app, replay_words, serve_app, serve_words};
+ghost use Rattle.upsd.specs.Words.{AreRead, record_limit, replay_app, replay_words, serve_app, serve_words};
 
 mod ending;
 mod files;
@@ -17,6 +17,7 @@ mod journal;
 mod laws;
 mod log_buffer;
 mod reading;
+mod recorded;
 mod replaying;
 mod serve;
 mod task;
@@ -26,7 +27,7 @@ use crate::ending::{Ending, status_of, tell};
 use crate::files::Configuration;
 use crate::replaying::replay_files;
 use crate::serve::serve_files;
-use crate::task::{DEFAULT_ADDRESS, Task, task_of};
+use crate::task::{DEFAULT_ADDRESS, RECORD_MIB_MOST, Task, task_of};
 use crate::warnings::warn;
 use clap::builder::ValueParser;
 use clap::{Arg, ArgMatches, Command, Error, arg};
@@ -96,8 +97,27 @@ fn serve_words(alloc: Global) -> Result<Vec<Arg<'static>>, AllocError>
         arg!(in alloc; --maxage <N>
             "Seconds without a line from its driver until a UPS is stale [without it: 15]")
         .value_parser(ValueParser::unsigned(MAX_AGE_LEAST as u64, MAX_AGE_MOST as u64)),
+        record_file(alloc),
+        record_limit(alloc),
     ]?;
     Ok(words)
+}
+
+/// The word that names the file of a record.
+fn record_file(alloc: Global) -> Arg<'static>
+    ensures { IsWord (long_option (codes "record"), Free) result }
+{
+    arg!(in alloc; --record <F>
+        "Writes each event into the new file F, passwords too, for replay")
+}
+
+/// The word that limits a record.
+fn record_limit(alloc: Global) -> Arg<'static>
+    ensures { IsWord record_limit result }
+{
+    arg!(in alloc; --"record-limit" <N> "The most MiB of that file [without it: 64]").value_parser(
+        ValueParser::unsigned(1, RECORD_MIB_MOST),
+    )
 }
 
 /// `replay` and its words.

@@ -2,11 +2,15 @@
 ghost use Rattle.std.specs.Prelude.{◌≡◌, ◌≢◌, ℕ, List, Result, Ok, Err, IfErr, MatchResult};
 ghost use Rattle.std.specs.IoError.{error_kind, raw_os_error};
 ghost use Rattle.upsd.specs.declared.reading.ReadFault.{ReadFault};
-ghost use Rattle.upsd.specs.Reading.{CantBeRead, anything, ending_of_unread};
+ghost use Rattle.upsd.specs.Reading.{CantBeMade, CantBeRead, anything, ending_of_unread};
 
 use crate::ending::Ending;
-use std::fs::{self, File};
+use std::fs::{self, File, OpenOptions};
 use std::io::{Error, ErrorKind};
+use std::os::unix::fs::OpenOptionsExt;
+
+/// The mode of a file that only its owner reads and writes.
+const FOR_OWNER: u32 = 0o600;
 
 /// Why a file can't be read.
 #[derive(Clone, Copy)]
@@ -78,4 +82,19 @@ pub fn open<'a>(rt: &HostRuntime, path: &'a str) -> Result<File, Ending<'a>>
     ensures { IfErr result (CantBeRead anything path.entry) }
 {
     fs::open(rt, path).map_err(|error| ending_of_unread(path, fault_of(&error)))
+}
+
+/// Makes the file of this path, which must not exist, readable by its owner alone; or tells how the program ends without it.
+pub fn create<'a>(rt: &HostRuntime, path: &'a str) -> Result<File, Ending<'a>>
+    ensures { IfErr result (CantBeMade path.entry) }
+{
+    let made = OpenOptions::new()
+        .write(true)
+        .create_new(true)
+        .mode(FOR_OWNER)
+        .open(rt, path);
+    made.map_err(|error| Ending::Uncreated {
+        path,
+        error: error.raw_os_error(),
+    })
 }

@@ -5,22 +5,28 @@ ghost use Rattle.nutloop.specs.declared.fault.LoopFault.{LoopFault};
 ghost use Rattle.nutloop.specs.Serving.{IsOneRun, TurnsUpTo};
 ghost use Rattle.upsd.specs.Configuration.{FirstFails, IsServerOf};
 ghost use Rattle.upsd.specs.Ending.{IsEndOfServing, TellsAddress};
-ghost use Rattle.upsd.specs.Reading.{CantBeOpened, anything};
+ghost use Rattle.upsd.specs.Reading.{CantBeMade, CantBeOpened, anything};
 
 use crate::ending::Ending;
 use crate::files::{Configuration, Files, configuration_in};
 use crate::journal::Journal;
-use crate::reading::{FileReader, open};
+use crate::reading::{FileReader, create, open};
+use crate::recorded::{Recorded, Recorder};
 use crate::task::Service;
 use crate::warnings::warn;
 use nutcore::{MaxAge, Server};
 use nutio::{CountedWriter, Sink, send};
 use nutloop::{MioSockets, Sockets};
+use nutversion::VERSION;
 use std::alloc::Global;
 use std::fs::File;
-use std::io;
-use std::io::{Error, ErrorKind};
+use std::io::{Error, ErrorKind, Write};
 use std::net::SocketAddr;
+use std::time::{SystemTime, UNIX_EPOCH};
+use std::{env, io};
+
+/// The sockets of the system, whose events may be written to a file.
+type AllSockets<'a> = Recorded<MioSockets<'a, HostRuntime, File>, CountedWriter<File>>;
 
 /// `upsd serve`: warns of what is dangerous in the files, and serves until the loop can't go on.
 ///
@@ -38,7 +44,7 @@ pub fn serve_files<'a>(
         ⊎ IsEndOfServing service.address ending)) }
 {
     let mut server = server_of(rt.alloc(), rt, files, service.max_age)?;
-    serve(rt, &mut server, files, service.address)
+    serve(rt, &mut server, files, service)
 }
 
 /// The ids of the file of this path, which is opened, and read while it is served. Without a path there are none.
@@ -77,23 +83,66 @@ fn serve<'a>(
     rt: &HostRuntime,
     server: &mut Server,
     files: Files<'a>,
-    address: SocketAddr,
+    service: Service,
 ) -> Result<(), Ending<'a>>
     ensures { IfErr result (λ ending.
-        CantBeOpened files.entry.ids ending ⊎ IsEndOfServing address ending) }
+        CantBeOpened files.entry.ids ending ⊎ IsEndOfServing service.address ending) }
 {
     let ids = ids_in(rt, files.ids)?;
+    let address = service.address;
     match MioSockets::new(rt, rt.alloc(), address, server, ids) {
-        Ok(mut sockets) => serve_over(rt, server, &mut sockets, files, address),
+        Ok(sockets) => match recorder_in(rt, server, files.to_record, service.record_limit) {
+            Ok(recorder) => {
+                let mut sockets = Recorded { sockets, recorder };
+                serve_over(rt, server, &mut sockets, files, address)
+            }
+            Err(ending) => Err(ending),
+        },
         Err(error) => Err(ending_of_listening(address, &error)),
     }
+}
+
+/// A recorder of at most so many MiB in the new file of this path, which begins with a comment. Without a path it records nothing.
+fn recorder_in<'a>(
+    rt: &HostRuntime,
+    server: &Server,
+    path: Option<&'a str>,
+    mebibytes: u64,
+) -> Result<Recorder<CountedWriter<File>>, Ending<'a>>
+    ensures { IfErr result (λ ending. (ending ≡ Ending.Memory)
+        ⊎ ((path : _) × CantBeMade path ending)) }
+{
+    let Ok(list) = server.ups().share() else {
+        return Err(Ending::Memory);
+    };
+    let mut writer = None;
+    if let Some(path) = path {
+        let mut file = create(rt, path)?;
+        let _ = write_head(rt, &mut file);
+        writer = Some(CountedWriter::new(file));
+    }
+    let limit = mebibytes.saturating_mul(1 << 20);
+    Ok(Recorder::new(rt.alloc(), list, writer, limit))
+}
+
+/// Writes the first line of a record: the version, the second since 1970, and the words of the command.
+fn write_head(rt: &HostRuntime, file: &mut File) -> io::Result<()> {
+    let now = SystemTime::now(rt)?.duration_since(UNIX_EPOCH);
+    let seconds = now.map_or(0, |since| since.as_secs());
+    let mut head = format!(in rt.alloc(); "# Voqarchay {VERSION} at {seconds}:")?;
+    for word in env::args(rt)? {
+        let word = word.as_bytes().escape_ascii();
+        head.push_str(format!(in rt.alloc(); " {word}")?.as_str())?;
+    }
+    head.push_str("\n")?;
+    file.write_all(head.as_bytes())
 }
 
 /// Writes the warnings, prints the address, and serves from then on.
 fn serve_over<'a>(
     rt: &HostRuntime,
     server: &mut Server,
-    sockets: &mut MioSockets<'_, HostRuntime, File>,
+    sockets: &mut AllSockets<'_>,
     files: Files<'a>,
     address: SocketAddr,
 ) -> Result<(), Ending<'a>>
@@ -103,7 +152,7 @@ fn serve_over<'a>(
         return Err(Ending::Memory);
     };
     warn(rt, files, server.ups(), server.users());
-    tell(rt, address, sockets)?;
+    tell(rt, address, &sockets.sockets)?;
     go_round(rt, server, sockets, &mut journal)
 }
 
@@ -112,11 +161,11 @@ fn serve_over<'a>(
 fn go_round<'a>(
     rt: &HostRuntime,
     server: &mut Server,
-    sockets: &mut MioSockets<'_, HostRuntime, File>,
+    sockets: &mut AllSockets<'_>,
     journal: &mut Journal,
 ) -> Result<(), Ending<'a>>
-    ensures turns { let calls = ⟦<MioSockets<'static, HostRuntime, File> as Sockets>⟧.calls in
-        let failures = ⟦<MioSockets<'static, HostRuntime, File> as Sockets>⟧.failures in
+    ensures turns { let calls = ⟦<AllSockets<'static> as Sockets>⟧.calls in
+        let failures = ⟦<AllSockets<'static> as Sockets>⟧.failures in
         MatchResult result
         (λ done. TurnsUpTo calls failures
         server.old.state sockets.old (Ok done) server.new.state sockets.new)
@@ -125,7 +174,8 @@ fn go_round<'a>(
     ensures run { IsOneRun server.old.state server.new.state }
 {
     match nutloop::serve(server, sockets, |server, sockets| {
-        journal.write(rt, server, sockets);
+        journal.write_record(sockets.recorder.is_cut());
+        journal.write(rt, server, &sockets.sockets);
     }) {
         Ok(()) => Ok(()),
         Err(fault) => Err(Ending::Loop(fault)),

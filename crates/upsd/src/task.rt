@@ -3,7 +3,7 @@ ghost use Rattle.std.specs.Prelude.{◌≡◌, ◌≢◌, MatchOption, ℕ, None
 ghost use Rattle.std.specs.declared.net.socket_addr.SocketAddr.{SocketAddr};
 ghost use Rattle.clap.specs.Words.{found_of, first_value};
 ghost use Rattle.upsd.specs.declared.task.Service.{Service};
-ghost use Rattle.upsd.specs.Task.{IsAddressIn, IsMaxAgeIn, IsServiceIn, IsServing, IsReplaying};
+ghost use Rattle.upsd.specs.Task.{IsAddressIn, IsMaxAgeIn, IsRecordLimitIn, IsServiceIn, IsServing, IsReplaying};
 
 use crate::files::{Files, files_named};
 use clap::ArgMatches;
@@ -13,11 +13,18 @@ use std::net::SocketAddr;
 /// Where clients are listened for, unless the words name an address.
 pub const DEFAULT_ADDRESS: &str = "127.0.0.1:3493";
 
+/// The MiB of a record, unless the words name another limit, and the most that they may name.
+pub const RECORD_MIB: u64 = 64;
+
+pub const RECORD_MIB_MOST: u64 = 1_048_576;
+
 /// How to serve.
 #[derive(Clone, Copy)]
 pub struct Service {
     pub address: SocketAddr,
     pub max_age: MaxAge,
+    /// The most MiB of a record.
+    pub record_limit: u64,
 }
 
 /// What the program is to do.
@@ -55,7 +62,12 @@ fn service_named(found: &ArgMatches<'_>) -> Option<Service>
 {
     let address = address_named(found)?;
     let max_age = max_age_named(found)?;
-    Some(Service { address, max_age })
+    let record_limit = record_limit_named(found)?;
+    Some(Service {
+        address,
+        max_age,
+        record_limit,
+    })
 }
 
 /// The address after `--listen`.
@@ -75,6 +87,18 @@ fn max_age_named(found: &ArgMatches<'_>) -> Option<MaxAge>
     match found.try_get_one::<u32>("maxage") {
         Ok(Some(seconds)) => MaxAge::read(seconds),
         Ok(None) => MaxAge::read(MAX_AGE_DEFAULT),
+        Err(_) => None,
+    }
+}
+
+/// The MiB after `--record-limit`.
+fn record_limit_named(found: &ArgMatches<'_>) -> Option<u64>
+    ensures { MatchOption result
+        ((limit : ℕ) → ¬ (IsRecordLimitIn found.now limit)) (IsRecordLimitIn found.now) }
+{
+    match found.try_get_one::<u64>("record-limit") {
+        Ok(Some(mebibytes)) => Some(mebibytes),
+        Ok(None) => Some(RECORD_MIB),
         Err(_) => None,
     }
 }

@@ -3,11 +3,10 @@ use Rattle.nutcore.specs.declared.event.Event.TheVariants.{Took, Close}
 use Rattle.nutcore.specs.declared.event.Peer.TheVariants.{Client}
 use Rattle.nutcore.specs.Server.{session}
 use Rattle.nutcore.specs.Step.{offered}
-use Rattle.nutcore.specs.Calls.{done}
 use Rattle.nutcore.specs.Cost.{RunningServer}
 use Rattle.nutloop.specs.declared.sockets.Ready.TheVariants.{Write}
 use Rattle.nutloop.specs.Turn.{nobody, writes, unasked, took, failed, end_of}
-use Rattle.nutloop.proofs.Rows.{row, row_of, does_nothing, does_quietly, does_from, grows_nothing, writes_all, writes_nothing, nothing_is_offered, nobody_ends_from}
+use Rattle.nutloop.proofs.Rows.{row, row_of, does_nothing, does_from, grows_nothing, writes_all, writes_nothing, nothing_is_offered, nobody_ends_from}
 use Rattle.nutloop.proofs.turns.write_client.Goals as goal
 
 pub returns-in_default : goal.returns-in_default
@@ -24,10 +23,10 @@ returns-then-is_empty g c =
 
 pub returns-in-Ok-write : goal.returns-in-Ok-write
 returns-in-Ok-write g c =
-    row g.S.Sockets.calls g.S.Sockets.failures (Write (Client c.args.c)) (took c.in-Ok-write.n) (writes (Client c.args.c) c.in-Ok.offered.now) (Took c.args.c c.in-Ok-write.n ∷ []) (end_of c.args.c c.took.new.self.state) c.args.server.now.state c.args.sockets.now c.write.new.self c.took.new.self.state c.write.new.self c.close_finished-in-Ok-write.new.server.state c.close_finished-in-Ok-write.new.sockets
+    row g.S.Sockets.calls g.S.Sockets.failures (Write (Client c.args.c)) (took c.in-Ok-write.n) (writes (Client c.args.c) c.in-Ok.offered.now) (Took c.args.c c.in-Ok-write.n ∷ []) (end_of c.args.c c.took.new.server.state) c.args.server.now.state c.args.sockets.now c.write.new.self c.took.new.server.state c.took.new.sockets c.close_finished-in-Ok-write.new.server.state c.close_finished-in-Ok-write.new.sockets
     (writes_all (Client c.args.c) c.in-Ok.offered.now (offered (session c.args.c c.args.server.now.state)) c.in-Ok.ensures.bytes.1 (sym c.is_empty.ensures ∙ c.if-is_empty.false)) refl refl c.in-Ok-write.ensures.bound c.in-Ok-write.ensures.told c.in-Ok-write.ensures.count
-    (does_from g.S.Sockets.calls g.S.Sockets.failures (Took c.args.c c.in-Ok-write.n ∷ []) c.args.server.now.state c.offer.follows.lender-at-none.state c.write.new.self c.took.new.self.state c.write.new.self (ap (λ (r : RunningServer). r.state) c.offer.follows.holds-at-none)
-    (does_quietly g.S.Sockets.calls g.S.Sockets.failures (Took c.args.c c.in-Ok-write.n) (done c.took.result) c.offer.follows.lender-at-none.state c.write.new.self c.took.new.self.state refl c.took.ensures.served.step)) c.close_finished-in-Ok-write.ensures
+    (does_from g.S.Sockets.calls g.S.Sockets.failures (Took c.args.c c.in-Ok-write.n ∷ []) c.args.server.now.state c.offer.follows.lender-at-none.state c.write.new.self c.took.new.server.state c.took.new.sockets (ap (λ (r : RunningServer). r.state) c.offer.follows.holds-at-none)
+    c.took.ensures) c.close_finished-in-Ok-write.ensures
 
 pub returns-in-Err : goal.returns-in-Err
 returns-in-Err g c =

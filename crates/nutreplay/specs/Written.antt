@@ -1,0 +1,88 @@
+-- How an event is written as a line of a script, and which event is read back.
+use Rattle.std.specs.Prelude.{◌≡◌, ℕ, ◌<◌, ◌^◌, ◌==◌, not, List, [], ◌∷◌, ◌++◌, None, All}
+use Rattle.std.specs.Prelude.{if◌then◌else◌, length, slice_get, codes, map, IsSome, IsTrue}
+use Rattle.std.specs.List.{flat_map, list_all}
+use Rattle.std.specs.Option.{option_map_or}
+use Rattle.std.specs.Fmt.{decimal}
+use Rattle.hex.specs.Hex.{encode_lower, IsBytes}
+use Rattle.nuttracking.specs.Id.{id_text}
+use Rattle.nutwords.specs.Reading.{is_address}
+use Rattle.nutwords.specs.Text.{is_silent, with_lf}
+use Rattle.nutusers.specs.declared.ups_list.UpsId.{UpsId}
+use Rattle.nutusers.specs.UpsList.{Ups, IsList}
+use Rattle.nutcore.specs.declared.event.Event.{Event}
+use Rattle.nutcore.specs.declared.event.Event.TheVariants.{DriverUp, DriverBytes, DriverTook}
+use Rattle.nutcore.specs.declared.event.Event.TheVariants.{DriverDown, Tick, Open, Feed, Took}
+use Rattle.nutcore.specs.declared.event.Event.TheVariants.{Close, Id}
+use Rattle.nutcore.specs.declared.event.Peer.{Peer}
+use Rattle.nutcore.specs.declared.event.Peer.TheVariants.{Client, Driver}
+use Rattle.nutreplay.specs.declared.script.action.Action.TheVariants.{Happens}
+use Rattle.nutreplay.specs.Script.{actions_of, first_bad_line}
+
+-- The name of a UPS of the list.
+abbrev pub name_at : List Ups → UpsId → List ℕ
+name_at list u = option_map_or (λ ups. ups.name) (slice_get list u.place) []
+
+-- The line of the bytes that a peer sends. No bytes are a part of a line, since hexadecimal digits
+-- write two at least.
+abbrev pub verb_of_bytes : List ℕ → List ℕ → List ℕ → List ℕ
+verb_of_bytes part hex bytes = if length bytes == 0 then part else hex
+
+abbrev pub line_of_bytes : List Ups → Peer → List ℕ → List ℕ
+line_of_bytes list (Client c) bytes =
+    verb_of_bytes (codes "part") (codes "client-hex") bytes
+    ++ (32 ∷ (decimal c ++ (32 ∷ (encode_lower bytes ++ 10 ∷ []))))
+line_of_bytes list (Driver u) bytes =
+    verb_of_bytes (codes "driver-part") (codes "driver-hex") bytes
+    ++ (32 ∷ (name_at list u ++ (32 ∷ (encode_lower bytes ++ 10 ∷ []))))
+
+-- The line of an event, with its LF: one case a variant.
+abbrev pub line_of : List Ups → Event → List ℕ
+line_of list (DriverUp u) = codes "up " ++ (name_at list u ++ 10 ∷ [])
+line_of list (DriverBytes u bytes) = line_of_bytes list (Driver u) bytes
+line_of list (DriverTook u n) =
+    codes "driver-took " ++ (name_at list u ++ (32 ∷ (decimal n ++ 10 ∷ [])))
+line_of list (DriverDown u) = codes "down " ++ (name_at list u ++ 10 ∷ [])
+line_of list (Tick n) = codes "tick " ++ (decimal n ++ 10 ∷ [])
+line_of list (Open a) = codes "open " ++ (a ++ 10 ∷ [])
+line_of list (Feed c bytes) = line_of_bytes list (Client c) bytes
+line_of list (Took c n) = codes "took " ++ (decimal c ++ (32 ∷ (decimal n ++ 10 ∷ [])))
+line_of list (Close c) = codes "close " ++ (decimal c ++ 10 ∷ [])
+line_of list (Id id) = codes "id " ++ (id_text id ++ 10 ∷ [])
+
+-- The event is one of a server of this list: the list has its UPS, and its numbers, bytes and
+-- address are those that an event holds.
+abbrev pub Has : List Ups → UpsId → Type 0
+Has list u = IsSome (slice_get list u.place)
+
+abbrev pub IsEventOf : List Ups → Event → Type 0
+IsEventOf list (DriverUp u) = Has list u
+IsEventOf list (DriverBytes u bytes) = Has list u × IsBytes bytes
+IsEventOf list (DriverTook u n) = Has list u × (n < 2 ^ 64)
+IsEventOf list (DriverDown u) = Has list u
+IsEventOf list (Tick n) = n < 2 ^ 64
+IsEventOf list (Open a) = IsTrue (is_address a)
+IsEventOf list (Feed c bytes) = (c < 2 ^ 64) × IsBytes bytes
+IsEventOf list (Took c n) = (c < 2 ^ 64) × (n < 2 ^ 64)
+IsEventOf list (Close c) = c < 2 ^ 64
+IsEventOf list (Id id) = id < 2 ^ 128
+
+-- A line without LF that says nothing.
+pub record IsComment (line : List ℕ) : Type 0 where
+  pub silent : IsTrue (is_silent line)
+  pub one : IsTrue (list_all (λ b. not (b == 10)) line)
+
+-- What is written of a run: comments, and then a line of each event.
+abbrev pub record_of : List Ups → List (List ℕ) → List Event → List ℕ
+record_of list comments events = flat_map with_lf comments ++ flat_map (line_of list) events
+
+-- The script that is written of some events is read as these events, and has no bad line.
+pub record IsReadAs (list : List Ups) (script : List ℕ) (events : List Event) : Type 0 where
+  pub good : first_bad_line list script ≡ None
+  pub actions : map (λ line. line.action) (actions_of list script) ≡ map (λ e. Happens e) events
+
+abbrev pub WhatIsWrittenIsReadBack : Type 0
+WhatIsWrittenIsReadBack =
+    (list : List Ups) (comments : List (List ℕ)) (events : List Event)
+    → IsList list → All IsComment comments → All (IsEventOf list) events
+    → IsReadAs list (record_of list comments events) events
