@@ -96,6 +96,8 @@ fn serve_words(alloc: Global) -> Result<Vec<Arg<'static>>, AllocError>
         arg!(in alloc; --maxage <N>
             "Seconds without a line from its driver until a UPS is stale [without it: 15]")
         .value_parser(ValueParser::unsigned(MAX_AGE_LEAST as u64, MAX_AGE_MOST as u64)),
+        arg!(in alloc; --priorities
+            "Begin each line of the journal with its priority, as systemd reads it"),
     ]?;
     Ok(words)
 }

@@ -38,7 +38,7 @@ pub fn serve_files<'a>(
         ⊎ IsEndOfServing service.address ending)) }
 {
     let mut server = server_of(rt.alloc(), rt, files, service.max_age)?;
-    serve(rt, &mut server, files, service.address)
+    serve(rt, &mut server, files, service)
 }
 
 /// The ids of the file of this path, which is opened, and read while it is served. Without a path there are none.
@@ -77,15 +77,15 @@ fn serve<'a>(
     rt: &HostRuntime,
     server: &mut Server,
     files: Files<'a>,
-    address: SocketAddr,
+    service: Service,
 ) -> Result<(), Ending<'a>>
     ensures { IfErr result (λ ending.
-        CantBeOpened files.entry.ids ending ⊎ IsEndOfServing address ending) }
+        CantBeOpened files.entry.ids ending ⊎ IsEndOfServing service.address ending) }
 {
     let ids = ids_in(rt, files.ids)?;
-    match MioSockets::new(rt, rt.alloc(), address, server, ids) {
-        Ok(mut sockets) => serve_over(rt, server, &mut sockets, files, address),
-        Err(error) => Err(ending_of_listening(address, &error)),
+    match MioSockets::new(rt, rt.alloc(), service.address, server, ids) {
+        Ok(mut sockets) => serve_over(rt, server, &mut sockets, files, service),
+        Err(error) => Err(ending_of_listening(service.address, &error)),
     }
 }
 
@@ -95,11 +95,12 @@ fn serve_over<'a>(
     server: &mut Server,
     sockets: &mut MioSockets<'_, HostRuntime, File>,
     files: Files<'a>,
-    address: SocketAddr,
+    service: Service,
 ) -> Result<(), Ending<'a>>
-    ensures { IfErr result (IsEndOfServing address) }
+    ensures { IfErr result (IsEndOfServing service.address) }
 {
-    let Ok(mut journal) = Journal::new(rt.alloc()) else {
+    let address = service.address;
+    let Ok(mut journal) = Journal::new(rt.alloc(), service) else {
         return Err(Ending::Memory);
     };
     warn(rt, files, server.ups(), server.users());

@@ -18,6 +18,8 @@ pub const DEFAULT_ADDRESS: &str = "127.0.0.1:3493";
 pub struct Service {
     pub address: SocketAddr,
     pub max_age: MaxAge,
+    /// Each line of the journal begins with its priority.
+    pub priorities: bool,
 }
 
 /// What the program is to do.
@@ -55,7 +57,12 @@ fn service_named(found: &ArgMatches<'_>) -> Option<Service>
 {
     let address = address_named(found)?;
     let max_age = max_age_named(found)?;
-    Some(Service { address, max_age })
+    let priorities = found.get_flag("priorities");
+    Some(Service {
+        address,
+        max_age,
+        priorities,
+    })
 }
 
 /// The address after `--listen`.
