@@ -210,7 +210,7 @@ def a_server_without_memory_goes_on():
         driver.accept(b"SETINFO a 1\n" + STATUS)
         again = server.client()
         assert comes(lambda: again.ask(b"GET VAR su a\n") == b'VAR su a "1"\n')
-        come = "upsd: su: driver connected\nupsd: su: data good\n"
+        come = "upsd: su: driver connected\nupsd: su: status OL\nupsd: su: data good\n"
         assert server.journal() == come + "upsd: su: driver lost\n" + come
 
 

@@ -15,7 +15,7 @@ import uuid
 
 import serving
 from replaying import Bench, ends_in_full
-from serving import TWO, Driver, comes
+from serving import READY, TWO, Driver, comes
 
 UPSD, UPSC, UPSRW, UPSCMD = sys.argv[1:5]
 BENCH = Bench("serve", UPSD)
@@ -36,7 +36,7 @@ GET, STATUS = b"GET VAR su ups.status\n", b'VAR su ups.status "OL"\n'
 AWAY = b"ERR DRIVER-NOT-CONNECTED\n"
 NO_FILE = "cannot connect: No such file or directory (os error 2)\n"
 REFUSED = "cannot connect: Connection refused (os error 111)\n"
-COME = "upsd: su: driver connected\nupsd: su: data good\n"
+COME = "upsd: su: driver connected\nupsd: su: status OL\nupsd: su: data good\n"
 MANY = 4096
 
 
@@ -240,7 +240,7 @@ def a_standard_error_that_nobody_reads_stops_nothing():
             told += os.read(reading, 1 << 16)
         lines = told.decode().splitlines()
         ordered, dropped = lines.count(what), int(lines[-1].split()[1])
-        assert "".join(line + "\n" for line in lines[:2]) == COME, lines[:2]
+        assert "".join(line + "\n" for line in lines[:3]) == COME, lines[:3]
         assert len(told) > 1 << 16 and count <= ordered + dropped <= count + 100, (len(told), ordered, dropped)
         assert admin.ask(order) == b"OK\n"
         assert os.read(reading, 1 << 16).decode() == what + "\n"
@@ -332,10 +332,10 @@ def a_login_of_one_piece_is_told_and_its_end():
 def refused_lines_of_a_driver_are_told_with_their_number():
     with served() as (server, driver, good):
         driver.send(b'HELLO s3cret\nUNKNOWN x\nNOPE\nADDRANGE battery.charge 1 s3cret\n')
-        told = COME + "upsd: su: 4 lines of the driver were refused, the last one: bad number\n"
+        told = COME + "upsd: su: lines of the driver refused: 4, the last one: bad number\n"
         assert comes(lambda: server.journal() == told), server.journal()
         driver.send(b'TRACKING 12345678-1234-1234-1234-123456789abc 0\n')
-        told += "upsd: su: a line of the driver was refused: no such order\n"
+        told += "upsd: su: lines of the driver refused: 1, the last one: no such order\n"
         assert comes(lambda: server.journal() == told), server.journal()
         time.sleep(1.2)
         assert server.journal() == told, server.journal()
@@ -445,6 +445,67 @@ def data_that_a_driver_takes_back_are_told_once():
         assert server.journal() == told, server.journal()
 
 
+def each_change_of_the_status_is_told():
+    with served() as (server, driver, good):
+        for status in [b"OB", b"OB", b"OB LB", b"OL"]:
+            driver.send(b'SETINFO ups.status "%s"\n' % status)
+            assert comes(lambda: good.ask(GET) == b'VAR su ups.status "%s"\n' % status)
+        driver.send(b"DELINFO ups.status\n")
+        assert comes(lambda: good.ask(GET) == b"ERR VAR-NOT-SUPPORTED\n")
+        driver.send(b'SETINFO ups.status "OL"\n')
+        told = COME + "".join(f"upsd: su: status {status}\n" for status in ["OB", "OB LB", "OL", "OL"])
+        assert comes(lambda: server.journal() == told), server.journal()
+
+
+def a_driver_that_never_reports_all_is_told_as_stale():
+    driver = Driver(path("slow.sock"))
+    with begun(file("slow.conf", f"[su]\nsocket = {driver.path}\n"), "--users", path("users"), "--maxage", "3") as server:
+        driver.accept()
+        driver.send(b'SETINFO ups.status "OL"\n')
+        told = "upsd: su: driver connected\nupsd: su: status OL\nupsd: su: data stale\n"
+        for _ in range(8):
+            time.sleep(0.7)
+            driver.send(b"PONG\n")
+        assert server.journal() == told, server.journal()
+        driver.send(READY)
+        told += "upsd: su: data good\n"
+        assert comes(lambda: server.journal() == told), server.journal()
+    driver.close()
+
+
+def each_line_has_its_priority_where_it_is_asked_for():
+    with served(ORDERS, "--priorities") as (server, driver, good):
+        assert good.ask(ADMIN + b"LOGIN su\nINSTCMD su test.battery.start\nFSD su\nLOGIN su\n", 6)
+        driver.send(b"DATASTALE\n")
+        assert comes(lambda: good.ask(GET) == b"ERR DATA-STALE\n")
+        driver.lose()
+        assert comes(lambda: good.ask(GET) == AWAY)
+        told = [(6, line) for line in COME.splitlines()] + [
+            (6, "upsd: su: admin@127.0.0.1 logged in"),
+            (5, "upsd: su: admin@127.0.0.1 ordered INSTCMD test.battery.start"),
+            (2, "upsd: su: admin@127.0.0.1 ordered FSD: forced shutdown"),
+            (6, "upsd: su: admin@127.0.0.1 was refused LOGIN: ALREADY-LOGGED-IN"),
+            (4, "upsd: su: data stale"),
+            (4, "upsd: su: driver lost")]
+        assert server.journal().splitlines() == [f"<{level}>{line}" for level, line in told], server.journal()
+
+
+def come_and_go(driver):
+    with contextlib.suppress(OSError):
+        while True:
+            driver.accept().lose()
+
+
+def a_driver_that_comes_and_goes_is_told_once_a_minute():
+    """It does so from the first case on."""
+    told = ["upsd: su: driver connected", "upsd: su: driver lost"] * 2 + ["upsd: su: driver connected"]
+    assert comes(lambda: RESTLESS.journal().count("\n") > 6, 62), RESTLESS.journal()
+    lines = RESTLESS.journal().splitlines()
+    RESTLESS.close()
+    assert lines[:5] == told and lines[6] == "upsd: su: driver lost", lines
+    assert lines[5].endswith(" times in a minute") and 30 < int(lines[5].split()[4]) < 61, lines
+
+
 def the_sixty_fifth_client_is_closed():
     with served() as (server, _, good):
         others = [server.client() for _ in range(63)]
@@ -456,12 +517,18 @@ def the_sixty_fifth_client_is_closed():
                 assert late.wire.recv(1) == b""
             late.close()
         assert all(other.ask(GET) == STATUS for other in [good, *others])
-        told = COME + "upsd: no room for a client\n"
-        assert comes(lambda: server.journal() == told), server.journal()
+        assert comes(lambda: sent_away(server) == 3), server.journal()
         others.pop().close()
-        told += "upsd: room for clients again: 3 were sent away\n"
-        assert comes(lambda: server.journal() == told), server.journal()
         assert server.client().ask(GET) == STATUS
+        time.sleep(1.2)
+        assert sent_away(server) == 3, server.journal()
+
+
+def sent_away(server):
+    """How many clients the journal says were sent away: what came in one second is in one line."""
+    told = server.journal()[len(COME):].splitlines()
+    assert len(told) <= 3 and all(line.startswith("upsd: clients sent away for want of room: ") for line in told), told
+    return sum(int(line.split()[-1]) for line in told)
 
 
 def worst_wait(client, count):
@@ -723,6 +790,9 @@ def it_starts_again_at_its_port_and_at_none_that_is_taken():
 
 
 file("users", USERS)
+RESTLESS_DRIVER = Driver(path("restless.sock"))
+RESTLESS = serving.Server(UPSD, file("restless.conf", f"[su]\nsocket = {RESTLESS_DRIVER.path}\n"), "--users", path("users"))
+threading.Thread(target=come_and_go, args=(RESTLESS_DRIVER,), daemon=True).start()
 CASES = {name: it for name, it in globals().items()
          if inspect.isfunction(it) and not inspect.signature(it).parameters}  # fmt: skip
 for name in sys.argv[5:] or CASES:

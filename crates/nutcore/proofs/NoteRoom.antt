@@ -20,14 +20,14 @@ use Rattle.nutanswer.specs.declared.err_word.ErrWord.{ErrWord}
 use Rattle.nutcore.proofs.Common.{length-map, Event, SessionState, ServerState, session, UpsId}
 use Rattle.nutcore.specs.declared.event.Event.TheVariants.{DriverUp, DriverBytes, DriverTook, DriverDown, Tick, Open, Feed, Took, Close, Id}
 use Rattle.nutcore.specs.declared.note.Note.{Note}
-use Rattle.nutcore.specs.declared.note.Condition.{Condition}
+use Rattle.nutcore.specs.declared.note.Look.{Look}
 use Rattle.nutcore.specs.declared.note.TheConstants.{NOTE_LIMIT}
 use Rattle.nutcore.specs.Ups.{UpsState}
 use Rattle.nutcore.specs.Reply.{reply, change_by}
 use Rattle.nutcore.specs.Pump.{answered, after_all_lines, held_of}
 use Rattle.nutcore.specs.Step.{accepted_bytes, with_input, without_output, may_take, refused_after}
 use Rattle.nutcore.specs.History.{Execution, of_line, of_client, executions_until, executions_by, asked_in_event}
-use Rattle.nutcore.specs.Notes.{is_told, refusal_in, note_of_command, note_read, note_of, note_of_notice, notes_of_lines, notes_of_pump, logout_of, refusal_note, readiness_note, notes_between, condition_at, tick_note, tick_notes, all_notes, NoNoteIsCut}
+use Rattle.nutcore.specs.Notes.{is_told, refusal_in, note_of_command, note_read, note_of, note_of_notice, notes_of_lines, notes_of_pump, logout_of, refusal_note, status_note, data_note, notes_between, look_at, tick_note, tick_notes, all_notes, NoNoteIsCut}
 use Rattle.nutcore.specs.Sound.{IsSound}
 use Rattle.nutcore.proofs.Bounded.{held_sound, accepted_few}
 use Rattle.nutcore.proofs.Changes.{keeps}
@@ -114,14 +114,18 @@ pump_few s c (Some k) = omega arith
 own_few : (s : ServerState) (c : ℕ) (m : Option ℕ) → length (notes_of_lines (of_client c (executions_until s c m))) ≡ length (notes_of_lines (executions_until s c m))
 own_few s c m = ap (λ (xs : List Execution). length (notes_of_lines xs)) (of_its_pump c c s m ∙ cond-true _ _ _ (eq-eqb c c refl))
 
-between_few : (u : UpsId) (was is : Option Condition) → length (notes_between u was is) ≤ 2
+between_few : (u : UpsId) (was is : Option Look) → length (notes_between u was is) ≤ 3
 between_few u None is = omega arith
 between_few u (Some was) None = omega arith
-between_few u (Some was) (Some is) = two (refusal_note u was is) (readiness_note u was is)
+between_few u (Some was) (Some is) = three (refusal_note u was is) (status_note u was.status is.status) (data_note u was.state is.state)
   where
     two : (a b : Option Note) → length (cons_option a (cons_option b [])) ≤ 2
     two None b = omega (arith, one_at_most b)
     two (Some note) b = omega (arith, one_at_most b)
+
+    three : (a b d : Option Note) → length (cons_option a (cons_option b (cons_option d []))) ≤ 3
+    three None b d = omega (arith, two b d)
+    three (Some note) b d = omega (arith, two b d)
 
 tick_few : (max_age was now place : ℕ) (xs : List UpsState) → length (tick_notes max_age was now place xs) ≤ length xs
 tick_few max_age was now place [] = omega arith
@@ -133,10 +137,10 @@ tick_few max_age was now place (x ∷ xs) = onto (tick_note max_age was now plac
 
 all_few : (old new : ServerState) (e : Event) (m : Option ℕ) → IsSound old → length (all_notes old e m new) ≤ NOTE_LIMIT
 unfolding executions_by asked_in_event
-all_few old new (DriverUp u) m h = omega (arith, between_few u (condition_at u old) (condition_at u new))
-all_few old new (DriverBytes u piece) m h = omega (arith, between_few u (condition_at u old) (condition_at u new))
+all_few old new (DriverUp u) m h = omega (arith, between_few u (look_at u old) (look_at u new))
+all_few old new (DriverBytes u piece) m h = omega (arith, between_few u (look_at u old) (look_at u new))
 all_few old new (DriverTook u n) m h = omega arith
-all_few old new (DriverDown u) m h = omega (arith, between_few u (condition_at u old) (condition_at u new))
+all_few old new (DriverDown u) m h = omega (arith, between_few u (look_at u old) (look_at u new))
 all_few old new (Tick seconds) m h = omega (arith, tick_few old.max_age old.moment (max seconds old.moment) 0 old.upses, h.named, h.list.few)
 all_few old new (Open address) m h = omega arith
 all_few old new (Feed c piece) m h =

@@ -5,13 +5,16 @@ use Rattle.std.specs.List.{filter_map, cons_option}
 use Rattle.std.specs.Option.{option_and_then}
 use Rattle.std.proofs.lemmas.Bool.Decides.{nat_tests}
 use Rattle.std.proofs.lemmas.List.Elements.{filter_map-append}
+use Rattle.std.proofs.lemmas.Slice.Eq.{bytes_eq-Decides}
 use Rattle.nutanswer.specs.declared.command.Command.{Command}
 use Rattle.nutanswer.specs.declared.err_word.ErrWord.{ErrWord}
 use Rattle.nutanswer.specs.Command.{read_command}
 use Rattle.nutanswer.specs.declared.reply.Reply.{Reply}
 use Rattle.nutcore.proofs.Common.{Fault, SessionState, ServerState, session, UpsId}
 use Rattle.nutcore.specs.declared.note.Note.{Note}
-use Rattle.nutcore.specs.declared.note.Condition.{Condition}
+use Rattle.nutcore.specs.declared.note.DataState.{DataState}
+use Rattle.nutcore.specs.declared.note.DataState.TheVariants as states
+use Rattle.nutcore.specs.declared.note.Look.{Look}
 use Rattle.nutcore.specs.declared.note.TheConstants.{NOTE_LIMIT}
 use Rattle.nutcore.specs.declared.event.Event.TheVariants.{Feed, Took}
 use Rattle.nutcore.specs.Ups.{UpsState}
@@ -19,7 +22,7 @@ use Rattle.nutcore.specs.Calls.{done}
 use Rattle.nutcore.specs.Step.{with_input, without_output, may_take, refused_after}
 use Rattle.nutcore.specs.Pump.{next_line, next_line_for, after_line, after_lines, after_all_lines, pump_stops, held_of, holds_overlong}
 use Rattle.nutcore.specs.History.{Execution, next_execution, lines_executed, notice, pump_executions, executions_until}
-use Rattle.nutcore.specs.Notes.{note_of, notes_of_lines, notes_of_pump, note_of_notice, logout_of, refusal_note, driver_note, data_note, readiness_note, notes_between, condition_at, tick_note, tick_notes, IsNoted}
+use Rattle.nutcore.specs.Notes.{note_of, notes_of_lines, notes_of_pump, note_of_notice, logout_of, refusal_note, status_note, data_note, notes_between, look_at, tick_note, tick_notes, IsNoted}
 use Rattle.nutcore.specs.Cost.{RunningServer}
 use Rattle.nutcore.specs.declared.event.Outcome.{Outcome}
 use Rattle.nutcore.specs.Promises.{Replies, refused_overlong, note_in_reply, with_note, told_next, with_next, with_changes}
@@ -119,31 +122,38 @@ then_more None xs ys = refl
 then_more (Some x) xs ys = refl
 
 -- what changed of a UPS, where nothing was noted before
-pub changes_noted : (u : UpsId) (was is : Option Condition) (notes before : List Note) → before ≡ [] → notes ≡ with_changes u was is before → notes ≡ take NOTE_LIMIT (notes_between u was is)
+pub changes_noted : (u : UpsId) (was is : Option Look) (notes before : List Note) → before ≡ [] → notes ≡ with_changes u was is before → notes ≡ take NOTE_LIMIT (notes_between u was is)
 changes_noted u None is notes before none e = cc
 changes_noted u (Some was) None notes before none e = cc
 changes_noted u (Some was) (Some is) notes before none e =
     let a = refusal_note u was is in
-    let b = readiness_note u was is in
+    let b = status_note u was.status is.status in
+    let d = data_note u was.state is.state in
     let one = one_noted [] a before none in
-    let two = one_noted ([] ++ cons_option a []) b (with_note a before) one in
-    e ∙ two ∙ ap (take NOTE_LIMIT) (sym (then_more a [] (cons_option b [])))
+    let two = one_noted (cons_option a []) b (with_note a before) one in
+    let three = one_noted (cons_option a [] ++ cons_option b []) d (with_note b (with_note a before)) two in
+    e ∙ three ∙ ap (take NOTE_LIMIT) (sym (then_more a [] (cons_option b (cons_option d [])) ∙ ap (λ (notes : List Note). cons_option a [] ++ notes) (then_more b [] (cons_option d [])) ∙ sym (append_assoc (cons_option a []) (cons_option b []) (cons_option d []))))
 
 -- nothing changed
-pub nothing_changed : (u : UpsId) (s t : ServerState) (notes : List Note) → t ≡ s → notes ≡ [] → notes ≡ take NOTE_LIMIT (notes_between u (condition_at u s) (condition_at u t))
-nothing_changed u s t notes same none = none ∙ ap (take NOTE_LIMIT) (sym (unchanged u (condition_at u s))) ∙ ap (λ (z : ServerState). take NOTE_LIMIT (notes_between u (condition_at u s) (condition_at u z))) (sym same)
+pub nothing_changed : (u : UpsId) (s t : ServerState) (notes : List Note) → t ≡ s → notes ≡ [] → notes ≡ take NOTE_LIMIT (notes_between u (look_at u s) (look_at u t))
+nothing_changed u s t notes same none = none ∙ ap (take NOTE_LIMIT) (sym (unchanged u (look_at u s))) ∙ ap (λ (z : ServerState). take NOTE_LIMIT (notes_between u (look_at u s) (look_at u z))) (sym same)
   where
-    no_data : (u : UpsId) (b : Bool) → data_note u b b ≡ None
-    no_data u true = refl
-    no_data u false = refl
+    no_refusal : (u : UpsId) (x : Look) → refusal_note u x x ≡ None
+    no_refusal u x = grind (arith, nat_tests)
 
-    no_driver : (u : UpsId) (b : Bool) (other : Option Note) → driver_note u b b other ≡ other
-    no_driver u true other = refl
-    no_driver u false other = refl
+    no_status : (u : UpsId) (status : Option (List ℕ)) → status_note u status status ≡ None
+    no_status u None = refl
+    no_status u (Some status) = rw ((bytes_eq-Decides status status).1 refl) refl
 
-    unchanged : (u : UpsId) (o : Option Condition) → notes_between u o o ≡ []
+    no_data : (u : UpsId) (state : DataState) → data_note u state state ≡ None
+    no_data u states.Lost = refl
+    no_data u states.Awaited = refl
+    no_data u states.Good = refl
+    no_data u states.Stale = refl
+
+    unchanged : (u : UpsId) (o : Option Look) → notes_between u o o ≡ []
     unchanged u None = refl
-    unchanged u (Some x) = grind (arith, nat_tests, no_data, no_driver)
+    unchanged u (Some x) = rw (no_refusal u x, no_status u x.status, no_data u x.state) refl
 
 -- the clock makes one more stale, or doesn't
 abbrev pub ticked : ℕ → ℕ → ℕ → ℕ → UpsState → List Note
@@ -162,8 +172,8 @@ ticked_so_far max_age was now place (suc p) (y ∷ ys) x e =
     ∙ then_more first (tick_notes max_age was now (suc place) (take p ys)) (ticked max_age was now (place + suc p) x)
 
 -- what is noted of an event of a driver
-pub ups_noted : (u : UpsId) (s s' mid t : ServerState) (was : Option Condition) (notes before : List Note) → s' ≡ s → was ≡ condition_at u s' → t ≡ mid → before ≡ [] → notes ≡ with_changes u was (condition_at u mid) before → notes ≡ take NOTE_LIMIT (notes_between u (condition_at u s) (condition_at u t))
+pub ups_noted : (u : UpsId) (s s' mid t : ServerState) (was : Option Look) (notes before : List Note) → s' ≡ s → was ≡ look_at u s' → t ≡ mid → before ≡ [] → notes ≡ with_changes u was (look_at u mid) before → notes ≡ take NOTE_LIMIT (notes_between u (look_at u s) (look_at u t))
 ups_noted u s s' mid t was notes before same stood leaves none e =
-    changes_noted u was (condition_at u mid) notes before none e
-    ∙ ap (λ (o : Option Condition). take NOTE_LIMIT (notes_between u o (condition_at u mid))) (stood ∙ ap (condition_at u) same)
-    ∙ ap (λ (z : ServerState). take NOTE_LIMIT (notes_between u (condition_at u s) (condition_at u z))) (sym leaves)
+    changes_noted u was (look_at u mid) notes before none e
+    ∙ ap (λ (o : Option Look). take NOTE_LIMIT (notes_between u o (look_at u mid))) (stood ∙ ap (look_at u) same)
+    ∙ ap (λ (z : ServerState). take NOTE_LIMIT (notes_between u (look_at u s) (look_at u z))) (sym leaves)

@@ -5,7 +5,9 @@ use Rattle.std.specs.Prelude.{if◌then◌else◌}
 use Rattle.std.specs.List.{starts_with, filter_map, cons_option}
 use Rattle.std.specs.Option.{option_map, option_and_then}
 use Rattle.std.specs.Result.{result_ok}
+use Rattle.std.specs.Str.{bytes_eq}
 use Rattle.nutwords.specs.Reading.{read_name}
+use Rattle.nutdriver.specs.Tree.{variable_at}
 use Rattle.nutusers.specs.declared.ups_list.UpsId.{UpsId}
 use Rattle.nutanswer.specs.declared.command.Command.{Command}
 use Rattle.nutanswer.specs.declared.command.Command.TheVariants.{Login, Primary, Fsd, SetVar}
@@ -15,9 +17,11 @@ use Rattle.nutanswer.specs.declared.reply.Change.{Change}
 use Rattle.nutanswer.specs.declared.reply.Change.TheVariants as changes
 use Rattle.nutanswer.specs.Command.{read_command}
 use Rattle.nutcore.specs.declared.note.Note.{Note}
-use Rattle.nutcore.specs.declared.note.Note.TheVariants.{DriverConnected, DriverLost, DataGood}
-use Rattle.nutcore.specs.declared.note.Note.TheVariants.{DataStale, LinesRefused, LoggedOut, Did}
-use Rattle.nutcore.specs.declared.note.Condition.{Condition}
+use Rattle.nutcore.specs.declared.note.Note.TheVariants.{Data, StatusChanged, LinesRefused}
+use Rattle.nutcore.specs.declared.note.Note.TheVariants.{LoggedOut, Did}
+use Rattle.nutcore.specs.declared.note.DataState.{DataState}
+use Rattle.nutcore.specs.declared.note.DataState.TheVariants as states
+use Rattle.nutcore.specs.declared.note.Look.{Look}
 use Rattle.nutcore.specs.declared.note.Who.{Who}
 use Rattle.nutcore.specs.declared.note.Verb.{Verb}
 use Rattle.nutcore.specs.declared.note.Verb.TheVariants as verbs
@@ -27,14 +31,13 @@ use Rattle.nutcore.specs.declared.event.Event.TheVariants.{DriverUp, DriverBytes
 use Rattle.nutcore.specs.declared.event.Event.TheVariants.{Feed, Took, Close}
 use Rattle.nutcore.specs.declared.event.Outcome.{Outcome}
 use Rattle.nutwords.specs.SplitLine.{first_line}
-use Rattle.nutanswer.specs.View.{readiness}
+use Rattle.nutanswer.specs.View.{Readiness, not_connected, stale, usable, readiness}
 use Rattle.nutusers.specs.UpsList.{id_at}
 use Rattle.nutcore.specs.Ups.{UpsState}
 use Rattle.nutcore.specs.Session.{SessionState}
 use Rattle.nutcore.specs.Server.{ServerState, session, ups_at}
 use Rattle.nutcore.specs.Step.{with_input, without_output, may_take, refused_after}
 use Rattle.nutcore.specs.Pump.{after_all_lines, holds_overlong}
-use Rattle.nutcore.specs.Status.{is_usable}
 use Rattle.nutcore.specs.Cost.{RunningServer}
 use Rattle.nutcore.specs.Sound.{IsSound}
 use Rattle.nutcore.specs.Reply.{reply, change_by}
@@ -107,51 +110,67 @@ notes_of_pump s c None =
     ++ cons_option (note_of_notice (after_all_lines s c) c) []
 notes_of_pump s c (Some k) = notes_of_lines (executions_until s c (Some k))
 
--- How a UPS stands, by the greatest age and the moment: whether its driver is connected, whether
--- clients are told its data, how many lines of its drivers were refused, and why the last one was.
-abbrev pub condition_of : ℕ → ℕ → UpsState → Condition
-condition_of max_age moment x =
+-- How the data of a UPS stand, by whether its driver has reported all that it knows, and by what
+-- clients are told of them.
+abbrev pub data_state : Bool → Readiness → DataState
+data_state dumped not_connected = states.Lost
+data_state dumped usable = states.Good
+data_state true stale = states.Stale
+data_state false stale = states.Awaited
+
+abbrev pub data_state_of : ℕ → ℕ → UpsState → DataState
+data_state_of max_age moment x = data_state x.report.dumped (readiness moment max_age x.report)
+
+-- The value of ups.status, if its driver has reported one.
+abbrev pub status_of : UpsState → Option (List ℕ)
+status_of x = option_map (λ v. v.value) (variable_at x.report.tree (codes "ups.status"))
+
+-- What is compared of a UPS, by the greatest age and the moment: how many lines of its drivers were
+-- refused, and why the last one was; its status; and how its data stand.
+abbrev pub look_of : ℕ → ℕ → UpsState → Look
+look_of max_age moment x =
     record {
-      is_connected = x.report.connected;
-      is_usable = is_usable (readiness moment max_age x.report);
       refused = x.faulty;
       fault = x.fault;
+      status = status_of x;
+      state = data_state_of max_age moment x;
     }
 
--- What is noted of a UPS that stood so, and stands so: how many lines were refused meanwhile,
-abbrev pub refusal_note : UpsId → Condition → Condition → Option Note
+-- What is noted of a UPS that looked so, and looks so: how many lines were refused meanwhile,
+abbrev pub refusal_note : UpsId → Look → Look → Option Note
 refusal_note u was is =
     if is.refused == was.refused then None
     else Some (LinesRefused u (is.refused - was.refused) is.fault)
 
--- and whether its driver came or is lost, or else its data became good or stale.
-abbrev pub data_note : UpsId → Bool → Bool → Option Note
-data_note u false true = Some (DataGood u)
-data_note u true false = Some (DataStale u)
-data_note u _ _ = None
+-- that it has another status,
+abbrev pub status_note : UpsId → Option (List ℕ) → Option (List ℕ) → Option Note
+status_note u _ None = None
+status_note u None (Some is) = Some (StatusChanged u)
+status_note u (Some was) (Some is) = if bytes_eq was is then None else Some (StatusChanged u)
 
-abbrev pub driver_note : UpsId → Bool → Bool → Option Note → Option Note
-driver_note u false true other = Some (DriverConnected u)
-driver_note u true false other = Some (DriverLost u)
-driver_note u _ _ other = other
+-- and how its data stand, where they stood otherwise.
+abbrev pub data_note : UpsId → DataState → DataState → Option Note
+data_note u states.Lost states.Lost = None
+data_note u states.Awaited states.Awaited = None
+data_note u states.Good states.Good = None
+data_note u states.Stale states.Stale = None
+data_note u was is = Some (Data u is)
 
-abbrev pub readiness_note : UpsId → Condition → Condition → Option Note
-readiness_note u was is =
-    driver_note u was.is_connected is.is_connected (data_note u was.is_usable is.is_usable)
-
-abbrev pub notes_between : UpsId → Option Condition → Option Condition → List Note
+abbrev pub notes_between : UpsId → Option Look → Option Look → List Note
 notes_between u (Some was) (Some is) =
-    cons_option (refusal_note u was is) (cons_option (readiness_note u was is) [])
+    cons_option (refusal_note u was is)
+    (cons_option (status_note u was.status is.status)
+    (cons_option (data_note u was.state is.state) []))
 notes_between u _ _ = []
 
-abbrev pub condition_at : UpsId → ServerState → Option Condition
-condition_at u s = option_map (condition_of s.max_age s.moment) (ups_at u.place s)
+abbrev pub look_at : UpsId → ServerState → Option Look
+look_at u s = option_map (look_of s.max_age s.moment) (ups_at u.place s)
 
 -- Data become stale by the clock alone, from one moment to another: of the UPSs of which the first
 -- one stands at this place, in their order.
 abbrev pub tick_note : ℕ → ℕ → ℕ → ℕ → UpsState → Option Note
 tick_note max_age was now place x =
-    readiness_note (id_at place) (condition_of max_age was x) (condition_of max_age now x)
+    data_note (id_at place) (data_state_of max_age was x) (data_state_of max_age now x)
 
 abbrev pub tick_notes : ℕ → ℕ → ℕ → ℕ → List UpsState → List Note
 tick_notes max_age was now place [] = []
@@ -160,10 +179,10 @@ tick_notes max_age was now place (x ∷ xs) =
 
 -- All that is noted of an event, in its order, by the server before it and after it.
 abbrev pub all_notes : ServerState → Event → Option ℕ → ServerState → List Note
-all_notes old (DriverUp u) m new = notes_between u (condition_at u old) (condition_at u new)
+all_notes old (DriverUp u) m new = notes_between u (look_at u old) (look_at u new)
 all_notes old (DriverBytes u piece) m new =
-    notes_between u (condition_at u old) (condition_at u new)
-all_notes old (DriverDown u) m new = notes_between u (condition_at u old) (condition_at u new)
+    notes_between u (look_at u old) (look_at u new)
+all_notes old (DriverDown u) m new = notes_between u (look_at u old) (look_at u new)
 all_notes old (Tick seconds) m new =
     tick_notes old.max_age old.moment (max seconds old.moment) 0 old.upses
 all_notes old (Feed c piece) m new = notes_of_pump (with_input old c piece) c m

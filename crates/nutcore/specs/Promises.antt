@@ -41,8 +41,8 @@ use Rattle.nutcore.specs.declared.cost.Cost.{Cost}
 use Rattle.nutcore.specs.History.{owed, of_line}
 use Rattle.nutcore.specs.declared.note.Note.{Note}
 use Rattle.nutcore.specs.declared.note.TheConstants.{NOTE_LIMIT}
-use Rattle.nutcore.specs.declared.note.Condition.{Condition}
-use Rattle.nutcore.specs.Notes.{is_told, note_read, note_of, refusal_note, readiness_note}
+use Rattle.nutcore.specs.declared.note.Look.{Look}
+use Rattle.nutcore.specs.Notes.{is_told, note_read, note_of, refusal_note, status_note, data_note}
 use Rattle.nutcore.specs.Cost.{RunningServer}
 use Rattle.nutcore.specs.Pump.{pumped, after_all_lines, after_lines, is_overlong, wants_memory}
 use Rattle.nutcore.specs.Pump.{shares_version_read, next_line_for}
@@ -291,8 +291,9 @@ told_next s c next = option_and_then (λ line. note_of (of_line s c line)) next
 abbrev pub with_next : ServerState → ℕ → List Note → List Note
 with_next s c notes = with_note (told_next s c (next_line_for s c)) notes
 
--- the notes, and those of a UPS that stood so and stands so
-abbrev pub with_changes : UpsId → Option Condition → Option Condition → List Note → List Note
+-- the notes, and those of a UPS that looked so and looks so
+abbrev pub with_changes : UpsId → Option Look → Option Look → List Note → List Note
 with_changes u (Some was) (Some is) notes =
-    with_note (readiness_note u was is) (with_note (refusal_note u was is) notes)
+    with_note (data_note u was.state is.state)
+    (with_note (status_note u was.status is.status) (with_note (refusal_note u was is) notes))
 with_changes u _ _ notes = notes

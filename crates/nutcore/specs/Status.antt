@@ -1,17 +1,10 @@
 -- What the journal and the loop may ask of the server.
-use Rattle.std.specs.Prelude.{ℕ, Bool, true, false, not, ◌==◌, length}
+use Rattle.std.specs.Prelude.{ℕ, false, not, ◌==◌, length}
 use Rattle.std.specs.Option.{option_map_or}
-use Rattle.nutanswer.specs.View.{Readiness, not_connected, stale, usable}
 use Rattle.nutcore.specs.declared.standing.Standing.{Standing}
 use Rattle.nutcore.specs.Server.{ServerState, session}
 use Rattle.nutcore.specs.Step.{offered}
 use Rattle.nutcore.specs.Calls.{is_finished, room_of}
-
--- Clients are told what a driver has reported.
-abbrev pub is_usable : Readiness → Bool
-is_usable not_connected = false
-is_usable stale = false
-is_usable usable = true
 
 -- How a client stands: whether it is offered something, whether its session takes in bytes, and
 -- whether that is ending and owes nothing. None of this holds of one without a session.

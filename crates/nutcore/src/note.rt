@@ -1,6 +1,6 @@
 //! What an event did that the journal logs.
-ghost use Rattle.std.specs.Prelude.{◌≡◌, ◌≤◌, ◌++◌, [], ◌∷◌, length, take, IfOk, List, vec_capacity};
-ghost use Rattle.nutcore.specs.Notes.{is_refusal, note_read, readiness_note, refusal_in, refusal_note};
+ghost use Rattle.std.specs.Prelude.{◌≡◌, ◌≤◌, [], length, IfOk, List, option_copied, vec_capacity};
+ghost use Rattle.nutcore.specs.Notes.{data_note, note_read, refusal_in, refusal_note, status_note};
 ghost use Rattle.nutcore.specs.Promises.{note_in_reply, with_note};
 ghost use Rattle.nutcore.specs.declared.note.Note.{Note};
 ghost use Rattle.nutcore.specs.declared.note.TheConstants.{NOTE_LIMIT};
@@ -12,8 +12,9 @@ use crate::session::Session;
 use nutanswer::{Change, Command, Reply};
 use nutdriver::DriverFault;
 use nutusers::{UpsId, UserName};
-use nutwords::{Address, Name, UpsName};
+use nutwords::{Address, Name, UpsName, Value};
 use std::alloc::{AllocError, Global};
+use std::fmt::{self, Formatter, Write};
 use std::marker::Model;
 
 /// The fewest bytes of a command, with its LF.
@@ -25,14 +26,10 @@ pub const NOTE_LIMIT: usize = HELD_LIMIT / SHORTEST_LINE + 1;
 /// What an event did. It has names, and never a value or a password.
 #[derive(Debug, Drop)]
 pub enum Note {
-    /// A driver connected.
-    DriverConnected(UpsId),
-    /// A driver is lost.
-    DriverLost(UpsId),
-    /// Clients are told the data of the UPS from now on.
-    DataGood(UpsId),
-    /// They aren't any more, though its driver is connected.
-    DataStale(UpsId),
+    /// The data of the UPS stand so from now on.
+    Data(UpsId, DataState),
+    /// The driver reports another `ups.status`.
+    StatusChanged(UpsId),
     /// So many lines of the driver were refused, and why the last one was: none where it reported on an order that isn't
     /// awaited.
     LinesRefused(UpsId, u64, Option<DriverFault>),
@@ -40,6 +37,19 @@ pub enum Note {
     LoggedOut(UpsId, Who),
     /// What a line of a client did.
     Did(Deed),
+}
+
+/// How the data of a UPS stand.
+#[derive(Clone, Copy, Debug, PartialEq, Eq)]
+pub enum DataState {
+    /// No driver is connected.
+    Lost,
+    /// A driver is connected, and hasn't reported all that it knows.
+    Awaited,
+    /// Clients are told them.
+    Good,
+    /// All was reported, and clients aren't told it.
+    Stale,
 }
 
 /// Whose session it is, as it was then.
@@ -51,6 +61,15 @@ pub struct Who {
     pub user: Option<UserName>,
     /// The client's address.
     pub address: Address,
+}
+
+impl fmt::Display for Who {
+    fn fmt<W: Write>(&self, f: &mut Formatter<W>) -> fmt::Result {
+        if let Some(user) = &self.user {
+            write!(f, "{}@", user.as_bytes().escape_ascii())?;
+        }
+        write!(f, "{}", self.address.as_bytes().escape_ascii())
+    }
 }
 
 /// What a command asked for.
@@ -83,17 +102,17 @@ pub struct Deed {
     pub refusal: Option<Name>,
 }
 
-/// How a UPS stands.
-#[derive(Clone, Copy)]
-pub(crate) struct Condition {
-    /// A driver is connected.
-    pub is_connected: bool,
-    /// Clients are told its data.
-    pub is_usable: bool,
+/// What is compared of a UPS from before an event to after it.
+#[derive(Drop)]
+pub(crate) struct Look {
     /// How many lines of its drivers were refused.
     pub refused: u64,
     /// Why the last one was.
     pub fault: Option<DriverFault>,
+    /// Its `ups.status`, if its driver has reported one.
+    pub status: Option<Value>,
+    /// How its data stand.
+    pub state: DataState,
 }
 
 /// The notes of an event. There is room for all of them once it is made.
@@ -137,28 +156,21 @@ impl Notes {
         self.noted.clear();
     }
 
-    /// One more is noted, while there are fewer than may be.
-    fn push(&mut self, note: Note)
-        ensures { self.new ≡ take NOTE_LIMIT (self.old ++ note ∷ []) }
-    {
-        if self.noted.len() < NOTE_LIMIT {
-            self.noted.push(note).unwrap();
-        }
-    }
-
-    /// It is noted, if there is one.
+    /// It is noted, if there is one, while there are fewer than may be.
     pub(crate) fn add(&mut self, note: Option<Note>)
         ensures { self.new ≡ with_note note self.old }
     {
         if let Some(note) = note {
-            self.push(note);
+            if self.noted.len() < NOTE_LIMIT {
+                self.noted.push(note).unwrap();
+            }
         }
     }
 }
 
 /// How many lines were refused meanwhile.
-pub(crate) fn refusal_note(u: UpsId, was: Condition, is: Condition) -> Option<Note>
-    ensures { result ≡ refusal_note u was is }
+pub(crate) fn refusal_note(u: UpsId, was: &Look, is: &Look) -> Option<Note>
+    ensures { result ≡ refusal_note u was.now is.now }
 {
     if is.refused == was.refused {
         return None;
@@ -167,19 +179,25 @@ pub(crate) fn refusal_note(u: UpsId, was: Condition, is: Condition) -> Option<No
     Some(Note::LinesRefused(u, count, is.fault))
 }
 
-/// Whether the driver came or is lost, or else whether the data became good or stale.
-pub(crate) fn readiness_note(u: UpsId, was: Condition, is: Condition) -> Option<Note>
-    ensures { result ≡ readiness_note u was is }
+/// Whether the status is another one.
+pub(crate) fn status_note(u: UpsId, was: Option<&Value>, is: Option<&Value>) -> Option<Note>
+    ensures { result ≡ status_note u (option_copied was.entry) (option_copied is.entry) }
 {
-    match (was.is_connected, is.is_connected) {
-        (false, true) => Some(Note::DriverConnected(u)),
-        (true, false) => Some(Note::DriverLost(u)),
-        _ => match (was.is_usable, is.is_usable) {
-            (false, true) => Some(Note::DataGood(u)),
-            (true, false) => Some(Note::DataStale(u)),
-            _ => None,
-        },
+    match (was, is) {
+        (_, None) => None,
+        (Some(was), Some(is)) if was.as_bytes() == is.as_bytes() => None,
+        _ => Some(Note::StatusChanged(u)),
     }
+}
+
+/// How the data stand, where they stood otherwise.
+pub(crate) fn data_note(u: UpsId, was: DataState, is: DataState) -> Option<Note>
+    ensures { result ≡ data_note u was is }
+{
+    if is == was {
+        return None;
+    }
+    Some(Note::Data(u, is))
 }
 
 /// Notes what a line did that was read and answered so: one that changes nothing only where it is refused.
@@ -192,7 +210,7 @@ pub(crate) fn note_line(
     ensures { notes.new ≡ with_note (note_in_reply session.now read.now reply.now) notes.old }
 {
     if let Reply::One(text, change) = reply {
-        if !matches!(change, Change::Nothing) || is_refusal(text) {
+        if !matches!(change, Change::Nothing) || text.starts_with(b"ERR ") {
             note_told(session, read, text, notes);
         }
     }
@@ -216,7 +234,7 @@ fn note_told(session: &Session, read: &ReadLine<'_>, text: &[u8], notes: &mut No
         Command::Logout => return notes.add(session.logout()),
         _ => return,
     };
-    notes.push(Note::Did(Deed {
+    notes.add(Some(Note::Did(Deed {
         who: session.who(),
         verb,
         ups: ups.read(),
@@ -225,14 +243,7 @@ fn note_told(session: &Session, read: &ReadLine<'_>, text: &[u8], notes: &mut No
             None => None,
         },
         refusal: refusal_in(text),
-    }))
-}
-
-/// Whether a line is refused that is answered by this text.
-fn is_refusal(text: &[u8]) -> bool
-    ensures { result ≡ is_refusal text.now }
-{
-    text.starts_with(b"ERR ")
+    })))
 }
 
 /// The word of a refusal, if the text is one.

@@ -189,7 +189,7 @@ impl Server {
         ensures no_memory { (k : ℕ) → result ≢ Err (Fault.Memory k) }
     {
         self.forget();
-        let was = self.condition(u);
+        let was = self.look(u);
         if self.ups_of(u)?.is_connected() {
             return Err(Fault::AlreadyConnected);
         }
@@ -216,7 +216,7 @@ impl Server {
             (done result) self.new }
     {
         self.forget();
-        let was = self.condition(u);
+        let was = self.look(u);
         self.connected(u)?;
         let result = self.feed_driver(u, piece);
         self.note_changes(u, was);
@@ -283,7 +283,7 @@ impl Server {
         ensures no_memory { (k : ℕ) → result ≢ Err (Fault.Memory k) }
     {
         self.forget();
-        let was = self.condition(u);
+        let was = self.look(u);
         self.connected(u)?;
         lawful_lines_keep_trees_sound();
         each_line_keeps_the_tree_sound();

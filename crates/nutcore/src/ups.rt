@@ -1,19 +1,20 @@
 //! A UPS as the server keeps it: its driver's connection, and what the driver reported.
-ghost use Rattle.std.specs.Prelude.{◌≡◌, ◌≤◌, length};
+ghost use Rattle.std.specs.Prelude.{◌≡◌, ◌≤◌, ℕ, IsTrue, List, Some, length, option_copied};
+ghost use Rattle.nutwords.specs.Reading.{is_value};
 ghost use Rattle.nutcore.specs.Ups.{new_ups, after_connecting, after_loss, after_tick, with_fsd, free_room, with_order, with_faulty_line, UpsState};
 ghost use Rattle.nutanswer.specs.View.{ups_seen};
 ghost use Rattle.nutcore.specs.Reply.{seen_ups};
-ghost use Rattle.nutcore.specs.Notes.{condition_of};
+ghost use Rattle.nutcore.specs.Notes.{data_state_of, look_of, status_of};
 ghost use Rattle.nutcore.specs.Promises.{IsTaken, IsCut, DoesLine, IsFront, front_or};
 
 use crate::DRIVER_OWED_LIMIT;
 use crate::event::Fault;
-use crate::note::Condition;
+use crate::note::{DataState, Look};
 use arrayvec::ArrayVec;
 use nutanswer::UpsView;
 use nutdriver::{DriverFault, LineOutcome, Report};
 use nutmap::Meter;
-use nutwords::{Found, LineCut};
+use nutwords::{Found, LineCut, Name, Value};
 use std::alloc::{AllocError, Global};
 use std::marker::Model;
 
@@ -70,20 +71,40 @@ impl Ups {
         self.faulty
     }
 
-    /// How it stands at the moment. Clients are told what its driver has reported where that is connected, has reported all
-    /// that it knows, says that its data are right, and was heard no longer ago than the greatest age.
-    pub(crate) fn condition(&self, max_age: u32, moment: u64) -> Condition
-        ensures { result ≡ condition_of max_age moment self.now }
+    /// How its data stand at the moment. Clients are told what its driver has reported where that is connected, has
+    /// reported all that it knows, says that its data are right, and was heard no longer ago than the greatest age.
+    pub(crate) fn data_state(&self, max_age: u32, moment: u64) -> DataState
+        ensures { result ≡ data_state_of max_age moment self.now }
     {
         let report = &self.report;
-        Condition {
-            is_connected: report.connected,
-            is_usable: report.connected
-                && report.dumped
-                && report.ok
-                && moment.saturating_sub(report.heard) <= u64::from(max_age),
+        let is_fresh = moment.saturating_sub(report.heard) <= u64::from(max_age);
+        match (report.connected, report.dumped, report.ok && is_fresh) {
+            (false, _, _) => DataState::Lost,
+            (true, false, _) => DataState::Awaited,
+            (true, true, true) => DataState::Good,
+            (true, true, false) => DataState::Stale,
+        }
+    }
+
+    /// The value of its `ups.status`, if its driver has reported one.
+    pub(crate) fn status(&self) -> Option<&[u8]>
+        ensures value { option_copied result ≡ status_of self.now }
+        ensures lawful { (status : List ℕ) → option_copied result ≡ Some status
+            → IsTrue (is_value status) }
+    {
+        let name = Name::read(b"ups.status").ok()?;
+        Some(self.report.tree.get(&name)?.value())
+    }
+
+    /// What is compared of it, at the moment.
+    pub(crate) fn look(&self, max_age: u32, moment: u64) -> Look
+        ensures { result ≡ look_of max_age moment self.now }
+    {
+        Look {
             refused: self.faulty,
             fault: self.fault,
+            status: self.status().and_then(|status| Value::read(status).ok()),
+            state: self.data_state(max_age, moment),
         }
     }
 

@@ -8,6 +8,7 @@ use denote.Ref.{Bor}
 use Rattle.clap.specs.Words.{found_of, first_value, one_text, rows_of, subcommand_name_of}
 use Rattle.clap.specs.Words.{subcommand_rows_of}
 use Rattle.clap.specs.declared.parser.matches.ArgMatches.{ArgMatches}
+use Rattle.nutcommand.specs.Words.{IsFlag}
 use Rattle.nutcore.specs.Server.{read_max_age}
 use Rattle.nutcore.specs.declared.max_age.TheConstants.{MAX_AGE_DEFAULT}
 use Rattle.upsd.specs.declared.task.TheConstants.{DEFAULT_ADDRESS, RECORD_MIB}
@@ -46,8 +47,9 @@ pub record IsServiceIn (found : ArgMatches) (service : Service) : Type 0 where
   pub address : IsAddressIn found service.address
   pub max_age : IsMaxAgeIn found service.max_age
   pub record_limit : IsRecordLimitIn found service.record_limit
+  pub priorities : IsFlag found (codes "priorities") service.priorities
 
--- The task is to serve over the files, at the address and with the greatest age that were found.
+-- The task is to serve over the files, as it was found.
 abbrev pub IsServing : ArgMatches → Task → Type 0
 IsServing found (Serve files service) = AreNamedIn found files × IsServiceIn found service
 IsServing found (Replay files script) = ⊥

@@ -5,7 +5,7 @@ use Rattle.clap.specs.Words.{App, FailsBy, HasMatchesOf, Shape, Text, fault_of, 
 use Rattle.clap.specs.declared.builder.value_parser.ValueParser.TheVariants.{Unsigned}
 use Rattle.clap.specs.declared.error.Error.{Error}
 use Rattle.clap.specs.declared.parser.matches.ArgMatches.{ArgMatches}
-use Rattle.nutcommand.specs.Words.{Free, Word, long_option, operand, required, with_words}
+use Rattle.nutcommand.specs.Words.{Free, Word, long_flag, long_option, operand, required, with_words}
 use Rattle.nutcore.specs.declared.max_age.TheConstants.{MAX_AGE_LEAST, MAX_AGE_MOST}
 use Rattle.upsd.specs.declared.task.TheConstants.{DEFAULT_ADDRESS, RECORD_MIB_MOST}
 
@@ -16,7 +16,7 @@ record_limit = (
 )
 
 -- `serve --ups F --users F [--vars F] [--ids F] [--listen A:P] [--maxage N] [--record F]
--- [--record-limit N]`. The address is the default one where none is named.
+-- [--record-limit N] [--priorities]`. The address is the default one where none is named.
 abbrev pub serve_words : List Word
 serve_words =
     (required (long_option (codes "ups")), Free)
@@ -31,7 +31,7 @@ serve_words =
     )
     ∷ (long_option (codes "record"), Free)
     ∷ record_limit
-    ∷ []
+    ∷ (long_flag (codes "priorities"), Free) ∷ []
 
 abbrev pub serve_app : App
 serve_app = with_words (new_app (codes "serve")) serve_words

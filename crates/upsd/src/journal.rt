@@ -1,20 +1,21 @@
 //! The journal of the UPSs and their clients while they are served.
-ghost use Rattle.std.specs.Prelude.{◌≡◌, ◌≢◌, ◌<◌, [], Some};
+ghost use Rattle.std.specs.Prelude.{◌≡◌, ◌≢◌, [], Some};
 ghost use Rattle.upsd.specs.Refusals.{after_notes};
 
+mod drivers;
 mod entry;
 mod refusals;
 
-use self::entry::Entry;
+use self::drivers::{Driver, Drivers, take, write};
+use self::entry::add_note;
 use self::refusals::{Refused, take_turn};
-use crate::log_buffer::LogBuffer;
-use nutcore::{DriverFault, Note, Server, UpsId, UpsList};
+use crate::log_buffer::{INFORMATION, LogBuffer};
+use crate::task::Service;
+use nutcore::Server;
 use nutloop::MioSockets;
 use nutusers::UPS_LIMIT;
 use std::alloc::{AllocError, Global};
 use std::fs::File;
-use std::io::Error;
-use std::mem;
 
 /// The lines on their way out, and what was logged of the things that aren't logged each time.
 #[derive(Drop)]
@@ -23,7 +24,11 @@ pub struct Journal {
     /// The second in which it was written last.
     pub moment: Option<u64>,
     pub refused: Refused,
-    each_second: EachSecond,
+    drivers: Drivers,
+    /// The greatest age, in seconds.
+    max_age: u64,
+    /// How many clients had been sent away then.
+    sent_away: u64,
     is_record_cut: bool,
 }
 
@@ -33,12 +38,14 @@ impl Journal {
     /// # Errors
     ///
     /// `AllocError` where memory is refused.
-    pub fn new(alloc: Global) -> Result<Journal, AllocError> {
+    pub fn new(alloc: Global, service: Service) -> Result<Journal, AllocError> {
         Ok(Journal {
-            log: LogBuffer::new(alloc)?,
+            log: LogBuffer::new(alloc, service.priorities)?,
             moment: None,
             refused: Refused::new(),
-            each_second: EachSecond::new(),
+            drivers: [Driver::default(); UPS_LIMIT],
+            max_age: u64::from(service.max_age.seconds()),
+            sent_away: 0,
             is_record_cut: false,
         })
     }
@@ -64,7 +71,19 @@ impl Journal {
         }
         self.write_notes(server);
         if is_new {
-            self.each_second.write(&mut self.log, server, sockets);
+            write(
+                &mut self.drivers,
+                &mut self.log,
+                server,
+                sockets,
+                self.max_age,
+            );
+            let count = sockets.refusals().saturating_sub(self.sent_away);
+            if count > 0 {
+                let line = format_args!("clients sent away for want of room: {count}");
+                self.log.add(INFORMATION, &line);
+            }
+            self.sent_away = sockets.refusals();
         }
         self.log.flush(rt);
     }
@@ -76,108 +95,22 @@ impl Journal {
     {
         if is_cut && !self.is_record_cut {
             self.is_record_cut = true;
-            self.log
-                .add(&"the record has ended, at its limit or by a failed write");
+            let line = "the record has ended, at its limit or by a failed write";
+            self.log.add(WARNING, &line);
         }
     }
 
-    /// Logs the notes, or counts them where they are logged once a second.
+    /// Logs the notes, but for those that are logged once a second.
     fn write_notes(&mut self, server: &Server)
         ensures refused { self.new.refused.items
             ≡ after_notes self.old.refused.items server.now.notes }
         ensures moment { self.new.moment ≡ self.old.moment }
     {
-        let (list, notes) = (server.ups(), server.notes());
+        let (moment, notes) = (server.current_moment(), server.notes());
         for note in notes {
-            if let Note::LinesRefused(u, count, fault) = note {
-                self.each_second.count_lines(*u, *count, *fault);
-            } else if take_turn(&mut self.refused, note) {
-                self.log.add(&Entry { list, note });
+            if take_turn(&mut self.refused, note) && take(&mut self.drivers, moment, note) {
+                add_note(&mut self.log, server, note);
             }
-        }
-    }
-}
-
-/// What is looked at once a second, as it was then: how many lines of drivers were refused, which drivers can't be
-/// connected to, and whether clients are sent away.
-#[derive(Drop)]
-struct EachSecond {
-    /// Of each driver: how many lines were refused since, and why the last one was.
-    lines: [(u64, Option<DriverFault>); UPS_LIMIT],
-    /// The system's number of the error by which it couldn't be connected to.
-    errors: [Option<i32>; UPS_LIMIT],
-    /// There was no room for a client.
-    is_full: bool,
-    /// How many had been sent away when there was room.
-    sent_away: u64,
-}
-
-impl EachSecond {
-    /// It wasn't looked at yet.
-    fn new() -> EachSecond {
-        EachSecond {
-            lines: [(0, None); UPS_LIMIT],
-            errors: [None; UPS_LIMIT],
-            is_full: false,
-            sent_away: 0,
-        }
-    }
-
-    /// More lines of the driver were refused, the last one for this.
-    fn count_lines(&mut self, u: UpsId, more: u64, fault: Option<DriverFault>) {
-        if let Some(lines) = self.lines.get_mut(u.place as usize) {
-            *lines = (lines.0.saturating_add(more), fault);
-        }
-    }
-
-    /// Logs what is new.
-    fn write(
-        &mut self,
-        log: &mut LogBuffer,
-        server: &Server,
-        sockets: &MioSockets<'_, HostRuntime, File>,
-    ) {
-        for place in 0..server.ups().len() {
-            let u = UpsId { place: place as u8 };
-            self.write_lines(log, server.ups(), u);
-            self.write_error(log, server.ups(), u, sockets.driver_error(u));
-        }
-        self.write_room(log, sockets.refusals(), server.has_room());
-    }
-
-    /// Logs how many lines of the driver were refused, if any was.
-    fn write_lines(&mut self, log: &mut LogBuffer, list: &UpsList, u: UpsId)
-        requires { u.place < UPS_LIMIT }
-    {
-        let (count, fault) = mem::replace(&mut self.lines[u.place as usize], (0, None));
-        if count > 0 {
-            let note = &Note::LinesRefused(u, count, fault);
-            log.add(&Entry { list, note });
-        }
-    }
-
-    /// Logs the error by which the driver can't be connected to, where it is another one than before.
-    fn write_error(&mut self, log: &mut LogBuffer, list: &UpsList, u: UpsId, error: Option<i32>)
-        requires { u.place < UPS_LIMIT }
-    {
-        let was = mem::replace(&mut self.errors[u.place as usize], error);
-        if let (Some(number), Some(name), true) = (error, list.name(u), error != was) {
-            let error = Error::from_raw_os_error(number);
-            let name = name.as_bytes().escape_ascii();
-            log.add(&format_args!("{name}: cannot connect: {error}"));
-        }
-    }
-
-    /// Logs that clients are sent away, where so many were up to now; and once there is room again, how many were.
-    fn write_room(&mut self, log: &mut LogBuffer, sent_away: u64, has_room: bool) {
-        if self.is_full && has_room {
-            let count = sent_away.saturating_sub(self.sent_away);
-            log.add(&format_args!("room for clients again: {count} were sent away"));
-            self.is_full = false;
-            self.sent_away = sent_away;
-        } else if !self.is_full && sent_away > self.sent_away {
-            log.add(&"no room for a client");
-            self.is_full = true;
         }
     }
 }

@@ -12,11 +12,20 @@ use std::fmt;
 use std::fmt::Write as _;
 use std::io::Write;
 
+/// The priorities of lines (syslog(3)).
+pub const CRITICAL: u8 = 2;
+
+pub const WARNING: u8 = 4;
+
+pub const NOTICE: u8 = 5;
+
+pub const INFORMATION: u8 = 6;
+
 /// The most bytes of lines that wait.
 pub const LOG_LIMIT: usize = 32_768;
 
-/// The most bytes of a line. A user's name has at most 256 of them, each other name at most 64.
-const LINE_LIMIT: usize = 1024;
+/// The most bytes of a line: a status has at most 512, each of which is shown by at most four.
+const LINE_LIMIT: usize = 4 * 512 + 256;
 
 /// How many bytes a pipe takes without waiting where it takes any (Linux's PIPE_BUF).
 const PIECE_LIMIT: usize = 4096;
@@ -27,30 +36,35 @@ const PIECES: usize = LOG_LIMIT / PIECE_LIMIT + 1;
 /// The lines that standard error hasn't taken yet, and how many had no room among them.
 #[derive(Drop)]
 pub struct LogBuffer {
+    has_priorities: bool,
     pub waiting: Ring<LOG_LIMIT>,
     pub dropped: u64,
 }
 
 impl LogBuffer {
-    /// Nothing waits.
+    /// Nothing waits. It is told whether each line begins with its priority, as `<4>`.
     ///
     /// # Errors
     ///
     /// `AllocError` where memory is refused.
-    pub fn new(alloc: Global) -> Result<LogBuffer, AllocError>
+    pub fn new(alloc: Global, has_priorities: bool) -> Result<LogBuffer, AllocError>
         ensures waiting { IfOk result (λ log. log.waiting ≡ []) }
         ensures dropped { IfOk result (λ log. log.dropped ≡ 0) }
     {
         Ok(LogBuffer {
+            has_priorities,
             waiting: Ring::new(alloc)?,
             dropped: 0,
         })
     }
 
-    /// Hands in a line, which is given without `upsd: ` and LF. One that has no room is dropped and counted. So are those
-    /// after it, until the count is logged. Takes no memory.
-    pub fn add<D: fmt::Display>(&mut self, line: &D) {
+    /// Hands in a line of this priority, which is given without `upsd: ` and LF. One that has no room is dropped and
+    /// counted. So are those after it, until the count is logged. Takes no memory.
+    pub fn add<D: fmt::Display>(&mut self, priority: u8, line: &D) {
         let mut text = ArrayString::<LINE_LIMIT>::new();
+        if self.has_priorities {
+            let _ = write!(text, "<{priority}>");
+        }
         match writeln!(text, "upsd: {line}") {
             Ok(()) => self.add_line(text.as_bytes()),
             Err(_) => self.dropped = self.dropped.saturating_add(1),
@@ -74,7 +88,8 @@ impl LogBuffer {
             if self.dropped > 0 && self.waiting.is_empty() {
                 let count = self.dropped;
                 self.dropped = 0;
-                self.add(&format_args!("{count} lines of the journal were dropped"));
+                let line = format_args!("{count} lines of the journal were dropped");
+                self.add(INFORMATION, &line);
             }
             let count = self.waiting.len().min(PIECE_LIMIT);
             if count == 0 || !takes_bytes() {

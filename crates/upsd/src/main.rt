@@ -99,6 +99,8 @@ fn serve_words(alloc: Global) -> Result<Vec<Arg<'static>>, AllocError>
         .value_parser(ValueParser::unsigned(MAX_AGE_LEAST as u64, MAX_AGE_MOST as u64)),
         record_file(alloc),
         record_limit(alloc),
+        arg!(in alloc; --priorities
+            "Begin each line of the journal with its priority, as systemd reads it"),
     ]?;
     Ok(words)
 }

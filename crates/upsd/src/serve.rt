@@ -94,7 +94,7 @@ fn serve<'a>(
         Ok(sockets) => match recorder_in(rt, server, files.to_record, service.record_limit) {
             Ok(recorder) => {
                 let mut sockets = Recorded { sockets, recorder };
-                serve_over(rt, server, &mut sockets, files, address)
+                serve_over(rt, server, &mut sockets, files, service)
             }
             Err(ending) => Err(ending),
         },
@@ -144,11 +144,12 @@ fn serve_over<'a>(
     server: &mut Server,
     sockets: &mut AllSockets<'_>,
     files: Files<'a>,
-    address: SocketAddr,
+    service: Service,
 ) -> Result<(), Ending<'a>>
-    ensures { IfErr result (IsEndOfServing address) }
+    ensures { IfErr result (IsEndOfServing service.address) }
 {
-    let Ok(mut journal) = Journal::new(rt.alloc()) else {
+    let address = service.address;
+    let Ok(mut journal) = Journal::new(rt.alloc(), service) else {
         return Err(Ending::Memory);
     };
     warn(rt, files, server.ups(), server.users());

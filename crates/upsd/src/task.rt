@@ -25,6 +25,8 @@ pub struct Service {
     pub max_age: MaxAge,
     /// The most MiB of a record.
     pub record_limit: u64,
+    /// Each line of the journal begins with its priority.
+    pub priorities: bool,
 }
 
 /// What the program is to do.
@@ -63,10 +65,12 @@ fn service_named(found: &ArgMatches<'_>) -> Option<Service>
     let address = address_named(found)?;
     let max_age = max_age_named(found)?;
     let record_limit = record_limit_named(found)?;
+    let priorities = found.get_flag("priorities");
     Some(Service {
         address,
         max_age,
         record_limit,
+        priorities,
     })
 }
 

@@ -1,20 +1,19 @@
 //! What the server reports beside the answers to clients.
-ghost use Rattle.std.specs.Prelude.{◌≡◌, ◌≤◌, length, take, [], nat_lt};
+ghost use Rattle.std.specs.Prelude.{◌≡◌, ◌≤◌, length, option_copied, take, []};
+ghost use Rattle.std.specs.Option.{option_and_then};
 ghost use Rattle.nutcore.specs.Calls.{ReadsUps};
-ghost use Rattle.nutcore.specs.Notes.{condition_at, tick_notes};
+ghost use Rattle.nutcore.specs.Notes.{look_at, status_of, tick_notes};
 ghost use Rattle.nutcore.specs.Promises.{with_changes};
 ghost use Rattle.nutcore.specs.Server.{ups_at};
 ghost use Rattle.nutcore.specs.Status.{standing_of};
 ghost use Rattle.nutcore.specs.declared.note.TheConstants.{NOTE_LIMIT};
-ghost use Rattle.nutlisting.specs.declared.listing.clients.TheConstants.{SESSION_LIMIT};
 ghost use Rattle.nutusers.specs.declared.limits.TheConstants.{UPS_LIMIT};
 
 use super::Server;
 use crate::event::{ClientId, Fault};
-use crate::note::{Condition, Notes, readiness_note, refusal_note};
+use crate::note::{Look, Notes, data_note, refusal_note, status_note};
 use crate::standing::Standing;
 use crate::ups::Ups;
-use nutlisting::SESSION_LIMIT;
 use nutusers::UpsId;
 
 impl Server {
@@ -36,31 +35,34 @@ impl Server {
         Ok(self.ups_of(u)?.is_connected())
     }
 
-    /// Whether there is room for one more client.
-    pub fn has_room(&self) -> bool
-        ensures { result ≡ nat_lt (length self.now.state.sessions) SESSION_LIMIT }
+    /// The value of `ups.status`, if there is such a UPS and its driver has reported one.
+    pub fn status(&self, u: UpsId) -> Option<&[u8]>
+        ensures { option_copied result
+            ≡ option_and_then status_of (ups_at u.place self.now.state) }
     {
-        self.sessions.len() < SESSION_LIMIT
+        self.ups_of(u).ok()?.status()
     }
 
-    /// The condition of the UPS at this moment, if there is such a UPS.
-    pub(super) fn condition(&self, u: UpsId) -> Option<Condition>
-        ensures { result ≡ condition_at u self.now.state }
+    /// How the UPS looks at this moment, if there is such a UPS.
+    pub(super) fn look(&self, u: UpsId) -> Option<Look>
+        ensures { result ≡ look_at u self.now.state }
     {
         let ups = self.ups_of(u).ok()?;
-        Some(ups.condition(self.max_age.seconds(), self.moment))
+        Some(ups.look(self.max_age.seconds(), self.moment))
     }
 
-    /// Notes how the condition of the UPS differs from this earlier one.
-    pub(super) fn note_changes(&mut self, u: UpsId, was: Option<Condition>)
+    /// Notes how the UPS differs from this earlier look.
+    pub(super) fn note_changes(&mut self, u: UpsId, was: Option<Look>)
         ensures notes { self.new.notes
-            ≡ with_changes u was (condition_at u self.old.state) self.old.notes }
+            ≡ with_changes u was (look_at u self.old.state) self.old.notes }
         ensures state { self.new.state ≡ self.old.state }
         ensures cost { self.new.cost ≡ self.old.cost }
     {
-        if let (Some(was), Some(is)) = (was, self.condition(u)) {
-            self.notes.add(refusal_note(u, was, is));
-            self.notes.add(readiness_note(u, was, is));
+        if let (Some(was), Some(is)) = (was, self.look(u)) {
+            self.notes.add(refusal_note(u, &was, &is));
+            self.notes
+                .add(status_note(u, was.status.as_ref(), is.status.as_ref()));
+            self.notes.add(data_note(u, was.state, is.state));
         }
     }
 
@@ -74,11 +76,7 @@ impl Server {
                 has_room: session.room() != 0,
                 is_finished: session.is_finished(),
             },
-            Err(_) => Standing {
-                is_owed: false,
-                has_room: false,
-                is_finished: false,
-            },
+            Err(_) => Standing::default(),
         }
     }
 }
@@ -92,8 +90,8 @@ pub(super) fn note_stale(upses: &Vec<Ups>, max_age: u32, was: u64, is: u64, note
     for place in 0..upses.len() {
         let u = UpsId { place: place as u8 };
         let ups = &upses[place];
-        let before = ups.condition(max_age, was);
-        let after = ups.condition(max_age, is);
-        notes.add(readiness_note(u, before, after));
+        let before = ups.data_state(max_age, was);
+        let after = ups.data_state(max_age, is);
+        notes.add(data_note(u, before, after));
     }
 }

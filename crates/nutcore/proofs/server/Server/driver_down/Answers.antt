@@ -33,4 +33,4 @@ pub returns-in_err-connected-clause-notes : goal.returns-in_err-connected-clause
 returns-in_err-connected-clause-notes c = nothing_changed c.args.u c.args.self.now.state c.forget.new.self.state c.forget.new.self.notes c.forget.ensures.state c.forget.ensures.notes
 
 pub returns-clause-notes : goal.returns-clause-notes
-returns-clause-notes c = ups_noted c.args.u c.args.self.now.state c.forget.new.self.state c.with_ups.new.self.state c.note_changes.new.self.state c.condition-was.result _ _ c.forget.ensures.state c.condition-was.ensures c.note_changes.ensures.state (c.with_ups.ensures.notes ∙ c.forget.ensures.notes) c.note_changes.ensures.notes
+returns-clause-notes c = ups_noted c.args.u c.args.self.now.state c.forget.new.self.state c.with_ups.new.self.state c.note_changes.new.self.state c.look-was.result _ _ c.forget.ensures.state c.look-was.ensures c.note_changes.ensures.state (c.with_ups.ensures.notes ∙ c.forget.ensures.notes) c.note_changes.ensures.notes

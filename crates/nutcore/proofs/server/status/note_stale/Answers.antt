@@ -3,7 +3,7 @@ use Rattle.std.specs.List.{cons_option}
 use Rattle.nutcore.specs.Ups.{UpsState}
 use Rattle.nutcore.specs.declared.note.Note.{Note}
 use Rattle.nutcore.specs.declared.note.TheConstants.{NOTE_LIMIT}
-use Rattle.nutcore.specs.Notes.{readiness_note, tick_notes}
+use Rattle.nutcore.specs.Notes.{data_note, tick_notes}
 use Rattle.nutcore.proofs.UpsPlaces.{there_is}
 use Rattle.nutcore.proofs.Notes.{one_noted, ticked, ticked_so_far}
 use Rattle.nutcore.proofs.server.status.note_stale.Goals as goal
@@ -18,7 +18,7 @@ loop-place-preserved c =
     let there : slice_get xs p ≡ Some x = there_is xs p x within c.index-ups.ensures in
     let next : suc p ≡ p + 1 = omega arith in
     c.add.ensures
-    ∙ one_noted (so_far p) c.readiness_note.result c.loop-place.notes c.loop-place.invariant
-    ∙ ap (λ (o : Option Note). take NOTE_LIMIT (so_far p ++ cons_option o [])) (c.readiness_note.ensures ∙ ap₂ (readiness_note _) c.condition-before.ensures c.condition-after.ensures)
+    ∙ one_noted (so_far p) c.data_note.result c.loop-place.notes c.loop-place.invariant
+    ∙ ap (λ (o : Option Note). take NOTE_LIMIT (so_far p ++ cons_option o [])) (c.data_note.ensures ∙ ap₂ (data_note _) c.data_state-before.ensures c.data_state-after.ensures)
     ∙ ap (λ (k : ℕ). take NOTE_LIMIT (so_far p ++ ticked c.args.max_age c.args.was c.args.is k x)) (sym (zero-add p))
     ∙ ap (take NOTE_LIMIT) (sym (ticked_so_far c.args.max_age c.args.was c.args.is 0 p xs x there) ∙ ap so_far next)
