@@ -2,6 +2,7 @@
 """Judges the wrong bodies of crates/NAME/edits.txt, which the proofs must refuse, many in one check.
 
 usage: edits.py [NAME ..]      at the top of the repository, over the libraries that `rt ci` or `make` built there
+       edits.py --beside LOG   while `rt ci` runs and its words go to LOG: a crate waits until those below it are built
 
 An entry of edits.txt has lines: what is wrong; the file and, after a comma, the function as a check names it; then
 pairs "- TEXT" and "+ TEXT", each of one line, whose first stands in the file exactly once. Blank lines part entries.
@@ -17,6 +18,7 @@ import shutil
 import subprocess
 import sys
 import tempfile
+import time
 
 from kit import rt, rtlib
 
@@ -77,7 +79,7 @@ def open_goals(lines, crate):
             note = ""
         # What names a thing that the edit took away says little of the contract.
         at = re.match(r"(?:\./)?proofs/(\S+)/(?:Answers|Invariants|Proof)\.antt:\d+:\d+: error: (.*)", line)
-        if at and not re.search(r"is not in scope|has no field|has no `|was not admitted", at[2]):
+        if at and not re.search(r"is not in scope|has no field|has no `|was not admitted|was rejected", at[2]):
             found.setdefault("::".join([crate.name, *at[1].split("/")]), at[2])
     return found
 
@@ -116,8 +118,20 @@ def rounds_of(edits):
     return rounds
 
 
-def judge(crate):
+def wait_for(crates, log):
+    """Waits until `rt ci`, whose words go to that file, has built these crates, or has ended."""
+    while not re.search(r"^\d+ passed, \d+ failed$", said := rtlib.text_of(log) or "", re.M):
+        if {it.name for it in crates} <= set(re.findall(r"^rt: (\S+) (?:proved|is kept)", said, re.M)):
+            return
+        time.sleep(1)
+
+
+def judge(crate, log=None):
     """Judges a crate's edits. Returns the lines to print, and the names of those that aren't refused."""
+    if log:
+        wait_for(crate.below(), log)
+    if not all(is_there(it) for it in crate.below()):
+        return [], [f"{crate.name} (a library below it isn't built, or has changed since)"]
     edits = edits_of(crate)
     with tempfile.TemporaryDirectory(prefix="edits-kept-") as kept:
         rounds = rounds_of([it for it in edits if it.function and not it.why])
@@ -132,16 +146,18 @@ def is_there(crate):
     return os.path.isdir(crate.rlib) and (crate.is_built() or not os.path.isfile(f"{os.path.dirname(crate.rlib)}/stamp"))
 
 
-def main(names):
+def main(words):
     rtlib.guarded()
+    log, names = (words[1], []) if words[:1] == ["--beside"] else (None, words)
     crates = [it for it in rtlib.crates_below(os.getcwd()) if edits_of(it) and (not names or it.name in names)]
-    well = [it for it in crates if all(is_there(dep) for dep in it.below())]
-    failed = [f"{it.name} (a library below it isn't built, or has changed since)" for it in crates if it not in well]
-    refused = 0
+    # Beside `rt ci` in the order in which it builds them, else the longest first.
+    crates.sort(key=lambda it: len(it.below()) if log else -it.count(rb"\n"))
+    refused, failed = 0, []
     with futures.ThreadPoolExecutor(rt.processors()) as pool:
-        for said, stayed in pool.map(judge, sorted(well, key=lambda it: -it.count(rb"\n"))):
-            print(*[f"edits: {it}" for it in said], sep="\n", flush=True)
-            refused += len(said) - 1
+        for said, stayed in pool.map(lambda it: judge(it, log), crates):
+            for line in said:
+                print(f"edits: {line}", flush=True)
+            refused += max(len(said) - 1, 0)
             failed += stayed
     for name in failed:
         print(f"edits: FAILED: {name}")
