@@ -12,6 +12,8 @@ entry only where a goal of its own function stays open; that a callee isn't prov
 is checked against its callee's contract. A round counts only where it reached the prover and no function that nobody
 edited has an open goal; else it is halved. The last line says how many were refused."""
 import concurrent.futures as futures
+import contextlib
+import glob
 import os
 import re
 import shutil
@@ -118,24 +120,15 @@ def rounds_of(edits):
     return rounds
 
 
-def wait_for(crates, log):
-    """Waits until `rt ci`, whose words go to that file, has built these crates, or has ended."""
-    while not re.search(r"^\d+ passed, \d+ failed$", said := rtlib.text_of(log) or "", re.M):
-        if {it.name for it in crates} <= set(re.findall(r"^rt: (\S+) (?:proved|is kept)", said, re.M)):
-            return
-        time.sleep(1)
-
-
-def judge(crate, log=None):
-    """Judges a crate's edits. Returns the lines to print, and the names of those that aren't refused."""
-    if log:
-        wait_for(crate.below(), log)
+def judge(crate, kept):
+    """Judges a crate's edits over what that folder keeps, which then goes. Returns the lines to print, and the names of
+    those that aren't refused."""
     if not all(is_there(it) for it in crate.below()):
         return [], [f"{crate.name} (a library below it isn't built, or has changed since)"]
     edits = edits_of(crate)
-    with tempfile.TemporaryDirectory(prefix="edits-kept-") as kept:
-        rounds = rounds_of([it for it in edits if it.function and not it.why])
-        judged = {it: why for some in rounds for it, why in in_round(crate, some, kept).items()}
+    rounds = rounds_of([it for it in edits if it.function and not it.why])
+    judged = {it: why for some in rounds for it, why in in_round(crate, some, kept).items()}
+    shutil.rmtree(kept)
     said = [f"{it.name}: refused: {why[:160]}" for it, why in judged.items()]
     failed = [it.name + f" ({it.why})" * bool(it.why) for it in edits if it not in judged]
     return [*said, f"{crate.name}: {len(edits)} edits in {len(rounds)} rounds"], failed
@@ -146,15 +139,43 @@ def is_there(crate):
     return os.path.isdir(crate.rlib) and (crate.is_built() or not os.path.isfile(f"{os.path.dirname(crate.rlib)}/stamp"))
 
 
+def is_ready(crate, said):
+    """Tells whether `rt ci`, which said this, has ended, or has built what is below a crate. If it tries several wrong
+    bodies of the crate it begins with a proof of the crate as it stands, which serves here too."""
+    if re.search(r"^\d+ passed, \d+ failed$", said, re.M):
+        return True
+    if len(rt.edits_of(crate)[0]) > 1:
+        return f"rt: {crate.name}: trying its must-fail edits" in said
+    return {it.name for it in crate.below()} <= set(re.findall(r"^rt: (\S+) (?:proved|is kept)", said, re.M))
+
+
+def begin(crate):
+    """Returns a new folder, with what `rt ci` proved of the crate to try must-fail/ over, while it keeps that."""
+    kept = tempfile.mkdtemp(prefix="edits-kept-")
+    for seed in glob.glob(f"{tempfile.gettempdir()}/rt-edits-*/seed"):
+        if glob.glob(f"{seed}/*/Rattle-{crate.name}-proofs.oantt"):
+            shutil.rmtree(kept, ignore_errors=True)
+            # It may go meanwhile.
+            with contextlib.suppress(OSError, shutil.Error):
+                rt.linked(seed, kept)
+    return kept
+
+
 def main(words):
     rtlib.guarded()
     log, names = (words[1], []) if words[:1] == ["--beside"] else (None, words)
-    crates = [it for it in rtlib.crates_below(os.getcwd()) if edits_of(it) and (not names or it.name in names)]
-    # Beside `rt ci` in the order in which it builds them, else the longest first.
-    crates.sort(key=lambda it: len(it.below()) if log else -it.count(rb"\n"))
-    refused, failed = 0, []
+    left = [it for it in rtlib.crates_below(os.getcwd()) if edits_of(it) and (not names or it.name in names)]
+    left.sort(key=lambda it: -it.count(rb"\n"))
+    judged, refused, failed = [], 0, []
     with futures.ThreadPoolExecutor(rt.processors()) as pool:
-        for said, stayed in pool.map(lambda it: judge(it, log), crates):
+        while left:
+            said = log and rtlib.text_of(log) or ""
+            for crate in [it for it in left if not log or is_ready(it, said)]:
+                left.remove(crate)
+                judged.append(pool.submit(judge, crate, begin(crate)))
+            time.sleep(1)
+        for it in futures.as_completed(judged):
+            said, stayed = it.result()
             for line in said:
                 print(f"edits: {line}", flush=True)
             refused += max(len(said) - 1, 0)

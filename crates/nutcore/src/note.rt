@@ -23,7 +23,7 @@ const SHORTEST_LINE: usize = 4;
 pub const NOTE_LIMIT: usize = HELD_LIMIT / SHORTEST_LINE + 1;
 
 /// What an event did. It has names, and never a value or a password.
-#[derive(Debug, Drop)]
+#[derive(Drop)]
 pub enum Note {
     /// A driver connected.
     DriverConnected(UpsId),
@@ -43,7 +43,7 @@ pub enum Note {
 }
 
 /// Whose session it is, as it was then.
-#[derive(Debug, Drop)]
+#[derive(Drop)]
 pub struct Who {
     /// The session's id.
     pub client: ClientId,
@@ -54,7 +54,7 @@ pub struct Who {
 }
 
 /// What a command asked for.
-#[derive(Clone, Copy, Debug, PartialEq, Eq)]
+#[derive(Clone, Copy)]
 pub enum Verb {
     /// `LOGIN`.
     Login,
@@ -69,7 +69,7 @@ pub enum Verb {
 }
 
 /// What a line of a client did: it logged in, set a forced shutdown or gave an order to a driver; or it was refused.
-#[derive(Debug, Drop)]
+#[derive(Drop)]
 pub struct Deed {
     /// Whose line it was.
     pub who: Who,

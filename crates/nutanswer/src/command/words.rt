@@ -15,7 +15,6 @@ use std::marker::{Model, PhantomData};
 
 /// The word that is to be a text of this kind, none where it isn't one.
 #[derive(Drop)]
-#[derive_where(Debug)]
 pub struct TextWord<'a, K: TextKind, const MOST: usize> {
     word: SpelledWord<'a>,
     kind: PhantomData<K>,
@@ -63,7 +62,7 @@ pub type UserWord<'a> = TextWord<'a, OfCredential, USER_NAME_LIMIT>;
 pub type PasswordWord<'a> = TextWord<'a, OfCredential, PASSWORD_LIMIT>;
 
 /// The word that is the id of a tracked order, none where it isn't one.
-#[derive(Debug, Drop)]
+#[derive(Drop)]
 pub struct IdWord<'a> {
     word: SpelledWord<'a>,
 }
