@@ -2,6 +2,7 @@
 """Judges the wrong bodies of crates/NAME/edits.txt, which the proofs must refuse, many in one check.
 
 usage: edits.py [NAME ..]      at the top of the repository, over the libraries that `rt ci` or `make` built there
+       edits.py --beside LOG   while `rt ci` runs and its words go to LOG: a crate waits until those below it are built
 
 An entry of edits.txt has lines: what is wrong; the file and, after a comma, the function as a check names it; then
 pairs "- TEXT" and "+ TEXT", each of one line, whose first stands in the file exactly once. Blank lines part entries.
@@ -11,12 +12,15 @@ entry only where a goal of its own function stays open; that a callee isn't prov
 is checked against its callee's contract. A round counts only where it reached the prover and no function that nobody
 edited has an open goal; else it is halved. The last line says how many were refused."""
 import concurrent.futures as futures
+import contextlib
+import glob
 import os
 import re
 import shutil
 import subprocess
 import sys
 import tempfile
+import time
 
 from kit import rt, rtlib
 
@@ -77,7 +81,7 @@ def open_goals(lines, crate):
             note = ""
         # What names a thing that the edit took away says little of the contract.
         at = re.match(r"(?:\./)?proofs/(\S+)/(?:Answers|Invariants|Proof)\.antt:\d+:\d+: error: (.*)", line)
-        if at and not re.search(r"is not in scope|has no field|has no `|was not admitted", at[2]):
+        if at and not re.search(r"is not in scope|has no field|has no `|was not admitted|was rejected", at[2]):
             found.setdefault("::".join([crate.name, *at[1].split("/")]), at[2])
     return found
 
@@ -116,12 +120,15 @@ def rounds_of(edits):
     return rounds
 
 
-def judge(crate):
-    """Judges a crate's edits. Returns the lines to print, and the names of those that aren't refused."""
+def judge(crate, kept):
+    """Judges a crate's edits over what that folder keeps, which then goes. Returns the lines to print, and the names of
+    those that aren't refused."""
+    if not all(is_there(it) for it in crate.below()):
+        return [], [f"{crate.name} (a library below it isn't built, or has changed since)"]
     edits = edits_of(crate)
-    with tempfile.TemporaryDirectory(prefix="edits-kept-") as kept:
-        rounds = rounds_of([it for it in edits if it.function and not it.why])
-        judged = {it: why for some in rounds for it, why in in_round(crate, some, kept).items()}
+    rounds = rounds_of([it for it in edits if it.function and not it.why])
+    judged = {it: why for some in rounds for it, why in in_round(crate, some, kept).items()}
+    shutil.rmtree(kept)
     said = [f"{it.name}: refused: {why[:160]}" for it, why in judged.items()]
     failed = [it.name + f" ({it.why})" * bool(it.why) for it in edits if it not in judged]
     return [*said, f"{crate.name}: {len(edits)} edits in {len(rounds)} rounds"], failed
@@ -132,16 +139,46 @@ def is_there(crate):
     return os.path.isdir(crate.rlib) and (crate.is_built() or not os.path.isfile(f"{os.path.dirname(crate.rlib)}/stamp"))
 
 
-def main(names):
+def is_ready(crate, said):
+    """Tells whether `rt ci`, which said this, has ended, or has built what is below a crate. If it tries several wrong
+    bodies of the crate it begins with a proof of the crate as it stands, which serves here too."""
+    if re.search(r"^\d+ passed, \d+ failed$", said, re.M):
+        return True
+    if len(rt.edits_of(crate)[0]) > 1:
+        return f"rt: {crate.name}: trying its must-fail edits" in said
+    return {it.name for it in crate.below()} <= set(re.findall(r"^rt: (\S+) (?:proved|is kept)", said, re.M))
+
+
+def begin(crate):
+    """Returns a new folder, with what `rt ci` proved of the crate to try must-fail/ over, while it keeps that."""
+    kept = tempfile.mkdtemp(prefix="edits-kept-")
+    for seed in glob.glob(f"{tempfile.gettempdir()}/rt-edits-*/seed"):
+        if glob.glob(f"{seed}/*/Rattle-{crate.name}-proofs.oantt"):
+            shutil.rmtree(kept, ignore_errors=True)
+            # It may go meanwhile.
+            with contextlib.suppress(OSError, shutil.Error):
+                rt.linked(seed, kept)
+    return kept
+
+
+def main(words):
     rtlib.guarded()
-    crates = [it for it in rtlib.crates_below(os.getcwd()) if edits_of(it) and (not names or it.name in names)]
-    well = [it for it in crates if all(is_there(dep) for dep in it.below())]
-    failed = [f"{it.name} (a library below it isn't built, or has changed since)" for it in crates if it not in well]
-    refused = 0
+    log, names = (words[1], []) if words[:1] == ["--beside"] else (None, words)
+    left = [it for it in rtlib.crates_below(os.getcwd()) if edits_of(it) and (not names or it.name in names)]
+    left.sort(key=lambda it: -it.count(rb"\n"))
+    judged, refused, failed = [], 0, []
     with futures.ThreadPoolExecutor(rt.processors()) as pool:
-        for said, stayed in pool.map(judge, sorted(well, key=lambda it: -it.count(rb"\n"))):
-            print(*[f"edits: {it}" for it in said], sep="\n", flush=True)
-            refused += len(said) - 1
+        while left:
+            said = log and rtlib.text_of(log) or ""
+            for crate in [it for it in left if not log or is_ready(it, said)]:
+                left.remove(crate)
+                judged.append(pool.submit(judge, crate, begin(crate)))
+            time.sleep(1)
+        for it in futures.as_completed(judged):
+            said, stayed = it.result()
+            for line in said:
+                print(f"edits: {line}", flush=True)
+            refused += max(len(said) - 1, 0)
             failed += stayed
     for name in failed:
         print(f"edits: FAILED: {name}")

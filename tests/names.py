@@ -17,7 +17,7 @@ from glob import glob
 
 PAGES = ["README.md", *sorted(glob("docs/*.md")), *sorted(glob("man/*"))]
 ROOTS = "crates tests docs tools man examples".split()
-IN_CRATES = "src specs proofs args stdout data".split()
+IN_CRATES = "src specs proofs must-fail args stdout data".split()
 # Of std, of the system and of the kit.
 NOT_OURS = set("""epoll_wait make_contiguous docs/ANSWERS.md
     --follow-tags --since --test --only --allow-holes --start""".split())

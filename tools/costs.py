@@ -1,7 +1,7 @@
 #!/usr/bin/env python3
-"""What a request costs this server and NUT's: the tables of docs/COSTS.md and their chart, from docs/costs.tsv.
+"""What a request costs this server and NUT's: the tables of docs/COSTS.md, from docs/costs.tsv.
 
-    tools/costs.py            writes the tables and the chart of the measurements that stand
+    tools/costs.py            writes the tables of the measurements that stand
     tools/costs.py --check    says whether they are those of the measurements
     tools/costs.py --measure  measures first, and writes the measurements: about ten minutes on a machine that does nothing else
 
@@ -9,7 +9,6 @@ Measuring needs the built upsd and crates/netbench (`rt run` in each), NUT's ups
 median of rounds in which the servers take turns.
 """
 import contextlib
-import math
 import os
 import pathlib
 import random
@@ -27,7 +26,7 @@ sys.dont_write_bytecode = True
 
 from serving import Driver, OtherServer  # noqa: E402
 
-PAGE, TABLE, CHART = TOP / "docs/COSTS.md", TOP / "docs/costs.tsv", TOP / "docs/costs.svg"
+PAGE, TABLE = TOP / "docs/COSTS.md", TOP / "docs/costs.tsv"
 UPSD, NETBENCH = f"{TOP}/crates/upsd/out/upsd", f"{TOP}/crates/netbench/out/netbench"
 ROUNDS, SEED = 3, 20261127
 SIZES = {"small": (100, 10), "large": (4096, 256)}
@@ -174,57 +173,27 @@ def measured():
     return head[2:], [(group, what, int(ours), int(nut)) for group, what, ours, nut in rows]
 
 
-COLORS = {"speed": "#0a53a8", "instructions": "#9a3412", "memory": "#3f6f21"}
 UNITS = {"speed": "a second", "instructions": "instructions", "memory": "KiB"}
-
-
-def better(group, ours, nut):
-    """How many times better ours is."""
-    return ours / nut if group == "speed" else nut / ours
 
 
 def page(text, head, rows):
     for group, unit in UNITS.items():
         table = [f"{unit} | ours | NUT's | better by", "---|---:|---:|---:"]
-        table += [f"{what} | {ours:,} | {nut:,} | {better(group, ours, nut):.2f}" for kind, what, ours, nut in rows if kind == group]
+        for what, ours, nut in [row[1:] for row in rows if row[0] == group]:
+            better = ours / nut if group == "speed" else nut / ours
+            table.append(f"{what} | {ours:,} | {nut:,} | {better:.2f}")
         text = re.sub(rf"(<!-- {group} -->\n).*?(\n<!-- end -->)", lambda m: m[1] + "\n".join(table) + m[2], text, flags=re.S)
     return re.sub(r"(<!-- machine -->\n).*?(\n<!-- end -->)", lambda m: m[1] + head + "." + m[2], text, flags=re.S)
-
-
-def chart(rows):
-    """Bars on a scale of doublings: to the right ours is better, to the left NUT's."""
-    left, middle, step, width = 320, 420, 90, 900
-    height = 70 + 26 * len(rows)
-    at = lambda times: middle + step * max(-1, min(4.4, math.log2(times)))
-    out = [f'<svg xmlns="http://www.w3.org/2000/svg" viewBox="0 0 {width} {height}" width="{width}" height="{height}" role="img" aria-labelledby="title">',
-           '<title id="title">How many times better than NUT\'s upsd this one is</title>',
-           '<style>text { font-family: "DejaVu Sans", Verdana, sans-serif; font-size: 12px; fill: #1f2328; }</style>',
-           f'<rect width="{width}" height="{height}" rx="10" fill="#f6f8fa" stroke="#d0d7de"/>']  # fmt: skip
-    for power in range(-1, 5):
-        x, name = middle + step * power, f"{2**power}" if power >= 0 else "1/2"
-        out.append(f'<path d="M{x} 36 L{x} {height - 24}" stroke="{"#1f2328" if power == 0 else "#d0d7de"}"/>')
-        out.append(f'<text x="{x}" y="28" text-anchor="middle">{name}</text>')
-    for number, (group, what, ours, nut) in enumerate(rows):
-        times, y = better(group, ours, nut), 44 + 26 * number
-        first, last = sorted((middle, at(times)))
-        out.append(f'<text x="{left}" y="{y + 13}" text-anchor="end">{what}</text>')
-        out.append(f'<rect x="{first:.1f}" y="{y}" width="{max(last - first, 1.5):.1f}" height="18" fill="{COLORS[group]}"/>')
-        out.append(f'<text x="{max(last, middle) + 6:.1f}" y="{y + 13}">{times:.2f}</text>')
-    for x, (name, color) in zip(range(left, width, 130), COLORS.items()):
-        out.append(f'<rect x="{x}" y="{height - 20}" width="12" height="12" fill="{color}"/><text x="{x + 18}" y="{height - 10}">{name}</text>')
-    return "\n".join(out) + "\n</svg>\n"
 
 
 def main(words):
     if words == ["--measure"]:
         measure()
-    head, rows = measured()
-    made = {PAGE: page(PAGE.read_text(encoding="utf-8"), head, rows), CHART: chart(rows)}
+    said = PAGE.read_text(encoding="utf-8")
+    made = page(said, *measured())
     if words == ["--check"]:
-        wrong = [str(path) for path, text in made.items() if path.read_text(encoding="utf-8") != text]
-        sys.exit(f"not those of {TABLE}: {', '.join(wrong)}" if wrong else 0)
-    for path, text in made.items():
-        path.write_text(text, encoding="utf-8")
+        sys.exit(f"{PAGE} isn't of {TABLE}" if said != made else 0)
+    PAGE.write_text(made, encoding="utf-8")
 
 
 main(sys.argv[1:])

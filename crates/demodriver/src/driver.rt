@@ -19,7 +19,7 @@ const STATUS_WORDS: [&str; 14] = [
 ];
 
 /// How an order ended, by NUT's numbers.
-#[derive(Clone, Copy, Debug, PartialEq, Eq)]
+#[derive(Clone, Copy)]
 enum Ended {
     /// It was executed.
     Well = 0,

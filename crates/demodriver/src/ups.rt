@@ -28,7 +28,7 @@ pub const LOAD: u32 = 24;
 pub const LOAD_TURN: u32 = 4;
 
 /// The UPS.
-#[derive(Clone, Copy, Debug, PartialEq, Eq)]
+#[derive(Clone, Copy)]
 pub struct Ups {
     /// The power has failed.
     pub is_failing: bool,

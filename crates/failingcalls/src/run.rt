@@ -8,7 +8,7 @@ use nutwords::UpsName;
 use std::alloc::Global;
 
 /// Which of a turn's calls.
-#[derive(Clone, Copy, PartialEq, Eq)]
+#[derive(Clone, Copy)]
 pub enum Part {
     /// `ready`.
     Ready,

@@ -15,7 +15,7 @@ use words::id_of;
 pub use words::{NameWord, PasswordWord, TextWord, UpsWord, UserWord, ValueWord};
 
 /// A command of a client, whose words are those of its line. A word that is no lawful name names nothing.
-#[derive(Debug, Drop)]
+#[derive(Drop)]
 pub enum Command<'a> {
     /// `USERNAME`: the name of the user who asks; none where it isn't as long as one may be.
     Username(UserWord<'a>),

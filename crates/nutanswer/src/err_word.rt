@@ -3,7 +3,7 @@ ghost use Rattle.std.specs.Prelude.{◌≡◌, ◌≤◌, length};
 ghost use Rattle.nutwords.specs.declared.limits.TheConstants.{LINE_ROOM};
 
 /// Why a line is refused, by the word after `ERR` (RFC 9271: error responses).
-#[derive(Clone, Copy, Debug, PartialEq, Eq)]
+#[derive(Clone, Copy)]
 pub enum ErrWord {
     /// `ACCESS-DENIED`: the user may not do it.
     AccessDenied,

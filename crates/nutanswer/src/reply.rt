@@ -7,7 +7,7 @@ use nutwords::{Line, UpsName};
 use std::marker::Model;
 
 /// The line of an order to a driver, with its LF, where it was made. Contracts see the line.
-#[derive(Debug, Drop)]
+#[derive(Drop)]
 pub struct OrderLine<'a> {
     bytes: &'a [u8],
 }
@@ -39,7 +39,7 @@ impl<'a> OrderLine<'a> {
 
 /// A password that a client gives, where it was made: in a change it is an address, and not its 256 bytes. Contracts see
 /// the password.
-#[derive(Debug, Drop)]
+#[derive(Drop)]
 pub struct GivenPassword<'a> {
     bytes: &'a [u8],
 }

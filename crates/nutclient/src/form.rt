@@ -1,7 +1,7 @@
 //! How an item is printed.
 
 /// What is printed of an item, on a line of its own.
-#[derive(Clone, Copy, Debug, PartialEq, Eq)]
+#[derive(Clone, Copy)]
 pub enum Form {
     /// Its name.
     Name,

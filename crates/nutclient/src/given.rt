@@ -1,7 +1,7 @@
 //! What a program's words ask for.
 
 /// What a program is asked to do, by its words as they were typed (upsc(8), upsrw(8), upscmd(8)).
-#[derive(Clone, Copy, Debug, PartialEq, Eq)]
+#[derive(Clone, Copy)]
 pub enum Given<'a> {
     /// `upsc UPS`: the variables of a UPS.
     Variables(&'a str),

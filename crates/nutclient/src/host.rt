@@ -7,7 +7,7 @@ use arrayvec::ArrayString;
 use std::marker::Model;
 
 /// The name or the IPv4 address of a host: 1 to 255 ASCII letters, digits, `.` and `-`. A contract sees its bytes.
-#[derive(Debug, Drop)]
+#[derive(Drop)]
 pub struct Host {
     text: ArrayString<HOST_LIMIT>,
 }

@@ -12,7 +12,7 @@ use nutwords::{Name, UpsName, Value};
 
 /// The server, the requests that are sent to it, each once the one before is granted, and how the items of the last reply
 /// are printed.
-#[derive(Debug, Drop)]
+#[derive(Drop)]
 pub struct Job {
     pub target: Target,
     pub requests: Requests,

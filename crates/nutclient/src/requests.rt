@@ -6,7 +6,7 @@ use nutrequest::Request;
 
 /// The requests of a job: one; or an order after the user's name and the password; or one that is tracked, which is asked
 /// for before it.
-#[derive(Debug, Drop)]
+#[derive(Drop)]
 pub enum Requests {
     Alone([Request; 1]),
     BehindLogin([Request; 3]),

@@ -8,7 +8,7 @@ use crate::{DEFAULT_PORT, Host};
 use nutwords::{UpsName, is_digit};
 
 /// A server: its host and its port.
-#[derive(Debug, Drop)]
+#[derive(Drop)]
 pub struct Target {
     pub host: Host,
     pub port: u16,

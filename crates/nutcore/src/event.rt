@@ -19,7 +19,7 @@ pub enum Peer {
 }
 
 /// What may happen to a server. Each event is one atomic step.
-#[derive(Debug, Drop)]
+#[derive(Drop)]
 pub enum Event {
     /// A driver connects.
     DriverUp(UpsId),
@@ -100,7 +100,7 @@ impl Fault {
 }
 
 /// What is answered to an event.
-#[derive(Clone, Copy, Debug, PartialEq, Eq)]
+#[derive(Clone, Copy, PartialEq, Eq)]
 pub enum Outcome {
     /// It was done.
     Done,

@@ -15,7 +15,7 @@ pub const MAX_AGE_MOST: u32 = 86_400;
 pub const MAX_AGE_DEFAULT: u32 = 15;
 
 /// After how many seconds without a line of its driver a UPS is stale (`MAXAGE` of upsd.conf).
-#[derive(Clone, Copy, Debug, PartialEq, Eq)]
+#[derive(Clone, Copy)]
 pub struct MaxAge {
     seconds: u32,
 }

@@ -24,7 +24,7 @@ const SHORTEST_LINE: usize = 4;
 pub const NOTE_LIMIT: usize = HELD_LIMIT / SHORTEST_LINE + 1;
 
 /// What an event did. It has names, and never a value or a password.
-#[derive(Debug, Drop)]
+#[derive(Drop)]
 pub enum Note {
     /// The data of the UPS stand so from now on.
     Data(UpsId, DataState),
@@ -53,7 +53,7 @@ pub enum DataState {
 }
 
 /// Whose session it is, as it was then.
-#[derive(Debug, Drop)]
+#[derive(Drop)]
 pub struct Who {
     /// The session's id.
     pub client: ClientId,
@@ -73,7 +73,7 @@ impl fmt::Display for Who {
 }
 
 /// What a command asked for.
-#[derive(Clone, Copy, Debug, PartialEq, Eq)]
+#[derive(Clone, Copy)]
 pub enum Verb {
     /// `LOGIN`.
     Login,
@@ -88,7 +88,7 @@ pub enum Verb {
 }
 
 /// What a line of a client did: it logged in, set a forced shutdown or gave an order to a driver; or it was refused.
-#[derive(Debug, Drop)]
+#[derive(Drop)]
 pub struct Deed {
     /// Whose line it was.
     pub who: Who,

@@ -2,7 +2,7 @@
 
 /// How a client stands with the server. One without a session is owed nothing, has no room and
 /// isn't finished.
-#[derive(Clone, Copy, Debug, Default, PartialEq, Eq)]
+#[derive(Clone, Copy, Default)]
 pub struct Standing {
     /// It is offered something.
     pub is_owed: bool,

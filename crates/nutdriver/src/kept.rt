@@ -15,7 +15,7 @@ const SHORT_LENGTH: usize = 16;
 
 /// The word of a driver's line that is a value. It borrows the line, and is unescaped where it is kept. Contracts see the
 /// value.
-#[derive(Debug, Drop)]
+#[derive(Drop)]
 pub struct ValueWord<'a> {
     word: SpelledWord<'a>,
 }

@@ -11,7 +11,7 @@ use arguments::{
 use nutwords::{Name, SpelledWord, SpelledWords, spelled_words};
 
 /// A line of a driver. Its values borrow the line.
-#[derive(Debug, Drop)]
+#[derive(Drop)]
 pub enum DriverLine<'a> {
     /// A line without words.
     Blank,

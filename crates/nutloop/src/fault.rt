@@ -4,7 +4,7 @@ ghost use Rattle.std.specs.Prelude.{◌≡◌};
 use thiserror::Error;
 
 /// Why the loop can't go on.
-#[derive(Clone, Copy, Debug, PartialEq, Eq, Error)]
+#[derive(Clone, Copy, Debug, Error)]
 pub enum LoopFault {
     /// 1: what is ready can't be told.
     #[error("ready failed")]

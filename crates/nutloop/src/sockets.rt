@@ -8,7 +8,7 @@ use nutcore::{Bytes, ClientId, Event, Peer, Server, UpsId};
 use nutwords::Address;
 
 /// What is ready, and so what a turn does.
-#[derive(Clone, Copy, Debug, PartialEq, Eq)]
+#[derive(Clone, Copy, Debug)]
 pub enum Ready {
     /// Nothing is.
     Nothing,
@@ -27,7 +27,7 @@ pub enum Ready {
 }
 
 /// What a read gave.
-#[derive(Clone, Copy, Debug, PartialEq, Eq)]
+#[derive(Clone, Copy)]
 pub enum Got {
     /// So many bytes.
     Bytes(usize),
@@ -63,7 +63,7 @@ pub enum Call {
 }
 
 /// A call failed.
-#[derive(Clone, Copy, Debug, PartialEq, Eq)]
+#[derive(Clone, Copy)]
 pub struct Broken;
 
 /// The sockets of all peers. No call waits for a peer but `ready`, which waits for all of them.

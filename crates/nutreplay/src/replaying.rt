@@ -17,7 +17,7 @@ use thiserror::Error;
 pub const REPLAY_MAX_AGE: u32 = 15;
 
 /// Why a script isn't replayed.
-#[derive(Clone, Copy, Debug, PartialEq, Eq, Error)]
+#[derive(Clone, Copy, Debug, Error)]
 pub enum ReplayFault {
     /// The line of this number is none of a script's lines.
     #[error("bad event in line {0}")]

@@ -15,7 +15,7 @@ use nutwords::{TextLines, is_silent};
 use std::alloc::Global;
 
 /// An action, with the number of its line, from 1.
-#[derive(Debug, Drop)]
+#[derive(Drop)]
 pub struct ScriptLine {
     pub number: usize,
     pub action: Action,

@@ -10,7 +10,7 @@ use std::fmt;
 use std::fmt::Formatter;
 
 /// Why a request or a program failed.
-#[derive(Debug, PartialEq, Eq, Drop)]
+#[derive(Debug, Drop)]
 pub enum ClientFault {
     /// 1: no address of the server took the connection.
     Connect,

@@ -8,14 +8,14 @@ use std::marker::Model;
 
 /// An item of a listing: its name, command or address, and its value or description, empty where it has none. A reply
 /// of one line is seen as one item without a name.
-#[derive(Debug, Drop)]
+#[derive(Drop)]
 pub struct Item {
     pub name: Bytes,
     pub value: Bytes,
 }
 
 /// The items of a reply, in its order. A contract sees them as a list.
-#[derive(Debug, Drop)]
+#[derive(Drop)]
 pub struct Items {
     all: Vec<Item>,
 }

@@ -4,7 +4,7 @@ ghost use Rattle.std.specs.Prelude.{◌≡◌, option_map};
 use nutwords::{Name, UpsName, Value};
 
 /// A listing that is asked for.
-#[derive(Debug, Drop)]
+#[derive(Drop)]
 pub enum Query {
     /// The UPSs of the server, each with its description.
     Ups,
@@ -46,7 +46,7 @@ impl Query {
 }
 
 /// A line that a client sends, with the words that it has. Each asks for one reply.
-#[derive(Debug, Drop)]
+#[derive(Drop)]
 pub enum Request {
     /// A listing.
     List(Query),

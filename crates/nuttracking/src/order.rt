@@ -3,7 +3,7 @@ ghost use Rattle.std.specs.Prelude.{◌≡◌};
 ghost use Rattle.nuttracking.specs.Tracking.{has_id, is_pending, awaits};
 
 /// How far an order has come.
-#[derive(Clone, Copy, Debug, PartialEq, Eq)]
+#[derive(Clone, Copy)]
 pub enum Progress {
     /// Its driver hasn't told yet how it ended.
     Pending,
@@ -12,7 +12,7 @@ pub enum Progress {
 }
 
 /// An order that is tracked.
-#[derive(Clone, Copy, Debug, PartialEq, Eq)]
+#[derive(Clone, Copy)]
 pub struct TrackedOrder {
     pub id: u128,
     /// The place of its UPS in the list.

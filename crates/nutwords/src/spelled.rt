@@ -14,7 +14,7 @@ use arrayvec::ArrayVec;
 use std::marker::Model;
 
 /// A word of a line as it is spelled there, without its quotes. It is unescaped only where it is read.
-#[derive(Clone, Debug, Drop)]
+#[derive(Drop)]
 pub struct SpelledWord<'a> {
     text: &'a [u8],
     is_escaped: bool,
@@ -138,7 +138,7 @@ fn spells_word(text: &[u8], keyword: &[u8]) -> bool
 
 /// The words of a line that are left, first to last, each as it is spelled. `spelled_words` makes it; no word is refused
 /// any more.
-#[derive(Clone, Debug, Drop)]
+#[derive(Clone, Drop)]
 pub struct SpelledWords<'a> {
     pub(crate) rest: &'a [u8],
 }

@@ -15,7 +15,6 @@ use std::marker::{Model, PhantomData};
 
 /// The word that is to be a text of this kind, none where it isn't one.
 #[derive(Drop)]
-#[derive_where(Debug)]
 pub struct TextWord<'a, K: TextKind, const MOST: usize> {
     pub(crate) word: SpelledWord<'a>,
     kind: PhantomData<K>,

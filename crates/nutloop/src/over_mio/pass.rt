@@ -14,14 +14,14 @@ use nutusers::UPS_LIMIT;
 pub(crate) const TURNS_PER_LOOK: u32 = 16;
 
 /// Which way a turn goes.
-#[derive(Clone, Copy, PartialEq, Eq)]
+#[derive(Clone, Copy)]
 pub(super) enum Way {
     Read,
     Write,
 }
 
 /// Where a pass comes by: the listener, or a driver or a client by its place.
-#[derive(Clone, Copy, PartialEq, Eq)]
+#[derive(Clone, Copy)]
 pub(super) enum Stop {
     Listener,
     Driver(usize, Way),

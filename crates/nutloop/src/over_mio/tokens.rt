@@ -16,7 +16,7 @@ const FIRST_CLIENT: usize = FIRST_DRIVER + UPS_LIMIT;
 const CLOSING: usize = FIRST_CLIENT + SESSION_LIMIT;
 
 /// What an event is about: the listener, a driver or a client by its place, or the connections whose sessions have ended.
-#[derive(Clone, Copy, PartialEq, Eq)]
+#[derive(Clone, Copy)]
 pub(super) enum Source {
     Listener,
     Driver(usize),

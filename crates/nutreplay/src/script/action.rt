@@ -14,7 +14,7 @@ use std::alloc::{AllocError, Global};
 const UNLISTED: u8 = 255;
 
 /// What a line of the script asks for.
-#[derive(Debug, Drop)]
+#[derive(Drop)]
 pub enum Action {
     /// This event happens.
     Happens(Event),
@@ -23,7 +23,7 @@ pub enum Action {
 }
 
 /// How a line writes the bytes that a peer sends.
-#[derive(Clone, Copy, Debug, PartialEq, Eq)]
+#[derive(Clone, Copy)]
 enum Form {
     /// A line without its LF.
     Line,

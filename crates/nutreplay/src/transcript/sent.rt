@@ -7,7 +7,7 @@ use nutcore::{Bytes, ClientId, Peer, UpsId, UpsList};
 use std::alloc::{AllocError, Global};
 
 /// What a client or a driver took by one event.
-#[derive(Debug, Drop)]
+#[derive(Drop)]
 pub struct Taken {
     pub peer: Peer,
     pub bytes: Bytes,
