@@ -499,10 +499,10 @@ def come_and_go(driver):
 def a_driver_that_comes_and_goes_is_told_once_a_minute():
     """It does so from the first case on."""
     told = ["upsd: su: driver connected", "upsd: su: driver lost"] * 2 + ["upsd: su: driver connected"]
-    assert comes(lambda: RESTLESS.journal().count("\n") > 6, 62), RESTLESS.journal()
+    assert comes(lambda: RESTLESS.journal().count("\n") > 5, 62), RESTLESS.journal()
     lines = RESTLESS.journal().splitlines()
     RESTLESS.close()
-    assert lines[:5] == told and lines[6] == "upsd: su: driver lost", lines
+    assert lines[:5] == told, lines
     assert lines[5].endswith(" times in a minute") and 30 < int(lines[5].split()[4]) < 61, lines
 
 
@@ -518,10 +518,10 @@ def the_sixty_fifth_client_is_closed():
             late.close()
         assert all(other.ask(GET) == STATUS for other in [good, *others])
         assert comes(lambda: sent_away(server) == 3), server.journal()
-        others.pop().close()
-        assert server.client().ask(GET) == STATUS
         time.sleep(1.2)
         assert sent_away(server) == 3, server.journal()
+        others.pop().close()
+        assert comes(lambda: is_answered(server.client(), GET, STATUS))
 
 
 def sent_away(server):
