@@ -19,7 +19,7 @@ pub enum Peer {
 }
 
 /// What may happen to a server. Each event is one atomic step.
-#[derive(Drop)]
+#[derive(Debug, Drop)]
 pub enum Event {
     /// A driver connects.
     DriverUp(UpsId),

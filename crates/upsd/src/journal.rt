@@ -9,7 +9,7 @@ mod refusals;
 use self::drivers::{Driver, Drivers, take, write};
 use self::entry::add_note;
 use self::refusals::{Refused, take_turn};
-use crate::log_buffer::{INFORMATION, LogBuffer};
+use crate::log_buffer::{INFORMATION, LogBuffer, WARNING};
 use crate::task::Service;
 use nutcore::Server;
 use nutloop::MioSockets;
