@@ -226,8 +226,7 @@ fn list_var<V: View>(view: &V, ups: &UpsWord<'_>) -> Listed
     ensures { GivesListing (row (V.seen view.now) (ListVar ups.now)) result }
 {
     let ups = live_ups(view, ups)?;
-    let tree = &ups.state.report.tree;
-    Ok(Listing::of_variables(ups.name, ups.state.fsd, tree))
+    Ok(Listing::of_variables(ups.name, ups.state.fsd, &ups.state.report.tree))
 }
 
 /// LIST RW.
@@ -236,8 +235,7 @@ fn list_rw<V: View>(view: &V, ups: &UpsWord<'_>) -> Listed
     ensures { GivesListing (row (V.seen view.now) (ListRw ups.now)) result }
 {
     let ups = live_ups(view, ups)?;
-    let tree = &ups.state.report.tree;
-    Ok(Listing::of_rw(ups.name, ups.state.fsd, tree))
+    Ok(Listing::of_rw(ups.name, ups.state.fsd, &ups.state.report.tree))
 }
 
 /// LIST CMD.

@@ -1,10 +1,9 @@
-use Rattle.std.proofs.Common.{Err, Result, ◌∷◌, ◌∙◌, ap, sym, subst}
+use Rattle.std.proofs.Common.{Err, ◌∷◌, ◌∙◌, ap, sym}
 use Rattle.std.specs.Prelude.{codes}
 use Rattle.std.proofs.lemmas.Result.{err_from_is_err_and}
 use Rattle.nutlisting.specs.Types.{type_words}
-use Rattle.nutanswer.specs.declared.err_word.ErrWord.{ErrWord}
 use Rattle.nutanswer.specs.Answer.{told, shares_version, text_of_answer, change_of_answer}
-use Rattle.nutanswer.specs.Promises.{known_variable, live_variable, GivesLine}
+use Rattle.nutanswer.specs.Promises.{known_variable, live_variable}
 use Rattle.nutanswer.proofs.Rows.{refused_line, with_variable, without_variable}
 use Rattle.nutanswer.proofs.answers.get_type.Goals as goal
 
