@@ -95,7 +95,7 @@ impl Journal {
     {
         if is_cut && !self.is_record_cut {
             self.is_record_cut = true;
-            let line = "the record has ended, at its limit or by a failed write";
+            let line = format_args!("the record has ended, at its limit or by a failed write");
             self.log.add(WARNING, &line);
         }
     }
