@@ -75,7 +75,7 @@ within 30 'programs stay' eval "! grep -qs '$folder/roo[m]' /proc/[0-9]*/cmdline
 ordered="upsd: demo: admin@127.0.0.1 ordered"
 orders='SET VAR battery.charge.low,INSTCMD test.failure.start,SET VAR ups.status,SET VAR ups.status,INSTCMD test.failure.stop'
 [[ $(sed -n "s/^$ordered //p" "$folder/told" | paste -sd ,) == "$orders" ]] || fails 'which orders were told'
-grep -vE "^(upsd: demo: (driver connected|data good)|$ordered .*|make: .*)$" "$folder/told" && fails 'what was told'
+grep -vE "^(upsd: demo: (driver connected|data good|status [A-Z ]+)|$ordered .*|make: .*)$" "$folder/told" && fails 'what was told'
 
 # A driver that ends leaves its socket. The next one takes its place; no other one does while that lives.
 driver=(crates/demodriver/out/demodriver "$folder/driver")
