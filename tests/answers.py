@@ -28,12 +28,10 @@ import tempfile
 import time
 import uuid
 
-sys.dont_write_bytecode = True
+from replaying import HERE, built, plain, sections, text_of
+from serving import Driver, OtherServer, comes, taken
 
-from replaying import HERE, plain, sections, text_of
-from serving import BUILT, Driver, OtherServer, comes, taken
-
-OURS = [BUILT["upsd"], "serve", "--listen", "127.0.0.1:{port}", "--maxage", "3600", "--ups", "{folder}/upses.conf",
+OURS = ["serve", "--listen", "127.0.0.1:{port}", "--maxage", "3600", "--ups", "{folder}/upses.conf",
         "--users", "{folder}/upsd.users", "--vars", "{folder}/descriptions", "--ids", "{folder}/ids"]  # fmt: skip
 ADDRESS = "192.0.2.1"
 # Tables that only a script can bring about: the clock is the script's, or a driver takes nothing, whose socket takes far more than the
@@ -70,8 +68,8 @@ class Ends:
             shutil.copy(f"{HERE}/answers/{name}", folder)
         open(f"{folder}/ids", "wb").close()
         os.chmod(folder, 0o700)
-        self.patience = 0.3 if command else 10.0
-        self.server = OtherServer(command or OURS, folder, UPSES)
+        self.patience = 10.0 if command[1:] == OURS else 0.3
+        self.server = OtherServer(command, folder, UPSES)
         self.control = self.server.client()
 
     def happens(self, event):
@@ -139,8 +137,9 @@ def differences(title, rows, command):
     return told
 
 
-def main(command):
+def main(words):
     every = [table for path in sorted(glob.glob(f"{HERE}/answers/*.rows")) for table in tables(path)]
+    command = words or [*built("upsd"), *OURS]
     some = [(title, rows, command) for title, rows in every if not BY_SCRIPT.search(title)]
     count = sum(isinstance(row, Row) for _, rows, _ in some for row in rows)
     with concurrent.futures.ThreadPoolExecutor(8) as pool:

@@ -1,4 +1,3 @@
-#!/usr/bin/env python3
 """Proves and builds programs, several crates at a time.
 
 usage: build.py NAME ..     at the top of the repository; each stands as crates/NAME/out/NAME then

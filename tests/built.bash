@@ -1,20 +1,16 @@
 # Read by the scripts that use the built programs: `built NAME..` has crates/NAME/out/NAME be that of this source.
 # A program is built, and with it proved, where it is absent or older than a source; the gate builds all of them.
-# Their paths are `programs` then. Python's scripts leave no compiled files.
 top=$(cd "$(dirname "${BASH_SOURCE[0]}")/.." && pwd)
-export PYTHONDONTWRITEBYTECODE=1
-programs=()
 
 built() {
     local name made told
     for name in "$@"; do
         made=$top/crates/$name/out/$name
-        programs+=("$made")
         if [[ -x $made && -z $(newer_source "$made") ]]; then
             continue
         fi
         told=$(cd "$top/crates/$name" && rt run -- --help 2>&1) || {
-            printf '%s\n%s: FAILED: %s was not built\n' "$told" "$(basename "$0" .sh)" "$name"
+            printf '%s\n%s: FAILED: %s was not built\n' "$told" "$(basename "${0%.*}")" "$name"
             exit 1
         }
     done
@@ -24,11 +20,4 @@ built() {
 newer_source() {
     find "$top/crates.txt" "$top/crates" -name out -prune -o \
         \( -name '*.rt' -o -name '*.antt' -o -name crates.txt \) -newer "$1" -print -quit
-}
-
-# Compiles what is loaded before the C library: `library` is its path, until the script ends.
-library() {
-    library=$(mktemp)
-    trap 'rm "$library"' EXIT
-    cc -O2 -Wall -Wextra -shared -fPIC -o "$library" "$top/tests/$1"
 }

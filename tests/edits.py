@@ -1,4 +1,3 @@
-#!/usr/bin/env python3
 """Judges the wrong bodies of crates/NAME/edits.txt, which the proofs must refuse, many in one check.
 
 usage: edits.py [NAME ..]      at the top of the repository, over the libraries that `rt ci` or `make` built there

@@ -1,5 +1,7 @@
-"""The rows of scripts/peers.rows, for tests/peers.sh. It installs nothing, listens on 127.0.0.1 alone, at ports that are free, keeps
-all its files in a folder of its own, and ends every program that it started by its id."""
+#!/usr/bin/python3
+"""NUT's own programs against ours, a row of scripts/peers.rows each: its driver dummy-ups, upsc, upsrw, upscmd, upslog, upsmon and PyNUT
+at our upsd, and our clients at its upsd. NUT is that of Debian's packages nut-server, nut-client and python3-nut; where they aren't
+there, nothing is checked. It listens on 127.0.0.1, at ports that are free."""
 import contextlib
 import importlib.util
 import os
@@ -12,12 +14,13 @@ import tempfile
 import time
 from string import Template
 
-from replaying import text_of
-from serving import BUILT, OtherServer, Server, comes
+from replaying import built, text_of
+from serving import OtherServer, Server, comes
 
 DRIVER, UPSD, UPSMON = (f"/lib/nut/{program}" for program in ("dummy-ups", "upsd", "upsmon"))
 # upsmon keeps its process's id in one file of the machine, whoever starts it.
 MONITOR_ID = "/run/nut/upsmon.pid"
+BUILT = {os.path.basename(program): program for program in built("upsd", "upsc", "upsrw", "upscmd")}
 PYNUT = "import sys, PyNUT; nut = PyNUT.PyNUTClient(port=int(sys.argv[1]), login='admin', password='secret'); print(eval(sys.argv[2]))"
 
 
@@ -97,7 +100,7 @@ class Peers:
             return f"{self.server.journal().count(words[1])} [0]"
         if words[0] == "pynut":
             words = [sys.executable, "-c", PYNUT, str(self.server.port), words[1]]
-        words[0] = BUILT.get(words[0].removeprefix("our-"), "") if words[0].startswith("our-") else words[0]
+        words[0] = BUILT[words[0][4:]] if words[0].startswith("our-") else words[0]
         ended = subprocess.run(words, cwd=self.folder, stdin=subprocess.DEVNULL, stdout=subprocess.PIPE, stderr=subprocess.STDOUT, text=True, timeout=10, check=False)
         text = ended.stdout.replace("Init SSL without certificate database\n", "").strip("\n")
         self.names["id"] = text

@@ -1,23 +1,21 @@
-"""The cases of tests/refused_memory.sh: each request for memory refused in turn, over the built programs.
+#!/usr/bin/env python3
+"""Each request for memory refused in turn (refuse.c), over the built programs.
 
-Words: the library that refuses (refuse.c), and the programs upsd, upsc, upsrw, upscmd and datatests. A run in which the Nth
-request is refused, for every N up to a run that makes fewer: of each the whole right output comes, or a fault is told
-and nothing else is said that isn't so. Where a run makes more than 2,000 requests, each of the first 300 is refused,
-and then every 50th.
+A run in which the Nth request is refused, for every N up to a run that makes fewer: of each the whole right output comes, or
+a fault is told and nothing else is said that isn't so. Where a run makes more than 2,000 requests, each of the first 300 is
+refused, and then every 50th.
 """
 import contextlib
 import mmap
 import os
 import re
-import signal
 import subprocess
-import sys
 
 from plain_server import Replay, Server
-from replaying import Bench, cases, written
+from replaying import Bench, built, cases, written
 from serving import comes, served, taken
 
-LIBRARY, UPSD, UPSC, UPSRW, UPSCMD, DATATESTS = (os.path.abspath(word) for word in sys.argv[1:7])
+UPSD, UPSC, UPSRW, UPSCMD, DATATESTS = built("upsd", "upsc", "upsrw", "upscmd", "datatests")
 BENCH = Bench("refused_memory", UPSD)
 FOLDER = BENCH.folder.name
 CASES = list(cases("scripts/refused.cases"))
@@ -44,16 +42,15 @@ class Control:
 
 
 CONTROL = Control()
-REFUSING = {**os.environ, "LD_PRELOAD": LIBRARY, "REFUSE": os.path.join(FOLDER, "control")}
+REFUSING = {**os.environ, "LD_PRELOAD": BENCH.library("refuse.c"), "REFUSE": os.path.join(FOLDER, "control")}
 
 
 def run(words):
     return BENCH.ends(*words[1:], program=words[0], env=REFUSING)
 
 
-def turns():
+def turns(total):
     """Which requests are refused: each one; of very many each of the first, and then some."""
-    total = CONTROL.requests
     some = range(1, total + 1) if total <= EVERY else [*range(1, EACH + 1), *range(EACH + STEP, total + 1, STEP)]
     return [*some, total + 1]
 
@@ -66,7 +63,7 @@ def in_turn(words, want, judge):
     assert got == (0, want, b""), got
     total, seen = CONTROL.requests, {}
     assert total > 0, "no request was counted"
-    for request in turns():
+    for request in turns(total):
         CONTROL.refuse(request, request)
         got = run(words)
         assert (CONTROL.refused == 1) == (request <= total), f"request {request} of {total}: {CONTROL.refused} refused"
@@ -109,26 +106,18 @@ def replay_in_turn(script, files):
 
 def client_in_turn(program, want, *words):
     """Each request of the client refused in turn: it prints all, or tells a fault and prints nothing."""
-    by_name = "localhost" in words[-1]
-    faults = ("no memory", "cannot connect") if by_name else ("no memory",)
-
-    def judge(got):
-        if by_name and got[0] in (-signal.SIGSEGV, -signal.SIGABRT) and got[1] == b"":
-            return "ended by the C library's look-up of a name"  # glibc 2.36: a null pointer, an assertion
-        return next((fault for fault in faults if got == (1, b"", f"{os.path.basename(program)}: {fault}\n".encode())), None)
-
-    return in_turn([program, *words], want, judge)
+    fault = f"{os.path.basename(program)}: no memory\n".encode()
+    return in_turn([program, *words], want, lambda got: "no memory" if got == (1, b"", fault) else None)
 
 
-def client_cases():
+def client_cases(folder):
     BENCH.file("users", FILES["users"])
-    with served(FOLDER, UPSD, b'SETINFO a "1"\nSETFLAGS a RW\nSETINFO ups.status "OL"\nADDCMD test.start\n') as (server, _, good):
+    with served(folder, UPSD, b'SETINFO a "1"\nSETFLAGS a RW\nSETINFO ups.status "OL"\nADDCMD test.start\n') as (server, _, good):
         assert good.ask(b"USERNAME mon\nPASSWORD pw\nLOGIN su\n") == b"OK\n" * 3
         at = f"127.0.0.1:{server.port}"
         su, user = f"su@{at}", ("-u", "admin", "-p", "s3 cret")
         for name, program, want, *words in [
                 ("variables", UPSC, b"a: 1\nups.status: OL\n", su), ("variable", UPSC, b"OL\n", su, "ups.status"),
-                ("variables of a host by name", UPSC, b"a: 1\nups.status: OL\n", su.replace("127.0.0.1", "localhost")),
                 ("names", UPSC, b"su\n", "-l", at), ("descriptions", UPSC, b"su: Rack 1\n", "-L", at), ("clients", UPSC, b"127.0.0.1\n", "-c", su),
                 ("variables", UPSRW, b"a=1\n", su), ("sets", UPSRW, b"OK\n", "-s", "a=1", *user, su),
                 ("commands", UPSCMD, b"test.start\n", "-l", su), ("starts", UPSCMD, b"OK\n", *user, su, "test.start")]:  # fmt: skip
@@ -182,8 +171,7 @@ def what_is_no_listing_asks_for_no_memory():
         assert client.ask(login + b"LOGIN su\nFSD su\n") == b"OK\nOK\nOK\nOK FSD-SET\n"
         got = b"".join(client.ask(commands, 17) for _ in range(50))
         assert got.count(b'VAR su ups.status "FSD OL"\n') == 50 and got.count(b"ERR UNKNOWN-UPS\n") == 50, got[-600:]
-        orders = (line for line in iter(driver.line, b"") if line != b"PING\n")
-        assert [next(orders) for _ in range(100)] == [b'SET ups.status "OB"\n', b"INSTCMD test.start\n"] * 50
+        assert [driver.order() for _ in range(100)] == [b'SET ups.status "OB"\n', b"INSTCMD test.start\n"] * 50
         driver.send(b'SETINFO ups.status "OB"\nPONG\nDATASTALE\n')
         assert comes(lambda: client.ask(b"GET VAR su ups.status\n") == b"ERR DATA-STALE\n")
         assert other.ask(b"LOGOUT\n") == b"OK Goodbye\n" and other.up_to_end() == b""
@@ -248,11 +236,7 @@ def an_insert_asks_for_the_nodes_that_it_counts():
     return f"{asked} requests for {made} nodes"
 
 
-BENCH.case("every request is counted", every_request_is_counted)
 for title, parts, files in CASES:
     BENCH.case(f"replay of {title}", replay_in_turn, written(parts["script"]), files)
-client_cases()
-for case in (an_insert_asks_for_the_nodes_that_it_counts, starting, a_listing_that_began_asks_for_no_memory, what_is_no_listing_asks_for_no_memory,
-             a_server_without_memory_goes_on):  # fmt: skip
-    BENCH.case(case.__name__, case)
-BENCH.end()
+client_cases(FOLDER)
+BENCH.run(globals())

@@ -1,4 +1,5 @@
 """Runs of a built program, most of them of `upsd replay`, and the line that is printed a case."""
+import inspect
 import os
 import re
 import subprocess
@@ -11,12 +12,24 @@ from plain_server import Replay, Server
 HERE = os.path.dirname(os.path.abspath(__file__))
 
 
+def built(*names):
+    """The paths of these programs, each of which is built if it is older than a source."""
+    subprocess.run(["bash", "-c", f'source "{HERE}/built.bash"; built "$@"', sys.argv[0], *names], check=True)
+    return [f"{os.path.dirname(HERE)}/crates/{name}/out/{name}" for name in names]
+
+
 class Bench:
     """The program, a folder for its files, and the cases."""
 
     def __init__(self, name, program):
-        self.name, self.program, self.failed = name, os.path.abspath(program), 0
+        self.name, self.program, self.failed = name, program, 0
         self.folder = tempfile.TemporaryDirectory()
+
+    def library(self, name):
+        """Compiles what is loaded before the C library."""
+        path = f"{self.folder.name}/{name}.so"
+        subprocess.run(["cc", "-O2", "-Wall", "-Wextra", "-shared", "-fPIC", "-o", path, f"{HERE}/{name}"], check=True)
+        return path
 
     def file(self, name, content):
         path = os.path.join(self.folder.name, name)
@@ -73,6 +86,13 @@ class Bench:
             return
         seconds = time.monotonic() - begun
         print(f"{self.name}: ok: {name}: {seconds:.1f} s{f', {figures}' if figures else ''}", flush=True)
+
+    def run(self, module, *names):
+        """Runs each function of the module without a parameter, or those of these names, and ends."""
+        cases = {name: it for name, it in module.items() if inspect.isfunction(it) and it.__module__ == module["__name__"]}
+        for name in names or [name for name, it in cases.items() if not inspect.signature(it).parameters]:
+            self.case(name.replace("_", " "), cases[name])
+        self.end()
 
     def end(self):
         self.folder.cleanup()

@@ -13,7 +13,6 @@ import tempfile
 import termios
 import time
 
-BUILT = {name: os.path.realpath(f"{os.path.dirname(__file__)}/../crates/{name}/out/{name}") for name in ("upsd", "upsc", "upsrw", "upscmd")}
 READY = b"DUMPDONE\nDATAOK\n"
 TWO = b'SETINFO ups.status "OL"\nSETINFO battery.charge "100"\n'
 
@@ -41,7 +40,7 @@ class Driver:
     """A UPS's driver, which the server connects to."""
 
     def __init__(self, path):
-        self.path = path
+        self.path, self.got = path, b""
         self.listener = socket.socket(socket.AF_UNIX)
         self.listener.bind(path)
         self.listener.listen(8)
@@ -52,8 +51,7 @@ class Driver:
         self.wire = self.listener.accept()[0]
         self.wire.settimeout(10)
         self.lines = self.wire.makefile("rb")
-        line = self.lines.readline()
-        assert line == b"DUMPALL\n", line
+        assert self.line() == b"DUMPALL\n"
         if told is not None:
             self.wire.sendall(told + READY)
         return self
@@ -68,7 +66,13 @@ class Driver:
         return unread[0] == 0
 
     def line(self):
-        return self.lines.readline()
+        line = self.lines.readline()
+        self.got += line
+        return line
+
+    def order(self):
+        """The next line but PING."""
+        return next(line for line in iter(self.line, None) if line != b"PING\n")
 
     def lose(self):
         self.lines.close()
@@ -91,14 +95,19 @@ class Client:
             self.wire.setsockopt(socket.SOL_SOCKET, socket.SO_RCVBUF, buffer)
         self.wire.bind((source, 0))
         self.wire.connect(("127.0.0.1", port))
-        self.kept = b""
+        self.got, self.kept = bytearray(), b""
 
     def send(self, text):
         self.wire.sendall(text)
 
+    def recv(self):
+        piece = self.wire.recv(1 << 16)
+        self.got += piece
+        return piece
+
     def line(self):
         while b"\n" not in self.kept:
-            piece = self.wire.recv(65536)
+            piece = self.recv()
             if not piece:
                 return self.kept
             self.kept += piece
@@ -112,7 +121,7 @@ class Client:
 
     def up_to_end(self):
         """All that is still to come. A connection that is reset is a fault."""
-        return b"".join([self.kept, *iter(lambda: self.wire.recv(1 << 20), b"")])
+        return b"".join([self.kept, *iter(self.recv, b"")])
 
     def listing(self):
         lines = [self.line()]

@@ -1,12 +1,8 @@
 #!/usr/bin/env python3
-"""What a request costs this server and NUT's: the tables of docs/COSTS.md, from docs/costs.tsv.
+"""Measures what a request costs this server and NUT's, and prints the tables of docs/COSTS.md.
 
-    tools/costs.py            writes the tables of the measurements that stand
-    tools/costs.py --check    says whether they are those of the measurements
-    tools/costs.py --measure  measures first, and writes the measurements: about ten minutes on a machine that does nothing else
-
-Measuring needs the built upsd and crates/netbench (`rt run` in each), NUT's upsd (Debian's nut-server) and valgrind. Speed is the
-median of rounds in which the servers take turns.
+It takes about ten minutes on a machine that does nothing else, and needs the built upsd and crates/netbench (`rt run` in each), NUT's
+upsd (Debian's nut-server) and valgrind. Speed is the median of rounds in which the servers take turns.
 """
 import contextlib
 import os
@@ -26,7 +22,6 @@ sys.dont_write_bytecode = True
 
 from serving import Driver, OtherServer  # noqa: E402
 
-PAGE, TABLE = TOP / "docs/COSTS.md", TOP / "docs/costs.tsv"
 UPSD, NETBENCH = f"{TOP}/crates/upsd/out/upsd", f"{TOP}/crates/netbench/out/netbench"
 ROUNDS, SEED = 3, 20261127
 SIZES = {"small": (100, 10), "large": (4096, 256)}
@@ -142,58 +137,27 @@ def machine():
     return f"{os.cpu_count()} processors, {cpu}; Linux {os.uname().release}; NUT's upsd {nut}; upsd of {commit}"
 
 
-def measure():
-    rows = []
-    rounds = {"ours": [], "nut": []}
-    for number in range(ROUNDS):
-        for kind in rounds:
-            rounds[kind].append(speed(kind))
-            print(f"round {number + 1} of {ROUNDS}, {kind}: {rounds[kind][-1]}")
-    for what in rounds["ours"][0]:
-        ours, nut = (int(statistics.median(found[what] for found in rounds[kind])) for kind in rounds)
-        rows.append(("speed", what, ours, nut))
+def print_table(unit, rows):
+    print(f"{unit} | ours | NUT's | better by", "---|---:|---:|---:", sep="\n")
+    for what, ours, nut in rows:
+        better = ours / nut if unit == "a second" else nut / ours
+        print(f"{what} | {ours:,} | {nut:,} | {better:.2f}")
+    print(flush=True)
+
+
+def main():
+    print(f"{machine()}.\n")
+    rounds = [[speed(kind) for kind in COMMANDS] for _ in range(ROUNDS)]
+    print_table("a second", [(what, *(int(statistics.median(found[what] for found in of)) for of in zip(*rounds))) for what in rounds[0][0]])
     get, got = b"GET VAR small v2048\n", b'VAR small v2048 "xxxxxxxxxx"\n'
-    for what, *words in (
+    print_table("instructions", [(what, *(instructions(kind, *words) for kind in COMMANDS)) for what, *words in (
         ("GET VAR, 1 connection", asking(1, get, got), 64, 704, 640),
         ("GET VAR, 64 connections", asking(64, get, got), 2, 12, 640),
         ("an item of LIST VAR", asking(1, b"LIST VAR small\n", b"END LIST VAR small\n"), 1, 3, 2 * 4097),
         ("a line of a driver", reporting, 1, 3, 2 * 4096),
-    ):
-        rows.append(("instructions", what, *(instructions(kind, *words) for kind in rounds)))
-    ours, nut = memory("ours"), memory("nut")
-    rows += [("memory", what, ours[what], nut[what]) for what in ours]
-    lines = [f"# {machine()}", "group\twhat\tours\tNUT's", *("\t".join(map(str, row)) for row in rows)]
-    TABLE.write_text("\n".join(lines) + "\n", encoding="utf-8")
+    )])
+    ours, nut = (memory(kind) for kind in COMMANDS)
+    print_table("KiB", [(what, ours[what], nut[what]) for what in ours])
 
 
-def measured():
-    """The machine, and the rows."""
-    head, _, *lines = TABLE.read_text(encoding="utf-8").splitlines()
-    rows = [line.split("\t") for line in lines]
-    return head[2:], [(group, what, int(ours), int(nut)) for group, what, ours, nut in rows]
-
-
-UNITS = {"speed": "a second", "instructions": "instructions", "memory": "KiB"}
-
-
-def page(text, head, rows):
-    for group, unit in UNITS.items():
-        table = [f"{unit} | ours | NUT's | better by", "---|---:|---:|---:"]
-        for what, ours, nut in [row[1:] for row in rows if row[0] == group]:
-            better = ours / nut if group == "speed" else nut / ours
-            table.append(f"{what} | {ours:,} | {nut:,} | {better:.2f}")
-        text = re.sub(rf"(<!-- {group} -->\n).*?(\n<!-- end -->)", lambda m: m[1] + "\n".join(table) + m[2], text, flags=re.S)
-    return re.sub(r"(<!-- machine -->\n).*?(\n<!-- end -->)", lambda m: m[1] + head + "." + m[2], text, flags=re.S)
-
-
-def main(words):
-    if words == ["--measure"]:
-        measure()
-    said = PAGE.read_text(encoding="utf-8")
-    made = page(said, *measured())
-    if words == ["--check"]:
-        sys.exit(f"{PAGE} isn't of {TABLE}" if said != made else 0)
-    PAGE.write_text(made, encoding="utf-8")
-
-
-main(sys.argv[1:])
+main()

@@ -1,13 +1,13 @@
-"""The cases of tests/replay.sh. Word: the program upsd."""
+#!/usr/bin/env python3
+"""What the built `upsd replay` prints: the tables of answers/*.rows, the scripts of scripts/*.cases, its words and its files."""
 import glob
 import os
 import re
-import sys
 
 from answers import ADDRESS, Row, tables
-from replaying import HERE, Bench, cases, each, ends_in_full, lines, plain, sent, text_of, written
+from replaying import HERE, Bench, built, cases, each, ends_in_full, lines, plain, sent, text_of, written
 
-BENCH = Bench("replay", sys.argv[1])
+BENCH = Bench("replay", *built("upsd"))
 NO_DRIVER = sent("driver su", b"")
 
 

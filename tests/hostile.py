@@ -1,54 +1,14 @@
-"""The cases of tests/hostile.sh over the built `upsd replay`, with ample memory: slow readers, the greatest listing, and 10,000 runs of
-random pieces from a client and a driver, which are compared with the plain server. Words: the program, and the seed."""
+#!/usr/bin/env python3
+"""The built `upsd replay` and the plain server over 10,000 runs of random pieces from a client and a driver. A run is an `open`, pieces
+in a random order, and a `close`; many runs are in one script, over one server, so that a run begins where another one left the UPS's
+driver and the clock. Word: the seed, 1 unless given."""
 import random
-import resource
 import sys
 
 from plain_server import LINE, RING, VALUE, quoted
-from replaying import Bench, cases, written
+from replaying import Bench, built, cases
 
-BENCH = Bench("hostile", sys.argv[1])
-READY = "driver su DUMPDONE\ndriver su DATAOK\n"
-LONG = f"up su\n4096* driver su SETINFO v<#> <256>\n{READY}"
-DRIVER = b"driver su sent 0 bytes\n"
-
-
-def listing(value):
-    return written(f'BEGIN LIST VAR su\n4096* VAR su v<#> "{value}"\nEND LIST VAR su\n')
-
-
-def sixty_four_slow_readers():
-    """Each takes one byte of what was listed, then everything is changed; each gets the old values, then the new ones."""
-    script = written(f"""{LONG}64* open 192.0.2.1$client <n> LIST VAR su$took <n> 1
-open 192.0.2.1
-4096* driver su SETINFO v<#> y
-64* took <n> all$client <n> LIST VAR su$took <n> all
-""")
-    both = listing("<256>") + listing("y")
-    assert len(both) == 1_114_146 + 69_666
-    want = b"line 4292: refused 3\n" + b"".join(b"client %d sent %d bytes\n" % (client, len(both)) + both for client in range(1, 65)) + DRIVER
-    BENCH.prints(script, want)
-    megabytes = resource.getrusage(resource.RUSAGE_CHILDREN).ru_maxrss >> 10
-    assert megabytes < 700
-    return f"{megabytes} MiB resident at most, of an output of {len(want) >> 20} MiB"
-
-
-def greatest_list_of_variables():
-    """As many as there may be, with names and values as long as they may be: its text as the protocol says it."""
-    script = written(f"""up su
-32768* driver su SETINFO <59><#> "<\\"*512>"
-{READY}open 192.0.2.1
-client 1 LIST VAR su
-took 1 all
-""")
-    text = written('BEGIN LIST VAR su\n32768* VAR su <59><#> "<\\"*512>"\nEND LIST VAR su\n')
-    BENCH.prints(script, b"client 1 sent %d bytes\n" % len(text) + text + DRIVER)
-    return f"{len(text)} bytes"
-
-
-# Random pieces. A run is an `open`, pieces in a random order, and a `close`; many runs are in one script, over one server, so that a run
-# begins where another one left the UPS's driver and the clock.
-
+BENCH = Bench("hostile", *built("upsd"))
 RUNS, IN_A_SCRIPT = 10_000, 250
 FILES = next(files for title, _, files in cases("scripts/refused.cases") if title == "the files of the random pieces")
 
@@ -153,14 +113,12 @@ class Pieces:
         return b"".join(line + b"\n" for line in runs)
 
 
-def random_pieces(seed):
+def random_pieces():
+    seed = int((sys.argv[1:] or [1])[0])
     pieces = Pieces(seed)
     for _ in range(RUNS // IN_A_SCRIPT):
         BENCH.agrees(pieces.script(), **FILES)
     return f"{RUNS} runs, seed {seed}"
 
 
-BENCH.case("sixty_four_slow_readers", sixty_four_slow_readers)
-BENCH.case("greatest_list_of_variables", greatest_list_of_variables)
-BENCH.case("random_pieces", random_pieces, int(sys.argv[2]))
-BENCH.end()
+BENCH.run(globals())

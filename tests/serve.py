@@ -1,8 +1,9 @@
-"""The cases of tests/serve.sh: the built server on real sockets. Words: the programs upsd, upsc, upsrw and upscmd, and
-the names of the cases, if not all are to run. A function without a parameter is a case."""
+#!/usr/bin/env python3
+"""What a real network asks of the server: the built upsd on real sockets, at ports that the system gives. Words: the names of the
+cases, if not all are to run. A function without a parameter is a case."""
 import contextlib
 import functools
-import inspect
+import itertools
 import multiprocessing
 import os
 import select
@@ -11,13 +12,12 @@ import subprocess
 import sys
 import threading
 import time
-import uuid
 
 import serving
-from replaying import Bench, ends_in_full
+from replaying import HERE, Bench, built, ends_in_full
 from serving import READY, TWO, Driver, comes
 
-UPSD, UPSC, UPSRW, UPSCMD = sys.argv[1:5]
+(UPSD,) = built("upsd")
 BENCH = Bench("serve", UPSD)
 FOLDER = BENCH.folder.name
 served = functools.partial(serving.served, FOLDER, UPSD)
@@ -36,7 +36,8 @@ GET, STATUS = b"GET VAR su ups.status\n", b'VAR su ups.status "OL"\n'
 AWAY = b"ERR DRIVER-NOT-CONNECTED\n"
 NO_FILE = "cannot connect: No such file or directory (os error 2)\n"
 REFUSED = "cannot connect: Connection refused (os error 111)\n"
-COME = "upsd: su: driver connected\nupsd: su: status OL\nupsd: su: data good\n"
+NEWS = ["driver connected", "status OL", "data good"]
+COME = "".join(f"upsd: su: {line}\n" for line in NEWS)
 MANY = 4096
 
 
@@ -81,11 +82,8 @@ def words_and_files_are_told_as_faults():
     # The first fault is told, in the order of the words, the list, the users, the descriptions, the ids, the address.
     for words, told in [
             (["--ups", bad, "--users", absent], f"{bad}:1: cause 1"),
-            (["--ups", ups, "--users", absent, "--vars", bad], missing),
             (["--ups", ups, "--users", FOLDER], f"{FOLDER}: cannot read\nupsd: {FOLDER}: Is a directory (os error 21)"),
             (["--ups", ups, "--users", users, "--vars", bad], f"{bad}:1: cause 1"),
-            (["--ups", bad, "--users", users, "--listen", "192.0.2.1:1"], f"{bad}:1: cause 1"),
-            (files + ["--vars", bad, "--ids", absent], f"{bad}:1: cause 1"),
             (files + ["--ids", absent, "--listen", "192.0.2.1:1"], missing),
             (files + ["--listen", "192.0.2.1:1"], "cannot listen\nupsd: 192.0.2.1:1: Cannot assign requested address (os error 99)")]:
         assert BENCH.ends("serve", *words) == (1, b"", f"upsd: {told}\n".encode()), words
@@ -117,8 +115,8 @@ def dangers_of_the_files_are_told():
         told = [f"upsd: warning: {users}: everybody may read it"] * is_told + lines
         assert warned(ups, "--users", users) == (told, 0), oct(mode)
     assert warned(ups, "--users", path("users")) == ([], 0)
-    example = os.path.join(os.path.dirname(__file__), "..", "examples", "upsd.users")
-    assert sum(line.endswith(EXAMPLE) for line in warned(ups, "--users", example)[0]) == 2
+    example = warned(ups, "--users", f"{HERE}/../examples/upsd.users")[0]
+    assert sum(line.endswith(EXAMPLE) for line in example) == 2
     # A file that is refused is told by its cause alone.
     refused = file("refused", dangerous + "[d]\n")
     ended = BENCH.ends("serve", "--ups", path("list"), "--users", refused)
@@ -141,10 +139,10 @@ def what_the_files_lack_is_told():
     assert judged.stderr == "", judged.stderr
 
 
-def printed(*words):
-    """What a client prints, and what it tells of a fault."""
-    got = subprocess.run(words, capture_output=True, timeout=10, check=False)
-    return got.stdout + got.stderr
+def logs(server, *lines):
+    """The journal has what it had the last time, which was COME at first, and then these lines of su."""
+    server.logged = getattr(server, "logged", COME) + "".join(f"upsd: su: {line}\n" for line in lines)
+    assert comes(lambda: server.journal() == server.logged), server.journal()
 
 
 ORDERS = TWO + b'SETINFO ups.delay "20"\nSETFLAGS ups.delay RW\nADDRANGE ups.delay 0 600\nADDCMD test.battery.start\n'
@@ -157,9 +155,8 @@ def orders_reach_the_driver_and_are_told_once_and_no_value():
         given = [b'SET ups.delay "30"\n', b"INSTCMD test.battery.start\n", b'SET ups.delay "30"\n']
         assert [driver.line() for _ in given] == given
         assert good.ask(GET) == STATUS
-        logged = ("SET VAR ups.delay", "INSTCMD test.battery.start", "SET VAR ups.delay")
-        told = COME + "".join(f"upsd: su: admin@127.0.0.1 ordered {what}\n" for what in logged)
-        assert server.journal() == told, server.journal()
+        orders = ("SET VAR ups.delay", "INSTCMD test.battery.start", "SET VAR ups.delay")
+        logs(server, *(f"admin@127.0.0.1 ordered {what}" for what in orders))
         driver.send(b'SETINFO ups.delay "30"\n')
         assert comes(lambda: good.ask(b"GET VAR su ups.delay\n") == b'VAR su ups.delay "30"\n')
 
@@ -176,41 +173,14 @@ def a_driver_that_took_none_gets_its_orders_again():
         assert driver.line() == b"INSTCMD test.battery.start\n"
 
 
-def put_ids(name, *numbers):
-    """Appends ids to a file, each as its bytes."""
-    with open(path(name), "ab") as out:
-        out.write(b"".join(number.to_bytes(16, "big") for number in numbers))
-    return path(name)
-
-
-def given(number):
-    """The answer to an order that is tracked by this id."""
-    return f"OK TRACKING {uuid.UUID(int=number)}\n".encode()
-
-
-def ids_are_those_of_their_file():
-    first, order = 0x0102030405060708090A0B0C0D0E0F10, b"SET VAR su ups.delay 30\n"
-    with served(ORDERS, "--ids", put_ids("ids", first, 7)) as (_, _, good):
-        assert good.ask(ADMIN + b"SET TRACKING ON\n") == b"OK\n" * 3
-        assert good.ask(order) == given(first)
-        assert good.ask(order) == given(7)
-        assert good.ask(order) == b"ERR SET-FAILED\n"
-        # What the file gains is read at the next second.
-        put_ids("ids", 8)
-        assert comes(lambda: good.ask(order) == given(8))
-        assert good.ask(order) == b"ERR SET-FAILED\n"
-
-
 def a_forced_shutdown_is_seen_and_each_order_of_it_told():
     with served() as (server, _, good):
         other = server.client()
         assert other.ask(MON + b"FSD su\n") == b"OK\nOK\nERR ACCESS-DENIED\n"
-        refused = "upsd: su: mon@127.0.0.1 was refused FSD: ACCESS-DENIED\n"
-        assert server.journal() == COME + refused, server.journal()
+        logs(server, "mon@127.0.0.1 was refused FSD: ACCESS-DENIED")
         assert good.ask(ADMIN + b"FSD su\nFSD su\n") == b"OK\nOK\nOK FSD-SET\nOK FSD-SET\n"
         assert other.ask(GET) == b'VAR su ups.status "FSD OL"\n'
-        told = COME + refused + "upsd: su: admin@127.0.0.1 ordered FSD: forced shutdown\n" * 2
-        assert server.journal() == told, server.journal()
+        logs(server, *["admin@127.0.0.1 ordered FSD: forced shutdown"] * 2)
 
 
 def drain(driver):
@@ -248,33 +218,15 @@ def a_standard_error_that_nobody_reads_stops_nothing():
     return f"the slowest answer took {slowest * 1000:.1f} ms"
 
 
-def clients_follow_an_order_to_its_end():
-    with served(ORDERS, "--ids", "/dev/urandom") as (server, driver, _):
-        ups = f"su@127.0.0.1:{server.port}"
-        user = ("--track", "-u", "admin", "-p", "s3 cret")
-        for order, number, ended in [
-                ((UPSRW, *user, "-s", "ups.delay=30", ups), 0, b"SUCCESS\n"),
-                ((UPSCMD, *user, ups, "test.battery.start"), 7, b"FAILED 7\n")]:
-            known = printed(*order).strip()
-            assert driver.line().endswith(b" TRACKING %s\n" % known), known
-            progress = (UPSC, "--tracked", known.decode(), ups)
-            assert printed(*progress) == b"PENDING\n"
-            driver.send(b"TRACKING %s %d\n" % (known, number))
-            assert comes(lambda: printed(*progress) == ended)
-
-
 def refused_logins_are_told_once_a_second():
     with served() as (server, _, good):
         other = server.client("127.0.0.2")
         assert other.ask(b"LOGIN su\nATTACH su\nLOGIN su\n") == b"ERR USERNAME-REQUIRED\n" * 3
         assert good.ask(b"LOGIN su\n" * 2) == b"ERR USERNAME-REQUIRED\n" * 2
-        told = COME + "".join(
-            f"upsd: su: 127.0.0.{i} was refused LOGIN: USERNAME-REQUIRED\n" for i in (2, 1))
-        assert server.journal() == told, server.journal()
+        logs(server, *(f"127.0.0.{i} was refused LOGIN: USERNAME-REQUIRED" for i in (2, 1)))
         time.sleep(2.1)
         assert other.ask(b"USERNAME mon\nPASSWORD secret-word\nLOGIN su\n") == b"OK\nOK\nERR ACCESS-DENIED\n"
-        told += "upsd: su: mon@127.0.0.2 was refused LOGIN: ACCESS-DENIED\n"
-        assert server.journal() == told, server.journal()
+        logs(server, "mon@127.0.0.2 was refused LOGIN: ACCESS-DENIED")
 
 
 def a_client_that_is_refused_all_the_time_is_told_once_a_second():
@@ -291,22 +243,18 @@ def a_client_that_is_refused_all_the_time_is_told_once_a_second():
 
 def who_logs_in_or_attaches_is_told_and_who_leaves():
     with served() as (server, _, good):
-        told = COME + "upsd: su: mon@127.0.0.2 logged in\n"
         first, second = server.client("127.0.0.2"), server.client("127.0.0.3")
         assert first.ask(MON + b"LOGIN su\n") == b"OK\n" * 3
-        assert server.journal() == told, server.journal()
+        logs(server, "mon@127.0.0.2 logged in")
         assert second.ask(ADMIN + b"ATTACH su\n") == b"OK\n" * 3
-        told += "upsd: su: admin@127.0.0.3 logged in\n"
-        assert server.journal() == told, server.journal()
-        assert printed(UPSC, "--attached", f"su@127.0.0.1:{server.port}") == b"2\n"
+        logs(server, "admin@127.0.0.3 logged in")
+        assert good.ask(b"GET NUMATTACH su\n") == b"NUMATTACH su 2\n"
         # One says so, one is gone; who isn't logged in isn't told.
         assert good.ask(MON) == b"OK\n" * 2
         assert first.ask(b"DETACH\n") == b"OK Goodbye\n"
-        told += "upsd: su: mon@127.0.0.2 logged out\n"
-        assert server.journal() == told, server.journal()
+        logs(server, "mon@127.0.0.2 logged out")
         second.reset()
-        told += "upsd: su: admin@127.0.0.3 logged out\n"
-        assert comes(lambda: server.journal() == told), server.journal()
+        logs(server, "admin@127.0.0.3 logged out")
 
 
 def a_login_is_told_of_its_ups():
@@ -325,20 +273,17 @@ def a_login_of_one_piece_is_told_and_its_end():
                 client.up_to_end()
             client.close()
         assert good.ask(GET) == STATUS
-        told = COME + "upsd: su: mon@127.0.0.1 logged in\nupsd: su: mon@127.0.0.1 logged out\n" * 3
-        assert comes(lambda: server.journal() == told), server.journal()
+        logs(server, *["mon@127.0.0.1 logged in", "mon@127.0.0.1 logged out"] * 3)
 
 
 def refused_lines_of_a_driver_are_told_with_their_number():
     with served() as (server, driver, good):
         driver.send(b'HELLO s3cret\nUNKNOWN x\nNOPE\nADDRANGE battery.charge 1 s3cret\n')
-        told = COME + "upsd: su: lines of the driver refused: 4, the last one: bad number\n"
-        assert comes(lambda: server.journal() == told), server.journal()
+        logs(server, "lines of the driver refused: 4, the last one: bad number")
         driver.send(b'TRACKING 12345678-1234-1234-1234-123456789abc 0\n')
-        told += "upsd: su: lines of the driver refused: 1, the last one: no such order\n"
-        assert comes(lambda: server.journal() == told), server.journal()
+        logs(server, "lines of the driver refused: 1, the last one: no such order")
         time.sleep(1.2)
-        assert server.journal() == told, server.journal()
+        logs(server)
         assert good.ask(GET) == STATUS
 
 
@@ -384,8 +329,7 @@ def a_lost_driver_comes_back():
             driver.lose()
             driver.accept(TWO)
             assert comes(lambda: good.ask(GET) == STATUS)
-        told = COME + ("upsd: su: driver lost\n" + COME) * 2
-        assert server.journal() == told, server.journal()
+        logs(server, *["driver lost", *NEWS] * 2)
 
 
 def drivers_that_are_not_there_are_tried_again():
@@ -418,12 +362,11 @@ def a_silent_driver_is_pinged_and_goes_stale():
     with served(TWO, "--maxage", "3") as (server, driver, good):
         assert driver.line() == b"PING\n"
         assert good.ask(GET) == STATUS
-        assert server.journal() == COME, server.journal()
+        logs(server)
         assert comes(lambda: good.ask(GET) == b"ERR DATA-STALE\n", 6)
         driver.send(b"PONG\n")
-        assert comes(lambda: good.ask(GET) == STATUS)
-        told = COME + "upsd: su: data stale\nupsd: su: data good\n"
-        assert server.journal() == told, server.journal()
+        logs(server, "data stale", "data good")
+        assert good.ask(GET) == STATUS
 
 
 def data_that_a_driver_takes_back_are_told_once():
@@ -432,17 +375,13 @@ def data_that_a_driver_takes_back_are_told_once():
         assert comes(lambda: good.ask(GET) == b"ERR DATA-STALE\n")
         driver.send(b'SETINFO battery.charge "99"\nDATASTALE\n')
         driver.send(b"DATAOK\nDATAOK\n")
-        assert comes(lambda: good.ask(GET) == STATUS)
-        told = COME + "upsd: su: data stale\nupsd: su: data good\n"
-        assert server.journal() == told, server.journal()
+        logs(server, "data stale", "data good")
         # Lost while they are stale, they are told as good once the driver has told all again.
         driver.send(b"DATASTALE\n")
         assert comes(lambda: good.ask(GET) == b"ERR DATA-STALE\n")
         driver.lose()
         driver.accept(TWO)
-        assert comes(lambda: good.ask(GET) == STATUS)
-        told += "upsd: su: data stale\nupsd: su: driver lost\n" + COME
-        assert server.journal() == told, server.journal()
+        logs(server, "data stale", "driver lost", *NEWS)
 
 
 def each_change_of_the_status_is_told():
@@ -453,8 +392,7 @@ def each_change_of_the_status_is_told():
         driver.send(b"DELINFO ups.status\n")
         assert comes(lambda: good.ask(GET) == b"ERR VAR-NOT-SUPPORTED\n")
         driver.send(b'SETINFO ups.status "OL"\n')
-        told = COME + "".join(f"upsd: su: status {status}\n" for status in ["OB", "OB LB", "OL", "OL"])
-        assert comes(lambda: server.journal() == told), server.journal()
+        logs(server, "status OB", "status OB LB", *["status OL"] * 2)
 
 
 def a_driver_that_never_reports_all_is_told_as_stale():
@@ -660,45 +598,33 @@ def is_answered(client, line, answer):
     return False
 
 
-def in_background(function):
-    work = multiprocessing.Process(target=function)
-    work.start()
-    return work
-
-
 def repeat(function, seconds):
     """Does it again and again, in a process of its own."""
     def run():
         end = time.monotonic() + seconds
         while time.monotonic() < end:
             function()
-    return in_background(run)
+
+    work = multiprocessing.Process(target=run)
+    work.start()
+    return work
 
 
-def ask_on(clients, seconds):
-    """Each client asks again as soon as it is answered, all in a process of their own."""
-    def run():
-        end = time.monotonic() + seconds
-        waiting = select.epoll()
-        wires = {client.wire.fileno(): client.wire for client in clients}
-        for number, wire in wires.items():
-            waiting.register(number, select.EPOLLIN)
-            wire.send(GET)
-        while time.monotonic() < end:
-            for number, _ in waiting.poll(1):
-                assert wires[number].recv(4096) == STATUS
-                wires[number].send(GET)
-    return in_background(run)
+def ask_all(clients):
+    """Each client asks, and then each is answered."""
+    for client in clients:
+        client.send(GET)
+    assert all(client.line() == STATUS for client in clients)
 
 
 def report_on(driver, seconds):
     """A driver reports a thousand lines a second, in a process of its own."""
-    def run():
-        begin = time.monotonic()
-        for number in range(seconds * 1000):
-            driver.send(b'SETINFO battery.charge "%d"\n' % number)
-            time.sleep(max(0.0, begin + number / 1000 - time.monotonic()))
-    return in_background(run)
+    begin, numbers = time.monotonic(), itertools.count()
+
+    def report():
+        driver.send(b'SETINFO battery.charge "%d"\n' % (number := next(numbers)))
+        time.sleep(max(0.0, begin + number / 1000 - time.monotonic()))
+    return repeat(report, seconds)
 
 
 def a_driver_with_orders_at_each_moment_is_heard():
@@ -727,7 +653,7 @@ def nobody_waits_long_beside_busy_clients_and_drivers():
             driver.accept(TWO)
         clients = [server.client() for _ in range(64)]
         assert all(comes(lambda: clients[0].ask(b"GET VAR %s ups.status\n" % ups).startswith(b"VAR")) for ups in (b"su", b"sv"))
-        others = [ask_on(clients[1:], 31), *[report_on(driver, 31) for driver in drivers]]
+        others = [repeat(lambda: ask_all(clients[1:]), 31), *[report_on(driver, 31) for driver in drivers]]
         end, worst = time.monotonic() + 30, 0.0
         while time.monotonic() < end:
             worst = max(worst, worst_wait(clients[0], 10))
@@ -773,7 +699,7 @@ def nothing_grows():
         assert comes(lambda: server.descriptors() <= open_before)
         grown = server.kilobytes() - before
         assert grown <= 256, f"{grown} KB more"
-        assert server.journal() == COME, server.journal()
+        logs(server)
 
 
 def it_starts_again_at_its_port_and_at_none_that_is_taken():
@@ -793,8 +719,4 @@ file("users", USERS)
 RESTLESS_DRIVER = Driver(path("restless.sock"))
 RESTLESS = serving.Server(UPSD, file("restless.conf", f"[su]\nsocket = {RESTLESS_DRIVER.path}\n"), "--users", path("users"))
 threading.Thread(target=come_and_go, args=(RESTLESS_DRIVER,), daemon=True).start()
-CASES = {name: it for name, it in globals().items()
-         if inspect.isfunction(it) and not inspect.signature(it).parameters}  # fmt: skip
-for name in sys.argv[5:] or CASES:
-    BENCH.case(name, CASES[name])
-BENCH.end()
+BENCH.run(globals(), *sys.argv[1:])

@@ -1,6 +1,6 @@
-"""The cases of tests/clients.sh: what a client sends, prints and tells, whatever its words, and the pieces in which the reply
-comes, wherever it is cut, however little the server or the output takes, and where the server says no more. Words: the
-library that makes ends narrow (narrow.c), and the programs upsc, upsrw and upscmd. A line a case, with its rows.
+#!/usr/bin/env python3
+"""What a client sends, prints and tells, whatever its words, and the pieces in which the reply comes, wherever it is cut,
+however little the server or the output takes (narrow.c), and where the server says no more. A line a case, with its rows.
 """
 import concurrent.futures
 import contextlib
@@ -9,15 +9,14 @@ import shlex
 import socket
 import struct
 import subprocess
-import sys
 import time
 from typing import NamedTuple
 
-from replaying import Bench, plain, sections
+from replaying import Bench, built, plain, sections
 
-NARROW, *PROGRAMS = (os.path.abspath(word) for word in sys.argv[1:5])
-PROGRAMS = {os.path.basename(program): program for program in PROGRAMS}
+PROGRAMS = {os.path.basename(program): program for program in built("upsc", "upsrw", "upscmd")}
 BENCH = Bench("clients", PROGRAMS["upsc"])
+NARROW = BENCH.library("narrow.c")
 LED = BENCH.file("led", b"")
 
 READ, WRITE, EARLY, BAD = "read failed", "write failed", "reply ended early", "bad reply"
@@ -140,6 +139,7 @@ def asked_for():
 
 
 def in_pieces():
+    """Words and replies in pieces of every size."""
     for row in asked_for():
         for step in range(1, len(row.reply) + 1):
             yield row._replace(narrow={"STEP": str(step)})
@@ -187,9 +187,11 @@ SERVERS = [
 ]
 REFUSING = "127.0.0.2"
 TWO_ADDRESSES = [("su", ["look up localhost", f"connect {REFUSING}:3493", "connect 127.0.0.1:3493"])]
-UNLAWFUL_UPSES = ["", "s/u", "su@", "su@ho_st", "su@:3493", "su@a@b", "su@a:1:2", "su@host:", "su@host:0", "su@host:03493"]
-UNLAWFUL_UPSES += ["su@host:65536", "su@host:+1"]
-UNLAWFUL_SETTINGS = ["a", "=1", "a/b=1", "a=\x01", "a=" + "v" * (VALUE + 1)]
+
+USER = ("-u", "u", "-p", "p", "su")
+UNLAWFUL = [("upsc", ""), ("upsc", "su@ho_st"), ("upsc", "su@host:65536"), ("upsc", b"su\xff"), ("upscmd", *USER, "load/off"),
+            *(("upsc", "--tracked", text, "su") for text in (ID[:-1], ID.replace("-", ""), "{" + ID + "}")),
+            *(("upsrw", "-s", setting, *USER) for setting in ("a", "a=" + "v" * (VALUE + 1)))]  # fmt: skip
 
 
 def check_unlawful(rows):
@@ -210,11 +212,10 @@ WRONG_WORDS = {
 
 
 def other_words():
-    """Words that a program doesn't take, one that is no text, and the help."""
+    """Words that a program doesn't take, and the help."""
     for name, program in PROGRAMS.items():
         for words in ["", "--nope", *WRONG_WORDS[name]]:
             BENCH.refuses_words(*words.split(), program=program)
-        check_end((name,), start((name, b"su\xff"), {}), 2, ARGUMENT)
         BENCH.prints_help([f"Usage: {name} "], "--help", program=program)
 
 
@@ -222,6 +223,7 @@ def other_words():
 
 
 def cut_replies():
+    """Nothing is printed."""
     for count in range(len(LISTED)):
         yield Row(LIST, LISTED[:count], ASKED, fault=EARLY)
         yield Row(LIST, LISTED[:count], ASKED, fault=READ, ending=FAILS)
@@ -242,11 +244,13 @@ def more_behind_a_reply():
 
 
 def servers_that_take_less():
+    """It is told."""
     for room in range(len(ASKED)):
         yield Row(LIST, LISTED, ASKED[:room], fault=WRITE, narrow={"STEP": "1", "SEND_ROOM": str(room)})
 
 
 def outputs_that_take_less():
+    """They hold a beginning."""
     for room in range(len(PRINTED)):
         yield Row(LIST, LISTED, ASKED, PRINTED[:room], fault=WRITE, narrow={"STEP": "1", "WRITE_ROOM": str(room)})
     for row in asked_for():
@@ -302,24 +306,13 @@ def check_unreached(programs):
 
 
 def main():
-    BENCH.case("words and replies in pieces of every size", check, in_pieces())
-    BENCH.case("values of orders and settings", check, values())
-    BENCH.case("listings of the most items, and one more", check, longest_listings())
+    for case in in_pieces, values, longest_listings, cut_replies, bad_replies, more_behind_a_reply, servers_that_take_less, outputs_that_take_less:
+        BENCH.case(case.__name__.replace("_", " "), check, case())
     BENCH.case("lawful words lead to their server", check_led, SERVERS, {})
     BENCH.case("an address that refuses isn't the last", check_led, TWO_ADDRESSES, {"REFUSING": REFUSING})
-    unlawful = [("upsc", ups) for ups in UNLAWFUL_UPSES]
-    unlawful += [("upsrw", "-s", setting, "-u", "u", "-p", "p", "su") for setting in UNLAWFUL_SETTINGS]
-    unlawful += [("upsc", "--tracked", text, "su") for text in ["", ID[:-1], ID.replace("-", ""), "{" + ID + "}"]]
-    unlawful += [("upsc", "--tracked", ID, "s/u"), ("upsrw", "--track", "-s", "a", "-u", "u", "-p", "p", "su")]
-    unlawful += [("upscmd", "-u", "u", "-p", "p", "su", "load/off")]
-    BENCH.case("unlawful words are bad arguments", check_unlawful, unlawful)
+    BENCH.case("unlawful words are bad arguments", check_unlawful, UNLAWFUL)
     BENCH.case("other words and the help", other_words)
-    BENCH.case("a cut reply prints nothing", check, cut_replies())
     BENCH.case("nothing is sent behind a refusal", check, rows("a reply that ends the job"))
-    BENCH.case("a line that does not fit is a bad reply", check, bad_replies())
-    BENCH.case("what stands behind a reply is left", check, more_behind_a_reply())
-    BENCH.case("a server that takes less is told", check, servers_that_take_less())
-    BENCH.case("a full output holds a beginning", check, outputs_that_take_less())
     BENCH.case("a server that says no more is waited for 5 s", check_waits, list(rows("servers that say nothing, or no more", STAYS)))
     BENCH.case("a server that takes no connection, too", check_unreached, [LIST, SET, ("upscmd", "-l", "su")])
     BENCH.end()

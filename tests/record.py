@@ -1,0 +1,151 @@
+#!/usr/bin/env python3
+"""Records of `upsd serve --record`: the replay of one prints what each client and each driver was sent, byte for byte; what a full disk
+leaves; records that are masked. A function without a parameter is a case."""
+import contextlib
+import os
+import random
+import re
+import socket
+import subprocess
+import time
+
+from replaying import HERE, Bench, built, difference, sent
+from serving import TWO, comes, served
+
+BENCH = Bench("record", *built("upsd"))
+FOLDER = BENCH.folder.name
+USERS = b'[admin]\npassword = "s3 cret"\nactions = SET\ninstcmds = ALL\n[mon]\npassword = pw\nupsmon primary\n'
+FILES = ["--ups", f"{FOLDER}/su.conf", "--users", BENCH.file("users", USERS)]
+ADMIN = b'USERNAME admin\nPASSWORD "s3 cret"\n'
+GET = b"GET VAR su ups.status\n"
+MIB = 1 << 20
+
+
+def recorded(name, told, *words, upsd=BENCH.program):
+    """A server whose record is the file of this name, its driver, which has told this, and a good client."""
+    return served(FOLDER, upsd, told, "--record", f"{FOLDER}/{name}", *words)
+
+
+def content(name):
+    with open(f"{FOLDER}/{name}", "rb") as file:
+        return file.read()
+
+
+def drain(driver):
+    """The driver reads all that it was sent, and no more of this connection."""
+    driver.wire.settimeout(0.1)
+    with contextlib.suppress(OSError):
+        while driver.line():
+            pass
+
+
+def end(server, driver):
+    """The server is killed once it has nothing to do. What the clients and the driver were sent, as `replay` prints it."""
+    time.sleep(0.3)
+    drain(driver)
+    server.close()
+    return b"".join(sent(f"client {number}", client.got) for number, client in enumerate(server.clients, 1)) + sent("driver su", driver.got)
+
+
+def replays(name, want):
+    """The replay of the record prints that, after what it notes of refused lines and held bytes."""
+    status, told, faults = BENCH.ends("replay", *FILES, name)
+    assert (status, faults) == (0, b""), (status, faults)
+    notes = re.match(rb"(line [0-9]+: [^\n]*\n)*", told)[0]
+    assert told[len(notes):] == want, difference(told[len(notes):], want)
+    return told
+
+
+def a_record_replays_to_the_same_bytes():
+    """Of orders, a slow reader, half-closed and hostile clients, and a driver that restarts."""
+    told = TWO + b"SETFLAGS battery.charge RW STRING\nSETAUX battery.charge 8\nADDCMD test.battery.start\n"
+    told += b"".join(b'SETINFO v%04d "%s"\n' % (i, b"x" * 200) for i in range(2000))
+    with recorded("session", told, "--ids", "/dev/urandom") as (server, driver, good):
+        good.ask(GET + b"LIST UPS\n\nNO SUCH\n", 5)
+        admin = server.client()
+        assert admin.ask(ADMIN + b"SET TRACKING ON\n") == b"OK\n" * 3
+        tracked = admin.ask(b"SET VAR su battery.charge 99\n")
+        assert tracked.startswith(b"OK TRACKING "), tracked
+        assert driver.order().startswith(b"SET battery.charge")
+        number = tracked.split()[2]
+        driver.send(b'SETINFO battery.charge "99"\nTRACKING %s 0\nNO SUCH LINE\n' % number)
+        assert comes(lambda: admin.ask(b"GET TRACKING %s\n" % number).endswith(b"SUCCESS\n"))
+        slow, half, hostile = server.client(buffer=4096), server.client(), server.client()
+        slow.send(b"LIST VAR su\nLIST VAR su\n")
+        half.send(GET * 50)
+        half.wire.shutdown(socket.SHUT_WR)
+        assert half.up_to_end().count(b"VAR") == 50
+        noise = random.Random(62)
+        with contextlib.suppress(OSError):
+            for _ in range(40):
+                hostile.send(noise.randbytes(50) + b"\n")
+            hostile.send(b"x" * 3000)
+            hostile.up_to_end()
+        time.sleep(1.2)
+        drain(driver)
+        driver.lose()
+        driver.accept(TWO)
+        assert comes(lambda: good.ask(GET).startswith(b"VAR"), 10)
+        for _ in range(2):
+            slow.listing()
+        mon = server.client()
+        assert mon.ask(b"USERNAME mon\nPASSWORD pw\nLOGIN su\nLOGOUT\n") == b"OK\nOK\nOK\nOK Goodbye\n"
+        mon.up_to_end()
+        replays("session", end(server, driver))
+    record = f"{FOLDER}/session"
+    assert os.stat(record).st_mode & 0o777 == 0o600
+    lines = content("session").split(b"\n")
+    assert lines[0].startswith(b"# Voqarchay ") and lines[0].endswith(b"--ids /dev/urandom"), lines[0]
+    verbs = {line.split(b" ")[0] for line in lines[1:-1]}
+    assert verbs >= {b"up", b"down", b"driver-hex", b"driver-took", b"tick", b"open", b"client-hex", b"took", b"close", b"id"}, verbs
+    # A file that exists is never written to.
+    ended = BENCH.ends("serve", *FILES, "--listen", "127.0.0.1:0", "--record", record)
+    assert ended == (1, b"", f"upsd: {record}: cannot create\nupsd: {record}: File exists (os error 17)\n".encode()), ended
+    assert content("session").split(b"\n") == lines
+    return f"{len(lines)} lines"
+
+
+def serves_on(name, most, *words, **more):
+    """After the record has ended the server answers as ever, and the journal has said so once. The record replays, but for its last line."""
+    with recorded(name, TWO, *words, **more) as (server, driver, good):
+        for number in range(most // 500):
+            if number % 100 == 0:
+                driver.send(b"PONG\n")
+            assert good.ask(GET * 20).count(b"OL") == 20
+        said = server.journal()
+    assert said.count("upsd: the record has ended") == 1, said
+    record = content(name)
+    assert abs(len(record) - most) <= 4096, len(record)
+    whole = BENCH.file("whole", record[:record.rindex(b"\n") + 1])
+    assert BENCH.ends("replay", *FILES, whole)[0] == 0
+    return f"{len(record)} bytes"
+
+
+def a_full_disk_ends_the_record_and_not_the_server():
+    """A write fails above 64 KiB, as on a full disk."""
+    upsd = BENCH.file("upsd", f"#!/bin/bash\ntrap '' XFSZ\nulimit -f 64\nexec {BENCH.program} \"$@\"\n".encode())
+    os.chmod(upsd, 0o700)
+    return serves_on("full", 65536, upsd=upsd)
+
+
+def a_limit_ends_the_record_and_not_the_server():
+    return serves_on("limited", MIB, "--record-limit", "1")
+
+
+def a_masked_record_replays():
+    with recorded("secret", TWO + b'SETINFO device.serial "AB12CD"\n') as (server, driver, good):
+        assert good.ask(ADMIN + b"GET VAR su device.serial\n", 3).endswith(b'"AB12CD"\n')
+        pieces = server.client()
+        pieces.send(b"USERNAME mon\nPASSW")
+        time.sleep(0.1)
+        assert pieces.ask(b"ORD p\\w\nLOGIN su\n", 3) == b"OK\nOK\nOK\n"
+        told = replays("secret", end(server, driver))
+    subprocess.run([f"{HERE}/../tools/mask", "users", "secret", "AB12CD"], cwd=FOLDER, check=True)
+    status, again, faults = BENCH.ends("replay", *FILES[:3], "users.masked", "secret.masked")
+    assert (status, faults) == (0, b"") and b"aaaaaa" in again, (status, faults)
+    assert again == told.replace(b"AB12CD", b"aaaaaa"), difference(again, told)
+    text = b"".join(bytes.fromhex(digits.decode()) for digits in re.findall(rb"-hex \w+ (\w+)", content("secret.masked")))
+    assert not re.search(rb"s3 cret|p\\?w\n|AB12CD", text + content("users.masked"))
+
+
+BENCH.run(globals())
