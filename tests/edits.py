@@ -119,18 +119,15 @@ def rounds_of(edits):
     return rounds
 
 
-def judge(crate, kept):
-    """Judges a crate's edits over what that folder keeps, which then goes. Returns the lines to print, and the names of
-    those that aren't refused."""
+def judge(crate, edits, kept):
+    """Judges a round over what that folder keeps, which then goes. Returns what is said of each that is refused, and the
+    names of those that aren't."""
     if not all(is_there(it) for it in crate.below()):
         return [], [f"{crate.name} (a library below it isn't built, or has changed since)"]
-    edits = edits_of(crate)
-    rounds = rounds_of([it for it in edits if it.function and not it.why])
-    judged = {it: why for some in rounds for it, why in in_round(crate, some, kept).items()}
+    judged = in_round(crate, [it for it in edits if it.function and not it.why], kept)
     shutil.rmtree(kept)
     said = [f"{it.name}: refused: {why[:160]}" for it, why in judged.items()]
-    failed = [it.name + f" ({it.why})" * bool(it.why) for it in edits if it not in judged]
-    return [*said, f"{crate.name}: {len(edits)} edits in {len(rounds)} rounds"], failed
+    return said, [it.name + f" ({it.why})" * bool(it.why) for it in edits if it not in judged]
 
 
 def is_there(crate):
@@ -149,14 +146,16 @@ def is_ready(crate, said):
 
 
 def begin(crate):
-    """Returns a new folder, with what `rt ci` proved of the crate to try must-fail/ over, while it keeps that."""
+    """Returns a new folder, with what was proved of the crate: by `rt ci` to try must-fail/ over, while it keeps that, or by
+    `rt check`."""
     kept = tempfile.mkdtemp(prefix="edits-kept-")
-    for seed in glob.glob(f"{tempfile.gettempdir()}/rt-edits-*/seed"):
+    for seed in [*glob.glob(f"{tempfile.gettempdir()}/rt-edits-*/seed"), f"{crate.folder}/out/incremental"]:
         if glob.glob(f"{seed}/*/Rattle-{crate.name}-proofs.oantt"):
             shutil.rmtree(kept, ignore_errors=True)
             # It may go meanwhile.
             with contextlib.suppress(OSError, shutil.Error):
                 rt.linked(seed, kept)
+                return kept
     return kept
 
 
@@ -164,21 +163,27 @@ def main(words):
     rtlib.guarded()
     log, names = (words[1], []) if words[:1] == ["--beside"] else (None, words)
     left = [it for it in rtlib.crates_below(os.getcwd()) if edits_of(it) and (not names or it.name in names)]
-    left.sort(key=lambda it: -it.count(rb"\n"))
-    judged, refused, failed = [], 0, []
+    ready, running, refused, failed = [], set(), 0, []
     with futures.ThreadPoolExecutor(rt.processors()) as pool:
-        while left:
-            said = log and rtlib.text_of(log) or ""
-            for crate in [it for it in left if not log or is_ready(it, said)]:
+        while left or ready or running:
+            log_said = log and rtlib.text_of(log) or ""
+            for crate in [it for it in left if not log or is_ready(it, log_said)]:
                 left.remove(crate)
-                judged.append(pool.submit(judge, crate, begin(crate)))
-            time.sleep(1)
-        for it in futures.as_completed(judged):
-            said, stayed = it.result()
-            for line in said:
-                print(f"edits: {line}", flush=True)
-            refused += max(len(said) - 1, 0)
-            failed += stayed
+                rounds = rounds_of(edits_of(crate))
+                print(f"edits: {crate.name}: {sum(map(len, rounds))} edits in {len(rounds)} rounds", flush=True)
+                ready += [(crate, it, begin(crate)) for it in rounds]
+            # The greatest crates are the last ones that are built: their rounds go first.
+            ready.sort(key=lambda it: -it[0].count(rb"\n"))
+            while ready and len(running) < rt.processors():
+                running.add(pool.submit(judge, *ready.pop(0)))
+            done, running = futures.wait(running, 1, futures.FIRST_COMPLETED)
+            for said, stayed in (it.result() for it in done):
+                for line in said:
+                    print(f"edits: {line}", flush=True)
+                refused += len(said)
+                failed += stayed
+            if not running:
+                time.sleep(1)
     for name in failed:
         print(f"edits: FAILED: {name}")
     print(f"edits: {refused} refused, {len(failed)} failed", flush=True)
