@@ -51,10 +51,14 @@ note_of_refusal line fault =
     codes "line " ++ decimal line ++ codes ": refused " ++ decimal (number_of_fault fault)
     ++ 10 ∷ []
 
+abbrev pub held_count : ℕ → ℕ → List ℕ
+held_count line n = codes "line " ++ decimal line ++ codes ": " ++ decimal n
+
+abbrev pub held_total : ℕ → List ℕ
+held_total all = codes " of " ++ decimal all ++ (codes " bytes held" ++ 10 ∷ [])
+
 abbrev pub note_of_held : ℕ → ℕ → ℕ → List ℕ
-note_of_held line n all =
-    codes "line " ++ decimal line ++ codes ": " ++ decimal n ++ codes " of " ++ decimal all
-    ++ codes " bytes held" ++ 10 ∷ []
+note_of_held line n all = held_count line n ++ held_total all
 
 -- Of a feed, only that it took fewer bytes than it had.
 abbrev pub note_of_feed : ℕ → Event → ℕ → List ℕ

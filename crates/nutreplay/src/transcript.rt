@@ -5,7 +5,7 @@ ghost use Rattle.nutcore.specs.Server.{session, ups_at};
 ghost use Rattle.nutcore.specs.History.{taken_in_event};
 ghost use Rattle.nutcore.specs.DriverOrders.{taken_in_event as driver_taken_in_event};
 ghost use Rattle.nutreplay.specs.Script.{took};
-ghost use Rattle.nutreplay.specs.Transcript.{new_transcript, note_of_refusal, note_of_held, note_of, opened_by, taken_by, Happens, TakesAll, IsDone, AreDone, offered_to, count_offered, whole_text};
+ghost use Rattle.nutreplay.specs.Transcript.{new_transcript, note_of_refusal, note_of_held, held_count, held_total, note_of, opened_by, taken_by, Happens, TakesAll, IsDone, AreDone, offered_to, count_offered, whole_text};
 
 mod sent;
 
@@ -143,7 +143,23 @@ impl Transcript {
         ensures { OnOk result (self.new
             ≡ record self.old { text = self.old.text ++ note_of_held line n all }) }
     {
-        let text = format!(in self.alloc; "line {line}: {n} of {all} bytes held\n")?;
+        self.note_held_count(line, n)?;
+        self.note_held_total(all)
+    }
+
+    fn note_held_total(&mut self, all: usize) -> Result<(), AllocError>
+        ensures { OnOk result (self.new
+            ≡ record self.old { text = self.old.text ++ held_total all }) }
+    {
+        let text = format!(in self.alloc; " of {all} bytes held\n")?;
+        self.text.extend_from_slice(text.as_bytes())
+    }
+
+    fn note_held_count(&mut self, line: usize, n: usize) -> Result<(), AllocError>
+        ensures { OnOk result (self.new
+            ≡ record self.old { text = self.old.text ++ held_count line n }) }
+    {
+        let text = format!(in self.alloc; "line {line}: {n}")?;
         self.text.extend_from_slice(text.as_bytes())
     }
 
