@@ -20,15 +20,13 @@ use Rattle.nutanswer.specs.Checks.{◌>>=◌, ◌>>◌, KnownUps, ups_named, use
 use Rattle.nutanswer.specs.Orders.{is_short_enough, is_listed, is_in_ranges, right_to, set_line, instcmd_line, order, ok_words, instcmd_right}
 use Rattle.nutanswer.specs.Answer.{Answer, one_line, ok, answer_to, change_of_answer, text_of_answer}
 use Rattle.nutanswer.specs.Rows.{HasRight, value_given, IsIdOfOrder, EachChangeComesOfItsCommand, EachOrderAnsweredOkIsGiven}
-use Rattle.nutanswer.specs.Laws.{OnlyOkChanges, RefusedLinesChangeNothing, EachAnswerIsALineOrAListing}
-use Rattle.nutanswer.specs.Fresh.{WhatIsToldIsFresh}
+use Rattle.nutanswer.specs.Laws.{OnlyOkChanges, RefusedLinesChangeNothing, EachAnswerIsALineOrAListing, WhatIsToldIsFresh}
 use Rattle.nutwords.specs.declared.faults.BadLine.{BadLine}
 use Rattle.nutwords.specs.Scan.{read_line}
 use Rattle.nuttracking.specs.Id.{read_id}
 use Rattle.nutwords.specs.Reading.{is_value, is_name, is_address}
 use Rattle.nutwords.specs.Keyword.{is_word}
-use Rattle.nutanswer.specs.Command.{user_name_alone, password_alone, ups_alone, ups_and_name, Names, ups_name_and_value_if_any, on_or_off, read_set, tracking_asked, read_instcmd, read_get, read_list, command_named, some_command, command_of, command_from}
-use Rattle.nutanswer.specs.Lawful.{IsLawfulReading, WhatIsReadIsLawful}
+use Rattle.nutanswer.specs.Command.{user_name_alone, password_alone, ups_alone, ups_and_name, Names, ups_name_and_value_if_any, on_or_off, read_set, tracking_asked, read_instcmd, read_get, read_list, command_named, some_command, command_of, command_from, IsLawfulReading, WhatIsReadIsLawful}
 use Rattle.std.proofs.lemmas.List.Elements.{All-filter}
 use Rattle.nutdriver.specs.Sound.{IsSoundRange}
 use Rattle.nutusers.specs.Descriptions.{text_at}

@@ -6,7 +6,7 @@ use Rattle.nutanswer.specs.declared.err_word.ErrWord.{ErrWord}
 use Rattle.nutanswer.specs.View.{Seen, readiness, usable, not_connected, stale}
 use Rattle.nutanswer.specs.Checks.{◌>>=◌, ◌>>◌, KnownUps, ups_named, unknown_ups, live}
 use Rattle.nutanswer.specs.Answer.{Answer}
-use Rattle.nutanswer.specs.Fresh.{IsFresh}
+use Rattle.nutanswer.specs.Laws.{IsFresh}
 use Rattle.nutanswer.proofs.CheckLemmas.{of_usable}
 
 -- a report that is usable

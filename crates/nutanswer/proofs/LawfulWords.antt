@@ -10,9 +10,8 @@ use Rattle.nutwords.specs.Reading.{read_text, is_value}
 use Rattle.nutanswer.specs.declared.command.Command.{Command}
 use Rattle.nutanswer.specs.declared.command.Command.TheVariants.{SetVar}
 use Rattle.nutanswer.specs.declared.err_word.ErrWord.{ErrWord}
-use Rattle.nutanswer.specs.Command.{command_with, alone, ups_alone, ups_and_name, Names, value_of, ups_name_and_value_if_any, set_var_with}
+use Rattle.nutanswer.specs.Command.{command_with, alone, ups_alone, ups_and_name, Names, value_of, ups_name_and_value_if_any, set_var_with, HasLawfulName, HasLawfulUpsName, HasLawfulValueIfAny, IsLawfulCommand}
 use Rattle.nutanswer.specs.Promises.{IsCommandWith}
-use Rattle.nutanswer.specs.Lawful.{HasLawfulName, HasLawfulUpsName, HasLawfulValueIfAny, IsLawfulCommand}
 use Rattle.nutwords.specs.declared.limits.TheConstants.{NAME_LIMIT, VALUE_LIMIT, UPS_NAME_LIMIT}
 
 -- a text that is read stands for itself

@@ -1,6 +1,6 @@
 -- The laws of this crate that a proof in a crate above may cite: each is what a function of src/laws.rt ensures.
 use Rattle.nutanswer.specs.Laws.{ANamedUpsIsSeen, OrdersFit, ErrorLinesAreWhole, OrderLinesAreWhole, EachAnswerIsALineOrAListing, EachErrorIsALine}
-use Rattle.nutanswer.specs.Lawful.{WhatIsReadIsLawful}
+use Rattle.nutanswer.specs.Command.{WhatIsReadIsLawful}
 use Rattle.nutanswer.specs.Rows.{EachChangeComesOfItsCommand, EachOrderAnsweredOkIsGiven}
 use Rattle.nutanswer.proofs.Commands as commands
 use Rattle.nutanswer.proofs.Named as named

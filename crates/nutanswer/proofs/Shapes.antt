@@ -40,7 +40,7 @@ use Rattle.nutanswer.specs.View.{Seen, UpsSeen, ClientSeen, is_logged_in, login_
 use Rattle.nutanswer.specs.Checks.{KnownUps, ups_named, variable_named, var_not_supported, unknown_id}
 use Rattle.nutanswer.specs.Orders.{ok_words, on_or_off_word}
 use Rattle.nutanswer.specs.Answer.{Answer, ok, text_of_answer}
-use Rattle.nutanswer.specs.Lawful.{HasLawfulName, HasLawfulUpsName}
+use Rattle.nutanswer.specs.Command.{HasLawfulName, HasLawfulUpsName}
 use Rattle.nutanswer.specs.Laws.{IsLawfulSeen}
 use Rattle.nutanswer.proofs.ErrorLemmas.{error_lawful}
 use Rattle.nutanswer.proofs.Named.{named_is_seen}

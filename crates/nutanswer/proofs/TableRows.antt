@@ -14,7 +14,7 @@ use Rattle.nutanswer.specs.View.{Seen, AskerSeen}
 use Rattle.nutanswer.specs.Checks.{◌>>=◌, ◌>>◌, KnownUps, ups_named, unknown_ups, live, var_not_supported}
 use Rattle.nutanswer.specs.Orders.{order, ok_words}
 use Rattle.nutanswer.specs.Answer.{Answer, one_line, listing, listing_of_clients, told, answer_to, change_of_answer, text_of_answer}
-use Rattle.nutanswer.specs.Lawful.{IsLawfulCommand}
+use Rattle.nutanswer.specs.Command.{IsLawfulCommand}
 use Rattle.nutanswer.specs.Laws.{IsLawfulSeen, begins_with_ok, is_ok_line}
 use Rattle.nutanswer.specs.Rows.{IsSet, IsInstCmd, ComesOf}
 use Rattle.nutanswer.proofs.CheckLemmas as checks

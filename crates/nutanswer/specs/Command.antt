@@ -1,9 +1,10 @@
 -- How a client's line is read as a command (RFC 9271), or which error word refuses it.
 use Rattle.std.specs.Prelude.{ℕ, Bool, true, false, List, [], ◌∷◌, Option, Some, None, Result, Ok}
-use Rattle.std.specs.Prelude.{Err, codes, if◌then◌else◌, ◌||◌}
+use Rattle.std.specs.Prelude.{Err, codes, if◌then◌else◌, ◌||◌, ◌≡◌, IsTrue}
 use Rattle.std.specs.Result.{result_ok}
 use Rattle.nutwords.specs.Scan.{read_line}
 use Rattle.nutwords.specs.Reading.{read_name, read_ups_name, read_value}
+use Rattle.nutwords.specs.Reading.{is_name, is_ups_name, is_value}
 use Rattle.nutwords.specs.declared.faults.BadLine.{BadLine}
 use Rattle.nuttracking.specs.Id.{read_id}
 use Rattle.nutusers.specs.Credentials.{read_user_name, read_password}
@@ -189,3 +190,57 @@ command_from (Ok words) = command_of words
 -- The command of a line, or the word of the error that answers it.
 abbrev pub read_command : List ℕ → Result (Option Command) ErrWord
 read_command line = command_from (read_line line)
+
+-- The word of the UPS whose data a command asks for, or to whose driver it gives an order.
+abbrev pub asks_data_of : Command → Option (Option (List ℕ))
+asks_data_of (SetVar ups name value) = Some ups
+asks_data_of (InstCmd ups name value) = Some ups
+asks_data_of (GetVar ups name) = Some ups
+asks_data_of (GetType ups name) = Some ups
+asks_data_of (ListVar ups) = Some ups
+asks_data_of (ListRw ups) = Some ups
+asks_data_of (ListCmd ups) = Some ups
+asks_data_of (ListEnum ups name) = Some ups
+asks_data_of (ListRange ups name) = Some ups
+asks_data_of _ = None
+
+abbrev pub HasLawfulName : Option (List ℕ) → Type 0
+HasLawfulName v = (name : List ℕ) → v ≡ Some name → IsTrue (is_name name)
+
+abbrev pub HasLawfulUpsName : Option (List ℕ) → Type 0
+HasLawfulUpsName ups = (name : List ℕ) → ups ≡ Some name → IsTrue (is_ups_name name)
+
+abbrev pub HasLawfulValue : Option (List ℕ) → Type 0
+HasLawfulValue word = (value : List ℕ) → word ≡ Some value → IsTrue (is_value value)
+
+abbrev pub HasLawfulValueIfAny : Option (Option (List ℕ)) → Type 0
+HasLawfulValueIfAny word = (value : List ℕ) → word ≡ Some (Some value) → IsTrue (is_value value)
+
+-- The names and values of a command are lawful: of those that give orders, and of those that get or
+-- list what is known of a UPS.
+abbrev pub IsLawfulCommand : Command → Type 0
+IsLawfulCommand (SetVar ups v word) = HasLawfulName v × HasLawfulValue word
+IsLawfulCommand (InstCmd ups v word) = HasLawfulName v × HasLawfulValueIfAny word
+IsLawfulCommand (GetVar ups v) = HasLawfulUpsName ups × HasLawfulName v
+IsLawfulCommand (GetType ups v) = HasLawfulUpsName ups × HasLawfulName v
+IsLawfulCommand (GetDesc ups v) = HasLawfulUpsName ups × HasLawfulName v
+IsLawfulCommand (GetCmdDesc ups v) = HasLawfulUpsName ups × HasLawfulName v
+IsLawfulCommand (GetUpsDesc ups) = HasLawfulUpsName ups
+IsLawfulCommand (GetNumLogins ups) = HasLawfulUpsName ups
+IsLawfulCommand (GetNumAttach ups) = HasLawfulUpsName ups
+IsLawfulCommand (ListVar ups) = HasLawfulUpsName ups
+IsLawfulCommand (ListRw ups) = HasLawfulUpsName ups
+IsLawfulCommand (ListCmd ups) = HasLawfulUpsName ups
+IsLawfulCommand (ListEnum ups v) = HasLawfulUpsName ups × HasLawfulName v
+IsLawfulCommand (ListRange ups v) = HasLawfulUpsName ups × HasLawfulName v
+IsLawfulCommand (ListClient ups) = HasLawfulUpsName ups
+IsLawfulCommand _ = Unit {0}
+
+-- What was read is lawful, where it is a command.
+abbrev pub IsLawfulReading : Result (Option Command) ErrWord → Type 0
+IsLawfulReading (Err word) = Unit {0}
+IsLawfulReading (Ok None) = Unit {0}
+IsLawfulReading (Ok (Some command)) = IsLawfulCommand command
+
+abbrev pub WhatIsReadIsLawful : Type 0
+WhatIsReadIsLawful = (line : List ℕ) → IsLawfulReading (read_command line)

@@ -1,5 +1,5 @@
 -- What holds of every row of the table of answers.
-use Rattle.std.specs.Prelude.{◌≡◌, ◌≤◌, ℕ, Bool, true, false, List, [], ◌∷◌, codes, length}
+use Rattle.std.specs.Prelude.{◌≡◌, ◌≤◌, ◌-◌, ℕ, Bool, true, false, List, [], ◌∷◌, codes, length}
 use Rattle.std.specs.Prelude.{slice_get, Option, Some, Result, Ok, Err, All, IsTrue, IfSome}
 use Rattle.std.specs.Str.{bytes_eq}
 use Rattle.nutwords.specs.Answers.{IsAnswer}
@@ -21,7 +21,7 @@ use Rattle.nutanswer.specs.Checks.{KnownUps, ups_named}
 use Rattle.nutanswer.specs.Orders.{order, set_line, instcmd_line}
 use Rattle.nutanswer.specs.Answer.{Answer, one_line, listing, listing_of_clients, answer_to}
 use Rattle.nutanswer.specs.Answer.{change_of_answer, text_of_answer}
-use Rattle.nutanswer.specs.Lawful.{IsLawfulCommand}
+use Rattle.nutanswer.specs.Command.{asks_data_of, IsLawfulCommand}
 
 -- The first word is OK.
 abbrev pub begins_with_ok : List (List ℕ) → Bool
@@ -109,3 +109,18 @@ EachAnswerIsALineOrAListing =
 -- The line of an error is one too.
 abbrev pub EachErrorIsALine : Type 0
 EachErrorIsALine = (word : ErrWord) → IsAnswer (error_line word)
+
+-- The driver of the UPS is connected, has reported all that it knows, says that its data are right,
+-- and was heard, by a whole line, at most the greatest age ago.
+pub record IsFresh (s : Seen) (u : KnownUps) : Type 0 where
+  pub connected : u.state.report.connected ≡ true
+  pub dumped : u.state.report.dumped ≡ true
+  pub ok : u.state.report.ok ≡ true
+  pub heard : s.moment - u.state.report.heard ≤ s.max_age
+
+-- Where such a command isn't refused, its UPS is there, and fresh.
+abbrev pub WhatIsToldIsFresh : Type 0
+WhatIsToldIsFresh =
+    (s : Seen) (asker : AskerSeen) (command : Command) (ups : Option (List ℕ)) (answer : Answer)
+    → asks_data_of command ≡ Some ups → answer_to s asker command ≡ Ok answer
+    → (known : KnownUps) × (ups_named s ups ≡ Some known) × IsFresh s known

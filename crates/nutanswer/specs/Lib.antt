@@ -5,7 +5,5 @@ pub mod Orders
 pub mod Checks
 pub mod Answer
 pub mod Rows
-pub mod Fresh
-pub mod Lawful
 pub mod Laws
 pub mod Promises

@@ -1,7 +1,6 @@
 //! Laws of the table of answers.
-ghost use Rattle.nutanswer.specs.Fresh.{WhatIsToldIsFresh};
-ghost use Rattle.nutanswer.specs.Laws.{RefusedLinesChangeNothing, OnlyOkChanges, ANamedUpsIsSeen, OrdersFit, ErrorLinesAreWhole, OrderLinesAreWhole, EachAnswerIsALineOrAListing, EachErrorIsALine};
-ghost use Rattle.nutanswer.specs.Lawful.{WhatIsReadIsLawful};
+ghost use Rattle.nutanswer.specs.Laws.{RefusedLinesChangeNothing, OnlyOkChanges, ANamedUpsIsSeen, OrdersFit, ErrorLinesAreWhole, OrderLinesAreWhole, EachAnswerIsALineOrAListing, EachErrorIsALine, WhatIsToldIsFresh};
+ghost use Rattle.nutanswer.specs.Command.{WhatIsReadIsLawful};
 ghost use Rattle.nutanswer.specs.Rows.{EachChangeComesOfItsCommand, EachOrderAnsweredOkIsGiven};
 
 /// Each change is made by its own command, after all its checks passed.

@@ -13,8 +13,7 @@ use Rattle.nutdriver.specs.Tree.{empty_tree}
 use Rattle.nutanswer.specs.declared.command.Command.{Command}
 use Rattle.nutanswer.specs.declared.err_word.ErrWord.{ErrWord}
 use Rattle.nutanswer.specs.declared.err_word.ErrWord.TheVariants.{TooLong}
-use Rattle.nutanswer.specs.Command.{read_command}
-use Rattle.nutanswer.specs.Lawful.{IsLawfulReading}
+use Rattle.nutanswer.specs.Command.{read_command, IsLawfulReading}
 use Rattle.nutanswer.specs.Laws.{IsLawfulSeen}
 use Rattle.nutanswer.specs.View.{UpsSeen, ClientSeen}
 use Rattle.nutanswer.proofs.PublicLaws.{what_is_read_is_lawful, each_answer_is_a_line_or_a_listing, each_error_is_a_line}

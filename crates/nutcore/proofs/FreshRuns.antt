@@ -15,7 +15,7 @@ use Rattle.nutanswer.specs.Command.{read_command}
 use Rattle.nutanswer.specs.ErrWord.{error_line}
 use Rattle.nutanswer.specs.View.{UpsSeen, readiness, usable}
 use Rattle.nutanswer.specs.Answer.{Answer, answer_to, text_of_answer}
-use Rattle.nutanswer.specs.Fresh.{WhatIsToldIsFresh}
+use Rattle.nutanswer.specs.Laws.{WhatIsToldIsFresh}
 use Rattle.nutanswer.proofs.PublicLaws.{a_named_ups_is_seen}
 use Rattle.nutcore.specs.declared.event.Event.TheVariants.{Feed, Took}
 use Rattle.nutcore.specs.declared.TheConstants.{DRIVER_OWED_LIMIT}

@@ -5,7 +5,7 @@ use Rattle.std.specs.List.{flat_map}
 use Rattle.nutwords.specs.Reading.{is_name, is_value}
 use Rattle.nutwords.proofs.PublicLaws.{no_line_without_lf}
 use Rattle.nutcore.proofs.Common.{cond_both, UpsId, Change, Event, Outcome, ServerState, after}
-use Rattle.nutanswer.specs.Command.{read_command}
+use Rattle.nutanswer.specs.Command.{read_command, IsLawfulReading}
 use Rattle.nutanswer.specs.Orders.{set_line, instcmd_line}
 use Rattle.nutcore.specs.Reply.{change_by}
 use Rattle.nutcore.specs.History.{Execution, of_line, of_notice, executions_in_event}
@@ -16,7 +16,6 @@ use Rattle.nutcore.specs.TellingLines.{IsSpelled, asks_for_all, asks_whether_the
 use Rattle.nutcore.proofs.Events.{of_told_beside}
 use Rattle.nutcore.proofs.Changes.{of_upses}
 use Rattle.nutcore.proofs.SoundUps.{each_join}
-use Rattle.nutanswer.specs.Lawful.{IsLawfulReading}
 use Rattle.nutanswer.specs.Rows.{value_given}
 use Rattle.nutlisting.specs.Lawful.{IsLawfulText}
 use Rattle.nutlisting.specs.Lines.{IsWholeLine}

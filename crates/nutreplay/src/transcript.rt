@@ -1,5 +1,5 @@
 //! The server of a replayed script, and the transcript of its events: what is noted of each, and what was sent.
-ghost use Rattle.std.specs.Prelude.{◌≡◌, ◌++◌, ◌-◌, ◌<◌, ◌^◌, [], length, nat_lt, if◌then◌else◌, IfOk, OnOk};
+ghost use Rattle.std.specs.Prelude.{◌≡◌, ◌++◌, ◌-◌, ◌<◌, ◌^◌, length, IfOk, OnOk};
 ghost use Rattle.nutcore.specs.Step.{Step, offered};
 ghost use Rattle.nutcore.specs.Server.{session, ups_at};
 ghost use Rattle.nutcore.specs.History.{taken_in_event};
@@ -130,23 +130,12 @@ impl Transcript {
             Outcome::Opened(c) => Ok(self.clients.push(c)?),
             Outcome::Refused(fault) => self.note_refusal(line, fault),
             Outcome::Fed(n) => match event {
-                Event::Feed(_, piece) => self.note_feed(line, n, piece.as_slice().len()),
+                Event::Feed(_, piece) if n < piece.as_slice().len() => {
+                    self.note_held(line, n, piece.as_slice().len())
+                }
                 _ => Ok(()),
             },
         }
-    }
-
-    /// Notes that a feed took so many of its bytes, where it had more.
-    fn note_feed(&mut self, line: usize, n: usize, all: usize) -> Result<(), AllocError>
-        ensures { OnOk result (self.new
-            ≡ record self.old {
-              text = self.old.text ++ (if nat_lt n all then note_of_held line n all else []);
-            }) }
-    {
-        if n < all {
-            self.note_held(line, n, all)?;
-        }
-        Ok(())
     }
 
     /// Notes that only n bytes of a feed were taken.
@@ -158,19 +147,19 @@ impl Transcript {
         self.note_held_total(all)
     }
 
-    fn note_held_count(&mut self, line: usize, n: usize) -> Result<(), AllocError>
-        ensures { OnOk result (self.new
-            ≡ record self.old { text = self.old.text ++ held_count line n }) }
-    {
-        let text = format!(in self.alloc; "line {line}: {n}")?;
-        self.text.extend_from_slice(text.as_bytes())
-    }
-
     fn note_held_total(&mut self, all: usize) -> Result<(), AllocError>
         ensures { OnOk result (self.new
             ≡ record self.old { text = self.old.text ++ held_total all }) }
     {
         let text = format!(in self.alloc; " of {all} bytes held\n")?;
+        self.text.extend_from_slice(text.as_bytes())
+    }
+
+    fn note_held_count(&mut self, line: usize, n: usize) -> Result<(), AllocError>
+        ensures { OnOk result (self.new
+            ≡ record self.old { text = self.old.text ++ held_count line n }) }
+    {
+        let text = format!(in self.alloc; "line {line}: {n}")?;
         self.text.extend_from_slice(text.as_bytes())
     }
 

@@ -57,13 +57,10 @@ fn action_of(
 ) -> Result<Option<Action>, AllocError>
     ensures { IfOk result (λ action. action ≡ action_of list.now verb.now text.now) }
 {
-    if verb == b"took".as_slice() {
-        Ok(taking(client_and_rest(text)))
-    } else if verb == b"driver-took".as_slice() {
-        Ok(taking(driver_and_rest(list, text)))
-    } else {
-        let event = event_of(alloc, list, verb, text)?;
-        Ok(event.map(|event| Action::Happens(event)))
+    match verb {
+        _ if verb == b"took".as_slice() => Ok(taking(client_and_rest(text))),
+        _ if verb == b"driver-took".as_slice() => Ok(taking(driver_and_rest(list, text))),
+        _ => Ok(event_of(alloc, list, verb, text)?.map(|event| Action::Happens(event))),
     }
 }
 
@@ -76,18 +73,14 @@ fn event_of(
 ) -> Result<Option<Event>, AllocError>
     ensures { IfOk result (λ event. event ≡ event_of list.now verb.now text.now) }
 {
-    if verb == b"up".as_slice() {
-        Ok(ups(list, text).map(|u| Event::DriverUp(u)))
-    } else if verb == b"down".as_slice() {
-        Ok(ups(list, text).map(|u| Event::DriverDown(u)))
-    } else if verb == b"driver".as_slice() {
-        sending(alloc, Form::Line, driver_and_rest(list, text))
-    } else if verb == b"driver-part".as_slice() {
-        sending(alloc, Form::Part, driver_and_rest(list, text))
-    } else if verb == b"driver-hex".as_slice() {
-        sending(alloc, Form::Hex, driver_and_rest(list, text))
-    } else {
-        client_event(alloc, verb, text)
+    let driver = driver_and_rest(list, text);
+    match verb {
+        _ if verb == b"up".as_slice() => Ok(ups(list, text).map(|u| Event::DriverUp(u))),
+        _ if verb == b"down".as_slice() => Ok(ups(list, text).map(|u| Event::DriverDown(u))),
+        _ if verb == b"driver".as_slice() => sending(alloc, Form::Line, driver),
+        _ if verb == b"driver-part".as_slice() => sending(alloc, Form::Part, driver),
+        _ if verb == b"driver-hex".as_slice() => sending(alloc, Form::Hex, driver),
+        _ => client_event(alloc, verb, text),
     }
 }
 
@@ -95,22 +88,16 @@ fn event_of(
 fn client_event(alloc: Global, verb: &[u8], text: &[u8]) -> Result<Option<Event>, AllocError>
     ensures { IfOk result (λ event. event ≡ client_event verb.now text.now) }
 {
-    if verb == b"open".as_slice() {
-        Ok(address(text).map(|from| Event::Open(from)))
-    } else if verb == b"client".as_slice() {
-        sending(alloc, Form::Line, client_and_rest(text))
-    } else if verb == b"part".as_slice() {
-        sending(alloc, Form::Part, client_and_rest(text))
-    } else if verb == b"client-hex".as_slice() {
-        sending(alloc, Form::Hex, client_and_rest(text))
-    } else if verb == b"close".as_slice() {
-        Ok(read_number(text).map(|c| Event::Close(c)))
-    } else if verb == b"tick".as_slice() {
-        Ok(read_number(text).map(|seconds| Event::Tick(seconds)))
-    } else if verb == b"id".as_slice() {
-        Ok(read_id(text).map(|id| Event::Id(id)))
-    } else {
-        Ok(None)
+    let client = client_and_rest(text);
+    match verb {
+        _ if verb == b"open".as_slice() => Ok(address(text).map(|from| Event::Open(from))),
+        _ if verb == b"client".as_slice() => sending(alloc, Form::Line, client),
+        _ if verb == b"part".as_slice() => sending(alloc, Form::Part, client),
+        _ if verb == b"client-hex".as_slice() => sending(alloc, Form::Hex, client),
+        _ if verb == b"close".as_slice() => Ok(read_number(text).map(|c| Event::Close(c))),
+        _ if verb == b"tick".as_slice() => Ok(read_number(text).map(|s| Event::Tick(s))),
+        _ if verb == b"id".as_slice() => Ok(read_id(text).map(|id| Event::Id(id))),
+        _ => Ok(None),
     }
 }
 
