@@ -3,7 +3,7 @@ ghost use Rattle.std.specs.Prelude.{◌≡◌};
 ghost use Rattle.std.specs.Result.{result_ok};
 ghost use Rattle.nutanswer.specs.View.{asker_seen};
 ghost use Rattle.nutanswer.specs.Checks.{unknown_ups, user, too_long_of_command, no_id};
-ghost use Rattle.nutanswer.specs.Orders.{instcmd_right, is_short_enough, is_listed, is_in_ranges, is_within_one, is_within};
+ghost use Rattle.nutanswer.specs.Orders.{instcmd_right, is_short_enough, is_listed, is_in_ranges, is_within_one};
 ghost use Rattle.nutanswer.specs.Promises.{known_ups, known_variable, known_command, found, live_ups, live_variable, live_command, settable};
 
 use crate::err_word::Checked;
@@ -179,7 +179,7 @@ fn is_in_ranges(ranges: &[Range], value: &Value) -> bool
     ranges.is_empty() || is_within_one(ranges, read_number(value.as_bytes()))
 }
 
-/// Whether there is a number, and it is within one of these ranges.
+/// Whether there is a number, and it is within one of these ranges, its ends included.
 fn is_within_one(ranges: &[Range], number: Option<i32>) -> bool
     ensures { result ≡ is_within_one ranges.now number }
 {
@@ -187,16 +187,9 @@ fn is_within_one(ranges: &[Range], number: Option<i32>) -> bool
         return false;
     };
     for range in ranges {
-        if is_within(number, range) {
+        if range.least <= number && number <= range.greatest {
             return true;
         }
     }
     false
-}
-
-/// Whether the number is within the range, its ends included.
-fn is_within(number: i32, range: &Range) -> bool
-    ensures { result ≡ is_within number range.now }
-{
-    range.least <= number && number <= range.greatest
 }

@@ -120,12 +120,10 @@ impl<'a> Command<'a> {
         match first {
             _ if first.is_word(b"USERNAME") => Ok(Command::Username(text_alone(words)?)),
             _ if first.is_word(b"PASSWORD") => Ok(Command::Password(text_alone(words)?)),
-            _ if first.is_word(b"LOGIN") || first.is_word(b"ATTACH") => {
-                Ok(Command::Login(text_alone(words)?))
-            }
-            _ if first.is_word(b"LOGOUT") || first.is_word(b"DETACH") => {
-                alone(Command::Logout, words)
-            }
+            _ if first.is_word(b"LOGIN") => Ok(Command::Login(text_alone(words)?)),
+            _ if first.is_word(b"ATTACH") => Ok(Command::Login(text_alone(words)?)),
+            _ if first.is_word(b"LOGOUT") => alone(Command::Logout, words),
+            _ if first.is_word(b"DETACH") => alone(Command::Logout, words),
             _ if first.is_word(b"PRIMARY") => Ok(Command::Primary(text_alone(words)?)),
             _ if first.is_word(b"FSD") => Ok(Command::Fsd(text_alone(words)?)),
             _ if first.is_word(b"INSTCMD") => {

@@ -216,20 +216,14 @@ impl Session {
         ensures keeps { KeepsCount self.old.owed scratch.old.renders
             self.new.owed scratch.new.renders }
     {
+        self.take_line(end);
         match reply {
             Reply::One(text, change) => {
                 self.owe(text, scratch);
-                self.take_line(end);
                 self.change(change);
             }
-            Reply::Many(listing) => {
-                self.owe_listing(listing, scratch);
-                self.take_line(end);
-            }
-            Reply::Clients(ups, _) => {
-                self.owe_clients(&ups, scratch);
-                self.take_line(end);
-            }
+            Reply::Many(listing) => self.owe_listing(listing, scratch),
+            Reply::Clients(ups, _) => self.owe_clients(&ups, scratch),
         }
     }
 

@@ -71,8 +71,8 @@ impl Ups {
         self.faulty
     }
 
-    /// How its data stand at the moment. Clients are told what its driver has reported where that is connected, has
-    /// reported all that it knows, says that its data are right, and was heard no longer ago than the greatest age.
+    /// How its data stand at the moment. Clients see them only while they are good: the driver is connected, has reported
+    /// all that it knows, says that they are right, and was heard within the greatest age.
     pub(crate) fn data_state(&self, max_age: u32, moment: u64) -> DataState
         ensures { result ≡ data_state_of max_age moment self.now }
     {

@@ -100,7 +100,7 @@ pub fn ups_line_into(kind: &[u8], ups: &UpsName, desc: Option<&Value>, line: &mu
     ensures whole { IsWholeLine line.new.items }
 {
     front(line, kind, ups);
-    push_quoted(line, ups_described(desc));
+    push_quoted(line, desc.map_or(b"Unavailable", |text| text.as_bytes()));
     finish(line);
 }
 
@@ -111,15 +111,6 @@ pub fn described(text: Option<&Value>) -> &[u8]
     ensures lawful { IsTrue (list_all is_lawful result.now) }
 {
     text.map_or(b"Description unavailable", |text| text.as_bytes())
-}
-
-/// The description of a UPS as clients see it.
-fn ups_described(text: Option<&Value>) -> &[u8]
-    ensures value { result.now ≡ text_or_unavailable (option_copied text.entry) }
-    ensures short { length result.now ≤ VALUE_LIMIT }
-    ensures lawful { IsTrue (list_all is_lawful result.now) }
-{
-    text.map_or(b"Unavailable", |text| text.as_bytes())
 }
 
 /// Makes the line of a command.
