@@ -33,7 +33,7 @@ returns-in-Err-clause-gives g c h =
     l.items l.request-index request kept mid middle l.invariant.under_way c.loop-request-test.true c.request-item.is in
     inl (
       subst (λ requests. RequestsGive g.R.Source.remaining g.R.Source.failures g.W.Sink.contents g.W.Sink.failures requests old reader writer
-          (Err c.in-Err.fault) (unread_of c.ask.new.session) (reader_of c.ask.new.session) (writer_of c.ask.new.session)) c.as_slice-request-items.ensures
+          (Err c.in-Err.fault) (unread_of c.ask.new.session) (reader_of c.ask.new.session) (writer_of c.ask.new.session)) c.as_slice-request-items.ensures.value
           (ends_early g.R.Source.remaining g.R.Source.failures g.W.Sink.contents g.W.Sink.failures all old reader writer
           l.items request (drop (l.request-index + 1) all) kept mid middle next
           (unread_of c.ask.new.session) (reader_of c.ask.new.session) (writer_of c.ask.new.session) c.in-Err.fault
