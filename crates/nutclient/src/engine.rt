@@ -11,7 +11,7 @@ use crate::ending::report;
 use crate::printed::print;
 use crate::{Job, Program};
 use nutio::{Sink, Source};
-use nutrequest::{ClientFault, Items, Session, ask};
+use nutrequest::{ClientFault, Session, ask};
 use std::alloc::Global;
 
 /// Does the job over a new session with these two ends: what a client program does once it is connected. It prints on `out`
@@ -77,14 +77,14 @@ pub fn run<R: Source, W: Sink, O: Sink>(
     if session.is_over() {
         return Err(ClientFault::EarlyEnd);
     }
-    let mut items = Items::new(session.alloc);
+    let mut items = Vec::new(session.alloc);
     for request in job.requests.as_slice() {
         items = match ask(session, request) {
             Ok(items) => items,
             Err(fault) => return Err(fault),
         };
     }
-    let printed = print(session.alloc, job.form, &items, out);
+    let printed = print(session.alloc, job.form, items.as_slice(), out);
     if printed.is_err() {
         session.end();
     }
