@@ -14,7 +14,6 @@ use Rattle.nutrequest.specs.declared.request.Request.{Request}
 use Rattle.nutrequest.specs.declared.request.Request.TheVariants.{List as ListOf, GetVar, GetNumAttach, GetTracking}
 use Rattle.nutclient.specs.Job.{UpsPlace, JobParts, listing_of, variable_of, upses_of, parts_of, count_of, tracked_of}
 use Rattle.nutclient.specs.Printed.{Prints, printed, Answers}
-use Rattle.nutclient.specs.Requests.{requests_in}
 use Rattle.nutclient.specs.Target.{lawful, both, ups_of, has_byte, server_of, local_server, ups_place_of}
 use Rattle.nutclient.specs.declared.form.Form.{Form}
 use Rattle.nutclient.specs.declared.form.Form.TheVariants as forms
@@ -64,7 +63,7 @@ place_lawful text place h = subst (λ o. IfSome o (λ place. is_ups_name place.0
 
 -- what a job asks for, and in which form it is printed
 pub record Asks (requests : List Request) (form : Form) (job : Job) : Type 0 where
-  pub requests_are : requests_in job.requests ≡ requests
+  pub requests_are : job.requests.items ≡ requests
   pub form_is : job.form ≡ form
 
 asks_parts : (target : Target) (requests : List Request) (form : Form) (job : Job) → Some (target, requests, form) ≡ Some (parts_of job) → Asks requests form job
@@ -111,14 +110,14 @@ module _ {R W O : Type 0} (remaining : R → Option (List ℕ)) (failures : R �
       → NoneFailed (failures (reader_of r.session)) (failures (reader_of r.session_after))
       → NoneFailed (write_failures (writer_of r.session)) (write_failures (writer_of r.session_after))
       → NoneFailed (print_failures r.out) (print_failures r.out_after) → r.result ≢ Err Memory
-      → Answers contents (printed (requests_in job.requests) job.form (unread_of r.session ++ bytes)) r.out r.result r.out_after
+      → Answers contents (printed job.requests.items job.form (unread_of r.session ++ bytes)) r.out r.result r.out_after
 
   pub handed : (job : Job) (requests : List Request) (form : Form) (bytes text : List ℕ) (r : ProgramRun R W O)
       → Runs job r → Asks requests form job → printed requests form bytes ≡ Prints text → IsHanded remaining failures write_failures contents print_failures bytes r → IsPrinted remaining failures write_failures contents print_failures text r
   handed job requests form bytes text r runs asks prints h =
       let answers = runs h.going bytes h.gives h.reads h.writes h.prints h.memory in
-      let same : printed (requests_in job.requests) job.form (unread_of r.session ++ bytes) ≡ Prints text =
-      ap (λ before. printed (requests_in job.requests) job.form (before ++ bytes)) h.fresh
+      let same : printed job.requests.items job.form (unread_of r.session ++ bytes) ≡ Prints text =
+      ap (λ before. printed job.requests.items job.form (before ++ bytes)) h.fresh
       ∙ ap (λ rs. printed rs job.form bytes) asks.requests_are
       ∙ ap (λ f. printed requests f bytes) asks.form_is
       ∙ prints in

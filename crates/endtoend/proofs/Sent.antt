@@ -14,10 +14,11 @@ use Rattle.nuttracking.proofs.PublicLaws.{read_is_written}
 use Rattle.nutrequest.specs.declared.request.Query.TheVariants as queries
 use Rattle.nutrequest.specs.declared.request.Request.{Request}
 use Rattle.nutrequest.specs.declared.request.Request.TheVariants as requests
-use Rattle.nutclient.specs.Job.{UpsPlace, JobParts, server_or_local, upses_of, word_of, login_of, setting_of, value_of, before_order, ordered, set_request, command_request}
+use Rattle.nutclient.specs.Job.{UpsPlace, JobParts, server_or_local, upses_of, word_of, tracking, login_of, setting_of, value_of, ordered, set_request, command_request}
 use Rattle.nutclient.specs.Target.{lawful, both, has_byte, ups_place_of}
 use Rattle.nutclient.specs.declared.form.Form.{Form}
 use Rattle.nutclient.specs.declared.form.Form.TheVariants as forms
+use Rattle.nutclient.specs.declared.given.Sender.{Sender}
 use Rattle.nutclient.specs.declared.given.Given.TheVariants.{Variables, Variable, Upses, Descriptions, Clients, Attached, Tracked, Writable, Set, Commands, Command}
 use Rattle.nutclient.specs.declared.limits.TheConstants.{USER_LIMIT, PASSWORD_LIMIT}
 use Rattle.nutclient.specs.declared.target.Target.{Target}
@@ -82,19 +83,20 @@ of_server : (form : Form) (server : Option Target) → IfSome (upses_of form ser
 of_server form None = tt
 of_server form (Some target) = one (requests.List queries.Ups) list_ups_read
 
-login : (user password : List ℕ) → IfSome (login_of user password) (All IsReadAsAsked)
-login user password =
-    of_both _ (IsWord USER_LIMIT) (IsWord PASSWORD_LIMIT) (All IsReadAsAsked) _ _ (word_read USER_LIMIT user) (word_read PASSWORD_LIMIT password)
-    (λ u p h k. All-cons IsReadAsAsked (requests.Username u) (requests.Password p ∷ []) (username_read u h) (one (requests.Password p) (password_read p k)))
+tracked : (track : Bool) → All IsReadAsAsked (tracking track)
+tracked false = All-nil IsReadAsAsked
+tracked true = one requests.SetTracking set_tracking_read
 
-before : (track : Bool) (login : List Request) → All IsReadAsAsked login → All IsReadAsAsked (before_order track login)
-before false login h = h
-before true login h = All-push IsReadAsAsked login requests.SetTracking h set_tracking_read
+login : (by : Sender) → IfSome (login_of by) (All IsReadAsAsked)
+login by =
+    of_both _ (IsWord USER_LIMIT) (IsWord PASSWORD_LIMIT) (All IsReadAsAsked) _ _ (word_read USER_LIMIT by.user.now) (word_read PASSWORD_LIMIT by.password.now)
+    (λ u p h k. All-cons IsReadAsAsked (requests.Username u) (requests.Password p ∷ tracking by.track) (username_read u h)
+    (All-cons IsReadAsAsked (requests.Password p) (tracking by.track) (password_read p k) (tracked by.track)))
 
-of_order : (track : Bool) (user password : List ℕ) (o : Option (Target × Request)) → IfSome o (λ o. IsReadAsAsked o.1) → IfSome (ordered track (login_of user password) o) AreRead
-of_order track user password o h =
-    of_both _ (All IsReadAsAsked) (λ (o : Target × Request). IsReadAsAsked o.1) AreRead (login_of user password) o (login user password) h
-    (λ requests o all read. All-push IsReadAsAsked (before_order track requests) o.1 (before track requests all) read)
+of_order : (by : Sender) (o : Option (Target × Request)) → IfSome o (λ o. IsReadAsAsked o.1) → IfSome (ordered (login_of by) o) AreRead
+of_order by o h =
+    of_both _ (All IsReadAsAsked) (λ (o : Target × Request). IsReadAsAsked o.1) AreRead (login_of by) o (login by) h
+    (λ before o all read. All-push IsReadAsAsked before o.1 all read)
 
 set_asked : (track : Bool) (ups name value : List ℕ) → is_ups_name ups ≡ true → is_name name ≡ true → is_value value ≡ true → IsReadAsAsked (set_request track ups name value)
 set_asked false ups name value h k v = set_read ups name value h k v
@@ -121,12 +123,12 @@ each_read (Clients ups) = of_place (λ u. requests.List (queries.Client u)) form
 each_read (Attached ups) = of_place (λ u. requests.GetNumAttach u) forms.Value ups.now num_attach_read
 each_read (Tracked ups id) = of_both _ (λ place. is_ups_name place.0 ≡ true) (λ i. i < 2 ^ 128) AreRead _ _ (place_read ups.now) (id_read id.now) (λ p i h k. one (requests.GetTracking i) (get_tracking_read i k))
 each_read (Writable ups) = of_place (λ u. requests.List (queries.Rw u)) forms.Equals ups.now list_rw_read
-each_read (Set ups setting user password track) =
-    of_order track user.now password.now _
-    (of_both _ (λ place. is_ups_name place.0 ≡ true) IsSetting (λ o. IsReadAsAsked o.1) _ _ (place_read ups.now) (setting_read setting.now) (λ p set h k. set_asked track p.0 set.0 set.1 h k.0 k.1))
+each_read (Set ups setting by) =
+    of_order by _
+    (of_both _ (λ place. is_ups_name place.0 ≡ true) IsSetting (λ o. IsReadAsAsked o.1) _ _ (place_read ups.now) (setting_read setting.now) (λ p set h k. set_asked by.track p.0 set.0 set.1 h k.0 k.1))
 each_read (Commands ups) = of_place (λ u. requests.List (queries.Cmd u)) forms.Name ups.now list_cmd_read
-each_read (Command ups name value user password track) =
-    of_order track user.now password.now _
+each_read (Command ups name value by) =
+    of_order by _
     (of_both _ (λ (named : UpsPlace × List ℕ). (is_ups_name named.0.0 ≡ true) × (is_name named.1 ≡ true)) (λ v. IfSome v (λ text. IsTrue (is_value text))) (λ o. IsReadAsAsked o.1) _ _
     (of_both _ (λ place. is_ups_name place.0 ≡ true) (λ n. is_name n ≡ true) (λ named. (is_ups_name named.0.0 ≡ true) × (is_name named.1 ≡ true)) _ _ (place_read ups.now) (name_read name.now) (λ p n h k. (h, k))) (if_given value)
-    (λ named v h k. command_asked track named.0.0 named.1 v h.0 h.1 k))
+    (λ named v h k. command_asked by.track named.0.0 named.1 v h.0 h.1 k))

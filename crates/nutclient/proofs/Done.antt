@@ -42,17 +42,27 @@ status_one (ErrWord word) none = refl
 status_one BadReply none = refl
 status_one Memory none = refl
 
+-- a new session has read nothing
+from_new : {R W O : Type 0} (rem : R → Option (List ℕ)) (rf : R → ℕ) (con : W → Option (List ℕ)) (wf : W → ℕ) (oc : O → Option (List ℕ)) (of : O → ℕ)
+    (requests : List Request) (form : Form) (old : List ℕ) (first reader : R) (begun writer : W) (out : O) (outcome : Result (Unit {0}) ClientFault) (new : List ℕ) (after : R) (sent : W) (then : O)
+    → old ≡ [] → first ≡ reader → begun ≡ writer
+    → RunGives rem rf con wf oc of requests form old first begun out outcome new after sent then → RunGives rem rf con wf oc of requests form [] reader writer out outcome new after sent then
+from_new rem rf con wf oc of requests form old first reader begun writer out outcome new after sent then o f b g =
+    subst (λ x. RunGives rem rf con wf oc of requests form [] reader x out outcome new after sent then) b
+    (subst (λ x. RunGives rem rf con wf oc of requests form [] x begun out outcome new after sent then) f
+    (subst (λ x. RunGives rem rf con wf oc of requests form x first begun out outcome new after sent then) o g))
+
 module _ {R W O E : Type 0} (rem : R → Option (List ℕ)) (rf : R → ℕ) (con : W → Option (List ℕ)) (wf : W → ℕ) (oc : O → Option (List ℕ)) (of : O → ℕ)
     (ec : E → Option (List ℕ)) (ef : E → ℕ) (program : Program) (requests : List Request) (form : Form) (reader : R) (writer : W) (out : O) (err : E)
     (new : List ℕ) (after : R) (sent : W) (then : O) (told : E) (status : ℕ) where
   fault_status : (fault : ClientFault) → RunGives rem rf con wf oc of requests form [] reader writer out (Err fault) new after sent then → status ≡ status_of fault → status ≡ 1
   fault_status fault g e = e ∙ status_one fault (λ bad. no_word_fault rem rf con wf oc of requests form [] new reader after writer sent out then (Err fault) g (ap Err bad))
 
-  pub status_most : (outcome : Result (Unit {0}) ClientFault) → RunGives rem rf con wf oc of requests form [] reader writer out outcome new after sent then → EndsBy ec ef program outcome err status told → status ≤ 1
+  status_most : (outcome : Result (Unit {0}) ClientFault) → RunGives rem rf con wf oc of requests form [] reader writer out outcome new after sent then → EndsBy ec ef program outcome err status told → status ≤ 1
   status_most (Ok done) g e = omega (arith, e.0)
   status_most (Err fault) g e = omega (arith, fault_status fault g e.0)
 
-  pub is_done : (outcome : Result (Unit {0}) ClientFault) → RunGives rem rf con wf oc of requests form [] reader writer out outcome new after sent then → EndsBy ec ef program outcome err status told → status ≡ 0
+  is_done : (outcome : Result (Unit {0}) ClientFault) → RunGives rem rf con wf oc of requests form [] reader writer out outcome new after sent then → EndsBy ec ef program outcome err status told → status ≡ 0
       → IsDone rem rf con wf oc of requests form reader writer out after sent then
   is_done (Err fault) g e zero = absurd (omega (arith, fault_status fault g e.0, zero))
   is_done (Ok done) g e zero =
@@ -69,12 +79,11 @@ module _ {R W O E : Type 0} (rem : R → Option (List ℕ)) (rf : R → ℕ) (co
         output = g.2;
       }
 
--- a new session has read nothing
-pub from_new : {R W O : Type 0} (rem : R → Option (List ℕ)) (rf : R → ℕ) (con : W → Option (List ℕ)) (wf : W → ℕ) (oc : O → Option (List ℕ)) (of : O → ℕ)
-    (requests : List Request) (form : Form) (old : List ℕ) (first reader : R) (begun writer : W) (out : O) (outcome : Result (Unit {0}) ClientFault) (new : List ℕ) (after : R) (sent : W) (then : O)
-    → old ≡ [] → first ≡ reader → begun ≡ writer
-    → RunGives rem rf con wf oc of requests form old first begun out outcome new after sent then → RunGives rem rf con wf oc of requests form [] reader writer out outcome new after sent then
-from_new rem rf con wf oc of requests form old first reader begun writer out outcome new after sent then o f b g =
-    subst (λ x. RunGives rem rf con wf oc of requests form [] reader x out outcome new after sent then) b
-    (subst (λ x. RunGives rem rf con wf oc of requests form [] x begun out outcome new after sent then) f
-    (subst (λ x. RunGives rem rf con wf oc of requests form x first begun out outcome new after sent then) o g))
+  -- what a new session's run and what is reported of it say together
+  pub ends : (old : List ℕ) (first : R) (begun : W) (outcome : Result (Unit {0}) ClientFault) → old ≡ [] → first ≡ reader → begun ≡ writer
+      → RunGives rem rf con wf oc of requests form old first begun out outcome new after sent then → EndsBy ec ef program outcome err status told
+      → ((o : Result (Unit {0}) ClientFault) × RunGives rem rf con wf oc of requests form [] reader writer out o new after sent then × EndsBy ec ef program o err status told)
+      × (status ≡ 0 → IsDone rem rf con wf oc of requests form reader writer out after sent then) × (status ≤ 1)
+  ends old first begun outcome o f b g e =
+      let run = from_new rem rf con wf oc of requests form old first reader begun writer out outcome new after sent then o f b g in
+      ((outcome, run, e), (λ zero. is_done outcome run e zero), status_most outcome run e)

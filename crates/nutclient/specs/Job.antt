@@ -16,11 +16,11 @@ use Rattle.nutrequest.specs.declared.request.Request.TheVariants.{TrackedSetVar,
 use Rattle.nutrequest.specs.declared.request.Request.TheVariants.{GetTracking}
 use Rattle.nutclient.specs.Target.{lawful, both, has_byte, server_of, local_server, ups_place_of}
 use Rattle.nutclient.specs.declared.limits.TheConstants.{USER_LIMIT, PASSWORD_LIMIT}
-use Rattle.nutclient.specs.Requests.{requests_in}
 use Rattle.nutclient.specs.declared.job.Job.{Job}
 use Rattle.nutclient.specs.declared.target.Target.{Target}
 use Rattle.nutclient.specs.declared.form.Form.{Form}
 use Rattle.nutclient.specs.declared.form.Form.TheVariants.{Name, Value, Colon, Equals}
+use Rattle.nutclient.specs.declared.given.Sender.{Sender}
 use Rattle.nutclient.specs.declared.given.Given.{Given}
 use Rattle.nutclient.specs.declared.given.Given.TheVariants.{Variables, Variable, Upses}
 use Rattle.nutclient.specs.declared.given.Given.TheVariants.{Descriptions, Clients, Attached}
@@ -36,7 +36,7 @@ JobParts = Target × List Request × Form
 
 -- What a job is of.
 abbrev pub parts_of : Job → JobParts
-parts_of job = (job.target, requests_in job.requests, job.form)
+parts_of job = (job.target, job.requests.items, job.form)
 
 -- A listing of a UPS.
 abbrev pub listing_of : (List ℕ → Query) → Form → Option UpsPlace → Option JobParts
@@ -55,11 +55,16 @@ abbrev pub word_of : ℕ → List ℕ → Option (List ℕ)
 word_of most text =
     if nat_le 1 (length text) && nat_le (length text) most then lawful (read_value text) else None
 
--- The user's name, then the password.
-abbrev pub login_of : List ℕ → List ℕ → Option (List Request)
-login_of user password =
-    both (λ u p. Username u ∷ Password p ∷ []) (word_of USER_LIMIT user)
-    (word_of PASSWORD_LIMIT password)
+-- The asking for the ids of orders, where they are tracked.
+abbrev pub tracking : Bool → List Request
+tracking false = []
+tracking true = SetTracking ∷ []
+
+-- What an order is sent after.
+abbrev pub login_of : Sender → Option (List Request)
+login_of by =
+    both (λ user password. Username user ∷ Password password ∷ tracking by.track)
+    (word_of USER_LIMIT by.user.now) (word_of PASSWORD_LIMIT by.password.now)
 
 -- The variable and the value of `VAR=VALUE`, cut at the first equals sign.
 abbrev pub setting_of : List ℕ → Option (List ℕ × List ℕ)
@@ -74,14 +79,9 @@ abbrev pub value_of : Option (Bor (List ℕ)) → Option (Option (List ℕ))
 value_of None = Some None
 value_of (Some text) = option_map (λ value. Some value) (lawful (read_value text.now))
 
--- What an order is sent after: the login, and where it is tracked, the asking for its id.
-abbrev pub before_order : Bool → List Request → List Request
-before_order false login = login
-before_order true login = login ++ SetTracking ∷ []
-
--- An order after the login.
-abbrev pub ordered : Bool → Option (List Request) → Option (Target × Request) → Option JobParts
-ordered track = both (λ login o. (o.0, before_order track login ++ o.1 ∷ [], Value))
+-- An order after these requests, at the server that it is for.
+abbrev pub ordered : Option (List Request) → Option (Target × Request) → Option JobParts
+ordered = both (λ before o. (o.0, before ++ o.1 ∷ [], Value))
 
 -- The order to set a variable, and the one to do a command, tracked or not.
 abbrev pub set_request : Bool → List ℕ → List ℕ → List ℕ → Request
@@ -128,10 +128,9 @@ job_of (Clients ups) = listing_of Client Name (ups_place_of ups.now)
 job_of (Attached ups) = count_of (ups_place_of ups.now)
 job_of (Tracked ups id) = tracked_of (ups_place_of ups.now) (read_id id.now)
 job_of (Writable ups) = listing_of Rw Equals (ups_place_of ups.now)
-job_of (Set ups setting user password track) =
-    ordered track (login_of user.now password.now)
-    (set_order track (ups_place_of ups.now) (setting_of setting.now))
+job_of (Set ups setting by) =
+    ordered (login_of by) (set_order by.track (ups_place_of ups.now) (setting_of setting.now))
 job_of (Commands ups) = listing_of Cmd Name (ups_place_of ups.now)
-job_of (Command ups name value user password track) =
-    ordered track (login_of user.now password.now)
-    (command_order track (ups_place_of ups.now) (lawful (read_name name.now)) (value_of value))
+job_of (Command ups name value by) =
+    ordered (login_of by)
+    (command_order by.track (ups_place_of ups.now) (lawful (read_name name.now)) (value_of value))

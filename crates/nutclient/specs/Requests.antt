@@ -6,16 +6,8 @@ use Rattle.nutrequest.specs.Reply.{Reply, Refused, Whole, Bad, Unfinished, reply
 use Rattle.nutrequest.specs.Session.{Fails}
 use Rattle.nutrequest.specs.declared.item.Item.{Item}
 use Rattle.nutrequest.specs.declared.request.Request.{Request}
-use Rattle.nutclient.specs.declared.requests.Requests.{Requests}
-use Rattle.nutclient.specs.declared.requests.Requests.TheVariants.{Alone, BehindLogin, Tracked}
 use Rattle.nutrequest.specs.declared.faults.ClientFault.{ClientFault}
 use Rattle.nutrequest.specs.declared.faults.ClientFault.TheVariants.{Write, Memory}
-
--- The requests of a job, in the order in which they are sent.
-abbrev pub requests_in : Requests → List Request
-requests_in (Alone requests) = requests
-requests_in (BehindLogin requests) = requests
-requests_in (Tracked requests) = requests
 
 -- The lines after a reply that is whole; after another none.
 abbrev pub lines_behind : Reply → (List ℕ → List ℕ) → List ℕ

@@ -1,6 +1,5 @@
 //! The connection to a server.
-ghost use Rattle.std.specs.Prelude.{◌≡◌, ◌≢◌, ◌⊎◌, IfErr};
-ghost use Rattle.std.specs.IoError.{error_kind};
+ghost use Rattle.std.specs.Prelude.{◌≡◌, ◌⊎◌, IfErr};
 
 use crate::Target;
 use crate::limits::WAIT_SECONDS;
@@ -20,7 +19,10 @@ pub fn connect(rt: &HostRuntime, target: &Target) -> Result<TcpStream, ClientFau
     ensures { IfErr result
         (λ fault. (fault ≡ ClientFault.Connect) ⊎ (fault ≡ ClientFault.Memory)) }
 {
-    open(rt, target.address()).map_err(|error| fault_of(&error))
+    open(rt, target.address()).map_err(|error| match error.kind() {
+        ErrorKind::OutOfMemory => ClientFault::Memory,
+        _ => ClientFault::Connect,
+    })
 }
 
 /// The calls of the system that make a connection, which sends each line at once. No clause can say what they do.
@@ -39,15 +41,4 @@ fn open(rt: &HostRuntime, server: (&str, u16)) -> io::Result<TcpStream> {
         }
     }
     Err(last)
-}
-
-/// The fault of a connection that failed by this error.
-fn fault_of(error: &io::Error) -> ClientFault
-    ensures memory { error_kind error.now ≡ ErrorKind.OutOfMemory → result ≡ ClientFault.Memory }
-    ensures failed { error_kind error.now ≢ ErrorKind.OutOfMemory → result ≡ ClientFault.Connect }
-{
-    match error.kind() {
-        ErrorKind::OutOfMemory => ClientFault::Memory,
-        _ => ClientFault::Connect,
-    }
 }

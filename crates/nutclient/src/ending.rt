@@ -1,5 +1,5 @@
-//! How a program ends: its status, and the fault that it reports.
-ghost use Rattle.std.specs.Prelude.{◌≡◌};
+//! How a program that meets a fault ends: the line that reports it, and the status.
+ghost use Rattle.std.specs.Prelude.{◌≡◌, Err};
 ghost use Rattle.nutclient.specs.Ending.{fault_line, EndsBy};
 
 use crate::Program;
@@ -7,21 +7,12 @@ use nutio::{Sink, send};
 use nutrequest::ClientFault;
 use nutwords::Line;
 
-/// Ends the program by what came of it, and reports a fault. A line that isn't taken can't be reported either.
-pub(crate) fn conclude<E: Sink>(
-    err: &mut E,
-    program: Program,
-    outcome: &Result<(), ClientFault>,
-) -> u8
-    ensures { EndsBy E.contents E.failures program outcome.now err.old result err.new }
+/// Reports a fault, and gives the status that the program ends with. A line that isn't taken can't be reported either.
+pub(crate) fn report<E: Sink>(err: &mut E, program: Program, fault: &ClientFault) -> u8
+    ensures { EndsBy E.contents E.failures program (Err fault.now) err.old result err.new }
 {
-    match outcome {
-        Ok(()) => 0,
-        Err(fault) => {
-            let _ = send(err, &fault_line(program, fault));
-            fault.status()
-        }
-    }
+    let _ = send(err, &fault_line(program, fault));
+    fault.status()
 }
 
 /// The line that reports a fault, after the program's name.

@@ -3,15 +3,15 @@ ghost use Rattle.std.specs.Prelude.{◌≡◌, ◌≢◌, ◌≤◌, ◌++◌, [
 ghost use Rattle.nutio.specs.Ends.{NoneFailed};
 ghost use Rattle.nutrequest.specs.State.{unread_of, reader_of, writer_of, is_over};
 ghost use Rattle.nutrequest.specs.declared.faults.ClientFault.{ClientFault};
-ghost use Rattle.nutclient.specs.Requests.{RequestsGive, requests_in};
+ghost use Rattle.nutclient.specs.Requests.{RequestsGive};
 ghost use Rattle.nutclient.specs.Printed.{printed, RunGives, Answers};
 ghost use Rattle.nutclient.specs.Ending.{EndsBy, IsDone};
 
-use crate::ending::conclude;
+use crate::ending::report;
 use crate::printed::print;
 use crate::{Job, Program};
 use nutio::{Sink, Source};
-use nutrequest::{ClientFault, Items, Session, ask};
+use nutrequest::{ClientFault, Session, ask};
 use std::alloc::Global;
 
 /// Does the job over a new session with these two ends: what a client program does once it is connected. It prints on `out`
@@ -28,19 +28,20 @@ pub fn do_job<R: Source, W: Sink, O: Sink, E: Sink>(
     // What was sent, what came and what was printed, and by that the status and what is reported.
     ensures gives { (outcome : Result (Unit {0}) ClientFault)
         × RunGives R.remaining R.failures W.contents W.failures O.contents O.failures
-        (requests_in job.now.requests) job.now.form [] reader writer out.old outcome
+        job.now.requests.items job.now.form [] reader writer out.old outcome
         (unread_of result.1) (reader_of result.1) (writer_of result.1) out.new
         × EndsBy E.contents E.failures program outcome err.old result.0 err.new }
     // Status 0 says that each request was sent once, and that what is printed is the last reply.
     ensures done { result.0 ≡ 0 → IsDone R.remaining R.failures W.contents W.failures O.contents
-        O.failures (requests_in job.now.requests) job.now.form reader writer out.old
+        O.failures job.now.requests.items job.now.form reader writer out.old
         (reader_of result.1) (writer_of result.1) out.new }
     ensures most { result.0 ≤ 1 }
 {
     let mut session = Session::new(alloc, reader, writer);
-    let outcome = run(&mut session, out, job);
-    let status = conclude(err, program, &outcome);
-    (status, session)
+    match run(&mut session, out, job) {
+        Ok(()) => (0, session),
+        Err(fault) => (report(err, program, &fault), session),
+    }
 }
 
 /// Does the job: sends its requests, each once the one before is granted, and prints the items of the last reply once
@@ -56,7 +57,7 @@ pub fn run<R: Source, W: Sink, O: Sink>(
     // What was sent, what came and what was printed, for each result.
     ensures gives { is_over session.old ≡ false
         → RunGives R.remaining R.failures W.contents W.failures O.contents O.failures
-        (requests_in job.now.requests) job.now.form
+        job.now.requests.items job.now.form
         (unread_of session.old) (reader_of session.old) (writer_of session.old) out.old result
         (unread_of session.new) (reader_of session.new) (writer_of session.new) out.new }
     // Where no call failed and memory was there, the bytes decide what is printed, however they are cut.
@@ -67,7 +68,7 @@ pub fn run<R: Source, W: Sink, O: Sink>(
         → NoneFailed (O.failures out.old) (O.failures out.new)
         → result ≢ Err ClientFault.Memory
         → Answers O.contents
-        (printed (requests_in job.now.requests) job.now.form (unread_of session.old ++ bytes))
+        (printed job.now.requests.items job.now.form (unread_of session.old ++ bytes))
         out.old result out.new }
     ensures fault { OnErr result (is_over session.new ≡ true) }
     // A job that is done leaves the session to the next one, with what was read past its replies.
@@ -76,14 +77,14 @@ pub fn run<R: Source, W: Sink, O: Sink>(
     if session.is_over() {
         return Err(ClientFault::EarlyEnd);
     }
-    let mut items = Items::new(session.alloc);
+    let mut items = Vec::new(session.alloc);
     for request in job.requests.as_slice() {
         items = match ask(session, request) {
             Ok(items) => items,
             Err(fault) => return Err(fault),
         };
     }
-    let printed = print(session.alloc, job.form, &items, out);
+    let printed = print(session.alloc, job.form, items.as_slice(), out);
     if printed.is_err() {
         session.end();
     }

@@ -25,23 +25,27 @@ pub enum Given<'a> {
     },
     /// `upsrw UPS`: the variables that may be set.
     Writable(&'a str),
-    /// `upsrw [--track] -s VAR=VALUE -u USER -p PASS UPS`: set a variable, and track the order where it is said.
+    /// `upsrw [--track] -s VAR=VALUE -u USER -p PASS UPS`: set a variable.
     Set {
         ups: &'a str,
         setting: &'a str,
-        user: &'a str,
-        password: &'a str,
-        track: bool,
+        by: Sender<'a>,
     },
     /// `upscmd -l UPS`: the commands of a UPS.
     Commands(&'a str),
-    /// `upscmd [--track] -u USER -p PASS UPS CMD [VALUE]`: do a command, and track the order where it is said.
+    /// `upscmd [--track] -u USER -p PASS UPS CMD [VALUE]`: do a command.
     Command {
         ups: &'a str,
         name: &'a str,
         value: Option<&'a str>,
-        user: &'a str,
-        password: &'a str,
-        track: bool,
+        by: Sender<'a>,
     },
+}
+
+/// Who sends an order, `-u USER -p PASS`, and whether the server is to track it, `--track`.
+#[derive(Clone, Copy)]
+pub struct Sender<'a> {
+    pub user: &'a str,
+    pub password: &'a str,
+    pub track: bool,
 }

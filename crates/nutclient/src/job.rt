@@ -1,11 +1,13 @@
 //! What a program does at the server.
-ghost use Rattle.std.specs.Prelude.{◌≡◌, ◌∷◌, [], Some, None, MatchResult, option_map};
+ghost use Rattle.std.specs.Prelude.{◌≡◌, ◌≤◌, ◌∷◌, [], IfSome, length, option_map};
 ghost use Rattle.nutwords.specs.Reading.{read_name, read_value};
 ghost use Rattle.nuttracking.specs.Id.{read_id};
 ghost use Rattle.nutclient.specs.Target.{both, lawful, ups_place_of};
 ghost use Rattle.nutclient.specs.Job.{parts_of, variable_of, listing_of, server_or_local, upses_of, word_of, login_of, setting_of, value_of, ordered, set_request, command_request, set_order, command_order, tracked_of, job_of};
 
-use crate::{Form, Given, PASSWORD_LIMIT, Requests, Target, USER_LIMIT};
+use crate::limits::REQUEST_LIMIT;
+use crate::{Form, Given, PASSWORD_LIMIT, Sender, Target, USER_LIMIT};
+use arrayvec::ArrayVec;
 use nutrequest::{Query, Request};
 use nuttracking::read_id;
 use nutwords::{Name, UpsName, Value};
@@ -15,12 +17,9 @@ use nutwords::{Name, UpsName, Value};
 #[derive(Drop)]
 pub struct Job {
     pub target: Target,
-    pub requests: Requests,
+    pub requests: ArrayVec<Request, REQUEST_LIMIT>,
     pub form: Form,
 }
-
-/// A user's name and password, as requests.
-type Login = (Request, Request);
 
 /// A server, and what is asked of it after a login.
 type Order = (Target, Request);
@@ -58,29 +57,15 @@ impl Job {
                 let (ups, target) = Target::read(ups)?;
                 Some(single(target, Request::List(Query::Cmd(ups)), Form::Name))
             }
-            Given::Set {
-                ups,
-                setting,
-                user,
-                password,
-                track,
-            } => ordered(
-                *track,
-                login(user, password),
-                set_order(*track, Target::read(ups), setting),
-            ),
+            Given::Set { ups, setting, by } => {
+                ordered(by, set_order(by.track, Target::read(ups), setting))
+            }
             Given::Command {
                 ups,
                 name,
                 value,
-                user,
-                password,
-                track,
-            } => ordered(
-                *track,
-                login(user, password),
-                command_order(*track, Target::read(ups), name, *value),
-            ),
+                by,
+            } => ordered(by, command_order(by.track, Target::read(ups), name, *value)),
         }
     }
 }
@@ -89,9 +74,11 @@ impl Job {
 fn single(target: Target, request: Request, form: Form) -> Job
     ensures { parts_of result ≡ (target, request ∷ [], form) }
 {
+    let mut requests = ArrayVec::new();
+    requests.push(request);
     Job {
         target,
-        requests: Requests::Alone([request]),
+        requests,
         form,
     }
 }
@@ -127,18 +114,13 @@ fn upses_job(server: Option<&str>, form: Form) -> Option<Job>
     Some(single(target, Request::List(Query::Ups), form))
 }
 
-/// The order after the user's name and the password, and where it is tracked, after the asking for its id.
-fn ordered(track: bool, login: Option<Login>, order: Option<Order>) -> Option<Job>
-    ensures { option_map parts_of result
-        ≡ ordered track (option_map (λ l. l.0 ∷ l.1 ∷ []) login) order }
+/// The order after what is sent before it.
+fn ordered(by: &Sender<'_>, order: Option<Order>) -> Option<Job>
+    ensures { option_map parts_of result ≡ ordered (login_of by.now) order }
 {
-    let (user, password) = login?;
+    let mut requests = login(by)?;
     let (target, request) = order?;
-    let requests = if track {
-        Requests::Tracked([user, password, Request::SetTracking, request])
-    } else {
-        Requests::BehindLogin([user, password, request])
-    };
+    requests.push(request);
     Some(Job {
         target,
         requests,
@@ -146,13 +128,20 @@ fn ordered(track: bool, login: Option<Login>, order: Option<Order>) -> Option<Jo
     })
 }
 
-/// The requests by which a user logs in.
-fn login(user: &str, password: &str) -> Option<Login>
-    ensures { option_map (λ l. l.0 ∷ l.1 ∷ []) result ≡ login_of user.now password.now }
+/// What is sent before an order: the user's name, the password, and where it is tracked, the asking for its id.
+fn login(by: &Sender<'_>) -> Option<ArrayVec<Request, REQUEST_LIMIT>>
+    ensures requests { option_map (λ r. r.items) result ≡ login_of by.now }
+    ensures few { IfSome result (λ r. length r.items ≤ 3) }
 {
-    let user = word(user, USER_LIMIT)?;
-    let password = word(password, PASSWORD_LIMIT)?;
-    Some((Request::Username(user), Request::Password(password)))
+    let user = word(by.user, USER_LIMIT)?;
+    let password = word(by.password, PASSWORD_LIMIT)?;
+    let mut requests = ArrayVec::new();
+    requests.push(Request::Username(user));
+    requests.push(Request::Password(password));
+    if by.track {
+        requests.push(Request::SetTracking);
+    }
+    Some(requests)
 }
 
 /// A word of 1 to so many lawful bytes.
@@ -191,8 +180,7 @@ fn setting_parts(text: &str) -> Option<(Name, Value)>
 {
     let (name, value) = text.split_once('=')?;
     let name = Name::read(name.as_bytes()).ok()?;
-    let value = Value::read(value.as_bytes()).ok()?;
-    Some((name, value))
+    Some((name, Value::read(value.as_bytes()).ok()?))
 }
 
 /// The order to do a command of a UPS, with a value or without.

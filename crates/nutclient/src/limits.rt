@@ -20,3 +20,6 @@ pub const WAIT_SECONDS: u64 = 5;
 
 /// The status of a fault of the words.
 pub const WORD_FAULT: u8 = 2;
+
+/// The most requests of a job: the user's name, the password, the asking for tracking, and the order.
+pub const REQUEST_LIMIT: usize = 4;

@@ -4,20 +4,20 @@ ghost use Rattle.nutclient.specs.Printed.{item_line, text_of, PrintGives};
 
 use crate::Form;
 use nutio::{Sink, send};
-use nutrequest::{ClientFault, Item, Items};
+use nutrequest::{ClientFault, Item};
 use std::alloc::{AllocError, Global};
 
 /// Prints the items, each on a line.
 pub(crate) fn print<O: Sink>(
     alloc: Global,
     form: Form,
-    items: &Items,
+    items: &[Item],
     out: &mut O,
 ) -> Result<(), ClientFault>
     ensures { PrintGives O.contents O.failures (text_of form items.now) out.old result out.new }
 {
     let mut text = Vec::new(alloc);
-    for item in items.as_slice() {
+    for item in items {
         put_line(&mut text, form, item)?;
     }
     send(out, text.as_slice()).map_err(|_| ClientFault::Write)

@@ -9,9 +9,8 @@ ghost use Rattle.nutclient.specs.Ending.{name_of};
 ghost use Rattle.nutclient.specs.Start.{ended, EndsAsAsked, EndsAsRefused};
 ghost use Rattle.nutcommand.specs.Words.{program_with};
 
-use crate::ending::conclude;
 use crate::limits::WORD_FAULT;
-use crate::{Client, Job, Program, connect, do_job};
+use crate::{Client, Job, Program, connect, do_job, ending};
 use clap::{ArgMatches, Command, Error};
 use nutcommand::{print_refusal, with_words, words_of};
 use nutio::{CountedReader, CountedWriter};
@@ -85,5 +84,5 @@ fn report(rt: &HostRuntime, program: Program, fault: ClientFault) -> ExitCode
 {
     let stderr = rt.stderr();
     let mut err = CountedWriter::new(io::writer(&stderr));
-    ExitCode::from(conclude(&mut err, program, &Err(fault)))
+    ExitCode::from(ending::report(&mut err, program, &fault))
 }

@@ -2,10 +2,53 @@
 ghost use Rattle.std.specs.Prelude.{◌≡◌};
 ghost use Rattle.std.specs.List.{list_all};
 ghost use Rattle.nutwords.specs.Natural.{is_digit};
-ghost use Rattle.nutclient.specs.Target.{both, is_numeral, port_of, server_of, local_server, ups_place_of};
+ghost use Rattle.nutclient.specs.Target.{both, host_of, is_host_byte, is_numeral, port_of, server_of, local_server, ups_place_of};
 
-use crate::{DEFAULT_PORT, Host};
+use crate::{DEFAULT_PORT, HOST_LIMIT};
+use arrayvec::ArrayString;
 use nutwords::{UpsName, is_digit};
+use std::marker::Model;
+
+/// The name or the IPv4 address of a host: 1 to 255 ASCII letters, digits, `.` and `-`. A contract sees its bytes.
+#[derive(Drop)]
+pub struct Host {
+    text: ArrayString<HOST_LIMIT>,
+}
+
+impl Model for Host {
+    ghost use Rattle.std.specs.Prelude.{ℕ, List};
+
+    ghost Value = { List ℕ };
+
+    ghost view = { λ h. h.text.bytes };
+}
+
+impl Host {
+    /// Reads the name of a host.
+    pub fn read(text: &str) -> Option<Host>
+        ensures { result ≡ host_of text.now }
+    {
+        if text.is_empty() || !are_host_bytes(text.as_bytes()) {
+            return None;
+        }
+        let text = ArrayString::from(text).ok()?;
+        Some(Host { text })
+    }
+}
+
+/// Whether the name of a host may have these bytes.
+fn are_host_bytes(bytes: &[u8]) -> bool
+    ensures { result ≡ list_all is_host_byte bytes.now }
+{
+    bytes.iter().all(|b| is_host_byte(*b))
+}
+
+/// An ASCII letter, a digit, `.` or `-`.
+fn is_host_byte(b: u8) -> bool
+    ensures { result ≡ is_host_byte b }
+{
+    matches!(b, b'a'..=b'z' | b'A'..=b'Z' | b'0'..=b'9' | b'.' | b'-')
+}
 
 /// A server: its host and its port.
 #[derive(Drop)]
@@ -29,8 +72,10 @@ impl Target {
     pub fn local() -> Target
         ensures { result ≡ local_server }
     {
+        let mut text = ArrayString::new();
+        text.push_str("localhost");
         Target {
-            host: Host::local(),
+            host: Host { text },
             port: DEFAULT_PORT,
         }
     }
@@ -39,7 +84,7 @@ impl Target {
     pub fn address(&self) -> (&str, u16)
         ensures { (result.0.now ≡ self.now.host) × (result.1 ≡ self.now.port) }
     {
-        (self.host.as_str(), self.port)
+        (self.host.text.as_str(), self.port)
     }
 
     /// Reads `ups`, `ups@host` or `ups@host:port`.

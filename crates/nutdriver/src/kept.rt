@@ -16,11 +16,11 @@ const SHORT_LENGTH: usize = 16;
 /// The word of a driver's line that is a value. It borrows the line, and is unescaped where it is kept. Contracts see the
 /// value.
 #[derive(Drop)]
-pub struct ValueWord<'a> {
+pub struct SpelledValue<'a> {
     word: SpelledWord<'a>,
 }
 
-impl<'a> Model for ValueWord<'a> {
+impl<'a> Model for SpelledValue<'a> {
     ghost use Rattle.std.specs.Prelude.{ℕ, List, IsTrue};
     ghost use Rattle.nutwords.specs.Reading.{is_value};
     ghost use Rattle.nutwords.specs.Spelled.{spelled};
@@ -32,14 +32,14 @@ impl<'a> Model for ValueWord<'a> {
     ghost invariant = { λ v. IsTrue (is_value (spelled v.word)) };
 }
 
-impl<'a> ValueWord<'a> {
+impl<'a> SpelledValue<'a> {
     /// The word, where it is a value. The bytes of a word are lawful, so the one thing that can be wrong with it is its
     /// length.
-    pub(crate) fn of(word: SpelledWord<'a>) -> Result<ValueWord<'a>, DriverFault>
+    pub(crate) fn of(word: SpelledWord<'a>) -> Result<SpelledValue<'a>, DriverFault>
         ensures { result ≡ lawful_value (read_value (spelled word.entry)) }
     {
         match word.read::<OfValue, VALUE_LIMIT>() {
-            Ok(_) => Ok(ValueWord { word }),
+            Ok(_) => Ok(SpelledValue { word }),
             Err(_) => Err(DriverFault::TooLong),
         }
     }

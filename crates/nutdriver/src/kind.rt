@@ -1,7 +1,6 @@
 //! What a variable has beside its value.
 ghost use Rattle.std.specs.Prelude.{◌≡◌, ◌≤◌, length, IfOk};
 ghost use Rattle.nutdriver.specs.Kind.{plain};
-ghost use Rattle.nutdriver.specs.Lists.{lists_of};
 
 use crate::lists::Lists;
 use crate::{ENUM_LIMIT, Flags, RANGE_LIMIT, Range};
@@ -47,7 +46,7 @@ impl Kind {
     {
         match &self.lists {
             None => &[],
-            Some(lists) => lists.enum_values(),
+            Some(lists) => lists.enum_values.as_slice(),
         }
     }
 
@@ -58,7 +57,7 @@ impl Kind {
     {
         match &self.lists {
             None => &[],
-            Some(lists) => lists.ranges(),
+            Some(lists) => lists.ranges.as_slice(),
         }
     }
 
@@ -69,18 +68,8 @@ impl Kind {
         Ok(Kind {
             flags: self.flags,
             aux: self.aux,
-            lists: self.shared_lists()?,
+            lists: self.lists.clone()?,
         })
-    }
-
-    /// The same lists, shared. It asks for no memory.
-    fn shared_lists(&self) -> Result<Option<Rc<Lists>>, AllocError>
-        ensures { IfOk result (λ copy. lists_of copy ≡ self.now.lists) }
-    {
-        match &self.lists {
-            None => Ok(None),
-            Some(lists) => Ok(Some(lists.clone()?)),
-        }
     }
 
     /// Equal lists, which share nothing with its own.

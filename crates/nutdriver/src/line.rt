@@ -4,7 +4,7 @@ ghost use Rattle.nutwords.specs.declared.limits.TheConstants.{LINE_LIMIT};
 
 mod arguments;
 
-use crate::{DriverFault, Flags, Range, ValueWord};
+use crate::{DriverFault, Flags, Range, SpelledValue};
 use arguments::{
     id_and_number, name_alone, name_and_aux, name_and_flags, name_and_range, name_and_value,
 };
@@ -16,13 +16,13 @@ pub enum DriverLine<'a> {
     /// A line without words.
     Blank,
     /// `SETINFO`: the variable has this value.
-    SetInfo(Name, ValueWord<'a>),
+    SetInfo(Name, SpelledValue<'a>),
     /// `DELINFO`: the UPS no longer has the variable.
     DelInfo(Name),
     /// `ADDENUM`: the variable may have this value.
-    AddEnum(Name, ValueWord<'a>),
+    AddEnum(Name, SpelledValue<'a>),
     /// `DELENUM`: it may no longer have this value.
-    DelEnum(Name, ValueWord<'a>),
+    DelEnum(Name, SpelledValue<'a>),
     /// `ADDRANGE`: the variable may have the numbers of this range.
     AddRange(Name, Range),
     /// `DELRANGE`: it no longer has this range.
@@ -49,7 +49,7 @@ pub enum DriverLine<'a> {
 
 impl<'a> DriverLine<'a> {
     ghost use Rattle.nutwords.specs.Spelled.{spelled};
-    ghost use Rattle.nutdriver.specs.DriverLine.{read_driver_line, driver_line_of, value_line, limit_line, command_line, state_line, order_line, alone};
+    ghost use Rattle.nutdriver.specs.DriverLine.{read_driver_line, value_line, limit_line, command_line, alone};
 
     /// Reads a line without its LF, of at most 2,047 bytes. Takes no memory.
     ///
@@ -60,16 +60,9 @@ impl<'a> DriverLine<'a> {
         requires { length line.now ≤ LINE_LIMIT }
         ensures { result ≡ read_driver_line line.now }
     {
-        match spelled_words(line) {
-            Ok(words) => DriverLine::of(words),
-            Err(_) => Err(DriverFault::Malformed),
-        }
-    }
-
-    /// The line that the words are.
-    fn of(mut words: SpelledWords<'a>) -> Result<DriverLine<'a>, DriverFault>
-        ensures { result ≡ driver_line_of words.entry }
-    {
+        let Ok(mut words) = spelled_words(line) else {
+            return Err(DriverFault::Malformed);
+        };
         match words.next() {
             Some(first) => DriverLine::of_value(&first, words),
             None => Ok(DriverLine::Blank),
@@ -87,8 +80,7 @@ impl<'a> DriverLine<'a> {
             let (name, value) = name_and_value(words)?;
             Ok(DriverLine::SetInfo(name, value))
         } else if first.is_word(b"DELINFO") {
-            let name = name_alone(words)?;
-            Ok(DriverLine::DelInfo(name))
+            Ok(DriverLine::DelInfo(name_alone(words)?))
         } else if first.is_word(b"ADDENUM") {
             let (name, value) = name_and_value(words)?;
             Ok(DriverLine::AddEnum(name, value))
@@ -127,7 +119,7 @@ impl<'a> DriverLine<'a> {
         }
     }
 
-    /// The line of a command, or else of the driver's state.
+    /// The line of a command, of the driver's state or of an order.
     fn of_command(
         first: &SpelledWord<'_>,
         words: SpelledWords<'a>,
@@ -135,24 +127,10 @@ impl<'a> DriverLine<'a> {
         ensures { result ≡ command_line (spelled first.now) words.entry }
     {
         if first.is_word(b"ADDCMD") {
-            let name = name_alone(words)?;
-            Ok(DriverLine::AddCmd(name))
+            Ok(DriverLine::AddCmd(name_alone(words)?))
         } else if first.is_word(b"DELCMD") {
-            let name = name_alone(words)?;
-            Ok(DriverLine::DelCmd(name))
-        } else {
-            DriverLine::of_state(first, words)
-        }
-    }
-
-    /// The line of the driver's state, or else a report on an order.
-    fn of_state(
-        first: &SpelledWord<'_>,
-        words: SpelledWords<'a>,
-    ) -> Result<DriverLine<'a>, DriverFault>
-        ensures { result ≡ state_line (spelled first.now) words.entry }
-    {
-        if first.is_word(b"DUMPDONE") {
+            Ok(DriverLine::DelCmd(name_alone(words)?))
+        } else if first.is_word(b"DUMPDONE") {
             DriverLine::DumpDone.alone(words)
         } else if first.is_word(b"DATAOK") {
             DriverLine::DataOk.alone(words)
@@ -160,19 +138,7 @@ impl<'a> DriverLine<'a> {
             DriverLine::DataStale.alone(words)
         } else if first.is_word(b"PONG") {
             DriverLine::Pong.alone(words)
-        } else {
-            DriverLine::of_order(first, words)
-        }
-    }
-
-    /// The report on an order.
-    fn of_order(
-        first: &SpelledWord<'_>,
-        words: SpelledWords<'a>,
-    ) -> Result<DriverLine<'a>, DriverFault>
-        ensures { result ≡ order_line (spelled first.now) words.entry }
-    {
-        if first.is_word(b"TRACKING") {
+        } else if first.is_word(b"TRACKING") {
             let (id, number) = id_and_number(words)?;
             Ok(DriverLine::Tracking(id, number))
         } else {

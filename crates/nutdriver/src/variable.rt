@@ -8,7 +8,7 @@ ghost use Rattle.nutdriver.specs.Promises.{AnswersChange, variable_step};
 use crate::kept::KeptValue;
 use crate::kind::Kind;
 use crate::lists::{Lists, has_range, has_value, take_range_out, take_value_out};
-use crate::{DriverFault, DriverLine, ENUM_LIMIT, Flags, RANGE_LIMIT, Range, ValueWord};
+use crate::{DriverFault, DriverLine, ENUM_LIMIT, Flags, RANGE_LIMIT, Range, SpelledValue};
 use nutwords::Value;
 use std::alloc::{AllocError, Global};
 use std::marker::Model;
@@ -41,7 +41,7 @@ impl Variable {
     /// A variable with this value and all of this beside it.
     pub(crate) fn new(
         alloc: Global,
-        value: &ValueWord<'_>,
+        value: &SpelledValue<'_>,
         kind: Rc<Kind>,
     ) -> Result<Variable, AllocError>
         ensures { IfOk result (λ variable. variable ≡ variable_of value.now kind.value) }
@@ -96,12 +96,10 @@ impl Variable {
     fn of_kind(&self, kind: Kind) -> Change
         ensures { AnswersChange (Ok (Some (with_kind kind self.now))) result }
     {
-        let value = self.value.copied(self.alloc)?;
-        let kind = Rc::new(self.alloc, kind)?;
         Ok(Some(Variable {
             alloc: self.alloc,
-            value,
-            kind,
+            value: self.value.copied(self.alloc)?,
+            kind: Rc::new(self.alloc, kind)?,
         }))
     }
 
@@ -110,11 +108,8 @@ impl Variable {
         ensures { AnswersChange (Ok (Some (with_lists lists self.now))) result }
     {
         let kind = self.kind.copied()?;
-        let lists = Rc::new(self.alloc, lists)?;
-        self.of_kind(Kind {
-            lists: Some(lists),
-            ..kind
-        })
+        let lists = Some(Rc::new(self.alloc, lists)?);
+        self.of_kind(Kind { lists, ..kind })
     }
 
     /// Sets its value. All else stays.
@@ -140,16 +135,11 @@ impl Variable {
     }
 
     /// The variable with another value.
-    pub(crate) fn with_value(&self, value: &ValueWord<'_>) -> Change
+    pub(crate) fn with_value(&self, value: &SpelledValue<'_>) -> Change
         ensures { AnswersChange (Ok (Some (with_value value.now self.now))) result }
     {
-        let value = value.kept(self.alloc)?;
         let kind = self.kind.clone()?;
-        Ok(Some(Variable {
-            alloc: self.alloc,
-            value,
-            kind,
-        }))
+        Ok(Some(Variable::new(self.alloc, value, kind)?))
     }
 
     /// The variable with another aux.

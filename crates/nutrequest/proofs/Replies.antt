@@ -1,14 +1,13 @@
 -- A reply that is read line by line.
-use Rattle.std.proofs.Common.{◌≡◌, ℕ, Bool, List, [], ◌∷◌, ◌++◌, Option, None, Result, Ok, Err, if◌then◌else◌, refl, sym, ap, ◌∙◌, append_assoc}
+use Rattle.std.proofs.Common.{◌≡◌, ℕ, List, [], ◌∷◌, ◌++◌, Option, None, Result, Ok, Err, refl, sym, ap, ◌∙◌, append_assoc}
 use Rattle.nutwords.specs.Scan.{words_of}
 use Rattle.nutrequest.specs.Lines.{lines, FoundLine, Line, TooLong}
 use Rattle.nutio.specs.Ends.{Received, Written}
 use Rattle.nutrequest.specs.Inbox.{LineGives}
 use Rattle.nutrequest.specs.Request.{request_line}
-use Rattle.nutrequest.specs.Reply.{Reply, Bad, Unfinished, reply, items_from, later_of, after_later, after_expected, expected_of}
-use Rattle.nutrequest.specs.Session.{Fails, AddGives, ItemsGive, ReplyGives, AskGives}
+use Rattle.nutrequest.specs.Reply.{Reply, Bad, Unfinished, items_from, later_of, after_later, expected_of}
+use Rattle.nutrequest.specs.Session.{Fails, ReplyGives, AskGives}
 use Rattle.nutrequest.specs.declared.read.LaterLine.{LaterLine}
-use Rattle.nutrequest.specs.declared.read.LaterLine.TheVariants.{Another}
 use Rattle.nutrequest.specs.declared.item.Item.{Item}
 use Rattle.nutrequest.specs.declared.request.Query.{Query}
 use Rattle.nutrequest.specs.declared.request.Request.{Request}
@@ -73,15 +72,6 @@ asked_of_reply remaining failures contents write_failures request old new reader
 asked_of_reply remaining failures contents write_failures request old new reader after writer sent (Err BadTarget) t r = absurd r
 asked_of_reply remaining failures contents write_failures request old new reader after writer sent (Err Memory) t r = (t, r)
 
--- what the items give, after the first line, is what the reply gives
-pub reply_behind : {R : Type 0} (remaining : R → Option (List ℕ)) (failures : R → ℕ) (request : Request) (query : Query) (value old kept new came : List ℕ) (reader mid after : R) (result : Result (List Item) ClientFault)
-    → request ≡ ListOf query → Received remaining failures reader came mid → ((more : List ℕ) → reply request (old ++ (came ++ more)) ≡ after_expected request value (kept ++ more))
-    → ItemsGive remaining failures query kept mid result new after → ReplyGives remaining failures request old reader result new after
-reply_behind remaining failures request query value old kept new came reader mid after (Ok items) e c f r =
-    (came ++ r.0, received_joins remaining failures reader mid after came r.0 c r.1, λ more. ap (λ bs. reply request (old ++ bs)) (append_assoc came r.0 more) ∙ f (r.0 ++ more) ∙ ap (λ q. after_expected q value (kept ++ (r.0 ++ more))) e ∙ r.2 more)
-reply_behind remaining failures request query value old kept new came reader mid after (Err fault) e c f r =
-    fails_behind remaining failures (λ bs. reply request (old ++ bs)) (λ bs. items_from query [] (lines (kept ++ bs))) came reader mid after fault c (λ more. f more ∙ ap (λ q. after_expected q value (kept ++ more)) e) r
-
 -- no request is granted by a line without words
 pub unexpected : (request : Request) → expected_of request [] ≡ None
 unexpected (ListOf query) = refl
@@ -91,19 +81,3 @@ unexpected (TrackedSetVar ups name value) = refl
 unexpected (TrackedInstcmd ups name value) = refl
 unexpected (GetTracking id) = refl
 unexpected _ = refl
-
--- a listing has no room for an item more, or memory was refused
-pub add_fails : {R : Type 0} (remaining : R → Option (List ℕ)) (failures : R → ℕ) (F : List ℕ → Reply) (item : Item)
-    (go : List ℕ → List Item → Reply) (items after_items : List Item) (came new : List ℕ) (reader after : R) (fault : ClientFault)
-    → Received remaining failures reader came after
-    → ((more : List ℕ) → F (came ++ more) ≡ after_later (Another item) items (new ++ more) (go more))
-    → AddGives items item (Err fault) after_items → Fails remaining failures (λ bs r. F bs ≡ r) reader fault after
-add_fails remaining failures F item go items after_items came new reader after BadReply c h t =
-    (came, c, λ more. h more ∙ ap (λ (b : Bool). if b then go more (items ++ item ∷ []) else Bad) t.0)
-add_fails remaining failures F item go items after_items came new reader after Memory c h t = (came, c)
-add_fails remaining failures F item go items after_items came new reader after EarlyEnd c h t = absurd t
-add_fails remaining failures F item go items after_items came new reader after Read c h t = absurd t
-add_fails remaining failures F item go items after_items came new reader after Connect c h t = absurd t
-add_fails remaining failures F item go items after_items came new reader after Write c h t = absurd t
-add_fails remaining failures F item go items after_items came new reader after (ErrWord w) c h t = absurd t
-add_fails remaining failures F item go items after_items came new reader after BadTarget c h t = absurd t

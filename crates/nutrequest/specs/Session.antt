@@ -1,14 +1,11 @@
 -- What the calls of a client's session give. `remaining` and `failures` are the reader's,
 -- `contents` and `write_failures` the writer's.
-use Rattle.std.specs.Prelude.{◌≡◌, ℕ, List, [], ◌∷◌, ◌++◌, true, false, Option, Result, Ok, Err}
+use Rattle.std.specs.Prelude.{◌≡◌, ℕ, List, ◌++◌, Option, Result, Ok, Err}
 use Rattle.std.specs.Io.KnownBytes.{IsAtEnd}
 use Rattle.nutio.specs.Ends.{Received, ReadFailed, Written, WriteFailed}
-use Rattle.nutrequest.specs.Lines.{lines}
 use Rattle.nutrequest.specs.Request.{request_line}
-use Rattle.nutrequest.specs.Reply.{Reply, Refused, Whole, Bad, Unfinished, reply, items_from}
-use Rattle.nutrequest.specs.Reply.{has_room}
+use Rattle.nutrequest.specs.Reply.{Reply, Refused, Whole, Bad, Unfinished, reply}
 use Rattle.nutrequest.specs.declared.item.Item.{Item}
-use Rattle.nutrequest.specs.declared.request.Query.{Query}
 use Rattle.nutrequest.specs.declared.request.Request.{Request}
 use Rattle.nutrequest.specs.declared.faults.ClientFault.{ClientFault}
 use Rattle.nutrequest.specs.declared.faults.ClientFault.TheVariants.{Read, Write, EarlyEnd, ErrWord}
@@ -43,20 +40,6 @@ ReadGives remaining failures reading whole reader (Ok value) new after =
     × ((more : List ℕ) → reading (came ++ more) ≡ whole value (new ++ more))
 ReadGives remaining failures reading whole reader (Err fault) new after =
     Fails remaining failures (λ came r. reading came ≡ r) reader fault after
-
--- What becomes of the items of a listing with one more; it has 65,536 at most. No other
--- fault comes.
-abbrev pub AddGives : List Item → Item → Result (Unit {0}) ClientFault → List Item → Type 0
-AddGives old item (Ok done) new = (has_room old ≡ true) × (new ≡ old ++ item ∷ [])
-AddGives old item (Err BadReply) new = (has_room old ≡ false) × (new ≡ old)
-AddGives old item (Err Memory) new = new ≡ old
-AddGives old item result new = ⊥
-
--- The items of a listing, from after its first line.
-abbrev pub ItemsGive : {R : Type 0} → (R → Option (List ℕ)) → (R → ℕ) → Query → List ℕ → R
-    → Result (List Item) ClientFault → List ℕ → R → Type 0
-ItemsGive remaining failures query old =
-    ReadGives remaining failures (λ came. items_from query [] (lines (old ++ came))) Whole
 
 -- The reply to the request, from the bytes kept and those that came.
 abbrev pub ReplyGives : {R : Type 0} → (R → Option (List ℕ)) → (R → ℕ) → Request → List ℕ → R

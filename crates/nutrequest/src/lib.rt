@@ -14,7 +14,7 @@ mod request;
 mod session;
 
 pub use faults::ClientFault;
-pub use item::{Item, Items};
+pub use item::Item;
 pub use limits::{FAULT_LIMIT, ITEM_LIMIT};
 pub use request::{Query, Request};
 pub use session::{Session, ask};

@@ -1,12 +1,10 @@
 //! The line of a request.
 ghost use Rattle.std.specs.Prelude.{◌≡◌, ◌+◌, ◌≤◌, ◌∷◌, ◌++◌, length, map, sum_by, option_map, option_to_list};
-ghost use Rattle.std.specs.List.{flat_map};
 ghost use Rattle.nutwords.specs.Frame.{line_of};
 ghost use Rattle.nutwords.specs.Spelling.{quoted};
-ghost use Rattle.nutwords.specs.declared.limits.TheConstants.{LINE_LIMIT};
 ghost use Rattle.nutrequest.specs.Request.{request_line};
 
-use crate::Request;
+use crate::{Query, Request};
 use nuttracking::id_text;
 use nutwords::{Line, NAME_LIMIT, UPS_NAME_LIMIT, Value, quote_into};
 
@@ -21,10 +19,11 @@ pub(crate) fn request_line(request: &Request) -> Line
     ensures { result.items ≡ request_line request.now }
 {
     match request {
-        Request::List(query) => match query.ups() {
-            Some(ups) => line(b"LIST", &[query.kind(), ups.as_bytes()], None),
-            None => line(b"LIST", &[query.kind()], None),
-        },
+        Request::List(Query::Ups) => line(b"LIST", &[b"UPS"], None),
+        Request::List(Query::Var(ups)) => line(b"LIST", &[b"VAR", ups.as_bytes()], None),
+        Request::List(Query::Rw(ups)) => line(b"LIST", &[b"RW", ups.as_bytes()], None),
+        Request::List(Query::Cmd(ups)) => line(b"LIST", &[b"CMD", ups.as_bytes()], None),
+        Request::List(Query::Client(ups)) => line(b"LIST", &[b"CLIENT", ups.as_bytes()], None),
         Request::GetVar(ups, name) => {
             line(b"GET", &[b"VAR", ups.as_bytes(), name.as_bytes()], None)
         }
@@ -63,20 +62,10 @@ fn line(verb: &[u8], words: &[&[u8]], value: Option<&Value>) -> Line
         line.push(b' ');
         line.try_extend_from_slice(word).unwrap();
     }
-    push_value(&mut line, value);
-    line.push(b'\n');
-    line
-}
-
-/// Appends a blank and a value in quotes, where there is one.
-fn push_value(line: &mut Line, value: Option<&Value>)
-    requires { length line.old.items ≤ VERB_LIMIT + WORDS_LIMIT }
-    ensures text { line.new.items ≡ line.old.items
-        ++ flat_map (λ word. 32 ∷ word) (option_to_list (option_map (λ v. quoted v.now) value.entry)) }
-    ensures short { length line.new.items ≤ LINE_LIMIT }
-{
     if let Some(value) = value {
         line.push(b' ');
-        quote_into(value.as_bytes(), line);
+        quote_into(value.as_bytes(), &mut line);
     }
+    line.push(b'\n');
+    line
 }

@@ -6,7 +6,7 @@ ghost use Rattle.nutwords.specs.Reading.{read_name};
 ghost use Rattle.nutwords.specs.Word.{bytes_of};
 ghost use Rattle.nutwords.specs.declared.limits.TheConstants.{LINE_LIMIT};
 ghost use Rattle.nutrequest.specs.Request.{asked_words};
-ghost use Rattle.nutrequest.specs.Reply.{behind, is_nothing, only_word, is_frame, is_error_byte, count_in, id_in, progress_of, progress_in, stands_alone, refusal_by, refusal_of, expected_of, first_of, is_item_name, value_in, item_of, later_of, bytes_in};
+ghost use Rattle.nutrequest.specs.Reply.{behind, is_nothing, only_word, is_frame, is_error_byte, count_in, id_in, progress_of, progress_in, stands_alone, refusal_of, expected_of, first_of, is_item_name, value_in, item_of, later_of, bytes_in};
 
 use crate::limits::COUNT_LIMIT;
 use crate::{Item, Query, Request};
@@ -164,9 +164,12 @@ fn only_word<'a>(words: Option<Words<'a>>) -> Option<Word<'a>>
 fn behind_asked<'a>(query: &Query, words: Words<'a>) -> Option<Words<'a>>
     ensures { result ≡ behind (asked_words query.now) words.entry }
 {
-    match query.ups() {
-        Some(ups) => behind(&[query.kind(), ups.as_bytes()], words),
-        None => behind(&[query.kind()], words),
+    match query {
+        Query::Ups => behind(&[b"UPS"], words),
+        Query::Var(ups) => behind(&[b"VAR", ups.as_bytes()], words),
+        Query::Rw(ups) => behind(&[b"RW", ups.as_bytes()], words),
+        Query::Cmd(ups) => behind(&[b"CMD", ups.as_bytes()], words),
+        Query::Client(ups) => behind(&[b"CLIENT", ups.as_bytes()], words),
     }
 }
 
@@ -236,21 +239,14 @@ fn stands_alone(word: &[u8]) -> bool
     word == b"PENDING".as_slice() || word == b"SUCCESS".as_slice()
 }
 
-/// The refusal that the words are, if they are one.
+/// The refusal that the words are, if they are ERR and an error word.
 fn refusal(words: Words<'_>) -> FirstLine
     ensures { result ≡ refusal_of words.entry }
 {
-    match only_word(behind(&[b"ERR"], words)) {
-        Some(word) => refusal_by(word.as_bytes()),
-        None => FirstLine::Bad,
-    }
-}
-
-/// A refusal by this word, if it is an error word.
-fn refusal_by(word: &[u8]) -> FirstLine
-    ensures { result ≡ refusal_by (read_name word.now) }
-{
-    match Name::read(word) {
+    let Some(word) = only_word(behind(&[b"ERR"], words)) else {
+        return FirstLine::Bad;
+    };
+    match Name::read(word.as_bytes()) {
         Ok(name) if are_error_bytes(name.as_bytes()) => FirstLine::Refusal(name),
         _ => FirstLine::Bad,
     }

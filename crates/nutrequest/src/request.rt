@@ -1,6 +1,4 @@
 //! What a client asks for (RFC 9271: LIST, GET, SET, INSTCMD, USERNAME, PASSWORD).
-ghost use Rattle.std.specs.Prelude.{◌≡◌, option_map};
-
 use nutwords::{Name, UpsName, Value};
 
 /// A listing that is asked for.
@@ -18,35 +16,9 @@ pub enum Query {
     Client(UpsName),
 }
 
-impl Query {
-    ghost use Rattle.nutrequest.specs.Request.{kind_of, ups_of};
-
-    /// The word of its kind.
-    pub(crate) fn kind(&self) -> &[u8]
-        ensures { result.now ≡ kind_of self.now }
-    {
-        match self {
-            Query::Ups => b"UPS",
-            Query::Var(_) => b"VAR",
-            Query::Rw(_) => b"RW",
-            Query::Cmd(_) => b"CMD",
-            Query::Client(_) => b"CLIENT",
-        }
-    }
-
-    /// The UPS that it asks for, if it is one.
-    pub(crate) fn ups(&self) -> Option<&UpsName>
-        ensures { option_map (λ u. u.now) result ≡ ups_of self.now }
-    {
-        match self {
-            Query::Ups => None,
-            Query::Var(ups) | Query::Rw(ups) | Query::Cmd(ups) | Query::Client(ups) => Some(ups),
-        }
-    }
-}
-
-/// A line that a client sends, with the words that it has. Each asks for one reply.
-#[derive(Drop)]
+/// A line that a client sends, with the words that it has. Each asks for one reply. The default fills the unused places
+/// of an array.
+#[derive(Default, Drop)]
 pub enum Request {
     /// A listing.
     List(Query),
@@ -63,6 +35,7 @@ pub enum Request {
     /// That a command be done, with a value for it or without.
     Instcmd(UpsName, Name, Option<Value>),
     /// That the orders after it be tracked: each is answered by its id.
+    #[default]
     SetTracking,
     /// The same as `SetVar`, after `SetTracking`.
     TrackedSetVar(UpsName, Name, Value),

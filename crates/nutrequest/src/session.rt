@@ -1,14 +1,14 @@
 //! A session: requests, each with its reply.
 ghost use Rattle.std.specs.Prelude.{◌≡◌, [], Err, OnErr, OnOk, MatchResult, true, false};
-ghost use Rattle.nutrequest.specs.Reply.{one_item};
+ghost use Rattle.std.specs.Result.{result_map_both};
 ghost use Rattle.nutrequest.specs.Inbox.{unread};
 ghost use Rattle.nutrequest.specs.State.{unread_of, reader_of, writer_of, is_over};
-ghost use Rattle.nutrequest.specs.Session.{ItemsGive, ReplyGives, AskGives};
+ghost use Rattle.nutrequest.specs.Session.{ReplyGives, AskGives};
 
 use crate::inbox::Inbox;
 use crate::line::request_line;
 use crate::read::{FirstLine, LaterLine, first_line, later_line};
-use crate::{ClientFault, Item, Items, Query, Request};
+use crate::{ClientFault, ITEM_LIMIT, Item, Request};
 use nutio::{Sink, Source, send};
 use nutwords::Bytes;
 use std::alloc::Global;
@@ -63,13 +63,14 @@ impl<R: Source, W: Sink> Session<R, W> {
 pub fn ask<R: Source, W: Sink>(
     session: &mut Session<R, W>,
     request: &Request,
-) -> Result<Items, ClientFault>
+) -> Result<Vec<Item>, ClientFault>
     // After a fault every further request is refused, and changes nothing.
     ensures over { is_over session.old ≡ true
         → (result ≡ Err ClientFault.EarlyEnd) × (session.new ≡ session.old) }
     ensures reply { is_over session.old ≡ false
         → AskGives R.remaining R.failures W.contents W.failures request.now
-        (unread_of session.old) (reader_of session.old) (writer_of session.old) result
+        (unread_of session.old) (reader_of session.old) (writer_of session.old)
+        (result_map_both (λ items. items.items) (λ fault. fault) result)
         (unread_of session.new) (reader_of session.new) (writer_of session.new) }
     ensures fault { OnErr result (is_over session.new ≡ true) }
     ensures goes_on { OnOk result (is_over session.new ≡ false) }
@@ -97,50 +98,36 @@ fn read_reply<R: Source>(
     inbox: &mut Inbox,
     reader: &mut R,
     request: &Request,
-) -> Result<Items, ClientFault>
-    ensures { ReplyGives R.remaining R.failures request.now (unread inbox.old) reader.old result
+) -> Result<Vec<Item>, ClientFault>
+    ensures { ReplyGives R.remaining R.failures request.now (unread inbox.old) reader.old
+        (result_map_both (λ items. items.items) (λ fault. fault) result)
         (unread inbox.new) reader.new }
 {
-    let line = inbox.line(reader)?;
-    let value = match first_line(alloc, request, &line)? {
+    let first = inbox.line(reader)?;
+    let value = match first_line(alloc, request, &first)? {
         FirstLine::Expected(value) => value,
         FirstLine::Refusal(word) => return Err(ClientFault::ErrWord(word)),
         FirstLine::Bad => return Err(ClientFault::BadReply),
     };
-    match request {
-        Request::List(query) => read_items(alloc, inbox, reader, query),
-        _ => one_item(alloc, value),
-    }
-}
-
-/// Reads the items of a listing and its last line.
-fn read_items<R: Source>(
-    alloc: Global,
-    inbox: &mut Inbox,
-    reader: &mut R,
-    query: &Query,
-) -> Result<Items, ClientFault>
-    ensures { ItemsGive R.remaining R.failures query.now (unread inbox.old) reader.old result
-        (unread inbox.new) reader.new }
-{
-    let mut items = Items::new(alloc);
+    let mut items = Vec::new(alloc);
+    let Request::List(query) = request else {
+        let name = Bytes::new(Vec::new(alloc));
+        items
+            .push(Item { name, value })
+            .map_err(|_| ClientFault::Memory)?;
+        return Ok(items);
+    };
     loop {
         let line = inbox.line(reader)?;
         match later_line(alloc, query, &line)? {
             LaterLine::End => return Ok(items),
-            LaterLine::Another(item) => items.add(item)?,
+            LaterLine::Another(item) => {
+                if items.len() >= ITEM_LIMIT {
+                    return Err(ClientFault::BadReply);
+                }
+                items.push(item).map_err(|_| ClientFault::Memory)?;
+            }
             LaterLine::Bad => return Err(ClientFault::BadReply),
         }
     }
-}
-
-/// A reply of one line, as one item without a name.
-fn one_item(alloc: Global, value: Bytes) -> Result<Items, ClientFault>
-    ensures { MatchResult result
-        (λ items. items ≡ one_item value) (λ fault. fault ≡ ClientFault.Memory) }
-{
-    let name = Bytes::new(Vec::new(alloc));
-    let mut items = Items::new(alloc);
-    items.add(Item { name, value })?;
-    Ok(items)
 }

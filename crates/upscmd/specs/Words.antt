@@ -23,8 +23,8 @@ upscmd_words = (
 -- What is asked for by the words that were found: the commands are listed where `-l` was given.
 abbrev pub IsAsked : ArgMatches → Given → Type 0
 IsAsked found (Commands ups) = IsFlag found (codes "l") true × IsGiven found (codes "UPS") ups
-IsAsked found (Command ups name value user password track) = IsFlag found (codes "l") false
+IsAsked found (Command ups name value by) = IsFlag found (codes "l") false
     × IsGiven found (codes "UPS") ups × IsGiven found (codes "CMD") name
-    × IsMaybe found (codes "VALUE") value × IsGiven found (codes "u") user
-    × IsGiven found (codes "p") password × IsFlag found (codes "track") track
+    × IsMaybe found (codes "VALUE") value × IsGiven found (codes "u") by.user
+    × IsGiven found (codes "p") by.password × IsFlag found (codes "track") by.track
 IsAsked found given = ⊥

@@ -5,7 +5,7 @@ ghost use Rattle.nutclient.specs.declared.program.Program.TheVariants as program
 ghost use Rattle.upscmd.specs.Words.{IsAsked, upscmd_words};
 
 use clap::{Arg, ArgMatches, arg};
-use nutclient::{Client, Given, Program, main_of};
+use nutclient::{Client, Given, Program, Sender, main_of};
 use std::alloc::{AllocError, Global};
 use std::process::ExitCode;
 
@@ -60,9 +60,11 @@ impl Client for Upscmd {
             ups,
             name: matches.get_str("CMD").unwrap_or(""),
             value: matches.get_str("VALUE"),
-            user: matches.get_str("u").unwrap_or(""),
-            password: matches.get_str("p").unwrap_or(""),
-            track: matches.get_flag("track"),
+            by: Sender {
+                user: matches.get_str("u").unwrap_or(""),
+                password: matches.get_str("p").unwrap_or(""),
+                track: matches.get_flag("track"),
+            },
         }
     }
 }

@@ -20,8 +20,8 @@ upsrw_words =
 abbrev pub IsAsked : ArgMatches → Given → Type 0
 IsAsked found (Writable ups) = IsGiven found (codes "UPS") ups
     × (first_value (found_of found) (codes "s") ≡ None)
-IsAsked found (Set ups setting user password track) = IsGiven found (codes "UPS") ups
+IsAsked found (Set ups setting by) = IsGiven found (codes "UPS") ups
     × (first_value (found_of found) (codes "s") ≡ Some setting.now)
-    × IsGiven found (codes "u") user × IsGiven found (codes "p") password
-    × IsFlag found (codes "track") track
+    × IsGiven found (codes "u") by.user × IsGiven found (codes "p") by.password
+    × IsFlag found (codes "track") by.track
 IsAsked found given = ⊥

@@ -5,7 +5,7 @@ ghost use Rattle.nutclient.specs.declared.program.Program.TheVariants as program
 ghost use Rattle.upsrw.specs.Words.{IsAsked, upsrw_words};
 
 use clap::{Arg, ArgMatches, arg};
-use nutclient::{Client, Given, Program, main_of};
+use nutclient::{Client, Given, Program, Sender, main_of};
 use std::alloc::{AllocError, Global};
 use std::process::ExitCode;
 
@@ -54,9 +54,11 @@ impl Client for Upsrw {
             Some(setting) => Given::Set {
                 ups,
                 setting,
-                user: matches.get_str("u").unwrap_or(""),
-                password: matches.get_str("p").unwrap_or(""),
-                track: matches.get_flag("track"),
+                by: Sender {
+                    user: matches.get_str("u").unwrap_or(""),
+                    password: matches.get_str("p").unwrap_or(""),
+                    track: matches.get_flag("track"),
+                },
             },
             None => Given::Writable(ups),
         }

@@ -1,9 +1,13 @@
-use Rattle.std.proofs.Common.{◌+◌, ◌∙◌, Err, List, drop, inl, refl, sym, subst}
+use Rattle.std.proofs.Common.{◌≡◌, [], arith, ◌+◌, ◌∙◌, Err, List, drop, inl, refl, sym, subst}
+use Rattle.std.proofs.lemmas.List.{at_drop_all}
 use Rattle.nutrequest.specs.State.{unread_of, reader_of, writer_of}
 use Rattle.nutrequest.specs.declared.request.Request.{Request}
 use Rattle.nutclient.specs.Requests.{RequestsGive}
-use Rattle.nutclient.proofs.Underway.{IsUnderWay, starts, goes_further, ends_early, comes_next}
+use Rattle.nutclient.specs.Printed.{PrintGives, RunGives, text_of}
+use Rattle.nutclient.proofs.Printing.{run_printed}
+use Rattle.nutclient.proofs.Underway.{IsUnderWay, starts, goes_further, ends_well, ends_early, comes_next}
 use Rattle.nutclient.proofs.engine.run.Goals as goal
+use Rattle.nutclient.proofs.engine.run.Goals.{then-is_err, else-is_err}
 
 pub loop-request-init : goal.loop-request-init
 loop-request-init g c =
@@ -13,7 +17,7 @@ loop-request-init g c =
     let writer = writer_of c.args.session.now in
     record {
       under_way = subst (λ items. IsUnderWay g.R.Source.remaining g.R.Source.failures g.W.Sink.contents g.W.Sink.failures
-          all old reader writer items all old reader writer) (sym c.new-items.ensures)
+          all old reader writer items all old reader writer) (sym c.new-items.ensures.items)
           (starts g.R.Source.remaining g.R.Source.failures g.W.Sink.contents g.W.Sink.failures all old reader writer);
       goes_on = sym c.is_over.ensures ∙ c.if-is_over.false;
     }
@@ -30,12 +34,12 @@ returns-in-Err-clause-gives g c h =
     let mid = reader_of l.session in
     let middle = writer_of l.session in
     let next = comes_next g.R.Source.remaining g.R.Source.failures g.W.Sink.contents g.W.Sink.failures all old reader writer
-    l.items l.request-index request kept mid middle l.invariant.under_way c.loop-request-test.true c.request-item.is in
+    l.items.items l.request-index request kept mid middle l.invariant.under_way c.loop-request-test.true c.request-item.is in
     inl (
       subst (λ requests. RequestsGive g.R.Source.remaining g.R.Source.failures g.W.Sink.contents g.W.Sink.failures requests old reader writer
-          (Err c.in-Err.fault) (unread_of c.ask.new.session) (reader_of c.ask.new.session) (writer_of c.ask.new.session)) c.as_slice-request-items.ensures
+          (Err c.in-Err.fault) (unread_of c.ask.new.session) (reader_of c.ask.new.session) (writer_of c.ask.new.session)) c.as_slice-request-items.ensures.value
           (ends_early g.R.Source.remaining g.R.Source.failures g.W.Sink.contents g.W.Sink.failures all old reader writer
-          l.items request (drop (l.request-index + 1) all) kept mid middle next
+          l.items.items request (drop (l.request-index + 1) all) kept mid middle next
           (unread_of c.ask.new.session) (reader_of c.ask.new.session) (writer_of c.ask.new.session) c.in-Err.fault
           (c.in-Err.ensures.reply l.invariant.goes_on)),
       refl,
@@ -53,11 +57,38 @@ loop-request-preserved g c =
     let mid = reader_of l.session in
     let middle = writer_of l.session in
     let next = comes_next g.R.Source.remaining g.R.Source.failures g.W.Sink.contents g.W.Sink.failures all old reader writer
-    l.items l.request-index request kept mid middle l.invariant.under_way c.loop-request-test.true c.request-item.is in
+    l.items.items l.request-index request kept mid middle l.invariant.under_way c.loop-request-test.true c.request-item.is in
     record {
       under_way = goes_further g.R.Source.remaining g.R.Source.failures g.W.Sink.contents g.W.Sink.failures all old reader writer
-          l.items request (drop (l.request-index + 1) all) kept mid middle next
-          (unread_of c.ask.new.session) (reader_of c.ask.new.session) (writer_of c.ask.new.session) c.in-Ok.items
+          l.items.items request (drop (l.request-index + 1) all) kept mid middle next
+          (unread_of c.ask.new.session) (reader_of c.ask.new.session) (writer_of c.ask.new.session) c.in-Ok.items.items
           (c.in-Ok.ensures.reply l.invariant.goes_on);
       goes_on = c.in-Ok.ensures.goes_on;
     }
+
+pub returns-clause-gives : goal.returns-clause-gives
+returns-clause-gives g c h =
+    let all : List Request = c.as_slice-request-items.result.now in
+    let l = c.loop-request in
+    let form = c.args.job.now.form in
+    let old = unread_of c.args.session.now in
+    let reader = reader_of c.args.session.now in
+    let writer = writer_of c.args.session.now in
+    let items = l.items.items in
+    let kept = unread_of l.session in
+    let after = reader_of l.session in
+    let sent = writer_of l.session in
+    let none : drop l.request-index all ≡ [] = at_drop_all (λ (rs : List Request). rs) all l.request-index (omega arith) in
+    let way = subst (λ rs. IsUnderWay g.R.Source.remaining g.R.Source.failures g.W.Sink.contents g.W.Sink.failures all old reader writer items rs kept after sent)
+    none l.invariant.under_way in
+    let given = ends_well g.R.Source.remaining g.R.Source.failures g.W.Sink.contents g.W.Sink.failures all old reader writer items kept after sent way in
+    let text = subst (λ its. PrintGives g.O.Sink.contents g.O.Sink.failures (text_of form its) c.args.out.now c.print-printed.result c.print-printed.new.out)
+    c.as_slice.ensures.value c.print-printed.ensures in
+    let ran = run_printed g.R.Source.remaining g.R.Source.failures g.W.Sink.contents g.W.Sink.failures g.O.Sink.contents g.O.Sink.failures all form old kept
+    reader after writer sent c.args.out.now c.print-printed.new.out items c.print-printed.result given text in
+    let asked = subst (λ rs. RunGives g.R.Source.remaining g.R.Source.failures g.W.Sink.contents g.W.Sink.failures g.O.Sink.contents g.O.Sink.failures rs form old
+    reader writer c.args.out.now c.print-printed.result kept after sent c.print-printed.new.out) c.as_slice-request-items.ensures.value ran in
+    elim c.if-is_err.branch [
+      | then-is_err w ↦ rw (w.session-is, w.end.ensures.unread, w.end.ensures.reader, w.end.ensures.writer) asked
+      | else-is_err w ↦ rw w.session-is asked
+    ]

@@ -7,6 +7,6 @@ use Rattle.nutclient.proofs.engine.run.Given as goal
 abbrev pub invariant-loop-request : goal.invariant-loop-request
 invariant-loop-request g l = record {
   under_way : IsUnderWay g.R.Source.remaining g.R.Source.failures g.W.Sink.contents g.W.Sink.failures l.request-items (unread_of l.fn.session) (reader_of l.fn.session) (writer_of l.fn.session)
-      l.items (drop l.request-index l.request-items) (unread_of l.session) (reader_of l.session) (writer_of l.session);
+      l.items.items (drop l.request-index l.request-items) (unread_of l.session) (reader_of l.session) (writer_of l.session);
   goes_on : is_over l.session ≡ false;
 }

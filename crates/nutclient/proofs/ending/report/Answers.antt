@@ -1,0 +1,8 @@
+use Rattle.std.proofs.Common.{subst, ◌∙◌}
+use Rattle.nutio.specs.Writing.{SendGives}
+use Rattle.nutclient.proofs.ending.report.Goals as goal
+
+pub returns : goal.returns
+returns g c =
+    let sent = subst (λ text. SendGives g.E.Sink.contents g.E.Sink.failures text c.args.err.now c.send.result c.send.new.writer) (c.deref.ensures.0 ∙ c.fault_line.ensures) c.send.ensures in
+    (c.status.ensures, c.send.result, sent)
