@@ -30,7 +30,7 @@ use Rattle.nutloop.specs.declared.sockets.Call.TheVariants.{Readied, Happens}
 use Rattle.nutloop.specs.declared.turns.TheConstants.{DRIVER_READ_LIMIT}
 use Rattle.nutloop.specs.Sockets.{Told, event_in, events_in, GrowsBy, GrowsText, Grows}
 use Rattle.nutcore.specs.DriverOrders.{owed_to_driver}
-use Rattle.nutloop.specs.Turn.{Ask, nobody, reads, writes, Answer, ask, read_of, write_of, MayAnswer, answered, row_events, last_events, end_of, calls_behind, calls_behind_all, Does, failures_by, IsRow}
+use Rattle.nutloop.specs.Turn.{Ask, nobody, reads, writes, Answer, ask, read_of, write_of, MayAnswer, answered, row_events, end_of, calls_behind, calls_behind_all, Does, failures_by, IsRow}
 
 calls_nothing : (a : Option (List Call)) → GrowsBy a a []
 calls_nothing None = tt
@@ -108,36 +108,22 @@ pub does_from : {S : Type 0} (calls : S → Told) (failures : S → ℕ) (es : L
     → mid ≡ old → Does calls failures es mid sockets new after → Does calls failures es old sockets new after
 does_from calls failures es old mid sockets new after same rest = subst (λ s. Does calls failures es s sockets new after) same rest
 
--- A row: the call that it makes, the events and the last events.
-pub row : {S : Type 0} (calls : S → Told) (failures : S → ℕ) (ready : Ready) (answer : Answer) (a : Ask) (es ls : List Event) (old : ServerState) (sockets middle : S) (mid : ServerState) (later : S) (new : ServerState) (after : S)
-    → ask old ready ≡ a → row_events old ready answer ≡ es → last_events mid ready answer ≡ ls
-    → MayAnswer a answer → Grows (calls sockets) (calls middle) (answered a answer) → failures middle ≡ failures_by answer (failures sockets)
-    → Does calls failures es old middle mid later → Does calls failures ls mid later new after
-    → IsRow calls failures [] ready old sockets new after
-row calls failures ready answer a es ls old sockets middle mid later new after asked rows ends may told count first last = record {
-  answer = answer;
-  mid = mid;
-  outcomes = first.outcomes;
-  last = last.outcomes;
-  may = subst (λ x. MayAnswer x answer) (sym asked) may;
-  makes = subst (λ x. Run old x first.outcomes mid) (sym rows) first.run;
-  finishes = subst (λ x. Run mid x last.outcomes new) (sym ends) last.run;
-  told = subst (λ x. Grows (calls sockets) (calls after) (answered x answer ++ (calls_behind_all (row_events old ready answer) first.outcomes ++ calls_behind_all (last_events mid ready answer) last.outcomes))) (sym asked)
-      (subst (λ x. Grows (calls sockets) (calls after) (answered a answer ++ (calls_behind_all x first.outcomes ++ calls_behind_all (last_events mid ready answer) last.outcomes))) (sym rows)
-      (subst (λ x. Grows (calls sockets) (calls after) (answered a answer ++ (calls_behind_all es first.outcomes ++ calls_behind_all x last.outcomes))) (sym ends)
-      (grows_joins (calls sockets) (calls middle) (calls after) (answered a answer) (calls_behind_all es first.outcomes ++ calls_behind_all ls last.outcomes) told
-      (grows_joins (calls middle) (calls later) (calls after) (calls_behind_all es first.outcomes) (calls_behind_all ls last.outcomes) first.told last.told))));
-  count = last.count ∙ first.count ∙ count;
-}
-
--- A row without last events.
-pub row_of : {S : Type 0} (calls : S → Told) (failures : S → ℕ) (ready : Ready) (answer : Answer) (a : Ask) (es : List Event) (old : ServerState) (sockets middle : S) (new : ServerState) (after : S)
-    → ask old ready ≡ a → row_events old ready answer ≡ es → last_events new ready answer ≡ []
+-- A row: the call that it makes, and its events.
+pub row : {S : Type 0} (calls : S → Told) (failures : S → ℕ) (ready : Ready) (answer : Answer) (a : Ask) (es : List Event) (old : ServerState) (sockets middle : S) (new : ServerState) (after : S)
+    → ask old ready ≡ a → row_events old ready answer ≡ es
     → MayAnswer a answer → Grows (calls sockets) (calls middle) (answered a answer) → failures middle ≡ failures_by answer (failures sockets)
     → Does calls failures es old middle new after
     → IsRow calls failures [] ready old sockets new after
-row_of calls failures ready answer a es old sockets middle new after asked rows ends may told count first =
-    row calls failures ready answer a es [] old sockets middle new after new after asked rows ends may told count first (does_nothing calls failures new after new refl)
+row calls failures ready answer a es old sockets middle new after asked rows may told count does = record {
+  answer = answer;
+  outcomes = does.outcomes;
+  may = subst (λ x. MayAnswer x answer) (sym asked) may;
+  run = subst (λ x. Run old x does.outcomes new) (sym rows) does.run;
+  told = subst (λ x. Grows (calls sockets) (calls after) (answered x answer ++ calls_behind_all (row_events old ready answer) does.outcomes)) (sym asked)
+      (subst (λ x. Grows (calls sockets) (calls after) (answered a answer ++ calls_behind_all x does.outcomes)) (sym rows)
+      (grows_joins (calls sockets) (calls middle) (calls after) (answered a answer) (calls_behind_all es does.outcomes) told does.told));
+  count = does.count ∙ count;
+}
 
 -- A row after the answer of ready.
 pub row_behind : {S : Type 0} (calls : S → Told) (failures : S → ℕ) (ready : Ready) (old : ServerState) (sockets middle : S) (new : ServerState) (after : S)
@@ -145,13 +131,10 @@ pub row_behind : {S : Type 0} (calls : S → Told) (failures : S → ℕ) (ready
     → IsRow calls failures (Readied ready ∷ []) ready old sockets new after
 row_behind calls failures ready old sockets middle new after told count r = record {
   answer = r.answer;
-  mid = r.mid;
   outcomes = r.outcomes;
-  last = r.last;
   may = r.may;
-  makes = r.makes;
-  finishes = r.finishes;
-  told = grows_joins (calls sockets) (calls middle) (calls after) (Readied ready ∷ []) (answered (ask old ready) r.answer ++ (calls_behind_all (row_events old ready r.answer) r.outcomes ++ calls_behind_all (last_events r.mid ready r.answer) r.last)) told r.told;
+  run = r.run;
+  told = grows_joins (calls sockets) (calls middle) (calls after) (Readied ready ∷ []) (answered (ask old ready) r.answer ++ calls_behind_all (row_events old ready r.answer) r.outcomes) told r.told;
   count = r.count ∙ ap (failures_by r.answer) count;
 }
 
@@ -240,9 +223,6 @@ finished_is (Ok b) None h = cc
 finished_is (Ok b) (Some x) h = cc
 finished_is (Err f) None h = refl
 finished_is (Err f) (Some x) h = cc
-
-pub nobody_ends_from : (c : ℕ) (old new : ServerState) → new ≡ old → session c old ≡ None → end_of c new ≡ []
-nobody_ends_from c old new same h = subst (λ s. end_of c s ≡ []) (sym same) (nobody_ends c old h)
 
 pub asks_driver : (u : UpsId) (s : ServerState) (b : Bool) → has_driver u s ≡ b → ask s (Read (Driver u)) ≡ (if b then reads (Driver u) DRIVER_READ_LIMIT else nobody)
 asks_driver u s b h = ap (λ b. if b then reads (Driver u) DRIVER_READ_LIMIT else nobody) h

@@ -30,11 +30,11 @@ use Rattle.nutloop.specs.declared.sockets.Ready.TheVariants.{Newcomer}
 use Rattle.nutloop.specs.declared.sockets.Call.{Call}
 use Rattle.nutloop.specs.declared.sockets.Call.TheVariants.{Readied, Shut}
 use Rattle.nutloop.specs.Sockets.{Told, event_in, events_in, GrowsBy, GrowsText, Grows}
-use Rattle.nutloop.specs.Turn.{Ask, nobody, accepts, reads, writes, Answer, unasked, newcomer, gave, later, ended, took, failed, ask, answered, row_events, last_events, calls_behind, calls_behind_all, loses_driver, IsRow, TurnGives}
+use Rattle.nutloop.specs.Turn.{Ask, nobody, accepts, reads, writes, Answer, unasked, newcomer, gave, later, ended, took, failed, ask, answered, row_events, calls_behind, calls_behind_all, loses_driver, IsRow, TurnGives}
 use Rattle.nutloop.specs.Moved.{Turns, is_client, is_driver, gave_in, took_in, along, fed_in_event, driver_took_in_event, AreMoved, EveryByteIsMovedOnce}
 use Rattle.nutloop.proofs.Rows.{grows_nothing, grows_joins}
 use Rattle.nutloop.specs.Serving.{IsOneRun, AnyTurnsAreOneRun, EveryEventIsWritten, AnyTurnsKeepAddressesLawful}
-use Rattle.nutloop.proofs.Moving.{Fit, row_moves, last_moves, behind_all}
+use Rattle.nutloop.proofs.Moving.{Fit, row_moves, behind_all}
 
 -- Runs and what is found along them are joined.
 run_joins : (s mid new : ServerState) (es fs : List Event) (os qs : List Outcome) → Run s es os mid → Run mid fs qs new → Run s (es ++ fs) (os ++ qs) new
@@ -97,36 +97,31 @@ told_behind s new (e ∷ es) (o ∷ os) r =
     ap (λ v. e ∷ v) (flat_map-append event_in (calls_behind e o) (calls_behind_all es os)
     ∙ ap (λ v. v ++ events_in (calls_behind_all es os)) (none_behind e o) ∙ told_behind r.0 new es os r.2)
 
-row_tells : (r : Ready) (a b c : List Call) (es ls : List Event) → events_in a ≡ [] → events_in b ≡ es → events_in c ≡ ls → events_in ((Readied r ∷ a) ++ (b ++ c)) ≡ es ++ ls
-row_tells r a b c es ls ha hb hc =
-    flat_map-append event_in (Readied r ∷ a) (b ++ c) ∙ ap (λ v. v ++ events_in (b ++ c)) ha
-    ∙ flat_map-append event_in b c ∙ ap (λ v. v ++ events_in c) hb ∙ ap (λ v. es ++ v) hc
+row_tells : (r : Ready) (a b : List Call) (es : List Event) → events_in a ≡ [] → events_in b ≡ es → events_in ((Readied r ∷ a) ++ b) ≡ es
+row_tells r a b es ha hb = flat_map-append event_in (Readied r ∷ a) b ∙ ap (λ v. v ++ events_in b) ha ∙ hb
 
 -- The calls of a row.
-row_reads : (g : Call → List ℕ) (f : ServerState → Event → List ℕ) → Fit g f → (r : Ready) (a b c : List Call) (bytes : List ℕ) → flat_map g a ≡ bytes → flat_map g b ≡ [] → flat_map g c ≡ [] → flat_map g ((Readied r ∷ a) ++ (b ++ c)) ≡ bytes
-row_reads g f fit r a b c bytes ha hb hc =
-    flat_map-append g (Readied r ∷ a) (b ++ c)
-    ∙ ap (λ v. (v ++ flat_map g a) ++ flat_map g (b ++ c)) (fit.readied r)
-    ∙ ap (λ v. flat_map g a ++ v) (flat_map-append g b c)
-    ∙ ap (λ v. flat_map g a ++ (v ++ flat_map g c)) hb
-    ∙ ap (λ v. flat_map g a ++ v) hc
+row_reads : (g : Call → List ℕ) (f : ServerState → Event → List ℕ) → Fit g f → (r : Ready) (a b : List Call) (bytes : List ℕ) → flat_map g a ≡ bytes → flat_map g b ≡ [] → flat_map g ((Readied r ∷ a) ++ b) ≡ bytes
+row_reads g f fit r a b bytes ha hb =
+    flat_map-append g (Readied r ∷ a) b
+    ∙ ap (λ v. (v ++ flat_map g a) ++ flat_map g b) (fit.readied r)
+    ∙ ap (λ v. flat_map g a ++ v) hb
     ∙ append-nil (flat_map g a)
     ∙ ha
 
 row_is_moved : {S : Type 0} (calls : S → Told) (failures : S → ℕ) (ready : Ready) (old : ServerState) (sockets : S) (new : ServerState) (after : S) → IsRow calls failures (Readied ready ∷ []) ready old sockets new after → Moves calls old sockets new after
-row_is_moved calls failures ready old sockets new after w = record {
-  since = (Readied ready ∷ answered (ask old ready) w.answer) ++ (calls_behind_all (row_events old ready w.answer) w.outcomes ++ calls_behind_all (last_events w.mid ready w.answer) w.last);
-  events = row_events old ready w.answer ++ last_events w.mid ready w.answer;
-  outcomes = w.outcomes ++ w.last;
-  grown = w.told;
-  run = run_joins old w.mid new (row_events old ready w.answer) (last_events w.mid ready w.answer) w.outcomes w.last w.makes w.finishes;
-  tells = row_tells ready (answered (ask old ready) w.answer) (calls_behind_all (row_events old ready w.answer) w.outcomes) (calls_behind_all (last_events w.mid ready w.answer) w.last) (row_events old ready w.answer) (last_events w.mid ready w.answer)
-      (none_answered (ask old ready) w.answer) (told_behind old w.mid (row_events old ready w.answer) w.outcomes w.makes) (told_behind w.mid new (last_events w.mid ready w.answer) w.last w.finishes);
-  moves = λ g f fit. row_reads g f fit ready (answered (ask old ready) w.answer) (calls_behind_all (row_events old ready w.answer) w.outcomes) (calls_behind_all (last_events w.mid ready w.answer) w.last) (along f old (row_events old ready w.answer) w.outcomes)
-      (row_moves g f fit old w.mid ready w.answer w.outcomes w.may w.makes) (behind_all g f fit (row_events old ready w.answer) w.outcomes) (behind_all g f fit (last_events w.mid ready w.answer) w.last)
-      ∙ sym (along_joins f old w.mid (row_events old ready w.answer) (last_events w.mid ready w.answer) w.outcomes w.last w.makes
-      ∙ ap (λ v. along f old (row_events old ready w.answer) w.outcomes ++ v) (last_moves g f fit w.mid new ready w.answer w.last w.finishes) ∙ append-nil (along f old (row_events old ready w.answer) w.outcomes));
-}
+row_is_moved calls failures ready old sockets new after w =
+    let es : List Event = row_events old ready w.answer in
+    record {
+      since = (Readied ready ∷ answered (ask old ready) w.answer) ++ calls_behind_all es w.outcomes;
+      events = es;
+      outcomes = w.outcomes;
+      grown = w.told;
+      run = w.run;
+      tells = row_tells ready (answered (ask old ready) w.answer) (calls_behind_all es w.outcomes) es (none_answered (ask old ready) w.answer) (told_behind old new es w.outcomes w.run);
+      moves = λ g f fit. row_reads g f fit ready (answered (ask old ready) w.answer) (calls_behind_all es w.outcomes) (along f old es w.outcomes)
+          (row_moves g f fit old new ready w.answer w.outcomes w.may w.run) (behind_all g f fit es w.outcomes);
+    }
 
 nothing_is_moved : {S : Type 0} (calls : S → Told) (old : ServerState) (sockets : S) (new : ServerState) (after : S) → Grows (calls sockets) (calls after) [] → new ≡ old → Moves calls old sockets new after
 nothing_is_moved calls old sockets new after told same = record { since = []; events = []; outcomes = []; grown = told; run = same; tells = refl; moves = λ g f fit. refl }
