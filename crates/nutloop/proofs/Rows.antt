@@ -3,8 +3,6 @@ use Rattle.std.proofs.Common.{◌≡◌, ℕ, suc, Bool, true, false, eqb, List,
 use Rattle.std.specs.Prelude.{◌-◌, ◌≤◌, is_some, Result, Ok, Err, if◌then◌else◌, replicate}
 use Rattle.std.specs.Option.{option_map, option_map_or}
 use Rattle.std.specs.Result.{result_unwrap_or}
-use Rattle.std.specs.Io.KnownBytes.{Appends}
-use Rattle.std.specs.List.{flat_map}
 use Rattle.std.proofs.lemmas.Grind.{flat_map-append}
 use Rattle.std.proofs.lemmas.Bool.Decides.{nat_tests}
 use Rattle.std.proofs.lemmas.List.{length-replicate}
@@ -28,7 +26,7 @@ use Rattle.nutloop.specs.declared.sockets.Ready.TheVariants.{Read}
 use Rattle.nutloop.specs.declared.sockets.Call.{Call}
 use Rattle.nutloop.specs.declared.sockets.Call.TheVariants.{Readied, Happens}
 use Rattle.nutloop.specs.declared.turns.TheConstants.{DRIVER_READ_LIMIT}
-use Rattle.nutloop.specs.Sockets.{Told, event_in, events_in, GrowsBy, GrowsText, Grows}
+use Rattle.nutloop.specs.Sockets.{Told, event_in, events_in, GrowsBy, Grows}
 use Rattle.nutcore.specs.DriverOrders.{owed_to_driver}
 use Rattle.nutloop.specs.Turn.{Ask, nobody, reads, writes, Answer, ask, read_of, write_of, MayAnswer, answered, row_events, end_of, calls_behind, calls_behind_all, Does, failures_by, IsRow}
 
@@ -45,38 +43,15 @@ calls_join (Some xs) None (Some zs) x y h k = absurd k
 calls_join (Some xs) (Some ys) None x y h k = tt
 calls_join (Some xs) (Some ys) (Some zs) x y h k = k ∙ ap (λ t. t ++ y) h ∙ append_assoc xs x y
 
-text_nothing : (a : Option (Option (List ℕ))) → GrowsText a a []
-text_nothing None = tt
-text_nothing (Some None) = tt
-text_nothing (Some (Some xs)) = sym (append-nil xs)
-
-appends_join : (a b c : Option (List ℕ)) (x y : List ℕ) → Appends a b x → Appends b c y → Appends a c (x ++ y)
-appends_join None b c x y h k = tt
-appends_join (Some xs) None c x y h k = absurd h
-appends_join (Some xs) (Some ys) None x y h k = absurd k
-appends_join (Some xs) (Some ys) (Some zs) x y h k = k ∙ ap (λ t. t ++ y) h ∙ append_assoc xs x y
-
-text_joins : (a b c : Option (Option (List ℕ))) (x y : List ℕ) → GrowsText a b x → GrowsText b c y → GrowsText a c (x ++ y)
-text_joins None None None x y h k = tt
-text_joins None None (Some zs) x y h k = absurd k
-text_joins None (Some ys) c x y h k = absurd h
-text_joins (Some xs) None None x y h k = tt
-text_joins (Some xs) None (Some zs) x y h k = absurd k
-text_joins (Some xs) (Some ys) None x y h k = tt
-text_joins (Some xs) (Some ys) (Some zs) x y h k = appends_join xs ys zs x y h k
-
 pub grows_nothing : (a : Told) → Grows a a []
-grows_nothing a = (calls_nothing a.answered, text_nothing a.written, refl)
+grows_nothing a = (calls_nothing a.answered, λ events recorded. subst a.records (sym (append-nil events)) recorded)
 
 pub grows_joins : (a b c : Told) (x y : List Call) → Grows a b x → Grows b c y → Grows a c (x ++ y)
-grows_joins a b c x y h k =
-    let lines : flat_map a.line (events_in x) ++ flat_map b.line (events_in y) ≡ flat_map a.line (events_in (x ++ y)) =
-    ap (λ line. flat_map a.line (events_in x) ++ flat_map line (events_in y)) h.2
-    ∙ sym (ap (flat_map a.line) (flat_map-append event_in x y) ∙ flat_map-append a.line (events_in x) (events_in y)) in (
-      calls_join a.answered b.answered c.answered x y h.0 k.0,
-      subst (λ text. GrowsText a.written c.written text) lines (text_joins a.written b.written c.written (flat_map a.line (events_in x)) (flat_map b.line (events_in y)) h.1 k.1),
-      k.2 ∙ h.2,
-    )
+grows_joins a b c x y h k = (
+  calls_join a.answered b.answered c.answered x y h.0 k.0,
+  λ events recorded. subst c.records (append_assoc events (events_in x) (events_in y) ∙ ap (λ more. events ++ more) (sym (flat_map-append event_in x y)))
+      (k.1 (events ++ events_in x) (h.1 events recorded)),
+)
 
 -- One event is told and done, and then the call after it is made.
 pub does_one : {S : Type 0} (calls : S → Told) (failures : S → ℕ) (e : Event) (o : Outcome) (old : ServerState) (sockets middle : S) (new : ServerState) (after : S)

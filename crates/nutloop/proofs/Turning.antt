@@ -29,11 +29,11 @@ use Rattle.nutloop.specs.declared.sockets.Ready.{Ready}
 use Rattle.nutloop.specs.declared.sockets.Ready.TheVariants.{Newcomer}
 use Rattle.nutloop.specs.declared.sockets.Call.{Call}
 use Rattle.nutloop.specs.declared.sockets.Call.TheVariants.{Readied, Shut}
-use Rattle.nutloop.specs.Sockets.{Told, event_in, events_in, GrowsBy, GrowsText, Grows}
+use Rattle.nutloop.specs.Sockets.{Told, event_in, events_in, GrowsBy, Grows}
 use Rattle.nutloop.specs.Turn.{Ask, nobody, accepts, reads, writes, Answer, unasked, newcomer, gave, later, ended, took, failed, ask, answered, row_events, calls_behind, calls_behind_all, loses_driver, IsRow, TurnGives}
 use Rattle.nutloop.specs.Moved.{Turns, is_client, is_driver, gave_in, took_in, along, fed_in_event, driver_took_in_event, AreMoved, EveryByteIsMovedOnce}
 use Rattle.nutloop.proofs.Rows.{grows_nothing, grows_joins}
-use Rattle.nutloop.specs.Serving.{IsOneRun, AnyTurnsAreOneRun, EveryEventIsWritten, AnyTurnsKeepAddressesLawful}
+use Rattle.nutloop.specs.Serving.{IsOneRun, AnyTurnsAreOneRun, EveryEventIsRecorded, AnyTurnsKeepAddressesLawful}
 use Rattle.nutloop.proofs.Moving.{Fit, row_moves, behind_all}
 
 -- Runs and what is found along them are joined.
@@ -288,25 +288,11 @@ every_byte_is_moved_once {S} calls failures = λ old new sockets after results b
       ),
     )
 
--- What is written of the events.
-written_since : (a b : Option (Option (List ℕ))) (before now since : List ℕ) → GrowsText a b since → a ≡ Some (Some before) → b ≡ Some (Some now) → now ≡ before ++ since
-written_since None b before now since h e k = cc e
-written_since (Some x) None before now since h e k = cc k
-written_since (Some None) (Some y) before now since h e k = cc e
-written_since (Some (Some xs)) (Some None) before now since h e k = cc k
-written_since (Some (Some xs)) (Some (Some ys)) before now since h e k = cc
-
-pub every_event_is_written : {S : Type 0} (calls : S → Told) (failures : S → ℕ) → EveryEventIsWritten calls failures
-every_event_is_written {S} calls failures = λ old new sockets after results before now turns told told_after. from old new sockets after before now (turns_are_moved calls failures results old sockets new after turns) told told_after
+-- What is recorded of the events.
+pub every_event_is_recorded : {S : Type 0} (calls : S → Told) (failures : S → ℕ) → EveryEventIsRecorded calls failures
+every_event_is_recorded {S} calls failures = λ old new sockets after results before turns recorded. from old new sockets after before (turns_are_moved calls failures results old sockets new after turns) recorded
   where
-    from : (old new : ServerState) (sockets after : S) (before now : List ℕ) → Moves calls old sockets new after → (calls sockets).written ≡ Some (Some before) → (calls after).written ≡ Some (Some now)
-        → (events : List Event) × ((outcomes : List Outcome) × Run old events outcomes new × (now ≡ before ++ flat_map (calls sockets).line events))
-    from old new sockets after before now m told told_after = (
-      m.events,
-      (
-        m.outcomes,
-        m.run,
-        written_since (calls sockets).written (calls after).written before now (flat_map (calls sockets).line (events_in m.since)) m.grown.1 told told_after
-            ∙ ap (λ es. before ++ flat_map (calls sockets).line es) m.tells,
-      ),
-    )
+    from : (old new : ServerState) (sockets after : S) (before : List Event) → Moves calls old sockets new after → (calls sockets).records before
+        → (events : List Event) × ((outcomes : List Outcome) × Run old events outcomes new × (calls after).records (before ++ events))
+    from old new sockets after before m recorded =
+        (m.events, (m.outcomes, m.run, subst (λ es. (calls after).records (before ++ es)) m.tells (m.grown.1 before recorded)))
