@@ -93,11 +93,12 @@ fn going_on() -> [Row; 6] {
 }
 
 /// All of them end, the driver in the middle of a line.
-fn ending() -> [Row; 5] {
+fn ending() -> [Row; 6] {
     [
         (Ready::Read(SECOND), Reply::Gives("LOGOUT\n")),
         (Ready::Read(DRIVER), Reply::Ends),
         (Ready::Write(SECOND), Reply::Takes(ALL)),
+        (Ready::Write(SECOND), Reply::Unasked),
         (Ready::Read(FIRST), Reply::Waits),
         (Ready::Read(FIRST), Reply::Ends),
     ]

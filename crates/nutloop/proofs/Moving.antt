@@ -21,7 +21,7 @@ use Rattle.nutloop.specs.declared.sockets.Call.{Call}
 use Rattle.nutloop.specs.declared.sockets.Call.TheVariants.{Readied, Accepted, Named, Refused, Gave, Waits, Ended, Wrote, Shut, Happens}
 use Rattle.nutloop.specs.declared.turns.TheConstants.{DRIVER_READ_LIMIT}
 use Rattle.nutcore.specs.DriverOrders.{owed_to_driver}
-use Rattle.nutloop.specs.Turn.{nobody, accepts, reads, Answer, unasked, newcomer, gave, later, ended, took, failed, ask, write_of, room_at, is_finished_at, MayAnswer, answered, row_events, read_of_client, read_of_driver, write_to_client, write_to_driver, opening, last_events, calls_behind, calls_behind_all, loses_driver}
+use Rattle.nutloop.specs.Turn.{nobody, accepts, reads, Answer, unasked, newcomer, gave, later, ended, took, failed, ask, write_of, room_at, is_finished_at, MayAnswer, answered, row_events, read_of_client, read_of_driver, write_to_client, write_to_driver, opening, calls_behind, calls_behind_all, loses_driver}
 use Rattle.nutloop.specs.Moved.{along}
 
 pub record Fit (g : Call → List ℕ) (f : ServerState → Event → List ℕ) : Type 0 where
@@ -98,16 +98,17 @@ of_unasked ended may P p = absurd may
 of_unasked (took k) may P p = absurd may
 of_unasked failed may P p = absurd may
 
--- The rows.
-tried : (g : Call → List ℕ) (f : ServerState → Event → List ℕ) → Fit g f → (s mid : ServerState) (c : ℕ) (b : Bool) (os : List Outcome) → Run s (if b then event.Feed c [] ∷ [] else []) os mid → [] ≡ along f s (if b then event.Feed c [] ∷ [] else []) os
-tried g f fit s mid c true os r = sym (one_event f s mid (event.Feed c []) os r ∙ fit.tries s c)
-tried g f fit s mid c false os r = refl
+-- An event that moves nothing, or none.
+quiet : (f : ServerState → Event → List ℕ) (s mid : ServerState) (e : Event) (b : Bool) (os : List Outcome) → f s e ≡ [] → Run s (if b then e ∷ [] else []) os mid → [] ≡ along f s (if b then e ∷ [] else []) os
+quiet f s mid e true os none r = sym (one_event f s mid e os r ∙ none)
+quiet f s mid e false os none r = refl
 
+-- The rows.
 from_client : (g : Call → List ℕ) (f : ServerState → Event → List ℕ) → Fit g f → (s mid : ServerState) (c n : ℕ) (b : Bool) (answer : Answer) (os : List Outcome) → n ≡ room_at c s
     → MayAnswer (if b then nobody else reads (Client c) n) answer → Run s (read_of_client s c answer) os mid → flat_map g (answered (if b then nobody else reads (Client c) n) answer) ≡ along f s (read_of_client s c answer) os
 from_client g f fit s mid c n true answer os e may r =
     of_unasked answer may (λ a. Run s (read_of_client s c a) os mid → flat_map g (answered nobody a) ≡ along f s (read_of_client s c a) os)
-    (tried g f fit s mid c (is_some (session c s)) os) r
+    (quiet f s mid (event.Feed c []) (is_some (session c s)) os (fit.tries s c)) r
 from_client g f fit s mid c n false unasked os e may r = absurd may
 from_client g f fit s mid c n false (newcomer a) os e may r = absurd may
 from_client g f fit s mid c n false (gave bytes) os e may r = one_call g (Gave (Client c) n bytes) (f s (event.Feed c bytes)) (fit.feeds s c n bytes (subst (λ k. length bytes ≤ k) e may)) ∙ sym (one_event f s mid (event.Feed c bytes) os r)
@@ -129,9 +130,10 @@ from_driver g f fit s mid u true (took k) os may r = absurd may
 from_driver g f fit s mid u true failed os may r = sym (one_event f s mid (event.DriverDown u) os r ∙ fit.downs s u)
 
 to_client : (g : Call → List ℕ) (f : ServerState → Event → List ℕ) → Fit g f → (s mid : ServerState) (c : ℕ) (xs : List ℕ) (answer : Answer) (os : List Outcome) → xs ≡ offered (session c s)
-    → MayAnswer (write_of (Client c) xs) answer → Run s (write_to_client c answer) os mid → flat_map g (answered (write_of (Client c) xs) answer) ≡ along f s (write_to_client c answer) os
+    → MayAnswer (write_of (Client c) xs) answer → Run s (write_to_client s c answer) os mid → flat_map g (answered (write_of (Client c) xs) answer) ≡ along f s (write_to_client s c answer) os
 to_client g f fit s mid c [] answer os e may r =
-    of_unasked answer may (λ a. flat_map g (answered nobody a) ≡ along f s (write_to_client c a) os) refl
+    of_unasked answer may (λ a. Run s (write_to_client s c a) os mid → flat_map g (answered nobody a) ≡ along f s (write_to_client s c a) os)
+    (quiet f s mid (event.Close c) (is_finished_at c s) os (fit.closes s c)) r
 to_client g f fit s mid c (x ∷ xs) unasked os e may r = absurd may
 to_client g f fit s mid c (x ∷ xs) (newcomer a) os e may r = absurd may
 to_client g f fit s mid c (x ∷ xs) (gave bytes) os e may r = absurd may
@@ -177,27 +179,3 @@ row_moves g f fit s mid (Read (Client c)) answer os may r = from_client g f fit 
 row_moves g f fit s mid (Read (Driver u)) answer os may r = from_driver g f fit s mid u (has_driver u s) answer os may r
 row_moves g f fit s mid (Write (Client c)) answer os may r = to_client g f fit s mid c (offered (session c s)) answer os refl may r
 row_moves g f fit s mid (Write (Driver u)) answer os may r = to_driver g f fit s mid u (owed_to_driver u s) answer os refl may r
-
--- The last events of a row move nothing.
-closing : (g : Call → List ℕ) (f : ServerState → Event → List ℕ) → Fit g f → (s new : ServerState) (c : ℕ) (b : Bool) (os : List Outcome) → Run s (if b then event.Close c ∷ [] else []) os new → along f s (if b then event.Close c ∷ [] else []) os ≡ []
-closing g f fit s new c true os r = one_event f s new (event.Close c) os r ∙ fit.closes s c
-closing g f fit s new c false os r = refl
-
-last_of_client : (g : Call → List ℕ) (f : ServerState → Event → List ℕ) → Fit g f → (s new : ServerState) (c : ℕ) (answer : Answer) (os : List Outcome) → Run s (last_events s (Write (Client c)) answer) os new → along f s (last_events s (Write (Client c)) answer) os ≡ []
-last_of_client g f fit s new c unasked os r = closing g f fit s new c (is_finished_at c s) os r
-last_of_client g f fit s new c (took n) os r = closing g f fit s new c (is_finished_at c s) os r
-last_of_client g f fit s new c (newcomer a) os r = refl
-last_of_client g f fit s new c (gave bytes) os r = refl
-last_of_client g f fit s new c later os r = refl
-last_of_client g f fit s new c ended os r = refl
-last_of_client g f fit s new c failed os r = refl
-
-pub last_moves : (g : Call → List ℕ) (f : ServerState → Event → List ℕ) → Fit g f → (s new : ServerState) (ready : Ready) (answer : Answer) (os : List Outcome) → Run s (last_events s ready answer) os new → along f s (last_events s ready answer) os ≡ []
-last_moves g f fit s new Nothing answer os r = refl
-last_moves g f fit s new (Tick n) answer os r = refl
-last_moves g f fit s new Newcomer answer os r = refl
-last_moves g f fit s new (Id n) answer os r = refl
-last_moves g f fit s new (DriverUp u) answer os r = refl
-last_moves g f fit s new (Read p) answer os r = refl
-last_moves g f fit s new (Write (Client c)) answer os r = last_of_client g f fit s new c answer os r
-last_moves g f fit s new (Write (Driver u)) answer os r = refl

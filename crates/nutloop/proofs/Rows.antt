@@ -3,8 +3,6 @@ use Rattle.std.proofs.Common.{◌≡◌, ℕ, suc, Bool, true, false, eqb, List,
 use Rattle.std.specs.Prelude.{◌-◌, ◌≤◌, is_some, Result, Ok, Err, if◌then◌else◌, replicate}
 use Rattle.std.specs.Option.{option_map, option_map_or}
 use Rattle.std.specs.Result.{result_unwrap_or}
-use Rattle.std.specs.Io.KnownBytes.{Appends}
-use Rattle.std.specs.List.{flat_map}
 use Rattle.std.proofs.lemmas.Grind.{flat_map-append}
 use Rattle.std.proofs.lemmas.Bool.Decides.{nat_tests}
 use Rattle.std.proofs.lemmas.List.{length-replicate}
@@ -28,9 +26,9 @@ use Rattle.nutloop.specs.declared.sockets.Ready.TheVariants.{Read}
 use Rattle.nutloop.specs.declared.sockets.Call.{Call}
 use Rattle.nutloop.specs.declared.sockets.Call.TheVariants.{Readied, Happens}
 use Rattle.nutloop.specs.declared.turns.TheConstants.{DRIVER_READ_LIMIT}
-use Rattle.nutloop.specs.Sockets.{Told, event_in, events_in, GrowsBy, GrowsText, Grows}
+use Rattle.nutloop.specs.Sockets.{Told, event_in, events_in, GrowsBy, Grows}
 use Rattle.nutcore.specs.DriverOrders.{owed_to_driver}
-use Rattle.nutloop.specs.Turn.{Ask, nobody, reads, writes, Answer, ask, read_of, write_of, MayAnswer, answered, row_events, last_events, end_of, calls_behind, calls_behind_all, Does, failures_by, IsRow}
+use Rattle.nutloop.specs.Turn.{Ask, nobody, reads, writes, Answer, ask, read_of, write_of, MayAnswer, answered, row_events, end_of, calls_behind, calls_behind_all, Does, failures_by, IsRow}
 
 calls_nothing : (a : Option (List Call)) → GrowsBy a a []
 calls_nothing None = tt
@@ -45,38 +43,15 @@ calls_join (Some xs) None (Some zs) x y h k = absurd k
 calls_join (Some xs) (Some ys) None x y h k = tt
 calls_join (Some xs) (Some ys) (Some zs) x y h k = k ∙ ap (λ t. t ++ y) h ∙ append_assoc xs x y
 
-text_nothing : (a : Option (Option (List ℕ))) → GrowsText a a []
-text_nothing None = tt
-text_nothing (Some None) = tt
-text_nothing (Some (Some xs)) = sym (append-nil xs)
-
-appends_join : (a b c : Option (List ℕ)) (x y : List ℕ) → Appends a b x → Appends b c y → Appends a c (x ++ y)
-appends_join None b c x y h k = tt
-appends_join (Some xs) None c x y h k = absurd h
-appends_join (Some xs) (Some ys) None x y h k = absurd k
-appends_join (Some xs) (Some ys) (Some zs) x y h k = k ∙ ap (λ t. t ++ y) h ∙ append_assoc xs x y
-
-text_joins : (a b c : Option (Option (List ℕ))) (x y : List ℕ) → GrowsText a b x → GrowsText b c y → GrowsText a c (x ++ y)
-text_joins None None None x y h k = tt
-text_joins None None (Some zs) x y h k = absurd k
-text_joins None (Some ys) c x y h k = absurd h
-text_joins (Some xs) None None x y h k = tt
-text_joins (Some xs) None (Some zs) x y h k = absurd k
-text_joins (Some xs) (Some ys) None x y h k = tt
-text_joins (Some xs) (Some ys) (Some zs) x y h k = appends_join xs ys zs x y h k
-
 pub grows_nothing : (a : Told) → Grows a a []
-grows_nothing a = (calls_nothing a.answered, text_nothing a.written, refl)
+grows_nothing a = (calls_nothing a.answered, λ events recorded. subst a.records (sym (append-nil events)) recorded)
 
 pub grows_joins : (a b c : Told) (x y : List Call) → Grows a b x → Grows b c y → Grows a c (x ++ y)
-grows_joins a b c x y h k =
-    let lines : flat_map a.line (events_in x) ++ flat_map b.line (events_in y) ≡ flat_map a.line (events_in (x ++ y)) =
-    ap (λ line. flat_map a.line (events_in x) ++ flat_map line (events_in y)) h.2
-    ∙ sym (ap (flat_map a.line) (flat_map-append event_in x y) ∙ flat_map-append a.line (events_in x) (events_in y)) in (
-      calls_join a.answered b.answered c.answered x y h.0 k.0,
-      subst (λ text. GrowsText a.written c.written text) lines (text_joins a.written b.written c.written (flat_map a.line (events_in x)) (flat_map b.line (events_in y)) h.1 k.1),
-      k.2 ∙ h.2,
-    )
+grows_joins a b c x y h k = (
+  calls_join a.answered b.answered c.answered x y h.0 k.0,
+  λ events recorded. subst c.records (append_assoc events (events_in x) (events_in y) ∙ ap (λ more. events ++ more) (sym (flat_map-append event_in x y)))
+      (k.1 (events ++ events_in x) (h.1 events recorded)),
+)
 
 -- One event is told and done, and then the call after it is made.
 pub does_one : {S : Type 0} (calls : S → Told) (failures : S → ℕ) (e : Event) (o : Outcome) (old : ServerState) (sockets middle : S) (new : ServerState) (after : S)
@@ -108,36 +83,22 @@ pub does_from : {S : Type 0} (calls : S → Told) (failures : S → ℕ) (es : L
     → mid ≡ old → Does calls failures es mid sockets new after → Does calls failures es old sockets new after
 does_from calls failures es old mid sockets new after same rest = subst (λ s. Does calls failures es s sockets new after) same rest
 
--- A row: the call that it makes, the events and the last events.
-pub row : {S : Type 0} (calls : S → Told) (failures : S → ℕ) (ready : Ready) (answer : Answer) (a : Ask) (es ls : List Event) (old : ServerState) (sockets middle : S) (mid : ServerState) (later : S) (new : ServerState) (after : S)
-    → ask old ready ≡ a → row_events old ready answer ≡ es → last_events mid ready answer ≡ ls
-    → MayAnswer a answer → Grows (calls sockets) (calls middle) (answered a answer) → failures middle ≡ failures_by answer (failures sockets)
-    → Does calls failures es old middle mid later → Does calls failures ls mid later new after
-    → IsRow calls failures [] ready old sockets new after
-row calls failures ready answer a es ls old sockets middle mid later new after asked rows ends may told count first last = record {
-  answer = answer;
-  mid = mid;
-  outcomes = first.outcomes;
-  last = last.outcomes;
-  may = subst (λ x. MayAnswer x answer) (sym asked) may;
-  makes = subst (λ x. Run old x first.outcomes mid) (sym rows) first.run;
-  finishes = subst (λ x. Run mid x last.outcomes new) (sym ends) last.run;
-  told = subst (λ x. Grows (calls sockets) (calls after) (answered x answer ++ (calls_behind_all (row_events old ready answer) first.outcomes ++ calls_behind_all (last_events mid ready answer) last.outcomes))) (sym asked)
-      (subst (λ x. Grows (calls sockets) (calls after) (answered a answer ++ (calls_behind_all x first.outcomes ++ calls_behind_all (last_events mid ready answer) last.outcomes))) (sym rows)
-      (subst (λ x. Grows (calls sockets) (calls after) (answered a answer ++ (calls_behind_all es first.outcomes ++ calls_behind_all x last.outcomes))) (sym ends)
-      (grows_joins (calls sockets) (calls middle) (calls after) (answered a answer) (calls_behind_all es first.outcomes ++ calls_behind_all ls last.outcomes) told
-      (grows_joins (calls middle) (calls later) (calls after) (calls_behind_all es first.outcomes) (calls_behind_all ls last.outcomes) first.told last.told))));
-  count = last.count ∙ first.count ∙ count;
-}
-
--- A row without last events.
-pub row_of : {S : Type 0} (calls : S → Told) (failures : S → ℕ) (ready : Ready) (answer : Answer) (a : Ask) (es : List Event) (old : ServerState) (sockets middle : S) (new : ServerState) (after : S)
-    → ask old ready ≡ a → row_events old ready answer ≡ es → last_events new ready answer ≡ []
+-- A row: the call that it makes, and its events.
+pub row : {S : Type 0} (calls : S → Told) (failures : S → ℕ) (ready : Ready) (answer : Answer) (a : Ask) (es : List Event) (old : ServerState) (sockets middle : S) (new : ServerState) (after : S)
+    → ask old ready ≡ a → row_events old ready answer ≡ es
     → MayAnswer a answer → Grows (calls sockets) (calls middle) (answered a answer) → failures middle ≡ failures_by answer (failures sockets)
     → Does calls failures es old middle new after
     → IsRow calls failures [] ready old sockets new after
-row_of calls failures ready answer a es old sockets middle new after asked rows ends may told count first =
-    row calls failures ready answer a es [] old sockets middle new after new after asked rows ends may told count first (does_nothing calls failures new after new refl)
+row calls failures ready answer a es old sockets middle new after asked rows may told count does = record {
+  answer = answer;
+  outcomes = does.outcomes;
+  may = subst (λ x. MayAnswer x answer) (sym asked) may;
+  run = subst (λ x. Run old x does.outcomes new) (sym rows) does.run;
+  told = subst (λ x. Grows (calls sockets) (calls after) (answered x answer ++ calls_behind_all (row_events old ready answer) does.outcomes)) (sym asked)
+      (subst (λ x. Grows (calls sockets) (calls after) (answered a answer ++ calls_behind_all x does.outcomes)) (sym rows)
+      (grows_joins (calls sockets) (calls middle) (calls after) (answered a answer) (calls_behind_all es does.outcomes) told does.told));
+  count = does.count ∙ count;
+}
 
 -- A row after the answer of ready.
 pub row_behind : {S : Type 0} (calls : S → Told) (failures : S → ℕ) (ready : Ready) (old : ServerState) (sockets middle : S) (new : ServerState) (after : S)
@@ -145,13 +106,10 @@ pub row_behind : {S : Type 0} (calls : S → Told) (failures : S → ℕ) (ready
     → IsRow calls failures (Readied ready ∷ []) ready old sockets new after
 row_behind calls failures ready old sockets middle new after told count r = record {
   answer = r.answer;
-  mid = r.mid;
   outcomes = r.outcomes;
-  last = r.last;
   may = r.may;
-  makes = r.makes;
-  finishes = r.finishes;
-  told = grows_joins (calls sockets) (calls middle) (calls after) (Readied ready ∷ []) (answered (ask old ready) r.answer ++ (calls_behind_all (row_events old ready r.answer) r.outcomes ++ calls_behind_all (last_events r.mid ready r.answer) r.last)) told r.told;
+  run = r.run;
+  told = grows_joins (calls sockets) (calls middle) (calls after) (Readied ready ∷ []) (answered (ask old ready) r.answer ++ calls_behind_all (row_events old ready r.answer) r.outcomes) told r.told;
   count = r.count ∙ ap (failures_by r.answer) count;
 }
 
@@ -240,9 +198,6 @@ finished_is (Ok b) None h = cc
 finished_is (Ok b) (Some x) h = cc
 finished_is (Err f) None h = refl
 finished_is (Err f) (Some x) h = cc
-
-pub nobody_ends_from : (c : ℕ) (old new : ServerState) → new ≡ old → session c old ≡ None → end_of c new ≡ []
-nobody_ends_from c old new same h = subst (λ s. end_of c s ≡ []) (sym same) (nobody_ends c old h)
 
 pub asks_driver : (u : UpsId) (s : ServerState) (b : Bool) → has_driver u s ≡ b → ask s (Read (Driver u)) ≡ (if b then reads (Driver u) DRIVER_READ_LIMIT else nobody)
 asks_driver u s b h = ap (λ b. if b then reads (Driver u) DRIVER_READ_LIMIT else nobody) h

@@ -29,12 +29,12 @@ use Rattle.nutloop.specs.declared.sockets.Ready.{Ready}
 use Rattle.nutloop.specs.declared.sockets.Ready.TheVariants.{Newcomer}
 use Rattle.nutloop.specs.declared.sockets.Call.{Call}
 use Rattle.nutloop.specs.declared.sockets.Call.TheVariants.{Readied, Shut}
-use Rattle.nutloop.specs.Sockets.{Told, event_in, events_in, GrowsBy, GrowsText, Grows}
-use Rattle.nutloop.specs.Turn.{Ask, nobody, accepts, reads, writes, Answer, unasked, newcomer, gave, later, ended, took, failed, ask, answered, row_events, last_events, calls_behind, calls_behind_all, loses_driver, IsRow, TurnGives}
+use Rattle.nutloop.specs.Sockets.{Told, event_in, events_in, GrowsBy, Grows}
+use Rattle.nutloop.specs.Turn.{Ask, nobody, accepts, reads, writes, Answer, unasked, newcomer, gave, later, ended, took, failed, ask, answered, row_events, calls_behind, calls_behind_all, loses_driver, IsRow, TurnGives}
 use Rattle.nutloop.specs.Moved.{Turns, is_client, is_driver, gave_in, took_in, along, fed_in_event, driver_took_in_event, AreMoved, EveryByteIsMovedOnce}
 use Rattle.nutloop.proofs.Rows.{grows_nothing, grows_joins}
-use Rattle.nutloop.specs.Serving.{IsOneRun, AnyTurnsAreOneRun, EveryEventIsWritten, AnyTurnsKeepAddressesLawful}
-use Rattle.nutloop.proofs.Moving.{Fit, row_moves, last_moves, behind_all}
+use Rattle.nutloop.specs.Serving.{IsOneRun, AnyTurnsAreOneRun, EveryEventIsRecorded, AnyTurnsKeepAddressesLawful}
+use Rattle.nutloop.proofs.Moving.{Fit, row_moves, behind_all}
 
 -- Runs and what is found along them are joined.
 run_joins : (s mid new : ServerState) (es fs : List Event) (os qs : List Outcome) → Run s es os mid → Run mid fs qs new → Run s (es ++ fs) (os ++ qs) new
@@ -97,36 +97,31 @@ told_behind s new (e ∷ es) (o ∷ os) r =
     ap (λ v. e ∷ v) (flat_map-append event_in (calls_behind e o) (calls_behind_all es os)
     ∙ ap (λ v. v ++ events_in (calls_behind_all es os)) (none_behind e o) ∙ told_behind r.0 new es os r.2)
 
-row_tells : (r : Ready) (a b c : List Call) (es ls : List Event) → events_in a ≡ [] → events_in b ≡ es → events_in c ≡ ls → events_in ((Readied r ∷ a) ++ (b ++ c)) ≡ es ++ ls
-row_tells r a b c es ls ha hb hc =
-    flat_map-append event_in (Readied r ∷ a) (b ++ c) ∙ ap (λ v. v ++ events_in (b ++ c)) ha
-    ∙ flat_map-append event_in b c ∙ ap (λ v. v ++ events_in c) hb ∙ ap (λ v. es ++ v) hc
+row_tells : (r : Ready) (a b : List Call) (es : List Event) → events_in a ≡ [] → events_in b ≡ es → events_in ((Readied r ∷ a) ++ b) ≡ es
+row_tells r a b es ha hb = flat_map-append event_in (Readied r ∷ a) b ∙ ap (λ v. v ++ events_in b) ha ∙ hb
 
 -- The calls of a row.
-row_reads : (g : Call → List ℕ) (f : ServerState → Event → List ℕ) → Fit g f → (r : Ready) (a b c : List Call) (bytes : List ℕ) → flat_map g a ≡ bytes → flat_map g b ≡ [] → flat_map g c ≡ [] → flat_map g ((Readied r ∷ a) ++ (b ++ c)) ≡ bytes
-row_reads g f fit r a b c bytes ha hb hc =
-    flat_map-append g (Readied r ∷ a) (b ++ c)
-    ∙ ap (λ v. (v ++ flat_map g a) ++ flat_map g (b ++ c)) (fit.readied r)
-    ∙ ap (λ v. flat_map g a ++ v) (flat_map-append g b c)
-    ∙ ap (λ v. flat_map g a ++ (v ++ flat_map g c)) hb
-    ∙ ap (λ v. flat_map g a ++ v) hc
+row_reads : (g : Call → List ℕ) (f : ServerState → Event → List ℕ) → Fit g f → (r : Ready) (a b : List Call) (bytes : List ℕ) → flat_map g a ≡ bytes → flat_map g b ≡ [] → flat_map g ((Readied r ∷ a) ++ b) ≡ bytes
+row_reads g f fit r a b bytes ha hb =
+    flat_map-append g (Readied r ∷ a) b
+    ∙ ap (λ v. (v ++ flat_map g a) ++ flat_map g b) (fit.readied r)
+    ∙ ap (λ v. flat_map g a ++ v) hb
     ∙ append-nil (flat_map g a)
     ∙ ha
 
 row_is_moved : {S : Type 0} (calls : S → Told) (failures : S → ℕ) (ready : Ready) (old : ServerState) (sockets : S) (new : ServerState) (after : S) → IsRow calls failures (Readied ready ∷ []) ready old sockets new after → Moves calls old sockets new after
-row_is_moved calls failures ready old sockets new after w = record {
-  since = (Readied ready ∷ answered (ask old ready) w.answer) ++ (calls_behind_all (row_events old ready w.answer) w.outcomes ++ calls_behind_all (last_events w.mid ready w.answer) w.last);
-  events = row_events old ready w.answer ++ last_events w.mid ready w.answer;
-  outcomes = w.outcomes ++ w.last;
-  grown = w.told;
-  run = run_joins old w.mid new (row_events old ready w.answer) (last_events w.mid ready w.answer) w.outcomes w.last w.makes w.finishes;
-  tells = row_tells ready (answered (ask old ready) w.answer) (calls_behind_all (row_events old ready w.answer) w.outcomes) (calls_behind_all (last_events w.mid ready w.answer) w.last) (row_events old ready w.answer) (last_events w.mid ready w.answer)
-      (none_answered (ask old ready) w.answer) (told_behind old w.mid (row_events old ready w.answer) w.outcomes w.makes) (told_behind w.mid new (last_events w.mid ready w.answer) w.last w.finishes);
-  moves = λ g f fit. row_reads g f fit ready (answered (ask old ready) w.answer) (calls_behind_all (row_events old ready w.answer) w.outcomes) (calls_behind_all (last_events w.mid ready w.answer) w.last) (along f old (row_events old ready w.answer) w.outcomes)
-      (row_moves g f fit old w.mid ready w.answer w.outcomes w.may w.makes) (behind_all g f fit (row_events old ready w.answer) w.outcomes) (behind_all g f fit (last_events w.mid ready w.answer) w.last)
-      ∙ sym (along_joins f old w.mid (row_events old ready w.answer) (last_events w.mid ready w.answer) w.outcomes w.last w.makes
-      ∙ ap (λ v. along f old (row_events old ready w.answer) w.outcomes ++ v) (last_moves g f fit w.mid new ready w.answer w.last w.finishes) ∙ append-nil (along f old (row_events old ready w.answer) w.outcomes));
-}
+row_is_moved calls failures ready old sockets new after w =
+    let es : List Event = row_events old ready w.answer in
+    record {
+      since = (Readied ready ∷ answered (ask old ready) w.answer) ++ calls_behind_all es w.outcomes;
+      events = es;
+      outcomes = w.outcomes;
+      grown = w.told;
+      run = w.run;
+      tells = row_tells ready (answered (ask old ready) w.answer) (calls_behind_all es w.outcomes) es (none_answered (ask old ready) w.answer) (told_behind old new es w.outcomes w.run);
+      moves = λ g f fit. row_reads g f fit ready (answered (ask old ready) w.answer) (calls_behind_all es w.outcomes) (along f old es w.outcomes)
+          (row_moves g f fit old new ready w.answer w.outcomes w.may w.run) (behind_all g f fit es w.outcomes);
+    }
 
 nothing_is_moved : {S : Type 0} (calls : S → Told) (old : ServerState) (sockets : S) (new : ServerState) (after : S) → Grows (calls sockets) (calls after) [] → new ≡ old → Moves calls old sockets new after
 nothing_is_moved calls old sockets new after told same = record { since = []; events = []; outcomes = []; grown = told; run = same; tells = refl; moves = λ g f fit. refl }
@@ -293,25 +288,11 @@ every_byte_is_moved_once {S} calls failures = λ old new sockets after results b
       ),
     )
 
--- What is written of the events.
-written_since : (a b : Option (Option (List ℕ))) (before now since : List ℕ) → GrowsText a b since → a ≡ Some (Some before) → b ≡ Some (Some now) → now ≡ before ++ since
-written_since None b before now since h e k = cc e
-written_since (Some x) None before now since h e k = cc k
-written_since (Some None) (Some y) before now since h e k = cc e
-written_since (Some (Some xs)) (Some None) before now since h e k = cc k
-written_since (Some (Some xs)) (Some (Some ys)) before now since h e k = cc
-
-pub every_event_is_written : {S : Type 0} (calls : S → Told) (failures : S → ℕ) → EveryEventIsWritten calls failures
-every_event_is_written {S} calls failures = λ old new sockets after results before now turns told told_after. from old new sockets after before now (turns_are_moved calls failures results old sockets new after turns) told told_after
+-- What is recorded of the events.
+pub every_event_is_recorded : {S : Type 0} (calls : S → Told) (failures : S → ℕ) → EveryEventIsRecorded calls failures
+every_event_is_recorded {S} calls failures = λ old new sockets after results before turns recorded. from old new sockets after before (turns_are_moved calls failures results old sockets new after turns) recorded
   where
-    from : (old new : ServerState) (sockets after : S) (before now : List ℕ) → Moves calls old sockets new after → (calls sockets).written ≡ Some (Some before) → (calls after).written ≡ Some (Some now)
-        → (events : List Event) × ((outcomes : List Outcome) × Run old events outcomes new × (now ≡ before ++ flat_map (calls sockets).line events))
-    from old new sockets after before now m told told_after = (
-      m.events,
-      (
-        m.outcomes,
-        m.run,
-        written_since (calls sockets).written (calls after).written before now (flat_map (calls sockets).line (events_in m.since)) m.grown.1 told told_after
-            ∙ ap (λ es. before ++ flat_map (calls sockets).line es) m.tells,
-      ),
-    )
+    from : (old new : ServerState) (sockets after : S) (before : List Event) → Moves calls old sockets new after → (calls sockets).records before
+        → (events : List Event) × ((outcomes : List Outcome) × Run old events outcomes new × (calls after).records (before ++ events))
+    from old new sockets after before m recorded =
+        (m.events, (m.outcomes, m.run, subst (λ es. (calls after).records (before ++ es)) m.tells (m.grown.1 before recorded)))

@@ -1,5 +1,5 @@
 -- Which bytes turns move between the sockets and the server: the law of every list of turns.
-use Rattle.std.specs.Prelude.{◌≡◌, ℕ, Bool, false, List, [], ◌∷◌, ◌++◌, Option, Some, Result, ◌==◌}
+use Rattle.std.specs.Prelude.{◌≡◌, ℕ, Bool, false, List, [], ◌∷◌, ◌++◌, Some, Result, ◌==◌}
 use Rattle.std.specs.Prelude.{if◌then◌else◌, take}
 use Rattle.std.specs.List.{flat_map}
 use Rattle.nutusers.specs.declared.ups_list.UpsId.{UpsId}

@@ -1,7 +1,6 @@
 -- Serving: turns one after another, up to the first that fails; and what holds of any turns.
-use Rattle.std.specs.Prelude.{◌≡◌, ℕ, zero, suc, List, [], ◌∷◌, ◌++◌, Some, Result, Ok, Err, All}
+use Rattle.std.specs.Prelude.{◌≡◌, ℕ, zero, suc, List, [], ◌∷◌, ◌++◌, Result, Ok, Err, All}
 use Rattle.std.specs.Prelude.{replicate}
-use Rattle.std.specs.List.{flat_map}
 use Rattle.std.specs.Fn.{Called, Mut}
 use denote.Ref.{Bor}
 use Rattle.nutcore.specs.declared.event.Event.{Event}
@@ -74,16 +73,16 @@ AnyTurnsAreOneRun {S} calls failures =
     (old new : ServerState) (sockets after : S) (results : List (Result (Unit {0}) LoopFault))
     → Turns calls failures old sockets results new after → IsOneRun old new
 
--- What sockets write over any turns, where it is known, is the lines of the events of one run, in
--- order, and nothing else.
-abbrev pub EveryEventIsWritten : {S : Type 0} → (S → Told) → (S → ℕ) → Type 0
-EveryEventIsWritten {S} calls failures =
+-- Over any turns, the record of some events becomes one of these and of the events of one run, each
+-- once and in order.
+abbrev pub EveryEventIsRecorded : {S : Type 0} → (S → Told) → (S → ℕ) → Type 0
+EveryEventIsRecorded {S} calls failures =
     (old new : ServerState) (sockets after : S) (results : List (Result (Unit {0}) LoopFault))
-    (before now : List ℕ) → Turns calls failures old sockets results new after
-    → (calls sockets).written ≡ Some (Some before) → (calls after).written ≡ Some (Some now)
+    (before : List Event) → Turns calls failures old sockets results new after
+    → (calls sockets).records before
     → (events : List Event)
     × ((outcomes : List Outcome) × Run old events outcomes new
-    × (now ≡ before ++ flat_map (calls sockets).line events))
+    × (calls after).records (before ++ events))
 
 abbrev pub AnyTurnsKeepAddressesLawful : {S : Type 0} → (S → Told) → (S → ℕ)
     → Type 0

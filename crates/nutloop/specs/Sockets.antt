@@ -1,7 +1,6 @@
 -- What the sockets answer, and what they tell of it.
 use Rattle.std.specs.Prelude.{◌≡◌, ℕ, ◌≤◌, List, [], ◌∷◌, ◌++◌, ⊤, Option, Some}
 use Rattle.std.specs.Prelude.{None, Result, Ok, Err, length, take}
-use Rattle.std.specs.Io.KnownBytes.{Appends}
 use Rattle.std.specs.List.{flat_map}
 use Rattle.nutcore.specs.declared.event.Event.{Event}
 use Rattle.nutcore.specs.declared.event.Event.TheVariants as event
@@ -26,16 +25,15 @@ AtMost (Ok Later) into = ⊤
 AtMost (Ok End) into = ⊤
 AtMost (Err e) into = ⊤
 
--- What sockets tell: the calls that were answered, where they are known; the text that they have
--- written of the events, as long as they write it and where it is known; and the line of an event.
-pub record Told : Type 0 where
+-- What sockets tell: the calls that were answered, where they are known; and of which events they
+-- hold a record.
+pub record Told : Type 1 where
   pub answered : Option (List Call)
-  pub written : Option (Option (List ℕ))
-  pub line : Event → List ℕ
+  pub records : List Event → Type 0
 
 -- Sockets that tell nothing.
 abbrev pub nothing_told : Told
-nothing_told = record { answered = None; written = None; line = λ e. [] }
+nothing_told = record { answered = None; records = λ events. ⊥ }
 
 -- The event that these bytes come from the peer.
 abbrev pub came_from : Peer → List ℕ → Event
@@ -57,18 +55,14 @@ GrowsBy None (Some ys) more = ⊥
 GrowsBy (Some xs) None more = ⊤
 GrowsBy (Some xs) (Some ys) more = ys ≡ xs ++ more
 
--- The text grows by this, or is written no more from here on.
-abbrev pub GrowsText : Option (Option (List ℕ)) → Option (Option (List ℕ)) → List ℕ → Type 0
-GrowsText None None more = ⊤
-GrowsText None (Some y) more = ⊥
-GrowsText (Some x) None more = ⊤
-GrowsText (Some x) (Some y) more = Appends x y more
+-- A record of some events becomes one of these and of the next ones.
+abbrev pub Continues : (List Event → Type 0) → (List Event → Type 0) → List Event → Type 0
+Continues old new next = (events : List Event) → old events → new (events ++ next)
 
--- What is told grows by these calls, and what is written by the lines of their events.
+-- What is told grows by these calls, and the record by their events.
 abbrev pub Grows : Told → Told → List Call → Type 0
 Grows old new calls = GrowsBy old.answered new.answered calls
-    × GrowsText old.written new.written (flat_map old.line (events_in calls))
-    × (new.line ≡ old.line)
+    × Continues old.records new.records (events_in calls)
 
 -- A call that is answered is told, and one that fails isn't.
 abbrev pub Logs : {T E : Type 0} → Told → Told → (T → Call) → Result T E → Type 0

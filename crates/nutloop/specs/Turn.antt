@@ -114,10 +114,15 @@ read_of_driver u ended = event.DriverDown u ∷ []
 read_of_driver u failed = event.DriverDown u ∷ []
 read_of_driver u _ = []
 
-abbrev pub write_to_client : ℕ → Answer → List Event
-write_to_client c (took n) = event.Took c n ∷ []
-write_to_client c failed = event.Close c ∷ []
-write_to_client c _ = []
+-- A client that is finished is offered nothing, and closed.
+abbrev pub end_of : ℕ → ServerState → List Event
+end_of c s = if is_finished_at c s then event.Close c ∷ [] else []
+
+abbrev pub write_to_client : ServerState → ℕ → Answer → List Event
+write_to_client s c unasked = end_of c s
+write_to_client s c (took n) = event.Took c n ∷ []
+write_to_client s c failed = event.Close c ∷ []
+write_to_client s c _ = []
 
 abbrev pub write_to_driver : UpsId → Answer → List Event
 write_to_driver u (took n) = event.DriverTook u n ∷ []
@@ -128,7 +133,7 @@ abbrev pub opening : Answer → List Event
 opening (newcomer (Some address)) = event.Open address ∷ []
 opening _ = []
 
--- The events of each row.
+-- The events of each row, one at most.
 abbrev pub row_events : ServerState → Ready → Answer → List Event
 row_events s Nothing answer = []
 row_events s (Tick seconds) answer = event.Tick seconds ∷ []
@@ -137,17 +142,8 @@ row_events s (Id id) answer = event.Id id ∷ []
 row_events s (DriverUp u) answer = event.DriverUp u ∷ []
 row_events s (Read (Client c)) answer = read_of_client s c answer
 row_events s (Read (Driver u)) answer = read_of_driver u answer
-row_events s (Write (Client c)) answer = write_to_client c answer
+row_events s (Write (Client c)) answer = write_to_client s c answer
 row_events s (Write (Driver u)) answer = write_to_driver u answer
-
-abbrev pub end_of : ℕ → ServerState → List Event
-end_of c s = if is_finished_at c s then event.Close c ∷ [] else []
-
--- The last event of a row, on the server after the others: a client that is finished is closed.
-abbrev pub last_events : ServerState → Ready → Answer → List Event
-last_events s (Write (Client c)) unasked = end_of c s
-last_events s (Write (Client c)) (took n) = end_of c s
-last_events s _ _ = []
 
 -- A driver is lost by a line that is too long, and where memory is refused.
 abbrev pub loses_driver : Fault → Bool
@@ -191,16 +187,12 @@ pub record IsRow {S : Type 0} (calls : S → Told) (failures : S → ℕ)
     (before : List Call) (ready : Ready) (old : ServerState) (sockets : S) (new : ServerState)
     (after : S) : Type 0 where
   pub answer : Answer
-  pub mid : ServerState
   pub outcomes : List Outcome
-  pub last : List Outcome
   pub may : MayAnswer (ask old ready) answer
-  pub makes : Run old (row_events old ready answer) outcomes mid
-  pub finishes : Run mid (last_events mid ready answer) last new
+  pub run : Run old (row_events old ready answer) outcomes new
   pub told : Grows (calls sockets) (calls after)
       ((before ++ answered (ask old ready) answer)
-      ++ (calls_behind_all (row_events old ready answer) outcomes
-      ++ calls_behind_all (last_events mid ready answer) last))
+      ++ calls_behind_all (row_events old ready answer) outcomes)
   pub count : failures after ≡ failures_by answer (failures sockets)
 
 -- A call of the loop failed: only what was answered before it is told, and the server is as it was.

@@ -2,7 +2,7 @@
 ghost use Rattle.nutloop.specs.Fairness.{EverybodyHasATurn};
 ghost use Rattle.nutloop.specs.Moved.{EveryByteIsMovedOnce};
 ghost use Rattle.nutloop.specs.Numbers.{Numbers};
-ghost use Rattle.nutloop.specs.Serving.{AnyTurnsAreOneRun, AnyTurnsKeepAddressesLawful, EveryEventIsWritten};
+ghost use Rattle.nutloop.specs.Serving.{AnyTurnsAreOneRun, AnyTurnsKeepAddressesLawful, EveryEventIsRecorded};
 ghost use Rattle.nutloop.specs.SocketToSocket.{WhatASocketGaveIsAnswered, ADriverIsHeardAndToldByItsSocket};
 
 use crate::Sockets;
@@ -47,9 +47,10 @@ pub fn any_turns_are_one_run<S: Sockets>()
     ensures { AnyTurnsAreOneRun S.calls S.failures }
 {}
 
-/// What sockets that write down the events have written after any turns is the events of one run, each once and in order.
-pub fn every_event_is_written<S: Sockets>()
-    ensures { EveryEventIsWritten S.calls S.failures }
+/// Over any turns, sockets that hold a record of some events come to hold one of these and of the
+/// events of one run, each once and in order.
+pub fn every_event_is_recorded<S: Sockets>()
+    ensures { EveryEventIsRecorded S.calls S.failures }
 {}
 
 /// Over any turns the addresses of a server's sessions stay lawful, as `LIST CLIENT` needs to be read back.

@@ -68,8 +68,8 @@ pub struct Broken;
 
 /// The sockets of all peers. No call waits for a peer but `ready`, which waits for all of them.
 pub trait Sockets {
-    /// The calls that were answered so far, where these sockets tell them, and what they wrote of the events, where that
-    /// is known. A call that failed isn't among them.
+    /// The calls that were answered so far, where these sockets tell them, and of which events they
+    /// hold a record. A call that failed isn't among them.
     ghost calls: { Self → Told };
 
     /// How many calls failed. The count stops at its greatest number.

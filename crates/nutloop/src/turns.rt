@@ -208,10 +208,7 @@ fn write_client<S: Sockets>(server: &mut Server, sockets: &mut S, c: ClientId)
         return;
     }
     match sockets.write(Peer::Client(c), offered) {
-        Ok(n) => {
-            took(server, sockets, c, n);
-            close_finished(server, sockets, c);
-        }
+        Ok(n) => took(server, sockets, c, n),
         Err(_) => close(server, sockets, c),
     }
 }
@@ -242,8 +239,8 @@ fn write<S: Sockets>(server: &mut Server, sockets: &mut S, p: Peer)
     }
 }
 
-/// One turn: asks once what is ready, and does that row: at most one read or write, and at most two
-/// events of the server, each of which the sockets are told before it happens.
+/// One turn: asks once what is ready, and does that row: at most one read or write, and at most one
+/// event of the server. The sockets learn of the event before it happens.
 ///
 /// # Errors
 ///

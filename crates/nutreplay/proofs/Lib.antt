@@ -1,4 +1,4 @@
 mod Taking
 mod Doing
 mod OneRun
-mod ReadBack
+pub mod ReadBack

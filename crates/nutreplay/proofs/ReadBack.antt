@@ -1,5 +1,5 @@
 -- A line that is written of an event is read as that event, and so is what is written of many.
-use Rattle.std.proofs.Common.{◌≡◌, ◌∙◌, ℕ, zero, suc, ◌+◌, ◌-◌, ◌<◌, ◌^◌, Bool, true, false, not, ◌&&◌, ◌==◌, cond, eqb, leb, nat_lt, List, [], ◌∷◌, ◌++◌, length, length-append, take, drop, map, Option, Some, None, Result, Ok, Err, is_ok, is_some, get_or, if◌then◌else◌, refl, sym, ap, subst, arith, append_assoc, one-add, lt-ltb, eqb-true, codes, slice_get, All, position, flat_map, bytes_eq, is_eq}
+use Rattle.std.proofs.Common.{◌≡◌, ◌∙◌, ℕ, zero, suc, ◌+◌, ◌-◌, ◌<◌, ◌^◌, Bool, true, false, not, ◌&&◌, ◌==◌, cond, eqb, leb, nat_lt, List, [], ◌∷◌, ◌++◌, length, length-append, take, drop, map, Option, Some, None, Result, Ok, Err, is_ok, is_some, get_or, if◌then◌else◌, refl, sym, ap, subst, arith, append_assoc, one-add, lt-ltb, eqb-true, codes, slice_get, position, bytes_eq, is_eq}
 use Rattle.std.specs.Fmt.{decimal}
 use Rattle.std.specs.List.{list_all, position_or_len, AllPass, AllByRecursion}
 use Rattle.std.specs.List.Sorted.{IsStrictlySortedBy}
@@ -9,6 +9,7 @@ use Rattle.std.specs.Str.Parse.{AllDigits, digits_value}
 use Rattle.std.proofs.lemmas.Bool.{and_from, and_parts, and_right}
 use Rattle.std.proofs.lemmas.Bool.Decides.{nat_tests}
 use Rattle.std.proofs.lemmas.Fmt.{decimal_digit, decimal_is_IsNumeral, first_decimal}
+use Rattle.std.proofs.lemmas.List.{map-append}
 use Rattle.std.proofs.lemmas.List.Elements.{All-head, All-tail}
 use Rattle.std.proofs.lemmas.Map.Text.{is_eq-slice_cmp}
 use Rattle.std.proofs.lemmas.Option.{slice_get_within, get_or_from_slice_get}
@@ -22,7 +23,7 @@ use Rattle.nuttracking.proofs.PublicLaws.{written_is_read, ids_are_plain}
 use Rattle.nutwords.specs.Bytes.{is_name_byte, is_address_byte}
 use Rattle.nutwords.specs.Natural.{is_digit, is_natural, up_to}
 use Rattle.nutwords.specs.Reading.{read_text}
-use Rattle.nutwords.specs.Text.{lines_of, is_silent, with_lf}
+use Rattle.nutwords.specs.Text.{lines_of, is_silent}
 use Rattle.nutwords.specs.declared.faults.BadName.{BadName}
 use Rattle.nutwords.specs.declared.faults.BadName.TheVariants.{Empty, TooLong, AnotherByte}
 use Rattle.nutwords.specs.declared.limits.TheConstants.{UPS_NAME_LIMIT, ADDRESS_LIMIT}
@@ -36,8 +37,9 @@ use Rattle.nutreplay.specs.declared.script.action.Action.{Action}
 use Rattle.nutreplay.specs.declared.script.action.Action.TheVariants.{Happens, TookAll}
 use Rattle.nutreplay.specs.declared.script.action.Form.TheVariants.{Part, Hex}
 use Rattle.nutreplay.specs.declared.script.action.TheConstants.{UNLISTED}
+use Rattle.nutreplay.specs.declared.script.ScriptLine.{ScriptLine}
 use Rattle.nutreplay.specs.Script.{split_at_space, number, ups_named, ups, with_rest, driver_and_rest, client_and_rest, took, taking, sent, sending, action_of, read_parts, read_line, actions_from, numbered, bad_line_from, is_bad, actions_of, first_bad_line}
-use Rattle.nutreplay.specs.Written.{name_at, verb_of_bytes, line_of, Has, IsEventOf, IsComment, record_of, WhatIsWrittenIsReadBack}
+use Rattle.nutreplay.specs.Written.{name_at, verb_of_bytes, line_of, Has, IsEventOf, WhatIsWrittenIsReadBack}
 
 -- The bytes of a line without LF, and those of a word of it.
 abbrev in_line : ℕ → Bool
@@ -326,47 +328,43 @@ module _ (list : List Ups) (l : IsList list) where
       one_line list (Id id) (codes "id") (id_text id) refl (word_is_part (id_text id) (all_more is_id_byte in_word is_word_of_id (id_text id) (ids_are_plain.digits id))) refl refl
       (ap (λ o. happens (option_map (λ n. Id n) o)) (written_is_read id few))
 
-  -- What lines from here on are read as.
-  record AreReadAs (lines : List (List ℕ)) (n : ℕ) (events : List Event) : Type 0 where
-    good : bad_line_from list n lines ≡ None
-    actions : map (λ line. line.action) (actions_from list n lines) ≡ map (λ e. Happens e) events
+-- One more line.
+good_then : (list : List Ups) (n : ℕ) (lines : List (List ℕ)) (line : List ℕ) → bad_line_from list n lines ≡ None → is_bad list line ≡ false → bad_line_from list n (lines ++ line ∷ []) ≡ None
+good_then list n [] line good fine = ap (λ b. if b then Some n else None) fine
+good_then list n (first ∷ lines) line good fine = by (is_bad list first) (bad_line_from list (n + 1) lines) (bad_line_from list (n + 1) (lines ++ line ∷ [])) (λ rest. good_then list (n + 1) lines line rest fine) good
+  where
+    by : (b : Bool) (old new : Option ℕ) → (old ≡ None → new ≡ None) → (if b then Some n else old) ≡ None → (if b then Some n else new) ≡ None
+    by true old new step h = h
+    by false old new step h = step h
 
-  lines_read : (n : ℕ) (events : List Event) → All (IsEventOf list) events → AreReadAs (lines_of (flat_map (line_of list) events)) n events
-  lines_read n [] all = record { good = refl; actions = refl }
-  lines_read n (e ∷ events) all =
-      let one = one_line_of e (All-head (IsEventOf list) e events all) in
-      let more : List ℕ = flat_map (line_of list) events in
-      let rest = lines_read (n + 1) events (All-tail (IsEventOf list) e events all) in
-      let lines : lines_of (line_of list e ++ more) ≡ one.line ∷ lines_of more =
-      ap (λ xs. lines_of (xs ++ more)) one.is ∙ ap lines_of (append_assoc one.line (10 ∷ []) more) ∙ first_line one.line more one.part in
-      let is_good : is_bad list one.line ≡ false = ap (λ o. not (is_silent one.line) && not (is_some o)) one.read ∙ and_right (not (is_silent one.line)) false refl in
-      record {
-        good = ap (bad_line_from list n) lines ∙ ap (λ b. if b then Some n else bad_line_from list (n + 1) (lines_of more)) is_good ∙ rest.good;
-        actions = ap (λ ls. map (λ line. line.action) (actions_from list n ls)) lines
-            ∙ ap (λ b. map (λ line. line.action) ((if b then [] else numbered n (read_line list one.line)) ++ actions_from list (n + 1) (lines_of more))) one.loud
-            ∙ ap (λ o. map (λ line. line.action) (numbered n o ++ actions_from list (n + 1) (lines_of more))) one.read
-            ∙ ap (λ more. Happens e ∷ more) rest.actions;
-      }
+abbrev asked : List ScriptLine → List Action
+asked lines = map (λ line. line.action) lines
 
-  all_read : (n : ℕ) (comments : List (List ℕ)) (events : List Event) → All IsComment comments → All (IsEventOf list) events
-      → AreReadAs (lines_of (record_of list comments events)) n events
-  all_read n [] events quiet all = lines_read n events all
-  all_read n (c ∷ comments) events quiet all =
-      let comment = All-head IsComment c comments quiet in
-      let more : List ℕ = record_of list comments events in
-      let rest = all_read (n + 1) comments events (All-tail IsComment c comments quiet) all in
-      let lines : lines_of (record_of list (c ∷ comments) events) ≡ c ∷ lines_of more =
-      ap lines_of (append_assoc (with_lf c) (flat_map with_lf comments) (flat_map (line_of list) events) ∙ append_assoc c (10 ∷ []) more) ∙ first_line c more comment.one in
-      let is_good : is_bad list c ≡ false = ap (λ b. not b && not (is_some (read_line list c))) comment.silent in
-      record {
-        good = ap (bad_line_from list n) lines ∙ ap (λ b. if b then Some n else bad_line_from list (n + 1) (lines_of more)) is_good ∙ rest.good;
-        actions = ap (λ ls. map (λ line. line.action) (actions_from list n ls)) lines
-            ∙ ap (λ b. map (λ line. line.action) ((if b then [] else numbered n (read_line list c)) ++ actions_from list (n + 1) (lines_of more))) comment.silent
-            ∙ rest.actions;
-      }
+asked_then : (list : List Ups) (n : ℕ) (lines : List (List ℕ)) (line : List ℕ) (a : Action) → is_silent line ≡ false → read_line list line ≡ Some a
+    → asked (actions_from list n (lines ++ line ∷ [])) ≡ asked (actions_from list n lines) ++ a ∷ []
+asked_then list n [] line a loud read =
+    ap (λ b. asked ((if b then [] else numbered n (read_line list line)) ++ [])) loud ∙ ap (λ o. asked (numbered n o ++ [])) read
+asked_then list n (first ∷ lines) line a loud read =
+    let here : List ScriptLine = if is_silent first then [] else numbered n (read_line list first) in
+    let rest : List ScriptLine = actions_from list (n + 1) lines in
+    map-append (λ (l : ScriptLine). l.action) here (actions_from list (n + 1) (lines ++ line ∷ []))
+    ∙ ap (λ xs. asked here ++ xs) (asked_then list (n + 1) lines line a loud read)
+    ∙ sym (append_assoc (asked here) (asked rest) (a ∷ []))
+    ∙ ap (λ xs. xs ++ a ∷ []) (sym (map-append (λ (l : ScriptLine). l.action) here rest))
 
 pub what_is_written_is_read_back : WhatIsWrittenIsReadBack
 unfolding actions_of first_bad_line
-what_is_written_is_read_back list comments events l quiet all =
-    let read = all_read list l 1 comments events quiet all in
-    record { good = read.good; actions = read.actions }
+what_is_written_is_read_back list script events next l lawful read =
+    let one = one_line_of list l next lawful in
+    let lines : lines_of (script ++ line_of list next) ≡ lines_of script ++ one.line ∷ [] =
+    read.whole (line_of list next) ∙ ap (λ text. lines_of script ++ lines_of text) one.is ∙ ap (λ ls. lines_of script ++ ls) (first_line one.line [] one.part) in
+    let fine : is_bad list one.line ≡ false = ap (λ o. not (is_silent one.line) && not (is_some o)) one.read ∙ and_right (not (is_silent one.line)) false refl in
+    record {
+      good = ap (bad_line_from list 1) lines ∙ good_then list 1 (lines_of script) one.line read.good fine;
+      actions = ap (λ ls. asked (actions_from list 1 ls)) lines ∙ asked_then list 1 (lines_of script) one.line (Happens next) one.loud one.read
+          ∙ ap (λ xs. xs ++ Happens next ∷ []) read.actions ∙ sym (map-append (λ e. Happens e) events (next ∷ []));
+      whole = λ more. ap lines_of (append_assoc script (line_of list next) more) ∙ read.whole (line_of list next ++ more)
+          ∙ ap (λ text. lines_of script ++ lines_of (text ++ more)) one.is ∙ ap (λ text. lines_of script ++ lines_of text) (append_assoc one.line (10 ∷ []) more)
+          ∙ ap (λ ls. lines_of script ++ ls) (first_line one.line more one.part)
+          ∙ sym (ap (λ ls. ls ++ lines_of more) lines ∙ append_assoc (lines_of script) (one.line ∷ []) (lines_of more));
+    }

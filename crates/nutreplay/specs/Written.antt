@@ -1,13 +1,12 @@
 -- How an event is written as a line of a script, and which event is read back.
-use Rattle.std.specs.Prelude.{◌≡◌, ℕ, ◌<◌, ◌^◌, ◌==◌, not, List, [], ◌∷◌, ◌++◌, None, All}
+use Rattle.std.specs.Prelude.{◌≡◌, ℕ, ◌<◌, ◌^◌, ◌==◌, List, [], ◌∷◌, ◌++◌, None}
 use Rattle.std.specs.Prelude.{if◌then◌else◌, length, slice_get, codes, map, IsSome, IsTrue}
-use Rattle.std.specs.List.{flat_map, list_all}
 use Rattle.std.specs.Option.{option_map_or}
 use Rattle.std.specs.Fmt.{decimal}
 use Rattle.hex.specs.Hex.{encode_lower, IsBytes}
 use Rattle.nuttracking.specs.Id.{id_text}
 use Rattle.nutwords.specs.Reading.{is_address}
-use Rattle.nutwords.specs.Text.{is_silent, with_lf}
+use Rattle.nutwords.specs.Text.{lines_of}
 use Rattle.nutusers.specs.declared.ups_list.UpsId.{UpsId}
 use Rattle.nutusers.specs.UpsList.{Ups, IsList}
 use Rattle.nutcore.specs.declared.event.Event.{Event}
@@ -67,22 +66,16 @@ IsEventOf list (Took c n) = (c < 2 ^ 64) × (n < 2 ^ 64)
 IsEventOf list (Close c) = c < 2 ^ 64
 IsEventOf list (Id id) = id < 2 ^ 128
 
--- A line without LF that says nothing.
-pub record IsComment (line : List ℕ) : Type 0 where
-  pub silent : IsTrue (is_silent line)
-  pub one : IsTrue (list_all (λ b. not (b == 10)) line)
-
--- What is written of a run: comments, and then a line of each event.
-abbrev pub record_of : List Ups → List (List ℕ) → List Event → List ℕ
-record_of list comments events = flat_map with_lf comments ++ flat_map (line_of list) events
-
--- The script that is written of some events is read as these events, and has no bad line.
+-- The script is read as these events, and has no bad line. What follows it begins a line of its
+-- own.
 pub record IsReadAs (list : List Ups) (script : List ℕ) (events : List Event) : Type 0 where
   pub good : first_bad_line list script ≡ None
   pub actions : map (λ line. line.action) (actions_of list script) ≡ map (λ e. Happens e) events
+  pub whole : (more : List ℕ) → lines_of (script ++ more) ≡ lines_of script ++ lines_of more
 
+-- After a script of some events the line of the next one is read as that event.
 abbrev pub WhatIsWrittenIsReadBack : Type 0
 WhatIsWrittenIsReadBack =
-    (list : List Ups) (comments : List (List ℕ)) (events : List Event)
-    → IsList list → All IsComment comments → All (IsEventOf list) events
-    → IsReadAs list (record_of list comments events) events
+    (list : List Ups) (script : List ℕ) (events : List Event) (next : Event)
+    → IsList list → IsEventOf list next → IsReadAs list script events
+    → IsReadAs list (script ++ line_of list next) (events ++ next ∷ [])

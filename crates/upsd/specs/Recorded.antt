@@ -1,8 +1,8 @@
--- Sockets that write down the events, and what their record is read as.
-use Rattle.std.specs.Prelude.{◌≡◌, ℕ, List, Option, Some, Result, All}
-use Rattle.std.specs.Option.{option_map}
-use Rattle.std.specs.List.{flat_map}
-use Rattle.nutwords.specs.Text.{with_lf}
+-- What a recorder has written of the events, and what that is read as.
+use Rattle.std.specs.Prelude.{◌≡◌, ℕ, Bool, true, false, List, [], ◌∷◌, ◌++◌, Option, Some, Result}
+use Rattle.std.specs.Option.{option_and_then}
+use Rattle.std.specs.Io.KnownBytes.{Appends}
+use Rattle.nutio.specs.Ends.{IsBeginning}
 use Rattle.nutusers.specs.UpsList.{Ups, IsList}
 use Rattle.nutcore.specs.declared.event.Event.{Event}
 use Rattle.nutcore.specs.declared.event.Outcome.{Outcome}
@@ -11,21 +11,64 @@ use Rattle.nutcore.specs.Run.{Run}
 use Rattle.nutloop.specs.declared.fault.LoopFault.{LoopFault}
 use Rattle.nutloop.specs.Sockets.{Told}
 use Rattle.nutloop.specs.Moved.{Turns}
-use Rattle.nutreplay.specs.Written.{IsComment, IsEventOf, IsReadAs, line_of}
+use Rattle.nutreplay.specs.Written.{IsReadAs, line_of}
+use Rattle.upsd.specs.declared.recorded.Recorded.{Recorded}
+use Rattle.upsd.specs.declared.recorded.Recorder.{Recorder}
 
--- What the sockets tell, and what is written beside them.
-abbrev pub recorded : Told → Option (Option (List ℕ)) → (Event → List ℕ) → Told
-recorded told written line = record told { written = written; line = line }
+-- The line of the next event, if there is one.
+abbrev pub next_line : List Ups → List Event → List ℕ
+next_line list [] = []
+next_line list (event ∷ later) = line_of list event
 
--- Over any turns of sockets that write each event as its line, after comments: what they have
--- written is read as exactly the events of these turns.
-abbrev pub ARecordIsTheRun : {S : Type 0} → (S → Told) → (S → ℕ) → Type 0
-ARecordIsTheRun {S} calls failures =
-    (old new : ServerState) (sockets after : S) (results : List (Result (Unit {0}) LoopFault))
-    (list : List Ups) (comments : List (List ℕ)) (script : List ℕ)
-    → IsList list → All IsComment comments → (calls sockets).line ≡ line_of list
-    → (calls sockets).written ≡ Some (Some (flat_map with_lf comments))
-    → Turns calls failures old sockets results new after → (calls after).written ≡ Some (Some script)
+-- A record that has ended: its whole lines are read as a beginning of the events, and after them
+-- stands at most a beginning of the next line.
+pub record HasEnded (list : List Ups) (script : List ℕ) (events : List Event) : Type 0 where
+  pub lines : List ℕ
+  pub part : List ℕ
+  pub first : List Event
+  pub lost : List Event
+  pub script_is : script ≡ lines ++ part
+  pub events_are : events ≡ first ++ lost
+  pub read : IsReadAs list lines first
+  pub begins : IsBeginning part (next_line list lost)
+
+-- A record of these events, which may have ended.
+abbrev pub IsRecordOf : List Ups → Bool → List ℕ → List Event → Type 0
+IsRecordOf list false script events = IsReadAs list script events
+IsRecordOf list true script events = HasEnded list script events
+
+-- The recorder has recorded these events, and what it wrote is known.
+pub record Records {W : Type 0} (contents : W → Option (List ℕ)) (recorder : Recorder W)
+    (events : List Event) : Type 0 where
+  pub is_list : IsList recorder.list
+  pub script : List ℕ
+  pub known : option_and_then contents recorder.writer ≡ Some script
+  pub is : IsRecordOf recorder.list recorder.is_cut script events
+
+-- A recorder becomes one that has recorded this event, too.
+abbrev pub RecordsNext : {W : Type 0} → (W → Option (List ℕ)) → Recorder W → Event → Recorder W
+    → Type 0
+RecordsNext contents old event new =
+    (events : List Event) → Records contents old events
+    → Records contents new (events ++ event ∷ [])
+
+-- What a write of a text leaves: all of it, or a beginning.
+abbrev pub Leaves : {W : Type 0} → (W → Option (List ℕ)) → W → List ℕ → Bool → W → Type 0
+Leaves contents old text true new = Appends (contents old) (contents new) text
+Leaves contents old text false new =
+    (front : List ℕ) × IsBeginning front text × Appends (contents old) (contents new) front
+
+-- What the sockets tell, and what is recorded beside them.
+abbrev pub recorded : Told → (List Event → Type 0) → Told
+recorded told records = record told { records = records }
+
+-- Over any turns, a recorder that has recorded no events comes to have recorded those of the turns.
+abbrev pub ARecordIsTheRun : {S W : Type 0} → (Recorded S W → Told) → (Recorded S W → ℕ)
+    → (W → Option (List ℕ)) → Type 0
+ARecordIsTheRun {S} {W} calls failures contents =
+    (old new : ServerState) (sockets after : Recorded S W)
+    (results : List (Result (Unit {0}) LoopFault))
+    → Turns calls failures old sockets results new after → Records contents sockets.recorder []
     → (events : List Event)
     × ((outcomes : List Outcome) × Run old events outcomes new
-    × (All (IsEventOf list) events → IsReadAs list script events))
+    × Records contents after.recorder events)

@@ -10,8 +10,7 @@ ghost use Rattle.upsd.specs.declared.task.TheConstants.{DEFAULT_ADDRESS};
 use crate::recorded::Recorded;
 use nutio::Sink;
 use nutloop::Sockets;
-use nutloop::laws::every_event_is_written;
-use nutreplay::laws::what_is_written_is_read_back;
+use nutloop::laws::every_event_is_recorded;
 
 /// The statuses, the refusals logged in a second, the most bytes of the journal that wait, and the default address.
 pub fn numbers()
@@ -29,11 +28,12 @@ pub fn a_refusal_is_logged_once_a_second()
     ensures { ARefusalIsLoggedOnceASecond }
 {}
 
-/// Over any turns, whatever the sockets do, what is written of the events after comments is read by `replay` as exactly
-/// the events of these turns, as long as it is written.
+/// Over any turns, whatever the sockets do, `replay` reads what is recorded after comments as exactly
+/// the events of these turns. A record that ended early holds the lines of a beginning of them, and
+/// at most a beginning of one more line.
 pub fn a_record_is_the_run<S: Sockets, W: Sink + Drop>()
-    ensures { ARecordIsTheRun ⟦<Recorded<S, W> as Sockets>⟧.calls ⟦<Recorded<S, W> as Sockets>⟧.failures }
+    ensures { ARecordIsTheRun ⟦<Recorded<S, W> as Sockets>⟧.calls ⟦<Recorded<S, W> as Sockets>⟧.failures
+        W.contents }
 {
-    every_event_is_written::<Recorded<S, W>>();
-    what_is_written_is_read_back();
+    every_event_is_recorded::<Recorded<S, W>>();
 }

@@ -1,10 +1,10 @@
 //! Sockets that write down each event of the server, as a line of a script that `replay` reads.
-ghost use Rattle.std.specs.Prelude.{◌≡◌, IfSome, IsTrue, List, ℕ, string_bytes};
-ghost use Rattle.std.specs.Option.{option_map};
-ghost use Rattle.nutloop.specs.Sockets.{GrowsText};
-ghost use Rattle.nutio.specs.Ends.{Written};
-ghost use Rattle.nutreplay.specs.Written.{line_of, line_of_bytes};
-ghost use Rattle.upsd.specs.Recorded.{recorded};
+ghost use Rattle.std.specs.Prelude.{◌≡◌, ◌&&◌, not, false, is_some, IfSome, OnSome, List, ℕ, Some, [], string_bytes};
+ghost use Rattle.std.specs.Option.{option_and_then};
+ghost use Rattle.nutcore.specs.declared.event.Event.{Event};
+ghost use Rattle.nutloop.specs.Sockets.{came_from};
+ghost use Rattle.nutreplay.specs.Written.{IsEventOf, IsReadAs, line_of};
+ghost use Rattle.upsd.specs.Recorded.{Leaves, Records, RecordsNext, recorded};
 
 use nutcore::{ClientId, Event, Peer, Server, UpsList};
 use nutio::{Sink, send};
@@ -13,11 +13,11 @@ use nutreplay::{line_of, line_of_bytes};
 use nutwords::Address;
 use std::alloc::Global;
 
-/// Where the events are written, while they are.
+/// Writes the events of a server, up to the first line that it can't write.
 #[derive(Drop)]
 pub struct Recorder<W> {
     alloc: Global,
-    /// The UPSs by whose names the lines name them.
+    /// The UPSs, by which the lines name them.
     list: UpsList,
     writer: Option<W>,
     /// How many bytes may still be written.
@@ -27,7 +27,12 @@ pub struct Recorder<W> {
 
 impl<W: Sink + Drop> Recorder<W> {
     /// A recorder that writes at most so many bytes. Without a writer it writes nothing.
-    pub fn new(alloc: Global, list: UpsList, writer: Option<W>, left: u64) -> Self {
+    pub fn new(alloc: Global, list: UpsList, writer: Option<W>, left: u64) -> Self
+        ensures { (script : List ℕ) → option_and_then W.contents writer ≡ Some script
+            → IsReadAs list script [] → Records W.contents result [] }
+    {
+        // The list is lawful.
+        let _ = list.len();
         Recorder {
             alloc,
             list,
@@ -37,69 +42,66 @@ impl<W: Sink + Drop> Recorder<W> {
         }
     }
 
-    /// Whether it wrote, and ended: by a failed write, by its limit, or without memory for a line.
+    /// Whether the record has ended: by a failed write, by its limit, or without memory for a line.
     pub fn is_cut(&self) -> bool {
         self.is_cut
     }
 
-    /// Writes a line whole and at once. Where there is none, or that fails, nothing is written any more.
+    /// Whether it may still write.
+    fn is_on(&self) -> bool
+        ensures { result ≡ (is_some self.now.writer && not self.now.is_cut) }
+    {
+        self.writer.is_some() && !self.is_cut
+    }
+
+    /// Writes the line of an event whole and at once. Where there is none, or that fails, the
+    /// record has ended.
     fn write(&mut self, line: Option<String>)
-        ensures text { (text : List ℕ) → IfSome line (λ line. string_bytes line ≡ text)
-            → GrowsText (option_map W.contents self.old.writer) (option_map W.contents self.new.writer) text }
-        ensures list { self.new.list ≡ self.old.list }
+        ensures { (event : Event) → self.old.is_cut ≡ false
+            → IfSome line (λ line. string_bytes line ≡ line_of self.old.list event)
+            → OnSome line (IsEventOf self.old.list event)
+            → RecordsNext W.contents self.old event self.new }
     {
         let Some(writer) = &mut self.writer else {
             return;
         };
-        let is_written = match &line {
-            Some(line) => write_within(writer, &mut self.left, line.as_bytes()),
-            None => false,
-        };
-        if !is_written {
-            self.writer = None;
+        let Some(line) = line else {
             self.is_cut = true;
-        }
+            return;
+        };
+        self.is_cut = write_within(writer, &mut self.left, line.as_bytes()).is_none();
     }
 
-    /// Writes the event.
+    /// Records the event.
     fn event(&mut self, event: &Event)
-        ensures text { GrowsText (option_map W.contents self.old.writer)
-            (option_map W.contents self.new.writer) (line_of self.old.list event.now) }
-        ensures list { self.new.list ≡ self.old.list }
+        ensures { RecordsNext W.contents self.old event.now self.new }
     {
-        if self.writer.is_some() {
+        if self.is_on() {
             let line = line_of(self.alloc, &self.list, event);
             self.write(line);
         }
     }
 
-    /// Writes that the bytes come from the peer.
+    /// Records that the bytes come from the peer.
     fn bytes(&mut self, from: Peer, bytes: &[u8])
-        ensures text { GrowsText (option_map W.contents self.old.writer)
-            (option_map W.contents self.new.writer) (line_of_bytes self.old.list from bytes.now) }
-        ensures list { self.new.list ≡ self.old.list }
+        ensures { RecordsNext W.contents self.old (came_from from bytes.now) self.new }
     {
-        if self.writer.is_some() {
+        if self.is_on() {
             let line = line_of_bytes(self.alloc, &self.list, from, bytes);
             self.write(line);
         }
     }
 }
 
-/// Writes the text, if no more than so many bytes are left for it.
-fn write_within<W: Sink>(writer: &mut W, left: &mut u64, text: &[u8]) -> bool
-    ensures { IsTrue result → Written W.contents W.failures writer.old text.now writer.new }
+/// Writes the text, if it has no more than so many bytes.
+fn write_within<W: Sink>(writer: &mut W, left: &mut u64, text: &[u8]) -> Option<()>
+    ensures { Leaves W.contents writer.old text.now (is_some result) writer.new }
 {
-    match left.checked_sub(text.len() as u64) {
-        Some(rest) => {
-            *left = rest;
-            send(writer, text).is_ok()
-        }
-        None => false,
-    }
+    *left = left.checked_sub(text.len() as u64)?;
+    send(writer, text).ok()
 }
 
-/// Sockets, and where the events are written before they happen.
+/// Sockets whose events are recorded before they happen.
 #[derive(Drop)]
 pub struct Recorded<S, W> {
     pub sockets: S,
@@ -107,7 +109,7 @@ pub struct Recorded<S, W> {
 }
 
 impl<S: Sockets, W: Sink + Drop> Sockets for Recorded<S, W> {
-    ghost calls = { λ r. recorded (S.calls r.sockets) (option_map W.contents r.recorder.writer) (line_of r.recorder.list) };
+    ghost calls = { λ r. recorded (S.calls r.sockets) (Records W.contents r.recorder) };
 
     ghost failures = { λ r. S.failures r.sockets };
 

@@ -32,7 +32,8 @@ type AllSockets<'a> = Recorded<MioSockets<'a, HostRuntime, File>, CountedWriter<
 ///
 /// # Errors
 ///
-/// The first file that can't be read or is refused, that of the ids last; `Listen`; `Loop`; `Memory`; `Write`.
+/// The first file that can't be read or is refused, that of the ids last; `Uncreated`; `Listen`;
+/// `Loop`; `Memory`; `Write`.
 pub fn serve_files<'a>(
     rt: &HostRuntime,
     files: Files<'a>,
@@ -47,7 +48,8 @@ pub fn serve_files<'a>(
     serve(rt, &mut server, files, service)
 }
 
-/// The ids of the file of this path, which is opened, and read while it is served. Without a path there are none.
+/// The ids of the file of this path, which is opened, and read while it is served. Without a path
+/// there are none.
 fn ids_in<'a>(rt: &HostRuntime, path: Option<&'a str>) -> Result<Option<File>, Ending<'a>>
     ensures named { IfOk result (λ ids. is_some ids ≡ is_some path.entry) }
     ensures fails { IfErr result (CantBeOpened path.entry) }
@@ -77,8 +79,9 @@ fn server_of<'a, R: FileReader>(
     Server::new(alloc, list, users, descriptions, max_age).map_err(|_| Ending::Memory)
 }
 
-/// Opens the ids' file, listens at the address, and serves there. It owns only the sockets, and what it calls owns none:
-/// a function that may end early while it owns a server or sockets takes long to prove.
+/// Opens the ids' file, listens at the address, and serves there. It owns only the sockets, and
+/// what it calls owns none: a function that may end early while it owns a server or sockets takes
+/// long to prove.
 fn serve<'a>(
     rt: &HostRuntime,
     server: &mut Server,
@@ -102,7 +105,8 @@ fn serve<'a>(
     }
 }
 
-/// A recorder of at most so many MiB in the new file of this path, which begins with a comment. Without a path it records nothing.
+/// A recorder of at most so many MiB in the new file of this path, which begins with a comment.
+/// Without a path it records nothing.
 fn recorder_in<'a>(
     rt: &HostRuntime,
     server: &Server,
@@ -125,7 +129,8 @@ fn recorder_in<'a>(
     Ok(Recorder::new(rt.alloc(), list, writer, limit))
 }
 
-/// Writes the first line of a record: the version, the second since 1970, and the words of the command.
+/// Writes the first line of a record: the version, the second since 1970, and the words of the
+/// command.
 fn write_head(rt: &HostRuntime, file: &mut File) -> io::Result<()> {
     let now = SystemTime::now(rt)?.duration_since(UNIX_EPOCH);
     let seconds = now.map_or(0, |since| since.as_secs());
@@ -157,8 +162,8 @@ fn serve_over<'a>(
     go_round(rt, server, sockets, &mut journal)
 }
 
-/// Goes round the peers up to the first fault of the loop, and writes what is new. Whatever the sockets do, it is one run
-/// of the server.
+/// Goes round the peers up to the first fault of the loop, and writes what is new. Whatever the
+/// sockets do, it is one run of the server.
 fn go_round<'a>(
     rt: &HostRuntime,
     server: &mut Server,

@@ -129,7 +129,8 @@ fn sending(
     form: Form,
     parts: Option<(Peer, &[u8])>,
 ) -> Result<Option<Event>, AllocError>
-    ensures { IfOk result (λ event. event ≡ sending form (option_map (λ p. (p.0, p.1.now)) parts.entry)) }
+    ensures { IfOk result (λ event.
+        event ≡ sending form (option_map (λ p. (p.0, p.1.now)) parts.entry)) }
 {
     let Some((peer, rest)) = parts else {
         return Ok(None);

@@ -6,30 +6,31 @@ use Rattle.nutcore.specs.Step.{offered}
 use Rattle.nutcore.specs.Cost.{RunningServer}
 use Rattle.nutloop.specs.declared.sockets.Ready.TheVariants.{Write}
 use Rattle.nutloop.specs.Turn.{nobody, writes, unasked, took, failed, end_of}
-use Rattle.nutloop.proofs.Rows.{row, row_of, does_nothing, does_from, grows_nothing, writes_all, writes_nothing, nothing_is_offered, nobody_ends_from}
+use Rattle.nutloop.proofs.Rows.{row, does_nothing, does_from, grows_nothing, writes_all, writes_nothing, nothing_is_offered, nobody_ends}
 use Rattle.nutloop.proofs.turns.write_client.Goals as goal
 
 pub returns-in_default : goal.returns-in_default
 returns-in_default g c =
-    row_of g.S.Sockets.calls g.S.Sockets.failures (Write (Client c.args.c)) unasked nobody [] c.args.server.now.state c.args.sockets.now c.args.sockets.now c.offer.follows.lender-at-none.state c.args.sockets.now
-    (nothing_is_offered c.args.c c.args.server.now.state c.in_default.ensures.bytes.1) refl (nobody_ends_from c.args.c c.args.server.now.state c.offer.follows.lender-at-none.state (ap (λ (r : RunningServer). r.state) c.offer.follows.holds-at-none) c.in_default.ensures.bytes.1) tt (grows_nothing (g.S.Sockets.calls c.args.sockets.now)) refl
+    row g.S.Sockets.calls g.S.Sockets.failures (Write (Client c.args.c)) unasked nobody [] c.args.server.now.state c.args.sockets.now c.args.sockets.now c.offer.follows.lender-at-none.state c.args.sockets.now
+    (nothing_is_offered c.args.c c.args.server.now.state c.in_default.ensures.bytes.1) (nobody_ends c.args.c c.args.server.now.state c.in_default.ensures.bytes.1) tt (grows_nothing (g.S.Sockets.calls c.args.sockets.now)) refl
     (does_nothing g.S.Sockets.calls g.S.Sockets.failures c.args.server.now.state c.args.sockets.now c.offer.follows.lender-at-none.state (ap (λ (r : RunningServer). r.state) c.offer.follows.holds-at-none))
 
 pub returns-then-is_empty : goal.returns-then-is_empty
 returns-then-is_empty g c =
-    row g.S.Sockets.calls g.S.Sockets.failures (Write (Client c.args.c)) unasked nobody [] (end_of c.args.c c.offer.follows.lender-at-none.state) c.args.server.now.state c.args.sockets.now c.args.sockets.now c.offer.follows.lender-at-none.state c.args.sockets.now c.close_finished.new.server.state c.close_finished.new.sockets
-    (writes_nothing (Client c.args.c) c.in-Ok.offered.now (offered (session c.args.c c.args.server.now.state)) c.in-Ok.ensures.bytes.1 (sym c.is_empty.ensures ∙ c.if-is_empty.true)) refl refl tt (grows_nothing (g.S.Sockets.calls c.args.sockets.now)) refl
-    (does_nothing g.S.Sockets.calls g.S.Sockets.failures c.args.server.now.state c.args.sockets.now c.offer.follows.lender-at-none.state (ap (λ (r : RunningServer). r.state) c.offer.follows.holds-at-none)) c.close_finished.ensures
+    let same = ap (λ (r : RunningServer). r.state) c.offer.follows.holds-at-none in
+    row g.S.Sockets.calls g.S.Sockets.failures (Write (Client c.args.c)) unasked nobody (end_of c.args.c c.offer.follows.lender-at-none.state) c.args.server.now.state c.args.sockets.now c.args.sockets.now c.close_finished.new.server.state c.close_finished.new.sockets
+    (writes_nothing (Client c.args.c) c.in-Ok.offered.now (offered (session c.args.c c.args.server.now.state)) c.in-Ok.ensures.bytes.1 (sym c.is_empty.ensures ∙ c.if-is_empty.true)) (ap (end_of c.args.c) (sym same)) tt (grows_nothing (g.S.Sockets.calls c.args.sockets.now)) refl
+    (does_from g.S.Sockets.calls g.S.Sockets.failures (end_of c.args.c c.offer.follows.lender-at-none.state) c.args.server.now.state c.offer.follows.lender-at-none.state c.args.sockets.now c.close_finished.new.server.state c.close_finished.new.sockets same c.close_finished.ensures)
 
 pub returns-in-Ok-write : goal.returns-in-Ok-write
 returns-in-Ok-write g c =
-    row g.S.Sockets.calls g.S.Sockets.failures (Write (Client c.args.c)) (took c.in-Ok-write.n) (writes (Client c.args.c) c.in-Ok.offered.now) (Took c.args.c c.in-Ok-write.n ∷ []) (end_of c.args.c c.took.new.server.state) c.args.server.now.state c.args.sockets.now c.write.new.self c.took.new.server.state c.took.new.sockets c.close_finished-in-Ok-write.new.server.state c.close_finished-in-Ok-write.new.sockets
-    (writes_all (Client c.args.c) c.in-Ok.offered.now (offered (session c.args.c c.args.server.now.state)) c.in-Ok.ensures.bytes.1 (sym c.is_empty.ensures ∙ c.if-is_empty.false)) refl refl c.in-Ok-write.ensures.bound c.in-Ok-write.ensures.told c.in-Ok-write.ensures.count
+    row g.S.Sockets.calls g.S.Sockets.failures (Write (Client c.args.c)) (took c.in-Ok-write.n) (writes (Client c.args.c) c.in-Ok.offered.now) (Took c.args.c c.in-Ok-write.n ∷ []) c.args.server.now.state c.args.sockets.now c.write.new.self c.took.new.server.state c.took.new.sockets
+    (writes_all (Client c.args.c) c.in-Ok.offered.now (offered (session c.args.c c.args.server.now.state)) c.in-Ok.ensures.bytes.1 (sym c.is_empty.ensures ∙ c.if-is_empty.false)) refl c.in-Ok-write.ensures.bound c.in-Ok-write.ensures.told c.in-Ok-write.ensures.count
     (does_from g.S.Sockets.calls g.S.Sockets.failures (Took c.args.c c.in-Ok-write.n ∷ []) c.args.server.now.state c.offer.follows.lender-at-none.state c.write.new.self c.took.new.server.state c.took.new.sockets (ap (λ (r : RunningServer). r.state) c.offer.follows.holds-at-none)
-    c.took.ensures) c.close_finished-in-Ok-write.ensures
+    c.took.ensures)
 
 pub returns-in-Err : goal.returns-in-Err
 returns-in-Err g c =
-    row_of g.S.Sockets.calls g.S.Sockets.failures (Write (Client c.args.c)) failed (writes (Client c.args.c) c.in-Ok.offered.now) (Close c.args.c ∷ []) c.args.server.now.state c.args.sockets.now c.write.new.self c.close.new.server.state c.close.new.sockets
-    (writes_all (Client c.args.c) c.in-Ok.offered.now (offered (session c.args.c c.args.server.now.state)) c.in-Ok.ensures.bytes.1 (sym c.is_empty.ensures ∙ c.if-is_empty.false)) refl refl tt c.in-Err.ensures.told c.in-Err.ensures.count
+    row g.S.Sockets.calls g.S.Sockets.failures (Write (Client c.args.c)) failed (writes (Client c.args.c) c.in-Ok.offered.now) (Close c.args.c ∷ []) c.args.server.now.state c.args.sockets.now c.write.new.self c.close.new.server.state c.close.new.sockets
+    (writes_all (Client c.args.c) c.in-Ok.offered.now (offered (session c.args.c c.args.server.now.state)) c.in-Ok.ensures.bytes.1 (sym c.is_empty.ensures ∙ c.if-is_empty.false)) refl tt c.in-Err.ensures.told c.in-Err.ensures.count
     (does_from g.S.Sockets.calls g.S.Sockets.failures (Close c.args.c ∷ []) c.args.server.now.state c.offer.follows.lender-at-none.state c.write.new.self c.close.new.server.state c.close.new.sockets (ap (λ (r : RunningServer). r.state) c.offer.follows.holds-at-none) c.close.ensures)
