@@ -41,6 +41,9 @@ mod SoundUps
 mod Sound
 mod Bounded
 mod NoteRoom
+mod Noted
+mod NotedData
+mod NotedLogins
 mod Finishing
 mod Taking
 mod TakingAmongOthers
@@ -54,5 +57,6 @@ mod OrdersByRight
 mod TellingLines
 mod ReadsBack
 mod Addresses
+mod NotedRuns
 mod AnswersApart
 mod Costs

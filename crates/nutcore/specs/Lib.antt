@@ -15,6 +15,7 @@ pub mod Headline
 pub mod Isolation
 pub mod Happenings
 pub mod Sound
+pub mod NotedRuns
 pub mod Waiting
 pub mod Alone
 pub mod Bounded
