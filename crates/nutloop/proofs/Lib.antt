@@ -5,3 +5,4 @@ pub mod SocketToSocket
 pub mod MoreTurns
 pub mod Fairness
 pub mod Answering
+pub mod Noted

@@ -1,15 +1,17 @@
 //! Laws of every list of turns, and the numbers of the loop. No program calls them.
 ghost use Rattle.nutloop.specs.Fairness.{EverybodyHasATurn};
 ghost use Rattle.nutloop.specs.Moved.{EveryByteIsMovedOnce};
+ghost use Rattle.nutloop.specs.Noted.{OnlyTheLastEventOfATurnIsNoted};
 ghost use Rattle.nutloop.specs.Numbers.{Numbers};
 ghost use Rattle.nutloop.specs.Serving.{AnyTurnsAreOneRun, AnyTurnsKeepAddressesLawful, EveryEventIsWritten};
 ghost use Rattle.nutloop.specs.SocketToSocket.{WhatASocketGaveIsAnswered, ADriverIsHeardAndToldByItsSocket};
 
 use crate::Sockets;
 use nutcore::laws::{
-    addresses_are_lawful, each_answer_is_timely, every_server_is_sound,
-    what_a_driver_told_is_executed, what_a_driver_was_sent_and_is_owed, what_never_goes_back,
-    what_was_asked_is_executed_or_held, what_was_sent_and_is_owed_is_the_answers,
+    a_take_that_finishes_is_not_noted, addresses_are_lawful, each_answer_is_timely,
+    every_server_is_sound, what_a_driver_told_is_executed, what_a_driver_was_sent_and_is_owed,
+    what_never_goes_back, what_was_asked_is_executed_or_held,
+    what_was_sent_and_is_owed_is_the_answers,
 };
 
 /// Over any turns of sockets that report their calls, what each client and each driver gave was fed to the server,
@@ -57,6 +59,15 @@ pub fn any_turns_keep_addresses_lawful<S: Sockets>()
     ensures { AnyTurnsKeepAddressesLawful S.calls S.failures }
 {
     addresses_are_lawful();
+}
+
+/// Of a turn with two events only the last one is noted. So after each turn `serve` shows all that
+/// is noted of it.
+#[tactic(auto, using(crate::proofs::Noted::only_the_last))]
+pub fn only_the_last_event_of_a_turn_is_noted()
+    ensures { OnlyTheLastEventOfATurnIsNoted }
+{
+    a_take_that_finishes_is_not_noted();
 }
 
 /// From one look at the system to the next, whoever is ready all the while has a turn, whatever the turns do. A
