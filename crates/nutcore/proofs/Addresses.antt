@@ -46,7 +46,7 @@ run_addresses_lawful old new events outcomes r own h =
     all_of new.sessions (by_run HaveLawfulAddresses IsLawfulAddress addresses_kept old new events outcomes r own (each_of old.sessions h))
 
 -- the list
-list_kept : (list : List Ups) → IsKept (λ s. s.list ≡ list) IsAny
+pub list_kept : (list : List Ups) → IsKept (λ s. s.list ≡ list) IsAny
 list_kept list = kept_apart (λ s. s.list ≡ list) IsAny (record { puts = λ s c x y found same h. h; others = λ s moment upses tracking h. h; opens = λ s address room own h. h; closes = λ s c h. h })
 
 pub run_keeps_list : EveryRunKeepsTheList

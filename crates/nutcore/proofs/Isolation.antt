@@ -27,7 +27,7 @@ use Rattle.nutcore.proofs.UpsPlaces.{other_ups}
 use Rattle.nutdriver.specs.Report.{OrderEnd, end_in}
 
 -- what no command changes of the UPSs
-masked_at : (f : UpsState → UpsState) → ((x : UpsState) → without_commands (f x) ≡ without_commands x) → (p : ℕ) (xs : List UpsState) → map without_commands (changed_at f p xs) ≡ map without_commands xs
+pub masked_at : (f : UpsState → UpsState) → ((x : UpsState) → without_commands (f x) ≡ without_commands x) → (p : ℕ) (xs : List UpsState) → map without_commands (changed_at f p xs) ≡ map without_commands xs
 masked_at f h p [] = refl
 masked_at f h zero (x ∷ xs) = ap (λ (y : UpsState). y ∷ map without_commands xs) (h x)
 masked_at f h (suc p) (x ∷ xs) = ap (λ (ys : List UpsState). without_commands x ∷ ys) (masked_at f h p xs)

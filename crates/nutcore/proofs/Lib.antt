@@ -41,7 +41,9 @@ mod SoundUps
 mod Sound
 mod Bounded
 mod NoteRoom
-mod Finishing
+mod Noted
+mod NotedData
+mod NotedLogins
 mod Taking
 mod TakingAmongOthers
 mod NotStuck
@@ -54,5 +56,6 @@ mod OrdersByRight
 mod TellingLines
 mod ReadsBack
 mod Addresses
+mod NotedRuns
 mod AnswersApart
 mod Costs

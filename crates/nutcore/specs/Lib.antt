@@ -9,12 +9,12 @@ pub mod Step
 pub mod Run
 pub mod History
 pub mod Notes
-pub mod Finishing
 pub mod Cost
 pub mod Headline
 pub mod Isolation
 pub mod Happenings
 pub mod Sound
+pub mod NotedRuns
 pub mod Waiting
 pub mod Alone
 pub mod Bounded

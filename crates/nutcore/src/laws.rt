@@ -12,8 +12,8 @@ ghost use Rattle.nutcore.specs.Isolation.{AClientTouchesNoOther, ADriverTouchesN
 ghost use Rattle.nutcore.specs.Happenings.{AnswersComeOfWhatHappens, AQuietTakeChangesWhatIsOwedAlone, AReplyComesOfWhatIsSeen};
 ghost use Rattle.nutcore.specs.Limits.{Limits};
 ghost use Rattle.nutcore.specs.Bounded.{EachEventIsBounded};
-ghost use Rattle.nutcore.specs.Finishing.{ATakeThatFinishesIsNotNoted};
 ghost use Rattle.nutcore.specs.Notes.{NoNoteIsCut};
+ghost use Rattle.nutcore.specs.NotedRuns.{TheNotesOfARunAreWhatChanged};
 ghost use Rattle.nutcore.specs.Taking.{WhoTakesGetsEverything, WhoTakesAmongOthersGetsEverything};
 ghost use Rattle.nutcore.specs.NotStuck.{WhoIsOwedLittleHasRoom, WhoEndsIsFinished};
 ghost use Rattle.nutcore.specs.Totals.{AServerIsBoundedInAll};
@@ -299,11 +299,14 @@ pub fn no_note_is_cut()
     ensures { NoNoteIsCut }
 {}
 
-/// A take that finishes its session is not noted.
-#[tactic(auto, using(crate::proofs::Finishing::a_take_that_finishes_is_not_noted))]
-pub fn a_take_that_finishes_is_not_noted()
-    ensures { ATakeThatFinishesIsNotNoted }
-{}
+/// The notes of all events of a run, in order, are what changed: each change of a UPS's data, each
+/// login and logout of a client, and what each executed line did, once.
+#[tactic(auto, using(crate::proofs::NotedRuns::noted_runs))]
+pub fn the_notes_of_a_run_are_what_changed()
+    ensures { TheNotesOfARunAreWhatChanged }
+{
+    every_server_is_sound();
+}
 
 /// With memory there, a client that takes all that it is offered is owed nothing after a known
 /// number of takes, whatever others do.

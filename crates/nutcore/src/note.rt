@@ -44,11 +44,11 @@ pub enum Note {
 pub enum DataState {
     /// No driver is connected.
     Lost,
-    /// A driver is connected, and hasn't reported all that it knows.
+    /// A driver is connected, and hasn't reported everything yet.
     Awaited,
-    /// Clients are told them.
+    /// A driver has reported everything. Clients get it.
     Good,
-    /// All was reported, and clients aren't told it.
+    /// A driver has reported everything. Clients don't get it: it says that it is out of date, or was silent.
     Stale,
 }
 

@@ -1,0 +1,84 @@
+-- What the notes of all events of a run say.
+use Rattle.std.specs.Prelude.{◌≡◌, ◌≢◌, ℕ, Bool, true, false, List, [], ◌∷◌, ◌++◌, Option, Some}
+use Rattle.std.specs.Prelude.{None, ◌==◌, if◌then◌else◌}
+use Rattle.std.specs.List.{filter_map}
+use Rattle.std.specs.Option.{option_map, option_map_or, option_and_then}
+use Rattle.nutusers.specs.UpsList.{Ups, place_of, id_at}
+use Rattle.nutusers.specs.declared.ups_list.UpsId.{UpsId}
+use Rattle.nutcore.specs.declared.event.Event.{Event}
+use Rattle.nutcore.specs.declared.event.Outcome.{Outcome}
+use Rattle.nutcore.specs.declared.note.DataState.{DataState}
+use Rattle.nutcore.specs.declared.note.DataState.TheVariants.{Lost}
+use Rattle.nutcore.specs.declared.note.Deed.{Deed}
+use Rattle.nutcore.specs.declared.note.Note.{Note}
+use Rattle.nutcore.specs.declared.note.Note.TheVariants.{Data, LoggedOut, Did}
+use Rattle.nutcore.specs.declared.note.Verb.{Verb}
+use Rattle.nutcore.specs.declared.note.Verb.TheVariants.{Login}
+use Rattle.nutcore.specs.Server.{ServerState, session, ups_at}
+use Rattle.nutcore.specs.Step.{after}
+use Rattle.nutcore.specs.Run.{Run}
+use Rattle.nutcore.specs.History.{executions}
+use Rattle.nutcore.specs.Notes.{data_state_of, notes_of, notes_of_lines}
+use Rattle.nutcore.specs.Sound.{IsSound}
+
+-- The notes of all events of a run, in order.
+abbrev pub notes_along : ServerState → List Event → List Outcome → List Note
+notes_along s [] os = []
+notes_along s (e ∷ es) [] = []
+notes_along s (e ∷ es) (o ∷ os) = notes_of s e o (after s e o) ++ notes_along (after s e o) es os
+
+-- These lead from one to another, and each differs from the one before it.
+abbrev pub Leads : {A : Type 0} → A → List A → A → Type 0
+Leads was [] is = is ≡ was
+Leads was (next ∷ later) is = (next ≢ was) × Leads next later is
+
+-- How the data of a UPS stand: lost, where there is no such UPS.
+abbrev pub data_at : UpsId → ServerState → DataState
+data_at u s = option_map_or (data_state_of s.max_age s.moment) (ups_at u.place s) Lost
+
+-- What a note says of them.
+abbrev pub data_in : UpsId → Note → Option DataState
+data_in u (Data v state) = if v.place == u.place then Some state else None
+data_in u _ = None
+
+-- The UPS to which a client is logged in.
+abbrev pub login_at : ℕ → ServerState → Option UpsId
+login_at c s = option_and_then (λ x. x.login) (session c s)
+
+-- What a note says of it: a login that was granted, to the UPS of this name in the list, or a
+-- logout.
+abbrev pub is_login : Verb → Option (List ℕ) → Bool
+is_login Login None = true
+is_login verb refusal = false
+
+abbrev pub ups_called : List Ups → Option (List ℕ) → Option UpsId
+ups_called list name = option_map id_at (option_and_then (λ word. place_of word list) name)
+
+abbrev pub login_in : List Ups → ℕ → Note → Option (Option UpsId)
+login_in list c (LoggedOut u who) = if who.client == c then Some None else None
+login_in list c (Did deed) =
+    if is_login deed.verb deed.refusal
+    then if deed.who.client == c then Some (ups_called list deed.ups) else None else None
+login_in list c _ = None
+
+-- What it says of an executed line.
+abbrev pub deed_in : Note → Option Deed
+deed_in (Did deed) = Some deed
+deed_in _ = None
+
+-- Over any run, by all that is noted. states: each change of the data of a UPS, and no other. logins:
+-- each login of a client and each logout, and no other. deeds: what the executed lines did, each
+-- once and in order.
+pub record TheNotesOfARunAreWhatChanged : Type 0 where
+  pub states : (old new : ServerState) (events : List Event) (outcomes : List Outcome) (u : UpsId)
+      → IsSound old → Run old events outcomes new
+      → Leads (data_at u old) (filter_map (data_in u) (notes_along old events outcomes))
+      (data_at u new)
+  pub logins : (old new : ServerState) (events : List Event) (outcomes : List Outcome) (c : ℕ)
+      → IsSound old → Run old events outcomes new
+      → Leads (login_at c old) (filter_map (login_in old.list c) (notes_along old events outcomes))
+      (login_at c new)
+  pub deeds : (old new : ServerState) (events : List Event) (outcomes : List Outcome)
+      → IsSound old → Run old events outcomes new
+      → filter_map deed_in (notes_along old events outcomes)
+      ≡ filter_map deed_in (notes_of_lines (executions old events outcomes))
