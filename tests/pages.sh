@@ -20,14 +20,14 @@ messages_of() { sed -nE "s/^\.B \"$1: (.*)\"\$/\1/p" "man/$1.8" | grep -vE '^(se
 told=$({
     sed -nE 's/^ *#\[error\("(.*)"\)\]$/\1/p' crates/upsd/src/ending.rt crates/nutloop/src/fault.rt | grep -vxF '{0}' |
         sed -e 's/{path}/PATH/; s/{line}/LINE/; s/{cause}/N/'
-    sed -nE 's/.*warn_if\(.*, "(.*)"\);$/warning: PATH: \1/p; s/.*warn_of\(.*, "(.*)"\);$/warning: PATH: [NAME]: \1/p; s/^ *\([a-z]+, "(.*)"\),$/warning: PATH: [NAME]: \1/p' crates/upsd/src/warnings.rt
-    sed -nE 's/.*format_args!\("(.*)"\).*/\1/p' crates/upsd/src/log_buffer.rt crates/upsd/src/journal.rt crates/upsd/src/journal/drivers.rt |
-        sed 's/{ups}/su: /; s/{count}/N/; s/{error}/ERROR/'
+    sed -nE 's/.*warn_if\(.*, &"(.*)"\);$/warning: PATH: \1/p; s/.* = format_args!\("\[\{name\}\]: (.*)"\);$/warning: PATH: [NAME]: \1/p; s/^ *\([a-z]+, "(.*)"\),$/warning: PATH: [NAME]: \1/p' crates/upsd/src/warnings.rt
+    sed -nE 's/.*format_args!\("(.*)"\).*/\1/p; s/^ *let line = "(.*)";$/\1/p' crates/upsd/src/log_buffer.rt crates/upsd/src/journal.rt | sed 's/{count}/N/'
+    sed -nE 's/.*format_args!\("(.*)"\).*/su: \1/p' crates/upsd/src/journal/drivers.rt | sed 's/{count}/N/; s/{error}/ERROR/'
     entry=crates/upsd/src/journal/entry.rt
-    sed -nE 's/^ *Note::Data.* => write!\(f, "\{\}(.*)", .*\),$/su: \1/p; s/^ *write!\(f, "\{\}(status) \{status\}".*/su: \1 STATUS/p' $entry
-    sed -nE 's/.*write!\(f, "\{ups\}(.*): \{count\}, "\)\?;$/su: \1: N, the last one: REASON/p; s/^ *Note::.* => write!\(f, "\{\}\{who\} (.*)", .*\),$/su: mon@192.0.2.1 \1/p' $entry
+    sed -nE 's/^ *Note::Data.* &"(.*)"\),$/su: \1/p; s/.*format_args!\("(status) \{status\}"\).*/su: \1 STATUS/p' $entry
+    sed -nE 's/.*format_args!\("(lines .*): \{count\}, the last one"\);$/su: \1: N, the last one: REASON/p; s/.*format_args!\("\{who\} (logged out)"\).*/su: mon@192.0.2.1 \1/p' $entry
     sed -nE 's/^ *Verb::.* => \(".*", "(.*)", .*\),$/\1/p' $entry | sed -E 's/^ordered [A-Z ]+$/ordered COMMAND/; s/^/su: mon@192.0.2.1 /'
-    sed -nE 's/.*write!\(f, "(was .*) \{command\}"\).*/su: mon@192.0.2.1 \1 COMMAND: WORD/p' $entry
+    sed -nE 's/.*format_args!\("\{who\} (was .*) \{command\}.*"\);$/su: mon@192.0.2.1 \1 COMMAND: WORD/p' $entry
 } | sort -u)
 alike upsd "$told" "$(messages_of upsd)"
 told=$(sed -nE 's/^ *ClientFault::.* => push\(line, b"(.*)"\),$/\1/p' crates/nutrequest/src/faults.rt | sort)

@@ -32,7 +32,8 @@ pub fn a_refusal_is_logged_once_a_second()
 /// Over any turns, whatever the sockets do, what is written of the events after comments is read by `replay` as exactly
 /// the events of these turns, as long as it is written.
 pub fn a_record_is_the_run<S: Sockets, W: Sink + Drop>()
-    ensures { ARecordIsTheRun ⟦<Recorded<S, W> as Sockets>⟧.calls ⟦<Recorded<S, W> as Sockets>⟧.failures }
+    ensures { ARecordIsTheRun ⟦<Recorded<S, W> as Sockets>⟧.calls
+        ⟦<Recorded<S, W> as Sockets>⟧.failures }
 {
     every_event_is_written::<Recorded<S, W>>();
     what_is_written_is_read_back();
