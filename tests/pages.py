@@ -30,22 +30,24 @@ def text_of(path):
 # What a manual says of a program is what its sources say.
 
 JOURNAL = "crates/upsd/src/journal"
+ENTRY = f"{JOURNAL}/entry.rt"
 # The texts of each source, and the form in which a manual has them.
 MESSAGES = [
     ("crates/upsd/src/ending.rt", r'#\[error\("(.*)"\)\]', r"\1"),
     ("crates/nutloop/src/fault.rt", r'#\[error\("(.*)"\)\]', r"\1"),
-    ("crates/upsd/src/warnings.rt", r'warn_if\(.*, "(.*)"\);', r"warning: PATH: \1"),
-    ("crates/upsd/src/warnings.rt", r'(?:warn_of\(.*| \([a-z]+), "(.*)"\)[,;]$', r"warning: PATH: [NAME]: \1"),
-    *((path, r'format_args!\("(.*)"\)', r"\1") for path in ("crates/upsd/src/log_buffer.rt", f"{JOURNAL}.rt", f"{JOURNAL}/drivers.rt")),
-    (f"{JOURNAL}/entry.rt", r'Note::Data.* => write!\(f, "\{\}(.*)", .*\),', r"su: \1"),
-    (f"{JOURNAL}/entry.rt", r'write!\(f, "\{\}(status) \{status\}"', r"su: \1 STATUS"),
-    (f"{JOURNAL}/entry.rt", r'write!\(f, "\{ups\}(.*): \{count\}, "\)\?;', r"su: \1: N, the last one: REASON"),
-    (f"{JOURNAL}/entry.rt", r'Note::.* => write!\(f, "\{\}\{who\} (.*)", .*\),', r"su: mon@192.0.2.1 \1"),
-    (f"{JOURNAL}/entry.rt", r'Verb::.* => \(".*", "(.*?)(?<=ordered) [A-Z ]+", .*\),', r"su: mon@192.0.2.1 \1 COMMAND"),
-    (f"{JOURNAL}/entry.rt", r'Verb::.* => \(".*", "((?!ordered [A-Z ]+").*)", .*\),', r"su: mon@192.0.2.1 \1"),
-    (f"{JOURNAL}/entry.rt", r'write!\(f, "(was .*) \{command\}"\)', r"su: mon@192.0.2.1 \1 COMMAND: WORD"),
+    ("crates/upsd/src/warnings.rt", r'warn_if\(.*, &"(.*)"\);', r"warning: PATH: \1"),
+    ("crates/upsd/src/warnings.rt", r'(?:format_args!\("\[\{name\}\]: |^ *\([a-z]+, ")(.*)"\)[,;]$', r"warning: PATH: [NAME]: \1"),
+    *((path, r'(?:format_args!\(|let line = )"(.*)"\)?;', r"\1") for path in ("crates/upsd/src/log_buffer.rt", f"{JOURNAL}.rt")),
+    (f"{JOURNAL}/drivers.rt", r'format_args!\("(.*)"\)', r"su: \1"),
+    (ENTRY, r'Note::Data.* &"(.*)"\),', r"su: \1"),
+    (ENTRY, r'format_args!\("(status) \{status\}"\)', r"su: \1 STATUS"),
+    (ENTRY, r'format_args!\("(lines .*): \{count\}, the last one"\);', r"su: \1: N, the last one: REASON"),
+    (ENTRY, r'format_args!\("\{who\} (logged out)"\)', r"su: mon@192.0.2.1 \1"),
+    (ENTRY, r'Verb::.* => \(".*", "(.*?)(?<=ordered) [A-Z ]+", .*\),', r"su: mon@192.0.2.1 \1 COMMAND"),
+    (ENTRY, r'Verb::.* => \(".*", "((?!ordered [A-Z ]+").*)", .*\),', r"su: mon@192.0.2.1 \1"),
+    (ENTRY, r'format_args!\("\{who\} (was .*) \{command\}.*"\);', r"su: mon@192.0.2.1 \1 COMMAND: WORD"),
 ]
-FORMS = {"path": "PATH", "line": "LINE", "cause": "N", "count": "N", "ups": "su: ", "error": "ERROR"}
+FORMS = {"path": "PATH", "line": "LINE", "cause": "N", "count": "N", "error": "ERROR"}
 FAULTS = [("crates/nutrequest/src/faults.rt", r'ClientFault::.* => push\(line, b"(.*)"\),', r"\1")]
 
 

@@ -16,6 +16,7 @@ use nutloop::MioSockets;
 use nutusers::UPS_LIMIT;
 use std::alloc::{AllocError, Global};
 use std::fs::File;
+use std::mem;
 
 /// The lines on their way out, and what was logged of the things that aren't logged each time.
 #[derive(Drop)]
@@ -50,12 +51,13 @@ impl Journal {
         })
     }
 
-    /// Logs the notes of the server's last event, and once a second all else. Where that fails it isn't logged again.
+    /// Logs the notes of the server's last event, and that the record has ended. Once a second it logs all else.
     pub fn write(
         &mut self,
         rt: &HostRuntime,
         server: &Server,
         sockets: &MioSockets<'_, HostRuntime, File>,
+        is_record_cut: bool,
     )
         ensures moment { self.new.moment ≡ Some server.now.state.moment }
         ensures goes_on { self.old.moment ≡ Some server.now.state.moment
@@ -71,44 +73,31 @@ impl Journal {
         }
         self.write_notes(server);
         if is_new {
-            write(
-                &mut self.drivers,
-                &mut self.log,
-                server,
-                sockets,
-                self.max_age,
-            );
-            let count = sockets.refusals().saturating_sub(self.sent_away);
+            write(&mut self.drivers, &mut self.log, server, sockets);
+            let refusals = sockets.refusals();
+            let count = refusals.saturating_sub(mem::replace(&mut self.sent_away, refusals));
             if count > 0 {
                 let line = format_args!("clients sent away for want of room: {count}");
-                self.log.add(INFORMATION, &line);
+                self.log.add(INFORMATION, None, &line);
             }
-            self.sent_away = sockets.refusals();
+        }
+        if is_record_cut && !mem::replace(&mut self.is_record_cut, true) {
+            let line = "the record has ended, at its limit or by a failed write";
+            self.log.add(WARNING, None, &line);
         }
         self.log.flush(rt);
     }
 
-    /// Logs once that the record has ended, if it has.
-    pub fn write_record(&mut self, is_cut: bool)
-        ensures moment { self.new.moment ≡ self.old.moment }
-        ensures refused { self.new.refused ≡ self.old.refused }
-    {
-        if is_cut && !self.is_record_cut {
-            self.is_record_cut = true;
-            let line = format_args!("the record has ended, at its limit or by a failed write");
-            self.log.add(WARNING, &line);
-        }
-    }
-
-    /// Logs the notes, but for those that are logged once a second.
+    /// Logs the notes, except for those that are logged once a second.
     fn write_notes(&mut self, server: &Server)
         ensures refused { self.new.refused.items
             ≡ after_notes self.old.refused.items server.now.notes }
         ensures moment { self.new.moment ≡ self.old.moment }
     {
-        let (moment, notes) = (server.current_moment(), server.notes());
+        let deadline = server.current_moment().saturating_add(self.max_age);
+        let notes = server.notes();
         for note in notes {
-            if take_turn(&mut self.refused, note) && take(&mut self.drivers, moment, note) {
+            if take_turn(&mut self.refused, note) && take(&mut self.drivers, deadline, note) {
                 add_note(&mut self.log, server, note);
             }
         }

@@ -7,10 +7,11 @@ use libc::STDERR_FILENO;
 use libc::net::{POLLOUT, poll};
 use libc::types::pollfd;
 use nutlisting::Ring;
+use nutwords::UpsName;
 use std::alloc::{AllocError, Global};
-use std::fmt;
 use std::fmt::Write as _;
 use std::io::Write;
+use std::{fmt, mem};
 
 /// The priorities of lines (syslog(3)).
 pub const CRITICAL: u8 = 2;
@@ -24,14 +25,11 @@ pub const INFORMATION: u8 = 6;
 /// The most bytes of lines that wait.
 pub const LOG_LIMIT: usize = 32_768;
 
-/// The most bytes of a line: a status has at most 512, each of which is shown by at most four.
+/// No line has more bytes: a status has at most 512, each of which is shown by at most four.
 const LINE_LIMIT: usize = 4 * 512 + 256;
 
 /// How many bytes a pipe takes without waiting where it takes any (Linux's PIPE_BUF).
 const PIECE_LIMIT: usize = 4096;
-
-/// How many pieces are written at most before the server goes on.
-const PIECES: usize = LOG_LIMIT / PIECE_LIMIT + 1;
 
 /// The lines that standard error hasn't taken yet, and how many had no room among them.
 #[derive(Drop)]
@@ -42,7 +40,7 @@ pub struct LogBuffer {
 }
 
 impl LogBuffer {
-    /// Nothing waits. It is told whether each line begins with its priority, as `<4>`.
+    /// No line waits. With priorities each line begins with its own, as `<4>`.
     ///
     /// # Errors
     ///
@@ -58,17 +56,19 @@ impl LogBuffer {
         })
     }
 
-    /// Hands in a line of this priority, which is given without `upsd: ` and LF. One that has no room is dropped and
-    /// counted. So are those after it, until the count is logged. Takes no memory.
-    pub fn add<D: fmt::Display>(&mut self, priority: u8, line: &D) {
+    /// Adds a line of this priority, about the UPS if there is one. A line that has no room is dropped and counted. So are
+    /// those after it, until the count is logged. Takes no memory.
+    pub fn add<D: fmt::Display>(&mut self, priority: u8, ups: Option<&UpsName>, line: &D) {
         let mut text = ArrayString::<LINE_LIMIT>::new();
         if self.has_priorities {
             let _ = write!(text, "<{priority}>");
         }
-        match writeln!(text, "upsd: {line}") {
-            Ok(()) => self.add_line(text.as_bytes()),
-            Err(_) => self.dropped = self.dropped.saturating_add(1),
+        let _ = text.write_str("upsd: ");
+        if let Some(ups) = ups {
+            let _ = write!(text, "{}: ", ups.as_bytes().escape_ascii());
         }
+        let _ = writeln!(text, "{line}");
+        self.add_line(text.as_bytes());
     }
 
     /// Adds a line, or counts it as dropped.
@@ -84,12 +84,11 @@ impl LogBuffer {
 
     /// Writes what waits, as far as standard error takes it without waiting.
     pub fn flush(&mut self, rt: &HostRuntime) {
-        for _ in 0..PIECES {
+        for _ in 0..=LOG_LIMIT / PIECE_LIMIT {
             if self.dropped > 0 && self.waiting.is_empty() {
-                let count = self.dropped;
-                self.dropped = 0;
+                let count = mem::replace(&mut self.dropped, 0);
                 let line = format_args!("{count} lines of the journal were dropped");
-                self.add(INFORMATION, &line);
+                self.add(INFORMATION, None, &line);
             }
             let count = self.waiting.len().min(PIECE_LIMIT);
             if count == 0 || !takes_bytes() {

@@ -84,7 +84,7 @@ pub fn open<'a>(rt: &HostRuntime, path: &'a str) -> Result<File, Ending<'a>>
     fs::open(rt, path).map_err(|error| ending_of_unread(path, fault_of(&error)))
 }
 
-/// Makes the file of this path, which must not exist, readable by its owner alone; or tells how the program ends without it.
+/// Creates the file of this path, which must not exist, readable by its owner alone.
 pub fn create<'a>(rt: &HostRuntime, path: &'a str) -> Result<File, Ending<'a>>
     ensures { IfErr result (CantBeMade path.entry) }
 {

@@ -180,8 +180,7 @@ fn go_round<'a>(
     ensures run { IsOneRun server.old.state server.new.state }
 {
     match nutloop::serve(server, sockets, |server, sockets| {
-        journal.write_record(sockets.recorder.is_cut());
-        journal.write(rt, server, &sockets.sockets);
+        journal.write(rt, server, &sockets.sockets, sockets.recorder.is_cut());
     }) {
         Ok(()) => Ok(()),
         Err(fault) => Err(Ending::Loop(fault)),

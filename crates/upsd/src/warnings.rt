@@ -1,10 +1,11 @@
-//! What is dangerous or missing in the files, though lawful: it is told where serving begins.
+//! What is dangerous or missing in the files, though lawful. The program warns of it where serving begins.
 
 use crate::files::Files;
 use nutcore::{UpsId, UpsList, Users};
 use nutloop::ID_SIZE;
 use nutusers::{Grant, User};
 use nutwords::is_word;
+use std::fmt::Display;
 use std::fs;
 use std::io::Read;
 use std::os::unix::fs::PermissionsExt;
@@ -12,27 +13,29 @@ use std::os::unix::fs::PermissionsExt;
 /// The bit of a file's mode by which everybody may read it.
 const READ_BY_ALL: u32 = 0o004;
 
-/// Tells on standard error what is dangerous in the files of these UPSs and users, and what they lack.
+/// Warns of what is dangerous in the files of these UPSs and users, and of what they lack.
 pub fn warn(rt: &HostRuntime, files: Files<'_>, list: &UpsList, users: &Users) {
     if let Some(path) = files.ups {
-        warn_if(rt, list.len() == 0, path, "no UPS");
+        warn_if(rt, list.len() == 0, path, &"no UPS");
         for place in 0..list.len() {
             let u = UpsId { place: place as u8 };
             if let (Some(name), None) = (list.name(u), list.socket(u)) {
-                warn_of(rt, path, name.as_bytes(), "no socket of a driver");
+                let name = name.as_bytes().escape_ascii();
+                let warning = format_args!("[{name}]: no socket of a driver");
+                warn_if(rt, true, path, &warning);
             }
         }
     }
     if let Some(path) = files.ids {
         // It is opened a second time, so that the server misses no byte.
         let read = fs::open(rt, path).and_then(|mut file| file.read_exact(&mut [0; ID_SIZE]));
-        warn_if(rt, read.is_err(), path, "gives no id for a tracked order");
+        warn_if(rt, read.is_err(), path, &"gives no id for a tracked order");
     }
     if let Some(path) = files.users {
         let mode = fs::metadata(rt, path).map(|file| file.permissions().mode());
         let is_for_all = mode.is_ok_and(|mode| mode & READ_BY_ALL != 0);
-        warn_if(rt, is_for_all, path, "everybody may read it");
-        warn_if(rt, users.as_slice().is_empty(), path, "no users");
+        warn_if(rt, is_for_all, path, &"everybody may read it");
+        warn_if(rt, users.as_slice().is_empty(), path, &"no users");
         for user in users.as_slice() {
             warn_of_user(rt, path, user);
         }
@@ -41,30 +44,22 @@ pub fn warn(rt: &HostRuntime, files: Files<'_>, list: &UpsList, users: &Users) {
 
 fn warn_of_user(rt: &HostRuntime, path: &str, user: &User) {
     let known = user.password().is_some_and(is_of_example);
-    let small = user.grants().iter().any(|grant| is_small_all(grant));
+    let small = user.grants().iter().any(is_small_all);
     let unset = user.password().is_none();
-    let dangers = [
+    let name = user.name().escape_ascii();
+    for (is_so, danger) in [
         (known, "a password of the example, which everybody knows"),
         (small, "only ALL grants every command"),
         (unset, "a user without a password, who may do nothing"),
-    ];
-    for (is_so, danger) in dangers {
-        if is_so {
-            warn_of(rt, path, user.name(), danger);
-        }
+    ] {
+        warn_if(rt, is_so, path, &format_args!("[{name}]: {danger}"));
     }
 }
 
-fn warn_if(rt: &HostRuntime, is_so: bool, path: &str, warning: &str) {
+fn warn_if<D: Display>(rt: &HostRuntime, is_so: bool, path: &str, warning: &D) {
     if is_so {
         let _ = eprintln!(rt; "upsd: warning: {path}: {warning}");
     }
-}
-
-/// Warns of the UPS or the user of this name.
-fn warn_of(rt: &HostRuntime, path: &str, name: &[u8], warning: &str) {
-    let name = name.escape_ascii();
-    let _ = eprintln!(rt; "upsd: warning: {path}: [{name}]: {warning}");
 }
 
 /// It is a password of examples/upsd.users.

@@ -1,6 +1,6 @@
 //! What is logged of drivers once a second or once a minute.
 
-use super::entry::{Of, add_note};
+use super::entry::add_note;
 use crate::log_buffer::{INFORMATION, LogBuffer, WARNING};
 use nutcore::{DataState, DriverFault, Note, Server, UpsId};
 use nutloop::MioSockets;
@@ -25,14 +25,14 @@ pub struct Driver {
     refused: (u64, Option<DriverFault>),
     /// The system's number of the error by which it couldn't be connected to.
     error: Option<i32>,
-    /// The second since which it is connected and hasn't reported all.
-    awaited: Option<u64>,
+    /// The second up to which it may report everything, while it hasn't.
+    deadline: Option<u64>,
     /// How often it was lost in this minute.
     losses: u64,
 }
 
-/// Takes what is noted of a driver, and tells whether the note is logged at once.
-pub fn take(drivers: &mut Drivers, moment: u64, note: &Note) -> bool {
+/// Keeps what is noted of a driver. Returns whether the note is logged at once.
+pub fn take(drivers: &mut Drivers, deadline: u64, note: &Note) -> bool {
     let (Note::Data(u, _) | Note::LinesRefused(u, _, _)) = note else {
         return true;
     };
@@ -42,34 +42,30 @@ pub fn take(drivers: &mut Drivers, moment: u64, note: &Note) -> bool {
     match note {
         Note::LinesRefused(_, count, fault) => {
             driver.refused = (driver.refused.0.saturating_add(*count), *fault);
-            return false;
+            false
         }
-        Note::Data(_, DataState::Awaited) => driver.awaited = Some(moment),
-        Note::Data(_, DataState::Lost) => {
-            driver.awaited = None;
-            driver.losses = driver.losses.saturating_add(1);
+        Note::Data(_, state) => {
+            driver.deadline = (*state == DataState::Awaited).then_some(deadline);
+            let is_lost = *state == DataState::Lost;
+            driver.losses = driver.losses.saturating_add(u64::from(is_lost));
+            driver.losses <= LOSS_LIMIT || matches!(state, DataState::Good | DataState::Stale)
         }
-        _ => {
-            driver.awaited = None;
-            return true;
-        }
+        _ => true,
     }
-    driver.losses <= LOSS_LIMIT
 }
 
 /// Logs what is new of the drivers in this second, and at the end of a minute which ones were lost too often. One that
-/// hasn't reported all for longer than the greatest age is logged as stale.
+/// hasn't reported everything by its deadline is logged as stale.
 pub fn write(
     drivers: &mut Drivers,
     log: &mut LogBuffer,
     server: &Server,
     sockets: &MioSockets<'_, HostRuntime, File>,
-    max_age: u64,
 ) {
     let moment = server.current_moment();
     for place in 0..server.ups().len() {
         let u = UpsId { place: place as u8 };
-        let ups = Of(server.ups().name(u));
+        let ups = server.ups().name(u);
         let driver = &mut drivers[place];
         let (count, fault) = mem::replace(&mut driver.refused, (0, None));
         if count > 0 {
@@ -79,18 +75,17 @@ pub fn write(
         let was = mem::replace(&mut driver.error, error);
         if let (Some(number), true) = (error, error != was) {
             let error = Error::from_raw_os_error(number);
-            log.add(INFORMATION, &format_args!("{ups}cannot connect: {error}"));
+            log.add(INFORMATION, ups, &format_args!("cannot connect: {error}"));
         }
-        let age = moment.saturating_sub(driver.awaited.unwrap_or(moment));
-        if age > max_age {
-            driver.awaited = None;
+        if driver.deadline.is_some_and(|deadline| moment > deadline) {
+            driver.deadline = None;
             add_note(log, server, &Note::Data(u, DataState::Stale));
         }
         if moment % MINUTE == 0 {
             let count = mem::replace(&mut driver.losses, 0);
             if count > LOSS_LIMIT {
-                let line = format_args!("{ups}driver lost {count} times in a minute");
-                log.add(WARNING, &line);
+                let line = format_args!("driver lost {count} times in a minute");
+                log.add(WARNING, ups, &line);
             }
         }
     }
