@@ -66,12 +66,6 @@ pub record IsFirst (items : List (List (List ℕ))) (line : List ℕ)
   pub first : map line_of items ≡ line ∷ map line_of others
   pub whole_line : IsWholeLine line
 
--- The line is that of the first item after a place, and the other place is after that item.
-abbrev pub IsItem : Content → Place → List ℕ → Place → Type 0
-IsItem content place line after =
-    IsFirst (items_past content place) line (items_past content after)
-    × (lines_past content after ≡ item_lines content after)
-
 -- The line is the first after a place, and the others are after the other place.
 pub record IsNext (content : Content) (place : Place) (line : List ℕ) (after : Place) : Type 0 where
   pub first : lines_past content place ≡ line ∷ lines_past content after
